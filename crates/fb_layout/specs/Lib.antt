@@ -1,0 +1,6 @@
+pub mod Sizes
+pub mod Laid
+pub mod Widths
+pub mod WellMade
+pub mod OneTable
+pub mod Seen

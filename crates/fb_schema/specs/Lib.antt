@@ -1,0 +1,3 @@
+pub mod Schema
+pub mod Seen
+pub mod WellDeclared

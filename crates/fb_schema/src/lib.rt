@@ -1,0 +1,8 @@
+//! The data types of a FlatBuffers schema.
+#![tactic(auto)]
+
+mod kinds;
+mod types;
+
+pub use kinds::{Base, Kind, Shape, TypeId};
+pub use types::{Body, FieldInfo, TypeInfo};
