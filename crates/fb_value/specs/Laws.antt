@@ -1,0 +1,49 @@
+-- Laws of the bytes that hold a value, over every layout that is well made.
+use Rattle.std.specs.Prelude.{ℕ, ◌≡◌, ◌+◌, ◌↔◌, Bool, Option, None, Some}
+use Rattle.fb_layout.specs.Laid.{LaidSchema}
+use Rattle.fb_layout.specs.WellMade.{IsWellMade}
+use Rattle.fb_value.specs.declared.faults.ReadFault.{ReadFault}
+use Rattle.fb_value.specs.Bounds.{Bounds}
+use Rattle.fb_value.specs.Datum.{Datum}
+use Rattle.fb_value.specs.Counts.{cells}
+use Rattle.fb_value.specs.Num.{Bytes}
+use Rattle.fb_value.specs.Places.{Place, named}
+use Rattle.fb_value.specs.Rules.{fault_at}
+use Rattle.fb_value.specs.Lies.{LiesAt}
+use Rattle.fb_value.specs.Reached.{Path, AllKeep}
+use Rattle.fb_value.specs.Faults.{own_cells, sum_over, if_kept, FaultFrom, LeastFrom, all, fault_from}
+use Rattle.fb_value.specs.Holds.{Holds, HasNoFault, IsLeastFault, computed_fault, root_place}
+
+-- Bytes hold one value at most.
+abbrev pub OneValue : Type 0
+OneValue = (L : LaidSchema) (most : Bounds) (raw : Bool) (b : Bytes) (v w : Datum) → Holds L most raw b v → Holds L most raw b w → v ≡ w
+
+-- A value lies at the root exactly where all places that are reached keep their rules.
+abbrev pub ValueWhereAllKeep : Type 0
+ValueWhereAllKeep = (L : LaidSchema) (b : Bytes) → IsWellMade L → ((d : Datum) × LiesAt L b (root_place L).sort 0 d) ↔ AllKeep L b (root_place L)
+
+-- The cells of what is reached from a place: none where a rule fails there, else its own and those of all that it names.
+abbrev pub CellsOfPlace : Type 0
+CellsOfPlace = (L : LaidSchema) (b : Bytes) (x : Place) → all L b x ≡ if_kept (fault_at L b x.sort x.at) (own_cells b x.sort x.at + sum_over (all L b) (named L b x.sort x.at))
+
+-- The cells of a value are those of the places that are reached from where it lies.
+abbrev pub CellsOfValue : Type 0
+CellsOfValue = (L : LaidSchema) (b : Bytes) (x : Place) (d : Datum) → LiesAt L b x.sort x.at d → cells d ≡ all L b x
+
+-- what a computation says of the faults behind a place
+abbrev pub IsFirstFault : LaidSchema → Bytes → Bounds → Place → Option ReadFault → Type 0
+IsFirstFault L b most x None = (path : Path) (f : ReadFault) → FaultFrom L b most x 0 0 path f → ⊥
+IsFirstFault L b most x (Some f) = LeastFrom L b most x 0 0 f
+
+-- The computed fault is the least; where none is computed, none stands.
+abbrev pub FaultOfLeastPath : Type 0
+FaultOfLeastPath = (L : LaidSchema) (b : Bytes) (most : Bounds) (x : Place) → IsFirstFault L b most x (fault_from L b most x 0 0)
+
+-- what a computed outcome says: no fault stands and a value is held, or the fault is the least and none is held
+abbrev pub HeldOrFault : LaidSchema → Bounds → Bool → Bytes → Option ReadFault → Type 0
+HeldOrFault L most raw b None = HasNoFault L most raw b × ((v : Datum) × Holds L most raw b v)
+HeldOrFault L most raw b (Some f) = IsLeastFault L most raw b f × ((v : Datum) → Holds L most raw b v → ⊥)
+
+-- A value is held exactly where no fault stands.
+abbrev pub ValueOrFault : Type 0
+ValueOrFault = (L : LaidSchema) (most : Bounds) (raw : Bool) (b : Bytes) → IsWellMade L → HeldOrFault L most raw b (computed_fault L most raw b)

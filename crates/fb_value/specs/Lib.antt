@@ -1,0 +1,16 @@
+pub mod Datum
+pub mod Counts
+pub mod View
+pub mod Fits
+pub mod Room
+pub mod Bounds
+pub mod Num
+pub mod Places
+pub mod Rules
+pub mod Lies
+pub mod Reached
+pub mod Faults
+pub mod Holds
+pub mod OldSlots
+pub mod Reads
+pub mod Laws

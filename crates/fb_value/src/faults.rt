@@ -1,0 +1,60 @@
+//! Why bytes are refused.
+use std::alloc::{AllocError, AllocFailed};
+use thiserror::Error;
+
+/// The rule that fails, and the offset in bytes from the buffer's start.
+///
+/// `MissingRequired` also names the slot. `Memory` is a refused allocation and no rule.
+#[derive(Clone, Copy, Debug, PartialEq, Eq, Drop, Error)]
+pub enum ReadFault {
+    #[error("the buffer ends at {0}, inside its header")]
+    Short(u64),
+    #[error("the buffer is longer than {0} bytes")]
+    TooLong(u64),
+    #[error("another file identifier stands at {0}")]
+    WrongIdentifier(u64),
+    #[error("position {0} is not aligned")]
+    Misaligned(u64),
+    #[error("what stands at {0} ends past the buffer")]
+    OutOfBounds(u64),
+    #[error("the reference at {0} is 0")]
+    ZeroOffset(u64),
+    #[error("the table at {0} has no valid vtable")]
+    BadVtable(u64),
+    #[error("the table at {0} lacks its required slot {1}")]
+    MissingRequired(u64, u16),
+    #[error("the text's end at {0} has no zero byte")]
+    NoTerminator(u64),
+    #[error("the text's byte at {0} is not UTF-8")]
+    BadUtf8(u64),
+    #[error("the union's code at {0} has no value")]
+    UnionMismatch(u64),
+    #[error("the table at {0} is too deep")]
+    TooDeep(u64),
+    #[error("the cells at {0} are too many")]
+    TooManyCells(u64),
+    #[error("out of memory")]
+    Memory,
+}
+
+impl From<AllocError> for ReadFault {
+    ghost use Rattle.std.specs.Prelude.{◌≡◌};
+    ghost use Rattle.fb_value.specs.declared.faults.ReadFault.TheVariants.{Memory};
+
+    ghost from_gives = { λ _ e. e ≡ Memory };
+
+    fn from(_refused: AllocError) -> ReadFault {
+        ReadFault::Memory
+    }
+}
+
+impl<T: Drop> From<AllocFailed<T>> for ReadFault {
+    ghost use Rattle.std.specs.Prelude.{◌≡◌};
+    ghost use Rattle.fb_value.specs.declared.faults.ReadFault.TheVariants.{Memory};
+
+    ghost from_gives = { λ _ e. e ≡ Memory };
+
+    fn from(_refused: AllocFailed<T>) -> ReadFault {
+        ReadFault::Memory
+    }
+}

@@ -1,0 +1,53 @@
+//! How much a reader takes.
+ghost use Rattle.std.specs.Prelude.{◌≡◌, ◌≤◌};
+ghost use Rattle.std.specs.Option.{SomeIff};
+
+use std::marker::Model;
+
+/// The most tables in one another, and the most cells.
+#[derive(Clone, Copy, Debug)]
+pub struct Limits {
+    depth: u8,
+    cells: u32,
+}
+
+impl Model for Limits {
+    ghost use Rattle.std.specs.Prelude.{◌≤◌};
+    ghost use Rattle.fb_value.specs.Bounds.{Bounds};
+
+    ghost Value = { Bounds };
+
+    ghost view = { λ a. record { depth = a.depth; cells = a.cells } };
+
+    ghost invariant = { λ a. (1 ≤ a.depth) × (a.depth ≤ 127) };
+
+    ghost inverse = { λ m. record { depth = m.depth; cells = m.cells } };
+}
+
+impl Limits {
+    /// These limits, exactly where the depth is 1 to 127.
+    pub fn new(depth: u8, cells: u32) -> Option<Limits>
+        ensures { SomeIff result ((1 ≤ depth) × (depth ≤ 127)) (record { depth = depth; cells = cells }) }
+    {
+        if depth == 0 || depth > 127 {
+            return None;
+        }
+        Some(Limits { depth, cells })
+    }
+
+    /// The most tables in one another.
+    pub fn most_depth(&self) -> u8
+        ensures exact { result ≡ self.now.depth }
+        ensures some { 1 ≤ result }
+        ensures few { result ≤ 127 }
+    {
+        self.depth
+    }
+
+    /// The most cells.
+    pub fn most_cells(&self) -> u32
+        ensures { result ≡ self.now.cells }
+    {
+        self.cells
+    }
+}
