@@ -1,0 +1,7 @@
+use Rattle.std.proofs.Common.{◌≡◌, ◌<◌, ◌^◌, ◌+◌, drop}
+use Rattle.fb_value.specs.View.{entries_view}
+use Rattle.fb_value.specs.Counts.{entries_cells}
+use Rattle.fb_value.proofs.counts.+cells.Given as goal
+
+abbrev pub invariant-cells_in_entries-loop-entry : goal.invariant-cells_in_entries-loop-entry
+invariant-cells_in_entries-loop-entry l = (l.total < 2 ^ 32) × (l.total + entries_cells (entries_view (drop l.entry-index l.entries.items)) ≡ entries_cells (entries_view l.entries.items))
