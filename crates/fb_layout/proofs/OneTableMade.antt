@@ -1,5 +1,5 @@
 -- The layout of one table of `int` is well made.
-use Rattle.std.proofs.Common.{◌≡◌, ◌≢◌, ℕ, zero, suc, ◌+◌, ◌*◌, ◌/◌, ◌<◌, ◌≤◌, List, [], ◌∷◌, length, map, sum_by, slice_get, Option, None, Some, AllPairs, IsTrue, refl, sym, ap, subst, ◌∙◌, arith, pos, if◌then◌else◌}
+use Rattle.std.proofs.Common.{◌≡◌, ◌≢◌, ℕ, zero, suc, ◌+◌, ◌*◌, ◌/◌, ◌<◌, ◌≤◌, List, [], ◌∷◌, length, map, sum_by, slice_get, Option, None, Some, false, AllPairs, IsTrue, refl, sym, ap, subst, ◌∙◌, arith, pos, if◌then◌else◌}
 use Rattle.std.proofs.lemmas.Int.{ints}
 use Rattle.std.proofs.lemmas.List.{length-map}
 use Rattle.std.proofs.lemmas.List.Sums.{sum_by-cons}
@@ -10,7 +10,7 @@ use Rattle.fb_schema.specs.declared.kinds.Shape.TheVariants.{One}
 use Rattle.fb_schema.specs.Schema.{Name, table_body, DeclaredField, DeclaredType, DeclaredSchema, body_at}
 use Rattle.fb_schema.specs.WellDeclared.{InRange, IsShape, MarksFit, IsScalarField, IsUnionPair, UnionsPaired, names_of, IsTableBody, IsBody, IsDeclared, is_struct}
 use Rattle.fb_layout.specs.Sizes.{ceil4}
-use Rattle.fb_layout.specs.Laid.{LaidSchema, slot_of, slots_of, parts_of, struct_at}
+use Rattle.fb_layout.specs.Laid.{LaidSchema, scalar_kind, one_of, Slot, slot_of, slots_of, parts_of, struct_at}
 use Rattle.fb_layout.specs.Widths.{inline_size, widest}
 use Rattle.fb_layout.specs.WellMade.{IsStructLaid, IsNarrow, IsWellMade}
 use Rattle.fb_layout.specs.OneTable.{int_field, int_fields, one_table_schema, one_table}
@@ -89,3 +89,23 @@ one_table_made name names differ few = record {
   structs = λ s h. absurd (no_structs name names s h);
   tables = narrow name names few;
 }
+
+-- a slot of type `int`
+abbrev pub int_slot : Slot
+int_slot = record { shape = one_of (scalar_kind I32); if_absent = Some (pos 0); required = false; deprecated = false }
+
+abbrev pub int_slots : ℕ → List Slot
+int_slots zero = []
+int_slots (suc n) = int_slot ∷ int_slots n
+
+slots_from : (S : DeclaredSchema) (i : ℕ) (names : List Name) → map (slot_of S) (int_fields i names) ≡ int_slots (length names)
+slots_from S i [] = refl
+slots_from S i (n ∷ names) = ap (λ fs. int_slot ∷ fs) (slots_from S (suc i) names)
+
+-- the slots of the one table: as many as it has names
+pub slots_are : (name : Name) (names : List Name) → slots_of (one_table name names) 0 ≡ int_slots (length names)
+slots_are name names = slots_from (one_table_schema name names) 0 names
+
+pub length-int_slots : (n : ℕ) → length (int_slots n) ≡ n
+length-int_slots zero = refl
+length-int_slots (suc n) = ap (λ k. suc k) (length-int_slots n)

@@ -14,3 +14,4 @@ pub mod Holds
 pub mod OldSlots
 pub mod Reads
 pub mod Laws
+pub mod Ints

@@ -7,6 +7,7 @@ use Rattle.fb_value.specs.Datum.{Datum, a_number, a_text, a_vector, a_struct, a_
 use Rattle.fb_value.specs.Num.{Bytes, num, part_of, scalar_of}
 use Rattle.fb_value.specs.Places.{Target, table_part, member_part, text_part, vector_part, Sort, ref_place, part_place, inline_place, code_place, unknown_place, Place, named_slots, target_of}
 use Rattle.fb_value.specs.Rules.{fault_at}
+
 -- a value that may be missing, and what is made of it
 infixl 10 ◌>>=◌
 abbrev pub ◌>>=◌ : {A B : Type 0} → Option A → (A → Option B) → Option B
