@@ -7,8 +7,9 @@ use Rattle.fb_value.specs.Num.{Bytes}
 use Rattle.fb_value.specs.Places.{Place}
 use Rattle.fb_value.specs.Faults.{levels, first_fault, fault_from}
 use Rattle.fb_value.specs.Holds.{root_place}
-use Rattle.fb_value.specs.Laws.{OneValue, CellsOfPlace, IsFirstFault, FaultOfLeastPath}
+use Rattle.fb_value.specs.Laws.{OneValue, CellsOfPlace, CellsOfValue, IsFirstFault, FaultOfLeastPath}
 use Rattle.fb_value.proofs.Complete.{one_value}
+use Rattle.fb_value.proofs.Counted.{cells_are}
 use Rattle.fb_value.proofs.Least.{all_is, levels_enough, none_fault, some_least}
 
 -- Bytes hold one value at most.
@@ -28,3 +29,7 @@ first_shown L b most x (Some f) e = some_least (levels b x.at) L b most x 0 0 f 
 pub fault_of_least_path_shown : FaultOfLeastPath
 unfolding fault_from
 fault_of_least_path_shown L b most x = first_shown L b most x _ refl
+
+-- The cells of a value are those of the places that are reached from where it lies.
+pub cells_of_value_shown : CellsOfValue
+cells_of_value_shown L b x d lies = cells_are L b x.sort x.at d lies
