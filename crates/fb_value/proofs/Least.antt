@@ -7,7 +7,7 @@ use Rattle.fb_value.specs.Places.{Sort, Place, named}
 use Rattle.fb_value.specs.Rules.{Keeps, fault_at, fault_by}
 use Rattle.fb_value.specs.Reached.{Path, ComesBefore}
 use Rattle.fb_value.specs.Bounds.{Bounds}
-use Rattle.fb_value.specs.Faults.{own_cells, own_tables, sum_over, if_kept, all_within, levels, all, or_else, limited_fault, FaultFrom, LeastFrom, first_among, first_fault}
+use Rattle.fb_value.specs.Faults.{own_cells, own_tables, sum_over, if_kept, all_within, levels, all, or_else, limited_fault, FaultFrom, LeastFrom, first_among, first_fault, fault_from}
 use Rattle.fb_value.proofs.Steps.{keeps_within, steps_up}
 
 -- so many levels are enough at p
@@ -166,3 +166,14 @@ some_least (suc fuel) L b most x tables spent f enough e =
     by_case (inr later) known =
         let r = among_some _ (all L b) (spent + own_cells b x.sort x.at) (named L b x.sort x.at) f later.1 in
         step_least fuel L b most x tables spent f enough later.0 r (known r.k r.y (limited_none L b most x _ _ later.0) r.names _ r.found)
+
+-- Where no fault is computed from a place, no path from it leads to one.
+pub from_none : (L : LaidSchema) (b : Bytes) (most : Bounds) (x : Place) (tables spent : ℕ) → fault_from L b most x tables spent ≡ None
+    → (path : Path) (f : ReadFault) → FaultFrom L b most x tables spent path f → ⊥
+unfolding fault_from
+from_none L b most x tables spent e = none_fault (levels b x.at) L b most x tables spent (levels_enough b x.at) e
+
+-- A fault that is computed from a place is the one at the least path.
+pub from_some : (L : LaidSchema) (b : Bytes) (most : Bounds) (x : Place) (tables spent : ℕ) (f : ReadFault) → fault_from L b most x tables spent ≡ Some f → LeastFrom L b most x tables spent f
+unfolding fault_from
+from_some L b most x tables spent f e = some_least (levels b x.at) L b most x tables spent f (levels_enough b x.at) e

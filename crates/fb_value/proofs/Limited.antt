@@ -11,9 +11,9 @@ use Rattle.fb_value.specs.Places.{Target, table_part, member_part, text_part, ve
 use Rattle.fb_value.specs.Rules.{Rule, first_failing, Keeps, fault_at, fault_by}
 use Rattle.fb_value.specs.Lies.{EntryAt, LiesInline, LiesParts, Behind, IsCode, AbsentEntry, PresentEntry, Element, Lies, LiesItems, LiesSlots, LiesAt}
 use Rattle.fb_value.specs.Bounds.{Bounds}
-use Rattle.fb_value.specs.Faults.{own_cells, own_tables, all, or_else, limit_rules, limited_fault, first_among, first_fault}
+use Rattle.fb_value.specs.Faults.{own_cells, own_tables, all, or_else, limit_rules, limited_fault, first_among, first_fault, levels, fault_from}
 use Rattle.fb_value.proofs.Steps.{rule_held}
-use Rattle.fb_value.proofs.Least.{Enough, enough_below, or_none}
+use Rattle.fb_value.proofs.Least.{Enough, enough_below, levels_enough, or_none}
 use Rattle.fb_value.proofs.Counted.{text_length, behind_cells, entry_cells, part_cells, code_cells, element_size, inline_cells}
 
 IsWithin : Bounds → ℕ → ℕ → ℕ → ℕ → Type 0
@@ -318,3 +318,9 @@ unfolding Sure IsWithin
 at_sure L b most s p fuel d lies enough =
     let sure = behind_sure L b most fuel s p 0 0 d (λ s q m u c at more j k. part_sure L b most s q d m u c at more j k) lies enough (omega arith) (omega arith) in
     (λ e. let h = sure.0 e in (omega arith, omega arith), λ h. sure.1 (omega arith, omega arith))
+
+-- The same without levels.
+pub from_sure : (L : LaidSchema) (b : Bytes) (most : Bounds) (s : Sort) (p : ℕ) (d : Datum) → LiesAt L b s p d
+    → (fault_from L b most (record { sort = s; at = p }) 0 0 ≡ None) ↔ ((depth d ≤ most.depth) × (cells d ≤ most.cells))
+unfolding fault_from
+from_sure L b most s p d lies = at_sure L b most s p (levels b p) d lies (levels_enough b p)
