@@ -6,17 +6,17 @@ abbrev mutual
   pub height : Datum → ℕ
   height (a_number n) = 1
   height (a_text bytes) = 1
-  height (a_vector ds) = suc (items_height ds)
-  height (a_struct ds) = suc (items_height ds)
-  height (a_table type ss) = suc (slots_height ss)
+  height (a_vector ds) = suc (parts_height ds)
+  height (a_struct ds) = suc (parts_height ds)
+  height (a_table type ss) = suc (entries_height ss)
   height (a_member c d) = suc (height d)
   height (an_unknown c) = 1
 
-  pub items_height : Parts → ℕ
-  items_height no_parts = 0
-  items_height (more_parts d ds) = max (height d) (items_height ds)
+  pub parts_height : Parts → ℕ
+  parts_height no_parts = 0
+  parts_height (more_parts d ds) = max (height d) (parts_height ds)
 
-  pub slots_height : SlotEntries → ℕ
-  slots_height no_entries = 0
-  slots_height (absent_entry ss) = slots_height ss
-  slots_height (present_entry d ss) = max (height d) (slots_height ss)
+  pub entries_height : SlotEntries → ℕ
+  entries_height no_entries = 0
+  entries_height (absent_entry ss) = entries_height ss
+  entries_height (present_entry d ss) = max (height d) (entries_height ss)

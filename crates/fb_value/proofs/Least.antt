@@ -4,7 +4,7 @@ use Rattle.fb_value.specs.declared.faults.ReadFault.{ReadFault}
 use Rattle.fb_value.specs.Num.{Bytes}
 use Rattle.fb_layout.specs.Laid.{LaidSchema}
 use Rattle.fb_value.specs.Places.{Sort, Place, named}
-use Rattle.fb_value.specs.Rules.{Keeps, fault_at, fault_by}
+use Rattle.fb_value.specs.Rules.{Keeps, fault_at}
 use Rattle.fb_value.specs.Reached.{Path, ComesBefore}
 use Rattle.fb_value.specs.Bounds.{Bounds}
 use Rattle.fb_value.specs.Faults.{own_cells, own_tables, sum_over, if_kept, all_within, levels, all, or_else, limited_fault, FaultFrom, LeastFrom, first_among, first_fault, fault_from}
@@ -22,16 +22,19 @@ enough_below L b s p m k y enough keeps names =
     let up = steps_up L b s p k y keeps names in
     (omega arith, omega arith)
 
-if_kept_same : (o : Option ReadFault) (m n : ℕ) → (o ≡ None → m ≡ n) → if_kept o m ≡ if_kept o n
+-- Cells that are the same where no rule fails are the same.
+pub if_kept_same : (o : Option ReadFault) (m n : ℕ) → (o ≡ None → m ≡ n) → if_kept o m ≡ if_kept o n
 if_kept_same None m n known = known refl
 if_kept_same (Some f) m n known = refl
 
-sum_same : (f g : Place → ℕ) (xs : List (Option Place)) → ((k : ℕ) (y : Place) → slice_get xs k ≡ Some (Some y) → f y ≡ g y) → sum_over f xs ≡ sum_over g xs
+-- A sum is the same where its numbers are.
+pub sum_same : (f g : Place → ℕ) (xs : List (Option Place)) → ((k : ℕ) (y : Place) → slice_get xs k ≡ Some (Some y) → f y ≡ g y) → sum_over f xs ≡ sum_over g xs
 sum_same f g [] known = refl
 sum_same f g (None ∷ xs) known = sum_same f g xs (λ k y e. known (suc k) y e)
 sum_same f g (Some x ∷ xs) known = rw (known 0 x refl, sum_same f g xs (λ k y e. known (suc k) y e))
 
-all_enough : (m n : ℕ) (L : LaidSchema) (b : Bytes) (x : Place) → Enough b x.at m → Enough b x.at n → all_within m L b x ≡ all_within n L b x
+-- The cells of what is reached are the same within any levels that are enough.
+pub all_enough : (m n : ℕ) (L : LaidSchema) (b : Bytes) (x : Place) → Enough b x.at m → Enough b x.at n → all_within m L b x ≡ all_within n L b x
 unfolding all_within Enough
 all_enough zero n L b x h i = absurd (omega arith)
 all_enough (suc m) zero L b x h i = absurd (omega arith)
@@ -39,6 +42,7 @@ all_enough (suc m) (suc n) L b x h i =
     if_kept_same (fault_at L b x.sort x.at) _ _ (λ keeps. ap (λ c. own_cells b x.sort x.at + c)
     (sum_same _ _ (named L b x.sort x.at) (λ k y names. all_enough m n L b y (enough_below L b x.sort x.at m k y h keeps names) (enough_below L b x.sort x.at n k y i keeps names))))
 
+-- The levels that are taken are enough.
 pub levels_enough : (b : Bytes) (p : ℕ) → Enough b p (levels b p)
 unfolding Enough
 levels_enough b p = (omega arith, omega arith)
@@ -51,20 +55,23 @@ all_is L b x =
     (sum_same _ _ (named L b x.sort x.at) (λ k y names.
     all_enough (length b - x.at) (levels b y.at) L b y (enough_below L b x.sort x.at (length b - x.at) k y (levels_enough b x.at) keeps names) (levels_enough b y.at))))
 
+-- Nothing is there only where neither is.
 pub or_none : {A : Type 0} (o r : Option A) → or_else o r ≡ None → (o ≡ None) × (r ≡ None)
 or_none None r e = (refl, e)
 or_none (Some x) r e = cc
 
-or_some : {A : Type 0} (o r : Option A) (x : A) → or_else o r ≡ Some x → (o ≡ Some x) ⊎ ((o ≡ None) × (r ≡ Some x))
+-- What is there is the first, or the second where the first is not.
+pub or_some : {A : Type 0} (o r : Option A) (x : A) → or_else o r ≡ Some x → (o ≡ Some x) ⊎ ((o ≡ None) × (r ≡ Some x))
 or_some None r x e = inr (refl, e)
 or_some (Some y) r x e = inl e
 
+-- Where no fault stands, with the limits, the place keeps its rules.
 pub limited_none : (L : LaidSchema) (b : Bytes) (most : Bounds) (x : Place) (tables cells : ℕ) → limited_fault L b most x tables cells ≡ None → Keeps L b x.sort x.at
 unfolding limited_fault
 limited_none L b most x tables cells e = (or_none _ _ e).0
 
 -- none among several is none at each, at what was spent before it
-among_none : (look : Place → ℕ → Option ReadFault) (cost : Place → ℕ) (spent : ℕ) (xs : List (Option Place)) → first_among look cost spent xs ≡ None
+pub among_none : (look : Place → ℕ → Option ReadFault) (cost : Place → ℕ) (spent : ℕ) (xs : List (Option Place)) → first_among look cost spent xs ≡ None
     → (k : ℕ) (y : Place) → slice_get xs k ≡ Some (Some y) → look y (spent + sum_over cost (take k xs)) ≡ None
 among_none look cost spent [] e k y names = cc
 among_none look cost spent (None ∷ xs) e zero y names = cc
@@ -76,13 +83,14 @@ among_none look cost spent (Some x ∷ xs) e (suc k) y names =
     rw (← add_assoc spent (cost x) (sum_over cost (take k xs))) (among_none look cost (spent + cost x) xs (or_none _ _ e).1 k y names)
 
 -- the first among several
-record IsFirst (look : Place → ℕ → Option ReadFault) (cost : Place → ℕ) (spent : ℕ) (xs : List (Option Place)) (f : ReadFault) : Type 0 where
-  k : ℕ
-  y : Place
-  names : slice_get xs k ≡ Some (Some y)
-  found : look y (spent + sum_over cost (take k xs)) ≡ Some f
-  before : (j : ℕ) (z : Place) → j < k → slice_get xs j ≡ Some (Some z) → look z (spent + sum_over cost (take j xs)) ≡ None
+pub record IsFirst (look : Place → ℕ → Option ReadFault) (cost : Place → ℕ) (spent : ℕ) (xs : List (Option Place)) (f : ReadFault) : Type 0 where
+  pub k : ℕ
+  pub y : Place
+  pub names : slice_get xs k ≡ Some (Some y)
+  pub found : look y (spent + sum_over cost (take k xs)) ≡ Some f
+  pub before : (j : ℕ) (z : Place) → j < k → slice_get xs j ≡ Some (Some z) → look z (spent + sum_over cost (take j xs)) ≡ None
 
+-- A slot that names nothing changes not which fault is the first.
 later_first : (look : Place → ℕ → Option ReadFault) (cost : Place → ℕ) (spent : ℕ) (xs : List (Option Place)) (f : ReadFault) → IsFirst look cost spent xs f → IsFirst look cost spent (None ∷ xs) f
 later_first look cost spent xs f r = record { k = suc r.k; y = r.y; names = r.names; found = r.found; before = go }
   where
@@ -90,6 +98,7 @@ later_first look cost spent xs f r = record { k = suc r.k; y = r.y; names = r.na
     go zero z h e = cc
     go (suc j) z h e = r.before j z (omega arith) e
 
+-- Nor does a place without a fault.
 after_first : (look : Place → ℕ → Option ReadFault) (cost : Place → ℕ) (spent : ℕ) (x : Place) (xs : List (Option Place)) (f : ReadFault) → look x spent ≡ None → IsFirst look cost (spent + cost x) xs f → IsFirst look cost spent (Some x ∷ xs) f
 after_first look cost spent x xs f none r = record { k = suc r.k; y = r.y; names = r.names; found = rw (← add_assoc spent (cost x) (sum_over cost (take r.k xs))) r.found; before = go }
   where
@@ -99,7 +108,8 @@ after_first look cost spent x xs f none r = record { k = suc r.k; y = r.y; names
         subst (λ (w : Place). look w (spent + 0) ≡ None) is (rw add-zero none)
     go (suc j) z h e = rw (← add_assoc spent (cost x) (sum_over cost (take j xs))) (r.before j z (omega arith) e)
 
-among_some : (look : Place → ℕ → Option ReadFault) (cost : Place → ℕ) (spent : ℕ) (xs : List (Option Place)) (f : ReadFault) → first_among look cost spent xs ≡ Some f → IsFirst look cost spent xs f
+-- What is computed among several places is the first fault.
+pub among_some : (look : Place → ℕ → Option ReadFault) (cost : Place → ℕ) (spent : ℕ) (xs : List (Option Place)) (f : ReadFault) → first_among look cost spent xs ≡ Some f → IsFirst look cost spent xs f
 among_some look cost spent [] f e = cc
 among_some look cost spent (None ∷ xs) f e = later_first look cost spent xs f (among_some look cost spent xs f e)
 among_some look cost spent (Some x ∷ xs) f e = by_case (or_some _ _ f e) (λ h. among_some look cost (spent + cost x) xs f h)
@@ -108,7 +118,8 @@ among_some look cost spent (Some x ∷ xs) f e = by_case (or_some _ _ f e) (λ h
     by_case (inl here) known = record { k = 0; y = x; names = refl; found = rw add-zero here; before = λ j z h e2. absurd (omega arith) }
     by_case (inr later) known = after_first look cost spent x xs f later.0 (known later.1)
 
-same_entry : (xs : List (Option Place)) (j k : ℕ) (y z : Place) → j ≡ k → slice_get xs j ≡ Some (Some y) → slice_get xs k ≡ Some (Some z) → y ≡ z
+-- A list has one entry at a number.
+pub same_entry : (xs : List (Option Place)) (j k : ℕ) (y z : Place) → j ≡ k → slice_get xs j ≡ Some (Some y) → slice_get xs k ≡ Some (Some z) → y ≡ z
 same_entry xs j k y z e p q = cc
 
 -- where no fault is computed, no path leads to one
@@ -139,6 +150,7 @@ module _ (fuel : ℕ) (L : LaidSchema) (b : Bytes) (most : Bounds) (x : Place) (
     (fine : limited_fault L b most x (tables + own_tables x.sort) (spent + own_cells b x.sort x.at) ≡ None)
     (r : IsFirst (λ y before. first_fault fuel L b most y (tables + own_tables x.sort) before) (all L b) (spent + own_cells b x.sort x.at) (named L b x.sort x.at) f)
     (below : LeastFrom L b most r.y (tables + own_tables x.sort) ((spent + own_cells b x.sort x.at) + sum_over (all L b) (take r.k (named L b x.sort x.at))) f) where
+  -- No path before has a fault.
   none_before : (other : Path) (g : ReadFault) → ComesBefore other (r.k ∷ below.0) → FaultFrom L b most x tables spent other g → ⊥
   none_before [] g before fault = cc
   none_before (j ∷ path) g (inl less) fault =
@@ -148,9 +160,11 @@ module _ (fuel : ℕ) (L : LaidSchema) (b : Bytes) (most : Bounds) (x : Place) (
       below.2 path g same.1 (subst (λ (i : ℕ). FaultFrom L b most r.y (tables + own_tables x.sort) ((spent + own_cells b x.sort x.at) + sum_over (all L b) (take i (named L b x.sort x.at))) path g) same.0
       (subst (λ (z : Place). FaultFrom L b most z (tables + own_tables x.sort) ((spent + own_cells b x.sort x.at) + sum_over (all L b) (take j (named L b x.sort x.at))) path g) is fault.3))
 
+  -- The fault behind the first such step is the least.
   step_least : LeastFrom L b most x tables spent f
   step_least = (r.k ∷ below.0, (limited_none L b most x _ _ fine, r.y, r.names, below.1), none_before)
 
+-- A fault that is computed is the one at the least path, within levels enough.
 pub some_least : (fuel : ℕ) (L : LaidSchema) (b : Bytes) (most : Bounds) (x : Place) (tables spent : ℕ) (f : ReadFault) → Enough b x.at fuel → first_fault fuel L b most x tables spent ≡ Some f → LeastFrom L b most x tables spent f
 unfolding first_fault Enough
 some_least zero L b most x tables spent f enough e = absurd (omega arith)

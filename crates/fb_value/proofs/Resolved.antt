@@ -1,14 +1,14 @@
 -- What a layout keeps of stored kinds: structs hold numbers and lower structs, and vectors no unions.
-use Rattle.std.proofs.Common.{◌≡◌, ℕ, zero, suc, ◌+◌, ◌<◌, List, [], ◌∷◌, length, map, true, IsTrue, Option, None, Some, slice_get, refl, sym, subst}
+use Rattle.std.proofs.Common.{◌≡◌, ℕ, suc, ◌+◌, ◌<◌, List, [], ◌∷◌, length, map, IsTrue, Option, None, Some, slice_get, refl, subst}
 use Rattle.fb_schema.specs.declared.kinds.Kind.{Kind}
 use Rattle.fb_schema.specs.declared.kinds.Kind.TheVariants.{Scalar, Enum, Struct, Table, Union, Code, Text}
 use Rattle.fb_schema.specs.declared.kinds.Shape.{Shape}
 use Rattle.fb_schema.specs.declared.kinds.Shape.TheVariants.{One, Many}
-use Rattle.fb_schema.specs.Schema.{DeclaredField, DeclaredBody, table_body, struct_body, enum_body, union_body, DeclaredType, DeclaredSchema, body_in, body_at, slots_in, parts_in}
+use Rattle.fb_schema.specs.Schema.{DeclaredField, DeclaredBody, table_body, struct_body, enum_body, union_body, DeclaredType, DeclaredSchema, body_at, slots_in, parts_in}
 use Rattle.fb_schema.specs.WellDeclared.{IsBody, IsPart, IsShape, is_struct, KindNames, MayBeElement}
-use Rattle.fb_layout.specs.Laid.{LaidSchema, Slot, StoredKind, scalar_kind, struct_kind, table_kind, union_kind, code_kind, text_kind, StoredShape, one_of, vector_of, stored_kind, stored_shape, slot_of, slots_of, kind_in, parts_of, struct_at, size_of}
+use Rattle.fb_layout.specs.Laid.{LaidSchema, Slot, StoredKind, scalar_kind, struct_kind, table_kind, text_kind, StoredShape, one_of, vector_of, stored_kind, stored_shape, slot_of, slots_of, kind_in, parts_of, struct_at, size_of}
 use Rattle.fb_layout.specs.WellMade.{StandInOrder, IsWellMade}
-use Rattle.fb_value.specs.Places.{Target, table_part, member_part, text_part, vector_part, Sort, ref_place, part_place, inline_place, code_place, unknown_place}
+use Rattle.fb_value.specs.Places.{Target, vector_part, Sort, ref_place, part_place, inline_place, code_place, unknown_place}
 
 -- a struct's parts are numbers and structs below it, and each has its offset
 abbrev pub LowerParts : ℕ → List StoredKind → List ℕ → Type 0
@@ -31,6 +31,7 @@ IsStored most (vector_of kind) = IsElement most kind
 IsStored most (one_of (struct_kind s)) = s < most
 IsStored most (one_of _) = Unit {0}
 
+-- what may be in the slots of a table
 abbrev pub AreStored : ℕ → List Slot → Type 0
 AreStored most [] = Unit {0}
 AreStored most (f ∷ fs) = IsStored most f.shape × AreStored most fs
@@ -89,7 +90,7 @@ element_stored S (Code u) names may = absurd may
 element_stored S Text names may = tt
 
 -- A declared shape, as a slot's.
-shape_stored : (S : DeclaredSchema) (shape : Shape) → IsShape S shape → IsStored (length S.types) (stored_shape S shape)
+pub shape_stored : (S : DeclaredSchema) (shape : Shape) → IsShape S shape → IsStored (length S.types) (stored_shape S shape)
 shape_stored S (Many kind) is = element_stored S kind is.0 is.1
 shape_stored S (One (Scalar base)) is = tt
 shape_stored S (One (Enum e)) is = tt
@@ -100,11 +101,12 @@ shape_stored S (One (Code u)) is = tt
 shape_stored S (One Text) is = tt
 
 -- The declared fields of a table, as its slots.
-fields_stored : (S : DeclaredSchema) (fs : List DeclaredField) → ((k : ℕ) (f : DeclaredField) → slice_get fs k ≡ Some f → IsShape S f.shape) → AreStored (length S.types) (map (slot_of S) fs)
+pub fields_stored : (S : DeclaredSchema) (fs : List DeclaredField) → ((k : ℕ) (f : DeclaredField) → slice_get fs k ≡ Some f → IsShape S f.shape) → AreStored (length S.types) (map (slot_of S) fs)
 fields_stored S [] are = tt
 fields_stored S (f ∷ fs) are = (shape_stored S f.shape (are 0 f refl), fields_stored S fs (λ k g e. are (suc k) g e))
 
 module _ (L : LaidSchema) (made : IsWellMade L) where
+  -- The parts of a declared type are lower, whatever its body.
   body_lower : (s : ℕ) (body : DeclaredBody) → body_at L.schema s ≡ body → IsBody L.schema s body → LowerParts s (map (λ f. kind_in (stored_shape L.schema f.shape)) (parts_in body)) (struct_at L s).offsets
   unfolding kinds_in
   body_lower s (table_body fs) e is = tt
@@ -116,16 +118,19 @@ module _ (L : LaidSchema) (made : IsWellMade L) where
       parts_lower L s 0 laid.end fs (struct_at L s).offsets (λ k f h. (is.parts k f h).0)
       (subst (λ (x : DeclaredBody). StandInOrder L 0 (kinds_in L.schema (parts_in x)) (struct_at L s).offsets laid.end) e laid.fields)
 
+  -- The slots of a declared type are stored ones, whatever its body.
   body_stored : (t : ℕ) (body : DeclaredBody) → IsBody L.schema t body → AreStored (length L.schema.types) (map (slot_of L.schema) (slots_in body))
   body_stored t (table_body fs) is = fields_stored L.schema fs (λ k f h. (is.shapes k f h).0)
   body_stored t (struct_body fs align) is = tt
   body_stored t (enum_body base flags values) is = tt
   body_stored t (union_body members) is = tt
 
+  -- The parts of each number are lower, also past the types.
   type_lower : (s : ℕ) (o : Option DeclaredType) → slice_get L.schema.types s ≡ o → LowerParts s (parts_of L s) (struct_at L s).offsets
   type_lower s None e = rw e tt
   type_lower s (Some type) e = rw e (body_lower s type.body (rw e refl) (made.declared.bodies s type e))
 
+  -- The slots of each number are stored ones, also past the types.
   type_stored : (t : ℕ) (o : Option DeclaredType) → slice_get L.schema.types t ≡ o → AreStored (length L.schema.types) (slots_of L t)
   type_stored t None e = rw e tt
   type_stored t (Some type) e = rw e (body_stored t type.body (made.declared.bodies t type e))

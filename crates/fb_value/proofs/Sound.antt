@@ -8,15 +8,18 @@ use Rattle.fb_value.specs.Places.{Target, table_part, member_part, text_part, ve
 use Rattle.fb_value.specs.Lies.{LiesInline, LiesParts, EntryAt, Element, Lies, LiesItems, LiesSlots, LiesAt}
 use Rattle.fb_value.specs.Reads.{unless, ◌>>=◌, parts_at, inline_at, through, element_at, items_at, default_entry, entry_at, slots_at, datum_at}
 
-unless_some : {A : Type 0} (f : Option ReadFault) (r : Option A) (x : A) → unless f r ≡ Some x → (f ≡ None) × (r ≡ Some x)
+-- What is read is there only where no rule fails.
+pub unless_some : {A : Type 0} (f : Option ReadFault) (r : Option A) (x : A) → unless f r ≡ Some x → (f ≡ None) × (r ≡ Some x)
 unless_some None r x e = (refl, e)
 unless_some (Some f) r x e = cc
 
-bind_some : {A B : Type 0} (r : Option A) (f : A → Option B) (y : B) → (r >>= f) ≡ Some y → (x : A) × (r ≡ Some x) × (f x ≡ Some y)
+-- What is made of a value is there only where the value is.
+pub bind_some : {A B : Type 0} (r : Option A) (f : A → Option B) (y : B) → (r >>= f) ≡ Some y → (x : A) × (r ≡ Some x) × (f x ≡ Some y)
 bind_some None f y e = cc
 bind_some (Some x) f y e = (x, refl, e)
 
-same_some : {A : Type 0} (x y : A) → Some x ≡ Some y → x ≡ y
+-- One value is there.
+pub same_some : {A : Type 0} (x y : A) → Some x ≡ Some y → x ≡ y
 same_some x y e = cc
 
 -- the fields of a struct, once each kind is known
@@ -32,7 +35,8 @@ parts_sound L b fuel known (k ∷ ks) (o ∷ os) p ds e =
     subst (λ (x : Parts). LiesParts L b (k ∷ ks) (o ∷ os) p x) (same_some (more_parts first.0 rest.0) ds rest.2)
     (known k (p + o) first.0 first.1, parts_sound L b fuel known ks os p rest.0 rest.1)
 
-inline_sound : (fuel : ℕ) (L : LaidSchema) (b : Bytes) (kind : StoredKind) (p : ℕ) (d : Datum) → inline_at fuel L b kind p ≡ Some d → LiesInline L b kind p d
+-- The number or struct that is computed stands there.
+pub inline_sound : (fuel : ℕ) (L : LaidSchema) (b : Bytes) (kind : StoredKind) (p : ℕ) (d : Datum) → inline_at fuel L b kind p ≡ Some d → LiesInline L b kind p d
 unfolding inline_at
 inline_sound zero L b kind p d e = cc
 inline_sound (suc fuel) L b (scalar_kind base) p d e = subst (λ (x : Datum). LiesInline L b (scalar_kind base) p x) (same_some _ d e) refl
@@ -43,6 +47,7 @@ inline_sound (suc fuel) L b (struct_kind s) p d e =
 inline_sound (suc fuel) L b _ p d e = cc
 
 module _ (L : LaidSchema) (b : Bytes) (fuel : ℕ) (known : (s : Sort) (q : ℕ) (d : Datum) → datum_at fuel L b s q ≡ Some d → Lies L b s q d) where
+  -- What is computed through a reference lies behind it.
   through_sound : (s : Sort) (p : ℕ) (d : Datum) → through L b s p (λ s q. datum_at fuel L b s q) ≡ Some d → LiesAt L b s p d
   through_sound (ref_place X) p d e =
       let found = unless_some _ _ _ e in
@@ -52,11 +57,13 @@ module _ (L : LaidSchema) (b : Bytes) (fuel : ℕ) (known : (s : Sort) (q : ℕ)
   through_sound (code_place u k required here) p d e = cc
   through_sound (unknown_place c) p d e = cc
 
+  -- The element that is computed lies there.
   element_sound : (kind : StoredKind) (p : ℕ) (X : Option Target) (d : Datum) → element_at L b kind p X (λ s q. datum_at fuel L b s q) (λ k q. inline_at fuel L b k q) ≡ Some d
       → Element L b kind p X d (λ s q. Lies L b s q d)
   element_sound kind p None d e = inline_sound fuel L b kind p d e
   element_sound kind p (Some X) d e = through_sound (ref_place X) p d e
 
+  -- The elements that are computed lie there, as many as were asked for.
   items_sound : (kind : StoredKind) (p n : ℕ) (ds : Parts) → items_at L b (λ s q. datum_at fuel L b s q) (λ k q. inline_at fuel L b k q) kind p n ≡ Some ds
       → (count ds ≡ n) × LiesItems L b kind p ds
   unfolding items_at
@@ -73,6 +80,7 @@ module _ (L : LaidSchema) (b : Bytes) (fuel : ℕ) (known : (s : Sort) (q : ℕ)
   default_sound f fs xs None rest ss is lies e = subst (λ (x : SlotEntries). LiesSlots L b (f ∷ fs) (None ∷ xs) x) e (is, lies)
   default_sound f fs xs (Some n) rest ss is lies e = subst (λ (x : SlotEntries). LiesSlots L b (f ∷ fs) (None ∷ xs) x) e ((n, is, refl), lies)
 
+  -- What lies at a place is its entry.
   as_entry : (s : Sort) (p : ℕ) (d : Datum) → LiesAt L b s p d → EntryAt L b s p d (λ s q. Lies L b s q d)
   as_entry (ref_place X) p d lies = lies
   as_entry (part_place X) p d lies = lies
@@ -80,6 +88,7 @@ module _ (L : LaidSchema) (b : Bytes) (fuel : ℕ) (known : (s : Sort) (q : ℕ)
   as_entry (code_place u k required here) p d lies = lies
   as_entry (unknown_place c) p d lies = absurd lies
 
+  -- An entry that is read is the slot's, in front of the later ones.
   present_sound : (s : Sort) (p : ℕ) (f : Slot) (fs : List Slot) (xs : List (Option Place)) (rest ss : SlotEntries)
       → (through L b s p (λ s q. datum_at fuel L b s q) >>= λ d. Some (present_entry d rest)) ≡ Some ss → LiesSlots L b fs xs rest
       → LiesSlots L b (f ∷ fs) (Some (record { sort = s; at = p }) ∷ xs) ss
@@ -87,6 +96,7 @@ module _ (L : LaidSchema) (b : Bytes) (fuel : ℕ) (known : (s : Sort) (q : ℕ)
       let found = bind_some _ _ _ e in
       subst (λ (x : SlotEntries). LiesSlots L b (f ∷ fs) (Some (record { sort = s; at = p }) ∷ xs) x) (same_some (present_entry found.0 rest) ss found.2) (as_entry s p found.0 (through_sound s p found.0 found.1), lies)
 
+  -- The entry that is computed at a place is the slot's.
   entry_sound : (s : Sort) (p : ℕ) (f : Slot) (fs : List Slot) (xs : List (Option Place)) (rest ss : SlotEntries)
       → entry_at L b (λ s q. datum_at fuel L b s q) s p rest ≡ Some ss → LiesSlots L b fs xs rest
       → LiesSlots L b (f ∷ fs) (Some (record { sort = s; at = p }) ∷ xs) ss
@@ -98,6 +108,7 @@ module _ (L : LaidSchema) (b : Bytes) (fuel : ℕ) (known : (s : Sort) (q : ℕ)
   entry_sound (part_place X) p f fs xs rest ss e lies = present_sound (part_place X) p f fs xs rest ss e lies
   entry_sound (inline_place kind) p f fs xs rest ss e lies = present_sound (inline_place kind) p f fs xs rest ss e lies
 
+  -- The entries that are computed are those of the slots.
   slots_sound : (fs : List Slot) (xs : List (Option Place)) (ss : SlotEntries) → slots_at L b (λ s q. datum_at fuel L b s q) fs xs ≡ Some ss → LiesSlots L b fs xs ss
   unfolding slots_at
   slots_sound [] [] ss e = subst (λ (x : SlotEntries). LiesSlots L b [] [] x) (same_some no_entries ss e) tt
@@ -110,6 +121,7 @@ module _ (L : LaidSchema) (b : Bytes) (fuel : ℕ) (known : (s : Sort) (q : ℕ)
       let rest = bind_some _ _ _ e in
       entry_sound x.sort x.at f fs xs rest.0 ss rest.2 (slots_sound fs xs rest.0 rest.1)
 
+-- What is computed at a place lies there.
 pub sound : (fuel : ℕ) (L : LaidSchema) (b : Bytes) (s : Sort) (p : ℕ) (d : Datum) → datum_at fuel L b s p ≡ Some d → Lies L b s p d
 unfolding datum_at
 sound zero L b s p d e = cc
@@ -135,3 +147,7 @@ sound (suc fuel) L b (part_place (member_part c t)) p d e =
 sound (suc fuel) L b (ref_place X) p d e = cc
 sound (suc fuel) L b (code_place u k required here) p d e = cc
 sound (suc fuel) L b (unknown_place c) p d e = cc
+
+-- What is computed at a place, also through a reference, lies there.
+pub at_sound : (fuel : ℕ) (L : LaidSchema) (b : Bytes) (s : Sort) (p : ℕ) (d : Datum) → through L b s p (λ s q. datum_at fuel L b s q) ≡ Some d → LiesAt L b s p d
+at_sound fuel L b s p d e = through_sound L b fuel (λ s q x h. sound fuel L b s q x h) s p d e

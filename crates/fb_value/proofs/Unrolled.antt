@@ -8,17 +8,20 @@ use Rattle.fb_value.specs.Bounds.{Bounds}
 use Rattle.fb_value.specs.Faults.{own_cells, own_tables, all, levels, or_else, limited_fault, first_among, first_fault, fault_from}
 use Rattle.fb_value.proofs.Least.{Enough, enough_below, levels_enough, limited_none}
 
-or_same : {A : Type 0} (o r s : Option A) → (o ≡ None → r ≡ s) → or_else o r ≡ or_else o s
+-- What comes second is the same where the first is nothing.
+pub or_same : {A : Type 0} (o r s : Option A) → (o ≡ None → r ≡ s) → or_else o r ≡ or_else o s
 or_same None r s known = known refl
 or_same (Some x) r s known = refl
 
-among_same : (f g : Place → ℕ → Option ReadFault) (cost : Place → ℕ) (spent : ℕ) (xs : List (Option Place)) → ((k : ℕ) (y : Place) (c : ℕ) → slice_get xs k ≡ Some (Some y) → f y c ≡ g y c)
+-- The first fault among several places is the same where each place has the same.
+pub among_same : (f g : Place → ℕ → Option ReadFault) (cost : Place → ℕ) (spent : ℕ) (xs : List (Option Place)) → ((k : ℕ) (y : Place) (c : ℕ) → slice_get xs k ≡ Some (Some y) → f y c ≡ g y c)
     → first_among f cost spent xs ≡ first_among g cost spent xs
 among_same f g cost spent [] known = refl
 among_same f g cost spent (None ∷ xs) known = among_same f g cost spent xs (λ k y c e. known (suc k) y c e)
 among_same f g cost spent (Some x ∷ xs) known = rw (known 0 x spent refl, among_same f g cost (spent + cost x) xs (λ k y c e. known (suc k) y c e))
 
-first_enough : (m n : ℕ) (L : LaidSchema) (b : Bytes) (most : Bounds) (x : Place) (tables spent : ℕ) → Enough b x.at m → Enough b x.at n → first_fault m L b most x tables spent ≡ first_fault n L b most x tables spent
+-- The first fault is the same within any levels that are enough.
+pub first_enough : (m n : ℕ) (L : LaidSchema) (b : Bytes) (most : Bounds) (x : Place) (tables spent : ℕ) → Enough b x.at m → Enough b x.at n → first_fault m L b most x tables spent ≡ first_fault n L b most x tables spent
 unfolding first_fault Enough
 first_enough zero n L b most x tables spent h i = absurd (omega arith)
 first_enough (suc m) zero L b most x tables spent h i = absurd (omega arith)
