@@ -1,0 +1,32 @@
+//! Laws of the bytes that hold a value.
+ghost use Rattle.fb_value.specs.Laws.{OneValue, ValueWhereAllKeep, CellsOfPlace, CellsOfValue, FaultOfLeastPath, ValueOrFault};
+
+/// Bytes hold one value at most.
+pub fn one_value()
+    ensures { OneValue }
+{}
+
+/// A value lies at the root exactly where each place that is reached keeps its rules.
+pub fn value_where_all_keep()
+    ensures { ValueWhereAllKeep }
+{}
+
+/// The cells of a place are its own and those of what it names.
+pub fn cells_of_place()
+    ensures { CellsOfPlace }
+{}
+
+/// The cells of a value are those of the places that are reached.
+pub fn cells_of_value()
+    ensures { CellsOfValue }
+{}
+
+/// What is computed is the fault at the least path, or there is none.
+pub fn fault_of_least_path()
+    ensures { FaultOfLeastPath }
+{}
+
+/// Bytes hold a value exactly where no fault stands, and else have a least one.
+pub fn value_or_fault()
+    ensures { ValueOrFault }
+{}
