@@ -4,6 +4,7 @@
 mod counting;
 mod numbers;
 mod places;
+mod reading;
 
 pub use counting::Entries;
 pub use fb_value::ReadFault;

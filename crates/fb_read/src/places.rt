@@ -126,7 +126,7 @@ pub fn open_table(bytes: &[u8], at: usize) -> Result<usize, ReadFault>
 
 /// The `int` at a position.
 #[tactic(auto, unfolding(fb_value::specs::Rules::fault_by, fb_value::specs::Rules::first_failing))]
-pub fn int_at(bytes: &[u8], at: usize) -> Result<i32, ReadFault>
+pub fn int_at(bytes: &[u8], at: usize) -> Result<i128, ReadFault>
     requires { at < 2 ^ 33 }
     ensures rules { (L : LaidSchema) → MatchResult result
         (λ n. Keeps L bytes.now (inline_place (scalar_kind I32)) at × (n ≡ scalar_of I32 (num bytes.now at 4)))
@@ -139,5 +139,5 @@ pub fn int_at(bytes: &[u8], at: usize) -> Result<i32, ReadFault>
     if at + 4 > bytes.len() {
         return Err(ReadFault::OutOfBounds(at as u64));
     }
-    Ok(i32_at(bytes, at))
+    Ok(i128::from(i32_at(bytes, at)))
 }

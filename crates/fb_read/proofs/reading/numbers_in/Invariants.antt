@@ -1,0 +1,6 @@
+use Rattle.fb_layout.specs.Laid.{LaidSchema}
+use Rattle.fb_read.specs.Ints.{AreNumbers}
+use Rattle.fb_read.proofs.reading.numbers_in.Given as goal
+
+abbrev pub invariant-loop-slot : goal.invariant-loop-slot
+invariant-loop-slot l = (L : LaidSchema) → AreNumbers L l.bytes l.at l.slot l.entries.items

@@ -1,0 +1,53 @@
+//! Reading a buffer.
+ghost use Rattle.std.specs.Prelude.{◌≡◌, ◌≢◌, ◌+◌, ◌<◌, ◌≤◌, ◌^◌, length, IfOk, IfErr, Err, MatchResult};
+ghost use Rattle.fb_layout.specs.Laid.{LaidSchema};
+ghost use Rattle.fb_value.specs.Num.{num};
+ghost use Rattle.fb_value.specs.Places.{vtable};
+ghost use Rattle.fb_value.specs.View.{view};
+ghost use Rattle.fb_value.specs.Datum.{Datum};
+ghost use Rattle.fb_value.specs.Holds.{Holds, IsLeastFault};
+ghost use Rattle.fb_read.specs.Ints.{int_place, HasNumber, HasFault, AreNumbers, FailsFirst};
+
+use crate::counting::Entries;
+use crate::places::{check_header, follow, int_at, open_table, slot_of};
+use fb_layout::Layout;
+use fb_schema::TypeId;
+use fb_value::{Limits, ReadFault, Value};
+use std::alloc::Global;
+
+fn number_in(bytes: &[u8], at: usize, place: usize, slot: usize) -> Result<i128, ReadFault>
+    requires vtable { place ≡ vtable bytes.now at }
+    requires whole { place + num bytes.now place 2 ≤ length bytes.now }
+    requires within { place + 2 ≤ length bytes.now }
+    requires short { length bytes.now < 2 ^ 31 }
+    requires few { slot < 2 ^ 16 }
+    requires low { at < 2 ^ 32 }
+    ensures rules { (L : LaidSchema) → MatchResult result
+        (λ n. HasNumber L bytes.now (int_place bytes.now at slot) n)
+        (λ f. HasFault L bytes.now (int_place bytes.now at slot) f) }
+    ensures rule { result ≡ Err ReadFault.Memory → ⊥ }
+{
+    let offset = slot_of(bytes, at, place, slot);
+    if offset == 0 {
+        return Ok(0);
+    }
+    int_at(bytes, at + offset)
+}
+
+fn numbers_in(alloc: Global, bytes: &[u8], at: usize, place: usize, count: usize) -> Result<Vec<Option<Value>>, ReadFault>
+    requires vtable { place ≡ vtable bytes.now at }
+    requires whole { place + num bytes.now place 2 ≤ length bytes.now }
+    requires within { place + 2 ≤ length bytes.now }
+    requires short { length bytes.now < 2 ^ 31 }
+    requires few { count < 2 ^ 16 }
+    requires low { at < 2 ^ 32 }
+    ensures numbers { (L : LaidSchema) → IfOk result (λ es. AreNumbers L bytes.now at count es.items) }
+    ensures fault { (L : LaidSchema) → IfErr result (λ f. f ≢ ReadFault.Memory → FailsFirst L bytes.now at count f) }
+{
+    let mut entries = Vec::with_capacity(alloc, count)?;
+    for slot in 0..count {
+        let number = number_in(bytes, at, place, slot)?;
+        entries.push(Some(Value::Number(number)))?;
+    }
+    Ok(entries)
+}
