@@ -1,5 +1,5 @@
 -- Bytes hold a value, or have a least fault.
-use Rattle.std.proofs.Common.{◌≡◌, ℕ, [], ◌∷◌, Bool, Option, None, Some, refl, sym, ◌∙◌, inl, inr}
+use Rattle.std.proofs.Common.{◌≡◌, ℕ, [], ◌∷◌, Bool, Option, None, Some, refl, sym, ◌∙◌, subst, inl, inr}
 use Rattle.fb_layout.specs.Laid.{LaidSchema}
 use Rattle.fb_layout.specs.WellMade.{IsWellMade}
 use Rattle.fb_value.specs.declared.faults.ReadFault.{ReadFault}
@@ -9,7 +9,7 @@ use Rattle.fb_value.specs.Places.{table_part, ref_place, Place}
 use Rattle.fb_value.specs.Rules.{fault_at}
 use Rattle.fb_value.specs.Reached.{Path, Leads, AllKeep}
 use Rattle.fb_value.specs.Faults.{or_else, limited_fault, FaultFrom, fault_from}
-use Rattle.fb_value.specs.Holds.{header_fault, checked_identifier, root_place}
+use Rattle.fb_value.specs.Holds.{header_fault, checked_identifier, root_place, computed_fault}
 use Rattle.fb_value.specs.Laws.{ValueWhereAllKeep, HeldOrFault, ValueOrFault}
 use Rattle.fb_value.proofs.Least.{from_none, from_some}
 use Rattle.fb_value.proofs.Reaching.{lies_all_keep}
@@ -64,3 +64,7 @@ module _ (L : LaidSchema) (most : Bounds) (raw : Bool) (b : Bytes) (made : IsWel
 -- Bytes hold a value exactly where no fault stands, and else have a least one.
 pub value_or_fault_shown : ValueOrFault
 value_or_fault_shown L most raw b made = by_header L most raw b made _ refl
+
+-- The same of an outcome that is known: none, or a fault.
+pub outcome_shown : (L : LaidSchema) (most : Bounds) (raw : Bool) (b : Bytes) (o : Option ReadFault) → IsWellMade L → computed_fault L most raw b ≡ o → HeldOrFault L most raw b o
+outcome_shown L most raw b o made e = subst (λ (x : Option ReadFault). HeldOrFault L most raw b x) e (value_or_fault_shown L most raw b made)
