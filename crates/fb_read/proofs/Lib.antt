@@ -1,2 +1,4 @@
 pub mod Sums
 pub mod IntSlots
+pub mod Steps
+pub mod Found

@@ -8,3 +8,4 @@ mod reading;
 
 pub use counting::Entries;
 pub use fb_value::ReadFault;
+pub use reading::read;

@@ -51,3 +51,29 @@ fn numbers_in(alloc: Global, bytes: &[u8], at: usize, place: usize, count: usize
     }
     Ok(entries)
 }
+
+/// The value that the bytes hold, or the least of their faults.
+///
+/// `raw` leaves out the check of the file identifier. `entries` rises by one for each table, vector
+/// and text that is entered. The bytes are read as the FlatBuffers documentation lays them out
+/// ("FlatBuffer Internals"); `Memory` may come in place of a fault that stands behind the root table.
+pub fn read(alloc: Global, layout: &Layout, bytes: &[u8], limits: Limits, raw: bool, entries: &mut Entries) -> Result<Value, ReadFault>
+    ensures value { IfOk result (λ v. Holds layout.now limits raw bytes.now (view v)) }
+    ensures least { IfErr result
+        (λ f. f ≢ ReadFault.Memory → IsLeastFault layout.now limits raw bytes.now f) }
+    ensures no_value { IfErr result
+        (λ f. f ≢ ReadFault.Memory → (v : Datum) → ¬ Holds layout.now limits raw bytes.now v) }
+    ensures rises { entries.old.count ≤ entries.new.count }
+    ensures counted { entries.new.count ≤ entries.old.count + (limits.cells + 1) }
+{
+    let fields = layout.fields();
+    check_header(bytes)?;
+    let at = follow(bytes, 0)?;
+    entries.tick();
+    let place = open_table(bytes, at)?;
+    if limits.most_cells() == 0 {
+        return Err(ReadFault::TooManyCells(at as u64));
+    }
+    let numbers = numbers_in(alloc, bytes, at, place, fields.len())?;
+    Ok(Value::Fields(TypeId(0), numbers))
+}

@@ -1,6 +1,6 @@
 -- The values that a type may have.
 -- From the FlatBuffers documentation, "Writing a schema": Tables, Structs, Unions, Attributes (`required`, `deprecated`).
-use Rattle.std.specs.Prelude.{ℕ, ◌≡◌, ◌≢◌, List, [], ◌∷◌, false, Option, None, Some, slice_get}
+use Rattle.std.specs.Prelude.{ℕ, ◌≡◌, ◌≢◌, ◌≤◌, List, [], ◌∷◌, false, Option, None, Some, slice_get}
 use Rattle.std.specs.Str.{IsUtf8}
 use Rattle.fb_schema.specs.Schema.{DeclaredType, DeclaredBody, table_body, struct_body, enum_body, union_body}
 use Rattle.fb_schema.specs.WellDeclared.{InRange}
@@ -18,7 +18,7 @@ abbrev mutual
   Fits L (one_of text_kind) (a_text bytes) = IsUtf8 bytes
   Fits L (one_of (table_kind t)) (a_table type es) = (type ≡ t) × EntriesFit L (slots_of L t) es
   Fits L (one_of (union_kind u)) (a_member c d) = (t : ℕ) × (member_by_code L u c ≡ Some t) × Fits L (one_of (table_kind t)) d
-  Fits L (one_of (union_kind u)) (an_unknown c) = (c ≢ 0) × (member_by_code L u c ≡ None)
+  Fits L (one_of (union_kind u)) (an_unknown c) = (c ≢ 0) × (c ≤ 255) × (member_by_code L u c ≡ None)
   Fits L (vector_of kind) (a_vector ds) = EachFits L kind ds
   Fits L _ _ = ⊥
 

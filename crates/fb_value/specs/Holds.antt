@@ -53,3 +53,7 @@ HasNoFault L most raw b =
 -- the least fault computed, if there is one: a law ties it to the definition
 abbrev pub computed_fault : LaidSchema → Bounds → Bool → Bytes → Option ReadFault
 computed_fault L most raw b = or_else (header_fault b (checked_identifier L raw)) (fault_from L b most (root_place L) 0 0)
+
+-- what a refusal tells: the least fault, and that the bytes hold no value
+abbrev pub Refuses : LaidSchema → Bounds → Bool → Bytes → ReadFault → Type 0
+Refuses L most raw b f = IsLeastFault L most raw b f × ((v : Datum) → Holds L most raw b v → ⊥)

@@ -12,7 +12,7 @@ use Rattle.fb_value.specs.Rules.{fault_at}
 use Rattle.fb_value.specs.Lies.{LiesAt}
 use Rattle.fb_value.specs.Reached.{Path, AllKeep}
 use Rattle.fb_value.specs.Faults.{own_cells, sum_over, if_kept, FaultFrom, LeastFrom, all, fault_from}
-use Rattle.fb_value.specs.Holds.{Holds, HasNoFault, IsLeastFault, computed_fault, root_place}
+use Rattle.fb_value.specs.Holds.{Holds, HasNoFault, Refuses, computed_fault, root_place}
 
 -- Bytes hold one value at most.
 abbrev pub OneValue : Type 0
@@ -42,7 +42,7 @@ FaultOfLeastPath = (L : LaidSchema) (b : Bytes) (most : Bounds) (x : Place) → 
 -- what a computed outcome says: no fault stands and a value is held, or the fault is the least and none is held
 abbrev pub HeldOrFault : LaidSchema → Bounds → Bool → Bytes → Option ReadFault → Type 0
 HeldOrFault L most raw b None = HasNoFault L most raw b × ((v : Datum) × Holds L most raw b v)
-HeldOrFault L most raw b (Some f) = IsLeastFault L most raw b f × ((v : Datum) → Holds L most raw b v → ⊥)
+HeldOrFault L most raw b (Some f) = Refuses L most raw b f
 
 -- A value is held exactly where no fault stands.
 abbrev pub ValueOrFault : Type 0

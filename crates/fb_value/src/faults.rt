@@ -21,7 +21,7 @@ pub enum ReadFault {
     ZeroOffset(u64),
     #[error("the table at {0} has no valid vtable")]
     BadVtable(u64),
-    #[error("the table at {0} lacks its required slot {1}")]
+    #[error("the required slot {1} is missing at {0}")]
     MissingRequired(u64, u16),
     #[error("the text's end at {0} has no zero byte")]
     NoTerminator(u64),

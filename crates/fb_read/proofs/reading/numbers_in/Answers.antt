@@ -1,4 +1,7 @@
-use Rattle.std.proofs.Common.{◌≡◌, ◌≢◌, ◌+◌, ◌<◌, ℕ, ℤ, sym, subst, arith}
+use Rattle.std.specs.Int.{w128}
+use mir.Facts.{to_z-of_z}
+use Rattle.std.specs.Prelude.{FitsSigned}
+use Rattle.std.proofs.Common.{rules, ◌≡◌, ◌≢◌, ◌+◌, ◌<◌, ℕ, ℤ, sym, subst, arith}
 use Rattle.std.proofs.lemmas.Result.{err_from_is_err_and}
 use Rattle.fb_read.specs.Ints.{int_place, HasNumber, AreNumbers, FailsFirst}
 use Rattle.fb_read.proofs.IntSlots.{push_number, numbers_before}
@@ -18,7 +21,8 @@ pub loop-slot-preserved : goal.loop-slot-preserved
 loop-slot-preserved c L =
     let has : HasNumber L c.args.bytes.now (int_place c.args.bytes.now c.args.at c.loop-slot.slot) c.in_ok-number.number = c.in_ok-number.ensures.rules L in
     let more = push_number L c.args.bytes.now c.args.at c.loop-slot.slot c.loop-slot.entries.items c.in_ok-number.number (c.loop-slot.invariant L) has in
-    rw c.in_ok-push.ensures.items more
+    let fits : FitsSigned w128 c.in_ok-number.number = search rules in
+    rw (c.in_ok-push.ensures.items, to_z-of_z {w = w128} {z = c.in_ok-number.number} fits) more
 
 pub returns-clause-numbers : goal.returns-clause-numbers
 returns-clause-numbers c L =
