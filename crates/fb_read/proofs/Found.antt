@@ -72,7 +72,7 @@ found name names most raw b es header keeps_ref keeps_table are deep small =
     let lie = slots_lie L b (0 + num b 0 4) 0 es numbers in
     record {
       header = rw (no_identifier name names raw) header;
-      lies = (keeps_ref, keeps_table, refl, rw (slots_are name names, ← are.long) lie);
+      lies = (keeps_ref, (keeps_table, refl, rw (slots_are name names, ← are.long) lie));
       deep = omega arith;
       small = omega arith;
     }

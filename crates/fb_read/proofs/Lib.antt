@@ -2,3 +2,4 @@ pub mod Sums
 pub mod IntSlots
 pub mod Steps
 pub mod Found
+pub mod Refused

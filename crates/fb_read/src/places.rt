@@ -105,8 +105,9 @@ pub fn open_table(bytes: &[u8], at: usize) -> Result<usize, ReadFault>
     requires short { length bytes.now < 2 ^ 31 }
     requires low { at < 2 ^ 33 }
     ensures rules { (L : LaidSchema) (t : ℕ) → first_missing bytes.now at 0 (slots_of L t) ≡ None → MatchResult result
-        (λ q. Keeps L bytes.now (part_place (table_part t)) at × (q ≡ vtable bytes.now at))
+        (λ _. Keeps L bytes.now (part_place (table_part t)) at)
         (λ f. fault_at L bytes.now (part_place (table_part t)) at ≡ Some f) }
+    ensures vtable { IfOk result (λ q. q ≡ vtable bytes.now at) }
     ensures whole { IfOk result (λ q. q + num bytes.now q 2 ≤ length bytes.now) }
     ensures within { IfOk result (λ q. q + 2 ≤ length bytes.now) }
     ensures inside { OnOk result (at + 4 ≤ length bytes.now) }

@@ -4,8 +4,7 @@ ghost use Rattle.fb_layout.specs.Laid.{LaidSchema};
 ghost use Rattle.fb_value.specs.Num.{num};
 ghost use Rattle.fb_value.specs.Places.{vtable};
 ghost use Rattle.fb_value.specs.View.{view};
-ghost use Rattle.fb_value.specs.Datum.{Datum};
-ghost use Rattle.fb_value.specs.Holds.{Holds, IsLeastFault};
+ghost use Rattle.fb_value.specs.Holds.{Holds, Refuses};
 ghost use Rattle.fb_read.specs.Ints.{int_place, HasNumber, HasFault, AreNumbers, FailsFirst};
 
 use crate::counting::Entries;
@@ -59,10 +58,8 @@ fn numbers_in(alloc: Global, bytes: &[u8], at: usize, place: usize, count: usize
 /// ("FlatBuffer Internals"); `Memory` may come in place of a fault that stands behind the root table.
 pub fn read(alloc: Global, layout: &Layout, bytes: &[u8], limits: Limits, raw: bool, entries: &mut Entries) -> Result<Value, ReadFault>
     ensures value { IfOk result (λ v. Holds layout.now limits raw bytes.now (view v)) }
-    ensures least { IfErr result
-        (λ f. f ≢ ReadFault.Memory → IsLeastFault layout.now limits raw bytes.now f) }
-    ensures no_value { IfErr result
-        (λ f. f ≢ ReadFault.Memory → (v : Datum) → ¬ Holds layout.now limits raw bytes.now v) }
+    ensures fault { IfErr result
+        (λ f. f ≢ ReadFault.Memory → Refuses layout.now limits raw bytes.now f) }
     ensures rises { entries.old.count ≤ entries.new.count }
     ensures counted { entries.new.count ≤ entries.old.count + (limits.cells + 1) }
 {
@@ -71,6 +68,8 @@ pub fn read(alloc: Global, layout: &Layout, bytes: &[u8], limits: Limits, raw: b
     let at = follow(bytes, 0)?;
     entries.tick();
     let place = open_table(bytes, at)?;
+    let depth = limits.most_depth();
+    prove!(depth >= 1); // the root table is never too deep
     if limits.most_cells() == 0 {
         return Err(ReadFault::TooManyCells(at as u64));
     }
