@@ -14,3 +14,5 @@ pub mod Holds
 pub mod OldSlots
 pub mod Reads
 pub mod Laws
+pub mod ExampleLayouts
+pub mod ExampleTables
