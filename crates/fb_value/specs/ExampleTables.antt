@@ -33,7 +33,7 @@ pub seven_held : Holds one_int usual false seven_bytes (one_number 7)
 unfolding num slot_number named_slots first_failing fault_by header_fault
 seven_held = record { header = refl; lies = (refl, (refl, refl, ((refl, refl), tt))); deep = lit≤ tt; small = lit≤ tt }
 
--- No fault is computed there.
+-- The computing program finds no fault there.
 pub seven_kept : computed_fault one_int usual false seven_bytes ≡ None
 unfolding num slot_number named_slots named_elements first_failing fault_by all_within all limited_fault first_fault fault_from header_fault
 seven_kept = refl
@@ -43,7 +43,7 @@ pub zero_held : Holds one_int usual false (set seven_bytes 16 0) (one_number 0)
 unfolding num slot_number named_slots first_failing fault_by header_fault
 zero_held = record { header = refl; lies = (refl, (refl, refl, ((refl, refl), tt))); deep = lit≤ tt; small = lit≤ tt }
 
--- No fault is computed there.
+-- The computing program finds no fault there.
 pub zero_kept : computed_fault one_int usual false (set seven_bytes 16 0) ≡ None
 unfolding num slot_number named_slots named_elements first_failing fault_by all_within all limited_fault first_fault fault_from header_fault
 zero_kept = refl
@@ -53,7 +53,7 @@ pub known_slot_held : Holds one_int usual false two_slots_bytes (one_number 7)
 unfolding num slot_number named_slots first_failing fault_by header_fault
 known_slot_held = record { header = refl; lies = (refl, (refl, refl, ((refl, refl), tt))); deep = lit≤ tt; small = lit≤ tt }
 
--- No fault is computed there.
+-- The computing program finds no fault there.
 pub known_slot_kept : computed_fault one_int usual false two_slots_bytes ≡ None
 unfolding num slot_number named_slots named_elements first_failing fault_by all_within all limited_fault first_fault fault_from header_fault
 known_slot_kept = refl
@@ -61,9 +61,9 @@ known_slot_kept = refl
 -- Under a schema with both slots both are read.
 pub both_slots_held : Holds two_ints usual false two_slots_bytes (two_numbers 7 9)
 unfolding num slot_number named_slots first_failing fault_by header_fault
-both_slots_held = record { header = refl; lies = (refl, (refl, refl, ((refl, refl), (refl, refl), tt))); deep = lit≤ tt; small = lit≤ tt }
+both_slots_held = record { header = refl; lies = (refl, (refl, refl, ((refl, refl), ((refl, refl), tt)))); deep = lit≤ tt; small = lit≤ tt }
 
--- No fault is computed there.
+-- The computing program finds no fault there.
 pub both_slots_kept : computed_fault two_ints usual false two_slots_bytes ≡ None
 unfolding num slot_number named_slots named_elements first_failing fault_by all_within all limited_fault first_fault fault_from header_fault
 both_slots_kept = refl
@@ -71,9 +71,9 @@ both_slots_kept = refl
 -- A slot behind the vtable's end has its default.
 pub later_slot_held : Holds two_ints usual false seven_bytes (two_numbers 7 0)
 unfolding num slot_number named_slots first_failing fault_by header_fault
-later_slot_held = record { header = refl; lies = (refl, (refl, refl, ((refl, refl), (pos 0, refl, refl), tt))); deep = lit≤ tt; small = lit≤ tt }
+later_slot_held = record { header = refl; lies = (refl, (refl, refl, ((refl, refl), ((pos 0, refl, refl), tt)))); deep = lit≤ tt; small = lit≤ tt }
 
--- No fault is computed there.
+-- The computing program finds no fault there.
 pub later_slot_kept : computed_fault two_ints usual false seven_bytes ≡ None
 unfolding num slot_number named_slots named_elements first_failing fault_by all_within all limited_fault first_fault fault_from header_fault
 later_slot_kept = refl
@@ -83,7 +83,7 @@ pub bool_held : Holds one_bool usual false bool_bytes (one_number 1)
 unfolding num slot_number named_slots first_failing fault_by header_fault
 bool_held = record { header = refl; lies = (refl, (refl, refl, ((refl, refl), tt))); deep = lit≤ tt; small = lit≤ tt }
 
--- No fault is computed there.
+-- The computing program finds no fault there.
 pub bool_kept : computed_fault one_bool usual false bool_bytes ≡ None
 unfolding num slot_number named_slots named_elements first_failing fault_by all_within all limited_fault first_fault fault_from header_fault
 bool_kept = refl

@@ -16,3 +16,9 @@ pub mod Reads
 pub mod Laws
 pub mod ExampleLayouts
 pub mod ExampleTables
+pub mod ExampleTexts
+pub mod ExampleVectors
+pub mod ExampleStructs
+pub mod ExampleUnions
+pub mod ExampleMarks
+pub mod ExampleRooms
