@@ -22,3 +22,4 @@ pub mod ExampleStructs
 pub mod ExampleUnions
 pub mod ExampleMarks
 pub mod ExampleRooms
+pub mod ExampleLimits
