@@ -1,13 +1,12 @@
 -- The schemas that the examples read under, each with its layout, and the limits.
 use Rattle.std.specs.Prelude.{ℕ, List, [], ◌∷◌, map, true, false, pos, None, Some}
-use Rattle.fb_schema.specs.declared.kinds.TypeId.{TypeId}
 use Rattle.fb_schema.specs.declared.kinds.Base.TheVariants.{Bool as Boolean, U8, U16, I32, U64}
 use Rattle.fb_schema.specs.declared.kinds.Kind.TheVariants.{Scalar, Struct, Table, Union, Code, Text}
 use Rattle.fb_schema.specs.declared.kinds.Shape.{Shape}
 use Rattle.fb_schema.specs.declared.kinds.Shape.TheVariants.{One, Many}
 use Rattle.fb_schema.specs.Schema.{Name, DeclaredField, DeclaredBody, table_body, struct_body, union_body, DeclaredType}
 use Rattle.fb_layout.specs.Laid.{LaidSchema, StructLayout, no_struct}
-use Rattle.fb_layout.specs.OneTable.{one_table}
+use Rattle.fb_layout.specs.OneTable.{one_table_schema, one_table}
 use Rattle.fb_value.specs.Bounds.{Bounds}
 
 -- what the program allows
@@ -48,6 +47,10 @@ root_alone fields = without_structs 0 (type_called 0x54 (table_body fields) ∷ 
 -- table T { a:int; }
 abbrev pub one_int : LaidSchema
 one_int = one_table (letter 0x54) (letter 0x61 ∷ [])
+
+-- the same with file_identifier "TEST";
+abbrev pub identified_int : LaidSchema
+identified_int = record one_int { schema = record (one_table_schema (letter 0x54) (letter 0x61 ∷ [])) { identifier = Some (0x54 ∷ 0x45 ∷ 0x53 ∷ 0x54 ∷ []) } }
 
 -- table T { a:int; b:int; }
 abbrev pub two_ints : LaidSchema

@@ -6,13 +6,20 @@ use Rattle.fb_value.specs.declared.faults.ReadFault.{ReadFault}
 use Rattle.fb_value.specs.declared.faults.ReadFault.TheVariants.{TooDeep, TooManyCells}
 use Rattle.fb_value.specs.Bounds.{Bounds}
 use Rattle.fb_value.specs.Datum.{Datum, a_table, no_entries, absent_entry, present_entry}
+use Rattle.fb_value.specs.Counts.{cells}
 use Rattle.fb_value.specs.Num.{Bytes, num}
 use Rattle.fb_value.specs.Places.{table_part, ref_place, part_place, Place, slot_number, named_slots, named_elements}
 use Rattle.fb_value.specs.Rules.{first_failing, fault_by, fault_at}
 use Rattle.fb_value.specs.Lies.{Lies, LiesSlots}
 use Rattle.fb_value.specs.Faults.{all_within, all, limited_fault, first_fault, fault_from}
 use Rattle.fb_value.specs.Holds.{header_fault, Holds, computed_fault}
-use Rattle.fb_value.specs.ExampleLayouts.{usual, table_in_table, tables_in_table}
+use Rattle.fb_value.specs.ExampleLayouts.{usual, one_int, table_in_table, tables_in_table}
+use Rattle.fb_value.specs.ExampleTables.{seven_bytes}
+
+-- Where no cell is allowed, the root's table is one too many.
+pub no_cells : computed_fault one_int (record { depth = 64; cells = 0 }) false seven_bytes ≡ Some (TooManyCells 12)
+unfolding num slot_number named_slots named_elements first_failing fault_by all_within all limited_fault first_fault fault_from header_fault
+no_cells = refl
 
 -- a number below 65,536 in four bytes
 abbrev pub four : ℕ → Bytes
@@ -53,16 +60,22 @@ pub deep_kept : computed_fault table_in_table deeper false deep_bytes ≡ None
 unfolding num slot_number named_slots named_elements first_failing fault_by all_within all limited_fault first_fault fault_from header_fault tables_from
 deep_kept = refl
 
+-- one cell for each table
+pub nested_cells : cells (nested 64) ≡ 65
+unfolding nested
+nested_cells = refl
+
 -- what is met at a table: its fault, the places that it names, and behind its one slot the reference's fault and where it leads
 abbrev pub Met : Type 0
 Met = Option ReadFault × List (Option Place) × Option ReadFault × ℕ
 
 abbrev pub met_at : Bytes → ℕ → Met
 met_at b p = (
-    fault_at table_in_table b (part_place (table_part 0)) p,
-    named_slots table_in_table b p 0 (slots_of table_in_table 0),
-    fault_at table_in_table b (ref_place (table_part 0)) (p + 4),
-    (p + 4) + num b (p + 4) 4)
+  fault_at table_in_table b (part_place (table_part 0)) p,
+  named_slots table_in_table b p 0 (slots_of table_in_table 0),
+  fault_at table_in_table b (ref_place (table_part 0)) (p + 4),
+  (p + 4) + num b (p + 4) 4,
+)
 
 -- at the last table, whose slot is absent
 abbrev pub met_last : Bytes → ℕ → Met

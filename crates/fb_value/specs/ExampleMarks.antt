@@ -1,5 +1,5 @@
 -- Fields that are required, deprecated or optional.
-use Rattle.std.specs.Prelude.{◌≡◌, List, [], ◌∷◌, false, None, Some, refl, pos}
+use Rattle.std.specs.Prelude.{◌≡◌, [], ◌∷◌, false, None, Some, refl, pos}
 use Rattle.std.proofs.Common.{lit≤}
 use Rattle.fb_value.specs.declared.faults.ReadFault.TheVariants.{MissingRequired}
 use Rattle.fb_value.specs.Datum.{Datum, a_number, a_table, no_entries, absent_entry, present_entry}

@@ -1,5 +1,5 @@
 -- Tables of numbers in bytes, whole and damaged.
-use Rattle.std.specs.Prelude.{ℕ, ◌≡◌, List, [], ◌∷◌, take, set, true, false, pos, None, Some, refl}
+use Rattle.std.specs.Prelude.{ℕ, ◌≡◌, [], ◌∷◌, take, set, false, pos, None, Some, refl}
 use Rattle.std.proofs.Common.{lit≤}
 use Rattle.fb_value.specs.declared.faults.ReadFault.TheVariants.{Short, OutOfBounds, ZeroOffset, Misaligned, BadVtable}
 use Rattle.fb_value.specs.Datum.{Datum, a_number, a_table, no_entries, present_entry}

@@ -1,10 +1,11 @@
 -- Texts in bytes, whole and damaged.
-use Rattle.std.specs.Prelude.{◌≡◌, List, [], ◌∷◌, false, None, Some, refl, set}
+use Rattle.std.specs.Prelude.{◌≡◌, [], ◌∷◌, false, None, Some, refl, set}
 use Rattle.std.specs.Str.Lossy.{utf8_valid_len}
 use Rattle.std.specs.Str.{is_utf8, chars}
 use Rattle.std.proofs.Common.{lit≤}
 use Rattle.fb_value.specs.declared.faults.ReadFault.TheVariants.{OutOfBounds, NoTerminator, BadUtf8}
 use Rattle.fb_value.specs.Datum.{Datum, a_text, a_table, no_entries, present_entry}
+use Rattle.fb_value.specs.Counts.{cells, depth}
 use Rattle.fb_value.specs.Num.{Bytes, num}
 use Rattle.fb_value.specs.Places.{slot_number, named_slots, named_elements}
 use Rattle.fb_value.specs.Rules.{first_failing, fault_by}
@@ -53,3 +54,11 @@ endless_bytes = 0x0c ∷ 0 ∷ 0 ∷ 0 ∷ 0 ∷ 0 ∷ 6 ∷ 0 ∷ 8 ∷ 0 ∷ 4
 pub endless_text : computed_fault one_text usual false endless_bytes ≡ Some (OutOfBounds 20)
 unfolding num slot_number named_slots named_elements first_failing fault_by all_within all limited_fault first_fault fault_from header_fault utf8_valid_len is_utf8 chars lib.Utf8.encode
 endless_text = refl
+
+-- a table, a text, and its two bytes
+pub hi_cells : cells hi ≡ 4
+hi_cells = refl
+
+-- one table
+pub hi_depth : depth hi ≡ 1
+hi_depth = refl

@@ -1,5 +1,5 @@
 -- Unions in bytes: members, none, and codes that the schema doesn't know.
-use Rattle.std.specs.Prelude.{◌≡◌, List, [], ◌∷◌, false, None, Some, refl, pos, set}
+use Rattle.std.specs.Prelude.{◌≡◌, [], ◌∷◌, false, None, Some, refl, pos, set}
 use Rattle.std.proofs.Common.{lit≤}
 use Rattle.fb_value.specs.declared.faults.ReadFault.TheVariants.{UnionMismatch}
 use Rattle.fb_value.specs.Datum.{Datum, a_number, a_table, a_member, an_unknown, no_entries, absent_entry, present_entry}
@@ -73,7 +73,9 @@ value_without_code_kept = refl
 
 -- a union with code 3, and a table whose one slot holds 5
 abbrev pub third_bytes : Bytes
-third_bytes = 0x0c ∷ 0 ∷ 0 ∷ 0 ∷ 8 ∷ 0 ∷ 0x0c ∷ 0 ∷ 7 ∷ 0 ∷ 8 ∷ 0 ∷ 8 ∷ 0 ∷ 0 ∷ 0 ∷ 0 ∷ 0 ∷ 0 ∷ 3 ∷ 0x0c ∷ 0 ∷ 0 ∷ 0 ∷ 0 ∷ 0 ∷ 6 ∷ 0 ∷ 8 ∷ 0 ∷ 4 ∷ 0 ∷ 6 ∷ 0 ∷ 0 ∷ 0 ∷ 5 ∷ 0 ∷ 0 ∷ 0 ∷ []
+third_bytes =
+    0x0c ∷ 0 ∷ 0 ∷ 0 ∷ 8 ∷ 0 ∷ 0x0c ∷ 0 ∷ 7 ∷ 0 ∷ 8 ∷ 0 ∷ 8 ∷ 0 ∷ 0 ∷ 0 ∷ 0 ∷ 0 ∷ 0 ∷ 3
+    ∷ 0x0c ∷ 0 ∷ 0 ∷ 0 ∷ 0 ∷ 0 ∷ 6 ∷ 0 ∷ 8 ∷ 0 ∷ 4 ∷ 0 ∷ 6 ∷ 0 ∷ 0 ∷ 0 ∷ 5 ∷ 0 ∷ 0 ∷ 0 ∷ []
 
 -- the third member, a table with 5
 abbrev pub third_member : Datum

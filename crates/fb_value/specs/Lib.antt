@@ -16,6 +16,7 @@ pub mod Reads
 pub mod Laws
 pub mod ExampleLayouts
 pub mod ExampleTables
+pub mod ExampleIdentifier
 pub mod ExampleTexts
 pub mod ExampleVectors
 pub mod ExampleStructs
