@@ -3,6 +3,7 @@ use Rattle.std.specs.Prelude.{◌≡◌, ◌≤◌, [], ◌∷◌, false, length
 use Rattle.std.specs.Str.Lossy.{utf8_valid_len}
 use Rattle.std.specs.Str.{is_utf8, chars}
 use Rattle.std.proofs.Common.{subst, lit≤, arith}
+use Rattle.fb_schema.specs.Schema.{force_align_in, body_at}
 use Rattle.fb_layout.specs.Laid.{parts_of, struct_at}
 use Rattle.fb_layout.specs.WellMade.{IsStructLaid}
 use Rattle.fb_value.specs.declared.faults.ReadFault.TheVariants.{Misaligned}
@@ -15,7 +16,7 @@ use Rattle.fb_value.specs.Holds.{header_fault, Holds, computed_fault}
 use Rattle.fb_value.specs.ExampleLayouts.{usual, one_struct, wide_structs}
 
 -- The fields stand at 0, 8 and 16, and the struct takes 24 bytes.
-pub fields_laid : IsStructLaid one_struct (parts_of one_struct 0) None (struct_at one_struct 0)
+pub fields_laid : IsStructLaid one_struct (parts_of one_struct 0) (force_align_in (body_at one_struct.schema 0)) (struct_at one_struct 0)
 fields_laid = record {
   end = 18;
   fields = (
@@ -56,7 +57,7 @@ unfolding num slot_number named_slots named_elements first_failing fault_by all_
 struct_kept = refl
 
 -- A `force_align` of 16 makes one byte a struct of 16.
-pub forced_laid : IsStructLaid wide_structs (parts_of wide_structs 0) (Some 16) (struct_at wide_structs 0)
+pub forced_laid : IsStructLaid wide_structs (parts_of wide_structs 0) (force_align_in (body_at wide_structs.schema 0)) (struct_at wide_structs 0)
 forced_laid = record {
   end = 1;
   fields = (record { multiple = (0, refl); above = lit≤ tt; least = λ k h. omega arith }, refl);
