@@ -46,6 +46,7 @@ nested (suc n) = a_table 0 (present_entry (nested n) no_entries)
 abbrev pub deeper : Bounds
 deeper = record { depth = 65; cells = 100000000 }
 
+-- the front, 64 tables of 8 bytes, and one of 4
 pub deep_length : length deep_bytes ≡ 532
 unfolding tables_from
 deep_length = refl
@@ -97,6 +98,7 @@ unfoldable pub links_from : ℕ → ℕ → List Met
 links_from p zero = last_link ∷ []
 links_from p (suc n) = link p ∷ links_from (p + 8) n
 
+-- each rule holds at each of the 65 tables
 pub deep_chain : met_from deep_bytes 16 64 ≡ links_from 16 64
 unfolding num slot_number named_slots first_failing fault_by tables_from met_from links_from
 deep_chain = refl
@@ -127,6 +129,7 @@ pairs_from p (suc n) = four (p - 4) ++ four 4 ++ four 2 ++ four 8 ++ four 4 ++ p
 abbrev pub doubled_bytes : Bytes
 doubled_bytes = front ++ pairs_from 16 29
 
+-- the front, 29 tables with their vectors, and a table of 4 bytes
 pub doubled_length : length doubled_bytes ≡ 600
 unfolding pairs_from
 doubled_length = refl

@@ -78,6 +78,7 @@ wide_tail zeros =
 abbrev pub wide_bytes : Bytes
 wide_bytes = 0x1c ∷ 0 ∷ 0 ∷ 0 ∷ wide_tail 14
 
+-- a multiple of 16
 pub wide_length : length wide_bytes ≡ 96
 wide_length = refl
 
@@ -85,6 +86,7 @@ wide_length = refl
 abbrev pub narrow_bytes : Bytes
 narrow_bytes = 0x14 ∷ 0 ∷ 0 ∷ 0 ∷ wide_tail 6
 
+-- eight zero bytes less
 pub narrow_length : length narrow_bytes ≡ 88
 narrow_length = refl
 
