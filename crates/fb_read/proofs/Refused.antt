@@ -1,5 +1,5 @@
 -- Why a buffer with one table of `int` fields is refused.
-use Rattle.std.proofs.Common.{◌≡◌, ◌≢◌, ℕ, ◌+◌, ◌<◌, ◌≤◌, ℤ, List, length, Bool, Option, None, Some, AllPairs, refl, ap, subst, ◌∙◌, arith, zero-add}
+use Rattle.std.proofs.Common.{◌≡◌, ◌≢◌, ℕ, ◌+◌, ◌<◌, ◌≤◌, ℤ, List, length, Bool, Option, None, Some, AllPairs, refl, ap, subst, ◌∙◌, arith}
 use Rattle.fb_schema.specs.Schema.{Name}
 use Rattle.fb_layout.specs.Laid.{LaidSchema, slots_of}
 use Rattle.fb_layout.specs.OneTable.{one_table}
@@ -14,7 +14,7 @@ use Rattle.fb_value.specs.Faults.{or_else, first_among, fault_from, all}
 use Rattle.fb_value.specs.Holds.{Refuses, header_fault, checked_identifier, root_place}
 use Rattle.fb_value.proofs.Whole.{outcome_shown}
 use Rattle.fb_read.specs.Ints.{FailsFirst}
-use Rattle.fb_read.proofs.Steps.{own_fault, behind, cells_over, within, among_slots}
+use Rattle.fb_read.proofs.Steps.{own_fault, behind, cells_over, within, among_all}
 use Rattle.fb_read.proofs.Found.{no_identifier}
 
 module _ (name : Name) (names : List Name) (differ : AllPairs (λ a b. a ≢ b) names) (few : length names ≤ 16382) (most : Bounds) (raw : Bool) (b : Bytes) where
@@ -57,4 +57,4 @@ module _ (name : Name) (names : List Name) (differ : AllPairs (λ a b. a ≢ b) 
   by_slot f header keeps_ref keeps_table deep small fails =
       behind_reference f header keeps_ref
       (within (one_table name names) b most 0 (0 + num b 0 4) f keeps_table deep small
-      (rw (slots_are name names) (among_slots (one_table name names) b most (0 + num b 0 4) 0 (length names) fails.slot f fails.few (rw zero-add fails.fails) (λ k less. rw zero-add (fails.before k less)))))
+      (rw (slots_are name names) (among_all (one_table name names) b most (0 + num b 0 4) (length names) fails.slot f fails.few fails.fails fails.before)))

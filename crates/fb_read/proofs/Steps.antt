@@ -86,8 +86,8 @@ module _ (L : LaidSchema) (b : Bytes) (most : Bounds) where
   stop false q xs f fails spent = absurd fails
   stop true q xs f fails spent = or_first _ _ f (own_fault (record { sort = inline_place (scalar_kind I32); at = q }) 1 spent f fails)
 
-  -- the first slot whose place breaks a rule
-  pub among_slots : (p k n j : ℕ) (f : ReadFault) → j < n → HasFault L b (int_place b p (k + j)) f → ((i : ℕ) → i < j → (m : ℤ) × HasNumber L b (int_place b p (k + i)) m)
+  -- the first slot whose place breaks a rule, from slot k on
+  among_slots : (p k n j : ℕ) (f : ReadFault) → j < n → HasFault L b (int_place b p (k + j)) f → ((i : ℕ) → i < j → (m : ℤ) × HasNumber L b (int_place b p (k + i)) m)
       → (spent : ℕ) → first_among (λ y before. fault_from L b most y 1 before) (all L b) spent (named_slots L b p k (int_slots n)) ≡ Some f
   unfolding named_slots
   among_slots p k zero j f less fails before spent = absurd (omega arith)
@@ -102,3 +102,12 @@ module _ (L : LaidSchema) (b : Bytes) (most : Bounds) where
           λ i h. (let next = before (suc i) (omega arith) in let at : k + suc i ≡ suc k + i = omega arith in (next.0, subst (λ (x : ℕ). HasNumber L b (int_place b p x) next.0) at next.1)) in
       skip (is_present b p k) (p + slot_number b p k) first.0 (named_slots L b p (suc k) (int_slots n)) f (subst (λ (i : ℕ). HasNumber L b (int_place b p i) first.0) here first.1)
       (among_slots p (suc k) n j f (omega arith) (subst (λ (x : ℕ). HasFault L b (int_place b p x) f) there fails) later) spent
+
+  -- the same, counted from slot 0
+  pub among_all : (p n j : ℕ) (f : ReadFault) → j < n → HasFault L b (int_place b p j) f → ((i : ℕ) → i < j → (m : ℤ) × HasNumber L b (int_place b p i) m)
+      → (spent : ℕ) → first_among (λ y before. fault_from L b most y 1 before) (all L b) spent (named_slots L b p 0 (int_slots n)) ≡ Some f
+  among_all p n j f less fails before spent =
+      let at : j ≡ 0 + j = omega arith in
+      let earlier : (i : ℕ) → i < j → (m : ℤ) × HasNumber L b (int_place b p (0 + i)) m =
+          λ i h. (let same : i ≡ 0 + i = omega arith in let known = before i h in (known.0, subst (λ (x : ℕ). HasNumber L b (int_place b p x) known.0) same known.1)) in
+      among_slots p 0 n j f less (subst (λ (x : ℕ). HasFault L b (int_place b p x) f) at fails) earlier spent

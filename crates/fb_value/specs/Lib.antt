@@ -15,3 +15,13 @@ pub mod OldSlots
 pub mod Reads
 pub mod Laws
 pub mod Ints
+pub mod ExampleLayouts
+pub mod ExampleTables
+pub mod ExampleIdentifier
+pub mod ExampleTexts
+pub mod ExampleVectors
+pub mod ExampleStructs
+pub mod ExampleUnions
+pub mod ExampleMarks
+pub mod ExampleRooms
+pub mod ExampleLimits
