@@ -18,9 +18,12 @@ use Rattle.fb_value.specs.declared.values.Value.{Value}
 use Rattle.fb_read.specs.Ints.{int_place, HasNumber, IsNumberOf, AreNumbers}
 
 -- no slot of such a table is required
-pub none_missing : (b : Bytes) (p k n : ℕ) → first_missing b p k (int_slots n) ≡ None
+none_missing : (b : Bytes) (p k n : ℕ) → first_missing b p k (int_slots n) ≡ None
 none_missing b p k zero = refl
 none_missing b p k (suc n) = none_missing b p (suc k) n
+
+pub none_required : (name : Name) (names : List Name) (b : Bytes) (p : ℕ) → first_missing b p 0 (slots_of (one_table name names) 0) ≡ None
+none_required name names b p = rw (slots_are name names) (none_missing b p 0 (length names))
 
 -- such a layout has no identifier to check
 pub no_identifier : (name : Name) (names : List Name) (raw : Bool) → checked_identifier (one_table name names) raw ≡ None
@@ -44,7 +47,7 @@ slots_lie L b p k (Some v ∷ es) are =
     let here : k + 0 ≡ k = omega arith in
     let first = subst (λ (i : ℕ). IsNumberOf L b p i (Some v)) here (are 0 (Some v) refl) in
     let later : (i : ℕ) (e : Option Value) → slice_get es i ≡ Some e → IsNumberOf L b p (suc k + i) e =
-        λ i e h. (let at : k + suc i ≡ suc k + i = omega arith in subst (λ (x : ℕ). IsNumberOf L b p x e) at (are (suc i) e h)) in
+    λ i e h. (let at : k + suc i ≡ suc k + i = omega arith in subst (λ (x : ℕ). IsNumberOf L b p x e) at (are (suc i) e h)) in
     (entry_lies L b (is_present b p k) (p + slot_number b p k) first.0 (view v) first.2 first.1, slots_lie L b p (suc k) es later)
 
 -- numbers have no cells and no depth
@@ -55,7 +58,7 @@ flat L b p k (None ∷ es) are = absurd (are 0 None refl)
 flat L b p k (Some v ∷ es) are =
     let first = are 0 (Some v) refl in
     let later : (i : ℕ) (e : Option Value) → slice_get es i ≡ Some e → IsNumberOf L b p (suc k + i) e =
-        λ i e h. (let at : k + suc i ≡ suc k + i = omega arith in subst (λ (x : ℕ). IsNumberOf L b p x e) at (are (suc i) e h)) in
+    λ i e h. (let at : k + suc i ≡ suc k + i = omega arith in subst (λ (x : ℕ). IsNumberOf L b p x e) at (are (suc i) e h)) in
     let rest = flat L b p (suc k) es later in
     (rw first.1 (omega arith), rw first.1 (omega arith))
 
@@ -67,7 +70,7 @@ pub found : (name : Name) (names : List Name) (most : Bounds) (raw : Bool) (b : 
 found name names most raw b es header keeps_ref keeps_table are deep small =
     let L = one_table name names in
     let numbers : (i : ℕ) (e : Option Value) → slice_get es i ≡ Some e → IsNumberOf L b (0 + num b 0 4) (0 + i) e =
-        λ i e h. (let at : i ≡ 0 + i = omega arith in subst (λ (x : ℕ). IsNumberOf L b (0 + num b 0 4) x e) at (are.numbers i e h)) in
+    λ i e h. (let at : i ≡ 0 + i = omega arith in subst (λ (x : ℕ). IsNumberOf L b (0 + num b 0 4) x e) at (are.numbers i e h)) in
     let counts = flat L b (0 + num b 0 4) 0 es numbers in
     let lie = slots_lie L b (0 + num b 0 4) 0 es numbers in
     record {

@@ -35,11 +35,11 @@ push_number L b p k es n are has = record {
   where
     more : (i : ℕ) (e : Option Value) → slice_get (es ++ Some (Number n) ∷ []) i ≡ Some e → IsNumberOf L b p i e
     more i e h = elim (slice_get-push es (Some (Number n)) e i h) [
-      inl l ↦ are.numbers i e l
+      | inl l ↦ are.numbers i e l
       | inr r ↦
-      let last : IsNumberOf L b p k (Some (Number n)) = (n, view-Number n, has) in
-      let at : k ≡ i = sym (r.0 ∙ are.long) in
-      subst (λ (x : Option Value). IsNumberOf L b p i x) r.1 (subst (λ (j : ℕ). IsNumberOf L b p j (Some (Number n))) at last)
+          let last : IsNumberOf L b p k (Some (Number n)) = (n, view-Number n, has) in
+          let at : k ≡ i = sym (r.0 ∙ are.long) in
+          subst (λ (x : Option Value). IsNumberOf L b p i x) r.1 (subst (λ (j : ℕ). IsNumberOf L b p j (Some (Number n))) at last)
     ]
 
 -- nothing stands past a list's end

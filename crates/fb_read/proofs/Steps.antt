@@ -99,7 +99,7 @@ module _ (L : LaidSchema) (b : Bytes) (most : Bounds) where
       let there : k + suc j ≡ suc k + j = omega arith in
       let first = before 0 (omega arith) in
       let later : (i : ℕ) → i < j → (m : ℤ) × HasNumber L b (int_place b p (suc k + i)) m =
-          λ i h. (let next = before (suc i) (omega arith) in let at : k + suc i ≡ suc k + i = omega arith in (next.0, subst (λ (x : ℕ). HasNumber L b (int_place b p x) next.0) at next.1)) in
+      λ i h. (let next = before (suc i) (omega arith) in let at : k + suc i ≡ suc k + i = omega arith in (next.0, subst (λ (x : ℕ). HasNumber L b (int_place b p x) next.0) at next.1)) in
       skip (is_present b p k) (p + slot_number b p k) first.0 (named_slots L b p (suc k) (int_slots n)) f (subst (λ (i : ℕ). HasNumber L b (int_place b p i) first.0) here first.1)
       (among_slots p (suc k) n j f (omega arith) (subst (λ (x : ℕ). HasFault L b (int_place b p x) f) there fails) later) spent
 
@@ -109,5 +109,5 @@ module _ (L : LaidSchema) (b : Bytes) (most : Bounds) where
   among_all p n j f less fails before spent =
       let at : j ≡ 0 + j = omega arith in
       let earlier : (i : ℕ) → i < j → (m : ℤ) × HasNumber L b (int_place b p (0 + i)) m =
-          λ i h. (let same : i ≡ 0 + i = omega arith in let known = before i h in (known.0, subst (λ (x : ℕ). HasNumber L b (int_place b p x) known.0) same known.1)) in
+      λ i h. (let same : i ≡ 0 + i = omega arith in let known = before i h in (known.0, subst (λ (x : ℕ). HasNumber L b (int_place b p x) known.0) same known.1)) in
       among_slots p 0 n j f less (subst (λ (x : ℕ). HasFault L b (int_place b p x) f) at fails) earlier spent

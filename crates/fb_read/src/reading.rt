@@ -33,7 +33,13 @@ fn number_in(bytes: &[u8], at: usize, place: usize, slot: usize) -> Result<i128,
     int_at(bytes, at + offset)
 }
 
-fn numbers_in(alloc: Global, bytes: &[u8], at: usize, place: usize, count: usize) -> Result<Vec<Option<Value>>, ReadFault>
+fn numbers_in(
+    alloc: Global,
+    bytes: &[u8],
+    at: usize,
+    place: usize,
+    count: usize,
+) -> Result<Vec<Option<Value>>, ReadFault>
     requires vtable { place ≡ vtable bytes.now at }
     requires whole { place + num bytes.now place 2 ≤ length bytes.now }
     requires within { place + 2 ≤ length bytes.now }
@@ -56,7 +62,14 @@ fn numbers_in(alloc: Global, bytes: &[u8], at: usize, place: usize, count: usize
 /// `raw` leaves out the check of the file identifier. `entries` rises by one for each table, vector
 /// and text that is entered. The bytes are read as the FlatBuffers documentation lays them out
 /// ("FlatBuffer Internals"); `Memory` may come in place of a fault that stands behind the root table.
-pub fn read(alloc: Global, layout: &Layout, bytes: &[u8], limits: Limits, raw: bool, entries: &mut Entries) -> Result<Value, ReadFault>
+pub fn read(
+    alloc: Global,
+    layout: &Layout,
+    bytes: &[u8],
+    limits: Limits,
+    raw: bool,
+    entries: &mut Entries,
+) -> Result<Value, ReadFault>
     ensures value { IfOk result (λ v. Holds layout.now limits raw bytes.now (view v)) }
     ensures fault { IfErr result
         (λ f. f ≢ ReadFault.Memory → Refuses layout.now limits raw bytes.now f) }

@@ -12,7 +12,7 @@ use Rattle.fb_value.specs.Rules.{first_missing}
 use Rattle.fb_value.specs.Holds.{Refuses, Holds}
 use Rattle.fb_value.proofs.Views.{view-Fields}
 use Rattle.fb_read.proofs.Refused.{by_reference, by_table, by_cells, by_slot}
-use Rattle.fb_read.proofs.Found.{found}
+use Rattle.fb_read.proofs.Found.{found, none_required}
 use Rattle.fb_read.proofs.reading.read.Goals as goal
 
 pub returns-in_err-at-clause-fault : goal.returns-in_err-at-clause-fault
@@ -22,17 +22,57 @@ returns-in_err-at-clause-fault c =
     let names = map string_bytes c.fields-fields.result.now in
     let few : length names ≤ 16382 = simp length-map c.fields-fields.ensures.few in
     let refused : Refuses c.args.layout.now c.args.limits c.args.raw c.args.bytes.now c.in_err-at.field-0.0 =
-        rw is.1 (by_reference is.0 names c.fields-fields.ensures.differ few c.args.limits c.args.raw c.args.bytes.now c.in_err-at.field-0.0 c.in_ok-check_header.ensures.rules (c.in_err-at.ensures.rules (one_table is.0 names) (table_part 0))) in
+    rw is.1 (by_reference is.0 names c.fields-fields.ensures.differ few c.args.limits c.args.raw c.args.bytes.now c.in_err-at.field-0.0 c.in_ok-check_header.ensures.rules (c.in_err-at.ensures.rules (one_table is.0 names) (table_part 0))) in
     rw (p.1, p.2) (λ other. refused)
 
 pub returns-in_err-place-clause-fault : goal.returns-in_err-place-clause-fault
-returns-in_err-place-clause-fault c = ?
+returns-in_err-place-clause-fault c =
+    let p = err_from_is_err_and c.from_residual-in_err-place.result c.from_residual-in_err-place.ensures.1 in
+    let is = c.fields-fields.ensures.names in
+    let names = map string_bytes c.fields-fields.result.now in
+    let few : length names ≤ 16382 = simp length-map c.fields-fields.ensures.few in
+    let reference = c.in_ok-at.ensures.rules (one_table is.0 names) (table_part 0) in
+    let fails = rw reference.1 at (c.in_err-place.ensures.rules (one_table is.0 names) 0 (none_required is.0 names c.args.bytes.now c.in_ok-at.at)) in
+    let refused : Refuses c.args.layout.now c.args.limits c.args.raw c.args.bytes.now c.in_err-place.field-0.0 =
+    rw is.1 (by_table is.0 names c.fields-fields.ensures.differ few c.args.limits c.args.raw c.args.bytes.now c.in_err-place.field-0.0 c.in_ok-check_header.ensures.rules reference.0 fails) in
+    rw (p.1, p.2) (λ other. refused)
 
 pub returns-then-most_cells-eq0-clause-fault : goal.returns-then-most_cells-eq0-clause-fault
-returns-then-most_cells-eq0-clause-fault c = ?
+returns-then-most_cells-eq0-clause-fault c other =
+    let is = c.fields-fields.ensures.names in
+    let names = map string_bytes c.fields-fields.result.now in
+    let few : length names ≤ 16382 = simp length-map c.fields-fields.ensures.few in
+    let reference = c.in_ok-at.ensures.rules (one_table is.0 names) (table_part 0) in
+    let table = rw reference.1 at (c.in_ok-place.ensures.rules (one_table is.0 names) 0 (none_required is.0 names c.args.bytes.now c.in_ok-at.at)) in
+    let deep : 1 ≤ c.args.limits.depth = omega arith in
+    rw (is.1, reference.1) (by_cells is.0 names c.fields-fields.ensures.differ few c.args.limits c.args.raw c.args.bytes.now c.in_ok-check_header.ensures.rules reference.0 table deep (omega arith))
 
 pub returns-in_err-numbers-clause-fault : goal.returns-in_err-numbers-clause-fault
-returns-in_err-numbers-clause-fault c = ?
+returns-in_err-numbers-clause-fault c =
+    let p = err_from_is_err_and c.from_residual-in_err-numbers.result c.from_residual-in_err-numbers.ensures.1 in
+    let is = c.fields-fields.ensures.names in
+    let names = map string_bytes c.fields-fields.result.now in
+    let few : length names ≤ 16382 = simp length-map c.fields-fields.ensures.few in
+    let reference = c.in_ok-at.ensures.rules (one_table is.0 names) (table_part 0) in
+    let table = rw reference.1 at (c.in_ok-place.ensures.rules (one_table is.0 names) 0 (none_required is.0 names c.args.bytes.now c.in_ok-at.at)) in
+    let deep : 1 ≤ c.args.limits.depth = omega arith in
+    let small : 1 ≤ c.args.limits.cells = omega arith in
+    rw (p.1, p.2) (λ other. (
+    let fails = rw (reference.1, ← length-map c.fields-fields.result.now string_bytes) at (c.in_err-numbers.ensures.fault (one_table is.0 names) other) in
+    let refused : Refuses c.args.layout.now c.args.limits c.args.raw c.args.bytes.now c.in_err-numbers.field-0.0 =
+    rw is.1 (by_slot is.0 names c.fields-fields.ensures.differ few c.args.limits c.args.raw c.args.bytes.now c.in_err-numbers.field-0.0 c.in_ok-check_header.ensures.rules reference.0 table deep small fails) in
+    refused
+    ))
 
 pub returns-clause-value : goal.returns-clause-value
-returns-clause-value c = ?
+returns-clause-value c =
+    let is = c.fields-fields.ensures.names in
+    let names = map string_bytes c.fields-fields.result.now in
+    let reference = c.in_ok-at.ensures.rules (one_table is.0 names) (table_part 0) in
+    let table = rw reference.1 at (c.in_ok-place.ensures.rules (one_table is.0 names) 0 (none_required is.0 names c.args.bytes.now c.in_ok-at.at)) in
+    let deep : 1 ≤ c.args.limits.depth = omega arith in
+    let small : 1 ≤ c.args.limits.cells = omega arith in
+    let numbers = rw (reference.1, ← length-map c.fields-fields.result.now string_bytes) at (c.in_ok-numbers.ensures.numbers (one_table is.0 names)) in
+    let root : TypeId = record { 0 = 0 } in
+    rw (is.1, view-Fields root c.in_ok-numbers.numbers)
+    (found is.0 names c.args.limits c.args.raw c.args.bytes.now c.in_ok-numbers.numbers.items c.in_ok-check_header.ensures.rules reference.0 table numbers deep small)
