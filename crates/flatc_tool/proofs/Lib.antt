@@ -1,0 +1,3 @@
+pub mod Members
+pub mod Meanings
+pub mod JsonSteps

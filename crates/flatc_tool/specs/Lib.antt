@@ -1,0 +1,3 @@
+pub mod JsonText
+pub mod Meaning
+pub mod Named

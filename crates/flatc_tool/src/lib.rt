@@ -1,0 +1,7 @@
+//! The tool's jobs over texts and bytes.
+#![tactic(auto)]
+
+mod faults;
+mod json;
+
+pub use faults::{BuildFault, JsonFault, Place, TextFault, ToolFault};
