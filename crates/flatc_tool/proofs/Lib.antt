@@ -1,3 +1,4 @@
 pub mod Members
 pub mod Meanings
 pub mod JsonSteps
+pub mod Numbered

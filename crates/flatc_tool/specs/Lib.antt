@@ -1,3 +1,4 @@
 pub mod JsonText
 pub mod Meaning
 pub mod Named
+pub mod Placed

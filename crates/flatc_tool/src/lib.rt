@@ -1,6 +1,7 @@
 //! The tool's jobs over texts and bytes.
 #![tactic(auto)]
 
+mod building;
 mod faults;
 mod json;
 
