@@ -1,14 +1,23 @@
 //! Lays the bytes of a table of `int` fields.
-ghost use Rattle.std.specs.Prelude.{◌≡◌, ◌+◌, ◌*◌, ◌++◌, ◌<◌, ◌≤◌, ◌^◌, OnOk, IfOk, All, length, drop, ℕ};
+ghost use Rattle.std.specs.Prelude.{◌≡◌, ◌+◌, ◌*◌, ◌++◌, ◌<◌, ◌≤◌, ◌^◌, OnOk, IfOk, All, length, drop, ℕ, Bool, Err};
 ghost use Rattle.std.specs.Int.{w32, cast_unsigned};
 ghost use Rattle.byteorder.specs.Endian.{little_bytes};
 ghost use Rattle.fb_schema.specs.declared.kinds.Base.TheVariants.{I32};
 ghost use Rattle.fb_schema.specs.WellDeclared.{InRange};
+ghost use Rattle.fb_value.specs.Bounds.{Bounds};
+ghost use Rattle.fb_value.specs.Counts.{cells, depth, nesting};
+ghost use Rattle.fb_value.specs.Fits.{FitsRoot};
+ghost use Rattle.fb_value.specs.Holds.{Holds};
 ghost use Rattle.fb_value.specs.Ints.{IsInt};
+ghost use Rattle.fb_value.specs.OldSlots.{OnlyOld};
+ghost use Rattle.fb_value.specs.Room.{room_of};
+ghost use Rattle.fb_value.specs.View.{view};
 ghost use Rattle.flatc_tool.specs.Placed.{entry_number, is_zero, numbers_in, stored_count, offset_bytes, stored_bytes, placed};
 
+use crate::faults::BuildFault;
 use byteorder::{ByteOrder, LittleEndian};
-use fb_value::Value;
+use fb_layout::Layout;
+use fb_value::{Value, room};
 use std::alloc::{AllocError, Global};
 
 fn put_u16(out: &mut Vec<u8>, number: u16) -> Result<(), AllocError>
@@ -107,7 +116,7 @@ fn put_numbers(out: &mut Vec<u8>, entries: &[Option<Value>]) -> Result<(), Alloc
 }
 
 /// The bytes of a table with these entries: the root's reference, the vtable, the table.
-pub fn table_bytes(alloc: Global, entries: &[Option<Value>], room: u32) -> Result<Vec<u8>, AllocError>
+fn table_bytes(alloc: Global, entries: &[Option<Value>], room: u32) -> Result<Vec<u8>, AllocError>
     requires ints { All IsInt entries.now }
     requires few { length entries.now ≤ 16382 }
     ensures { IfOk result (λ b. (slots : ℕ) × (slots ≤ length entries.now)
@@ -127,4 +136,28 @@ pub fn table_bytes(alloc: Global, entries: &[Option<Value>], room: u32) -> Resul
     put_u32(&mut out, vtable as u32)?;
     put_numbers(&mut out, entries)?;
     Ok(out)
+}
+
+/// The bytes in which a value of the root table lies, and nothing else.
+///
+/// `TooBig` is answered exactly where the value's room is over 2,147,483,647.
+pub(crate) fn build(alloc: Global, layout: &Layout, value: &Value) -> Result<Vec<u8>, BuildFault>
+    requires nests { nesting (view value.now) ≤ 300 }
+    requires fits { FitsRoot layout.now (view value.now) }
+    ensures holds { IfOk result (λ b. (most : Bounds) (raw : Bool) → depth (view value.now) ≤ most.depth
+        → cells (view value.now) ≤ most.cells → Holds layout.now most raw b.items (view value.now)) }
+    ensures old_slots { IfOk result (λ b. OnlyOld layout.now b.items) }
+    ensures short { IfOk result (λ b. length b.items ≤ room_of layout.now (view value.now)) }
+    ensures within { OnOk result (room_of layout.now (view value.now) ≤ 2147483647) }
+    ensures too_big { result ≡ Err BuildFault.TooBig
+        → 2147483647 < room_of layout.now (view value.now) }
+{
+    let _fields = layout.fields();
+    let Some(room) = room(layout, value) else {
+        return Err(BuildFault::TooBig);
+    };
+    let Value::Fields(_, entries) = value else {
+        unreachable!()
+    };
+    Ok(table_bytes(alloc, entries, room)?)
 }
