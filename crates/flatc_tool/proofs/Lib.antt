@@ -1,3 +1,6 @@
 pub mod Members
+pub mod Listed
 pub mod Meanings
 pub mod JsonSteps
+pub mod Words
+pub mod Schemas

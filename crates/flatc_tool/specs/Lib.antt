@@ -1,3 +1,6 @@
 pub mod JsonText
 pub mod Meaning
 pub mod Named
+pub mod Word
+pub mod SmallSchema
+pub mod SchemaParts

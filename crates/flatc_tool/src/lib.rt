@@ -3,5 +3,6 @@
 
 mod faults;
 mod json;
+mod schema_text;
 
 pub use faults::{BuildFault, JsonFault, Place, TextFault, ToolFault};
