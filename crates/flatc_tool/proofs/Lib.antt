@@ -4,3 +4,4 @@ pub mod Meanings
 pub mod JsonSteps
 pub mod Words
 pub mod Schemas
+pub mod Printing

@@ -4,3 +4,5 @@ pub mod Named
 pub mod Word
 pub mod SmallSchema
 pub mod SchemaParts
+pub mod Printed
+pub mod Lines

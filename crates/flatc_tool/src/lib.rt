@@ -4,5 +4,6 @@
 mod faults;
 mod json;
 mod schema_text;
+mod text;
 
 pub use faults::{BuildFault, JsonFault, Place, TextFault, ToolFault};
