@@ -1,13 +1,11 @@
 -- Steps of the reading of a JSON tree: fields in order, names in a set, and the run-time forms.
-use Rattle.std.proofs.Common.{◌≡◌, ◌∙◌, ◌⊎◌, inl, inr, ℕ, zero, suc, ◌+◌, ◌<◌, List, [], ◌∷◌, ◌++◌, length, map, take, get_or, Option, Some, None, option_map, Bool, true, false, ◌||◌, ℤ, String, Global, string_bytes, sym, ap, subst, refl, true≢false, arith, add-one, Contains, Result, Ok, Err, IfErr, MatchBool, not, cond}
+use Rattle.std.proofs.Common.{◌≡◌, ◌∙◌, ◌⊎◌, inl, inr, ℕ, ◌+◌, ◌<◌, List, [], ◌∷◌, ◌++◌, length, map, take, get_or, Option, Some, None, option_map, Bool, true, false, ℤ, String, Global, string_bytes, sym, ap, subst, refl, arith, add-one, Result, Ok, Err, IfErr, MatchBool, not}
 use mir.Val.{SFits}
 use mir.Syntax.{w128}
 use Rattle.std.proofs.Math.Seq.{take-suc}
 use Rattle.std.proofs.lemmas.List.{map-append}
 use Rattle.std.proofs.lemmas.Int.{ints}
-use Rattle.std.proofs.lemmas.List.Folds.{list_any-append}
 use Rattle.std.proofs.lemmas.Option.{slice_get-map, slice_get-get_or}
-use Rattle.std.proofs.lemmas.Slice.Eq.{bytes_eq-Decides}
 use Rattle.std.specs.List.{list_any}
 use Rattle.std.specs.Str.{bytes_eq}
 use Rattle.serde_json.specs.Data.{Data, object, Members}
@@ -25,6 +23,7 @@ use Rattle.flatc_tool.specs.declared.faults.JsonFault.TheVariants.{WrongShape, N
 use Rattle.flatc_tool.specs.Named.{names_pass}
 use Rattle.flatc_tool.proofs.Members.{passes_all, fails_one}
 use Rattle.flatc_tool.specs.Meaning.{field_names, MeansInt, MeansFields, AllNamed, Means, slot_place, IntBreaks, FieldBreaks, HasOther, Breaks}
+use Rattle.flatc_tool.proofs.Listed.{listed, unlisted}
 use Rattle.flatc_tool.proofs.Meanings.{int_fits, names_as, breaks_none}
 
 -- ---- the code's steps
@@ -58,68 +57,13 @@ pub field_breaks : (ms : Members) (fields : List (String Global)) (i : ℕ) (d :
 field_breaks ms fields i d t f within found broken =
     (i, string_bytes (get_or fields i d), t, slice_get-map string_bytes fields i ∙ ap (option_map string_bytes) (slice_get-get_or fields i d within), found, broken)
 
--- ---- names in a list of texts
-
-in_front : (b : Bool) (name n : Name) (names : List Name) → bytes_eq name n ≡ b → (Contains names name) ⊎ (b ≡ true) → Contains (n ∷ names) name
-in_front b name n names is (inl h) = (suc h.0, omega arith, h.2)
-in_front b name n names is (inr h) = (0, omega arith, sym ((bytes_eq-Decides name n).0 (is ∙ h)))
-
-listed_at : (a b : Bool) → (a || b) ≡ true → (b ≡ true) ⊎ (a ≡ true)
-listed_at true b h = inr refl
-listed_at false b h = inl h
-
-pub listed : (fields : List (String Global)) (name : Name) → list_any (λ f. bytes_eq name (string_bytes f)) fields ≡ true → Contains (map string_bytes fields) name
-listed [] name h = absurd (true≢false (sym h))
-listed (f ∷ fields) name h =
-    elim (listed_at (bytes_eq name (string_bytes f)) (list_any (λ g. bytes_eq name (string_bytes g)) fields) h) [
-      | inl rest ↦ in_front (bytes_eq name (string_bytes f)) name (string_bytes f) (map string_bytes fields) refl (inl (listed fields name rest))
-      | inr here ↦ in_front (bytes_eq name (string_bytes f)) name (string_bytes f) (map string_bytes fields) refl (inr here)
-    ]
-
-unlisted_at : (a b : Bool) → (a || b) ≡ false → (a ≡ false) × (b ≡ false)
-unlisted_at true b h = absurd (true≢false h)
-unlisted_at false b h = (refl, h)
-
-nowhere : (fields : List (String Global)) (name : Name) (k : ℕ) → list_any (λ f. bytes_eq name (string_bytes f)) fields ≡ false → k < length (map string_bytes fields) → get_or (map string_bytes fields) k name ≡ name → ⊥
-nowhere [] name k h within is = absurd (omega arith)
-nowhere (f ∷ fields) name zero h within is =
-    let apart = unlisted_at (bytes_eq name (string_bytes f)) (list_any (λ g. bytes_eq name (string_bytes g)) fields) h in
-    true≢false (sym ((bytes_eq-Decides name (string_bytes f)).1 (sym is)) ∙ apart.0)
-nowhere (f ∷ fields) name (suc k) h within is =
-    let apart = unlisted_at (bytes_eq name (string_bytes f)) (list_any (λ g. bytes_eq name (string_bytes g)) fields) h in
-    nowhere fields name k apart.1 (omega arith) is
-
-pub unlisted : (fields : List (String Global)) (name : Name) → list_any (λ f. bytes_eq name (string_bytes f)) fields ≡ false → Contains (map string_bytes fields) name → ⊥
-unlisted fields name h has = nowhere fields name has.0 h has.1 has.2
-
-same_both_ways : (a b : Bool) (xs ys : List ℕ) → bytes_eq xs ys ≡ a → bytes_eq ys xs ≡ b → a ≡ b
-same_both_ways true true xs ys e f = refl
-same_both_ways false false xs ys e f = refl
-same_both_ways true false xs ys e f = absurd (true≢false (sym ((bytes_eq-Decides ys xs).1 (sym ((bytes_eq-Decides xs ys).0 e))) ∙ f))
-same_both_ways false true xs ys e f = absurd (true≢false (sym ((bytes_eq-Decides xs ys).1 (sym ((bytes_eq-Decides ys xs).0 f))) ∙ e))
-
-last_or : (b was : Bool) → cond b true was ≡ (was || (b || false))
-last_or true true = refl
-last_or true false = refl
-last_or false true = refl
-last_or false false = refl
-
--- one more text in the set
-pub listed_next : (name : Name) (fields : List (String Global)) (i : ℕ) (d : String Global) (key : List ℕ) (was is : Bool) → i < length fields → key ≡ string_bytes (get_or fields i d)
-    → was ≡ list_any (λ f. bytes_eq name (string_bytes f)) (take i fields) → is ≡ cond (bytes_eq key name) true was → is ≡ list_any (λ f. bytes_eq name (string_bytes f)) (take (i + 1) fields)
-listed_next name fields i d key was is within same before now =
-    let turned : bytes_eq key name ≡ bytes_eq name (string_bytes (get_or fields i d)) = same_both_ways _ _ key name refl refl ∙ ap (λ k. bytes_eq name k) same in
-    let more : list_any (λ f. bytes_eq name (string_bytes f)) (take (i + 1) fields) ≡ (list_any (λ f. bytes_eq name (string_bytes f)) (take i fields) || (bytes_eq name (string_bytes (get_or fields i d)) || false)) =
-    rw (add-one, take-suc fields i d within) (list_any-append (λ f. bytes_eq name (string_bytes f)) (take i fields) (get_or fields i d ∷ [])) in
-    now ∙ ap (λ b. cond b true was) turned ∙ last_or (bytes_eq name (string_bytes (get_or fields i d))) was ∙ ap (λ w. w || (bytes_eq name (string_bytes (get_or fields i d)) || false)) before ∙ sym more
-
 -- by a set of the fields' names, all members are named, or one is not
 pub other_named : (fields : List (String Global)) (ms : Members) (test : List ℕ → Bool) (all : Bool) → ((name : List ℕ) → test name ≡ list_any (λ f. bytes_eq name (string_bytes f)) fields) → all ≡ names_pass test ms
     → MatchBool (not all) (HasOther (map string_bytes fields) ms) (AllNamed (map string_bytes fields) ms)
-other_named fields ms test true same is = λ name t found. listed fields name (sym (same name) ∙ passes_all test ms (sym is) name t found)
+other_named fields ms test true same is = λ name t found. listed string_bytes fields name (sym (same name) ∙ passes_all test ms (sym is) name t found)
 other_named fields ms test false same is =
     let one = fails_one test ms (sym is) in
-    (one.0, one.1, one.2, unlisted fields one.0 (sym (same one.0) ∙ one.3))
+    (one.0, one.1, one.2, unlisted string_bytes fields one.0 (sym (same one.0) ∙ one.3))
 
 -- ---- by a layout, and by the run-time tree
 

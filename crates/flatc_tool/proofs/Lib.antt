@@ -1,7 +1,11 @@
 pub mod Members
+pub mod Listed
 pub mod Meanings
 pub mod JsonSteps
 pub mod Numbered
 pub mod Standing
 pub mod PlacedLies
 pub mod BuiltHolds
+pub mod Words
+pub mod Schemas
+pub mod Printing

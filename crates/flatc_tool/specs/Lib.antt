@@ -2,3 +2,9 @@ pub mod JsonText
 pub mod Meaning
 pub mod Named
 pub mod Placed
+pub mod Word
+pub mod SmallSchema
+pub mod SchemaParts
+pub mod Printed
+pub mod Lines
+pub mod Jobs

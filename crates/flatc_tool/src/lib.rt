@@ -3,6 +3,10 @@
 
 mod building;
 mod faults;
+mod jobs;
 mod json;
+mod schema_text;
+mod text;
 
 pub use faults::{BuildFault, JsonFault, Place, TextFault, ToolFault};
+pub use jobs::{to_binary, to_json};
