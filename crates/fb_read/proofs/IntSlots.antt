@@ -1,9 +1,11 @@
 -- The slots of a table of `int` fields, one after another.
-use Rattle.std.proofs.Common.{◌≡◌, ◌≢◌, ℕ, zero, suc, ◌+◌, ◌<◌, ◌≤◌, ◌⊎◌, inl, inr, ℤ, List, [], ◌∷◌, ◌++◌, length, slice_get, Option, None, Some, nat_lt, true, refl, sym, ap, subst, ◌∙◌, arith, length-append}
+use Rattle.std.proofs.Common.{◌≡◌, ◌≢◌, ℕ, zero, suc, ◌+◌, ◌<◌, ◌≤◌, ◌⊎◌, inl, inr, ℤ, List, [], ◌∷◌, ◌++◌, length, slice_get, All, Option, None, Some, nat_lt, true, refl, sym, ap, subst, ◌∙◌, arith, length-append}
 use Rattle.std.proofs.lemmas.Bool.Decides.{nat_tests}
 use Rattle.std.proofs.lemmas.Option.{slice_get_within}
 use Rattle.fb_schema.specs.declared.kinds.Base.TheVariants.{I32}
 use Rattle.fb_layout.specs.Laid.{LaidSchema, scalar_kind}
+use Rattle.fb_schema.specs.WellDeclared.{InRange}
+use Rattle.fb_value.specs.Ints.{IsInt}
 use Rattle.fb_value.specs.Datum.{a_number}
 use Rattle.fb_value.specs.View.{view}
 use Rattle.fb_value.specs.Num.{Bytes}
@@ -59,3 +61,12 @@ numbers_before L b p count es are k less = from (slice_get es k) refl
     from : (o : Option (Option Value)) → slice_get es k ≡ o → (n : ℤ) × HasNumber L b (int_place b p k) n
     from None e = let past = slice_get_none es k e in let long = are.long in absurd (omega arith)
     from (Some e) h = entry e (are.numbers k e h)
+
+-- one more number of 32 bits
+pub push_int : (es : List (Option Value)) (n : ℤ) → All IsInt es → InRange I32 n → All IsInt (es ++ Some (Number n) ∷ [])
+push_int [] n ints range zero d less = (n, view-Number n, range)
+push_int [] n ints range (suc k) d less = absurd (omega arith)
+push_int (e ∷ es) n ints range zero d less = ints 0 d (omega arith)
+push_int (e ∷ es) n ints range (suc k) d less =
+    let rest : All IsInt es = λ j x h. ints (suc j) x (omega arith) in
+    push_int es n rest range k d (omega arith)

@@ -2,6 +2,7 @@
 ghost use Rattle.std.specs.Prelude.{◌≡◌, ℕ, ◌+◌, ◌<◌, ◌≤◌, ◌^◌, length, MatchResult, OnOk, IfOk, IfSome, None, Some, Err, true};
 ghost use Rattle.std.specs.Option.{SomeIff};
 ghost use Rattle.fb_schema.specs.declared.kinds.Base.TheVariants.{I32};
+ghost use Rattle.fb_schema.specs.WellDeclared.{InRange};
 ghost use Rattle.fb_layout.specs.Laid.{LaidSchema, scalar_kind, slots_of};
 ghost use Rattle.fb_value.specs.Num.{num, scalar_of};
 ghost use Rattle.fb_value.specs.Places.{Target, table_part, ref_place, part_place, inline_place, vtable, slot_number};
@@ -132,6 +133,7 @@ pub fn int_at(bytes: &[u8], at: usize) -> Result<i128, ReadFault>
     ensures rules { (L : LaidSchema) → MatchResult result
         (λ n. Keeps L bytes.now (inline_place (scalar_kind I32)) at × (n ≡ scalar_of I32 (num bytes.now at 4)))
         (λ f. fault_at L bytes.now (inline_place (scalar_kind I32)) at ≡ Some f) }
+    ensures range { IfOk result (InRange I32) }
     ensures rule { result ≡ Err ReadFault.Memory → ⊥ }
 {
     if at % 4 != 0 {

@@ -1,9 +1,13 @@
 //! Reading a buffer.
-ghost use Rattle.std.specs.Prelude.{◌≡◌, ◌≢◌, ◌+◌, ◌<◌, ◌≤◌, ◌^◌, length, IfOk, IfErr, Err, MatchResult};
+ghost use Rattle.std.specs.Prelude.{◌≡◌, ◌≢◌, ◌+◌, ◌<◌, ◌≤◌, ◌^◌, length, All, IfOk, IfErr, Err, MatchResult};
+ghost use Rattle.fb_schema.specs.declared.kinds.Base.TheVariants.{I32};
+ghost use Rattle.fb_schema.specs.WellDeclared.{InRange};
 ghost use Rattle.fb_layout.specs.Laid.{LaidSchema};
 ghost use Rattle.fb_value.specs.Num.{num};
 ghost use Rattle.fb_value.specs.Places.{vtable};
 ghost use Rattle.fb_value.specs.View.{view};
+ghost use Rattle.fb_value.specs.Fits.{FitsRoot};
+ghost use Rattle.fb_value.specs.Ints.{IsInt};
 ghost use Rattle.fb_value.specs.Holds.{Holds, Refuses};
 ghost use Rattle.fb_read.specs.Ints.{int_place, HasNumber, HasFault, AreNumbers, FailsFirst};
 
@@ -24,6 +28,7 @@ fn number_in(bytes: &[u8], at: usize, place: usize, slot: usize) -> Result<i128,
     ensures rules { (L : LaidSchema) → MatchResult result
         (λ n. HasNumber L bytes.now (int_place bytes.now at slot) n)
         (λ f. HasFault L bytes.now (int_place bytes.now at slot) f) }
+    ensures range { IfOk result (InRange I32) }
     ensures rule { result ≡ Err ReadFault.Memory → ⊥ }
 {
     let offset = slot_of(bytes, at, place, slot);
@@ -47,6 +52,7 @@ fn numbers_in(
     requires few { count < 2 ^ 16 }
     requires low { at < 2 ^ 32 }
     ensures numbers { (L : LaidSchema) → IfOk result (λ es. AreNumbers L bytes.now at count es.items) }
+    ensures ints { IfOk result (λ es. All IsInt es.items) }
     ensures fault { (L : LaidSchema) → IfErr result (λ f. f ≢ ReadFault.Memory → FailsFirst L bytes.now at count f) }
 {
     let mut entries = Vec::with_capacity(alloc, count)?;
@@ -71,6 +77,7 @@ pub fn read(
     entries: &mut Entries,
 ) -> Result<Value, ReadFault>
     ensures value { IfOk result (λ v. Holds layout.now limits raw bytes.now (view v)) }
+    ensures fits { IfOk result (λ v. FitsRoot layout.now (view v)) }
     ensures fault { IfErr result
         (λ f. f ≢ ReadFault.Memory → Refuses layout.now limits raw bytes.now f) }
     ensures rises { entries.old.count ≤ entries.new.count }

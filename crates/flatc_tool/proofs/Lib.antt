@@ -9,3 +9,4 @@ pub mod BuiltHolds
 pub mod Words
 pub mod Schemas
 pub mod Printing
+pub mod JobSteps

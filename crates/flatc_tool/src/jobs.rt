@@ -27,7 +27,8 @@ pub fn to_binary(alloc: Global, schema: &[u8], json: &[u8], limits: Limits, unkn
     let value = value_of(alloc, &layout, &tree, limits, unknown).map_err(ToolFault::Json)?;
     let depth = limits.most_depth();
     prove!(depth >= 1); // one table is never too deep
-    build(alloc, &layout, &value).map_err(ToolFault::Build)
+    let bytes = build(alloc, &layout, &value).map_err(ToolFault::Build)?;
+    Ok(bytes)
 }
 
 /// The JSON text of the value that a buffer holds under a schema text.
@@ -43,5 +44,6 @@ pub fn to_json(alloc: Global, schema: &[u8], bytes: &[u8], limits: Limits, raw: 
     let layout = layout_of(alloc, schema)?;
     let mut entries = Entries::new();
     let value = read(alloc, &layout, bytes, limits, raw, &mut entries).map_err(ToolFault::Read)?;
-    text_of(alloc, &layout, &value, defaults).map_err(ToolFault::Text)
+    let text = text_of(alloc, &layout, &value, defaults).map_err(ToolFault::Text)?;
+    Ok(text)
 }

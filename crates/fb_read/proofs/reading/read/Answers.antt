@@ -1,4 +1,4 @@
-use Rattle.std.proofs.Common.{◌≡◌, ◌≢◌, ℕ, ◌+◌, ◌<◌, ◌≤◌, length, map, string_bytes, Option, None, Some, sym, subst, ◌∙◌, arith}
+use Rattle.std.proofs.Common.{◌≡◌, ◌≢◌, ℕ, ◌+◌, ◌<◌, ◌≤◌, length, map, string_bytes, Option, None, Some, refl, sym, subst, ◌∙◌, arith}
 use Rattle.std.proofs.lemmas.List.{length-map}
 use Rattle.std.proofs.lemmas.Result.{err_from_is_err_and}
 use Rattle.fb_schema.specs.declared.kinds.TypeId.{TypeId}
@@ -10,6 +10,7 @@ use Rattle.fb_value.specs.Num.{num}
 use Rattle.fb_value.specs.Places.{table_part}
 use Rattle.fb_value.specs.Rules.{first_missing}
 use Rattle.fb_value.specs.Holds.{Refuses, Holds}
+use Rattle.fb_value.proofs.IntTables.{fits_ints}
 use Rattle.fb_value.proofs.Views.{view-Fields}
 use Rattle.fb_read.proofs.Refused.{by_reference, by_table, by_cells, by_slot}
 use Rattle.fb_read.proofs.Found.{found, none_required}
@@ -76,3 +77,12 @@ returns-clause-value c =
     let root : TypeId = record { 0 = 0 } in
     rw (is.1, view-Fields root c.in_ok-numbers.numbers)
     (found is.0 names c.args.limits c.args.raw c.args.bytes.now c.in_ok-numbers.numbers.items c.in_ok-check_header.ensures.rules reference.0 table numbers deep small)
+
+pub returns-clause-fits : goal.returns-clause-fits
+returns-clause-fits c =
+    let is = c.fields-fields.ensures.names in
+    let names = map string_bytes c.fields-fields.result.now in
+    let root : TypeId = record { 0 = 0 } in
+    let numbers = c.in_ok-numbers.ensures.numbers (one_table is.0 names) in
+    let long : length c.in_ok-numbers.numbers.items ≡ length names = numbers.long ∙ sym (length-map c.fields-fields.result.now string_bytes) in
+    rw (is.1, view-Fields root c.in_ok-numbers.numbers) ((fits_ints is.0 names 0 0 c.in_ok-numbers.numbers.items).1 (refl, refl, long, c.in_ok-numbers.ensures.ints))

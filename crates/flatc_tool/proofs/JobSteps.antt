@@ -1,0 +1,86 @@
+-- What the layers' refusals exclude.
+use Rattle.std.proofs.Common.{◌≡◌, ℕ, ◌<◌, ◌≤◌, List, Bool, Option, Some, refl, sym, ap, ◌∙◌, subst, arith}
+use Rattle.serde_json.specs.Data.{Data}
+use Rattle.serde_json.specs.Read.{read}
+use Rattle.fb_layout.specs.Laid.{LaidSchema}
+use Rattle.fb_layout.specs.OneTable.{one_table}
+use Rattle.fb_value.specs.declared.faults.ReadFault.{ReadFault}
+use Rattle.fb_value.specs.declared.faults.ReadFault.TheVariants as the_read
+use Rattle.fb_value.specs.Bounds.{Bounds}
+use Rattle.fb_value.specs.Datum.{Datum}
+use Rattle.fb_value.specs.Num.{Bytes}
+use Rattle.fb_value.specs.Room.{room_of}
+use Rattle.fb_value.specs.Holds.{Holds, Refuses}
+use Rattle.flatc_tool.specs.JsonText.{IsTree}
+use Rattle.flatc_tool.specs.Meaning.{field_names, Means, Breaks}
+use Rattle.flatc_tool.specs.Jobs.{Accepts, JsonMeans, MayBeBinary, JsonRefused, BinaryRefused, MayBeText, ReadRefused, TextRefused, IsRule}
+use Rattle.flatc_tool.specs.declared.faults.JsonFault.{JsonFault}
+use Rattle.flatc_tool.specs.declared.faults.JsonFault.TheVariants as the_json
+use Rattle.flatc_tool.specs.declared.faults.BuildFault.TheVariants as the_build
+use Rattle.flatc_tool.specs.declared.faults.TextFault.TheVariants as the_text
+use Rattle.flatc_tool.specs.declared.faults.ToolFault.{ToolFault}
+use Rattle.flatc_tool.specs.declared.faults.ToolFault.TheVariants.{Json, Build, Read, Text, BadJson, Memory, NotYet}
+use Rattle.flatc_tool.proofs.Schemas.{schema_once}
+use Rattle.flatc_tool.proofs.Meanings.{means_once, breaks_none}
+
+-- a schema text has one layout
+pub same_layout : (schema : List ℕ) (L K : LaidSchema) → Accepts schema L → Accepts schema K → L ≡ K
+same_layout schema L K a b =
+    let same = schema_once schema a.0 b.0 a.1 b.1 a.2 b.2 in
+    a.3 ∙ ap (λ n. one_table n a.1) same.0 ∙ ap (λ ns. one_table b.0 ns) same.1 ∙ sym b.3
+
+-- a JSON text has one tree
+pub same_tree : (json : List ℕ) (t u : Data) → IsTree json t → IsTree json u → t ≡ u
+same_tree json t u a b = let both : Some t ≡ Some u = sym a.1 ∙ b.1 in cc
+
+-- a JSON text means one value
+pub same_value : (L : LaidSchema) (most : Bounds) (unknown : Bool) (json : List ℕ) (v w : Datum) → JsonMeans L most unknown json v → JsonMeans L most unknown json w → v ≡ w
+same_value L most unknown json v w a b =
+    means_once (field_names L) most unknown b.0 v w (subst (λ (t : Data). Means (field_names L) most unknown t v) (same_tree json a.0 b.0 a.1 b.1) a.2) b.2
+
+json_excludes : (schema json : List ℕ) (most : Bounds) (unknown : Bool) (f : JsonFault)
+    → ((L : LaidSchema) × Accepts schema L × (t : Data) × IsTree json t × Breaks (field_names L) most unknown t f) → MayBeBinary schema json most unknown → ⊥
+json_excludes schema json most unknown f h may =
+    let layout = same_layout schema h.0 may.layout h.1 may.accepted in
+    let tree = same_tree json h.2 may.means.0 h.3 may.means.1 in
+    let breaks = subst (λ (L : LaidSchema). Breaks (field_names L) most unknown h.2 f) layout h.4 in
+    breaks_none (field_names may.layout) most unknown may.means.0 f may.value (subst (λ (t : Data). Breaks (field_names may.layout) most unknown t f) tree breaks) may.means.2
+
+-- Where a layer refuses, there is no buffer to be made.
+pub binary_excludes : (schema json : List ℕ) (most : Bounds) (unknown : Bool) (f : ToolFault) → BinaryRefused schema json most unknown f → IsRule f → MayBeBinary schema json most unknown → ⊥
+binary_excludes schema json most unknown NotYet h rule may = h may.layout may.accepted
+binary_excludes schema json most unknown BadJson h rule may = h.2 may.means.0 may.means.1
+binary_excludes schema json most unknown (Json the_json.Memory) h rule may = rule
+binary_excludes schema json most unknown (Json (the_json.WrongShape at)) h rule may = json_excludes schema json most unknown (the_json.WrongShape at) h may
+binary_excludes schema json most unknown (Json (the_json.NotWhole at)) h rule may = json_excludes schema json most unknown (the_json.NotWhole at) h may
+binary_excludes schema json most unknown (Json (the_json.OutOfRange at)) h rule may = json_excludes schema json most unknown (the_json.OutOfRange at) h may
+binary_excludes schema json most unknown (Json (the_json.UnknownMember at)) h rule may = json_excludes schema json most unknown (the_json.UnknownMember at) h may
+binary_excludes schema json most unknown (Json (the_json.TooManyCells at)) h rule may = json_excludes schema json most unknown (the_json.TooManyCells at) h may
+binary_excludes schema json most unknown (Build the_build.TooBig) h rule may =
+    let layout = same_layout schema h.0 may.layout h.1 may.accepted in
+    let means = subst (λ (L : LaidSchema). JsonMeans L most unknown json h.2) layout h.3 in
+    let value = same_value may.layout most unknown json h.2 may.value means may.means in
+    let over = h.4 in
+    let small = may.small in
+    let same : room_of h.0 h.2 ≡ room_of may.layout may.value = ap (λ L. room_of L h.2) layout ∙ ap (λ v. room_of may.layout v) value in
+    omega arith
+binary_excludes schema json most unknown (Build the_build.Memory) h rule may = rule
+binary_excludes schema json most unknown (Read f) h rule may = h
+binary_excludes schema json most unknown (Text f) h rule may = h
+binary_excludes schema json most unknown Memory h rule may = rule
+
+read_excludes : (schema : List ℕ) (b : Bytes) (most : Bounds) (raw : Bool) (f : ReadFault) → ((L : LaidSchema) × Accepts schema L × Refuses L most raw b f) → MayBeText schema b most raw → ⊥
+read_excludes schema b most raw f h may =
+    let layout = same_layout schema h.0 may.layout h.1 may.accepted in
+    h.2.1 may.value (subst (λ (L : LaidSchema). Holds L most raw b may.value) (sym layout) may.holds)
+
+-- Where a layer refuses, there is no text to be printed.
+pub text_excludes : (schema : List ℕ) (b : Bytes) (most : Bounds) (raw : Bool) (f : ToolFault) → TextRefused schema b most raw f → IsRule f → MayBeText schema b most raw → ⊥
+text_excludes schema b most raw NotYet h rule may = h may.layout may.accepted
+text_excludes schema b most raw (Read the_read.Memory) h rule may = rule
+text_excludes schema b most raw (Read f) h rule may = read_excludes schema b most raw f h may
+text_excludes schema b most raw (Text f) h rule may = rule
+text_excludes schema b most raw Memory h rule may = rule
+text_excludes schema b most raw BadJson h rule may = h
+text_excludes schema b most raw (Json f) h rule may = h
+text_excludes schema b most raw (Build f) h rule may = h
