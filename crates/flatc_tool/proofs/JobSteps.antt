@@ -1,5 +1,12 @@
 -- What the layers' refusals exclude.
-use Rattle.std.proofs.Common.{◌≡◌, ℕ, ◌<◌, ◌≤◌, List, Bool, Option, Some, refl, sym, ap, ◌∙◌, subst, arith}
+use Rattle.fb_schema.specs.Schema.{Name}
+use Rattle.serde_json.specs.Data.{object}
+use Rattle.fb_value.specs.Datum.{a_table}
+use Rattle.fb_value.specs.Counts.{cells, depth}
+use Rattle.fb_value.specs.OldSlots.{OnlyOld}
+use Rattle.fb_value.proofs.Shown.{one_value_shown}
+use Rattle.flatc_tool.specs.declared.faults.BuildFault.{BuildFault}
+use Rattle.std.proofs.Common.{◌≡◌, ◌≢◌, ◌⊎◌, inl, inr, ℕ, ◌<◌, ◌≤◌, List, Bool, Option, Some, refl, sym, ap, ◌∙◌, subst, arith}
 use Rattle.serde_json.specs.Data.{Data}
 use Rattle.serde_json.specs.Read.{read}
 use Rattle.fb_layout.specs.Laid.{LaidSchema}
@@ -13,20 +20,20 @@ use Rattle.fb_value.specs.Room.{room_of}
 use Rattle.fb_value.specs.Holds.{Holds, Refuses}
 use Rattle.flatc_tool.specs.JsonText.{IsTree}
 use Rattle.flatc_tool.specs.Meaning.{field_names, Means, Breaks}
-use Rattle.flatc_tool.specs.Jobs.{Accepts, JsonMeans, MayBeBinary, JsonRefused, BinaryRefused, MayBeText, ReadRefused, TextRefused, IsRule}
+use Rattle.flatc_tool.specs.Jobs.{Accepts, JsonMeans, most_room, IsBinary, MayBeBinary, JsonRefused, BinaryRefused, MayBeText, ReadRefused, TextRefused, IsRule}
 use Rattle.flatc_tool.specs.declared.faults.JsonFault.{JsonFault}
 use Rattle.flatc_tool.specs.declared.faults.JsonFault.TheVariants as the_json
 use Rattle.flatc_tool.specs.declared.faults.BuildFault.TheVariants as the_build
 use Rattle.flatc_tool.specs.declared.faults.TextFault.TheVariants as the_text
 use Rattle.flatc_tool.specs.declared.faults.ToolFault.{ToolFault}
 use Rattle.flatc_tool.specs.declared.faults.ToolFault.TheVariants.{Json, Build, Read, Text, BadJson, Memory, NotYet}
-use Rattle.flatc_tool.proofs.Schemas.{schema_once}
-use Rattle.flatc_tool.proofs.Meanings.{means_once, breaks_none}
+use Rattle.flatc_tool.proofs.Schemas.{small_schema_once}
+use Rattle.flatc_tool.proofs.Meanings.{means_once, breaks_none, means_depth, means_cells}
 
 -- a schema text has one layout
 pub same_layout : (schema : List ℕ) (L K : LaidSchema) → Accepts schema L → Accepts schema K → L ≡ K
 same_layout schema L K a b =
-    let same = schema_once schema a.0 b.0 a.1 b.1 a.2 b.2 in
+    let same = small_schema_once schema a.0 b.0 a.1 b.1 a.2 b.2 in
     a.3 ∙ ap (λ n. one_table n a.1) same.0 ∙ ap (λ ns. one_table b.0 ns) same.1 ∙ sym b.3
 
 -- a JSON text has one tree
@@ -79,8 +86,55 @@ pub text_excludes : (schema : List ℕ) (b : Bytes) (most : Bounds) (raw : Bool)
 text_excludes schema b most raw NotYet h rule may = h may.layout may.accepted
 text_excludes schema b most raw (Read the_read.Memory) h rule may = rule
 text_excludes schema b most raw (Read f) h rule may = read_excludes schema b most raw f h may
-text_excludes schema b most raw (Text f) h rule may = rule
+text_excludes schema b most raw (Text the_text.Memory) h rule may = rule
 text_excludes schema b most raw Memory h rule may = rule
 text_excludes schema b most raw BadJson h rule may = h
 text_excludes schema b most raw (Json f) h rule may = h
 text_excludes schema b most raw (Build f) h rule may = h
+
+-- Where a tree means no value, there is no buffer to be made.
+pub value_excludes : (schema json : List ℕ) (most : Bounds) (unknown : Bool) (L : LaidSchema) (t : Data) (f : JsonFault) → Accepts schema L → IsTree json t
+    → (f ≡ the_json.Memory) ⊎ ((d : Datum) → Means (field_names L) most unknown t d → ⊥) → IsRule (Json f) → MayBeBinary schema json most unknown → ⊥
+value_excludes schema json most unknown L t f accepted tree (inl memory) rule may = subst (λ (g : JsonFault). IsRule (Json g)) memory rule
+value_excludes schema json most unknown L t f accepted tree (inr none) rule may =
+    let layout = same_layout schema may.layout L may.accepted accepted in
+    let same = same_tree json may.means.0 t may.means.1 tree in
+    let means = subst (λ (K : LaidSchema). Means (field_names K) most unknown may.means.0 may.value) layout may.means.2 in
+    none may.value (subst (λ (u : Data). Means (field_names L) most unknown u may.value) same means)
+
+-- Where the value is too big, there is none either.
+pub size_excludes : (schema json : List ℕ) (most : Bounds) (unknown : Bool) (L : LaidSchema) (v : Datum) (f : BuildFault) → Accepts schema L → JsonMeans L most unknown json v
+    → (f ≡ the_build.TooBig → most_room < room_of L v) → IsRule (Build f) → MayBeBinary schema json most unknown → ⊥
+size_excludes schema json most unknown L v the_build.TooBig accepted means big rule may = binary_excludes schema json most unknown (Build the_build.TooBig) (L, accepted, v, means, big refl) tt may
+size_excludes schema json most unknown L v the_build.Memory accepted means big rule may = rule
+
+-- What is meant is within the limits.
+pub means_within : (names : List Name) (most : Bounds) (unknown : Bool) (t : Data) (d : Datum) → Means names most unknown t d → 1 ≤ most.cells
+means_within names most unknown (object ms) (a_table type es) h = h.1
+means_within names most unknown (object ms) _ h = absurd h
+means_within names most unknown _ d h = absurd h
+
+-- The bytes that were built are those of the JSON text.
+pub binary_made : (schema json : List ℕ) (most : Bounds) (unknown : Bool) (L : LaidSchema) (t : Data) (v : Datum) (b : Bytes) → Accepts schema L → IsTree json t → Means (field_names L) most unknown t v
+    → 1 ≤ most.depth → room_of L v ≤ most_room → ((bounds : Bounds) (raw : Bool) → depth v ≤ bounds.depth → cells v ≤ bounds.cells → Holds L bounds raw b v) → OnlyOld L b
+    → IsBinary schema json most unknown b
+binary_made schema json most unknown L t v b accepted tree means deep small holds old =
+    let one_deep = means_depth (field_names L) most unknown t v means in
+    let one_cell = means_cells (field_names L) most unknown t v means in
+    let some = means_within (field_names L) most unknown t v means in
+    let held : (raw : Bool) → Holds L most raw b v = λ raw. holds most raw (omega arith) (omega arith) in
+    record {
+      layout = L;
+      accepted = accepted;
+      value = v;
+      means = (t, tree, means);
+      small = small;
+      holds = held;
+      only = λ raw w other. one_value_shown L most raw b w v other (held raw);
+      old_slots = old;
+    }
+
+-- Where the bytes are refused, there is no text to be printed.
+pub bytes_exclude : (schema : List ℕ) (b : Bytes) (most : Bounds) (raw : Bool) (L : LaidSchema) (f : ReadFault) → Accepts schema L → (f ≢ the_read.Memory → Refuses L most raw b f) → IsRule (Read f) → MayBeText schema b most raw → ⊥
+bytes_exclude schema b most raw L f accepted refuses rule may =
+    read_excludes schema b most raw f (L, accepted, refuses (λ memory. subst (λ (g : ReadFault). IsRule (Read g)) memory rule)) may

@@ -143,3 +143,47 @@ impl<T: Drop> From<AllocFailed<T>> for BuildFault {
         BuildFault::Memory
     }
 }
+
+impl From<JsonFault> for ToolFault {
+    ghost use Rattle.std.specs.Prelude.{◌≡◌};
+    ghost use Rattle.flatc_tool.specs.declared.faults.ToolFault.TheVariants.{Json};
+
+    ghost from_gives = { λ f e. e ≡ Json f };
+
+    fn from(fault: JsonFault) -> ToolFault {
+        ToolFault::Json(fault)
+    }
+}
+
+impl From<BuildFault> for ToolFault {
+    ghost use Rattle.std.specs.Prelude.{◌≡◌};
+    ghost use Rattle.flatc_tool.specs.declared.faults.ToolFault.TheVariants.{Build};
+
+    ghost from_gives = { λ f e. e ≡ Build f };
+
+    fn from(fault: BuildFault) -> ToolFault {
+        ToolFault::Build(fault)
+    }
+}
+
+impl From<ReadFault> for ToolFault {
+    ghost use Rattle.std.specs.Prelude.{◌≡◌};
+    ghost use Rattle.flatc_tool.specs.declared.faults.ToolFault.TheVariants.{Read};
+
+    ghost from_gives = { λ f e. e ≡ Read f };
+
+    fn from(fault: ReadFault) -> ToolFault {
+        ToolFault::Read(fault)
+    }
+}
+
+impl From<TextFault> for ToolFault {
+    ghost use Rattle.std.specs.Prelude.{◌≡◌};
+    ghost use Rattle.flatc_tool.specs.declared.faults.ToolFault.TheVariants.{Text};
+
+    ghost from_gives = { λ f e. e ≡ Text f };
+
+    fn from(fault: TextFault) -> ToolFault {
+        ToolFault::Text(fault)
+    }
+}

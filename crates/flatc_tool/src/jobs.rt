@@ -24,10 +24,10 @@ pub fn to_binary(alloc: Global, schema: &[u8], json: &[u8], limits: Limits, unkn
 {
     let layout = layout_of(alloc, schema)?;
     let tree = tree_of(alloc, json)?;
-    let value = value_of(alloc, &layout, &tree, limits, unknown).map_err(ToolFault::Json)?;
+    let value = value_of(alloc, &layout, &tree, limits, unknown)?;
     let depth = limits.most_depth();
     prove!(depth >= 1); // one table is never too deep
-    let bytes = build(alloc, &layout, &value).map_err(ToolFault::Build)?;
+    let bytes = build(alloc, &layout, &value)?;
     Ok(bytes)
 }
 
@@ -43,7 +43,7 @@ pub fn to_json(alloc: Global, schema: &[u8], bytes: &[u8], limits: Limits, raw: 
 {
     let layout = layout_of(alloc, schema)?;
     let mut entries = Entries::new();
-    let value = read(alloc, &layout, bytes, limits, raw, &mut entries).map_err(ToolFault::Read)?;
-    let text = text_of(alloc, &layout, &value, defaults).map_err(ToolFault::Text)?;
+    let value = read(alloc, &layout, bytes, limits, raw, &mut entries)?;
+    let text = text_of(alloc, &layout, &value, defaults)?;
     Ok(text)
 }
