@@ -46,6 +46,8 @@ fn refuses(rt: HostRuntime) -> Result<(), Fail> {
         ("{\"b\":1.5}", JsonFault::NotWhole(place(Some(1)))),
         ("{\"b\":true}", JsonFault::WrongShape(place(Some(1)))),
         ("[]", JsonFault::WrongShape(place(None))),
+        ("{\"b\":true,\"a\":-0}", JsonFault::NotWhole(place(Some(0)))),
+        ("{\"a\":[],\"z\":1}", JsonFault::UnknownMember(place(None))),
     ] {
         let tree = tree_of(rt.alloc(), text.as_bytes())?;
         assert!(rt;
