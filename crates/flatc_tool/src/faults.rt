@@ -1,6 +1,6 @@
 //! Why the tool refuses.
-use fb_schema::TypeId;
 use fb_read::ReadFault;
+use fb_schema::TypeId;
 use std::alloc::{AllocError, AllocFailed};
 use thiserror::Error;
 

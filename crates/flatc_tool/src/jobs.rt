@@ -16,7 +16,13 @@ use std::alloc::Global;
 /// `unknown` lets members through that no field has. The schema is looked at first, then the JSON
 /// text, the value that it means, and that value's size; the first of these that refuses is
 /// answered. So far the schema declares one table of `int`, and any other is `NotYet`.
-pub fn to_binary(alloc: Global, schema: &[u8], json: &[u8], limits: Limits, unknown: bool) -> Result<Vec<u8>, ToolFault>
+pub fn to_binary(
+    alloc: Global,
+    schema: &[u8],
+    json: &[u8],
+    limits: Limits,
+    unknown: bool,
+) -> Result<Vec<u8>, ToolFault>
     ensures binary { IfOk result (λ b. IsBinary schema.now json.now limits unknown b.items) }
     ensures refused { IfErr result (BinaryRefused schema.now json.now limits unknown) }
     ensures exact { IfErr result
@@ -35,7 +41,14 @@ pub fn to_binary(alloc: Global, schema: &[u8], json: &[u8], limits: Limits, unkn
 ///
 /// `raw` leaves out the check of the file identifier, and `defaults` prints scalars at their
 /// defaults too. The schema is looked at before the bytes.
-pub fn to_json(alloc: Global, schema: &[u8], bytes: &[u8], limits: Limits, raw: bool, defaults: bool) -> Result<String, ToolFault>
+pub fn to_json(
+    alloc: Global,
+    schema: &[u8],
+    bytes: &[u8],
+    limits: Limits,
+    raw: bool,
+    defaults: bool,
+) -> Result<String, ToolFault>
     ensures text { IfOk result
         (λ s. IsText schema.now bytes.now limits raw defaults (string_bytes s)) }
     ensures refused { IfErr result (TextRefused schema.now bytes.now limits raw) }
@@ -47,3 +60,6 @@ pub fn to_json(alloc: Global, schema: &[u8], bytes: &[u8], limits: Limits, raw: 
     let text = text_of(alloc, &layout, &value, defaults)?;
     Ok(text)
 }
+
+#[cfg(test)]
+mod tests;
