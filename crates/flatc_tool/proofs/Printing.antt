@@ -1,5 +1,5 @@
 -- Lines one after another, and the lines of a table's entries from a slot on.
-use Rattle.std.proofs.Common.{◌≡◌, ◌∙◌, ℕ, suc, ◌+◌, ◌<◌, ◌≤◌, ℤ, List, [], ◌∷◌, ◌++◌, length, map, drop, get_or, Option, Some, None, option_map, Bool, true, false, ◌||◌, if◌then◌else◌, String, Global, string_bytes, codes, sym, ap, subst, refl, append_assoc, append-nil, add-one, drop-cons}
+use Rattle.std.proofs.Common.{◌≡◌, ◌∙◌, ℕ, suc, ◌+◌, ◌<◌, ◌≤◌, List, [], ◌∷◌, ◌++◌, length, map, drop, get_or, Option, Some, None, option_map, Bool, true, false, ◌||◌, if◌then◌else◌, String, Global, string_bytes, codes, sym, ap, subst, refl, append_assoc, append-nil, add-one, drop-cons}
 use Rattle.std.proofs.lemmas.List.{length-map, drop_all}
 use Rattle.fb_schema.specs.Schema.{Name}
 use Rattle.fb_layout.specs.Laid.{LaidSchema, slot_of}
@@ -125,9 +125,6 @@ pub fits_long : (L : LaidSchema) (names : List Name) (type : ℕ) (vs : List (Op
 fits_long L names type vs is h =
     let fits = subst (λ (K : LaidSchema). FitsRoot K (a_table type (entries_view vs))) is.1 h in
     sym (length-map vs (option_map view)) ∙ entries_long is.0 names 0 names (map (option_map view) vs) fits.1
-
-pub fits_no_number : (L : LaidSchema) (names : List Name) (n : ℤ) → (name : Name) × (L ≡ one_table name names) → FitsRoot L (a_number n) → ⊥
-fits_no_number L names n is h = subst (λ (K : LaidSchema). FitsRoot K (a_number n)) is.1 h
 
 -- ---- the whole text
 

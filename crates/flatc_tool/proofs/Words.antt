@@ -1,12 +1,11 @@
 -- Words in a text: where one ends is settled, and it is ASCII.
-use Rattle.std.proofs.Common.{◌≡◌, ◌∙◌, ℕ, zero, suc, ◌+◌, ◌<◌, List, [], ◌∷◌, ◌++◌, length, take, drop, get_or, drop-cons, Bool, true, false, not, ◌&&◌, ◌||◌, ◌==◌, sym, ap, refl, true≢false, arith}
+use Rattle.std.proofs.Common.{◌≡◌, ◌∙◌, ℕ, zero, suc, ◌<◌, List, [], ◌∷◌, ◌++◌, length, Bool, true, false, not, ◌&&◌, ◌||◌, ◌==◌, sym, ap, refl, true≢false, arith}
 use Rattle.std.proofs.lemmas.Bool.Decides.{nat_tests}
 use Rattle.std.proofs.lemmas.Str.{IsUtf8-from_ascii}
 use Rattle.std.specs.Int.{is_in_range}
 use Rattle.std.specs.List.{list_all}
-use Rattle.std.proofs.lemmas.List.Folds.{list_all_more}
 use Rattle.std.specs.Str.{IsUtf8, IsAscii}
-use Rattle.flatc_tool.specs.Word.{is_word_start, is_word_byte, is_word, is_apart, begins}
+use Rattle.flatc_tool.specs.Word.{is_word_start, is_word_byte, is_word, is_apart}
 
 pub both_true : (a b : Bool) → (a && b) ≡ true → (a ≡ true) × (b ≡ true)
 both_true true b h = (refl, h)
@@ -49,14 +48,6 @@ word_bytes (b ∷ bs) h =
     let both = both_true (is_word_start b) (list_all is_word_byte bs) h in
     and_true (is_word_byte b) (list_all is_word_byte bs) (start_is_byte b both.0) both.1
 
-pub word_begins : (w : List ℕ) → is_word w ≡ true → begins is_word_start w ≡ true
-word_begins [] h = h
-word_begins (b ∷ bs) h = (both_true (is_word_start b) (list_all is_word_byte bs) h).0
-
-pub word_is : (w : List ℕ) → begins is_word_start w ≡ true → list_all is_word_byte w ≡ true → is_word w ≡ true
-word_is [] h k = h
-word_is (b ∷ bs) h k = and_true (is_word_start b) (list_all is_word_byte bs) h (both_true (is_word_byte b) (list_all is_word_byte bs) k).1
-
 byte_is_ascii : (b : ℕ) → is_word_byte b ≡ true → b < 128
 byte_is_ascii b h = grind (arith, nat_tests)
 
@@ -71,11 +62,3 @@ word_utf8 bs h = IsUtf8-from_ascii bs (ascii bs h)
 pub apart_front : (mark r : List ℕ) → 0 < length mark → is_apart mark ≡ true → is_apart (mark ++ r) ≡ true
 apart_front [] r some h = absurd (omega arith)
 apart_front (b ∷ bs) r some h = h
-
--- one more byte that may stand in a word
-pub front_more : (bs : List ℕ) (i d : ℕ) → i < length bs → list_all is_word_byte (take i bs) ≡ true → is_word_byte (get_or bs i d) ≡ true → list_all is_word_byte (take (i + 1) bs) ≡ true
-front_more bs i d within h last = list_all_more is_word_byte bs i d within ∙ and_true (list_all is_word_byte (take i bs)) (is_word_byte (get_or bs i d)) h last
-
--- at a byte that is in no word, the rest is apart
-pub rest_apart : (bs : List ℕ) (i d : ℕ) → i < length bs → is_word_byte (get_or bs i d) ≡ false → is_apart (drop i bs) ≡ true
-rest_apart bs i d within h = rw (drop-cons bs i d within) (ap not h)
