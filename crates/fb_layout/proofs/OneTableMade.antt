@@ -7,10 +7,10 @@ use Rattle.fb_schema.specs.declared.kinds.TypeId.{TypeId}
 use Rattle.fb_schema.specs.declared.kinds.Base.TheVariants.{I32}
 use Rattle.fb_schema.specs.declared.kinds.Kind.TheVariants.{Scalar, Code, Union}
 use Rattle.fb_schema.specs.declared.kinds.Shape.TheVariants.{One}
-use Rattle.fb_schema.specs.Schema.{Name, table_body, DeclaredField, DeclaredType, DeclaredSchema, body_at}
-use Rattle.fb_schema.specs.WellDeclared.{InRange, IsShape, MarksFit, IsScalarField, IsUnionPair, UnionsPaired, names_of, IsTableBody, IsBody, IsDeclared, is_struct}
+use Rattle.fb_schema.specs.Schema.{Name, table_body, DeclaredField, DeclaredType, DeclaredSchema, body_at, is_struct}
+use Rattle.fb_schema.specs.WellDeclared.{InRange, IsShape, MarksFit, IsScalarField, IsUnionPair, UnionsPaired, names_of, IsTableBody, IsBody, IsDeclared}
 use Rattle.fb_layout.specs.Sizes.{ceil4}
-use Rattle.fb_layout.specs.Laid.{LaidSchema, scalar_kind, one_of, Slot, slot_of, slots_of, parts_of, struct_at}
+use Rattle.fb_layout.specs.Laid.{LaidSchema, scalar_kind, one_of, Slot, slot_of, slots_of, parts_of, struct_at, no_struct}
 use Rattle.fb_layout.specs.Widths.{inline_size, widest}
 use Rattle.fb_layout.specs.WellMade.{IsStructLaid, IsNarrow, IsWellMade}
 use Rattle.fb_layout.specs.OneTable.{int_field, int_fields, one_table_schema, one_table}
@@ -60,17 +60,18 @@ body_made name names differ zero type e =
     subst (λ (x : DeclaredType). IsBody (one_table_schema name names) 0 x.body) is (table_made (one_table_schema name names) names differ)
 body_made name names differ (suc t) type e = cc
 
+no_structs : (name : Name) (names : List Name) (s : ℕ) → IsTrue (is_struct (body_at (one_table_schema name names) s)) → ⊥
+no_structs name names zero h = cc
+no_structs name names (suc s) h = cc
+
 schema_made : (name : Name) (names : List Name) → AllPairs (λ a b. a ≢ b) names → IsDeclared (one_table_schema name names)
 schema_made name names differ = record {
   bodies = body_made name names differ;
   names = λ i j d less within. absurd (omega arith);
   root = (omega arith, refl);
+  aligned = ([], record { forced = λ s h. absurd (no_structs name names s h); each = λ s h. absurd (no_structs name names s h) });
   identifier = λ id e. cc;
 }
-
-no_structs : (name : Name) (names : List Name) (s : ℕ) → IsTrue (is_struct (body_at (one_table_schema name names) s)) → ⊥
-no_structs name names zero h = cc
-no_structs name names (suc s) h = cc
 
 four_each : (name : Name) (all : List Name) (i : ℕ) (names : List Name)
     → sum_by (λ f. if f.deprecated then 0 else inline_size (one_table name all) f.shape) (map (slot_of (one_table_schema name all)) (int_fields i names)) ≡ 4 * length names
@@ -81,12 +82,17 @@ narrow : (name : Name) (names : List Name) → length names ≤ 16382 → (t : �
 narrow name names few zero = record { wide = let four = four_each name names 0 names in rw four (omega arith); few = let long = names_long 0 names in simp length-map (omega arith) }
 narrow name names few (suc t) = record { wide = omega arith; few = omega arith }
 
+nothing_else : (name : Name) (names : List Name) (t : ℕ) → is_struct (body_at (one_table_schema name names) t) ≡ false → struct_at (one_table name names) t ≡ no_struct
+nothing_else name names zero h = refl
+nothing_else name names (suc t) h = refl
+
 -- The premises are those of the call that makes the layout.
 pub one_table_made : (name : Name) (names : List Name) → AllPairs (λ a b. a ≢ b) names → length names ≤ 16382 → IsWellMade (one_table name names)
 one_table_made name names differ few = record {
   declared = schema_made name names differ;
   one_each = refl;
   structs = λ s h. absurd (no_structs name names s h);
+  others = nothing_else name names;
   tables = narrow name names few;
 }
 

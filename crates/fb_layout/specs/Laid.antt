@@ -7,7 +7,7 @@ use Rattle.fb_schema.specs.declared.kinds.Kind.TheVariants.{Scalar, Enum, Struct
 use Rattle.fb_schema.specs.declared.kinds.Shape.{Shape}
 use Rattle.fb_schema.specs.declared.kinds.Shape.TheVariants.{One, Many}
 use Rattle.fb_schema.specs.Schema.{Name, DeclaredField, DeclaredSchema, body_at, slots_in, parts_in, base_in, members_in}
-use Rattle.fb_layout.specs.Sizes.{base_size}
+use Rattle.fb_schema.specs.Alignments.{base_size}
 
 -- what a struct takes: its size and alignment in bytes, and where its fields stand
 pub record StructLayout : Type 0 where

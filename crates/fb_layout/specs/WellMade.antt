@@ -1,12 +1,13 @@
 -- What each layout keeps: its schema is a declared one, and its structs stand as they must.
 -- From the FlatBuffers documentation, "FlatBuffer Internals": Structs.
-use Rattle.std.specs.Prelude.{ℕ, ◌+◌, ◌≡◌, ◌≤◌, max, List, [], ◌∷◌, length, Option, map, IsTrue}
+use Rattle.std.specs.Prelude.{ℕ, ◌+◌, ◌≡◌, ◌≤◌, false, List, [], ◌∷◌, length, Option, map, IsTrue}
 use Rattle.std.specs.Option.{ForSome, unwrap_or}
-use Rattle.fb_schema.specs.Schema.{body_at, force_align_in}
-use Rattle.fb_schema.specs.WellDeclared.{IsDeclared, is_struct}
+use Rattle.fb_schema.specs.Schema.{body_at, force_align_in, is_struct}
+use Rattle.fb_schema.specs.WellDeclared.{IsDeclared}
 use Rattle.fb_layout.specs.Sizes.{IsLeastMultiple}
-use Rattle.fb_layout.specs.Laid.{LaidSchema, StructLayout, StoredKind, struct_at, parts_of, slots_of, size_of, align_of}
-use Rattle.fb_layout.specs.Widths.{greatest_in, widest}
+use Rattle.fb_layout.specs.Laid.{LaidSchema, StructLayout, no_struct, StoredKind, struct_at, parts_of, slots_of, size_of, align_of}
+use Rattle.fb_schema.specs.Alignments.{greatest_in}
+use Rattle.fb_layout.specs.Widths.{widest}
 
 -- From position p on each field stands at the least multiple of its alignment that isn't below the end of the one before. The last ends at `end`.
 abbrev pub StandInOrder : LaidSchema → ℕ → List StoredKind → List ℕ → ℕ → Type 0
@@ -36,4 +37,6 @@ pub record IsWellMade (L : LaidSchema) : Type 0 where
   pub declared : IsDeclared L.schema
   pub one_each : length L.structs ≡ length L.schema.types
   pub structs : (s : ℕ) → IsTrue (is_struct (body_at L.schema s)) → IsStructLaid L (parts_of L s) (force_align_in (body_at L.schema s)) (struct_at L s)
+  -- a type that is no struct takes nothing of its own
+  pub others : (t : ℕ) → is_struct (body_at L.schema t) ≡ false → struct_at L t ≡ no_struct
   pub tables : (t : ℕ) → IsNarrow L t

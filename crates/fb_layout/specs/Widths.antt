@@ -1,14 +1,10 @@
 -- The greatest inline size of a table, and the greatest alignments.
 -- From the FlatBuffers documentation, "FlatBuffer Internals": Tables, Structs.
-use Rattle.std.specs.Prelude.{ℕ, ◌+◌, max, List, [], ◌∷◌, map, sum_by, if◌then◌else◌}
+use Rattle.std.specs.Prelude.{ℕ, ◌+◌, max, map, sum_by, if◌then◌else◌}
 use Rattle.fb_schema.specs.Schema.{DeclaredField, DeclaredType, slots_in}
+use Rattle.fb_schema.specs.Alignments.{greatest_in}
 use Rattle.fb_layout.specs.Sizes.{ceil4}
 use Rattle.fb_layout.specs.Laid.{LaidSchema, StructLayout, StoredShape, one_of, vector_of, Slot, stored_shape, slots_of, kind_in, size_of, align_of}
-
--- the greatest of some numbers, 0 where there is none
-abbrev pub greatest_in : List ℕ → ℕ
-greatest_in [] = 0
-greatest_in (n ∷ ns) = max n (greatest_in ns)
 
 -- what a slot takes in its table: a vector is stored as a reference
 abbrev pub inline_size : LaidSchema → StoredShape → ℕ
@@ -27,7 +23,7 @@ widest L t = 4 + ceil4 (sum_by (λ f. if f.deprecated then 0 else inline_size L 
 abbrev pub table_align : LaidSchema → ℕ → ℕ
 table_align L t = max 4 (greatest_in (map (λ f. if f.deprecated then 4 else inline_align L f.shape) (slots_of L t)))
 
--- the alignments that the slots of a type need, deprecated ones and elements of vectors included
+-- the greatest alignment that the slots of a type need, deprecated ones and elements of vectors included
 abbrev pub slots_align : LaidSchema → DeclaredType → ℕ
 slots_align L type = greatest_in (map (λ f. align_of L (kind_in (stored_shape L.schema f.shape))) (slots_in type.body))
 

@@ -1,3 +1,4 @@
 pub mod Schema
 pub mod Seen
+pub mod Alignments
 pub mod WellDeclared

@@ -1,6 +1,6 @@
 -- A schema as contracts see it: its types by number, each with its full name.
 -- From the FlatBuffers documentation, "Writing a schema": Tables, Structs, Enums, Unions, Attributes.
-use Rattle.std.specs.Prelude.{ℕ, List, [], Bool, ℤ, Option, None, Some, slice_get}
+use Rattle.std.specs.Prelude.{ℕ, List, [], Bool, true, false, ℤ, Option, None, Some, slice_get}
 use Rattle.fb_schema.specs.declared.kinds.Base.{Base}
 use Rattle.fb_schema.specs.declared.kinds.Base.TheVariants.{U8}
 use Rattle.fb_schema.specs.declared.kinds.Shape.{Shape}
@@ -75,3 +75,19 @@ values_in _ = []
 abbrev pub members_in : DeclaredBody → List (Name × ℕ)
 members_in (union_body members) = members
 members_in _ = []
+
+abbrev pub is_table : DeclaredBody → Bool
+is_table (table_body fs) = true
+is_table _ = false
+
+abbrev pub is_struct : DeclaredBody → Bool
+is_struct (struct_body fs align) = true
+is_struct _ = false
+
+abbrev pub is_enum : DeclaredBody → Bool
+is_enum (enum_body base flags values) = true
+is_enum _ = false
+
+abbrev pub is_union : DeclaredBody → Bool
+is_union (union_body members) = true
+is_union _ = false

@@ -1,6 +1,6 @@
 -- What each declared schema keeps, so that the crates above may rely on it.
 -- From the FlatBuffers documentation, "Writing a schema": Structs, Unions, Attributes, Root type, File identification.
-use Rattle.std.specs.Prelude.{ℕ, suc, ◌≡◌, ◌≢◌, ◌<◌, ◌≤◌, ◌^◌, List, [], ◌∷◌, length, Bool, true, false, IsTrue, ℤ, pos, negsuc, ◌≤ℤ◌, Option, None, Some, All, AllPairs, map, slice_get}
+use Rattle.std.specs.Prelude.{ℕ, suc, ◌≡◌, ◌≢◌, ◌<◌, ◌≤◌, ◌^◌, ◌*◌, ◌++◌, codes, List, [], ◌∷◌, length, Bool, true, false, IsTrue, ℤ, pos, negsuc, ◌≤ℤ◌, Option, None, Some, All, AllPairs, map, slice_get}
 use Rattle.std.specs.Option.{ForSome}
 use Rattle.fb_schema.specs.declared.kinds.Base.{Base}
 use Rattle.fb_schema.specs.declared.kinds.Base.TheVariants.{Bool as Boolean, I8, U8, I16, U16, I32, U32, I64, U64}
@@ -9,7 +9,8 @@ use Rattle.fb_schema.specs.declared.kinds.Kind.{Kind}
 use Rattle.fb_schema.specs.declared.kinds.Kind.TheVariants.{Scalar, Enum, Struct, Table, Union, Code, Text}
 use Rattle.fb_schema.specs.declared.kinds.Shape.{Shape}
 use Rattle.fb_schema.specs.declared.kinds.Shape.TheVariants.{One, Many}
-use Rattle.fb_schema.specs.Schema.{Name, DeclaredField, DeclaredBody, table_body, struct_body, enum_body, union_body, DeclaredType, DeclaredSchema, body_at, base_in}
+use Rattle.fb_schema.specs.Schema.{Name, DeclaredField, DeclaredBody, table_body, struct_body, enum_body, union_body, DeclaredType, DeclaredSchema, body_at, base_in, is_table, is_struct, is_enum, is_union}
+use Rattle.fb_schema.specs.Alignments.{base_size, AreAligned}
 
 abbrev pub IsBetween : ℤ → ℤ → ℤ → Type 0
 IsBetween low high n = (low ≤ℤ n) × (n ≤ℤ high)
@@ -25,22 +26,6 @@ InRange I32 n = IsBetween (negsuc 2147483647) (pos 2147483647) n
 InRange U32 n = IsBetween (pos 0) (pos 4294967295) n
 InRange I64 n = IsBetween (negsuc 9223372036854775807) (pos 9223372036854775807) n
 InRange U64 n = IsBetween (pos 0) (pos 18446744073709551615) n
-
-abbrev pub is_table : DeclaredBody → Bool
-is_table (table_body fs) = true
-is_table _ = false
-
-abbrev pub is_struct : DeclaredBody → Bool
-is_struct (struct_body fs align) = true
-is_struct _ = false
-
-abbrev pub is_enum : DeclaredBody → Bool
-is_enum (enum_body base flags values) = true
-is_enum _ = false
-
-abbrev pub is_union : DeclaredBody → Bool
-is_union (union_body members) = true
-is_union _ = false
 
 -- the number is that of a declared type that passes a test
 abbrev pub Names : (DeclaredBody → Bool) → DeclaredSchema → ℕ → Type 0
@@ -80,8 +65,9 @@ MarksFit S f (One (Enum e)) = IsScalarField (base_in (body_at S e.0)) f
 MarksFit S f (One (Code u)) = IsOtherField f × (f.required ≡ false)
 MarksFit S f _ = IsOtherField f
 
--- a union's code slot, and the value slot right behind it
+-- a union's code slot, and the value slot right behind it: of a union field `x` they are called `x_type` and `x`
 pub record IsUnionPair (f g : DeclaredField) (u : TypeId) : Type 0 where
+  pub named : f.name ≡ g.name ++ codes "_type"
   pub code : f.shape ≡ One (Code u)
   pub value : g.shape ≡ One (Union u)
   pub marks : f.deprecated ≡ g.deprecated
@@ -124,25 +110,39 @@ pub record IsStructBody (S : DeclaredSchema) (s : ℕ) (fs : List DeclaredField)
   pub names : AllPairs (λ a b. a ≢ b) (names_of fs)
   pub parts : (k : ℕ) (f : DeclaredField) → slice_get fs k ≡ Some f → IsPart S s f.shape × IsPlain f
 
-pub record IsEnumBody (base : Base) (values : List (Name × ℤ)) : Type 0 where
+abbrev pub is_unsigned : Base → Bool
+is_unsigned U8 = true
+is_unsigned U16 = true
+is_unsigned U32 = true
+is_unsigned U64 = true
+is_unsigned _ = false
+
+-- with `bit_flags` each value is one bit of an unsigned type
+abbrev pub IsFlag : Base → ℤ → Type 0
+IsFlag base n = (k : ℕ) × (k < 8 * base_size base) × (n ≡ pos (2 ^ k))
+
+pub record IsEnumBody (base : Base) (flags : Bool) (values : List (Name × ℤ)) : Type 0 where
   pub integers : base ≢ Boolean
   pub names : AllPairs (λ a b. a.0 ≢ b.0) values
   pub numbers : AllPairs (λ a b. a.1 ≢ b.1) values
   pub ranges : All (λ v. InRange base v.1) values
+  pub bits : IsTrue flags → IsTrue (is_unsigned base) × All (λ v. IsFlag base v.1) values
 
 pub record IsUnionBody (S : DeclaredSchema) (members : List (Name × ℕ)) : Type 0 where
   pub few : length members ≤ 255
+  pub no_none : All (λ m. m.0 ≢ codes "NONE") members
   pub names : AllPairs (λ a b. a.0 ≢ b.0) members
   pub tables : All (λ m. Names is_table S m.1) members
 
 abbrev pub IsBody : DeclaredSchema → ℕ → DeclaredBody → Type 0
 IsBody S t (table_body fs) = IsTableBody S fs
 IsBody S t (struct_body fs align) = IsStructBody S t fs align
-IsBody S t (enum_body base flags values) = IsEnumBody base values
+IsBody S t (enum_body base flags values) = IsEnumBody base flags values
 IsBody S t (union_body members) = IsUnionBody S members
 
 pub record IsDeclared (S : DeclaredSchema) : Type 0 where
   pub bodies : (t : ℕ) (type : DeclaredType) → slice_get S.types t ≡ Some type → IsBody S t type.body
   pub names : AllPairs (λ a b. a.name ≢ b.name) S.types
+  pub aligned : (aligns : List ℕ) × AreAligned S aligns
   pub root : Names is_table S S.root
   pub identifier : ForSome S.identifier (λ id. length id ≡ 4)

@@ -5,7 +5,8 @@ use Rattle.std.proofs.lemmas.List.Sums.{sum_by-cons}
 use Rattle.fb_schema.specs.Schema.{Name}
 use Rattle.fb_layout.specs.Laid.{LaidSchema, Slot, scalar_kind, one_of, slots_of, kind_in, stored_shape, align_of}
 use Rattle.fb_layout.specs.OneTable.{one_table, one_table_schema, int_fields}
-use Rattle.fb_layout.specs.Widths.{greatest_in, widest, table_align, slots_align, greatest, inline_size, inline_align}
+use Rattle.fb_schema.specs.Alignments.{greatest_in}
+use Rattle.fb_layout.specs.Widths.{widest, table_align, slots_align, greatest, inline_size, inline_align}
 use Rattle.fb_layout.proofs.OneTableMade.{int_slots, slots_are, length-int_slots}
 use Rattle.fb_value.specs.Datum.{Datum, a_number, a_table, SlotEntries, no_entries, absent_entry, present_entry}
 use Rattle.fb_value.specs.View.{view, entries_view}

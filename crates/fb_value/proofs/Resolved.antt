@@ -4,8 +4,8 @@ use Rattle.fb_schema.specs.declared.kinds.Kind.{Kind}
 use Rattle.fb_schema.specs.declared.kinds.Kind.TheVariants.{Scalar, Enum, Struct, Table, Union, Code, Text}
 use Rattle.fb_schema.specs.declared.kinds.Shape.{Shape}
 use Rattle.fb_schema.specs.declared.kinds.Shape.TheVariants.{One, Many}
-use Rattle.fb_schema.specs.Schema.{DeclaredField, DeclaredBody, table_body, struct_body, enum_body, union_body, DeclaredType, DeclaredSchema, body_at, slots_in, parts_in}
-use Rattle.fb_schema.specs.WellDeclared.{IsBody, IsPart, IsShape, is_struct, KindNames, MayBeElement}
+use Rattle.fb_schema.specs.Schema.{DeclaredField, DeclaredBody, table_body, struct_body, enum_body, union_body, DeclaredType, DeclaredSchema, body_at, slots_in, parts_in, is_struct}
+use Rattle.fb_schema.specs.WellDeclared.{IsBody, IsPart, IsShape, KindNames, MayBeElement}
 use Rattle.fb_layout.specs.Laid.{LaidSchema, Slot, StoredKind, scalar_kind, struct_kind, table_kind, text_kind, StoredShape, one_of, vector_of, stored_kind, stored_shape, slot_of, slots_of, kind_in, parts_of, struct_at, size_of}
 use Rattle.fb_layout.specs.WellMade.{StandInOrder, IsWellMade}
 use Rattle.fb_value.specs.Places.{Target, vector_part, Sort, ref_place, part_place, inline_place, code_place, unknown_place}

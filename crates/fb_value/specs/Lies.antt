@@ -1,7 +1,7 @@
 -- Where a value lies in bytes.
 -- From the FlatBuffers documentation, "FlatBuffer Internals". Nothing is said of order, overlap or sharing.
 use Rattle.std.specs.Prelude.{ℕ, ◌+◌, ◌≡◌, List, [], ◌∷◌, Option, None, Some, ℤ}
-use Rattle.fb_layout.specs.Sizes.{base_size}
+use Rattle.fb_schema.specs.Alignments.{base_size}
 use Rattle.fb_layout.specs.Laid.{LaidSchema, Slot, StoredKind, scalar_kind, struct_kind, slots_of, parts_of, struct_at, size_of}
 use Rattle.fb_value.specs.Datum.{Datum, a_number, a_text, a_vector, a_struct, a_table, a_member, an_unknown, Parts, no_parts, more_parts, SlotEntries, no_entries, absent_entry, present_entry, count}
 use Rattle.fb_value.specs.Num.{Bytes, num, part_of, scalar_of}
