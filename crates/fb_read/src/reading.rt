@@ -8,7 +8,7 @@ ghost use Rattle.fb_value.specs.Places.{vtable};
 ghost use Rattle.fb_value.specs.View.{view};
 ghost use Rattle.fb_value.specs.Fits.{FitsRoot};
 ghost use Rattle.fb_value.specs.Ints.{IsInt};
-ghost use Rattle.fb_value.specs.Holds.{Holds, Refuses};
+ghost use Rattle.fb_value.specs.Holds.{Holds, RootKeeps, Refuses};
 ghost use Rattle.fb_read.specs.Ints.{int_place, HasNumber, HasFault, AreNumbers, FailsFirst};
 
 use crate::counting::Entries;
@@ -80,6 +80,8 @@ pub fn read(
     ensures fits { IfOk result (λ v. FitsRoot layout.now (view v)) }
     ensures fault { IfErr result
         (λ f. f ≢ ReadFault.Memory → Refuses layout.now limits raw bytes.now f) }
+    ensures memory { result ≡ Err ReadFault.Memory →
+        RootKeeps layout.now limits raw bytes.now }
     ensures rises { entries.old.count ≤ entries.new.count }
     ensures counted { entries.new.count ≤ entries.old.count + (limits.cells + 1) }
 {

@@ -1,6 +1,6 @@
 -- The value that bytes hold, or the least of their faults.
 -- From the FlatBuffers documentation, "FlatBuffer Internals" and "File identification": the root's reference, and the identifier behind it.
-use Rattle.std.specs.Prelude.{ℕ, ◌≡◌, ◌≤◌, ◌⊎◌, List, [], ◌∷◌, length, take, drop, nat_le, Bool, Option, None, Some, if◌then◌else◌}
+use Rattle.std.specs.Prelude.{ℕ, ◌+◌, ◌≡◌, ◌≤◌, ◌⊎◌, List, [], ◌∷◌, length, take, drop, nat_le, Bool, Option, None, Some, if◌then◌else◌}
 use Rattle.std.specs.Str.{bytes_eq}
 use Rattle.fb_layout.specs.Laid.{LaidSchema}
 use Rattle.fb_value.specs.declared.faults.ReadFault.{ReadFault}
@@ -8,9 +8,9 @@ use Rattle.fb_value.specs.declared.faults.ReadFault.TheVariants.{Short, TooLong,
 use Rattle.fb_value.specs.Bounds.{Bounds}
 use Rattle.fb_value.specs.Datum.{Datum}
 use Rattle.fb_value.specs.Counts.{cells, depth}
-use Rattle.fb_value.specs.Num.{Bytes}
-use Rattle.fb_value.specs.Places.{table_part, ref_place, Place}
-use Rattle.fb_value.specs.Rules.{Rule, first_failing}
+use Rattle.fb_value.specs.Num.{Bytes, num}
+use Rattle.fb_value.specs.Places.{table_part, ref_place, part_place, Place}
+use Rattle.fb_value.specs.Rules.{Rule, first_failing, Keeps}
 use Rattle.fb_value.specs.Lies.{LiesAt}
 use Rattle.fb_value.specs.Reached.{Path}
 use Rattle.fb_value.specs.Faults.{FaultFrom, LeastFrom, or_else, fault_from}
@@ -37,6 +37,14 @@ pub record Holds (L : LaidSchema) (most : Bounds) (raw : Bool) (b : Bytes) (v : 
   pub lies : LiesAt L b (ref_place (table_part L.schema.root)) 0 v
   pub deep : depth v ≤ most.depth
   pub small : cells v ≤ most.cells
+
+-- The root table may be entered: the header and the way to it keep their rules, and it is within the limits.
+pub record RootKeeps (L : LaidSchema) (most : Bounds) (raw : Bool) (b : Bytes) : Type 0 where
+  pub header : header_fault b (checked_identifier L raw) ≡ None
+  pub reference : Keeps L b (ref_place (table_part L.schema.root)) 0
+  pub table : Keeps L b (part_place (table_part L.schema.root)) (0 + num b 0 4)
+  pub deep : 1 ≤ most.depth
+  pub small : 1 ≤ most.cells
 
 -- the header's first fault; where it has none, the one at the least path
 abbrev pub IsLeastFault : LaidSchema → Bounds → Bool → Bytes → ReadFault → Type 0

@@ -20,7 +20,7 @@ use Rattle.fb_value.specs.Room.{room_of}
 use Rattle.fb_value.specs.Holds.{Holds, Refuses}
 use Rattle.flatc_tool.specs.JsonText.{IsTree}
 use Rattle.flatc_tool.specs.Meaning.{field_names, Means, Breaks}
-use Rattle.flatc_tool.specs.Jobs.{Accepts, JsonMeans, most_room, IsBinary, MayBeBinary, JsonRefused, BinaryRefused, MayBeText, ReadRefused, TextRefused, IsRule}
+use Rattle.flatc_tool.specs.Jobs.{Accepts, JsonMeans, most_room, IsBinary, MayBeBinary, JsonRefused, BinaryRefused, MayBeText, ReadRefused, TextRefused, IsNotMemory}
 use Rattle.flatc_tool.specs.declared.faults.JsonFault.{JsonFault}
 use Rattle.flatc_tool.specs.declared.faults.JsonFault.TheVariants as the_json
 use Rattle.flatc_tool.specs.declared.faults.BuildFault.TheVariants as the_build
@@ -54,7 +54,7 @@ json_excludes schema json most unknown f h may =
     breaks_none (field_names may.layout) most unknown may.means.0 f may.value (subst (λ (t : Data). Breaks (field_names may.layout) most unknown t f) tree breaks) may.means.2
 
 -- Where a layer refuses, there is no buffer to be made.
-pub binary_excludes : (schema json : List ℕ) (most : Bounds) (unknown : Bool) (f : ToolFault) → BinaryRefused schema json most unknown f → IsRule f → MayBeBinary schema json most unknown → ⊥
+pub binary_excludes : (schema json : List ℕ) (most : Bounds) (unknown : Bool) (f : ToolFault) → BinaryRefused schema json most unknown f → IsNotMemory f → MayBeBinary schema json most unknown → ⊥
 binary_excludes schema json most unknown NotYet h rule may = h may.layout may.accepted
 binary_excludes schema json most unknown BadJson h rule may = h.2 may.means.0 may.means.1
 binary_excludes schema json most unknown (Json the_json.Memory) h rule may = rule
@@ -82,7 +82,7 @@ read_excludes schema b most raw f h may =
     h.2.1 may.value (subst (λ (L : LaidSchema). Holds L most raw b may.value) (sym layout) may.holds)
 
 -- Where a layer refuses, there is no text to be printed.
-pub text_excludes : (schema : List ℕ) (b : Bytes) (most : Bounds) (raw : Bool) (f : ToolFault) → TextRefused schema b most raw f → IsRule f → MayBeText schema b most raw → ⊥
+pub text_excludes : (schema : List ℕ) (b : Bytes) (most : Bounds) (raw : Bool) (f : ToolFault) → TextRefused schema b most raw f → IsNotMemory f → MayBeText schema b most raw → ⊥
 text_excludes schema b most raw NotYet h rule may = h may.layout may.accepted
 text_excludes schema b most raw (Read the_read.Memory) h rule may = rule
 text_excludes schema b most raw (Read f) h rule may = read_excludes schema b most raw f h may
@@ -94,8 +94,8 @@ text_excludes schema b most raw (Build f) h rule may = h
 
 -- Where a tree means no value, there is no buffer to be made.
 pub value_excludes : (schema json : List ℕ) (most : Bounds) (unknown : Bool) (L : LaidSchema) (t : Data) (f : JsonFault) → Accepts schema L → IsTree json t
-    → (f ≡ the_json.Memory) ⊎ ((d : Datum) → Means (field_names L) most unknown t d → ⊥) → IsRule (Json f) → MayBeBinary schema json most unknown → ⊥
-value_excludes schema json most unknown L t f accepted tree (inl memory) rule may = subst (λ (g : JsonFault). IsRule (Json g)) memory rule
+    → (f ≡ the_json.Memory) ⊎ ((d : Datum) → Means (field_names L) most unknown t d → ⊥) → IsNotMemory (Json f) → MayBeBinary schema json most unknown → ⊥
+value_excludes schema json most unknown L t f accepted tree (inl memory) rule may = subst (λ (g : JsonFault). IsNotMemory (Json g)) memory rule
 value_excludes schema json most unknown L t f accepted tree (inr none) rule may =
     let layout = same_layout schema may.layout L may.accepted accepted in
     let same = same_tree json may.means.0 t may.means.1 tree in
@@ -104,7 +104,7 @@ value_excludes schema json most unknown L t f accepted tree (inr none) rule may 
 
 -- Where the value is too big, there is none either.
 pub size_excludes : (schema json : List ℕ) (most : Bounds) (unknown : Bool) (L : LaidSchema) (v : Datum) (f : BuildFault) → Accepts schema L → JsonMeans L most unknown json v
-    → (f ≡ the_build.TooBig → most_room < room_of L v) → IsRule (Build f) → MayBeBinary schema json most unknown → ⊥
+    → (f ≡ the_build.TooBig → most_room < room_of L v) → IsNotMemory (Build f) → MayBeBinary schema json most unknown → ⊥
 size_excludes schema json most unknown L v the_build.TooBig accepted means big rule may = binary_excludes schema json most unknown (Build the_build.TooBig) (L, accepted, v, means, big refl) tt may
 size_excludes schema json most unknown L v the_build.Memory accepted means big rule may = rule
 
@@ -135,6 +135,6 @@ binary_made schema json most unknown L t v b accepted tree means deep small hold
     }
 
 -- Where the bytes are refused, there is no text to be printed.
-pub bytes_exclude : (schema : List ℕ) (b : Bytes) (most : Bounds) (raw : Bool) (L : LaidSchema) (f : ReadFault) → Accepts schema L → (f ≢ the_read.Memory → Refuses L most raw b f) → IsRule (Read f) → MayBeText schema b most raw → ⊥
+pub bytes_exclude : (schema : List ℕ) (b : Bytes) (most : Bounds) (raw : Bool) (L : LaidSchema) (f : ReadFault) → Accepts schema L → (f ≢ the_read.Memory → Refuses L most raw b f) → IsNotMemory (Read f) → MayBeText schema b most raw → ⊥
 bytes_exclude schema b most raw L f accepted refuses rule may =
-    read_excludes schema b most raw f (L, accepted, refuses (λ memory. subst (λ (g : ReadFault). IsRule (Read g)) memory rule)) may
+    read_excludes schema b most raw f (L, accepted, refuses (λ memory. subst (λ (g : ReadFault). IsNotMemory (Read g)) memory rule)) may

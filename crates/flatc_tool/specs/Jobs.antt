@@ -11,7 +11,7 @@ use Rattle.fb_value.specs.Bounds.{Bounds}
 use Rattle.fb_value.specs.Datum.{Datum}
 use Rattle.fb_value.specs.Num.{Bytes}
 use Rattle.fb_value.specs.Room.{room_of}
-use Rattle.fb_value.specs.Holds.{Holds, Refuses}
+use Rattle.fb_value.specs.Holds.{Holds, RootKeeps, Refuses}
 use Rattle.fb_value.specs.OldSlots.{OnlyOld}
 use Rattle.flatc_tool.specs.SmallSchema.{IsSmallSchema}
 use Rattle.flatc_tool.specs.JsonText.{IsTree}
@@ -56,16 +56,17 @@ pub record MayBeBinary (schema json : List ℕ) (most : Bounds) (unknown : Bool)
   pub small : room_of layout value ≤ most_room
 
 abbrev pub JsonRefused : List ℕ → List ℕ → Bounds → Bool → JsonFault → Type 0
-JsonRefused schema json most unknown the_json.Memory = ⊤
+JsonRefused schema json most unknown the_json.Memory = (L : LaidSchema) × Accepts schema L × (t : Data) × IsTree json t
 JsonRefused schema json most unknown f = (L : LaidSchema) × Accepts schema L × (t : Data) × IsTree json t × Breaks (field_names L) most unknown t f
 
--- The refusal of the first layer that refuses, in the order schema, JSON text, value, size. Want of memory says nothing.
+-- The refusal of the first layer that refuses, in the order schema, JSON text, value, size.
+-- Where a layer wants memory, the layers before it have passed; `Memory` alone is of the schema or the JSON text.
 abbrev pub BinaryRefused : List ℕ → List ℕ → Bounds → Bool → ToolFault → Type 0
 BinaryRefused schema json most unknown NotYet = (L : LaidSchema) → ¬ Accepts schema L
 BinaryRefused schema json most unknown BadJson = (L : LaidSchema) × Accepts schema L × ((t : Data) → ¬ IsTree json t)
 BinaryRefused schema json most unknown (Json f) = JsonRefused schema json most unknown f
 BinaryRefused schema json most unknown (Build the_build.TooBig) = (L : LaidSchema) × Accepts schema L × (v : Datum) × JsonMeans L most unknown json v × (most_room < room_of L v)
-BinaryRefused schema json most unknown (Build the_build.Memory) = ⊤
+BinaryRefused schema json most unknown (Build the_build.Memory) = MayBeBinary schema json most unknown
 BinaryRefused schema json most unknown Memory = ⊤
 BinaryRefused schema json most unknown _ = ⊥
 
@@ -85,22 +86,23 @@ pub record MayBeText (schema : List ℕ) (b : Bytes) (most : Bounds) (raw : Bool
   pub holds : Holds layout most raw b value
 
 abbrev pub ReadRefused : List ℕ → Bytes → Bounds → Bool → ReadFault → Type 0
-ReadRefused schema b most raw the_read.Memory = ⊤
+ReadRefused schema b most raw the_read.Memory = (L : LaidSchema) × Accepts schema L × RootKeeps L most raw b
 ReadRefused schema b most raw f = (L : LaidSchema) × Accepts schema L × Refuses L most raw b f
 
--- The refusal of the schema, or the least fault of the bytes. Want of memory says nothing.
+-- The refusal of the schema, or the least fault of the bytes.
+-- Where a layer wants memory, the layers before it have passed; `Memory` alone is of the schema.
 abbrev pub TextRefused : List ℕ → Bytes → Bounds → Bool → ToolFault → Type 0
 TextRefused schema b most raw NotYet = (L : LaidSchema) → ¬ Accepts schema L
 TextRefused schema b most raw (Read f) = ReadRefused schema b most raw f
-TextRefused schema b most raw (Text the_text.Memory) = ⊤
+TextRefused schema b most raw (Text the_text.Memory) = MayBeText schema b most raw
 TextRefused schema b most raw Memory = ⊤
 TextRefused schema b most raw _ = ⊥
 
 -- a refusal that is no want of memory
-abbrev pub IsRule : ToolFault → Type 0
-IsRule Memory = ⊥
-IsRule (Json the_json.Memory) = ⊥
-IsRule (Build the_build.Memory) = ⊥
-IsRule (Read the_read.Memory) = ⊥
-IsRule (Text the_text.Memory) = ⊥
-IsRule _ = Unit {0}
+abbrev pub IsNotMemory : ToolFault → Type 0
+IsNotMemory Memory = ⊥
+IsNotMemory (Json the_json.Memory) = ⊥
+IsNotMemory (Build the_build.Memory) = ⊥
+IsNotMemory (Read the_read.Memory) = ⊥
+IsNotMemory (Text the_text.Memory) = ⊥
+IsNotMemory _ = Unit {0}

@@ -149,10 +149,12 @@ pub(crate) fn build(alloc: Global, layout: &Layout, value: &Value) -> Result<Vec
     ensures old_slots { IfOk result (λ b. OnlyOld layout.now b.items) }
     ensures short { IfOk result (λ b. length b.items ≤ room_of layout.now (view value.now)) }
     ensures within { OnOk result (room_of layout.now (view value.now) ≤ 2147483647) }
+    ensures memory { result ≡ Err BuildFault.Memory
+        → room_of layout.now (view value.now) ≤ 2147483647 }
     ensures too_big { result ≡ Err BuildFault.TooBig
         → 2147483647 < room_of layout.now (view value.now) }
 {
-    let _fields = layout.fields();
+    let _fields = layout.fields(); // tells what layouts there are
     let Some(room) = room(layout, value) else {
         return Err(BuildFault::TooBig);
     };

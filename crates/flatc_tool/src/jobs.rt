@@ -1,6 +1,6 @@
 //! The jobs over schema texts, JSON texts and buffers.
 ghost use Rattle.std.specs.Prelude.{IfOk, IfErr, string_bytes};
-ghost use Rattle.flatc_tool.specs.Jobs.{IsBinary, MayBeBinary, BinaryRefused, IsText, MayBeText, TextRefused, IsRule};
+ghost use Rattle.flatc_tool.specs.Jobs.{IsBinary, MayBeBinary, BinaryRefused, IsText, MayBeText, TextRefused, IsNotMemory};
 
 use crate::building::build;
 use crate::faults::ToolFault;
@@ -26,7 +26,7 @@ pub fn to_binary(
     ensures binary { IfOk result (λ b. IsBinary schema.now json.now limits unknown b.items) }
     ensures refused { IfErr result (BinaryRefused schema.now json.now limits unknown) }
     ensures exact { IfErr result
-        (λ f. IsRule f → ¬ MayBeBinary schema.now json.now limits unknown) }
+        (λ f. IsNotMemory f → ¬ MayBeBinary schema.now json.now limits unknown) }
 {
     let layout = layout_of(alloc, schema)?;
     let tree = tree_of(alloc, json)?;
@@ -52,7 +52,8 @@ pub fn to_json(
     ensures text { IfOk result
         (λ s. IsText schema.now bytes.now limits raw defaults (string_bytes s)) }
     ensures refused { IfErr result (TextRefused schema.now bytes.now limits raw) }
-    ensures exact { IfErr result (λ f. IsRule f → ¬ MayBeText schema.now bytes.now limits raw) }
+    ensures exact { IfErr result
+        (λ f. IsNotMemory f → ¬ MayBeText schema.now bytes.now limits raw) }
 {
     let layout = layout_of(alloc, schema)?;
     let mut entries = Entries::new();

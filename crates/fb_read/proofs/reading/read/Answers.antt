@@ -9,11 +9,11 @@ use Rattle.fb_value.specs.View.{view, entries_view}
 use Rattle.fb_value.specs.Num.{num}
 use Rattle.fb_value.specs.Places.{table_part}
 use Rattle.fb_value.specs.Rules.{first_missing}
-use Rattle.fb_value.specs.Holds.{Refuses, Holds}
+use Rattle.fb_value.specs.Holds.{Refuses, RootKeeps, Holds}
 use Rattle.fb_value.proofs.IntTables.{fits_ints}
 use Rattle.fb_value.proofs.Views.{view-Fields}
 use Rattle.fb_read.proofs.Refused.{by_reference, by_table, by_cells, by_slot}
-use Rattle.fb_read.proofs.Found.{found, none_required}
+use Rattle.fb_read.proofs.Found.{found, none_required, no_identifier}
 use Rattle.fb_read.proofs.reading.read.Goals as goal
 
 pub returns-in_err-at-clause-fault : goal.returns-in_err-at-clause-fault
@@ -64,6 +64,23 @@ returns-in_err-numbers-clause-fault c =
     rw is.1 (by_slot is.0 names c.fields-fields.ensures.differ few c.args.limits c.args.raw c.args.bytes.now c.in_err-numbers.field-0.0 c.in_ok-check_header.ensures.rules reference.0 table deep small fails) in
     refused
     ))
+
+pub returns-in_err-numbers-clause-memory : goal.returns-in_err-numbers-clause-memory
+returns-in_err-numbers-clause-memory c memory =
+    let is = c.fields-fields.ensures.names in
+    let names = map string_bytes c.fields-fields.result.now in
+    let L = one_table is.0 names in
+    let reference = c.in_ok-at.ensures.rules L (table_part 0) in
+    let table = rw reference.1 at (c.in_ok-place.ensures.rules L 0 (none_required is.0 names c.args.bytes.now c.in_ok-at.at)) in
+    let keeps : RootKeeps L c.args.limits c.args.raw c.args.bytes.now =
+    record {
+      header = rw (no_identifier is.0 names c.args.raw) c.in_ok-check_header.ensures.rules;
+      reference = reference.0;
+      table = table;
+      deep = omega arith;
+      small = omega arith;
+    } in
+    rw is.1 keeps
 
 pub returns-clause-value : goal.returns-clause-value
 returns-clause-value c =
