@@ -1,0 +1,9 @@
+pub mod Runs
+pub mod DigitSums
+pub mod TokenStarts
+pub mod Numbers
+pub mod Quotes
+pub mod Blocks
+pub mod Fronts
+pub mod FrontPieces
+pub mod Scanning

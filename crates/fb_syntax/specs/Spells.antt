@@ -1,0 +1,31 @@
+-- Which tokens a text is: the text alone, from its front to its end (Writing a schema; Grammar).
+use Rattle.std.specs.Prelude.{ℕ, ◌≡◌, ◌+◌, List, [], ◌∷◌, ◌++◌, ◌⊎◌, length, take, drop, IsUtf8, Result, Ok, Err}
+use Rattle.fb_syntax.specs.declared.tokens.TokenKind.{TokenKind}
+use Rattle.fb_syntax.specs.declared.tokens.Token.{Token}
+use Rattle.fb_syntax.specs.declared.faults.SyntaxFault.{SyntaxFault}
+use Rattle.fb_syntax.specs.declared.faults.SyntaxFault.TheVariants.{Memory}
+use Rattle.fb_syntax.specs.TokenBytes.{IsLongest, IsSmall}
+use Rattle.fb_syntax.specs.Gaps.{IsGap}
+
+-- The text, which begins at the place `at`, is these tokens, with blanks and comments between.
+pub data Spells : ℕ → List ℕ → List Token → Type 0 where
+  finished : {at : ℕ} → Spells at [] []
+  gap : {at : ℕ} {text : List ℕ} {tokens : List Token} (n : ℕ) → IsGap n text → Spells (at + n) (drop n text) tokens → Spells at text tokens
+  token : {at : ℕ} {text : List ℕ} {tokens : List Token} (kind : TokenKind) (n : ℕ) → IsLongest kind n text → IsSmall kind (take n text) → Spells (at + n) (drop n text) tokens → Spells at text (record { kind = kind; at = at; len = n } ∷ tokens)
+
+abbrev pub byte_order_mark : List ℕ
+byte_order_mark = 0xef ∷ 0xbb ∷ 0xbf ∷ []
+
+-- The bytes are UTF-8 and, behind a byte order mark or none, these tokens.
+abbrev pub SpellsText : List ℕ → List Token → Type 0
+SpellsText bytes tokens = IsUtf8 bytes × (mark text : List ℕ) × ((mark ≡ []) ⊎ (mark ≡ byte_order_mark)) × (bytes ≡ mark ++ text) × Spells (length mark) text tokens
+
+-- No text is two lists of tokens.
+abbrev pub OneSpelling : Type 0
+OneSpelling = (bytes : List ℕ) (xs ys : List Token) → SpellsText bytes xs → SpellsText bytes ys → xs ≡ ys
+
+-- What was answered where the tokens are these: these, or that memory ran out.
+abbrev pub Finds : {X : Type 0} → (X → List Token) → Result X SyntaxFault → List Token → Type 0
+Finds view (Ok v) tokens = view v ≡ tokens
+Finds view (Err Memory) tokens = Unit {0}
+Finds view (Err e) tokens = ⊥
