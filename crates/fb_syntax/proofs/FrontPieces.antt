@@ -61,12 +61,12 @@ at_end at text tokens e (token k m longest small rest) =
     absurd cc
 
 -- A text has one list of tokens.
-pub one_spelling : (at : ℕ) (text : List ℕ) (xs ys : List Token) → Spells at text xs → Spells at text ys → xs ≡ ys
-one_spelling at text xs ys finished other = sym (at_end at text ys refl other)
-one_spelling at text xs ys (gap m g rest) other =
-    one_spelling (at + m) (drop m text) xs ys rest (behind_gap at m text ys (gap-complete at m text g) other)
-one_spelling at text xs ys (token {tokens = others} k m longest small rest) other =
+pub same_tokens : (at : ℕ) (text : List ℕ) (xs ys : List Token) → Spells at text xs → Spells at text ys → xs ≡ ys
+same_tokens at text xs ys finished other = sym (at_end at text ys refl other)
+same_tokens at text xs ys (gap m g rest) other =
+    same_tokens (at + m) (drop m text) xs ys rest (behind_gap at m text ys (gap-complete at m text g) other)
+same_tokens at text xs ys (token {tokens = others} k m longest small rest) other =
     let split = behind_token at m k text ys (token-complete at m k text longest small) other in
-    let same = one_spelling (at + m) (drop m text) others split.0 rest split.2 in
+    let same = same_tokens (at + m) (drop m text) others split.0 rest split.2 in
     let back = split.1 in
     rw same (sym back)

@@ -7,3 +7,5 @@ pub mod Blocks
 pub mod Fronts
 pub mod FrontPieces
 pub mod Scanning
+pub mod TextSpellings
+pub mod TokenEnds

@@ -3,6 +3,8 @@ use Rattle.std.proofs.Common.{◌≡◌, ℕ, zero, suc, ◌+◌, ◌-◌, ◌<�
 use Rattle.std.proofs.lemmas.Bool.Decides.{nat_tests}
 use Rattle.std.proofs.lemmas.List.Sums.{prefix_len-le-length}
 use Rattle.std.proofs.Math.Numerals.{one-add}
+use Rattle.std.proofs.Math.Seq.{take-length}
+use Rattle.std.proofs.lemmas.Bool.{eqb-true}
 use Rattle.std.specs.List.{prefix_len}
 use Rattle.fb_syntax.specs.declared.tokens.TokenKind.{TokenKind}
 use Rattle.fb_syntax.specs.declared.tokens.TokenKind.TheVariants.{Word, Integer, Quoted, Punct}
@@ -160,3 +162,22 @@ signed_longest c cs e some = record {
       let as_integer : is_unsigned (without_sign (take (suc m) (c ∷ cs))) ≡ true = rw same at t in
       let rest = number_longest cs m (omega arith) (rw (sign_taken c cs m e) at as_integer) in
       omega arith
+
+-- All bytes are an integer's where no more and no fewer are counted.
+pub whole_number : (u : List ℕ) → eqb (length u) 0 ≡ false → eqb (number_len u) (length u) ≡ is_unsigned u
+whole_number u some = by_spelling (is_unsigned u) (eqb (number_len u) (length u)) refl refl where
+  by_spelling : (a b : Bool) → is_unsigned u ≡ a → eqb (number_len u) (length u) ≡ b → b ≡ a
+  by_spelling true true s l = refl
+  by_spelling false false s l = refl
+  by_spelling true false s l =
+      let bytes : is_unsigned (take (length u) u) ≡ true = rw (take-length u) s in
+      let enough = number_longest u (length u) (omega arith) bytes in
+      let within = number_within u in
+      let same : number_len u ≡ length u = omega arith in
+      absurd (grind (arith, nat_tests))
+  by_spelling false true s l =
+      let same : number_len u ≡ length u = eqb-true (number_len u) (length u) l in
+      let counted : eqb (number_len u) 0 ≡ false = rw same some in
+      let spelled = number_spelled u counted in
+      let bytes : is_unsigned u ≡ true = rw (← take-length u) (rw same at spelled) in
+      cc

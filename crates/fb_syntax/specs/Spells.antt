@@ -17,8 +17,13 @@ abbrev pub byte_order_mark : List ℕ
 byte_order_mark = 0xef ∷ 0xbb ∷ 0xbf ∷ []
 
 -- The bytes are UTF-8 and, behind a byte order mark or none, these tokens.
-abbrev pub SpellsText : List ℕ → List Token → Type 0
-SpellsText bytes tokens = IsUtf8 bytes × (mark text : List ℕ) × ((mark ≡ []) ⊎ (mark ≡ byte_order_mark)) × (bytes ≡ mark ++ text) × Spells (length mark) text tokens
+pub record SpellsText (bytes : List ℕ) (tokens : List Token) : Type 0 where
+  pub utf8 : IsUtf8 bytes
+  pub mark : List ℕ
+  pub text : List ℕ
+  pub marked : (mark ≡ []) ⊎ (mark ≡ byte_order_mark)
+  pub parts : bytes ≡ mark ++ text
+  pub spelled : Spells (length mark) text tokens
 
 -- No text is two lists of tokens.
 abbrev pub OneSpelling : Type 0
