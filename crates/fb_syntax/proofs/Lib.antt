@@ -9,3 +9,4 @@ pub mod FrontPieces
 pub mod Scanning
 pub mod TextSpellings
 pub mod TokenEnds
+pub mod TokenTexts

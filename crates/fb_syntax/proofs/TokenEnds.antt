@@ -15,7 +15,7 @@ use Rattle.fb_syntax.specs.TokenBytes.{is_token, is_closed_by_quote}
 use Rattle.fb_syntax.specs.SpelledTokens.{IsTokenOf, token_bytes}
 use Rattle.fb_syntax.proofs.TokenStarts.{and_both, and_true, or_either, starts, token_starts}
 
-abbrev is_ascii : ℕ → Bool
+abbrev pub is_ascii : ℕ → Bool
 is_ascii c = ltb c 128
 
 all_more : (p q : ℕ → Bool) → ((c : ℕ) → p c ≡ true → q c ≡ true) → (cs : List ℕ) → list_all p cs ≡ true → list_all q cs ≡ true

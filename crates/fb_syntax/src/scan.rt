@@ -214,3 +214,6 @@ pub(crate) fn quoted_text<'a>(text: &'a str, token: Token) -> &'a str
 pub fn one_spelling()
     ensures { OneSpelling }
 {}
+
+#[cfg(test)]
+mod tests;
