@@ -1,5 +1,5 @@
 -- The sum of digits, read from the front.
-use Rattle.std.proofs.Common.{◌≡◌, ℕ, zero, suc, ◌+◌, ◌*◌, ◌^◌, ◌<◌, ◌≤◌, List, [], ◌∷◌, length, get_or, drop, refl, arith, ap, sym, ◌∙◌}
+use Rattle.std.proofs.Common.{◌≡◌, ℕ, zero, suc, ◌+◌, ◌*◌, ◌^◌, ◌<◌, ◌≤◌, List, [], ◌∷◌, length, get_or, drop, arith, ap}
 use Rattle.std.proofs.Math.Nat.{mul-add, mul_comm, mul_assoc, pow-suc, pow-zero, mul-le-mul_left}
 use Rattle.fb_syntax.specs.Integers.{digits_value, digit_value}
 

@@ -1,22 +1,13 @@
 -- What the piece at the front is, and that it decides which tokens a text has.
-use Rattle.std.proofs.Common.{◌≡◌, ℕ, zero, suc, add-one, ◌+◌, ◌-◌, ◌*◌, ◌<◌, ◌≤◌, ◌⊎◌, inl, inr, Bool, true, false, cond, eqb, ◌&&◌, ◌||◌, ◌==◌, not, List, [], ◌∷◌, ◌++◌, length, get_or, take, drop, Option, Some, None, Result, Ok, Err, option_map, refl, arith, rules, ap, subst, sym, ◌∙◌, append_assoc, slice_get}
-use Rattle.std.specs.List.{prefix_len}
+use Rattle.std.proofs.Common.{◌≡◌, ℕ, ◌+◌, ◌<◌, List, [], ◌∷◌, length, drop, Ok, Err, refl, arith, ap, sym}
 use Rattle.fb_syntax.specs.declared.tokens.TokenKind.{TokenKind}
-use Rattle.fb_syntax.specs.declared.tokens.TokenKind.TheVariants.{Word, Integer, Quoted, Punct}
 use Rattle.fb_syntax.specs.declared.tokens.Token.{Token}
-use Rattle.fb_syntax.specs.declared.scan.Piece.{Piece}
 use Rattle.fb_syntax.specs.declared.scan.Piece.TheVariants as pieces
 use Rattle.fb_syntax.specs.declared.faults.SyntaxFault.{SyntaxFault}
-use Rattle.fb_syntax.specs.declared.faults.SyntaxFault.TheVariants.{BadByte, Unterminated, NumberTooBig, Memory}
-use Rattle.fb_syntax.specs.Bytes.{is_letter, is_digit, is_word_byte, is_hex, is_blank, is_punct, is_quotable, is_sign}
-use Rattle.std.specs.List.{list_all}
-use Rattle.fb_syntax.specs.TokenBytes.{is_word, is_quoted, is_punctuation, is_token, IsLongest, IsSmall}
-use Rattle.fb_syntax.specs.Integers.{is_integer, magnitude}
-use Rattle.fb_syntax.specs.Gaps.{IsGap, is_space, is_line_comment, is_block_comment}
+use Rattle.fb_syntax.specs.declared.faults.SyntaxFault.TheVariants.{BadByte}
 use Rattle.fb_syntax.specs.Spells.{Spells, finished, gap, token}
-use Rattle.fb_syntax.proofs.Fronts.{gap-sound, token-sound, gap-complete, token-complete}
-use Rattle.fb_syntax.specs.NumberLen.{number_len}
-use Rattle.fb_syntax.specs.Pieces.{is_close, close_len, comment_at, integer_at, quoted_at, piece_at}
+use Rattle.fb_syntax.proofs.Fronts.{gap-complete, token-complete}
+use Rattle.fb_syntax.specs.Pieces.{piece_at}
 
 nothing : (at : ℕ) → piece_at at [] ≡ Err (BadByte at)
 unfolding piece_at

@@ -1,5 +1,5 @@
 -- What the piece at the front is.
-use Rattle.std.proofs.Common.{◌≡◌, ℕ, zero, suc, add-one, ◌+◌, ◌-◌, ◌<◌, ◌≤◌, ◌⊎◌, inl, inr, Bool, true, false, cond, eqb, leb, ◌&&◌, ◌||◌, ◌==◌, not, List, [], ◌∷◌, length, take, drop, Option, Some, None, Result, Ok, Err, refl, arith, ap, sym, ◌∙◌, slice_get}
+use Rattle.std.proofs.Common.{◌≡◌, ℕ, zero, suc, ◌+◌, ◌<◌, ◌≤◌, ◌⊎◌, inl, inr, Bool, true, false, cond, eqb, leb, ◌&&◌, ◌==◌, not, List, [], ◌∷◌, length, take, drop, Option, Some, None, Result, Ok, Err, refl, arith, ap, ◌∙◌, slice_get}
 use Rattle.std.proofs.lemmas.Bool.Decides.{nat_tests}
 use Rattle.std.proofs.lemmas.Bool.{eqb-true}
 use Rattle.std.proofs.lemmas.List.Sums.{prefix_len-le-length}
@@ -10,11 +10,10 @@ use Rattle.fb_syntax.specs.declared.tokens.TokenKind.TheVariants.{Word, Integer,
 use Rattle.fb_syntax.specs.declared.scan.Piece.{Piece}
 use Rattle.fb_syntax.specs.declared.scan.Piece.TheVariants as pieces
 use Rattle.fb_syntax.specs.declared.faults.SyntaxFault.{SyntaxFault}
-use Rattle.fb_syntax.specs.declared.faults.SyntaxFault.TheVariants.{BadByte, Unterminated, NumberTooBig, Memory}
-use Rattle.fb_syntax.specs.Bytes.{is_letter, is_digit, is_word_byte, is_hex, is_blank, is_punct, is_quotable, is_sign}
-use Rattle.std.specs.List.{list_all}
-use Rattle.fb_syntax.specs.TokenBytes.{is_word, is_quoted, is_punctuation, is_token, IsLongest, IsSmall}
-use Rattle.fb_syntax.specs.Integers.{is_unsigned, is_integer, magnitude}
+use Rattle.fb_syntax.specs.declared.faults.SyntaxFault.TheVariants.{BadByte}
+use Rattle.fb_syntax.specs.Bytes.{is_letter, is_digit, is_word_byte, is_blank, is_punct, is_quotable, is_sign}
+use Rattle.fb_syntax.specs.TokenBytes.{is_token, IsLongest, IsSmall}
+use Rattle.fb_syntax.specs.Integers.{is_unsigned, magnitude}
 use Rattle.fb_syntax.specs.Gaps.{IsGap, is_space, is_line_comment, is_block_comment}
 use Rattle.fb_syntax.specs.Pieces.{integer_of, close_len, block_at, quote_of, comment_at, integer_at, quoted_at, piece_at}
 use Rattle.fb_syntax.specs.NumberLen.{number_len}

@@ -1,5 +1,5 @@
 -- Integers: the longest at the front.
-use Rattle.std.proofs.Common.{◌≡◌, ℕ, zero, suc, ◌+◌, ◌-◌, ◌<◌, ◌≤◌, ◌⊎◌, inl, inr, Bool, true, false, cond, eqb, ltb, ◌&&◌, ◌||◌, ◌==◌, not, List, [], ◌∷◌, length, take, drop, refl, arith, ap, sym, ◌∙◌}
+use Rattle.std.proofs.Common.{◌≡◌, ℕ, zero, suc, ◌+◌, ◌≤◌, inl, inr, Bool, true, false, cond, eqb, ◌&&◌, ◌||◌, List, [], ◌∷◌, length, take, drop, refl, arith}
 use Rattle.std.proofs.lemmas.Bool.Decides.{nat_tests}
 use Rattle.std.proofs.lemmas.List.Sums.{prefix_len-le-length}
 use Rattle.std.proofs.Math.Numerals.{one-add}
@@ -8,10 +8,10 @@ use Rattle.std.proofs.lemmas.Bool.{eqb-true}
 use Rattle.std.specs.List.{prefix_len}
 use Rattle.fb_syntax.specs.declared.tokens.TokenKind.{TokenKind}
 use Rattle.fb_syntax.specs.declared.tokens.TokenKind.TheVariants.{Word, Integer, Quoted, Punct}
-use Rattle.fb_syntax.specs.Bytes.{is_letter, is_digit, is_word_byte, is_hex, is_blank, is_punct, is_quotable, is_sign}
+use Rattle.fb_syntax.specs.Bytes.{is_digit, is_hex, is_sign}
 use Rattle.std.specs.List.{list_all}
-use Rattle.fb_syntax.specs.TokenBytes.{is_word, is_token, IsLongest}
-use Rattle.fb_syntax.specs.Integers.{is_unsigned, is_integer, is_decimal, is_hexadecimal, is_prefixed, without_sign}
+use Rattle.fb_syntax.specs.TokenBytes.{is_token, IsLongest}
+use Rattle.fb_syntax.specs.Integers.{is_unsigned, is_decimal, is_hexadecimal, is_prefixed, without_sign}
 use Rattle.fb_syntax.specs.NumberLen.{number_len}
 use Rattle.fb_syntax.proofs.TokenStarts.{and_both, and_true, or_either, all-take, all-prefix, starts, token_starts}
 

@@ -1,12 +1,12 @@
 -- Quoted texts: the longest at the front.
-use Rattle.std.proofs.Common.{◌≡◌, ℕ, zero, suc, ◌+◌, ◌-◌, ◌<◌, ◌≤◌, ◌⊎◌, Bool, true, false, cond, eqb, ◌&&◌, ◌||◌, ◌==◌, not, List, [], ◌∷◌, length, take, slice_get, Option, Some, None, refl, arith, ap, sym, ◌∙◌, eq-eqb}
+use Rattle.std.proofs.Common.{◌≡◌, ℕ, zero, suc, ◌+◌, ◌≤◌, Bool, true, false, cond, eqb, List, [], ◌∷◌, length, take, slice_get, Some, refl, arith, ap, eq-eqb}
 use Rattle.std.proofs.lemmas.Bool.Decides.{nat_tests}
 use Rattle.std.proofs.lemmas.Bool.{eqb-true}
 use Rattle.std.proofs.Math.Numerals.{one-add}
 use Rattle.std.specs.List.{prefix_len}
 use Rattle.fb_syntax.specs.declared.tokens.TokenKind.{TokenKind}
 use Rattle.fb_syntax.specs.declared.tokens.TokenKind.TheVariants.{Word, Integer, Quoted, Punct}
-use Rattle.fb_syntax.specs.Bytes.{is_letter, is_digit, is_word_byte, is_punct, is_quotable, is_sign}
+use Rattle.fb_syntax.specs.Bytes.{is_quotable}
 use Rattle.fb_syntax.specs.TokenBytes.{is_closed_by_quote, is_token, IsLongest}
 use Rattle.fb_syntax.proofs.TokenStarts.{and_both, and_true, starts, token_starts}
 

@@ -4,7 +4,6 @@ use Rattle.std.proofs.lemmas.Bool.{eqb-true}
 use Rattle.std.proofs.lemmas.Grind.{common_steps}
 use Rattle.std.proofs.Math.Seq.{drop-append_seam}
 use Rattle.fb_syntax.specs.declared.tokens.Token.{Token}
-use Rattle.fb_syntax.specs.declared.faults.SyntaxFault.{SyntaxFault}
 use Rattle.fb_syntax.specs.declared.faults.SyntaxFault.TheVariants.{BadByte}
 use Rattle.fb_syntax.specs.Spells.{Spells, finished, gap, token, SpellsText, OneSpelling, byte_order_mark}
 use Rattle.fb_syntax.specs.SpelledTokens.{IsTokenOf}

@@ -1,11 +1,11 @@
 -- A token's bytes at its ends, and where a text may be cut at tokens.
-use Rattle.std.proofs.Common.{◌≡◌, ℕ, zero, suc, add-one, ◌+◌, ◌-◌, ◌<◌, ◌≤◌, ◌⊎◌, inl, inr, Bool, true, false, cond, eqb, ltb, ◌&&◌, ◌||◌, List, [], ◌∷◌, length, get_or, take, drop, IsUtf8, refl, arith, ap, sym, ◌∙◌, length-drop}
+use Rattle.std.proofs.Common.{◌≡◌, ℕ, zero, suc, ◌+◌, ◌-◌, ◌<◌, ◌≤◌, inl, inr, Bool, true, false, cond, eqb, ltb, ◌&&◌, ◌||◌, List, [], ◌∷◌, length, get_or, drop, IsUtf8, refl, arith, ◌∙◌, length-drop}
 use Rattle.std.proofs.lemmas.Bool.Decides.{nat_tests}
 use Rattle.std.proofs.lemmas.Bool.{eqb-true}
 use Rattle.std.proofs.lemmas.List.{get_or-take, get_or-drop, length-take-le}
 use Rattle.std.proofs.lemmas.Str.{IsCharBoundary-before_ascii, IsCharBoundary-after_ascii}
 use Rattle.std.specs.List.{list_all}
-use Rattle.std.specs.Str.{IsCharBoundary, IsAscii}
+use Rattle.std.specs.Str.{IsCharBoundary}
 use Rattle.fb_syntax.specs.declared.tokens.TokenKind.{TokenKind}
 use Rattle.fb_syntax.specs.declared.tokens.TokenKind.TheVariants.{Word, Integer, Quoted, Punct}
 use Rattle.fb_syntax.specs.declared.tokens.Token.{Token}
@@ -13,7 +13,7 @@ use Rattle.fb_syntax.specs.Bytes.{is_letter, is_digit, is_word_byte, is_hex, is_
 use Rattle.fb_syntax.specs.Integers.{is_decimal, is_hexadecimal, is_prefixed, is_unsigned, without_sign}
 use Rattle.fb_syntax.specs.TokenBytes.{is_token, is_closed_by_quote}
 use Rattle.fb_syntax.specs.SpelledTokens.{IsTokenOf, token_bytes}
-use Rattle.fb_syntax.proofs.TokenStarts.{and_both, and_true, or_either, starts, token_starts}
+use Rattle.fb_syntax.proofs.TokenStarts.{and_both, and_true, or_either}
 
 abbrev pub is_ascii : ℕ → Bool
 is_ascii c = ltb c 128

@@ -1,14 +1,14 @@
 -- Words and signs: the longest token at the front.
-use Rattle.std.proofs.Common.{◌≡◌, ℕ, zero, suc, add-one, ◌+◌, ◌-◌, ◌<◌, ◌≤◌, ◌⊎◌, inl, inr, Bool, true, false, cond, eqb, ltb, leb, ◌&&◌, ◌||◌, ◌==◌, not, List, [], ◌∷◌, ◌++◌, length, get_or, take, drop, Option, Some, None, refl, arith, rules, ap, subst, sym, ◌∙◌}
+use Rattle.std.proofs.Common.{◌≡◌, ℕ, zero, suc, ◌+◌, ◌≤◌, ◌⊎◌, inl, inr, Bool, true, false, cond, eqb, ◌&&◌, ◌||◌, List, [], ◌∷◌, length, take, refl, arith}
 use Rattle.std.proofs.lemmas.Bool.Decides.{nat_tests}
 use Rattle.std.proofs.Math.Numerals.{one-add}
 use Rattle.std.specs.List.{prefix_len}
 use Rattle.fb_syntax.specs.declared.tokens.TokenKind.{TokenKind}
 use Rattle.fb_syntax.specs.declared.tokens.TokenKind.TheVariants.{Word, Integer, Quoted, Punct}
-use Rattle.fb_syntax.specs.Bytes.{is_letter, is_digit, is_word_byte, is_hex, is_blank, is_punct, is_quotable, is_sign}
+use Rattle.fb_syntax.specs.Bytes.{is_letter, is_digit, is_word_byte, is_hex, is_punct, is_sign}
 use Rattle.std.specs.List.{list_all}
-use Rattle.fb_syntax.specs.TokenBytes.{is_word, is_quoted, is_closed_by_quote, is_punctuation, is_token, IsLongest}
-use Rattle.fb_syntax.specs.Integers.{is_integer, is_decimal, is_hexadecimal, is_prefixed, without_sign}
+use Rattle.fb_syntax.specs.TokenBytes.{is_closed_by_quote, is_token, IsLongest}
+use Rattle.fb_syntax.specs.Integers.{is_decimal, is_hexadecimal, is_prefixed}
 
 pub and_both : (a b : Bool) → (a && b) ≡ true → (a ≡ true) × (b ≡ true)
 and_both true b e = (refl, e)

@@ -1,7 +1,7 @@
-use Rattle.std.proofs.Common.{◌≡◌, ◌+◌, ◌*◌, [], drop, length, arith, ap, sym, ◌∙◌, add-one, get_or}
+use Rattle.std.proofs.Common.{◌≡◌, ◌+◌, ◌*◌, [], drop, arith, sym, ◌∙◌, add-one, get_or}
 use Rattle.std.proofs.lemmas.Grind.{common_steps}
 use Rattle.fb_syntax.specs.Integers.{digit_value}
-use Rattle.fb_syntax.proofs.DigitSums.{carried, carried-step, carried-nil}
+use Rattle.fb_syntax.proofs.DigitSums.{carried-step, carried-nil}
 use Rattle.fb_syntax.proofs.integers.digits_value.Goals as goal
 
 pub loop-byte-preserved : goal.loop-byte-preserved

@@ -1,4 +1,4 @@
-use Rattle.std.proofs.Common.{◌≡◌, false, arith, drop, sym}
+use Rattle.std.proofs.Common.{◌≡◌, false, arith, drop}
 use Rattle.std.proofs.lemmas.Grind.{common_steps}
 use Rattle.fb_syntax.specs.Pieces.{is_close}
 use Rattle.fb_syntax.proofs.Runs.{close_len-next}

@@ -1,7 +1,3 @@
-use Rattle.std.proofs.Common.{◌≡◌, ℕ, List, All, drop, Vec, Global, IfOk}
-use Rattle.fb_syntax.specs.declared.tokens.Token.{Token}
-use Rattle.fb_syntax.specs.Spells.{Spells, SpellsText}
-use Rattle.fb_syntax.specs.SpelledTokens.{IsTokenOf}
 use Rattle.fb_syntax.proofs.TextSpellings.{if_ok, read-sound, read-only, text_tokens}
 use Rattle.fb_syntax.proofs.scan.tokens_in.Goals as goal
 
