@@ -4,8 +4,9 @@ use Rattle.std.proofs.lemmas.Bool.{eqb-true}
 use Rattle.std.proofs.lemmas.Grind.{common_steps}
 use Rattle.std.proofs.Math.Seq.{drop-append_seam}
 use Rattle.fb_syntax.specs.declared.tokens.Token.{Token}
-use Rattle.fb_syntax.specs.declared.faults.SyntaxFault.TheVariants.{BadByte}
-use Rattle.fb_syntax.specs.Spells.{Spells, finished, gap, token, SpellsText, OneSpelling, byte_order_mark}
+use Rattle.fb_syntax.specs.declared.faults.SyntaxFault.{SyntaxFault}
+use Rattle.fb_syntax.specs.declared.faults.SyntaxFault.TheVariants.{NotUtf8, BadByte, Unterminated, NumberTooBig, Unexpected, NestedVector, Memory}
+use Rattle.fb_syntax.specs.Spells.{Finds, Spells, finished, gap, token, SpellsText, OneSpelling, byte_order_mark}
 use Rattle.fb_syntax.specs.SpelledTokens.{IsTokenOf}
 use Rattle.fb_syntax.specs.Marks.{mark_len}
 use Rattle.fb_syntax.specs.Pieces.{piece_at}
@@ -81,7 +82,7 @@ text-only bytes tokens s =
     let Behind : List ℕ → Type 0 = λ b. Spells (mark_len b) (drop (mark_len b) b) tokens in
     subst Behind (sym s.parts) (only_behind s.mark s.text tokens s.marked s.spelled)
 
--- A text is one list of tokens at most.
+-- A text is spelled by one list of tokens at most.
 pub one_spelling_shown : OneSpelling
 one_spelling_shown bytes xs ys a b = same_tokens (mark_len bytes) (drop (mark_len bytes) bytes) xs ys (text-only bytes xs a) (text-only bytes ys b)
 
@@ -127,3 +128,13 @@ read-only text bytes mark tokens same long s =
     let Whole : List ℕ → Type 0 = λ b. SpellsText b tokens in
     let Behind : ℕ → Type 0 = λ m. Spells m (drop m bytes) tokens in
     subst Behind (sym long) (text-only bytes tokens (subst Whole (sym same) s))
+
+-- where tokens spell the text, only memory was refused
+pub finds_memory : {X : Type 0} (view : X → List Token) (fault : SyntaxFault) (tokens : List Token) → Finds {X = X} view (Err fault) tokens → fault ≡ Memory
+finds_memory view (NotUtf8 at) tokens h = absurd h
+finds_memory view (BadByte at) tokens h = absurd h
+finds_memory view (Unterminated at) tokens h = absurd h
+finds_memory view (NumberTooBig at) tokens h = absurd h
+finds_memory view (Unexpected at) tokens h = absurd h
+finds_memory view (NestedVector at) tokens h = absurd h
+finds_memory view Memory tokens h = refl

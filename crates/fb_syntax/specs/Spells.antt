@@ -1,4 +1,4 @@
--- Which tokens a text is: the text alone, from its front to its end (Writing a schema; Grammar).
+-- Which tokens spell a text: a relation between the whole text and its tokens (Writing a schema; Grammar).
 use Rattle.std.specs.Prelude.{ℕ, ◌≡◌, ◌+◌, List, [], ◌∷◌, ◌++◌, ◌⊎◌, length, take, drop, IsUtf8, Result, Ok, Err}
 use Rattle.fb_syntax.specs.declared.tokens.TokenKind.{TokenKind}
 use Rattle.fb_syntax.specs.declared.tokens.Token.{Token}
@@ -7,7 +7,7 @@ use Rattle.fb_syntax.specs.declared.faults.SyntaxFault.TheVariants.{Memory}
 use Rattle.fb_syntax.specs.TokenBytes.{IsLongest, IsSmall}
 use Rattle.fb_syntax.specs.Gaps.{IsGap}
 
--- The text, which begins at the place `at`, is these tokens, with blanks and comments between.
+-- These tokens, with blanks and comments between, are the text that begins at the place `at`. Each is the longest there.
 pub data Spells : ℕ → List ℕ → List Token → Type 0 where
   finished : {at : ℕ} → Spells at [] []
   gap : {at : ℕ} {text : List ℕ} {tokens : List Token} (n : ℕ) → IsGap n text → Spells (at + n) (drop n text) tokens → Spells at text tokens
@@ -16,7 +16,7 @@ pub data Spells : ℕ → List ℕ → List Token → Type 0 where
 abbrev pub byte_order_mark : List ℕ
 byte_order_mark = 0xef ∷ 0xbb ∷ 0xbf ∷ []
 
--- The bytes are UTF-8 and, behind a byte order mark or none, these tokens.
+-- The bytes are UTF-8 and, behind a byte order mark or none, these tokens spell them.
 pub record SpellsText (bytes : List ℕ) (tokens : List Token) : Type 0 where
   pub utf8 : IsUtf8 bytes
   pub mark : List ℕ
@@ -25,7 +25,7 @@ pub record SpellsText (bytes : List ℕ) (tokens : List Token) : Type 0 where
   pub parts : bytes ≡ mark ++ text
   pub spelled : Spells (length mark) text tokens
 
--- No text is two lists of tokens.
+-- A text is spelled by one list of tokens at most.
 abbrev pub OneSpelling : Type 0
 OneSpelling = (bytes : List ℕ) (xs ys : List Token) → SpellsText bytes xs → SpellsText bytes ys → xs ≡ ys
 

@@ -19,7 +19,8 @@ fn digit_value(byte: u8) -> u64
 }
 
 fn with_digit(high: u64, base: u64, digit: u64) -> Option<u64>
-    ensures { MatchOption result (greatest_magnitude < high * base + digit) (λ v. v ≡ high * base + digit) }
+    ensures { let value = high * base + digit in
+        MatchOption result (greatest_magnitude < value) (λ v. v ≡ value) }
 {
     high.checked_mul(base)?.checked_add(digit)
 }
@@ -27,7 +28,8 @@ fn with_digit(high: u64, base: u64, digit: u64) -> Option<u64>
 #[tactic(auto, using(crate::proofs::DigitSums::valuing))]
 fn digits_value(base: u64, digits: &[u8]) -> Option<u64>
     requires { 0 < base }
-    ensures { MatchOption result (greatest_magnitude < digits_value base digits.now) (λ v. v ≡ digits_value base digits.now) }
+    ensures { let value = digits_value base digits.now in
+        MatchOption result (greatest_magnitude < value) (λ v. v ≡ value) }
 {
     let mut high = 0;
     for byte in digits {
@@ -60,7 +62,8 @@ fn without_sign(text: &[u8]) -> &[u8]
 
 #[tactic(auto, unfolding(crate::specs::Integers::magnitude))]
 pub(crate) fn magnitude(spelling: &[u8]) -> Option<u64>
-    ensures { MatchOption result (greatest_magnitude < magnitude spelling.now) (λ m. m ≡ magnitude spelling.now) }
+    ensures { MatchOption result (greatest_magnitude < magnitude spelling.now)
+        (λ m. m ≡ magnitude spelling.now) }
 {
     let digits = without_sign(spelling);
     if is_prefixed(digits) {

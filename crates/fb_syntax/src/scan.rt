@@ -125,7 +125,8 @@ fn next_piece(at: u64, text: &[u8]) -> Result<Piece, SyntaxFault>
 fn tokens_from(alloc: Global, start: usize, text: &[u8]) -> Result<Vec<Token>, SyntaxFault>
     requires { start ≤ length text.now }
     ensures found { IfOk result (λ v. Spells start (drop start text.now) v.items) }
-    ensures only { (tokens : List Token) → Spells start (drop start text.now) tokens → Finds (λ v. v.items) result tokens }
+    ensures only { (tokens : List Token) →
+        Spells start (drop start text.now) tokens → Finds (λ v. v.items) result tokens }
     ensures fault { IfErr result IsTokenFault }
 {
     let mut found = Vec::new(alloc);
@@ -164,7 +165,8 @@ fn mark_len(text: &[u8]) -> usize
 /// The bytes as text, or the length of their longest front that is UTF-8.
 pub(crate) fn text_of(bytes: &[u8]) -> Result<&str, SyntaxFault>
     ensures text { IfOk result (λ s. (s.now ≡ bytes.now) × IsUtf8 bytes.now) }
-    ensures not_utf8 { IfErr result (λ e. ¬ (IsUtf8 bytes.now) × (e ≡ SyntaxFault.NotUtf8 (utf8_valid_len bytes.now))) }
+    ensures not_utf8 { IfErr result (λ e.
+        ¬ (IsUtf8 bytes.now) × (e ≡ SyntaxFault.NotUtf8 (utf8_valid_len bytes.now))) }
 {
     match compat::from_utf8(bytes) {
         Ok(text) => Ok(text),
@@ -172,10 +174,11 @@ pub(crate) fn text_of(bytes: &[u8]) -> Result<&str, SyntaxFault>
     }
 }
 
-/// The tokens of a text, behind its byte order mark if it has one.
+/// The tokens of a text, behind its byte order mark if it has one; offsets count the mark.
 pub(crate) fn tokens_in(alloc: Global, text: &str) -> Result<Vec<Token>, SyntaxFault>
     ensures found { IfOk result (λ v. SpellsText text.now v.items) }
-    ensures only { (tokens : List Token) → SpellsText text.now tokens → Finds (λ v. v.items) result tokens }
+    ensures only { (tokens : List Token) →
+        SpellsText text.now tokens → Finds (λ v. v.items) result tokens }
     ensures tokens { IfOk result (λ v. All (IsTokenOf text.now) v.items) }
     ensures fault { IfErr result IsTokenFault }
 {
@@ -186,8 +189,10 @@ pub(crate) fn tokens_in(alloc: Global, text: &str) -> Result<Vec<Token>, SyntaxF
 /// The tokens of the bytes of a text: UTF-8 is asked for first, over the whole of them.
 pub(crate) fn tokens_of(alloc: Global, text: &[u8]) -> Result<Vec<Token>, SyntaxFault>
     ensures found { IfOk result (λ v. SpellsText text.now v.items) }
-    ensures only { (tokens : List Token) → SpellsText text.now tokens → Finds (λ v. v.items) result tokens }
-    ensures not_utf8 { (at : ℕ) → ((result ≡ Err (SyntaxFault.NotUtf8 at)) ↔ (¬ (IsUtf8 text.now) × (at ≡ utf8_valid_len text.now))) }
+    ensures only { (tokens : List Token) →
+        SpellsText text.now tokens → Finds (λ v. v.items) result tokens }
+    ensures not_utf8 { (at : ℕ) → ((result ≡ Err (SyntaxFault.NotUtf8 at))
+        ↔ (¬ (IsUtf8 text.now) × (at ≡ utf8_valid_len text.now))) }
     ensures tokens { IfOk result (λ v. All (IsTokenOf text.now) v.items) }
 {
     tokens_in(alloc, text_of(text)?)
@@ -210,7 +215,7 @@ pub(crate) fn quoted_text<'a>(text: &'a str, token: Token) -> &'a str
     &text[token.at as usize + 1..(token.at + token.len) as usize - 1]
 }
 
-/// A text is one list of tokens at most.
+/// A text is spelled by one list of tokens at most.
 pub fn one_spelling()
     ensures { OneSpelling }
 {}
