@@ -1,0 +1,12 @@
+pub mod Runs
+pub mod DigitSums
+pub mod TokenStarts
+pub mod Numbers
+pub mod Quotes
+pub mod Blocks
+pub mod Fronts
+pub mod FrontPieces
+pub mod Scanning
+pub mod TextSpellings
+pub mod TokenEnds
+pub mod TokenTexts

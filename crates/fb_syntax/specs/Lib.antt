@@ -1,0 +1,10 @@
+pub mod Bytes
+pub mod Gaps
+pub mod Integers
+pub mod Marks
+pub mod NumberLen
+pub mod Pieces
+pub mod Scanned
+pub mod SpelledTokens
+pub mod Spells
+pub mod TokenBytes
