@@ -1,8 +1,13 @@
 //! Tokens and grammar of FlatBuffers schema texts.
 #![tactic(auto)]
 
+mod declarations;
 mod faults;
 mod tokens;
 
+pub use declarations::{
+    AttributeUse, AttributeValue, Declaration, Decls, DefaultValue, EnumDeclaration, EnumValue, Field,
+    FieldType, TableDeclaration, Text, UnionDeclaration, UnionMember,
+};
 pub use faults::SyntaxFault;
 pub use tokens::{Token, TokenKind};

@@ -1,0 +1,4 @@
+pub mod Located
+pub mod FieldRead
+pub mod TypesRead
+pub mod DeclsRead
