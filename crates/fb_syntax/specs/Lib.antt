@@ -2,3 +2,10 @@ pub mod Located
 pub mod FieldRead
 pub mod TypesRead
 pub mod DeclsRead
+pub mod Lexemes
+pub mod Signs
+pub mod Keywords
+pub mod Reading
+pub mod ReadingFields
+pub mod ReadingTypes
+pub mod ReadingSchema

@@ -3,6 +3,7 @@
 
 mod declarations;
 mod faults;
+mod parser;
 mod tokens;
 
 pub use declarations::{
