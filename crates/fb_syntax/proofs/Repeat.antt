@@ -3,14 +3,14 @@ use Rattle.std.proofs.Common.{◌≡◌, ℕ, zero, suc, ◌<◌, ◌≤◌, Lis
 use Rattle.std.proofs.lemmas.List.{append-nil}
 use Rattle.fb_syntax.specs.declared.faults.SyntaxFault.{SyntaxFault}
 use Rattle.fb_syntax.specs.Lexemes.{Lexeme}
-use Rattle.fb_syntax.specs.Reading.{◌>>=◌, Fails, Reads, many, until}
+use Rattle.fb_syntax.specs.Reading.{◌>>=◌, Fails, Front, many, until}
 use Rattle.fb_syntax.proofs.Names.{fails_with}
 
-abbrev pub with_front : {X : Type 0} → List X → Reads (List X) → Reads (List X)
+abbrev pub with_front : {X : Type 0} → List X → Front (List X) → Front (List X)
 with_front front read = read >>= λ x. Some (front ++ x.0, x.1)
 
 -- The items so far, and those that follow, are the items from `begun` on.
-pub record Repeats {X : Type 0} (item : List Lexeme → Reads X) (stop : List Lexeme → Bool) (begun : List Lexeme) (front : List X) (rest : List Lexeme) : Type 0 where
+pub record Repeats {X : Type 0} (item : List Lexeme → Front X) (stop : List Lexeme → Bool) (begun : List Lexeme) (front : List X) (rest : List Lexeme) : Type 0 where
   pub steps : ℕ
   pub enough : length rest < steps
   pub same : with_front front (many item stop steps rest) ≡ until item stop begun
@@ -18,7 +18,7 @@ pub record Repeats {X : Type 0} (item : List Lexeme → Reads X) (stop : List Le
 append_nothing : {X : Type 0} (xs : List X) → [] ++ xs ≡ xs
 append_nothing xs = refl
 
-module _ {X : Type 0} (item : List Lexeme → Reads X) (stop : List Lexeme → Bool) where
+module _ {X : Type 0} (item : List Lexeme → Front X) (stop : List Lexeme → Bool) where
   pub one_more : (n : ℕ) (ts after : List Lexeme) (x : X) → stop ts ≡ false → item ts ≡ Some (x, after) → many item stop (suc n) ts ≡ (many item stop n after >>= λ xs. Some (x ∷ xs.0, xs.1))
   unfolding many
   one_more n ts after x none e = rw (none, e) refl
@@ -31,11 +31,11 @@ module _ {X : Type 0} (item : List Lexeme → Reads X) (stop : List Lexeme → B
   unfolding many
   broken n ts none e = rw (none, e) refl
 
-  plain : (r : Reads (List X)) → with_front [] r ≡ r
+  plain : (r : Front (List X)) → with_front [] r ≡ r
   plain None = refl
   plain (Some x) = ap (λ (xs : List X). Some (xs, x.1)) (append_nothing x.0)
 
-  regroup : (front : List X) (x : X) (read : Reads (List X)) → with_front front (read >>= λ xs. Some (x ∷ xs.0, xs.1)) ≡ with_front (front ++ x ∷ []) read
+  regroup : (front : List X) (x : X) (read : Front (List X)) → with_front front (read >>= λ xs. Some (x ∷ xs.0, xs.1)) ≡ with_front (front ++ x ∷ []) read
   regroup front x (Some xs) = ap (λ (ys : List X). Some (ys, xs.1)) (simp append_assoc)
   regroup front x None = refl
 

@@ -9,3 +9,7 @@ pub mod Reading
 pub mod ReadingFields
 pub mod ReadingTypes
 pub mod ReadingSchema
+pub mod Grammar
+pub mod GrammarFields
+pub mod GrammarTypes
+pub mod GrammarSchema

@@ -13,8 +13,9 @@ abbrev pub ◌>>=◌ : {A B : Type 0} → Option A → (A → Option B) → Opti
 (Some x) >>= f = f x
 None >>= f = None
 
-abbrev pub Reads : Type 0 → Type 0
-Reads A = Option (A × List Lexeme)
+-- what stands at the front, and the tokens behind it
+abbrev pub Front : Type 0 → Type 0
+Front A = Option (A × List Lexeme)
 
 -- What a call answered and left is what reading gives, unless memory ran out.
 abbrev pub Fails : {Y : Type 0} → SyntaxFault → Option Y → Type 0
@@ -26,7 +27,7 @@ Gives view (Ok x) read = read ≡ Some (view x)
 Gives view (Err e) read = Fails e read
 
 -- one way where the sign stood there, another where it didn't
-abbrev pub behind : {A : Type 0} → Reads ℕ → (List Lexeme → A) → A → A
+abbrev pub behind : {A : Type 0} → Front ℕ → (List Lexeme → A) → A → A
 behind None f other = other
 behind (Some sign) f other = f sign.1
 
@@ -45,7 +46,7 @@ is_kind Quoted Quoted = true
 is_kind Punct Punct = true
 is_kind _ _ = false
 
-unfoldable pub token_at : TokenKind → List Lexeme → Reads Located
+unfoldable pub token_at : TokenKind → List Lexeme → Front Located
 token_at kind [] = None
 token_at kind (t ∷ rest) = if is_kind t.kind kind then Some (t.text, rest) else None
 
@@ -59,27 +60,27 @@ is_sign c [] = false
 is_sign c (t ∷ rest) = is_kind t.kind Punct && is_only c t.text.bytes
 
 -- a sign's offset, and the tokens behind it
-unfoldable pub sign_at : ℕ → List Lexeme → Reads ℕ
+unfoldable pub sign_at : ℕ → List Lexeme → Front ℕ
 sign_at c [] = None
 sign_at c (t ∷ rest) = if is_sign c (t ∷ rest) then Some (t.text.at, rest) else None
 
 -- the rest of a name, whose words so far are s: a dot and a word, as often as they come
-unfoldable pub name_more : Located → List Lexeme → Reads Located
+unfoldable pub name_more : Located → List Lexeme → Front Located
 name_more s [] = Some (s, [])
 name_more s (t ∷ []) = if is_sign dot (t ∷ []) then None else Some (s, t ∷ [])
 name_more s (t ∷ w ∷ rest) = if is_sign dot (t ∷ []) then (if is_kind w.kind Word then name_more (joined s w.text.bytes) rest else None) else Some (s, t ∷ w ∷ rest)
 
-unfoldable pub name_at : List Lexeme → Reads Located
+unfoldable pub name_at : List Lexeme → Front Located
 name_at ts = do
   first ← token_at Word ts
   name_more first.0 first.1
 
 -- items to where they stop, n of them at most
-unfoldable pub many : {X : Type 0} → (List Lexeme → Reads X) → (List Lexeme → Bool) → ℕ → List Lexeme → Reads (List X)
+unfoldable pub many : {X : Type 0} → (List Lexeme → Front X) → (List Lexeme → Bool) → ℕ → List Lexeme → Front (List X)
 many item stop zero ts = None
 many item stop (suc n) ts = if stop ts then Some ([], ts) else (item ts >>= λ x. many item stop n x.1 >>= λ xs. Some (x.0 ∷ xs.0, xs.1))
 
-unfoldable pub until : {X : Type 0} → (List Lexeme → Reads X) → (List Lexeme → Bool) → List Lexeme → Reads (List X)
+unfoldable pub until : {X : Type 0} → (List Lexeme → Front X) → (List Lexeme → Bool) → List Lexeme → Front (List X)
 until item stop ts = many item stop (suc (length ts)) ts
 
 -- behind an item: a comma, or nothing before the closing sign; a comma right before it where that may be
@@ -87,9 +88,9 @@ unfoldable pub comma_at : Bool → ℕ → List Lexeme → Option (List Lexeme)
 comma_at trailing close ts = behind (sign_at comma ts) (λ after. if is_sign close after && not trailing then None else Some after) (if is_sign close ts then Some ts else None)
 
 -- an item and what stands between it and the next
-unfoldable pub listed_at : {X : Type 0} → (List Lexeme → Reads X) → Bool → ℕ → List Lexeme → Reads X
+unfoldable pub listed_at : {X : Type 0} → (List Lexeme → Front X) → Bool → ℕ → List Lexeme → Front X
 listed_at item trailing close ts = item ts >>= λ x. comma_at trailing close x.1 >>= λ rest. Some (x.0, rest)
 
 -- one item at least
-unfoldable pub some_until : {X : Type 0} → (List Lexeme → Reads X) → ℕ → List Lexeme → Reads (List X)
+unfoldable pub some_until : {X : Type 0} → (List Lexeme → Front X) → ℕ → List Lexeme → Front (List X)
 some_until item close ts = if is_sign close ts then None else until item (is_sign close) ts

@@ -3,13 +3,13 @@ use Rattle.std.specs.Prelude.{true, List, Option, Some, None}
 use Rattle.fb_syntax.specs.TypesRead.{TableRead, EnumRead, UnionRead}
 use Rattle.fb_syntax.specs.Lexemes.{Lexeme}
 use Rattle.fb_syntax.specs.Signs.{colon, equals, open_brace, close_brace}
-use Rattle.fb_syntax.specs.Reading.{◌>>=◌, Reads, behind, token_at, is_sign, sign_at, name_at, name_more, until, listed_at, some_until}
+use Rattle.fb_syntax.specs.Reading.{◌>>=◌, Front, behind, token_at, is_sign, sign_at, name_at, name_more, until, listed_at, some_until}
 use Rattle.fb_syntax.specs.ReadingFields.{metadata_at, field_at}
 use Rattle.fb_syntax.specs.declared.tokens.TokenKind.TheVariants.{Word, Integer}
 use Rattle.fb_syntax.specs.declared.declarations.EnumValue.{EnumValue}
 use Rattle.fb_syntax.specs.declared.declarations.UnionMember.{UnionMember}
 
-unfoldable pub table_at : List Lexeme → Reads TableRead
+unfoldable pub table_at : List Lexeme → Front TableRead
 table_at ts = do
   name ← token_at Word ts
   attributes ← metadata_at name.1
@@ -18,15 +18,15 @@ table_at ts = do
   end ← sign_at close_brace fields.1
   Some (record { name = name.0; attributes = attributes.0; fields = fields.0 }, end.1)
 
-unfoldable pub enum_value_at : List Lexeme → Reads EnumValue
+unfoldable pub enum_value_at : List Lexeme → Front EnumValue
 enum_value_at ts = do
   name ← token_at Word ts
   behind (sign_at equals name.1) (λ after. token_at Integer after >>= λ n. Some (record { name = name.0; number = Some n.0 }, n.1)) (Some (record { name = name.0; number = None }, name.1))
 
-unfoldable pub listed_value_at : List Lexeme → Reads EnumValue
+unfoldable pub listed_value_at : List Lexeme → Front EnumValue
 listed_value_at = listed_at enum_value_at true close_brace
 
-unfoldable pub enum_at : List Lexeme → Reads EnumRead
+unfoldable pub enum_at : List Lexeme → Front EnumRead
 enum_at ts = do
   name ← token_at Word ts
   sign ← sign_at colon name.1
@@ -38,15 +38,15 @@ enum_at ts = do
   Some (record { name = name.0; underlying = underlying.0; attributes = attributes.0; values = values.0 }, end.1)
 
 -- a member whose first token is a word
-unfoldable pub member_at : List Lexeme → Reads UnionMember
+unfoldable pub member_at : List Lexeme → Front UnionMember
 member_at ts = do
   word ← token_at Word ts
   behind (sign_at colon word.1) (λ after. name_at after >>= λ n. Some (record { alias = Some word.0; table = n.0 }, n.1)) (name_more word.0 word.1 >>= λ n. Some (record { alias = None; table = n.0 }, n.1))
 
-unfoldable pub listed_member_at : List Lexeme → Reads UnionMember
+unfoldable pub listed_member_at : List Lexeme → Front UnionMember
 listed_member_at = listed_at member_at true close_brace
 
-unfoldable pub union_at : List Lexeme → Reads UnionRead
+unfoldable pub union_at : List Lexeme → Front UnionRead
 union_at ts = do
   name ← token_at Word ts
   attributes ← metadata_at name.1
