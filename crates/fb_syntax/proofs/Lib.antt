@@ -5,3 +5,7 @@ pub mod Sound
 pub mod SoundLists
 pub mod SoundFields
 pub mod SoundTypes
+pub mod SoundSchema
+pub mod Exact
+pub mod Shorter
+pub mod ExactLists
