@@ -9,3 +9,6 @@ pub mod SoundSchema
 pub mod Exact
 pub mod Shorter
 pub mod ExactLists
+pub mod ExactFields
+pub mod ExactTypes
+pub mod ExactSchema
