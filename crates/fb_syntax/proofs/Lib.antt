@@ -12,3 +12,4 @@ pub mod ExactLists
 pub mod ExactFields
 pub mod ExactTypes
 pub mod ExactSchema
+pub mod ReadsAs

@@ -13,3 +13,4 @@ pub mod Grammar
 pub mod GrammarFields
 pub mod GrammarTypes
 pub mod GrammarSchema
+pub mod OneReading

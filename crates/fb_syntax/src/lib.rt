@@ -4,6 +4,7 @@
 mod declarations;
 mod faults;
 mod parser;
+mod readings;
 mod tokens;
 
 pub use declarations::{
@@ -11,4 +12,5 @@ pub use declarations::{
     FieldType, TableDeclaration, Text, UnionDeclaration, UnionMember,
 };
 pub use faults::SyntaxFault;
+pub use readings::one_reading;
 pub use tokens::{Token, TokenKind};

@@ -7,7 +7,7 @@ mod metadata;
 mod schema;
 mod unions;
 
-//pub(crate) use schema::declarations_of;
+pub(crate) use schema::declarations_of;
 
 ghost use Rattle.std.specs.Prelude.{◌≡◌, ◌≢◌, ◌<◌, ◌≤◌, length, drop, Some, None, IsSome, IfOk, IfSome, MatchOption};
 ghost use Rattle.fb_syntax.specs.Lexemes.{IsReadable, AreReadable, content, lexemes};

@@ -1,13 +1,19 @@
 //! Declarations, to the end of the tokens.
-ghost use Rattle.std.specs.Prelude.{◌<◌, ◌≤◌, length, IfOk};
+ghost use Rattle.std.specs.Prelude.{◌≡◌, ◌<◌, ◌≤◌, length, IfOk, MatchResult};
+ghost use Rattle.fb_syntax.specs.declared.faults.SyntaxFault.TheVariants.{Memory};
+ghost use Rattle.fb_syntax.specs.DeclsRead.{DeclsRead};
+ghost use Rattle.fb_syntax.specs.GrammarSchema.{Reads};
+ghost use Rattle.fb_syntax.specs.Lexemes.{AreReadable};
 ghost use Rattle.fb_syntax.specs.Reading.{Gives, is_empty, until};
 ghost use Rattle.fb_syntax.specs.ReadingSchema.{keyword_at, namespace_at, attribute_at, root_at, quoted_at, declared_at, declaration_at, declarations_at};
 
+use std::alloc::Global;
+
 use super::Parser;
 use super::keywords::{Keyword, keyword_of};
-use crate::declarations::{Declaration, Text};
+use crate::declarations::{Declaration, Decls, Text};
 use crate::faults::SyntaxFault;
-use crate::tokens::TokenKind;
+use crate::tokens::{Token, TokenKind};
 
 impl Parser<'_> {
     #[tactic(auto, unfolding(crate::specs::ReadingSchema::namespace_at))]
@@ -106,4 +112,22 @@ impl Parser<'_> {
         }
         Ok(declarations)
     }
+}
+
+/// What the tokens of a text declare.
+///
+/// A refusal names the first token that the grammar doesn't allow, or the text's length; a vector
+/// inside a vector is one of its own.
+pub(crate) fn declarations_of(
+    alloc: Global,
+    text: &[u8],
+    tokens: &[Token],
+) -> Result<Decls, SyntaxFault>
+    requires { AreReadable text.now tokens.now }
+    ensures reads { IfOk result (Reads text.now tokens.now) }
+    ensures exact { (d : DeclsRead) → Reads text.now tokens.now d → MatchResult result (λ r. r ≡ d) (λ e. e ≡ Memory) }
+{
+    let mut parser = Parser::new(alloc, text, tokens);
+    let declarations = parser.declarations()?;
+    Ok(Decls::new(declarations, text.len() as u64))
 }
