@@ -3,7 +3,7 @@ use Rattle.std.proofs.Common.{◌≡◌, ℕ, suc, ◌<◌, ◌≤◌, List, [],
 use Rattle.fb_syntax.specs.Located.{Located, joined}
 use Rattle.fb_syntax.specs.Lexemes.{Lexeme}
 use Rattle.fb_syntax.specs.Signs.{dot}
-use Rattle.fb_syntax.specs.Reading.{◌>>=◌, is_kind, is_only, is_sign, sign_at, token_at, name_more, name_at}
+use Rattle.fb_syntax.specs.Reading.{is_kind, is_sign, sign_at, token_at, name_more, name_at}
 use Rattle.fb_syntax.specs.Grammar.{IsToken, IsSignAt, IsSign, IsMore, no_further, further, IsName}
 use Rattle.fb_syntax.specs.declared.tokens.TokenKind.{TokenKind}
 use Rattle.fb_syntax.specs.declared.tokens.TokenKind.TheVariants.{Word, Integer, Quoted, Punct}

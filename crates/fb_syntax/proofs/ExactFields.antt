@@ -4,11 +4,11 @@ use Rattle.fb_syntax.specs.Located.{Located}
 use Rattle.fb_syntax.specs.FieldRead.{FieldRead}
 use Rattle.fb_syntax.specs.Lexemes.{Lexeme}
 use Rattle.fb_syntax.specs.Signs.{dot, open_round, close_round, colon, semicolon, equals, open_square, close_square}
-use Rattle.fb_syntax.specs.Reading.{◌>>=◌, behind, is_sign, kind_at, sign_at, token_at, name_at, until}
+use Rattle.fb_syntax.specs.Reading.{is_sign, kind_at, sign_at, token_at, name_at, until}
 use Rattle.fb_syntax.specs.ReadingFields.{attribute_value_at, attribute_use_at, listed_attribute_at, metadata_at, type_at, default_of_kind, default_value_at, default_at, field_at}
-use Rattle.fb_syntax.specs.Grammar.{IsToken, IsSign, IsName, Listed, IsNothing}
+use Rattle.fb_syntax.specs.Grammar.{IsSign, IsName, Listed, IsNothing}
 use Rattle.fb_syntax.specs.GrammarFields.{IsAttributeValue, integer_value, word_value, quoted_value, IsAttributeUse, without_value, with_value, IsMetadata, no_metadata, no_attributes, some_attributes, IsType, one_type, many_type, IsDefaultValue, integer_default, name_default, IsDefault, no_default, some_default, IsField}
-use Rattle.fb_syntax.specs.declared.tokens.TokenKind.TheVariants.{Word, Integer, Quoted, Punct}
+use Rattle.fb_syntax.specs.declared.tokens.TokenKind.TheVariants.{Word}
 use Rattle.fb_syntax.specs.declared.declarations.AttributeUse.{AttributeUse}
 use Rattle.fb_syntax.specs.declared.declarations.AttributeValue.{AttributeValue}
 use Rattle.fb_syntax.specs.declared.declarations.FieldType.{FieldType}
@@ -16,7 +16,7 @@ use Rattle.fb_syntax.specs.declared.declarations.DefaultValue.{DefaultValue}
 use Rattle.fb_syntax.specs.declared.declarations.DefaultValue.TheVariants as defaults
 use Rattle.fb_syntax.proofs.Repeat.{closed}
 use Rattle.fb_syntax.proofs.Exact.{token_read, sign_stands, sign_read, other_sign, word_no_sign, name_read, name_no_sign}
-use Rattle.fb_syntax.proofs.ExactLists.{Followed, followed_lacks, listed_until_read}
+use Rattle.fb_syntax.proofs.ExactLists.{followed_lacks, listed_until_read}
 use Rattle.fb_syntax.proofs.Shorter.{attribute_use_shorter}
 
 value_read : (v : AttributeValue) (ts rest : List Lexeme) → IsAttributeValue ts v rest → attribute_value_at ts ≡ Some (v, rest)

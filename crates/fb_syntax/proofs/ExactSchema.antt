@@ -1,12 +1,12 @@
 -- What the grammar has is read: declarations, to the end.
-use Rattle.std.proofs.Common.{◌≡◌, ℕ, ◌<◌, ◌≤◌, List, [], ◌∷◌, length, Option, Some, None, true, false, refl, sym, ap, ◌∙◌, arith}
+use Rattle.std.proofs.Common.{◌≡◌, ◌<◌, List, [], length, Option, Some, false, refl, ap, arith}
 use Rattle.fb_syntax.specs.Located.{Located}
 use Rattle.fb_syntax.specs.Lexemes.{Lexeme}
 use Rattle.fb_syntax.specs.Keywords.{spelling, keyword_of}
 use Rattle.fb_syntax.specs.Signs.{dot, semicolon}
-use Rattle.fb_syntax.specs.Reading.{◌>>=◌, behind, is_empty, kind_at, sign_at, token_at, name_at}
-use Rattle.fb_syntax.specs.ReadingSchema.{keyword_at, namespace_at, attribute_of_kind, attribute_at, root_at, quoted_at, as_declaration, declared_at, declaration_at, declarations_at}
-use Rattle.fb_syntax.specs.Grammar.{IsToken, IsSign, IsName, Repeated}
+use Rattle.fb_syntax.specs.Reading.{is_empty, token_at}
+use Rattle.fb_syntax.specs.ReadingSchema.{keyword_at, namespace_at, attribute_at, root_at, quoted_at, declared_at, declaration_at, declarations_at}
+use Rattle.fb_syntax.specs.Grammar.{Repeated}
 use Rattle.fb_syntax.specs.GrammarSchema.{IsKeyword, IsNamespace, outermost, inner, IsAttribute, word_attribute, quoted_attribute, IsRoot, IsQuoted, IsDeclared, is_namespace, is_attribute, is_table, is_struct, is_enum, is_union, is_root, is_extension, is_identifier, IsDeclaration}
 use Rattle.fb_syntax.specs.declared.tokens.TokenKind.TheVariants.{Word, Quoted}
 use Rattle.fb_syntax.specs.declared.parser.keywords.Keyword.{Keyword}

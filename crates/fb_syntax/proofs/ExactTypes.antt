@@ -1,11 +1,11 @@
 -- What the grammar has is read: tables, structs, enums and unions.
-use Rattle.std.proofs.Common.{◌≡◌, ℕ, List, Option, Some, None, true, false, eqb, refl}
+use Rattle.std.proofs.Common.{◌≡◌, ℕ, List, Some, None, true, false, eqb, refl}
 use Rattle.fb_syntax.specs.Located.{Located}
 use Rattle.fb_syntax.specs.TypesRead.{TableRead, EnumRead, UnionRead}
 use Rattle.fb_syntax.specs.Lexemes.{Lexeme}
 use Rattle.fb_syntax.specs.Signs.{dot, open_round, colon, equals, open_brace, close_brace}
-use Rattle.fb_syntax.specs.Reading.{◌>>=◌, behind, is_sign, sign_at, token_at, name_at, name_more, some_until}
-use Rattle.fb_syntax.specs.ReadingFields.{metadata_at, field_at}
+use Rattle.fb_syntax.specs.Reading.{is_sign, sign_at, some_until}
+use Rattle.fb_syntax.specs.ReadingFields.{field_at}
 use Rattle.fb_syntax.specs.ReadingTypes.{table_at, enum_value_at, listed_value_at, enum_at, member_at, listed_member_at, union_at}
 use Rattle.fb_syntax.specs.Grammar.{IsSign, IsMore, no_further, further, Listed, MayBeComma}
 use Rattle.fb_syntax.specs.GrammarFields.{IsField}

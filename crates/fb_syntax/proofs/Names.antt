@@ -1,9 +1,9 @@
 -- Signs and words at the front, and a name, word by word.
-use Rattle.std.proofs.Common.{◌≡◌, ℕ, suc, ◌<◌, List, [], ◌∷◌, length, Option, Some, None, Bool, true, false, ◌&&◌, cond, refl, sym, ap, ◌∙◌, arith}
+use Rattle.std.proofs.Common.{◌≡◌, ℕ, suc, List, [], ◌∷◌, length, Option, Some, None, Bool, true, false, ◌&&◌, cond, refl, sym, ap, ◌∙◌}
 use Rattle.fb_syntax.specs.Located.{Located, joined}
 use Rattle.fb_syntax.specs.Lexemes.{Lexeme}
 use Rattle.fb_syntax.specs.Signs.{dot}
-use Rattle.fb_syntax.specs.Reading.{◌>>=◌, Fails, is_kind, is_only, is_sign, sign_at, token_at, name_more, name_at}
+use Rattle.fb_syntax.specs.Reading.{Fails, is_kind, is_only, is_sign, sign_at, token_at, name_more, name_at}
 use Rattle.fb_syntax.specs.declared.faults.SyntaxFault.{SyntaxFault}
 use Rattle.fb_syntax.specs.declared.faults.SyntaxFault.TheVariants.{Memory, NotUtf8, BadByte, Unterminated, NumberTooBig, Unexpected, NestedVector}
 use Rattle.fb_syntax.specs.declared.tokens.TokenKind.{TokenKind}

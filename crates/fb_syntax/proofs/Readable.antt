@@ -1,7 +1,7 @@
 -- Tokens that can be read.
-use Rattle.std.proofs.Common.{◌≡◌, ℕ, suc, ◌-◌, ◌<◌, List, [], ◌∷◌, length, take, drop, refl, sym, ◌∙◌, ap, arith, rules}
+use Rattle.std.proofs.Common.{◌≡◌, ℕ, suc, ◌-◌, List, [], ◌∷◌, length, take, drop, arith}
 use Rattle.std.proofs.Math.Seq.{take-length}
-use Rattle.fb_syntax.specs.Lexemes.{IsReadable, AreReadable}
+use Rattle.fb_syntax.specs.Lexemes.{AreReadable}
 use Rattle.fb_syntax.specs.declared.tokens.Token.{Token}
 
 rest_of : (t : Token) (ts : List Token) → take (length (t ∷ ts) - 1) ts ≡ ts

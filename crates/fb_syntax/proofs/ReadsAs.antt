@@ -2,7 +2,7 @@
 use Rattle.std.proofs.Common.{◌≡◌, ℕ, List, [], ◌∷◌, Option, Some, None, true, length, Result, Ok, Err, MatchResult, refl, sym, ap, ◌∙◌}
 use Rattle.fb_syntax.specs.DeclsRead.{DeclsRead}
 use Rattle.fb_syntax.specs.Lexemes.{Lexeme, lexemes}
-use Rattle.fb_syntax.specs.Reading.{Front, Fails, is_empty, until}
+use Rattle.fb_syntax.specs.Reading.{Fails, is_empty, until}
 use Rattle.fb_syntax.specs.ReadingSchema.{declaration_at, declarations_at}
 use Rattle.fb_syntax.specs.Grammar.{Repeated}
 use Rattle.fb_syntax.specs.GrammarSchema.{IsDeclaration, Reads}
@@ -12,7 +12,7 @@ use Rattle.fb_syntax.specs.declared.faults.SyntaxFault.TheVariants.{Memory, NotU
 use Rattle.fb_syntax.specs.declared.tokens.Token.{Token}
 use Rattle.fb_syntax.specs.declared.declarations.Declaration.{Declaration}
 use Rattle.fb_syntax.proofs.Names.{pair_of}
-use Rattle.fb_syntax.proofs.Sound.{none_some, lands}
+use Rattle.fb_syntax.proofs.Sound.{none_some}
 use Rattle.fb_syntax.proofs.SoundLists.{until_found, until_stops}
 use Rattle.fb_syntax.proofs.SoundSchema.{declaration_found}
 use Rattle.fb_syntax.proofs.ExactSchema.{declarations_read}

@@ -1,5 +1,5 @@
 -- Loops over items.
-use Rattle.std.proofs.Common.{◌≡◌, ℕ, zero, suc, ◌<◌, ◌≤◌, List, [], ◌∷◌, ◌++◌, length, Bool, true, false, Option, Some, None, refl, sym, ap, ◌∙◌, append_assoc, arith}
+use Rattle.std.proofs.Common.{◌≡◌, ℕ, zero, suc, ◌<◌, List, [], ◌∷◌, ◌++◌, length, Bool, true, false, Some, None, refl, sym, ap, ◌∙◌, append_assoc, arith}
 use Rattle.std.proofs.lemmas.List.{append-nil}
 use Rattle.fb_syntax.specs.declared.faults.SyntaxFault.{SyntaxFault}
 use Rattle.fb_syntax.specs.Lexemes.{Lexeme}
@@ -54,7 +54,7 @@ module _ {X : Type 0} (item : List Lexeme → Front X) (stop : List Lexeme → B
       record {
         steps = more.0;
         enough = omega (arith, shorter, so_far.enough, more.1);
-        same = sym (ap (with_front front) (one_more more.0 rest after x none e) ∙ regroup front x (many item stop more.0 after)) ∙ before
+        same = sym (ap (with_front front) (one_more more.0 rest after x none e) ∙ regroup front x (many item stop more.0 after)) ∙ before;
       }
 
   pub ends : (begun rest : List Lexeme) (front : List X) → Repeats item stop begun front rest → stop rest ≡ true → until item stop begun ≡ Some (front, rest)

@@ -1,19 +1,15 @@
 -- Each part of the grammar but the empty ones takes a token at least.
-use Rattle.std.proofs.Common.{◌≡◌, ℕ, suc, ◌<◌, ◌≤◌, List, [], ◌∷◌, length, Option, true, false, Bool, ap, arith}
-use Rattle.fb_syntax.specs.Located.{Located, joined}
+use Rattle.std.proofs.Common.{ℕ, ◌<◌, ◌≤◌, List, length, Option, ap, arith}
+use Rattle.fb_syntax.specs.Located.{Located}
 use Rattle.fb_syntax.specs.Lexemes.{Lexeme}
-use Rattle.fb_syntax.specs.Grammar.{IsToken, IsSignAt, IsSign, IsMore, no_further, further, IsName, Repeated, no_more, one_more, Listed, last_item, item_before, IsNothing, MayBeComma, no_comma, one_comma}
+use Rattle.fb_syntax.specs.Grammar.{IsToken, IsSign, IsMore, no_further, further, IsName, Repeated, no_more, one_more, Listed, last_item, item_before, IsNothing, MayBeComma, no_comma, one_comma}
 use Rattle.fb_syntax.specs.GrammarFields.{IsAttributeValue, integer_value, word_value, quoted_value, IsAttributeUse, without_value, with_value, IsMetadata, no_metadata, no_attributes, some_attributes, IsType, one_type, many_type, IsDefaultValue, integer_default, name_default, IsDefault, no_default, some_default, IsField}
 use Rattle.fb_syntax.specs.GrammarTypes.{IsTable, IsEnumValue, without_number, with_number, IsEnum, IsMember, with_alias, without_alias, IsUnion}
-use Rattle.fb_syntax.specs.FieldRead.{FieldRead}
-use Rattle.fb_syntax.specs.TypesRead.{TableRead, EnumRead, UnionRead}
 use Rattle.fb_syntax.specs.declared.tokens.TokenKind.{TokenKind}
 use Rattle.fb_syntax.specs.declared.declarations.AttributeUse.{AttributeUse}
 use Rattle.fb_syntax.specs.declared.declarations.AttributeValue.{AttributeValue}
 use Rattle.fb_syntax.specs.declared.declarations.FieldType.{FieldType}
 use Rattle.fb_syntax.specs.declared.declarations.DefaultValue.{DefaultValue}
-use Rattle.fb_syntax.specs.declared.declarations.EnumValue.{EnumValue}
-use Rattle.fb_syntax.specs.declared.declarations.UnionMember.{UnionMember}
 
 -- at each item
 abbrev pub Shortens : {X : Type 0} → (List Lexeme → X → List Lexeme → Type 0) → Type 0

@@ -1,14 +1,14 @@
 -- What is read is what the grammar has: signs, words, names and lists.
-use Rattle.std.proofs.Common.{◌≡◌, ℕ, suc, List, [], ◌∷◌, length, Option, Some, None, ◌⊎◌, inl, inr, Bool, true, false, ◌&&◌, cond, refl, sym, ap, ◌∙◌, arith, eqb}
+use Rattle.std.proofs.Common.{◌≡◌, ℕ, List, [], ◌∷◌, Option, Some, None, ◌⊎◌, inl, inr, Bool, true, false, ◌&&◌, cond, refl, ap}
 use Rattle.std.proofs.lemmas.Bool.{eqb-true}
 use Rattle.fb_syntax.specs.Located.{Located, joined}
 use Rattle.fb_syntax.specs.Lexemes.{Lexeme}
-use Rattle.fb_syntax.specs.Signs.{dot, comma}
+use Rattle.fb_syntax.specs.Signs.{dot}
 use Rattle.fb_syntax.specs.Reading.{◌>>=◌, Front, behind, is_kind, is_only, is_sign, sign_at, token_at, name_more, name_at}
 use Rattle.fb_syntax.specs.Grammar.{IsToken, IsSignAt, IsSign, IsMore, no_further, further, IsName}
 use Rattle.fb_syntax.specs.declared.tokens.TokenKind.{TokenKind}
 use Rattle.fb_syntax.specs.declared.tokens.TokenKind.TheVariants.{Word, Integer, Quoted, Punct}
-use Rattle.fb_syntax.proofs.Names.{pair_of, token_at-some, token_at-nothing, sign_at-some, sign_at-none, sign_at-nothing}
+use Rattle.fb_syntax.proofs.Names.{pair_of, token_at-some, token_at-nothing, sign_at-some, sign_at-nothing}
 
 -- A step that was read, and what was read after it.
 pub bind-some : {A B : Type 0} {m : Option A} {f : A → Option B} {y : B} → (m >>= f) ≡ Some y → (x : A) × (m ≡ Some x) × (f x ≡ Some y)
@@ -88,18 +88,18 @@ unfolding name_more sign_at token_at
 more_found s n [] rest e = let p = pair_of s n [] rest e in rw (← p.0, ← p.1) no_further
 more_found s n (t ∷ []) rest e =
     elim (chosen (is_sign dot (t ∷ [])) e) [
-      chose_first b none ↦ absurd cc
-    | chose_second b read ↦ lands (IsMore s (t ∷ [])) read no_further
+      | chose_first b none ↦ absurd cc
+      | chose_second b read ↦ lands (IsMore s (t ∷ [])) read no_further
     ]
 more_found s n (t ∷ w ∷ ts) rest e =
     elim (chosen (is_sign dot (t ∷ [])) e) [
-      chose_first b read ↦
-        elim (chosen (is_kind w.kind Word) read) [
-          chose_first k more ↦
-            further w.text (w ∷ ts) ts (sign_is dot t.text.at (t ∷ w ∷ ts) (w ∷ ts) (rw b refl)) (token_found Word (w ∷ ts) ts w.text (rw k refl)) (more_found (joined s w.text.bytes) n ts rest more)
-        | chose_second k none ↦ absurd cc
-        ]
-    | chose_second b read ↦ lands (IsMore s (t ∷ w ∷ ts)) read no_further
+      | chose_first b read ↦
+          elim (chosen (is_kind w.kind Word) read) [
+            | chose_first k more ↦
+                further w.text (w ∷ ts) ts (sign_is dot t.text.at (t ∷ w ∷ ts) (w ∷ ts) (rw b refl)) (token_found Word (w ∷ ts) ts w.text (rw k refl)) (more_found (joined s w.text.bytes) n ts rest more)
+            | chose_second k none ↦ absurd cc
+          ]
+      | chose_second b read ↦ lands (IsMore s (t ∷ w ∷ ts)) read no_further
     ]
 
 pub name_found : (n : Located) (ts rest : List Lexeme) → name_at ts ≡ Some (n, rest) → IsName ts n rest

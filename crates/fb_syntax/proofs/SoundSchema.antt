@@ -1,5 +1,5 @@
 -- What is read is what the grammar has: declarations, to the end.
-use Rattle.std.proofs.Common.{◌≡◌, ℕ, List, Option, Some, None, true, false, cond, refl, sym, ap, ◌∙◌}
+use Rattle.std.proofs.Common.{◌≡◌, ℕ, List, Option, Some, None, true}
 use Rattle.std.specs.Str.{bytes_eq}
 use Rattle.std.proofs.lemmas.Slice.Eq.{bytes_eq-Decides}
 use Rattle.fb_syntax.specs.Located.{Located}
@@ -8,7 +8,7 @@ use Rattle.fb_syntax.specs.Keywords.{spelling, keyword_of}
 use Rattle.fb_syntax.specs.Signs.{semicolon}
 use Rattle.fb_syntax.specs.Reading.{sign_at, token_at, name_at, kind_at}
 use Rattle.fb_syntax.specs.ReadingTypes.{table_at, enum_at, union_at}
-use Rattle.fb_syntax.specs.ReadingSchema.{keyword_at, namespace_at, attribute_of_kind, attribute_at, root_at, quoted_at, as_declaration, declared_at, declaration_at}
+use Rattle.fb_syntax.specs.ReadingSchema.{keyword_at, namespace_at, attribute_of_kind, attribute_at, root_at, quoted_at, declared_at, declaration_at}
 use Rattle.fb_syntax.specs.Grammar.{IsToken}
 use Rattle.fb_syntax.specs.GrammarSchema.{IsKeyword, IsNamespace, outermost, inner, IsAttribute, word_attribute, quoted_attribute, IsRoot, IsQuoted, IsDeclared, is_namespace, is_attribute, is_table, is_struct, is_enum, is_union, is_root, is_extension, is_identifier, IsDeclaration}
 use Rattle.fb_syntax.specs.declared.tokens.TokenKind.{TokenKind}
@@ -25,15 +25,39 @@ spelled_so word found keyword b e = let same : found ≡ keyword = cc in rw (←
 keyword_found : (word : List ℕ) (keyword : Keyword) → keyword_of word ≡ Some keyword → word ≡ spelling keyword
 unfolding keyword_of
 keyword_found word k e =
-    elim (chosen (bytes_eq word (spelling keywords.Namespace)) e) [ chose_first b e ↦ spelled_so word keywords.Namespace k b e | chose_second b e ↦
-    elim (chosen (bytes_eq word (spelling keywords.Attribute)) e) [ chose_first b e ↦ spelled_so word keywords.Attribute k b e | chose_second b e ↦
-    elim (chosen (bytes_eq word (spelling keywords.Table)) e) [ chose_first b e ↦ spelled_so word keywords.Table k b e | chose_second b e ↦
-    elim (chosen (bytes_eq word (spelling keywords.Struct)) e) [ chose_first b e ↦ spelled_so word keywords.Struct k b e | chose_second b e ↦
-    elim (chosen (bytes_eq word (spelling keywords.Enum)) e) [ chose_first b e ↦ spelled_so word keywords.Enum k b e | chose_second b e ↦
-    elim (chosen (bytes_eq word (spelling keywords.Union)) e) [ chose_first b e ↦ spelled_so word keywords.Union k b e | chose_second b e ↦
-    elim (chosen (bytes_eq word (spelling keywords.Root)) e) [ chose_first b e ↦ spelled_so word keywords.Root k b e | chose_second b e ↦
-    elim (chosen (bytes_eq word (spelling keywords.Extension)) e) [ chose_first b e ↦ spelled_so word keywords.Extension k b e | chose_second b e ↦
-    elim (chosen (bytes_eq word (spelling keywords.Identifier)) e) [ chose_first b e ↦ spelled_so word keywords.Identifier k b e | chose_second b e ↦ absurd (none_some e) ] ] ] ] ] ] ] ] ]
+    elim (chosen (bytes_eq word (spelling keywords.Namespace)) e) [
+      | chose_first b e ↦ spelled_so word keywords.Namespace k b e
+      | chose_second b e ↦
+          elim (chosen (bytes_eq word (spelling keywords.Attribute)) e) [
+            | chose_first b e ↦ spelled_so word keywords.Attribute k b e
+            | chose_second b e ↦
+                elim (chosen (bytes_eq word (spelling keywords.Table)) e) [
+                  | chose_first b e ↦ spelled_so word keywords.Table k b e
+                  | chose_second b e ↦
+                      elim (chosen (bytes_eq word (spelling keywords.Struct)) e) [
+                        | chose_first b e ↦ spelled_so word keywords.Struct k b e
+                        | chose_second b e ↦
+                            elim (chosen (bytes_eq word (spelling keywords.Enum)) e) [
+                              | chose_first b e ↦ spelled_so word keywords.Enum k b e
+                              | chose_second b e ↦
+                                  elim (chosen (bytes_eq word (spelling keywords.Union)) e) [
+                                    | chose_first b e ↦ spelled_so word keywords.Union k b e
+                                    | chose_second b e ↦
+                                        elim (chosen (bytes_eq word (spelling keywords.Root)) e) [
+                                          | chose_first b e ↦ spelled_so word keywords.Root k b e
+                                          | chose_second b e ↦
+                                              elim (chosen (bytes_eq word (spelling keywords.Extension)) e) [
+                                                | chose_first b e ↦ spelled_so word keywords.Extension k b e
+                                                | chose_second b e ↦
+                                                    elim (chosen (bytes_eq word (spelling keywords.Identifier)) e) [ chose_first b e ↦ spelled_so word keywords.Identifier k b e | chose_second b e ↦ absurd (none_some e) ]
+                                              ]
+                                        ]
+                                  ]
+                            ]
+                      ]
+                ]
+          ]
+    ]
 
 keyword_stands : (keyword : Keyword) (ts rest : List Lexeme) → keyword_at ts ≡ Some (keyword, rest) → IsKeyword keyword ts rest
 unfolding keyword_at
@@ -47,11 +71,11 @@ namespace_found : (n : Option Located) (ts rest : List Lexeme) → namespace_at 
 unfolding namespace_at
 namespace_found n ts rest e =
     elim (behind-ways e) [
-      stood at after sign read ↦ lands (IsNamespace ts) read (outermost (sign_is semicolon at ts after sign))
-    | lacked none read ↦
-        let name = bind-some read in
-        let end = bind-some name.2 in
-        lands (IsNamespace ts) end.2 (inner name.0.1 (name_found name.0.0 ts name.0.1 name.1) (sign_is semicolon end.0.0 name.0.1 end.0.1 end.1))
+      | stood at after sign read ↦ lands (IsNamespace ts) read (outermost (sign_is semicolon at ts after sign))
+      | lacked none read ↦
+          let name = bind-some read in
+          let end = bind-some name.2 in
+          lands (IsNamespace ts) end.2 (inner name.0.1 (name_found name.0.0 ts name.0.1 name.1) (sign_is semicolon end.0.0 name.0.1 end.0.1 end.1))
     ]
 
 attribute_stands : (kind : Option TokenKind) (t : Located) (ts after rest : List Lexeme) → attribute_of_kind kind ts ≡ Some (t, after) → (at : ℕ) → sign_at semicolon after ≡ Some (at, rest) → IsAttribute ts t rest
@@ -102,5 +126,5 @@ declaration_found d ts rest e =
       keyword = keyword.0.0;
       behind_keyword = keyword.0.1;
       begins = keyword_stands keyword.0.0 ts keyword.0.1 keyword.1;
-      goes_on = declared_found keyword.0.0 d keyword.0.1 rest keyword.2
+      goes_on = declared_found keyword.0.0 d keyword.0.1 rest keyword.2;
     }

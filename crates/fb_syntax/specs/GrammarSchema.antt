@@ -9,7 +9,6 @@ use Rattle.fb_syntax.specs.Signs.{semicolon}
 use Rattle.fb_syntax.specs.Grammar.{IsToken, IsSign, IsName, Repeated}
 use Rattle.fb_syntax.specs.GrammarTypes.{IsTable, IsEnum, IsUnion}
 use Rattle.fb_syntax.specs.declared.tokens.Token.{Token}
-use Rattle.fb_syntax.specs.declared.tokens.TokenKind.{TokenKind}
 use Rattle.fb_syntax.specs.declared.tokens.TokenKind.TheVariants.{Word, Quoted}
 use Rattle.fb_syntax.specs.declared.parser.keywords.Keyword.{Keyword}
 use Rattle.fb_syntax.specs.declared.parser.keywords.Keyword.TheVariants as keywords

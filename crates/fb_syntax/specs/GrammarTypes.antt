@@ -1,5 +1,5 @@
 -- The grammar of tables, structs, enums and unions, behind their first words.
-use Rattle.std.specs.Prelude.{ℕ, ◌≡◌, List, Option, Some, None}
+use Rattle.std.specs.Prelude.{List, Some, None}
 use Rattle.fb_syntax.specs.Located.{Located}
 use Rattle.fb_syntax.specs.TypesRead.{TableRead, EnumRead, UnionRead}
 use Rattle.fb_syntax.specs.Lexemes.{Lexeme}

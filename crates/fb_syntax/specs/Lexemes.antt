@@ -4,7 +4,7 @@ use Rattle.std.specs.Str.{IsUtf8}
 use Rattle.fb_syntax.specs.Located.{Located}
 use Rattle.fb_syntax.specs.declared.tokens.Token.{Token}
 use Rattle.fb_syntax.specs.declared.tokens.TokenKind.{TokenKind}
-use Rattle.fb_syntax.specs.declared.tokens.TokenKind.TheVariants.{Word, Integer, Quoted, Punct}
+use Rattle.fb_syntax.specs.declared.tokens.TokenKind.TheVariants.{Quoted}
 
 pub record Lexeme : Type 0 where
   pub kind : TokenKind

@@ -1,12 +1,11 @@
 -- What stands at the front of the tokens: attributes, types, defaults and fields.
 use Rattle.std.specs.Prelude.{ℕ, false, List, [], Option, Some, None}
-use Rattle.fb_syntax.specs.Located.{Located}
 use Rattle.fb_syntax.specs.FieldRead.{FieldRead}
 use Rattle.fb_syntax.specs.Lexemes.{Lexeme}
 use Rattle.fb_syntax.specs.Signs.{open_round, close_round, colon, semicolon, equals, open_square, close_square}
 use Rattle.fb_syntax.specs.Reading.{◌>>=◌, Front, behind, kind_at, token_at, is_sign, sign_at, name_at, until, listed_at}
 use Rattle.fb_syntax.specs.declared.tokens.TokenKind.{TokenKind}
-use Rattle.fb_syntax.specs.declared.tokens.TokenKind.TheVariants.{Word, Integer, Quoted, Punct}
+use Rattle.fb_syntax.specs.declared.tokens.TokenKind.TheVariants.{Word, Integer, Quoted}
 use Rattle.fb_syntax.specs.declared.declarations.AttributeUse.{AttributeUse}
 use Rattle.fb_syntax.specs.declared.declarations.AttributeValue.{AttributeValue}
 use Rattle.fb_syntax.specs.declared.declarations.AttributeValue.TheVariants as values

@@ -1,5 +1,5 @@
 -- What stands at the front of the tokens: tables, structs, enums and unions, behind their first words.
-use Rattle.std.specs.Prelude.{true, List, Option, Some, None}
+use Rattle.std.specs.Prelude.{true, List, Some, None}
 use Rattle.fb_syntax.specs.TypesRead.{TableRead, EnumRead, UnionRead}
 use Rattle.fb_syntax.specs.Lexemes.{Lexeme}
 use Rattle.fb_syntax.specs.Signs.{colon, equals, open_brace, close_brace}

@@ -30,10 +30,7 @@ impl Text {
         ensures { IfOk result (λ t. t ≡ record { bytes = text.now; at = at }) }
     {
         let text = String::from_str(alloc, text)?;
-        Ok(Text {
-            text,
-            at,
-        })
+        Ok(Text { text, at })
     }
 
     /// Sets a dot and a word behind the text.
@@ -91,10 +88,10 @@ impl Model for Field {
     ghost Value = { FieldRead };
 
     ghost view = { λ f. record {
-        name = f.name;
-        kind = f.kind;
-        default = f.default;
-        attributes = f.attributes.items
+      name = f.name;
+      kind = f.kind;
+      default = f.default;
+      attributes = f.attributes.items;
     } };
 }
 
@@ -112,9 +109,9 @@ impl Model for TableDeclaration {
     ghost Value = { TableRead };
 
     ghost view = { λ t. record {
-        name = t.name;
-        attributes = t.attributes.items;
-        fields = t.fields.items
+      name = t.name;
+      attributes = t.attributes.items;
+      fields = t.fields.items;
     } };
 }
 
@@ -140,10 +137,10 @@ impl Model for EnumDeclaration {
     ghost Value = { EnumRead };
 
     ghost view = { λ e. record {
-        name = e.name;
-        underlying = e.underlying;
-        attributes = e.attributes.items;
-        values = e.values.items
+      name = e.name;
+      underlying = e.underlying;
+      attributes = e.attributes.items;
+      values = e.values.items;
     } };
 }
 
@@ -168,9 +165,9 @@ impl Model for UnionDeclaration {
     ghost Value = { UnionRead };
 
     ghost view = { λ u. record {
-        name = u.name;
-        attributes = u.attributes.items;
-        members = u.members.items
+      name = u.name;
+      attributes = u.attributes.items;
+      members = u.members.items;
     } };
 }
 
@@ -206,8 +203,8 @@ impl Model for Decls {
     ghost Value = { DeclsRead };
 
     ghost view = { λ d. record {
-        declarations = d.declarations.items;
-        text_len = d.text_len
+      declarations = d.declarations.items;
+      text_len = d.text_len;
     } };
 }
 

@@ -8,8 +8,8 @@ mod readings;
 mod tokens;
 
 pub use declarations::{
-    AttributeUse, AttributeValue, Declaration, Decls, DefaultValue, EnumDeclaration, EnumValue, Field,
-    FieldType, TableDeclaration, Text, UnionDeclaration, UnionMember,
+    AttributeUse, AttributeValue, Declaration, Decls, DefaultValue, EnumDeclaration, EnumValue,
+    Field, FieldType, TableDeclaration, Text, UnionDeclaration, UnionMember,
 };
 pub use faults::SyntaxFault;
 pub use readings::one_reading;

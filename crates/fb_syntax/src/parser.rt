@@ -7,8 +7,6 @@ mod metadata;
 mod schema;
 mod unions;
 
-pub(crate) use schema::declarations_of;
-
 ghost use Rattle.std.specs.Prelude.{◌≡◌, ◌≢◌, ◌<◌, ◌≤◌, length, drop, Some, None, IsSome, IfOk, IfSome, MatchOption};
 ghost use Rattle.fb_syntax.specs.Lexemes.{IsReadable, AreReadable, content, lexemes};
 ghost use Rattle.fb_syntax.specs.Signs.{dot};
@@ -16,12 +14,12 @@ ghost use Rattle.fb_syntax.specs.Reading.{Gives, is_empty, is_only, is_sign, kin
 ghost use Rattle.fb_syntax.specs.declared.faults.SyntaxFault.TheVariants.{Memory};
 ghost use Rattle.fb_syntax.specs.declared.tokens.TokenKind.TheVariants.{Word};
 
-use std::alloc::Global;
-use std::marker::Model;
-
 use crate::declarations::Text;
 use crate::faults::SyntaxFault;
 use crate::tokens::{Token, TokenKind};
+pub(crate) use schema::declarations_of;
+use std::alloc::Global;
+use std::marker::Model;
 
 /// What a token says, and its offset.
 #[derive(Clone, Copy)]
@@ -55,7 +53,11 @@ fn spelled<'t>(text: &'t [u8], token: Token) -> Spelling<'t>
     ensures says { result.text.now ≡ content text.now token }
     ensures stands { result.at ≡ token.at }
 {
-    let margin = if token.kind == TokenKind::Quoted { 1 } else { 0 };
+    let margin = if token.kind == TokenKind::Quoted {
+        1
+    } else {
+        0
+    };
     let start = token.at as usize + margin;
     let len = token.len as usize - (margin + margin);
     let bytes = &text[start..start + len];
@@ -212,3 +214,6 @@ impl<'t> Parser<'t> {
         Ok(name)
     }
 }
+
+#[cfg(test)]
+mod tests;

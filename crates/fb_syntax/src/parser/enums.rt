@@ -20,10 +20,7 @@ impl Parser<'_> {
             Some(_) => Some(self.text(TokenKind::Integer)?),
             None => None,
         };
-        Ok(EnumValue {
-            name,
-            number,
-        })
+        Ok(EnumValue { name, number })
     }
 
     #[tactic(auto, unfolding(crate::specs::ReadingTypes::listed_value_at, crate::specs::Reading::listed_at))]

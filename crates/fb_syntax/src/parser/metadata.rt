@@ -32,10 +32,7 @@ impl Parser<'_> {
             Some(_) => Some(self.attribute_value()?),
             None => None,
         };
-        Ok(AttributeUse {
-            name,
-            value,
-        })
+        Ok(AttributeUse { name, value })
     }
 
     #[tactic(auto, unfolding(crate::specs::ReadingFields::listed_attribute_at, crate::specs::Reading::listed_at))]

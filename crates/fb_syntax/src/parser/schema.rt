@@ -7,13 +7,12 @@ ghost use Rattle.fb_syntax.specs.Lexemes.{AreReadable};
 ghost use Rattle.fb_syntax.specs.Reading.{Gives, is_empty, until};
 ghost use Rattle.fb_syntax.specs.ReadingSchema.{keyword_at, namespace_at, attribute_at, root_at, quoted_at, declared_at, declaration_at, declarations_at};
 
-use std::alloc::Global;
-
 use super::Parser;
 use super::keywords::{Keyword, keyword_of};
 use crate::declarations::{Declaration, Decls, Text};
 use crate::faults::SyntaxFault;
 use crate::tokens::{Token, TokenKind};
+use std::alloc::Global;
 
 impl Parser<'_> {
     #[tactic(auto, unfolding(crate::specs::ReadingSchema::namespace_at))]

@@ -26,10 +26,7 @@ impl Parser<'_> {
             }
             None => {
                 let table = self.name_from(word)?;
-                Ok(UnionMember {
-                    alias: None,
-                    table,
-                })
+                Ok(UnionMember { alias: None, table })
             }
         }
     }

@@ -1,4 +1,4 @@
-use Rattle.std.proofs.Common.{◌≡◌, true, false, sym, ◌∙◌, arith, length, ◌<◌}
+use Rattle.std.proofs.Common.{sym, ◌∙◌, arith}
 use Rattle.std.proofs.lemmas.Result.{err_from_is_err_and}
 use Rattle.fb_syntax.specs.Reading.{is_empty}
 use Rattle.fb_syntax.specs.ReadingSchema.{declaration_at}
@@ -17,7 +17,7 @@ pub loop-self-preserved : goal.loop-self-preserved
 loop-self-preserved c =
     record {
       within = omega (arith, c.in_ok-declaration.ensures.shorter, c.loop-self.invariant.within);
-      so_far = rw c.in_ok-push.ensures.items (goes_on declaration_at is_empty _ _ _ _ c.in_ok-declaration.declaration c.in_ok-declaration.ensures.shorter c.loop-self.invariant.so_far (sym c.is_at_end.ensures ∙ c.loop-self-test.true) c.in_ok-declaration.ensures.exact)
+      so_far = rw c.in_ok-push.ensures.items (goes_on declaration_at is_empty _ _ _ _ c.in_ok-declaration.declaration c.in_ok-declaration.ensures.shorter c.loop-self.invariant.so_far (sym c.is_at_end.ensures ∙ c.loop-self-test.true) c.in_ok-declaration.ensures.exact);
     }
 
 pub returns-clause-exact : goal.returns-clause-exact

@@ -1,4 +1,4 @@
-use Rattle.std.proofs.Common.{◌≡◌, true, sym, ◌∙◌}
+use Rattle.std.proofs.Common.{sym, ◌∙◌}
 use Rattle.fb_syntax.proofs.Names.{sign_no_word, name_misses}
 use Rattle.fb_syntax.proofs.parser.Parser.element.Goals as goal
 

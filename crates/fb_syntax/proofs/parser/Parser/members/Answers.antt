@@ -1,4 +1,4 @@
-use Rattle.std.proofs.Common.{◌≡◌, true, false, sym, ◌∙◌, arith, length, ◌<◌}
+use Rattle.std.proofs.Common.{sym, ◌∙◌, arith}
 use Rattle.std.proofs.lemmas.Result.{err_from_is_err_and}
 use Rattle.fb_syntax.specs.Signs.{close_brace}
 use Rattle.fb_syntax.specs.Reading.{is_sign}
@@ -18,7 +18,7 @@ pub loop-self-preserved : goal.loop-self-preserved
 loop-self-preserved c =
     record {
       within = omega (arith, c.in_ok-member.ensures.shorter, c.loop-self.invariant.within);
-      so_far = rw c.in_ok-push.ensures.items (goes_on listed_member_at (is_sign close_brace) _ _ _ _ c.in_ok-member.member c.in_ok-member.ensures.shorter c.loop-self.invariant.so_far (sym c.is_sign.ensures ∙ c.loop-self-test.true) c.in_ok-member.ensures.exact)
+      so_far = rw c.in_ok-push.ensures.items (goes_on listed_member_at (is_sign close_brace) _ _ _ _ c.in_ok-member.member c.in_ok-member.ensures.shorter c.loop-self.invariant.so_far (sym c.is_sign.ensures ∙ c.loop-self-test.true) c.in_ok-member.ensures.exact);
     }
 
 pub returns-clause-exact : goal.returns-clause-exact

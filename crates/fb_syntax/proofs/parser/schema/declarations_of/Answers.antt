@@ -1,5 +1,4 @@
 use Rattle.std.proofs.lemmas.Result.{err_from_is_err_and}
-use Rattle.fb_syntax.specs.GrammarSchema.{Reads}
 use Rattle.fb_syntax.proofs.ReadsAs.{reads_found, memory_alone, one_reading_shown}
 use Rattle.fb_syntax.proofs.parser.schema.declarations_of.Goals as goal
 
