@@ -126,7 +126,8 @@ impl<'t> Parser<'t> {
 
     #[tactic(auto, unfolding(crate::specs::Reading::token_at))]
     fn token(&mut self, kind: TokenKind) -> Result<Spelling<'t>, SyntaxFault>
-        ensures exact { Gives (λ t. (record { bytes = t.text.now; at = t.at }, self.new)) result (token_at kind self.old) }
+        ensures exact { Gives (λ t. (record { bytes = t.text.now; at = t.at }, self.new)) result
+            (token_at kind self.old) }
         ensures shorter { IfOk result (λ _. length self.new < length self.old) }
     {
         let [next, ..] = self.tokens else {
@@ -162,7 +163,9 @@ impl<'t> Parser<'t> {
     /// Passes a sign that stands next, and answers its offset.
     #[tactic(auto, unfolding(crate::specs::Reading::sign_at))]
     fn take_sign(&mut self, sign: u8) -> Option<u64>
-        ensures exact { MatchOption result ((sign_at sign self.old ≡ None) × (self.new ≡ self.old)) (λ at. sign_at sign self.old ≡ Some (at, self.new)) }
+        ensures exact { MatchOption result
+            ((sign_at sign self.old ≡ None) × (self.new ≡ self.old))
+            (λ at. sign_at sign self.old ≡ Some (at, self.new)) }
         ensures shorter { IfSome result (λ _. length self.new < length self.old) }
     {
         if !self.is_sign(sign) {

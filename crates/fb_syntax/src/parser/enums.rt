@@ -35,7 +35,8 @@ impl Parser<'_> {
 
     /// The values before a closing brace.
     fn values(&mut self) -> Result<Vec<EnumValue>, SyntaxFault>
-        ensures exact { Gives (λ v. (v.items, self.new)) result (until listed_value_at (is_sign close_brace) self.old) }
+        ensures exact { Gives (λ v. (v.items, self.new)) result
+            (until listed_value_at (is_sign close_brace) self.old) }
         ensures shorter { IfOk result (λ _. length self.new ≤ length self.old) }
     {
         let mut values = Vec::new(self.alloc());
@@ -48,7 +49,8 @@ impl Parser<'_> {
 
     #[tactic(auto, unfolding(crate::specs::Reading::some_until))]
     fn some_values(&mut self) -> Result<Vec<EnumValue>, SyntaxFault>
-        ensures exact { Gives (λ v. (v.items, self.new)) result (some_until listed_value_at close_brace self.old) }
+        ensures exact { Gives (λ v. (v.items, self.new)) result
+            (some_until listed_value_at close_brace self.old) }
         ensures shorter { IfOk result (λ _. length self.new ≤ length self.old) }
     {
         if self.is_sign(b'}') {

@@ -79,7 +79,8 @@ impl Parser<'_> {
     }
 
     fn fields(&mut self) -> Result<Vec<Field>, SyntaxFault>
-        ensures exact { Gives (λ v. (v.items, self.new)) result (until field_at (is_sign close_brace) self.old) }
+        ensures exact { Gives (λ v. (v.items, self.new)) result
+            (until field_at (is_sign close_brace) self.old) }
         ensures shorter { IfOk result (λ _. length self.new ≤ length self.old) }
     {
         let mut fields = Vec::new(self.alloc());

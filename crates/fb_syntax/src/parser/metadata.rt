@@ -47,7 +47,8 @@ impl Parser<'_> {
 
     /// The attributes before a closing parenthesis.
     fn attributes(&mut self) -> Result<Vec<AttributeUse>, SyntaxFault>
-        ensures exact { Gives (λ v. (v.items, self.new)) result (until listed_attribute_at (is_sign close_round) self.old) }
+        ensures exact { Gives (λ v. (v.items, self.new)) result
+            (until listed_attribute_at (is_sign close_round) self.old) }
         ensures shorter { IfOk result (λ _. length self.new ≤ length self.old) }
     {
         let mut attributes = Vec::new(self.alloc());

@@ -101,7 +101,8 @@ impl Parser<'_> {
     }
 
     fn declarations(&mut self) -> Result<Vec<Declaration>, SyntaxFault>
-        ensures exact { Gives (λ v. (v.items, self.new)) result (until declaration_at is_empty self.old) }
+        ensures exact { Gives (λ v. (v.items, self.new)) result
+            (until declaration_at is_empty self.old) }
         ensures shorter { IfOk result (λ _. length self.new ≤ length self.old) }
     {
         let mut declarations = Vec::new(self.alloc());
@@ -124,7 +125,8 @@ pub(crate) fn declarations_of(
 ) -> Result<Decls, SyntaxFault>
     requires { AreReadable text.now tokens.now }
     ensures reads { IfOk result (Reads text.now tokens.now) }
-    ensures exact { (d : DeclsRead) → Reads text.now tokens.now d → MatchResult result (λ r. r ≡ d) (λ e. e ≡ Memory) }
+    ensures exact { (d : DeclsRead) → Reads text.now tokens.now d
+        → MatchResult result (λ r. r ≡ d) (λ e. e ≡ Memory) }
     ensures fault { IfErr result IsGrammarFault }
 {
     let mut parser = Parser::new(alloc, text, tokens);

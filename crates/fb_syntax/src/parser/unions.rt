@@ -43,7 +43,8 @@ impl Parser<'_> {
 
     /// The members before a closing brace.
     fn members(&mut self) -> Result<Vec<UnionMember>, SyntaxFault>
-        ensures exact { Gives (λ v. (v.items, self.new)) result (until listed_member_at (is_sign close_brace) self.old) }
+        ensures exact { Gives (λ v. (v.items, self.new)) result
+            (until listed_member_at (is_sign close_brace) self.old) }
         ensures shorter { IfOk result (λ _. length self.new ≤ length self.old) }
     {
         let mut members = Vec::new(self.alloc());
@@ -56,7 +57,8 @@ impl Parser<'_> {
 
     #[tactic(auto, unfolding(crate::specs::Reading::some_until))]
     fn some_members(&mut self) -> Result<Vec<UnionMember>, SyntaxFault>
-        ensures exact { Gives (λ v. (v.items, self.new)) result (some_until listed_member_at close_brace self.old) }
+        ensures exact { Gives (λ v. (v.items, self.new)) result
+            (some_until listed_member_at close_brace self.old) }
         ensures shorter { IfOk result (λ _. length self.new ≤ length self.old) }
     {
         if self.is_sign(b'}') {
