@@ -211,6 +211,3 @@ impl<'t> Parser<'t> {
         Ok(name)
     }
 }
-
-#[cfg(test)]
-mod tests;

@@ -12,8 +12,8 @@ pub returns-in_err-tokens-clause-exact : goal.returns-in_err-tokens-clause-exact
 returns-in_err-tokens-clause-exact c =
     let p = err_from_is_err_and c.from_residual-in_err-tokens.result c.from_residual-in_err-tokens.ensures.1 in
     λ d parses.
-        (let spells = subst (λ (b : List ℕ). SpellsText b parses.0) (sym c.in_ok-readable.ensures.text.0) parses.1 in
-        rw (p.1, p.2) (finds_memory {X = Vec Token Global} (λ v. v.items) c.in_err-tokens.field-0.0 parses.0 (c.in_err-tokens.ensures.only parses.0 spells)))
+    (let spells = subst (λ (b : List ℕ). SpellsText b parses.0) (sym c.in_ok-readable.ensures.text.0) parses.1 in
+    rw (p.1, p.2) (finds_memory {X = Vec Token Global} (λ v. v.items) c.in_err-tokens.field-0.0 parses.0 (c.in_err-tokens.ensures.only parses.0 spells)))
 
 pub declarations_of-requires : goal.declarations_of-requires
 declarations_of-requires c =
@@ -24,6 +24,6 @@ pub returns-clause-exact : goal.returns-clause-exact
 returns-clause-exact c =
     let found = rw c.in_ok-readable.ensures.text.0 at c.in_ok-tokens.ensures.found in
     λ d parses.
-        (let same = one_spelling_shown c.args.text.now parses.0 c.in_ok-tokens.tokens.items parses.1 found in
-        let reads = subst (λ (ts : List Token). Reads c.args.text.now ts d) same parses.2 in
-        c.declarations_of.ensures.exact d (rw c.as_slice.ensures.value reads))
+    (let same = one_spelling_shown c.args.text.now parses.0 c.in_ok-tokens.tokens.items parses.1 found in
+    let reads = subst (λ (ts : List Token). Reads c.args.text.now ts d) same parses.2 in
+    c.declarations_of.ensures.exact d (rw c.as_slice.ensures.value reads))
