@@ -5,6 +5,7 @@ pub mod Numbers
 pub mod Quotes
 pub mod Blocks
 pub mod Fronts
+pub mod FrontsFound
 pub mod FrontPieces
 pub mod Scanning
 pub mod TextSpellings

@@ -1,10 +1,10 @@
 -- What a text's tokens say can be read.
-use Rattle.std.proofs.Common.{◌≡◌, ℕ, zero, suc, ◌+◌, ◌-◌, ◌<◌, ◌≤◌, List, length, take, drop, All, IsUtf8, refl, arith}
+use Rattle.std.proofs.Common.{◌≡◌, ℕ, ◌+◌, ◌-◌, ◌≤◌, List, take, drop, All, IsUtf8, refl, arith}
 use Rattle.fb_syntax.specs.declared.tokens.TokenKind.{TokenKind}
 use Rattle.fb_syntax.specs.declared.tokens.TokenKind.TheVariants.{Word, Integer, Quoted, Punct}
 use Rattle.fb_syntax.specs.declared.tokens.Token.{Token}
-use Rattle.fb_syntax.specs.SpelledTokens.{IsTokenOf, token_bytes, quoted_bytes}
-use Rattle.fb_syntax.specs.Lexemes.{IsReadable, AreReadable, content, margin}
+use Rattle.fb_syntax.specs.SpelledTokens.{IsTokenOf}
+use Rattle.fb_syntax.specs.Lexemes.{IsReadable, AreReadable, margin}
 use Rattle.fb_syntax.proofs.TokenEnds.{quoted_len}
 use Rattle.fb_syntax.proofs.TokenTexts.{IsUtf8-token_bytes, IsUtf8-quoted_bytes}
 

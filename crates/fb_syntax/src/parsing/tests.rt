@@ -81,7 +81,7 @@ fn reads_each_part(rt: HostRuntime) -> Result<(), Fail> {
 }
 
 #[test]
-fn names_the_token_that_is_unexpected(rt: HostRuntime) -> Result<(), Fail> {
+fn names_the_token_that_is_unexpected(rt: HostRuntime) {
     for (text, at) in [
         ("table", 5),
         ("table T { a:int ", 16),
@@ -138,7 +138,6 @@ fn names_the_token_that_is_unexpected(rt: HostRuntime) -> Result<(), Fail> {
             Err(fault) => assert_eq!(rt; fault, SyntaxFault::Unexpected(at), "at {text}"),
         }
     }
-    Ok(())
 }
 
 #[test]
@@ -285,7 +284,7 @@ fn each_cut_returns(rt: HostRuntime) {
             Err(_) => assert!(rt; false, "at {n}"),
         }
     }
-    // none, and behind each declaration, in the blanks and in most of the comments there
+    // no token, and behind each declaration, in the blanks and line comments there
     assert_eq!(rt; text.len(), 294);
     assert_eq!(rt; whole, 34);
 }

@@ -1,7 +1,6 @@
-use Rattle.std.proofs.Common.{◌≡◌, ℕ, List, Vec, Global, subst, sym, MatchResult}
+use Rattle.std.proofs.Common.{ℕ, List, Vec, Global, subst, sym}
 use Rattle.std.proofs.lemmas.Result.{err_from_is_err_and}
 use Rattle.fb_syntax.specs.declared.tokens.Token.{Token}
-use Rattle.fb_syntax.specs.DeclsRead.{DeclsRead}
 use Rattle.fb_syntax.specs.Spells.{SpellsText}
 use Rattle.fb_syntax.specs.GrammarSchema.{Reads}
 use Rattle.fb_syntax.proofs.TextSpellings.{finds_memory, one_spelling_shown}
