@@ -45,7 +45,10 @@ impl Layout {
             names.push(String::from_str(alloc, field)?)?;
         }
         let name = String::from_str(alloc, name)?;
-        Ok(Layout { name, fields: names })
+        Ok(Layout {
+            name,
+            fields: names,
+        })
     }
 
     /// The names of the fields of its one table, by slot.

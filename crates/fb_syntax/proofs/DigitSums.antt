@@ -1,0 +1,54 @@
+-- The sum of digits, read from the front.
+use Rattle.std.proofs.Common.{◌≡◌, ℕ, zero, suc, ◌+◌, ◌*◌, ◌^◌, ◌<◌, ◌≤◌, List, [], ◌∷◌, length, get_or, drop, arith, ap}
+use Rattle.std.proofs.Math.Nat.{mul-add, mul_comm, mul_assoc, pow-suc, pow-zero, mul-le-mul_left}
+use Rattle.fb_syntax.specs.Integers.{digits_value, digit_value}
+
+-- the value of digits of which those before `cs` have the value `high`
+pub carried : ℕ → ℕ → List ℕ → ℕ
+carried base high cs = high * base ^ length cs + digits_value base cs
+
+power_positive : (base k : ℕ) → 0 < base → 0 < base ^ k
+power_positive base zero h = rw (pow-zero base) (omega arith)
+power_positive base (suc k) h =
+    let rest = power_positive base k h in
+    let more : base ^ k * 1 ≤ base ^ k * base = mul-le-mul_left (base ^ k) (omega arith) in
+    rw (pow-suc base k) (omega arith)
+
+pub carried-grows : (base high : ℕ) (cs : List ℕ) → 0 < base → high ≤ carried base high cs
+unfolding carried
+carried-grows base high cs h =
+    let positive = power_positive base (length cs) h in
+    let more : high * 1 ≤ high * base ^ length cs = mul-le-mul_left high (omega arith) in
+    omega arith
+
+shifted : (high base d p : ℕ) → high * (p * base) + d * p ≡ (high * base + d) * p
+shifted high base d p =
+    let a = mul_comm (high * base + d) p in
+    let b = mul-add p (high * base) d in
+    let c = mul_comm high (p * base) in
+    let e = mul_assoc p base high in
+    let f = ap (λ x. p * x) (mul_comm base high) in
+    let g = mul_comm p d in
+    cc
+
+one_digit_more : (base high c : ℕ) (cs : List ℕ) → carried base high (c ∷ cs) ≡ carried base (high * base + digit_value c) cs
+unfolding carried
+one_digit_more base high c cs =
+    let p = base ^ length cs in
+    let e = shifted high base (digit_value c) (base ^ length cs) in
+    rw (pow-suc base (length cs)) (omega arith)
+
+pub carried-step : (base high i : ℕ) (cs : List ℕ) → i < length cs → carried base high (drop i cs) ≡ carried base (high * base + digit_value (get_or cs i 0)) (drop (suc i) cs)
+carried-step base high i [] h = absurd (omega arith)
+carried-step base high zero (c ∷ cs) h = one_digit_more base high c cs
+carried-step base high (suc i) (c ∷ cs) h = carried-step base high i cs (omega arith)
+
+pub carried-nil : (base high : ℕ) → carried base high [] ≡ high
+unfolding carried
+carried-nil base high = rw (pow-zero base) (omega arith)
+
+pub carried-zero : (base : ℕ) (cs : List ℕ) → carried base 0 cs ≡ digits_value base cs
+unfolding carried
+carried-zero base cs = omega arith
+
+pub ruleset valuing = (carried-grows, carried-step, carried-nil, carried-zero)

@@ -1,0 +1,28 @@
+use Rattle.std.proofs.Common.{ℕ, List, Vec, Global, subst, sym}
+use Rattle.std.proofs.lemmas.Result.{err_from_is_err_and}
+use Rattle.fb_syntax.specs.declared.tokens.Token.{Token}
+use Rattle.fb_syntax.specs.Spells.{SpellsText}
+use Rattle.fb_syntax.specs.GrammarSchema.{Reads}
+use Rattle.fb_syntax.proofs.TextSpellings.{finds_memory, one_spelling_shown}
+use Rattle.fb_syntax.proofs.ReadableTokens.{all_readable}
+use Rattle.fb_syntax.proofs.parsing.parse.Goals as goal
+
+pub returns-in_err-tokens-clause-exact : goal.returns-in_err-tokens-clause-exact
+returns-in_err-tokens-clause-exact c =
+    let p = err_from_is_err_and c.from_residual-in_err-tokens.result c.from_residual-in_err-tokens.ensures.1 in
+    λ d parses.
+    (let spells = subst (λ (b : List ℕ). SpellsText b parses.0) (sym c.in_ok-readable.ensures.text.0) parses.1 in
+    rw (p.1, p.2) (finds_memory {X = Vec Token Global} (λ v. v.items) c.in_err-tokens.field-0.0 parses.0 (c.in_err-tokens.ensures.only parses.0 spells)))
+
+pub declarations_of-requires : goal.declarations_of-requires
+declarations_of-requires c =
+    let tokens = rw c.in_ok-readable.ensures.text.0 at c.in_ok-tokens.ensures.tokens in
+    rw c.as_slice.ensures.value (all_readable c.args.text.now c.in_ok-tokens.tokens.items c.in_ok-readable.ensures.text.1 tokens)
+
+pub returns-clause-exact : goal.returns-clause-exact
+returns-clause-exact c =
+    let found = rw c.in_ok-readable.ensures.text.0 at c.in_ok-tokens.ensures.found in
+    λ d parses.
+    (let same = one_spelling_shown c.args.text.now parses.0 c.in_ok-tokens.tokens.items parses.1 found in
+    let reads = subst (λ (ts : List Token). Reads c.args.text.now ts d) same parses.2 in
+    c.declarations_of.ensures.exact d (rw c.as_slice.ensures.value reads))

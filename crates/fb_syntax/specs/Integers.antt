@@ -1,0 +1,61 @@
+-- Integers and their values (Grammar: integer_constant, dec_integer_constant, hex_integer_constant).
+use Rattle.std.specs.Prelude.{ℕ, ◌≡◌, ◌≤◌, ◌+◌, ◌-◌, ◌*◌, ◌^◌, Bool, true, false, ◌==◌, ◌||◌, ◌&&◌, List, [], ◌∷◌, length, drop, if◌then◌else◌, ℤ, pos, ◌-ℤ◌}
+use Rattle.std.specs.List.{list_all}
+use Rattle.fb_syntax.specs.Bytes.{is_between, is_digit, is_hex, is_sign}
+
+-- what stands behind the sign, if there is one
+abbrev pub without_sign : List ℕ → List ℕ
+without_sign [] = []
+without_sign (c ∷ cs) = if is_sign c then cs else c ∷ cs
+
+abbrev pub is_decimal : List ℕ → Bool
+is_decimal [] = false
+is_decimal (c ∷ cs) = list_all is_digit (c ∷ cs)
+
+-- 0x or 0X, and a digit behind it
+abbrev pub is_prefixed : List ℕ → Bool
+is_prefixed [] = false
+is_prefixed (z ∷ []) = false
+is_prefixed (z ∷ x ∷ []) = false
+is_prefixed (z ∷ x ∷ h ∷ hs) = z == 48 && (x == 120 || x == 88) && is_hex h
+
+abbrev pub is_hexadecimal : List ℕ → Bool
+is_hexadecimal s = is_prefixed s && list_all is_hex (drop 2 s)
+
+abbrev pub is_unsigned : List ℕ → Bool
+is_unsigned s = is_decimal s || is_hexadecimal s
+
+abbrev pub is_integer : List ℕ → Bool
+is_integer s = is_unsigned (without_sign s)
+
+abbrev pub digit_value : ℕ → ℕ
+digit_value c = if is_digit c then c - 48 else (if is_between 97 102 c then c - 87 else (if is_between 65 70 c then c - 55 else 0))
+
+-- the sum of the digits, each times the base to the number of digits behind it
+abbrev pub digits_value : ℕ → List ℕ → ℕ
+digits_value base [] = 0
+digits_value base (c ∷ cs) = digit_value c * base ^ length cs + digits_value base cs
+
+abbrev pub unsigned_value : List ℕ → ℕ
+unsigned_value s = if is_prefixed s then digits_value 16 (drop 2 s) else digits_value 10 s
+
+-- the value without the sign
+unfoldable pub magnitude : List ℕ → ℕ
+magnitude s = unsigned_value (without_sign s)
+
+-- the greatest that a type of FlatBuffers holds
+abbrev pub greatest_magnitude : ℕ
+greatest_magnitude = 18446744073709551615
+
+-- -
+abbrev pub is_negative : List ℕ → Bool
+is_negative [] = false
+is_negative (c ∷ cs) = c == 45
+
+abbrev pub signed_value : List ℕ → ℤ
+signed_value s = if is_negative s then pos 0 -ℤ pos (magnitude s) else pos (magnitude s)
+
+-- an integer that is not too great
+pub record IsInteger (s : List ℕ) : Type 0 where
+  pub spelled : is_integer s ≡ true
+  pub small : magnitude s ≤ greatest_magnitude

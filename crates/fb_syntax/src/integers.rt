@@ -1,0 +1,115 @@
+//! Integers, their lengths and their values.
+ghost use Rattle.std.specs.Prelude.{◌≡◌, ◌≤◌, ◌<◌, ◌+◌, ◌*◌, ◌^◌, ◌↔◌, length, MatchOption, IsTrue, IsSome, IfSome};
+ghost use Rattle.fb_syntax.specs.Integers.{is_integer, is_prefixed, without_sign, digit_value, digits_value, magnitude, is_negative, signed_value, greatest_magnitude, IsInteger};
+ghost use Rattle.fb_syntax.specs.NumberLen.{number_len};
+
+use crate::bytes::{digit_run, hex_run, is_hex, is_sign};
+
+fn digit_value(byte: u8) -> u64
+    ensures value { result ≡ digit_value byte }
+    ensures small { result < 16 }
+{
+    let value = match byte {
+        b'0'..=b'9' => byte - b'0',
+        b'a'..=b'f' => byte - b'a' + 10,
+        b'A'..=b'F' => byte - b'A' + 10,
+        _ => 0,
+    };
+    u64::from(value)
+}
+
+fn with_digit(high: u64, base: u64, digit: u64) -> Option<u64>
+    ensures { let value = high * base + digit in
+        MatchOption result (greatest_magnitude < value) (λ v. v ≡ value) }
+{
+    high.checked_mul(base)?.checked_add(digit)
+}
+
+#[tactic(auto, using(crate::proofs::DigitSums::valuing))]
+fn digits_value(base: u64, digits: &[u8]) -> Option<u64>
+    requires { 0 < base }
+    ensures { let value = digits_value base digits.now in
+        MatchOption result (greatest_magnitude < value) (λ v. v ≡ value) }
+{
+    let mut high = 0;
+    for byte in digits {
+        match with_digit(high, base, digit_value(*byte)) {
+            Some(next) => high = next,
+            None => return None,
+        }
+    }
+    Some(high)
+}
+
+fn is_prefixed(text: &[u8]) -> bool
+    ensures prefixed { result ≡ is_prefixed text.now }
+    ensures long { IsTrue result → 2 ≤ length text.now }
+{
+    match text {
+        [b'0', b'x' | b'X', first, ..] => is_hex(*first),
+        _ => false,
+    }
+}
+
+fn without_sign(text: &[u8]) -> &[u8]
+    ensures { result.now ≡ without_sign text.now }
+{
+    match text {
+        [first, rest @ ..] if is_sign(*first) => rest,
+        _ => text,
+    }
+}
+
+#[tactic(auto, unfolding(crate::specs::Integers::magnitude))]
+pub(crate) fn magnitude(spelling: &[u8]) -> Option<u64>
+    ensures { MatchOption result (greatest_magnitude < magnitude spelling.now)
+        (λ m. m ≡ magnitude spelling.now) }
+{
+    let digits = without_sign(spelling);
+    if is_prefixed(digits) {
+        digits_value(16, &digits[2..])
+    } else {
+        digits_value(10, digits)
+    }
+}
+
+#[tactic(auto, unfolding(crate::specs::NumberLen::number_len))]
+pub(crate) fn number_len(text: &[u8]) -> usize
+    ensures len { result ≡ number_len text.now }
+    ensures within { result ≤ length text.now }
+{
+    if is_prefixed(text) {
+        2 + hex_run(&text[2..])
+    } else {
+        digit_run(text)
+    }
+}
+
+fn is_integer(spelling: &[u8]) -> bool
+    ensures { result ≡ is_integer spelling.now }
+{
+    let digits = without_sign(spelling);
+    !digits.is_empty() && number_len(digits) == digits.len()
+}
+
+fn is_negative(spelling: &[u8]) -> bool
+    ensures { result ≡ is_negative spelling.now }
+{
+    matches!(spelling, [b'-', ..])
+}
+
+/// The value of an integer, with its sign; `None` for what is no integer or too great.
+pub fn integer_value(spelling: &str) -> Option<i128>
+    ensures found { IsSome result ↔ IsInteger spelling.now }
+    ensures value { IfSome result (λ v. v ≡ signed_value spelling.now) }
+{
+    let bytes = spelling.as_bytes();
+    if !is_integer(bytes) {
+        return None;
+    }
+    let value = i128::from(magnitude(bytes)?);
+    Some(if is_negative(bytes) { -value } else { value })
+}
+
+#[cfg(test)]
+mod tests;

@@ -1,0 +1,48 @@
+use super::*;
+
+#[test]
+fn values_of_integers(rt: HostRuntime) {
+    for (spelling, value) in [
+        ("0", 0),
+        ("-0", 0),
+        ("+0", 0),
+        ("007", 7),
+        ("-7", -7),
+        ("+12", 12),
+        ("0x1F", 31),
+        ("0X1f", 31),
+        ("-0xaB", -171),
+        ("+0x0", 0),
+        ("18446744073709551615", 18446744073709551615),
+        ("-18446744073709551615", -18446744073709551615),
+        ("0xffffffffffffffff", 18446744073709551615),
+        (
+            "00000000000000000000018446744073709551615",
+            18446744073709551615,
+        ),
+    ] {
+        assert_eq!(rt; integer_value(spelling), Some(value), "of {spelling}");
+    }
+}
+
+#[test]
+fn no_integers_have_no_value(rt: HostRuntime) {
+    for spelling in [
+        "",
+        "+",
+        "-",
+        "--1",
+        "+-1",
+        "a",
+        "1a",
+        "1 ",
+        "0x",
+        "0xg",
+        "00x1",
+        "18446744073709551616",
+        "-18446744073709551616",
+        "0x10000000000000000",
+    ] {
+        assert_eq!(rt; integer_value(spelling), None, "of {spelling}");
+    }
+}

@@ -1,0 +1,213 @@
+//! The grammar, one token ahead.
+mod enums;
+mod fields;
+mod keywords;
+mod lists;
+mod metadata;
+mod schema;
+mod unions;
+
+ghost use Rattle.std.specs.Prelude.{◌≡◌, ◌≢◌, ◌<◌, ◌≤◌, length, drop, Some, None, IsSome, IfOk, IfSome, MatchOption};
+ghost use Rattle.fb_syntax.specs.Lexemes.{IsReadable, AreReadable, content, lexemes};
+ghost use Rattle.fb_syntax.specs.Signs.{dot};
+ghost use Rattle.fb_syntax.specs.Reading.{Gives, is_empty, is_only, is_sign, kind_at, name_at, name_more, sign_at, token_at};
+ghost use Rattle.fb_syntax.specs.declared.faults.SyntaxFault.TheVariants.{Memory};
+ghost use Rattle.fb_syntax.specs.declared.tokens.TokenKind.TheVariants.{Word};
+
+use crate::declarations::Text;
+use crate::faults::SyntaxFault;
+use crate::tokens::{Token, TokenKind};
+pub(crate) use schema::declarations_of;
+use std::alloc::Global;
+use std::marker::Model;
+
+/// What a token says, and its offset.
+#[derive(Clone, Copy)]
+struct Spelling<'t> {
+    text: &'t str,
+    at: u64,
+}
+
+/// The tokens that are left, and the text that they stand in.
+#[derive(Drop)]
+struct Parser<'t> {
+    alloc: Global,
+    text: &'t [u8],
+    tokens: &'t [Token],
+}
+
+impl<'t> Model for Parser<'t> {
+    ghost use Rattle.std.specs.Prelude.{List};
+    ghost use Rattle.fb_syntax.specs.Lexemes.{Lexeme, AreReadable, lexemes};
+
+    ghost Value = { List Lexeme };
+
+    ghost view = { λ p. lexemes p.text.now p.tokens.now };
+
+    ghost invariant = { λ p. AreReadable p.text.now p.tokens.now };
+}
+
+/// What a token says.
+fn spelled<'t>(text: &'t [u8], token: Token) -> Spelling<'t>
+    requires { IsReadable text.now token }
+    ensures says { result.text.now ≡ content text.now token }
+    ensures stands { result.at ≡ token.at }
+{
+    let margin = if token.kind == TokenKind::Quoted {
+        1
+    } else {
+        0
+    };
+    let start = token.at as usize + margin;
+    let len = token.len as usize - (margin + margin);
+    let bytes = &text[start..start + len];
+    Spelling {
+        text: str::from_utf8(bytes).unwrap(),
+        at: token.at,
+    }
+}
+
+fn is_only(text: &str, sign: u8) -> bool
+    ensures { result ≡ is_only sign text.now }
+{
+    match text.as_bytes() {
+        [only] => *only == sign,
+        _ => false,
+    }
+}
+
+impl<'t> Parser<'t> {
+    fn new(alloc: Global, text: &'t [u8], tokens: &'t [Token]) -> Parser<'t>
+        requires { AreReadable text.now tokens.now }
+        ensures { result ≡ lexemes text.now tokens.now }
+    {
+        Parser {
+            alloc,
+            text,
+            tokens,
+        }
+    }
+
+    fn alloc(&self) -> Global {
+        self.alloc
+    }
+
+    fn is_at_end(&self) -> bool
+        ensures { result ≡ is_empty self.now }
+    {
+        self.tokens.is_empty()
+    }
+
+    /// The offset of the next token, or of the text's end.
+    fn offset(&self) -> u64 {
+        match self.tokens.first() {
+            Some(token) => token.at,
+            None => self.text.len() as u64,
+        }
+    }
+
+    fn kind(&self) -> Option<TokenKind>
+        ensures { result ≡ kind_at self.now }
+    {
+        match self.tokens {
+            [next, ..] => Some(next.kind),
+            [] => None,
+        }
+    }
+
+    /// Passes the next token.
+    fn advance(&mut self)
+        ensures { self.new ≡ drop 1 self.old }
+    {
+        if let [_, rest @ ..] = self.tokens {
+            self.tokens = rest;
+        }
+    }
+
+    #[tactic(auto, unfolding(crate::specs::Reading::token_at))]
+    fn token(&mut self, kind: TokenKind) -> Result<Spelling<'t>, SyntaxFault>
+        ensures exact { Gives (λ t. (record { bytes = t.text.now; at = t.at }, self.new)) result
+            (token_at kind self.old) }
+        ensures shorter { IfOk result (λ _. length self.new < length self.old) }
+    {
+        let [next, ..] = self.tokens else {
+            return Err(SyntaxFault::Unexpected(self.offset()));
+        };
+        if next.kind != kind {
+            return Err(SyntaxFault::Unexpected(self.offset()));
+        }
+        let token = spelled(self.text, *next);
+        self.advance();
+        Ok(token)
+    }
+
+    fn text(&mut self, kind: TokenKind) -> Result<Text, SyntaxFault>
+        ensures exact { Gives (λ t. (t, self.new)) result (token_at kind self.old) }
+        ensures shorter { IfOk result (λ _. length self.new < length self.old) }
+    {
+        let token = self.token(kind)?;
+        Ok(Text::new(self.alloc(), token.text, token.at)?)
+    }
+
+    fn is_sign(&self, sign: u8) -> bool
+        ensures { result ≡ is_sign sign self.now }
+    {
+        match self.tokens {
+            [next, ..] => {
+                next.kind == TokenKind::Punct && is_only(spelled(self.text, *next).text, sign)
+            }
+            [] => false,
+        }
+    }
+
+    /// Passes a sign that stands next, and answers its offset.
+    #[tactic(auto, unfolding(crate::specs::Reading::sign_at))]
+    fn take_sign(&mut self, sign: u8) -> Option<u64>
+        ensures exact { MatchOption result
+            ((sign_at sign self.old ≡ None) × (self.new ≡ self.old))
+            (λ at. sign_at sign self.old ≡ Some (at, self.new)) }
+        ensures shorter { IfSome result (λ _. length self.new < length self.old) }
+    {
+        if !self.is_sign(sign) {
+            return None;
+        }
+        let [next, ..] = self.tokens else {
+            return None;
+        };
+        let at = next.at;
+        self.advance();
+        Some(at)
+    }
+
+    fn sign(&mut self, sign: u8) -> Result<u64, SyntaxFault>
+        ensures exact { Gives (λ at. (at, self.new)) result (sign_at sign self.old) }
+        ensures shorter { IfOk result (λ _. length self.new < length self.old) }
+    {
+        match self.take_sign(sign) {
+            Some(at) => Ok(at),
+            None => Err(SyntaxFault::Unexpected(self.offset())),
+        }
+    }
+
+    #[tactic(auto, unfolding(crate::specs::Reading::name_at))]
+    fn name(&mut self) -> Result<Text, SyntaxFault>
+        ensures exact { Gives (λ t. (t, self.new)) result (name_at self.old) }
+        ensures shorter { IfOk result (λ _. length self.new < length self.old) }
+    {
+        let first = self.text(TokenKind::Word)?;
+        self.name_from(first)
+    }
+
+    /// A name whose first word is read already.
+    fn name_from(&mut self, first: Text) -> Result<Text, SyntaxFault>
+        ensures exact { Gives (λ t. (t, self.new)) result (name_more first self.old) }
+        ensures shorter { IfOk result (λ _. length self.new ≤ length self.old) }
+    {
+        let mut name = first;
+        while let Some(_) = self.take_sign(b'.') {
+            let word = self.token(TokenKind::Word)?;
+            name.join(word.text)?;
+        }
+        Ok(name)
+    }
+}

@@ -1,0 +1,135 @@
+//! Declarations, to the end of the tokens.
+ghost use Rattle.std.specs.Prelude.{IfErr, ◌≡◌, ◌<◌, ◌≤◌, length, IfOk, MatchResult};
+ghost use Rattle.fb_syntax.specs.declared.faults.SyntaxFault.TheVariants.{Memory};
+ghost use Rattle.fb_syntax.specs.DeclsRead.{DeclsRead};
+ghost use Rattle.fb_syntax.specs.GrammarSchema.{Reads};
+ghost use Rattle.fb_syntax.specs.Lexemes.{AreReadable};
+ghost use Rattle.fb_syntax.specs.Reading.{Gives, IsGrammarFault, is_empty, until};
+ghost use Rattle.fb_syntax.specs.ReadingSchema.{keyword_at, namespace_at, attribute_at, root_at, quoted_at, declared_at, declaration_at, declarations_at};
+
+use super::Parser;
+use super::keywords::{Keyword, keyword_of};
+use crate::declarations::{Declaration, Decls, Text};
+use crate::faults::SyntaxFault;
+use crate::tokens::{Token, TokenKind};
+use std::alloc::Global;
+
+impl Parser<'_> {
+    #[tactic(auto, unfolding(crate::specs::ReadingSchema::namespace_at))]
+    fn namespace(&mut self) -> Result<Option<Text>, SyntaxFault>
+        ensures exact { Gives (λ n. (n, self.new)) result (namespace_at self.old) }
+        ensures shorter { IfOk result (λ _. length self.new < length self.old) }
+    {
+        if let Some(_) = self.take_sign(b';') {
+            return Ok(None);
+        }
+        let name = self.name()?;
+        self.sign(b';')?;
+        Ok(Some(name))
+    }
+
+    #[tactic(auto, unfolding(crate::specs::ReadingSchema::attribute_at))]
+    fn attribute(&mut self) -> Result<Text, SyntaxFault>
+        ensures exact { Gives (λ t. (t, self.new)) result (attribute_at self.old) }
+        ensures shorter { IfOk result (λ _. length self.new < length self.old) }
+    {
+        let name = match self.kind() {
+            Some(TokenKind::Quoted) => self.text(TokenKind::Quoted)?,
+            _ => self.text(TokenKind::Word)?,
+        };
+        self.sign(b';')?;
+        Ok(name)
+    }
+
+    #[tactic(auto, unfolding(crate::specs::ReadingSchema::root_at))]
+    fn root(&mut self) -> Result<Text, SyntaxFault>
+        ensures exact { Gives (λ t. (t, self.new)) result (root_at self.old) }
+        ensures shorter { IfOk result (λ _. length self.new < length self.old) }
+    {
+        let name = self.name()?;
+        self.sign(b';')?;
+        Ok(name)
+    }
+
+    /// What a file's name ends in, or its identifier.
+    #[tactic(auto, unfolding(crate::specs::ReadingSchema::quoted_at))]
+    fn quoted(&mut self) -> Result<Text, SyntaxFault>
+        ensures exact { Gives (λ t. (t, self.new)) result (quoted_at self.old) }
+        ensures shorter { IfOk result (λ _. length self.new < length self.old) }
+    {
+        let text = self.text(TokenKind::Quoted)?;
+        self.sign(b';')?;
+        Ok(text)
+    }
+
+    #[tactic(auto, unfolding(crate::specs::ReadingSchema::keyword_at))]
+    fn keyword(&mut self) -> Result<Keyword, SyntaxFault>
+        ensures exact { Gives (λ k. (k, self.new)) result (keyword_at self.old) }
+        ensures shorter { IfOk result (λ _. length self.new < length self.old) }
+    {
+        let at = self.offset();
+        let word = self.token(TokenKind::Word)?;
+        keyword_of(word.text).ok_or(SyntaxFault::Unexpected(at))
+    }
+
+    /// The declaration that a word begins.
+    #[tactic(auto, unfolding(crate::specs::ReadingSchema::declared_at))]
+    fn declared(&mut self, keyword: Keyword) -> Result<Declaration, SyntaxFault>
+        ensures exact { Gives (λ d. (d, self.new)) result (declared_at keyword self.old) }
+        ensures shorter { IfOk result (λ _. length self.new < length self.old) }
+    {
+        match keyword {
+            Keyword::Namespace => Ok(Declaration::Namespace(self.namespace()?)),
+            Keyword::Attribute => Ok(Declaration::Attribute(self.attribute()?)),
+            Keyword::Table => Ok(Declaration::Table(self.table()?)),
+            Keyword::Struct => Ok(Declaration::Struct(self.table()?)),
+            Keyword::Enum => Ok(Declaration::Enum(self.enumeration()?)),
+            Keyword::Union => Ok(Declaration::Union(self.union()?)),
+            Keyword::Root => Ok(Declaration::Root(self.root()?)),
+            Keyword::Extension => Ok(Declaration::Extension(self.quoted()?)),
+            Keyword::Identifier => Ok(Declaration::Identifier(self.quoted()?)),
+        }
+    }
+
+    #[tactic(auto, unfolding(crate::specs::ReadingSchema::declaration_at))]
+    fn declaration(&mut self) -> Result<Declaration, SyntaxFault>
+        ensures exact { Gives (λ d. (d, self.new)) result (declaration_at self.old) }
+        ensures shorter { IfOk result (λ _. length self.new < length self.old) }
+    {
+        let keyword = self.keyword()?;
+        self.declared(keyword)
+    }
+
+    fn declarations(&mut self) -> Result<Vec<Declaration>, SyntaxFault>
+        ensures exact { Gives (λ v. (v.items, self.new)) result
+            (until declaration_at is_empty self.old) }
+        ensures shorter { IfOk result (λ _. length self.new ≤ length self.old) }
+    {
+        let mut declarations = Vec::new(self.alloc());
+        while !self.is_at_end() {
+            let declaration = self.declaration()?;
+            declarations.push(declaration)?;
+        }
+        Ok(declarations)
+    }
+}
+
+/// What the tokens of a text declare.
+///
+/// A refusal names the first token that the grammar doesn't allow, or the text's length; a vector
+/// inside a vector is one of its own.
+pub(crate) fn declarations_of(
+    alloc: Global,
+    text: &[u8],
+    tokens: &[Token],
+) -> Result<Decls, SyntaxFault>
+    requires { AreReadable text.now tokens.now }
+    ensures reads { IfOk result (Reads text.now tokens.now) }
+    ensures exact { (d : DeclsRead) → Reads text.now tokens.now d
+        → MatchResult result (λ r. r ≡ d) (λ e. e ≡ Memory) }
+    ensures fault { IfErr result IsGrammarFault }
+{
+    let mut parser = Parser::new(alloc, text, tokens);
+    let declarations = parser.declarations()?;
+    Ok(Decls::new(declarations, text.len() as u64))
+}

@@ -1,0 +1,224 @@
+//! The tokens of a text.
+ghost use Rattle.std.specs.Prelude.{◌≡◌, ◌≤◌, ◌<◌, ◌+◌, ◌^◌, ◌↔◌, length, drop, ℕ, List, All, Err, IfSome, IfOk, IfErr, MatchResult, IsTrue, IsUtf8};
+ghost use Rattle.std.specs.Str.Lossy.{utf8_valid_len};
+ghost use Rattle.fb_syntax.specs.declared.tokens.Token.{Token};
+ghost use Rattle.fb_syntax.specs.Spells.{Spells, SpellsText, OneSpelling, Finds};
+ghost use Rattle.fb_syntax.specs.SpelledTokens.{IsTokenOf, IsTokenFault, token_bytes, quoted_bytes};
+ghost use Rattle.fb_syntax.specs.Marks.{mark_len};
+ghost use Rattle.fb_syntax.specs.Pieces.{is_close, close_len, comment_at, integer_at, quoted_at, piece_at};
+
+use crate::bytes::{
+    is_blank, is_digit, is_letter, is_punct, is_sign, line_run, quotable_run, word_run,
+};
+use crate::faults::SyntaxFault;
+use crate::integers::{magnitude, number_len};
+use crate::tokens::{Token, TokenKind};
+use simdutf8::compat;
+use std::alloc::Global;
+
+// What stands at a text's front, with its length.
+#[derive(Clone, Copy)]
+enum Piece {
+    Gap(usize),
+    Token(TokenKind, usize),
+}
+
+fn is_close(text: &[u8]) -> bool
+    ensures close { result ≡ is_close text.now }
+    ensures long { IsTrue result → 2 ≤ length text.now }
+{
+    matches!(text, [b'*', b'/', ..])
+}
+
+#[tactic(auto, using(crate::proofs::Runs::closing))]
+fn close_len(text: &[u8]) -> Option<usize>
+    ensures len { result ≡ close_len text.now }
+    ensures within { IfSome result (λ n. n ≤ length text.now) }
+{
+    for i in 0..text.len() {
+        if is_close(&text[i..]) {
+            return Some(i + 2);
+        }
+    }
+    None
+}
+
+// The comment behind a slash that stands at `at`.
+#[tactic(auto, unfolding(crate::specs::Pieces::comment_at))]
+fn comment(at: u64, text: &[u8]) -> Result<Piece, SyntaxFault>
+    ensures piece { result ≡ comment_at at text.now }
+    ensures fault { IfErr result IsTokenFault }
+{
+    match text {
+        [b'/', rest @ ..] => Ok(Piece::Gap(2 + line_run(rest))),
+        [b'*', rest @ ..] => match close_len(rest) {
+            Some(len) => Ok(Piece::Gap(len + 2)),
+            None => Err(SyntaxFault::Unterminated(at)),
+        },
+        _ => Err(SyntaxFault::BadByte(at)),
+    }
+}
+
+// The quoted text behind a quote that stands at `at`.
+#[tactic(auto, unfolding(crate::specs::Pieces::quoted_at))]
+fn quoted(at: u64, text: &[u8]) -> Result<Piece, SyntaxFault>
+    requires { at + length text.now < 2 ^ 64 }
+    ensures piece { result ≡ quoted_at at text.now }
+    ensures fault { IfErr result IsTokenFault }
+{
+    let len = quotable_run(text);
+    match text.get(len) {
+        None => Err(SyntaxFault::Unterminated(at)),
+        Some(b'"') => Ok(Piece::Token(TokenKind::Quoted, len + 2)),
+        Some(_) => Err(SyntaxFault::BadByte(at + len as u64 + 1)),
+    }
+}
+
+// The integer at `at`, whose sign has that many bytes.
+#[tactic(auto, unfolding(crate::specs::Pieces::integer_at))]
+fn integer(at: u64, sign: usize, text: &[u8]) -> Result<Piece, SyntaxFault>
+    requires { sign ≤ length text.now }
+    ensures piece { result ≡ integer_at at sign text.now }
+    ensures fault { IfErr result IsTokenFault }
+{
+    let len = number_len(&text[sign..]);
+    if len == 0 {
+        return Err(SyntaxFault::BadByte(at));
+    }
+    match magnitude(&text[..sign + len]) {
+        Some(_) => Ok(Piece::Token(TokenKind::Integer, sign + len)),
+        None => Err(SyntaxFault::NumberTooBig(at)),
+    }
+}
+
+// What stands at `at`, where `text` begins.
+#[tactic(auto, unfolding(crate::specs::Pieces::piece_at))]
+fn next_piece(at: u64, text: &[u8]) -> Result<Piece, SyntaxFault>
+    requires { at + length text.now < 2 ^ 64 }
+    ensures piece { result ≡ piece_at at text.now }
+    ensures fault { IfErr result IsTokenFault }
+{
+    let [first, rest @ ..] = text else {
+        return Err(SyntaxFault::BadByte(at));
+    };
+    let first = *first;
+    if is_blank(first) {
+        Ok(Piece::Gap(1))
+    } else if first == b'/' {
+        comment(at, rest)
+    } else if is_letter(first) {
+        Ok(Piece::Token(TokenKind::Word, 1 + word_run(rest)))
+    } else if is_digit(first) {
+        integer(at, 0, text)
+    } else if is_sign(first) {
+        integer(at, 1, text)
+    } else if first == b'"' {
+        quoted(at, rest)
+    } else if is_punct(first) {
+        Ok(Piece::Token(TokenKind::Punct, 1))
+    } else {
+        Err(SyntaxFault::BadByte(at))
+    }
+}
+
+// The tokens from `start` on.
+fn tokens_from(alloc: Global, start: usize, text: &[u8]) -> Result<Vec<Token>, SyntaxFault>
+    requires { start ≤ length text.now }
+    ensures found { IfOk result (λ v. Spells start (drop start text.now) v.items) }
+    ensures only { (tokens : List Token) →
+        Spells start (drop start text.now) tokens → Finds (λ v. v.items) result tokens }
+    ensures fault { IfErr result IsTokenFault }
+{
+    let mut found = Vec::new(alloc);
+    let mut at = start;
+    while at < text.len() {
+        match next_piece(at as u64, &text[at..]) {
+            Ok(Piece::Gap(len)) => at += len,
+            Ok(Piece::Token(kind, len)) => {
+                let token = Token {
+                    kind,
+                    at: at as u64,
+                    len: len as u64,
+                };
+                match found.push(token) {
+                    Ok(()) => at += len,
+                    Err(_) => return Err(SyntaxFault::Memory),
+                }
+            }
+            Err(fault) => return Err(fault),
+        }
+    }
+    Ok(found)
+}
+
+fn mark_len(text: &[u8]) -> usize
+    ensures len { result ≡ mark_len text.now }
+    ensures within { result ≤ length text.now }
+{
+    if matches!(text, [0xef, 0xbb, 0xbf, ..]) {
+        3
+    } else {
+        0
+    }
+}
+
+/// The bytes as text, or the length of their longest front that is UTF-8.
+pub(crate) fn text_of(bytes: &[u8]) -> Result<&str, SyntaxFault>
+    ensures text { IfOk result (λ s. (s.now ≡ bytes.now) × IsUtf8 bytes.now) }
+    ensures not_utf8 { IfErr result (λ e.
+        ¬ (IsUtf8 bytes.now) × (e ≡ SyntaxFault.NotUtf8 (utf8_valid_len bytes.now))) }
+{
+    match compat::from_utf8(bytes) {
+        Ok(text) => Ok(text),
+        Err(fault) => Err(SyntaxFault::NotUtf8(fault.valid_up_to() as u64)),
+    }
+}
+
+/// The tokens of a text, behind its byte order mark if it has one; offsets count the mark.
+pub(crate) fn tokens_in(alloc: Global, text: &str) -> Result<Vec<Token>, SyntaxFault>
+    ensures found { IfOk result (λ v. SpellsText text.now v.items) }
+    ensures only { (tokens : List Token) →
+        SpellsText text.now tokens → Finds (λ v. v.items) result tokens }
+    ensures tokens { IfOk result (λ v. All (IsTokenOf text.now) v.items) }
+    ensures fault { IfErr result IsTokenFault }
+{
+    let bytes = text.as_bytes();
+    tokens_from(alloc, mark_len(bytes), bytes)
+}
+
+/// The tokens of the bytes of a text: UTF-8 is asked for first, over the whole of them.
+pub(crate) fn tokens_of(alloc: Global, text: &[u8]) -> Result<Vec<Token>, SyntaxFault>
+    ensures found { IfOk result (λ v. SpellsText text.now v.items) }
+    ensures only { (tokens : List Token) →
+        SpellsText text.now tokens → Finds (λ v. v.items) result tokens }
+    ensures not_utf8 { (at : ℕ) → ((result ≡ Err (SyntaxFault.NotUtf8 at))
+        ↔ (¬ (IsUtf8 text.now) × (at ≡ utf8_valid_len text.now))) }
+    ensures tokens { IfOk result (λ v. All (IsTokenOf text.now) v.items) }
+{
+    tokens_in(alloc, text_of(text)?)
+}
+
+/// What a token is in its text.
+pub(crate) fn token_text<'a>(text: &'a str, token: Token) -> &'a str
+    requires { IsTokenOf text.now token }
+    ensures { result.now ≡ token_bytes text.now token }
+{
+    &text[token.at as usize..(token.at + token.len) as usize]
+}
+
+/// What stands between the quotes of a quoted text.
+pub(crate) fn quoted_text<'a>(text: &'a str, token: Token) -> &'a str
+    requires token { IsTokenOf text.now token }
+    requires quoted { token.kind ≡ TokenKind.Quoted }
+    ensures { result.now ≡ quoted_bytes text.now token }
+{
+    &text[token.at as usize + 1..(token.at + token.len) as usize - 1]
+}
+
+/// A text is spelled by one list of tokens at most.
+pub fn one_spelling()
+    ensures { OneSpelling }
+{}
+
+#[cfg(test)]
+mod tests;
