@@ -1,0 +1,50 @@
+-- The names of basic types, and the numbers that they hold.
+-- From the FlatBuffers documentation, "Writing a schema": Types.
+use Rattle.std.specs.Prelude.{ℕ, ◌&&◌, ◌||◌, Bool, List, [], ◌∷◌, Option, None, Some, ℤ, pos, negsuc, codes, if◌then◌else◌, int_le}
+use Rattle.std.specs.List.{list_any}
+use Rattle.std.specs.Option.{is_some}
+use Rattle.std.specs.Str.{bytes_eq}
+use Rattle.fb_schema.specs.Schema.{Name}
+use Rattle.fb_schema.specs.declared.kinds.Base.{Base}
+use Rattle.fb_schema.specs.declared.kinds.Base.TheVariants.{Bool as Boolean, I8, U8, I16, U16, I32, U32, I64, U64}
+
+abbrev pub either : Name → Name → Name → Bool
+either a b name = bytes_eq name a || bytes_eq name b
+
+unfoldable pub basic_type : Name → Option Base
+basic_type name =
+    if bytes_eq name (codes "bool") then Some Boolean else
+    if either (codes "byte") (codes "int8") name then Some I8 else
+    if either (codes "ubyte") (codes "uint8") name then Some U8 else
+    if either (codes "short") (codes "int16") name then Some I16 else
+    if either (codes "ushort") (codes "uint16") name then Some U16 else
+    if either (codes "int") (codes "int32") name then Some I32 else
+    if either (codes "uint") (codes "uint32") name then Some U32 else
+    if either (codes "long") (codes "int64") name then Some I64 else
+    if either (codes "ulong") (codes "uint64") name then Some U64 else None
+
+unfoldable pub is_text_type : Name → Bool
+is_text_type name = bytes_eq name (codes "string")
+
+-- the types that this project leaves out
+unfoldable pub is_float_type : Name → Bool
+is_float_type name = either (codes "float") (codes "float32") name || either (codes "double") (codes "float64") name
+
+-- no declared type may have such a name
+abbrev pub is_reserved : Name → Bool
+is_reserved name = is_some (basic_type name) || is_text_type name || is_float_type name
+
+abbrev pub is_between : ℤ → ℤ → ℤ → Bool
+is_between low high n = int_le low n && int_le n high
+
+-- whether a basic type holds a number; a `bool` is 0 or 1
+unfoldable pub holds : Base → ℤ → Bool
+holds Boolean n = is_between (pos 0) (pos 1) n
+holds I8 n = is_between (negsuc 127) (pos 127) n
+holds U8 n = is_between (pos 0) (pos 255) n
+holds I16 n = is_between (negsuc 32767) (pos 32767) n
+holds U16 n = is_between (pos 0) (pos 65535) n
+holds I32 n = is_between (negsuc 2147483647) (pos 2147483647) n
+holds U32 n = is_between (pos 0) (pos 4294967295) n
+holds I64 n = is_between (negsuc 9223372036854775807) (pos 9223372036854775807) n
+holds U64 n = is_between (pos 0) (pos 18446744073709551615) n
