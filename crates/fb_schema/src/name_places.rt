@@ -8,7 +8,7 @@ use std::alloc::{AllocError, Global};
 /// The first place of each name in a list of names.
 #[derive(Drop)]
 pub(crate) struct NamePlaces<'n> {
-    places: IndexMap<&'n str, usize>,
+    places: IndexMap<&'n [u8], usize>,
 }
 
 impl<'n> NamePlaces<'n> {
@@ -18,15 +18,15 @@ impl<'n> NamePlaces<'n> {
     {
         let mut places = IndexMap::new(alloc);
         for (place, name) in names.iter().enumerate() {
-            if !places.contains_key(*name) {
-                places.insert(*name, place)?;
+            if !places.contains_key(name.as_bytes()) {
+                places.insert(name.as_bytes(), place)?;
             }
         }
         Ok(NamePlaces { places })
     }
 
     /// The first place of a name.
-    pub(crate) fn place(&self, name: &str) -> Option<usize>
+    pub(crate) fn place(&self, name: &[u8]) -> Option<usize>
         ensures { result ≡ place_in self.now name.now }
     {
         self.places.get(name).copied()

@@ -1,16 +1,17 @@
 //! The types of a text, found by the names that are used for them.
-ghost use Rattle.std.specs.Prelude.{◌≡◌, IfOk};
+ghost use Rattle.std.specs.Prelude.{◌≡◌, IfOk, slice_get};
 ghost use Rattle.std.specs.Option.{option_copied};
-ghost use Rattle.fb_schema.specs.Scopes.{type_meant};
-ghost use Rattle.fb_schema.specs.Meaning.{meaning_of};
-ghost use Rattle.fb_schema.specs.Outline.{names_of_types};
+ghost use Rattle.fb_schema.specs.Scopes.{place_of, type_meant};
+ghost use Rattle.fb_schema.specs.Meaning.{use_of_read, meaning_of};
+ghost use Rattle.fb_schema.specs.Outline.{inside, names_of_types};
 ghost use Rattle.fb_schema.specs.NamePlaces.{Indexes};
 
 use crate::basic_types::{basic_type, is_float_type, is_text_type};
-use crate::kinds::Kind;
+use crate::kinds::{Kind, TypeId};
 use crate::meanings::Meaning;
 use crate::name_places::NamePlaces;
 use crate::outline::TypeRead;
+use fb_syntax::Declaration;
 use std::alloc::{AllocError, Global};
 
 /// The types of a text by their numbers, and their numbers by their full names.
@@ -22,6 +23,22 @@ pub(crate) struct TypesRead<'t> {
 }
 
 impl TypesRead<'_> {
+    /// The first type whose full name is this one inside a namespace.
+    fn place_inside(
+        self,
+        alloc: Global,
+        outer: &[u8],
+        name: &str,
+    ) -> Result<Option<usize>, AllocError>
+        ensures { IfOk result
+            (λ t. t ≡ place_of (names_of_types self.entry.types.now) (inside outer.now name.now)) }
+    {
+        let mut full_name = Vec::from_slice(alloc, outer)?;
+        full_name.push(b'.')?;
+        full_name.extend_from_slice(name.as_bytes())?;
+        Ok(self.places.place(full_name.as_slice()))
+    }
+
     /// The number of the type that a name means: that of the innermost enclosing namespace.
     fn type_meant(
         self,
@@ -30,23 +47,40 @@ impl TypesRead<'_> {
         name: &str,
     ) -> Result<Option<usize>, AllocError>
         ensures { IfOk result
-            (λ t. t ≡ type_meant self.entry.types.now (option_copied scope) name.now) }
+            (λ t. t ≡ type_meant self.entry.types.now (option_copied scope.entry) name.now) }
     {
-        let outermost = self.places.place(name);
+        let mut meant = self.places.place(name.as_bytes());
         let Some(scope) = scope else {
-            return Ok(outermost);
+            return Ok(meant);
         };
-        let mut meant = outermost;
-        let mut reading = Vec::new(alloc);
-        for (at, byte) in scope.as_bytes().iter().enumerate() {
-            if *byte == b'.' {
+        let scope = scope.as_bytes();
+        for at in 0..scope.len() {
+            if scope[at] == b'.' {
                 meant = self.place_inside(alloc, &scope[..at], name)?.or(meant);
             }
         }
         Ok(self.place_inside(alloc, scope, name)?.or(meant))
     }
 
+    /// A use of the type of a number.
+    fn use_of(self, number: usize) -> Meaning
+        ensures { result ≡ use_of_read number (slice_get self.entry.types.now number) }
+    {
+        let Some(read) = self.types.get(number) else {
+            return Meaning::Unknown;
+        };
+        let id = TypeId(number as u64);
+        match read.declaration {
+            Declaration::Table(_) => Meaning::Known(Kind::Table(id)),
+            Declaration::Struct(_) => Meaning::Known(Kind::Struct(id)),
+            Declaration::Enum(_) => Meaning::Known(Kind::Enum(id)),
+            Declaration::Union(_) => Meaning::Known(Kind::Union(id)),
+            _ => Meaning::Unknown,
+        }
+    }
+
     /// What a type's name means inside a namespace. The only error is a refused allocation.
+    #[tactic(auto, unfolding(crate::specs::Meaning::meaning_of))]
     pub(crate) fn meaning(
         self,
         alloc: Global,
@@ -54,7 +88,7 @@ impl TypesRead<'_> {
         name: &str,
     ) -> Result<Meaning, AllocError>
         ensures { IfOk result
-            (λ m. m ≡ meaning_of self.entry.types.now (option_copied scope) name.now) }
+            (λ m. m ≡ meaning_of self.entry.types.now (option_copied scope.entry) name.now) }
     {
         if let Some(base) = basic_type(name) {
             return Ok(Meaning::Known(Kind::Scalar(base)));
