@@ -1,6 +1,6 @@
 //! Names of a text, each found in one step.
-ghost use Rattle.std.specs.Prelude.{◌≡◌, IfOk, map};
-ghost use Rattle.fb_schema.specs.NamePlaces.{place_in, Indexes};
+ghost use Rattle.std.specs.Prelude.{◌≡◌, IfOk, OnOk, map};
+ghost use Rattle.fb_schema.specs.NamePlaces.{place_in, Notes, Indexes};
 
 use indexmap::IndexMap;
 use std::alloc::{AllocError, Global};
@@ -16,13 +16,23 @@ impl<'n> NamePlaces<'n> {
     pub(crate) fn of(alloc: Global, names: &[&'n str]) -> Result<NamePlaces<'n>, AllocError>
         ensures { IfOk result (λ p. Indexes p (map (λ n. n.now) names.now)) }
     {
-        let mut places = IndexMap::new(alloc);
+        let mut index = NamePlaces {
+            places: IndexMap::new(alloc),
+        };
         for (place, name) in names.iter().enumerate() {
-            if !places.contains_key(name.as_bytes()) {
-                places.insert(name.as_bytes(), place)?;
-            }
+            index.note(name.as_bytes(), place)?;
         }
-        Ok(NamePlaces { places })
+        Ok(index)
+    }
+
+    /// Notes the place of a name that has none yet.
+    fn note(&mut self, name: &'n [u8], place: usize) -> Result<(), AllocError>
+        ensures { OnOk result (Notes self.old self.new name.now place) }
+    {
+        if !self.places.contains_key(name) {
+            self.places.insert(name, place)?;
+        }
+        Ok(())
     }
 
     /// The first place of a name.
