@@ -1,3 +1,4 @@
 pub mod Least
 pub mod Places
 pub mod Bytes
+pub mod Meant
