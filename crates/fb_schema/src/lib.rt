@@ -8,6 +8,7 @@ mod faults;
 mod kinds;
 mod meanings;
 mod name_places;
+mod names_again;
 mod outline;
 mod types;
 mod types_read;
