@@ -2,3 +2,4 @@ pub mod Schema
 pub mod Seen
 pub mod Alignments
 pub mod WellDeclared
+pub mod Found

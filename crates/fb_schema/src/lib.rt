@@ -2,6 +2,7 @@
 #![tactic(auto)]
 
 mod kinds;
+mod name_index;
 mod types;
 
 pub use kinds::{Base, Kind, Shape, TypeId};
