@@ -1,1 +1,3 @@
 pub mod Positions
+pub mod Distinct
+pub mod NoRepeats

@@ -3,3 +3,4 @@ pub mod Seen
 pub mod Alignments
 pub mod WellDeclared
 pub mod Found
+pub mod Indexed

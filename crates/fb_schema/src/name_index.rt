@@ -1,7 +1,8 @@
 //! Names that are found in one step.
-ghost use Rattle.std.specs.Prelude.{◌≡◌, [], ◌∷◌, ◌++◌, IfOk, OnErr, is_some, not, if◌then◌else◌};
+ghost use Rattle.std.specs.Prelude.{◌≡◌, ◌≢◌, [], ◌∷◌, ◌++◌, map, AllPairs, IfOk, OnErr, is_some, not, if◌then◌else◌};
 ghost use Rattle.fb_schema.specs.Found.{index_of};
 
+use crate::named::Named;
 use indexmap::IndexSet;
 use std::alloc::{AllocError, Global};
 use std::marker::Model;
@@ -29,6 +30,18 @@ impl NameIndex {
         NameIndex {
             names: IndexSet::new(alloc),
         }
+    }
+
+    /// The names of some items, in their order.
+    pub(crate) fn of<T: Named>(alloc: Global, items: &[T]) -> Result<NameIndex, AllocError>
+        requires { AllPairs (λ a b. a ≢ b) (map T.name items.now) }
+        ensures { IfOk result (λ names. names ≡ map T.name items.now) }
+    {
+        let mut names = NameIndex::new(alloc);
+        for item in items {
+            names.push(alloc, item.name())?;
+        }
+        Ok(names)
     }
 
     /// Adds a name at the end, unless it is there already. It tells whether the name is new.
