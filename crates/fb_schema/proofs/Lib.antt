@@ -1,3 +1,6 @@
 pub mod Positions
 pub mod Distinct
 pub mod NoRepeats
+pub mod LookUps
+pub mod DeclaredNames
+pub mod Got

@@ -4,3 +4,4 @@ pub mod Alignments
 pub mod WellDeclared
 pub mod Found
 pub mod Indexed
+pub mod Held
