@@ -2,12 +2,12 @@
 use Rattle.std.specs.Prelude.{◌≡◌, map}
 use Rattle.fb_schema.specs.declared.schema.Schema.TheInside.{Inside}
 use Rattle.fb_schema.specs.Schema.{DeclaredSchema}
-use Rattle.fb_schema.specs.Seen.{type_seen}
+use Rattle.fb_schema.specs.Seen.{schema_of}
 use Rattle.fb_schema.specs.WellDeclared.{IsDeclared}
 use Rattle.fb_schema.specs.Indexed.{inner_names, inner_numbers}
 
 abbrev pub schema_seen : Inside → DeclaredSchema
-schema_seen s = record { types = map type_seen s.types.items; root = s.root.0; identifier = s.identifier }
+schema_seen s = schema_of s.types.items s.root s.identifier
 
 -- It is well declared, and its indexes list its names and numbers.
 pub record IsIndexed (s : Inside) : Type 0 where

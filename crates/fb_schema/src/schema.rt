@@ -1,7 +1,7 @@
 //! A schema that keeps what schemas must keep, and finds its types by their names.
 ghost use Rattle.std.specs.Prelude.{◌≡◌, map, option_copied, option_map, IfOk};
 ghost use Rattle.fb_schema.specs.Schema.{body_at};
-ghost use Rattle.fb_schema.specs.Seen.{field_seen, type_seen};
+ghost use Rattle.fb_schema.specs.Seen.{field_seen, type_seen, schema_of};
 ghost use Rattle.fb_schema.specs.WellDeclared.{IsDeclared};
 ghost use Rattle.fb_schema.specs.Found.{type_named, field_named, member_coded, name_numbered};
 
@@ -47,16 +47,8 @@ impl Schema {
         root: TypeId,
         identifier: Option<[u8; 4]>,
     ) -> Result<Schema, AllocError>
-        requires { IsDeclared (record {
-          types = map type_seen types.items;
-          root = root.0;
-          identifier = identifier;
-        }) }
-        ensures { IfOk result (λ schema. schema ≡ record {
-          types = map type_seen types.items;
-          root = root.0;
-          identifier = identifier;
-        }) }
+        requires { IsDeclared (schema_of types.items root identifier) }
+        ensures { IfOk result (λ schema. schema ≡ schema_of types.items root identifier) }
     {
         let full_names = NameIndex::of(alloc, types.as_slice())?;
         let inner_names = inner_names(alloc, types.as_slice())?;
