@@ -1,4 +1,4 @@
-use Rattle.std.proofs.Common.{◌≡◌, ◌≢◌, List, Vec, String, Global, ℤ, map, AllPairs, IfOk, Result, string_bytes, ap, sym, subst, ◌∙◌}
+use Rattle.std.proofs.Common.{◌≡◌, ◌≢◌, ℕ, Bool, Option, List, Vec, String, Global, ℤ, map, AllPairs, IfOk, Result, string_bytes, ap, sym, subst, ◌∙◌}
 use Rattle.std.specs.declared.alloc.AllocError.{AllocError}
 use Rattle.std.proofs.lemmas.Simd.{map-map}
 use Rattle.fb_schema.specs.declared.kinds.Base.{Base}
@@ -20,10 +20,10 @@ module _ (body : Body) where
     table_names : body ≡ Table fields → inner_names (body_seen body) ≡ map (λ f. string_bytes f.name) xs
     table_names is = ap (λ (b : Body). inner_names (body_seen b)) is ∙ field_names
 
-    struct_names : {align : Rattle.std.proofs.Common.Option Rattle.std.proofs.Common.ℕ} → body ≡ Struct fields align → inner_names (body_seen body) ≡ map (λ f. string_bytes f.name) xs
+    struct_names : {align : Option ℕ} → body ≡ Struct fields align → inner_names (body_seen body) ≡ map (λ f. string_bytes f.name) xs
     struct_names is = ap (λ (b : Body). inner_names (body_seen b)) is ∙ field_names
 
-  enum_names : {base : Base} {flags : Rattle.std.proofs.Common.Bool} (values : Vec (String Global × ℤ) Global) (xs : List (String Global × ℤ)) → xs ≡ values.items → body ≡ Enum base flags values
+  enum_names : {base : Base} {flags : Bool} (values : Vec (String Global × ℤ) Global) (xs : List (String Global × ℤ)) → xs ≡ values.items → body ≡ Enum base flags values
       → inner_names (body_seen body) ≡ map (λ v. string_bytes v.0) xs
   enum_names values xs lent is = ap (λ (b : Body). inner_names (body_seen b)) is ∙ (map-map (λ v. v.0) (λ (x : String Global × ℤ). (string_bytes x.0, x.1)) values.items ∙ ap (map (λ v. string_bytes v.0)) (sym lent))
 
