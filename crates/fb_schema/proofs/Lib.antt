@@ -4,3 +4,9 @@ pub mod Bytes
 pub mod Meant
 pub mod Steps
 pub mod Again
+pub mod Positions
+pub mod Distinct
+pub mod NoRepeats
+pub mod LookUps
+pub mod DeclaredNames
+pub mod Got

@@ -17,3 +17,6 @@ pub mod FaultRows
 pub mod TypeFaults
 pub mod Declares
 pub mod NamePlaces
+pub mod Found
+pub mod Indexed
+pub mod Held
