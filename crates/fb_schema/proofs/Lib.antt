@@ -1,9 +1,3 @@
-pub mod Least
-pub mod Places
-pub mod Bytes
-pub mod Meant
-pub mod Steps
-pub mod Again
 pub mod Positions
 pub mod Distinct
 pub mod NoRepeats

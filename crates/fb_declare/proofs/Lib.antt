@@ -1,0 +1,6 @@
+pub mod Least
+pub mod Places
+pub mod Bytes
+pub mod Meant
+pub mod Steps
+pub mod Again
