@@ -47,3 +47,7 @@ pub least_of-append : (fs gs : List SchemaFault) → least_of (fs ++ gs) ≡ ear
 unfolding least_of
 least_of-append [] gs = refl
 least_of-append (f ∷ fs) gs = ap (earlier (Some f)) (least_of-append fs gs) ∙ sym (earlier_assoc (Some f) (least_of fs) (least_of gs))
+
+-- the same, by a name that an attribute can cite
+pub least_of_append : (fs gs : List SchemaFault) → least_of (fs ++ gs) ≡ earlier (least_of fs) (least_of gs)
+least_of_append = least_of-append

@@ -4,3 +4,4 @@ pub mod Bytes
 pub mod Meant
 pub mod Steps
 pub mod Again
+pub mod Underscores

@@ -12,14 +12,13 @@ use Rattle.fb_syntax.specs.declared.declarations.FieldType.TheVariants.{One, Man
 use Rattle.fb_syntax.specs.declared.declarations.DefaultValue.{DefaultValue}
 use Rattle.fb_syntax.specs.declared.declarations.DefaultValue.TheVariants.{Integer, Name as Named}
 use Rattle.fb_syntax.specs.declared.declarations.EnumValue.{EnumValue}
-use Rattle.fb_syntax.specs.declared.declarations.UnionMember.{UnionMember}
 use Rattle.fb_schema.specs.Schema.{Name}
 use Rattle.fb_schema.specs.WellDeclared.{is_unsigned}
 use Rattle.fb_declare.specs.Outline.{TypeRead, RootRead}
 use Rattle.fb_declare.specs.BasicTypes.{holds, is_reserved}
 use Rattle.fb_declare.specs.Meaning.{meaning_of, type_name, type_at}
 use Rattle.fb_declare.specs.EnumsRead.{may_be_written, written_number, integer_type}
-use Rattle.fb_declare.specs.MembersRead.{table_of, member_name}
+use Rattle.fb_declare.specs.MembersRead.{table_of}
 use Rattle.fb_schema.specs.declared.kinds.Base.{Base}
 use Rattle.fb_schema.specs.declared.kinds.Kind.TheVariants.{Scalar, Enum, Struct, Union}
 use Rattle.fb_declare.specs.declared.meanings.Meaning.{Meaning}
@@ -114,10 +113,9 @@ bad_values base flags earlier next (v ∷ vs) = let n = written_number next v in
 abbrev pub bad_member : ℕ → Meaning → ℕ → List SchemaFault
 bad_member before m at = when (is_none (table_of m) || nat_le 255 before) (BadMember at)
 
--- the faults of a member with so many before it
-unfoldable pub member_faults : ℕ → UnionMember → Meaning → List SchemaFault
-member_faults before member m = none_name (member_name member)
-    ++ use_faults m member.table.at ++ bad_member before m member.table.at
+-- the faults of a member of this name, whose type stands at this offset, with so many before it
+unfoldable pub member_faults : ℕ → Located → ℕ → Meaning → List SchemaFault
+member_faults before name at m = none_name name ++ use_faults m at ++ bad_member before m at
 
 -- the root isn't a table
 abbrev pub bad_root : Meaning → ℕ → List SchemaFault

@@ -94,7 +94,7 @@ enum_faults types declared scope e = let base = underlying types scope e in
 unfoldable pub members_faults : List TypeRead → Option Name → ℕ → List UnionMember → List SchemaFault
 members_faults types scope before [] = []
 members_faults types scope before (m ∷ ms) =
-    member_faults before m (meaning_of types scope m.table.bytes)
+    member_faults before (member_name m) m.table.at (meaning_of types scope m.table.bytes)
     ++ members_faults types scope (before + 1) ms
 
 unfoldable pub union_faults : List TypeRead → List Name → Option Name → UnionRead → List SchemaFault
