@@ -5,3 +5,8 @@ pub mod Meant
 pub mod Steps
 pub mod Again
 pub mod Underscores
+pub mod Metadata
+pub mod PlaceFound
+pub mod ValuesFrom
+pub mod Written
+pub mod BadValues

@@ -2,7 +2,7 @@
 -- From the FlatBuffers documentation, "Writing a schema": Attributes.
 use Rattle.std.specs.Prelude.{ℕ, ◌==◌, ◌&&◌, ◌||◌, ◌++◌, not, Bool, true, false, List, [], ◌∷◌, Option, None, Some, ℤ, pos, negsuc, codes, nat_le, if◌then◌else◌}
 use Rattle.std.specs.List.{list_any, find, starts_with}
-use Rattle.std.specs.Option.{option_and_then, unwrap_or}
+use Rattle.std.specs.Option.{option_and_then}
 use Rattle.std.specs.Bool.{nat_eq}
 use Rattle.std.specs.Str.{bytes_eq}
 use Rattle.fb_syntax.specs.Located.{Located}
@@ -16,7 +16,7 @@ use Rattle.fb_declare.specs.declared.faults.SchemaFault.TheVariants.{BadAttribut
 use Rattle.fb_declare.specs.declared.attributes.Known.{Known}
 use Rattle.fb_declare.specs.declared.attributes.Known.TheVariants.{Id, Required, Deprecated, ForceAlign, BitFlags, OriginalOrder}
 use Rattle.fb_declare.specs.declared.attributes.Place.{Place}
-use Rattle.fb_declare.specs.declared.attributes.Place.TheVariants.{Table, Struct, Enum, SignedEnum, Union, ScalarField, TableField, StructField}
+use Rattle.fb_declare.specs.declared.attributes.Place.TheVariants.{Table, Struct, Enum, ScalarField, TableField, StructField}
 
 -- the value of an integer of the text; what is no integer counts as 0
 unfoldable pub integer_of : Located → ℤ
@@ -55,7 +55,7 @@ is_force_align_of_field _ _ = false
 
 -- a power of two from the least alignment to 256
 abbrev pub is_alignment : ℕ → ℤ → Bool
-is_alignment least (pos n) = list_any (λ a. n == a && nat_le least a) (1 ∷ 2 ∷ 4 ∷ 8 ∷ 16 ∷ 32 ∷ 64 ∷ 128 ∷ 256 ∷ [])
+is_alignment least (pos n) = list_any (λ a. a == n) (1 ∷ 2 ∷ 4 ∷ 8 ∷ 16 ∷ 32 ∷ 64 ∷ 128 ∷ 256 ∷ []) && nat_le least n
 is_alignment least (negsuc n) = false
 
 -- where each known attribute may stand, and with which value

@@ -13,3 +13,4 @@ pub mod TypeFaults
 pub mod Declares
 pub mod NamePlaces
 pub mod Faults
+pub mod DeclaredNames

@@ -3,7 +3,9 @@
 
 mod attributes;
 mod basic_types;
+mod declared_names;
 mod defaults;
+mod enums;
 mod faults;
 mod field_types;
 mod meanings;
