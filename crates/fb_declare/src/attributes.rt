@@ -94,7 +94,7 @@ pub(crate) fn integer_of(text: &Text) -> i128
 }
 
 /// Whether a number is a power of two from the least alignment to 256.
-fn is_alignment(least: u16, number: i128) -> bool
+pub(crate) fn is_alignment(least: u16, number: i128) -> bool
     ensures { result ≡ is_alignment least number }
 {
     match u128::try_from(number) {
