@@ -10,3 +10,4 @@ pub mod PlaceFound
 pub mod ValuesFrom
 pub mod Written
 pub mod BadValues
+pub mod Folded

@@ -13,7 +13,9 @@ mod members;
 mod name_places;
 mod names_again;
 mod outline;
+mod struct_faults;
 mod structs;
 mod types_read;
+mod union_faults;
 
 pub use faults::SchemaFault;

@@ -1,0 +1,48 @@
+-- The least fault of each element's faults, one element at a time.
+use Rattle.std.proofs.Common.{◌≡◌, ◌<◌, ◌≤◌, ◌+◌, ◌++◌, ℕ, List, [], ◌∷◌, length, drop, get_or, refl, ap, sym, ◌∙◌, Option, None}
+use Rattle.std.specs.List.{flat_map}
+use Rattle.fb_syntax.specs.declared.declarations.UnionMember.{UnionMember}
+use Rattle.fb_schema.specs.Schema.{Name}
+use Rattle.fb_declare.specs.declared.faults.SchemaFault.{SchemaFault}
+use Rattle.fb_declare.specs.Faults.{earlier, least_of}
+use Rattle.fb_declare.specs.Outline.{TypeRead}
+use Rattle.fb_declare.specs.Meaning.{meaning_of}
+use Rattle.fb_declare.specs.MembersRead.{member_name}
+use Rattle.fb_declare.specs.FaultRows.{member_faults}
+use Rattle.fb_declare.specs.TypeFaults.{members_faults}
+use Rattle.fb_declare.proofs.Steps.{drop-more, drop-end, met-more, met-all}
+
+-- the next element
+pub met-each : {X : Type 0} (g : X → List SchemaFault) (met : Option SchemaFault) (xs : List X) (i : ℕ) (x : X) → i < length xs → x ≡ get_or xs i x
+    → earlier (earlier met (least_of (g x))) (least_of (flat_map g (drop (i + 1) xs))) ≡ earlier met (least_of (flat_map g (drop i xs)))
+met-each g met xs i x h e = met-more met (g x) (flat_map g (drop (i + 1) xs))
+    ∙ ap (λ y. earlier met (least_of (g y ++ flat_map g (drop (i + 1) xs)))) e
+    ∙ ap (λ ys. earlier met (least_of (flat_map g ys))) (sym (drop-more xs i x h))
+
+-- no more elements
+pub met-end : {X : Type 0} (g : X → List SchemaFault) (met : Option SchemaFault) (xs : List X) (i : ℕ) → length xs ≤ i
+    → earlier met (least_of (flat_map g (drop i xs))) ≡ met
+met-end g met xs i h = ap (λ ys. earlier met (least_of (flat_map g ys))) (drop-end xs i h) ∙ met-all met
+
+members_faults-nil : (types : List TypeRead) (scope : Option Name) (before : ℕ) → members_faults types scope before [] ≡ []
+unfolding members_faults
+members_faults-nil types scope before = refl
+
+members_faults-cons : (types : List TypeRead) (scope : Option Name) (before : ℕ) (m : UnionMember) (ms : List UnionMember)
+    → members_faults types scope before (m ∷ ms) ≡ member_faults before (member_name m) m.table.at (meaning_of types scope m.table.bytes) ++ members_faults types scope (before + 1) ms
+unfolding members_faults
+members_faults-cons types scope before m ms = refl
+
+-- the next member of a union
+pub met-member : (types : List TypeRead) (scope : Option Name) (met : Option SchemaFault) (ms : List UnionMember) (i : ℕ) (m : UnionMember) → i < length ms → m ≡ get_or ms i m
+    → earlier (earlier met (least_of (member_faults i (member_name m) m.table.at (meaning_of types scope m.table.bytes)))) (least_of (members_faults types scope (i + 1) (drop (i + 1) ms)))
+    ≡ earlier met (least_of (members_faults types scope i (drop i ms)))
+met-member types scope met ms i m h e = met-more met (member_faults i (member_name m) m.table.at (meaning_of types scope m.table.bytes)) (members_faults types scope (i + 1) (drop (i + 1) ms))
+    ∙ ap (λ fs. earlier met (least_of fs)) (sym (members_faults-cons types scope i m (drop (i + 1) ms)))
+    ∙ ap (λ n. earlier met (least_of (members_faults types scope i (n ∷ drop (i + 1) ms)))) e
+    ∙ ap (λ r. earlier met (least_of (members_faults types scope i r))) (sym (drop-more ms i m h))
+
+pub met-members : (types : List TypeRead) (scope : Option Name) (met : Option SchemaFault) (ms : List UnionMember) (i : ℕ) → length ms ≤ i
+    → earlier met (least_of (members_faults types scope i (drop i ms))) ≡ met
+met-members types scope met ms i h = ap (λ r. earlier met (least_of (members_faults types scope i r))) (drop-end ms i h)
+    ∙ ap (λ fs. earlier met (least_of fs)) (members_faults-nil types scope i) ∙ met-all met

@@ -1,0 +1,112 @@
+//! What is wrong with a struct.
+ghost use Rattle.std.specs.Prelude.{◌≡◌, [], IfOk, length, map};
+ghost use Rattle.std.specs.List.{flat_map};
+ghost use Rattle.std.specs.Option.{option_copied};
+ghost use Rattle.fb_declare.specs.Faults.{least_of};
+ghost use Rattle.fb_declare.specs.DeclaredNames.{names_declared};
+ghost use Rattle.fb_declare.specs.TypeFaults.{struct_field_faults, is_empty_list, struct_faults};
+
+use crate::attributes::{Place, metadata_fault};
+use crate::declared_names::DeclaredNames;
+use crate::faults::{SchemaFault, earlier, when};
+use crate::field_types::{default_in_struct, struct_field_type, type_name};
+use crate::names_again::names_again;
+use crate::structs::natural_align;
+use crate::types_read::TypesRead;
+use fb_syntax::{Field, TableDeclaration, Text};
+use std::alloc::{AllocError, Global};
+
+/// A copy of a part of the text.
+fn copy_of(alloc: Global, text: &Text) -> Result<Text, AllocError>
+    ensures { IfOk result (λ t. t ≡ text.now) }
+{
+    Ok(Text {
+        text: String::from_str(alloc, text.text.as_str())?,
+        at: text.at,
+    })
+}
+
+fn field_names(alloc: Global, fields: &[Field]) -> Result<Vec<Text>, AllocError>
+    ensures { IfOk result (λ names. names.items ≡ map (λ f. f.name) fields.now) }
+{
+    let mut names = Vec::with_capacity(alloc, fields.len())?;
+    for field in fields {
+        names.push(copy_of(alloc, &field.name)?)?;
+    }
+    Ok(names)
+}
+
+#[tactic(auto, using(crate::proofs::Least::least_of_append), unfolding(crate::specs::TypeFaults::struct_field_faults))]
+fn field_fault(
+    types: TypesRead<'_>,
+    alloc: Global,
+    declared: DeclaredNames<'_>,
+    scope: Option<&str>,
+    number: usize,
+    field: &Field,
+) -> Result<Option<SchemaFault>, AllocError>
+    ensures { IfOk result (λ f. f ≡ least_of (struct_field_faults types.entry.types.now
+        (names_declared declared.entry) (option_copied scope.entry) number field.now)) }
+{
+    let meaning = types.meaning(alloc, scope, type_name(&field.kind).text.as_str())?;
+    let type_fault = struct_field_type(number, &field.kind, meaning);
+    let fault = earlier(type_fault, default_in_struct(field.default.as_ref()));
+    let attributes = field.attributes.as_slice();
+    Ok(earlier(
+        fault,
+        metadata_fault(alloc, declared, Place::StructField, attributes)?,
+    ))
+}
+
+fn fields_fault(
+    types: TypesRead<'_>,
+    alloc: Global,
+    declared: DeclaredNames<'_>,
+    scope: Option<&str>,
+    number: usize,
+    fields: &[Field],
+) -> Result<Option<SchemaFault>, AllocError>
+    ensures { IfOk result (λ f. f ≡ least_of (flat_map (struct_field_faults types.entry.types.now
+        (names_declared declared.entry) (option_copied scope.entry) number) fields.now)) }
+{
+    let mut least = None;
+    for field in fields {
+        least = earlier(
+            least,
+            field_fault(types, alloc, declared, scope, number, field)?,
+        );
+    }
+    Ok(least)
+}
+
+fn is_empty(fields: &[Field]) -> bool
+    ensures { result ≡ is_empty_list fields.now }
+{
+    fields.is_empty()
+}
+
+/// The least fault of a struct, where these are the alignments of the types before it. The only
+/// error is a refused allocation.
+#[tactic(auto, using(crate::proofs::Least::least_of_append), unfolding(crate::specs::TypeFaults::struct_faults))]
+pub(crate) fn struct_fault(
+    types: TypesRead<'_>,
+    alloc: Global,
+    declared: DeclaredNames<'_>,
+    scope: Option<&str>,
+    lower: &[u16],
+    read: &TableDeclaration,
+) -> Result<Option<SchemaFault>, AllocError>
+    ensures { IfOk result (λ f. f ≡ least_of (struct_faults types.entry.types.now
+        (names_declared declared.entry) (option_copied scope.entry) lower.now read.now)) }
+{
+    let fields = read.fields.as_slice();
+    let place = Place::Struct(natural_align(types, alloc, scope, lower, fields)?);
+    let marks = metadata_fault(alloc, declared, place, read.attributes.as_slice())?;
+    let empty = when(is_empty(fields), SchemaFault::EmptyStruct(read.name.at));
+    let names = field_names(alloc, fields)?;
+    let again = names_again(alloc, names.as_slice())?;
+    Ok(earlier(
+        earlier(earlier(marks, empty), again),
+        fields_fault(types, alloc, declared, scope, lower.len(), fields)?,
+    ))
+}
