@@ -55,7 +55,7 @@ is_force_align_of_field _ _ = false
 
 -- a power of two from the least alignment to 256
 abbrev pub is_alignment : ℕ → ℤ → Bool
-is_alignment least (pos n) = list_any (λ a. n == a && nat_le least a) (1 ∷ 2 ∷ 4 ∷ 8 ∷ 16 ∷ 32 ∷ 64 ∷ 128 ∷ 256 ∷ [])
+is_alignment least (pos n) = list_any (λ a. a == n) (1 ∷ 2 ∷ 4 ∷ 8 ∷ 16 ∷ 32 ∷ 64 ∷ 128 ∷ 256 ∷ []) && nat_le least n
 is_alignment least (negsuc n) = false
 
 -- where each known attribute may stand, and with which value

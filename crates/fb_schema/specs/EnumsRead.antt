@@ -105,7 +105,7 @@ behind prefix name = if starts_with nat_eq name (prefix ++ dot ∷ []) then Some
 abbrev pub value_named : Option Name → EnumRead → List (Name × ℤ) → Name → Option ℤ
 value_named scope e values name = option_or (number_named values name)
     (option_or (option_and_then (number_named values) (behind e.name.bytes name))
-        (option_and_then (number_named values) (behind (full_name scope e.name.bytes) name)))
+    (option_and_then (number_named values) (behind (full_name scope e.name.bytes) name)))
 
 abbrev pub value_in : List TypeRead → Option Name → Declaration → Name → Option ℤ
 value_in types scope (declarations.Enum e) name = value_named scope e (values_read types scope e) name

@@ -41,8 +41,8 @@ or_scalar None m = m
 unfoldable pub meaning_of : List TypeRead → Option Name → Name → Meaning
 meaning_of types scope name = or_scalar (basic_type name)
     (if is_text_type name then Known Text else
-     if is_float_type name then Float else
-     use_of_type types (type_meant types scope name))
+    if is_float_type name then Float else
+    use_of_type types (type_meant types scope name))
 
 abbrev pub type_name : FieldType → Located
 type_name (One n) = n
