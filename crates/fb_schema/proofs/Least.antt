@@ -3,7 +3,7 @@ use Rattle.std.proofs.Common.{◌≡◌, ◌++◌, ◌==◌, ◌&&◌, ◌||◌,
 use Rattle.fb_schema.specs.declared.faults.SchemaFault.{SchemaFault}
 use Rattle.fb_schema.specs.Faults.{offset_of, number_of, comes_before, earlier, least_of}
 
-earlier_none : (f : Option SchemaFault) → earlier f None ≡ f
+pub earlier_none : (f : Option SchemaFault) → earlier f None ≡ f
 earlier_none None = refl
 earlier_none (Some f) = refl
 

@@ -1,1 +1,4 @@
 pub mod Least
+pub mod Places
+pub mod Drops
+pub mod Metadata

@@ -17,3 +17,4 @@ pub mod FaultRows
 pub mod TypeFaults
 pub mod Declares
 pub mod NamePlaces
+pub mod DeclaredNames

@@ -3,6 +3,7 @@
 
 mod attributes;
 mod basic_types;
+mod declared_names;
 mod defaults;
 mod faults;
 mod kinds;
