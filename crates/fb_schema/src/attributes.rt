@@ -3,7 +3,7 @@ ghost use Rattle.std.specs.Prelude.{◌≡◌, codes, IfOk, OnOk, []};
 ghost use Rattle.std.specs.List.{list_any, starts_with};
 ghost use Rattle.std.specs.Bool.{nat_eq};
 ghost use Rattle.std.specs.Option.{option_copied};
-ghost use Rattle.fb_schema.specs.Attributes.{spelling, known_attribute, is_left_out, integer_of, is_alignment, may_stand, is_force_align_of_field, is_known, noted, attribute_faults, metadata_faults, has_attribute, number_called};
+ghost use Rattle.fb_schema.specs.Attributes.{spelling, known_attribute, is_left_out, integer_of, is_alignment, may_stand, is_force_align_of_field, is_known, noted, attribute_faults, metadata_faults, has_attribute, attribute_called, number_called};
 ghost use Rattle.fb_schema.specs.Faults.{least_of};
 ghost use Rattle.fb_schema.specs.DeclaredNames.{names_declared};
 
@@ -219,13 +219,18 @@ pub(crate) fn has_attribute(known: Known, attributes: &[AttributeUse]) -> bool
     attributes.iter().any(|attribute| attribute.name.text.as_str() == known.spelling())
 }
 
+fn attribute_called(known: Known, attributes: &[AttributeUse]) -> Option<&AttributeUse>
+    ensures { option_copied result ≡ attribute_called known attributes.now }
+{
+    attributes.iter().find(|attribute| attribute.name.text.as_str() == known.spelling())
+}
+
 /// The integer that the first attribute of a name has.
 #[tactic(auto, unfolding(crate::specs::Attributes::number_called))]
 pub(crate) fn number_called(known: Known, attributes: &[AttributeUse]) -> Option<i128>
     ensures { result ≡ number_called known attributes.now }
 {
-    let called = attributes.iter().find(|attribute| attribute.name.text.as_str()
-        == known.spelling())?;
+    let called = attribute_called(known, attributes)?;
     match &called.value {
         Some(AttributeValue::Integer(number)) => Some(integer_of(number)),
         _ => None,
