@@ -5,6 +5,7 @@ mod attributes;
 mod basic_types;
 mod declared_names;
 mod defaults;
+mod enums;
 mod faults;
 mod kinds;
 mod meanings;
