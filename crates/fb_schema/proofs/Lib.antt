@@ -1,4 +1,16 @@
 pub mod Least
 pub mod Places
-pub mod Drops
 pub mod Metadata
+pub mod PlaceFound
+pub mod Bytes
+pub mod Meant
+pub mod Steps
+pub mod Again
+pub mod Positions
+pub mod Distinct
+pub mod NoRepeats
+pub mod LookUps
+pub mod DeclaredNames
+pub mod Got
+pub mod Written
+pub mod ValuesFrom

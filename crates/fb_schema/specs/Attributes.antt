@@ -2,7 +2,7 @@
 -- From the FlatBuffers documentation, "Writing a schema": Attributes.
 use Rattle.std.specs.Prelude.{ℕ, ◌==◌, ◌&&◌, ◌||◌, ◌++◌, not, Bool, true, false, List, [], ◌∷◌, Option, None, Some, ℤ, pos, negsuc, codes, nat_le, if◌then◌else◌}
 use Rattle.std.specs.List.{list_any, find, starts_with}
-use Rattle.std.specs.Option.{option_and_then, unwrap_or}
+use Rattle.std.specs.Option.{option_and_then}
 use Rattle.std.specs.Bool.{nat_eq}
 use Rattle.std.specs.Str.{bytes_eq}
 use Rattle.fb_syntax.specs.Located.{Located}
@@ -16,7 +16,7 @@ use Rattle.fb_schema.specs.declared.faults.SchemaFault.TheVariants.{BadAttribute
 use Rattle.fb_schema.specs.declared.attributes.Known.{Known}
 use Rattle.fb_schema.specs.declared.attributes.Known.TheVariants.{Id, Required, Deprecated, ForceAlign, BitFlags, OriginalOrder}
 use Rattle.fb_schema.specs.declared.attributes.Place.{Place}
-use Rattle.fb_schema.specs.declared.attributes.Place.TheVariants.{Table, Struct, Enum, SignedEnum, Union, ScalarField, TableField, StructField}
+use Rattle.fb_schema.specs.declared.attributes.Place.TheVariants.{Table, Struct, Enum, ScalarField, TableField, StructField}
 
 -- the value of an integer of the text; what is no integer counts as 0
 unfoldable pub integer_of : Located → ℤ

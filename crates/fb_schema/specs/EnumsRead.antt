@@ -1,11 +1,10 @@
 -- The numbers of an enum's values, and what the name of a value means.
 -- From the FlatBuffers documentation, "Writing a schema": Enums, Attributes (`bit_flags`).
-use Rattle.std.specs.Prelude.{ℕ, ◌+◌, ◌*◌, ◌^◌, ◌++◌, ◌&&◌, Bool, true, false, List, [], ◌∷◌, length, drop, Option, None, Some, ℤ, pos, negsuc, ◌+ℤ◌, slice_get, if◌then◌else◌, nat_lt, int_le, not}
-use Rattle.std.specs.List.{list_any, find, starts_with}
+use Rattle.std.specs.Prelude.{ℕ, ◌+◌, ◌*◌, ◌^◌, ◌++◌, ◌&&◌, Bool, true, false, List, [], ◌∷◌, length, drop, Option, None, Some, ℤ, pos, negsuc, ◌+ℤ◌, slice_get, if◌then◌else◌, nat_lt}
+use Rattle.std.specs.List.{find, starts_with}
 use Rattle.std.specs.Option.{option_map, option_map_or, option_or, option_and_then, unwrap_or}
 use Rattle.std.specs.Bool.{nat_eq}
 use Rattle.std.specs.Str.{bytes_eq}
-use Rattle.fb_syntax.specs.Located.{Located}
 use Rattle.fb_syntax.specs.Signs.{dot}
 use Rattle.fb_syntax.specs.TypesRead.{EnumRead}
 use Rattle.fb_syntax.specs.declared.declarations.EnumValue.{EnumValue}
@@ -13,7 +12,6 @@ use Rattle.fb_syntax.specs.declared.declarations.Declaration.{Declaration}
 use Rattle.fb_syntax.specs.declared.declarations.Declaration.TheVariants as declarations
 use Rattle.fb_schema.specs.Schema.{Name}
 use Rattle.fb_schema.specs.Alignments.{base_size}
-use Rattle.fb_schema.specs.WellDeclared.{is_unsigned}
 use Rattle.fb_schema.specs.Outline.{TypeRead, full_name}
 use Rattle.fb_schema.specs.BasicTypes.{holds}
 use Rattle.fb_schema.specs.Meaning.{meaning_of}

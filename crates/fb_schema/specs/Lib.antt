@@ -18,3 +18,6 @@ pub mod TypeFaults
 pub mod Declares
 pub mod NamePlaces
 pub mod DeclaredNames
+pub mod Found
+pub mod Indexed
+pub mod Held

@@ -1,7 +1,7 @@
 -- Which type a name means: the one in the innermost enclosing namespace.
 -- From the FlatBuffers documentation, "Writing a schema": Namespaces.
-use Rattle.std.specs.Prelude.{ℕ, ◌==◌, ◌++◌, List, [], ◌∷◌, Option, None, Some, map, position, if◌then◌else◌}
-use Rattle.std.specs.Option.{option_or}
+use Rattle.std.specs.Prelude.{ℕ, suc, ◌==◌, ◌++◌, List, [], ◌∷◌, Option, None, Some, map, if◌then◌else◌}
+use Rattle.std.specs.Option.{option_or, option_map}
 use Rattle.std.specs.Str.{bytes_eq}
 use Rattle.fb_syntax.specs.Signs.{dot}
 use Rattle.fb_schema.specs.Schema.{Name}
@@ -19,7 +19,8 @@ readings (Some scope) name = name ∷ map (λ outer. inside outer name) (parents
 
 -- the first place of a name in a list of names
 abbrev pub place_of : List Name → Name → Option ℕ
-place_of names name = position (bytes_eq name) names
+place_of [] name = None
+place_of (n ∷ ns) name = if bytes_eq name n then Some 0 else option_map suc (place_of ns name)
 
 -- the last that is there
 abbrev pub last_some : List (Option ℕ) → Option ℕ

@@ -18,7 +18,7 @@ impl DeclaredNames<'_> {
     ghost use Rattle.fb_schema.specs.DeclaredNames.{names_declared};
 
     /// Whether a name is one of them.
-    #[tactic(auto, using(crate::proofs::Places::is_some_position))]
+    #[tactic(auto, using(crate::proofs::PlaceFound::place_found))]
     pub(crate) fn has(self, name: &str) -> bool
         ensures { result ≡ list_any (bytes_eq name.now) (names_declared self.entry) }
     {

@@ -97,7 +97,11 @@ fn value_number(base: Base, flags: bool, number: i128) -> i128
 fn may_be_written(base: Base, flags: bool, number: i128) -> bool
     ensures { result ≡ may_be_written base flags number }
 {
-    if flags { is_bit_of(base, number) } else { holds(base, number) }
+    if flags {
+        is_bit_of(base, number)
+    } else {
+        holds(base, number)
+    }
 }
 
 /// The number that is written for a value, or else the next one.

@@ -114,7 +114,8 @@ impl SchemaFault {
 }
 
 ghost use Rattle.std.specs.Prelude.{◌≡◌};
-ghost use Rattle.fb_schema.specs.Faults.{earlier};
+ghost use Rattle.fb_schema.specs.Faults.{earlier, least_of};
+ghost use Rattle.fb_schema.specs.FaultRows.{when};
 
 /// The fault that comes before the other, by offset and then by number.
 pub(crate) fn earlier(
@@ -128,4 +129,12 @@ pub(crate) fn earlier(
         (Some(_), _) => first,
         (None, _) => second,
     }
+}
+
+/// The fault, where its rule fails.
+#[tactic(auto, unfolding(crate::specs::Faults::least_of))]
+pub(crate) fn when(fails: bool, fault: SchemaFault) -> Option<SchemaFault>
+    ensures { result ≡ least_of (when fails fault) }
+{
+    fails.then_some(fault)
 }

@@ -1,6 +1,7 @@
 //! Names of a text, each found in one step.
-ghost use Rattle.std.specs.Prelude.{◌≡◌, IfOk, map};
-ghost use Rattle.fb_schema.specs.NamePlaces.{place_in, Indexes};
+ghost use Rattle.std.specs.Prelude.{◌≡◌, IfOk, OnOk, None, is_some, map};
+ghost use Rattle.fb_schema.specs.Schema.{Name};
+ghost use Rattle.fb_schema.specs.NamePlaces.{place_in, Notes, Indexes};
 
 use indexmap::IndexMap;
 use std::alloc::{AllocError, Global};
@@ -12,17 +13,44 @@ pub(crate) struct NamePlaces<'n> {
 }
 
 impl<'n> NamePlaces<'n> {
+    /// No names.
+    pub(crate) fn new(alloc: Global) -> NamePlaces<'n>
+        ensures { (name : Name) → place_in result name ≡ None }
+    {
+        NamePlaces {
+            places: IndexMap::new(alloc),
+        }
+    }
+
     /// The places of these names. The only error is a refused allocation.
     pub(crate) fn of(alloc: Global, names: &[&'n str]) -> Result<NamePlaces<'n>, AllocError>
         ensures { IfOk result (λ p. Indexes p (map (λ n. n.now) names.now)) }
     {
-        let mut places = IndexMap::new(alloc);
+        let mut index = NamePlaces::new(alloc);
         for (place, name) in names.iter().enumerate() {
-            if !places.contains_key(name.as_bytes()) {
-                places.insert(name.as_bytes(), place)?;
-            }
+            index.note(name.as_bytes(), place)?;
         }
-        Ok(NamePlaces { places })
+        Ok(index)
+    }
+
+    /// Notes the place of a name that has none yet.
+    fn note(&mut self, name: &'n [u8], place: usize) -> Result<(), AllocError>
+        ensures { OnOk result (Notes self.old self.new name.now place) }
+    {
+        if !self.places.contains_key(name) {
+            self.places.insert(name, place)?;
+        }
+        Ok(())
+    }
+
+    /// Whether a name was noted before; it is from now on.
+    pub(crate) fn again(&mut self, name: &'n [u8]) -> Result<bool, AllocError>
+        ensures before { IfOk result (λ again. again ≡ is_some (place_in self.old name.now)) }
+        ensures noted { OnOk result (Notes self.old self.new name.now 0) }
+    {
+        let again = self.places.contains_key(name);
+        self.note(name, 0)?;
+        Ok(again)
     }
 
     /// The first place of a name.

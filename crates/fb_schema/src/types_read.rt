@@ -1,6 +1,7 @@
 //! The types of a text, found by the names that are used for them.
-ghost use Rattle.std.specs.Prelude.{◌≡◌, IfOk, slice_get};
+ghost use Rattle.std.specs.Prelude.{◌≡◌, ◌<◌, ◌==◌, IfOk, None, length, take, get_or, slice_get, if◌then◌else◌};
 ghost use Rattle.std.specs.Option.{option_copied};
+ghost use Rattle.fb_syntax.specs.Signs.{dot};
 ghost use Rattle.fb_schema.specs.Scopes.{place_of, type_meant};
 ghost use Rattle.fb_schema.specs.Meaning.{use_of_read, meaning_of};
 ghost use Rattle.fb_schema.specs.Outline.{inside, names_of_types};
@@ -39,6 +40,25 @@ impl TypesRead<'_> {
         Ok(self.places.place(full_name.as_slice()))
     }
 
+    /// The same for the namespace that ends before a dot; `None` where another byte stands there.
+    fn place_before(
+        self,
+        alloc: Global,
+        scope: &[u8],
+        at: usize,
+        name: &str,
+    ) -> Result<Option<usize>, AllocError>
+        requires { at < length scope.now }
+        ensures { IfOk result (λ t. t ≡ (if get_or scope.now at 0 == dot
+            then place_of (names_of_types self.entry.types.now) (inside (take at scope.now) name.now) else None)) }
+    {
+        if scope[at] == b'.' {
+            self.place_inside(alloc, &scope[..at], name)
+        } else {
+            Ok(None)
+        }
+    }
+
     /// The number of the type that a name means: that of the innermost enclosing namespace.
     fn type_meant(
         self,
@@ -55,9 +75,7 @@ impl TypesRead<'_> {
         };
         let scope = scope.as_bytes();
         for at in 0..scope.len() {
-            if scope[at] == b'.' {
-                meant = self.place_inside(alloc, &scope[..at], name)?.or(meant);
-            }
+            meant = self.place_before(alloc, scope, at, name)?.or(meant);
         }
         Ok(self.place_inside(alloc, scope, name)?.or(meant))
     }

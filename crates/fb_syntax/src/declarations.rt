@@ -1,5 +1,5 @@
 //! What a schema text declares.
-ghost use Rattle.std.specs.Prelude.{◌≡◌, OnOk, IfOk, Ok, Err};
+ghost use Rattle.std.specs.Prelude.{◌≡◌, OnOk, IfOk};
 ghost use Rattle.fb_syntax.specs.Located.{joined};
 
 use std::alloc::{AllocError, Global};

@@ -1,5 +1,5 @@
 //! Integers, their lengths and their values.
-ghost use Rattle.std.specs.Prelude.{◌≡◌, ◌≤◌, ◌<◌, ◌+◌, ◌*◌, ◌^◌, ◌↔◌, length, MatchOption, IsTrue, IsSome, IfSome};
+ghost use Rattle.std.specs.Prelude.{◌≡◌, ◌≤◌, ◌<◌, ◌+◌, ◌*◌, ◌↔◌, length, MatchOption, IsTrue, IsSome, IfSome};
 ghost use Rattle.fb_syntax.specs.Integers.{is_integer, is_prefixed, without_sign, digit_value, digits_value, magnitude, is_negative, signed_value, greatest_magnitude, IsInteger};
 ghost use Rattle.fb_syntax.specs.NumberLen.{number_len};
 

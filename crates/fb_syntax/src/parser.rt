@@ -7,12 +7,9 @@ mod metadata;
 mod schema;
 mod unions;
 
-ghost use Rattle.std.specs.Prelude.{◌≡◌, ◌≢◌, ◌<◌, ◌≤◌, length, drop, Some, None, IsSome, IfOk, IfSome, MatchOption};
+ghost use Rattle.std.specs.Prelude.{◌≡◌, ◌<◌, ◌≤◌, length, drop, Some, None, IfOk, IfSome, MatchOption};
 ghost use Rattle.fb_syntax.specs.Lexemes.{IsReadable, AreReadable, content, lexemes};
-ghost use Rattle.fb_syntax.specs.Signs.{dot};
 ghost use Rattle.fb_syntax.specs.Reading.{Gives, is_empty, is_only, is_sign, kind_at, name_at, name_more, sign_at, token_at};
-ghost use Rattle.fb_syntax.specs.declared.faults.SyntaxFault.TheVariants.{Memory};
-ghost use Rattle.fb_syntax.specs.declared.tokens.TokenKind.TheVariants.{Word};
 
 use crate::declarations::Text;
 use crate::faults::SyntaxFault;

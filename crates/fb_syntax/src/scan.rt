@@ -1,9 +1,9 @@
 //! The tokens of a text.
-ghost use Rattle.std.specs.Prelude.{◌≡◌, ◌≤◌, ◌<◌, ◌+◌, ◌^◌, ◌↔◌, length, drop, ℕ, List, All, Err, IfSome, IfOk, IfErr, MatchResult, IsTrue, IsUtf8};
+ghost use Rattle.std.specs.Prelude.{◌≡◌, ◌≤◌, ◌<◌, ◌+◌, ◌^◌, length, drop, List, All, IfSome, IfOk, IfErr, IsTrue, IsUtf8};
 ghost use Rattle.std.specs.Str.Lossy.{utf8_valid_len};
 ghost use Rattle.fb_syntax.specs.declared.tokens.Token.{Token};
 ghost use Rattle.fb_syntax.specs.Spells.{Spells, SpellsText, OneSpelling, Finds};
-ghost use Rattle.fb_syntax.specs.SpelledTokens.{IsTokenOf, IsTokenFault, token_bytes, quoted_bytes};
+ghost use Rattle.fb_syntax.specs.SpelledTokens.{IsTokenOf, IsTokenFault};
 ghost use Rattle.fb_syntax.specs.Marks.{mark_len};
 ghost use Rattle.fb_syntax.specs.Pieces.{is_close, close_len, comment_at, integer_at, quoted_at, piece_at};
 
@@ -184,35 +184,6 @@ pub(crate) fn tokens_in(alloc: Global, text: &str) -> Result<Vec<Token>, SyntaxF
 {
     let bytes = text.as_bytes();
     tokens_from(alloc, mark_len(bytes), bytes)
-}
-
-/// The tokens of the bytes of a text: UTF-8 is asked for first, over the whole of them.
-pub(crate) fn tokens_of(alloc: Global, text: &[u8]) -> Result<Vec<Token>, SyntaxFault>
-    ensures found { IfOk result (λ v. SpellsText text.now v.items) }
-    ensures only { (tokens : List Token) →
-        SpellsText text.now tokens → Finds (λ v. v.items) result tokens }
-    ensures not_utf8 { (at : ℕ) → ((result ≡ Err (SyntaxFault.NotUtf8 at))
-        ↔ (¬ (IsUtf8 text.now) × (at ≡ utf8_valid_len text.now))) }
-    ensures tokens { IfOk result (λ v. All (IsTokenOf text.now) v.items) }
-{
-    tokens_in(alloc, text_of(text)?)
-}
-
-/// What a token is in its text.
-pub(crate) fn token_text<'a>(text: &'a str, token: Token) -> &'a str
-    requires { IsTokenOf text.now token }
-    ensures { result.now ≡ token_bytes text.now token }
-{
-    &text[token.at as usize..(token.at + token.len) as usize]
-}
-
-/// What stands between the quotes of a quoted text.
-pub(crate) fn quoted_text<'a>(text: &'a str, token: Token) -> &'a str
-    requires token { IsTokenOf text.now token }
-    requires quoted { token.kind ≡ TokenKind.Quoted }
-    ensures { result.now ≡ quoted_bytes text.now token }
-{
-    &text[token.at as usize + 1..(token.at + token.len) as usize - 1]
 }
 
 /// A text is spelled by one list of tokens at most.

@@ -7,5 +7,5 @@ use Rattle.fb_schema.proofs.enums.values_from.Given as goal
 abbrev pub invariant-loop-value : goal.invariant-loop-value
 invariant-loop-value l = record {
   so_far : map (λ v. (string_bytes v.0, v.1)) l.read.items ++ values_from l.base l.flags l.next (drop l.value-index l.values) ≡ values_from l.base l.flags (pos 0) l.values;
-  near : unsigned_abs l.next ≤ greatest_magnitude + l.value-index
+  near : unsigned_abs l.next ≤ greatest_magnitude + l.value-index;
 }

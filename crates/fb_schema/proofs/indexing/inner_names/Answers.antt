@@ -1,0 +1,6 @@
+use Rattle.fb_schema.proofs.NoRepeats.{no_repeats_at}
+use Rattle.fb_schema.proofs.indexing.inner_names.Goals as goal
+
+pub names_in-requires : goal.names_in-requires
+names_in-requires c =
+    (no_repeats_at c.args.types.now c.loop-info.info-index c.info-item.result c.requires c.loop-info-test.true c.info-item.is).names

@@ -1,0 +1,62 @@
+use Rattle.std.proofs.Common.{◌≡◌, ◌≢◌, ℕ, Bool, Option, List, Vec, String, Global, ℤ, map, AllPairs, IfOk, Result, string_bytes, ap, sym, subst, ◌∙◌}
+use Rattle.std.specs.declared.alloc.AllocError.{AllocError}
+use Rattle.std.proofs.lemmas.Simd.{map-map}
+use Rattle.fb_schema.specs.declared.kinds.Base.{Base}
+use Rattle.fb_schema.specs.declared.kinds.TypeId.{TypeId}
+use Rattle.fb_schema.specs.declared.types.Body.{Body}
+use Rattle.fb_schema.specs.declared.types.Body.TheVariants.{Table, Struct, Enum, Union}
+use Rattle.fb_schema.specs.declared.types.FieldInfo.{FieldInfo}
+use Rattle.fb_schema.specs.Schema.{Name}
+use Rattle.fb_schema.specs.Seen.{field_seen, body_seen}
+use Rattle.fb_schema.specs.Indexed.{inner_names}
+use Rattle.fb_schema.proofs.indexing.names_in.Goals as goal
+
+-- the names are those of the items of a slice over the variant's vector
+module _ (body : Body) where
+  module _ (fields : Vec FieldInfo Global) (xs : List FieldInfo) (lent : xs ≡ fields.items) where
+    field_names : map (λ f. f.name) (map field_seen fields.items) ≡ map (λ f. string_bytes f.name) xs
+    field_names = map-map (λ f. f.name) field_seen fields.items ∙ ap (map (λ f. string_bytes f.name)) (sym lent)
+
+    table_names : body ≡ Table fields → inner_names (body_seen body) ≡ map (λ f. string_bytes f.name) xs
+    table_names is = ap (λ (b : Body). inner_names (body_seen b)) is ∙ field_names
+
+    struct_names : {align : Option ℕ} → body ≡ Struct fields align → inner_names (body_seen body) ≡ map (λ f. string_bytes f.name) xs
+    struct_names is = ap (λ (b : Body). inner_names (body_seen b)) is ∙ field_names
+
+  enum_names : {base : Base} {flags : Bool} (values : Vec (String Global × ℤ) Global) (xs : List (String Global × ℤ)) → xs ≡ values.items → body ≡ Enum base flags values
+      → inner_names (body_seen body) ≡ map (λ v. string_bytes v.0) xs
+  enum_names values xs lent is = ap (λ (b : Body). inner_names (body_seen b)) is ∙ (map-map (λ v. v.0) (λ (x : String Global × ℤ). (string_bytes x.0, x.1)) values.items ∙ ap (map (λ v. string_bytes v.0)) (sym lent))
+
+  union_names : (members : Vec (String Global × TypeId) Global) (xs : List (String Global × TypeId)) → xs ≡ members.items → body ≡ Union members
+      → inner_names (body_seen body) ≡ map (λ v. string_bytes v.0) xs
+  union_names members xs lent is = ap (λ (b : Body). inner_names (body_seen b)) is ∙ (map-map (λ v. v.0) (λ (x : String Global × TypeId). (string_bytes x.0, x.1.0)) members.items ∙ ap (map (λ v. string_bytes v.0)) (sym lent))
+
+differ : (ms ns : List Name) → ms ≡ ns → AllPairs (λ a b. a ≢ b) ms → AllPairs (λ a b. a ≢ b) ns
+differ ms ns e pairs = subst (λ (names : List Name). AllPairs (λ a b. a ≢ b) names) e pairs
+
+made : (r : Result (List Name) AllocError) (ms ns : List Name) → ms ≡ ns → IfOk r (λ names. names ≡ ns) → IfOk r (λ names. names ≡ ms)
+made r ms ns e h = subst (λ (all : List Name). IfOk r (λ names. names ≡ all)) (sym e) h
+
+pub of-requires : goal.of-requires
+of-requires c = differ _ _ (table_names _ _ _ c.as_slice.ensures.value c.in-Table.is) c.requires
+
+pub of-requires-in-Struct : goal.of-requires-in-Struct
+of-requires-in-Struct c = differ _ _ (struct_names _ _ _ c.as_slice-in-Struct.ensures.value c.in-Struct.is) c.requires
+
+pub of-requires-in-Enum : goal.of-requires-in-Enum
+of-requires-in-Enum c = differ _ _ (enum_names _ _ _ c.as_slice-in-Enum.ensures.value c.in-Enum.is) c.requires
+
+pub of-requires-in-Union : goal.of-requires-in-Union
+of-requires-in-Union c = differ _ _ (union_names _ _ _ c.as_slice-in-Union.ensures.value c.in-Union.is) c.requires
+
+pub returns-in-Table : goal.returns-in-Table
+returns-in-Table c = made _ _ _ (table_names _ _ _ c.as_slice.ensures.value c.in-Table.is) c.of.ensures
+
+pub returns-in-Struct : goal.returns-in-Struct
+returns-in-Struct c = made _ _ _ (struct_names _ _ _ c.as_slice-in-Struct.ensures.value c.in-Struct.is) c.of-in-Struct.ensures
+
+pub returns-in-Enum : goal.returns-in-Enum
+returns-in-Enum c = made _ _ _ (enum_names _ _ _ c.as_slice-in-Enum.ensures.value c.in-Enum.is) c.of-in-Enum.ensures
+
+pub returns-in-Union : goal.returns-in-Union
+returns-in-Union c = made _ _ _ (union_names _ _ _ c.as_slice-in-Union.ensures.value c.in-Union.is) c.of-in-Union.ensures

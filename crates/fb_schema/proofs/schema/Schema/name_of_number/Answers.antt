@@ -1,0 +1,29 @@
+use Rattle.std.proofs.Common.{◌≡◌, ℤ, Some, ap, sym, subst, ◌∙◌}
+use Rattle.std.specs.Option.{option_copied}
+use Rattle.std.proofs.lemmas.Int.{to_z-of_z}
+use mir.Syntax.{w128}
+use Rattle.fb_schema.specs.Schema.{DeclaredBody}
+use Rattle.fb_schema.specs.Seen.{body_seen}
+use Rattle.fb_schema.specs.Found.{name_numbered}
+use Rattle.fb_schema.specs.Indexed.{inner_numbers}
+use Rattle.fb_schema.proofs.Got.{got_of}
+use Rattle.fb_schema.proofs.LookUps.{index_there, body_there}
+use Rattle.fb_schema.proofs.schema.Schema.name_of_number.Goals as goal
+
+pub name_in-requires : goal.name_in-requires
+name_in-requires c =
+    let s = c.self.inside in
+    let info = c.in_ok-info.info in
+    let numbers = c.in_ok-numbers.numbers in
+    let there = got_of c.deref.result.now s.types.items c.args.enumeration.0 (Some info) c.deref.ensures.value c.in_ok-info.ensures.lookup.0 c.in_ok-info.ensures.lookup.1 in
+    let held = got_of c.deref-2.result.now s.inner_numbers.items c.args.enumeration.0 (Some numbers) c.deref-2.ensures.value c.in_ok-numbers.ensures.lookup.0 c.in_ok-numbers.ensures.lookup.1 in
+    index_there s.types.items c.args.enumeration.0 info.now there inner_numbers s.inner_numbers.items numbers.now c.self.invariant.numbers held
+
+pub returns : goal.returns
+returns c =
+    let s = c.self.inside in
+    let info = c.in_ok-info.info in
+    let there = got_of c.deref.result.now s.types.items c.args.enumeration.0 (Some info) c.deref.ensures.value c.in_ok-info.ensures.lookup.0 c.in_ok-info.ensures.lookup.1 in
+    let found = subst (λ (n : ℤ). option_copied c.name_in.result ≡ name_numbered (body_seen info.now.body) n) (to_z-of_z w128 c.args.number c.ranges.number) c.name_in.ensures in
+    rw (← c.self.view_is)
+    (found ∙ ap (λ (b : DeclaredBody). name_numbered b c.args.number) (sym (body_there s.types.items c.args.enumeration.0 info.now there)))

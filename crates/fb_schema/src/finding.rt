@@ -1,0 +1,71 @@
+//! What is found in one type through its index.
+ghost use Rattle.std.specs.Prelude.{◌≡◌, map, option_copied, option_map, string_bytes};
+ghost use Rattle.fb_schema.specs.Schema.{values_in, members_in};
+ghost use Rattle.fb_schema.specs.Seen.{field_seen, body_seen};
+ghost use Rattle.fb_schema.specs.Indexed.{inner_names, inner_numbers};
+ghost use Rattle.fb_schema.specs.Found.{fields_in, field_named, member_coded, name_numbered};
+
+use crate::kinds::TypeId;
+use crate::name_index::NameIndex;
+use crate::number_index::NumberIndex;
+use crate::types::{Body, FieldInfo};
+
+/// The fields of a table or struct; none of another type.
+fn fields_of(body: &Body) -> &[FieldInfo]
+    ensures { map field_seen result.now ≡ fields_in (body_seen body.now) }
+{
+    match body {
+        Body::Table(fields) => fields.as_slice(),
+        Body::Struct(fields, _) => fields.as_slice(),
+        _ => &[],
+    }
+}
+
+/// The values of an enum; none of another type.
+fn values_of(body: &Body) -> &[(String, i128)]
+    ensures { map (λ v. (string_bytes v.0, v.1)) result.now ≡ values_in (body_seen body.now) }
+{
+    match body {
+        Body::Enum(_, _, values) => values.as_slice(),
+        _ => &[],
+    }
+}
+
+/// The members of a union; none of another type.
+fn members_of(body: &Body) -> &[(String, TypeId)]
+    ensures { map (λ m. (string_bytes m.0, m.1.0)) result.now ≡ members_in (body_seen body.now) }
+{
+    match body {
+        Body::Union(members) => members.as_slice(),
+        _ => &[],
+    }
+}
+
+/// The field of a table or struct that has a name.
+pub(crate) fn field_in<'a>(body: &'a Body, names: &NameIndex, name: &str) -> Option<&'a FieldInfo>
+    requires { names.now ≡ inner_names (body_seen body.now) }
+    ensures { option_map field_seen (option_copied result)
+        ≡ field_named (body_seen body.now) name.now }
+{
+    let at = names.position(name)?;
+    fields_of(body).get(at)
+}
+
+/// The table of a union's member that has a code, from 1 on.
+pub(crate) fn member_in(body: &Body, code: u8) -> Option<TypeId>
+    ensures { option_map (λ t. t.0) result ≡ member_coded (body_seen body.now) code }
+{
+    let at = code.checked_sub(1)?;
+    let member = members_of(body).get(usize::from(at))?;
+    Some(member.1)
+}
+
+/// The name of an enum's value that has a number.
+pub(crate) fn name_in<'a>(body: &'a Body, numbers: &NumberIndex, number: i128) -> Option<&'a str>
+    requires { numbers.now ≡ inner_numbers (body_seen body.now) }
+    ensures { option_copied result ≡ name_numbered (body_seen body.now) number }
+{
+    let at = numbers.position(number)?;
+    let value = values_of(body).get(at)?;
+    Some(value.0.as_str())
+}

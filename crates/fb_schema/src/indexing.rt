@@ -1,0 +1,62 @@
+//! The indexes of a schema's types.
+ghost use Rattle.std.specs.Prelude.{◌≡◌, ◌≢◌, map, All, AllPairs, IfOk};
+ghost use Rattle.fb_schema.specs.Seen.{body_seen, type_seen};
+ghost use Rattle.fb_schema.specs.Indexed.{inner_names as names_of_body, inner_numbers as numbers_of_body, HasNoRepeats};
+
+use crate::name_index::NameIndex;
+use crate::number_index::NumberIndex;
+use crate::types::{Body, TypeInfo};
+use std::alloc::{AllocError, Global};
+
+/// The names of a type's fields, values or members.
+fn names_in(alloc: Global, body: &Body) -> Result<NameIndex, AllocError>
+    requires { AllPairs (λ a b. a ≢ b) (names_of_body (body_seen body.now)) }
+    ensures { IfOk result (λ names. names ≡ names_of_body (body_seen body.now)) }
+{
+    match body {
+        Body::Table(fields) => NameIndex::of(alloc, fields.as_slice()),
+        Body::Struct(fields, _) => NameIndex::of(alloc, fields.as_slice()),
+        Body::Enum(_, _, values) => NameIndex::of(alloc, values.as_slice()),
+        Body::Union(members) => NameIndex::of(alloc, members.as_slice()),
+    }
+}
+
+/// The numbers of an enum's values.
+fn numbers_in(alloc: Global, body: &Body) -> Result<NumberIndex, AllocError>
+    requires { AllPairs (λ a b. a ≢ b) (numbers_of_body (body_seen body.now)) }
+    ensures { IfOk result (λ numbers. numbers ≡ numbers_of_body (body_seen body.now)) }
+{
+    match body {
+        Body::Enum(_, _, values) => NumberIndex::of(alloc, values.as_slice()),
+        _ => NumberIndex::of(alloc, &[]),
+    }
+}
+
+/// For each type, the names of its fields, values or members.
+pub(crate) fn inner_names(alloc: Global, types: &[TypeInfo]) -> Result<Vec<NameIndex>, AllocError>
+    requires { All (λ t. HasNoRepeats t.body) (map type_seen types.now) }
+    ensures { IfOk result
+        (λ all. all.items ≡ map (λ t. names_of_body t.body) (map type_seen types.now)) }
+{
+    let mut all = Vec::with_capacity(alloc, types.len())?;
+    for info in types {
+        all.push(names_in(alloc, &info.body)?)?;
+    }
+    Ok(all)
+}
+
+/// For each type, the numbers of its values.
+pub(crate) fn inner_numbers(
+    alloc: Global,
+    types: &[TypeInfo],
+) -> Result<Vec<NumberIndex>, AllocError>
+    requires { All (λ t. HasNoRepeats t.body) (map type_seen types.now) }
+    ensures { IfOk result
+        (λ all. all.items ≡ map (λ t. numbers_of_body t.body) (map type_seen types.now)) }
+{
+    let mut all = Vec::with_capacity(alloc, types.len())?;
+    for info in types {
+        all.push(numbers_in(alloc, &info.body)?)?;
+    }
+    Ok(all)
+}

@@ -1,0 +1,124 @@
+//! A schema that keeps what schemas must keep, and finds its types by their names.
+ghost use Rattle.std.specs.Prelude.{◌≡◌, map, option_copied, option_map, IfOk};
+ghost use Rattle.fb_schema.specs.Schema.{body_at};
+ghost use Rattle.fb_schema.specs.Seen.{field_seen, type_seen, schema_of};
+ghost use Rattle.fb_schema.specs.WellDeclared.{IsDeclared};
+ghost use Rattle.fb_schema.specs.Found.{type_named, field_named, member_coded, name_numbered};
+
+use crate::finding::{field_in, member_in, name_in};
+use crate::indexing::{inner_names, inner_numbers};
+use crate::kinds::TypeId;
+use crate::name_index::NameIndex;
+use crate::number_index::NumberIndex;
+use crate::types::{FieldInfo, TypeInfo};
+use std::alloc::{AllocError, Global};
+use std::marker::Model;
+
+/// A schema: its types by number, the root's type, and the identifier of its files.
+///
+/// Each look-up by a name or a number takes one step, whatever the schema's size, and no memory.
+#[derive(Drop)]
+pub struct Schema {
+    types: Vec<TypeInfo>,
+    root: TypeId,
+    identifier: Option<[u8; 4]>,
+    full_names: NameIndex,
+    inner_names: Vec<NameIndex>,
+    inner_numbers: Vec<NumberIndex>,
+}
+
+impl Model for Schema {
+    ghost use Rattle.fb_schema.specs.Schema.{DeclaredSchema};
+
+    ghost Value = { DeclaredSchema };
+
+    ghost use Rattle.fb_schema.specs.Held.{schema_seen, IsIndexed};
+
+    ghost view = { schema_seen };
+
+    ghost invariant = { IsIndexed };
+}
+
+impl Schema {
+    /// A schema of types that are well declared, with its indexes.
+    pub(crate) fn new(
+        alloc: Global,
+        types: Vec<TypeInfo>,
+        root: TypeId,
+        identifier: Option<[u8; 4]>,
+    ) -> Result<Schema, AllocError>
+        requires { IsDeclared (schema_of types.items root identifier) }
+        ensures { IfOk result (λ schema. schema ≡ schema_of types.items root identifier) }
+    {
+        let full_names = NameIndex::of(alloc, types.as_slice())?;
+        let inner_names = inner_names(alloc, types.as_slice())?;
+        let inner_numbers = inner_numbers(alloc, types.as_slice())?;
+        Ok(Schema {
+            types,
+            root,
+            identifier,
+            full_names,
+            inner_names,
+            inner_numbers,
+        })
+    }
+
+    /// The types, by number.
+    pub fn types(&self) -> &[TypeInfo]
+        ensures types { map type_seen result.now ≡ self.now.types }
+        ensures declared { IsDeclared self.now }
+    {
+        self.types.as_slice()
+    }
+
+    /// The type of the root.
+    pub fn root(&self) -> TypeId
+        ensures { result.0 ≡ self.now.root }
+    {
+        self.root
+    }
+
+    /// The identifier that the schema's files have.
+    pub fn identifier(&self) -> Option<[u8; 4]>
+        ensures { result ≡ self.now.identifier }
+    {
+        self.identifier
+    }
+
+    /// The type that has a full name.
+    pub fn find(&self, full_name: &str) -> Option<TypeId>
+        ensures { option_map (λ t. t.0) result ≡ type_named self.now full_name.now }
+    {
+        let at = self.full_names.position(full_name)?;
+        Some(TypeId(at as u64))
+    }
+
+    /// The field of a table or struct that has a name. Of a union field `x` the code is `x_type`.
+    pub fn field_by_name(&self, owner: TypeId, name: &str) -> Option<&FieldInfo>
+        ensures { option_map field_seen (option_copied result)
+            ≡ field_named (body_at self.now owner.0) name.now }
+    {
+        let at = owner.0 as usize;
+        let info = self.types.get(at)?;
+        let names = self.inner_names.get(at)?;
+        field_in(&info.body, names, name)
+    }
+
+    /// The table of a union's member that has a code, from 1 on.
+    pub fn member_by_code(&self, union: TypeId, code: u8) -> Option<TypeId>
+        ensures { option_map (λ t. t.0) result ≡ member_coded (body_at self.now union.0) code }
+    {
+        let info = self.types.get(union.0 as usize)?;
+        member_in(&info.body, code)
+    }
+
+    /// The name of an enum's value that has a number.
+    pub fn name_of_number(&self, enumeration: TypeId, number: i128) -> Option<&str>
+        ensures { option_copied result ≡ name_numbered (body_at self.now enumeration.0) number }
+    {
+        let at = enumeration.0 as usize;
+        let info = self.types.get(at)?;
+        let numbers = self.inner_numbers.get(at)?;
+        name_in(&info.body, numbers, number)
+    }
+}
