@@ -14,3 +14,4 @@ pub mod DeclaredNames
 pub mod Got
 pub mod Written
 pub mod ValuesFrom
+pub mod BadValues
