@@ -15,3 +15,5 @@ pub mod Got
 pub mod Written
 pub mod ValuesFrom
 pub mod BadValues
+pub mod Behind
+pub mod NumberNamed

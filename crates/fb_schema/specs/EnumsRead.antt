@@ -1,6 +1,6 @@
 -- The numbers of an enum's values, and what the name of a value means.
 -- From the FlatBuffers documentation, "Writing a schema": Enums, Attributes (`bit_flags`).
-use Rattle.std.specs.Prelude.{ℕ, ◌+◌, ◌*◌, ◌^◌, ◌++◌, ◌&&◌, Bool, true, false, List, [], ◌∷◌, length, drop, Option, None, Some, ℤ, pos, negsuc, ◌+ℤ◌, slice_get, if◌then◌else◌, nat_lt}
+use Rattle.std.specs.Prelude.{ℕ, ◌==◌, ◌+◌, ◌*◌, ◌^◌, ◌++◌, ◌&&◌, Bool, true, false, List, [], ◌∷◌, length, drop, Option, None, Some, ℤ, pos, negsuc, ◌+ℤ◌, slice_get, if◌then◌else◌, nat_lt}
 use Rattle.std.specs.List.{find, starts_with}
 use Rattle.std.specs.Option.{option_map, option_map_or, option_or, option_and_then, unwrap_or}
 use Rattle.std.specs.Bool.{nat_eq}
@@ -95,9 +95,13 @@ values_read types scope e = values_from (base_or_ubyte (underlying types scope e
 unfoldable pub number_named : List (Name × ℤ) → Name → Option ℤ
 number_named values name = option_map (λ v. v.1) (find (λ v. bytes_eq name v.0) values)
 
+abbrev pub behind_dot : Name → Option Name
+behind_dot [] = None
+behind_dot (c ∷ cs) = if c == dot then Some cs else None
+
 -- what stands behind a name and a dot
 unfoldable pub behind : Name → Name → Option Name
-behind prefix name = if starts_with nat_eq name (prefix ++ dot ∷ []) then Some (drop (length prefix + 1) name) else None
+behind prefix name = if starts_with nat_eq name prefix then behind_dot (drop (length prefix) name) else None
 
 -- what the name of a value means: alone, or behind the enum's declared or full name and a dot
 abbrev pub value_named : Option Name → EnumRead → List (Name × ℤ) → Name → Option ℤ

@@ -20,6 +20,7 @@ mod outline;
 mod schema;
 mod types;
 mod types_read;
+mod value_names;
 
 pub use faults::SchemaFault;
 pub use kinds::{Base, Kind, Shape, TypeId};
