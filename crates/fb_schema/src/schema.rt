@@ -41,7 +41,7 @@ impl Model for Schema {
 
 impl Schema {
     /// A schema of types that are well declared, with its indexes.
-    pub(crate) fn new(
+    pub fn new(
         alloc: Global,
         types: Vec<TypeInfo>,
         root: TypeId,

@@ -1,0 +1,14 @@
+pub mod Least
+pub mod Places
+pub mod Bytes
+pub mod Meant
+pub mod Steps
+pub mod Again
+pub mod Underscores
+pub mod Metadata
+pub mod PlaceFound
+pub mod ValuesFrom
+pub mod Written
+pub mod BadValues
+pub mod Behind
+pub mod NumberNamed

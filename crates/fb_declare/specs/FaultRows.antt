@@ -1,0 +1,133 @@
+-- Where each rule on declarations fails: of names, types, defaults, ids, structs, enums, unions, the root and the identifier.
+-- From the FlatBuffers documentation, "Writing a schema".
+use Rattle.std.specs.Prelude.{ℕ, ◌==◌, ◌++◌, ◌&&◌, ◌||◌, not, Bool, true, false, List, [], ◌∷◌, length, Option, None, Some, ℤ, pos, ◌+ℤ◌, codes, if◌then◌else◌, nat_le}
+use Rattle.std.specs.List.{list_any, list_all}
+use Rattle.std.specs.Option.{is_none}
+use Rattle.std.specs.Ordering.{int_eq}
+use Rattle.std.specs.Str.{bytes_eq}
+use Rattle.fb_syntax.specs.Located.{Located}
+use Rattle.fb_syntax.specs.declared.declarations.FieldType.{FieldType}
+use Rattle.fb_syntax.specs.declared.declarations.FieldType.TheVariants.{One, Many}
+use Rattle.fb_syntax.specs.declared.declarations.DefaultValue.{DefaultValue}
+use Rattle.fb_syntax.specs.declared.declarations.DefaultValue.TheVariants.{Integer, Name as Named}
+use Rattle.fb_syntax.specs.declared.declarations.EnumValue.{EnumValue}
+use Rattle.fb_schema.specs.Schema.{Name}
+use Rattle.fb_declare.specs.Outline.{TypeRead, RootRead}
+use Rattle.fb_declare.specs.BasicTypes.{is_reserved}
+use Rattle.fb_declare.specs.Meaning.{meaning_of, type_name}
+use Rattle.fb_declare.specs.EnumsRead.{may_be_written, written_number, integer_type}
+use Rattle.fb_declare.specs.MembersRead.{table_of}
+use Rattle.fb_schema.specs.declared.kinds.Base.{Base}
+use Rattle.fb_schema.specs.declared.kinds.Kind.TheVariants.{Scalar, Enum, Struct, Union}
+use Rattle.fb_declare.specs.declared.meanings.Meaning.{Meaning}
+use Rattle.fb_declare.specs.declared.meanings.Meaning.TheVariants.{Known, Float, Unknown}
+use Rattle.fb_declare.specs.declared.defaults.Given.{Given}
+use Rattle.fb_declare.specs.declared.defaults.Given.TheVariants.{Wrong}
+use Rattle.fb_declare.specs.declared.faults.SchemaFault.{SchemaFault}
+use Rattle.fb_declare.specs.declared.faults.SchemaFault.TheVariants.{DuplicateName, UnknownType, BadDefault, IncompleteStruct, Unsupported, BadEnumValue, BadMember, BadRoot, BadIdentifier}
+
+abbrev pub when : Bool → SchemaFault → List SchemaFault
+when fails fault = if fails then fault ∷ [] else []
+
+abbrev pub is_among : Name → List Located → Bool
+is_among name earlier = list_any (λ e. bytes_eq name e.bytes) earlier
+
+-- the names that occur among those before them
+unfoldable pub names_again : List Located → List Located → List SchemaFault
+names_again earlier [] = []
+names_again earlier (n ∷ ns) = when (is_among n.bytes earlier) (DuplicateName n.at) ++ names_again (earlier ++ n ∷ []) ns
+
+-- a type's name is a basic or float type's
+abbrev pub reserved_name : Located → List SchemaFault
+reserved_name n = when (is_reserved n.bytes) (DuplicateName n.at)
+
+-- a union's member is called NONE
+abbrev pub none_name : Located → List SchemaFault
+none_name n = when (bytes_eq n.bytes (codes "NONE")) (DuplicateName n.at)
+
+-- a type isn't found, or is a float type's
+unfoldable pub use_faults : Meaning → ℕ → List SchemaFault
+use_faults Unknown at = UnknownType at ∷ []
+use_faults Float at = Unsupported at ∷ []
+use_faults (Known kind) at = []
+
+-- a vector of unions
+abbrev pub union_vector : FieldType → Meaning → List SchemaFault
+union_vector (Many at n) (Known (Union u)) = Unsupported n.at ∷ []
+union_vector _ _ = []
+
+-- the type of a table's field
+abbrev pub table_field_type : FieldType → Meaning → List SchemaFault
+table_field_type kind m = use_faults m (type_name kind).at ++ union_vector kind m
+
+-- a struct's field that is a vector, text, table or union, or a struct that isn't declared before
+unfoldable pub part_faults : ℕ → FieldType → Meaning → List SchemaFault
+part_faults struct (Many at n) m = BadMember at ∷ []
+part_faults struct (One n) (Known (Scalar base)) = []
+part_faults struct (One n) (Known (Enum e)) = []
+part_faults struct (One n) (Known (Struct t)) = when (nat_le struct t.0) (IncompleteStruct n.at)
+part_faults struct (One n) (Known _) = BadMember n.at ∷ []
+part_faults struct (One n) _ = []
+
+-- the type of a struct's field
+abbrev pub struct_field_type : ℕ → FieldType → Meaning → List SchemaFault
+struct_field_type struct kind m = use_faults m (type_name kind).at ++ part_faults struct kind m
+
+abbrev pub default_at : DefaultValue → ℕ
+default_at (Integer t) = t.at
+default_at (Named t) = t.at
+
+abbrev pub is_wrong : Given → Bool
+is_wrong Wrong = true
+is_wrong _ = false
+
+-- a default that gives nothing
+unfoldable pub bad_default : Option DefaultValue → Given → List SchemaFault
+bad_default None given = []
+bad_default (Some d) given = when (is_wrong given) (BadDefault (default_at d))
+
+-- a default in a struct
+unfoldable pub default_in_struct : Option DefaultValue → List SchemaFault
+default_in_struct None = []
+default_in_struct (Some d) = BadDefault (default_at d) ∷ []
+
+-- the type under an enum
+abbrev pub underlying_faults : Meaning → ℕ → List SchemaFault
+underlying_faults Unknown at = UnknownType at ∷ []
+underlying_faults m at = when (is_none (integer_type m)) (Unsupported at)
+
+abbrev pub is_out_of_range : Option Base → Bool → ℤ → Bool
+is_out_of_range None flags n = false
+is_out_of_range (Some base) flags n = not (may_be_written base flags n)
+
+-- the values whose number is out of range, or that of a value before
+unfoldable pub bad_values : Option Base → Bool → List ℤ → ℤ → List EnumValue → List SchemaFault
+bad_values base flags earlier next [] = []
+bad_values base flags earlier next (v ∷ vs) = let n = written_number next v in
+    when (is_out_of_range base flags n || list_any (int_eq n) earlier) (BadEnumValue v.name.at)
+    ++ bad_values base flags (earlier ++ n ∷ []) (n +ℤ pos 1) vs
+
+-- a member that isn't a table, or is past the 255th
+abbrev pub bad_member : ℕ → Meaning → ℕ → List SchemaFault
+bad_member before m at = when (is_none (table_of m) || nat_le 255 before) (BadMember at)
+
+-- the faults of a member of this name, whose type stands at this offset, with so many before it
+unfoldable pub member_faults : ℕ → Located → ℕ → Meaning → List SchemaFault
+member_faults before name at m = none_name name ++ use_faults m at ++ bad_member before m at
+
+-- the root isn't a table
+abbrev pub bad_root : Meaning → ℕ → List SchemaFault
+bad_root m at = when (is_none (table_of m)) (BadRoot at)
+
+unfoldable pub root_faults : List TypeRead → ℕ → Option RootRead → List SchemaFault
+root_faults types text_len None = BadRoot text_len ∷ []
+root_faults types text_len (Some r) = let m = meaning_of types r.scope r.name.bytes in
+    use_faults m r.name.at ++ bad_root m r.name.at
+
+-- four printable bytes
+abbrev pub is_identifier : Name → Bool
+is_identifier name = length name == 4 && list_all (λ c. nat_le 32 c && nat_le c 126) name
+
+unfoldable pub identifier_faults : Option Located → List SchemaFault
+identifier_faults None = []
+identifier_faults (Some t) = when (not (is_identifier t.bytes)) (BadIdentifier t.at)

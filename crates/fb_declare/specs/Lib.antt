@@ -1,0 +1,16 @@
+pub mod Outline
+pub mod Scopes
+pub mod BasicTypes
+pub mod Meaning
+pub mod Attributes
+pub mod EnumsRead
+pub mod Defaults
+pub mod SlotsRead
+pub mod StructsRead
+pub mod MembersRead
+pub mod FaultRows
+pub mod TypeFaults
+pub mod Declares
+pub mod NamePlaces
+pub mod Faults
+pub mod DeclaredNames

@@ -1,0 +1,27 @@
+//! The names of attributes that a text declares.
+ghost use Rattle.std.specs.Prelude.{◌≡◌, map};
+ghost use Rattle.fb_declare.specs.NamePlaces.{Indexes};
+
+use crate::name_places::NamePlaces;
+
+/// The names of attributes that a text declares, each found in one step.
+#[derive(Clone, Copy)]
+pub(crate) struct DeclaredNames<'n> {
+    pub names: &'n [&'n str],
+    pub places: &'n NamePlaces<'n>,
+    ghost named: { Indexes places.now (map (λ n. n.now) names.now) },
+}
+
+impl DeclaredNames<'_> {
+    ghost use Rattle.std.specs.List.{list_any};
+    ghost use Rattle.std.specs.Str.{bytes_eq};
+    ghost use Rattle.fb_declare.specs.DeclaredNames.{names_declared};
+
+    /// Whether a name is one of them.
+    #[tactic(auto, using(crate::proofs::PlaceFound::place_found))]
+    pub(crate) fn has(self, name: &str) -> bool
+        ensures { result ≡ list_any (bytes_eq name.now) (names_declared self.entry) }
+    {
+        self.places.place(name.as_bytes()).is_some()
+    }
+}

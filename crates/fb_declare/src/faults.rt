@@ -1,0 +1,140 @@
+//! Why declarations are refused.
+use std::alloc::{AllocError, AllocFailed};
+use thiserror::Error;
+
+/// The rule on declarations that fails, and the offset in bytes from the text's start.
+///
+/// `Memory` is a refused allocation and no rule.
+#[derive(Clone, Copy, Debug, PartialEq, Eq, Drop, Error)]
+pub enum SchemaFault {
+    #[error("the name at {0} occurs again, or may not be taken")]
+    DuplicateName(u64),
+    #[error("the type at {0} isn't found")]
+    UnknownType(u64),
+    #[error("the default at {0} isn't one of its field")]
+    BadDefault(u64),
+    #[error("the ids of the table at {0} are not 0, 1 and so on")]
+    BadIds(u64),
+    #[error("the struct at {0} isn't declared before")]
+    IncompleteStruct(u64),
+    #[error("the struct at {0} has no field")]
+    EmptyStruct(u64),
+    #[error("the attribute at {0} may not stand there, or has a wrong value")]
+    BadAttribute(u64),
+    #[error("the attribute at {0} isn't declared")]
+    UnknownAttribute(u64),
+    #[error("what stands at {0} isn't supported")]
+    Unsupported(u64),
+    #[error("the enum value at {0} is out of range or occurs again")]
+    BadEnumValue(u64),
+    #[error("the type at {0} may not be a member there")]
+    BadMember(u64),
+    #[error("no table is the root, told at {0}")]
+    BadRoot(u64),
+    #[error("the file identifier at {0} is not four printable bytes")]
+    BadIdentifier(u64),
+    #[error("out of memory")]
+    Memory,
+}
+
+impl From<AllocError> for SchemaFault {
+    ghost use Rattle.std.specs.Prelude.{◌≡◌};
+    ghost use Rattle.fb_declare.specs.declared.faults.SchemaFault.TheVariants.{Memory};
+
+    ghost from_gives = { λ _ e. e ≡ Memory };
+
+    fn from(_refused: AllocError) -> SchemaFault {
+        SchemaFault::Memory
+    }
+}
+
+impl<T: Drop> From<AllocFailed<T>> for SchemaFault {
+    ghost use Rattle.std.specs.Prelude.{◌≡◌};
+    ghost use Rattle.fb_declare.specs.declared.faults.SchemaFault.TheVariants.{Memory};
+
+    ghost from_gives = { λ _ e. e ≡ Memory };
+
+    fn from(_refused: AllocFailed<T>) -> SchemaFault {
+        SchemaFault::Memory
+    }
+}
+
+impl SchemaFault {
+    ghost use Rattle.std.specs.Prelude.{◌≡◌};
+    ghost use Rattle.fb_declare.specs.Faults.{offset_of, number_of, comes_before};
+
+    fn offset(self) -> u64
+        ensures { result ≡ offset_of self }
+    {
+        match self {
+            SchemaFault::DuplicateName(at)
+            | SchemaFault::UnknownType(at)
+            | SchemaFault::BadDefault(at)
+            | SchemaFault::BadIds(at)
+            | SchemaFault::IncompleteStruct(at)
+            | SchemaFault::EmptyStruct(at)
+            | SchemaFault::BadAttribute(at)
+            | SchemaFault::UnknownAttribute(at)
+            | SchemaFault::Unsupported(at)
+            | SchemaFault::BadEnumValue(at)
+            | SchemaFault::BadMember(at)
+            | SchemaFault::BadRoot(at)
+            | SchemaFault::BadIdentifier(at) => at,
+            SchemaFault::Memory => 0,
+        }
+    }
+
+    fn number(self) -> u8
+        ensures { result ≡ number_of self }
+    {
+        match self {
+            SchemaFault::DuplicateName(_) => 10,
+            SchemaFault::UnknownType(_) => 11,
+            SchemaFault::BadDefault(_) => 12,
+            SchemaFault::BadIds(_) => 13,
+            SchemaFault::IncompleteStruct(_) => 14,
+            SchemaFault::EmptyStruct(_) => 15,
+            SchemaFault::BadAttribute(_) => 16,
+            SchemaFault::UnknownAttribute(_) => 17,
+            SchemaFault::Unsupported(_) => 18,
+            SchemaFault::BadEnumValue(_) => 19,
+            SchemaFault::BadMember(_) => 20,
+            SchemaFault::BadRoot(_) => 21,
+            SchemaFault::BadIdentifier(_) => 22,
+            SchemaFault::Memory => 23,
+        }
+    }
+
+    fn comes_before(self, other: SchemaFault) -> bool
+        ensures { result ≡ comes_before self other }
+    {
+        self.offset() < other.offset()
+            || self.offset() == other.offset() && self.number() < other.number()
+    }
+}
+
+ghost use Rattle.std.specs.Prelude.{◌≡◌};
+ghost use Rattle.fb_declare.specs.Faults.{earlier, least_of};
+ghost use Rattle.fb_declare.specs.FaultRows.{when};
+
+/// The fault that comes before the other, by offset and then by number.
+pub(crate) fn earlier(
+    first: Option<SchemaFault>,
+    second: Option<SchemaFault>,
+) -> Option<SchemaFault>
+    ensures { result ≡ earlier first second }
+{
+    match (first, second) {
+        (Some(one), Some(other)) if other.comes_before(one) => second,
+        (Some(_), _) => first,
+        (None, _) => second,
+    }
+}
+
+/// The fault, where its rule fails.
+#[tactic(auto, unfolding(crate::specs::Faults::least_of))]
+pub(crate) fn when(fails: bool, fault: SchemaFault) -> Option<SchemaFault>
+    ensures { result ≡ least_of (when fails fault) }
+{
+    fails.then_some(fault)
+}

@@ -1,0 +1,20 @@
+//! What the declarations of a FlatBuffers schema text give, and where they are at fault.
+#![tactic(auto)]
+
+mod attributes;
+mod basic_types;
+mod declared_names;
+mod defaults;
+mod enums;
+mod faults;
+mod field_types;
+mod meanings;
+mod members;
+mod name_places;
+mod names_again;
+mod outline;
+mod structs;
+mod types_read;
+mod value_names;
+
+pub use faults::SchemaFault;
