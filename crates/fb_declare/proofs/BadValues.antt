@@ -6,7 +6,6 @@ use Rattle.std.proofs.lemmas.Bool.Decides.{Decides-int_eq}
 use Rattle.indexmap.specs.IndexSet.{insert_key}
 use Rattle.fb_syntax.specs.declared.declarations.EnumValue.{EnumValue}
 use Rattle.fb_schema.specs.declared.kinds.Base.{Base}
-use Rattle.fb_declare.specs.declared.faults.SchemaFault.{SchemaFault}
 use Rattle.fb_declare.specs.declared.faults.SchemaFault.TheVariants.{BadEnumValue}
 use Rattle.fb_declare.specs.EnumsRead.{written_number}
 use Rattle.fb_declare.specs.FaultRows.{when, is_out_of_range, bad_values}

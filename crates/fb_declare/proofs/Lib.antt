@@ -11,3 +11,5 @@ pub mod ValuesFrom
 pub mod Written
 pub mod BadValues
 pub mod Folded
+pub mod Behind
+pub mod NumberNamed

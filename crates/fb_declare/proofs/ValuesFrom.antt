@@ -15,11 +15,11 @@ unfolding values_from
 values_from-cons base flags next v vs = refl
 
 -- the value that stands there
-values_from-at : (base : Base) (flags : Bool) (next : ℤ) (values : List EnumValue) (i : ℕ) (v : EnumValue) → i < length values → v ≡ get_or values i v
+pub values_from-at : (base : Base) (flags : Bool) (next : ℤ) (values : List EnumValue) (i : ℕ) (v : EnumValue) → i < length values → v ≡ get_or values i v
     → values_from base flags next (drop i values) ≡ (v.name.bytes, value_number base flags (written_number next v)) ∷ values_from base flags (written_number next v +ℤ pos 1) (drop (i + 1) values)
 values_from-at base flags next values i v h e = ap (values_from base flags next) (drop-more values i v h ∙ ap (λ x. x ∷ drop (i + 1) values) (sym e)) ∙ values_from-cons base flags next v (drop (i + 1) values)
 
-values_from-end : (base : Base) (flags : Bool) (next : ℤ) (values : List EnumValue) (i : ℕ) → length values ≤ i → values_from base flags next (drop i values) ≡ []
+pub values_from-end : (base : Base) (flags : Bool) (next : ℤ) (values : List EnumValue) (i : ℕ) → length values ≤ i → values_from base flags next (drop i values) ≡ []
 values_from-end base flags next values i h = ap (values_from base flags next) (drop-end values i h) ∙ values_from-nil base flags next
 
 map-pushed : {X Y : Type 0} (f : X → Y) (xs : List X) (x : X) (ys : List Y) → map f (xs ++ x ∷ []) ++ ys ≡ map f xs ++ f x ∷ ys

@@ -1,11 +1,10 @@
 -- The numbers of an enum's values, and what the name of a value means.
 -- From the FlatBuffers documentation, "Writing a schema": Enums, Attributes (`bit_flags`).
-use Rattle.std.specs.Prelude.{ℕ, ◌+◌, ◌*◌, ◌^◌, ◌++◌, ◌&&◌, Bool, true, false, List, [], ◌∷◌, length, drop, Option, None, Some, ℤ, pos, negsuc, ◌+ℤ◌, slice_get, if◌then◌else◌, nat_lt, int_le, not}
-use Rattle.std.specs.List.{list_any, find, starts_with}
+use Rattle.std.specs.Prelude.{ℕ, ◌==◌, ◌*◌, ◌^◌, ◌&&◌, Bool, true, false, List, [], ◌∷◌, length, drop, Option, None, Some, ℤ, pos, negsuc, ◌+ℤ◌, slice_get, if◌then◌else◌, nat_lt}
+use Rattle.std.specs.List.{find, starts_with}
 use Rattle.std.specs.Option.{option_map, option_map_or, option_or, option_and_then, unwrap_or}
 use Rattle.std.specs.Bool.{nat_eq}
 use Rattle.std.specs.Str.{bytes_eq}
-use Rattle.fb_syntax.specs.Located.{Located}
 use Rattle.fb_syntax.specs.Signs.{dot}
 use Rattle.fb_syntax.specs.TypesRead.{EnumRead}
 use Rattle.fb_syntax.specs.declared.declarations.EnumValue.{EnumValue}
@@ -13,7 +12,6 @@ use Rattle.fb_syntax.specs.declared.declarations.Declaration.{Declaration}
 use Rattle.fb_syntax.specs.declared.declarations.Declaration.TheVariants as declarations
 use Rattle.fb_schema.specs.Schema.{Name}
 use Rattle.fb_schema.specs.Alignments.{base_size}
-use Rattle.fb_schema.specs.WellDeclared.{is_unsigned}
 use Rattle.fb_declare.specs.Outline.{TypeRead, full_name}
 use Rattle.fb_declare.specs.BasicTypes.{holds}
 use Rattle.fb_declare.specs.Meaning.{meaning_of}
@@ -97,15 +95,19 @@ values_read types scope e = values_from (base_or_ubyte (underlying types scope e
 unfoldable pub number_named : List (Name × ℤ) → Name → Option ℤ
 number_named values name = option_map (λ v. v.1) (find (λ v. bytes_eq name v.0) values)
 
+abbrev pub behind_dot : Name → Option Name
+behind_dot [] = None
+behind_dot (c ∷ cs) = if c == dot then Some cs else None
+
 -- what stands behind a name and a dot
 unfoldable pub behind : Name → Name → Option Name
-behind prefix name = if starts_with nat_eq name (prefix ++ dot ∷ []) then Some (drop (length prefix + 1) name) else None
+behind prefix name = if starts_with nat_eq name prefix then behind_dot (drop (length prefix) name) else None
 
 -- what the name of a value means: alone, or behind the enum's declared or full name and a dot
 abbrev pub value_named : Option Name → EnumRead → List (Name × ℤ) → Name → Option ℤ
 value_named scope e values name = option_or (number_named values name)
     (option_or (option_and_then (number_named values) (behind e.name.bytes name))
-        (option_and_then (number_named values) (behind (full_name scope e.name.bytes) name)))
+    (option_and_then (number_named values) (behind (full_name scope e.name.bytes) name)))
 
 abbrev pub value_in : List TypeRead → Option Name → Declaration → Name → Option ℤ
 value_in types scope (declarations.Enum e) name = value_named scope e (values_read types scope e) name

@@ -11,10 +11,10 @@ ghost use Rattle.fb_declare.specs.EnumsRead.{integer_type, underlying, underlyin
 use crate::attributes::{Known, has_attribute, integer_of};
 use crate::basic_types::holds;
 use crate::faults::{SchemaFault, earlier, when};
-use fb_schema::{Base, Kind};
 use crate::meanings::Meaning;
 use crate::outline::TypeRead;
 use crate::types_read::TypesRead;
+use fb_schema::{Base, Kind};
 use fb_syntax::{Declaration, EnumDeclaration, EnumValue};
 use indexmap::IndexSet;
 use std::alloc::{AllocError, Global};
@@ -91,7 +91,7 @@ fn is_bit_of(base: Base, number: i128) -> bool
 }
 
 /// The number that a value has where this one is written.
-fn value_number(base: Base, flags: bool, number: i128) -> i128
+pub(crate) fn value_number(base: Base, flags: bool, number: i128) -> i128
     ensures { result ≡ value_number base flags number }
 {
     match u128::try_from(number) {
@@ -112,7 +112,7 @@ fn may_be_written(base: Base, flags: bool, number: i128) -> bool
 }
 
 /// The number that is written for a value, or else the next one.
-fn written_number(next: i128, value: &EnumValue) -> i128
+pub(crate) fn written_number(next: i128, value: &EnumValue) -> i128
     ensures { result ≡ written_number next value.now }
 {
     match &value.number {

@@ -17,5 +17,6 @@ mod struct_faults;
 mod structs;
 mod types_read;
 mod union_faults;
+mod value_names;
 
 pub use faults::SchemaFault;
