@@ -11,7 +11,7 @@ use Rattle.fb_schema.specs.Schema.{Name, DeclaredField}
 use Rattle.fb_declare.specs.Outline.{TypeRead}
 use Rattle.fb_declare.specs.Meaning.{meaning_in}
 use Rattle.fb_declare.specs.Attributes.{has_attribute, number_called}
-use Rattle.fb_declare.specs.Defaults.{given_in}
+use Rattle.fb_declare.specs.Defaults.{given_by}
 use Rattle.fb_schema.specs.declared.kinds.TypeId.{TypeId}
 use Rattle.fb_schema.specs.declared.kinds.Kind.{Kind}
 use Rattle.fb_schema.specs.declared.kinds.Kind.TheVariants.{Union, Code, Text}
@@ -48,17 +48,20 @@ abbrev pub is_null : Given → Bool
 is_null Null = true
 is_null _ = false
 
--- the slot of a field's value
-abbrev pub value_slot : List TypeRead → Option Name → FieldRead → ℕ → DeclaredField
-value_slot types scope f slot = record {
+-- the slot of the value of a field of this type
+abbrev pub value_slot_of : List TypeRead → FieldRead → Meaning → ℕ → DeclaredField
+value_slot_of types f m slot = record {
   name = f.name.bytes;
-  shape = shape_of f.kind (meaning_in types scope f.kind);
-  default = number_given (given_in types scope f);
-  optional = is_null (given_in types scope f);
+  shape = shape_of f.kind m;
+  default = number_given (given_by types f.kind m f.default);
+  optional = is_null (given_by types f.kind m f.default);
   required = has_attribute Required f.attributes;
   deprecated = has_attribute Deprecated f.attributes;
   slot = slot;
 }
+
+abbrev pub value_slot : List TypeRead → Option Name → FieldRead → ℕ → DeclaredField
+value_slot types scope f slot = value_slot_of types f (meaning_in types scope f.kind) slot
 
 -- of a union field `x`, the name of its code
 abbrev pub name_of_code : Name → Name

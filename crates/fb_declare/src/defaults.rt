@@ -8,6 +8,7 @@ ghost use Rattle.fb_declare.specs.Defaults.{number_within, null_or_wrong, boolea
 use crate::attributes::integer_of;
 use crate::basic_types::holds;
 use crate::enums::underlying_at;
+use crate::field_types::default_at;
 use crate::faults::{SchemaFault, when};
 use crate::meanings::Meaning;
 use crate::types_read::TypesRead;
@@ -127,14 +128,6 @@ pub(crate) fn given_by(
         (_, None) => Ok(Given::Number(0)),
         (FieldType::One(_), Some(default)) => given_to(types, alloc, meaning, default),
         (FieldType::Many(_, _), Some(_)) => Ok(Given::Wrong),
-    }
-}
-
-fn default_at(default: &DefaultValue) -> u64
-    ensures { result ≡ default_at default.now }
-{
-    match default {
-        DefaultValue::Integer(text) | DefaultValue::Name(text) => text.at,
     }
 }
 

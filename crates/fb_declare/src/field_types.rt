@@ -85,7 +85,7 @@ pub(crate) fn struct_field_type(
     )
 }
 
-fn default_at(default: &DefaultValue) -> u64
+pub(crate) fn default_at(default: &DefaultValue) -> u64
     ensures { result ≡ default_at default.now }
 {
     match default {

@@ -13,6 +13,7 @@ mod members;
 mod name_places;
 mod names_again;
 mod outline;
+mod slots;
 mod struct_faults;
 mod structs;
 mod types_read;

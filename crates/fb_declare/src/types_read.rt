@@ -3,16 +3,17 @@ ghost use Rattle.std.specs.Prelude.{◌≡◌, ◌<◌, ◌==◌, IfOk, None, le
 ghost use Rattle.std.specs.Option.{option_copied};
 ghost use Rattle.fb_syntax.specs.Signs.{dot};
 ghost use Rattle.fb_declare.specs.Scopes.{place_of, type_meant};
-ghost use Rattle.fb_declare.specs.Meaning.{use_of_read, meaning_of};
+ghost use Rattle.fb_declare.specs.Meaning.{use_of_read, meaning_of, meaning_in};
 ghost use Rattle.fb_declare.specs.Outline.{inside, names_of_types};
 ghost use Rattle.fb_declare.specs.NamePlaces.{Indexes};
 
 use crate::basic_types::{basic_type, is_float_type, is_text_type};
 use fb_schema::{Kind, TypeId};
+use crate::field_types::type_name;
 use crate::meanings::Meaning;
 use crate::name_places::NamePlaces;
 use crate::outline::TypeRead;
-use fb_syntax::Declaration;
+use fb_syntax::{Declaration, FieldType};
 use std::alloc::{AllocError, Global};
 
 /// The types of a text by their numbers, and their numbers by their full names.
@@ -121,5 +122,18 @@ impl TypesRead<'_> {
             Some(number) => self.use_of(number),
             None => Meaning::Unknown,
         })
+    }
+
+    /// What the name in a field's type means. The only error is a refused allocation.
+    pub(crate) fn meaning_in(
+        self,
+        alloc: Global,
+        scope: Option<&str>,
+        kind: &FieldType,
+    ) -> Result<Meaning, AllocError>
+        ensures { IfOk result
+            (λ m. m ≡ meaning_in self.entry.types.now (option_copied scope.entry) kind.now) }
+    {
+        self.meaning(alloc, scope, type_name(kind).text.as_str())
     }
 }
