@@ -4,3 +4,6 @@ pub mod Bytes
 pub mod Meant
 pub mod Steps
 pub mod Again
+pub mod NoFaults
+pub mod AttributesKept
+pub mod EnumsKept
