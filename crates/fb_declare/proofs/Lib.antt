@@ -4,3 +4,5 @@ pub mod Bytes
 pub mod Meant
 pub mod Steps
 pub mod Again
+pub mod FaultFree
+pub mod KindsNamed
