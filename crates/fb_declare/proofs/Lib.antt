@@ -4,6 +4,9 @@ pub mod Bytes
 pub mod Meant
 pub mod Steps
 pub mod Again
+pub mod FaultFree
+pub mod KindsNamed
 pub mod NoFaults
 pub mod AttributesKept
 pub mod EnumsKept
+pub mod UnionsKept
