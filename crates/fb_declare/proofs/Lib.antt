@@ -10,3 +10,5 @@ pub mod NoFaults
 pub mod AttributesKept
 pub mod EnumsKept
 pub mod UnionsKept
+pub mod StructsKept
+pub mod AlignmentsKept
