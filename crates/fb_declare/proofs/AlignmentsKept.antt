@@ -1,11 +1,11 @@
 -- The alignments of the structs, where no type is at fault: as they are declared and as the schema has them.
-use Rattle.std.proofs.Common.{◌≡◌, ℕ, zero, suc, ◌+◌, ◌<◌, ◌≤◌, ◌++◌, ◌&&◌, ◌||◌, ◌==◌, nat_le, Bool, true, false, List, [], ◌∷◌, length, map, take, drop, get_or, Option, None, Some, cond, refl, ap, sym, subst, ◌∙◌, arith, true≢false, IsTrue}
+use Rattle.std.proofs.Common.{◌≡◌, ℕ, zero, suc, ◌+◌, ◌<◌, ◌≤◌, ◌++◌, ◌&&◌, ◌||◌, ◌==◌, nat_le, Bool, true, false, List, [], ◌∷◌, length, map, take, Option, None, Some, cond, refl, ap, sym, subst, ◌∙◌, arith, true≢false, IsTrue}
 use Rattle.std.specs.Prelude.{ℤ, pos, negsuc, slice_get, slice_index}
 use Rattle.std.specs.List.{flat_map, list_any}
 use Rattle.std.specs.Option.{ForSome, option_and_then, option_map_or, unwrap_or}
 use Rattle.std.proofs.lemmas.Bool.{le-leb, false≢true}
-use Rattle.std.proofs.lemmas.List.{get_or_append_left, get_or_push, length_push, length-take-le}
-use Rattle.std.proofs.lemmas.Option.{none-some, same_Some, slice_get_within}
+use Rattle.std.proofs.lemmas.List.{get_or_append_left, get_or_push, length_push}
+use Rattle.std.proofs.lemmas.Option.{none-some, same_Some}
 use Rattle.fb_syntax.specs.FieldRead.{FieldRead}
 use Rattle.fb_syntax.specs.TypesRead.{TableRead, EnumRead}
 use Rattle.fb_syntax.specs.declared.declarations.AttributeUse.{AttributeUse}
@@ -15,10 +15,9 @@ use Rattle.fb_syntax.specs.declared.declarations.FieldType.{FieldType}
 use Rattle.fb_syntax.specs.declared.declarations.FieldType.TheVariants.{One, Many}
 use Rattle.fb_syntax.specs.declared.declarations.Declaration.{Declaration}
 use Rattle.fb_syntax.specs.declared.declarations.Declaration.TheVariants as declarations
-use Rattle.fb_schema.specs.declared.kinds.Base.{Base}
 use Rattle.fb_schema.specs.declared.kinds.Kind.{Kind}
-use Rattle.fb_schema.specs.declared.kinds.Kind.TheVariants.{Scalar, Enum, Struct, Table, Union, Code, Text}
-use Rattle.fb_schema.specs.Schema.{Name, DeclaredField, DeclaredBody, table_body, struct_body, enum_body, union_body, DeclaredType, DeclaredSchema, body_in, body_at, parts_in, base_in, force_align_in, is_struct, is_enum}
+use Rattle.fb_schema.specs.declared.kinds.Kind.TheVariants.{Scalar, Enum, Struct}
+use Rattle.fb_schema.specs.Schema.{Name, DeclaredBody, table_body, struct_body, enum_body, union_body, DeclaredType, DeclaredSchema, body_in, body_at, parts_in, base_in, force_align_in, is_struct, is_enum}
 use Rattle.fb_schema.specs.Alignments.{base_size, greatest_in, part_align, natural_align_in, AreAligned}
 use Rattle.fb_schema.specs.WellDeclared.{Names, KindNames}
 use Rattle.fb_declare.specs.declared.meanings.Meaning.{Meaning}
@@ -26,17 +25,17 @@ use Rattle.fb_declare.specs.declared.meanings.Meaning.TheVariants.{Known, Float,
 use Rattle.fb_declare.specs.declared.attributes.Known.TheVariants.{ForceAlign}
 use Rattle.fb_declare.specs.declared.attributes.Place.TheVariants as places
 use Rattle.fb_declare.specs.Outline.{TypeRead, Outline, word_of}
-use Rattle.fb_declare.specs.Meaning.{meaning_of, meaning_in, type_name}
+use Rattle.fb_declare.specs.Meaning.{meaning_in, type_name}
 use Rattle.fb_declare.specs.Attributes.{integer_of, is_alignment, may_stand, attribute_called, integer_value_in, number_called, metadata_faults}
 use Rattle.fb_declare.specs.EnumsRead.{underlying, underlying_in, underlying_of_read, underlying_at, base_or_ubyte}
 use Rattle.fb_declare.specs.SlotsRead.{shape_of}
-use Rattle.fb_declare.specs.StructsRead.{align_by, align_in, natural_align, alignment_in, forced_align, align_of_struct, align_of_declaration, align_of_read, part_read, parts_from}
+use Rattle.fb_declare.specs.StructsRead.{align_by, align_in, natural_align, alignment_in, forced_align, align_of_struct, align_of_declaration, align_of_read, parts_from}
 use Rattle.fb_declare.specs.FaultRows.{struct_field_type, reserved_name}
 use Rattle.fb_declare.specs.TypeFaults.{struct_field_faults, struct_faults, enum_faults, declaration_faults, type_faults, faults_of_types}
-use Rattle.fb_declare.specs.Declares.{HasBody, IsType, Gives}
+use Rattle.fb_declare.specs.Declares.{HasBody, Gives}
 use Rattle.fb_declare.proofs.AttributesKept.{called_stands}
 use Rattle.fb_declare.proofs.EnumsKept.{enum_base}
-use Rattle.fb_declare.proofs.FaultFree.{none_left, none_right, none_of_type, aligns_from, length-aligns_from}
+use Rattle.fb_declare.proofs.FaultFree.{none_left, none_right, none_of_type, aligns_from}
 use Rattle.fb_declare.proofs.KindsNamed.{kind_named, read_from_type}
 use Rattle.fb_declare.proofs.StructsKept.{alignments, alignment_right, struct_right, field_type_right, part_right}
 

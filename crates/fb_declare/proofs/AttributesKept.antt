@@ -1,16 +1,15 @@
 -- Where no attribute of a list is at fault, each known one may stand where it does.
-use Rattle.std.proofs.Common.{◌≡◌, ℕ, ◌++◌, ◌||◌, not, Bool, true, false, List, [], ◌∷◌, Option, None, Some, cond, refl, ap, sym, subst, ◌∙◌, arith, if◌then◌else◌}
-use Rattle.std.specs.List.{list_any, find}
+use Rattle.std.proofs.Common.{◌≡◌, ◌++◌, ◌||◌, Bool, true, false, List, [], ◌∷◌, Some, cond, refl, ap, sym, subst, ◌∙◌, arith, if◌then◌else◌}
 use Rattle.std.specs.Str.{bytes_eq}
 use Rattle.std.proofs.lemmas.Option.{same_Some}
 use Rattle.fb_syntax.specs.declared.declarations.AttributeUse.{AttributeUse}
 use Rattle.fb_schema.specs.Schema.{Name}
 use Rattle.fb_declare.specs.declared.faults.SchemaFault.{SchemaFault}
-use Rattle.fb_declare.specs.declared.faults.SchemaFault.TheVariants.{BadAttribute, Unsupported}
+use Rattle.fb_declare.specs.declared.faults.SchemaFault.TheVariants.{Unsupported}
 use Rattle.fb_declare.specs.declared.attributes.Known.{Known}
 use Rattle.fb_declare.specs.declared.attributes.Known.TheVariants.{Id, Required, Deprecated, ForceAlign, BitFlags, OriginalOrder}
 use Rattle.fb_declare.specs.declared.attributes.Place.{Place}
-use Rattle.fb_declare.specs.Attributes.{spelling, known_attribute, is_left_out, is_force_align_of_field, may_stand, is_known, noted, is_bad_attribute, faults_of_known, faults_by_name, attribute_faults, metadata_faults, attribute_called, has_attribute}
+use Rattle.fb_declare.specs.Attributes.{spelling, known_attribute, is_left_out, is_force_align_of_field, may_stand, noted, faults_of_known, faults_by_name, attribute_faults, metadata_faults, attribute_called, has_attribute}
 use Rattle.fb_declare.proofs.Bytes.{bytes_eq-equal}
 use Rattle.fb_declare.proofs.NoFaults.{both_empty}
 
@@ -42,7 +41,7 @@ unfolding attribute_faults
 attribute_stands declared place seen a k h e =
     let known : known_attribute a.name.bytes ≡ Some k = ap known_attribute (bytes_eq-equal a.name.bytes (spelling k) e) ∙ known_spelling k in
     let none : faults_by_name declared place seen a (known_attribute a.name.bytes) ≡ [] =
-        not_left_out (is_left_out a.name.bytes || is_force_align_of_field place (known_attribute a.name.bytes)) (Unsupported a.name.at) (faults_by_name declared place seen a (known_attribute a.name.bytes)) h in
+    not_left_out (is_left_out a.name.bytes || is_force_align_of_field place (known_attribute a.name.bytes)) (Unsupported a.name.at) (faults_by_name declared place seen a (known_attribute a.name.bytes)) h in
     known_stands place seen a k (sym (ap (faults_by_name declared place seen a) known) ∙ none)
 
 metadata-cons : (declared : List Name) (place : Place) (seen : List Known) (a : AttributeUse) (rest : List AttributeUse)

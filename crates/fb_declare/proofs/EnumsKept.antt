@@ -1,6 +1,6 @@
 -- The body of an enum with no fault: its values have different names and numbers of its type, with `bit_flags` one bit each.
-use Rattle.std.proofs.Common.{◌≡◌, ◌≢◌, ℕ, ◌+◌, ◌*◌, ◌^◌, ◌<◌, ◌≤◌, ◌++◌, ◌&&◌, ◌||◌, not, nat_lt, Bool, true, false, List, [], ◌∷◌, length, map, get_or, All, AllPairs, Option, None, Some, is_none, cond, refl, ap, sym, subst, ◌∙◌, arith, if◌then◌else◌, ltb, ⊎_elim, true≢false}
-use Rattle.std.specs.Prelude.{ℤ, pos, negsuc, ◌+ℤ◌, ◌≤ℤ◌, int_le, IsTrue}
+use Rattle.std.proofs.Common.{◌≡◌, ◌≢◌, ℕ, ◌*◌, ◌^◌, ◌<◌, ◌++◌, ◌||◌, not, Bool, true, false, List, [], ◌∷◌, map, get_or, All, AllPairs, Option, None, Some, is_none, cond, refl, ap, sym, subst, ◌∙◌, arith, if◌then◌else◌, ⊎_elim, true≢false}
+use Rattle.std.specs.Prelude.{ℤ, pos, negsuc, ◌+ℤ◌, int_le}
 use Rattle.std.specs.List.{list_any}
 use Rattle.std.specs.Ordering.{int_eq}
 use Rattle.std.proofs.lemmas.Bool.{or_parts, and_parts, not-false, ltb-true, cases_order}
@@ -8,29 +8,27 @@ use Rattle.std.proofs.lemmas.Bool.Decides.{Decides-int_eq}
 use Rattle.std.proofs.lemmas.Int.{ints}
 use Rattle.std.proofs.lemmas.List.{get_or-map, length-map}
 use Rattle.std.proofs.lemmas.List.Elements.{All-nil, All-cons, All-map}
-use Rattle.std.proofs.lemmas.Nat.{pow_below, pow_pos}
+use Rattle.std.proofs.lemmas.Nat.{pow_below}
 use Rattle.fb_syntax.specs.TypesRead.{EnumRead}
 use Rattle.fb_syntax.specs.declared.declarations.EnumValue.{EnumValue}
-use Rattle.fb_syntax.specs.declared.declarations.AttributeUse.{AttributeUse}
 use Rattle.fb_syntax.specs.declared.declarations.AttributeValue.{AttributeValue}
 use Rattle.fb_schema.specs.declared.kinds.Base.{Base}
 use Rattle.fb_schema.specs.declared.kinds.Base.TheVariants.{Bool as Boolean, I8, U8, I16, U16, I32, U32, I64, U64}
-use Rattle.fb_schema.specs.declared.kinds.Kind.TheVariants.{Scalar, Enum, Struct, Table, Union, Code, Text}
+use Rattle.fb_schema.specs.declared.kinds.Kind.TheVariants.{Scalar}
 use Rattle.fb_schema.specs.Schema.{Name}
 use Rattle.fb_schema.specs.Alignments.{base_size}
 use Rattle.fb_schema.specs.WellDeclared.{IsBetween, InRange, is_unsigned, IsFlag, IsEnumBody}
 use Rattle.fb_declare.specs.declared.faults.SchemaFault.{SchemaFault}
-use Rattle.fb_declare.specs.declared.faults.SchemaFault.TheVariants.{BadEnumValue, UnknownType, Unsupported}
+use Rattle.fb_declare.specs.declared.faults.SchemaFault.TheVariants.{BadEnumValue, Unsupported}
 use Rattle.fb_declare.specs.declared.meanings.Meaning.{Meaning}
 use Rattle.fb_declare.specs.declared.meanings.Meaning.TheVariants.{Known, Float, Unknown}
 use Rattle.fb_declare.specs.declared.attributes.Known.TheVariants.{BitFlags}
-use Rattle.fb_declare.specs.declared.attributes.Place.{Place}
 use Rattle.fb_declare.specs.declared.attributes.Place.TheVariants as places
 use Rattle.fb_declare.specs.Outline.{TypeRead}
 use Rattle.fb_declare.specs.BasicTypes.{is_between, holds}
 use Rattle.fb_declare.specs.Meaning.{meaning_of}
 use Rattle.fb_declare.specs.Attributes.{may_stand, metadata_faults}
-use Rattle.fb_declare.specs.EnumsRead.{integer_type, underlying, has_flags, written_number, written_numbers, bits_of, is_bit_of, power_of, value_number, may_be_written, base_or_ubyte, values_from, values_read}
+use Rattle.fb_declare.specs.EnumsRead.{integer_type, underlying, has_flags, written_number, written_numbers, value_number, may_be_written, base_or_ubyte, values_from, values_read}
 use Rattle.fb_declare.specs.FaultRows.{when, names_again, underlying_faults, is_out_of_range, bad_values}
 use Rattle.fb_declare.specs.TypeFaults.{place_of_enum, enum_faults}
 use Rattle.fb_declare.proofs.NoFaults.{both_empty, EachNew, all_apart, apart_by, keys_apart, names_apart}
@@ -109,8 +107,8 @@ numbers_apart base false n m g h e = e
 
 bad_values-cons : (base : Option Base) (flags : Bool) (earlier : List ℤ) (next : ℤ) (v : EnumValue) (vs : List EnumValue)
     → bad_values base flags earlier next (v ∷ vs)
-      ≡ when (is_out_of_range base flags (written_number next v) || list_any (int_eq (written_number next v)) earlier) (BadEnumValue v.name.at)
-        ++ bad_values base flags (earlier ++ written_number next v ∷ []) (written_number next v +ℤ pos 1) vs
+    ≡ when (is_out_of_range base flags (written_number next v) || list_any (int_eq (written_number next v)) earlier) (BadEnumValue v.name.at)
+    ++ bad_values base flags (earlier ++ written_number next v ∷ []) (written_number next v +ℤ pos 1) vs
 unfolding bad_values
 bad_values-cons base flags earlier next v vs = refl
 
@@ -122,7 +120,7 @@ numbers_right base flags earlier next (v ∷ vs) h =
     let n = written_number next v in
     let wrong : Bool = is_out_of_range (Some base) flags n || list_any (int_eq n) earlier in
     let parts : (when wrong (BadEnumValue v.name.at) ≡ []) × (bad_values (Some base) flags (earlier ++ n ∷ []) (n +ℤ pos 1) vs ≡ []) =
-        both_empty (when wrong (BadEnumValue v.name.at)) (bad_values (Some base) flags (earlier ++ n ∷ []) (n +ℤ pos 1) vs) (sym (bad_values-cons (Some base) flags earlier next v vs) ∙ h) in
+    both_empty (when wrong (BadEnumValue v.name.at)) (bad_values (Some base) flags (earlier ++ n ∷ []) (n +ℤ pos 1) vs) (sym (bad_values-cons (Some base) flags earlier next v vs) ∙ h) in
     let right : (not (may_be_written base flags n) ≡ false) × (list_any (int_eq n) earlier ≡ false) = or_parts (not (may_be_written base flags n)) (list_any (int_eq n) earlier) (when-none wrong (BadEnumValue v.name.at) parts.0) in
     let rest = numbers_right base flags (earlier ++ n ∷ []) (n +ℤ pos 1) vs parts.1 in
     (All-cons (λ m. may_be_written base flags m ≡ true) n (written_numbers (n +ℤ pos 1) vs) (not-false (may_be_written base flags n) right.0) rest.0, (right.1, rest.1))

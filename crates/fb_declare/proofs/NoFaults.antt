@@ -1,12 +1,11 @@
 -- What is different where no fault is told: names, and numbers of which each is new.
-use Rattle.std.proofs.Common.{◌≡◌, ◌≢◌, ℕ, ◌<◌, ◌++◌, Bool, true, false, List, [], ◌∷◌, length, map, get_or, AllPairs, sym, subst, ◌∙◌, arith, true≢false}
+use Rattle.std.proofs.Common.{◌≡◌, ◌≢◌, ℕ, ◌<◌, ◌++◌, Bool, false, List, [], ◌∷◌, length, map, get_or, AllPairs, sym, subst, ◌∙◌, arith, true≢false}
 use Rattle.std.specs.Bool.{Decides}
 use Rattle.std.specs.List.{list_any}
 use Rattle.std.proofs.lemmas.List.{append-nil, append_assoc, get_or-map, length-map}
 use Rattle.std.proofs.lemmas.List.Folds.{list_any_at}
 use Rattle.std.proofs.lemmas.List.Quantifiers.{all_pairs_push}
 use Rattle.fb_syntax.specs.Located.{Located}
-use Rattle.fb_schema.specs.Schema.{Name}
 use Rattle.fb_declare.specs.FaultRows.{names_again}
 use Rattle.fb_declare.proofs.FaultFree.{none_left, none_right, names_differ}
 

@@ -1,7 +1,7 @@
 -- The body of a struct with no fault: some plain fields of different names, in order, of scalars, enums and structs before it.
 use Rattle.std.proofs.Common.{◌≡◌, ◌≢◌, ℕ, zero, suc, ◌+◌, ◌^◌, ◌<◌, ◌≤◌, ◌++◌, ◌&&◌, ◌==◌, nat_le, Bool, true, false, List, [], ◌∷◌, length, map, get_or, AllPairs, Option, None, Some, cond, refl, ap, sym, subst, ◌∙◌, arith, true≢false}
 use Rattle.std.specs.Prelude.{ℤ, pos, negsuc, slice_get}
-use Rattle.std.specs.List.{flat_map, list_any}
+use Rattle.std.specs.List.{flat_map}
 use Rattle.std.specs.Option.{ForSome, option_and_then}
 use Rattle.std.proofs.lemmas.Bool.{and_parts, eqb-true, leb-true, leb-false}
 use Rattle.std.proofs.lemmas.List.Folds.{Any-from_list_any}
@@ -14,7 +14,7 @@ use Rattle.fb_syntax.specs.declared.declarations.FieldType.TheVariants.{One, Man
 use Rattle.fb_schema.specs.declared.kinds.Kind.{Kind}
 use Rattle.fb_schema.specs.declared.kinds.Kind.TheVariants.{Scalar, Enum, Struct, Table, Union, Code, Text}
 use Rattle.fb_schema.specs.Schema.{Name, DeclaredField, DeclaredSchema}
-use Rattle.fb_schema.specs.WellDeclared.{Names, KindNames, IsPart, IsPlain, IsForceAlign, IsStructBody, names_of}
+use Rattle.fb_schema.specs.WellDeclared.{KindNames, IsPart, IsPlain, IsForceAlign, IsStructBody, names_of}
 use Rattle.fb_declare.specs.declared.faults.SchemaFault.{SchemaFault}
 use Rattle.fb_declare.specs.declared.faults.SchemaFault.TheVariants.{EmptyStruct, IncompleteStruct}
 use Rattle.fb_declare.specs.declared.meanings.Meaning.{Meaning}
@@ -150,9 +150,11 @@ struct_kept_by S types declared scope named lower s h =
   where
     part_kept : flat_map (struct_field_faults types declared scope (length lower)) s.fields ≡ [] → (k : ℕ) (f : FieldRead) → slice_get s.fields k ≡ Some f → (p : DeclaredField) → p ≡ part_read types scope f (0 + k)
         → IsPart S (length lower) p.shape × IsPlain p
-    part_kept none k f at p e = subst (λ (q : DeclaredField). IsPart S (length lower) q.shape × IsPlain q) (sym e)
-        (part_right S (length lower) f.kind (meaning_in types scope f.kind) (named (type_name f.kind).bytes)
-         (field_type_right types declared scope (length lower) f (none_at (struct_field_faults types declared scope (length lower)) s.fields none k f at)), (refl, refl, refl, refl))
+    part_kept none k f at p e = subst (λ (q : DeclaredField). IsPart S (length lower) q.shape × IsPlain q) (sym e) (
+      part_right S (length lower) f.kind (meaning_in types scope f.kind) (named (type_name f.kind).bytes)
+          (field_type_right types declared scope (length lower) f (none_at (struct_field_faults types declared scope (length lower)) s.fields none k f at)),
+      (refl, refl, refl, refl),
+    )
 
 -- in the schema that an outline gives
 pub struct_kept : (o : Outline) (S : DeclaredSchema) → Gives o S → (scope : Option Name) (lower : List ℕ) (s : TableRead) → struct_faults o.types o.attributes scope lower s ≡ []

@@ -1,28 +1,26 @@
 -- The body of a union with no fault: 255 members at most, tables of different names, none of them NONE.
-use Rattle.std.proofs.Common.{◌≡◌, ◌≢◌, ℕ, ◌+◌, ◌<◌, ◌≤◌, ◌++◌, ◌||◌, nat_le, Bool, true, false, List, [], ◌∷◌, length, map, All, AllPairs, Option, None, Some, is_none, refl, ap, sym, subst, ◌∙◌, arith, true≢false}
+use Rattle.std.proofs.Common.{◌≡◌, ◌≢◌, ℕ, ◌+◌, ◌<◌, ◌≤◌, ◌++◌, ◌||◌, nat_le, false, List, [], ◌∷◌, length, map, All, AllPairs, Option, is_none, refl, ap, sym, subst, ◌∙◌, arith, true≢false}
 use Rattle.std.specs.Prelude.{codes}
 use Rattle.std.specs.Option.{unwrap_or}
 use Rattle.std.specs.Str.{bytes_eq}
 use Rattle.std.proofs.lemmas.Bool.{or_parts, leb-false}
 use Rattle.std.proofs.lemmas.List.{length-map}
-use Rattle.std.proofs.lemmas.List.Elements.{All-nil, All-cons, All-map}
-use Rattle.fb_syntax.specs.Located.{Located}
+use Rattle.std.proofs.lemmas.List.Elements.{All-nil, All-cons}
 use Rattle.fb_syntax.specs.TypesRead.{UnionRead}
 use Rattle.fb_syntax.specs.declared.declarations.UnionMember.{UnionMember}
 use Rattle.fb_schema.specs.declared.kinds.Kind.{Kind}
-use Rattle.fb_schema.specs.declared.kinds.Kind.TheVariants.{Scalar, Enum, Struct, Table, Union, Code, Text}
+use Rattle.fb_schema.specs.declared.kinds.Kind.TheVariants.{Table}
 use Rattle.fb_schema.specs.Schema.{Name, DeclaredSchema, is_table}
 use Rattle.fb_schema.specs.WellDeclared.{Names, KindNames, IsUnionBody}
-use Rattle.fb_declare.specs.declared.faults.SchemaFault.{SchemaFault}
 use Rattle.fb_declare.specs.declared.faults.SchemaFault.TheVariants.{DuplicateName, BadMember}
 use Rattle.fb_declare.specs.declared.meanings.Meaning.{Meaning}
-use Rattle.fb_declare.specs.declared.meanings.Meaning.TheVariants.{Known, Float, Unknown}
+use Rattle.fb_declare.specs.declared.meanings.Meaning.TheVariants.{Known}
 use Rattle.fb_declare.specs.declared.attributes.Place.TheVariants as places
 use Rattle.fb_declare.specs.Outline.{TypeRead, Outline}
 use Rattle.fb_declare.specs.Meaning.{meaning_of}
 use Rattle.fb_declare.specs.Attributes.{metadata_faults}
 use Rattle.fb_declare.specs.MembersRead.{member_name, member_table, table_of}
-use Rattle.fb_declare.specs.FaultRows.{when, names_again, none_name, use_faults, bad_member, member_faults}
+use Rattle.fb_declare.specs.FaultRows.{names_again, none_name, use_faults, bad_member, member_faults}
 use Rattle.fb_declare.specs.TypeFaults.{members_faults, union_faults}
 use Rattle.fb_declare.specs.Declares.{Gives}
 use Rattle.fb_declare.proofs.Bytes.{bytes_eq-refl}
