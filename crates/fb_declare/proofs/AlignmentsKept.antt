@@ -70,10 +70,12 @@ aligns-below types lower (q ∷ rs) (suc t) j within = aligns-below types (lower
 
 -- ---- `force_align`
 
+-- a test that passes still does with less asked
 either_weaker : (b c r s : Bool) → b && c || r ≡ true → (r ≡ true → s ≡ true) → b && true || s ≡ true
 either_weaker true c r s h rest = refl
 either_weaker false c r s h rest = rest h
 
+-- a least alignment of 0 lets pass what any other does
 any_weaker : (n least : ℕ) (ks : List ℕ) → list_any (λ a. n == a && nat_le least a) ks ≡ true → list_any (λ a. n == a && nat_le 0 a) ks ≡ true
 any_weaker n least [] h = h
 any_weaker n least (k ∷ ks) h = let all : nat_le 0 k ≡ true = le-leb 0 k (omega arith) in
@@ -88,17 +90,20 @@ pub record IsForced (natural : ℕ) (own whole : Option ℕ) : Type 0 where
   pub same : own ≡ whole
   pub enough : ForSome whole (λ a. natural ≤ a)
 
+-- of an integer that may stand
 forced_integer : (natural : ℕ) (n : ℤ) → is_alignment natural n ≡ true → IsForced natural (alignment_in natural n) (alignment_in 0 n)
 forced_integer natural (pos n) h = let found = same_alignment natural n h in
     record { same = found.0 ∙ sym found.1; enough = λ a is. subst (λ (a : ℕ). natural ≤ a) (same_Some n a (sym found.1 ∙ is)) (alignment_right natural n h).1 }
 forced_integer natural (negsuc n) h = absurd (false≢true h)
 
+-- of an attribute's value that may stand
 forced_value : (natural : ℕ) (value : Option AttributeValue) → may_stand (places.Struct natural) ForceAlign value ≡ true
     → IsForced natural (option_and_then (alignment_in natural) (integer_value_in value)) (option_and_then (alignment_in 0) (integer_value_in value))
 unfolding may_stand
 forced_value natural (Some (Integer n)) h = forced_integer natural (integer_of n) h
 forced_value natural value h = absurd (false≢true h)
 
+-- of the first `force_align`, if there is one
 forced_called : (natural : ℕ) (called : Option AttributeUse) → ((a : AttributeUse) → called ≡ Some a → may_stand (places.Struct natural) ForceAlign a.value ≡ true)
     → IsForced natural (option_and_then (alignment_in natural) (option_and_then (λ a. integer_value_in a.value) called)) (option_and_then (alignment_in 0) (option_and_then (λ a. integer_value_in a.value) called))
 forced_called natural None stands = record { same = refl; enough = λ a is. absurd (none-some a is) }
@@ -112,6 +117,7 @@ forced_right declared natural attributes h = forced_called natural (attribute_ca
 
 -- ---- what the schema's bodies come from
 
+-- a struct's body comes from a struct
 struct_from : (types : List TypeRead) (scope : Option Name) (d : Declaration) (body : DeclaredBody) → HasBody types scope d body → IsTrue (is_struct body)
     → (s : TableRead) × (d ≡ declarations.Struct s) × (body ≡ struct_body (parts_from types scope 0 s.fields) (forced_align 0 s.attributes))
 struct_from types scope d (table_body fs) h is = absurd (false≢true is)
@@ -120,6 +126,7 @@ struct_from types scope d (union_body members) h is = absurd (false≢true is)
 struct_from types scope (declarations.Struct s) (struct_body parts force) h is = (s, refl, λ i. struct_body (h.0 i) (h.1 i))
 struct_from types scope _ (struct_body parts force) h is = absurd h
 
+-- an enum's body comes from an enum
 enum_from : (types : List TypeRead) (scope : Option Name) (d : Declaration) (body : DeclaredBody) → HasBody types scope d body → IsTrue (is_enum body)
     → (e : EnumRead) × (d ≡ declarations.Enum e) × (base_in body ≡ base_or_ubyte (underlying types scope e))
 enum_from types scope d (table_body fs) h is = absurd (false≢true is)
@@ -147,6 +154,7 @@ module _ (o : Outline) (S : DeclaredSchema) (gives : Gives o S) (none : faults_o
   abbrev pub aligns_before : ℕ → List ℕ
   aligns_before t = aligns_from o.types [] (take t o.types)
 
+  -- no declaration has a fault
   pub declaration_right : (t : ℕ) (r : TypeRead) → slice_get o.types t ≡ Some r → declaration_faults o.types o.attributes (aligns_before t) r.scope r.declaration ≡ []
   unfolding type_faults
   declaration_right t r at = none_right (reserved_name (word_of r.declaration)) (declaration_faults o.types o.attributes (aligns_before t) r.scope r.declaration) (none_of_type o.types o.attributes [] o.types none t r at)
@@ -161,6 +169,7 @@ module _ (o : Outline) (S : DeclaredSchema) (gives : Gives o S) (none : faults_o
       ∙ (ap base_size (base ∙ ap base_or_ubyte found.1)
       ∙ sym (ap (λ b. option_map_or base_size b 0) (ap (underlying_of_read o.types) at ∙ (ap (underlying_in o.types r.scope) is ∙ found.1))))
 
+  -- of the enum of a number
   enum_size : (t : ℕ) → Names is_enum S t → base_size (base_in (body_at S t)) ≡ option_map_or base_size (underlying_at o.types t) 0
   enum_size t named =
       let there = body_there S is_enum t refl named.1 in
@@ -179,6 +188,7 @@ module _ (o : Outline) (S : DeclaredSchema) (gives : Gives o S) (none : faults_o
   part_size lower below (One n) Unknown named h = refl
   part_size lower below (Many at n) m named h = refl
 
+  -- the same of all fields of a struct
   part_sizes : (scope : Option Name) (lower : List ℕ) → ((j : ℕ) → j < length lower → slice_index aligns j ≡ slice_index lower j) → (k : ℕ) (fs : List FieldRead)
       → flat_map (struct_field_faults o.types o.attributes scope (length lower)) fs ≡ [] → map (λ f. part_align S aligns f.shape) (parts_from o.types scope k fs) ≡ map (align_in o.types scope lower) fs
   unfolding parts_from align_in
@@ -198,6 +208,7 @@ module _ (o : Outline) (S : DeclaredSchema) (gives : Gives o S) (none : faults_o
     pub right : struct_faults o.types o.attributes scope (aligns_before s) read ≡ []
     pub align : slice_index aligns s ≡ align_of_struct o.types scope (aligns_before s) read
 
+  -- a struct that is declared is known so
   struct_at_by : (s : ℕ) (type : DeclaredType) (r : TypeRead) (d : TableRead) → slice_get S.types s ≡ Some type → slice_get o.types s ≡ Some r → r.declaration ≡ declarations.Struct d
       → type.body ≡ struct_body (parts_from o.types r.scope 0 d.fields) (forced_align 0 d.attributes) → IsStructAt s
   unfolding align_of_read
@@ -211,6 +222,7 @@ module _ (o : Outline) (S : DeclaredSchema) (gives : Gives o S) (none : faults_o
         align = ap (slice_index aligns) place ∙ (aligns-at o.types [] o.types s r at ∙ ap (align_of_declaration o.types r.scope (aligns_before s)) is);
       }
 
+  -- and so is each struct of the schema
   struct_at : (s : ℕ) → IsTrue (is_struct (body_at S s)) → IsStructAt s
   struct_at s is =
       let there = body_there S is_struct s refl is in
@@ -224,6 +236,7 @@ module _ (o : Outline) (S : DeclaredSchema) (gives : Gives o S) (none : faults_o
   natural_same s at = ap (λ b. greatest_in (map (λ f. part_align S aligns f.shape) (parts_in b))) at.body
       ∙ ap greatest_in (part_sizes at.scope (aligns_before s) (aligns-below o.types [] o.types s) 0 at.read.fields (struct_right o.types o.attributes at.scope (aligns_before s) at.read at.right).fields)
 
+  -- its `force_align` is right
   struct_forced : (s : ℕ) (at : IsStructAt s) → IsForced (natural_align o.types at.scope (aligns_before s) at.read.fields) (forced_align (natural_align o.types at.scope (aligns_before s) at.read.fields) at.read.attributes) (forced_align 0 at.read.attributes)
   struct_forced s at = forced_right o.attributes (natural_align o.types at.scope (aligns_before s) at.read.fields) at.read.attributes (struct_right o.types o.attributes at.scope (aligns_before s) at.read at.right).metadata
 

@@ -23,6 +23,7 @@ known_spelling ForceAlign = refl
 known_spelling BitFlags = refl
 known_spelling OriginalOrder = refl
 
+-- a known attribute with no fault may stand
 known_stands : (place : Place) (seen : List Known) (a : AttributeUse) (k : Known) → faults_of_known place seen a k ≡ [] → may_stand place k a.value ≡ true
 known_stands place seen a k h = by (may_stand place k a.value) refl
   where
@@ -30,6 +31,7 @@ known_stands place seen a k h = by (may_stand place k a.value) refl
     by true e = refl
     by false e = absurd (grind (arith, h, e))
 
+-- where a list of faults is empty its first test fails
 not_left_out : (b : Bool) (fault : SchemaFault) (faults : List SchemaFault) → (if b then fault ∷ [] else faults) ≡ [] → faults ≡ []
 not_left_out true fault faults h = absurd (grind arith)
 not_left_out false fault faults h = h
@@ -44,11 +46,13 @@ attribute_stands declared place seen a k h e =
     not_left_out (is_left_out a.name.bytes || is_force_align_of_field place (known_attribute a.name.bytes)) (Unsupported a.name.at) (faults_by_name declared place seen a (known_attribute a.name.bytes)) h in
     known_stands place seen a k (sym (ap (faults_by_name declared place seen a) known) ∙ none)
 
+-- the faults of one attribute more
 metadata-cons : (declared : List Name) (place : Place) (seen : List Known) (a : AttributeUse) (rest : List AttributeUse)
     → metadata_faults declared place seen (a ∷ rest) ≡ attribute_faults declared place seen a ++ metadata_faults declared place (noted seen (known_attribute a.name.bytes)) rest
 unfolding metadata_faults
 metadata-cons declared place seen a rest = refl
 
+-- they are empty for it and for the rest
 metadata_parts : (declared : List Name) (place : Place) (seen : List Known) (a : AttributeUse) (rest : List AttributeUse) → metadata_faults declared place seen (a ∷ rest) ≡ []
     → (attribute_faults declared place seen a ≡ []) × (metadata_faults declared place (noted seen (known_attribute a.name.bytes)) rest ≡ [])
 metadata_parts declared place seen a rest h = both_empty (attribute_faults declared place seen a) (metadata_faults declared place (noted seen (known_attribute a.name.bytes)) rest)

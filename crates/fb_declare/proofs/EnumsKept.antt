@@ -41,6 +41,7 @@ not_boolean (Known (Scalar Boolean)) e = grind arith
 not_boolean (Known (Scalar base)) e = grind arith
 not_boolean m e = grind arith
 
+-- what is not absent is there
 some_of : {X : Type 0} (o : Option X) → is_none o ≡ false → (x : X) × (o ≡ Some x)
 some_of None h = absurd (true≢false h)
 some_of (Some x) h = (x, refl)
@@ -57,6 +58,7 @@ unfolding may_stand
 flags_unsigned true value h = refl
 flags_unsigned false value h = absurd (true≢false (sym h))
 
+-- a test of two bounds passes between them
 is_within : (low high n : ℤ) → is_between low high n ≡ true → IsBetween low high n
 is_within low high n h = let both : (int_le low n ≡ true) × (int_le n high ≡ true) = and_parts (int_le low n) (int_le n high) h in
     (grind (arith, ints, both.0), grind (arith, ints, both.1))
@@ -92,9 +94,11 @@ number_kept base true (pos k) unsigned h = rw h ((bit_in_range base k (unsigned 
 number_kept base true (negsuc k) unsigned h = absurd (true≢false (sym h))
 number_kept base false n unsigned h = (held_in_range base n h, λ e. absurd (true≢false (sym e)))
 
+-- the value of a written bit
 flag_value : (base : Base) (k : ℕ) → may_be_written base true (pos k) ≡ true → value_number base true (pos k) ≡ pos (2 ^ k)
 flag_value base k h = ap (λ b. cond b (pos (2 ^ k)) (pos k)) h
 
+-- a bit is known by its power of two
 pow_same : (j k : ℕ) → 2 ^ j ≡ 2 ^ k → j ≡ k
 pow_same j k e = ⊎_elim (λ same. same) (λ unlike. absurd (⊎_elim (λ l. omega (arith, pow_below j k l)) (λ l. omega (arith, pow_below k j l)) unlike)) (cases_order j k)
 
@@ -105,6 +109,7 @@ numbers_apart base true (negsuc j) (pos k) g h e = absurd (true≢false (sym g))
 numbers_apart base true n (negsuc k) g h e = absurd (true≢false (sym h))
 numbers_apart base false n m g h e = e
 
+-- the faults of one value more
 bad_values-cons : (base : Option Base) (flags : Bool) (earlier : List ℤ) (next : ℤ) (v : EnumValue) (vs : List EnumValue)
     → bad_values base flags earlier next (v ∷ vs)
     ≡ when (is_out_of_range base flags (written_number next v) || list_any (int_eq (written_number next v)) earlier) (BadEnumValue v.name.at)
@@ -125,33 +130,39 @@ numbers_right base flags earlier next (v ∷ vs) h =
     let rest = numbers_right base flags (earlier ++ n ∷ []) (n +ℤ pos 1) vs parts.1 in
     (All-cons (λ m. may_be_written base flags m ≡ true) n (written_numbers (n +ℤ pos 1) vs) (not-false (may_be_written base flags n) right.0) rest.0, (right.1, rest.1))
 
+-- the values have the names that are written
 names_of_values : (base : Base) (flags : Bool) (next : ℤ) (vs : List EnumValue) → map (λ v. v.0) (values_from base flags next vs) ≡ map (λ n. n.bytes) (map (λ v. v.name) vs)
 unfolding values_from
 names_of_values base flags next [] = refl
 names_of_values base flags next (v ∷ vs) = ap (λ names. v.name.bytes ∷ names) (names_of_values base flags (written_number next v +ℤ pos 1) vs)
 
+-- and the numbers that are written, as bits with flags
 numbers_of_values : (base : Base) (flags : Bool) (next : ℤ) (vs : List EnumValue) → map (λ v. v.1) (values_from base flags next vs) ≡ map (value_number base flags) (written_numbers next vs)
 unfolding values_from
 numbers_of_values base flags next [] = refl
 numbers_of_values base flags next (v ∷ vs) = ap (λ numbers. value_number base flags (written_number next v) ∷ numbers) (numbers_of_values base flags (written_number next v +ℤ pos 1) vs)
 
+-- what holds of each key holds of what has them
 all_by : {X K : Type 0} (P : K → Type 0) (key : X → K) (xs : List X) → All P (map key xs) → All (λ x. P (key x)) xs
 all_by P key xs all k d within = subst P (get_or-map key xs k d (key d) within) (all k (key d) (omega (arith, length-map xs key)))
 
 -- the values of an enum over an integer type
 module _ (base : Base) (flags : Bool) (vs : List EnumValue) (integers : base ≢ Boolean) (unsigned : flags ≡ true → is_unsigned base ≡ true) where
+  -- each value has a right number
   all_kept : bad_values (Some base) flags [] (pos 0) vs ≡ [] → All (λ v. NumberKept base flags v.1) (values_from base flags (pos 0) vs)
   all_kept h = all_by (NumberKept base flags) (λ v. v.1) (values_from base flags (pos 0) vs)
       (subst (All (NumberKept base flags)) (sym (numbers_of_values base flags (pos 0) vs))
       (All-map (NumberKept base flags) (value_number base flags) (written_numbers (pos 0) vs)
       (λ k d within. number_kept base flags (get_or (written_numbers (pos 0) vs) k d) unsigned ((numbers_right base flags [] (pos 0) vs h).0 k d within))))
 
+  -- no two values have one number
   written_apart : bad_values (Some base) flags [] (pos 0) vs ≡ [] → AllPairs (λ n m. value_number base flags n ≢ value_number base flags m) (written_numbers (pos 0) vs)
   written_apart h i j d before within e =
       let right = numbers_right base flags [] (pos 0) vs h in
       all_apart int_eq Decides-int_eq (written_numbers (pos 0) vs) right.1 i j d before within
       (numbers_apart base flags (get_or (written_numbers (pos 0) vs) i d) (get_or (written_numbers (pos 0) vs) j d) (right.0 i d (omega arith)) (right.0 j d within) e)
 
+  -- the values are a right body
   pub values_kept : names_again [] (map (λ v. v.name) vs) ≡ [] → bad_values (Some base) flags [] (pos 0) vs ≡ [] → IsEnumBody base flags (values_from base flags (pos 0) vs)
   values_kept names numbers = record {
     integers = integers;
@@ -168,6 +179,7 @@ pub record IsEnumRight (types : List TypeRead) (declared : List Name) (scope : O
   pub names : names_again [] (map (λ v. v.name) e.values) ≡ []
   pub numbers : bad_values (underlying types scope e) (has_flags e) [] (pos 0) e.values ≡ []
 
+-- an enum with no fault has none in its parts
 pub enum_right : (types : List TypeRead) (declared : List Name) (scope : Option Name) (e : EnumRead) → enum_faults types declared scope e ≡ [] → IsEnumRight types declared scope e
 unfolding enum_faults
 enum_right types declared scope e h =

@@ -20,10 +20,12 @@ module _ {K : Type 0} (eq : K → K → Bool) where
   EachNew earlier (k ∷ ks) = (list_any (eq k) earlier ≡ false) × EachNew (earlier ++ k ∷ []) ks
 
 module _ {K : Type 0} (eq : K → K → Bool) (same : (a b : K) → Decides (eq a b) (a ≡ b)) where
+  -- what is not found among keys is none of them
   not_before : (earlier : List K) (k : K) → list_any (eq k) earlier ≡ false → (i : ℕ) (d : K) → i < length earlier → get_or earlier i d ≢ k
   not_before earlier k none i d within at =
       true≢false (sym (list_any_at (eq k) earlier i d within ((same k (get_or earlier i d)).1 (sym at))) ∙ none)
 
+  -- new keys differ from all before them
   apart_behind : (earlier ks : List K) → AllPairs (λ a b. a ≢ b) earlier → EachNew eq earlier ks → AllPairs (λ a b. a ≢ b) (earlier ++ ks)
   apart_behind earlier [] apart new = subst (λ (ks : List K). AllPairs (λ a b. a ≢ b) ks) (sym (append-nil earlier)) apart
   apart_behind earlier (k ∷ ks) apart new = subst (λ (ks : List K). AllPairs (λ a b. a ≢ b) ks) (append_assoc earlier (k ∷ []) ks)

@@ -37,6 +37,7 @@ use Rattle.fb_declare.proofs.KindsNamed.{kind_named}
 abbrev pub alignments : List ℕ
 alignments = 1 ∷ 2 ∷ 4 ∷ 8 ∷ 16 ∷ 32 ∷ 64 ∷ 128 ∷ 256 ∷ []
 
+-- each is a power of two by its place
 power_at : (k d : ℕ) → k < 9 → get_or alignments k d ≡ 2 ^ k
 power_at zero d h = refl
 power_at (suc zero) d h = refl
@@ -60,10 +61,12 @@ alignment_right least n h =
     let same : n ≡ a = eqb-true n a tests.0 in
     ((k, omega arith, same ∙ (sym found.3 ∙ power_at k a within)), omega (arith, leb-true least a tests.1))
 
+-- a number that is taken as an alignment is one
 aligned_if : (least n : ℕ) (b : Bool) → is_alignment least (pos n) ≡ b → ForSome (cond b (Some n) None) IsForceAlign
 aligned_if least n true e a is = subst IsForceAlign (same_Some n a is) (alignment_right least n e).0
 aligned_if least n false e a is = absurd (none-some a is)
 
+-- the same of a number that may be absent
 aligned_at : (least : ℕ) (n : Option ℤ) → ForSome (option_and_then (alignment_in least) n) IsForceAlign
 aligned_at least None = λ a is. absurd (none-some a is)
 aligned_at least (Some (pos n)) = aligned_if least n (is_alignment least (pos n)) refl
@@ -96,11 +99,13 @@ part_at types scope n [] k p e = absurd (none-some p e)
 part_at types scope n (f ∷ fs) zero p e = let same : part_read types scope f n ≡ p = cc in let sum : n ≡ n + 0 = omega arith in (f, refl, sym same ∙ ap (part_read types scope f) sum)
 part_at types scope n (f ∷ fs) (suc k) p e = let rest = part_at types scope (n + 1) fs k p e in let sum : n + 1 + k ≡ n + suc k = omega arith in (rest.0, rest.1, rest.2 ∙ ap (part_read types scope rest.0) sum)
 
+-- the parts have the names of the fields
 names_of_parts : (types : List TypeRead) (scope : Option Name) (n : ℕ) (fs : List FieldRead) → map (λ n. n.bytes) (map (λ f. f.name) fs) ≡ names_of (parts_from types scope n fs)
 unfolding parts_from
 names_of_parts types scope n [] = refl
 names_of_parts types scope n (f ∷ fs) = ap (λ names. f.name.bytes ∷ names) (names_of_parts types scope (n + 1) fs)
 
+-- where there are fields there are parts
 some_parts : (types : List TypeRead) (scope : Option Name) (fs : List FieldRead) → is_empty_list fs ≡ false → 0 < length (parts_from types scope 0 fs)
 unfolding parts_from
 some_parts types scope [] h = absurd (true≢false h)
@@ -113,6 +118,7 @@ pub record IsStructRight (types : List TypeRead) (declared : List Name) (scope :
   pub names : names_again [] (map (λ f. f.name) s.fields) ≡ []
   pub fields : flat_map (struct_field_faults types declared scope (length lower)) s.fields ≡ []
 
+-- a struct with no fault has none in its parts
 pub struct_right : (types : List TypeRead) (declared : List Name) (scope : Option Name) (lower : List ℕ) (s : TableRead) → struct_faults types declared scope lower s ≡ []
     → IsStructRight types declared scope lower s
 unfolding struct_faults

@@ -32,6 +32,7 @@ use Rattle.fb_declare.proofs.KindsNamed.{kind_named}
 abbrev pub member_read : List TypeRead → Option Name → UnionMember → Name × ℕ
 member_read types scope m = ((member_name m).bytes, unwrap_or (member_table types scope m) 0)
 
+-- names that a test tells apart differ
 not_called : (name other : Name) → bytes_eq name other ≡ false → name ≢ other
 not_called name other h e = true≢false (sym (bytes_eq-refl other) ∙ ap (λ n. bytes_eq n other) (sym e) ∙ h)
 
@@ -47,6 +48,7 @@ pub record IsMember (S : DeclaredSchema) (before : ℕ) (m : Name × ℕ) : Type
   pub table : Names is_table S m.1
   pub few : before < 255
 
+-- a member with no fault is right
 member_right : (S : DeclaredSchema) (types : List TypeRead) (scope : Option Name) (before : ℕ) (m : UnionMember)
     → ((k : Kind) → meaning_of types scope m.table.bytes ≡ Known k → KindNames S k) → member_faults before m (meaning_of types scope m.table.bytes) ≡ []
     → IsMember S before (member_read types scope m)
@@ -61,6 +63,7 @@ member_right S types scope before m named h =
       few = leb-false 255 before b.1;
     }
 
+-- the faults of one member more
 members-cons : (types : List TypeRead) (scope : Option Name) (before : ℕ) (m : UnionMember) (ms : List UnionMember)
     → members_faults types scope before (m ∷ ms) ≡ member_faults before m (meaning_of types scope m.table.bytes) ++ members_faults types scope (before + 1) ms
 unfolding members_faults
@@ -68,6 +71,7 @@ members-cons types scope before m ms = refl
 
 -- the members of a union, where each known use names a type
 module _ (S : DeclaredSchema) (types : List TypeRead) (scope : Option Name) (named : (name : Name) (k : Kind) → meaning_of types scope name ≡ Known k → KindNames S k) where
+  -- members with no fault are few and right
   members_right : (before : ℕ) (ms : List UnionMember) → before ≤ 255 → members_faults types scope before ms ≡ []
       → (before + length ms ≤ 255) × All (λ m. (m.0 ≢ codes "NONE") × Names is_table S m.1) (map (member_read types scope) ms)
   members_right before [] few h = (omega arith, All-nil (λ m. (m.0 ≢ codes "NONE") × Names is_table S m.1))
