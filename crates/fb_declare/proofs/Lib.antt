@@ -13,3 +13,11 @@ pub mod BadValues
 pub mod Folded
 pub mod Behind
 pub mod NumberNamed
+pub mod FaultFree
+pub mod KindsNamed
+pub mod NoFaults
+pub mod AttributesKept
+pub mod EnumsKept
+pub mod UnionsKept
+pub mod StructsKept
+pub mod AlignmentsKept
