@@ -3,11 +3,13 @@
 
 mod attributes;
 mod basic_types;
+mod copies;
 mod declared_names;
 mod defaults;
 mod enums;
 mod faults;
 mod field_types;
+mod ids;
 mod meanings;
 mod members;
 mod name_places;
@@ -16,6 +18,7 @@ mod outline;
 mod slots;
 mod struct_faults;
 mod structs;
+mod table_faults;
 mod types_read;
 mod union_faults;
 mod value_names;
