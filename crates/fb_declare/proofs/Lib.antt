@@ -6,3 +6,7 @@ pub mod Steps
 pub mod Again
 pub mod FaultFree
 pub mod KindsNamed
+pub mod AttributesKept
+pub mod DefaultsKept
+pub mod Reordered
+pub mod SlotsKept
