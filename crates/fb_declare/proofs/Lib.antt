@@ -10,3 +10,4 @@ pub mod AttributesKept
 pub mod DefaultsKept
 pub mod Reordered
 pub mod SlotsKept
+pub mod PairsKept
