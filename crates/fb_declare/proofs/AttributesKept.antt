@@ -1,58 +1,78 @@
--- An attribute that may not stand where no fault stands.
-use Rattle.std.proofs.Common.{◌≡◌, ◌++◌, ◌&&◌, ◌||◌, not, Bool, true, false, List, [], ◌∷◌, refl, ap, sym, ◌∙◌, Option, None, Some, if◌then◌else◌}
-use Rattle.std.specs.List.{list_any}
+-- Where no attribute of a list is at fault, each known one may stand where it does.
+use Rattle.std.proofs.Common.{◌≡◌, ℕ, ◌++◌, ◌||◌, not, Bool, true, false, List, [], ◌∷◌, Option, None, Some, cond, refl, ap, sym, subst, ◌∙◌, arith, if◌then◌else◌}
+use Rattle.std.specs.List.{list_any, find}
 use Rattle.std.specs.Str.{bytes_eq}
-use Rattle.std.proofs.lemmas.Bool.{or_from}
+use Rattle.std.proofs.lemmas.Option.{same_Some}
 use Rattle.fb_syntax.specs.declared.declarations.AttributeUse.{AttributeUse}
-use Rattle.fb_syntax.specs.declared.declarations.AttributeValue.{AttributeValue}
 use Rattle.fb_schema.specs.Schema.{Name}
-use Rattle.fb_declare.specs.Attributes.{spelling, known_attribute, is_left_out, is_force_align_of_field, may_stand, noted, faults_of_known, faults_by_name, attribute_faults, metadata_faults, has_attribute}
 use Rattle.fb_declare.specs.declared.faults.SchemaFault.{SchemaFault}
 use Rattle.fb_declare.specs.declared.faults.SchemaFault.TheVariants.{BadAttribute, Unsupported}
 use Rattle.fb_declare.specs.declared.attributes.Known.{Known}
 use Rattle.fb_declare.specs.declared.attributes.Known.TheVariants.{Id, Required, Deprecated, ForceAlign, BitFlags, OriginalOrder}
 use Rattle.fb_declare.specs.declared.attributes.Place.{Place}
+use Rattle.fb_declare.specs.Attributes.{spelling, known_attribute, is_left_out, is_force_align_of_field, may_stand, is_known, noted, is_bad_attribute, faults_of_known, faults_by_name, attribute_faults, metadata_faults, attribute_called, has_attribute}
 use Rattle.fb_declare.proofs.Bytes.{bytes_eq-equal}
-use Rattle.fb_declare.proofs.FaultFree.{none_left, none_right}
+use Rattle.fb_declare.proofs.NoFaults.{both_empty}
 
--- each known attribute is known by its name
-pub known-spelling : (k : Known) → known_attribute (spelling k) ≡ Some k
+-- a known attribute is known by its spelling
+known_spelling : (k : Known) → known_attribute (spelling k) ≡ Some k
 unfolding known_attribute
-known-spelling Id = refl
-known-spelling Required = refl
-known-spelling Deprecated = refl
-known-spelling ForceAlign = refl
-known-spelling BitFlags = refl
-known-spelling OriginalOrder = refl
+known_spelling Id = refl
+known_spelling Required = refl
+known_spelling Deprecated = refl
+known_spelling ForceAlign = refl
+known_spelling BitFlags = refl
+known_spelling OriginalOrder = refl
 
-known_refused : (place : Place) (seen : List Known) (a : AttributeUse) (k : Known) (may : Bool) → may ≡ false
-    → (if not may || list_any (λ l. bytes_eq (spelling k) (spelling l)) seen then BadAttribute a.name.at ∷ [] else []) ≡ [] → ⊥
-known_refused place seen a k true never h = cc
-known_refused place seen a k false never h = cc
+known_stands : (place : Place) (seen : List Known) (a : AttributeUse) (k : Known) → faults_of_known place seen a k ≡ [] → may_stand place k a.value ≡ true
+known_stands place seen a k h = by (may_stand place k a.value) refl
+  where
+    by : (b : Bool) → may_stand place k a.value ≡ b → b ≡ true
+    by true e = refl
+    by false e = absurd (grind (arith, h, e))
 
-by_test : (test : Bool) (at : SchemaFault) (rest : List SchemaFault) → (if test then at ∷ [] else rest) ≡ [] → rest ≡ []
-by_test true at rest h = cc
-by_test false at rest h = h
+not_left_out : (b : Bool) (fault : SchemaFault) (faults : List SchemaFault) → (if b then fault ∷ [] else faults) ≡ [] → faults ≡ []
+not_left_out true fault faults h = absurd (grind arith)
+not_left_out false fault faults h = h
 
--- A known attribute that may not stand is a fault.
-attribute_refused : (declared : List Name) (place : Place) (seen : List Known) (a : AttributeUse) (k : Known) → ((v : Option AttributeValue) → may_stand place k v ≡ false)
-    → known_attribute a.name.bytes ≡ Some k → attribute_faults declared place seen a ≡ [] → ⊥
+-- an attribute with no fault that is spelled like a known one
+attribute_stands : (declared : List Name) (place : Place) (seen : List Known) (a : AttributeUse) (k : Known)
+    → attribute_faults declared place seen a ≡ [] → bytes_eq a.name.bytes (spelling k) ≡ true → may_stand place k a.value ≡ true
 unfolding attribute_faults
-attribute_refused declared place seen a k never e h =
-    known_refused place seen a k (may_stand place k a.value) (never a.value)
-    (ap (faults_by_name declared place seen a) (sym e) ∙ by_test (is_left_out a.name.bytes || is_force_align_of_field place (known_attribute a.name.bytes)) (Unsupported a.name.at) (faults_by_name declared place seen a (known_attribute a.name.bytes)) h)
+attribute_stands declared place seen a k h e =
+    let known : known_attribute a.name.bytes ≡ Some k = ap known_attribute (bytes_eq-equal a.name.bytes (spelling k) e) ∙ known_spelling k in
+    let none : faults_by_name declared place seen a (known_attribute a.name.bytes) ≡ [] =
+        not_left_out (is_left_out a.name.bytes || is_force_align_of_field place (known_attribute a.name.bytes)) (Unsupported a.name.at) (faults_by_name declared place seen a (known_attribute a.name.bytes)) h in
+    known_stands place seen a k (sym (ap (faults_by_name declared place seen a) known) ∙ none)
 
-not_named : (b : Bool) → (b ≡ true → ⊥) → b ≡ false
-not_named true h = absurd (h refl)
-not_named false h = refl
-
--- So no such attribute is there.
-pub none_refused : (declared : List Name) (place : Place) (k : Known) → ((v : Option AttributeValue) → may_stand place k v ≡ false)
-    → (seen : List Known) (attributes : List AttributeUse) → metadata_faults declared place seen attributes ≡ [] → has_attribute k attributes ≡ false
+metadata-cons : (declared : List Name) (place : Place) (seen : List Known) (a : AttributeUse) (rest : List AttributeUse)
+    → metadata_faults declared place seen (a ∷ rest) ≡ attribute_faults declared place seen a ++ metadata_faults declared place (noted seen (known_attribute a.name.bytes)) rest
 unfolding metadata_faults
-none_refused declared place k never seen [] h = refl
-none_refused declared place k never seen (a ∷ rest) h =
-    or_from (bytes_eq a.name.bytes (spelling k)) (has_attribute k rest)
-    (not_named (bytes_eq a.name.bytes (spelling k))
-    (λ e. attribute_refused declared place seen a k never (ap known_attribute (bytes_eq-equal a.name.bytes (spelling k) e) ∙ known-spelling k) (none_left (attribute_faults declared place seen a) _ h)))
-    (none_refused declared place k never (noted seen (known_attribute a.name.bytes)) rest (none_right (attribute_faults declared place seen a) _ h))
+metadata-cons declared place seen a rest = refl
+
+metadata_parts : (declared : List Name) (place : Place) (seen : List Known) (a : AttributeUse) (rest : List AttributeUse) → metadata_faults declared place seen (a ∷ rest) ≡ []
+    → (attribute_faults declared place seen a ≡ []) × (metadata_faults declared place (noted seen (known_attribute a.name.bytes)) rest ≡ [])
+metadata_parts declared place seen a rest h = both_empty (attribute_faults declared place seen a) (metadata_faults declared place (noted seen (known_attribute a.name.bytes)) rest)
+    (sym (metadata-cons declared place seen a rest) ∙ h)
+
+-- the first attribute of a known name may stand
+pub called_stands : (declared : List Name) (place : Place) (seen : List Known) (attributes : List AttributeUse) (k : Known) (a : AttributeUse)
+    → metadata_faults declared place seen attributes ≡ [] → attribute_called k attributes ≡ Some a → may_stand place k a.value ≡ true
+called_stands declared place seen [] k a h called = absurd (grind arith)
+called_stands declared place seen (b ∷ rest) k a h called =
+    by (bytes_eq b.name.bytes (spelling k)) refl called (called_stands declared place (noted seen (known_attribute b.name.bytes)) rest k a (metadata_parts declared place seen b rest h).1)
+  where
+    by : (t : Bool) → bytes_eq b.name.bytes (spelling k) ≡ t → cond t (Some b) (attribute_called k rest) ≡ Some a → (attribute_called k rest ≡ Some a → may_stand place k a.value ≡ true) → may_stand place k a.value ≡ true
+    by true e first later = subst (λ (x : AttributeUse). may_stand place k x.value ≡ true) (same_Some b a first) (attribute_stands declared place seen b k (metadata_parts declared place seen b rest h).0 e)
+    by false e first later = later first
+
+-- if a known name occurs, some attribute of it may stand
+pub noted_stands : (declared : List Name) (place : Place) (seen : List Known) (attributes : List AttributeUse) (k : Known)
+    → metadata_faults declared place seen attributes ≡ [] → has_attribute k attributes ≡ true → (a : AttributeUse) × (may_stand place k a.value ≡ true)
+noted_stands declared place seen [] k h has = absurd (grind arith)
+noted_stands declared place seen (b ∷ rest) k h has =
+    by (bytes_eq b.name.bytes (spelling k)) refl has (noted_stands declared place (noted seen (known_attribute b.name.bytes)) rest k (metadata_parts declared place seen b rest h).1)
+  where
+    by : (t : Bool) → bytes_eq b.name.bytes (spelling k) ≡ t → t || has_attribute k rest ≡ true → (has_attribute k rest ≡ true → (a : AttributeUse) × (may_stand place k a.value ≡ true)) → (a : AttributeUse) × (may_stand place k a.value ≡ true)
+    by true e has later = (b, attribute_stands declared place seen b k (metadata_parts declared place seen b rest h).0 e)
+    by false e has later = later has

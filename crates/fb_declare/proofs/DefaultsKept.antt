@@ -3,8 +3,6 @@ use Rattle.std.proofs.Common.{◌≡◌, ℕ, Bool, true, false, List, [], ◌�
 use Rattle.std.specs.List.{All, find}
 use Rattle.std.specs.Option.{option_map, option_or, option_and_then}
 use Rattle.std.specs.Str.{bytes_eq}
-use Rattle.std.proofs.lemmas.Bool.{and_parts}
-use Rattle.std.proofs.lemmas.Int.{ints}
 use Rattle.std.proofs.lemmas.List.Elements.{All-head, All-tail}
 use Rattle.fb_syntax.specs.Located.{Located}
 use Rattle.fb_syntax.specs.TypesRead.{EnumRead}
@@ -13,13 +11,13 @@ use Rattle.fb_syntax.specs.declared.declarations.FieldType.TheVariants.{One, Man
 use Rattle.fb_syntax.specs.declared.declarations.DefaultValue.{DefaultValue}
 use Rattle.fb_syntax.specs.declared.declarations.DefaultValue.TheVariants.{Integer, Name as Named}
 use Rattle.fb_schema.specs.Schema.{Name}
-use Rattle.fb_schema.specs.WellDeclared.{IsBetween, InRange}
+use Rattle.fb_schema.specs.WellDeclared.{InRange}
 use Rattle.fb_schema.specs.declared.kinds.Base.{Base}
 use Rattle.fb_schema.specs.declared.kinds.Base.TheVariants.{Bool as Boolean, I8, U8, I16, U16, I32, U32, I64, U64}
 use Rattle.fb_schema.specs.declared.kinds.TypeId.{TypeId}
 use Rattle.fb_schema.specs.declared.kinds.Kind.TheVariants.{Scalar, Enum}
 use Rattle.fb_declare.specs.Outline.{TypeRead, full_name}
-use Rattle.fb_declare.specs.BasicTypes.{is_between, holds}
+use Rattle.fb_declare.specs.BasicTypes.{holds}
 use Rattle.fb_declare.specs.Attributes.{integer_of}
 use Rattle.fb_declare.specs.EnumsRead.{underlying_at, value_at, number_named, value_named, behind}
 use Rattle.fb_declare.specs.Defaults.{number_within, null_or_wrong, boolean_named, scalar_named, enum_number, enum_named, given_to, given_by}
@@ -27,45 +25,27 @@ use Rattle.fb_declare.specs.SlotsRead.{number_given, is_null}
 use Rattle.fb_declare.specs.declared.meanings.Meaning.TheVariants.{Known}
 use Rattle.fb_declare.specs.declared.defaults.Given.{Given}
 use Rattle.fb_declare.specs.declared.defaults.Given.TheVariants.{Number, Null, Wrong}
+use Rattle.fb_declare.proofs.EnumsKept.{held_in_range}
 
-le-from_int_le : (a b : ℤ) → int_le a b ≡ true → a ≤ℤ b
-le-from_int_le a b h = grind (arith, ints)
-
-between-from_test : (low high n : ℤ) → is_between low high n ≡ true → IsBetween low high n
-between-from_test low high n h = let p = and_parts (int_le low n) (int_le n high) h in (le-from_int_le low n p.0, le-from_int_le n high p.1)
-
--- what a basic type holds is in its range
-pub InRange-from_holds : (base : Base) (n : ℤ) → holds base n ≡ true → InRange base n
-unfolding holds
-InRange-from_holds Boolean n h = between-from_test _ _ n h
-InRange-from_holds I8 n h = between-from_test _ _ n h
-InRange-from_holds U8 n h = between-from_test _ _ n h
-InRange-from_holds I16 n h = between-from_test _ _ n h
-InRange-from_holds U16 n h = between-from_test _ _ n h
-InRange-from_holds I32 n h = between-from_test _ _ n h
-InRange-from_holds U32 n h = between-from_test _ _ n h
-InRange-from_holds I64 n h = between-from_test _ _ n h
-InRange-from_holds U64 n h = between-from_test _ _ n h
-
--- and 0 always is
+-- 0 is in the range of each basic type
 pub InRange-zero : (base : Base) → InRange base (pos 0)
 unfolding holds
-InRange-zero Boolean = InRange-from_holds Boolean (pos 0) refl
-InRange-zero I8 = InRange-from_holds I8 (pos 0) refl
-InRange-zero U8 = InRange-from_holds U8 (pos 0) refl
-InRange-zero I16 = InRange-from_holds I16 (pos 0) refl
-InRange-zero U16 = InRange-from_holds U16 (pos 0) refl
-InRange-zero I32 = InRange-from_holds I32 (pos 0) refl
-InRange-zero U32 = InRange-from_holds U32 (pos 0) refl
-InRange-zero I64 = InRange-from_holds I64 (pos 0) refl
-InRange-zero U64 = InRange-from_holds U64 (pos 0) refl
+InRange-zero Boolean = held_in_range Boolean (pos 0) refl
+InRange-zero I8 = held_in_range I8 (pos 0) refl
+InRange-zero U8 = held_in_range U8 (pos 0) refl
+InRange-zero I16 = held_in_range I16 (pos 0) refl
+InRange-zero U16 = held_in_range U16 (pos 0) refl
+InRange-zero I32 = held_in_range I32 (pos 0) refl
+InRange-zero U32 = held_in_range U32 (pos 0) refl
+InRange-zero I64 = held_in_range I64 (pos 0) refl
+InRange-zero U64 = held_in_range U64 (pos 0) refl
 
 -- what is given is in a range
 abbrev pub GivesIn : Base → Given → Type 0
 GivesIn base given = InRange base (number_given given)
 
 within_or_wrong : (base : Base) (n : ℤ) (b : Bool) → holds base n ≡ b → GivesIn base (if b then Number n else Wrong)
-within_or_wrong base n true h = InRange-from_holds base n h
+within_or_wrong base n true h = held_in_range base n h
 within_or_wrong base n false h = InRange-zero base
 
 number_in : (base : Base) (n : ℤ) → GivesIn base (number_within base n)
@@ -80,7 +60,7 @@ null_in base name = null_by_test base (bytes_eq name (codes "null"))
 
 boolean_by_tests : (t f : Bool) (given : Given) → GivesIn Boolean given → GivesIn Boolean (if t then Number (pos 1) else if f then Number (pos 0) else given)
 unfolding holds
-boolean_by_tests true f given h = InRange-from_holds Boolean (pos 1) refl
+boolean_by_tests true f given h = held_in_range Boolean (pos 1) refl
 boolean_by_tests false true given h = InRange-zero Boolean
 boolean_by_tests false false given h = h
 

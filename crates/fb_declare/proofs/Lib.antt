@@ -6,8 +6,12 @@ pub mod Steps
 pub mod Again
 pub mod FaultFree
 pub mod KindsNamed
+pub mod NoFaults
 pub mod AttributesKept
+pub mod EnumsKept
+pub mod UnionsKept
 pub mod DefaultsKept
 pub mod Reordered
 pub mod SlotsKept
 pub mod PairsKept
+pub mod TablesKept

@@ -23,9 +23,9 @@ use Rattle.fb_declare.specs.FaultRows.{names_again}
 use Rattle.fb_declare.specs.TypeFaults.{names_by_union, names_of_field}
 use Rattle.fb_declare.specs.declared.meanings.Meaning.{Meaning}
 use Rattle.fb_declare.specs.declared.meanings.Meaning.TheVariants.{Known, Float, Unknown}
-use Rattle.fb_declare.proofs.FaultFree.{names_differ}
 use Rattle.fb_declare.proofs.KindsNamed.{MeansIn, IsNoCode}
-use Rattle.fb_declare.proofs.Reordered.{AllDiffer, AllDiffer-map, AllDiffer-permutation}
+use Rattle.fb_declare.proofs.NoFaults.{names_apart}
+use Rattle.fb_declare.proofs.Reordered.{AllDiffer, AllDiffer-permutation}
 use Rattle.fb_declare.proofs.SlotsKept.{IsFrom, slot_placed}
 
 -- ---- the shape of a value's slot
@@ -187,4 +187,4 @@ pub slot_names_differ : (types : List TypeRead) (scope : Option Name) (fs : List
     → names_again [] (flat_map (names_of_field types scope) fs) ≡ [] → AllDiffer (names_of slots)
 slot_names_differ types scope fs slots placed h =
     AllDiffer-permutation (names_of (slots_read types scope fs)) (names_of slots) (IsPermutation-map (λ s. s.name) (slots_read types scope fs) slots placed.same)
-    (subst (λ ns. AllDiffer ns) (sym (names-by_test types scope fs (have_ids fs))) (AllDiffer-map (λ n. n.bytes) (flat_map (names_of_field types scope) fs) (names_differ (flat_map (names_of_field types scope) fs) h)))
+    (subst (λ ns. AllDiffer ns) (sym (names-by_test types scope fs (have_ids fs))) (names_apart (flat_map (names_of_field types scope) fs) h))

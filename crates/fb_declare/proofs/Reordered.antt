@@ -2,7 +2,6 @@
 use Rattle.std.proofs.Common.{◌≡◌, ◌≢◌, ℕ, ◌+◌, ◌<◌, ◌⊎◌, List, [], ◌∷◌, map, length, get_or, swap, IsPermutation, inl, inr, refl, sym, ap, ◌∙◌, arith}
 use Rattle.std.specs.List.{AllPairs}
 use Rattle.std.proofs.lemmas.Bool.{cases_eq}
-use Rattle.std.proofs.lemmas.List.{get_or-map, length-map}
 use Rattle.std.proofs.lemmas.List.Edits.{Swapped, swapped_from_swap, length-swap}
 use Rattle.std.proofs.lemmas.List.Sorted.{IsPermutation-keeps, IsPermutation-map}
 
@@ -35,15 +34,3 @@ AllDiffer-swap xs a b p q h i j d less within e =
 
 pub AllDiffer-permutation : {X : Type 0} (old new : List X) → IsPermutation old new → AllDiffer old → AllDiffer new
 AllDiffer-permutation old new moved h = IsPermutation-keeps old (λ l. AllDiffer l) h (λ l i j p q k. AllDiffer-swap l i j p q k) new moved
-
--- what differs by something of each
-pub AllDiffer-map : {X Y : Type 0} (f : X → Y) (xs : List X) → AllPairs (λ a b. f a ≢ f b) xs → AllDiffer (map f xs)
-AllDiffer-map f [] h i j d less within e = absurd (omega arith)
-AllDiffer-map f (x ∷ xs) h i j d less within e =
-    let all = length-map (x ∷ xs) f in
-    h i j x less (omega arith) (sym (get_or-map f (x ∷ xs) i x d (omega arith)) ∙ e ∙ get_or-map f (x ∷ xs) j x d (omega arith))
-
-pub AllPairs-from_map : {X Y : Type 0} (f : X → Y) (xs : List X) → AllDiffer (map f xs) → AllPairs (λ a b. f a ≢ f b) xs
-AllPairs-from_map f xs h i j d less within e =
-    let all = length-map xs f in
-    h i j (f d) less (omega arith) (get_or-map f xs i d (f d) (omega arith) ∙ e ∙ sym (get_or-map f xs j d (f d) within))
