@@ -15,3 +15,6 @@ pub mod Reordered
 pub mod SlotsKept
 pub mod PairsKept
 pub mod TablesKept
+pub mod StructsKept
+pub mod AlignmentsKept
+pub mod Kept

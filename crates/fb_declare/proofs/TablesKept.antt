@@ -33,10 +33,11 @@ use Rattle.fb_declare.specs.declared.defaults.Given.TheVariants.{Wrong}
 use Rattle.fb_declare.specs.declared.faults.SchemaFault.TheVariants.{BadIds}
 use Rattle.fb_declare.specs.declared.meanings.Meaning.{Meaning}
 use Rattle.fb_declare.specs.declared.meanings.Meaning.TheVariants.{Known, Float, Unknown}
+use Rattle.fb_declare.proofs.AlignmentsKept.{declaration_right}
 use Rattle.fb_declare.proofs.AttributesKept.{noted_stands}
 use Rattle.fb_declare.proofs.DefaultsKept.{scalar_default, enum_default, value_found, null_is_zero}
 use Rattle.fb_declare.proofs.EnumsKept.{enum_base, enum_in_range}
-use Rattle.fb_declare.proofs.FaultFree.{none_left, none_right, none_contained, none_of_type, aligns_from}
+use Rattle.fb_declare.proofs.FaultFree.{none_left, none_right, none_contained, aligns_from}
 use Rattle.fb_declare.proofs.KindsNamed.{MeansIn, means_in, read_from_type}
 use Rattle.fb_declare.proofs.PairsKept.{SlotCase, alone, coded, valued, slot_cases, unions_paired, slot_names_differ}
 use Rattle.fb_declare.proofs.SlotsKept.{IsFrom, slot_placed}
@@ -71,21 +72,17 @@ there [] i h = absurd (omega arith)
 there (x ∷ xs) zero h = (x, refl)
 there (x ∷ xs) (suc i) h = there xs i (omega arith)
 
-declared_right : (types : List TypeRead) (declared : List Name) (lower : List ℕ) (r : TypeRead) → type_faults types declared lower r ≡ [] → declaration_faults types declared lower r.scope r.declaration ≡ []
-unfolding type_faults
-declared_right types declared lower r h = none_right (reserved_name (word_of r.declaration)) (declaration_faults types declared lower r.scope r.declaration) h
-
 -- an enum that is named is kept
-abbrev pub EnumsKept : List TypeRead → DeclaredSchema → Type 0
-EnumsKept types S = (e : ℕ) → Names is_enum S e → IsEnumKept types (underlying_at types e) (value_at types e) (body_at S e)
+abbrev pub AreEnumsKept : List TypeRead → DeclaredSchema → Type 0
+AreEnumsKept types S = (e : ℕ) → Names is_enum S e → IsEnumKept types (underlying_at types e) (value_at types e) (body_at S e)
 
-pub enums_kept : (o : Outline) (S : DeclaredSchema) → Gives o S → faults_of_types o.types o.attributes [] o.types ≡ [] → EnumsKept o.types S
+pub enums_kept : (o : Outline) (S : DeclaredSchema) → Gives o S → faults_of_types o.types o.attributes [] o.types ≡ [] → AreEnumsKept o.types S
 unfolding value_at
 enums_kept o S g sound e named =
     let found = there S.types e named.0 in
     let read = read_from_type o S g e found.0 found.1 in
     let lower = aligns_from o.types [] (take e o.types) in
-    let right = declared_right o.types o.attributes lower read.0 (none_of_type o.types o.attributes [] o.types sound e read.0 read.1) in
+    let right = declaration_right o S g sound e read.0 read.1 in
     let is : IsTrue (is_enum found.0.body) = subst (λ t. IsTrue (is_enum (body_in t))) found.1 named.1 in
     subst (λ r. IsEnumKept o.types (underlying_of_read o.types r) (value_of_read o.types r) (body_at S e)) (sym read.1)
     (subst (λ t. IsEnumKept o.types (underlying_in o.types read.0.scope read.0.declaration) (value_in o.types read.0.scope read.0.declaration) (body_in t)) (sym found.1)
@@ -134,7 +131,7 @@ may_be_element S at n Text h none = tt
 abbrev IsSlotRight : DeclaredSchema → DeclaredField → Type 0
 IsSlotRight S p = IsShape S p.shape × MarksFit S p p.shape
 
-value_right : (S : DeclaredSchema) (types : List TypeRead) (declared : List Name) (f : FieldRead) (slot : ℕ) (k : FieldType) (m : Meaning) → EnumsKept types S → MeansIn S m
+value_right : (S : DeclaredSchema) (types : List TypeRead) (declared : List Name) (f : FieldRead) (slot : ℕ) (k : FieldType) (m : Meaning) → AreEnumsKept types S → MeansIn S m
     → table_field_type k m ≡ [] → metadata_faults declared (place_of_field k m) [] f.attributes ≡ [] → IsSlotRight S (slot_with types f k m slot)
 unfolding use_faults given_to
 value_right S types declared f slot (types_read.One n) (Known (Scalar base)) enums h type marks =
@@ -194,7 +191,7 @@ field_right types declared scope f h =
     let marks = metadata_faults declared (place_of_field f.kind (meaning_in types scope f.kind)) [] f.attributes in
     (none_left type default (none_left (type ++ default) marks h), none_right (type ++ default) marks h)
 
-module _ (o : Outline) (S : DeclaredSchema) (g : Gives o S) (enums : EnumsKept o.types S) (scope : Option Name) (t : TableRead) (right : IsTableRight o.types o.attributes scope t) where
+module _ (o : Outline) (S : DeclaredSchema) (g : Gives o S) (enums : AreEnumsKept o.types S) (scope : Option Name) (t : TableRead) (right : IsTableRight o.types o.attributes scope t) where
   means : (k : FieldType) → MeansIn S (meaning_in o.types scope k)
   means k = means_in o S g scope (type_name k).bytes
 

@@ -1,0 +1,161 @@
+-- The body of a struct with no fault: some plain fields of different names, in order, of scalars, enums and structs before it.
+use Rattle.std.proofs.Common.{◌≡◌, ◌≢◌, ℕ, zero, suc, ◌+◌, ◌^◌, ◌<◌, ◌≤◌, ◌++◌, ◌&&◌, ◌==◌, nat_le, Bool, true, false, List, [], ◌∷◌, length, map, get_or, AllPairs, Option, None, Some, cond, refl, ap, sym, subst, ◌∙◌, arith, true≢false}
+use Rattle.std.specs.Prelude.{ℤ, pos, negsuc, slice_get}
+use Rattle.std.specs.List.{flat_map, list_any}
+use Rattle.std.specs.Option.{ForSome, option_and_then}
+use Rattle.std.proofs.lemmas.Bool.{and_parts, eqb-true, leb-true, leb-false}
+use Rattle.std.proofs.lemmas.List.Folds.{Any-from_list_any}
+use Rattle.std.proofs.lemmas.Option.{none-some, same_Some}
+use Rattle.fb_syntax.specs.FieldRead.{FieldRead}
+use Rattle.fb_syntax.specs.TypesRead.{TableRead}
+use Rattle.fb_syntax.specs.declared.declarations.AttributeUse.{AttributeUse}
+use Rattle.fb_syntax.specs.declared.declarations.FieldType.{FieldType}
+use Rattle.fb_syntax.specs.declared.declarations.FieldType.TheVariants.{One, Many}
+use Rattle.fb_schema.specs.declared.kinds.Kind.{Kind}
+use Rattle.fb_schema.specs.declared.kinds.Kind.TheVariants.{Scalar, Enum, Struct, Table, Union, Code, Text}
+use Rattle.fb_schema.specs.Schema.{Name, DeclaredField, DeclaredSchema}
+use Rattle.fb_schema.specs.WellDeclared.{Names, KindNames, IsPart, IsPlain, IsForceAlign, IsStructBody, names_of}
+use Rattle.fb_declare.specs.declared.faults.SchemaFault.{SchemaFault}
+use Rattle.fb_declare.specs.declared.faults.SchemaFault.TheVariants.{EmptyStruct, IncompleteStruct}
+use Rattle.fb_declare.specs.declared.meanings.Meaning.{Meaning}
+use Rattle.fb_declare.specs.declared.meanings.Meaning.TheVariants.{Known, Float, Unknown}
+use Rattle.fb_declare.specs.declared.attributes.Known.TheVariants.{ForceAlign}
+use Rattle.fb_declare.specs.declared.attributes.Place.TheVariants as places
+use Rattle.fb_declare.specs.Outline.{TypeRead, Outline}
+use Rattle.fb_declare.specs.Meaning.{meaning_of, meaning_in, type_name}
+use Rattle.fb_declare.specs.Attributes.{is_alignment, number_called, metadata_faults}
+use Rattle.fb_declare.specs.SlotsRead.{shape_of}
+use Rattle.fb_declare.specs.StructsRead.{natural_align, alignment_in, forced_align, part_read, parts_from}
+use Rattle.fb_declare.specs.FaultRows.{when, names_again, use_faults, part_faults, struct_field_type, default_in_struct}
+use Rattle.fb_declare.specs.TypeFaults.{is_empty_list, struct_field_faults, struct_faults}
+use Rattle.fb_declare.specs.Declares.{Gives}
+use Rattle.fb_declare.proofs.FaultFree.{none_left, none_right, none_at, when-none}
+use Rattle.fb_declare.proofs.NoFaults.{both_empty, names_apart}
+use Rattle.fb_declare.proofs.KindsNamed.{kind_named}
+
+-- the alignments that may be forced
+abbrev pub alignments : List ℕ
+alignments = 1 ∷ 2 ∷ 4 ∷ 8 ∷ 16 ∷ 32 ∷ 64 ∷ 128 ∷ 256 ∷ []
+
+power_at : (k d : ℕ) → k < 9 → get_or alignments k d ≡ 2 ^ k
+power_at zero d h = refl
+power_at (suc zero) d h = refl
+power_at (suc (suc zero)) d h = refl
+power_at (suc (suc (suc zero))) d h = refl
+power_at (suc (suc (suc (suc zero)))) d h = refl
+power_at (suc (suc (suc (suc (suc zero))))) d h = refl
+power_at (suc (suc (suc (suc (suc (suc zero)))))) d h = refl
+power_at (suc (suc (suc (suc (suc (suc (suc zero))))))) d h = refl
+power_at (suc (suc (suc (suc (suc (suc (suc (suc zero)))))))) d h = refl
+power_at (suc (suc (suc (suc (suc (suc (suc (suc (suc k))))))))) d h = absurd (omega arith)
+
+-- an alignment is a power of two that isn't below the least
+pub alignment_right : (least n : ℕ) → is_alignment least (pos n) ≡ true → IsForceAlign n × (least ≤ n)
+alignment_right least n h =
+    let found = Any-from_list_any (λ a. n == a && nat_le least a) alignments h in
+    let k : ℕ = found.0 in
+    let a : ℕ = found.1 in
+    let within : k < 9 = found.2 in
+    let tests : ((n == a) ≡ true) × (nat_le least a ≡ true) = and_parts (n == a) (nat_le least a) found.4 in
+    let same : n ≡ a = eqb-true n a tests.0 in
+    ((k, omega arith, same ∙ (sym found.3 ∙ power_at k a within)), omega (arith, leb-true least a tests.1))
+
+aligned_if : (least n : ℕ) (b : Bool) → is_alignment least (pos n) ≡ b → ForSome (cond b (Some n) None) IsForceAlign
+aligned_if least n true e a is = subst IsForceAlign (same_Some n a is) (alignment_right least n e).0
+aligned_if least n false e a is = absurd (none-some a is)
+
+aligned_at : (least : ℕ) (n : Option ℤ) → ForSome (option_and_then (alignment_in least) n) IsForceAlign
+aligned_at least None = λ a is. absurd (none-some a is)
+aligned_at least (Some (pos n)) = aligned_if least n (is_alignment least (pos n)) refl
+aligned_at least (Some (negsuc n)) = λ a is. absurd (none-some a is)
+
+-- a right `force_align` is a power of two
+pub forced_aligned : (least : ℕ) (attributes : List AttributeUse) → ForSome (forced_align least attributes) IsForceAlign
+unfolding forced_align
+forced_aligned least attributes = aligned_at least (number_called ForceAlign attributes)
+
+-- a field of a struct with no fault is of a scalar, an enum or a lower struct
+pub part_right : (S : DeclaredSchema) (t : ℕ) (kind : FieldType) (m : Meaning) → ((k : Kind) → m ≡ Known k → KindNames S k) → struct_field_type t kind m ≡ [] → IsPart S t (shape_of kind m)
+unfolding use_faults part_faults
+part_right S t (One n) (Known (Scalar base)) named h = tt
+part_right S t (One n) (Known (Enum e)) named h = named (Enum e) refl
+part_right S t (One n) (Known (Struct s)) named h = (leb-false t s.0 (when-none (nat_le t s.0) (IncompleteStruct n.at) h), named (Struct s) refl)
+part_right S t (One n) (Known (Table x)) named h = absurd (grind (arith, h))
+part_right S t (One n) (Known (Union x)) named h = absurd (grind (arith, h))
+part_right S t (One n) (Known (Code x)) named h = absurd (grind (arith, h))
+part_right S t (One n) (Known Text) named h = absurd (grind (arith, h))
+part_right S t (One n) Float named h = absurd (grind (arith, h))
+part_right S t (One n) Unknown named h = absurd (grind (arith, h))
+part_right S t (Many at n) m named h = absurd (grind (arith, none_right (use_faults m n.at) (part_faults t (Many at n) m) h))
+
+-- what is read of a part
+pub part_at : (types : List TypeRead) (scope : Option Name) (n : ℕ) (fs : List FieldRead) (k : ℕ) (p : DeclaredField) → slice_get (parts_from types scope n fs) k ≡ Some p
+    → (f : FieldRead) × (slice_get fs k ≡ Some f) × (p ≡ part_read types scope f (n + k))
+unfolding parts_from
+part_at types scope n [] k p e = absurd (none-some p e)
+part_at types scope n (f ∷ fs) zero p e = let same : part_read types scope f n ≡ p = cc in let sum : n ≡ n + 0 = omega arith in (f, refl, sym same ∙ ap (part_read types scope f) sum)
+part_at types scope n (f ∷ fs) (suc k) p e = let rest = part_at types scope (n + 1) fs k p e in let sum : n + 1 + k ≡ n + suc k = omega arith in (rest.0, rest.1, rest.2 ∙ ap (part_read types scope rest.0) sum)
+
+names_of_parts : (types : List TypeRead) (scope : Option Name) (n : ℕ) (fs : List FieldRead) → map (λ n. n.bytes) (map (λ f. f.name) fs) ≡ names_of (parts_from types scope n fs)
+unfolding parts_from
+names_of_parts types scope n [] = refl
+names_of_parts types scope n (f ∷ fs) = ap (λ names. f.name.bytes ∷ names) (names_of_parts types scope (n + 1) fs)
+
+some_parts : (types : List TypeRead) (scope : Option Name) (fs : List FieldRead) → is_empty_list fs ≡ false → 0 < length (parts_from types scope 0 fs)
+unfolding parts_from
+some_parts types scope [] h = absurd (true≢false h)
+some_parts types scope (f ∷ fs) h = omega arith
+
+-- what is empty where a struct has no fault
+pub record IsStructRight (types : List TypeRead) (declared : List Name) (scope : Option Name) (lower : List ℕ) (s : TableRead) : Type 0 where
+  pub metadata : metadata_faults declared (places.Struct (natural_align types scope lower s.fields)) [] s.attributes ≡ []
+  pub some : is_empty_list s.fields ≡ false
+  pub names : names_again [] (map (λ f. f.name) s.fields) ≡ []
+  pub fields : flat_map (struct_field_faults types declared scope (length lower)) s.fields ≡ []
+
+pub struct_right : (types : List TypeRead) (declared : List Name) (scope : Option Name) (lower : List ℕ) (s : TableRead) → struct_faults types declared scope lower s ≡ []
+    → IsStructRight types declared scope lower s
+unfolding struct_faults
+struct_right types declared scope lower s h =
+    let attribute_faults : List SchemaFault = metadata_faults declared (places.Struct (natural_align types scope lower s.fields)) [] s.attributes in
+    let empty_faults : List SchemaFault = when (is_empty_list s.fields) (EmptyStruct s.name.at) in
+    let name_faults : List SchemaFault = names_again [] (map (λ f. f.name) s.fields) in
+    let field_faults : List SchemaFault = flat_map (struct_field_faults types declared scope (length lower)) s.fields in
+    let a = both_empty (attribute_faults ++ empty_faults ++ name_faults) field_faults h in
+    let b = both_empty (attribute_faults ++ empty_faults) name_faults a.0 in
+    let c = both_empty attribute_faults empty_faults b.0 in
+    record { metadata = c.0; some = when-none (is_empty_list s.fields) (EmptyStruct s.name.at) c.1; names = b.1; fields = a.1 }
+
+-- the type of a struct's field with no fault
+pub field_type_right : (types : List TypeRead) (declared : List Name) (scope : Option Name) (t : ℕ) (f : FieldRead) → struct_field_faults types declared scope t f ≡ []
+    → struct_field_type t f.kind (meaning_in types scope f.kind) ≡ []
+unfolding struct_field_faults
+field_type_right types declared scope t f h =
+    let kind_faults : List SchemaFault = struct_field_type t f.kind (meaning_in types scope f.kind) in
+    let default_faults : List SchemaFault = default_in_struct f.default in
+    none_left kind_faults default_faults (none_left (kind_faults ++ default_faults) (metadata_faults declared places.StructField [] f.attributes) h)
+
+-- a struct with no fault has a right body, where each known use names a type
+pub struct_kept_by : (S : DeclaredSchema) (types : List TypeRead) (declared : List Name) (scope : Option Name) → ((name : Name) (k : Kind) → meaning_of types scope name ≡ Known k → KindNames S k)
+    → (lower : List ℕ) (s : TableRead) → struct_faults types declared scope lower s ≡ [] → IsStructBody S (length lower) (parts_from types scope 0 s.fields) (forced_align 0 s.attributes)
+struct_kept_by S types declared scope named lower s h =
+    let right = struct_right types declared scope lower s h in
+    record {
+      some = some_parts types scope s.fields right.some;
+      aligned = forced_aligned 0 s.attributes;
+      slots = λ k p e. let f = part_at types scope 0 s.fields k p e in ap (λ q. q.slot) f.2 ∙ omega arith;
+      names = subst (AllPairs (λ a b. a ≢ b)) (names_of_parts types scope 0 s.fields) (names_apart (map (λ f. f.name) s.fields) right.names);
+      parts = λ k p e. let f = part_at types scope 0 s.fields k p e in part_kept right.fields k f.0 f.1 p f.2;
+    }
+  where
+    part_kept : flat_map (struct_field_faults types declared scope (length lower)) s.fields ≡ [] → (k : ℕ) (f : FieldRead) → slice_get s.fields k ≡ Some f → (p : DeclaredField) → p ≡ part_read types scope f (0 + k)
+        → IsPart S (length lower) p.shape × IsPlain p
+    part_kept none k f at p e = subst (λ (q : DeclaredField). IsPart S (length lower) q.shape × IsPlain q) (sym e)
+        (part_right S (length lower) f.kind (meaning_in types scope f.kind) (named (type_name f.kind).bytes)
+         (field_type_right types declared scope (length lower) f (none_at (struct_field_faults types declared scope (length lower)) s.fields none k f at)), (refl, refl, refl, refl))
+
+-- in the schema that an outline gives
+pub struct_kept : (o : Outline) (S : DeclaredSchema) → Gives o S → (scope : Option Name) (lower : List ℕ) (s : TableRead) → struct_faults o.types o.attributes scope lower s ≡ []
+    → (t : ℕ) → length lower ≡ t → IsStructBody S t (parts_from o.types scope 0 s.fields) (forced_align 0 s.attributes)
+struct_kept o S gives scope lower s h t e = subst (λ (t : ℕ). IsStructBody S t (parts_from o.types scope 0 s.fields) (forced_align 0 s.attributes)) e
+    (struct_kept_by S o.types o.attributes scope (kind_named o S gives scope) lower s h)
