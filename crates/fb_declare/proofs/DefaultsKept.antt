@@ -1,13 +1,12 @@
 -- The default of a field is in the range of its type.
-use Rattle.std.proofs.Common.{◌≡◌, ℕ, Bool, true, false, List, [], ◌∷◌, refl, ap, sym, ◌∙◌, subst, arith, Option, None, Some, ℤ, pos, negsuc, ◌≤ℤ◌, int_le, codes, IsTrue, IfSome, if◌then◌else◌}
+use Rattle.std.proofs.Common.{◌≡◌, Bool, true, false, List, [], ◌∷◌, refl, sym, subst, Option, None, Some, ℤ, pos, codes, IsTrue, IfSome, if◌then◌else◌}
 use Rattle.std.specs.List.{All, find}
 use Rattle.std.specs.Option.{option_map, option_or, option_and_then}
 use Rattle.std.specs.Str.{bytes_eq}
 use Rattle.std.proofs.lemmas.List.Elements.{All-head, All-tail}
 use Rattle.fb_syntax.specs.Located.{Located}
 use Rattle.fb_syntax.specs.TypesRead.{EnumRead}
-use Rattle.fb_syntax.specs.declared.declarations.FieldType.{FieldType}
-use Rattle.fb_syntax.specs.declared.declarations.FieldType.TheVariants.{One, Many}
+use Rattle.fb_syntax.specs.declared.declarations.FieldType.TheVariants.{One}
 use Rattle.fb_syntax.specs.declared.declarations.DefaultValue.{DefaultValue}
 use Rattle.fb_syntax.specs.declared.declarations.DefaultValue.TheVariants.{Integer, Name as Named}
 use Rattle.fb_schema.specs.Schema.{Name}
@@ -20,7 +19,7 @@ use Rattle.fb_declare.specs.Outline.{TypeRead, full_name}
 use Rattle.fb_declare.specs.BasicTypes.{holds}
 use Rattle.fb_declare.specs.Attributes.{integer_of}
 use Rattle.fb_declare.specs.EnumsRead.{underlying_at, value_at, number_named, value_named, behind}
-use Rattle.fb_declare.specs.Defaults.{number_within, null_or_wrong, boolean_named, scalar_named, enum_number, enum_named, given_to, given_by}
+use Rattle.fb_declare.specs.Defaults.{number_within, null_or_wrong, scalar_named, enum_number, enum_named, given_to, given_by}
 use Rattle.fb_declare.specs.SlotsRead.{number_given, is_null}
 use Rattle.fb_declare.specs.declared.meanings.Meaning.TheVariants.{Known}
 use Rattle.fb_declare.specs.declared.defaults.Given.{Given}

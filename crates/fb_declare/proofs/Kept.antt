@@ -1,5 +1,5 @@
 -- What an outline with no fault gives is well declared.
-use Rattle.std.proofs.Common.{◌≡◌, ◌≢◌, ℕ, ℤ, ◌==◌, ◌&&◌, ◌++◌, not, Bool, true, false, List, [], ◌∷◌, length, take, map, AllPairs, refl, sym, ap, ◌∙◌, subst, arith, Option, None, Some, nat_le}
+use Rattle.std.proofs.Common.{◌≡◌, ◌≢◌, ℕ, ◌==◌, ◌&&◌, ◌++◌, not, List, [], ◌∷◌, length, take, map, AllPairs, refl, sym, ap, ◌∙◌, subst, arith, Option, None, Some, nat_le}
 use Rattle.std.specs.List.{AllZip, list_all, slice_get}
 use Rattle.std.specs.Option.{option_map, ForSome}
 use Rattle.std.proofs.lemmas.Bool.{and_parts, eqb-true, not-false}
@@ -9,14 +9,12 @@ use Rattle.fb_syntax.specs.Located.{Located}
 use Rattle.fb_syntax.specs.declared.declarations.Declaration.{Declaration}
 use Rattle.fb_syntax.specs.declared.declarations.Declaration.TheVariants as declarations
 use Rattle.fb_schema.specs.Schema.{Name, DeclaredBody, table_body, struct_body, enum_body, union_body, DeclaredType, DeclaredSchema, is_table}
-use Rattle.fb_schema.specs.WellDeclared.{Names, IsStructBody, IsEnumBody, IsUnionBody, IsBody, IsDeclared}
-use Rattle.fb_schema.specs.declared.kinds.Base.{Base}
+use Rattle.fb_schema.specs.WellDeclared.{Names, IsUnionBody, IsBody, IsDeclared}
 use Rattle.fb_schema.specs.declared.kinds.Kind.TheVariants.{Scalar, Enum, Struct, Table, Union, Code, Text}
-use Rattle.fb_declare.specs.Outline.{TypeRead, RootRead, Outline, word_of, name_of_type}
+use Rattle.fb_declare.specs.Outline.{TypeRead, RootRead, Outline}
 use Rattle.fb_declare.specs.Meaning.{meaning_of}
-use Rattle.fb_declare.specs.EnumsRead.{underlying, base_or_ubyte, has_flags, values_read}
 use Rattle.fb_declare.specs.MembersRead.{table_of}
-use Rattle.fb_declare.specs.FaultRows.{when, names_again, root_faults, is_identifier, identifier_faults}
+use Rattle.fb_declare.specs.FaultRows.{names_again, root_faults, is_identifier, identifier_faults}
 use Rattle.fb_declare.specs.TypeFaults.{declaration_faults, located_name, faults_of_types, faults_of_outline}
 use Rattle.fb_declare.specs.Declares.{HasBody, IsType, root_table, Gives}
 use Rattle.fb_declare.specs.declared.faults.SchemaFault.TheVariants.{BadIdentifier}
@@ -24,11 +22,11 @@ use Rattle.fb_declare.specs.declared.meanings.Meaning.{Meaning}
 use Rattle.fb_declare.specs.declared.meanings.Meaning.TheVariants.{Known, Float, Unknown}
 use Rattle.fb_declare.proofs.AlignmentsKept.{aligns, are_aligned, aligns_before, declaration_right}
 use Rattle.fb_declare.proofs.EnumsKept.{enum_kept}
-use Rattle.fb_declare.proofs.FaultFree.{none_left, none_right, when-none, aligns_from, length-aligns_from}
+use Rattle.fb_declare.proofs.FaultFree.{none_left, none_right, when-none, length-aligns_from}
 use Rattle.fb_declare.proofs.KindsNamed.{MeansIn, means_in, read_from_type}
 use Rattle.fb_declare.proofs.NoFaults.{names_apart, apart_by}
 use Rattle.fb_declare.proofs.StructsKept.{struct_kept}
-use Rattle.fb_declare.proofs.TablesKept.{AreEnumsKept, enums_kept, table_right, table_kept}
+use Rattle.fb_declare.proofs.TablesKept.{enums_kept, table_right, table_kept}
 use Rattle.fb_declare.proofs.UnionsKept.{union_kept}
 
 -- ---- names

@@ -1,12 +1,11 @@
 -- The slots of a union field, and the names of all slots.
-use Rattle.std.proofs.Common.{◌≡◌, ◌≢◌, ℕ, zero, suc, ◌+◌, ◌<◌, ◌++◌, ◌⊎◌, Bool, true, false, List, [], ◌∷◌, map, length, get_or, inl, inr, refl, sym, ap, ◌∙◌, subst, arith, Option, None, Some, slice_get, if◌then◌else◌}
+use Rattle.std.proofs.Common.{◌≡◌, ℕ, zero, suc, ◌+◌, ◌++◌, ◌⊎◌, Bool, true, false, List, [], ◌∷◌, map, length, inl, inr, refl, sym, ap, ◌∙◌, subst, arith, Option, None, Some, slice_get, if◌then◌else◌}
 use Rattle.std.specs.List.{Contains, flat_map}
 use Rattle.std.specs.Option.{unwrap_or}
 use Rattle.std.proofs.lemmas.List.{map-append}
 use Rattle.std.proofs.lemmas.List.Sorted.{IsPermutation-map}
 use Rattle.std.proofs.lemmas.Option.{slice_get-get_or}
 use Rattle.fb_syntax.specs.FieldRead.{FieldRead}
-use Rattle.fb_syntax.specs.Located.{Located}
 use Rattle.fb_syntax.specs.declared.declarations.FieldType.{FieldType}
 use Rattle.fb_syntax.specs.declared.declarations.FieldType.TheVariants as types_read
 use Rattle.fb_schema.specs.Schema.{Name, DeclaredField, DeclaredSchema}
@@ -14,8 +13,7 @@ use Rattle.fb_schema.specs.WellDeclared.{IsUnionPair, UnionsPaired, names_of}
 use Rattle.fb_schema.specs.declared.kinds.TypeId.{TypeId}
 use Rattle.fb_schema.specs.declared.kinds.Kind.{Kind}
 use Rattle.fb_schema.specs.declared.kinds.Kind.TheVariants.{Scalar, Enum, Struct, Table, Union, Code, Text}
-use Rattle.fb_schema.specs.declared.kinds.Shape.{Shape}
-use Rattle.fb_schema.specs.declared.kinds.Shape.TheVariants.{One, Many}
+use Rattle.fb_schema.specs.declared.kinds.Shape.TheVariants.{One}
 use Rattle.fb_declare.specs.Outline.{TypeRead}
 use Rattle.fb_declare.specs.Meaning.{meaning_in}
 use Rattle.fb_declare.specs.SlotsRead.{union_of, union_in, shape_of, value_slot, code_slot, slots_by_union, slots_of_field, slots_in_order, slot_by_id, slots_by_id, have_ids, slots_read, AreInPlace}

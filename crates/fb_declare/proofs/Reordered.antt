@@ -1,9 +1,9 @@
 -- Elements that differ, in another order.
-use Rattle.std.proofs.Common.{◌≡◌, ◌≢◌, ℕ, ◌+◌, ◌<◌, ◌⊎◌, List, [], ◌∷◌, map, length, get_or, swap, IsPermutation, inl, inr, refl, sym, ap, ◌∙◌, arith}
+use Rattle.std.proofs.Common.{◌≡◌, ◌≢◌, ℕ, ◌<◌, ◌⊎◌, List, length, get_or, swap, IsPermutation, inl, inr, refl, sym, ap, ◌∙◌, arith}
 use Rattle.std.specs.List.{AllPairs}
 use Rattle.std.proofs.lemmas.Bool.{cases_eq}
 use Rattle.std.proofs.lemmas.List.Edits.{Swapped, swapped_from_swap, length-swap}
-use Rattle.std.proofs.lemmas.List.Sorted.{IsPermutation-keeps, IsPermutation-map}
+use Rattle.std.proofs.lemmas.List.Sorted.{IsPermutation-keeps}
 
 abbrev pub AllDiffer : {X : Type 0} → List X → Type 0
 AllDiffer xs = AllPairs (λ a b. a ≢ b) xs

@@ -1,30 +1,14 @@
 -- The slots of a table: which field each is of, the pairs of unions, and their names.
-use Rattle.std.proofs.Common.{◌≡◌, ◌≢◌, ℕ, zero, suc, ◌+◌, ◌<◌, ◌++◌, ◌⊎◌, Bool, true, false, List, [], ◌∷◌, map, length, get_or, inl, inr, refl, sym, ap, ◌∙◌, subst, arith, Option, None, Some, codes, slice_get, if◌then◌else◌}
-use Rattle.std.specs.List.{Contains, flat_map}
-use Rattle.std.specs.List.Sorted.{IsPermutation}
+use Rattle.std.proofs.Common.{◌≡◌, ℕ, suc, ◌+◌, ◌++◌, ◌⊎◌, Bool, true, false, List, [], ◌∷◌, length, inl, inr, refl, arith, Option, Some, slice_get, if◌then◌else◌}
+use Rattle.std.specs.List.{Contains}
 use Rattle.std.specs.Option.{unwrap_or}
-use Rattle.std.proofs.lemmas.List.{map-append}
 use Rattle.std.proofs.lemmas.List.Elements.{Contains-append_left, Contains-append_right, Contains-append_cases}
 use Rattle.std.proofs.lemmas.List.Sorted.{Contains-permutation, IsPermutation-sym}
-use Rattle.std.proofs.lemmas.Option.{slice_get-get_or, get_or_from_slice_get, slice_get_within}
+use Rattle.std.proofs.lemmas.Option.{get_or_from_slice_get, slice_get_within}
 use Rattle.fb_syntax.specs.FieldRead.{FieldRead}
-use Rattle.fb_syntax.specs.Located.{Located}
-use Rattle.fb_syntax.specs.declared.declarations.FieldType.{FieldType}
-use Rattle.fb_syntax.specs.declared.declarations.FieldType.TheVariants as types_read
-use Rattle.fb_schema.specs.Schema.{Name, DeclaredField, DeclaredSchema}
-use Rattle.fb_schema.specs.WellDeclared.{IsUnionPair, UnionsPaired, names_of}
-use Rattle.fb_schema.specs.declared.kinds.TypeId.{TypeId}
-use Rattle.fb_schema.specs.declared.kinds.Kind.{Kind}
-use Rattle.fb_schema.specs.declared.kinds.Kind.TheVariants.{Scalar, Enum, Struct, Table, Union, Code, Text}
-use Rattle.fb_schema.specs.declared.kinds.Shape.{Shape}
-use Rattle.fb_schema.specs.declared.kinds.Shape.TheVariants.{One, Many}
+use Rattle.fb_schema.specs.Schema.{Name, DeclaredField}
 use Rattle.fb_declare.specs.Outline.{TypeRead}
-use Rattle.fb_declare.specs.Meaning.{meaning_in}
-use Rattle.fb_declare.specs.SlotsRead.{union_of, union_in, shape_of, kind_or_text, value_slot, code_slot, slots_by_union, slots_of_field, slots_in_order, slot_by_id, slots_by_id, have_ids, slots_read, AreInPlace}
-use Rattle.fb_declare.specs.TypeFaults.{names_by_union, names_of_field}
-use Rattle.fb_declare.specs.declared.meanings.Meaning.{Meaning}
-use Rattle.fb_declare.specs.declared.meanings.Meaning.TheVariants.{Known, Float, Unknown}
-use Rattle.fb_declare.proofs.KindsNamed.{MeansIn, IsNoCode}
+use Rattle.fb_declare.specs.SlotsRead.{slots_of_field, slots_in_order, slot_by_id, slots_by_id, have_ids, slots_read, AreInPlace}
 
 -- a slot is one of a field's, all of whose slots are there
 pub record IsFrom (types : List TypeRead) (scope : Option Name) (fs : List FieldRead) (all : List DeclaredField) (p : DeclaredField) : Type 0 where

@@ -1,7 +1,6 @@
 -- The body of a table with no fault: its slots have shapes of the schema and marks that fit them.
 use Rattle.std.proofs.Common.{◌≡◌, ℕ, zero, suc, ◌+◌, ◌<◌, ◌++◌, Bool, true, false, List, [], ◌∷◌, length, take, refl, sym, ap, ◌∙◌, subst, arith, Option, None, Some, ℤ, pos, IsTrue, IfSome, true≢false}
 use Rattle.std.specs.List.{flat_map, slice_get, All, Contains}
-use Rattle.std.specs.Option.{unwrap_or}
 use Rattle.fb_syntax.specs.FieldRead.{FieldRead}
 use Rattle.fb_syntax.specs.Located.{Located}
 use Rattle.fb_syntax.specs.TypesRead.{TableRead}
@@ -11,20 +10,20 @@ use Rattle.fb_syntax.specs.declared.declarations.Declaration.TheVariants as decl
 use Rattle.fb_syntax.specs.declared.declarations.DefaultValue.{DefaultValue}
 use Rattle.fb_syntax.specs.declared.declarations.FieldType.{FieldType}
 use Rattle.fb_syntax.specs.declared.declarations.FieldType.TheVariants as types_read
-use Rattle.fb_schema.specs.Schema.{Name, DeclaredField, DeclaredBody, table_body, struct_body, enum_body, union_body, DeclaredType, DeclaredSchema, body_in, body_at, base_in, is_enum, is_union}
+use Rattle.fb_schema.specs.Schema.{Name, DeclaredField, DeclaredBody, table_body, struct_body, enum_body, union_body, DeclaredSchema, body_in, body_at, base_in, is_enum, is_union}
 use Rattle.fb_schema.specs.WellDeclared.{InRange, Names, IsShape, MayBeElement, MarksFit, IsTableBody}
 use Rattle.fb_schema.specs.declared.kinds.Base.{Base}
 use Rattle.fb_schema.specs.declared.kinds.TypeId.{TypeId}
 use Rattle.fb_schema.specs.declared.kinds.Kind.{Kind}
 use Rattle.fb_schema.specs.declared.kinds.Kind.TheVariants.{Scalar, Enum, Struct, Table, Union, Code, Text}
-use Rattle.fb_declare.specs.Outline.{TypeRead, Outline, word_of}
+use Rattle.fb_declare.specs.Outline.{TypeRead, Outline}
 use Rattle.fb_declare.specs.Meaning.{meaning_in, type_name}
 use Rattle.fb_declare.specs.Attributes.{may_stand, metadata_faults, has_attribute}
-use Rattle.fb_declare.specs.EnumsRead.{underlying_in, underlying_of_read, underlying_at, value_in, value_of_read, value_at, base_or_ubyte, underlying, values_read}
+use Rattle.fb_declare.specs.EnumsRead.{underlying_in, underlying_of_read, underlying_at, value_in, value_of_read, value_at, base_or_ubyte, values_read}
 use Rattle.fb_declare.specs.Defaults.{given_to, given_by, given_in}
 use Rattle.fb_declare.specs.SlotsRead.{union_of, shape_of, number_given, is_null, value_slot, slots_read, AreInPlace, are_ids_wrong}
-use Rattle.fb_declare.specs.FaultRows.{when, names_again, reserved_name, use_faults, union_vector, table_field_type, bad_default}
-use Rattle.fb_declare.specs.TypeFaults.{names_of_field, place_of_field, table_field_faults, table_faults, declaration_faults, type_faults, faults_of_types}
+use Rattle.fb_declare.specs.FaultRows.{when, names_again, use_faults, union_vector, table_field_type, bad_default}
+use Rattle.fb_declare.specs.TypeFaults.{names_of_field, place_of_field, table_field_faults, table_faults, declaration_faults, faults_of_types}
 use Rattle.fb_declare.specs.Declares.{HasBody, Gives}
 use Rattle.fb_declare.specs.declared.attributes.Known.TheVariants.{Required, Deprecated}
 use Rattle.fb_declare.specs.declared.attributes.Place.TheVariants as places
@@ -40,7 +39,7 @@ use Rattle.fb_declare.proofs.EnumsKept.{enum_base, enum_in_range}
 use Rattle.fb_declare.proofs.FaultFree.{none_left, none_right, none_contained, aligns_from}
 use Rattle.fb_declare.proofs.KindsNamed.{MeansIn, means_in, read_from_type}
 use Rattle.fb_declare.proofs.PairsKept.{SlotCase, alone, coded, valued, slot_cases, unions_paired, slot_names_differ}
-use Rattle.fb_declare.proofs.SlotsKept.{IsFrom, slot_placed}
+use Rattle.fb_declare.proofs.SlotsKept.{slot_placed}
 
 -- ---- the enums that fields name
 
