@@ -125,9 +125,11 @@ module _ (S : DeclaredSchema) (types : List TypeRead) (scope : Option Name) (mea
       let codes_same : One (Code v) ≡ One (Code u) = sym (ap (λ q. q.shape) same) ∙ shape in
       let ids : v ≡ u = cc in
       let slot : x.slot ≡ k = sym (ap (λ q. q.slot) same) ∙ placed.slots k p at in
-      let next : x.slot + 1 ≡ suc k = omega arith in
-      (g, sym (ap (slice_get slots) next) ∙ at_its_place slots placed.slots g (x.whole g (value_there types scope x.field x.slot v e)),
-        subst (λ q. IsUnionPair q g u) (sym same) (subst (λ w. IsUnionPair (code_slot x.field v x.slot) g w) ids (pair_of types scope x.field x.slot v e)))
+      let next : x.slot + 1 ≡ suc k = omega arith in (
+        g,
+        sym (ap (slice_get slots) next) ∙ at_its_place slots placed.slots g (x.whole g (value_there types scope x.field x.slot v e)),
+        subst (λ q. IsUnionPair q g u) (sym same) (subst (λ w. IsUnionPair (code_slot x.field v x.slot) g w) ids (pair_of types scope x.field x.slot v e)),
+      )
 
   leads : (k : ℕ) (p : DeclaredField) (u : TypeId) → slice_get slots k ≡ Some p → p.shape ≡ One (Union u) → (x : IsFrom types scope fs slots p) → SlotCase types scope x.field x.slot p
       → (j : ℕ) × (f : DeclaredField) × (k ≡ suc j) × (slice_get slots j ≡ Some f) × IsUnionPair f p u
@@ -138,9 +140,13 @@ module _ (S : DeclaredSchema) (types : List TypeRead) (scope : Option Name) (mea
       let f = code_slot x.field v x.slot in
       let is = union_from_shape x.field.kind (meaning_in types scope x.field.kind) u (sym (ap (λ q. q.shape) same) ∙ shape) in
       let ids : v ≡ u = cc in
-      let slot : x.slot + 1 ≡ k = sym (ap (λ q. q.slot) same) ∙ placed.slots k p at in
-      (x.slot, f, omega arith, at_its_place slots placed.slots f (x.whole f (code_there types scope x.field x.slot v e)),
-        subst (λ q. IsUnionPair f q u) (sym same) (subst (λ w. IsUnionPair f (value_slot types scope x.field (x.slot + 1)) w) ids (pair_of types scope x.field x.slot v e)))
+      let slot : x.slot + 1 ≡ k = sym (ap (λ q. q.slot) same) ∙ placed.slots k p at in (
+        x.slot,
+        f,
+        omega arith,
+        at_its_place slots placed.slots f (x.whole f (code_there types scope x.field x.slot v e)),
+        subst (λ q. IsUnionPair f q u) (sym same) (subst (λ w. IsUnionPair f (value_slot types scope x.field (x.slot + 1)) w) ids (pair_of types scope x.field x.slot v e)),
+      )
 
   -- A union's code stands right before its value.
   pub unions_paired : UnionsPaired slots

@@ -54,9 +54,10 @@ enum_facts types declared lower scope d (struct_body fs a) h body is = cc
 enum_facts types declared lower scope d (union_body ms) h body is = cc
 enum_facts types declared lower scope (declarations.Enum e) (enum_body base flags values) h body is =
     let found = enum_base types declared scope e h in
-    let same : base ≡ found.0 = body.0 ∙ ap base_or_ubyte found.1 in
-    (found.1 ∙ ap Some (sym same),
-        λ name. value_found (InRange base) scope e (values_read types scope e) name (subst (λ b. All (λ v. InRange b v.1) (values_read types scope e)) (sym body.0) (enum_in_range types declared scope e h)))
+    let same : base ≡ found.0 = body.0 ∙ ap base_or_ubyte found.1 in (
+      found.1 ∙ ap Some (sym same),
+      λ name. value_found (InRange base) scope e (values_read types scope e) name (subst (λ b. All (λ v. InRange b v.1) (values_read types scope e)) (sym body.0) (enum_in_range types declared scope e h)),
+    )
 enum_facts types declared lower scope (declarations.Table d) (enum_body base flags values) h body is = absurd body
 enum_facts types declared lower scope (declarations.Struct d) (enum_body base flags values) h body is = absurd body
 enum_facts types declared lower scope (declarations.Union d) (enum_body base flags values) h body is = absurd body
