@@ -20,7 +20,7 @@ use indexmap::IndexSet;
 use std::alloc::{AllocError, Global};
 
 /// An integer type, which a `bool` isn't.
-fn integer_type(meaning: Meaning) -> Option<Base>
+pub(crate) fn integer_type(meaning: Meaning) -> Option<Base>
     ensures { result ≡ integer_type meaning }
 {
     match meaning {

@@ -5,6 +5,7 @@ mod attributes;
 mod basic_types;
 mod declared_names;
 mod defaults;
+mod enum_faults;
 mod enums;
 mod faults;
 mod field_types;
