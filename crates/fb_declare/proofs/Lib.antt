@@ -13,3 +13,4 @@ pub mod BadValues
 pub mod Folded
 pub mod Behind
 pub mod NumberNamed
+pub mod IntegerFound

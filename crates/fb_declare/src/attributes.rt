@@ -86,7 +86,6 @@ fn is_left_out(name: &str) -> bool
 }
 
 /// The value of an integer of the text; what is no integer counts as 0.
-#[tactic(auto, unfolding(crate::specs::Attributes::integer_of))]
 pub(crate) fn integer_of(text: &Text) -> i128
     ensures { result ≡ integer_of text.now }
 {
