@@ -196,8 +196,8 @@ pub(crate) fn metadata_fault(
     place: Place,
     attributes: &[AttributeUse],
 ) -> Result<Option<SchemaFault>, AllocError>
-    ensures { IfOk result
-        (λ f. f ≡ least_of (metadata_faults (names_declared declared.entry) place [] attributes.now)) }
+    ensures { IfOk result (λ f. f ≡ least_of
+        (metadata_faults (names_declared declared.entry) place [] attributes.now)) }
 {
     let mut least = None;
     let mut seen = Vec::new(alloc);
