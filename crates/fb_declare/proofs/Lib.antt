@@ -27,3 +27,4 @@ pub mod TablesKept
 pub mod StructsKept
 pub mod AlignmentsKept
 pub mod Kept
+pub mod IntegerFound

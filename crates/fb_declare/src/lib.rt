@@ -6,6 +6,7 @@ mod basic_types;
 mod copies;
 mod declared_names;
 mod defaults;
+mod enum_faults;
 mod enums;
 mod faults;
 mod field_types;
