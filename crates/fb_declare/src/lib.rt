@@ -20,6 +20,7 @@ mod slots;
 mod struct_faults;
 mod structs;
 mod table_faults;
+mod type_faults;
 mod types_read;
 mod union_faults;
 mod value_names;
