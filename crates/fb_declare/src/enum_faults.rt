@@ -8,6 +8,7 @@ ghost use Rattle.fb_declare.specs.DeclaredNames.{names_declared};
 ghost use Rattle.fb_declare.specs.TypeFaults.{place_of_enum, enum_faults};
 
 use crate::attributes::{Place, metadata_fault};
+use crate::copies::copy_of;
 use crate::declared_names::DeclaredNames;
 use crate::enums::{bad_values, has_flags, integer_type};
 use crate::faults::{SchemaFault, earlier, when};
@@ -53,11 +54,7 @@ fn value_names(alloc: Global, values: &[EnumValue]) -> Result<Vec<Text>, AllocEr
 {
     let mut names = Vec::with_capacity(alloc, values.len())?;
     for value in values {
-        let text = String::from_str(alloc, value.name.text.as_str())?;
-        names.push(Text {
-            text,
-            at: value.name.at,
-        })?;
+        names.push(copy_of(alloc, &value.name)?)?;
     }
     Ok(names)
 }
