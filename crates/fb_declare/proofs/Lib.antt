@@ -28,3 +28,4 @@ pub mod StructsKept
 pub mod AlignmentsKept
 pub mod Kept
 pub mod IntegerFound
+pub mod Zipped

@@ -3,8 +3,10 @@
 
 mod attributes;
 mod basic_types;
+mod bodies;
 mod copies;
 mod declared_names;
+mod declaring;
 mod defaults;
 mod enum_faults;
 mod enums;
