@@ -29,3 +29,4 @@ pub mod AlignmentsKept
 pub mod Kept
 pub mod IntegerFound
 pub mod Zipped
+pub mod Building

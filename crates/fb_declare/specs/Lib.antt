@@ -15,3 +15,4 @@ pub mod NamePlaces
 pub mod Faults
 pub mod DeclaredNames
 pub mod Buildable
+pub mod Found

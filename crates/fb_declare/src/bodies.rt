@@ -19,7 +19,7 @@ use fb_syntax::{Declaration, EnumDeclaration, TableDeclaration, UnionDeclaration
 use std::alloc::{AllocError, Global};
 
 fn member_read(
-    types: TypesRead<'_>,
+    types: TypesRead<'_, '_, '_>,
     alloc: Global,
     scope: Option<&str>,
     member: &UnionMember,
@@ -34,7 +34,7 @@ fn member_read(
 }
 
 fn members_read(
-    types: TypesRead<'_>,
+    types: TypesRead<'_, '_, '_>,
     alloc: Global,
     scope: Option<&str>,
     read: &UnionDeclaration,
@@ -50,7 +50,7 @@ fn members_read(
 }
 
 fn struct_body(
-    types: TypesRead<'_>,
+    types: TypesRead<'_, '_, '_>,
     alloc: Global,
     scope: Option<&str>,
     read: &TableDeclaration,
@@ -63,7 +63,7 @@ fn struct_body(
 }
 
 fn enum_body(
-    types: TypesRead<'_>,
+    types: TypesRead<'_, '_, '_>,
     alloc: Global,
     scope: Option<&str>,
     read: &EnumDeclaration,
@@ -77,7 +77,7 @@ fn enum_body(
 }
 
 fn table_body(
-    types: TypesRead<'_>,
+    types: TypesRead<'_, '_, '_>,
     alloc: Global,
     scope: Option<&str>,
     read: &TableDeclaration,
@@ -91,7 +91,7 @@ fn table_body(
 }
 
 fn union_body(
-    types: TypesRead<'_>,
+    types: TypesRead<'_, '_, '_>,
     alloc: Global,
     scope: Option<&str>,
     read: &UnionDeclaration,
@@ -103,7 +103,7 @@ fn union_body(
 }
 
 fn body_of(
-    types: TypesRead<'_>,
+    types: TypesRead<'_, '_, '_>,
     alloc: Global,
     scope: Option<&str>,
     declaration: &Declaration,
@@ -122,7 +122,7 @@ fn body_of(
 }
 
 fn type_of(
-    types: TypesRead<'_>,
+    types: TypesRead<'_, '_, '_>,
     alloc: Global,
     read: &TypeRead<'_>,
 ) -> Result<TypeInfo, AllocError>
@@ -136,7 +136,7 @@ fn type_of(
 
 /// The types that the declarations give. The only error is a refused allocation.
 pub(crate) fn types_of(
-    types: TypesRead<'_>,
+    types: TypesRead<'_, '_, '_>,
     alloc: Global,
 ) -> Result<Vec<TypeInfo>, AllocError>
     requires { AreBuildable types.types.now }

@@ -10,7 +10,7 @@ use fb_syntax::Field;
 use std::alloc::{AllocError, Global};
 
 pub(crate) fn are_ids_wrong(
-    types: TypesRead<'_>,
+    types: TypesRead<'_, '_, '_>,
     alloc: Global,
     scope: Option<&str>,
     fields: &[Field],
@@ -22,7 +22,7 @@ pub(crate) fn are_ids_wrong(
 }
 
 pub(crate) fn table_slots(
-    types: TypesRead<'_>,
+    types: TypesRead<'_, '_, '_>,
     alloc: Global,
     scope: Option<&str>,
     fields: &[Field],

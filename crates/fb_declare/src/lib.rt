@@ -12,6 +12,7 @@ mod enum_faults;
 mod enums;
 mod faults;
 mod field_types;
+mod found;
 mod ids;
 mod meanings;
 mod members;
@@ -27,4 +28,5 @@ mod types_read;
 mod union_faults;
 mod value_names;
 
+pub use declaring::declare;
 pub use faults::SchemaFault;

@@ -25,7 +25,7 @@ pub(crate) fn union_of(kind: &FieldType, meaning: Meaning) -> Option<TypeId>
 }
 
 fn value_slot(
-    types: TypesRead<'_>,
+    types: TypesRead<'_, '_, '_>,
     alloc: Global,
     field: &Field,
     meaning: Meaning,
@@ -82,7 +82,7 @@ fn code_slot(
 /// Adds the slots of a field from this one on: a union's code comes before its value.
 #[tactic(auto, unfolding(crate::specs::SlotsRead::slots_of_field))]
 fn push_slots(
-    types: TypesRead<'_>,
+    types: TypesRead<'_, '_, '_>,
     alloc: Global,
     scope: Option<&str>,
     field: &Field,
@@ -108,7 +108,7 @@ fn push_slots(
 /// allocation.
 #[tactic(auto, unfolding(crate::specs::SlotsRead::slots_in_order))]
 fn slots_in_order(
-    types: TypesRead<'_>,
+    types: TypesRead<'_, '_, '_>,
     alloc: Global,
     scope: Option<&str>,
     fields: &[Field],

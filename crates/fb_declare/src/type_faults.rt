@@ -47,9 +47,9 @@ fn reserved_word(declaration: &Declaration) -> Option<SchemaFault>
 
 #[tactic(auto, unfolding(crate::specs::Faults::least_of))]
 fn declaration_fault(
-    types: TypesRead<'_>,
+    types: TypesRead<'_, '_, '_>,
     alloc: Global,
-    declared: DeclaredNames<'_>,
+    declared: DeclaredNames<'_, '_>,
     lower: &[u16],
     scope: Option<&str>,
     declaration: &Declaration,
@@ -68,9 +68,9 @@ fn declaration_fault(
 
 #[tactic(auto, using(crate::proofs::Least::least_of_append), unfolding(crate::specs::TypeFaults::type_faults))]
 fn type_fault(
-    types: TypesRead<'_>,
+    types: TypesRead<'_, '_, '_>,
     alloc: Global,
-    declared: DeclaredNames<'_>,
+    declared: DeclaredNames<'_, '_>,
     lower: &[u16],
     read: &TypeRead<'_>,
 ) -> Result<Option<SchemaFault>, AllocError>
@@ -84,9 +84,9 @@ fn type_fault(
 
 /// The least fault of the types. The only error is a refused allocation.
 pub(crate) fn types_fault(
-    types: TypesRead<'_>,
+    types: TypesRead<'_, '_, '_>,
     alloc: Global,
-    declared: DeclaredNames<'_>,
+    declared: DeclaredNames<'_, '_>,
 ) -> Result<Option<SchemaFault>, AllocError>
     ensures { IfOk result (λ f. f ≡ least_of (faults_of_types types.entry.types.now
         (names_declared declared.entry) [] types.entry.types.now)) }
@@ -113,7 +113,7 @@ fn root_use_fault(meaning: Meaning, at: u64) -> Option<SchemaFault>
 /// The least fault of the root. The only error is a refused allocation.
 #[tactic(auto, unfolding(crate::specs::FaultRows::root_faults, crate::specs::Faults::least_of))]
 pub(crate) fn root_fault(
-    types: TypesRead<'_>,
+    types: TypesRead<'_, '_, '_>,
     alloc: Global,
     text_len: u64,
     root: Option<&RootRead<'_>>,
