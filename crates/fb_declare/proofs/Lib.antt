@@ -21,3 +21,5 @@ pub mod EnumsKept
 pub mod UnionsKept
 pub mod StructsKept
 pub mod AlignmentsKept
+pub mod IdsBelow
+pub mod PlacesTaken

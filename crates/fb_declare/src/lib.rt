@@ -8,6 +8,7 @@ mod defaults;
 mod enums;
 mod faults;
 mod field_types;
+mod ids;
 mod meanings;
 mod members;
 mod name_places;
