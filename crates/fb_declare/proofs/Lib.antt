@@ -23,3 +23,4 @@ pub mod StructsKept
 pub mod AlignmentsKept
 pub mod IdsBelow
 pub mod PlacesTaken
+pub mod InOrder

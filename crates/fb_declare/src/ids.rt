@@ -1,12 +1,13 @@
 //! The slots that the ids of fields name.
-ghost use Rattle.std.specs.Prelude.{◌≡◌, ◌<◌, ◌-◌, ◌++◌, ◌^◌, [], ◌∷◌, IfOk, IfSome, IsSome, true, pos, ◌<ℤ◌};
+ghost use Rattle.std.specs.Prelude.{◌≡◌, ◌<◌, ◌-◌, ◌++◌, ◌^◌, [], ◌∷◌, IfOk, IfSome, IsSome, map, true, false, pos, ◌<ℤ◌};
 ghost use Rattle.std.specs.Option.{option_copied, is_some, ForSome};
-ghost use Rattle.fb_declare.specs.SlotsRead.{union_in, first_slot, slot_by_id, numbers_by_id, have_ids, have_all_ids, are_places, are_ids_wrong};
+ghost use Rattle.fb_declare.specs.SlotsRead.{union_in, first_slot, slot_by_id, numbers_by_id, have_ids, have_all_ids, are_places, are_ids_wrong, slots_by_id, slots_read, AreInPlace};
+ghost use Rattle.fb_schema.specs.Seen.{field_seen};
 
 use crate::attributes::{Known, has_attribute, number_called};
-use crate::slots::union_of;
+use crate::slots::{push_slots, slots_in_order, union_of};
 use crate::types_read::TypesRead;
-use fb_schema::TypeId;
+use fb_schema::{FieldInfo, TypeId};
 use fb_syntax::Field;
 use std::alloc::{AllocError, Global};
 
@@ -141,4 +142,41 @@ pub(crate) fn are_ids_wrong(
         Some(numbers) => Ok(!are_places(alloc, numbers.as_slice())?),
         None => Ok(true),
     }
+}
+
+/// The slots of fields by their ids, in the order of declaration.
+fn slots_by_id(
+    types: TypesRead<'_>,
+    alloc: Global,
+    scope: Option<&str>,
+    fields: &[Field],
+) -> Result<Vec<FieldInfo>, AllocError>
+    ensures { IfOk result (λ v. map field_seen v.items
+        ≡ slots_by_id types.entry.types.now (option_copied scope.entry) fields.now) }
+{
+    let mut slots = Vec::with_capacity(alloc, fields.len())?;
+    for field in fields {
+        let first = slot_by_id(types, alloc, scope, field)?.unwrap_or(0);
+        push_slots(types, alloc, scope, field, first, &mut slots)?;
+    }
+    Ok(slots)
+}
+
+/// The slots of a table, each at the place of its number. The only error is a refused allocation.
+pub(crate) fn table_slots(
+    types: TypesRead<'_>,
+    alloc: Global,
+    scope: Option<&str>,
+    fields: &[Field],
+) -> Result<Vec<FieldInfo>, AllocError>
+    requires { are_ids_wrong types.types.now (option_copied scope) fields.now ≡ false }
+    ensures { IfOk result (λ v. AreInPlace
+        (slots_read types.entry.types.now (option_copied scope.entry) fields.now) (map field_seen v.items)) }
+{
+    if !have_ids(fields) {
+        return slots_in_order(types, alloc, scope, fields);
+    }
+    let mut slots = slots_by_id(types, alloc, scope, fields)?;
+    slots.sort_by_key(|slot| slot.slot)?;
+    Ok(slots)
 }

@@ -108,7 +108,7 @@ pub(crate) fn push_slots(
 /// The slots of a table without ids, in the order of declaration. The only error is a refused
 /// allocation.
 #[tactic(auto, unfolding(crate::specs::SlotsRead::slots_in_order))]
-fn slots_in_order(
+pub(crate) fn slots_in_order(
     types: TypesRead<'_>,
     alloc: Global,
     scope: Option<&str>,
