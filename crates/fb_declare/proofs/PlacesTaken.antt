@@ -7,7 +7,7 @@ use Rattle.std.specs.List.{list_any}
 use Rattle.fb_declare.specs.SlotsRead.{take_new_places}
 use Rattle.fb_declare.proofs.Steps.{drop-more, drop-end, take-more, list_any-snoc}
 
-take_new_places-cons : (count : ℕ) (taken : List ℕ) (n : ℕ) (ns : List ℕ)
+pub take_new_places-cons : (count : ℕ) (taken : List ℕ) (n : ℕ) (ns : List ℕ)
     → take_new_places count taken (n ∷ ns) ≡ (nat_lt n count && not (list_any (λ m. m == n) taken)) && take_new_places count (taken ++ n ∷ []) ns
 unfolding take_new_places
 take_new_places-cons count taken n ns = refl

@@ -39,7 +39,7 @@ fn first_slot(union: Option<TypeId>, id: Option<i128>) -> Option<u64>
 
 /// The first slot of a field by its id. The only error is a refused allocation.
 #[tactic(auto, using(crate::proofs::IdsBelow::number_called_below), unfolding(crate::specs::SlotsRead::slot_by_id))]
-pub(crate) fn slot_by_id(
+fn slot_by_id(
     types: TypesRead<'_>,
     alloc: Global,
     scope: Option<&str>,
