@@ -144,7 +144,8 @@ pub(crate) fn are_ids_wrong(
     }
 }
 
-/// The slots of fields by their ids, in the order of declaration.
+/// The slots of fields by their ids, in the order of declaration; without an id a field takes
+/// those from 0 on.
 fn slots_by_id(
     types: TypesRead<'_>,
     alloc: Global,
@@ -171,7 +172,8 @@ pub(crate) fn table_slots(
 ) -> Result<Vec<FieldInfo>, AllocError>
     requires { are_ids_wrong types.types.now (option_copied scope) fields.now ≡ false }
     ensures { IfOk result (λ v. AreInPlace
-        (slots_read types.entry.types.now (option_copied scope.entry) fields.now) (map field_seen v.items)) }
+        (slots_read types.entry.types.now (option_copied scope.entry) fields.now)
+        (map field_seen v.items)) }
 {
     if !have_ids(fields) {
         return slots_in_order(types, alloc, scope, fields);
