@@ -3,7 +3,7 @@ use Rattle.std.proofs.Common.{◌≡◌, ℕ, zero, suc, ◌+◌, ◌<◌, ◌�
 use Rattle.std.specs.Prelude.{ℤ, pos, negsuc, slice_get, slice_index}
 use Rattle.std.specs.List.{flat_map, list_any}
 use Rattle.std.specs.Option.{ForSome, option_and_then, option_map_or, unwrap_or}
-use Rattle.std.proofs.lemmas.Bool.{le-leb, false≢true}
+use Rattle.std.proofs.lemmas.Bool.{and_parts, le-leb, false≢true}
 use Rattle.std.proofs.lemmas.List.{get_or_append_left, get_or_push, length_push}
 use Rattle.std.proofs.lemmas.Option.{none-some, same_Some}
 use Rattle.fb_syntax.specs.FieldRead.{FieldRead}
@@ -70,20 +70,11 @@ aligns-below types lower (q ∷ rs) (suc t) j within = aligns-below types (lower
 
 -- ---- `force_align`
 
--- a test that passes still does with less asked
-either_weaker : (b c r s : Bool) → b && c || r ≡ true → (r ≡ true → s ≡ true) → b && true || s ≡ true
-either_weaker true c r s h rest = refl
-either_weaker false c r s h rest = rest h
-
--- a least alignment of 0 lets pass what any other does
-any_weaker : (n least : ℕ) (ks : List ℕ) → list_any (λ a. n == a && nat_le least a) ks ≡ true → list_any (λ a. n == a && nat_le 0 a) ks ≡ true
-any_weaker n least [] h = h
-any_weaker n least (k ∷ ks) h = let all : nat_le 0 k ≡ true = le-leb 0 k (omega arith) in
-    rw all (either_weaker (n == k) (nat_le least k) (list_any (λ a. n == a && nat_le least a) ks) (list_any (λ a. n == a && nat_le 0 a) ks) h (any_weaker n least ks))
-
 -- an alignment that may stand is the same from 0 on
 same_alignment : (natural n : ℕ) → is_alignment natural (pos n) ≡ true → (alignment_in natural (pos n) ≡ Some n) × (alignment_in 0 (pos n) ≡ Some n)
-same_alignment natural n h = (ap (λ b. cond b (Some n) None) h, ap (λ b. cond b (Some n) None) (any_weaker n natural alignments h))
+same_alignment natural n h =
+    let split = and_parts (list_any (λ a. a == n) alignments) (nat_le natural n) h in
+    (ap (λ b. cond b (Some n) None) h, ap (λ b. cond b (Some n) None) (ap (λ b. b && nat_le 0 n) split.0 ∙ le-leb 0 n (omega arith)))
 
 -- a right `force_align` is the same from 0 on, and isn't below the natural alignment
 pub record IsForced (natural : ℕ) (own whole : Option ℕ) : Type 0 where

@@ -19,8 +19,16 @@ pub mod NoFaults
 pub mod AttributesKept
 pub mod EnumsKept
 pub mod UnionsKept
+pub mod DefaultsKept
+pub mod Reordered
+pub mod SlotsKept
+pub mod PairsKept
+pub mod TablesKept
 pub mod StructsKept
 pub mod AlignmentsKept
 pub mod IdsBelow
 pub mod PlacesTaken
 pub mod InOrder
+pub mod Kept
+pub mod IntegerFound
+pub mod Zipped

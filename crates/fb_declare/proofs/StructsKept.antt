@@ -4,6 +4,7 @@ use Rattle.std.specs.Prelude.{ℤ, pos, negsuc, slice_get}
 use Rattle.std.specs.List.{flat_map}
 use Rattle.std.specs.Option.{ForSome, option_and_then}
 use Rattle.std.proofs.lemmas.Bool.{and_parts, eqb-true, leb-true, leb-false}
+use Rattle.std.specs.List.{list_any}
 use Rattle.std.proofs.lemmas.List.Folds.{Any-from_list_any}
 use Rattle.std.proofs.lemmas.Option.{none-some, same_Some}
 use Rattle.fb_syntax.specs.FieldRead.{FieldRead}
@@ -53,13 +54,13 @@ power_at (suc (suc (suc (suc (suc (suc (suc (suc (suc k))))))))) d h = absurd (o
 -- an alignment is a power of two that isn't below the least
 pub alignment_right : (least n : ℕ) → is_alignment least (pos n) ≡ true → IsForceAlign n × (least ≤ n)
 alignment_right least n h =
-    let found = Any-from_list_any (λ a. n == a && nat_le least a) alignments h in
+    let split = and_parts (list_any (λ a. a == n) alignments) (nat_le least n) h in
+    let found = Any-from_list_any (λ a. a == n) alignments split.0 in
     let k : ℕ = found.0 in
     let a : ℕ = found.1 in
     let within : k < 9 = found.2 in
-    let tests : ((n == a) ≡ true) × (nat_le least a ≡ true) = and_parts (n == a) (nat_le least a) found.4 in
-    let same : n ≡ a = eqb-true n a tests.0 in
-    ((k, omega arith, same ∙ (sym found.3 ∙ power_at k a within)), omega (arith, leb-true least a tests.1))
+    let same : n ≡ a = sym (eqb-true a n found.4) in
+    ((k, omega arith, same ∙ (sym found.3 ∙ power_at k a within)), leb-true least n split.1)
 
 -- a number that is taken as an alignment is one
 aligned_if : (least n : ℕ) (b : Bool) → is_alignment least (pos n) ≡ b → ForSome (cond b (Some n) None) IsForceAlign

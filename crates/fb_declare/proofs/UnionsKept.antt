@@ -19,7 +19,7 @@ use Rattle.fb_declare.specs.declared.attributes.Place.TheVariants as places
 use Rattle.fb_declare.specs.Outline.{TypeRead, Outline}
 use Rattle.fb_declare.specs.Meaning.{meaning_of}
 use Rattle.fb_declare.specs.Attributes.{metadata_faults}
-use Rattle.fb_declare.specs.MembersRead.{member_name, member_table, table_of}
+use Rattle.fb_declare.specs.MembersRead.{member_name, member_table, table_of, member_read}
 use Rattle.fb_declare.specs.FaultRows.{names_again, none_name, use_faults, bad_member, member_faults}
 use Rattle.fb_declare.specs.TypeFaults.{members_faults, union_faults}
 use Rattle.fb_declare.specs.Declares.{Gives}
@@ -29,8 +29,6 @@ use Rattle.fb_declare.proofs.NoFaults.{both_empty, apart_by, names_apart}
 use Rattle.fb_declare.proofs.KindsNamed.{kind_named}
 
 -- a member's name and table
-abbrev pub member_read : List TypeRead → Option Name → UnionMember → Name × ℕ
-member_read types scope m = ((member_name m).bytes, unwrap_or (member_table types scope m) 0)
 
 -- names that a test tells apart differ
 not_called : (name other : Name) → bytes_eq name other ≡ false → name ≢ other
@@ -50,7 +48,7 @@ pub record IsMember (S : DeclaredSchema) (before : ℕ) (m : Name × ℕ) : Type
 
 -- a member with no fault is right
 member_right : (S : DeclaredSchema) (types : List TypeRead) (scope : Option Name) (before : ℕ) (m : UnionMember)
-    → ((k : Kind) → meaning_of types scope m.table.bytes ≡ Known k → KindNames S k) → member_faults before m (meaning_of types scope m.table.bytes) ≡ []
+    → ((k : Kind) → meaning_of types scope m.table.bytes ≡ Known k → KindNames S k) → member_faults before (member_name m) m.table.at (meaning_of types scope m.table.bytes) ≡ []
     → IsMember S before (member_read types scope m)
 unfolding member_faults
 member_right S types scope before m named h =
@@ -65,7 +63,7 @@ member_right S types scope before m named h =
 
 -- the faults of one member more
 members-cons : (types : List TypeRead) (scope : Option Name) (before : ℕ) (m : UnionMember) (ms : List UnionMember)
-    → members_faults types scope before (m ∷ ms) ≡ member_faults before m (meaning_of types scope m.table.bytes) ++ members_faults types scope (before + 1) ms
+    → members_faults types scope before (m ∷ ms) ≡ member_faults before (member_name m) m.table.at (meaning_of types scope m.table.bytes) ++ members_faults types scope (before + 1) ms
 unfolding members_faults
 members-cons types scope before m ms = refl
 
@@ -76,7 +74,7 @@ module _ (S : DeclaredSchema) (types : List TypeRead) (scope : Option Name) (nam
       → (before + length ms ≤ 255) × All (λ m. (m.0 ≢ codes "NONE") × Names is_table S m.1) (map (member_read types scope) ms)
   members_right before [] few h = (omega arith, All-nil (λ m. (m.0 ≢ codes "NONE") × Names is_table S m.1))
   members_right before (m ∷ ms) few h =
-      let parts = both_empty (member_faults before m (meaning_of types scope m.table.bytes)) (members_faults types scope (before + 1) ms) (sym (members-cons types scope before m ms) ∙ h) in
+      let parts = both_empty (member_faults before (member_name m) m.table.at (meaning_of types scope m.table.bytes)) (members_faults types scope (before + 1) ms) (sym (members-cons types scope before m ms) ∙ h) in
       let is : IsMember S before (member_read types scope m) = member_right S types scope before m (named m.table.bytes) parts.0 in
       let rest = members_right (before + 1) ms (omega (arith, is.few)) parts.1 in
       (omega (arith, rest.0), All-cons (λ m. (m.0 ≢ codes "NONE") × Names is_table S m.1) (member_read types scope m) (map (member_read types scope) ms) (is.not_none, is.table) rest.1)

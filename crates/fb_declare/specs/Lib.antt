@@ -14,3 +14,4 @@ pub mod Declares
 pub mod NamePlaces
 pub mod Faults
 pub mod DeclaredNames
+pub mod Buildable

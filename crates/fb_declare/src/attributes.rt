@@ -86,7 +86,6 @@ fn is_left_out(name: &str) -> bool
 }
 
 /// The value of an integer of the text; what is no integer counts as 0.
-#[tactic(auto, unfolding(crate::specs::Attributes::integer_of))]
 pub(crate) fn integer_of(text: &Text) -> i128
     ensures { result ≡ integer_of text.now }
 {
@@ -197,8 +196,8 @@ pub(crate) fn metadata_fault(
     place: Place,
     attributes: &[AttributeUse],
 ) -> Result<Option<SchemaFault>, AllocError>
-    ensures { IfOk result
-        (λ f. f ≡ least_of (metadata_faults (names_declared declared.entry) place [] attributes.now)) }
+    ensures { IfOk result (λ f. f ≡ least_of
+        (metadata_faults (names_declared declared.entry) place [] attributes.now)) }
 {
     let mut least = None;
     let mut seen = Vec::new(alloc);

@@ -2,7 +2,7 @@
 ghost use Rattle.std.specs.Prelude.{◌≡◌, IfOk};
 ghost use Rattle.std.specs.Option.{option_copied};
 ghost use Rattle.fb_declare.specs.Faults.{least_of};
-ghost use Rattle.fb_declare.specs.FaultRows.{default_at, is_wrong, bad_default};
+ghost use Rattle.fb_declare.specs.FaultRows.{default_at, bad_default};
 ghost use Rattle.fb_declare.specs.Defaults.{number_within, null_or_wrong, boolean_named, scalar_named, enum_number, enum_named, given_to, given_by};
 
 use crate::attributes::integer_of;

@@ -1,12 +1,12 @@
 //! The numbers of an enum's values, and what the name of a value means.
-ghost use Rattle.std.specs.Prelude.{◌≡◌, ◌≤◌, ◌*◌, IfOk, pos, map, string_bytes, ◌||◌, OnOk, []};
+ghost use Rattle.std.specs.Prelude.{◌≡◌, ◌≤◌, IfOk, pos, map, string_bytes, ◌||◌, OnOk, []};
 ghost use Rattle.std.specs.Option.{option_copied};
 ghost use Rattle.std.specs.List.{list_any};
 ghost use Rattle.std.specs.Ordering.{int_eq};
 ghost use Rattle.indexmap.specs.IndexSet.{insert_key};
 ghost use Rattle.fb_declare.specs.Faults.{least_of};
 ghost use Rattle.fb_declare.specs.FaultRows.{when, is_out_of_range, bad_values};
-ghost use Rattle.fb_declare.specs.EnumsRead.{integer_type, underlying, underlying_at, has_flags, bits_of, is_bit_of, value_number, may_be_written, written_number, values_from, values_read, base_or_ubyte};
+ghost use Rattle.fb_declare.specs.EnumsRead.{integer_type, underlying, underlying_at, has_flags, bits_of, is_bit_of, value_number, may_be_written, written_number, values_from, values_read};
 
 use crate::attributes::{Known, has_attribute, integer_of};
 use crate::basic_types::holds;
@@ -20,7 +20,7 @@ use indexmap::IndexSet;
 use std::alloc::{AllocError, Global};
 
 /// An integer type, which a `bool` isn't.
-fn integer_type(meaning: Meaning) -> Option<Base>
+pub(crate) fn integer_type(meaning: Meaning) -> Option<Base>
     ensures { result ≡ integer_type meaning }
 {
     match meaning {
@@ -128,8 +128,8 @@ fn values_from(
     flags: bool,
     values: &[EnumValue],
 ) -> Result<Vec<(String, i128)>, AllocError>
-    ensures { IfOk result
-        (λ r. map (λ v. (string_bytes v.0, v.1)) r.items ≡ values_from base flags (pos 0) values.now) }
+    ensures { IfOk result (λ r. map (λ v. (string_bytes v.0, v.1)) r.items
+        ≡ values_from base flags (pos 0) values.now) }
 {
     let mut read = Vec::new(alloc);
     let mut next = 0;
@@ -173,8 +173,9 @@ fn bad_value(
     number: i128,
     at: u64,
 ) -> Result<Option<SchemaFault>, AllocError>
-    ensures fault { IfOk result (λ f. f ≡ least_of
-        (when (is_out_of_range base flags number || list_any (int_eq number) met.old.keys) (SchemaFault.BadEnumValue at))) }
+    ensures fault { IfOk result (λ f. f ≡ least_of (when
+        (is_out_of_range base flags number || list_any (int_eq number) met.old.keys)
+        (SchemaFault.BadEnumValue at))) }
     ensures met { OnOk result (met.new.keys ≡ insert_key int_eq met.old.keys number) }
 {
     let is_new = met.insert(number)?;

@@ -3,8 +3,12 @@
 
 mod attributes;
 mod basic_types;
+mod bodies;
+mod copies;
 mod declared_names;
+mod declaring;
 mod defaults;
+mod enum_faults;
 mod enums;
 mod faults;
 mod field_types;
@@ -17,6 +21,8 @@ mod outline;
 mod slots;
 mod struct_faults;
 mod structs;
+mod table_faults;
+mod type_faults;
 mod types_read;
 mod union_faults;
 mod value_names;

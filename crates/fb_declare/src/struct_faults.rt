@@ -7,6 +7,7 @@ ghost use Rattle.fb_declare.specs.DeclaredNames.{names_declared};
 ghost use Rattle.fb_declare.specs.TypeFaults.{struct_field_faults, is_empty_list, struct_faults};
 
 use crate::attributes::{Place, metadata_fault};
+use crate::copies::copy_of;
 use crate::declared_names::DeclaredNames;
 use crate::faults::{SchemaFault, earlier, when};
 use crate::field_types::{default_in_struct, struct_field_type, type_name};
@@ -15,16 +16,6 @@ use crate::structs::natural_align;
 use crate::types_read::TypesRead;
 use fb_syntax::{Field, TableDeclaration, Text};
 use std::alloc::{AllocError, Global};
-
-/// A copy of a part of the text.
-fn copy_of(alloc: Global, text: &Text) -> Result<Text, AllocError>
-    ensures { IfOk result (λ t. t ≡ text.now) }
-{
-    Ok(Text {
-        text: String::from_str(alloc, text.text.as_str())?,
-        at: text.at,
-    })
-}
 
 fn field_names(alloc: Global, fields: &[Field]) -> Result<Vec<Text>, AllocError>
     ensures { IfOk result (λ names. names.items ≡ map (λ f. f.name) fields.now) }

@@ -70,7 +70,8 @@ fn behind_inside<'n>(scope: &[u8], declared: &[u8], name: &'n [u8]) -> Option<&'
 
 /// What stands behind the full name of a type and a dot.
 fn behind_full_name<'n>(scope: Option<&str>, declared: &[u8], name: &'n [u8]) -> Option<&'n [u8]>
-    ensures { option_copied result ≡ behind (full_name (option_copied scope.entry) declared.now) name.now }
+    ensures { option_copied result
+        ≡ behind (full_name (option_copied scope.entry) declared.now) name.now }
 {
     match scope {
         Some(scope) => behind_inside(scope.as_bytes(), declared, name),

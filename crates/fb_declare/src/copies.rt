@@ -1,0 +1,15 @@
+//! Copies of parts of the text.
+ghost use Rattle.std.specs.Prelude.{◌≡◌, IfOk};
+
+use fb_syntax::Text;
+use std::alloc::{AllocError, Global};
+
+/// A copy of a part of the text. The only error is a refused allocation.
+pub(crate) fn copy_of(alloc: Global, text: &Text) -> Result<Text, AllocError>
+    ensures { IfOk result (λ t. t ≡ text.now) }
+{
+    Ok(Text {
+        text: String::from_str(alloc, text.text.as_str())?,
+        at: text.at,
+    })
+}

@@ -1,0 +1,135 @@
+//! What is wrong with a table.
+ghost use Rattle.std.specs.Prelude.{◌≡◌, ◌++◌, [], IfOk, OnOk};
+ghost use Rattle.std.specs.List.{flat_map};
+ghost use Rattle.std.specs.Option.{option_copied};
+ghost use Rattle.fb_declare.specs.Faults.{least_of};
+ghost use Rattle.fb_declare.specs.DeclaredNames.{names_declared};
+ghost use Rattle.fb_declare.specs.TypeFaults.{names_of_field, place_of_field, table_field_faults, table_faults};
+
+use crate::attributes::{Place, metadata_fault};
+use crate::copies::copy_of;
+use crate::declared_names::DeclaredNames;
+use crate::defaults::{bad_default, given_by};
+use crate::faults::{SchemaFault, earlier, when};
+use crate::field_types::table_field_type;
+use crate::ids::are_ids_wrong;
+use crate::meanings::Meaning;
+use crate::names_again::names_again;
+use crate::slots::{name_of_code, union_of};
+use crate::types_read::TypesRead;
+use fb_schema::Kind;
+use fb_syntax::{Field, FieldType, TableDeclaration, Text};
+use std::alloc::{AllocError, Global};
+
+/// Adds the names that a field takes: a union's code has one.
+fn push_names(
+    types: TypesRead<'_>,
+    alloc: Global,
+    scope: Option<&str>,
+    field: &Field,
+    names: &mut Vec<Text>,
+) -> Result<(), AllocError>
+    ensures { OnOk result (names.new.items ≡ names.old.items
+        ++ names_of_field types.entry.types.now (option_copied scope.entry) field.now) }
+{
+    let meaning = types.meaning_in(alloc, scope, &field.kind)?;
+    if union_of(&field.kind, meaning).is_some() {
+        names.push(Text {
+            text: name_of_code(alloc, field.name.text.as_str())?,
+            at: field.name.at,
+        })?;
+    }
+    names.push(copy_of(alloc, &field.name)?)?;
+    Ok(())
+}
+
+fn field_names(
+    types: TypesRead<'_>,
+    alloc: Global,
+    scope: Option<&str>,
+    fields: &[Field],
+) -> Result<Vec<Text>, AllocError>
+    ensures { IfOk result (λ names. names.items
+        ≡ flat_map (names_of_field types.entry.types.now (option_copied scope.entry)) fields.now) }
+{
+    let mut names = Vec::with_capacity(alloc, fields.len())?;
+    for field in fields {
+        push_names(types, alloc, scope, field, &mut names)?;
+    }
+    Ok(names)
+}
+
+/// The place of a field's attributes: a scalar or enum can't be required.
+fn place_of_field(kind: &FieldType, meaning: Meaning) -> Place
+    ensures { result ≡ place_of_field kind.now meaning }
+{
+    match (kind, meaning) {
+        (FieldType::One(_), Meaning::Known(Kind::Scalar(_) | Kind::Enum(_))) => Place::ScalarField,
+        _ => Place::TableField,
+    }
+}
+
+#[tactic(auto, using(crate::proofs::Least::least_of_append), unfolding(crate::specs::TypeFaults::table_field_faults))]
+fn field_fault(
+    types: TypesRead<'_>,
+    alloc: Global,
+    declared: DeclaredNames<'_>,
+    scope: Option<&str>,
+    field: &Field,
+) -> Result<Option<SchemaFault>, AllocError>
+    ensures { IfOk result (λ f. f ≡ least_of (table_field_faults types.entry.types.now
+        (names_declared declared.entry) (option_copied scope.entry) field.now)) }
+{
+    let kind = &field.kind;
+    let default = field.default.as_ref();
+    let meaning = types.meaning_in(alloc, scope, kind)?;
+    let given = given_by(types, alloc, kind, meaning, default)?;
+    let fault = earlier(table_field_type(kind, meaning), bad_default(default, given));
+    let place = place_of_field(kind, meaning);
+    let attributes = field.attributes.as_slice();
+    Ok(earlier(
+        fault,
+        metadata_fault(alloc, declared, place, attributes)?,
+    ))
+}
+
+fn fields_fault(
+    types: TypesRead<'_>,
+    alloc: Global,
+    declared: DeclaredNames<'_>,
+    scope: Option<&str>,
+    fields: &[Field],
+) -> Result<Option<SchemaFault>, AllocError>
+    ensures { IfOk result (λ f. f ≡ least_of (flat_map (table_field_faults types.entry.types.now
+        (names_declared declared.entry) (option_copied scope.entry)) fields.now)) }
+{
+    let mut least = None;
+    for field in fields {
+        least = earlier(least, field_fault(types, alloc, declared, scope, field)?);
+    }
+    Ok(least)
+}
+
+/// The least fault of a table. The only error is a refused allocation.
+#[tactic(auto, using(crate::proofs::Least::least_of_append), unfolding(crate::specs::TypeFaults::table_faults))]
+pub(crate) fn table_fault(
+    types: TypesRead<'_>,
+    alloc: Global,
+    declared: DeclaredNames<'_>,
+    scope: Option<&str>,
+    read: &TableDeclaration,
+) -> Result<Option<SchemaFault>, AllocError>
+    ensures { IfOk result (λ f. f ≡ least_of (table_faults types.entry.types.now
+        (names_declared declared.entry) (option_copied scope.entry) read.now)) }
+{
+    let fields = read.fields.as_slice();
+    let marks = metadata_fault(alloc, declared, Place::Table, read.attributes.as_slice())?;
+    let are_wrong = are_ids_wrong(types, alloc, scope, fields)?;
+    let ids = when(are_wrong, SchemaFault::BadIds(read.name.at));
+    let names = field_names(types, alloc, scope, fields)?;
+    let again = names_again(alloc, names.as_slice())?;
+    Ok(earlier(
+        earlier(earlier(marks, ids), again),
+        fields_fault(types, alloc, declared, scope, fields)?,
+    ))
+}

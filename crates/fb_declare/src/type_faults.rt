@@ -1,0 +1,158 @@
+//! What is wrong with what a text declares.
+ghost use Rattle.std.specs.Prelude.{◌≡◌, ◌++◌, [], IfOk};
+ghost use Rattle.std.specs.List.{list_all};
+ghost use Rattle.std.specs.Option.{option_copied};
+ghost use Rattle.fb_syntax.specs.Located.{Located};
+ghost use Rattle.fb_declare.specs.Faults.{least_of};
+ghost use Rattle.fb_declare.specs.DeclaredNames.{names_declared};
+ghost use Rattle.fb_declare.specs.Outline.{word_of};
+ghost use Rattle.fb_declare.specs.FaultRows.{reserved_name, use_faults, bad_root, root_faults, is_printable, is_identifier, identifier_faults};
+ghost use Rattle.fb_declare.specs.TypeFaults.{declaration_faults, type_faults, faults_of_types};
+
+use crate::basic_types::is_reserved;
+use crate::declared_names::DeclaredNames;
+use crate::enum_faults::enum_fault;
+use crate::faults::{SchemaFault, earlier, when};
+use crate::field_types::use_fault;
+use crate::meanings::Meaning;
+use crate::members::is_table;
+use crate::outline::{RootRead, TypeRead};
+use crate::struct_faults::struct_fault;
+use crate::structs::align_of_read;
+use crate::table_faults::table_fault;
+use crate::types_read::TypesRead;
+use crate::union_faults::union_fault;
+use fb_syntax::{Declaration, Text};
+use std::alloc::{AllocError, Global};
+
+/// A type whose name is that of a basic or float type.
+fn reserved_name(name: &str, at: u64) -> Option<SchemaFault>
+    ensures { result ≡ least_of (reserved_name (record { bytes = name.now; at = at })) }
+{
+    when(is_reserved(name), SchemaFault::DuplicateName(at))
+}
+
+fn reserved_word(declaration: &Declaration) -> Option<SchemaFault>
+    ensures { result ≡ least_of (reserved_name (word_of declaration.now)) }
+{
+    match declaration {
+        Declaration::Table(read) | Declaration::Struct(read) => {
+            reserved_name(read.name.text.as_str(), read.name.at)
+        }
+        Declaration::Enum(read) => reserved_name(read.name.text.as_str(), read.name.at),
+        Declaration::Union(read) => reserved_name(read.name.text.as_str(), read.name.at),
+        _ => reserved_name("", 0),
+    }
+}
+
+#[tactic(auto, unfolding(crate::specs::Faults::least_of))]
+fn declaration_fault(
+    types: TypesRead<'_>,
+    alloc: Global,
+    declared: DeclaredNames<'_>,
+    lower: &[u16],
+    scope: Option<&str>,
+    declaration: &Declaration,
+) -> Result<Option<SchemaFault>, AllocError>
+    ensures { IfOk result (λ f. f ≡ least_of (declaration_faults types.entry.types.now
+        (names_declared declared.entry) lower.now (option_copied scope.entry) declaration.now)) }
+{
+    match declaration {
+        Declaration::Table(read) => table_fault(types, alloc, declared, scope, read),
+        Declaration::Struct(read) => struct_fault(types, alloc, declared, scope, lower, read),
+        Declaration::Enum(read) => enum_fault(types, alloc, declared, scope, read),
+        Declaration::Union(read) => union_fault(types, alloc, declared, scope, read),
+        _ => Ok(None),
+    }
+}
+
+#[tactic(auto, using(crate::proofs::Least::least_of_append), unfolding(crate::specs::TypeFaults::type_faults))]
+fn type_fault(
+    types: TypesRead<'_>,
+    alloc: Global,
+    declared: DeclaredNames<'_>,
+    lower: &[u16],
+    read: &TypeRead<'_>,
+) -> Result<Option<SchemaFault>, AllocError>
+    ensures { IfOk result (λ f. f ≡ least_of
+        (type_faults types.entry.types.now (names_declared declared.entry) lower.now read.now)) }
+{
+    let reserved = reserved_word(read.declaration);
+    let fault = declaration_fault(types, alloc, declared, lower, read.scope, read.declaration)?;
+    Ok(earlier(reserved, fault))
+}
+
+/// The least fault of the types. The only error is a refused allocation.
+pub(crate) fn types_fault(
+    types: TypesRead<'_>,
+    alloc: Global,
+    declared: DeclaredNames<'_>,
+) -> Result<Option<SchemaFault>, AllocError>
+    ensures { IfOk result (λ f. f ≡ least_of (faults_of_types types.entry.types.now
+        (names_declared declared.entry) [] types.entry.types.now)) }
+{
+    let mut least = None;
+    let mut lower = Vec::with_capacity(alloc, types.types.len())?;
+    for read in types.types {
+        let fault = type_fault(types, alloc, declared, lower.as_slice(), read)?;
+        least = earlier(least, fault);
+        let align = align_of_read(types, alloc, lower.as_slice(), read)?;
+        lower.push(align)?;
+    }
+    Ok(least)
+}
+
+#[tactic(auto, using(crate::proofs::Least::least_of_append))]
+fn root_use_fault(meaning: Meaning, at: u64) -> Option<SchemaFault>
+    ensures { result ≡ least_of (use_faults meaning at ++ bad_root meaning at) }
+{
+    let is_bad = when(!is_table(meaning), SchemaFault::BadRoot(at));
+    earlier(use_fault(meaning, at), is_bad)
+}
+
+/// The least fault of the root. The only error is a refused allocation.
+#[tactic(auto, unfolding(crate::specs::FaultRows::root_faults, crate::specs::Faults::least_of))]
+pub(crate) fn root_fault(
+    types: TypesRead<'_>,
+    alloc: Global,
+    text_len: u64,
+    root: Option<&RootRead<'_>>,
+) -> Result<Option<SchemaFault>, AllocError>
+    ensures { IfOk result
+        (λ f. f ≡ least_of (root_faults types.entry.types.now text_len (option_copied root.entry))) }
+{
+    let Some(root) = root else {
+        return Ok(Some(SchemaFault::BadRoot(text_len)));
+    };
+    let name = root.name;
+    let meaning = types.meaning(alloc, root.scope, name.text.as_str())?;
+    Ok(root_use_fault(meaning, name.at))
+}
+
+fn is_printable(byte: u8) -> bool
+    ensures { result ≡ is_printable byte }
+{
+    32 <= byte && byte <= 126
+}
+
+fn are_printable(text: &[u8]) -> bool
+    ensures { result ≡ list_all is_printable text.now }
+{
+    text.iter().all(|byte| is_printable(*byte))
+}
+
+fn is_identifier(text: &[u8]) -> bool
+    ensures { result ≡ is_identifier text.now }
+{
+    text.len() == 4 && are_printable(text)
+}
+
+/// A file identifier that isn't four printable bytes.
+#[tactic(auto, unfolding(crate::specs::FaultRows::identifier_faults, crate::specs::Faults::least_of))]
+pub(crate) fn identifier_fault(identifier: Option<&Text>) -> Option<SchemaFault>
+    ensures { result ≡ least_of (identifier_faults (option_copied identifier.entry)) }
+{
+    let text = identifier?;
+    let is_right = is_identifier(text.text.as_bytes());
+    when(!is_right, SchemaFault::BadIdentifier(text.at))
+}
