@@ -33,3 +33,4 @@ pub mod Kept
 pub mod IntegerFound
 pub mod Zipped
 pub mod Building
+pub mod OneSchema

@@ -14,6 +14,7 @@ mod faults;
 mod field_types;
 mod found;
 mod ids;
+mod laws;
 mod meanings;
 mod members;
 mod name_places;
@@ -30,3 +31,4 @@ mod value_names;
 
 pub use declaring::declare;
 pub use faults::SchemaFault;
+pub use laws::one_schema;
