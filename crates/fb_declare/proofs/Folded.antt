@@ -9,7 +9,8 @@ use Rattle.fb_declare.specs.Outline.{TypeRead}
 use Rattle.fb_declare.specs.Meaning.{meaning_of}
 use Rattle.fb_declare.specs.MembersRead.{member_name}
 use Rattle.fb_declare.specs.FaultRows.{member_faults}
-use Rattle.fb_declare.specs.TypeFaults.{members_faults}
+use Rattle.fb_declare.specs.TypeFaults.{members_faults, type_faults, faults_of_types}
+use Rattle.fb_declare.specs.StructsRead.{align_of_read}
 use Rattle.fb_declare.proofs.Steps.{drop-more, drop-end, met-more, met-all}
 
 -- the next element
@@ -46,3 +47,26 @@ pub met-members : (types : List TypeRead) (scope : Option Name) (met : Option Sc
     → earlier met (least_of (members_faults types scope i (drop i ms))) ≡ met
 met-members types scope met ms i h = ap (λ r. earlier met (least_of (members_faults types scope i r))) (drop-end ms i h)
     ∙ ap (λ fs. earlier met (least_of fs)) (members_faults-nil types scope i) ∙ met-all met
+
+faults_of_types-nil : (types : List TypeRead) (declared : List Name) (lower : List ℕ) → faults_of_types types declared lower [] ≡ []
+unfolding faults_of_types
+faults_of_types-nil types declared lower = refl
+
+faults_of_types-cons : (types : List TypeRead) (declared : List Name) (lower : List ℕ) (r : TypeRead) (rs : List TypeRead)
+    → faults_of_types types declared lower (r ∷ rs) ≡ type_faults types declared lower r ++ faults_of_types types declared (lower ++ align_of_read types lower r ∷ []) rs
+unfolding faults_of_types
+faults_of_types-cons types declared lower r rs = refl
+
+-- the next type
+pub met-type : (types : List TypeRead) (declared : List Name) (lower : List ℕ) (met : Option SchemaFault) (rs : List TypeRead) (i : ℕ) (r : TypeRead) → i < length rs → r ≡ get_or rs i r
+    → earlier (earlier met (least_of (type_faults types declared lower r))) (least_of (faults_of_types types declared (lower ++ align_of_read types lower r ∷ []) (drop (i + 1) rs)))
+    ≡ earlier met (least_of (faults_of_types types declared lower (drop i rs)))
+met-type types declared lower met rs i r h e = met-more met (type_faults types declared lower r) (faults_of_types types declared (lower ++ align_of_read types lower r ∷ []) (drop (i + 1) rs))
+    ∙ ap (λ fs. earlier met (least_of fs)) (sym (faults_of_types-cons types declared lower r (drop (i + 1) rs)))
+    ∙ ap (λ q. earlier met (least_of (faults_of_types types declared lower (q ∷ drop (i + 1) rs)))) e
+    ∙ ap (λ q. earlier met (least_of (faults_of_types types declared lower q))) (sym (drop-more rs i r h))
+
+pub met-types : (types : List TypeRead) (declared : List Name) (lower : List ℕ) (met : Option SchemaFault) (rs : List TypeRead) (i : ℕ) → length rs ≤ i
+    → earlier met (least_of (faults_of_types types declared lower (drop i rs))) ≡ met
+met-types types declared lower met rs i h = ap (λ q. earlier met (least_of (faults_of_types types declared lower q))) (drop-end rs i h)
+    ∙ ap (λ fs. earlier met (least_of fs)) (faults_of_types-nil types declared lower) ∙ met-all met

@@ -14,7 +14,7 @@ use Rattle.fb_schema.specs.declared.kinds.Kind.TheVariants.{Scalar, Enum, Struct
 use Rattle.fb_declare.specs.Outline.{TypeRead, RootRead, Outline}
 use Rattle.fb_declare.specs.Meaning.{meaning_of}
 use Rattle.fb_declare.specs.MembersRead.{table_of}
-use Rattle.fb_declare.specs.FaultRows.{names_again, root_faults, is_identifier, identifier_faults}
+use Rattle.fb_declare.specs.FaultRows.{names_again, root_faults, is_identifier, identifier_faults, is_printable}
 use Rattle.fb_declare.specs.TypeFaults.{declaration_faults, located_name, faults_of_types, faults_of_outline}
 use Rattle.fb_declare.specs.Declares.{HasBody, IsType, root_table, Gives}
 use Rattle.fb_declare.specs.declared.faults.SchemaFault.TheVariants.{BadIdentifier}
@@ -65,7 +65,7 @@ unfolding identifier_faults
 identifier_kept None h id e = absurd (none-some id e)
 identifier_kept (Some t) h id e =
     let right = not-false (is_identifier t.bytes) (when-none (not (is_identifier t.bytes)) (BadIdentifier t.at) h) in
-    let four = eqb-true (length t.bytes) 4 (and_parts (length t.bytes == 4) (list_all (λ c. nat_le 32 c && nat_le c 126) t.bytes) right).0 in
+    let four = eqb-true (length t.bytes) 4 (and_parts (length t.bytes == 4) (list_all is_printable t.bytes) right).0 in
     let same : t.bytes ≡ id = cc in
     ap length (sym same) ∙ four
 

@@ -26,5 +26,10 @@ pub mod PairsKept
 pub mod TablesKept
 pub mod StructsKept
 pub mod AlignmentsKept
+pub mod IdsBelow
+pub mod PlacesTaken
+pub mod InOrder
 pub mod Kept
 pub mod IntegerFound
+pub mod Zipped
+pub mod Building

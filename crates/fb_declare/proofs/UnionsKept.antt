@@ -19,7 +19,7 @@ use Rattle.fb_declare.specs.declared.attributes.Place.TheVariants as places
 use Rattle.fb_declare.specs.Outline.{TypeRead, Outline}
 use Rattle.fb_declare.specs.Meaning.{meaning_of}
 use Rattle.fb_declare.specs.Attributes.{metadata_faults}
-use Rattle.fb_declare.specs.MembersRead.{member_name, member_table, table_of}
+use Rattle.fb_declare.specs.MembersRead.{member_name, member_table, table_of, member_read}
 use Rattle.fb_declare.specs.FaultRows.{names_again, none_name, use_faults, bad_member, member_faults}
 use Rattle.fb_declare.specs.TypeFaults.{members_faults, union_faults}
 use Rattle.fb_declare.specs.Declares.{Gives}
@@ -29,8 +29,6 @@ use Rattle.fb_declare.proofs.NoFaults.{both_empty, apart_by, names_apart}
 use Rattle.fb_declare.proofs.KindsNamed.{kind_named}
 
 -- a member's name and table
-abbrev pub member_read : List TypeRead → Option Name → UnionMember → Name × ℕ
-member_read types scope m = ((member_name m).bytes, unwrap_or (member_table types scope m) 0)
 
 -- names that a test tells apart differ
 not_called : (name other : Name) → bytes_eq name other ≡ false → name ≢ other

@@ -12,7 +12,7 @@ use Rattle.fb_declare.specs.Meaning.{meaning_of}
 use Rattle.fb_declare.specs.EnumsRead.{underlying, base_or_ubyte, has_flags, values_read}
 use Rattle.fb_declare.specs.SlotsRead.{slots_read, AreInPlace}
 use Rattle.fb_declare.specs.StructsRead.{parts_from, forced_align}
-use Rattle.fb_declare.specs.MembersRead.{member_name, member_table, table_of}
+use Rattle.fb_declare.specs.MembersRead.{member_read, table_of}
 use Rattle.fb_declare.specs.TypeFaults.{faults_of}
 use Rattle.fb_declare.specs.declared.faults.SchemaFault.{SchemaFault}
 
@@ -21,7 +21,7 @@ abbrev pub HasBody : List TypeRead → Option Name → Declaration → DeclaredB
 HasBody types scope (declarations.Table t) (table_body slots) = AreInPlace (slots_read types scope t.fields) slots
 HasBody types scope (declarations.Struct s) (struct_body parts force) = (parts ≡ parts_from types scope 0 s.fields) × (force ≡ forced_align 0 s.attributes)
 HasBody types scope (declarations.Enum e) (enum_body base flags values) = (base ≡ base_or_ubyte (underlying types scope e)) × (flags ≡ has_flags e) × (values ≡ values_read types scope e)
-HasBody types scope (declarations.Union u) (union_body members) = members ≡ map (λ m. ((member_name m).bytes, unwrap_or (member_table types scope m) 0)) u.members
+HasBody types scope (declarations.Union u) (union_body members) = members ≡ map (member_read types scope) u.members
 HasBody types scope _ _ = ⊥
 
 pub record IsType (types : List TypeRead) (r : TypeRead) (t : DeclaredType) : Type 0 where

@@ -126,9 +126,12 @@ root_faults types text_len None = BadRoot text_len ∷ []
 root_faults types text_len (Some r) = let m = meaning_of types r.scope r.name.bytes in
     use_faults m r.name.at ++ bad_root m r.name.at
 
+abbrev pub is_printable : ℕ → Bool
+is_printable c = nat_le 32 c && nat_le c 126
+
 -- four printable bytes
 abbrev pub is_identifier : Name → Bool
-is_identifier name = length name == 4 && list_all (λ c. nat_le 32 c && nat_le c 126) name
+is_identifier name = length name == 4 && list_all is_printable name
 
 unfoldable pub identifier_faults : Option Located → List SchemaFault
 identifier_faults None = []

@@ -14,3 +14,5 @@ pub mod Declares
 pub mod NamePlaces
 pub mod Faults
 pub mod DeclaredNames
+pub mod Buildable
+pub mod Found

@@ -1,7 +1,7 @@
 -- The members of a union as it is declared.
 -- From the FlatBuffers documentation, "Writing a schema": Unions.
 use Rattle.std.specs.Prelude.{ℕ, ◌==◌, List, map, Option, None, Some, if◌then◌else◌}
-use Rattle.std.specs.Option.{option_map_or}
+use Rattle.std.specs.Option.{unwrap_or}
 use Rattle.fb_syntax.specs.Located.{Located}
 use Rattle.fb_syntax.specs.Signs.{dot}
 use Rattle.fb_syntax.specs.declared.declarations.UnionMember.{UnionMember}
@@ -34,3 +34,7 @@ table_of _ = None
 
 abbrev pub member_table : List TypeRead → Option Name → UnionMember → Option ℕ
 member_table types scope m = table_of (meaning_of types scope m.table.bytes)
+
+-- a member's name and its table; a member at fault stands as type 0
+abbrev pub member_read : List TypeRead → Option Name → UnionMember → Name × ℕ
+member_read types scope m = ((member_name m).bytes, unwrap_or (member_table types scope m) 0)

@@ -1,6 +1,6 @@
 -- The slots that a table's fields take.
 -- From the FlatBuffers documentation, "Writing a schema": Tables, Unions, Attributes (`id`, `required`, `deprecated`).
-use Rattle.std.specs.Prelude.{ℕ, suc, ◌+◌, ◌==◌, ◌≡◌, ◌<◌, ◌++◌, ◌&&◌, not, Bool, true, false, List, [], ◌∷◌, length, map, Option, None, Some, ℤ, pos, negsuc, codes, slice_get, if◌then◌else◌, nat_lt}
+use Rattle.std.specs.Prelude.{ℕ, suc, ◌+◌, ◌==◌, ◌≡◌, ◌++◌, ◌&&◌, not, Bool, true, false, List, [], ◌∷◌, length, map, Option, None, Some, ℤ, pos, codes, slice_get, if◌then◌else◌, nat_lt}
 use Rattle.std.specs.List.{list_any, list_all, flat_map}
 use Rattle.std.specs.List.Sorted.{IsPermutation}
 use Rattle.std.specs.Option.{is_some, unwrap_or}
@@ -118,18 +118,24 @@ pub record AreInPlace (read placed : List DeclaredField) : Type 0 where
   pub same : IsPermutation read placed
   pub slots : (k : ℕ) (f : DeclaredField) → slice_get placed k ≡ Some f → f.slot ≡ k
 
-abbrev pub all_differ : List ℕ → Bool
-all_differ [] = true
-all_differ (n ∷ ns) = not (list_any (λ m. m == n) ns) && all_differ ns
+-- each number is below the count and differs from those before it, of which these are the first
+unfoldable pub take_new_places : ℕ → List ℕ → List ℕ → Bool
+take_new_places count taken [] = true
+take_new_places count taken (n ∷ ns) = (nat_lt n count && not (list_any (λ m. m == n) taken)) && take_new_places count (taken ++ n ∷ []) ns
 
 -- the numbers are 0, 1, .. without gap or repeat, in any order
 abbrev pub are_places : List ℕ → Bool
-are_places ns = list_all (λ n. nat_lt n (length ns)) ns && all_differ ns
+are_places ns = take_new_places (length ns) [] ns
+
+abbrev pub have_all_ids : List TypeRead → Option Name → List FieldRead → Bool
+have_all_ids types scope fs = list_all (λ f. is_some (slot_by_id types scope f)) fs
+
+abbrev pub numbers_by_id : List TypeRead → Option Name → List FieldRead → List ℕ
+numbers_by_id types scope fs = map (λ s. s.slot) (slots_by_id types scope fs)
 
 -- All fields have ids, and these name each slot once.
 abbrev pub are_ids_right : List TypeRead → Option Name → List FieldRead → Bool
-are_ids_right types scope fs = list_all (λ f. is_some (slot_by_id types scope f)) fs
-    && are_places (map (λ s. s.slot) (slots_by_id types scope fs))
+are_ids_right types scope fs = have_all_ids types scope fs && are_places (numbers_by_id types scope fs)
 
 -- the slots' numbers aren't as they have to be
 unfoldable pub are_ids_wrong : List TypeRead → Option Name → List FieldRead → Bool

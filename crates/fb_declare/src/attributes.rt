@@ -162,7 +162,7 @@ fn note(seen: &mut Vec<Known>, attribute: &AttributeUse) -> Result<(), AllocErro
 /// What is wrong with an attribute behind others, of which these are known.
 #[tactic(auto, unfolding(crate::specs::Attributes::attribute_faults, crate::specs::Faults::least_of))]
 fn attribute_fault(
-    declared: DeclaredNames<'_>,
+    declared: DeclaredNames<'_, '_>,
     place: Place,
     seen: &[Known],
     attribute: &AttributeUse,
@@ -192,7 +192,7 @@ fn attribute_fault(
 /// The least fault of the attributes at a place. The only error is a refused allocation.
 pub(crate) fn metadata_fault(
     alloc: Global,
-    declared: DeclaredNames<'_>,
+    declared: DeclaredNames<'_, '_>,
     place: Place,
     attributes: &[AttributeUse],
 ) -> Result<Option<SchemaFault>, AllocError>

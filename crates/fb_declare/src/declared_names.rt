@@ -6,13 +6,13 @@ use crate::name_places::NamePlaces;
 
 /// The names of attributes that a text declares, each found in one step.
 #[derive(Clone, Copy)]
-pub(crate) struct DeclaredNames<'n> {
-    pub names: &'n [&'n str],
-    pub places: &'n NamePlaces<'n>,
+pub(crate) struct DeclaredNames<'t, 'd> {
+    pub names: &'t [&'d str],
+    pub places: &'t NamePlaces<'d>,
     ghost named: { Indexes places.now (map (λ n. n.now) names.now) },
 }
 
-impl DeclaredNames<'_> {
+impl DeclaredNames<'_, '_> {
     ghost use Rattle.std.specs.List.{list_any};
     ghost use Rattle.std.specs.Str.{bytes_eq};
     ghost use Rattle.fb_declare.specs.DeclaredNames.{names_declared};

@@ -85,7 +85,7 @@ fn enum_named(number: Option<i128>, name: &str) -> Given
 /// What a default gives to one value of a type. The only error is a refused allocation.
 #[tactic(auto, unfolding(crate::specs::Defaults::given_to))]
 pub(crate) fn given_to(
-    types: TypesRead<'_>,
+    types: TypesRead<'_, '_, '_>,
     alloc: Global,
     meaning: Meaning,
     default: &DefaultValue,
@@ -115,7 +115,7 @@ pub(crate) fn given_to(
 
 /// What a table's field of a type is given. The only error is a refused allocation.
 pub(crate) fn given_by(
-    types: TypesRead<'_>,
+    types: TypesRead<'_, '_, '_>,
     alloc: Global,
     kind: &FieldType,
     meaning: Meaning,

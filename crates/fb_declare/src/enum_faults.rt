@@ -62,9 +62,9 @@ fn value_names(alloc: Global, values: &[EnumValue]) -> Result<Vec<Text>, AllocEr
 /// The least fault of an enum. The only error is a refused allocation.
 #[tactic(auto, using(crate::proofs::Least::least_of_append), unfolding(crate::specs::TypeFaults::enum_faults))]
 pub(crate) fn enum_fault(
-    types: TypesRead<'_>,
+    types: TypesRead<'_, '_, '_>,
     alloc: Global,
-    declared: DeclaredNames<'_>,
+    declared: DeclaredNames<'_, '_>,
     scope: Option<&str>,
     read: &EnumDeclaration,
 ) -> Result<Option<SchemaFault>, AllocError>

@@ -32,7 +32,7 @@ pub(crate) fn integer_type(meaning: Meaning) -> Option<Base>
 
 /// The underlying type of an enum, if it is an integer type. The only error is a refused allocation.
 pub(crate) fn underlying(
-    types: TypesRead<'_>,
+    types: TypesRead<'_, '_, '_>,
     alloc: Global,
     scope: Option<&str>,
     read: &EnumDeclaration,
@@ -46,7 +46,7 @@ pub(crate) fn underlying(
 
 /// The underlying type of the enum of a number. The only error is a refused allocation.
 pub(crate) fn underlying_at(
-    types: TypesRead<'_>,
+    types: TypesRead<'_, '_, '_>,
     alloc: Global,
     number: usize,
 ) -> Result<Option<Base>, AllocError>
@@ -144,7 +144,7 @@ fn values_from(
 
 /// The values of an enum with their numbers. The only error is a refused allocation.
 pub(crate) fn values_read(
-    types: TypesRead<'_>,
+    types: TypesRead<'_, '_, '_>,
     alloc: Global,
     scope: Option<&str>,
     read: &EnumDeclaration,

@@ -3,13 +3,16 @@
 
 mod attributes;
 mod basic_types;
+mod bodies;
 mod copies;
 mod declared_names;
+mod declaring;
 mod defaults;
 mod enum_faults;
 mod enums;
 mod faults;
 mod field_types;
+mod found;
 mod ids;
 mod meanings;
 mod members;
@@ -25,4 +28,5 @@ mod types_read;
 mod union_faults;
 mod value_names;
 
+pub use declaring::declare;
 pub use faults::SchemaFault;

@@ -1,6 +1,7 @@
 //! What a schema text declares, each type with the namespace that it stands in.
-ghost use Rattle.std.specs.Prelude.{◌≡◌, IfOk, None};
-ghost use Rattle.fb_declare.specs.Outline.{outline_of, scope_named};
+ghost use Rattle.std.specs.Prelude.{◌≡◌, IfOk, None, string_bytes};
+ghost use Rattle.fb_declare.specs.Outline.{outline_of, scope_named, word_of, name_of_type};
+ghost use Rattle.fb_declare.specs.TypeFaults.{located_name};
 
 use fb_syntax::{Declaration, Decls, Text};
 use std::alloc::{AllocError, Global};
@@ -89,4 +90,50 @@ impl<'d> Outline<'d> {
         }
         Ok(outline)
     }
+}
+
+/// The name of a type with its namespace. The only error is a refused allocation.
+pub(crate) fn name_of_type(alloc: Global, read: &TypeRead<'_>) -> Result<String, AllocError>
+    ensures { IfOk result (λ s. string_bytes s ≡ name_of_type read.now) }
+{
+    let word = word_of(read.declaration);
+    let Some(scope) = read.scope else {
+        return String::from_str(alloc, word);
+    };
+    let mut name = String::from_str(alloc, scope)?;
+    name.push_str(".")?;
+    name.push_str(word)?;
+    Ok(name)
+}
+
+fn word_of(declaration: &Declaration) -> &str
+    ensures { result.now ≡ (word_of declaration.now).bytes }
+{
+    match declaration {
+        Declaration::Table(read) | Declaration::Struct(read) => read.name.text.as_str(),
+        Declaration::Enum(read) => read.name.text.as_str(),
+        Declaration::Union(read) => read.name.text.as_str(),
+        _ => "",
+    }
+}
+
+fn word_at(declaration: &Declaration) -> u64
+    ensures { result ≡ (word_of declaration.now).at }
+{
+    match declaration {
+        Declaration::Table(read) | Declaration::Struct(read) => read.name.at,
+        Declaration::Enum(read) => read.name.at,
+        Declaration::Union(read) => read.name.at,
+        _ => 0,
+    }
+}
+
+/// The full name of a type, and where its own name stands. The only error is a refused allocation.
+pub(crate) fn located_name(alloc: Global, read: &TypeRead<'_>) -> Result<Text, AllocError>
+    ensures { IfOk result (λ t. t ≡ located_name read.now) }
+{
+    Ok(Text {
+        text: name_of_type(alloc, read)?,
+        at: word_at(read.declaration),
+    })
 }

@@ -25,7 +25,7 @@ pub(crate) fn union_of(kind: &FieldType, meaning: Meaning) -> Option<TypeId>
 }
 
 fn value_slot(
-    types: TypesRead<'_>,
+    types: TypesRead<'_, '_, '_>,
     alloc: Global,
     field: &Field,
     meaning: Meaning,
@@ -81,15 +81,16 @@ fn code_slot(
 
 /// Adds the slots of a field from this one on: a union's code comes before its value.
 #[tactic(auto, unfolding(crate::specs::SlotsRead::slots_of_field))]
-fn push_slots(
-    types: TypesRead<'_>,
+pub(crate) fn push_slots(
+    types: TypesRead<'_, '_, '_>,
     alloc: Global,
     scope: Option<&str>,
     field: &Field,
     slot: u64,
     slots: &mut Vec<FieldInfo>,
 ) -> Result<(), AllocError>
-    requires { slot < 2 ^ 64 - 1 }
+    requires { IsSome (union_in types.types.now (option_copied scope) field.now)
+        → slot < 2 ^ 64 - 1 }
     ensures { OnOk result (map field_seen slots.new.items ≡ map field_seen slots.old.items
         ++ slots_of_field types.entry.types.now (option_copied scope.entry) field.now slot) }
 {
@@ -107,8 +108,8 @@ fn push_slots(
 /// The slots of a table without ids, in the order of declaration. The only error is a refused
 /// allocation.
 #[tactic(auto, unfolding(crate::specs::SlotsRead::slots_in_order))]
-fn slots_in_order(
-    types: TypesRead<'_>,
+pub(crate) fn slots_in_order(
+    types: TypesRead<'_, '_, '_>,
     alloc: Global,
     scope: Option<&str>,
     fields: &[Field],

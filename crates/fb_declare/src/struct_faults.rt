@@ -29,9 +29,9 @@ fn field_names(alloc: Global, fields: &[Field]) -> Result<Vec<Text>, AllocError>
 
 #[tactic(auto, using(crate::proofs::Least::least_of_append), unfolding(crate::specs::TypeFaults::struct_field_faults))]
 fn field_fault(
-    types: TypesRead<'_>,
+    types: TypesRead<'_, '_, '_>,
     alloc: Global,
-    declared: DeclaredNames<'_>,
+    declared: DeclaredNames<'_, '_>,
     scope: Option<&str>,
     number: usize,
     field: &Field,
@@ -50,9 +50,9 @@ fn field_fault(
 }
 
 fn fields_fault(
-    types: TypesRead<'_>,
+    types: TypesRead<'_, '_, '_>,
     alloc: Global,
-    declared: DeclaredNames<'_>,
+    declared: DeclaredNames<'_, '_>,
     scope: Option<&str>,
     number: usize,
     fields: &[Field],
@@ -80,9 +80,9 @@ fn is_empty(fields: &[Field]) -> bool
 /// error is a refused allocation.
 #[tactic(auto, using(crate::proofs::Least::least_of_append), unfolding(crate::specs::TypeFaults::struct_faults))]
 pub(crate) fn struct_fault(
-    types: TypesRead<'_>,
+    types: TypesRead<'_, '_, '_>,
     alloc: Global,
-    declared: DeclaredNames<'_>,
+    declared: DeclaredNames<'_, '_>,
     scope: Option<&str>,
     lower: &[u16],
     read: &TableDeclaration,

@@ -50,7 +50,7 @@ pub(crate) fn shape_of(kind: &FieldType, meaning: Meaning) -> Shape
 
 /// The alignment that a field of a struct needs; 0 for a type at fault.
 fn align_by(
-    types: TypesRead<'_>,
+    types: TypesRead<'_, '_, '_>,
     alloc: Global,
     lower: &[u16],
     kind: &FieldType,
@@ -72,7 +72,7 @@ fn align_by(
 
 #[tactic(auto, unfolding(crate::specs::StructsRead::align_in))]
 fn align_in(
-    types: TypesRead<'_>,
+    types: TypesRead<'_, '_, '_>,
     alloc: Global,
     scope: Option<&str>,
     lower: &[u16],
@@ -90,7 +90,7 @@ fn align_in(
 /// types before it. The only error is a refused allocation.
 #[tactic(auto, unfolding(crate::specs::StructsRead::natural_align))]
 pub(crate) fn natural_align(
-    types: TypesRead<'_>,
+    types: TypesRead<'_, '_, '_>,
     alloc: Global,
     scope: Option<&str>,
     lower: &[u16],
@@ -125,7 +125,7 @@ pub(crate) fn forced_align(least: u16, attributes: &[AttributeUse]) -> Option<u1
 }
 
 fn align_of_struct(
-    types: TypesRead<'_>,
+    types: TypesRead<'_, '_, '_>,
     alloc: Global,
     scope: Option<&str>,
     lower: &[u16],
@@ -141,7 +141,7 @@ fn align_of_struct(
 /// The alignment of a type, 0 of what is no struct. The only error is a refused allocation.
 #[tactic(auto, unfolding(crate::specs::StructsRead::align_of_read))]
 pub(crate) fn align_of_read(
-    types: TypesRead<'_>,
+    types: TypesRead<'_, '_, '_>,
     alloc: Global,
     lower: &[u16],
     read: &TypeRead<'_>,
@@ -157,7 +157,7 @@ pub(crate) fn align_of_read(
 }
 
 fn part_read(
-    types: TypesRead<'_>,
+    types: TypesRead<'_, '_, '_>,
     alloc: Global,
     scope: Option<&str>,
     field: &Field,
@@ -181,7 +181,7 @@ fn part_read(
 /// The fields of a struct with their numbers. The only error is a refused allocation.
 #[tactic(auto, unfolding(crate::specs::StructsRead::parts_from))]
 pub(crate) fn parts_read(
-    types: TypesRead<'_>,
+    types: TypesRead<'_, '_, '_>,
     alloc: Global,
     scope: Option<&str>,
     fields: &[Field],

@@ -23,7 +23,7 @@ use std::alloc::{AllocError, Global};
 
 /// Adds the names that a field takes: a union's code has one.
 fn push_names(
-    types: TypesRead<'_>,
+    types: TypesRead<'_, '_, '_>,
     alloc: Global,
     scope: Option<&str>,
     field: &Field,
@@ -44,7 +44,7 @@ fn push_names(
 }
 
 fn field_names(
-    types: TypesRead<'_>,
+    types: TypesRead<'_, '_, '_>,
     alloc: Global,
     scope: Option<&str>,
     fields: &[Field],
@@ -71,9 +71,9 @@ fn place_of_field(kind: &FieldType, meaning: Meaning) -> Place
 
 #[tactic(auto, using(crate::proofs::Least::least_of_append), unfolding(crate::specs::TypeFaults::table_field_faults))]
 fn field_fault(
-    types: TypesRead<'_>,
+    types: TypesRead<'_, '_, '_>,
     alloc: Global,
-    declared: DeclaredNames<'_>,
+    declared: DeclaredNames<'_, '_>,
     scope: Option<&str>,
     field: &Field,
 ) -> Result<Option<SchemaFault>, AllocError>
@@ -94,9 +94,9 @@ fn field_fault(
 }
 
 fn fields_fault(
-    types: TypesRead<'_>,
+    types: TypesRead<'_, '_, '_>,
     alloc: Global,
-    declared: DeclaredNames<'_>,
+    declared: DeclaredNames<'_, '_>,
     scope: Option<&str>,
     fields: &[Field],
 ) -> Result<Option<SchemaFault>, AllocError>
@@ -113,9 +113,9 @@ fn fields_fault(
 /// The least fault of a table. The only error is a refused allocation.
 #[tactic(auto, using(crate::proofs::Least::least_of_append), unfolding(crate::specs::TypeFaults::table_faults))]
 pub(crate) fn table_fault(
-    types: TypesRead<'_>,
+    types: TypesRead<'_, '_, '_>,
     alloc: Global,
-    declared: DeclaredNames<'_>,
+    declared: DeclaredNames<'_, '_>,
     scope: Option<&str>,
     read: &TableDeclaration,
 ) -> Result<Option<SchemaFault>, AllocError>

@@ -1,11 +1,12 @@
 //! What is wrong with what a text declares.
 ghost use Rattle.std.specs.Prelude.{◌≡◌, ◌++◌, [], IfOk};
+ghost use Rattle.std.specs.List.{list_all};
 ghost use Rattle.std.specs.Option.{option_copied};
 ghost use Rattle.fb_syntax.specs.Located.{Located};
 ghost use Rattle.fb_declare.specs.Faults.{least_of};
 ghost use Rattle.fb_declare.specs.DeclaredNames.{names_declared};
 ghost use Rattle.fb_declare.specs.Outline.{word_of};
-ghost use Rattle.fb_declare.specs.FaultRows.{reserved_name, use_faults, bad_root, root_faults, is_identifier, identifier_faults};
+ghost use Rattle.fb_declare.specs.FaultRows.{reserved_name, use_faults, bad_root, root_faults, is_printable, is_identifier, identifier_faults};
 ghost use Rattle.fb_declare.specs.TypeFaults.{declaration_faults, type_faults, faults_of_types};
 
 use crate::basic_types::is_reserved;
@@ -46,9 +47,9 @@ fn reserved_word(declaration: &Declaration) -> Option<SchemaFault>
 
 #[tactic(auto, unfolding(crate::specs::Faults::least_of))]
 fn declaration_fault(
-    types: TypesRead<'_>,
+    types: TypesRead<'_, '_, '_>,
     alloc: Global,
-    declared: DeclaredNames<'_>,
+    declared: DeclaredNames<'_, '_>,
     lower: &[u16],
     scope: Option<&str>,
     declaration: &Declaration,
@@ -67,9 +68,9 @@ fn declaration_fault(
 
 #[tactic(auto, using(crate::proofs::Least::least_of_append), unfolding(crate::specs::TypeFaults::type_faults))]
 fn type_fault(
-    types: TypesRead<'_>,
+    types: TypesRead<'_, '_, '_>,
     alloc: Global,
-    declared: DeclaredNames<'_>,
+    declared: DeclaredNames<'_, '_>,
     lower: &[u16],
     read: &TypeRead<'_>,
 ) -> Result<Option<SchemaFault>, AllocError>
@@ -83,9 +84,9 @@ fn type_fault(
 
 /// The least fault of the types. The only error is a refused allocation.
 pub(crate) fn types_fault(
-    types: TypesRead<'_>,
+    types: TypesRead<'_, '_, '_>,
     alloc: Global,
-    declared: DeclaredNames<'_>,
+    declared: DeclaredNames<'_, '_>,
 ) -> Result<Option<SchemaFault>, AllocError>
     ensures { IfOk result (λ f. f ≡ least_of (faults_of_types types.entry.types.now
         (names_declared declared.entry) [] types.entry.types.now)) }
@@ -95,7 +96,8 @@ pub(crate) fn types_fault(
     for read in types.types {
         let fault = type_fault(types, alloc, declared, lower.as_slice(), read)?;
         least = earlier(least, fault);
-        lower.push(align_of_read(types, alloc, lower.as_slice(), read)?)?;
+        let align = align_of_read(types, alloc, lower.as_slice(), read)?;
+        lower.push(align)?;
     }
     Ok(least)
 }
@@ -111,7 +113,7 @@ fn root_use_fault(meaning: Meaning, at: u64) -> Option<SchemaFault>
 /// The least fault of the root. The only error is a refused allocation.
 #[tactic(auto, unfolding(crate::specs::FaultRows::root_faults, crate::specs::Faults::least_of))]
 pub(crate) fn root_fault(
-    types: TypesRead<'_>,
+    types: TypesRead<'_, '_, '_>,
     alloc: Global,
     text_len: u64,
     root: Option<&RootRead<'_>>,
@@ -122,14 +124,27 @@ pub(crate) fn root_fault(
     let Some(root) = root else {
         return Ok(Some(SchemaFault::BadRoot(text_len)));
     };
-    let meaning = types.meaning(alloc, root.scope, root.name.text.as_str())?;
-    Ok(root_use_fault(meaning, root.name.at))
+    let name = root.name;
+    let meaning = types.meaning(alloc, root.scope, name.text.as_str())?;
+    Ok(root_use_fault(meaning, name.at))
+}
+
+fn is_printable(byte: u8) -> bool
+    ensures { result ≡ is_printable byte }
+{
+    32 <= byte && byte <= 126
+}
+
+fn are_printable(text: &[u8]) -> bool
+    ensures { result ≡ list_all is_printable text.now }
+{
+    text.iter().all(|byte| is_printable(*byte))
 }
 
 fn is_identifier(text: &[u8]) -> bool
     ensures { result ≡ is_identifier text.now }
 {
-    text.len() == 4 && text.iter().all(|&byte| (32..=126).contains(&byte))
+    text.len() == 4 && are_printable(text)
 }
 
 /// A file identifier that isn't four printable bytes.

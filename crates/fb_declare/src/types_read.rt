@@ -18,13 +18,13 @@ use std::alloc::{AllocError, Global};
 
 /// The types of a text by their numbers, and their numbers by their full names.
 #[derive(Clone, Copy)]
-pub(crate) struct TypesRead<'t> {
-    pub types: &'t [TypeRead<'t>],
-    pub places: &'t NamePlaces<'t>,
+pub(crate) struct TypesRead<'t, 'd, 'n> {
+    pub types: &'t [TypeRead<'d>],
+    pub places: &'t NamePlaces<'n>,
     ghost named: { Indexes places.now (names_of_types types.now) },
 }
 
-impl TypesRead<'_> {
+impl TypesRead<'_, '_, '_> {
     /// The first type whose full name is this one inside a namespace.
     fn place_inside(
         self,

@@ -28,7 +28,7 @@ fn member_names(alloc: Global, members: &[UnionMember]) -> Result<Vec<Text>, All
 }
 
 fn fault_of_member(
-    types: TypesRead<'_>,
+    types: TypesRead<'_, '_, '_>,
     alloc: Global,
     scope: Option<&str>,
     before: usize,
@@ -44,7 +44,7 @@ fn fault_of_member(
 
 #[tactic(auto, using(crate::proofs::Least::least_of_append), unfolding(crate::specs::TypeFaults::members_faults))]
 fn members_fault(
-    types: TypesRead<'_>,
+    types: TypesRead<'_, '_, '_>,
     alloc: Global,
     scope: Option<&str>,
     members: &[UnionMember],
@@ -62,9 +62,9 @@ fn members_fault(
 /// The least fault of a union. The only error is a refused allocation.
 #[tactic(auto, using(crate::proofs::Least::least_of_append), unfolding(crate::specs::TypeFaults::union_faults))]
 pub(crate) fn union_fault(
-    types: TypesRead<'_>,
+    types: TypesRead<'_, '_, '_>,
     alloc: Global,
-    declared: DeclaredNames<'_>,
+    declared: DeclaredNames<'_, '_>,
     scope: Option<&str>,
     read: &UnionDeclaration,
 ) -> Result<Option<SchemaFault>, AllocError>

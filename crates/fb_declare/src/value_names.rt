@@ -97,7 +97,7 @@ fn value_named(scope: Option<&str>, read: &EnumDeclaration, base: Base, name: &[
 /// allocation.
 #[tactic(auto, unfolding(crate::specs::EnumsRead::value_at))]
 pub(crate) fn value_at(
-    types: TypesRead<'_>,
+    types: TypesRead<'_, '_, '_>,
     alloc: Global,
     number: usize,
     name: &str,

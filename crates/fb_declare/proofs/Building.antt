@@ -1,0 +1,117 @@
+-- What a schema is built from, where no fault stands; and the fault that is told, where one does.
+use Rattle.std.proofs.Common.{◌≡◌, ◌<◌, ◌+◌, ◌++◌, ℕ, zero, suc, Bool, true, false, List, [], ◌∷◌, length, map, take, get_or, slice_get, Contains, Option, None, Some, refl, ap, sym, subst, ◌∙◌, arith, true≢false, if◌then◌else◌}
+use Rattle.std.specs.Option.{is_some, is_none}
+use Rattle.fb_syntax.specs.declared.declarations.Declaration.{Declaration}
+use Rattle.fb_syntax.specs.declared.declarations.Declaration.TheVariants as declarations
+use Rattle.fb_schema.specs.Schema.{Name}
+use Rattle.fb_declare.specs.declared.faults.SchemaFault.{SchemaFault}
+use Rattle.fb_declare.specs.declared.faults.SchemaFault.TheVariants.{BadIds, BadRoot}
+use Rattle.fb_declare.specs.declared.attributes.Place.TheVariants as places
+use Rattle.fb_declare.specs.Faults.{comes_before, earlier, least_of}
+use Rattle.fb_declare.specs.Outline.{Outline, TypeRead, RootRead, types_in, scope_named, word_of}
+use Rattle.fb_declare.specs.Meaning.{meaning_of}
+use Rattle.fb_declare.specs.Attributes.{metadata_faults}
+use Rattle.fb_declare.specs.SlotsRead.{are_ids_wrong}
+use Rattle.fb_declare.specs.MembersRead.{table_of}
+use Rattle.fb_declare.specs.FaultRows.{when, names_again, reserved_name, use_faults, bad_root, root_faults, identifier_faults}
+use Rattle.fb_declare.specs.TypeFaults.{names_of_field, table_field_faults, table_faults, declaration_faults, type_faults, faults_of_types, located_name, faults_of_outline}
+use Rattle.fb_declare.specs.Declares.{root_table}
+use Rattle.fb_declare.specs.Buildable.{IsBuildable, AreBuildable}
+use Rattle.fb_declare.specs.Found.{DeclaresType, DeclareTypes}
+use Rattle.fb_declare.proofs.FaultFree.{none_left, none_right, when-none, none_of_type, aligns_from}
+
+-- ---- the fault that is told
+
+earlier_some : (f : SchemaFault) (g : Option SchemaFault) → earlier (Some f) g ≡ None → ⊥
+earlier_some f None h = grind (arith, h)
+earlier_some f (Some g) h = by (comes_before g f) h
+  where
+    by : (b : Bool) → (if b then Some g else Some f) ≡ None → ⊥
+    by true e = grind (arith, e)
+    by false e = grind (arith, e)
+
+-- no least fault: none at all
+pub least-none : (fs : List SchemaFault) → least_of fs ≡ None → fs ≡ []
+unfolding least_of
+least-none [] h = refl
+least-none (f ∷ fs) h = absurd (earlier_some f (least_of fs) h)
+
+later : (f g : SchemaFault) (fs : List SchemaFault) → Contains fs f → Contains (g ∷ fs) f
+later f g fs found = (suc found.0, omega (arith, found.1), found.2)
+
+by_earlier : (b : Bool) (f g h : SchemaFault) (fs : List SchemaFault) → Contains fs h → (if b then Some h else Some g) ≡ Some f → Contains (g ∷ fs) f
+by_earlier true f g h fs found e = let same : h ≡ f = cc in subst (Contains (g ∷ fs)) same (later h g fs found)
+by_earlier false f g h fs found e = let same : g ≡ f = cc in (0, omega arith, same)
+
+contained_by : (f g : SchemaFault) (fs : List SchemaFault) (o : Option SchemaFault) → ((h : SchemaFault) → o ≡ Some h → Contains fs h) → earlier (Some g) o ≡ Some f → Contains (g ∷ fs) f
+contained_by f g fs None rest e = let same : g ≡ f = cc in (0, omega arith, same)
+contained_by f g fs (Some h) rest e = by_earlier (comes_before h g) f g h fs (rest h refl) e
+
+-- the least fault is one of them
+pub least-some : (fs : List SchemaFault) (f : SchemaFault) → least_of fs ≡ Some f → Contains fs f
+unfolding least_of
+least-some [] f e = cc
+least-some (g ∷ fs) f e = contained_by f g fs (least_of fs) (λ h is. least-some fs h is) e
+
+-- ---- what a schema is built from
+
+-- the types of an outline are tables, structs, enums and unions
+pub types_only : (scope : Option Name) (ds : List Declaration) → DeclareTypes (types_in scope ds)
+types_only scope [] t r e = cc
+types_only scope (declarations.Namespace n ∷ ds) t r e = types_only (scope_named n) ds t r e
+types_only scope (declarations.Attribute n ∷ ds) t r e = types_only scope ds t r e
+types_only scope (declarations.Root n ∷ ds) t r e = types_only scope ds t r e
+types_only scope (declarations.Extension n ∷ ds) t r e = types_only scope ds t r e
+types_only scope (declarations.Identifier n ∷ ds) t r e = types_only scope ds t r e
+types_only scope (declarations.Table d ∷ ds) zero r e = let same : declarations.Table d ≡ r.declaration = cc in subst DeclaresType same tt
+types_only scope (declarations.Table d ∷ ds) (suc t) r e = types_only scope ds t r e
+types_only scope (declarations.Struct d ∷ ds) zero r e = let same : declarations.Struct d ≡ r.declaration = cc in subst DeclaresType same tt
+types_only scope (declarations.Struct d ∷ ds) (suc t) r e = types_only scope ds t r e
+types_only scope (declarations.Enum d ∷ ds) zero r e = let same : declarations.Enum d ≡ r.declaration = cc in subst DeclaresType same tt
+types_only scope (declarations.Enum d ∷ ds) (suc t) r e = types_only scope ds t r e
+types_only scope (declarations.Union d ∷ ds) zero r e = let same : declarations.Union d ≡ r.declaration = cc in subst DeclaresType same tt
+types_only scope (declarations.Union d ∷ ds) (suc t) r e = types_only scope ds t r e
+
+-- a declaration with no fault gives a body
+buildable_by : (types : List TypeRead) (declared : List Name) (lower : List ℕ) (scope : Option Name) (d : Declaration) → DeclaresType d → declaration_faults types declared lower scope d ≡ [] → IsBuildable types scope d
+unfolding table_faults
+buildable_by types declared lower scope (declarations.Table t) is h =
+    let marks = metadata_faults declared places.Table [] t.attributes in
+    let ids = when (are_ids_wrong types scope t.fields) (BadIds t.name.at) in
+    let names = names_again [] (Rattle.std.specs.List.flat_map (names_of_field types scope) t.fields) in
+    let fields = Rattle.std.specs.List.flat_map (table_field_faults types declared scope) t.fields in
+    when-none (are_ids_wrong types scope t.fields) (BadIds t.name.at) (none_right marks ids (none_left (marks ++ ids) names (none_left (marks ++ ids ++ names) fields h)))
+buildable_by types declared lower scope (declarations.Struct t) is h = tt
+buildable_by types declared lower scope (declarations.Enum t) is h = tt
+buildable_by types declared lower scope (declarations.Union t) is h = tt
+buildable_by types declared lower scope d is h = absurd is
+
+type_split : (types : List TypeRead) (declared : List Name) (lower : List ℕ) (r : TypeRead) → type_faults types declared lower r ≡ [] → declaration_faults types declared lower r.scope r.declaration ≡ []
+unfolding type_faults
+type_split types declared lower r h = none_right (reserved_name (word_of r.declaration)) (declaration_faults types declared lower r.scope r.declaration) h
+
+-- types with no fault give bodies
+pub buildable : (types : List TypeRead) (declared : List Name) → DeclareTypes types → faults_of_types types declared [] types ≡ [] → AreBuildable types
+buildable types declared only h t r e =
+    let lower = aligns_from types [] (take t types) in
+    buildable_by types declared lower r.scope r.declaration (only t r e) (type_split types declared lower r (none_of_type types declared [] types h t r e))
+
+-- a root with no fault is a table
+pub root_some : (types : List TypeRead) (text_len : ℕ) (root : Option RootRead) → root_faults types text_len root ≡ [] → is_some (root_table types root) ≡ true
+unfolding root_faults
+root_some types text_len None h = cc
+root_some types text_len (Some r) h = let m = meaning_of types r.scope r.name.bytes in
+    by (table_of m) (when-none (is_none (table_of m)) (BadRoot r.name.at) (none_right (use_faults m r.name.at) (bad_root m r.name.at) h))
+  where
+    by : (o : Option ℕ) → is_none o ≡ false → is_some o ≡ true
+    by None e = absurd (true≢false e)
+    by (Some n) e = refl
+
+-- the root's part of an outline with no fault
+pub root_right : (o : Outline) → faults_of_outline o ≡ [] → root_faults o.types o.text_len o.root ≡ []
+unfolding faults_of_outline
+root_right o h =
+    let names = names_again [] (map located_name o.types) in
+    let types = faults_of_types o.types o.attributes [] o.types in
+    let root = root_faults o.types o.text_len o.root in
+    none_right (names ++ types) root (none_left (names ++ types ++ root) (identifier_faults o.identifier) h)

@@ -1,0 +1,9 @@
+use Rattle.std.proofs.Common.{◌≡◌, map, take}
+use Rattle.std.specs.List.{AllZip}
+use Rattle.fb_schema.specs.Seen.{type_seen}
+use Rattle.fb_declare.specs.Declares.{IsType}
+use Rattle.fb_declare.proofs.bodies.types_of.Given as goal
+
+abbrev pub invariant-loop-read : goal.invariant-loop-read
+invariant-loop-read l = let types = l.types.types.now in
+    AllZip (IsType types) (take l.read-index types) (map type_seen l.made.items)

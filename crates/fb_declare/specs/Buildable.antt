@@ -1,0 +1,18 @@
+-- Types whose declarations give a body.
+use Rattle.std.specs.Prelude.{ℕ, ◌≡◌, false, List, Option, Some, slice_get}
+use Rattle.fb_syntax.specs.declared.declarations.Declaration.{Declaration}
+use Rattle.fb_syntax.specs.declared.declarations.Declaration.TheVariants as declarations
+use Rattle.fb_schema.specs.Schema.{Name}
+use Rattle.fb_declare.specs.Outline.{TypeRead}
+use Rattle.fb_declare.specs.SlotsRead.{are_ids_wrong}
+
+-- a table whose ids are right, or another type
+abbrev pub IsBuildable : List TypeRead → Option Name → Declaration → Type 0
+IsBuildable types scope (declarations.Table t) = are_ids_wrong types scope t.fields ≡ false
+IsBuildable types scope (declarations.Struct s) = Unit {0}
+IsBuildable types scope (declarations.Enum e) = Unit {0}
+IsBuildable types scope (declarations.Union u) = Unit {0}
+IsBuildable types scope _ = ⊥
+
+abbrev pub AreBuildable : List TypeRead → Type 0
+AreBuildable types = (t : ℕ) (r : TypeRead) → slice_get types t ≡ Some r → IsBuildable types r.scope r.declaration

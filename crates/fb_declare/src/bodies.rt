@@ -1,0 +1,151 @@
+//! What the declarations of types give.
+ghost use Rattle.std.specs.Prelude.{◌≡◌, IfOk, map, string_bytes};
+ghost use Rattle.std.specs.List.{AllZip};
+ghost use Rattle.std.specs.Option.{option_copied};
+ghost use Rattle.fb_schema.specs.Seen.{body_seen, type_seen};
+ghost use Rattle.fb_syntax.specs.declared.declarations.Declaration.TheVariants as Declaration;
+ghost use Rattle.fb_declare.specs.MembersRead.{member_read};
+ghost use Rattle.fb_declare.specs.Declares.{HasBody, IsType};
+ghost use Rattle.fb_declare.specs.Buildable.{IsBuildable, AreBuildable};
+
+use crate::enums::{has_flags, underlying, values_read};
+use crate::ids::table_slots;
+use crate::members::{member_name, table_of};
+use crate::outline::{TypeRead, name_of_type};
+use crate::structs::{forced_align, parts_read};
+use crate::types_read::TypesRead;
+use fb_schema::{Base, Body, TypeId, TypeInfo};
+use fb_syntax::{Declaration, EnumDeclaration, TableDeclaration, UnionDeclaration, UnionMember};
+use std::alloc::{AllocError, Global};
+
+fn member_read(
+    types: TypesRead<'_, '_, '_>,
+    alloc: Global,
+    scope: Option<&str>,
+    member: &UnionMember,
+) -> Result<(String, TypeId), AllocError>
+    ensures { IfOk result (λ m. (string_bytes m.0, m.1.0)
+        ≡ member_read types.entry.types.now (option_copied scope.entry) member.now) }
+{
+    let name = member_name(alloc, member)?;
+    let meaning = types.meaning(alloc, scope, member.table.text.as_str())?;
+    let table = table_of(meaning).unwrap_or(TypeId(0));
+    Ok((name.text, table))
+}
+
+fn members_read(
+    types: TypesRead<'_, '_, '_>,
+    alloc: Global,
+    scope: Option<&str>,
+    read: &UnionDeclaration,
+) -> Result<Vec<(String, TypeId)>, AllocError>
+    ensures { IfOk result (λ v. map (λ m. (string_bytes m.0, m.1.0)) v.items
+        ≡ map (member_read types.entry.types.now (option_copied scope.entry)) read.now.members) }
+{
+    let mut members = Vec::with_capacity(alloc, read.members.len())?;
+    for member in read.members.as_slice() {
+        members.push(member_read(types, alloc, scope, member)?)?;
+    }
+    Ok(members)
+}
+
+fn struct_body(
+    types: TypesRead<'_, '_, '_>,
+    alloc: Global,
+    scope: Option<&str>,
+    read: &TableDeclaration,
+) -> Result<Body, AllocError>
+    ensures { IfOk result (λ b. HasBody types.entry.types.now (option_copied scope.entry)
+        (Declaration.Struct read.now) (body_seen b)) }
+{
+    let parts = parts_read(types, alloc, scope, read.fields.as_slice())?;
+    Ok(Body::Struct(parts, forced_align(0, read.attributes.as_slice())))
+}
+
+fn enum_body(
+    types: TypesRead<'_, '_, '_>,
+    alloc: Global,
+    scope: Option<&str>,
+    read: &EnumDeclaration,
+) -> Result<Body, AllocError>
+    ensures { IfOk result (λ b. HasBody types.entry.types.now (option_copied scope.entry)
+        (Declaration.Enum read.now) (body_seen b)) }
+{
+    let base = underlying(types, alloc, scope, read)?.unwrap_or(Base::U8);
+    let values = values_read(types, alloc, scope, read)?;
+    Ok(Body::Enum(base, has_flags(read), values))
+}
+
+fn table_body(
+    types: TypesRead<'_, '_, '_>,
+    alloc: Global,
+    scope: Option<&str>,
+    read: &TableDeclaration,
+) -> Result<Body, AllocError>
+    requires { IsBuildable types.types.now (option_copied scope) (Declaration.Table read.now) }
+    ensures { IfOk result (λ b. HasBody types.entry.types.now (option_copied scope.entry)
+        (Declaration.Table read.now) (body_seen b)) }
+{
+    let slots = table_slots(types, alloc, scope, read.fields.as_slice())?;
+    Ok(Body::Table(slots))
+}
+
+fn union_body(
+    types: TypesRead<'_, '_, '_>,
+    alloc: Global,
+    scope: Option<&str>,
+    read: &UnionDeclaration,
+) -> Result<Body, AllocError>
+    ensures { IfOk result (λ b. HasBody types.entry.types.now (option_copied scope.entry)
+        (Declaration.Union read.now) (body_seen b)) }
+{
+    Ok(Body::Union(members_read(types, alloc, scope, read)?))
+}
+
+fn body_of(
+    types: TypesRead<'_, '_, '_>,
+    alloc: Global,
+    scope: Option<&str>,
+    declaration: &Declaration,
+) -> Result<Body, AllocError>
+    requires { IsBuildable types.types.now (option_copied scope) declaration.now }
+    ensures { IfOk result (λ b. HasBody types.entry.types.now (option_copied scope.entry)
+        declaration.now (body_seen b)) }
+{
+    match declaration {
+        Declaration::Table(read) => table_body(types, alloc, scope, read),
+        Declaration::Struct(read) => struct_body(types, alloc, scope, read),
+        Declaration::Enum(read) => enum_body(types, alloc, scope, read),
+        Declaration::Union(read) => union_body(types, alloc, scope, read),
+        _ => unreachable!(),
+    }
+}
+
+fn type_of(
+    types: TypesRead<'_, '_, '_>,
+    alloc: Global,
+    read: &TypeRead<'_>,
+) -> Result<TypeInfo, AllocError>
+    requires { IsBuildable types.types.now read.now.scope read.now.declaration }
+    ensures { IfOk result (λ t. IsType types.entry.types.now read.now (type_seen t)) }
+{
+    let name = name_of_type(alloc, read)?;
+    let body = body_of(types, alloc, read.scope, read.declaration)?;
+    Ok(TypeInfo { name, body })
+}
+
+/// The types that the declarations give. The only error is a refused allocation.
+pub(crate) fn types_of(
+    types: TypesRead<'_, '_, '_>,
+    alloc: Global,
+) -> Result<Vec<TypeInfo>, AllocError>
+    requires { AreBuildable types.types.now }
+    ensures { IfOk result (λ v. AllZip (IsType types.entry.types.now)
+        types.entry.types.now (map type_seen v.items)) }
+{
+    let mut made = Vec::with_capacity(alloc, types.types.len())?;
+    for read in types.types {
+        made.push(type_of(types, alloc, read)?)?;
+    }
+    Ok(made)
+}

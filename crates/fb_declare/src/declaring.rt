@@ -1,0 +1,132 @@
+//! From declarations to a schema.
+ghost use Rattle.std.specs.Prelude.{◌≡◌, ◌≢◌, [], IfOk, IfErr, Some, length, map};
+ghost use Rattle.std.specs.Option.{ForSome, option_copied, option_map};
+ghost use Rattle.fb_declare.specs.declared.faults.SchemaFault.TheVariants.{Memory};
+ghost use Rattle.fb_declare.specs.Faults.{least_of};
+ghost use Rattle.fb_declare.specs.Found.{outline_found, DeclareTypes};
+ghost use Rattle.fb_declare.specs.TypeFaults.{located_name, faults_of_outline, faults_of};
+ghost use Rattle.fb_declare.specs.Declares.{root_table, Gives, Declares, Stands};
+
+use crate::bodies::types_of;
+use crate::declared_names::DeclaredNames;
+use crate::faults::{SchemaFault, earlier};
+use crate::found::Found;
+use crate::members::table_of;
+use crate::name_places::NamePlaces;
+use crate::names_again::names_again;
+use crate::outline::{Outline, RootRead, TypeRead, located_name};
+use crate::type_faults::{identifier_fault, root_fault, types_fault};
+use crate::types_read::TypesRead;
+use fb_schema::{Schema, TypeId};
+use fb_syntax::{Decls, Text};
+use std::alloc::{AllocError, Global};
+
+fn located_names(alloc: Global, types: &[TypeRead<'_>]) -> Result<Vec<Text>, AllocError>
+    ensures { IfOk result (λ names. names.items ≡ map located_name types.now) }
+{
+    let mut names = Vec::with_capacity(alloc, types.len())?;
+    for read in types {
+        names.push(located_name(alloc, read)?)?;
+    }
+    Ok(names)
+}
+
+fn texts_of<'n>(alloc: Global, names: &'n [Text]) -> Result<Vec<&'n str>, AllocError>
+    ensures { IfOk result (λ texts. map (λ t. t.now) texts.items ≡ map (λ n. n.bytes) names.now) }
+{
+    let mut texts = Vec::with_capacity(alloc, names.len())?;
+    for name in names {
+        texts.push(name.text.as_str())?;
+    }
+    Ok(texts)
+}
+
+/// The number of the root's table.
+fn root_table(
+    types: TypesRead<'_, '_, '_>,
+    alloc: Global,
+    root: Option<&RootRead<'_>>,
+) -> Result<Option<TypeId>, AllocError>
+    ensures { IfOk result (λ t. option_map (λ n. n.0) t
+        ≡ root_table types.entry.types.now (option_copied root.entry)) }
+{
+    let Some(root) = root else {
+        return Ok(None);
+    };
+    let name = root.name;
+    let meaning = types.meaning(alloc, root.scope, name.text.as_str())?;
+    Ok(table_of(meaning))
+}
+
+fn identifier_of(identifier: Option<&Text>) -> Option<[u8; 4]>
+    requires { ForSome (option_copied identifier) (λ t. length t.bytes ≡ 4) }
+    ensures { result ≡ option_map (λ t. t.bytes) (option_copied identifier.entry) }
+{
+    let bytes = identifier?.text.as_bytes();
+    Some([bytes[0], bytes[1], bytes[2], bytes[3]])
+}
+
+/// The least of all faults, where these are the full names of the types.
+#[tactic(auto, using(crate::proofs::Least::least_of_append), unfolding(crate::specs::TypeFaults::faults_of_outline))]
+fn least_fault(
+    alloc: Global,
+    found: Found<'_, '_, '_>,
+    names: &[Text],
+) -> Result<Option<SchemaFault>, AllocError>
+    requires { names.now ≡ map located_name found.types.types.now }
+    ensures { IfOk result (λ f. f ≡ least_of (faults_of_outline (outline_found found.entry))) }
+{
+    let again = names_again(alloc, names)?;
+    let types = types_fault(found.types, alloc, found.declared)?;
+    let root = root_fault(found.types, alloc, found.text_len, found.root)?;
+    Ok(earlier(
+        earlier(earlier(again, types), root),
+        identifier_fault(found.identifier),
+    ))
+}
+
+/// The schema that an outline with no fault gives.
+fn schema_found(alloc: Global, found: Found<'_, '_, '_>) -> Result<Schema, AllocError>
+    requires sound { faults_of_outline (outline_found found) ≡ [] }
+    requires types { DeclareTypes found.types.types.now }
+    ensures { IfOk result (Gives (outline_found found.entry)) }
+{
+    let Some(root) = root_table(found.types, alloc, found.root)? else {
+        unreachable!()
+    };
+    let types = types_of(found.types, alloc)?;
+    Schema::new(alloc, types, root, identifier_of(found.identifier))
+}
+
+/// The schema that declarations give.
+///
+/// A refusal tells the fault of least offset and, there, of the lowest number; `Memory` is a
+/// refused allocation. The rules are those of "Writing a schema".
+pub fn declare(alloc: Global, decls: &Decls) -> Result<Schema, SchemaFault>
+    ensures declared { IfOk result (Declares decls.now) }
+    ensures fault { IfErr result (λ f. f ≢ Memory → Stands decls.now f) }
+    ensures least { IfErr result (λ f. f ≢ Memory → least_of (faults_of decls.now) ≡ Some f) }
+{
+    let outline = Outline::of(alloc, decls)?;
+    let names = located_names(alloc, outline.types.as_slice())?;
+    let texts = texts_of(alloc, names.as_slice())?;
+    let places = NamePlaces::of(alloc, texts.as_slice())?;
+    let attributes = NamePlaces::of(alloc, outline.attributes.as_slice())?;
+    let found = Found {
+        types: TypesRead {
+            types: outline.types.as_slice(),
+            places: &places,
+        },
+        declared: DeclaredNames {
+            names: outline.attributes.as_slice(),
+            places: &attributes,
+        },
+        root: outline.root.as_ref(),
+        identifier: outline.identifier,
+        text_len: outline.text_len,
+    };
+    if let Some(fault) = least_fault(alloc, found, names.as_slice())? {
+        return Err(fault);
+    }
+    Ok(schema_found(alloc, found)?)
+}

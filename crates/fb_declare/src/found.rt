@@ -1,0 +1,15 @@
+//! A text's outline, with its types and attributes found by name.
+use crate::declared_names::DeclaredNames;
+use crate::outline::RootRead;
+use crate::types_read::TypesRead;
+use fb_syntax::Text;
+
+/// What a text declares, with its types and attributes found by name.
+#[derive(Clone, Copy)]
+pub(crate) struct Found<'t, 'd, 'n> {
+    pub types: TypesRead<'t, 'd, 'n>,
+    pub declared: DeclaredNames<'t, 'd>,
+    pub root: Option<&'t RootRead<'d>>,
+    pub identifier: Option<&'d Text>,
+    pub text_len: u64,
+}
