@@ -118,6 +118,11 @@ fn refuses_names_that_are_no_default(rt: HostRuntime) -> Result<(), Fail> {
             BadDefault(18),
         ),
         (
+            "a value of the second of two enums",
+            "table T { a:E = B; } enum E:int { A } enum E:int { B } root_type T;",
+            BadDefault(16),
+        ),
+        (
             "no value, with the underlying type not found",
             "table T { a:E = B; } enum E:Missing { A } root_type T;",
             BadDefault(16),
@@ -156,6 +161,11 @@ fn lets_defaults_pass_over_enums_at_fault(rt: HostRuntime) -> Result<(), Fail> {
             "a value of a name again",
             "table T { a:E = A; } enum E:int { A, A } root_type T;",
             DuplicateName(37),
+        ),
+        (
+            "a value of the first of two enums",
+            "table T { a:E = A; } enum E:int { A } enum E:int { B } root_type T;",
+            DuplicateName(43),
         ),
         (
             "a value over a type not found",

@@ -51,6 +51,11 @@ fn refuses_a_type_name_again(rt: HostRuntime) -> Result<(), Fail> {
             DuplicateName(46),
         ),
         (
+            "a use means the first, a struct",
+            "struct X { a:int; } struct S { x:X; } struct X { a:int; } table T {} root_type T;",
+            DuplicateName(45),
+        ),
+        (
             "a use means the first, a union",
             "union U { T } table T { u_type:int; u:U; } table U {} root_type T;",
             DuplicateName(36),

@@ -172,7 +172,7 @@ fn refuses_unsupported_types(rt: HostRuntime) -> Result<(), Fail> {
         ),
         (
             "an enum over bool",
-            "enum E:bool { A } table T {} root_type T;",
+            "enum E:bool { A } table T { } root_type T;",
             Unsupported(7),
         ),
         (
