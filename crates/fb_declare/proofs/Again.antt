@@ -4,7 +4,6 @@ use Rattle.std.specs.Option.{option_or}
 use Rattle.std.specs.Str.{bytes_eq}
 use Rattle.fb_syntax.specs.Located.{Located}
 use Rattle.fb_schema.specs.Schema.{Name}
-use Rattle.fb_declare.specs.declared.faults.SchemaFault.{SchemaFault}
 use Rattle.fb_declare.specs.declared.faults.SchemaFault.TheVariants.{DuplicateName}
 use Rattle.fb_declare.specs.FaultRows.{names_again, is_among, when}
 use Rattle.fb_declare.proofs.Steps.{drop-more, drop-end, take-more, list_any-snoc}

@@ -1,5 +1,5 @@
 -- The alignments of the structs, where no type is at fault: as they are declared and as the schema has them.
-use Rattle.std.proofs.Common.{◌≡◌, ℕ, zero, suc, ◌+◌, ◌<◌, ◌≤◌, ◌++◌, ◌&&◌, ◌||◌, ◌==◌, nat_le, Bool, true, false, List, [], ◌∷◌, length, map, take, Option, None, Some, cond, refl, ap, sym, subst, ◌∙◌, arith, true≢false, IsTrue}
+use Rattle.std.proofs.Common.{◌≡◌, ℕ, zero, suc, ◌+◌, ◌<◌, ◌≤◌, ◌++◌, ◌&&◌, ◌==◌, nat_le, Bool, true, false, List, [], ◌∷◌, length, map, take, Option, None, Some, cond, refl, ap, sym, subst, ◌∙◌, arith, true≢false, IsTrue}
 use Rattle.std.specs.Prelude.{ℤ, pos, negsuc, slice_get, slice_index}
 use Rattle.std.specs.List.{flat_map, list_any}
 use Rattle.std.specs.Option.{ForSome, option_and_then, option_map_or, unwrap_or}

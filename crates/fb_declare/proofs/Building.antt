@@ -1,5 +1,5 @@
 -- What a schema is built from, where no fault stands; and the fault that is told, where one does.
-use Rattle.std.proofs.Common.{◌≡◌, ◌<◌, ◌+◌, ◌++◌, ℕ, zero, suc, Bool, true, false, List, [], ◌∷◌, length, map, take, get_or, slice_get, Contains, Option, None, Some, refl, ap, sym, subst, ◌∙◌, arith, true≢false, if◌then◌else◌}
+use Rattle.std.proofs.Common.{◌≡◌, ◌++◌, ℕ, zero, suc, Bool, true, false, List, [], ◌∷◌, map, take, Contains, Option, None, Some, refl, ap, subst, arith, true≢false, if◌then◌else◌}
 use Rattle.std.specs.Option.{is_some, is_none}
 use Rattle.fb_syntax.specs.declared.declarations.Declaration.{Declaration}
 use Rattle.fb_syntax.specs.declared.declarations.Declaration.TheVariants as declarations
@@ -8,7 +8,7 @@ use Rattle.fb_declare.specs.declared.faults.SchemaFault.{SchemaFault}
 use Rattle.fb_declare.specs.declared.faults.SchemaFault.TheVariants.{BadIds, BadRoot}
 use Rattle.fb_declare.specs.declared.attributes.Place.TheVariants as places
 use Rattle.fb_declare.specs.Faults.{comes_before, earlier, least_of}
-use Rattle.fb_declare.specs.Outline.{Outline, TypeRead, RootRead, types_in, scope_named, word_of}
+use Rattle.fb_declare.specs.Outline.{Outline, TypeRead, RootRead, types_in, scope_named, word_of, names_of_types}
 use Rattle.fb_declare.specs.Meaning.{meaning_of}
 use Rattle.fb_declare.specs.Attributes.{metadata_faults}
 use Rattle.fb_declare.specs.SlotsRead.{are_ids_wrong}
@@ -18,6 +18,7 @@ use Rattle.fb_declare.specs.TypeFaults.{names_of_field, table_field_faults, tabl
 use Rattle.fb_declare.specs.Declares.{root_table}
 use Rattle.fb_declare.specs.Buildable.{IsBuildable, AreBuildable}
 use Rattle.fb_declare.specs.Found.{DeclaresType, DeclareTypes}
+use Rattle.fb_syntax.specs.Located.{Located}
 use Rattle.fb_declare.proofs.FaultFree.{none_left, none_right, when-none, none_of_type, aligns_from}
 
 -- ---- the fault that is told
@@ -115,3 +116,14 @@ root_right o h =
     let types = faults_of_types o.types o.attributes [] o.types in
     let root = root_faults o.types o.text_len o.root in
     none_right (names ++ types) root (none_left (names ++ types ++ root) (identifier_faults o.identifier) h)
+
+-- the parts of an outline make it up
+pub same_outline : (types : List TypeRead) (attributes : List Name) (root : Option RootRead) (identifier : Option Located) (text_len : ℕ) (o : Outline)
+    → types ≡ o.types → attributes ≡ o.attributes → root ≡ o.root → identifier ≡ o.identifier → text_len ≡ o.text_len
+    → record { types = types; attributes = attributes; root = root; identifier = identifier; text_len = text_len } ≡ o
+same_outline types attributes root identifier text_len o t a r d n = λ i. record { types = t i; attributes = a i; root = r i; identifier = d i; text_len = n i }
+
+-- the full names where they stand, and alone
+pub located_bytes : (types : List TypeRead) → map (λ n. n.bytes) (map located_name types) ≡ names_of_types types
+located_bytes [] = refl
+located_bytes (r ∷ rs) = ap (λ names. (located_name r).bytes ∷ names) (located_bytes rs)

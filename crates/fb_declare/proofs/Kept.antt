@@ -1,5 +1,5 @@
 -- What an outline with no fault gives is well declared.
-use Rattle.std.proofs.Common.{◌≡◌, ◌≢◌, ℕ, ◌==◌, ◌&&◌, ◌++◌, not, List, [], ◌∷◌, length, take, map, AllPairs, refl, sym, ap, ◌∙◌, subst, arith, Option, None, Some, nat_le}
+use Rattle.std.proofs.Common.{◌≡◌, ◌≢◌, ℕ, ◌==◌, ◌++◌, not, List, [], ◌∷◌, length, take, map, AllPairs, refl, sym, ap, ◌∙◌, subst, arith, Option, None, Some}
 use Rattle.std.specs.List.{AllZip, list_all, slice_get}
 use Rattle.std.specs.Option.{option_map, ForSome}
 use Rattle.std.proofs.lemmas.Bool.{and_parts, eqb-true, not-false}

@@ -1,5 +1,5 @@
 -- The first place of a name in a list that grows.
-use Rattle.std.proofs.Common.{◌≡◌, ◌<◌, ◌+◌, ℕ, zero, suc, Bool, true, false, List, [], ◌∷◌, length, map, take, get_or, Option, None, Some, refl, ap, sym, ◌∙◌, arith, if◌then◌else◌}
+use Rattle.std.proofs.Common.{◌≡◌, ◌<◌, ◌+◌, ℕ, zero, suc, Bool, true, false, List, [], ◌∷◌, length, map, take, get_or, Option, None, Some, refl, ap, ◌∙◌, arith, if◌then◌else◌}
 use Rattle.std.specs.Option.{option_or, option_map}
 use Rattle.std.specs.Str.{bytes_eq}
 use Rattle.fb_schema.specs.Schema.{Name}
@@ -10,7 +10,6 @@ one_more true o c n = refl
 one_more false None true n = refl
 one_more false None false n = refl
 one_more false (Some m) c n = refl
-
 
 place_of-suc : {X : Type 0} (f : X → Name) (xs : List X) (i : ℕ) (d : X) (name : Name) → i < length xs
     → place_of (map f (take (suc i) xs)) name ≡ option_or (place_of (map f (take i xs)) name) (if bytes_eq name (f (get_or xs i d)) then Some i else None)

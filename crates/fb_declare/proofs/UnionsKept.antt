@@ -19,7 +19,7 @@ use Rattle.fb_declare.specs.declared.attributes.Place.TheVariants as places
 use Rattle.fb_declare.specs.Outline.{TypeRead, Outline}
 use Rattle.fb_declare.specs.Meaning.{meaning_of}
 use Rattle.fb_declare.specs.Attributes.{metadata_faults}
-use Rattle.fb_declare.specs.MembersRead.{member_name, member_table, table_of, member_read}
+use Rattle.fb_declare.specs.MembersRead.{member_name, table_of, member_read}
 use Rattle.fb_declare.specs.FaultRows.{names_again, none_name, use_faults, bad_member, member_faults}
 use Rattle.fb_declare.specs.TypeFaults.{members_faults, union_faults}
 use Rattle.fb_declare.specs.Declares.{Gives}

@@ -1,5 +1,5 @@
 -- Lists that agree place by place, one more place at a time.
-use Rattle.std.proofs.Common.{◌≡◌, ◌<◌, ◌≤◌, ◌+◌, ◌++◌, ℕ, zero, suc, List, [], ◌∷◌, length, take, get_or, map, refl, ap, sym, ◌∙◌, subst, arith}
+use Rattle.std.proofs.Common.{◌≡◌, ◌<◌, ◌≤◌, ◌+◌, ◌++◌, ℕ, zero, suc, List, [], ◌∷◌, length, take, get_or, map, refl, ap, sym, subst, arith}
 use Rattle.std.specs.List.{AllZip}
 use Rattle.fb_declare.proofs.Steps.{take-more}
 
@@ -18,8 +18,8 @@ pub zipped-more : {A B C : Type 0} (R : A → B → Type 0) (f : C → B) (xs : 
     → AllZip R (take i xs) (map f cs) → R x (f c) → AllZip R (take (i + 1) xs) (map f (cs ++ c ∷ []))
 zipped-more R f xs cs i x c h e zipped r =
     subst (λ l. AllZip R l (map f (cs ++ c ∷ []))) (sym (take-more xs i x h))
-        (subst (λ l. AllZip R (take i xs ++ get_or xs i x ∷ []) l) (sym (map-snoc f cs c))
-            (AllZip-snoc R (take i xs) (map f cs) (get_or xs i x) (f c) zipped (subst (λ y. R y (f c)) e r)))
+    (subst (λ l. AllZip R (take i xs ++ get_or xs i x ∷ []) l) (sym (map-snoc f cs c))
+    (AllZip-snoc R (take i xs) (map f cs) (get_or xs i x) (f c) zipped (subst (λ y. R y (f c)) e r)))
 
 take-all : {X : Type 0} (xs : List X) (i : ℕ) → length xs ≤ i → take i xs ≡ xs
 take-all [] zero h = refl

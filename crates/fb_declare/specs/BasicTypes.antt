@@ -1,7 +1,6 @@
 -- The names of basic types, and the numbers that they hold.
 -- From the FlatBuffers documentation, "Writing a schema": Types.
-use Rattle.std.specs.Prelude.{ℕ, ◌&&◌, ◌||◌, Bool, List, [], ◌∷◌, Option, None, Some, ℤ, pos, negsuc, codes, if◌then◌else◌, int_le}
-use Rattle.std.specs.List.{list_any}
+use Rattle.std.specs.Prelude.{◌&&◌, ◌||◌, Bool, Option, None, Some, ℤ, pos, negsuc, codes, if◌then◌else◌, int_le}
 use Rattle.std.specs.Option.{is_some}
 use Rattle.std.specs.Str.{bytes_eq}
 use Rattle.fb_schema.specs.Schema.{Name}

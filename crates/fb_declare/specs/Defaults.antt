@@ -1,6 +1,6 @@
 -- What the default of a field gives.
 -- From the FlatBuffers documentation, "Writing a schema": Tables, Enums; "Optional scalars".
-use Rattle.std.specs.Prelude.{ℕ, Bool, true, false, List, Option, None, Some, ℤ, pos, codes, if◌then◌else◌}
+use Rattle.std.specs.Prelude.{List, Option, None, Some, ℤ, pos, codes, if◌then◌else◌}
 use Rattle.std.specs.Str.{bytes_eq}
 use Rattle.fb_syntax.specs.FieldRead.{FieldRead}
 use Rattle.fb_syntax.specs.declared.declarations.FieldType.{FieldType}

@@ -1,22 +1,20 @@
 -- Where each rule on declarations fails: of names, types, defaults, ids, structs, enums, unions, the root and the identifier.
 -- From the FlatBuffers documentation, "Writing a schema".
-use Rattle.std.specs.Prelude.{ℕ, ◌+◌, ◌==◌, ◌++◌, ◌&&◌, ◌||◌, not, Bool, true, false, List, [], ◌∷◌, length, Option, None, Some, ℤ, pos, ◌+ℤ◌, codes, if◌then◌else◌, nat_lt, nat_le}
+use Rattle.std.specs.Prelude.{ℕ, ◌==◌, ◌++◌, ◌&&◌, ◌||◌, not, Bool, true, false, List, [], ◌∷◌, length, Option, None, Some, ℤ, pos, ◌+ℤ◌, codes, if◌then◌else◌, nat_le}
 use Rattle.std.specs.List.{list_any, list_all}
-use Rattle.std.specs.Option.{is_some, is_none}
+use Rattle.std.specs.Option.{is_none}
 use Rattle.std.specs.Ordering.{int_eq}
 use Rattle.std.specs.Str.{bytes_eq}
 use Rattle.fb_syntax.specs.Located.{Located}
-use Rattle.fb_syntax.specs.FieldRead.{FieldRead}
 use Rattle.fb_syntax.specs.declared.declarations.FieldType.{FieldType}
 use Rattle.fb_syntax.specs.declared.declarations.FieldType.TheVariants.{One, Many}
 use Rattle.fb_syntax.specs.declared.declarations.DefaultValue.{DefaultValue}
 use Rattle.fb_syntax.specs.declared.declarations.DefaultValue.TheVariants.{Integer, Name as Named}
 use Rattle.fb_syntax.specs.declared.declarations.EnumValue.{EnumValue}
 use Rattle.fb_schema.specs.Schema.{Name}
-use Rattle.fb_schema.specs.WellDeclared.{is_unsigned}
 use Rattle.fb_declare.specs.Outline.{TypeRead, RootRead}
-use Rattle.fb_declare.specs.BasicTypes.{holds, is_reserved}
-use Rattle.fb_declare.specs.Meaning.{meaning_of, type_name, type_at}
+use Rattle.fb_declare.specs.BasicTypes.{is_reserved}
+use Rattle.fb_declare.specs.Meaning.{meaning_of, type_name}
 use Rattle.fb_declare.specs.EnumsRead.{may_be_written, written_number, integer_type}
 use Rattle.fb_declare.specs.MembersRead.{table_of}
 use Rattle.fb_schema.specs.declared.kinds.Base.{Base}

@@ -1,5 +1,5 @@
 -- A text's outline, with its types and attributes found by name.
-use Rattle.std.specs.Prelude.{ℕ, ◌≡◌, List, Option, Some, slice_get}
+use Rattle.std.specs.Prelude.{ℕ, ◌≡◌, List, Some, slice_get}
 use Rattle.std.specs.Option.{option_copied}
 use Rattle.fb_syntax.specs.declared.declarations.Declaration.{Declaration}
 use Rattle.fb_syntax.specs.declared.declarations.Declaration.TheVariants as declarations

@@ -2,7 +2,6 @@
 -- From the FlatBuffers documentation, "Writing a schema": Types, Namespaces.
 use Rattle.std.specs.Prelude.{ℕ, List, Option, None, Some, slice_get, if◌then◌else◌}
 use Rattle.fb_syntax.specs.Located.{Located}
-use Rattle.fb_syntax.specs.FieldRead.{FieldRead}
 use Rattle.fb_syntax.specs.declared.declarations.FieldType.{FieldType}
 use Rattle.fb_syntax.specs.declared.declarations.FieldType.TheVariants.{One, Many}
 use Rattle.fb_syntax.specs.declared.declarations.Declaration.{Declaration}
@@ -12,8 +11,7 @@ use Rattle.fb_declare.specs.Outline.{TypeRead}
 use Rattle.fb_declare.specs.Scopes.{type_meant}
 use Rattle.fb_declare.specs.BasicTypes.{basic_type, is_text_type, is_float_type}
 use Rattle.fb_schema.specs.declared.kinds.Base.{Base}
-use Rattle.fb_schema.specs.declared.kinds.Kind.{Kind}
-use Rattle.fb_schema.specs.declared.kinds.Kind.TheVariants.{Scalar, Enum, Struct, Table, Union, Code, Text}
+use Rattle.fb_schema.specs.declared.kinds.Kind.TheVariants.{Scalar, Enum, Struct, Table, Union, Text}
 use Rattle.fb_declare.specs.declared.meanings.Meaning.{Meaning}
 use Rattle.fb_declare.specs.declared.meanings.Meaning.TheVariants.{Known, Float, Unknown}
 
@@ -41,8 +39,8 @@ or_scalar None m = m
 unfoldable pub meaning_of : List TypeRead → Option Name → Name → Meaning
 meaning_of types scope name = or_scalar (basic_type name)
     (if is_text_type name then Known Text else
-     if is_float_type name then Float else
-     use_of_type types (type_meant types scope name))
+    if is_float_type name then Float else
+    use_of_type types (type_meant types scope name))
 
 abbrev pub type_name : FieldType → Located
 type_name (One n) = n

@@ -3,11 +3,9 @@ use Rattle.std.specs.Prelude.{ℕ, ◌≡◌, List, Option, None, Some, if◌the
 use Rattle.std.specs.HashMap.{get_by}
 use Rattle.std.specs.Option.{option_or}
 use Rattle.std.specs.Str.{bytes_eq}
-use Rattle.indexmap.specs.IndexMap.{IndexMap}
 use Rattle.fb_schema.specs.Schema.{Name}
 use Rattle.fb_declare.specs.Scopes.{place_of}
 use Rattle.fb_declare.specs.declared.name_places.NamePlaces.{NamePlaces}
-use denote.Ref.{Bor}
 
 -- the place that a name has in an index
 abbrev pub place_in : NamePlaces → Name → Option ℕ

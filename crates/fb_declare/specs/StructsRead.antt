@@ -1,11 +1,11 @@
 -- The fields and the alignment of a struct as it is declared.
 -- From the FlatBuffers documentation, "Writing a schema": Structs, Attributes (`force_align`); "FlatBuffer Internals": Structs.
-use Rattle.std.specs.Prelude.{ℕ, ◌+◌, ◌++◌, ◌&&◌, Bool, true, false, List, [], ◌∷◌, map, Option, None, Some, ℤ, pos, negsuc, slice_index, if◌then◌else◌, nat_lt}
+use Rattle.std.specs.Prelude.{ℕ, ◌+◌, false, List, [], ◌∷◌, map, Option, None, Some, ℤ, pos, negsuc, slice_index, if◌then◌else◌}
 use Rattle.std.specs.Option.{option_map_or, unwrap_or, option_and_then}
 use Rattle.fb_syntax.specs.FieldRead.{FieldRead}
 use Rattle.fb_syntax.specs.TypesRead.{TableRead}
 use Rattle.fb_syntax.specs.declared.declarations.FieldType.{FieldType}
-use Rattle.fb_syntax.specs.declared.declarations.FieldType.TheVariants.{One, Many}
+use Rattle.fb_syntax.specs.declared.declarations.FieldType.TheVariants.{One}
 use Rattle.fb_syntax.specs.declared.declarations.AttributeUse.{AttributeUse}
 use Rattle.fb_syntax.specs.declared.declarations.Declaration.{Declaration}
 use Rattle.fb_syntax.specs.declared.declarations.Declaration.TheVariants as declarations

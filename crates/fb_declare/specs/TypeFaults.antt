@@ -1,8 +1,7 @@
 -- The faults of a table, struct, enum or union, and of all that a text declares.
 -- From the FlatBuffers documentation, "Writing a schema".
-use Rattle.std.specs.Prelude.{ℕ, ◌+◌, ◌++◌, ◌&&◌, not, Bool, true, false, List, [], ◌∷◌, length, map, Option, None, Some, pos, if◌then◌else◌}
+use Rattle.std.specs.Prelude.{ℕ, ◌+◌, ◌++◌, Bool, true, false, List, [], ◌∷◌, length, map, Option, None, Some, pos, if◌then◌else◌}
 use Rattle.std.specs.List.{flat_map}
-use Rattle.std.specs.Option.{option_map_or, is_some}
 use Rattle.fb_syntax.specs.Located.{Located}
 use Rattle.fb_syntax.specs.FieldRead.{FieldRead}
 use Rattle.fb_syntax.specs.TypesRead.{TableRead, EnumRead, UnionRead}
@@ -17,7 +16,7 @@ use Rattle.fb_declare.specs.Meaning.{meaning_of, meaning_in}
 use Rattle.fb_declare.specs.Attributes.{metadata_faults}
 use Rattle.fb_declare.specs.EnumsRead.{underlying, has_flags}
 use Rattle.fb_declare.specs.Defaults.{given_in}
-use Rattle.fb_declare.specs.SlotsRead.{union_of, union_in, name_of_code, are_ids_wrong}
+use Rattle.fb_declare.specs.SlotsRead.{union_in, name_of_code, are_ids_wrong}
 use Rattle.fb_declare.specs.StructsRead.{natural_align, align_of_read}
 use Rattle.fb_declare.specs.MembersRead.{member_name}
 use Rattle.fb_declare.specs.FaultRows.{when, names_again, reserved_name, table_field_type, struct_field_type, bad_default, default_in_struct, underlying_faults, bad_values, member_faults, root_faults, identifier_faults}
@@ -27,7 +26,7 @@ use Rattle.fb_schema.specs.declared.kinds.Kind.TheVariants.{Scalar, Enum}
 use Rattle.fb_syntax.specs.declared.declarations.FieldType.{FieldType}
 use Rattle.fb_syntax.specs.declared.declarations.FieldType.TheVariants.{One}
 use Rattle.fb_declare.specs.declared.meanings.Meaning.{Meaning}
-use Rattle.fb_declare.specs.declared.meanings.Meaning.TheVariants.{Known, Float}
+use Rattle.fb_declare.specs.declared.meanings.Meaning.TheVariants.{Known}
 use Rattle.fb_declare.specs.declared.attributes.Place.{Place}
 use Rattle.fb_declare.specs.declared.attributes.Place.TheVariants as places
 use Rattle.fb_declare.specs.declared.faults.SchemaFault.{SchemaFault}

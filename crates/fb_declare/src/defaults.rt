@@ -8,8 +8,8 @@ ghost use Rattle.fb_declare.specs.Defaults.{number_within, null_or_wrong, boolea
 use crate::attributes::integer_of;
 use crate::basic_types::holds;
 use crate::enums::underlying_at;
-use crate::field_types::default_at;
 use crate::faults::{SchemaFault, when};
+use crate::field_types::default_at;
 use crate::meanings::Meaning;
 use crate::types_read::TypesRead;
 use crate::value_names::value_at;

@@ -46,7 +46,12 @@ fn bad_member(before: usize, meaning: Meaning, at: u64) -> Option<SchemaFault>
 /// What is wrong with a member of this name, whose type stands at this offset, with so many
 /// before it.
 #[tactic(auto, using(crate::proofs::Least::least_of_append), unfolding(crate::specs::FaultRows::member_faults))]
-pub(crate) fn member_fault(before: usize, name: &Text, at: u64, meaning: Meaning) -> Option<SchemaFault>
+pub(crate) fn member_fault(
+    before: usize,
+    name: &Text,
+    at: u64,
+    meaning: Meaning,
+) -> Option<SchemaFault>
     ensures { result ≡ least_of (member_faults before name.now at meaning) }
 {
     let not_found = earlier(none_name(name), use_fault(meaning, at));

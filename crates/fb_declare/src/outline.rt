@@ -80,7 +80,9 @@ impl<'d> Outline<'d> {
         let mut scope = None;
         for declaration in decls.declarations() {
             match declaration {
-                Declaration::Namespace(name) => scope = name.as_ref().map(|name| name.text.as_str()),
+                Declaration::Namespace(name) => scope = name
+                    .as_ref()
+                    .map(|name| name.text.as_str()),
                 Declaration::Attribute(name) => outline.attributes.push(name.text.as_str())?,
                 Declaration::Root(name) => outline.root = Some(RootRead { scope, name }),
                 Declaration::Identifier(text) => outline.identifier = Some(text),

@@ -87,10 +87,7 @@ fn field_fault(
     let fault = earlier(table_field_type(kind, meaning), bad_default(default, given));
     let place = place_of_field(kind, meaning);
     let attributes = field.attributes.as_slice();
-    Ok(earlier(
-        fault,
-        metadata_fault(alloc, declared, place, attributes)?,
-    ))
+    Ok(earlier(fault, metadata_fault(alloc, declared, place, attributes)?))
 }
 
 fn fields_fault(

@@ -8,11 +8,11 @@ ghost use Rattle.fb_declare.specs.Outline.{inside, names_of_types};
 ghost use Rattle.fb_declare.specs.NamePlaces.{Indexes};
 
 use crate::basic_types::{basic_type, is_float_type, is_text_type};
-use fb_schema::{Kind, TypeId};
 use crate::field_types::type_name;
 use crate::meanings::Meaning;
 use crate::name_places::NamePlaces;
 use crate::outline::TypeRead;
+use fb_schema::{Kind, TypeId};
 use fb_syntax::{Declaration, FieldType};
 use std::alloc::{AllocError, Global};
 

@@ -1,6 +1,6 @@
 -- What each declared schema keeps, so that the crates above may rely on it.
 -- From the FlatBuffers documentation, "Writing a schema": Structs, Unions, Attributes, Root type, File identification.
-use Rattle.std.specs.Prelude.{ℕ, suc, ◌≡◌, ◌≢◌, ◌<◌, ◌≤◌, ◌^◌, ◌*◌, ◌++◌, codes, List, [], ◌∷◌, length, Bool, true, false, IsTrue, ℤ, pos, negsuc, ◌≤ℤ◌, Option, None, Some, All, AllPairs, map, slice_get}
+use Rattle.std.specs.Prelude.{ℕ, suc, ◌≡◌, ◌≢◌, ◌<◌, ◌≤◌, ◌^◌, ◌*◌, ◌++◌, codes, List, length, Bool, true, false, IsTrue, ℤ, pos, negsuc, ◌≤ℤ◌, Option, Some, All, AllPairs, map, slice_get}
 use Rattle.std.specs.Option.{ForSome}
 use Rattle.fb_schema.specs.declared.kinds.Base.{Base}
 use Rattle.fb_schema.specs.declared.kinds.Base.TheVariants.{Bool as Boolean, I8, U8, I16, U16, I32, U32, I64, U64}

@@ -1,4 +1,4 @@
-use Rattle.std.proofs.Common.{◌≡◌, ◌+◌, map, take, subst, sym}
+use Rattle.std.proofs.Common.{◌+◌, map, take, subst, sym}
 use Rattle.std.specs.List.{AllZip}
 use Rattle.fb_schema.specs.Seen.{type_seen}
 use Rattle.fb_declare.specs.Declares.{IsType}
@@ -9,4 +9,4 @@ pub loop-read-preserved : goal.loop-read-preserved
 loop-read-preserved c =
     let types = c.args.types.types.now in
     subst (λ items. AllZip (IsType types) (take (c.loop-read.read-index + 1) types) (map type_seen items)) (sym c.in_ok-push.ensures.items)
-        (zipped-more (IsType types) type_seen types c.loop-read.made.items c.loop-read.read-index c.read-item.result c.in_ok-type_of.field-0 c.loop-read-test.true c.read-item.is c.loop-read.invariant c.in_ok-type_of.ensures)
+    (zipped-more (IsType types) type_seen types c.loop-read.made.items c.loop-read.read-index c.read-item.result c.in_ok-type_of.field-0 c.loop-read-test.true c.read-item.is c.loop-read.invariant c.in_ok-type_of.ensures)

@@ -1,4 +1,4 @@
-use Rattle.std.proofs.Common.{◌≡◌, map, take}
+use Rattle.std.proofs.Common.{map, take}
 use Rattle.std.specs.List.{AllZip}
 use Rattle.fb_schema.specs.Seen.{type_seen}
 use Rattle.fb_declare.specs.Declares.{IsType}

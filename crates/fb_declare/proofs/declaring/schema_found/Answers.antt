@@ -1,8 +1,7 @@
-use Rattle.std.proofs.Common.{◌≡◌, ◌∙◌, [], true, ap, sym, true≢false, is_some, Some, None}
-use Rattle.std.specs.Option.{option_map, option_copied}
+use Rattle.std.proofs.Common.{◌≡◌, ◌∙◌, ap, sym, true≢false, is_some, None}
+use Rattle.std.specs.Option.{option_map}
 use Rattle.fb_schema.specs.Seen.{schema_of}
-use Rattle.fb_declare.specs.Declares.{root_table, Gives}
-use Rattle.fb_declare.specs.DeclaredNames.{names_declared}
+use Rattle.fb_declare.specs.Declares.{root_table}
 use Rattle.fb_declare.specs.Found.{outline_found}
 use Rattle.fb_declare.proofs.Building.{buildable, root_some, root_right}
 use Rattle.fb_declare.proofs.Kept.{outline_right, identifier_kept, kept}
@@ -31,5 +30,5 @@ new-requires c =
     kept o (schema_of c.in_ok-types.types.items c.in-Some.root c.identifier_of.result) c.requires.sound (record {
       types = c.in_ok-types.ensures;
       root = sym (ap (option_map (λ n. n.0)) c.in-Some.is) ∙ c.in_ok-root.ensures;
-      identifier = c.identifier_of.ensures
+      identifier = c.identifier_of.ensures;
     })

@@ -1,5 +1,4 @@
-use Rattle.std.proofs.Common.{◌≡◌, ◌∙◌, ap, sym, [], ◌+◌, take, drop, get_or, arith}
-use Rattle.fb_syntax.specs.Located.{Located}
+use Rattle.std.proofs.Common.{◌≡◌, ◌∙◌, ap, sym, ◌+◌, take, drop, arith}
 use Rattle.fb_declare.specs.Faults.{earlier, least_of}
 use Rattle.fb_declare.specs.FaultRows.{names_again, is_among, when}
 use Rattle.fb_declare.specs.NamePlaces.{place_in}
@@ -15,11 +14,11 @@ loop-name-preserved c =
     let at : c.name.inside.at ≡ n.at = ap (λ t. t.at) c.name.view_is in
     record {
       least = rw (c.earlier-least.ensures, c.when.ensures, c.in_ok-again.ensures.before, text, at, c.loop-name.invariant.seen n.bytes)
-        (met-more c.loop-name.least (when (is_among n.bytes (take i ns)) (DuplicateName n.at)) (names_again (take (i + 1) ns) (drop (i + 1) ns))
-        ∙ ap (λ fs. earlier c.loop-name.least (least_of fs)) (sym (names_again-at ns i n c.loop-name-test.true c.name-item.is))
-        ∙ c.loop-name.invariant.least);
+          (met-more c.loop-name.least (when (is_among n.bytes (take i ns)) (DuplicateName n.at)) (names_again (take (i + 1) ns) (drop (i + 1) ns))
+          ∙ ap (λ fs. earlier c.loop-name.least (least_of fs)) (sym (names_again-at ns i n c.loop-name-test.true c.name-item.is))
+          ∙ c.loop-name.invariant.least);
       seen = λ name. rw (c.in_ok-again.ensures.noted name, text)
-        (is_among-at ns i n name (place_in c.loop-name.seen name) c.loop-name-test.true c.name-item.is (c.loop-name.invariant.seen name))
+          (is_among-at ns i n name (place_in c.loop-name.seen name) c.loop-name-test.true c.name-item.is (c.loop-name.invariant.seen name));
     }
 
 pub returns : goal.returns

@@ -7,5 +7,5 @@ use Rattle.fb_declare.proofs.names_again.names_again.Given as goal
 abbrev pub invariant-loop-name : goal.invariant-loop-name
 invariant-loop-name l = record {
   least : earlier l.least (least_of (names_again (take l.name-index l.names) (drop l.name-index l.names))) ≡ least_of (names_again [] l.names);
-  seen : (name : List ℕ) → is_some (place_in l.seen name) ≡ is_among name (take l.name-index l.names)
+  seen : (name : List ℕ) → is_some (place_in l.seen name) ≡ is_among name (take l.name-index l.names);
 }

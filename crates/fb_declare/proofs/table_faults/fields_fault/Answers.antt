@@ -1,7 +1,5 @@
-use Rattle.std.proofs.Common.{arith, ◌≡◌, ◌∙◌, ◌+◌, ap, sym, drop}
-use Rattle.std.specs.List.{flat_map}
+use Rattle.std.proofs.Common.{arith, ◌∙◌, sym}
 use Rattle.std.specs.Option.{option_copied}
-use Rattle.fb_declare.specs.Faults.{earlier, least_of}
 use Rattle.fb_declare.specs.DeclaredNames.{names_declared}
 use Rattle.fb_declare.specs.TypeFaults.{table_field_faults}
 use Rattle.fb_declare.proofs.Folded.{met-each, met-end}
@@ -11,7 +9,7 @@ pub loop-field-preserved : goal.loop-field-preserved
 loop-field-preserved c =
     let faults = table_field_faults c.args.types.types.now (names_declared c.args.declared) (option_copied c.args.scope) in
     rw (c.earlier-least.ensures, c.in_ok-field_fault.ensures)
-        (met-each faults c.loop-field.least c.args.fields.now c.loop-field.field-index c.field-item.result c.loop-field-test.true c.field-item.is ∙ c.loop-field.invariant)
+    (met-each faults c.loop-field.least c.args.fields.now c.loop-field.field-index c.field-item.result c.loop-field-test.true c.field-item.is ∙ c.loop-field.invariant)
 
 pub returns : goal.returns
 returns c =

@@ -1,4 +1,4 @@
-use Rattle.std.proofs.Common.{◌∙◌, sym, [], ap}
+use Rattle.std.proofs.Common.{[]}
 use Rattle.fb_declare.proofs.Places.{place_of-take}
 use Rattle.fb_declare.proofs.name_places.NamePlaces.of.Goals as goal
 

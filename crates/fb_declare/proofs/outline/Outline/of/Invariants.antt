@@ -1,6 +1,6 @@
 use Rattle.std.proofs.Common.{◌≡◌, ◌++◌, map, drop, None}
 use Rattle.std.specs.Option.{option_or, option_copied}
-use Rattle.fb_declare.specs.Outline.{Outline, types_in, attributes_in, root_in, identifier_in}
+use Rattle.fb_declare.specs.Outline.{types_in, attributes_in, root_in, identifier_in}
 use Rattle.fb_declare.proofs.outline.Outline.of.Given as goal
 
 -- what is noted, and what the declarations that are left give
@@ -10,5 +10,5 @@ invariant-loop-declaration l = let ds = drop l.declaration-index l.declaration-i
   attributes : map (λ a. a.now) l.outline-inside.attributes.items ++ attributes_in ds ≡ attributes_in l.decls.declarations;
   root : option_or (root_in scope ds) l.outline-inside.root ≡ root_in None l.decls.declarations;
   identifier : option_or (identifier_in ds) (option_copied l.outline-inside.identifier) ≡ identifier_in l.decls.declarations;
-  text_len : l.outline-inside.text_len ≡ l.decls.text_len
+  text_len : l.outline-inside.text_len ≡ l.decls.text_len;
 }

@@ -2,8 +2,8 @@ use Rattle.std.proofs.Common.{arith, ◌≡◌, ◌∙◌, sym, ap, [], ◌∷�
 use Rattle.std.specs.Option.{option_or, option_copied}
 use Rattle.fb_declare.specs.NamePlaces.{place_in}
 use Rattle.fb_declare.specs.Outline.{inside, names_of_types}
-use Rattle.fb_declare.specs.Scopes.{parents, place_of, last_some, readings, type_meant}
-use Rattle.fb_declare.proofs.Meant.{meant_in, meant_in-snoc, meant-more, meant-whole}
+use Rattle.fb_declare.specs.Scopes.{place_of, last_some, readings, type_meant}
+use Rattle.fb_declare.proofs.Meant.{meant-more, meant-whole}
 use Rattle.fb_declare.proofs.types_read.TypesRead.type_meant.Goals as goal
 
 pub loop-at-init : goal.loop-at-init
