@@ -32,3 +32,6 @@ mod value_names;
 pub use declaring::declare;
 pub use faults::SchemaFault;
 pub use laws::one_schema;
+
+#[cfg(test)]
+mod tests;
