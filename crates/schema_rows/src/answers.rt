@@ -1,0 +1,61 @@
+//! What a schema text gives.
+use crate::asks::{Ask, asked};
+use crate::shown::schema_line;
+use crate::texts::with_tables;
+use fb_declare::declare;
+use fb_schema::Schema;
+use fb_syntax::parse;
+use std::alloc::{AllocError, Global};
+
+/// How far a text came: refused, declared and shown as a whole, or asked for a part.
+#[derive(Clone, Copy, Drop)]
+pub(crate) enum Part {
+    Refused,
+    Declared,
+    Asked,
+}
+
+/// What a text gives, in one line.
+#[derive(Drop)]
+pub(crate) struct Answer {
+    pub(crate) part: Part,
+    pub(crate) text: String,
+}
+
+/// What a text with some tables before it gives: a fault, the whole schema, or what is asked.
+pub(crate) fn answer_of(
+    alloc: Global,
+    tables: u64,
+    text: &str,
+    ask: Option<&Ask>,
+) -> Result<Answer, AllocError> {
+    let text = with_tables(alloc, tables, text)?;
+    let decls = match parse(alloc, text.as_str().as_bytes()) {
+        Ok(decls) => decls,
+        Err(fault) => return refused(format!(in alloc; "{fault:?}")?),
+    };
+    match declare(alloc, &decls) {
+        Ok(schema) => accepted(alloc, &schema, ask),
+        Err(fault) => refused(format!(in alloc; "{fault:?}")?),
+    }
+}
+
+fn refused(text: String) -> Result<Answer, AllocError> {
+    Ok(Answer {
+        part: Part::Refused,
+        text,
+    })
+}
+
+fn accepted(alloc: Global, schema: &Schema, ask: Option<&Ask>) -> Result<Answer, AllocError> {
+    let Some(ask) = ask else {
+        return Ok(Answer {
+            part: Part::Declared,
+            text: schema_line(alloc, schema)?,
+        });
+    };
+    Ok(Answer {
+        part: Part::Asked,
+        text: asked(alloc, schema, ask)?,
+    })
+}

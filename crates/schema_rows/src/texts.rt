@@ -1,0 +1,22 @@
+//! Schema texts that are too long to stand in a row.
+use std::alloc::{AllocError, Global};
+
+/// A text behind some tables, `T0` and so on, each with nine integers, whose default is the
+/// table's number, and the table after it.
+pub(crate) fn with_tables(alloc: Global, tables: u64, text: &str) -> Result<String, AllocError> {
+    let mut all = String::new(alloc);
+    for number in 0..tables {
+        push_table(&mut all, number)?;
+    }
+    all.push_str(text)?;
+    Ok(all)
+}
+
+fn push_table(all: &mut String, number: u64) -> Result<(), AllocError> {
+    write!(all, "table T{number} {{ ")?;
+    for field in 0..9 {
+        write!(all, "f{field}:int = {number}; ")?;
+    }
+    let next = number.saturating_add(1);
+    write!(all, "next:T{next}; }}\n")
+}
