@@ -9,7 +9,7 @@ mod shown;
 mod tally;
 mod texts;
 
-use crate::rows::judge;
+use crate::rows::{Verdict, judge};
 use crate::tally::Tally;
 use std::io::{self, BufRead, BufReader};
 use std::process::ExitCode;
@@ -19,7 +19,8 @@ fn main(rt: HostRuntime) -> io::Result<ExitCode> {
     let input = BufReader::new(rt.alloc(), rt.reader())?;
     for line in input.lines(rt.alloc()) {
         let verdict = judge(rt.alloc(), line?.as_str())?;
-        if let Some(wrong) = tally.count(&verdict) {
+        tally.count(&verdict);
+        if let Verdict::Wrong(wrong) = &verdict {
             println!(rt; "{wrong}")?;
         }
     }

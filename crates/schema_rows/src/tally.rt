@@ -14,16 +14,15 @@ pub(crate) struct Tally {
 }
 
 impl Tally {
-    /// Counts a verdict, and answers what was wrong.
-    pub(crate) fn count<'v>(&mut self, verdict: &'v Verdict) -> Option<&'v str> {
-        let (counter, wrong) = match verdict {
-            Verdict::Holds(Part::Refused) => (&mut self.refused, None),
-            Verdict::Holds(Part::Declared) => (&mut self.declared, None),
-            Verdict::Holds(Part::Asked) => (&mut self.asked, None),
-            Verdict::Wrong(wrong) => (&mut self.wrong, Some(wrong.as_str())),
+    /// Counts a verdict.
+    pub(crate) fn count(&mut self, verdict: &Verdict) {
+        let counter = match verdict {
+            Verdict::Holds(Part::Refused) => &mut self.refused,
+            Verdict::Holds(Part::Declared) => &mut self.declared,
+            Verdict::Holds(Part::Asked) => &mut self.asked,
+            Verdict::Wrong(_) => &mut self.wrong,
         };
         *counter = counter.saturating_add(1);
-        wrong
     }
 
     /// Success where no row was wrong.
