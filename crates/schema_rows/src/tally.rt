@@ -43,6 +43,9 @@ impl fmt::Display for Tally {
             asked,
             wrong,
         } = self;
-        write!(f, "{refused} refused, {declared} declared, {asked} asked, {wrong} wrong")
+        write!(
+            f,
+            "{refused} refused, {declared} declared, {asked} asked, {wrong} wrong"
+        )
     }
 }
