@@ -40,6 +40,7 @@ pub(crate) fn answer_of(
     }
 }
 
+/// The answer of a text that is refused with a fault.
 fn refused(text: String) -> Result<Answer, AllocError> {
     Ok(Answer {
         part: Part::Refused,
@@ -47,6 +48,7 @@ fn refused(text: String) -> Result<Answer, AllocError> {
     })
 }
 
+/// The answer of a schema: what is asked of it, or the whole.
 fn accepted(alloc: Global, schema: &Schema, ask: Option<&Ask>) -> Result<Answer, AllocError> {
     let Some(ask) = ask else {
         return Ok(Answer {

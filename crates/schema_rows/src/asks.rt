@@ -37,12 +37,14 @@ pub(crate) fn asked(alloc: Global, schema: &Schema, ask: &Ask) -> Result<String,
     }
 }
 
+/// How many types a schema has, and its root.
 fn size(alloc: Global, schema: &Schema) -> Result<String, AllocError> {
     let count = schema.types().len();
     let root = schema.root().0;
     format!(in alloc; "{count} types, root {root}")
 }
 
+/// A type's number.
 fn type_line(alloc: Global, found: Option<TypeId>) -> Result<String, AllocError> {
     match found {
         Some(TypeId(number)) => format!(in alloc; "type {number}"),
@@ -50,6 +52,7 @@ fn type_line(alloc: Global, found: Option<TypeId>) -> Result<String, AllocError>
     }
 }
 
+/// The answer where there is nothing.
 fn none(alloc: Global) -> Result<String, AllocError> {
     String::from_str(alloc, "none")
 }

@@ -2,6 +2,7 @@
 use fb_schema::{Base, Body, FieldInfo, Kind, Schema, Shape, TypeInfo};
 use std::alloc::{AllocError, Global};
 
+/// A basic type's name, by its size.
 fn base_word(base: Base) -> &'static str {
     match base {
         Base::Bool => "bool",
@@ -16,6 +17,7 @@ fn base_word(base: Base) -> &'static str {
     }
 }
 
+/// Adds a kind, with the number of its type.
 fn push_kind(line: &mut String, kind: Kind) -> Result<(), AllocError> {
     match kind {
         Kind::Scalar(base) => line.push_str(base_word(base)),
@@ -28,6 +30,7 @@ fn push_kind(line: &mut String, kind: Kind) -> Result<(), AllocError> {
     }
 }
 
+/// Adds a kind, in brackets where it is that of a vector.
 fn push_shape(line: &mut String, shape: Shape) -> Result<(), AllocError> {
     match shape {
         Shape::One(kind) => push_kind(line, kind),
@@ -58,6 +61,7 @@ fn push_field(line: &mut String, field: &FieldInfo) -> Result<(), AllocError> {
     Ok(())
 }
 
+/// Adds all fields of a table or struct.
 fn push_fields(line: &mut String, fields: &[FieldInfo]) -> Result<(), AllocError> {
     for field in fields {
         line.push_str("; ")?;
@@ -66,6 +70,7 @@ fn push_fields(line: &mut String, fields: &[FieldInfo]) -> Result<(), AllocError
     Ok(())
 }
 
+/// Adds all values of an enum.
 fn push_values(line: &mut String, values: &[(String, i128)]) -> Result<(), AllocError> {
     for (name, number) in values {
         write!(line, "; {} = {}", name, *number)?;
@@ -73,6 +78,7 @@ fn push_values(line: &mut String, values: &[(String, i128)]) -> Result<(), Alloc
     Ok(())
 }
 
+/// Adds a type, with all that it has.
 fn push_type(line: &mut String, info: &TypeInfo) -> Result<(), AllocError> {
     match &info.body {
         Body::Table(fields) => {

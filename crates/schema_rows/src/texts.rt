@@ -12,6 +12,7 @@ pub(crate) fn with_tables(alloc: Global, tables: u64, text: &str) -> Result<Stri
     Ok(all)
 }
 
+/// Adds one such table.
 fn push_table(all: &mut String, number: u64) -> Result<(), AllocError> {
     write!(all, "table T{number} {{ ")?;
     for field in 0..9 {
