@@ -50,6 +50,7 @@ impl From<AllocError> for SchemaFault {
 
 impl<T: Drop> From<AllocFailed<T>> for SchemaFault {
     ghost use Rattle.std.specs.Prelude.{◌≡◌};
+    ghost use Rattle.fb_declare.specs.declared.faults.SchemaFault.TheVariants.{Memory};
 
     ghost from_gives = { λ _ e. e ≡ Memory };
 

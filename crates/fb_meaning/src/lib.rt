@@ -18,9 +18,7 @@ mod value_names;
 pub use attributes::{Known, integer_of, is_alignment, known_attribute};
 pub use basic_types::is_reserved;
 pub use defaults::{Given, given_by};
-pub use enums::{
-    has_flags, integer_type, may_be_written, underlying, values_read, written_number,
-};
+pub use enums::{has_flags, integer_type, may_be_written, underlying, values_read, written_number};
 pub use ids::{are_ids_wrong, table_slots};
 pub use meanings::{Meaning, type_name};
 pub use members::{is_table, member_name, table_of};

@@ -15,7 +15,7 @@ pub struct TypeRead<'d> {
 
 impl<'d> Model for TypeRead<'d> {
     ghost use Rattle.std.specs.Option.{option_copied};
-    ghost use Rattle.fb_meaning.specs.Outline.{TypeRead as Read, RootRead as Read, Outline as Outlined};
+    ghost use Rattle.fb_meaning.specs.Outline.{TypeRead as Read};
 
     ghost Value = { Read };
 
@@ -31,6 +31,7 @@ pub struct RootRead<'d> {
 
 impl<'d> Model for RootRead<'d> {
     ghost use Rattle.std.specs.Option.{option_copied};
+    ghost use Rattle.fb_meaning.specs.Outline.{RootRead as Read};
 
     ghost Value = { Read };
 
@@ -50,6 +51,7 @@ pub struct Outline<'d> {
 impl<'d> Model for Outline<'d> {
     ghost use Rattle.std.specs.Prelude.{map};
     ghost use Rattle.std.specs.Option.{option_copied};
+    ghost use Rattle.fb_meaning.specs.Outline.{Outline as Outlined};
 
     ghost Value = { Outlined };
 
