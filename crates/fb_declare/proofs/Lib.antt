@@ -1,5 +1,5 @@
 pub mod Least
-pub mod Met
+pub mod LeastMet
 pub mod Again
 pub mod Metadata
 pub mod PlaceFound

@@ -11,7 +11,7 @@ use Rattle.fb_syntax.specs.declared.declarations.Declaration.{Declaration}
 use Rattle.fb_syntax.specs.declared.declarations.Declaration.TheVariants as declarations
 use Rattle.fb_schema.specs.Schema.{Name}
 use Rattle.fb_schema.specs.WellDeclared.{is_unsigned}
-use Rattle.fb_meaning.specs.Outline.{TypeRead, Outline, outline_of, word_of, name_of_type}
+use Rattle.fb_meaning.specs.Outline.{TypeRead, Outline, outline_of, word_of, located_name}
 use Rattle.fb_meaning.specs.Meaning.{meaning_of, meaning_in}
 use Rattle.fb_declare.specs.AttributeFaults.{metadata_faults}
 use Rattle.fb_meaning.specs.EnumsRead.{underlying, has_flags}

@@ -8,7 +8,10 @@ ghost use Rattle.fb_meaning.specs.MembersRead.{member_read};
 ghost use Rattle.fb_declare.specs.Declares.{HasBody, IsType};
 ghost use Rattle.fb_declare.specs.Buildable.{IsBuildable, AreBuildable};
 
-use fb_meaning::{TypeRead, TypesRead, forced_align, has_flags, member_name, name_of_type, parts_read, table_of, table_slots, underlying, values_read};
+use fb_meaning::{
+    TypeRead, TypesRead, forced_align, has_flags, member_name, name_of_type, parts_read, table_of,
+    table_slots, underlying, values_read,
+};
 use fb_schema::{Base, Body, TypeId, TypeInfo};
 use fb_syntax::{Declaration, EnumDeclaration, TableDeclaration, UnionDeclaration, UnionMember};
 use std::alloc::{AllocError, Global};

@@ -1,14 +1,12 @@
 //! Where the types of fields are at fault.
 ghost use Rattle.std.specs.Prelude.{◌≡◌};
-ghost use Rattle.std.specs.Option.{option_copied};
 ghost use Rattle.fb_declare.specs.Faults.{least_of};
-ghost use Rattle.fb_meaning.specs.Meaning.{type_name};
-ghost use Rattle.fb_declare.specs.FaultRows.{use_faults, union_vector, table_field_type, part_faults, struct_field_type, default_at, default_in_struct};
+ghost use Rattle.fb_declare.specs.FaultRows.{use_faults, union_vector, table_field_type, part_faults, struct_field_type};
 
 use crate::faults::{SchemaFault, earlier, when};
-use fb_meaning::Meaning;
+use fb_meaning::{Meaning, type_name};
 use fb_schema::{Kind, TypeId};
-use fb_syntax::{DefaultValue, FieldType, Text};
+use fb_syntax::FieldType;
 
 /// A type that isn't found, or is a float type.
 #[tactic(auto, unfolding(crate::specs::FaultRows::use_faults, crate::specs::Faults::least_of))]

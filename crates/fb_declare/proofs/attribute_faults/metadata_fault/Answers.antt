@@ -4,7 +4,7 @@ use Rattle.fb_declare.specs.AttributeFaults.{attribute_faults, metadata_faults, 
 use Rattle.fb_declare.specs.DeclaredNames.{names_declared}
 use Rattle.fb_declare.specs.Faults.{earlier, least_of}
 use Rattle.fb_declare.proofs.Metadata.{metadata_faults-at, metadata_faults-end}
-use Rattle.fb_declare.proofs.Met.{met-more, met-all}
+use Rattle.fb_declare.proofs.LeastMet.{met-more, met-all}
 use Rattle.fb_declare.proofs.attribute_faults.metadata_fault.Goals as goal
 
 pub loop-attribute-preserved : goal.loop-attribute-preserved

@@ -12,7 +12,7 @@ use Rattle.fb_declare.specs.Faults.{earlier, least_of}
 use Rattle.fb_declare.specs.FaultRows.{when, is_out_of_range, bad_values}
 use Rattle.fb_meaning.proofs.Written.{written-near, next-near, next-sum, sum-fits}
 use Rattle.fb_declare.proofs.BadValues.{bad_values-at, bad_values-end}
-use Rattle.fb_declare.proofs.Met.{met-more, met-all}
+use Rattle.fb_declare.proofs.LeastMet.{met-more, met-all}
 use Rattle.fb_declare.proofs.value_faults.bad_values.Goals as goal
 
 pub overflow_add-next : goal.overflow_add-next
