@@ -1,6 +1,6 @@
 -- The attributes that need no declaration, and the integers that attributes have.
 -- From the FlatBuffers documentation, "Writing a schema": Attributes.
-use Rattle.std.specs.Prelude.{ℕ, ◌==◌, ◌&&◌, Bool, true, false, List, [], ◌∷◌, Option, None, Some, ℤ, pos, negsuc, codes, nat_le, if◌then◌else◌}
+use Rattle.std.specs.Prelude.{ℕ, ◌==◌, ◌&&◌, Bool, false, List, [], ◌∷◌, Option, None, Some, ℤ, pos, negsuc, codes, nat_le, if◌then◌else◌}
 use Rattle.std.specs.List.{list_any, find}
 use Rattle.std.specs.Option.{option_and_then}
 use Rattle.std.specs.Str.{bytes_eq}
