@@ -6,15 +6,15 @@ use Rattle.fb_syntax.specs.declared.declarations.Declaration.TheVariants as decl
 use Rattle.fb_schema.specs.Schema.{Name}
 use Rattle.fb_declare.specs.declared.faults.SchemaFault.{SchemaFault}
 use Rattle.fb_declare.specs.declared.faults.SchemaFault.TheVariants.{BadIds, BadRoot}
-use Rattle.fb_declare.specs.declared.attributes.Place.TheVariants as places
+use Rattle.fb_declare.specs.declared.attribute_faults.Place.TheVariants as places
 use Rattle.fb_declare.specs.Faults.{comes_before, earlier, least_of}
-use Rattle.fb_declare.specs.Outline.{Outline, TypeRead, RootRead, types_in, scope_named, word_of, names_of_types}
-use Rattle.fb_declare.specs.Meaning.{meaning_of}
-use Rattle.fb_declare.specs.Attributes.{metadata_faults}
-use Rattle.fb_declare.specs.SlotsRead.{are_ids_wrong}
-use Rattle.fb_declare.specs.MembersRead.{table_of}
+use Rattle.fb_meaning.specs.Outline.{Outline, TypeRead, RootRead, types_in, scope_named, word_of, names_of_types, located_name}
+use Rattle.fb_meaning.specs.Meaning.{meaning_of}
+use Rattle.fb_declare.specs.AttributeFaults.{metadata_faults}
+use Rattle.fb_meaning.specs.SlotsRead.{are_ids_wrong}
+use Rattle.fb_meaning.specs.MembersRead.{table_of}
 use Rattle.fb_declare.specs.FaultRows.{when, names_again, reserved_name, use_faults, bad_root, root_faults, identifier_faults}
-use Rattle.fb_declare.specs.TypeFaults.{names_of_field, table_field_faults, table_faults, declaration_faults, type_faults, faults_of_types, located_name, faults_of_outline}
+use Rattle.fb_declare.specs.TypeFaults.{names_of_field, table_field_faults, table_faults, declaration_faults, type_faults, faults_of_types, faults_of_outline}
 use Rattle.fb_declare.specs.Declares.{root_table}
 use Rattle.fb_declare.specs.Buildable.{IsBuildable, AreBuildable}
 use Rattle.fb_declare.specs.Found.{DeclaresType, DeclareTypes}

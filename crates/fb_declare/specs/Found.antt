@@ -3,7 +3,7 @@ use Rattle.std.specs.Prelude.{ℕ, ◌≡◌, List, Some, slice_get}
 use Rattle.std.specs.Option.{option_copied}
 use Rattle.fb_syntax.specs.declared.declarations.Declaration.{Declaration}
 use Rattle.fb_syntax.specs.declared.declarations.Declaration.TheVariants as declarations
-use Rattle.fb_declare.specs.Outline.{Outline, TypeRead}
+use Rattle.fb_meaning.specs.Outline.{Outline, TypeRead}
 use Rattle.fb_declare.specs.DeclaredNames.{names_declared}
 use Rattle.fb_declare.specs.declared.found.Found.{Found}
 

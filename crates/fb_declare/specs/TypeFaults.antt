@@ -11,24 +11,24 @@ use Rattle.fb_syntax.specs.declared.declarations.Declaration.{Declaration}
 use Rattle.fb_syntax.specs.declared.declarations.Declaration.TheVariants as declarations
 use Rattle.fb_schema.specs.Schema.{Name}
 use Rattle.fb_schema.specs.WellDeclared.{is_unsigned}
-use Rattle.fb_declare.specs.Outline.{TypeRead, Outline, outline_of, word_of, name_of_type}
-use Rattle.fb_declare.specs.Meaning.{meaning_of, meaning_in}
-use Rattle.fb_declare.specs.Attributes.{metadata_faults}
-use Rattle.fb_declare.specs.EnumsRead.{underlying, has_flags}
-use Rattle.fb_declare.specs.Defaults.{given_in}
-use Rattle.fb_declare.specs.SlotsRead.{union_in, name_of_code, are_ids_wrong}
-use Rattle.fb_declare.specs.StructsRead.{natural_align, align_of_read}
-use Rattle.fb_declare.specs.MembersRead.{member_name}
+use Rattle.fb_meaning.specs.Outline.{TypeRead, Outline, outline_of, word_of, located_name}
+use Rattle.fb_meaning.specs.Meaning.{meaning_of, meaning_in}
+use Rattle.fb_declare.specs.AttributeFaults.{metadata_faults}
+use Rattle.fb_meaning.specs.EnumsRead.{underlying, has_flags}
+use Rattle.fb_meaning.specs.Defaults.{given_in}
+use Rattle.fb_meaning.specs.SlotsRead.{union_in, name_of_code, are_ids_wrong}
+use Rattle.fb_meaning.specs.StructsRead.{natural_align, align_of_read}
+use Rattle.fb_meaning.specs.MembersRead.{member_name}
 use Rattle.fb_declare.specs.FaultRows.{when, names_again, reserved_name, table_field_type, struct_field_type, bad_default, default_in_struct, underlying_faults, bad_values, member_faults, root_faults, identifier_faults}
 use Rattle.fb_schema.specs.declared.kinds.Base.{Base}
 use Rattle.fb_schema.specs.declared.kinds.TypeId.{TypeId}
 use Rattle.fb_schema.specs.declared.kinds.Kind.TheVariants.{Scalar, Enum}
 use Rattle.fb_syntax.specs.declared.declarations.FieldType.{FieldType}
 use Rattle.fb_syntax.specs.declared.declarations.FieldType.TheVariants.{One}
-use Rattle.fb_declare.specs.declared.meanings.Meaning.{Meaning}
-use Rattle.fb_declare.specs.declared.meanings.Meaning.TheVariants.{Known}
-use Rattle.fb_declare.specs.declared.attributes.Place.{Place}
-use Rattle.fb_declare.specs.declared.attributes.Place.TheVariants as places
+use Rattle.fb_meaning.specs.declared.meanings.Meaning.{Meaning}
+use Rattle.fb_meaning.specs.declared.meanings.Meaning.TheVariants.{Known}
+use Rattle.fb_declare.specs.declared.attribute_faults.Place.{Place}
+use Rattle.fb_declare.specs.declared.attribute_faults.Place.TheVariants as places
 use Rattle.fb_declare.specs.declared.faults.SchemaFault.{SchemaFault}
 use Rattle.fb_declare.specs.declared.faults.SchemaFault.TheVariants.{BadIds, EmptyStruct}
 
@@ -119,10 +119,6 @@ unfoldable pub faults_of_types : List TypeRead → List Name → List ℕ → Li
 faults_of_types types declared lower [] = []
 faults_of_types types declared lower (r ∷ rs) = type_faults types declared lower r
     ++ faults_of_types types declared (lower ++ align_of_read types lower r ∷ []) rs
-
--- a type's full name, and where its own stands
-abbrev pub located_name : TypeRead → Located
-located_name r = record { bytes = name_of_type r; at = (word_of r.declaration).at }
 
 -- all that is wrong with what a text declares
 unfoldable pub faults_of_outline : Outline → List SchemaFault

@@ -4,16 +4,14 @@ ghost use Rattle.std.specs.List.{AllZip};
 ghost use Rattle.std.specs.Option.{option_copied};
 ghost use Rattle.fb_schema.specs.Seen.{body_seen, type_seen};
 ghost use Rattle.fb_syntax.specs.declared.declarations.Declaration.TheVariants as Declaration;
-ghost use Rattle.fb_declare.specs.MembersRead.{member_read};
+ghost use Rattle.fb_meaning.specs.MembersRead.{member_read};
 ghost use Rattle.fb_declare.specs.Declares.{HasBody, IsType};
 ghost use Rattle.fb_declare.specs.Buildable.{IsBuildable, AreBuildable};
 
-use crate::enums::{has_flags, underlying, values_read};
-use crate::ids::table_slots;
-use crate::members::{member_name, table_of};
-use crate::outline::{TypeRead, name_of_type};
-use crate::structs::{forced_align, parts_read};
-use crate::types_read::TypesRead;
+use fb_meaning::{
+    TypeRead, TypesRead, forced_align, has_flags, member_name, name_of_type, parts_read, table_of,
+    table_slots, underlying, values_read,
+};
 use fb_schema::{Base, Body, TypeId, TypeInfo};
 use fb_syntax::{Declaration, EnumDeclaration, TableDeclaration, UnionDeclaration, UnionMember};
 use std::alloc::{AllocError, Global};

@@ -7,14 +7,13 @@ ghost use Rattle.fb_declare.specs.FaultRows.{underlying_faults};
 ghost use Rattle.fb_declare.specs.DeclaredNames.{names_declared};
 ghost use Rattle.fb_declare.specs.TypeFaults.{place_of_enum, enum_faults};
 
-use crate::attributes::{Place, metadata_fault};
+use crate::attribute_faults::{Place, metadata_fault};
 use crate::copies::copy_of;
 use crate::declared_names::DeclaredNames;
-use crate::enums::{bad_values, has_flags, integer_type};
 use crate::faults::{SchemaFault, earlier, when};
-use crate::meanings::Meaning;
 use crate::names_again::names_again;
-use crate::types_read::TypesRead;
+use crate::value_faults::bad_values;
+use fb_meaning::{Meaning, TypesRead, has_flags, integer_type};
 use fb_schema::Base;
 use fb_syntax::{EnumDeclaration, EnumValue, Text};
 use std::alloc::{AllocError, Global};

@@ -1,23 +1,12 @@
 //! Where the types of fields are at fault.
 ghost use Rattle.std.specs.Prelude.{◌≡◌};
-ghost use Rattle.std.specs.Option.{option_copied};
 ghost use Rattle.fb_declare.specs.Faults.{least_of};
-ghost use Rattle.fb_declare.specs.Meaning.{type_name};
-ghost use Rattle.fb_declare.specs.FaultRows.{use_faults, union_vector, table_field_type, part_faults, struct_field_type, default_at, default_in_struct};
+ghost use Rattle.fb_declare.specs.FaultRows.{use_faults, union_vector, table_field_type, part_faults, struct_field_type};
 
 use crate::faults::{SchemaFault, earlier, when};
-use crate::meanings::Meaning;
+use fb_meaning::{Meaning, type_name};
 use fb_schema::{Kind, TypeId};
-use fb_syntax::{DefaultValue, FieldType, Text};
-
-/// The name in a field's type.
-pub(crate) fn type_name(kind: &FieldType) -> &Text
-    ensures { result.now ≡ type_name kind.now }
-{
-    match kind {
-        FieldType::One(name) | FieldType::Many(_, name) => name,
-    }
-}
+use fb_syntax::FieldType;
 
 /// A type that isn't found, or is a float type.
 #[tactic(auto, unfolding(crate::specs::FaultRows::use_faults, crate::specs::Faults::least_of))]
@@ -83,20 +72,4 @@ pub(crate) fn struct_field_type(
         use_fault(meaning, type_name(kind).at),
         part_fault(number, kind, meaning),
     )
-}
-
-pub(crate) fn default_at(default: &DefaultValue) -> u64
-    ensures { result ≡ default_at default.now }
-{
-    match default {
-        DefaultValue::Integer(text) | DefaultValue::Name(text) => text.at,
-    }
-}
-
-/// A default in a struct.
-#[tactic(auto, unfolding(crate::specs::FaultRows::default_in_struct, crate::specs::Faults::least_of))]
-pub(crate) fn default_in_struct(default: Option<&DefaultValue>) -> Option<SchemaFault>
-    ensures { result ≡ least_of (default_in_struct (option_copied default.entry)) }
-{
-    default.map(|default| SchemaFault::BadDefault(default_at(default)))
 }

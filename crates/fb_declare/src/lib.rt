@@ -1,33 +1,24 @@
 //! What the declarations of a FlatBuffers schema text give, and where they are at fault.
 #![tactic(auto)]
 
-mod attributes;
-mod basic_types;
+mod attribute_faults;
 mod bodies;
 mod copies;
 mod declared_names;
 mod declaring;
-mod defaults;
+mod default_faults;
 mod enum_faults;
-mod enums;
 mod faults;
 mod field_types;
 mod found;
-mod ids;
 mod laws;
-mod meanings;
-mod members;
-mod name_places;
+mod member_faults;
 mod names_again;
-mod outline;
-mod slots;
 mod struct_faults;
-mod structs;
 mod table_faults;
 mod type_faults;
-mod types_read;
 mod union_faults;
-mod value_names;
+mod value_faults;
 
 pub use declaring::declare;
 pub use faults::SchemaFault;

@@ -6,14 +6,14 @@ ghost use Rattle.fb_declare.specs.Faults.{least_of};
 ghost use Rattle.fb_declare.specs.DeclaredNames.{names_declared};
 ghost use Rattle.fb_declare.specs.TypeFaults.{struct_field_faults, is_empty_list, struct_faults};
 
-use crate::attributes::{Place, metadata_fault};
+use crate::attribute_faults::{Place, metadata_fault};
 use crate::copies::copy_of;
 use crate::declared_names::DeclaredNames;
+use crate::default_faults::default_in_struct;
 use crate::faults::{SchemaFault, earlier, when};
-use crate::field_types::{default_in_struct, struct_field_type, type_name};
+use crate::field_types::struct_field_type;
 use crate::names_again::names_again;
-use crate::structs::natural_align;
-use crate::types_read::TypesRead;
+use fb_meaning::{TypesRead, natural_align, type_name};
 use fb_syntax::{Field, TableDeclaration, Text};
 use std::alloc::{AllocError, Global};
 

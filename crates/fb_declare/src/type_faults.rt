@@ -5,23 +5,18 @@ ghost use Rattle.std.specs.Option.{option_copied};
 ghost use Rattle.fb_syntax.specs.Located.{Located};
 ghost use Rattle.fb_declare.specs.Faults.{least_of};
 ghost use Rattle.fb_declare.specs.DeclaredNames.{names_declared};
-ghost use Rattle.fb_declare.specs.Outline.{word_of};
+ghost use Rattle.fb_meaning.specs.Outline.{word_of};
 ghost use Rattle.fb_declare.specs.FaultRows.{reserved_name, use_faults, bad_root, root_faults, is_printable, is_identifier, identifier_faults};
 ghost use Rattle.fb_declare.specs.TypeFaults.{declaration_faults, type_faults, faults_of_types};
 
-use crate::basic_types::is_reserved;
 use crate::declared_names::DeclaredNames;
 use crate::enum_faults::enum_fault;
 use crate::faults::{SchemaFault, earlier, when};
 use crate::field_types::use_fault;
-use crate::meanings::Meaning;
-use crate::members::is_table;
-use crate::outline::{RootRead, TypeRead};
 use crate::struct_faults::struct_fault;
-use crate::structs::align_of_read;
 use crate::table_faults::table_fault;
-use crate::types_read::TypesRead;
 use crate::union_faults::union_fault;
+use fb_meaning::{Meaning, RootRead, TypeRead, TypesRead, align_of_read, is_reserved, is_table};
 use fb_syntax::{Declaration, Text};
 use std::alloc::{AllocError, Global};
 

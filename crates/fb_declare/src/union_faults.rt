@@ -3,17 +3,17 @@ ghost use Rattle.std.specs.Prelude.{◌≡◌, [], IfOk, map};
 ghost use Rattle.std.specs.Option.{option_copied};
 ghost use Rattle.fb_declare.specs.Faults.{least_of};
 ghost use Rattle.fb_declare.specs.DeclaredNames.{names_declared};
-ghost use Rattle.fb_declare.specs.MembersRead.{member_name};
-ghost use Rattle.fb_declare.specs.Meaning.{meaning_of};
+ghost use Rattle.fb_meaning.specs.MembersRead.{member_name};
+ghost use Rattle.fb_meaning.specs.Meaning.{meaning_of};
 ghost use Rattle.fb_declare.specs.FaultRows.{member_faults};
 ghost use Rattle.fb_declare.specs.TypeFaults.{members_faults, union_faults};
 
-use crate::attributes::{Place, metadata_fault};
+use crate::attribute_faults::{Place, metadata_fault};
 use crate::declared_names::DeclaredNames;
 use crate::faults::{SchemaFault, earlier};
-use crate::members::{member_fault, member_name};
+use crate::member_faults::member_fault;
 use crate::names_again::names_again;
-use crate::types_read::TypesRead;
+use fb_meaning::{TypesRead, member_name};
 use fb_syntax::{Text, UnionDeclaration, UnionMember};
 use std::alloc::{AllocError, Global};
 

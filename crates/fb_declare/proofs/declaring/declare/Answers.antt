@@ -1,7 +1,7 @@
 use Rattle.std.proofs.Common.{◌∙◌, map, ap, sym, subst, None}
 use Rattle.std.specs.Option.{option_copied}
-use Rattle.fb_declare.specs.Outline.{outline_of, names_of_types}
-use Rattle.fb_declare.specs.Scopes.{place_of}
+use Rattle.fb_meaning.specs.Outline.{outline_of, names_of_types}
+use Rattle.fb_meaning.specs.Scopes.{place_of}
 use Rattle.fb_declare.specs.TypeFaults.{faults_of_outline, faults_of}
 use Rattle.fb_declare.specs.Declares.{Gives}
 use Rattle.fb_declare.specs.Found.{DeclareTypes}

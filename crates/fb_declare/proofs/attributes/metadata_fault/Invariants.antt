@@ -1,8 +1,0 @@
-use Rattle.std.proofs.Common.{◌≡◌, [], drop}
-use Rattle.fb_declare.specs.Attributes.{metadata_faults}
-use Rattle.fb_declare.specs.DeclaredNames.{names_declared}
-use Rattle.fb_declare.specs.Faults.{earlier, least_of}
-use Rattle.fb_declare.proofs.attributes.metadata_fault.Given as goal
-
-abbrev pub invariant-loop-attribute : goal.invariant-loop-attribute
-invariant-loop-attribute l = earlier l.least (least_of (metadata_faults (names_declared l.declared) l.place l.seen.items (drop l.attribute-index l.attributes))) ≡ least_of (metadata_faults (names_declared l.declared) l.place [] l.attributes)

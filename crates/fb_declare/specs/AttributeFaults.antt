@@ -1,0 +1,77 @@
+-- Where each attribute may stand and with which value, and which are at fault.
+-- From the FlatBuffers documentation, "Writing a schema": Attributes.
+use Rattle.std.specs.Prelude.{◌||◌, ◌++◌, not, Bool, true, false, List, [], ◌∷◌, Option, None, Some, codes, if◌then◌else◌}
+use Rattle.std.specs.List.{list_any, starts_with}
+use Rattle.std.specs.Bool.{nat_eq}
+use Rattle.std.specs.Str.{bytes_eq}
+use Rattle.fb_syntax.specs.declared.declarations.AttributeUse.{AttributeUse}
+use Rattle.fb_syntax.specs.declared.declarations.AttributeValue.{AttributeValue}
+use Rattle.fb_syntax.specs.declared.declarations.AttributeValue.TheVariants.{Integer}
+use Rattle.fb_schema.specs.Schema.{Name}
+use Rattle.fb_meaning.specs.Attributes.{integer_of, spelling, known_attribute, is_alignment}
+use Rattle.fb_declare.specs.declared.faults.SchemaFault.{SchemaFault}
+use Rattle.fb_declare.specs.declared.faults.SchemaFault.TheVariants.{BadAttribute, UnknownAttribute, Unsupported}
+use Rattle.fb_meaning.specs.declared.attributes.Known.{Known}
+use Rattle.fb_meaning.specs.declared.attributes.Known.TheVariants.{Id, Required, Deprecated, ForceAlign, BitFlags, OriginalOrder}
+use Rattle.fb_declare.specs.declared.attribute_faults.Place.{Place}
+use Rattle.fb_declare.specs.declared.attribute_faults.Place.TheVariants.{Table, Struct, Enum, ScalarField, TableField, StructField}
+
+-- the attributes of FlatBuffers that this project leaves out
+unfoldable pub is_left_out : Name → Bool
+is_left_out name =
+    (bytes_eq name (codes "key") || bytes_eq name (codes "hash") || bytes_eq name (codes "shared")
+    || bytes_eq name (codes "nested_flatbuffer") || bytes_eq name (codes "flexbuffer"))
+    || starts_with nat_eq name (codes "native_")
+
+-- `force_align` of a field, too, is left out
+abbrev pub is_force_align_of_field : Place → Option Known → Bool
+is_force_align_of_field ScalarField (Some ForceAlign) = true
+is_force_align_of_field TableField (Some ForceAlign) = true
+is_force_align_of_field StructField (Some ForceAlign) = true
+is_force_align_of_field _ _ = false
+
+-- where each known attribute may stand, and with which value
+unfoldable pub may_stand : Place → Known → Option AttributeValue → Bool
+may_stand ScalarField Id (Some (Integer n)) = true
+may_stand TableField Id (Some (Integer n)) = true
+may_stand TableField Required None = true
+may_stand ScalarField Deprecated None = true
+may_stand TableField Deprecated None = true
+may_stand (Struct natural) ForceAlign (Some (Integer n)) = is_alignment natural (integer_of n)
+may_stand Enum BitFlags None = true
+may_stand Table OriginalOrder None = true
+may_stand (Struct natural) OriginalOrder None = true
+may_stand _ _ _ = false
+
+abbrev pub is_known : Known → Known → Bool
+is_known k l = bytes_eq (spelling k) (spelling l)
+
+-- the known attributes of a list, each once
+abbrev pub noted : List Known → Option Known → List Known
+noted seen None = seen
+noted seen (Some k) = if list_any (is_known k) seen then seen else seen ++ k ∷ []
+
+-- a known attribute in a wrong place, with a wrong value, or again
+abbrev pub is_bad_attribute : Place → List Known → Known → Option AttributeValue → Bool
+is_bad_attribute place seen k value = not (may_stand place k value) || list_any (is_known k) seen
+
+abbrev pub faults_of_known : Place → List Known → AttributeUse → Known → List SchemaFault
+faults_of_known place seen a k = if is_bad_attribute place seen k a.value then BadAttribute a.name.at ∷ [] else []
+
+abbrev pub faults_of_other : List Name → AttributeUse → List SchemaFault
+faults_of_other declared a = if list_any (bytes_eq a.name.bytes) declared then [] else UnknownAttribute a.name.at ∷ []
+
+abbrev pub faults_by_name : List Name → Place → List Known → AttributeUse → Option Known → List SchemaFault
+faults_by_name declared place seen a (Some k) = faults_of_known place seen a k
+faults_by_name declared place seen a None = faults_of_other declared a
+
+-- the faults of one attribute behind others
+unfoldable pub attribute_faults : List Name → Place → List Known → AttributeUse → List SchemaFault
+attribute_faults declared place seen a = let known = known_attribute a.name.bytes in
+    if is_left_out a.name.bytes || is_force_align_of_field place known then Unsupported a.name.at ∷ [] else
+    faults_by_name declared place seen a known
+
+unfoldable pub metadata_faults : List Name → Place → List Known → List AttributeUse → List SchemaFault
+metadata_faults declared place seen [] = []
+metadata_faults declared place seen (a ∷ rest) = attribute_faults declared place seen a
+    ++ metadata_faults declared place (noted seen (known_attribute a.name.bytes)) rest

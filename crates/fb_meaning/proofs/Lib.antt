@@ -1,0 +1,13 @@
+pub mod Places
+pub mod Bytes
+pub mod Meant
+pub mod Steps
+pub mod Underscores
+pub mod ValuesFrom
+pub mod Written
+pub mod Behind
+pub mod NumberNamed
+pub mod IdsBelow
+pub mod PlacesTaken
+pub mod InOrder
+pub mod IntegerFound

@@ -1,0 +1,92 @@
+//! Attributes that need no declaration, and the integers that they have.
+ghost use Rattle.std.specs.Prelude.{◌≡◌};
+ghost use Rattle.std.specs.Option.{option_copied};
+ghost use Rattle.fb_meaning.specs.Attributes.{spelling, known_attribute, integer_of, is_alignment, has_attribute, attribute_called, number_called};
+
+use fb_syntax::{AttributeUse, AttributeValue, Text, integer_value};
+
+/// The attributes that need no declaration.
+#[derive(Clone, Copy, Debug, PartialEq, Eq, Drop)]
+pub enum Known {
+    Id,
+    Required,
+    Deprecated,
+    ForceAlign,
+    BitFlags,
+    OriginalOrder,
+}
+
+impl Known {
+    fn spelling(self) -> &'static str
+        ensures { result.now ≡ spelling self }
+    {
+        match self {
+            Known::Id => "id",
+            Known::Required => "required",
+            Known::Deprecated => "deprecated",
+            Known::ForceAlign => "force_align",
+            Known::BitFlags => "bit_flags",
+            Known::OriginalOrder => "original_order",
+        }
+    }
+}
+
+/// The attribute of a name that needs no declaration.
+#[tactic(auto, unfolding(crate::specs::Attributes::known_attribute))]
+pub fn known_attribute(name: &str) -> Option<Known>
+    ensures { result ≡ known_attribute name.now }
+{
+    match name {
+        "id" => Some(Known::Id),
+        "required" => Some(Known::Required),
+        "deprecated" => Some(Known::Deprecated),
+        "force_align" => Some(Known::ForceAlign),
+        "bit_flags" => Some(Known::BitFlags),
+        "original_order" => Some(Known::OriginalOrder),
+        _ => None,
+    }
+}
+
+/// The value of an integer of the text; what is no integer counts as 0.
+pub fn integer_of(text: &Text) -> i128
+    ensures { result ≡ integer_of text.now }
+{
+    integer_value(text.text.as_str()).unwrap_or(0)
+}
+
+/// Whether a number is a power of two from the least alignment to 256.
+pub fn is_alignment(least: u16, number: i128) -> bool
+    ensures { result ≡ is_alignment least number }
+{
+    match u128::try_from(number) {
+        Ok(number) => {
+            [1, 2, 4, 8, 16, 32, 64, 128, 256].contains(&number) && u128::from(least) <= number
+        }
+        Err(_) => false,
+    }
+}
+
+/// Whether one of the attributes is this known one.
+pub(crate) fn has_attribute(known: Known, attributes: &[AttributeUse]) -> bool
+    ensures { result ≡ has_attribute known attributes.now }
+{
+    attributes.iter().any(|attribute| attribute.name.text.as_str() == known.spelling())
+}
+
+fn attribute_called(known: Known, attributes: &[AttributeUse]) -> Option<&AttributeUse>
+    ensures { option_copied result ≡ attribute_called known attributes.now }
+{
+    attributes.iter().find(|attribute| attribute.name.text.as_str() == known.spelling())
+}
+
+/// The integer that the first attribute of a name has.
+#[tactic(auto, unfolding(crate::specs::Attributes::number_called))]
+pub(crate) fn number_called(known: Known, attributes: &[AttributeUse]) -> Option<i128>
+    ensures { result ≡ number_called known attributes.now }
+{
+    let called = attribute_called(known, attributes)?;
+    match &called.value {
+        Some(AttributeValue::Integer(number)) => Some(integer_of(number)),
+        _ => None,
+    }
+}

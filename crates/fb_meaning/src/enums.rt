@@ -1,0 +1,149 @@
+//! The numbers of an enum's values, and what the name of a value means.
+ghost use Rattle.std.specs.Prelude.{◌≡◌, ◌≤◌, IfOk, pos, map, string_bytes};
+ghost use Rattle.std.specs.Option.{option_copied};
+ghost use Rattle.fb_meaning.specs.EnumsRead.{integer_type, underlying, underlying_at, has_flags, bits_of, is_bit_of, value_number, may_be_written, written_number, values_from, values_read};
+
+use crate::attributes::{Known, has_attribute, integer_of};
+use crate::basic_types::holds;
+use crate::meanings::Meaning;
+use crate::types_read::TypesRead;
+use fb_schema::{Base, Kind};
+use fb_syntax::{Declaration, EnumDeclaration, EnumValue};
+use std::alloc::{AllocError, Global};
+
+/// An integer type, which a `bool` isn't.
+pub fn integer_type(meaning: Meaning) -> Option<Base>
+    ensures { result ≡ integer_type meaning }
+{
+    match meaning {
+        Meaning::Known(Kind::Scalar(Base::Bool)) => None,
+        Meaning::Known(Kind::Scalar(base)) => Some(base),
+        _ => None,
+    }
+}
+
+/// The underlying type of an enum, if it is an integer type. The only error is a refused allocation.
+pub fn underlying(
+    types: TypesRead<'_, '_, '_>,
+    alloc: Global,
+    scope: Option<&str>,
+    read: &EnumDeclaration,
+) -> Result<Option<Base>, AllocError>
+    ensures { IfOk result
+        (λ b. b ≡ underlying types.entry.types.now (option_copied scope.entry) read.now) }
+{
+    let meaning = types.meaning(alloc, scope, read.underlying.text.as_str())?;
+    Ok(integer_type(meaning))
+}
+
+/// The underlying type of the enum of a number. The only error is a refused allocation.
+pub(crate) fn underlying_at(
+    types: TypesRead<'_, '_, '_>,
+    alloc: Global,
+    number: usize,
+) -> Result<Option<Base>, AllocError>
+    ensures { IfOk result (λ b. b ≡ underlying_at types.entry.types.now number) }
+{
+    let Some(read) = types.types.get(number) else {
+        return Ok(None);
+    };
+    match read.declaration {
+        Declaration::Enum(declaration) => underlying(types, alloc, read.scope, declaration),
+        _ => Ok(None),
+    }
+}
+
+/// Whether an enum has the mark `bit_flags`.
+pub fn has_flags(read: &EnumDeclaration) -> bool
+    ensures { result ≡ has_flags read.now }
+{
+    has_attribute(Known::BitFlags, read.attributes.as_slice())
+}
+
+fn bits_of(base: Base) -> u8
+    ensures bits { result ≡ bits_of base }
+    ensures few { result ≤ 64 }
+{
+    match base {
+        Base::Bool | Base::I8 | Base::U8 => 8,
+        Base::I16 | Base::U16 => 16,
+        Base::I32 | Base::U32 => 32,
+        Base::I64 | Base::U64 => 64,
+    }
+}
+
+/// Whether a number is that of a bit of a type.
+fn is_bit_of(base: Base, number: i128) -> bool
+    ensures { result ≡ is_bit_of base number }
+{
+    match u128::try_from(number) {
+        Ok(bit) => bit < u128::from(bits_of(base)),
+        Err(_) => false,
+    }
+}
+
+/// The number that a value has where this one is written.
+pub(crate) fn value_number(base: Base, flags: bool, number: i128) -> i128
+    ensures { result ≡ value_number base flags number }
+{
+    match u128::try_from(number) {
+        Ok(bit) if flags && bit < u128::from(bits_of(base)) => 1 << bit,
+        _ => number,
+    }
+}
+
+/// Whether a number may be written in an enum over a type.
+pub fn may_be_written(base: Base, flags: bool, number: i128) -> bool
+    ensures { result ≡ may_be_written base flags number }
+{
+    if flags {
+        is_bit_of(base, number)
+    } else {
+        holds(base, number)
+    }
+}
+
+/// The number that is written for a value, or else the next one.
+pub fn written_number(next: i128, value: &EnumValue) -> i128
+    ensures { result ≡ written_number next value.now }
+{
+    match &value.number {
+        Some(number) => integer_of(number),
+        None => next,
+    }
+}
+
+/// The values with their numbers. The only error is a refused allocation.
+fn values_from(
+    alloc: Global,
+    base: Base,
+    flags: bool,
+    values: &[EnumValue],
+) -> Result<Vec<(String, i128)>, AllocError>
+    ensures { IfOk result (λ r. map (λ v. (string_bytes v.0, v.1)) r.items
+        ≡ values_from base flags (pos 0) values.now) }
+{
+    let mut read = Vec::new(alloc);
+    let mut next = 0;
+    for value in values {
+        let number = written_number(next, value);
+        let name = String::from_str(alloc, value.name.text.as_str())?;
+        read.push((name, value_number(base, flags, number)))?;
+        next = number + 1;
+    }
+    Ok(read)
+}
+
+/// The values of an enum with their numbers. The only error is a refused allocation.
+pub fn values_read(
+    types: TypesRead<'_, '_, '_>,
+    alloc: Global,
+    scope: Option<&str>,
+    read: &EnumDeclaration,
+) -> Result<Vec<(String, i128)>, AllocError>
+    ensures { IfOk result (λ r. map (λ v. (string_bytes v.0, v.1)) r.items
+        ≡ values_read types.entry.types.now (option_copied scope.entry) read.now) }
+{
+    let base = underlying(types, alloc, scope, read)?.unwrap_or(Base::U8);
+    values_from(alloc, base, has_flags(read), read.values.as_slice())
+}

@@ -1,0 +1,29 @@
+//! What the names, types, numbers and slots that a schema text declares mean.
+#![tactic(auto)]
+
+mod attributes;
+mod basic_types;
+mod defaults;
+mod enums;
+mod ids;
+mod meanings;
+mod members;
+mod name_places;
+mod outline;
+mod slots;
+mod structs;
+mod types_read;
+mod value_names;
+
+pub use attributes::{Known, integer_of, is_alignment, known_attribute};
+pub use basic_types::is_reserved;
+pub use defaults::{Given, given_by};
+pub use enums::{has_flags, integer_type, may_be_written, underlying, values_read, written_number};
+pub use ids::{are_ids_wrong, table_slots};
+pub use meanings::{Meaning, type_name};
+pub use members::{is_table, member_name, table_of};
+pub use name_places::NamePlaces;
+pub use outline::{Outline, RootRead, TypeRead, located_name, name_of_type};
+pub use slots::{name_of_code, union_of};
+pub use structs::{align_of_read, forced_align, natural_align, parts_read};
+pub use types_read::TypesRead;

@@ -1,0 +1,23 @@
+//! What the name of a type means.
+ghost use Rattle.std.specs.Prelude.{◌≡◌};
+ghost use Rattle.fb_meaning.specs.Meaning.{type_name};
+
+use fb_schema::Kind;
+use fb_syntax::{FieldType, Text};
+
+/// A type of the language or of the text, a float type, which is left out, or nothing that is known.
+#[derive(Clone, Copy, Debug, PartialEq, Eq, Drop)]
+pub enum Meaning {
+    Known(Kind),
+    Float,
+    Unknown,
+}
+
+/// The name in a field's type.
+pub fn type_name(kind: &FieldType) -> &Text
+    ensures { result.now ≡ type_name kind.now }
+{
+    match kind {
+        FieldType::One(name) | FieldType::Many(_, name) => name,
+    }
+}

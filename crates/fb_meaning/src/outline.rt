@@ -1,0 +1,140 @@
+//! What a schema text declares, each type with the namespace that it stands in.
+ghost use Rattle.std.specs.Prelude.{◌≡◌, IfOk, None, string_bytes};
+ghost use Rattle.fb_meaning.specs.Outline.{outline_of, scope_named, word_of, name_of_type, located_name};
+
+use fb_syntax::{Declaration, Decls, Text};
+use std::alloc::{AllocError, Global};
+use std::marker::Model;
+
+/// A table, struct, enum or union, and the namespace in force.
+#[derive(Drop)]
+pub struct TypeRead<'d> {
+    pub scope: Option<&'d str>,
+    pub declaration: &'d Declaration,
+}
+
+impl<'d> Model for TypeRead<'d> {
+    ghost use Rattle.std.specs.Option.{option_copied};
+    ghost use Rattle.fb_meaning.specs.Outline.{TypeRead as Read};
+
+    ghost Value = { Read };
+
+    ghost view = { λ t. record { scope = option_copied t.scope; declaration = t.declaration.now } };
+}
+
+/// The name of the root's type, and the namespace in force.
+#[derive(Drop)]
+pub struct RootRead<'d> {
+    pub scope: Option<&'d str>,
+    pub name: &'d Text,
+}
+
+impl<'d> Model for RootRead<'d> {
+    ghost use Rattle.std.specs.Option.{option_copied};
+    ghost use Rattle.fb_meaning.specs.Outline.{RootRead as Read};
+
+    ghost Value = { Read };
+
+    ghost view = { λ r. record { scope = option_copied r.scope; name = r.name.now } };
+}
+
+/// What a schema text declares, sorted by kind.
+#[derive(Drop)]
+pub struct Outline<'d> {
+    pub types: Vec<TypeRead<'d>>,
+    pub attributes: Vec<&'d str>,
+    pub root: Option<RootRead<'d>>,
+    pub identifier: Option<&'d Text>,
+    pub text_len: u64,
+}
+
+impl<'d> Model for Outline<'d> {
+    ghost use Rattle.std.specs.Prelude.{map};
+    ghost use Rattle.std.specs.Option.{option_copied};
+    ghost use Rattle.fb_meaning.specs.Outline.{Outline as Outlined};
+
+    ghost Value = { Outlined };
+
+    ghost view = { λ o. record {
+      types = o.types.items;
+      attributes = map (λ a. a.now) o.attributes.items;
+      root = o.root;
+      identifier = option_copied o.identifier;
+      text_len = o.text_len;
+    } };
+}
+
+impl<'d> Outline<'d> {
+    /// What the text declares. The only error is a refused allocation.
+    pub fn of(alloc: Global, decls: &'d Decls) -> Result<Outline<'d>, AllocError>
+        ensures { IfOk result (λ o. o ≡ outline_of decls.now) }
+    {
+        let mut outline = Outline {
+            types: Vec::new(alloc),
+            attributes: Vec::new(alloc),
+            root: None,
+            identifier: None,
+            text_len: decls.text_len(),
+        };
+        let mut scope = None;
+        for declaration in decls.declarations() {
+            match declaration {
+                Declaration::Namespace(name) => scope = name
+                    .as_ref()
+                    .map(|name| name.text.as_str()),
+                Declaration::Attribute(name) => outline.attributes.push(name.text.as_str())?,
+                Declaration::Root(name) => outline.root = Some(RootRead { scope, name }),
+                Declaration::Identifier(text) => outline.identifier = Some(text),
+                Declaration::Extension(_) => {}
+                _ => outline.types.push(TypeRead { scope, declaration })?,
+            }
+        }
+        Ok(outline)
+    }
+}
+
+/// The name of a type with its namespace. The only error is a refused allocation.
+pub fn name_of_type(alloc: Global, read: &TypeRead<'_>) -> Result<String, AllocError>
+    ensures { IfOk result (λ s. string_bytes s ≡ name_of_type read.now) }
+{
+    let word = word_of(read.declaration);
+    let Some(scope) = read.scope else {
+        return String::from_str(alloc, word);
+    };
+    let mut name = String::from_str(alloc, scope)?;
+    name.push_str(".")?;
+    name.push_str(word)?;
+    Ok(name)
+}
+
+fn word_of(declaration: &Declaration) -> &str
+    ensures { result.now ≡ (word_of declaration.now).bytes }
+{
+    match declaration {
+        Declaration::Table(read) | Declaration::Struct(read) => read.name.text.as_str(),
+        Declaration::Enum(read) => read.name.text.as_str(),
+        Declaration::Union(read) => read.name.text.as_str(),
+        _ => "",
+    }
+}
+
+fn word_at(declaration: &Declaration) -> u64
+    ensures { result ≡ (word_of declaration.now).at }
+{
+    match declaration {
+        Declaration::Table(read) | Declaration::Struct(read) => read.name.at,
+        Declaration::Enum(read) => read.name.at,
+        Declaration::Union(read) => read.name.at,
+        _ => 0,
+    }
+}
+
+/// The full name of a type, and where its own name stands. The only error is a refused allocation.
+pub fn located_name(alloc: Global, read: &TypeRead<'_>) -> Result<Text, AllocError>
+    ensures { IfOk result (λ t. t ≡ located_name read.now) }
+{
+    Ok(Text {
+        text: name_of_type(alloc, read)?,
+        at: word_at(read.declaration),
+    })
+}
