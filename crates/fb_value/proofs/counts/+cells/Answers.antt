@@ -19,3 +19,8 @@ cells_in_entries-returns t c =
 
 pub cells_in-returns-in_ok-cells_in_entries-in-Fields : goal.cells_in-returns-in_ok-cells_in_entries-in-Fields
 cells_in-returns-in_ok-cells_in_entries-in-Fields t c = rw (c.in-Fields.is, view-Fields) (grind (arith, common_steps))
+
+pub cells_in_parts-returns : goal.cells_in_parts-returns
+cells_in_parts-returns t c =
+    let done = rw (drop_all c.loop-part.part-index c.args.parts.now.items (omega arith)) at c.loop-part.invariant.1 in
+    (omega arith, omega arith)
