@@ -49,17 +49,11 @@ fn copy_entries(alloc: Global, entries: &Vec<Option<Value>>) -> Result<Vec<Optio
 {
     let mut copied = Vec::with_capacity(alloc, entries.len())?;
     for entry in entries {
-        copied.push(copy_entry(alloc, entry)?)?;
+        let again = match entry {
+            None => None,
+            Some(value) => Some(copy_in(alloc, value)?),
+        };
+        copied.push(again)?;
     }
     Ok(copied)
-}
-
-#[cycle(copy)]
-fn copy_entry(alloc: Global, entry: &Option<Value>) -> Result<Option<Value>, AllocError>
-    ensures { IfOk result (λ copied. option_map view copied ≡ option_map view entry.now) }
-{
-    match entry {
-        None => Ok(None),
-        Some(value) => Ok(Some(copy_in(alloc, value)?)),
-    }
 }
