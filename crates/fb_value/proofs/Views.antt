@@ -33,12 +33,12 @@ pub count-parts_view : (vs : List Value) → count (parts_view vs) ≡ length vs
 count-parts_view [] = refl
 count-parts_view (v ∷ vs) = let rest = count-parts_view vs in cc
 
-layer_table : (x : Value-F Value) (t : ℕ) (es : SlotEntries) → view_step (map-Value view x) ≡ a_table t es → (type : TypeId) × (entries : Vec (Option Value) Global) × (roll-Value x ≡ Fields type entries)
+layer_table : (x : Value-F Value) (t : ℕ) (es : SlotEntries) → view_step (map-Value Value Datum view x) ≡ a_table t es → (type : TypeId) × (entries : Vec (Option Value) Global) × (roll-Value x ≡ Fields type entries)
 layer_table (Value-F.Number n) t es e = cc
 layer_table (Value-F.Text s) t es e = cc
 layer_table (Value-F.Items v) t es e = cc
 layer_table (Value-F.Fixed v) t es e = cc
-layer_table (Value-F.Fields type entries) t es e = (type, entries, sym (rolls-Fields type entries))
+layer_table (Value-F.Fields type entries) t es e = (type, entries, rolls-Fields type entries)
 layer_table (Value-F.Member code member) t es e = cc
 layer_table (Value-F.Other code) t es e = cc
 
