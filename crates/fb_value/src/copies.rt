@@ -23,7 +23,10 @@ fn copy_in(alloc: Global, value: &Value) -> Result<Value, AllocError>
         Value::Text(text) => Ok(Value::Text(text.clone()?)),
         Value::Items(items) => Ok(Value::Items(copy_parts(alloc, items)?)),
         Value::Fixed(parts) => Ok(Value::Fixed(copy_parts(alloc, parts)?)),
-        Value::Fields(type_id, entries) => Ok(Value::Fields(*type_id, copy_entries(alloc, entries)?)),
+        Value::Fields(type_id, entries) => Ok(Value::Fields(
+            *type_id,
+            copy_entries(alloc, entries)?,
+        )),
         Value::Member(code, member) => {
             let copied = copy_in(alloc, member)?;
             Ok(Value::Member(*code, Box::new(alloc, copied)?))
@@ -44,7 +47,10 @@ fn copy_parts(alloc: Global, parts: &Vec<Value>) -> Result<Vec<Value>, AllocErro
 }
 
 #[cycle(copy)]
-fn copy_entries(alloc: Global, entries: &Vec<Option<Value>>) -> Result<Vec<Option<Value>>, AllocError>
+fn copy_entries(
+    alloc: Global,
+    entries: &Vec<Option<Value>>,
+) -> Result<Vec<Option<Value>>, AllocError>
     ensures { IfOk result (λ copied. entries_view copied.items ≡ entries_view entries.now.items) }
 {
     let mut copied = Vec::with_capacity(alloc, entries.len())?;

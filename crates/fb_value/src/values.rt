@@ -19,3 +19,6 @@ pub enum Value {
     /// A union's code that no member has.
     Other(u8),
 }
+
+#[cfg(test)]
+mod tests;
