@@ -1,12 +1,12 @@
 -- Tables whose fields are all `int`.
-use Rattle.std.proofs.Common.{◌≡◌, ℕ, ℤ, Vec, Global, zero, suc, ◌+◌, ◌-◌, ◌*◌, ◌<◌, ◌≤◌, ◌↔◌, max, List, [], ◌∷◌, length, map, sum_by, slice_index_or, Option, None, Some, option_map, All, false, pos, refl, sym, ap, subst, ◌∙◌, arith, if◌then◌else◌}
+use Rattle.std.proofs.Common.{◌≡◌, ℕ, Vec, Global, zero, suc, ◌+◌, ◌*◌, ◌≤◌, ◌↔◌, max, List, [], ◌∷◌, length, map, sum_by, Option, None, Some, All, refl, sym, ap, subst, arith, if◌then◌else◌}
 use Rattle.std.proofs.lemmas.List.Elements.{All-cons, All-nil}
 use Rattle.std.proofs.lemmas.List.Sums.{sum_by-cons}
 use Rattle.fb_schema.specs.Schema.{Name}
-use Rattle.fb_layout.specs.Laid.{LaidSchema, Slot, scalar_kind, one_of, slots_of, kind_in, stored_shape, align_of}
+use Rattle.fb_layout.specs.Laid.{LaidSchema, scalar_kind, one_of, kind_in, stored_shape, align_of}
 use Rattle.fb_layout.specs.OneTable.{one_table, one_table_schema, int_fields}
 use Rattle.fb_schema.specs.Alignments.{greatest_in}
-use Rattle.fb_layout.specs.Widths.{widest, table_align, slots_align, greatest, inline_size, inline_align}
+use Rattle.fb_layout.specs.Widths.{greatest, inline_size, inline_align}
 use Rattle.fb_layout.proofs.OneTableMade.{int_slots, slots_are, length-int_slots}
 use Rattle.fb_value.specs.Datum.{Datum, a_number, a_table, SlotEntries, no_entries, absent_entry, present_entry}
 use Rattle.fb_value.specs.View.{view, entries_view}

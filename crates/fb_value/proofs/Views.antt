@@ -1,5 +1,5 @@
 -- What each variant of a `Value` is seen as.
-use Rattle.std.proofs.Common.{◌≡◌, ℕ, ℤ, Option, Vec, Box, String, Global, string_bytes, rules, List, [], ◌∷◌, length, refl, sym, ◌∙◌, ap}
+use Rattle.std.proofs.Common.{◌≡◌, ℕ, ℤ, Option, Vec, Box, String, Global, string_bytes, rules, List, [], ◌∷◌, length, refl, sym, ◌∙◌}
 use Rattle.fb_schema.specs.declared.kinds.TypeId.{TypeId}
 use Rattle.fb_value.specs.Datum.{a_number, a_text, a_vector, a_struct, a_table, a_member, an_unknown, Datum, SlotEntries, count}
 use Rattle.fb_value.specs.View.{view, view_step, parts_view, entries_view}
