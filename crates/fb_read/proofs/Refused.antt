@@ -12,7 +12,7 @@ use Rattle.fb_value.specs.Places.{table_part, ref_place, part_place, named_slots
 use Rattle.fb_value.specs.Rules.{Keeps, fault_at}
 use Rattle.fb_value.specs.Faults.{or_else, first_among, fault_from, all}
 use Rattle.fb_value.specs.Holds.{Refuses, header_fault, checked_identifier, root_place}
-use Rattle.fb_value.proofs.Whole.{outcome_shown}
+use Rattle.fb_value.proofs.Outcomes.{outcome_shown}
 use Rattle.fb_read.specs.Ints.{FailsFirst}
 use Rattle.fb_read.proofs.Steps.{own_fault, behind, cells_over, within, among_all}
 use Rattle.fb_read.proofs.Found.{no_identifier}

@@ -1,20 +1,20 @@
 -- Tables whose fields are all `int`.
-use Rattle.std.proofs.Common.{◌≡◌, ℕ, ℤ, Vec, Global, zero, suc, ◌+◌, ◌-◌, ◌*◌, ◌<◌, ◌≤◌, ◌↔◌, max, List, [], ◌∷◌, length, map, sum_by, slice_index_or, Option, None, Some, option_map, All, false, pos, refl, sym, ap, subst, ◌∙◌, arith, if◌then◌else◌}
+use Rattle.std.proofs.Common.{◌≡◌, ℕ, Vec, Global, zero, suc, ◌+◌, ◌*◌, ◌≤◌, ◌↔◌, max, List, [], ◌∷◌, length, map, sum_by, Option, None, Some, All, refl, sym, ap, subst, arith, if◌then◌else◌}
 use Rattle.std.proofs.lemmas.List.Elements.{All-cons, All-nil}
 use Rattle.std.proofs.lemmas.List.Sums.{sum_by-cons}
 use Rattle.fb_schema.specs.Schema.{Name}
-use Rattle.fb_layout.specs.Laid.{LaidSchema, Slot, scalar_kind, one_of, slots_of, kind_in, stored_shape, align_of}
+use Rattle.fb_layout.specs.Laid.{LaidSchema, scalar_kind, one_of, kind_in, stored_shape, align_of}
 use Rattle.fb_layout.specs.OneTable.{one_table, one_table_schema, int_fields}
 use Rattle.fb_schema.specs.Alignments.{greatest_in}
-use Rattle.fb_layout.specs.Widths.{widest, table_align, slots_align, greatest, inline_size, inline_align}
+use Rattle.fb_layout.specs.Widths.{greatest, inline_size, inline_align}
 use Rattle.fb_layout.proofs.OneTableMade.{int_slots, slots_are, length-int_slots}
 use Rattle.fb_value.specs.Datum.{Datum, a_number, a_table, SlotEntries, no_entries, absent_entry, present_entry}
 use Rattle.fb_value.specs.View.{view, entries_view}
 use Rattle.fb_value.specs.Fits.{EntriesFit, FitsType, FitsRoot}
 use Rattle.fb_value.specs.Ints.{IsInt}
 use Rattle.fb_value.specs.Room.{room_of, entries_room, table_room}
-use Rattle.fb_value.specs.declared.values.Value.{Value, Number, Fields}
-use Rattle.fb_value.proofs.Views.{view-Number, view-Fields}
+use Rattle.fb_value.specs.declared.values.Value.{Value, Fields}
+use Rattle.fb_value.proofs.Views.{view-Fields, seen_table}
 use Rattle.fb_schema.specs.declared.kinds.TypeId.{TypeId}
 use Rattle.fb_schema.specs.WellDeclared.{InRange}
 use Rattle.fb_schema.specs.declared.kinds.Base.TheVariants.{I32}
@@ -54,11 +54,6 @@ fits_ints name names zero owner es = (
   λ h. (h.1, rw (slots_are name names) (entries_of (one_table name names) (length names) es h.2 h.3)),
 )
 fits_ints name names (suc t) owner es = (λ h. absurd h, λ h. cc)
-
--- nothing but a table fits it
-pub number_misfits : (name : Name) (names : List Name) (t : ℕ) (n : _) → FitsType (one_table name names) t (a_number n) → ⊥
-number_misfits name names zero n h = h
-number_misfits name names (suc t) n h = h
 
 fits_apart : (name : Name) (names : List Name) (d : Datum) → FitsType (one_table name names) 0 d → (es : SlotEntries) × (d ≡ a_table 0 es) × EntriesFit (one_table name names) (int_slots (length names)) es
 fits_apart name names (a_table type es) h = (es, ap (λ t. a_table t es) h.0, rw (slots_are name names) at h.1)
@@ -111,9 +106,14 @@ pub fits_table : (L : LaidSchema) (name : Name) (names : List Name) (v : Value) 
     → FitsType L t (view v) ↔ ((t ≡ 0) × (owner.0 ≡ 0) × (length entries.items ≡ length names) × All IsInt entries.items)
 fits_table L name names v owner entries t is_layout is_value = rw (is_layout, is_value, view-Fields owner entries) (fits_ints name names t owner.0 entries.items)
 
--- a number fits no type of such a layout
-pub fits_number : (L : LaidSchema) (name : Name) (names : List Name) (v : Value) (n : ℤ) (t : ℕ) → L ≡ one_table name names → v ≡ Number n → FitsType L t (view v) → ⊥
-fits_number L name names v n t is_layout is_value h = number_misfits name names t n (rw (is_layout, is_value, view-Number n) at h)
+-- nothing but a table fits a type of such a layout
+pub fits_tables_only : (L : LaidSchema) (name : Name) (names : List Name) (v : Value) (t : ℕ) → L ≡ one_table name names
+    → ((owner : TypeId) (entries : Vec (Option Value) Global) → v ≡ Fields owner entries → ⊥) → FitsType L t (view v) → ⊥
+fits_tables_only L name names v zero is_layout no_table h =
+    let apart = fits_apart name names (view v) (rw is_layout at h) in
+    let seen = seen_table v 0 apart.0 apart.1 in
+    no_table seen.0 seen.1 seen.2
+fits_tables_only L name names v (suc t) is_layout no_table h = absurd (rw is_layout at h)
 
 -- the room under a layout that is known
 pub room_known : (L : LaidSchema) (name : Name) (names : List Name) (d : Datum) → L ≡ one_table name names → FitsRoot L d → room_of L d ≡ 22 + 6 * length names

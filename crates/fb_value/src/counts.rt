@@ -1,8 +1,8 @@
 //! Counts over values.
 ghost use Rattle.std.specs.Prelude.{◌<◌, ◌≤◌, ◌^◌};
 ghost use Rattle.std.specs.Option.{SomeIff};
-ghost use Rattle.fb_value.specs.View.{view, entries_view};
-ghost use Rattle.fb_value.specs.Counts.{cells as cells_of, entries_cells, depth as depth_of, entries_depth, nesting};
+ghost use Rattle.fb_value.specs.View.{view, parts_view, entries_view};
+ghost use Rattle.fb_value.specs.Counts.{cells as cells_of, parts_cells, entries_cells, depth as depth_of, parts_depth, entries_depth, nesting};
 
 use crate::values::Value;
 
@@ -20,9 +20,27 @@ fn cells_in(value: &Value) -> Option<u32>
     ensures { SomeIff result (cells_of (view value.now) < 2 ^ 32) (cells_of (view value.now)) }
 {
     match value {
-        Value::Number(_) => Some(0),
+        Value::Number(_) | Value::Other(_) => Some(0),
+        Value::Text(text) => u32::try_from(text.len()).ok()?.checked_add(1),
+        Value::Items(items) => {
+            let own = u32::try_from(items.len()).ok()?.checked_add(1)?;
+            own.checked_add(cells_in_parts(items)?)
+        }
+        Value::Fixed(parts) => cells_in_parts(parts),
         Value::Fields(_, entries) => cells_in_entries(entries)?.checked_add(1),
+        Value::Member(_, member) => cells_in(member),
     }
+}
+
+#[cycle(cells)]
+fn cells_in_parts(parts: &Vec<Value>) -> Option<u32>
+    ensures { SomeIff result (parts_cells (parts_view parts.now.items) < 2 ^ 32) (parts_cells (parts_view parts.now.items)) }
+{
+    let mut total = 0u32;
+    for part in parts {
+        total = total.checked_add(cells_in(part)?)?;
+    }
+    Some(total)
 }
 
 #[cycle(cells)]
@@ -52,9 +70,22 @@ fn depth_in(value: &Value) -> Option<u8>
     ensures { SomeIff result (depth_of (view value.now) < 2 ^ 8) (depth_of (view value.now)) }
 {
     match value {
-        Value::Number(_) => Some(0),
+        Value::Number(_) | Value::Text(_) | Value::Other(_) => Some(0),
+        Value::Items(parts) | Value::Fixed(parts) => depth_in_parts(parts),
         Value::Fields(_, entries) => depth_in_entries(entries)?.checked_add(1),
+        Value::Member(_, member) => depth_in(member),
     }
+}
+
+#[cycle(depth)]
+fn depth_in_parts(parts: &Vec<Value>) -> Option<u8>
+    ensures { SomeIff result (parts_depth (parts_view parts.now.items) < 2 ^ 8) (parts_depth (parts_view parts.now.items)) }
+{
+    let mut deepest = 0u8;
+    for part in parts {
+        deepest = deepest.max(depth_in(part)?);
+    }
+    Some(deepest)
 }
 
 #[cycle(depth)]

@@ -1,14 +1,18 @@
 //! Typed values, their counts, and what bytes hold.
 #![tactic(auto)]
 
+mod copies;
 mod counts;
 mod faults;
 mod fitting;
 mod laws;
 mod limits;
 mod rooms;
+mod sameness;
 mod values;
+mod wholeness;
 
+pub use copies::copy;
 pub use counts::{cells, depth};
 pub use faults::ReadFault;
 pub use fitting::fits;
@@ -18,4 +22,6 @@ pub use laws::{
 };
 pub use limits::Limits;
 pub use rooms::room;
+pub use sameness::same;
 pub use values::Value;
+pub use wholeness::whole;

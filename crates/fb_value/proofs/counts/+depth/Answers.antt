@@ -19,3 +19,8 @@ depth_in_entries-returns t c =
 
 pub depth_in-returns-in_ok-depth_in_entries-in-Fields : goal.depth_in-returns-in_ok-depth_in_entries-in-Fields
 depth_in-returns-in_ok-depth_in_entries-in-Fields t c = rw (c.in-Fields.is, view-Fields) (grind (arith, common_steps))
+
+pub depth_in_parts-returns : goal.depth_in_parts-returns
+depth_in_parts-returns t c =
+    let done = rw (drop_all c.loop-part.part-index c.args.parts.now.items (omega arith)) at c.loop-part.invariant.1 in
+    (omega arith, omega arith)

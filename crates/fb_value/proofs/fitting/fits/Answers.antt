@@ -1,14 +1,14 @@
 use Rattle.std.proofs.Common.{◌≡◌, length, map, string_bytes, arith}
 use Rattle.std.proofs.lemmas.List.{length-map}
 use Rattle.std.proofs.lemmas.Bool.{false≢true}
-use Rattle.fb_value.proofs.IntTables.{fits_table, fits_number}
+use Rattle.fb_value.proofs.IntTables.{fits_table, fits_tables_only}
 use Rattle.fb_value.proofs.fitting.fits.Goals as goal
 use Rattle.fb_value.proofs.fitting.fits.Goals.{then-type_id-ne0-via-then-type_id-ne0, then-type_id-ne0-via-else-type_id-ne0+then-owner-ne0, then-type_id-ne0-via-else-type_id-ne0+else-owner-ne0+then-len-fields}
 
 pub returns-in_default : goal.returns-in_default
 returns-in_default c =
     let is = c.fields-fields.ensures.names in
-    (λ bad. absurd (false≢true bad), λ h. absurd (fits_number c.args.layout.now is.0 (map string_bytes c.fields-fields.result.now) c.args.value.now c.in_default.field-0 c.args.type_id.0 is.1 c.in_default.is h))
+    (λ bad. absurd (false≢true bad), λ h. absurd (fits_tables_only c.args.layout.now is.0 (map string_bytes c.fields-fields.result.now) c.args.value.now c.args.type_id.0 is.1 c.in_default.not-Fields h))
 
 pub returns-then-type_id-ne0 : goal.returns-then-type_id-ne0
 returns-then-type_id-ne0 c =

@@ -1,0 +1,72 @@
+//! Whether two values are equal.
+ghost use Rattle.std.specs.Prelude.{◌≡◌, ◌≤◌, ◌↔◌, IsTrue, option_map};
+ghost use Rattle.fb_value.specs.View.{view, parts_view, entries_view};
+ghost use Rattle.fb_value.specs.Counts.{nesting};
+
+use crate::values::Value;
+
+/// Whether both are the same value, whatever memory they lie in.
+pub fn same(first: &Value, second: &Value) -> bool
+    requires first_nests { nesting (view first.now) ≤ 300 }
+    requires second_nests { nesting (view second.now) ≤ 300 }
+    ensures { IsTrue result ↔ (view first.now ≡ view second.now) }
+{
+    same_in(first, second)
+}
+
+#[cycle(same)]
+fn same_in(first: &Value, second: &Value) -> bool
+    ensures { IsTrue result ↔ (view first.now ≡ view second.now) }
+{
+    match (first, second) {
+        (Value::Number(a), Value::Number(b)) => *a == *b,
+        (Value::Text(a), Value::Text(b)) => a.as_str() == b.as_str(),
+        (Value::Items(a), Value::Items(b)) => same_parts(a, b),
+        (Value::Fixed(a), Value::Fixed(b)) => same_parts(a, b),
+        (Value::Fields(s, a), Value::Fields(t, b)) => s.0 == t.0 && same_entries(a, b),
+        (Value::Member(s, a), Value::Member(t, b)) => *s == *t && same_in(a, b),
+        (Value::Other(a), Value::Other(b)) => *a == *b,
+        _ => false,
+    }
+}
+
+#[cycle(same)]
+fn same_parts(first: &Vec<Value>, second: &Vec<Value>) -> bool
+    ensures { IsTrue result ↔ (parts_view first.now.items ≡ parts_view second.now.items) }
+{
+    if first.len() != second.len() {
+        return false;
+    }
+    for i in 0..first.len() {
+        if !same_in(&first[i], &second[i]) {
+            return false;
+        }
+    }
+    true
+}
+
+#[cycle(same)]
+fn same_entries(first: &Vec<Option<Value>>, second: &Vec<Option<Value>>) -> bool
+    ensures { IsTrue result ↔ (entries_view first.now.items ≡ entries_view second.now.items) }
+{
+    if first.len() != second.len() {
+        return false;
+    }
+    for i in 0..first.len() {
+        if !same_entry(&first[i], &second[i]) {
+            return false;
+        }
+    }
+    true
+}
+
+#[cycle(same)]
+fn same_entry(first: &Option<Value>, second: &Option<Value>) -> bool
+    ensures { IsTrue result ↔ (option_map view first.now ≡ option_map view second.now) }
+{
+    match (first, second) {
+        (None, None) => true,
+        (Some(a), Some(b)) => same_in(a, b),
+        _ => false,
+    }
+}
