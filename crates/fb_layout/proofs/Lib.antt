@@ -1,1 +1,2 @@
 pub mod OneTableMade
+pub mod Added

@@ -4,3 +4,4 @@ pub mod Widths
 pub mod WellMade
 pub mod OneTable
 pub mod Seen
+pub mod Known
