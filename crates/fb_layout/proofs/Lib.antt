@@ -1,2 +1,4 @@
 pub mod OneTableMade
 pub mod Added
+pub mod Taken
+pub mod TablesFrom

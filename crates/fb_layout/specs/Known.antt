@@ -1,13 +1,15 @@
 -- Sizes and alignments, computed from type to type: a struct over 65,535 bytes has none.
 -- From the FlatBuffers documentation, "FlatBuffer Internals": Structs, Tables.
-use Rattle.std.specs.Prelude.{ℕ, ◌+◌, ◌++◌, ◌&&◌, max, List, [], ◌∷◌, length, Option, None, Some, map, nat_lt, nat_le, slice_get, if◌then◌else◌}
+use Rattle.std.specs.Prelude.{ℕ, ◌+◌, ◌++◌, ◌&&◌, max, List, [], ◌∷◌, length, Option, None, Some, map, nat_lt, nat_le, slice_get, Result, Ok, Err, if◌then◌else◌}
 use Rattle.std.specs.Int.{next_multiple_of}
-use Rattle.std.specs.Option.{option_map, option_and_then, option_map_or, unwrap_or}
+use Rattle.std.specs.Option.{option_map, option_and_then, option_map_or, unwrap_or, ok_or}
 use Rattle.fb_schema.specs.Schema.{DeclaredField, DeclaredBody, table_body, struct_body, enum_body, union_body, DeclaredType, DeclaredSchema, slots_in}
 use Rattle.fb_schema.specs.Alignments.{base_size}
-use Rattle.fb_layout.specs.Laid.{StructLayout, no_struct, StoredKind, scalar_kind, struct_kind, table_kind, union_kind, code_kind, text_kind, StoredShape, one_of, vector_of, stored_kind, stored_shape, kind_in}
+use Rattle.fb_layout.specs.Laid.{LaidSchema, StructLayout, no_struct, StoredKind, scalar_kind, struct_kind, table_kind, union_kind, code_kind, text_kind, StoredShape, one_of, vector_of, stored_kind, stored_shape, kind_in}
 use Rattle.fb_layout.specs.declared.extents.Extent.{Extent}
 use Rattle.fb_layout.specs.declared.extents.StructSizes.{StructSizes}
+use Rattle.fb_layout.specs.declared.faults.LayoutFault.{LayoutFault}
+use Rattle.fb_layout.specs.declared.faults.LayoutFault.TheVariants.{StructTooBig, TableTooWide}
 use Rattle.fb_layout.specs.declared.tables.TableSizes.{TableSizes}
 
 abbrev pub sizes_seen : StructSizes → StructLayout
@@ -92,3 +94,30 @@ whole_table sizes = option_and_then (λ sum. option_map (λ widest. record { wid
 
 abbrev pub known_table : DeclaredSchema → Known → List DeclaredField → Option TableSizes
 known_table S known fs = if nat_le (length fs) 32765 then option_and_then whole_table (each_added (slot_added S known) no_slots fs) else None
+
+-- what a type that is no table takes as one
+abbrev pub no_table : TableSizes
+no_table = record { widest = 4; align = 4 }
+
+-- a type's sizes as a table, or the rule that it fails
+abbrev pub type_sizes : DeclaredSchema → Known → ℕ → DeclaredBody → Result TableSizes LayoutFault
+type_sizes S known t (table_body fs) = ok_or (known_table S known fs) (TableTooWide (record { 0 = t }))
+type_sizes S known t (struct_body fs force) = option_map_or (λ s. Ok no_table) (unwrap_or (slice_get known t) (Some no_struct)) (Err (StructTooBig (record { 0 = t })))
+type_sizes S known t _ = Ok no_table
+
+abbrev pub behind_one : TableSizes → Result (List TableSizes) LayoutFault → Result (List TableSizes) LayoutFault
+behind_one sizes (Ok more) = Ok (sizes ∷ more)
+behind_one sizes (Err fault) = Err fault
+
+abbrev pub if_sized : Result TableSizes LayoutFault → Result (List TableSizes) LayoutFault → Result (List TableSizes) LayoutFault
+if_sized (Ok sizes) more = behind_one sizes more
+if_sized (Err fault) more = Err fault
+
+-- the sizes of these types, numbered from t on, or the first rule that one fails
+unfoldable pub tables_from : DeclaredSchema → Known → ℕ → List DeclaredType → Result (List TableSizes) LayoutFault
+tables_from S known t [] = Ok []
+tables_from S known t (type ∷ types) = if_sized (type_sizes S known t type.body) (tables_from S known (t + 1) types)
+
+-- the layout whose structs are known: one that isn't takes nothing
+abbrev pub layout_known : DeclaredSchema → Known → LaidSchema
+layout_known S known = record { schema = S; structs = map (λ s. unwrap_or s no_struct) known }

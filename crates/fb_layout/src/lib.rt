@@ -2,6 +2,8 @@
 #![tactic(auto)]
 
 mod extents;
+mod faults;
+mod greatest;
 mod layouts;
 mod structs;
 mod tables;

@@ -1,10 +1,13 @@
 //! The greatest inline sizes of tables.
-ghost use Rattle.std.specs.Prelude.{◌≡◌, map, option_map};
-ghost use Rattle.fb_schema.specs.Seen.{field_seen};
-ghost use Rattle.fb_layout.specs.Known.{sizes_seen, each_added, slot_added, no_slots, whole_table, known_table};
+ghost use Rattle.std.specs.Prelude.{◌≡◌, ◌≢◌, Ok, Err, map, option_map, IfOk, IfErr};
+ghost use Rattle.fb_schema.specs.Seen.{field_seen, body_seen};
+ghost use Rattle.fb_layout.specs.declared.faults.LayoutFault.TheVariants.{Memory};
+ghost use Rattle.fb_layout.specs.Known.{sizes_seen, each_added, slot_added, no_slots, whole_table, known_table, type_sizes, tables_from};
 
 use crate::extents::{StructSizes, slot_extent};
-use fb_schema::{FieldInfo, Schema};
+use crate::faults::LayoutFault;
+use fb_schema::{Body, FieldInfo, Schema, TypeId};
+use std::alloc::Global;
 
 /// A table's greatest inline size and its alignment, in bytes.
 #[derive(Clone, Copy, Debug, Drop)]
@@ -76,4 +79,49 @@ pub(crate) fn table_of(
         return None;
     }
     whole_table(slots_added(schema, structs, slots)?)
+}
+
+/// What a type takes as a table, or the rule that it fails.
+fn type_sizes(
+    schema: &Schema,
+    structs: &[Option<StructSizes>],
+    number: TypeId,
+    body: &Body,
+) -> Result<TableSizes, LayoutFault>
+    ensures { result ≡ type_sizes schema.now (map (option_map sizes_seen) structs.now) number.0 (body_seen body.now) }
+{
+    let none = TableSizes {
+        widest: 4,
+        align: 4,
+    };
+    match body {
+        Body::Table(slots) => {
+            table_of(schema, structs, slots.as_slice()).ok_or(LayoutFault::TableTooWide(number))
+        }
+        Body::Struct(_, _) => match structs.get(number.0 as usize) {
+            Some(None) => Err(LayoutFault::StructTooBig(number)),
+            _ => Ok(none),
+        },
+        _ => Ok(none),
+    }
+}
+
+/// One entry for each type, its sizes as a table, or the first rule that a type fails.
+pub(crate) fn tables_of(
+    alloc: Global,
+    schema: &Schema,
+    structs: &[Option<StructSizes>],
+) -> Result<Vec<TableSizes>, LayoutFault>
+    ensures sizes { IfOk result (λ r. tables_from schema.now (map (option_map sizes_seen) structs.now) 0 schema.now.types ≡ Ok r.items) }
+    ensures fault { IfErr result (λ f. f ≢ Memory → tables_from schema.now (map (option_map sizes_seen) structs.now) 0 schema.now.types ≡ Err f) }
+{
+    let types = schema.types();
+    let mut tables = Vec::with_capacity(alloc, types.len())?;
+    for (number, info) in types.iter().enumerate() {
+        match type_sizes(schema, structs, TypeId(number as u64), &info.body) {
+            Ok(sizes) => tables.push(sizes)?,
+            Err(fault) => return Err(fault),
+        }
+    }
+    Ok(tables)
 }
