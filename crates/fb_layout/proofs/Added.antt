@@ -5,7 +5,7 @@ use Rattle.std.proofs.lemmas.List.{drop_more, drop_all}
 use Rattle.fb_schema.specs.Schema.{DeclaredType, DeclaredSchema}
 use Rattle.fb_layout.specs.Known.{Known, known_struct, known_from, each_added}
 
-each_added-nil : {A X : Type 0} (step : A → X → Option A) (a : A) → each_added step a [] ≡ Some a
+pub each_added-nil : {A X : Type 0} (step : A → X → Option A) (a : A) → each_added step a [] ≡ Some a
 unfolding each_added
 each_added-nil step a = refl
 
@@ -39,7 +39,7 @@ step_some g find o c a is found = ap (option_and_then (λ x. option_map g (find 
 pub step_none : {A B C : Type 0} (g : A → B) (find : C → Option A) (o : Option C) (c : C) → o ≡ Some c → find c ≡ None → option_and_then (λ x. option_map g (find x)) o ≡ None
 step_none g find o c is found = ap (option_and_then (λ x. option_map g (find x))) is ∙ ap (option_map g) found
 
-known_from-nil : (S : DeclaredSchema) (known : Known) → known_from S known [] ≡ known
+pub known_from-nil : (S : DeclaredSchema) (known : Known) → known_from S known [] ≡ known
 unfolding known_from
 known_from-nil S known = refl
 

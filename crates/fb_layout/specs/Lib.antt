@@ -5,3 +5,4 @@ pub mod WellMade
 pub mod OneTable
 pub mod Seen
 pub mod Known
+pub mod Refused
