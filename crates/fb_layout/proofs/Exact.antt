@@ -219,3 +219,82 @@ fields_small S structs positive placed h (f ∷ fs) =
     by true e rest = ap (λ c. option_and_then (λ more. each_added step more fs) (if c then Some next else None)) e ∙ rest (small-told next.size e) ∙ ap if_small (all-one L placed kind (kinds_of S fs))
     by false e rest = ap (λ c. option_and_then (λ more. each_added step more fs) (if c then Some next else None)) e
         ∙ sym (if_small-no (placed_all L placed (kind ∷ kinds_of S fs)) (let large = large-told next.size e in let above = end-above L next.size (kinds_of S fs) in omega arith))
+
+-- ---- whole structs
+
+-- the alignment of a struct of these kinds
+abbrev pub whole_align : LaidSchema → List StoredKind → Option ℕ → ℕ
+whole_align L kinds force = unwrap_or force (natural_align L kinds)
+
+whole-small : (force : Option ℕ) (placed : StructLayout) → 0 < unwrap_or force placed.align
+    → option_and_then (whole_struct force) (if_small placed) ≡ if_small (record { size = next_multiple_of placed.size (unwrap_or force placed.align); align = unwrap_or force placed.align; offsets = placed.offsets })
+whole-small force placed positive = by (nat_lt placed.size 65536) refl
+  where
+    align : ℕ
+    align = unwrap_or force placed.align
+    whole : ℕ → StructLayout
+    whole size = record { size = size; align = align; offsets = placed.offsets }
+    aligned : (b : Bool) → nat_lt (next_multiple_of placed.size align) 65536 ≡ b → option_map whole (small (next_multiple_of placed.size align)) ≡ if_small (whole (next_multiple_of placed.size align))
+    aligned true e = ap (λ c. option_map whole (if c then Some (next_multiple_of placed.size align) else None)) e ∙ sym (ap (λ c. if c then Some (whole (next_multiple_of placed.size align)) else None) e)
+    aligned false e = ap (λ c. option_map whole (if c then Some (next_multiple_of placed.size align) else None)) e ∙ sym (ap (λ c. if c then Some (whole (next_multiple_of placed.size align)) else None) e)
+    by : (b : Bool) → nat_lt placed.size 65536 ≡ b → option_and_then (whole_struct force) (if_small placed) ≡ if_small (whole (next_multiple_of placed.size align))
+    by true e = ap (λ c. option_and_then (whole_struct force) (if c then Some placed else None)) e ∙ ap (option_map whole) (aligned-is placed.size align positive) ∙ aligned (nat_lt (next_multiple_of placed.size align) 65536) refl
+    by false e = ap (λ c. option_and_then (whole_struct force) (if c then Some placed else None)) e ∙ sym (if_small-no (whole (next_multiple_of placed.size align)) (let large = large-told placed.size e in omega arith))
+
+-- a struct has a field, and its `force_align` isn't 0
+abbrev pub IsSizable : DeclaredBody → Type 0
+IsSizable (struct_body fs force) = (0 < length fs) × ForSome force (λ a. 0 < a)
+IsSizable _ = Unit {0}
+
+forced-positive : (force : Option ℕ) (natural : ℕ) → ForSome force (λ a. 0 < a) → 0 < natural → 0 < unwrap_or force natural
+forced-positive None natural forced h = h
+forced-positive (Some a) natural forced h = forced a refl
+
+natural-positive : (S : DeclaredSchema) (structs : List StructLayout) → ArePositive structs → (fs : List DeclaredField) → 0 < length fs → 0 < natural_align (with_structs S structs) (kinds_of S fs)
+natural-positive S structs positive [] h = absurd (omega arith)
+natural-positive S structs positive (f ∷ fs) h = let first = align_positive S structs positive (kind_in (stored_shape S f.shape)) in omega arith
+
+pub exact-positive : (S : DeclaredSchema) (structs : List StructLayout) → ArePositive structs → (body : DeclaredBody) → IsSizable body → 0 < (exact_struct (with_structs S structs) body).align
+exact-positive S structs positive (struct_body fs force) sizable = forced-positive force (natural_align (with_structs S structs) (kinds_of S fs)) sizable.1 (natural-positive S structs positive fs sizable.0)
+exact-positive S structs positive (table_body fs) sizable = omega arith
+exact-positive S structs positive (enum_body base flags values) sizable = omega arith
+exact-positive S structs positive (union_body members) sizable = omega arith
+
+placed-exact : (L : LaidSchema) (kinds : List StoredKind) → placed_all L no_fields kinds ≡ record { size = end_from L 0 kinds; align = natural_align L kinds; offsets = offsets_from L 0 kinds }
+placed-exact L kinds = ap (λ a. record { size = end_from L 0 kinds; align = a; offsets = offsets_from L 0 kinds }) (let zero-max : max 0 (natural_align L kinds) ≡ natural_align L kinds = omega arith in zero-max)
+
+struct-small : (S : DeclaredSchema) (structs : List StructLayout) → ArePositive structs → (body : DeclaredBody) → IsSizable body → known_struct S (map if_small structs) body ≡ if_small (exact_struct (with_structs S structs) body)
+struct-small S structs positive (struct_body fs force) sizable =
+    let L = with_structs S structs in
+    let kinds = kinds_of S fs in
+    ap (option_and_then (whole_struct force)) (fields_small S structs positive no_fields (omega arith) fs ∙ ap if_small (placed-exact L kinds))
+    ∙ whole-small force (record { size = end_from L 0 kinds; align = natural_align L kinds; offsets = offsets_from L 0 kinds }) (exact-positive S structs positive (struct_body fs force) sizable)
+struct-small S structs positive (table_body fs) sizable = refl
+struct-small S structs positive (enum_body base flags values) sizable = refl
+struct-small S structs positive (union_body members) sizable = refl
+
+-- ---- all types
+
+abbrev pub AreSizable : List DeclaredType → Type 0
+AreSizable [] = Unit {0}
+AreSizable (type ∷ types) = IsSizable type.body × AreSizable types
+
+positive-pushed : (structs : List StructLayout) (r : StructLayout) → ArePositive structs → 0 < r.align → ArePositive (structs ++ r ∷ [])
+positive-pushed [] r all h = (h, tt)
+positive-pushed (q ∷ qs) r all h = (all.0, positive-pushed qs r all.1 h)
+
+-- What is known of the structs is what they take exactly, where that is small.
+pub known-exact : (S : DeclaredSchema) (structs : List StructLayout) (types : List DeclaredType) → ArePositive structs → AreSizable types → known_from S (map if_small structs) types ≡ map if_small (exact_from S structs types)
+known-exact S structs [] positive sizable = known_from-nil S (map if_small structs)
+known-exact S structs (type ∷ types) positive sizable =
+    let own = exact_struct (with_structs S structs) type.body in
+    known_from-cons S (map if_small structs) type types
+    ∙ ap (λ r. known_from S (map if_small structs ++ r ∷ []) types) (struct-small S structs positive type.body sizable.0)
+    ∙ ap (λ k. known_from S k types) (sym (map_pushed if_small structs own))
+    ∙ known-exact S (structs ++ own ∷ []) types (positive-pushed structs own positive (exact-positive S structs positive type.body sizable.0)) sizable.1
+
+pub exact-positives : (S : DeclaredSchema) (structs : List StructLayout) (types : List DeclaredType) → ArePositive structs → AreSizable types → ArePositive (exact_from S structs types)
+exact-positives S structs [] positive sizable = positive
+exact-positives S structs (type ∷ types) positive sizable =
+    let own = exact_struct (with_structs S structs) type.body in
+    exact-positives S (structs ++ own ∷ []) types (positive-pushed structs own positive (exact-positive S structs positive type.body sizable.0)) sizable.1
