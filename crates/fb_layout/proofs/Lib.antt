@@ -3,3 +3,6 @@ pub mod Added
 pub mod Taken
 pub mod TablesFrom
 pub mod Exact
+pub mod Multiples
+pub mod Lower
+pub mod SizedExact
