@@ -56,7 +56,7 @@ extent_if : (b : Bool) (r : StructLayout) → extent_in (if b then Some r else N
 extent_if true r = refl
 extent_if false r = refl
 
-struct_small : (structs : List StructLayout) (s : ℕ) → unwrap_or (slice_get (map if_small structs) s) (Some no_struct) ≡ if_small (slice_index_or structs s no_struct)
+pub struct_small : (structs : List StructLayout) (s : ℕ) → unwrap_or (slice_get (map if_small structs) s) (Some no_struct) ≡ if_small (slice_index_or structs s no_struct)
 struct_small [] s = refl
 struct_small (r ∷ rs) zero = refl
 struct_small (r ∷ rs) (suc s) = struct_small rs s
@@ -118,16 +118,16 @@ end-above L p (kind ∷ kinds) =
     let rest = end-above L (next_multiple_of p (align_of L kind) + size_of L kind) kinds in
     omega arith
 
-small-yes : (n : ℕ) → n < 65536 → nat_lt n 65536 ≡ true
+pub small-yes : (n : ℕ) → n < 65536 → nat_lt n 65536 ≡ true
 small-yes n h = grind (arith, nat_tests)
 
 small-no : (n : ℕ) → 65536 ≤ n → nat_lt n 65536 ≡ false
 small-no n h = grind (arith, nat_tests)
 
-small-told : (n : ℕ) → nat_lt n 65536 ≡ true → n < 65536
+pub small-told : (n : ℕ) → nat_lt n 65536 ≡ true → n < 65536
 small-told n e = grind (arith, nat_tests)
 
-large-told : (n : ℕ) → nat_lt n 65536 ≡ false → 65536 ≤ n
+pub large-told : (n : ℕ) → nat_lt n 65536 ≡ false → 65536 ≤ n
 large-told n e = grind (arith, nat_tests)
 
 positive-yes : (n : ℕ) → 0 < n → nat_lt 0 n ≡ true

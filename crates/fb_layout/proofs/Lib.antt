@@ -6,3 +6,5 @@ pub mod Exact
 pub mod Multiples
 pub mod Lower
 pub mod SizedExact
+pub mod Wide
+pub mod FirstFault
