@@ -11,7 +11,7 @@ abbrev pub behind_all : List TableSizes → Result (List TableSizes) LayoutFault
 behind_all sizes (Ok more) = Ok (sizes ++ more)
 behind_all sizes (Err fault) = Err fault
 
-tables_from-nil : (S : DeclaredSchema) (known : Known) (t : ℕ) → tables_from S known t [] ≡ Ok []
+pub tables_from-nil : (S : DeclaredSchema) (known : Known) (t : ℕ) → tables_from S known t [] ≡ Ok []
 unfolding tables_from
 tables_from-nil S known t = refl
 
