@@ -50,17 +50,17 @@ no-fault L t small narrow few (TableTooWide u) (inr many) is =
 no-fault L t small narrow few Memory fails is = fails
 
 -- of a type that is no table
-no-slots : (L : LaidSchema) (t : ℕ) (body : DeclaredBody) → body_at L.schema t ≡ body → slots_in body ≡ [] → slots_of L t ≡ []
+pub no-slots : (L : LaidSchema) (t : ℕ) (body : DeclaredBody) → body_at L.schema t ≡ body → slots_in body ≡ [] → slots_of L t ≡ []
 no-slots L t body e none = ap (map (slot_of L.schema)) (ap slots_in e ∙ none)
 
 -- the sizes of a table of these slots
 abbrev of_slots : LaidSchema → List Slot → TableSizes
 of_slots L fs = record { widest = 4 + ceil4 (sum_by (slot_size L) fs); align = max 4 (greatest_in (map (slot_align L) fs)) }
 
-no-table-at : (L : LaidSchema) (t : ℕ) → slots_of L t ≡ [] → no_table ≡ table_at L t
+pub no-table-at : (L : LaidSchema) (t : ℕ) → slots_of L t ≡ [] → no_table ≡ table_at L t
 no-table-at L t none = sym (ap (of_slots L) none)
 
-few-slots : (L : LaidSchema) (t : ℕ) → slots_of L t ≡ [] → (widest L t ≤ 65535) × (length (slots_of L t) ≤ 32765)
+pub few-slots : (L : LaidSchema) (t : ℕ) → slots_of L t ≡ [] → (widest L t ≤ 65535) × (length (slots_of L t) ≤ 32765)
 few-slots L t none =
     let wide : widest L t ≡ 4 = ap (λ fs. (of_slots L fs).widest) none in
     let count : length (slots_of L t) ≡ 0 = ap length none in

@@ -8,3 +8,4 @@ pub mod Lower
 pub mod SizedExact
 pub mod Wide
 pub mod FirstFault
+pub mod LaidOut

@@ -152,7 +152,7 @@ struct-laid S declared s h =
 
 -- ---- all other types
 
-no-entry : (structs : List StructLayout) (t : ℕ) → length structs ≤ t → slice_index_or structs t no_struct ≡ no_struct
+pub no-entry : (structs : List StructLayout) (t : ℕ) → length structs ≤ t → slice_index_or structs t no_struct ≡ no_struct
 no-entry [] t h = refl
 no-entry (r ∷ rs) zero h = absurd (omega arith)
 no-entry (r ∷ rs) (suc t) h = no-entry rs t (omega arith)

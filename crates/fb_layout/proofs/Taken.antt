@@ -6,7 +6,7 @@ use Rattle.fb_layout.specs.Laid.{StructLayout, no_struct, StoredKind, scalar_kin
 use Rattle.fb_layout.specs.Known.{Known, extent_in, struct_extent, extent_of, layout_known}
 
 -- the struct of a number
-struct_known : (known : Known) (s : ℕ) → slice_index_or (map (λ k. unwrap_or k no_struct) known) s no_struct ≡ unwrap_or (unwrap_or (slice_get known s) (Some no_struct)) no_struct
+pub struct_known : (known : Known) (s : ℕ) → slice_index_or (map (λ k. unwrap_or k no_struct) known) s no_struct ≡ unwrap_or (unwrap_or (slice_get known s) (Some no_struct)) no_struct
 struct_known [] s = refl
 struct_known (k ∷ ks) zero = refl
 struct_known (k ∷ ks) (suc s) = struct_known ks s

@@ -6,3 +6,4 @@ pub mod OneTable
 pub mod Seen
 pub mod Known
 pub mod Refused
+pub mod Held

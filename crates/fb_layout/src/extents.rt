@@ -1,8 +1,9 @@
 //! What kinds take where they are stored.
-ghost use Rattle.std.specs.Prelude.{◌≡◌, map, option_map};
+ghost use Rattle.std.specs.Prelude.{◌≡◌, Some, map, option_map, slice_get};
+ghost use Rattle.std.specs.Option.{unwrap_or};
 ghost use Rattle.fb_schema.specs.Schema.{DeclaredSchema, body_at, base_in};
 ghost use Rattle.fb_schema.specs.Alignments.{base_size};
-ghost use Rattle.fb_layout.specs.Laid.{stored_kind, stored_shape, kind_in};
+ghost use Rattle.fb_layout.specs.Laid.{no_struct, stored_kind, stored_shape, kind_in};
 ghost use Rattle.fb_layout.specs.Known.{sizes_seen, struct_extent, extent_of, slot_extent};
 
 use fb_schema::{Base, Body, Kind, Schema, Shape, TypeId};
@@ -70,6 +71,16 @@ fn struct_extent(structs: &[Option<StructSizes>], number: TypeId) -> Option<Exte
         size: sizes.size,
         align: sizes.align,
     })
+}
+
+/// Where the fields of a struct begin; none of another type.
+pub(crate) fn offsets_in(structs: &[Option<StructSizes>], number: TypeId) -> &[u16]
+    ensures { result.now ≡ (unwrap_or (unwrap_or (slice_get (map (option_map sizes_seen) structs.now) number.0) (Some no_struct)) no_struct).offsets }
+{
+    match structs.get(number.0 as usize) {
+        Some(Some(sizes)) => sizes.offsets.as_slice(),
+        _ => &[],
+    }
 }
 
 /// What a kind takes, where the structs take what is known; None for a struct over 65,535 bytes.

@@ -1,6 +1,7 @@
 //! The greatest inline sizes of tables.
 ghost use Rattle.std.specs.Prelude.{◌≡◌, ◌≢◌, Ok, Err, map, option_map, IfOk, IfErr};
 ghost use Rattle.fb_schema.specs.Seen.{field_seen, body_seen};
+ghost use Rattle.fb_schema.specs.WellDeclared.{IsDeclared};
 ghost use Rattle.fb_layout.specs.declared.faults.LayoutFault.TheVariants.{Memory};
 ghost use Rattle.fb_layout.specs.Known.{sizes_seen, each_added, slot_added, no_slots, whole_table, known_table, type_sizes, tables_from};
 
@@ -112,6 +113,7 @@ pub(crate) fn tables_of(
     schema: &Schema,
     structs: &[Option<StructSizes>],
 ) -> Result<Vec<TableSizes>, LayoutFault>
+    ensures declared { IsDeclared schema.now }
     ensures sizes { IfOk result (λ r. tables_from schema.now (map (option_map sizes_seen) structs.now) 0 schema.now.types ≡ Ok r.items) }
     ensures fault { IfErr result (λ f. f ≢ Memory → tables_from schema.now (map (option_map sizes_seen) structs.now) 0 schema.now.types ≡ Err f) }
 {
