@@ -1,1 +1,11 @@
 pub mod OneTableMade
+pub mod Added
+pub mod Taken
+pub mod TablesFrom
+pub mod Exact
+pub mod Multiples
+pub mod Lower
+pub mod SizedExact
+pub mod Wide
+pub mod FirstFault
+pub mod LaidOut

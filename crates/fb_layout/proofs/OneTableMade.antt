@@ -86,13 +86,20 @@ nothing_else : (name : Name) (names : List Name) (t : ℕ) → is_struct (body_a
 nothing_else name names zero h = refl
 nothing_else name names (suc t) h = refl
 
+no_sizes : (name : Name) (names : List Name) (s : ℕ) → (struct_at (one_table name names) s).size ≤ 65535
+no_sizes name names zero = omega arith
+no_sizes name names (suc s) = omega arith
+
 -- The premises are those of the call that makes the layout.
 pub one_table_made : (name : Name) (names : List Name) → AllPairs (λ a b. a ≢ b) names → length names ≤ 16382 → IsWellMade (one_table name names)
 one_table_made name names differ few = record {
   declared = schema_made name names differ;
-  one_each = refl;
-  structs = λ s h. absurd (no_structs name names s h);
-  others = nothing_else name names;
+  sized = record {
+    one_each = refl;
+    structs = λ s h. absurd (no_structs name names s h);
+    others = nothing_else name names;
+  };
+  small = no_sizes name names;
   tables = narrow name names few;
 }
 

@@ -4,3 +4,6 @@ pub mod Widths
 pub mod WellMade
 pub mod OneTable
 pub mod Seen
+pub mod Known
+pub mod Refused
+pub mod Held

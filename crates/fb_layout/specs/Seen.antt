@@ -1,6 +1,6 @@
 -- What the run-time layout is, whatever memory it lies in.
 use Rattle.std.specs.Prelude.{◌≢◌, ◌≤◌, List, length, map, AllPairs, string_bytes}
-use Rattle.fb_layout.specs.declared.layouts.Layout.TheInside.{Inside}
+use Rattle.fb_layout.specs.declared.int_tables.IntTable.TheInside.{Inside}
 use Rattle.fb_schema.specs.Schema.{Name}
 use Rattle.fb_layout.specs.Laid.{LaidSchema}
 use Rattle.fb_layout.specs.OneTable.{one_table}

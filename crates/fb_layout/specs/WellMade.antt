@@ -26,17 +26,22 @@ pub record IsStructLaid (L : LaidSchema) (kinds : List StoredKind) (force : Opti
   pub forced : ForSome force (λ a. natural_align L kinds ≤ a)
   pub aligned : r.align ≡ unwrap_or force (natural_align L kinds)
   pub sized : IsLeastMultiple r.align end r.size
-  pub small : r.size ≤ 65535
 
 -- A table is at most 65,535 bytes wide inline and has at most 32,765 slots.
 pub record IsNarrow (L : LaidSchema) (t : ℕ) : Type 0 where
   pub wide : widest L t ≤ 65535
   pub few : length (slots_of L t) ≤ 32765
 
-pub record IsWellMade (L : LaidSchema) : Type 0 where
-  pub declared : IsDeclared L.schema
+-- one entry for each type, however great
+pub record IsSized (L : LaidSchema) : Type 0 where
   pub one_each : length L.structs ≡ length L.schema.types
   pub structs : (s : ℕ) → IsTrue (is_struct (body_at L.schema s)) → IsStructLaid L (parts_of L s) (force_align_in (body_at L.schema s)) (struct_at L s)
   -- a type that is no struct takes nothing of its own
   pub others : (t : ℕ) → is_struct (body_at L.schema t) ≡ false → struct_at L t ≡ no_struct
+
+-- A struct takes at most 65,535 bytes.
+pub record IsWellMade (L : LaidSchema) : Type 0 where
+  pub declared : IsDeclared L.schema
+  pub sized : IsSized L
+  pub small : (s : ℕ) → (struct_at L s).size ≤ 65535
   pub tables : (t : ℕ) → IsNarrow L t

@@ -1,19 +1,28 @@
-//! Layouts of schemas.
-ghost use Rattle.std.specs.Prelude.{◌≡◌, ◌≢◌, ◌≤◌, IfOk, length, map, AllPairs, string_bytes};
-ghost use Rattle.fb_schema.specs.Schema.{Name};
-ghost use Rattle.fb_layout.specs.OneTable.{one_table as table_of_ints};
+//! Schemas with the sizes of their types.
+ghost use Rattle.std.specs.Prelude.{◌≡◌, ◌≢◌, IfOk, IfErr, slice_index};
+ghost use Rattle.fb_layout.specs.declared.faults.LayoutFault.TheVariants.{Memory};
+ghost use Rattle.fb_layout.specs.Laid.{stored_kind, struct_at, size_of, align_of};
+ghost use Rattle.fb_layout.specs.Widths.{widest, table_align, greatest};
 ghost use Rattle.fb_layout.specs.WellMade.{IsWellMade};
+ghost use Rattle.fb_layout.specs.Refused.{Refuses};
 
-use std::alloc::{AllocError, Global};
+use crate::extents::{StructSizes, extent_of, offsets_in};
+use crate::faults::LayoutFault;
+use crate::greatest::greatest;
+use crate::structs::structs_of;
+use crate::tables::{TableSizes, tables_of};
+use fb_schema::{Kind, Schema, TypeId};
+use std::alloc::Global;
 use std::marker::Model;
 
-/// A schema with, for each struct, its fields' offsets, its size and its alignment.
-///
-/// So far a layout has one table, whose fields are `int` with default 0.
-#[derive(Debug, Drop)]
+/// A schema with the size and alignment of each struct, where its fields stand, and the greatest
+/// inline size of each table.
+#[derive(Drop)]
 pub struct Layout {
-    name: String,
-    fields: Vec<String>,
+    schema: Schema,
+    structs: Vec<Option<StructSizes>>,
+    tables: Vec<TableSizes>,
+    greatest: u16,
 }
 
 impl Model for Layout {
@@ -21,42 +30,112 @@ impl Model for Layout {
 
     ghost Value = { LaidSchema };
 
-    ghost use Rattle.fb_layout.specs.Seen.{layout_seen, IsSmall};
+    ghost use Rattle.fb_layout.specs.Held.{layout_seen, IsLaid};
 
     ghost view = { layout_seen };
 
-    ghost invariant = { IsSmall };
+    ghost invariant = { IsLaid };
+}
+
+/// The layout of a schema.
+///
+/// A refusal hands the schema back. It names the type of the lowest number that fails a rule: a
+/// struct over 65,535 bytes, or a table that is over 65,535 bytes wide with all its fields stored or
+/// has over 32,765 slots. `Memory` is a refused allocation.
+pub fn lay(alloc: Global, schema: Schema) -> Result<Layout, (LayoutFault, Schema)>
+    ensures schema { IfOk result (λ layout. layout.schema ≡ schema) }
+    ensures made { IfOk result IsWellMade }
+    ensures fault { IfErr result (λ refused. refused.0 ≢ Memory → Refuses schema refused.0) }
+    ensures unchanged { IfErr result (λ refused. refused.1 ≡ schema) }
+{
+    let Ok(structs) = structs_of(alloc, &schema) else {
+        return Err((LayoutFault::Memory, schema));
+    };
+    let tables = match tables_of(alloc, &schema, structs.as_slice()) {
+        Ok(tables) => tables,
+        Err(fault) => return Err((fault, schema)),
+    };
+    let greatest = greatest(&schema, structs.as_slice());
+    Ok(Layout {
+        schema,
+        structs,
+        tables,
+        greatest,
+    })
 }
 
 impl Layout {
-    /// The layout of one table of `int` fields: type 0 and the root.
-    ///
-    /// The inline size of a table is 65,535 bytes at most, hence the bound on the fields. The only
-    /// error is a refused allocation.
-    pub fn one_table(alloc: Global, name: &str, fields: &[&str]) -> Result<Layout, AllocError>
-        requires differ { AllPairs (λ a b. a ≢ b) (map (λ f. f.now) fields.now) }
-        requires few { length fields.now ≤ 16382 }
-        ensures layout { IfOk result
-            (λ L. L ≡ table_of_ints name.now (map (λ f. f.now) fields.now)) }
-        ensures well_made { IfOk result IsWellMade }
+    /// The schema.
+    pub fn schema(&self) -> &Schema
+        ensures schema { result.now ≡ self.now.schema }
+        ensures made { IsWellMade self.now }
     {
-        let mut names = Vec::with_capacity(alloc, fields.len())?;
-        for field in fields {
-            names.push(String::from_str(alloc, field)?)?;
-        }
-        let name = String::from_str(alloc, name)?;
-        Ok(Layout {
-            name,
-            fields: names,
-        })
+        &self.schema
     }
 
-    /// The names of the fields of its one table, by slot.
-    pub fn fields(&self) -> &[String]
-        ensures names { (name : Name) × (self.now ≡ table_of_ints name (map string_bytes result.now)) }
-        ensures differ { AllPairs (λ a b. a ≢ b) (map string_bytes result.now) }
-        ensures few { length result.now ≤ 16382 }
+    /// The bytes that one value of a kind takes where it is stored.
+    ///
+    /// A kind with a number that isn't one of its kind takes 0 as a struct and 1 as an enum.
+    pub fn size_of(&self, kind: Kind) -> u32
+        ensures { result ≡ size_of self.now (stored_kind self.now.schema kind) }
     {
-        self.fields.as_slice()
+        match extent_of(&self.schema, self.structs.as_slice(), kind) {
+            Some(extent) => u32::from(extent.size),
+            None => 0,
+        }
+    }
+
+    /// The bytes of which a kind's place is a multiple.
+    ///
+    /// A kind with a number that isn't one of its kind is aligned to 1 as a struct or an enum.
+    pub fn align_of(&self, kind: Kind) -> u32
+        ensures { result ≡ align_of self.now (stored_kind self.now.schema kind) }
+    {
+        match extent_of(&self.schema, self.structs.as_slice(), kind) {
+            Some(extent) => u32::from(extent.align),
+            None => 1,
+        }
+    }
+
+    /// Where a field of a struct begins, in bytes from the struct's begin; 0 where there is none.
+    #[tactic(auto, using(crate::proofs::Taken::struct_known))]
+    pub fn offset_of(&self, owner: TypeId, field: u16) -> u32
+        ensures { result ≡ slice_index (struct_at self.now owner.0).offsets field }
+    {
+        let offsets = offsets_in(self.structs.as_slice(), owner);
+        match offsets.get(usize::from(field)) {
+            Some(offset) => u32::from(*offset),
+            None => 0,
+        }
+    }
+
+    /// The greatest inline size of a table, all fields stored that aren't deprecated; 4 for another
+    /// type.
+    pub fn widest(&self, table: TypeId) -> u32
+        ensures { result ≡ widest self.now table.0 }
+    {
+        match self.tables.get(table.0 as usize) {
+            Some(sizes) => u32::from(sizes.widest),
+            None => 4,
+        }
+    }
+
+    /// The greatest of 4 and the alignments of a table's fields that aren't deprecated; 4 for another
+    /// type.
+    pub fn table_align(&self, table: TypeId) -> u32
+        ensures { result ≡ table_align self.now table.0 }
+    {
+        match self.tables.get(table.0 as usize) {
+            Some(sizes) => u32::from(sizes.align),
+            None => 4,
+        }
+    }
+
+    /// The greatest of 4 and the alignments of all structs, of all tables' fields and of the elements
+    /// of all vectors, unused structs and deprecated fields included.
+    pub fn greatest(&self) -> u32
+        ensures { result ≡ greatest self.now }
+    {
+        u32::from(self.greatest)
     }
 }

@@ -1,6 +1,14 @@
 //! A schema with the sizes that its types take.
 #![tactic(auto)]
 
+mod extents;
+mod faults;
+mod greatest;
+mod int_tables;
 mod layouts;
+mod structs;
+mod tables;
 
-pub use layouts::Layout;
+pub use faults::LayoutFault;
+pub use int_tables::IntTable;
+pub use layouts::{Layout, lay};

@@ -13,7 +13,7 @@ ghost use Rattle.fb_read.specs.Ints.{int_place, HasNumber, HasFault, AreNumbers,
 
 use crate::counting::Entries;
 use crate::places::{check_header, follow, int_at, open_table, slot_of};
-use fb_layout::Layout;
+use fb_layout::IntTable;
 use fb_schema::TypeId;
 use fb_value::{Limits, ReadFault, Value};
 use std::alloc::Global;
@@ -70,7 +70,7 @@ fn numbers_in(
 /// ("FlatBuffer Internals"); `Memory` may come in place of a fault that stands behind the root table.
 pub fn read(
     alloc: Global,
-    layout: &Layout,
+    layout: &IntTable,
     bytes: &[u8],
     limits: Limits,
     raw: bool,

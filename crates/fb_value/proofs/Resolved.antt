@@ -114,7 +114,7 @@ module _ (L : LaidSchema) (made : IsWellMade L) where
   body_lower s (union_body members) e is = tt
   body_lower s (struct_body fs align) e is =
       let struct : IsTrue (is_struct (body_at L.schema s)) = rw e refl in
-      let laid = made.structs s struct in
+      let laid = made.sized.structs s struct in
       parts_lower L s 0 laid.end fs (struct_at L s).offsets (λ k f h. (is.parts k f h).0)
       (subst (λ (x : DeclaredBody). StandInOrder L 0 (kinds_in L.schema (parts_in x)) (struct_at L s).offsets laid.end) e laid.fields)
 

@@ -29,7 +29,6 @@ fields_laid = record {
   forced = λ a e. cc;
   aligned = refl;
   sized = record { multiple = (3, refl); above = lit≤ tt; least = λ k h. omega arith };
-  small = lit≤ tt;
 }
 
 -- a table whose one slot is a struct of 1, 2, 3
@@ -64,7 +63,6 @@ forced_laid = record {
   forced = λ a e. let is : 16 ≡ a = cc in subst (λ (n : ℕ). 1 ≤ n) is (lit≤ tt);
   aligned = refl;
   sized = record { multiple = (1, refl); above = lit≤ tt; least = λ k h. omega arith };
-  small = lit≤ tt;
 }
 
 -- what stands behind the root's reference, with so many zero bytes in front: a text, a vector of two structs aligned to 16, a number

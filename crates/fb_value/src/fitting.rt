@@ -6,11 +6,11 @@ ghost use Rattle.fb_value.specs.Fits.{FitsType};
 ghost use Rattle.fb_value.specs.Ints.{IsInt};
 
 use crate::values::Value;
-use fb_layout::Layout;
+use fb_layout::IntTable;
 use fb_schema::TypeId;
 
 /// Whether the type of this number may have the value.
-pub fn fits(layout: &Layout, type_id: TypeId, value: &Value) -> bool
+pub fn fits(layout: &IntTable, type_id: TypeId, value: &Value) -> bool
     requires { nesting (view value.now) ≤ 300 }
     ensures { IsTrue result ↔ FitsType layout.now type_id.0 (view value.now) }
 {

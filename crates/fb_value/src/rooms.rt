@@ -7,7 +7,7 @@ ghost use Rattle.fb_value.specs.Fits.{FitsRoot};
 ghost use Rattle.fb_value.specs.Room.{room_of};
 
 use crate::values::Value;
-use fb_layout::Layout;
+use fb_layout::IntTable;
 
 // The root's reference and an identifier.
 const HEADER: u32 = 8;
@@ -17,7 +17,7 @@ const PADDING: u32 = 3;
 
 /// The bytes that are surely enough for a value of the root table; None exactly where they are over
 /// 2,147,483,647.
-pub fn room(layout: &Layout, value: &Value) -> Option<u32>
+pub fn room(layout: &IntTable, value: &Value) -> Option<u32>
     requires nests { nesting (view value.now) ≤ 300 }
     requires fits { FitsRoot layout.now (view value.now) }
     ensures { SomeIff result (room_of layout.now (view value.now) ≤ 2147483647) (room_of layout.now (view value.now)) }

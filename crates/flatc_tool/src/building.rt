@@ -16,7 +16,7 @@ ghost use Rattle.flatc_tool.specs.Placed.{entry_number, is_zero, numbers_in, sto
 
 use crate::faults::BuildFault;
 use byteorder::{ByteOrder, LittleEndian};
-use fb_layout::Layout;
+use fb_layout::IntTable;
 use fb_value::{Value, room};
 use std::alloc::{AllocError, Global};
 
@@ -141,7 +141,7 @@ fn table_bytes(alloc: Global, entries: &[Option<Value>], room: u32) -> Result<Ve
 /// The bytes in which a value of the root table lies, and nothing else.
 ///
 /// `TooBig` is answered exactly where the value's room is over 2,147,483,647.
-pub(crate) fn build(alloc: Global, layout: &Layout, value: &Value) -> Result<Vec<u8>, BuildFault>
+pub(crate) fn build(alloc: Global, layout: &IntTable, value: &Value) -> Result<Vec<u8>, BuildFault>
     requires nests { nesting (view value.now) ≤ 300 }
     requires fits { FitsRoot layout.now (view value.now) }
     ensures holds { IfOk result (λ b. (most : Bounds) (raw : Bool) → depth (view value.now) ≤ most.depth

@@ -14,7 +14,7 @@ ghost use Rattle.flatc_tool.specs.Meaning.{field_names, MeansInt, MeansFields, A
 ghost use Rattle.flatc_tool.specs.Named.{names_pass};
 
 use crate::faults::{JsonFault, Place, ToolFault};
-use fb_layout::Layout;
+use fb_layout::IntTable;
 use fb_schema::TypeId;
 use fb_value::{Limits, Value};
 use serde_json::{Map, Value as Json};
@@ -43,7 +43,7 @@ pub(crate) fn tree_of(alloc: Global, json: &[u8]) -> Result<Json, ToolFault>
 /// The value of the root table that a tree means. `unknown` lets names through that no field has.
 pub(crate) fn value_of(
     alloc: Global,
-    layout: &Layout,
+    layout: &IntTable,
     tree: &Json,
     limits: Limits,
     unknown: bool,

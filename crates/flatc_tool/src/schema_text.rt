@@ -9,12 +9,12 @@ ghost use Rattle.flatc_tool.specs.SmallSchema.{IsSmallSchema, end_text};
 ghost use Rattle.flatc_tool.specs.SchemaParts.{WordThen, HeadThen, FieldsThen};
 
 use crate::faults::ToolFault;
-use fb_layout::Layout;
+use fb_layout::IntTable;
 use std::alloc::{AllocError, Global};
 use std::collections::HashSet;
 
 /// The layout of the table that a schema text declares.
-pub(crate) fn layout_of(alloc: Global, text: &[u8]) -> Result<Layout, ToolFault>
+pub(crate) fn layout_of(alloc: Global, text: &[u8]) -> Result<IntTable, ToolFault>
     ensures accepted { IfOk result (λ L. (name : Name) × (names : List Name)
         × IsSmallSchema text.now name names × (L ≡ one_table name names)) }
     ensures well_made { IfOk result IsWellMade }
@@ -28,7 +28,7 @@ pub(crate) fn layout_of(alloc: Global, text: &[u8]) -> Result<Layout, ToolFault>
     if !is_end(rest, name) || fields.len() > 16382 || !all_differ(alloc, fields.as_slice())? {
         return Err(ToolFault::NotYet);
     }
-    Ok(Layout::one_table(alloc, name, fields.as_slice())?)
+    Ok(IntTable::one_table(alloc, name, fields.as_slice())?)
 }
 
 /// The table's name, behind `table ` and before ` { `, and what follows.

@@ -7,7 +7,7 @@ ghost use Rattle.flatc_tool.specs.Printed.{field_lines, member_lines, printed};
 ghost use Rattle.flatc_tool.specs.Lines.{has_lines, lines_behind};
 
 use crate::faults::TextFault;
-use fb_layout::Layout;
+use fb_layout::IntTable;
 use fb_value::Value;
 use itoa::Buffer;
 use std::alloc::{AllocError, Global};
@@ -15,7 +15,7 @@ use std::alloc::{AllocError, Global};
 /// The JSON text of a value of the root table. The only error is a refused allocation.
 pub(crate) fn text_of(
     alloc: Global,
-    layout: &Layout,
+    layout: &IntTable,
     value: &Value,
     defaults: bool,
 ) -> Result<String, TextFault>

@@ -1,12 +1,12 @@
 use super::text_of;
 use crate::json::{tree_of, value_of};
-use fb_layout::Layout;
+use fb_layout::IntTable;
 use fb_value::Limits;
 use std::test::Fail;
 
 #[test]
 fn prints(rt: HostRuntime) -> Result<(), Fail> {
-    let layout = Layout::one_table(rt.alloc(), "T", ["a", "b"].as_slice())?;
+    let layout = IntTable::one_table(rt.alloc(), "T", ["a", "b"].as_slice())?;
     let limits = Limits::new(64, 100).ok_or("limits")?;
     for (json, short, long) in [
         ("{}", "{}\n", "{\n  \"a\": 0,\n  \"b\": 0\n}\n"),

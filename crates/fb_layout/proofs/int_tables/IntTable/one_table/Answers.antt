@@ -3,7 +3,7 @@ use Rattle.std.proofs.Common.{◌≡◌, ◌≢◌, ◌≤◌, ℕ, List, String
 use Rattle.std.proofs.lemmas.List.{take_all, length-map}
 use Rattle.fb_schema.specs.Schema.{Name}
 use Rattle.fb_layout.proofs.OneTableMade.{one_table_made}
-use Rattle.fb_layout.proofs.layouts.Layout.one_table.Goals as goal
+use Rattle.fb_layout.proofs.int_tables.IntTable.one_table.Goals as goal
 
 whole_list : (taken : List (List ℕ)) (fields : List (Bor (List ℕ))) (i : ℕ) → length fields ≤ i → taken ≡ map (λ f. f.now) (take i fields) → taken ≡ map (λ f. f.now) fields
 whole_list taken fields i past e = rw (take_all i fields past) at e

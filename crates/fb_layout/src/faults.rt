@@ -1,0 +1,40 @@
+//! Why a schema has no layout.
+use fb_schema::TypeId;
+use std::alloc::{AllocError, AllocFailed};
+use thiserror::Error;
+
+/// The rule on sizes that fails, and the type.
+///
+/// A struct takes 65,535 bytes at most; a table is 65,535 bytes wide at most, all its fields stored,
+/// and has 32,765 slots at most. `Memory` is a refused allocation and no rule.
+#[derive(Clone, Copy, Debug, PartialEq, Eq, Drop, Error)]
+pub enum LayoutFault {
+    #[error("the struct, type {}, takes more than 65535 bytes", .0.0)]
+    StructTooBig(TypeId),
+    #[error("the table, type {}, is too wide or has too many slots", .0.0)]
+    TableTooWide(TypeId),
+    #[error("out of memory")]
+    Memory,
+}
+
+impl From<AllocError> for LayoutFault {
+    ghost use Rattle.std.specs.Prelude.{◌≡◌};
+    ghost use Rattle.fb_layout.specs.declared.faults.LayoutFault.TheVariants.{Memory};
+
+    ghost from_gives = { λ _ e. e ≡ Memory };
+
+    fn from(_refused: AllocError) -> LayoutFault {
+        LayoutFault::Memory
+    }
+}
+
+impl<T: Drop> From<AllocFailed<T>> for LayoutFault {
+    ghost use Rattle.std.specs.Prelude.{◌≡◌};
+    ghost use Rattle.fb_layout.specs.declared.faults.LayoutFault.TheVariants.{Memory};
+
+    ghost from_gives = { λ _ e. e ≡ Memory };
+
+    fn from(_refused: AllocFailed<T>) -> LayoutFault {
+        LayoutFault::Memory
+    }
+}
