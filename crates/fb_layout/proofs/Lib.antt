@@ -9,3 +9,4 @@ pub mod SizedExact
 pub mod Wide
 pub mod FirstFault
 pub mod LaidOut
+pub mod OneSizing

@@ -65,7 +65,7 @@ below-same S t j within less =
 
 -- ---- two lists of sizes that are the same below a number
 
-part-size : (S : DeclaredSchema) (a b : List StructLayout) (s : ℕ) → ((j : ℕ) → j < s → slice_index_or a j no_struct ≡ slice_index_or b j no_struct) → (shape : Shape) → IsPart S s shape
+pub part-size : (S : DeclaredSchema) (a b : List StructLayout) (s : ℕ) → ((j : ℕ) → j < s → slice_index_or a j no_struct ≡ slice_index_or b j no_struct) → (shape : Shape) → IsPart S s shape
     → (size_of (with_structs S a) (kind_in (stored_shape S shape)) ≡ size_of (with_structs S b) (kind_in (stored_shape S shape)))
     × (align_of (with_structs S a) (kind_in (stored_shape S shape)) ≡ align_of (with_structs S b) (kind_in (stored_shape S shape)))
 part-size S a b s same (One (Scalar base)) part = (refl, refl)
@@ -97,7 +97,7 @@ ends-same S a b s same p (f ∷ fs) parts =
       ∙ ap (λ os. next_multiple_of p (align_of B kind) ∷ os) rest.1,
     )
 
-natural-same : (S : DeclaredSchema) (a b : List StructLayout) (s : ℕ) → ((j : ℕ) → j < s → slice_index_or a j no_struct ≡ slice_index_or b j no_struct) → (fs : List DeclaredField) → AreParts S s fs
+pub natural-same : (S : DeclaredSchema) (a b : List StructLayout) (s : ℕ) → ((j : ℕ) → j < s → slice_index_or a j no_struct ≡ slice_index_or b j no_struct) → (fs : List DeclaredField) → AreParts S s fs
     → natural_align (with_structs S a) (kinds_of S fs) ≡ natural_align (with_structs S b) (kinds_of S fs)
 natural-same S a b s same [] parts = refl
 natural-same S a b s same (f ∷ fs) parts =

@@ -41,7 +41,7 @@ struct_found S s (Some type) e h = struct_of_type S s type type.body e refl h
 pub struct_told : (S : DeclaredSchema) (s : ℕ) → IsTrue (is_struct (body_at S s)) → IsStructAt S s
 struct_told S s h = struct_found S s (slice_get S.types s) refl h
 
-body_told : (S : DeclaredSchema) → IsDeclared S → (s : ℕ) (at : IsStructAt S s) → IsStructBody S s at.fs at.force
+pub body_told : (S : DeclaredSchema) → IsDeclared S → (s : ℕ) (at : IsStructAt S s) → IsStructBody S s at.fs at.force
 body_told S declared s at = subst (λ (b : DeclaredBody). IsBody S s b) at.body (declared.bodies s at.type at.found)
 
 -- ---- each struct and its fields are sizable

@@ -7,3 +7,4 @@ pub mod Seen
 pub mod Known
 pub mod Refused
 pub mod Held
+pub mod OneLayout

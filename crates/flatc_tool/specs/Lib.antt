@@ -8,3 +8,4 @@ pub mod SchemaParts
 pub mod Printed
 pub mod Lines
 pub mod Jobs
+pub mod SchemaTexts

@@ -6,7 +6,9 @@ mod faults;
 mod jobs;
 mod json;
 mod schema_text;
+mod schema_layouts;
 mod text;
 
 pub use faults::{BuildFault, JsonFault, Place, TextFault, ToolFault};
 pub use jobs::{to_binary, to_json};
+pub use schema_layouts::{SchemaTextFault, schema_of};

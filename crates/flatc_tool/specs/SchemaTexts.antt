@@ -1,0 +1,27 @@
+-- What a schema text gives as a whole, and which layer refuses it.
+use Rattle.std.specs.Prelude.{◌≢◌, List, ℕ}
+use Rattle.fb_syntax.specs.DeclsRead.{DeclsRead}
+use Rattle.fb_syntax.specs.Parsed.{Parses}
+use Rattle.fb_syntax.specs.declared.faults.SyntaxFault.TheVariants as syntax_faults
+use Rattle.fb_schema.specs.Schema.{DeclaredSchema}
+use Rattle.fb_declare.specs.Declares.{Declares, Stands}
+use Rattle.fb_declare.specs.declared.faults.SchemaFault.TheVariants as schema_faults
+use Rattle.fb_layout.specs.Laid.{LaidSchema}
+use Rattle.fb_layout.specs.WellMade.{IsWellMade}
+use Rattle.fb_layout.specs.Refused.{Refuses}
+use Rattle.fb_layout.specs.declared.faults.LayoutFault.TheVariants as layout_faults
+use Rattle.flatc_tool.specs.declared.schema_layouts.SchemaTextFault.{SchemaTextFault}
+use Rattle.flatc_tool.specs.declared.schema_layouts.SchemaTextFault.TheVariants.{Syntax, Schema, Layout}
+
+-- The text reads as declarations, these declare the schema, and the layout is that schema's.
+pub record IsAccepted (text : List ℕ) (L : LaidSchema) : Type 0 where
+  pub decls : DeclsRead
+  pub parsed : Parses text decls
+  pub declared : Declares decls L.schema
+  pub made : IsWellMade L
+
+-- The first layer that refuses: the layers before it have passed.
+abbrev pub IsRefused : List ℕ → SchemaTextFault → Type 0
+IsRefused text (Syntax f) = f ≢ syntax_faults.Memory → (d : DeclsRead) → ¬ (Parses text d)
+IsRefused text (Schema f) = (d : DeclsRead) × Parses text d × (f ≢ schema_faults.Memory → Stands d f)
+IsRefused text (Layout f) = (d : DeclsRead) × (S : DeclaredSchema) × Parses text d × Declares d S × (f ≢ layout_faults.Memory → Refuses S f)

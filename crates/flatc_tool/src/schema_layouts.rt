@@ -1,0 +1,42 @@
+//! Schema texts of the whole language.
+ghost use Rattle.std.specs.Prelude.{IfOk, IfErr};
+ghost use Rattle.flatc_tool.specs.SchemaTexts.{IsAccepted, IsRefused};
+
+use fb_declare::{SchemaFault, declare};
+use fb_layout::{Layout, LayoutFault, lay};
+use fb_syntax::{SyntaxFault, parse};
+use std::alloc::Global;
+use thiserror::Error;
+
+/// The refusal of the first layer that refuses a schema text: its tokens and grammar, its
+/// declarations, or the sizes of its types.
+#[derive(Clone, Copy, Debug, PartialEq, Eq, Drop, Error)]
+pub enum SchemaTextFault {
+    #[error(transparent)]
+    Syntax(SyntaxFault),
+    #[error(transparent)]
+    Schema(SchemaFault),
+    #[error(transparent)]
+    Layout(LayoutFault),
+}
+
+/// The layout of the schema that a text declares.
+///
+/// The refusal is that of the first layer that refuses.
+pub fn schema_of(alloc: Global, text: &[u8]) -> Result<Layout, SchemaTextFault>
+    ensures accepted { IfOk result (IsAccepted text.now) }
+    ensures refused { IfErr result (IsRefused text.now) }
+{
+    let decls = match parse(alloc, text) {
+        Ok(decls) => decls,
+        Err(fault) => return Err(SchemaTextFault::Syntax(fault)),
+    };
+    let schema = match declare(alloc, &decls) {
+        Ok(schema) => schema,
+        Err(fault) => return Err(SchemaTextFault::Schema(fault)),
+    };
+    match lay(alloc, schema) {
+        Ok(layout) => Ok(layout),
+        Err((fault, _schema)) => Err(SchemaTextFault::Layout(fault)),
+    }
+}
