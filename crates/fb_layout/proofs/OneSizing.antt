@@ -1,12 +1,15 @@
 -- A schema has one list of sizes at most.
-use Rattle.std.proofs.Common.{◌≡◌, ◌<◌, ◌≤◌, ◌+◌, ◌*◌, ℕ, zero, suc, max, Bool, true, false, IsTrue, List, [], ◌∷◌, length, map, get_or, Option, Some, slice_get, slice_index_or, refl, sym, ap, ◌∙◌, subst, arith}
+use Rattle.std.proofs.Common.{◌≡◌, ◌<◌, ◌≤◌, ◌+◌, ◌*◌, ℕ, zero, suc, inl, inr, max, Bool, true, false, IsTrue, List, [], ◌∷◌, length, map, get_or, Option, Some, slice_get, slice_index_or, refl, sym, ap, ◌∙◌, subst, arith}
 use Rattle.std.specs.Option.{unwrap_or}
 use Rattle.std.proofs.lemmas.List.{ext_get_or}
 use Rattle.fb_schema.specs.Schema.{DeclaredField, DeclaredBody, DeclaredSchema, body_at, parts_in, force_align_in, is_struct}
 use Rattle.fb_schema.specs.WellDeclared.{IsPart, IsDeclared}
 use Rattle.fb_layout.specs.Sizes.{IsLeastMultiple}
 use Rattle.fb_layout.specs.Laid.{LaidSchema, StructLayout, no_struct, StoredKind, stored_shape, kind_in, size_of, align_of, parts_of}
-use Rattle.fb_layout.specs.WellMade.{StandInOrder, natural_align, IsStructLaid, IsSized}
+use Rattle.fb_layout.specs.WellMade.{StandInOrder, natural_align, IsStructLaid, IsSized, IsWellMade}
+use Rattle.fb_layout.specs.declared.faults.LayoutFault.{LayoutFault}
+use Rattle.fb_layout.specs.declared.faults.LayoutFault.TheVariants.{StructTooBig, TableTooWide, Memory}
+use Rattle.fb_layout.specs.Refused.{Fails, Refuses}
 use Rattle.fb_layout.specs.OneLayout.{OneLayout}
 use Rattle.fb_layout.proofs.Exact.{kinds_of, with_structs}
 use Rattle.fb_layout.proofs.Lower.{part-size, natural-same}
@@ -73,3 +76,21 @@ same-below S a b declared x y (suc n) j less =
 
 pub one_sizing : OneLayout
 one_sizing S a b declared x y = ext_get_or no_struct a b (x.one_each ∙ sym y.one_each) (λ k within. same-below S a b declared x y (suc k) k (omega arith))
+
+-- a well-made layout fails no rule
+no-fault : (L : LaidSchema) → IsWellMade L → (f : LayoutFault) → Fails L f → ⊥
+no-fault L made (StructTooBig s) fails = let small = made.small s.0 in omega (arith, small, fails)
+no-fault L made (TableTooWide t) (inl wide) = let narrow = (made.tables t.0).wide in omega (arith, narrow, wide)
+no-fault L made (TableTooWide t) (inr many) = let few = (made.tables t.0).few in omega (arith, few, many)
+no-fault L made Memory fails = fails
+
+-- A schema that is refused has no layout.
+pub no_layout : (S : DeclaredSchema) (f : LayoutFault) → Refuses S f → (L : LaidSchema) → L.schema ≡ S → ¬ (IsWellMade L)
+no_layout S f refused L e made =
+    let sized : IsSized (with_structs S refused.layout.structs) = subst (λ (T : DeclaredSchema). IsSized (with_structs T refused.layout.structs)) refused.schema refused.sized in
+    let own : IsSized (with_structs S L.structs) = subst (λ (T : DeclaredSchema). IsSized (with_structs T L.structs)) e made.sized in
+    let declared : IsDeclared S = subst IsDeclared e made.declared in
+    let structs = one_sizing S refused.layout.structs L.structs declared sized own in
+    let schema : refused.layout.schema ≡ L.schema = refused.schema ∙ sym e in
+    let same : refused.layout ≡ L = ap (λ T. with_structs T refused.layout.structs) schema ∙ ap (with_structs L.schema) structs in
+    no-fault L made f (subst (λ (M : LaidSchema). Fails M f) same refused.fails)

@@ -1,7 +1,7 @@
 //! Schemas with the sizes of their types.
 ghost use Rattle.std.specs.Prelude.{◌≡◌, ◌≢◌, IfOk, IfErr, slice_index};
 ghost use Rattle.fb_layout.specs.declared.faults.LayoutFault.TheVariants.{Memory};
-ghost use Rattle.fb_layout.specs.Laid.{stored_kind, struct_at, size_of, align_of};
+ghost use Rattle.fb_layout.specs.Laid.{LaidSchema, stored_kind, struct_at, size_of, align_of};
 ghost use Rattle.fb_layout.specs.Widths.{widest, table_align, greatest};
 ghost use Rattle.fb_layout.specs.WellMade.{IsWellMade};
 ghost use Rattle.fb_layout.specs.Refused.{Refuses};
@@ -46,6 +46,8 @@ pub fn lay(alloc: Global, schema: Schema) -> Result<Layout, (LayoutFault, Schema
     ensures schema { IfOk result (λ layout. layout.schema ≡ schema) }
     ensures made { IfOk result IsWellMade }
     ensures fault { IfErr result (λ refused. refused.0 ≢ Memory → Refuses schema refused.0) }
+    ensures exact { IfErr result (λ refused. refused.0 ≢ Memory
+        → (L : LaidSchema) → L.schema ≡ schema → ¬ (IsWellMade L)) }
     ensures unchanged { IfErr result (λ refused. refused.1 ≡ schema) }
 {
     let Ok(structs) = structs_of(alloc, &schema) else {

@@ -1,5 +1,5 @@
 -- What a schema text gives as a whole, and which layer refuses it.
-use Rattle.std.specs.Prelude.{◌≢◌, List, ℕ}
+use Rattle.std.specs.Prelude.{◌≡◌, ◌≢◌, List, ℕ}
 use Rattle.fb_syntax.specs.DeclsRead.{DeclsRead}
 use Rattle.fb_syntax.specs.Parsed.{Parses}
 use Rattle.fb_syntax.specs.declared.faults.SyntaxFault.TheVariants as syntax_faults
@@ -25,3 +25,9 @@ abbrev pub IsRefused : List ℕ → SchemaTextFault → Type 0
 IsRefused text (Syntax f) = f ≢ syntax_faults.Memory → (d : DeclsRead) → ¬ (Parses text d)
 IsRefused text (Schema f) = (d : DeclsRead) × Parses text d × (f ≢ schema_faults.Memory → Stands d f)
 IsRefused text (Layout f) = (d : DeclsRead) × (S : DeclaredSchema) × Parses text d × Declares d S × (f ≢ layout_faults.Memory → Refuses S f)
+
+-- a want of memory in one of the layers
+abbrev pub IsWant : SchemaTextFault → Type 0
+IsWant (Syntax f) = f ≡ syntax_faults.Memory
+IsWant (Schema f) = f ≡ schema_faults.Memory
+IsWant (Layout f) = f ≡ layout_faults.Memory

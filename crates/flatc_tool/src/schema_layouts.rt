@@ -1,6 +1,7 @@
 //! Schema texts of the whole language.
 ghost use Rattle.std.specs.Prelude.{IfOk, IfErr};
-ghost use Rattle.flatc_tool.specs.SchemaTexts.{IsAccepted, IsRefused};
+ghost use Rattle.fb_layout.specs.Laid.{LaidSchema};
+ghost use Rattle.flatc_tool.specs.SchemaTexts.{IsAccepted, IsRefused, IsWant};
 
 use fb_declare::{SchemaFault, declare};
 use fb_layout::{Layout, LayoutFault, lay};
@@ -22,10 +23,12 @@ pub enum SchemaTextFault {
 
 /// The layout of the schema that a text declares.
 ///
-/// The refusal is that of the first layer that refuses.
+/// The refusal is that of the first layer that refuses; where it is no want of memory, the text has
+/// no layout.
 pub fn schema_of(alloc: Global, text: &[u8]) -> Result<Layout, SchemaTextFault>
     ensures accepted { IfOk result (IsAccepted text.now) }
     ensures refused { IfErr result (IsRefused text.now) }
+    ensures exact { IfErr result (λ f. ¬ (IsWant f) → (L : LaidSchema) → ¬ (IsAccepted text.now L)) }
 {
     let decls = match parse(alloc, text) {
         Ok(decls) => decls,

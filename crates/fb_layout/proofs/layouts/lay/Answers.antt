@@ -5,6 +5,7 @@ use Rattle.fb_layout.specs.WellMade.{IsWellMade}
 use Rattle.fb_layout.specs.Laid.{LaidSchema}
 use Rattle.fb_layout.specs.Known.{no_table, sizes_seen, known_from, tables_from, layout_known}
 use Rattle.fb_layout.proofs.LaidOut.{refused_for, made_for}
+use Rattle.fb_layout.proofs.OneSizing.{no_layout}
 use Rattle.fb_layout.proofs.FirstFault.{table_at}
 use Rattle.fb_layout.proofs.layouts.lay.Goals as goal
 
@@ -34,3 +35,9 @@ returns-clause-made c =
     let seen : map (option_map sizes_seen) c.as_slice.result.now ≡ known_from S [] S.types = ap (map (option_map sizes_seen)) c.as_slice.ensures.value ∙ items in
     let is = made_for S c.tables_of.ensures.declared c.in-Ok-tables_of.tables.items (ap (λ k. tables_from S k 0 S.types) (sym seen) ∙ c.in-Ok-tables_of.ensures.sizes) in
     subst IsWellMade (ap (layout_known S) (sym items)) is.made
+
+pub returns-in-Err-clause-exact : goal.returns-in-Err-clause-exact
+returns-in-Err-clause-exact c no_memory =
+    let S = c.args.schema in
+    let seen : map (option_map sizes_seen) c.as_slice.result.now ≡ known_from S [] S.types = ap (map (option_map sizes_seen)) c.as_slice.ensures.value ∙ c.in-Ok.ensures in
+    no_layout S c.in-Err.fault (refused_for S c.tables_of.ensures.declared c.in-Err.fault (ap (λ k. tables_from S k 0 S.types) (sym seen) ∙ c.in-Err.ensures.fault no_memory))
