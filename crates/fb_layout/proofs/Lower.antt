@@ -1,5 +1,5 @@
 -- Where each type's entry stands among the exact sizes, and that a struct needs only those below it.
-use Rattle.std.proofs.Common.{◌≡◌, ◌<◌, ◌≤◌, ◌+◌, ◌++◌, ℕ, zero, suc, max, Bool, true, false, IsTrue, List, [], ◌∷◌, length, map, take, get_or, Option, None, Some, slice_get, slice_index_or, refl, sym, ap, ◌∙◌, subst, arith}
+use Rattle.std.proofs.Common.{◌≡◌, ◌<◌, ◌≤◌, ◌+◌, ◌++◌, ℕ, zero, suc, max, List, [], ◌∷◌, length, take, Option, Some, slice_get, slice_index_or, refl, sym, ap, ◌∙◌, subst, arith}
 use Rattle.std.specs.Int.{next_multiple_of}
 use Rattle.std.specs.Option.{unwrap_or}
 use Rattle.std.proofs.lemmas.List.{get_or_append_left, get_or_push, length_push, length-take-le}
@@ -7,9 +7,9 @@ use Rattle.std.proofs.lemmas.Option.{none-some, same_Some}
 use Rattle.fb_schema.specs.declared.kinds.Kind.TheVariants.{Scalar, Enum, Struct, Table, Union, Code, Text}
 use Rattle.fb_schema.specs.declared.kinds.Shape.{Shape}
 use Rattle.fb_schema.specs.declared.kinds.Shape.TheVariants.{One, Many}
-use Rattle.fb_schema.specs.Schema.{DeclaredField, DeclaredBody, table_body, struct_body, enum_body, union_body, DeclaredType, DeclaredSchema}
+use Rattle.fb_schema.specs.Schema.{DeclaredField, struct_body, DeclaredType, DeclaredSchema}
 use Rattle.fb_schema.specs.WellDeclared.{IsPart}
-use Rattle.fb_layout.specs.Laid.{LaidSchema, StructLayout, no_struct, stored_shape, kind_in, struct_at, size_of, align_of}
+use Rattle.fb_layout.specs.Laid.{StructLayout, no_struct, stored_shape, kind_in, struct_at, size_of, align_of}
 use Rattle.fb_layout.specs.WellMade.{natural_align}
 use Rattle.fb_layout.proofs.Exact.{kinds_of, offsets_from, end_from, struct_of_kinds, exact_struct, with_structs, exact_from, exact}
 
@@ -89,12 +89,11 @@ ends-same S a b s same p (f ∷ fs) parts =
     let kind = kind_in (stored_shape S f.shape) in
     let own = part-size S a b s same f.shape (parts 0 f refl) in
     let next : next_multiple_of p (align_of A kind) + size_of A kind ≡ next_multiple_of p (align_of B kind) + size_of B kind = ap (λ n. next_multiple_of p n + size_of A kind) own.1 ∙ ap (λ n. next_multiple_of p (align_of B kind) + n) own.0 in
-    let rest = ends-same S a b s same (next_multiple_of p (align_of B kind) + size_of B kind) fs (λ k g e. parts (suc k) g e) in
-    (
+    let rest = ends-same S a b s same (next_multiple_of p (align_of B kind) + size_of B kind) fs (λ k g e. parts (suc k) g e) in (
       ap (λ n. end_from A n (kinds_of S fs)) next ∙ rest.0,
       ap (λ n. next_multiple_of p n ∷ offsets_from A (next_multiple_of p (align_of A kind) + size_of A kind) (kinds_of S fs)) own.1
-      ∙ ap (λ n. next_multiple_of p (align_of B kind) ∷ offsets_from A n (kinds_of S fs)) next
-      ∙ ap (λ os. next_multiple_of p (align_of B kind) ∷ os) rest.1,
+          ∙ ap (λ n. next_multiple_of p (align_of B kind) ∷ offsets_from A n (kinds_of S fs)) next
+          ∙ ap (λ os. next_multiple_of p (align_of B kind) ∷ os) rest.1,
     )
 
 pub natural-same : (S : DeclaredSchema) (a b : List StructLayout) (s : ℕ) → ((j : ℕ) → j < s → slice_index_or a j no_struct ≡ slice_index_or b j no_struct) → (fs : List DeclaredField) → AreParts S s fs

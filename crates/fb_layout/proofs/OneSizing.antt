@@ -1,19 +1,19 @@
 -- A schema has one list of sizes at most.
-use Rattle.std.proofs.Common.{◌≡◌, ◌<◌, ◌≤◌, ◌+◌, ◌*◌, ℕ, zero, suc, inl, inr, max, Bool, true, false, IsTrue, List, [], ◌∷◌, length, map, get_or, Option, Some, slice_get, slice_index_or, refl, sym, ap, ◌∙◌, subst, arith}
+use Rattle.std.proofs.Common.{◌≡◌, ◌<◌, ◌≤◌, ◌+◌, ℕ, zero, suc, inl, inr, Bool, true, false, IsTrue, List, [], ◌∷◌, Option, Some, slice_get, slice_index_or, refl, sym, ap, ◌∙◌, subst, arith}
 use Rattle.std.specs.Option.{unwrap_or}
 use Rattle.std.proofs.lemmas.List.{ext_get_or}
 use Rattle.fb_schema.specs.Schema.{DeclaredField, DeclaredBody, DeclaredSchema, body_at, parts_in, force_align_in, is_struct}
 use Rattle.fb_schema.specs.WellDeclared.{IsPart, IsDeclared}
 use Rattle.fb_layout.specs.Sizes.{IsLeastMultiple}
-use Rattle.fb_layout.specs.Laid.{LaidSchema, StructLayout, no_struct, StoredKind, stored_shape, kind_in, size_of, align_of, parts_of}
-use Rattle.fb_layout.specs.WellMade.{StandInOrder, natural_align, IsStructLaid, IsSized, IsWellMade}
+use Rattle.fb_layout.specs.Laid.{LaidSchema, StructLayout, no_struct, stored_shape, kind_in, size_of, align_of}
+use Rattle.fb_layout.specs.WellMade.{StandInOrder, IsStructLaid, IsSized, IsWellMade}
 use Rattle.fb_layout.specs.declared.faults.LayoutFault.{LayoutFault}
 use Rattle.fb_layout.specs.declared.faults.LayoutFault.TheVariants.{StructTooBig, TableTooWide, Memory}
 use Rattle.fb_layout.specs.Refused.{Fails, Refuses}
 use Rattle.fb_layout.specs.OneLayout.{OneLayout}
 use Rattle.fb_layout.proofs.Exact.{kinds_of, with_structs}
 use Rattle.fb_layout.proofs.Lower.{part-size, natural-same}
-use Rattle.fb_layout.proofs.SizedExact.{IsStructAt, struct_told, body_told}
+use Rattle.fb_layout.proofs.SizedExact.{struct_told, body_told}
 
 -- the least multiple is one number
 one-multiple : (a n m k : ℕ) → IsLeastMultiple a n m → IsLeastMultiple a n k → m ≡ k
@@ -57,8 +57,8 @@ same-struct S a b declared x y s same h =
     let at = struct_told S s h in
     let body = body_told S declared s at in
     one-struct S a b s same at.fs (λ k f e. (body.parts k f e).0) at.force (slice_index_or a s no_struct) (slice_index_or b s no_struct)
-      (subst (λ (c : DeclaredBody). IsStructLaid (with_structs S a) (kinds_of S (parts_in c)) (force_align_in c) (slice_index_or a s no_struct)) at.at (x.structs s h))
-      (subst (λ (c : DeclaredBody). IsStructLaid (with_structs S b) (kinds_of S (parts_in c)) (force_align_in c) (slice_index_or b s no_struct)) at.at (y.structs s h))
+    (subst (λ (c : DeclaredBody). IsStructLaid (with_structs S a) (kinds_of S (parts_in c)) (force_align_in c) (slice_index_or a s no_struct)) at.at (x.structs s h))
+    (subst (λ (c : DeclaredBody). IsStructLaid (with_structs S b) (kinds_of S (parts_in c)) (force_align_in c) (slice_index_or b s no_struct)) at.at (y.structs s h))
 
 true-told : (b : Bool) → b ≡ true → IsTrue b
 true-told true e = refl

@@ -1,18 +1,17 @@
 -- The layout of one table of `int` is well made.
-use Rattle.std.proofs.Common.{◌≡◌, ◌≢◌, ℕ, zero, suc, ◌+◌, ◌*◌, ◌/◌, ◌<◌, ◌≤◌, List, [], ◌∷◌, length, map, sum_by, slice_get, Option, None, Some, false, AllPairs, IsTrue, refl, sym, ap, subst, ◌∙◌, arith, pos, if◌then◌else◌}
+use Rattle.std.proofs.Common.{◌≡◌, ◌≢◌, ℕ, zero, suc, ◌+◌, ◌*◌, ◌≤◌, List, [], ◌∷◌, length, map, sum_by, slice_get, Some, false, AllPairs, IsTrue, refl, sym, ap, subst, ◌∙◌, arith, pos, if◌then◌else◌}
 use Rattle.std.proofs.lemmas.Int.{ints}
 use Rattle.std.proofs.lemmas.List.{length-map}
 use Rattle.std.proofs.lemmas.List.Sums.{sum_by-cons}
 use Rattle.fb_schema.specs.declared.kinds.TypeId.{TypeId}
 use Rattle.fb_schema.specs.declared.kinds.Base.TheVariants.{I32}
-use Rattle.fb_schema.specs.declared.kinds.Kind.TheVariants.{Scalar, Code, Union}
+use Rattle.fb_schema.specs.declared.kinds.Kind.TheVariants.{Code, Union}
 use Rattle.fb_schema.specs.declared.kinds.Shape.TheVariants.{One}
 use Rattle.fb_schema.specs.Schema.{Name, table_body, DeclaredField, DeclaredType, DeclaredSchema, body_at, is_struct}
-use Rattle.fb_schema.specs.WellDeclared.{InRange, IsShape, MarksFit, IsScalarField, IsUnionPair, UnionsPaired, names_of, IsTableBody, IsBody, IsDeclared}
-use Rattle.fb_layout.specs.Sizes.{ceil4}
-use Rattle.fb_layout.specs.Laid.{LaidSchema, scalar_kind, one_of, Slot, slot_of, slots_of, parts_of, struct_at, no_struct}
-use Rattle.fb_layout.specs.Widths.{inline_size, widest}
-use Rattle.fb_layout.specs.WellMade.{IsStructLaid, IsNarrow, IsWellMade}
+use Rattle.fb_schema.specs.WellDeclared.{InRange, IsShape, MarksFit, names_of, IsTableBody, IsBody, IsDeclared}
+use Rattle.fb_layout.specs.Laid.{scalar_kind, one_of, Slot, slot_of, slots_of, struct_at, no_struct}
+use Rattle.fb_layout.specs.Widths.{inline_size}
+use Rattle.fb_layout.specs.WellMade.{IsNarrow, IsWellMade}
 use Rattle.fb_layout.specs.OneTable.{int_field, int_fields, one_table_schema, one_table}
 
 -- each field is an `int` field of its slot

@@ -1,5 +1,5 @@
 -- The exact sizes are the sizes of a schema that is declared.
-use Rattle.std.proofs.Common.{◌≡◌, ◌<◌, ◌≤◌, ◌+◌, ◌^◌, ℕ, zero, suc, max, Bool, true, false, IsTrue, List, [], ◌∷◌, length, map, get_or, Option, None, Some, slice_get, slice_index, slice_index_or, refl, sym, ap, ◌∙◌, subst, arith}
+use Rattle.std.proofs.Common.{◌≡◌, ◌<◌, ◌≤◌, ◌+◌, ℕ, zero, suc, max, false, IsTrue, List, [], ◌∷◌, length, map, Option, None, Some, slice_get, slice_index, slice_index_or, refl, sym, ap, ◌∙◌, subst, arith}
 use Rattle.std.specs.Int.{next_multiple_of}
 use Rattle.std.specs.Option.{ForSome, unwrap_or}
 use Rattle.std.proofs.lemmas.Bool.{false≢true}
@@ -13,7 +13,7 @@ use Rattle.fb_schema.specs.Alignments.{greatest_in, part_align, natural_align_in
 use Rattle.fb_schema.specs.WellDeclared.{IsPart, IsForceAlign, IsStructBody, IsBody, IsDeclared}
 use Rattle.fb_layout.specs.Laid.{LaidSchema, StructLayout, no_struct, StoredKind, stored_shape, kind_in, struct_at, size_of, align_of, parts_of}
 use Rattle.fb_layout.specs.WellMade.{StandInOrder, natural_align, IsStructLaid, IsSized}
-use Rattle.fb_layout.proofs.Exact.{kinds_of, offsets_from, end_from, struct_of_kinds, exact_struct, with_structs, exact_from, exact, ArePositive, align_positive, IsSizable, AreSizable, exact-positives}
+use Rattle.fb_layout.proofs.Exact.{kinds_of, offsets_from, end_from, struct_of_kinds, exact_struct, with_structs, exact, ArePositive, align_positive, IsSizable, AreSizable, exact-positives}
 use Rattle.fb_layout.proofs.Multiples.{next-least}
 use Rattle.fb_layout.proofs.Lower.{exact-length, below, entry, struct_entry}
 
@@ -141,12 +141,13 @@ struct-laid S declared s h =
       sized = next-least (unwrap_or at.force (natural_align L kinds)) (end_from L 0 kinds) (subst (λ (r : StructLayout). 0 < r.align) (at_entry S declared s at) (entry-positive S declared s at));
     } in
     subst (λ (b : DeclaredBody). IsStructLaid L (kinds_of S (parts_in b)) (force_align_in b) (struct_at L s)) (sym at.at)
-      (subst (λ (r : StructLayout). IsStructLaid L kinds at.force r) (sym (at_entry S declared s at)) laid)
+    (subst (λ (r : StructLayout). IsStructLaid L kinds at.force r) (sym (at_entry S declared s at)) laid)
   where
     positive-at : (structs : List StructLayout) → ArePositive structs → (i : ℕ) → 0 < (slice_index_or structs i no_struct).align
     positive-at [] all i = omega arith
     positive-at (r ∷ rs) all zero = all.0
     positive-at (r ∷ rs) all (suc i) = positive-at rs all.1 i
+
     entry-positive : (S : DeclaredSchema) → IsDeclared S → (s : ℕ) → IsStructAt S s → 0 < (struct_at (exact S) s).align
     entry-positive S declared s at = positive-at (exact S).structs (positive S declared) s
 

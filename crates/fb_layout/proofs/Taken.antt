@@ -1,9 +1,9 @@
 -- What is known of a kind is what it takes: a struct that isn't known takes nothing.
-use Rattle.std.proofs.Common.{◌≡◌, ℕ, zero, suc, List, [], ◌∷◌, map, Option, None, Some, slice_get, slice_index_or, refl, sym, ap, ◌∙◌}
+use Rattle.std.proofs.Common.{◌≡◌, ℕ, zero, suc, [], ◌∷◌, map, Option, None, Some, slice_get, slice_index_or, refl, sym, ap, ◌∙◌}
 use Rattle.std.specs.Option.{option_map_or, unwrap_or}
 use Rattle.fb_schema.specs.Schema.{DeclaredSchema}
-use Rattle.fb_layout.specs.Laid.{StructLayout, no_struct, StoredKind, scalar_kind, struct_kind, table_kind, union_kind, code_kind, text_kind, struct_at, size_of, align_of}
-use Rattle.fb_layout.specs.Known.{Known, extent_in, struct_extent, extent_of, layout_known}
+use Rattle.fb_layout.specs.Laid.{StructLayout, no_struct, StoredKind, scalar_kind, struct_kind, table_kind, union_kind, code_kind, text_kind, size_of, align_of}
+use Rattle.fb_layout.specs.Known.{Known, extent_in, extent_of, layout_known}
 
 -- the struct of a number
 pub struct_known : (known : Known) (s : ℕ) → slice_index_or (map (λ k. unwrap_or k no_struct) known) s no_struct ≡ unwrap_or (unwrap_or (slice_get known s) (Some no_struct)) no_struct

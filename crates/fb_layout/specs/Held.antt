@@ -2,7 +2,6 @@
 use Rattle.std.specs.Prelude.{ℕ, ◌≡◌, map, slice_index_or}
 use Rattle.std.specs.Option.{option_map}
 use Rattle.fb_layout.specs.declared.layouts.Layout.TheInside.{Inside}
-use Rattle.fb_layout.specs.declared.tables.TableSizes.{TableSizes}
 use Rattle.fb_layout.specs.Laid.{LaidSchema}
 use Rattle.fb_layout.specs.Widths.{widest, table_align, greatest}
 use Rattle.fb_layout.specs.WellMade.{IsWellMade}

@@ -1,11 +1,11 @@
 -- Sizes and alignments, computed from type to type: a struct over 65,535 bytes has none.
 -- From the FlatBuffers documentation, "FlatBuffer Internals": Structs, Tables.
-use Rattle.std.specs.Prelude.{ℕ, ◌+◌, ◌++◌, ◌&&◌, max, List, [], ◌∷◌, length, Option, None, Some, map, nat_lt, nat_le, slice_get, Result, Ok, Err, if◌then◌else◌}
+use Rattle.std.specs.Prelude.{ℕ, ◌+◌, ◌++◌, max, List, [], ◌∷◌, length, Option, None, Some, map, nat_lt, nat_le, slice_get, Result, Ok, Err, if◌then◌else◌}
 use Rattle.std.specs.Int.{next_multiple_of}
 use Rattle.std.specs.Option.{option_map, option_and_then, option_map_or, unwrap_or, ok_or}
-use Rattle.fb_schema.specs.Schema.{DeclaredField, DeclaredBody, table_body, struct_body, enum_body, union_body, DeclaredType, DeclaredSchema, slots_in}
+use Rattle.fb_schema.specs.Schema.{DeclaredField, DeclaredBody, table_body, struct_body, DeclaredType, DeclaredSchema}
 use Rattle.fb_schema.specs.Alignments.{base_size}
-use Rattle.fb_layout.specs.Laid.{LaidSchema, StructLayout, no_struct, StoredKind, scalar_kind, struct_kind, table_kind, union_kind, code_kind, text_kind, StoredShape, one_of, vector_of, stored_kind, stored_shape, kind_in}
+use Rattle.fb_layout.specs.Laid.{LaidSchema, StructLayout, no_struct, StoredKind, scalar_kind, struct_kind, table_kind, union_kind, code_kind, text_kind, StoredShape, one_of, vector_of, stored_shape, kind_in}
 use Rattle.fb_layout.specs.declared.extents.Extent.{Extent}
 use Rattle.fb_layout.specs.declared.extents.StructSizes.{StructSizes}
 use Rattle.fb_layout.specs.declared.faults.LayoutFault.{LayoutFault}

@@ -1,6 +1,6 @@
 -- A layout as contracts see it: a schema, and beside it what each struct takes.
 -- From the FlatBuffers documentation, "FlatBuffer Internals": Structs, Tables, Vectors, Unions.
-use Rattle.std.specs.Prelude.{ℕ, zero, suc, List, [], Bool, true, false, not, ◌&&◌, ◌||◌, ℤ, Option, None, Some, map, option_map, slice_get, slice_index_or}
+use Rattle.std.specs.Prelude.{ℕ, zero, suc, List, [], Bool, false, not, ◌&&◌, ◌||◌, ℤ, Option, None, Some, map, option_map, slice_get, slice_index_or}
 use Rattle.fb_schema.specs.declared.kinds.Base.{Base}
 use Rattle.fb_schema.specs.declared.kinds.Kind.{Kind}
 use Rattle.fb_schema.specs.declared.kinds.Kind.TheVariants.{Scalar, Enum, Struct, Table, Union, Code, Text}

@@ -1,4 +1,4 @@
-use Rattle.std.proofs.Common.{◌≡◌, Ok, Err, ℕ, [], List, Option, map, sym, ap, ◌∙◌, subst, slice_index_or}
+use Rattle.std.proofs.Common.{◌≡◌, ℕ, [], map, sym, ap, ◌∙◌, subst, slice_index_or}
 use Rattle.std.specs.Option.{option_map}
 use Rattle.fb_layout.specs.Widths.{greatest}
 use Rattle.fb_layout.specs.WellMade.{IsWellMade}

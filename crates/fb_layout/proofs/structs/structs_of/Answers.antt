@@ -1,4 +1,4 @@
-use Rattle.std.proofs.Common.{◌≡◌, [], ◌∷◌, ◌++◌, map, option_map, sym, ap, ◌∙◌}
+use Rattle.std.proofs.Common.{[], ◌∷◌, ◌++◌, map, option_map, sym, ap, ◌∙◌}
 use Rattle.fb_schema.specs.Seen.{type_seen}
 use Rattle.fb_layout.specs.Known.{sizes_seen, known_struct, known_from}
 use Rattle.fb_layout.proofs.Added.{known_next, known_all, map_pushed}

@@ -1,4 +1,4 @@
-use Rattle.std.proofs.Common.{◌≡◌, map, option_map, sym, ◌∙◌}
+use Rattle.std.proofs.Common.{map, option_map, sym, ◌∙◌}
 use Rattle.fb_schema.specs.Seen.{field_seen}
 use Rattle.fb_layout.specs.Known.{sizes_seen, slot_added}
 use Rattle.fb_layout.proofs.Added.{added_next, added_none, added_all}

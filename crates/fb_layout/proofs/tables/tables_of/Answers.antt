@@ -1,4 +1,4 @@
-use Rattle.std.proofs.Common.{◌≡◌, map, option_map, sym, ap, ◌∙◌}
+use Rattle.std.proofs.Common.{map, option_map, sym, ap, ◌∙◌}
 use Rattle.fb_schema.specs.Seen.{type_seen}
 use Rattle.fb_layout.specs.Known.{sizes_seen, tables_from}
 use Rattle.fb_layout.proofs.TablesFrom.{tables_next, tables_fail, tables_all}
