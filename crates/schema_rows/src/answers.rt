@@ -1,8 +1,9 @@
 //! What a schema text gives.
 use crate::asks::{Ask, asked};
+use crate::laid::{LaidAsk, laid_line};
 use crate::shown::schema_line;
-use crate::texts::with_tables;
 use fb_declare::declare;
+use fb_layout::lay;
 use fb_schema::Schema;
 use fb_syntax::parse;
 use std::alloc::{AllocError, Global};
@@ -22,21 +23,34 @@ pub(crate) struct Answer {
     pub(crate) text: String,
 }
 
-/// What a text with some tables before it gives: a fault, the whole schema, or what is asked.
+/// What a text gives: a fault, the whole schema, or what is asked of it or of its layout.
 pub(crate) fn answer_of(
     alloc: Global,
-    tables: u64,
     text: &str,
     ask: Option<&Ask>,
+    laid: Option<&LaidAsk>,
 ) -> Result<Answer, AllocError> {
-    let text = with_tables(alloc, tables, text)?;
-    let decls = match parse(alloc, text.as_str().as_bytes()) {
+    let decls = match parse(alloc, text.as_bytes()) {
         Ok(decls) => decls,
         Err(fault) => return refused(format!(in alloc; "{fault:?}")?),
     };
     match declare(alloc, &decls) {
-        Ok(schema) => accepted(alloc, &schema, ask),
+        Ok(schema) => match laid {
+            Some(laid) => laid_out(alloc, schema, laid),
+            None => accepted(alloc, &schema, ask),
+        },
         Err(fault) => refused(format!(in alloc; "{fault:?}")?),
+    }
+}
+
+/// The answer of a schema's layout.
+fn laid_out(alloc: Global, schema: Schema, ask: &LaidAsk) -> Result<Answer, AllocError> {
+    match lay(alloc, schema) {
+        Ok(layout) => Ok(Answer {
+            part: Part::Asked,
+            text: laid_line(alloc, &layout, ask)?,
+        }),
+        Err((fault, _schema)) => refused(format!(in alloc; "{fault:?}")?),
     }
 }
 

@@ -4,6 +4,7 @@
 
 mod answers;
 mod asks;
+mod laid;
 mod rows;
 mod shown;
 mod tally;

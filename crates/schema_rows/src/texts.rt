@@ -21,3 +21,22 @@ fn push_table(all: &mut String, number: u64) -> Result<(), AllocError> {
     let next = number.saturating_add(1);
     write!(all, "next:T{next}; }}\n")
 }
+
+/// A text with pieces in the place of its `@`; in each its number, from 0, stands for the `#`.
+pub(crate) fn with_pieces(
+    alloc: Global,
+    pieces: u64,
+    piece: &str,
+    text: &str,
+) -> Result<String, AllocError> {
+    let Some((before, after)) = text.split_once('@') else {
+        return String::from_str(alloc, text);
+    };
+    let (head, tail) = piece.split_once('#').unwrap_or((piece, ""));
+    let mut all = String::from_str(alloc, before)?;
+    for number in 0..pieces {
+        write!(&mut all, "{head}{number}{tail}")?;
+    }
+    all.push_str(after)?;
+    Ok(all)
+}
