@@ -179,18 +179,23 @@ place-cases L placed kind positive = by (nat_lt (size_of L kind) 65536) refl
   where
     p : ℕ
     p = next_multiple_of placed.size (align_of L kind)
+
     field : Extent
     field = record { size = size_of L kind; align = align_of L kind }
+
     put : ℕ × ℕ → StructLayout
     put at = record { size = at.1; align = max placed.align (align_of L kind); offsets = placed.offsets ++ at.0 ∷ [] }
+
     -- the field's end
     ended : (b : Bool) → nat_lt (p + size_of L kind) 65536 ≡ b → option_map put (option_map (λ next. (p, next)) (small (p + size_of L kind))) ≡ if_small (placed_one L placed kind)
     ended true e = ap (λ c. option_map put (option_map (λ next. (p, next)) (if c then Some (p + size_of L kind) else None))) e ∙ sym (ap (λ c. if c then Some (placed_one L placed kind) else None) e)
     ended false e = ap (λ c. option_map put (option_map (λ next. (p, next)) (if c then Some (p + size_of L kind) else None))) e ∙ sym (ap (λ c. if c then Some (placed_one L placed kind) else None) e)
+
     -- the field's begin
     begun : (b : Bool) → nat_lt p 65536 ≡ b → option_map put (option_and_then (λ offset. option_map (λ next. (offset, next)) (small (offset + size_of L kind))) (small p)) ≡ if_small (placed_one L placed kind)
     begun true e = ap (λ c. option_map put (option_and_then (λ offset. option_map (λ next. (offset, next)) (small (offset + size_of L kind))) (if c then Some p else None))) e ∙ ended (nat_lt (p + size_of L kind) 65536) refl
     begun false e = ap (λ c. option_map put (option_and_then (λ offset. option_map (λ next. (offset, next)) (small (offset + size_of L kind))) (if c then Some p else None))) e ∙ sym (if_small-no (placed_one L placed kind) (let large = large-told p e in omega arith))
+
     by : (b : Bool) → nat_lt (size_of L kind) 65536 ≡ b → option_and_then (placed_behind placed) (small_extent (size_of L kind) (align_of L kind)) ≡ if_small (placed_one L placed kind)
     by true e = ap (λ c. option_and_then (placed_behind placed) (if c then Some field else None)) e
         ∙ ap (λ o. option_map put (option_and_then (λ offset. option_map (λ next. (offset, next)) (small (offset + size_of L kind))) o)) (aligned-is placed.size (align_of L kind) positive)
@@ -206,14 +211,19 @@ fields_small S structs positive placed h (f ∷ fs) =
   where
     L : LaidSchema
     L = with_structs S structs
+
     step : StructLayout → DeclaredField → Option StructLayout
     step = field_placed S (map if_small structs)
+
     kind : StoredKind
     kind = kind_in (stored_shape S f.shape)
+
     next : StructLayout
     next = placed_one L placed kind
+
     one : step placed f ≡ if_small next
     one = ap (option_and_then (placed_behind placed)) (extent_small S structs kind) ∙ place-cases L placed kind (align_positive S structs positive kind)
+
     by : (b : Bool) → nat_lt next.size 65536 ≡ b → (next.size < 65536 → each_added step next fs ≡ if_small (placed_all L next (kinds_of S fs)))
         → option_and_then (λ more. each_added step more fs) (if_small next) ≡ if_small (placed_all L placed (kind ∷ kinds_of S fs))
     by true e rest = ap (λ c. option_and_then (λ more. each_added step more fs) (if c then Some next else None)) e ∙ rest (small-told next.size e) ∙ ap if_small (all-one L placed kind (kinds_of S fs))
@@ -232,11 +242,14 @@ whole-small force placed positive = by (nat_lt placed.size 65536) refl
   where
     align : ℕ
     align = unwrap_or force placed.align
+
     whole : ℕ → StructLayout
     whole size = record { size = size; align = align; offsets = placed.offsets }
+
     aligned : (b : Bool) → nat_lt (next_multiple_of placed.size align) 65536 ≡ b → option_map whole (small (next_multiple_of placed.size align)) ≡ if_small (whole (next_multiple_of placed.size align))
     aligned true e = ap (λ c. option_map whole (if c then Some (next_multiple_of placed.size align) else None)) e ∙ sym (ap (λ c. if c then Some (whole (next_multiple_of placed.size align)) else None) e)
     aligned false e = ap (λ c. option_map whole (if c then Some (next_multiple_of placed.size align) else None)) e ∙ sym (ap (λ c. if c then Some (whole (next_multiple_of placed.size align)) else None) e)
+
     by : (b : Bool) → nat_lt placed.size 65536 ≡ b → option_and_then (whole_struct force) (if_small placed) ≡ if_small (whole (next_multiple_of placed.size align))
     by true e = ap (λ c. option_and_then (whole_struct force) (if c then Some placed else None)) e ∙ ap (option_map whole) (aligned-is placed.size align positive) ∙ aligned (nat_lt (next_multiple_of placed.size align) 65536) refl
     by false e = ap (λ c. option_and_then (whole_struct force) (if c then Some placed else None)) e ∙ sym (if_small-no (whole (next_multiple_of placed.size align)) (let large = large-told placed.size e in omega arith))

@@ -101,10 +101,13 @@ table-type S structs sized t fs e few fewness narrow narrowness = by few fewness
   where
     L : LaidSchema
     L = with_structs S structs
+
     taken : table_taken L fs ≡ table_at L t
     taken = sym (ap (λ b. table_taken L (slots_in b)) e)
+
     count : length (slots_of L t) ≡ length fs
     count = ap (λ b. length (map (slot_of S) (slots_in b))) e ∙ length-map fs (slot_of S)
+
     by : (few : Bool) → nat_le (length fs) 32765 ≡ few → (narrow : Bool) → nat_lt (table_taken L fs).widest 65536 ≡ narrow
         → OfType L t (ok_or (if few then (if narrow then Some (table_taken L fs) else None) else None) (TableTooWide (record { 0 = t })))
     by true f true w =
@@ -120,11 +123,11 @@ one-type : (S : DeclaredSchema) (structs : List StructLayout) → IsSized (with_
 one-type S structs sized t (table_body fs) e =
     let L = with_structs S structs in
     subst (λ (o : Option TableSizes). OfType L t (ok_or o (TableTooWide (record { 0 = t })))) (sym (table_small S structs fs))
-      (table-type S structs sized t fs e (nat_le (length fs) 32765) refl (nat_lt (table_taken L fs).widest 65536) refl)
+    (table-type S structs sized t fs e (nat_le (length fs) 32765) refl (nat_lt (table_taken L fs).widest 65536) refl)
 one-type S structs sized t (struct_body fs force) e =
     let L = with_structs S structs in
     subst (λ (o : Option StructLayout). OfType L t (option_map_or (λ s. Ok no_table) o (Err (StructTooBig (record { 0 = t }))))) (sym (struct_small structs t))
-      (struct-type S structs t fs force e (nat_lt (struct_at L t).size 65536) refl)
+    (struct-type S structs t fs force e (nat_lt (struct_at L t).size 65536) refl)
 one-type S structs sized t (enum_body base flags values) e = plain-type (with_structs S structs) sized t (enum_body base flags values) e refl refl
 one-type S structs sized t (union_body members) e = plain-type (with_structs S structs) sized t (union_body members) e refl refl
 
@@ -144,10 +147,10 @@ joined L t n (Err f) rest own behind = (own.0, omega (arith, own.1), λ g fails 
 joined L t n (Ok sizes) (Err f) own behind =
     (behind.0, omega (arith, behind.1), λ g fails above. behind.2 g fails (past t (type_number g) above (own.1 g fails)))
 joined L t n (Ok sizes) (Ok more) own behind = (
-    omega (arith, behind.0),
-    at,
-    λ f fails above less. behind.2 f fails (past t (type_number f) above (own.1 f fails)) (omega (arith, less)),
-  )
+  omega (arith, behind.0),
+  at,
+  λ f fails above less. behind.2 f fails (past t (type_number f) above (own.1 f fails)) (omega (arith, less)),
+)
   where
     at : (k : ℕ) → k < suc n → slice_index_or (sizes ∷ more) k no_table ≡ table_at L (t + k)
     at zero less = own.0 ∙ ap (table_at L) (let sum : t ≡ t + 0 = omega arith in sum)
@@ -157,13 +160,13 @@ types-from : (S : DeclaredSchema) (structs : List StructLayout) → IsSized (wit
     → OfTypes (with_structs S structs) t (length types) (tables_from S (map if_small structs) t types)
 types-from S structs sized t [] bodies =
     subst (λ (r : Result (List TableSizes) LayoutFault). OfTypes (with_structs S structs) t 0 r) (sym (tables_from-nil S (map if_small structs) t))
-      (refl, λ k less. absurd (omega (arith, less)), λ f fails above less. omega (arith, above, less))
+    (refl, λ k less. absurd (omega (arith, less)), λ f fails above less. omega (arith, above, less))
 types-from S structs sized t (type ∷ types) bodies =
     let L = with_structs S structs in
     let own = one-type S structs sized t type.body (ap (body_at S) (let sum : t ≡ t + 0 = omega arith in sum) ∙ bodies 0 type refl) in
     let behind = types-from S structs sized (t + 1) types (λ k x e. ap (body_at S) (let sum : (t + 1) + k ≡ t + suc k = omega arith in sum) ∙ bodies (suc k) x e) in
     subst (λ (r : Result (List TableSizes) LayoutFault). OfTypes L t (suc (length types)) r) (sym (tables_from-cons S (map if_small structs) t type types))
-      (joined L t (length types) (type_sizes S (map if_small structs) t type.body) (tables_from S (map if_small structs) (t + 1) types) own behind)
+    (joined L t (length types) (type_sizes S (map if_small structs) t type.body) (tables_from S (map if_small structs) (t + 1) types) own behind)
 
 pub all_types : (S : DeclaredSchema) (structs : List StructLayout) → IsSized (with_structs S structs) → OfTypes (with_structs S structs) 0 (length S.types) (tables_from S (map if_small structs) 0 S.types)
 all_types S structs sized = types-from S structs sized 0 S.types (λ k type e. ap (body_at S) (let sum : 0 + k ≡ k = omega arith in sum) ∙ ap body_in e)

@@ -61,10 +61,13 @@ struct-small-at S none s = by (nat_le (struct_at (exact S) s).size 65535) refl (
   where
     long : length (exact S).structs ≡ 0 + length S.types
     long = exact-length S [] S.types
+
     within : (n m : ℕ) → nat_lt n m ≡ true → n < m
     within n m e = grind (arith, nat_tests)
+
     without : (n m : ℕ) → nat_lt n m ≡ false → m ≤ n
     without n m e = grind (arith, nat_tests)
+
     by : (few : Bool) → nat_le (struct_at (exact S) s).size 65535 ≡ few → (there : Bool) → nat_lt s (length S.types) ≡ there → (struct_at (exact S) s).size ≤ 65535
     by true e there t = le-told (struct_at (exact S) s).size 65535 e
     by false e true t = absurd (none (StructTooBig (record { 0 = s })) (gt-told (struct_at (exact S) s).size 65535 e) (omega arith) (let less = within s (length S.types) t in omega (arith, less)))
@@ -79,16 +82,21 @@ table-narrow-at S none t = by (nat_lt t (length S.types)) refl
   where
     L : LaidSchema
     L = exact S
+
     within : (n m : ℕ) → nat_lt n m ≡ true → n < m
     within n m e = grind (arith, nat_tests)
+
     without : (n m : ℕ) → nat_lt n m ≡ false → m ≤ n
     without n m e = grind (arith, nat_tests)
+
     wide : t < length S.types → (b : Bool) → nat_le (widest L t) 65535 ≡ b → widest L t ≤ 65535
     wide less true e = le-told (widest L t) 65535 e
     wide less false e = absurd (none (TableTooWide (record { 0 = t })) (inl (gt-told (widest L t) 65535 e)) (omega arith) (omega (arith, less)))
+
     few : t < length S.types → (b : Bool) → nat_le (length (slots_of L t)) 32765 ≡ b → length (slots_of L t) ≤ 32765
     few less true e = le-told (length (slots_of L t)) 32765 e
     few less false e = absurd (none (TableTooWide (record { 0 = t })) (inr (gt-told (length (slots_of L t)) 32765 e)) (omega arith) (omega (arith, less)))
+
     by : (b : Bool) → nat_lt t (length S.types) ≡ b → IsNarrow L t
     by true e = let less = within t (length S.types) e in record { wide = wide less (nat_le (widest L t) 65535) refl; few = few less (nat_le (length (slots_of L t)) 32765) refl }
     by false e = let both = few-slots L t (no-more-slots S t (without t (length S.types) e)) in record { wide = both.0; few = both.1 }
@@ -104,8 +112,10 @@ table-sizes-at S tables long each t = by (nat_lt t (length S.types)) refl
   where
     within : (n m : ℕ) → nat_lt n m ≡ true → n < m
     within n m e = grind (arith, nat_tests)
+
     without : (n m : ℕ) → nat_lt n m ≡ false → m ≤ n
     without n m e = grind (arith, nat_tests)
+
     by : (b : Bool) → nat_lt t (length S.types) ≡ b → slice_index_or tables t no_table ≡ table_at (exact S) t
     by true e = each t (within t (length S.types) e) ∙ ap (table_at (exact S)) (let sum : 0 + t ≡ t = omega arith in sum)
     by false e = let past = without t (length S.types) e in no-sizes tables t (omega (arith, long, past)) ∙ no-table-at (exact S) t (no-more-slots S t past)

@@ -89,12 +89,11 @@ ends-same S a b s same p (f ∷ fs) parts =
     let kind = kind_in (stored_shape S f.shape) in
     let own = part-size S a b s same f.shape (parts 0 f refl) in
     let next : next_multiple_of p (align_of A kind) + size_of A kind ≡ next_multiple_of p (align_of B kind) + size_of B kind = ap (λ n. next_multiple_of p n + size_of A kind) own.1 ∙ ap (λ n. next_multiple_of p (align_of B kind) + n) own.0 in
-    let rest = ends-same S a b s same (next_multiple_of p (align_of B kind) + size_of B kind) fs (λ k g e. parts (suc k) g e) in
-    (
+    let rest = ends-same S a b s same (next_multiple_of p (align_of B kind) + size_of B kind) fs (λ k g e. parts (suc k) g e) in (
       ap (λ n. end_from A n (kinds_of S fs)) next ∙ rest.0,
       ap (λ n. next_multiple_of p n ∷ offsets_from A (next_multiple_of p (align_of A kind) + size_of A kind) (kinds_of S fs)) own.1
-      ∙ ap (λ n. next_multiple_of p (align_of B kind) ∷ offsets_from A n (kinds_of S fs)) next
-      ∙ ap (λ os. next_multiple_of p (align_of B kind) ∷ os) rest.1,
+          ∙ ap (λ n. next_multiple_of p (align_of B kind) ∷ offsets_from A n (kinds_of S fs)) next
+          ∙ ap (λ os. next_multiple_of p (align_of B kind) ∷ os) rest.1,
     )
 
 natural-same : (S : DeclaredSchema) (a b : List StructLayout) (s : ℕ) → ((j : ℕ) → j < s → slice_index_or a j no_struct ≡ slice_index_or b j no_struct) → (fs : List DeclaredField) → AreParts S s fs

@@ -21,6 +21,7 @@ behind a q r n is below = record {
   where
     sum : n + (a - suc r) ≡ suc q * a
     sum = omega (is, below, arith)
+
     least : (k : ℕ) → n ≤ k * a → (b : Bool) → nat_le k q ≡ b → n + (a - suc r) ≤ k * a
     least k enough true e = absurd (let over : k * a ≤ q * a = mul-le-mul_right a (le-told k q e) in omega (is, arith))
     least k enough false e = let over : suc q * a ≤ k * a = mul-le-mul_right a (gt-told k q e) in omega (sum, arith)

@@ -141,12 +141,13 @@ struct-laid S declared s h =
       sized = next-least (unwrap_or at.force (natural_align L kinds)) (end_from L 0 kinds) (subst (λ (r : StructLayout). 0 < r.align) (at_entry S declared s at) (entry-positive S declared s at));
     } in
     subst (λ (b : DeclaredBody). IsStructLaid L (kinds_of S (parts_in b)) (force_align_in b) (struct_at L s)) (sym at.at)
-      (subst (λ (r : StructLayout). IsStructLaid L kinds at.force r) (sym (at_entry S declared s at)) laid)
+    (subst (λ (r : StructLayout). IsStructLaid L kinds at.force r) (sym (at_entry S declared s at)) laid)
   where
     positive-at : (structs : List StructLayout) → ArePositive structs → (i : ℕ) → 0 < (slice_index_or structs i no_struct).align
     positive-at [] all i = omega arith
     positive-at (r ∷ rs) all zero = all.0
     positive-at (r ∷ rs) all (suc i) = positive-at rs all.1 i
+
     entry-positive : (S : DeclaredSchema) → IsDeclared S → (s : ℕ) → IsStructAt S s → 0 < (struct_at (exact S) s).align
     entry-positive S declared s at = positive-at (exact S).structs (positive S declared) s
 

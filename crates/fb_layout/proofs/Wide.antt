@@ -57,13 +57,17 @@ sized-slot sizes size align = by (nat_lt size 65536) refl
   where
     slot : Extent
     slot = record { size = size; align = align }
+
     put : ℕ → TableSizes
     put sum = record { widest = sum; align = max sizes.align align }
+
     step : Extent → Option TableSizes
     step s = option_map (λ sum. record { widest = sum; align = max sizes.align s.align }) (small (sizes.widest + s.size))
+
     summed : (b : Bool) → nat_lt (sizes.widest + size) 65536 ≡ b → option_map put (small (sizes.widest + size)) ≡ if_narrow (put (sizes.widest + size))
     summed true e = ap (λ c. option_map put (if c then Some (sizes.widest + size) else None)) e ∙ sym (ap (λ c. if c then Some (put (sizes.widest + size)) else None) e)
     summed false e = ap (λ c. option_map put (if c then Some (sizes.widest + size) else None)) e ∙ sym (ap (λ c. if c then Some (put (sizes.widest + size)) else None) e)
+
     by : (b : Bool) → nat_lt size 65536 ≡ b → option_and_then step (small_extent size align) ≡ if_narrow (put (sizes.widest + size))
     by true e = ap (λ c. option_and_then step (if c then Some slot else None)) e ∙ summed (nat_lt (sizes.widest + size) 65536) refl
     by false e = ap (λ c. option_and_then step (if c then Some slot else None)) e ∙ sym (narrow-no (put (sizes.widest + size)) (let large = large-told size e in omega (arith, large)))
@@ -74,14 +78,19 @@ slot-small S structs sizes h a f = by f.deprecated refl
   where
     L : LaidSchema
     L = with_structs S structs
+
     known : Known
     known = map if_small structs
+
     shape : StoredShape
     shape = stored_shape S f.shape
+
     stored : Option TableSizes
     stored = option_and_then (λ slot. option_map (λ sum. record { widest = sum; align = max sizes.align slot.align }) (small (sizes.widest + slot.size))) (slot_extent known shape)
+
     same : sizes ≡ record { widest = sizes.widest + 0; align = max sizes.align 4 }
     same = ap (λ w. record { widest = w; align = sizes.align }) (let sum : sizes.widest ≡ sizes.widest + 0 = omega arith in sum) ∙ ap (λ n. record { widest = sizes.widest + 0; align = n }) (let most : sizes.align ≡ max sizes.align 4 = omega (arith, a) in most)
+
     by : (b : Bool) → f.deprecated ≡ b → slot_added S known sizes f ≡ if_narrow (one_more L sizes f)
     by true e =
         ap (λ (c : Bool). if c then Some sizes else stored) e ∙ sym (if_narrow-yes sizes h) ∙ ap if_narrow same
@@ -118,10 +127,13 @@ slots-small S structs sizes h a (f ∷ fs) =
   where
     L : LaidSchema
     L = with_structs S structs
+
     step : TableSizes → DeclaredField → Option TableSizes
     step = slot_added S (map if_small structs)
+
     next : TableSizes
     next = one_more L sizes f
+
     by : (b : Bool) → nat_lt next.widest 65536 ≡ b → (next.widest < 65536 → each_added step next fs ≡ if_narrow (all_more L next fs))
         → option_and_then (λ more. each_added step more fs) (if_narrow next) ≡ if_narrow (all_more L sizes (f ∷ fs))
     by true e rest = ap (λ c. option_and_then (λ more. each_added step more fs) (if c then Some next else None)) e ∙ rest (small-told next.widest e) ∙ ap if_narrow (first-more L sizes f fs)
@@ -143,16 +155,21 @@ whole-small sizes = by (nat_lt sizes.widest 65536) refl
   where
     w : ℕ
     w = next_multiple_of sizes.widest 4
+
     put : ℕ → TableSizes
     put widest = record { widest = widest; align = sizes.align }
+
     behind : Option ℕ → Option TableSizes
     behind o = option_and_then (λ sum. option_map put (small (4 + sum))) o
+
     summed : (b : Bool) → nat_lt (4 + w) 65536 ≡ b → option_map put (small (4 + w)) ≡ if_narrow (put (4 + w))
     summed true e = ap (λ c. option_map put (if c then Some (4 + w) else None)) e ∙ sym (ap (λ c. if c then Some (put (4 + w)) else None) e)
     summed false e = ap (λ c. option_map put (if c then Some (4 + w) else None)) e ∙ sym (ap (λ c. if c then Some (put (4 + w)) else None) e)
+
     aligned : (b : Bool) → nat_lt w 65536 ≡ b → behind (small w) ≡ if_narrow (put (4 + w))
     aligned true e = ap (λ c. behind (if c then Some w else None)) e ∙ summed (nat_lt (4 + w) 65536) refl
     aligned false e = ap (λ c. behind (if c then Some w else None)) e ∙ sym (narrow-no (put (4 + w)) (let large = large-told w e in omega (arith, large)))
+
     by : (b : Bool) → nat_lt sizes.widest 65536 ≡ b → option_and_then whole_table (if_narrow sizes) ≡ if_narrow (put (4 + ceil4 sizes.widest))
     by true e = ap (λ c. option_and_then whole_table (if c then Some sizes else None)) e ∙ aligned (nat_lt w 65536) refl ∙ ap (λ n. if_narrow (put (4 + n))) (ceil-is sizes.widest)
     by false e = ap (λ c. option_and_then whole_table (if c then Some sizes else None)) e ∙ sym (narrow-no (put (4 + ceil4 sizes.widest)) (let large = large-told sizes.widest e in omega (arith, large)))
@@ -162,5 +179,5 @@ pub table_small : (S : DeclaredSchema) (structs : List StructLayout) (fs : List 
 table_small S structs fs =
     let L = with_structs S structs in
     let narrow : option_and_then whole_table (each_added (slot_added S (map if_small structs)) no_slots fs) ≡ if_narrow (table_taken L fs) =
-        ap (option_and_then whole_table) (slots-small S structs no_slots (omega arith) (omega arith) fs) ∙ whole-small (all_more L no_slots fs) ∙ ap (λ n. if_narrow (record { widest = 4 + ceil4 n; align = max 4 (slots_aligned L fs) })) (let sum : 0 + slots_size L fs ≡ slots_size L fs = omega arith in sum) in
+    ap (option_and_then whole_table) (slots-small S structs no_slots (omega arith) (omega arith) fs) ∙ whole-small (all_more L no_slots fs) ∙ ap (λ n. if_narrow (record { widest = 4 + ceil4 n; align = max 4 (slots_aligned L fs) })) (let sum : 0 + slots_size L fs ≡ slots_size L fs = omega arith in sum) in
     ap (λ t. if nat_le (length fs) 32765 then t else None) narrow

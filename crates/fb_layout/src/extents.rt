@@ -47,7 +47,7 @@ fn number_extent(base: Base) -> Extent
 }
 
 /// The underlying type of an enum.
-fn base_in(schema: &Schema, enumeration: TypeId) -> Base
+pub(crate) fn base_in(schema: &Schema, enumeration: TypeId) -> Base
     ensures { result ≡ base_in (body_at schema.now enumeration.0) }
 {
     let Some(info) = schema.types().get(enumeration.0 as usize) else {
@@ -84,7 +84,11 @@ pub(crate) fn offsets_in(structs: &[Option<StructSizes>], number: TypeId) -> &[u
 }
 
 /// What a kind takes, where the structs take what is known; None for a struct over 65,535 bytes.
-pub(crate) fn extent_of(schema: &Schema, structs: &[Option<StructSizes>], kind: Kind) -> Option<Extent>
+pub(crate) fn extent_of(
+    schema: &Schema,
+    structs: &[Option<StructSizes>],
+    kind: Kind,
+) -> Option<Extent>
     ensures { result ≡ extent_of (map (option_map sizes_seen) structs.now) (stored_kind schema.now kind) }
 {
     match kind {
@@ -97,7 +101,11 @@ pub(crate) fn extent_of(schema: &Schema, structs: &[Option<StructSizes>], kind: 
 }
 
 /// What a slot takes in its table: a vector is stored as a reference.
-pub(crate) fn slot_extent(schema: &Schema, structs: &[Option<StructSizes>], shape: Shape) -> Option<Extent>
+pub(crate) fn slot_extent(
+    schema: &Schema,
+    structs: &[Option<StructSizes>],
+    shape: Shape,
+) -> Option<Extent>
     ensures { result ≡ slot_extent (map (option_map sizes_seen) structs.now) (stored_shape schema.now shape) }
 {
     match shape {
