@@ -1,5 +1,5 @@
 //! Schemas with the sizes of their types.
-ghost use Rattle.std.specs.Prelude.{◌≡◌, ◌≢◌, IfOk, IfErr, map, slice_index};
+ghost use Rattle.std.specs.Prelude.{◌≡◌, ◌≢◌, ◌≤◌, IfOk, IfErr, length, map, slice_index};
 ghost use Rattle.fb_schema.specs.Schema.{body_at, slots_in, parts_in, base_in};
 ghost use Rattle.fb_schema.specs.Seen.{field_seen};
 ghost use Rattle.fb_layout.specs.declared.faults.LayoutFault.TheVariants.{Memory};
@@ -78,7 +78,8 @@ impl Layout {
 
     /// The slots of a table; none of another type.
     pub fn slots_of(&self, table: TypeId) -> &[FieldInfo]
-        ensures { map field_seen result.now ≡ slots_in (body_at self.now.schema table.0) }
+        ensures slots { map field_seen result.now ≡ slots_in (body_at self.now.schema table.0) }
+        ensures few { length result.now ≤ 32765 }
     {
         slots_at(&self.schema, table)
     }

@@ -7,6 +7,8 @@ mod faults;
 mod int_tables;
 mod laws;
 mod limits;
+mod plainness;
+mod rooms;
 mod sameness;
 mod values;
 mod wholeness;
@@ -20,6 +22,8 @@ pub use laws::{
     value_where_all_keep,
 };
 pub use limits::Limits;
+pub use plainness::plain;
+pub use rooms::room;
 pub use sameness::same;
 pub use values::Value;
 pub use wholeness::whole;
