@@ -47,7 +47,7 @@ fn number_extent(base: Base) -> Extent
 }
 
 /// The underlying type of an enum.
-fn base_in(schema: &Schema, enumeration: TypeId) -> Base
+pub(crate) fn base_in(schema: &Schema, enumeration: TypeId) -> Base
     ensures { result ≡ base_in (body_at schema.now enumeration.0) }
 {
     let Some(info) = schema.types().get(enumeration.0 as usize) else {

@@ -1,17 +1,20 @@
 //! Schemas with the sizes of their types.
-ghost use Rattle.std.specs.Prelude.{◌≡◌, ◌≢◌, IfOk, IfErr, slice_index};
+ghost use Rattle.std.specs.Prelude.{◌≡◌, ◌≢◌, ◌≤◌, IfOk, IfErr, length, map, slice_index};
+ghost use Rattle.fb_schema.specs.Schema.{body_at, slots_in, parts_in, base_in};
+ghost use Rattle.fb_schema.specs.Seen.{field_seen};
 ghost use Rattle.fb_layout.specs.declared.faults.LayoutFault.TheVariants.{Memory};
 ghost use Rattle.fb_layout.specs.Laid.{LaidSchema, stored_kind, struct_at, size_of, align_of};
 ghost use Rattle.fb_layout.specs.Widths.{widest, table_align, greatest};
 ghost use Rattle.fb_layout.specs.WellMade.{IsWellMade};
 ghost use Rattle.fb_layout.specs.Refused.{Refuses};
 
-use crate::extents::{StructSizes, extent_of, offsets_in};
+use crate::bodies::{parts_at, slots_at};
+use crate::extents::{StructSizes, base_in, extent_of, offsets_in};
 use crate::faults::LayoutFault;
 use crate::greatest::greatest;
 use crate::structs::structs_of;
 use crate::tables::{TableSizes, tables_of};
-use fb_schema::{Kind, Schema, TypeId};
+use fb_schema::{Base, FieldInfo, Kind, Schema, TypeId};
 use std::alloc::Global;
 use std::marker::Model;
 
@@ -73,6 +76,28 @@ impl Layout {
         ensures made { IsWellMade self.now }
     {
         &self.schema
+    }
+
+    /// The slots of a table; none of another type.
+    pub fn slots_of(&self, table: TypeId) -> &[FieldInfo]
+        ensures slots { map field_seen result.now ≡ slots_in (body_at self.now.schema table.0) }
+        ensures few { length result.now ≤ 32765 }
+    {
+        slots_at(&self.schema, table)
+    }
+
+    /// The fields of a struct; none of another type.
+    pub fn parts_of(&self, structure: TypeId) -> &[FieldInfo]
+        ensures { map field_seen result.now ≡ parts_in (body_at self.now.schema structure.0) }
+    {
+        parts_at(&self.schema, structure)
+    }
+
+    /// The underlying type of an enum; `ubyte` for another type.
+    pub fn base_of(&self, enumeration: TypeId) -> Base
+        ensures { result ≡ base_in (body_at self.now.schema enumeration.0) }
+    {
+        base_in(&self.schema, enumeration)
     }
 
     /// The bytes that one value of a kind takes where it is stored.

@@ -1,6 +1,7 @@
 //! A schema with the sizes that its types take.
 #![tactic(auto)]
 
+mod bodies;
 mod extents;
 mod faults;
 mod greatest;

@@ -1,5 +1,5 @@
 -- Laws of the bytes that hold a value, over every layout that is well made.
-use Rattle.std.specs.Prelude.{ℕ, ◌≡◌, ◌+◌, ◌↔◌, Bool, Option, None, Some}
+use Rattle.std.specs.Prelude.{◌≡◌, ◌+◌, ◌↔◌, Bool, Option, None, Some}
 use Rattle.fb_layout.specs.Laid.{LaidSchema}
 use Rattle.fb_layout.specs.WellMade.{IsWellMade}
 use Rattle.fb_value.specs.declared.faults.ReadFault.{ReadFault}

@@ -3,6 +3,8 @@ pub mod Counts
 pub mod View
 pub mod Fits
 pub mod Room
+pub mod Plain
+pub mod Entries
 pub mod Bounds
 pub mod Num
 pub mod Places

@@ -1,6 +1,6 @@
 -- The places of a buffer, and which places each names.
 -- From the FlatBuffers documentation, "FlatBuffer Internals": Tables, Unions, Strings and vectors.
-use Rattle.std.specs.Prelude.{ℕ, zero, suc, ◌+◌, ◌-◌, ◌*◌, ◌^◌, List, [], ◌∷◌, Bool, true, false, not, ◌&&◌, ◌||◌, ◌==◌, nat_lt, nat_le, if◌then◌else◌, Option, None, Some}
+use Rattle.std.specs.Prelude.{ℕ, zero, suc, ◌+◌, ◌-◌, ◌*◌, ◌^◌, List, [], ◌∷◌, Bool, false, not, ◌&&◌, ◌==◌, nat_lt, nat_le, if◌then◌else◌, Option, None, Some}
 use Rattle.fb_layout.specs.Laid.{LaidSchema, Slot, StoredKind, table_kind, union_kind, code_kind, text_kind, StoredShape, one_of, vector_of, slots_of, member_by_code}
 use Rattle.fb_value.specs.Num.{Bytes, num}
 

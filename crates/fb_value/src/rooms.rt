@@ -1,30 +1,127 @@
 //! How many bytes are surely enough for a value.
-ghost use Rattle.std.specs.Prelude.{◌≤◌};
+ghost use Rattle.std.specs.Prelude.{◌≤◌, ◌+◌, map, option_map};
 ghost use Rattle.std.specs.Option.{SomeIff};
-ghost use Rattle.fb_value.specs.View.{view};
+ghost use Rattle.fb_schema.specs.Seen.{field_seen};
+ghost use Rattle.fb_layout.specs.Laid.{stored_kind, stored_shape, slot_of};
+ghost use Rattle.fb_value.specs.View.{view, parts_view, entries_view};
 ghost use Rattle.fb_value.specs.Counts.{nesting};
 ghost use Rattle.fb_value.specs.Fits.{FitsRoot};
-ghost use Rattle.fb_value.specs.Room.{room_of};
+ghost use Rattle.fb_value.specs.Room.{table_room, vector_room, room as room_at, parts_room, entries_room, room_of};
+ghost use Rattle.fb_value.specs.Entries.{entry_room};
 
 use crate::values::Value;
-use fb_layout::IntTable;
+use fb_layout::Layout;
+use fb_schema::{FieldInfo, Kind, Shape, TypeId};
 
 // The root's reference and an identifier.
-const HEADER: u32 = 8;
+const HEADER: usize = 8;
 
-// The most padding in front of a part that is aligned to 4.
-const PADDING: u32 = 3;
+// The greatest room: what a reference of 4 bytes with a sign can span.
+const MOST: usize = 2_147_483_647;
 
 /// The bytes that are surely enough for a value of the root table; None exactly where they are over
 /// 2,147,483,647.
-pub fn room(layout: &IntTable, value: &Value) -> Option<u32>
+pub fn room(layout: &Layout, value: &Value) -> Option<u32>
     requires nests { nesting (view value.now) ≤ 300 }
     requires fits { FitsRoot layout.now (view value.now) }
     ensures { SomeIff result (room_of layout.now (view value.now) ≤ 2147483647) (room_of layout.now (view value.now)) }
 {
-    let _ = value;
-    let slots = layout.fields().len() as u32;
-    let inline = 4 + 4 * slots;
-    let vtable = 4 + 2 * slots;
-    Some(HEADER + PADDING + (PADDING + inline + vtable))
+    let shape = Shape::One(Kind::Table(layout.schema().root()));
+    let inner = room_in(layout, shape, value)?;
+    within(HEADER + (layout.greatest() as usize - 1) + inner as usize)
+}
+
+// None over the greatest room.
+fn within(sum: usize) -> Option<u32>
+    ensures { SomeIff result (sum ≤ 2147483647) sum }
+{
+    if sum <= MOST { Some(sum as u32) } else { None }
+}
+
+fn sum_of(first: u32, second: u32) -> Option<u32>
+    ensures { SomeIff result (first + second ≤ 2147483647) (first + second) }
+{
+    within(first as usize + second as usize)
+}
+
+// A table and its vtable.
+fn room_of_table(layout: &Layout, table: TypeId) -> Option<u32>
+    ensures { SomeIff result (table_room layout.now table.0 ≤ 2147483647) (table_room layout.now table.0) }
+{
+    let vtable = 4 + 2 * layout.slots_of(table).len();
+    let padding = layout.table_align(table) as usize - 1;
+    within(padding + (layout.widest(table) as usize + vtable))
+}
+
+// The count and the elements of a vector.
+fn room_of_vector(layout: &Layout, kind: Kind, count: usize) -> Option<u32>
+    ensures { SomeIff result (vector_room layout.now (stored_kind layout.now.schema kind) count ≤ 2147483647) (vector_room layout.now (stored_kind layout.now.schema kind) count) }
+{
+    let elements = within(count.checked_mul(layout.size_of(kind) as usize)?)?;
+    let padding = layout.align_of(kind).max(4) - 1;
+    within((4 + elements as usize) + padding as usize)
+}
+
+// The part that a value takes outside of where it stands.
+#[cycle(room)]
+fn room_in(layout: &Layout, shape: Shape, value: &Value) -> Option<u32>
+    ensures { SomeIff result (room_at layout.now (stored_shape layout.now.schema shape) (view value.now) ≤ 2147483647)
+        (room_at layout.now (stored_shape layout.now.schema shape) (view value.now)) }
+{
+    match value {
+        Value::Number(_) | Value::Fixed(_) | Value::Other(_) => Some(0),
+        Value::Text(text) => within(text.len().checked_add(8)?),
+        Value::Items(items) => match shape {
+            Shape::One(_) => Some(0),
+            Shape::Many(kind) => {
+                let own = room_of_vector(layout, kind, items.len())?;
+                sum_of(own, room_in_parts(layout, kind, items)?)
+            }
+        },
+        Value::Fields(owner, entries) => {
+            let own = room_of_table(layout, *owner)?;
+            let slots = layout.slots_of(*owner);
+            sum_of(own, room_in_entries(layout, slots, entries)?)
+        }
+        Value::Member(_, member) => room_in(layout, shape, member),
+    }
+}
+
+#[cycle(room)]
+fn room_in_parts(layout: &Layout, kind: Kind, parts: &Vec<Value>) -> Option<u32>
+    ensures { SomeIff result (parts_room layout.now (stored_kind layout.now.schema kind) (parts_view parts.now.items) ≤ 2147483647)
+        (parts_room layout.now (stored_kind layout.now.schema kind) (parts_view parts.now.items)) }
+{
+    let mut total = 0;
+    for part in parts {
+        total = sum_of(total, room_in(layout, Shape::One(kind), part)?)?;
+    }
+    Some(total)
+}
+
+#[cycle(room)]
+fn room_in_entries(
+    layout: &Layout,
+    slots: &[FieldInfo],
+    entries: &Vec<Option<Value>>,
+) -> Option<u32>
+    ensures { SomeIff result (entries_room layout.now (map (slot_of layout.now.schema) (map field_seen slots.now)) (entries_view entries.now.items) ≤ 2147483647)
+        (entries_room layout.now (map (slot_of layout.now.schema) (map field_seen slots.now)) (entries_view entries.now.items)) }
+{
+    let mut total = 0;
+    for i in 0..slots.len().min(entries.len()) {
+        total = sum_of(total, room_in_entry(layout, &slots[i], &entries[i])?)?;
+    }
+    Some(total)
+}
+
+#[cycle(room)]
+fn room_in_entry(layout: &Layout, slot: &FieldInfo, entry: &Option<Value>) -> Option<u32>
+    ensures { SomeIff result (entry_room layout.now (slot_of layout.now.schema (field_seen slot.now)) (option_map view entry.now) ≤ 2147483647)
+        (entry_room layout.now (slot_of layout.now.schema (field_seen slot.now)) (option_map view entry.now)) }
+{
+    match entry {
+        Some(value) => room_in(layout, slot.shape, value),
+        None => Some(0),
+    }
 }

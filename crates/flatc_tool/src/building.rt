@@ -17,7 +17,7 @@ ghost use Rattle.flatc_tool.specs.Placed.{entry_number, is_zero, numbers_in, sto
 use crate::faults::BuildFault;
 use byteorder::{ByteOrder, LittleEndian};
 use fb_layout::IntTable;
-use fb_value::{Value, room};
+use fb_value::{Value, room_of_int_table};
 use std::alloc::{AllocError, Global};
 
 fn put_u16(out: &mut Vec<u8>, number: u16) -> Result<(), AllocError>
@@ -155,7 +155,7 @@ pub(crate) fn build(alloc: Global, layout: &IntTable, value: &Value) -> Result<V
         → 2147483647 < room_of layout.now (view value.now) }
 {
     let _fields = layout.fields(); // tells what layouts there are
-    let Some(room) = room(layout, value) else {
+    let Some(room) = room_of_int_table(layout, value) else {
         return Err(BuildFault::TooBig);
     };
     let Value::Fields(_, entries) = value else {

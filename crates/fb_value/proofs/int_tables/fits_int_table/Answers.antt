@@ -2,8 +2,8 @@ use Rattle.std.proofs.Common.{◌≡◌, length, map, string_bytes, arith}
 use Rattle.std.proofs.lemmas.List.{length-map}
 use Rattle.std.proofs.lemmas.Bool.{false≢true}
 use Rattle.fb_value.proofs.IntTables.{fits_table, fits_tables_only}
-use Rattle.fb_value.proofs.fitting.fits.Goals as goal
-use Rattle.fb_value.proofs.fitting.fits.Goals.{then-type_id-ne0-via-then-type_id-ne0, then-type_id-ne0-via-else-type_id-ne0+then-owner-ne0, then-type_id-ne0-via-else-type_id-ne0+else-owner-ne0+then-len-fields}
+use Rattle.fb_value.proofs.int_tables.fits_int_table.Goals as goal
+use Rattle.fb_value.proofs.int_tables.fits_int_table.Goals.{then-type_id-ne0-via-then-type_id-ne0, then-type_id-ne0-via-else-type_id-ne0+then-owner-ne0, then-type_id-ne0-via-else-type_id-ne0+else-owner-ne0+then-len-fields}
 
 pub returns-in_default : goal.returns-in_default
 returns-in_default c =

@@ -3,7 +3,7 @@ use Rattle.std.proofs.lemmas.List.{length-map}
 use Rattle.fb_value.specs.View.{view}
 use Rattle.fb_value.specs.Room.{room_of}
 use Rattle.fb_value.proofs.IntTables.{room_known}
-use Rattle.fb_value.proofs.rooms.room.Goals as goal
+use Rattle.fb_value.proofs.int_tables.room_of_int_table.Goals as goal
 
 pub returns : goal.returns
 returns c =

@@ -1,0 +1,46 @@
+//! The fields of tables and structs.
+ghost use Rattle.std.specs.Prelude.{◌≡◌, map};
+ghost use Rattle.fb_schema.specs.Schema.{body_at, slots_in, parts_in};
+ghost use Rattle.fb_schema.specs.Seen.{field_seen, body_seen};
+
+use fb_schema::{Body, FieldInfo, Schema, TypeId};
+
+/// The slots of a table; none of another type.
+fn slots_in(body: &Body) -> &[FieldInfo]
+    ensures { map field_seen result.now ≡ slots_in (body_seen body.now) }
+{
+    match body {
+        Body::Table(slots) => slots.as_slice(),
+        Body::Struct(_, _) | Body::Enum(_, _, _) | Body::Union(_) => &[],
+    }
+}
+
+/// The fields of a struct; none of another type.
+fn parts_in(body: &Body) -> &[FieldInfo]
+    ensures { map field_seen result.now ≡ parts_in (body_seen body.now) }
+{
+    match body {
+        Body::Struct(parts, _) => parts.as_slice(),
+        Body::Table(_) | Body::Enum(_, _, _) | Body::Union(_) => &[],
+    }
+}
+
+/// The slots of the table of a number; none of another type.
+pub(crate) fn slots_at(schema: &Schema, table: TypeId) -> &[FieldInfo]
+    ensures { map field_seen result.now ≡ slots_in (body_at schema.now table.0) }
+{
+    match schema.types().get(table.0 as usize) {
+        Some(info) => slots_in(&info.body),
+        None => &[],
+    }
+}
+
+/// The fields of the struct of a number; none of another type.
+pub(crate) fn parts_at(schema: &Schema, structure: TypeId) -> &[FieldInfo]
+    ensures { map field_seen result.now ≡ parts_in (body_at schema.now structure.0) }
+{
+    match schema.types().get(structure.0 as usize) {
+        Some(info) => parts_in(&info.body),
+        None => &[],
+    }
+}
