@@ -20,21 +20,31 @@ use Rattle.fb_value.specs.Room.{room_of}
 use Rattle.fb_value.specs.Holds.{Holds, Refuses}
 use Rattle.flatc_tool.specs.JsonText.{IsTree}
 use Rattle.flatc_tool.specs.Meaning.{field_names, Means, Breaks}
-use Rattle.flatc_tool.specs.Jobs.{Accepts, JsonMeans, most_room, IsBinary, MayBeBinary, JsonRefused, BinaryRefused, MayBeText, ReadRefused, TextRefused, IsNotMemory}
+use Rattle.flatc_tool.specs.Jobs.{Accepts, SchemaRefused, JsonMeans, most_room, IsBinary, MayBeBinary, JsonRefused, BinaryRefused, MayBeText, ReadRefused, TextRefused, IsNotMemory}
 use Rattle.flatc_tool.specs.declared.faults.JsonFault.{JsonFault}
 use Rattle.flatc_tool.specs.declared.faults.JsonFault.TheVariants as the_json
 use Rattle.flatc_tool.specs.declared.faults.BuildFault.TheVariants as the_build
 use Rattle.flatc_tool.specs.declared.faults.TextFault.TheVariants as the_text
 use Rattle.flatc_tool.specs.declared.faults.ToolFault.{ToolFault}
-use Rattle.flatc_tool.specs.declared.faults.ToolFault.TheVariants.{Json, Build, Read, Text, BadJson, Memory, NotYet}
-use Rattle.flatc_tool.proofs.Schemas.{small_schema_once}
+use Rattle.flatc_tool.specs.declared.faults.ToolFault.TheVariants.{Schema, Json, Build, Read, Text, BadJson, Memory, NotYet}
+use Rattle.fb_value.specs.Plain.{IsPlain}
+use Rattle.flatc_tool.proofs.OneText.{same_accepted, refused_excludes}
 use Rattle.flatc_tool.proofs.Meanings.{means_once, breaks_none, means_depth, means_cells}
 
 -- a schema text has one layout
 pub same_layout : (schema : List ℕ) (L K : LaidSchema) → Accepts schema L → Accepts schema K → L ≡ K
-same_layout schema L K a b =
-    let same = small_schema_once schema a.0 b.0 a.1 b.1 a.2 b.2 in
-    a.3 ∙ ap (λ n. one_table n a.1) same.0 ∙ ap (λ ns. one_table b.0 ns) same.1 ∙ sym b.3
+same_layout schema L K a b = same_accepted schema L K a.0 b.0
+
+-- where the schema text is refused, it isn't taken
+schema_excludes : (schema : List ℕ) (f : ToolFault) → SchemaRefused schema f → IsNotMemory f → (L : LaidSchema) → Accepts schema L → ⊥
+schema_excludes schema (Schema f) h rule L accepted = refused_excludes schema f h rule L accepted.0
+schema_excludes schema NotYet h rule L accepted = h.2 (subst IsPlain (same_accepted schema L h.0 accepted.0 h.1) accepted.1)
+schema_excludes schema Memory h rule L accepted = rule
+schema_excludes schema BadJson h rule L accepted = h
+schema_excludes schema (Json f) h rule L accepted = h
+schema_excludes schema (Build f) h rule L accepted = h
+schema_excludes schema (Read f) h rule L accepted = h
+schema_excludes schema (Text f) h rule L accepted = h
 
 -- a JSON text has one tree
 pub same_tree : (json : List ℕ) (t u : Data) → IsTree json t → IsTree json u → t ≡ u
@@ -55,7 +65,8 @@ json_excludes schema json most unknown f h may =
 
 -- Where a layer refuses, there is no buffer to be made.
 pub binary_excludes : (schema json : List ℕ) (most : Bounds) (unknown : Bool) (f : ToolFault) → BinaryRefused schema json most unknown f → IsNotMemory f → MayBeBinary schema json most unknown → ⊥
-binary_excludes schema json most unknown NotYet h rule may = h may.layout may.accepted
+binary_excludes schema json most unknown (Schema f) h rule may = schema_excludes schema (Schema f) h rule may.layout may.accepted
+binary_excludes schema json most unknown NotYet h rule may = schema_excludes schema NotYet h rule may.layout may.accepted
 binary_excludes schema json most unknown BadJson h rule may = h.2 may.means.0 may.means.1
 binary_excludes schema json most unknown (Json the_json.Memory) h rule may = rule
 binary_excludes schema json most unknown (Json (the_json.WrongShape at)) h rule may = json_excludes schema json most unknown (the_json.WrongShape at) h may
@@ -83,7 +94,8 @@ read_excludes schema b most raw f h may =
 
 -- Where a layer refuses, there is no text to be printed.
 pub text_excludes : (schema : List ℕ) (b : Bytes) (most : Bounds) (raw : Bool) (f : ToolFault) → TextRefused schema b most raw f → IsNotMemory f → MayBeText schema b most raw → ⊥
-text_excludes schema b most raw NotYet h rule may = h may.layout may.accepted
+text_excludes schema b most raw (Schema f) h rule may = schema_excludes schema (Schema f) h rule may.layout may.accepted
+text_excludes schema b most raw NotYet h rule may = schema_excludes schema NotYet h rule may.layout may.accepted
 text_excludes schema b most raw (Read the_read.Memory) h rule may = rule
 text_excludes schema b most raw (Read f) h rule may = read_excludes schema b most raw f h may
 text_excludes schema b most raw (Text the_text.Memory) h rule may = rule

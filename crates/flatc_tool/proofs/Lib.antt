@@ -1,3 +1,5 @@
+pub mod OneText
+pub mod PlainTables
 pub mod Members
 pub mod Listed
 pub mod Meanings
@@ -6,7 +8,5 @@ pub mod Numbered
 pub mod Standing
 pub mod PlacedLies
 pub mod BuiltHolds
-pub mod Words
-pub mod Schemas
 pub mod Printing
 pub mod JobSteps

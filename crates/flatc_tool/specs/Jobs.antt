@@ -2,9 +2,7 @@
 -- From the FlatBuffers documentation, "Using the schema compiler": `--binary` and `--json`.
 use Rattle.std.specs.Prelude.{ℕ, ◌≡◌, ◌<◌, ◌≤◌, List, Bool, ⊤}
 use Rattle.serde_json.specs.Data.{Data}
-use Rattle.fb_schema.specs.Schema.{Name}
 use Rattle.fb_layout.specs.Laid.{LaidSchema}
-use Rattle.fb_layout.specs.OneTable.{one_table}
 use Rattle.fb_value.specs.declared.faults.ReadFault.{ReadFault}
 use Rattle.fb_value.specs.declared.faults.ReadFault.TheVariants as the_read
 use Rattle.fb_value.specs.Bounds.{Bounds}
@@ -13,7 +11,8 @@ use Rattle.fb_value.specs.Num.{Bytes}
 use Rattle.fb_value.specs.Room.{room_of}
 use Rattle.fb_value.specs.Holds.{Holds, RootKeeps, Refuses}
 use Rattle.fb_value.specs.OldSlots.{OnlyOld}
-use Rattle.flatc_tool.specs.SmallSchema.{IsSmallSchema}
+use Rattle.fb_value.specs.Plain.{IsPlain}
+use Rattle.flatc_tool.specs.SchemaTexts.{IsAccepted, IsRefused, IsWant}
 use Rattle.flatc_tool.specs.JsonText.{IsTree}
 use Rattle.flatc_tool.specs.Meaning.{field_names, Means, Breaks}
 use Rattle.flatc_tool.specs.Printed.{printed}
@@ -22,11 +21,18 @@ use Rattle.flatc_tool.specs.declared.faults.JsonFault.TheVariants as the_json
 use Rattle.flatc_tool.specs.declared.faults.BuildFault.TheVariants as the_build
 use Rattle.flatc_tool.specs.declared.faults.TextFault.TheVariants as the_text
 use Rattle.flatc_tool.specs.declared.faults.ToolFault.{ToolFault}
-use Rattle.flatc_tool.specs.declared.faults.ToolFault.TheVariants.{Json, Build, Read, Text, BadJson, Memory, NotYet}
+use Rattle.flatc_tool.specs.declared.faults.ToolFault.TheVariants.{Schema, Json, Build, Read, Text, BadJson, Memory, NotYet}
 
--- the schema text is accepted, and this is its layout
+-- the schema text is accepted, this is its layout, and it is one table of plain `int` fields
 abbrev pub Accepts : List ℕ → LaidSchema → Type 0
-Accepts schema L = (name : Name) × (names : List Name) × IsSmallSchema schema name names × (L ≡ one_table name names)
+Accepts schema L = IsAccepted schema L × IsPlain L
+
+-- The refusal of a schema text: that of its first layer that refuses, or it has a layout of another kind.
+abbrev pub SchemaRefused : List ℕ → ToolFault → Type 0
+SchemaRefused schema (Schema f) = IsRefused schema f
+SchemaRefused schema NotYet = (L : LaidSchema) × IsAccepted schema L × (¬ (IsPlain L))
+SchemaRefused schema Memory = ⊤
+SchemaRefused schema _ = ⊥
 
 -- the JSON text means the value under the layout
 abbrev pub JsonMeans : LaidSchema → Bounds → Bool → List ℕ → Datum → Type 0
@@ -62,7 +68,8 @@ JsonRefused schema json most unknown f = (L : LaidSchema) × Accepts schema L ×
 -- The refusal of the first layer that refuses, in the order schema, JSON text, value, size.
 -- Where a layer wants memory, the layers before it have passed; `Memory` alone is of the schema or the JSON text.
 abbrev pub BinaryRefused : List ℕ → List ℕ → Bounds → Bool → ToolFault → Type 0
-BinaryRefused schema json most unknown NotYet = (L : LaidSchema) → ¬ Accepts schema L
+BinaryRefused schema json most unknown (Schema f) = SchemaRefused schema (Schema f)
+BinaryRefused schema json most unknown NotYet = SchemaRefused schema NotYet
 BinaryRefused schema json most unknown BadJson = (L : LaidSchema) × Accepts schema L × ((t : Data) → ¬ IsTree json t)
 BinaryRefused schema json most unknown (Json f) = JsonRefused schema json most unknown f
 BinaryRefused schema json most unknown (Build the_build.TooBig) = (L : LaidSchema) × Accepts schema L × (v : Datum) × JsonMeans L most unknown json v × (most_room < room_of L v)
@@ -92,7 +99,8 @@ ReadRefused schema b most raw f = (L : LaidSchema) × Accepts schema L × Refuse
 -- The refusal of the schema, or the least fault of the bytes.
 -- Where a layer wants memory, the layers before it have passed; `Memory` alone is of the schema.
 abbrev pub TextRefused : List ℕ → Bytes → Bounds → Bool → ToolFault → Type 0
-TextRefused schema b most raw NotYet = (L : LaidSchema) → ¬ Accepts schema L
+TextRefused schema b most raw (Schema f) = SchemaRefused schema (Schema f)
+TextRefused schema b most raw NotYet = SchemaRefused schema NotYet
 TextRefused schema b most raw (Read f) = ReadRefused schema b most raw f
 TextRefused schema b most raw (Text the_text.Memory) = MayBeText schema b most raw
 TextRefused schema b most raw Memory = ⊤
@@ -101,6 +109,7 @@ TextRefused schema b most raw _ = ⊥
 -- a refusal that is no want of memory
 abbrev pub IsNotMemory : ToolFault → Type 0
 IsNotMemory Memory = ⊥
+IsNotMemory (Schema f) = ¬ (IsWant f)
 IsNotMemory (Json the_json.Memory) = ⊥
 IsNotMemory (Build the_build.Memory) = ⊥
 IsNotMemory (Read the_read.Memory) = ⊥

@@ -2,9 +2,6 @@ pub mod JsonText
 pub mod Meaning
 pub mod Named
 pub mod Placed
-pub mod Word
-pub mod SmallSchema
-pub mod SchemaParts
 pub mod Printed
 pub mod Lines
 pub mod Jobs

@@ -1,4 +1,5 @@
 //! Why the tool refuses.
+use crate::schema_layouts::SchemaTextFault;
 use fb_read::ReadFault;
 use fb_schema::TypeId;
 use std::alloc::{AllocError, AllocFailed};
@@ -47,10 +48,12 @@ pub enum TextFault {
 
 /// The refusal of the first layer that refuses.
 ///
-/// `BadJson` are bytes that are no JSON text, `NotYet` is a schema text that is not accepted yet,
-/// and `Memory` a refused allocation.
+/// `BadJson` are bytes that are no JSON text, `NotYet` is a schema other than one table of `int`
+/// fields without marks, defaults and identifier, and `Memory` a refused allocation.
 #[derive(Clone, Copy, Debug, PartialEq, Eq, Drop, Error)]
 pub enum ToolFault {
+    #[error(transparent)]
+    Schema(SchemaTextFault),
     #[error(transparent)]
     Json(JsonFault),
     #[error(transparent)]
@@ -63,7 +66,7 @@ pub enum ToolFault {
     BadJson,
     #[error("out of memory")]
     Memory,
-    #[error("the schema is not accepted yet")]
+    #[error("schemas of this kind are not supported yet")]
     NotYet,
 }
 

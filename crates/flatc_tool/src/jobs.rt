@@ -5,7 +5,7 @@ ghost use Rattle.flatc_tool.specs.Jobs.{IsBinary, MayBeBinary, BinaryRefused, Is
 use crate::building::build;
 use crate::faults::ToolFault;
 use crate::json::{tree_of, value_of};
-use crate::schema_text::layout_of;
+use crate::plain_schemas::layout_of;
 use crate::text::text_of;
 use fb_read::{Entries, read};
 use fb_value::Limits;
@@ -15,7 +15,7 @@ use std::alloc::Global;
 ///
 /// `unknown` lets members through that no field has. The schema is looked at first, then the JSON
 /// text, the value that it means, and that value's size; the first of these that refuses is
-/// answered. So far the schema declares one table of `int`, and any other is `NotYet`.
+/// answered. So far the schema is one table of `int` fields, and any other is `NotYet`.
 pub fn to_binary(
     alloc: Global,
     schema: &[u8],

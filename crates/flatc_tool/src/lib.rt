@@ -5,7 +5,7 @@ mod building;
 mod faults;
 mod jobs;
 mod json;
-mod schema_text;
+mod plain_schemas;
 mod schema_layouts;
 mod text;
 

@@ -1,0 +1,54 @@
+-- A schema text has one layout at most, and none where a layer refuses it.
+use Rattle.std.proofs.Common.{◌≡◌, ◌≢◌, List, ℕ, sym, ap, ◌∙◌, subst, arith}
+use Rattle.std.specs.List.{Contains}
+use Rattle.fb_syntax.specs.DeclsRead.{DeclsRead}
+use Rattle.fb_syntax.specs.Parsed.{Parses}
+use Rattle.fb_syntax.specs.GrammarSchema.{Reads}
+use Rattle.fb_syntax.specs.declared.tokens.Token.{Token}
+use Rattle.fb_syntax.proofs.ReadsAs.{one_reading_shown}
+use Rattle.fb_syntax.proofs.TextSpellings.{one_spelling_shown}
+use Rattle.fb_schema.specs.Schema.{DeclaredSchema}
+use Rattle.fb_schema.specs.WellDeclared.{IsDeclared}
+use Rattle.fb_declare.specs.declared.faults.SchemaFault.{SchemaFault}
+use Rattle.fb_declare.specs.Declares.{Declares, Stands}
+use Rattle.fb_declare.proofs.OneSchema.{one_declared}
+use Rattle.fb_layout.specs.Laid.{LaidSchema, StructLayout}
+use Rattle.fb_layout.specs.WellMade.{IsSized}
+use Rattle.fb_layout.proofs.OneSizing.{one_sizing, no_layout}
+use Rattle.flatc_tool.specs.declared.schema_layouts.SchemaTextFault.{SchemaTextFault}
+use Rattle.flatc_tool.specs.declared.schema_layouts.SchemaTextFault.TheVariants.{Syntax, Schema, Layout}
+use Rattle.flatc_tool.specs.SchemaTexts.{IsAccepted, IsRefused, IsWant}
+
+-- a text reads as one list of declarations
+pub one_parse : (text : List ℕ) (d e : DeclsRead) → Parses text d → Parses text e → d ≡ e
+one_parse text d e p q =
+    let same = one_spelling_shown text p.0 q.0 p.1 q.1 in
+    one_reading_shown text q.0 d e (subst (λ (tokens : List Token). Reads text tokens d) same p.2) q.2
+
+-- an accepted text declares one schema
+same_schema : (text : List ℕ) (L K : LaidSchema) → IsAccepted text L → IsAccepted text K → L.schema ≡ K.schema
+same_schema text L K a b =
+    one_declared b.decls L.schema K.schema (subst (λ (d : DeclsRead). Declares d L.schema) (one_parse text a.decls b.decls a.parsed b.parsed) a.declared) b.declared
+
+-- an accepted text has one layout
+pub same_accepted : (text : List ℕ) (L K : LaidSchema) → IsAccepted text L → IsAccepted text K → L ≡ K
+same_accepted text L K a b =
+    let schema = same_schema text L K a b in
+    let sized : IsSized (record { schema = K.schema; structs = L.structs }) = subst (λ (S : DeclaredSchema). IsSized (record { schema = S; structs = L.structs })) schema a.made.sized in
+    let structs = one_sizing K.schema L.structs K.structs b.made.declared sized b.made.sized in
+    λ i. record { schema = schema i; structs = structs i }
+
+-- no rule fails where declarations declare a schema
+pub none_stands : (d : DeclsRead) (S : DeclaredSchema) (f : SchemaFault) → Declares d S → Stands d f → ⊥
+none_stands d S f declares stands = let in_none = subst (λ fs. Contains fs f) declares.sound stands in omega (arith, in_none.1)
+
+-- A text that a layer refuses isn't accepted.
+pub refused_excludes : (text : List ℕ) (f : SchemaTextFault) → IsRefused text f → ¬ (IsWant f) → (L : LaidSchema) → IsAccepted text L → ⊥
+refused_excludes text (Syntax f) refused rule L accepted = refused rule accepted.decls accepted.parsed
+refused_excludes text (Schema f) refused rule L accepted =
+    let same = one_parse text refused.0 accepted.decls refused.1 accepted.parsed in
+    none_stands accepted.decls L.schema f accepted.declared (subst (λ (d : DeclsRead). Stands d f) same (refused.2 rule))
+refused_excludes text (Layout f) refused rule L accepted =
+    let same = one_parse text refused.0 accepted.decls refused.2 accepted.parsed in
+    let schema = one_declared accepted.decls L.schema refused.1 accepted.declared (subst (λ (d : DeclsRead). Declares d refused.1) same refused.3) in
+    no_layout refused.1 f (refused.4 rule) L schema accepted.made
