@@ -5,6 +5,7 @@ pub mod Fits
 pub mod Room
 pub mod Plain
 pub mod Entries
+pub mod Wanted
 pub mod Bounds
 pub mod Num
 pub mod Places

@@ -4,6 +4,7 @@
 mod copies;
 mod counts;
 mod faults;
+mod fitting;
 mod int_tables;
 mod laws;
 mod limits;
@@ -11,11 +12,13 @@ mod plainness;
 mod rooms;
 mod sameness;
 mod values;
+mod wanted;
 mod wholeness;
 
 pub use copies::copy;
 pub use counts::{cells, depth};
 pub use faults::ReadFault;
+pub use fitting::fits;
 pub use int_tables::{fits_int_table, room_of_int_table};
 pub use laws::{
     cells_of_place, cells_of_value, fault_of_least_path, one_value, value_or_fault,

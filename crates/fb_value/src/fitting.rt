@@ -1,0 +1,128 @@
+//! Whether a value is one that a type may have.
+ghost use Rattle.std.specs.Prelude.{◌↔◌, ◌≡◌, ◌≤◌, IsTrue, Some, map, option_map, slice_get};
+ghost use Rattle.fb_schema.specs.Schema.{Name, DeclaredSchema};
+ghost use Rattle.fb_schema.specs.Seen.{field_seen, body_seen};
+ghost use Rattle.fb_layout.specs.Laid.{stored_kind, stored_shape, slot_of, kind_in};
+ghost use Rattle.fb_value.specs.View.{view, parts_view, entries_view};
+ghost use Rattle.fb_value.specs.Counts.{nesting};
+ghost use Rattle.fb_value.specs.Fits.{Fits, PartsFit, EachFits, EntriesFit, kind_of_type, FitsType};
+ghost use Rattle.fb_value.specs.Entries.{EntryFits};
+
+use crate::values::Value;
+use crate::wanted::{
+    elements_wanted, is_table, kind_in, may_be_absent, member_wanted, struct_wanted, takes_number,
+    takes_text, takes_unknown,
+};
+use fb_layout::Layout;
+use fb_schema::{Body, FieldInfo, Kind, Schema, Shape, TypeId};
+
+/// Whether the type of this number may have the value.
+pub fn fits(layout: &Layout, type_id: TypeId, value: &Value) -> bool
+    requires { nesting (view value.now) ≤ 300 }
+    ensures { IsTrue result ↔ FitsType layout.now type_id.0 (view value.now) }
+{
+    match kind_of(layout.schema(), type_id) {
+        Some(kind) => fits_in(layout, Shape::One(kind), value),
+        None => false,
+    }
+}
+
+// What a declared type is as a kind.
+fn kind_of(schema: &Schema, type_id: TypeId) -> Option<Kind>
+    ensures { option_map (stored_kind schema.now) result ≡ kind_of_type type_id.0 (slice_get schema.now.types type_id.0) }
+{
+    match schema.types().get(type_id.0 as usize) {
+        Some(info) => Some(kind_of_body(type_id, &info.body)),
+        None => None,
+    }
+}
+
+fn kind_of_body(type_id: TypeId, body: &Body) -> Kind
+    ensures { (schema : DeclaredSchema) (name : Name) → kind_of_type type_id.0 (Some (record { name = name; body = body_seen body.now })) ≡ Some (stored_kind schema result) }
+{
+    match body {
+        Body::Table(_) => Kind::Table(type_id),
+        Body::Struct(_, _) => Kind::Struct(type_id),
+        Body::Enum(base, _, _) => Kind::Scalar(*base),
+        Body::Union(_) => Kind::Union(type_id),
+    }
+}
+
+#[cycle(fits)]
+fn fits_in(layout: &Layout, shape: Shape, value: &Value) -> bool
+    ensures { IsTrue result ↔ Fits layout.now (stored_shape layout.now.schema shape) (view value.now) }
+{
+    match value {
+        Value::Number(number) => takes_number(layout, shape, *number),
+        Value::Text(text) => takes_text(shape, text.as_str()),
+        Value::Items(items) => match elements_wanted(shape) {
+            Some(kind) => each_fits(layout, kind, items),
+            None => false,
+        },
+        Value::Fixed(parts) => match struct_wanted(shape) {
+            Some(structure) => parts_fit(layout, layout.parts_of(structure), parts),
+            None => false,
+        },
+        Value::Fields(owner, entries) => {
+            is_table(shape, *owner) && entries_fit(layout, layout.slots_of(*owner), entries)
+        }
+        Value::Member(code, member) => match member_wanted(layout, shape, *code) {
+            Some(table) => fits_in(layout, Shape::One(Kind::Table(table)), member),
+            None => false,
+        },
+        Value::Other(code) => takes_unknown(layout, shape, *code),
+    }
+}
+
+#[cycle(fits)]
+fn each_fits(layout: &Layout, kind: Kind, items: &Vec<Value>) -> bool
+    ensures { IsTrue result ↔ EachFits layout.now (stored_kind layout.now.schema kind) (parts_view items.now.items) }
+{
+    for item in items {
+        if !fits_in(layout, Shape::One(kind), item) {
+            return false;
+        }
+    }
+    true
+}
+
+#[cycle(fits)]
+fn parts_fit(layout: &Layout, fields: &[FieldInfo], parts: &Vec<Value>) -> bool
+    ensures { IsTrue result ↔ PartsFit layout.now (map (λ f. kind_in (stored_shape layout.now.schema f.shape)) (map field_seen fields.now)) (parts_view parts.now.items) }
+{
+    if fields.len() != parts.len() {
+        return false;
+    }
+    for i in 0..fields.len() {
+        let kind = kind_in(fields[i].shape);
+        if !fits_in(layout, Shape::One(kind), &parts[i]) {
+            return false;
+        }
+    }
+    true
+}
+
+#[cycle(fits)]
+fn entries_fit(layout: &Layout, slots: &[FieldInfo], entries: &Vec<Option<Value>>) -> bool
+    ensures { IsTrue result ↔ EntriesFit layout.now (map (slot_of layout.now.schema) (map field_seen slots.now)) (entries_view entries.now.items) }
+{
+    if slots.len() != entries.len() {
+        return false;
+    }
+    for i in 0..slots.len() {
+        if !entry_fits(layout, &slots[i], &entries[i]) {
+            return false;
+        }
+    }
+    true
+}
+
+#[cycle(fits)]
+fn entry_fits(layout: &Layout, slot: &FieldInfo, entry: &Option<Value>) -> bool
+    ensures { IsTrue result ↔ EntryFits layout.now (slot_of layout.now.schema (field_seen slot.now)) (option_map view entry.now) }
+{
+    match entry {
+        Some(value) => !slot.deprecated && fits_in(layout, slot.shape, value),
+        None => may_be_absent(slot),
+    }
+}

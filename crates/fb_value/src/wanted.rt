@@ -1,0 +1,198 @@
+//! What a shape wants.
+ghost use Rattle.std.specs.Prelude.{◌↔◌, ◌≡◌, IsTrue, Some, option_map};
+ghost use Rattle.fb_schema.specs.Seen.{field_seen};
+ghost use Rattle.fb_schema.specs.Schema.{DeclaredSchema};
+ghost use Rattle.fb_schema.specs.WellDeclared.{InRange, IsBetween};
+ghost use Rattle.fb_layout.specs.Laid.{LaidSchema, stored_kind, stored_shape, slot_of, kind_in};
+ghost use Rattle.fb_value.specs.Datum.{a_number, a_text, an_unknown};
+ghost use Rattle.fb_value.specs.Fits.{MayBeAbsent, Fits};
+ghost use Rattle.fb_value.specs.Wanted.{elements_wanted, struct_wanted, table_wanted, union_wanted, is_text, is_scalar, member_wanted};
+
+use fb_layout::Layout;
+use fb_schema::{Base, FieldInfo, Kind, Shape, TypeId};
+
+fn is_between(low: i128, high: i128, number: i128) -> bool
+    ensures { IsTrue result ↔ IsBetween low high number }
+{
+    low <= number && number <= high
+}
+
+/// Whether a basic type has the number.
+fn is_in_range(base: Base, number: i128) -> bool
+    ensures { IsTrue result ↔ InRange base number }
+{
+    match base {
+        Base::Bool => is_between(0, 1, number),
+        Base::I8 => is_between(i128::from(i8::MIN), i128::from(i8::MAX), number),
+        Base::U8 => is_between(0, i128::from(u8::MAX), number),
+        Base::I16 => is_between(i128::from(i16::MIN), i128::from(i16::MAX), number),
+        Base::U16 => is_between(0, i128::from(u16::MAX), number),
+        Base::I32 => is_between(i128::from(i32::MIN), i128::from(i32::MAX), number),
+        Base::U32 => is_between(0, i128::from(u32::MAX), number),
+        Base::I64 => is_between(i128::from(i64::MIN), i128::from(i64::MAX), number),
+        Base::U64 => is_between(0, i128::from(u64::MAX), number),
+    }
+}
+
+/// Whether a shape takes the number.
+pub(crate) fn takes_number(layout: &Layout, shape: Shape, number: i128) -> bool
+    ensures { IsTrue result ↔ Fits layout.now (stored_shape layout.now.schema shape) (a_number number) }
+{
+    let Shape::One(kind) = shape else {
+        return false;
+    };
+    match kind {
+        Kind::Scalar(base) => is_in_range(base, number),
+        Kind::Enum(enumeration) => is_in_range(layout.base_of(enumeration), number),
+        Kind::Struct(_) | Kind::Table(_) | Kind::Union(_) | Kind::Code(_) | Kind::Text => false,
+    }
+}
+
+fn is_text(shape: Shape) -> bool
+    ensures { (schema : DeclaredSchema) → result ≡ is_text (stored_shape schema shape) }
+{
+    let Shape::One(kind) = shape else {
+        return false;
+    };
+    match kind {
+        Kind::Text => true,
+        Kind::Scalar(_)
+        | Kind::Enum(_)
+        | Kind::Struct(_)
+        | Kind::Table(_)
+        | Kind::Union(_)
+        | Kind::Code(_) => false,
+    }
+}
+
+/// Whether a shape takes the text.
+pub(crate) fn takes_text(shape: Shape, text: &str) -> bool
+    ensures { (L : LaidSchema) → IsTrue result ↔ Fits L (stored_shape L.schema shape) (a_text text.now) }
+{
+    let _ = text;
+    is_text(shape)
+}
+
+/// The kind of a vector's elements.
+pub(crate) fn elements_wanted(shape: Shape) -> Option<Kind>
+    ensures { (schema : DeclaredSchema) → option_map (stored_kind schema) result ≡ elements_wanted (stored_shape schema shape) }
+{
+    match shape {
+        Shape::Many(kind) => Some(kind),
+        Shape::One(_) => None,
+    }
+}
+
+/// The struct that a shape is.
+pub(crate) fn struct_wanted(shape: Shape) -> Option<TypeId>
+    ensures { (schema : DeclaredSchema) → option_map (λ s. s.0) result ≡ struct_wanted (stored_shape schema shape) }
+{
+    let Shape::One(kind) = shape else {
+        return None;
+    };
+    match kind {
+        Kind::Struct(structure) => Some(structure),
+        Kind::Scalar(_)
+        | Kind::Enum(_)
+        | Kind::Table(_)
+        | Kind::Union(_)
+        | Kind::Code(_)
+        | Kind::Text => None,
+    }
+}
+
+/// The table that a shape is.
+fn table_wanted(shape: Shape) -> Option<TypeId>
+    ensures { (schema : DeclaredSchema) → option_map (λ t. t.0) result ≡ table_wanted (stored_shape schema shape) }
+{
+    let Shape::One(kind) = shape else {
+        return None;
+    };
+    match kind {
+        Kind::Table(table) => Some(table),
+        Kind::Scalar(_)
+        | Kind::Enum(_)
+        | Kind::Struct(_)
+        | Kind::Union(_)
+        | Kind::Code(_)
+        | Kind::Text => None,
+    }
+}
+
+/// Whether a shape is the table of a number.
+pub(crate) fn is_table(shape: Shape, table: TypeId) -> bool
+    ensures { (schema : DeclaredSchema) → IsTrue result ↔ (table_wanted (stored_shape schema shape) ≡ Some table.0) }
+{
+    match table_wanted(shape) {
+        Some(wanted) => wanted.0 == table.0,
+        None => false,
+    }
+}
+
+/// The union that a shape is.
+fn union_wanted(shape: Shape) -> Option<TypeId>
+    ensures { (schema : DeclaredSchema) → option_map (λ u. u.0) result ≡ union_wanted (stored_shape schema shape) }
+{
+    let Shape::One(kind) = shape else {
+        return None;
+    };
+    match kind {
+        Kind::Union(union) => Some(union),
+        Kind::Scalar(_)
+        | Kind::Enum(_)
+        | Kind::Struct(_)
+        | Kind::Table(_)
+        | Kind::Code(_)
+        | Kind::Text => None,
+    }
+}
+
+/// The table that a code names, where a shape is a union.
+pub(crate) fn member_wanted(layout: &Layout, shape: Shape, code: u8) -> Option<TypeId>
+    ensures { option_map (λ t. t.0) result ≡ member_wanted layout.now (union_wanted (stored_shape layout.now.schema shape)) code }
+{
+    let union = union_wanted(shape)?;
+    layout.schema().member_by_code(union, code)
+}
+
+/// Whether a shape is a union without a member of this code, which isn't that of no member.
+pub(crate) fn takes_unknown(layout: &Layout, shape: Shape, code: u8) -> bool
+    ensures { IsTrue result ↔ Fits layout.now (stored_shape layout.now.schema shape) (an_unknown code) }
+{
+    let Some(union) = union_wanted(shape) else {
+        return false;
+    };
+    code != 0 && layout.schema().member_by_code(union, code).is_none()
+}
+
+/// The kind of a shape's one value or of its elements.
+pub(crate) fn kind_in(shape: Shape) -> Kind
+    ensures { (schema : DeclaredSchema) → stored_kind schema result ≡ kind_in (stored_shape schema shape) }
+{
+    match shape {
+        Shape::One(kind) | Shape::Many(kind) => kind,
+    }
+}
+
+/// Whether a shape is a number.
+fn is_scalar(shape: Shape) -> bool
+    ensures { (schema : DeclaredSchema) → result ≡ is_scalar (stored_shape schema shape) }
+{
+    let Shape::One(kind) = shape else {
+        return false;
+    };
+    match kind {
+        Kind::Scalar(_) | Kind::Enum(_) => true,
+        Kind::Struct(_) | Kind::Table(_) | Kind::Union(_) | Kind::Code(_) | Kind::Text => false,
+    }
+}
+
+/// Whether a slot may have no entry.
+pub(crate) fn may_be_absent(slot: &FieldInfo) -> bool
+    ensures { (schema : DeclaredSchema) → IsTrue result ↔ MayBeAbsent (slot_of schema (field_seen slot.now)) }
+{
+    if slot.deprecated {
+        return true;
+    }
+    !slot.required && (slot.optional || !is_scalar(slot.shape))
+}
