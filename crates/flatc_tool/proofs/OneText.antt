@@ -1,5 +1,5 @@
 -- A schema text has one layout at most, and none where a layer refuses it.
-use Rattle.std.proofs.Common.{◌≡◌, ◌≢◌, List, ℕ, sym, ap, ◌∙◌, subst, arith}
+use Rattle.std.proofs.Common.{◌≡◌, List, ℕ, subst, arith}
 use Rattle.std.specs.List.{Contains}
 use Rattle.fb_syntax.specs.DeclsRead.{DeclsRead}
 use Rattle.fb_syntax.specs.Parsed.{Parses}

@@ -11,14 +11,8 @@ use Rattle.fb_layout.specs.OneTable.{int_field, int_fields, one_table}
 use Rattle.fb_layout.specs.Widths.{widest, inline_size}
 use Rattle.fb_layout.specs.Laid.{slot_of, slots_of}
 use Rattle.fb_layout.specs.WellMade.{IsWellMade}
+use Rattle.flatc_tool.specs.FirstTable.{first_name, first_names}
 use Rattle.fb_value.specs.Plain.{IsPlainField, IsPlainBody, ArePlain, IsPlain}
-
--- the name of the first type, and those of its slots
-abbrev pub first_name : DeclaredSchema → Name
-first_name S = option_map_or (λ t. t.name) (slice_get S.types 0) []
-
-abbrev pub first_names : DeclaredSchema → List Name
-first_names S = names_of (slots_in (body_at S 0))
 
 pub record IsIntTable (L : LaidSchema) : Type 0 where
   pub same : L ≡ one_table (first_name L.schema) (first_names L.schema)

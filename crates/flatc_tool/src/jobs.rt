@@ -28,8 +28,14 @@ pub fn to_binary(
     ensures exact { IfErr result
         (λ f. IsNotMemory f → ¬ MayBeBinary schema.now json.now limits unknown) }
 {
-    let layout = layout_of(alloc, schema)?;
-    let tree = tree_of(alloc, json)?;
+    let layout = match layout_of(alloc, schema) {
+        Ok(layout) => layout,
+        Err(fault) => return Err(fault),
+    };
+    let tree = match tree_of(alloc, json) {
+        Ok(tree) => tree,
+        Err(fault) => return Err(fault),
+    };
     let value = value_of(alloc, &layout, &tree, limits, unknown)?;
     let depth = limits.most_depth();
     prove!(depth >= 1); // one table is never too deep
@@ -55,7 +61,10 @@ pub fn to_json(
     ensures exact { IfErr result
         (λ f. IsNotMemory f → ¬ MayBeText schema.now bytes.now limits raw) }
 {
-    let layout = layout_of(alloc, schema)?;
+    let layout = match layout_of(alloc, schema) {
+        Ok(layout) => layout,
+        Err(fault) => return Err(fault),
+    };
     let mut entries = Entries::new();
     let value = read(alloc, &layout, bytes, limits, raw, &mut entries)?;
     let text = text_of(alloc, &layout, &value, defaults)?;

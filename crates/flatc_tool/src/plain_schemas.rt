@@ -4,12 +4,13 @@ ghost use Rattle.fb_schema.specs.Seen.{field_seen};
 ghost use Rattle.fb_schema.specs.WellDeclared.{names_of as names_declared};
 ghost use Rattle.fb_layout.specs.WellMade.{IsWellMade};
 ghost use Rattle.fb_value.specs.Plain.{IsPlain};
+ghost use Rattle.flatc_tool.specs.FirstTable.{first_name};
 ghost use Rattle.flatc_tool.specs.Jobs.{Accepts, SchemaRefused};
 
 use crate::faults::ToolFault;
 use crate::schema_layouts::schema_of;
 use fb_layout::{IntTable, Layout};
-use fb_schema::{FieldInfo, TypeId};
+use fb_schema::{FieldInfo, Schema, TypeId};
 use fb_value::plain;
 use std::alloc::{AllocError, Global};
 
@@ -36,11 +37,17 @@ fn int_table(alloc: Global, layout: &Layout) -> Result<IntTable, AllocError>
     ensures { IfOk result (λ table. table ≡ layout.now) }
 {
     let names = names_of(alloc, layout.slots_of(TypeId(0)))?;
-    let name = match layout.schema().types().first() {
+    IntTable::one_table(alloc, first_name(layout.schema()), names.as_slice())
+}
+
+/// The name of the first type.
+fn first_name(schema: &Schema) -> &str
+    ensures { result.now ≡ first_name schema.now }
+{
+    match schema.types().first() {
         Some(info) => info.name.as_str(),
         None => "",
-    };
-    IntTable::one_table(alloc, name, names.as_slice())
+    }
 }
 
 /// The names of fields.

@@ -1,7 +1,10 @@
 use super::*;
 use crate::faults::{JsonFault, Place};
 use fb_read::ReadFault;
+use crate::schema_layouts::SchemaTextFault;
+use fb_declare::SchemaFault;
 use fb_schema::TypeId;
+use fb_syntax::SyntaxFault;
 use std::test::Fail;
 
 const ONE_FIELD: &[u8] = b"table T { a:int; } root_type T;";
@@ -30,6 +33,14 @@ fn no_cells() -> Limits {
         unreachable!()
     };
     limits
+}
+
+fn schema(fault: SchemaFault) -> ToolFault {
+    ToolFault::Schema(SchemaTextFault::Schema(fault))
+}
+
+fn syntax(fault: SyntaxFault) -> ToolFault {
+    ToolFault::Schema(SchemaTextFault::Syntax(fault))
 }
 
 fn at_slot(slot: Option<u16>) -> Place {
@@ -233,18 +244,68 @@ fn no_cells_refuse_bytes_at_the_table(rt: HostRuntime) {
 }
 
 #[test]
-fn other_schemas_are_not_yet_accepted(rt: HostRuntime) {
-    let rows: [(&str, &[u8]); 5] = [
-        ("the empty text", b""),
-        ("another type", b"table T { a:long; } root_type T;"),
-        ("two blanks", b"table T {  a:int; } root_type T;"),
-        ("a name twice", b"table T { a:int; a:int; } root_type T;"),
-        ("another root", b"table T { a:int; } root_type S;"),
+fn other_schemas_are_told_before_the_rest(rt: HostRuntime) {
+    let rows: [(&str, &[u8], ToolFault); 9] = [
+        ("the empty text", b"", schema(SchemaFault::BadRoot(0))),
+        (
+            "no schema text",
+            b"table T {",
+            syntax(SyntaxFault::Unexpected(9)),
+        ),
+        (
+            "a name twice",
+            b"table T { a:int; a:int; } root_type T;",
+            schema(SchemaFault::DuplicateName(17)),
+        ),
+        (
+            "another root",
+            b"table T { a:int; } root_type S;",
+            schema(SchemaFault::UnknownType(29)),
+        ),
+        (
+            "another type",
+            b"table T { a:long; } root_type T;",
+            ToolFault::NotYet,
+        ),
+        (
+            "a default",
+            b"table T { a:int = 1; } root_type T;",
+            ToolFault::NotYet,
+        ),
+        (
+            "a deprecated field",
+            b"table T { a:int (deprecated); } root_type T;",
+            ToolFault::NotYet,
+        ),
+        (
+            "two tables",
+            b"table S { } table T { a:int; } root_type T;",
+            ToolFault::NotYet,
+        ),
+        (
+            "an identifier",
+            b"table T { a:int; } root_type T; file_identifier \"TEST\";",
+            ToolFault::NotYet,
+        ),
     ];
-    for (name, schema) in rows {
+    for (name, schema, fault) in rows {
         let built = to_binary(rt.alloc(), schema, b"{", usual(), false);
-        assert!(rt; matches!(built, Err(ToolFault::NotYet)), "{name}");
+        assert!(rt; matches!(built, Err(found) if found == fault), "{name}");
         let printed = to_json(rt.alloc(), schema, b"", usual(), false, false);
-        assert!(rt; matches!(printed, Err(ToolFault::NotYet)), "{name}");
+        assert!(rt; matches!(printed, Err(found) if found == fault), "{name}");
     }
+}
+
+#[test]
+fn schema_texts_may_be_laid_out_at_will(rt: HostRuntime) -> Result<(), Fail> {
+    for (name, schema) in [
+        ("blanks and lines", "table T{a : int;\n}\n\nroot_type\tT ;\n"),
+        ("the root first", "root_type T; table T { a:int32; }"),
+        ("a comment", "/// The root.\ntable T { a:int; } // no more\nroot_type T;"),
+        ("a namespace", "namespace A.B; table T { a:int = 0; } root_type T;"),
+    ] {
+        let built = to_binary(rt.alloc(), schema.as_bytes(), b"{\"a\":7}", usual(), false)?;
+        assert_eq!(rt; built.as_slice(), SEVEN.as_slice(), "{name}");
+    }
+    Ok(())
 }

@@ -1,11 +1,8 @@
-use Rattle.std.proofs.Common.{◌≡◌, sym, ap, ◌∙◌, subst, arith}
-use Rattle.std.specs.List.{Contains}
+use Rattle.std.proofs.Common.{◌≡◌, subst}
 use Rattle.fb_syntax.specs.DeclsRead.{DeclsRead}
-use Rattle.fb_schema.specs.Schema.{DeclaredSchema}
-use Rattle.fb_declare.specs.declared.faults.SchemaFault.{SchemaFault}
-use Rattle.fb_declare.specs.TypeFaults.{faults_of}
 use Rattle.fb_declare.specs.Declares.{Declares, Stands}
 use Rattle.fb_declare.proofs.OneSchema.{one_declared}
+use Rattle.flatc_tool.proofs.OneText.{none_stands}
 use Rattle.flatc_tool.proofs.schema_layouts.schema_of.Goals as goal
 
 pub returns-in-Err-clause-refused : goal.returns-in-Err-clause-refused
@@ -13,10 +10,6 @@ returns-in-Err-clause-refused c no_memory d parsed = no_memory (c.in-Err.ensures
 
 pub returns-in-Err-clause-exact : goal.returns-in-Err-clause-exact
 returns-in-Err-clause-exact c no_want L accepted = no_want (c.in-Err.ensures.exact accepted.decls accepted.parsed)
-
--- no rule fails where declarations declare a schema
-none_stands : (d : DeclsRead) (S : DeclaredSchema) (f : SchemaFault) → Declares d S → Stands d f → ⊥
-none_stands d S f declares stands = let in_none = subst (λ fs. Contains fs f) declares.sound stands in omega (arith, in_none.1)
 
 pub returns-in-Err-declare-clause-exact : goal.returns-in-Err-declare-clause-exact
 returns-in-Err-declare-clause-exact c no_want L accepted =
