@@ -51,8 +51,12 @@ pub(crate) fn judge(alloc: Global, line: &str) -> Result<Verdict, AllocError> {
         Err(fault) => return Ok(Verdict::Wrong(format!(in alloc; "{line}: no row, {fault}")?)),
     };
     let text = text_of(alloc, &row)?;
-    let Answer { part, text } =
-        answer_of(alloc, text.as_str(), row.ask.as_ref(), row.laid.as_ref())?;
+    let Answer { part, text } = answer_of(
+        alloc,
+        text.as_str(),
+        row.ask.as_ref(),
+        row.laid.as_ref(),
+    )?;
     if text.as_str() == row.want.as_str() {
         return Ok(Verdict::Holds(part));
     }

@@ -1,8 +1,8 @@
 use super::*;
 use crate::faults::{JsonFault, Place};
-use fb_read::ReadFault;
 use crate::schema_layouts::SchemaTextFault;
 use fb_declare::SchemaFault;
+use fb_read::ReadFault;
 use fb_schema::TypeId;
 use fb_syntax::SyntaxFault;
 use std::test::Fail;
@@ -299,10 +299,19 @@ fn other_schemas_are_told_before_the_rest(rt: HostRuntime) {
 #[test]
 fn schema_texts_may_be_laid_out_at_will(rt: HostRuntime) -> Result<(), Fail> {
     for (name, schema) in [
-        ("blanks and lines", "table T{a : int;\n}\n\nroot_type\tT ;\n"),
+        (
+            "blanks and lines",
+            "table T{a : int;\n}\n\nroot_type\tT ;\n",
+        ),
         ("the root first", "root_type T; table T { a:int32; }"),
-        ("a comment", "/// The root.\ntable T { a:int; } // no more\nroot_type T;"),
-        ("a namespace", "namespace A.B; table T { a:int = 0; } root_type T;"),
+        (
+            "a comment",
+            "/// The root.\ntable T { a:int; } // no more\nroot_type T;",
+        ),
+        (
+            "a namespace",
+            "namespace A.B; table T { a:int = 0; } root_type T;",
+        ),
     ] {
         let built = to_binary(rt.alloc(), schema.as_bytes(), b"{\"a\":7}", usual(), false)?;
         assert_eq!(rt; built.as_slice(), SEVEN.as_slice(), "{name}");
