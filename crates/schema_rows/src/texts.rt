@@ -1,7 +1,7 @@
 //! Schema texts that are too long to stand in a row.
 use std::alloc::{AllocError, Global};
 
-/// A text behind some tables, `T0` and so on, each with nine integers, whose default is the
+/// A text behind some tables, `Link0` and so on, each with nine integers, whose default is the
 /// table's number, and the table after it.
 pub(crate) fn with_tables(alloc: Global, tables: u64, text: &str) -> Result<String, AllocError> {
     let mut all = String::new(alloc);
@@ -14,12 +14,12 @@ pub(crate) fn with_tables(alloc: Global, tables: u64, text: &str) -> Result<Stri
 
 /// Adds one such table.
 fn push_table(all: &mut String, number: u64) -> Result<(), AllocError> {
-    write!(all, "table T{number} {{ ")?;
+    write!(all, "table Link{number} {{ ")?;
     for field in 0..9 {
         write!(all, "f{field}:int = {number}; ")?;
     }
     let next = number.saturating_add(1);
-    write!(all, "next:T{next}; }}\n")
+    write!(all, "next:Link{next}; }}\n")
 }
 
 /// A text with pieces in the place of its `@`; in each its number, from 0, stands for the `#`.
