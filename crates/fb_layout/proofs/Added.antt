@@ -32,10 +32,6 @@ added_none step f a ys i y h e is = at_next step f a ys i y h e ∙ ap (option_a
 pub added_all : {A X Y : Type 0} (step : A → X → Option A) (f : Y → X) (a : A) (ys : List Y) (i : ℕ) → length ys ≤ i → each_added step a (map f (drop i ys)) ≡ Some a
 added_all step f a ys i h = ap (λ r. each_added step a (map f r)) (drop_all i ys h) ∙ each_added-nil step a
 
--- a step that is a mapping of what is found
-pub step_some : {A B C : Type 0} (g : A → B) (find : C → Option A) (o : Option C) (c : C) (a : A) → o ≡ Some c → find c ≡ Some a → option_and_then (λ x. option_map g (find x)) o ≡ Some (g a)
-step_some g find o c a is found = ap (option_and_then (λ x. option_map g (find x))) is ∙ ap (option_map g) found
-
 pub step_none : {A B C : Type 0} (g : A → B) (find : C → Option A) (o : Option C) (c : C) → o ≡ Some c → find c ≡ None → option_and_then (λ x. option_map g (find x)) o ≡ None
 step_none g find o c is found = ap (option_and_then (λ x. option_map g (find x))) is ∙ ap (option_map g) found
 

@@ -1,4 +1,3 @@
-pub mod OneTableMade
 pub mod Added
 pub mod Taken
 pub mod TablesFrom

@@ -5,13 +5,11 @@ mod bodies;
 mod extents;
 mod faults;
 mod greatest;
-mod int_tables;
 mod laws;
 mod layouts;
 mod structs;
 mod tables;
 
 pub use faults::LayoutFault;
-pub use int_tables::IntTable;
 pub use laws::one_layout;
 pub use layouts::{Layout, lay};

@@ -1,12 +1,12 @@
 -- The value of a buffer with one table of `int` fields.
-use Rattle.std.proofs.Common.{◌≡◌, ℕ, zero, suc, ◌+◌, ◌<◌, ◌≤◌, max, ℤ, Bool, true, false, List, [], ◌∷◌, length, slice_get, Option, None, Some, if◌then◌else◌, refl, sym, ap, subst, ◌∙◌, arith}
+use Rattle.std.proofs.Common.{◌≡◌, ℕ, zero, suc, ◌+◌, ◌≤◌, ℤ, Bool, true, false, List, [], ◌∷◌, length, slice_get, Option, None, Some, if◌then◌else◌, refl, sym, ap, subst, arith}
 use Rattle.fb_schema.specs.declared.kinds.Base.TheVariants.{I32}
 use Rattle.fb_schema.specs.Schema.{Name}
 use Rattle.fb_layout.specs.Laid.{LaidSchema, scalar_kind, slots_of}
-use Rattle.fb_layout.specs.OneTable.{one_table}
-use Rattle.fb_layout.proofs.OneTableMade.{int_slot, int_slots, slots_are}
+use Rattle.fb_value.specs.OneTable.{one_table}
+use Rattle.fb_value.proofs.IntSlots.{int_slot, int_slots, slots_are}
 use Rattle.fb_value.specs.Datum.{Datum, a_number, a_table}
-use Rattle.fb_value.specs.Counts.{cells, entries_cells, depth, entries_depth}
+use Rattle.fb_value.specs.Counts.{entries_cells, entries_depth}
 use Rattle.fb_value.specs.View.{view, entries_view}
 use Rattle.fb_value.specs.Bounds.{Bounds}
 use Rattle.fb_value.specs.Num.{Bytes, num}
@@ -15,7 +15,7 @@ use Rattle.fb_value.specs.Rules.{Keeps, first_missing}
 use Rattle.fb_value.specs.Lies.{PresentEntry, Lies, LiesSlots}
 use Rattle.fb_value.specs.Holds.{Holds, header_fault, checked_identifier}
 use Rattle.fb_value.specs.declared.values.Value.{Value}
-use Rattle.fb_read.specs.Ints.{int_place, HasNumber, IsNumberOf, AreNumbers}
+use Rattle.fb_read.specs.Ints.{HasNumber, IsNumberOf, AreNumbers}
 
 -- no slot of such a table is required
 none_missing : (b : Bytes) (p k n : ℕ) → first_missing b p k (int_slots n) ≡ None

@@ -1,15 +1,12 @@
 -- The slots of a table of `int` fields, one after another.
 use Rattle.std.proofs.Common.{◌≡◌, ◌≢◌, ℕ, zero, suc, ◌+◌, ◌<◌, ◌≤◌, ◌⊎◌, inl, inr, ℤ, List, [], ◌∷◌, ◌++◌, length, slice_get, All, Option, None, Some, nat_lt, true, refl, sym, ap, subst, ◌∙◌, arith, length-append}
 use Rattle.std.proofs.lemmas.Bool.Decides.{nat_tests}
-use Rattle.std.proofs.lemmas.Option.{slice_get_within}
 use Rattle.fb_schema.specs.declared.kinds.Base.TheVariants.{I32}
 use Rattle.fb_layout.specs.Laid.{LaidSchema, scalar_kind}
 use Rattle.fb_schema.specs.WellDeclared.{InRange}
 use Rattle.fb_value.specs.Ints.{IsInt}
-use Rattle.fb_value.specs.Datum.{a_number}
-use Rattle.fb_value.specs.View.{view}
 use Rattle.fb_value.specs.Num.{Bytes}
-use Rattle.fb_value.specs.Places.{Place, inline_place, is_present, slot_number}
+use Rattle.fb_value.specs.Places.{inline_place, slot_number}
 use Rattle.fb_value.specs.declared.values.Value.{Value, Number}
 use Rattle.fb_value.proofs.Views.{view-Number}
 use Rattle.fb_read.specs.Ints.{int_place, HasNumber, IsNumberOf, AreNumbers}

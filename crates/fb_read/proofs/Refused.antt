@@ -1,33 +1,33 @@
 -- Why a buffer with one table of `int` fields is refused.
-use Rattle.std.proofs.Common.{◌≡◌, ◌≢◌, ℕ, ◌+◌, ◌<◌, ◌≤◌, ℤ, List, length, Bool, Option, None, Some, AllPairs, refl, ap, subst, ◌∙◌, arith}
+use Rattle.std.proofs.Common.{◌≡◌, ◌+◌, ◌<◌, ◌≤◌, List, length, Bool, None, Some, refl}
 use Rattle.fb_schema.specs.Schema.{Name}
-use Rattle.fb_layout.specs.Laid.{LaidSchema, slots_of}
-use Rattle.fb_layout.specs.OneTable.{one_table}
-use Rattle.fb_layout.proofs.OneTableMade.{int_slots, slots_are, one_table_made}
+use Rattle.fb_value.specs.OneTable.{one_table}
+use Rattle.fb_layout.specs.WellMade.{IsWellMade}
+use Rattle.fb_value.proofs.IntSlots.{slots_are}
 use Rattle.fb_value.specs.declared.faults.ReadFault.{ReadFault}
 use Rattle.fb_value.specs.declared.faults.ReadFault.TheVariants.{TooManyCells}
 use Rattle.fb_value.specs.Bounds.{Bounds}
 use Rattle.fb_value.specs.Num.{Bytes, num}
-use Rattle.fb_value.specs.Places.{table_part, ref_place, part_place, named_slots}
+use Rattle.fb_value.specs.Places.{table_part, ref_place, part_place}
 use Rattle.fb_value.specs.Rules.{Keeps, fault_at}
-use Rattle.fb_value.specs.Faults.{or_else, first_among, fault_from, all}
-use Rattle.fb_value.specs.Holds.{Refuses, header_fault, checked_identifier, root_place}
+use Rattle.fb_value.specs.Faults.{fault_from}
+use Rattle.fb_value.specs.Holds.{Refuses, header_fault, root_place}
 use Rattle.fb_value.proofs.Outcomes.{outcome_shown}
 use Rattle.fb_read.specs.Ints.{FailsFirst}
 use Rattle.fb_read.proofs.Steps.{own_fault, behind, cells_over, within, among_all}
 use Rattle.fb_read.proofs.Found.{no_identifier}
 
-module _ (name : Name) (names : List Name) (differ : AllPairs (λ a b. a ≢ b) names) (few : length names ≤ 16382) (most : Bounds) (raw : Bool) (b : Bytes) where
+module _ (name : Name) (names : List Name) (made : IsWellMade (one_table name names)) (most : Bounds) (raw : Bool) (b : Bytes) where
   -- by the header
   pub by_header : (f : ReadFault) → header_fault b None ≡ Some f → Refuses (one_table name names) most raw b f
   by_header f fails =
-      outcome_shown (one_table name names) most raw b (Some f) (one_table_made name names differ few)
+      outcome_shown (one_table name names) most raw b (Some f) made
       (rw (no_identifier name names raw, fails) refl)
 
   -- behind a header that keeps its rules
   behind_header : (f : ReadFault) → header_fault b None ≡ None → fault_from (one_table name names) b most (root_place (one_table name names)) 0 0 ≡ Some f → Refuses (one_table name names) most raw b f
   behind_header f header fails =
-      outcome_shown (one_table name names) most raw b (Some f) (one_table_made name names differ few)
+      outcome_shown (one_table name names) most raw b (Some f) made
       (rw (no_identifier name names raw, header) fails)
 
   -- by the root's reference

@@ -1,9 +1,9 @@
 -- The first fault of a buffer with one table of `int` fields, one step at a time.
-use Rattle.std.proofs.Common.{◌≡◌, ℕ, zero, suc, ◌+◌, ◌<◌, ◌≤◌, ℤ, Bool, true, false, List, [], ◌∷◌, Option, None, Some, nat_le, if◌then◌else◌, refl, sym, ap, subst, ◌∙◌, arith}
+use Rattle.std.proofs.Common.{◌≡◌, ℕ, zero, suc, ◌+◌, ◌<◌, ◌≤◌, ℤ, Bool, true, false, List, [], ◌∷◌, Option, None, Some, nat_le, if◌then◌else◌, refl, subst, ◌∙◌, arith}
 use Rattle.std.proofs.lemmas.Bool.{le-leb}
 use Rattle.fb_schema.specs.declared.kinds.Base.TheVariants.{I32}
 use Rattle.fb_layout.specs.Laid.{LaidSchema, StoredKind, scalar_kind, slots_of}
-use Rattle.fb_layout.proofs.OneTableMade.{int_slots}
+use Rattle.fb_value.proofs.IntSlots.{int_slots}
 use Rattle.fb_value.specs.declared.faults.ReadFault.{ReadFault}
 use Rattle.fb_value.specs.declared.faults.ReadFault.TheVariants.{TooManyCells}
 use Rattle.fb_value.specs.Bounds.{Bounds}

@@ -1,5 +1,5 @@
 -- A sum of bytes is what byteorder reads.
-use Rattle.std.proofs.Common.{◌≡◌, ℕ, zero, suc, ◌+◌, ◌-◌, ◌*◌, ◌≤◌, List, length, slice_index, take, drop, refl, ap, ◌∙◌, arith, add-zero, pow-suc, length-drop}
+use Rattle.std.proofs.Common.{◌≡◌, ℕ, zero, suc, ◌+◌, ◌-◌, ◌*◌, length, slice_index, take, drop, refl, ap, ◌∙◌, arith, add-zero, pow-suc, length-drop}
 use Rattle.std.proofs.lemmas.List.{get_or-drop, take_all}
 use Rattle.byteorder.specs.Endian.{little_from, little_number}
 use Rattle.std.proofs.lemmas.Bool.Decides.{nat_tests}

@@ -8,14 +8,15 @@ ghost use Rattle.fb_value.specs.Places.{vtable};
 ghost use Rattle.fb_value.specs.View.{view};
 ghost use Rattle.fb_value.specs.Fits.{FitsRoot};
 ghost use Rattle.fb_value.specs.Ints.{IsInt};
+ghost use Rattle.fb_value.specs.Plain.{IsPlain};
 ghost use Rattle.fb_value.specs.Holds.{Holds, RootKeeps, Refuses};
 ghost use Rattle.fb_read.specs.Ints.{int_place, HasNumber, HasFault, AreNumbers, FailsFirst};
 
 use crate::counting::Entries;
 use crate::places::{check_header, follow, int_at, open_table, slot_of};
-use fb_layout::IntTable;
+use fb_layout::Layout;
 use fb_schema::TypeId;
-use fb_value::{Limits, ReadFault, Value};
+use fb_value::{Limits, ReadFault, Value, plain_slots};
 use std::alloc::Global;
 
 fn number_in(bytes: &[u8], at: usize, place: usize, slot: usize) -> Result<i128, ReadFault>
@@ -70,12 +71,13 @@ fn numbers_in(
 /// ("FlatBuffer Internals"); `Memory` may come in place of a fault that stands behind the root table.
 pub fn read(
     alloc: Global,
-    layout: &IntTable,
+    layout: &Layout,
     bytes: &[u8],
     limits: Limits,
     raw: bool,
     entries: &mut Entries,
 ) -> Result<Value, ReadFault>
+    requires { IsPlain layout.now }
     ensures value { IfOk result (λ v. Holds layout.now limits raw bytes.now (view v)) }
     ensures fits { IfOk result (λ v. FitsRoot layout.now (view v)) }
     ensures fault { IfErr result
@@ -85,7 +87,7 @@ pub fn read(
     ensures rises { entries.old.count ≤ entries.new.count }
     ensures counted { entries.new.count ≤ entries.old.count + (limits.cells + 1) }
 {
-    let fields = layout.fields();
+    let fields = plain_slots(layout);
     check_header(bytes)?;
     let at = follow(bytes, 0)?;
     entries.tick();

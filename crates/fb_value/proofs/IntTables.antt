@@ -4,10 +4,10 @@ use Rattle.std.proofs.lemmas.List.Elements.{All-cons, All-nil}
 use Rattle.std.proofs.lemmas.List.Sums.{sum_by-cons}
 use Rattle.fb_schema.specs.Schema.{Name}
 use Rattle.fb_layout.specs.Laid.{LaidSchema, scalar_kind, one_of, kind_in, stored_shape, align_of}
-use Rattle.fb_layout.specs.OneTable.{one_table, one_table_schema, int_fields}
+use Rattle.fb_value.specs.OneTable.{one_table, one_table_schema, int_fields}
 use Rattle.fb_schema.specs.Alignments.{greatest_in}
 use Rattle.fb_layout.specs.Widths.{greatest, inline_size, inline_align}
-use Rattle.fb_layout.proofs.OneTableMade.{int_slots, slots_are, length-int_slots}
+use Rattle.fb_value.proofs.IntSlots.{int_slots, slots_are, length-int_slots}
 use Rattle.fb_value.specs.Datum.{Datum, a_number, a_table, SlotEntries, no_entries, absent_entry, present_entry}
 use Rattle.fb_value.specs.View.{view, entries_view}
 use Rattle.fb_value.specs.Fits.{EntriesFit, FitsType, FitsRoot}
@@ -105,15 +105,6 @@ room_ints name names d h =
 pub fits_table : (L : LaidSchema) (name : Name) (names : List Name) (v : Value) (owner : TypeId) (entries : Vec (Option Value) Global) (t : ℕ) → L ≡ one_table name names → v ≡ Fields owner entries
     → FitsType L t (view v) ↔ ((t ≡ 0) × (owner.0 ≡ 0) × (length entries.items ≡ length names) × All IsInt entries.items)
 fits_table L name names v owner entries t is_layout is_value = rw (is_layout, is_value, view-Fields owner entries) (fits_ints name names t owner.0 entries.items)
-
--- nothing but a table fits a type of such a layout
-pub fits_tables_only : (L : LaidSchema) (name : Name) (names : List Name) (v : Value) (t : ℕ) → L ≡ one_table name names
-    → ((owner : TypeId) (entries : Vec (Option Value) Global) → v ≡ Fields owner entries → ⊥) → FitsType L t (view v) → ⊥
-fits_tables_only L name names v zero is_layout no_table h =
-    let apart = fits_apart name names (view v) (rw is_layout at h) in
-    let seen = seen_table v 0 apart.0 apart.1 in
-    no_table seen.0 seen.1 seen.2
-fits_tables_only L name names v (suc t) is_layout no_table h = absurd (rw is_layout at h)
 
 -- the room under a layout that is known
 pub room_known : (L : LaidSchema) (name : Name) (names : List Name) (d : Datum) → L ≡ one_table name names → FitsRoot L d → room_of L d ≡ 22 + 6 * length names

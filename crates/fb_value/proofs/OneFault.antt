@@ -58,10 +58,3 @@ least_one L b most x tables spent f g first second = by_case (paths_ordered firs
     by_case (inl before) = absurd (second.2 first.0 f before first.1)
     by_case (inr (inl before)) = absurd (first.2 second.0 g before second.1)
     by_case (inr (inr same)) = path_fault L b most second.0 x tables spent f g (subst (λ (p : Path). FaultFrom L b most x tables spent p f) same first.1) second.1
-
--- The least fault of bytes, that of the header included, is one.
-pub least_fault_one : (L : LaidSchema) (most : Bounds) (raw : Bool) (b : Bytes) (f g : ReadFault) → IsLeastFault L most raw b f → IsLeastFault L most raw b g → f ≡ g
-least_fault_one L most raw b f g (inl e) (inl h) = cc
-least_fault_one L most raw b f g (inl e) (inr h) = let none = h.0 in cc
-least_fault_one L most raw b f g (inr e) (inl h) = let none = e.0 in cc
-least_fault_one L most raw b f g (inr e) (inr h) = least_one L b most (root_place L) 0 0 f g e.1 h.1

@@ -6,7 +6,7 @@ use Rattle.fb_schema.specs.declared.kinds.Shape.{Shape}
 use Rattle.fb_schema.specs.declared.kinds.Shape.TheVariants.{One, Many}
 use Rattle.fb_schema.specs.Schema.{Name, DeclaredField, DeclaredBody, table_body, struct_body, union_body, DeclaredType}
 use Rattle.fb_layout.specs.Laid.{LaidSchema, StructLayout, no_struct}
-use Rattle.fb_layout.specs.OneTable.{one_table_schema, one_table}
+use Rattle.fb_value.specs.OneTable.{one_table_schema, one_table}
 use Rattle.fb_value.specs.Bounds.{Bounds}
 
 -- what the program allows

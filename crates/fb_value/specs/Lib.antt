@@ -3,6 +3,7 @@ pub mod Counts
 pub mod View
 pub mod Fits
 pub mod Room
+pub mod OneTable
 pub mod Plain
 pub mod Entries
 pub mod Wanted

@@ -5,7 +5,6 @@ mod copies;
 mod counts;
 mod faults;
 mod fitting;
-mod int_tables;
 mod laws;
 mod limits;
 mod plainness;
@@ -19,13 +18,12 @@ pub use copies::copy;
 pub use counts::{cells, depth};
 pub use faults::ReadFault;
 pub use fitting::fits;
-pub use int_tables::{fits_int_table, room_of_int_table};
 pub use laws::{
     cells_of_place, cells_of_value, fault_of_least_path, one_value, value_or_fault,
     value_where_all_keep,
 };
 pub use limits::Limits;
-pub use plainness::plain;
+pub use plainness::{plain, plain_slots};
 pub use rooms::room;
 pub use sameness::same;
 pub use values::Value;

@@ -1,10 +1,13 @@
 //! Whether a schema is one table of plain `int` fields.
-ghost use Rattle.std.specs.Prelude.{◌↔◌, ◌≡◌, IsTrue, All, map};
+ghost use Rattle.std.specs.Prelude.{◌↔◌, ◌≡◌, ◌≢◌, ◌≤◌, IsTrue, All, AllPairs, length, map};
 ghost use Rattle.fb_schema.specs.declared.kinds.Base.TheVariants.{I32};
 ghost use Rattle.fb_schema.specs.declared.kinds.Kind.TheVariants.{Scalar};
 ghost use Rattle.fb_schema.specs.declared.kinds.Shape.TheVariants.{One};
+ghost use Rattle.fb_schema.specs.Schema.{Name};
 ghost use Rattle.fb_schema.specs.Seen.{field_seen, body_seen, type_seen};
-ghost use Rattle.fb_value.specs.Plain.{IsPlainField, IsPlainBody, ArePlain, IsPlain};
+ghost use Rattle.fb_layout.specs.WellMade.{IsWellMade};
+ghost use Rattle.fb_value.specs.OneTable.{one_table};
+ghost use Rattle.fb_value.specs.Plain.{IsPlainField, IsPlainBody, ArePlain, IsPlain, slot_name};
 
 use fb_layout::Layout;
 use fb_schema::{Base, Body, FieldInfo, Kind, Shape, TypeInfo};
@@ -16,6 +19,17 @@ pub fn plain(layout: &Layout) -> bool
 {
     let schema = layout.schema();
     schema.identifier().is_none() && are_plain(schema.types())
+}
+
+/// The slots of the one table of a plain layout.
+pub fn plain_slots(layout: &Layout) -> &[FieldInfo]
+    requires { IsPlain layout.now }
+    ensures made { IsWellMade layout.now }
+    ensures table { (name : Name) × (layout.now ≡ one_table name (map slot_name result.now)) }
+    ensures differ { AllPairs (λ a b. a ≢ b) (map slot_name result.now) }
+    ensures few { length result.now ≤ 16382 }
+{
+    layout.slots_of(layout.schema().root())
 }
 
 fn are_plain(types: &[TypeInfo]) -> bool

@@ -1,12 +1,11 @@
 -- A value of one table of `int` fields lies in the bytes that are placed for it, and nothing else.
-use Rattle.std.proofs.Common.{Vec, Global, ◌≡◌, ℕ, zero, suc, ◌+◌, ◌*◌, ◌-◌, ◌<◌, ◌≤◌, List, [], ◌∷◌, length, map, drop, slice_get, slice_index_or, Option, None, Some, All, Bool, true, false, if◌then◌else◌, ℤ, refl, sym, ap, ◌∙◌, subst, arith}
+use Rattle.std.proofs.Common.{Vec, Global, ◌≡◌, ℕ, zero, suc, ◌+◌, ◌≤◌, List, [], ◌∷◌, length, drop, slice_get, Option, None, Some, All, Bool, true, false, if◌then◌else◌, refl, sym, ap, ◌∙◌, subst, arith}
 use Rattle.std.proofs.lemmas.List.{length-map}
 use Rattle.fb_schema.specs.declared.kinds.Base.TheVariants.{I32}
 use Rattle.fb_schema.specs.Schema.{Name}
-use Rattle.fb_schema.specs.WellDeclared.{InRange}
 use Rattle.fb_layout.specs.Laid.{LaidSchema, scalar_kind, slots_of}
-use Rattle.fb_layout.specs.OneTable.{one_table}
-use Rattle.fb_layout.proofs.OneTableMade.{int_slots, slots_are}
+use Rattle.fb_value.specs.OneTable.{one_table}
+use Rattle.fb_value.proofs.IntSlots.{int_slots, slots_are}
 use Rattle.fb_schema.specs.declared.kinds.TypeId.{TypeId}
 use Rattle.fb_value.specs.declared.values.Value.{Value, Fields}
 use Rattle.fb_value.specs.Counts.{cells, depth}
@@ -16,17 +15,16 @@ use Rattle.fb_value.proofs.Views.{view-Fields}
 use Rattle.fb_value.proofs.IntTables.{fits_table, room_known}
 use Rattle.flatc_tool.proofs.Standing.{count_long}
 use Rattle.fb_value.specs.Bounds.{Bounds}
-use Rattle.fb_value.specs.Datum.{a_number, a_table}
+use Rattle.fb_value.specs.Datum.{a_table}
 use Rattle.fb_value.specs.Ints.{IsInt}
 use Rattle.fb_value.specs.Num.{Bytes, num}
 use Rattle.fb_value.specs.Places.{Target, table_part, Sort, ref_place, part_place, inline_place, Place, named, named_slots, is_present, slot_number}
-use Rattle.fb_value.specs.Rules.{Keeps}
 use Rattle.fb_value.specs.Reached.{Path, Leads}
-use Rattle.fb_value.specs.Holds.{Holds, root_place}
+use Rattle.fb_value.specs.Holds.{Holds}
 use Rattle.fb_value.specs.OldSlots.{OnlyOld, table_of as table_in, is_in_use}
 use Rattle.fb_value.specs.View.{view, entries_view}
 use Rattle.fb_value.proofs.Steps.{same_place}
-use Rattle.fb_read.specs.Ints.{int_place, HasNumber, IsNumberOf, AreNumbers}
+use Rattle.fb_read.specs.Ints.{IsNumberOf, AreNumbers}
 use Rattle.fb_read.proofs.Found.{found, none_required}
 use Rattle.flatc_tool.specs.Placed.{entry_number, number_in, numbers_in, stored_count, placed}
 use Rattle.flatc_tool.proofs.PlacedLies.{parted, table_place, place_small, length-placed, root_number, header_holds, reference_keeps, table_keeps, number_held, slot_behind}

@@ -6,11 +6,9 @@ use Rattle.fb_value.specs.Counts.{cells, depth}
 use Rattle.fb_value.specs.OldSlots.{OnlyOld}
 use Rattle.fb_value.proofs.Shown.{one_value_shown}
 use Rattle.flatc_tool.specs.declared.faults.BuildFault.{BuildFault}
-use Rattle.std.proofs.Common.{◌≡◌, ◌≢◌, ◌⊎◌, inl, inr, ℕ, ◌<◌, ◌≤◌, List, Bool, Option, Some, refl, sym, ap, ◌∙◌, subst, arith}
+use Rattle.std.proofs.Common.{◌≡◌, ◌≢◌, ◌⊎◌, inl, inr, ℕ, ◌<◌, ◌≤◌, List, Bool, Some, refl, sym, ap, ◌∙◌, subst, arith}
 use Rattle.serde_json.specs.Data.{Data}
-use Rattle.serde_json.specs.Read.{read}
 use Rattle.fb_layout.specs.Laid.{LaidSchema}
-use Rattle.fb_layout.specs.OneTable.{one_table}
 use Rattle.fb_value.specs.declared.faults.ReadFault.{ReadFault}
 use Rattle.fb_value.specs.declared.faults.ReadFault.TheVariants as the_read
 use Rattle.fb_value.specs.Bounds.{Bounds}
@@ -20,7 +18,7 @@ use Rattle.fb_value.specs.Room.{room_of}
 use Rattle.fb_value.specs.Holds.{Holds, Refuses}
 use Rattle.flatc_tool.specs.JsonText.{IsTree}
 use Rattle.flatc_tool.specs.Meaning.{field_names, Means, Breaks}
-use Rattle.flatc_tool.specs.Jobs.{Accepts, SchemaRefused, JsonMeans, most_room, IsBinary, MayBeBinary, JsonRefused, BinaryRefused, MayBeText, ReadRefused, TextRefused, IsNotMemory}
+use Rattle.flatc_tool.specs.Jobs.{Accepts, SchemaRefused, JsonMeans, most_room, IsBinary, MayBeBinary, BinaryRefused, MayBeText, TextRefused, IsNotMemory}
 use Rattle.flatc_tool.specs.declared.faults.JsonFault.{JsonFault}
 use Rattle.flatc_tool.specs.declared.faults.JsonFault.TheVariants as the_json
 use Rattle.flatc_tool.specs.declared.faults.BuildFault.TheVariants as the_build
@@ -92,18 +90,6 @@ read_excludes schema b most raw f h may =
     let layout = same_layout schema h.0 may.layout h.1 may.accepted in
     h.2.1 may.value (subst (λ (L : LaidSchema). Holds L most raw b may.value) (sym layout) may.holds)
 
--- Where a layer refuses, there is no text to be printed.
-pub text_excludes : (schema : List ℕ) (b : Bytes) (most : Bounds) (raw : Bool) (f : ToolFault) → TextRefused schema b most raw f → IsNotMemory f → MayBeText schema b most raw → ⊥
-text_excludes schema b most raw (Schema f) h rule may = schema_excludes schema (Schema f) h rule may.layout may.accepted
-text_excludes schema b most raw NotYet h rule may = schema_excludes schema NotYet h rule may.layout may.accepted
-text_excludes schema b most raw (Read the_read.Memory) h rule may = rule
-text_excludes schema b most raw (Read f) h rule may = read_excludes schema b most raw f h may
-text_excludes schema b most raw (Text the_text.Memory) h rule may = rule
-text_excludes schema b most raw Memory h rule may = rule
-text_excludes schema b most raw BadJson h rule may = h
-text_excludes schema b most raw (Json f) h rule may = h
-text_excludes schema b most raw (Build f) h rule may = h
-
 -- Where a tree means no value, there is no buffer to be made.
 pub value_excludes : (schema json : List ℕ) (most : Bounds) (unknown : Bool) (L : LaidSchema) (t : Data) (f : JsonFault) → Accepts schema L → IsTree json t
     → (f ≡ the_json.Memory) ⊎ ((d : Datum) → Means (field_names L) most unknown t d → ⊥) → IsNotMemory (Json f) → MayBeBinary schema json most unknown → ⊥
@@ -113,6 +99,27 @@ value_excludes schema json most unknown L t f accepted tree (inr none) rule may 
     let same = same_tree json may.means.0 t may.means.1 tree in
     let means = subst (λ (K : LaidSchema). Means (field_names K) most unknown may.means.0 may.value) layout may.means.2 in
     none may.value (subst (λ (u : Data). Means (field_names L) most unknown u may.value) same means)
+
+-- The rule that a tree breaks is the refusal.
+pub value_refused : (schema json : List ℕ) (most : Bounds) (unknown : Bool) (L : LaidSchema) (t : Data) (f : JsonFault) → Accepts schema L → IsTree json t
+    → (f ≡ the_json.Memory) ⊎ Breaks (field_names L) most unknown t f → BinaryRefused schema json most unknown (Json f)
+value_refused schema json most unknown L t the_json.Memory accepted tree h = (L, accepted, t, tree)
+value_refused schema json most unknown L t (the_json.WrongShape at) accepted tree (inr h) = (L, accepted, t, tree, h)
+value_refused schema json most unknown L t (the_json.NotWhole at) accepted tree (inr h) = (L, accepted, t, tree, h)
+value_refused schema json most unknown L t (the_json.OutOfRange at) accepted tree (inr h) = (L, accepted, t, tree, h)
+value_refused schema json most unknown L t (the_json.UnknownMember at) accepted tree (inr h) = (L, accepted, t, tree, h)
+value_refused schema json most unknown L t (the_json.TooManyCells at) accepted tree (inr h) = (L, accepted, t, tree, h)
+value_refused schema json most unknown L t (the_json.WrongShape at) accepted tree (inl h) = cc
+value_refused schema json most unknown L t (the_json.NotWhole at) accepted tree (inl h) = cc
+value_refused schema json most unknown L t (the_json.OutOfRange at) accepted tree (inl h) = cc
+value_refused schema json most unknown L t (the_json.UnknownMember at) accepted tree (inl h) = cc
+value_refused schema json most unknown L t (the_json.TooManyCells at) accepted tree (inl h) = cc
+
+-- The size of a value is the refusal, or memory for it.
+pub size_refused : (schema json : List ℕ) (most : Bounds) (unknown : Bool) (L : LaidSchema) (v : Datum) (f : BuildFault) → Accepts schema L → JsonMeans L most unknown json v
+    → (f ≡ the_build.Memory → room_of L v ≤ most_room) → (f ≡ the_build.TooBig → most_room < room_of L v) → BinaryRefused schema json most unknown (Build f)
+size_refused schema json most unknown L v the_build.TooBig accepted means small big = (L, accepted, v, means, big refl)
+size_refused schema json most unknown L v the_build.Memory accepted means small big = record { layout = L; accepted = accepted; value = v; means = means; small = small refl }
 
 -- Where the value is too big, there is none either.
 pub size_excludes : (schema json : List ℕ) (most : Bounds) (unknown : Bool) (L : LaidSchema) (v : Datum) (f : BuildFault) → Accepts schema L → JsonMeans L most unknown json v

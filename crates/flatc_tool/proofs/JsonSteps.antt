@@ -1,5 +1,5 @@
 -- Steps of the reading of a JSON tree: fields in order, names in a set, and the run-time forms.
-use Rattle.std.proofs.Common.{◌≡◌, ◌∙◌, ◌⊎◌, inl, inr, ℕ, ◌+◌, ◌<◌, List, [], ◌∷◌, ◌++◌, length, map, take, get_or, Option, Some, None, option_map, Bool, true, false, ℤ, String, Global, string_bytes, sym, ap, subst, refl, arith, add-one, Result, Ok, Err, IfErr, MatchBool, not}
+use Rattle.std.proofs.Common.{◌≡◌, ◌∙◌, ◌⊎◌, inl, inr, ℕ, ◌+◌, ◌<◌, List, [], ◌∷◌, ◌++◌, length, map, take, get_or, Option, Some, None, option_map, Bool, true, false, ℤ, sym, ap, subst, refl, arith, add-one, Result, Ok, Err, IfErr, MatchBool, not}
 use mir.Val.{SFits}
 use mir.Syntax.{w128}
 use Rattle.std.proofs.Math.Seq.{take-suc}
@@ -12,7 +12,9 @@ use Rattle.serde_json.specs.Data.{Data, object, Members}
 use Rattle.serde_json.specs.Find.{get_member}
 use Rattle.fb_schema.specs.Schema.{Name}
 use Rattle.fb_layout.specs.Laid.{LaidSchema}
-use Rattle.fb_layout.specs.OneTable.{one_table}
+use Rattle.fb_value.specs.OneTable.{one_table}
+use Rattle.fb_schema.specs.declared.types.FieldInfo.{FieldInfo}
+use Rattle.fb_value.specs.Plain.{slot_name}
 use Rattle.fb_value.specs.Datum.{Datum, a_number}
 use Rattle.fb_value.specs.Bounds.{Bounds}
 use Rattle.fb_value.specs.View.{view, entries_in, entries_view}
@@ -42,28 +44,28 @@ fields_more ms (m ∷ names) name (Some (a_number k) ∷ os) n h last = (h.0, fi
 fields_more ms (m ∷ names) name (Some _ ∷ os) n h last = absurd h
 fields_more ms (m ∷ names) name _ n h last = absurd h
 
-pub fields_next : (ms : Members) (fields : List (String Global)) (i : ℕ) (d : String Global) (vs : List (Option Value)) (m n : ℤ) → m ≡ n → i < length fields
-    → MeansFields ms (map string_bytes (take i fields)) (entries_view vs) → MeansInt (get_member (string_bytes (get_or fields i d)) ms) n
-    → MeansFields ms (map string_bytes (take (i + 1) fields)) (entries_view (vs ++ Some (Number m) ∷ []))
+pub fields_next : (ms : Members) (fields : List FieldInfo) (i : ℕ) (d : FieldInfo) (vs : List (Option Value)) (m n : ℤ) → m ≡ n → i < length fields
+    → MeansFields ms (map slot_name (take i fields)) (entries_view vs) → MeansInt (get_member (slot_name (get_or fields i d)) ms) n
+    → MeansFields ms (map slot_name (take (i + 1) fields)) (entries_view (vs ++ Some (Number m) ∷ []))
 fields_next ms fields i d vs m n same within h last =
     let seen : map (option_map view) (vs ++ Some (Number m) ∷ []) ≡ map (option_map view) vs ++ Some (a_number n) ∷ [] = map-append (option_map view) vs (Some (Number m) ∷ []) ∙ rw (view-Number m, same) refl in
-    let names : map string_bytes (take (i + 1) fields) ≡ map string_bytes (take i fields) ++ string_bytes (get_or fields i d) ∷ [] =
-    rw (add-one, take-suc fields i d within) (map-append string_bytes (take i fields) (get_or fields i d ∷ [])) in
-    rw (names, seen) (fields_more ms (map string_bytes (take i fields)) (string_bytes (get_or fields i d)) (map (option_map view) vs) n h last)
+    let names : map slot_name (take (i + 1) fields) ≡ map slot_name (take i fields) ++ slot_name (get_or fields i d) ∷ [] =
+    rw (add-one, take-suc fields i d within) (map-append slot_name (take i fields) (get_or fields i d ∷ [])) in
+    rw (names, seen) (fields_more ms (map slot_name (take i fields)) (slot_name (get_or fields i d)) (map (option_map view) vs) n h last)
 
 -- what the field at an index breaks is what some field breaks
-pub field_breaks : (ms : Members) (fields : List (String Global)) (i : ℕ) (d : String Global) (t : Data) (f : JsonFault) → i < length fields
-    → get_member (string_bytes (get_or fields i d)) ms ≡ Some t → IntBreaks t (slot_place i) f → FieldBreaks (map string_bytes fields) ms f
+pub field_breaks : (ms : Members) (fields : List FieldInfo) (i : ℕ) (d : FieldInfo) (t : Data) (f : JsonFault) → i < length fields
+    → get_member (slot_name (get_or fields i d)) ms ≡ Some t → IntBreaks t (slot_place i) f → FieldBreaks (map slot_name fields) ms f
 field_breaks ms fields i d t f within found broken =
-    (i, string_bytes (get_or fields i d), t, slice_get-map string_bytes fields i ∙ ap (option_map string_bytes) (slice_get-get_or fields i d within), found, broken)
+    (i, slot_name (get_or fields i d), t, slice_get-map slot_name fields i ∙ ap (option_map slot_name) (slice_get-get_or fields i d within), found, broken)
 
 -- by a set of the fields' names, all members are named, or one is not
-pub other_named : (fields : List (String Global)) (ms : Members) (test : List ℕ → Bool) (all : Bool) → ((name : List ℕ) → test name ≡ list_any (λ f. bytes_eq name (string_bytes f)) fields) → all ≡ names_pass test ms
-    → MatchBool (not all) (HasOther (map string_bytes fields) ms) (AllNamed (map string_bytes fields) ms)
-other_named fields ms test true same is = λ name t found. listed string_bytes fields name (sym (same name) ∙ passes_all test ms (sym is) name t found)
+pub other_named : (fields : List FieldInfo) (ms : Members) (test : List ℕ → Bool) (all : Bool) → ((name : List ℕ) → test name ≡ list_any (λ f. bytes_eq name (slot_name f)) fields) → all ≡ names_pass test ms
+    → MatchBool (not all) (HasOther (map slot_name fields) ms) (AllNamed (map slot_name fields) ms)
+other_named fields ms test true same is = λ name t found. listed slot_name fields name (sym (same name) ∙ passes_all test ms (sym is) name t found)
 other_named fields ms test false same is =
     let one = fails_one test ms (sym is) in
-    (one.0, one.1, one.2, unlisted string_bytes fields one.0 (sym (same one.0) ∙ one.3))
+    (one.0, one.1, one.2, unlisted slot_name fields one.0 (sym (same one.0) ∙ one.3))
 
 -- ---- by a layout, and by the run-time tree
 

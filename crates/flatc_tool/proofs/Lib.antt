@@ -1,5 +1,4 @@
 pub mod OneText
-pub mod PlainTables
 pub mod Members
 pub mod Listed
 pub mod Meanings

@@ -1,4 +1,4 @@
--- Names in a list, looked up by a test, and names that differ.
+-- Names in a list, looked up by a test.
 use Rattle.std.proofs.Common.{◌≡◌, ◌≢◌, ◌∙◌, ◌⊎◌, inl, inr, ℕ, zero, suc, ◌+◌, ◌<◌, List, [], ◌∷◌, ◌++◌, length, map, take, get_or, Bool, true, false, ◌||◌, cond, sym, ap, refl, true≢false, arith, add-one, Contains, AllPairs}
 use Rattle.std.proofs.Math.Seq.{take-suc, get_or-append_seam}
 use Rattle.std.proofs.lemmas.List.{map-append, take-map, length-map, length-append, length-take-le, get_or-map, get_or-take, get_or_append_left, get_or_default}
@@ -59,37 +59,3 @@ listed_next name f xs i d key was is within same before now =
     let more : list_any (λ x. bytes_eq name (f x)) (take (i + 1) xs) ≡ (list_any (λ x. bytes_eq name (f x)) (take i xs) || (bytes_eq name (f (get_or xs i d)) || false)) =
     rw (add-one, take-suc xs i d within) (list_any-append (λ x. bytes_eq name (f x)) (take i xs) (get_or xs i d ∷ [])) in
     now ∙ ap (λ b. cond b true was) turned ∙ last_or (bytes_eq name (f (get_or xs i d))) was ∙ ap (λ w. w || (bytes_eq name (f (get_or xs i d)) || false)) before ∙ sym more
-
--- ---- names that differ
-
--- one more name, which is not among them
-differ_at : (ns : List (List ℕ)) (n : List ℕ) → AllPairs (λ a b. a ≢ b) ns → (Contains ns n → ⊥) → (i j : ℕ) (d : List ℕ) → i < j → (j < length ns) ⊎ (j ≡ length ns)
-    → get_or (ns ++ n ∷ []) i d ≢ get_or (ns ++ n ∷ []) j d
-differ_at ns n differ new i j d before (inl within) = rw (get_or_append_left ns (n ∷ []) d i (omega arith), get_or_append_left ns (n ∷ []) d j within) (differ i j d before within)
-differ_at ns n differ new i j d before (inr last) =
-    rw (last, get_or-append_seam ns n [] d, get_or_append_left ns (n ∷ []) d i (omega arith))
-    (λ e. new (i, omega arith, get_or_default ns i n d (omega arith) ∙ e))
-
-below_or_last : (j n : ℕ) → j < n + 1 → (j < n) ⊎ (j ≡ n)
-below_or_last zero zero h = inr refl
-below_or_last zero (suc n) h = inl (omega arith)
-below_or_last (suc j) zero h = absurd (omega arith)
-below_or_last (suc j) (suc n) h = elim (below_or_last j n (omega arith)) [ inl below ↦ inl (omega arith) | inr last ↦ inr (ap (λ k. suc k) last) ]
-
-pub differ_more : (ns : List (List ℕ)) (n : List ℕ) → AllPairs (λ a b. a ≢ b) ns → (Contains ns n → ⊥) → AllPairs (λ a b. a ≢ b) (ns ++ n ∷ [])
-differ_more ns n differ new = λ i j d before within.
-    let long : length (ns ++ n ∷ []) ≡ length ns + 1 = length-append ns (n ∷ []) in
-    differ_at ns n differ new i j d before (below_or_last j (length ns) (omega arith))
-
--- the names so far, and one more
-pub names_next : {A : Type 0} (f : A → List ℕ) (xs : List A) (i : ℕ) (d : A) → i < length xs → map f (take (i + 1) xs) ≡ map f (take i xs) ++ f (get_or xs i d) ∷ []
-names_next f xs i d within = rw (add-one, take-suc xs i d within) (map-append f (take i xs) (get_or xs i d ∷ []))
-
--- a name that stands among those before it
-pub repeated : {A : Type 0} (f : A → List ℕ) (xs : List A) (i : ℕ) (d : A) → i < length xs → Contains (map f (take i xs)) (f (get_or xs i d)) → AllPairs (λ a b. a ≢ b) (map f xs) → ⊥
-repeated f xs i d within has differ =
-    let short : length (map f (take i xs)) ≡ i = length-map (take i xs) f ∙ length-take-le i xs (omega arith) in
-    let long : length (map f xs) ≡ length xs = length-map xs f in
-    let before : has.0 < i = omega (arith, has.1) in
-    let at : get_or (map f xs) has.0 (f (get_or xs i d)) ≡ f (get_or xs i d) = sym (get_or-take i (map f xs) has.0 (f (get_or xs i d)) before) ∙ rw (take-map f i xs) has.2 in
-    differ has.0 i (f (get_or xs i d)) before (omega arith) (at ∙ sym (get_or-map f xs i d (f (get_or xs i d)) within))

@@ -7,8 +7,8 @@ use Rattle.fb_schema.specs.declared.kinds.Base.TheVariants.{I32}
 use Rattle.fb_schema.specs.Schema.{Name}
 use Rattle.fb_schema.specs.WellDeclared.{InRange}
 use Rattle.fb_layout.specs.Laid.{LaidSchema, slot_of}
-use Rattle.fb_layout.specs.OneTable.{int_fields, one_table_schema, one_table}
-use Rattle.fb_layout.proofs.OneTableMade.{names_are}
+use Rattle.fb_value.specs.OneTable.{int_fields, one_table_schema, one_table}
+use Rattle.fb_value.proofs.IntSlots.{names_are}
 use Rattle.fb_value.specs.Datum.{Datum, a_number, a_table, SlotEntries, no_entries, absent_entry, present_entry}
 use Rattle.fb_value.specs.Bounds.{Bounds}
 use Rattle.fb_value.specs.Counts.{cells, entries_cells, depth, entries_depth, nesting, entries_nesting, is_whole, entries_whole}
@@ -152,11 +152,6 @@ pub means_nesting : (names : List Name) (most : Bounds) (unknown : Bool) (t : Da
 means_nesting names most unknown (object ms) (a_table type es) h = let small = fields_small ms names es h.3 in omega arith
 means_nesting names most unknown (object ms) _ h = absurd h
 means_nesting names most unknown _ d h = absurd h
-
-pub means_whole : (names : List Name) (most : Bounds) (unknown : Bool) (t : Data) (d : Datum) → Means names most unknown t d → is_whole d ≡ true
-means_whole names most unknown (object ms) (a_table type es) h = let small = fields_small ms names es h.3 in small.3
-means_whole names most unknown (object ms) _ h = absurd h
-means_whole names most unknown _ d h = absurd h
 
 -- the same by a layout of one table
 pub names_as : (L : LaidSchema) (names : List Name) → (name : Name) × (L ≡ one_table name names) → field_names L ≡ names

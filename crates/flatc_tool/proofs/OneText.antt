@@ -8,11 +8,10 @@ use Rattle.fb_syntax.specs.declared.tokens.Token.{Token}
 use Rattle.fb_syntax.proofs.ReadsAs.{one_reading_shown}
 use Rattle.fb_syntax.proofs.TextSpellings.{one_spelling_shown}
 use Rattle.fb_schema.specs.Schema.{DeclaredSchema}
-use Rattle.fb_schema.specs.WellDeclared.{IsDeclared}
 use Rattle.fb_declare.specs.declared.faults.SchemaFault.{SchemaFault}
 use Rattle.fb_declare.specs.Declares.{Declares, Stands}
 use Rattle.fb_declare.proofs.OneSchema.{one_declared}
-use Rattle.fb_layout.specs.Laid.{LaidSchema, StructLayout}
+use Rattle.fb_layout.specs.Laid.{LaidSchema}
 use Rattle.fb_layout.specs.WellMade.{IsSized}
 use Rattle.fb_layout.proofs.OneSizing.{one_sizing, no_layout}
 use Rattle.flatc_tool.specs.declared.schema_layouts.SchemaTextFault.{SchemaTextFault}

@@ -1,5 +1,5 @@
 -- The bytes that are placed hold the numbers.
-use Rattle.std.proofs.Common.{◌≡◌, ◌≢◌, ℕ, zero, suc, ◌+◌, ◌-◌, ◌*◌, ◌^◌, ◌%◌, ◌/◌, ◌<◌, ◌≤◌, ◌++◌, List, [], ◌∷◌, length, drop, slice_get, Option, None, Some, Bool, true, false, not, ◌&&◌, nat_lt, nat_le, ◌==◌, if◌then◌else◌, ◌⊎◌, inl, inr, ℤ, pos, negsuc, refl, sym, ap, ◌∙◌, subst, arith, append_assoc, length-append, eq-eqb}
+use Rattle.std.proofs.Common.{◌≡◌, ◌≢◌, ℕ, zero, suc, ◌+◌, ◌*◌, ◌^◌, ◌%◌, ◌/◌, ◌<◌, ◌≤◌, ◌++◌, List, [], ◌∷◌, length, drop, slice_get, None, Some, Bool, true, false, nat_lt, nat_le, ◌==◌, if◌then◌else◌, ◌⊎◌, inl, inr, ℤ, pos, negsuc, refl, sym, ap, ◌∙◌, subst, arith, length-append, eq-eqb}
 use Rattle.std.proofs.lemmas.Bool.{le-leb, lt-ltb, eqb-true}
 use Rattle.std.proofs.lemmas.Bool.Decides.{nat_tests}
 use Rattle.std.specs.Int.{w32, cast_unsigned}
@@ -13,7 +13,7 @@ use Rattle.fb_read.proofs.Sums.{signed_is}
 use Rattle.fb_read.proofs.IntSlots.{place_there, place_none}
 use Rattle.fb_schema.specs.declared.kinds.Base.TheVariants.{I32}
 use Rattle.fb_layout.specs.Laid.{LaidSchema, scalar_kind, slots_of}
-use Rattle.fb_value.specs.Num.{Bytes, num, divides, signed, scalar_of}
+use Rattle.fb_value.specs.Num.{Bytes, num, divides, signed}
 use Rattle.fb_value.specs.Places.{Target, table_part, ref_place, part_place, inline_place, vtable, slot_number}
 use Rattle.fb_value.specs.Rules.{has_vtable, first_missing, first_failing, fault_by, Keeps}
 use Rattle.fb_value.specs.Holds.{header_fault}

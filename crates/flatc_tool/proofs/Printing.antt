@@ -1,9 +1,11 @@
 -- Lines one after another, and the lines of a table's entries from a slot on.
-use Rattle.std.proofs.Common.{◌≡◌, ◌∙◌, ℕ, suc, ◌+◌, ◌<◌, ◌≤◌, List, [], ◌∷◌, ◌++◌, length, map, drop, get_or, Option, Some, None, option_map, Bool, true, false, ◌||◌, if◌then◌else◌, String, Global, string_bytes, codes, sym, ap, subst, refl, append_assoc, append-nil, add-one, drop-cons}
+use Rattle.std.proofs.Common.{◌≡◌, ◌∙◌, ℕ, suc, ◌+◌, ◌<◌, ◌≤◌, List, [], ◌∷◌, ◌++◌, length, map, drop, get_or, Option, Some, None, option_map, Bool, true, false, ◌||◌, if◌then◌else◌, codes, sym, ap, subst, refl, append_assoc, append-nil, add-one, drop-cons}
 use Rattle.std.proofs.lemmas.List.{length-map, drop_all}
 use Rattle.fb_schema.specs.Schema.{Name}
 use Rattle.fb_layout.specs.Laid.{LaidSchema, slot_of}
-use Rattle.fb_layout.specs.OneTable.{int_field, int_fields, one_table_schema, one_table}
+use Rattle.fb_value.specs.OneTable.{int_field, int_fields, one_table_schema, one_table}
+use Rattle.fb_schema.specs.declared.types.FieldInfo.{FieldInfo}
+use Rattle.fb_value.specs.Plain.{slot_name}
 use Rattle.fb_value.specs.Datum.{Datum, a_number, a_text, a_vector, a_struct, a_table, a_member, an_unknown, SlotEntries}
 use Rattle.fb_value.specs.Fits.{EntriesFit, FitsRoot}
 use Rattle.fb_value.specs.View.{view, entries_in, entries_view}
@@ -49,8 +51,8 @@ braced_is (line ∷ lines) = ap (λ t. codes "{\n" ++ (t ++ codes "\n}\n")) (joi
 
 -- ---- the lines from a slot on
 
-abbrev pub lines_from : Bool → List (String Global) → List (Option Value) → ℕ → List (List ℕ)
-lines_from defaults fields entries i = member_lines defaults (int_fields i (map string_bytes (drop i fields))) (entries_view (drop i entries))
+abbrev pub lines_from : Bool → List FieldInfo → List (Option Value) → ℕ → List (List ℕ)
+lines_from defaults fields entries i = member_lines defaults (int_fields i (map slot_name (drop i fields))) (entries_view (drop i entries))
 
 any_slot : (defaults : Bool) (name : Name) (i j : ℕ) (d : Datum) → field_lines defaults (int_field name i) d ≡ field_lines defaults (int_field name j) d
 any_slot defaults name i j (a_number n) = refl
@@ -61,17 +63,17 @@ any_slot defaults name i j (a_table t es) = refl
 any_slot defaults name i j (a_member c d) = refl
 any_slot defaults name i j (an_unknown c) = refl
 
-pub lines_from-Some : (defaults : Bool) (fields : List (String Global)) (entries : List (Option Value)) (i : ℕ) (d : String Global) (e : Option Value) (v : Value) → i < length fields → i < length entries
-    → get_or entries i e ≡ Some v → lines_from defaults fields entries i ≡ field_lines defaults (int_field (string_bytes (get_or fields i d)) 0) (view v) ++ lines_from defaults fields entries (i + 1)
+pub lines_from-Some : (defaults : Bool) (fields : List FieldInfo) (entries : List (Option Value)) (i : ℕ) (d : FieldInfo) (e : Option Value) (v : Value) → i < length fields → i < length entries
+    → get_or entries i e ≡ Some v → lines_from defaults fields entries i ≡ field_lines defaults (int_field (slot_name (get_or fields i d)) 0) (view v) ++ lines_from defaults fields entries (i + 1)
 lines_from-Some defaults fields entries i d e v within there is =
     rw (add-one, drop-cons fields i d within, drop-cons entries i e there, is)
-    (ap (λ ls. ls ++ member_lines defaults (int_fields (suc i) (map string_bytes (drop (suc i) fields))) (entries_view (drop (suc i) entries))) (any_slot defaults (string_bytes (get_or fields i d)) i 0 (view v)))
+    (ap (λ ls. ls ++ member_lines defaults (int_fields (suc i) (map slot_name (drop (suc i) fields))) (entries_view (drop (suc i) entries))) (any_slot defaults (slot_name (get_or fields i d)) i 0 (view v)))
 
-pub lines_from-None : (defaults : Bool) (fields : List (String Global)) (entries : List (Option Value)) (i : ℕ) (d : String Global) (e : Option Value) → i < length fields → i < length entries
+pub lines_from-None : (defaults : Bool) (fields : List FieldInfo) (entries : List (Option Value)) (i : ℕ) (d : FieldInfo) (e : Option Value) → i < length fields → i < length entries
     → get_or entries i e ≡ None → lines_from defaults fields entries i ≡ lines_from defaults fields entries (i + 1)
 lines_from-None defaults fields entries i d e within there is = rw (add-one, drop-cons fields i d within, drop-cons entries i e there, is) refl
 
-pub lines_from-end : (defaults : Bool) (fields : List (String Global)) (entries : List (Option Value)) (i : ℕ) → length fields ≤ i → lines_from defaults fields entries i ≡ []
+pub lines_from-end : (defaults : Bool) (fields : List FieldInfo) (entries : List (Option Value)) (i : ℕ) → length fields ≤ i → lines_from defaults fields entries i ≡ []
 lines_from-end defaults fields entries i past = rw (drop_all i fields past) (none_left (entries_view (drop i entries)))
   where
     none_left : (es : SlotEntries) → member_lines defaults [] es ≡ []

@@ -6,4 +6,3 @@ pub mod Printed
 pub mod Lines
 pub mod Jobs
 pub mod SchemaTexts
-pub mod FirstTable

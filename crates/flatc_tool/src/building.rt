@@ -10,14 +10,15 @@ ghost use Rattle.fb_value.specs.Fits.{FitsRoot};
 ghost use Rattle.fb_value.specs.Holds.{Holds};
 ghost use Rattle.fb_value.specs.Ints.{IsInt};
 ghost use Rattle.fb_value.specs.OldSlots.{OnlyOld};
+ghost use Rattle.fb_value.specs.Plain.{IsPlain};
 ghost use Rattle.fb_value.specs.Room.{room_of};
 ghost use Rattle.fb_value.specs.View.{view};
 ghost use Rattle.flatc_tool.specs.Placed.{entry_number, is_zero, numbers_in, stored_count, offset_bytes, stored_bytes, placed};
 
 use crate::faults::BuildFault;
 use byteorder::{ByteOrder, LittleEndian};
-use fb_layout::IntTable;
-use fb_value::{Value, room_of_int_table};
+use fb_layout::Layout;
+use fb_value::{Value, plain_slots, room};
 use std::alloc::{AllocError, Global};
 
 fn put_u16(out: &mut Vec<u8>, number: u16) -> Result<(), AllocError>
@@ -141,7 +142,8 @@ fn table_bytes(alloc: Global, entries: &[Option<Value>], room: u32) -> Result<Ve
 /// The bytes in which a value of the root table lies, and nothing else.
 ///
 /// `TooBig` is answered exactly where the value's room is over 2,147,483,647.
-pub(crate) fn build(alloc: Global, layout: &IntTable, value: &Value) -> Result<Vec<u8>, BuildFault>
+pub(crate) fn build(alloc: Global, layout: &Layout, value: &Value) -> Result<Vec<u8>, BuildFault>
+    requires plain { IsPlain layout.now }
     requires nests { nesting (view value.now) ≤ 300 }
     requires fits { FitsRoot layout.now (view value.now) }
     ensures holds { IfOk result (λ b. (most : Bounds) (raw : Bool) → depth (view value.now) ≤ most.depth
@@ -154,8 +156,8 @@ pub(crate) fn build(alloc: Global, layout: &IntTable, value: &Value) -> Result<V
     ensures too_big { result ≡ Err BuildFault.TooBig
         → 2147483647 < room_of layout.now (view value.now) }
 {
-    let _fields = layout.fields(); // tells what layouts there are
-    let Some(room) = room_of_int_table(layout, value) else {
+    let _slots = plain_slots(layout); // tells what layouts are plain
+    let Some(room) = room(layout, value) else {
         return Err(BuildFault::TooBig);
     };
     let Value::Fields(_, entries) = value else {

@@ -1,5 +1,5 @@
 //! Reads JSON, and gives it the meaning that a layout says.
-ghost use Rattle.std.specs.Prelude.{◌≡◌, ◌≤◌, ◌⊎◌, ℕ, List, IfOk, IfErr, MatchBool, length, map, option_map, string_bytes};
+ghost use Rattle.std.specs.Prelude.{◌≡◌, ◌≤◌, ◌⊎◌, ℕ, List, IfOk, IfErr, MatchBool, length, map, option_map};
 ghost use Rattle.std.specs.List.{list_any};
 ghost use Rattle.std.specs.Str.{bytes_eq};
 ghost use Rattle.std.specs.HashSet.{contains_by};
@@ -8,15 +8,16 @@ ghost use Rattle.serde_json.specs.Find.{get_member};
 ghost use Rattle.serde_json.specs.View.{view as tree_view, members_view};
 ghost use Rattle.fb_value.specs.Datum.{Datum};
 ghost use Rattle.fb_value.specs.Fits.{FitsRoot};
+ghost use Rattle.fb_value.specs.Plain.{IsPlain, slot_name};
 ghost use Rattle.fb_value.specs.View.{view, entries_view};
 ghost use Rattle.flatc_tool.specs.JsonText.{IsTree};
 ghost use Rattle.flatc_tool.specs.Meaning.{field_names, MeansInt, MeansFields, AllNamed, Means, slot_place, IntBreaks, FieldBreaks, HasOther, Breaks};
 ghost use Rattle.flatc_tool.specs.Named.{names_pass};
 
 use crate::faults::{JsonFault, Place, ToolFault};
-use fb_layout::IntTable;
-use fb_schema::TypeId;
-use fb_value::{Limits, Value};
+use fb_layout::Layout;
+use fb_schema::{FieldInfo, TypeId};
+use fb_value::{Limits, Value, plain_slots};
 use serde_json::{Map, Value as Json};
 use std::alloc::Global;
 use std::collections::HashSet;
@@ -43,11 +44,12 @@ pub(crate) fn tree_of(alloc: Global, json: &[u8]) -> Result<Json, ToolFault>
 /// The value of the root table that a tree means. `unknown` lets names through that no field has.
 pub(crate) fn value_of(
     alloc: Global,
-    layout: &IntTable,
+    layout: &Layout,
     tree: &Json,
     limits: Limits,
     unknown: bool,
 ) -> Result<Value, JsonFault>
+    requires { IsPlain layout.now }
     ensures means { IfOk result
         (λ v. Means (field_names layout.now) limits unknown (tree_view tree.now) (view v)) }
     ensures fits { IfOk result (λ v. FitsRoot layout.now (view v)) }
@@ -62,7 +64,7 @@ pub(crate) fn value_of(
     if limits.most_cells() == 0 {
         return Err(JsonFault::TooManyCells(ROOT));
     }
-    let fields = layout.fields();
+    let fields = plain_slots(layout);
     if !unknown && has_other(alloc, fields, members)? {
         return Err(JsonFault::UnknownMember(ROOT));
     }
@@ -73,12 +75,12 @@ pub(crate) fn value_of(
 /// Whether some member has a name that no field has.
 fn has_other(
     alloc: Global,
-    fields: &[String],
+    fields: &[FieldInfo],
     members: &Map<String, Json>,
 ) -> Result<bool, JsonFault>
     ensures other { IfOk result (λ other. MatchBool other
-        (HasOther (map string_bytes fields.now) (members_view members.now.entries))
-        (AllNamed (map string_bytes fields.now) (members_view members.now.entries))) }
+        (HasOther (map slot_name fields.now) (members_view members.now.entries))
+        (AllNamed (map slot_name fields.now) (members_view members.now.entries))) }
     ensures memory { IfErr result (λ f. f ≡ JsonFault.Memory) }
 {
     let names = set_of(alloc, fields)?;
@@ -86,14 +88,14 @@ fn has_other(
 }
 
 /// The names as a set.
-fn set_of<'f>(alloc: Global, fields: &'f [String]) -> Result<HashSet<&'f str>, JsonFault>
+fn set_of<'f>(alloc: Global, fields: &'f [FieldInfo]) -> Result<HashSet<&'f str>, JsonFault>
     ensures names { IfOk result (λ set. (name : List ℕ) → contains_by (λ k. bytes_eq name k.now) set
-        ≡ list_any (λ f. bytes_eq name (string_bytes f)) fields.now) }
+        ≡ list_any (λ f. bytes_eq name (slot_name f)) fields.now) }
     ensures memory { IfErr result (λ f. f ≡ JsonFault.Memory) }
 {
     let mut names = HashSet::new(alloc);
     for field in fields {
-        let _new = names.insert(field.as_str())?;
+        let _new = names.insert(field.name.as_str())?;
     }
     Ok(names)
 }
@@ -114,18 +116,18 @@ fn all_in(names: &HashSet<&str>, members: &Map<String, Json>) -> bool
 /// The numbers of the fields, by slot.
 fn entries_of(
     alloc: Global,
-    fields: &[String],
+    fields: &[FieldInfo],
     members: &Map<String, Json>,
 ) -> Result<Vec<Option<Value>>, JsonFault>
     requires { length fields.now ≤ 16382 }
     ensures means { IfOk result (λ v. MeansFields (members_view members.now.entries)
-        (map string_bytes fields.now) (entries_view v.items)) }
+        (map slot_name fields.now) (entries_view v.items)) }
     ensures breaks { IfErr result (λ f. (f ≡ JsonFault.Memory)
-        ⊎ FieldBreaks (map string_bytes fields.now) (members_view members.now.entries) f) }
+        ⊎ FieldBreaks (map slot_name fields.now) (members_view members.now.entries) f) }
 {
     let mut entries = Vec::with_capacity(alloc, fields.len())?;
     for (slot, field) in fields.iter().enumerate() {
-        let number = number_of(members, field.as_str(), slot as u16)?;
+        let number = number_of(members, field.name.as_str(), slot as u16)?;
         entries.push(Some(Value::Number(number)))?;
     }
     Ok(entries)

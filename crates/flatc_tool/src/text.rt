@@ -1,28 +1,31 @@
 //! Prints values as JSON.
 ghost use Rattle.std.specs.Prelude.{◌≡◌, ◌++◌, ◌||◌, IfOk, false, length, map, string_bytes};
-ghost use Rattle.fb_layout.specs.OneTable.{int_field, int_fields};
+ghost use Rattle.fb_value.specs.OneTable.{int_field, int_fields};
 ghost use Rattle.fb_value.specs.Fits.{FitsRoot};
+ghost use Rattle.fb_value.specs.Plain.{IsPlain, slot_name};
 ghost use Rattle.fb_value.specs.View.{view, entries_view};
 ghost use Rattle.flatc_tool.specs.Printed.{field_lines, member_lines, printed};
 ghost use Rattle.flatc_tool.specs.Lines.{has_lines, lines_behind};
 
 use crate::faults::TextFault;
-use fb_layout::IntTable;
-use fb_value::Value;
+use fb_layout::Layout;
+use fb_schema::FieldInfo;
+use fb_value::{Value, plain_slots};
 use itoa::Buffer;
 use std::alloc::{AllocError, Global};
 
 /// The JSON text of a value of the root table. The only error is a refused allocation.
 pub(crate) fn text_of(
     alloc: Global,
-    layout: &IntTable,
+    layout: &Layout,
     value: &Value,
     defaults: bool,
 ) -> Result<String, TextFault>
-    requires { FitsRoot layout.now (view value.now) }
+    requires plain { IsPlain layout.now }
+    requires fits { FitsRoot layout.now (view value.now) }
     ensures { IfOk result (λ s. string_bytes s ≡ printed layout.now defaults (view value.now)) }
 {
-    let fields = layout.fields();
+    let fields = plain_slots(layout);
     let Value::Fields(_, entries) = value else {
         unreachable!();
     };
@@ -35,20 +38,20 @@ pub(crate) fn text_of(
 /// Adds the lines of the members that are printed, and says whether there are some.
 fn push_members(
     text: &mut String,
-    fields: &[String],
+    fields: &[FieldInfo],
     entries: &[Option<Value>],
     defaults: bool,
 ) -> Result<bool, AllocError>
     requires { length entries.now ≡ length fields.now }
     ensures text { IfOk result (λ _. string_bytes text.new ≡ string_bytes text.old
-        ++ lines_behind false (member_lines defaults (int_fields 0 (map string_bytes fields.now)) (entries_view entries.now))) }
+        ++ lines_behind false (member_lines defaults (int_fields 0 (map slot_name fields.now)) (entries_view entries.now))) }
     ensures some { IfOk result (λ some. some
-        ≡ has_lines (member_lines defaults (int_fields 0 (map string_bytes fields.now)) (entries_view entries.now))) }
+        ≡ has_lines (member_lines defaults (int_fields 0 (map slot_name fields.now)) (entries_view entries.now))) }
 {
     let mut some = false;
     for (slot, field) in fields.iter().enumerate() {
         if let Some(value) = &entries[slot] {
-            some = push_member(text, some, field.as_str(), value, defaults)?;
+            some = push_member(text, some, field.name.as_str(), value, defaults)?;
         }
     }
     Ok(some)

@@ -1,13 +1,15 @@
 use super::{tree_of, value_of};
 use crate::faults::{JsonFault, Place, ToolFault};
-use fb_layout::IntTable;
+use crate::plain_schemas::layout_of;
 use fb_schema::TypeId;
 use fb_value::{Limits, Value};
 use std::test::Fail;
 
+const TWO_INTS: &[u8] = b"table T { a:int; b:int; } root_type T;";
+
 #[test]
 fn means(rt: HostRuntime) -> Result<(), Fail> {
-    let layout = IntTable::one_table(rt.alloc(), "T", ["a", "b"].as_slice())?;
+    let layout = layout_of(rt.alloc(), TWO_INTS)?;
     let limits = Limits::new(64, 100).ok_or("limits")?;
     for (text, a, b) in [
         ("{}", 0i128, 0i128),
@@ -37,7 +39,7 @@ fn place(slot: Option<u16>) -> Place {
 
 #[test]
 fn refuses(rt: HostRuntime) -> Result<(), Fail> {
-    let layout = IntTable::one_table(rt.alloc(), "T", ["a", "b"].as_slice())?;
+    let layout = layout_of(rt.alloc(), TWO_INTS)?;
     let limits = Limits::new(64, 100).ok_or("limits")?;
     for (text, want) in [
         ("{\"a\":2147483648}", JsonFault::OutOfRange(place(Some(0)))),

@@ -1,12 +1,14 @@
 use super::text_of;
 use crate::json::{tree_of, value_of};
-use fb_layout::IntTable;
+use crate::plain_schemas::layout_of;
 use fb_value::Limits;
 use std::test::Fail;
 
+const TWO_INTS: &[u8] = b"table T { a:int; b:int; } root_type T;";
+
 #[test]
 fn prints(rt: HostRuntime) -> Result<(), Fail> {
-    let layout = IntTable::one_table(rt.alloc(), "T", ["a", "b"].as_slice())?;
+    let layout = layout_of(rt.alloc(), TWO_INTS)?;
     let limits = Limits::new(64, 100).ok_or("limits")?;
     for (json, short, long) in [
         ("{}", "{}\n", "{\n  \"a\": 0,\n  \"b\": 0\n}\n"),

@@ -1,6 +1,5 @@
-use Rattle.std.proofs.Common.{◌≡◌, ◌≢◌, ◌+◌, Option, MatchResult, ◌∙◌}
-use Rattle.fb_value.specs.Places.{Place, slot_number}
-use Rattle.fb_read.specs.Ints.{HasNumber, HasFault}
+use Rattle.std.proofs.Common.{◌≢◌, ◌∙◌}
+use Rattle.fb_value.specs.Places.{slot_number}
 use Rattle.fb_read.proofs.IntSlots.{place_there}
 use Rattle.fb_read.proofs.reading.number_in.Goals as goal
 

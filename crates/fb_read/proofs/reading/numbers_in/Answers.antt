@@ -1,9 +1,9 @@
 use Rattle.std.specs.Int.{w128}
 use mir.Facts.{to_z-of_z}
 use Rattle.std.specs.Prelude.{FitsSigned}
-use Rattle.std.proofs.Common.{rules, ◌≡◌, ◌≢◌, ◌+◌, ◌<◌, ℕ, ℤ, sym, subst, arith}
+use Rattle.std.proofs.Common.{rules, ◌≡◌, ℕ, subst, arith}
 use Rattle.std.proofs.lemmas.Result.{err_from_is_err_and}
-use Rattle.fb_read.specs.Ints.{int_place, HasNumber, AreNumbers, FailsFirst}
+use Rattle.fb_read.specs.Ints.{int_place, HasNumber, AreNumbers}
 use Rattle.fb_read.proofs.IntSlots.{push_number, push_int, numbers_before}
 use Rattle.fb_read.proofs.reading.numbers_in.Goals as goal
 

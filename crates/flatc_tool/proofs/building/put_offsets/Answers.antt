@@ -1,6 +1,6 @@
-use Rattle.std.proofs.Common.{◌≡◌, ◌≤◌, ◌+◌, ◌*◌, ◌-◌, ◌<◌, ◌++◌, ℕ, length, drop, true, false, refl, sym, ap, ◌∙◌, arith}
+use Rattle.std.proofs.Common.{◌≡◌, ◌+◌, ◌*◌, ◌-◌, ◌<◌, ◌++◌, length, drop, true, false, refl, sym, ap, ◌∙◌, arith}
 use Rattle.byteorder.specs.Endian.{little_bytes}
-use Rattle.flatc_tool.specs.Placed.{entry_number, is_zero, numbers_in, stored_count, offset_of, offset_bytes}
+use Rattle.flatc_tool.specs.Placed.{entry_number, is_zero, numbers_in, stored_count, offset_of}
 use Rattle.flatc_tool.proofs.Numbered.{count_stored, count_zero, offset_step}
 use Rattle.flatc_tool.proofs.building.put_offsets.Goals as goal
 use Rattle.flatc_tool.proofs.building.put_offsets.Goals.{then-is_absent+in_ok-put_u16, else-is_absent+in_ok-put_u16-2}

@@ -1,4 +1,3 @@
-use Rattle.std.proofs.Common.{◌≡◌}
 use Rattle.std.proofs.lemmas.Result.{err_from_is_err_and}
 use Rattle.flatc_tool.proofs.JobSteps.{schema_excludes, bytes_exclude}
 use Rattle.flatc_tool.proofs.jobs.to_json.Goals as goal

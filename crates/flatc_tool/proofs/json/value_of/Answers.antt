@@ -1,10 +1,11 @@
-use Rattle.std.proofs.Common.{◌≡◌, ◌∙◌, ◌⊎◌, ap, sym, subst, inl, inr, refl, arith, map, string_bytes, true, false, true≢false, MatchBool, Bool}
+use Rattle.std.proofs.Common.{◌≡◌, ◌∙◌, ◌⊎◌, ap, sym, subst, inl, inr, refl, arith, map, true, false, true≢false, MatchBool, Bool}
 use Rattle.std.proofs.lemmas.Result.{err_from_is_err_and}
 use Rattle.serde_json.specs.Data.{object}
 use Rattle.serde_json.specs.View.{view as tree_view}
 use Rattle.serde_json.specs.View.{members_view}
 use Rattle.serde_json.proofs.Views.{view-Object}
 use Rattle.fb_value.proofs.Views.{view-Fields}
+use Rattle.fb_value.specs.Plain.{slot_name}
 use Rattle.flatc_tool.specs.declared.faults.JsonFault.{JsonFault}
 use Rattle.flatc_tool.specs.declared.faults.JsonFault.TheVariants.{UnknownMember, Memory}
 use Rattle.flatc_tool.specs.Meaning.{field_names, root_place, FieldBreaks, HasOther, AllNamed}
@@ -27,11 +28,11 @@ or_else (inr b) step = inr (step b)
 
 pub returns-then-branch-clause-breaks : goal.returns-then-branch-clause-breaks
 returns-then-branch-clause-breaks c =
-    let names = map string_bytes c.fields-fields.result.now in
+    let names = map slot_name c.plain_slots-fields.result.now in
     let ms = members_view c.in-Object.members.entries in
     let is : tree_view c.args.tree.now ≡ object ms = ap tree_view c.in-Object.is ∙ view-Object c.in-Object.members in
     let other = picked c.in_ok-has_other.field-0 (HasOther names ms) (AllNamed names ms) c.if-branch.true c.in_ok-has_other.ensures.other in
-    inr (breaks_as c.args.layout.now names c.args.limits c.args.unknown (tree_view c.args.tree.now) (object ms) (UnknownMember root_place) c.fields-fields.ensures.names is (refl, c.if-not-unknown.true, other))
+    inr (breaks_as c.args.layout.now names c.args.limits c.args.unknown (tree_view c.args.tree.now) (object ms) (UnknownMember root_place) c.plain_slots-fields.ensures.table is (refl, c.if-not-unknown.true, other))
 
 pub returns-then-branch-clause-none : goal.returns-then-branch-clause-none
 returns-then-branch-clause-none c =
@@ -39,13 +40,13 @@ returns-then-branch-clause-none c =
 
 pub returns-in_err-entries-clause-breaks : goal.returns-in_err-entries-clause-breaks
 returns-in_err-entries-clause-breaks c =
-    let names = map string_bytes c.fields-fields.result.now in
+    let names = map slot_name c.plain_slots-fields.result.now in
     let ms = members_view c.in-Object.members.entries in
     let is : tree_view c.args.tree.now ≡ object ms = ap tree_view c.in-Object.is ∙ view-Object c.in-Object.members in
     let p = err_from_is_err_and c.from_residual-in_err-entries.result c.from_residual-in_err-entries.ensures.1 in
     let same : p.0 ≡ c.in_err-entries.field-0.0 = p.2 in
     let broken = subst (λ (f : JsonFault). (f ≡ Memory) ⊎ FieldBreaks names ms f) (sym same) c.in_err-entries.ensures.breaks in
-    rw p.1 (or_else broken (λ h. breaks_as c.args.layout.now names c.args.limits c.args.unknown (tree_view c.args.tree.now) (object ms) p.0 c.fields-fields.ensures.names is
+    rw p.1 (or_else broken (λ h. breaks_as c.args.layout.now names c.args.limits c.args.unknown (tree_view c.args.tree.now) (object ms) p.0 c.plain_slots-fields.ensures.table is
     (object_breaks names c.args.limits c.args.unknown ms p.0 h)))
 
 pub returns-in_err-entries-clause-none : goal.returns-in_err-entries-clause-none
@@ -55,7 +56,7 @@ returns-in_err-entries-clause-none c =
 
 pub returns-clause-means : goal.returns-clause-means
 returns-clause-means c =
-    let names = map string_bytes c.fields-fields.result.now in
+    let names = map slot_name c.plain_slots-fields.result.now in
     let ms = members_view c.in-Object.members.entries in
     let is : tree_view c.args.tree.now ≡ object ms = ap tree_view c.in-Object.is ∙ view-Object c.in-Object.members in
     let named = λ (strict : c.args.unknown ≡ false).
@@ -63,9 +64,9 @@ returns-clause-means c =
       | else-not-unknown-via-then-not-unknown+in_ok-has_other+else-branch w ↦ refused w.in_ok-has_other.field-0 (HasOther names ms) (AllNamed names ms) w.if-branch.false w.in_ok-has_other.ensures.other
       | else-not-unknown-via-else-not-unknown w ↦ absurd (true≢false (sym w.if-not-unknown.false ∙ strict))
     ] in
-    means_as c.args.layout.now names c.args.limits c.args.unknown (tree_view c.args.tree.now) (object ms) _ _ c.fields-fields.ensures.names is
+    means_as c.args.layout.now names c.args.limits c.args.unknown (tree_view c.args.tree.now) (object ms) _ _ c.plain_slots-fields.ensures.table is
     (view-Fields (record { 0 = 0 }) c.in_ok-entries.entries)
     (refl, omega arith, named, c.in_ok-entries.ensures.means)
 
 pub returns-clause-fits : goal.returns-clause-fits
-returns-clause-fits c = means_fits_as c.args.layout.now (map string_bytes c.fields-fields.result.now) c.args.limits c.args.unknown (tree_view c.args.tree.now) _ c.fields-fields.ensures.names (returns-clause-means c)
+returns-clause-fits c = means_fits_as c.args.layout.now (map slot_name c.plain_slots-fields.result.now) c.args.limits c.args.unknown (tree_view c.args.tree.now) _ c.plain_slots-fields.ensures.table (returns-clause-means c)

@@ -1,4 +1,4 @@
-use Rattle.std.proofs.Common.{◌≡◌, subst}
+use Rattle.std.proofs.Common.{subst}
 use Rattle.fb_syntax.specs.DeclsRead.{DeclsRead}
 use Rattle.fb_declare.specs.Declares.{Declares, Stands}
 use Rattle.fb_declare.proofs.OneSchema.{one_declared}

@@ -1,5 +1,6 @@
 use Rattle.std.proofs.Common.{◌≡◌, ◌∙◌, ◌++◌, ◌||◌, ◌<◌, sym, ap, arith, length, string_bytes, get_or}
-use Rattle.fb_layout.specs.OneTable.{int_field}
+use Rattle.fb_value.specs.OneTable.{int_field}
+use Rattle.fb_value.specs.Plain.{slot_name}
 use Rattle.fb_value.specs.View.{view}
 use Rattle.flatc_tool.specs.Lines.{lines_behind, has_lines}
 use Rattle.flatc_tool.specs.Printed.{field_lines}
@@ -16,8 +17,8 @@ loop-slot-preserved c =
     elim c.match-entries-slot.branch [
       | in-Some+in_ok-some w ↦
           let entry = sym c.index-entries-slot.is ∙ w.in-Some.is in
-          let name : w.as_str.result.now ≡ string_bytes (get_or fields slot c.index-fields-slot.result) = w.as_str.ensures.value ∙ ap string_bytes c.index-fields-slot.is in
-          let line = field_lines c.args.defaults (int_field (string_bytes (get_or fields slot c.index-fields-slot.result)) 0) (view w.in-Some.value) in
+          let name : w.as_str.result.now ≡ slot_name (get_or fields slot c.index-fields-slot.result) = w.as_str.ensures.value ∙ ap slot_name c.index-fields-slot.is in
+          let line = field_lines c.args.defaults (int_field (slot_name (get_or fields slot c.index-fields-slot.result)) 0) (view w.in-Some.value) in
           let wrote = ap string_bytes w.text-is ∙ w.in_ok-some.ensures.text ∙ ap (λ n. string_bytes c.loop-slot.text ++ lines_behind c.loop-slot.some (field_lines c.args.defaults (int_field n 0) (view w.in-Some.value))) name in
           let told = w.some-is ∙ w.in_ok-some.ensures.some in
           writes_on _ _ (string_bytes c.loop-slot.text) (string_bytes c.match-entries-slot.text) c.loop-slot.some c.match-entries-slot.some (lines_from c.args.defaults fields entries slot) line _ c.loop-slot.invariant

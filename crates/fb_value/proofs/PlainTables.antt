@@ -1,23 +1,20 @@
 -- A layout that is plain is that of one table of `int` fields.
-use Rattle.std.proofs.Common.{◌≡◌, ◌≢◌, ◌<◌, ◌≤◌, ◌+◌, ◌*◌, ◌/◌, ℕ, zero, suc, false, List, [], ◌∷◌, length, map, sum_by, All, AllPairs, Option, None, Some, slice_get, slice_index_or, refl, sym, ap, ◌∙◌, subst, arith, if◌then◌else◌}
-use Rattle.std.specs.Option.{option_map_or}
-use Rattle.std.proofs.lemmas.List.{length-map}
+use Rattle.std.proofs.Common.{◌≡◌, ◌≢◌, ◌≤◌, ◌+◌, ◌*◌, ℕ, zero, suc, List, [], ◌∷◌, length, map, sum_by, All, AllPairs, Some, slice_get, slice_index_or, refl, sym, ap, ◌∙◌, subst, arith, if◌then◌else◌}
 use Rattle.std.proofs.lemmas.List.Sums.{sum_by-cons}
 use Rattle.std.proofs.lemmas.Option.{none-some, same_Some}
-use Rattle.fb_schema.specs.Schema.{Name, DeclaredField, DeclaredBody, table_body, struct_body, enum_body, union_body, DeclaredType, DeclaredSchema, body_in, body_at, slots_in, is_struct}
+use Rattle.fb_schema.specs.Schema.{Name, DeclaredField, DeclaredBody, table_body, struct_body, enum_body, union_body, DeclaredType, body_in, body_at, slots_in, is_struct}
 use Rattle.fb_schema.specs.WellDeclared.{names_of, IsBody, IsTableBody}
 use Rattle.fb_layout.specs.Laid.{LaidSchema, StructLayout, no_struct, struct_at}
-use Rattle.fb_layout.specs.OneTable.{int_field, int_fields, one_table}
-use Rattle.fb_layout.specs.Widths.{widest, inline_size}
+use Rattle.fb_value.specs.OneTable.{int_field, int_fields, one_table}
+use Rattle.fb_layout.specs.Widths.{inline_size}
 use Rattle.fb_layout.specs.Laid.{slot_of, slots_of}
 use Rattle.fb_layout.specs.WellMade.{IsWellMade}
-use Rattle.flatc_tool.specs.FirstTable.{first_name, first_names}
 use Rattle.fb_value.specs.Plain.{IsPlainField, IsPlainBody, ArePlain, IsPlain}
 
-pub record IsIntTable (L : LaidSchema) : Type 0 where
-  pub same : L ≡ one_table (first_name L.schema) (first_names L.schema)
-  pub differ : AllPairs (λ a b. a ≢ b) (first_names L.schema)
-  pub few : length (first_names L.schema) ≤ 16382
+pub record IsIntTable (L : LaidSchema) (names : List Name) : Type 0 where
+  pub table : (name : Name) × (L ≡ one_table name names)
+  pub differ : AllPairs (λ a b. a ≢ b) names
+  pub few : length names ≤ 16382
 
 -- what one plain table is made of
 record IsOne (types : List DeclaredType) : Type 0 where
@@ -67,8 +64,9 @@ four_each : (L : LaidSchema) (i : ℕ) (names : List Name) → sum_by (λ f. if 
 four_each L i [] = refl
 four_each L i (n ∷ names) = let rest = four_each L (suc i) names in rw sum_by-cons (omega arith)
 
-pub int_table_is : (L : LaidSchema) → IsWellMade L → IsPlain L → IsIntTable L
-int_table_is L made plain =
+-- The names are those of the root's slots.
+pub int_table_is : (L : LaidSchema) (names : List Name) → IsWellMade L → IsPlain L → names_of (slots_in (body_at L.schema L.schema.root)) ≡ names → IsIntTable L names
+int_table_is L names made plain are =
     let S = L.schema in
     let one = of_types S.types plain.0 in
     let found : slice_get S.types 0 ≡ Some one.type = ap (λ ts. slice_get ts 0) one.only in
@@ -80,8 +78,7 @@ int_table_is L made plain =
     let root : S.root ≡ 0 = omega (arith, inside, count) in
     let entry : struct_at L 0 ≡ no_struct = made.sized.others 0 (ap is_struct at) in
     let structs : L.structs ≡ no_struct ∷ [] = single L.structs (made.sized.one_each ∙ count) entry in
-    let name : one.type.name ≡ first_name S = sym (ap (λ o. option_map_or (λ (t : DeclaredType). t.name) o []) found) in
-    let names : names_of one.fs ≡ first_names S = sym (ap (λ b. names_of (slots_in b)) at) in
+    let named : names_of one.fs ≡ names = sym (ap (λ r. names_of (slots_in (body_at S r))) root ∙ ap (λ b. names_of (slots_in b)) at) ∙ are in
     let type : one.type ≡ record { name = one.type.name; body = table_body (int_fields 0 (names_of one.fs)) } = λ j. record { name = one.type.name; body = (one.body ∙ ap table_body fields) j } in
     let types : S.types ≡ record { name = one.type.name; body = table_body (int_fields 0 (names_of one.fs)) } ∷ [] = one.only ∙ ap (λ t. t ∷ []) type in
     let own : L ≡ one_table one.type.name (names_of one.fs) = λ j. record { schema = record { types = types j; root = root j; identifier = plain.1 j }; structs = structs j } in
@@ -90,7 +87,7 @@ int_table_is L made plain =
     let sum = ap (sum_by (λ f. if f.deprecated then 0 else inline_size L f.shape)) slots ∙ four_each L 0 (names_of one.fs) in
     let small : length (names_of one.fs) ≤ 16382 = omega (arith, wide, sum) in
     record {
-      same = own ∙ ap (λ n. one_table n (names_of one.fs)) name ∙ ap (one_table (first_name S)) names;
-      differ = subst (λ (ns : List Name). AllPairs (λ a b. a ≢ b) ns) names body.names;
-      few = subst (λ (ns : List Name). length ns ≤ 16382) names small;
+      table = (one.type.name, own ∙ ap (one_table one.type.name) named);
+      differ = subst (λ (ns : List Name). AllPairs (λ a b. a ≢ b) ns) named body.names;
+      few = subst (λ (ns : List Name). length ns ≤ 16382) named small;
     }
