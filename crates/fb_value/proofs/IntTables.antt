@@ -14,7 +14,7 @@ use Rattle.fb_value.specs.Fits.{EntriesFit, FitsType, FitsRoot}
 use Rattle.fb_value.specs.Ints.{IsInt}
 use Rattle.fb_value.specs.Room.{room_of, entries_room, table_room}
 use Rattle.fb_value.specs.declared.values.Value.{Value, Fields}
-use Rattle.fb_value.proofs.Views.{view-Fields, seen_table}
+use Rattle.fb_value.proofs.Views.{view-Fields}
 use Rattle.fb_schema.specs.declared.kinds.TypeId.{TypeId}
 use Rattle.fb_schema.specs.WellDeclared.{InRange}
 use Rattle.fb_schema.specs.declared.kinds.Base.TheVariants.{I32}

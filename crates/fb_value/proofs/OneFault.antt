@@ -1,5 +1,5 @@
 -- The least fault is one.
-use Rattle.std.proofs.Common.{◌≡◌, ℕ, zero, suc, ◌+◌, ◌<◌, ◌⊎◌, inl, inr, [], ◌∷◌, take, Bool, refl, sym, ap, subst, arith}
+use Rattle.std.proofs.Common.{◌≡◌, ℕ, zero, suc, ◌+◌, ◌<◌, ◌⊎◌, inl, inr, [], ◌∷◌, take, refl, sym, ap, subst, arith}
 use Rattle.fb_layout.specs.Laid.{LaidSchema}
 use Rattle.fb_value.specs.declared.faults.ReadFault.{ReadFault}
 use Rattle.fb_value.specs.Bounds.{Bounds}
@@ -7,7 +7,6 @@ use Rattle.fb_value.specs.Num.{Bytes}
 use Rattle.fb_value.specs.Places.{Place, named}
 use Rattle.fb_value.specs.Reached.{Path, ComesBefore}
 use Rattle.fb_value.specs.Faults.{own_cells, own_tables, sum_over, all, FaultFrom, LeastFrom}
-use Rattle.fb_value.specs.Holds.{IsLeastFault, root_place}
 use Rattle.fb_value.proofs.Least.{same_entry}
 
 -- two paths stand in an order

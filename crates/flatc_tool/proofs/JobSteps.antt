@@ -18,11 +18,10 @@ use Rattle.fb_value.specs.Room.{room_of}
 use Rattle.fb_value.specs.Holds.{Holds, Refuses}
 use Rattle.flatc_tool.specs.JsonText.{IsTree}
 use Rattle.flatc_tool.specs.Meaning.{field_names, Means, Breaks}
-use Rattle.flatc_tool.specs.Jobs.{Accepts, SchemaRefused, JsonMeans, most_room, IsBinary, MayBeBinary, BinaryRefused, MayBeText, TextRefused, IsNotMemory}
+use Rattle.flatc_tool.specs.Jobs.{Accepts, SchemaRefused, JsonMeans, most_room, IsBinary, MayBeBinary, BinaryRefused, MayBeText, IsNotMemory}
 use Rattle.flatc_tool.specs.declared.faults.JsonFault.{JsonFault}
 use Rattle.flatc_tool.specs.declared.faults.JsonFault.TheVariants as the_json
 use Rattle.flatc_tool.specs.declared.faults.BuildFault.TheVariants as the_build
-use Rattle.flatc_tool.specs.declared.faults.TextFault.TheVariants as the_text
 use Rattle.flatc_tool.specs.declared.faults.ToolFault.{ToolFault}
 use Rattle.flatc_tool.specs.declared.faults.ToolFault.TheVariants.{Schema, Json, Build, Read, Text, BadJson, Memory, NotYet}
 use Rattle.fb_value.specs.Plain.{IsPlain}

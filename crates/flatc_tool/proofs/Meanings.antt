@@ -11,7 +11,7 @@ use Rattle.fb_value.specs.OneTable.{int_fields, one_table_schema, one_table}
 use Rattle.fb_value.proofs.IntSlots.{names_are}
 use Rattle.fb_value.specs.Datum.{Datum, a_number, a_table, SlotEntries, no_entries, absent_entry, present_entry}
 use Rattle.fb_value.specs.Bounds.{Bounds}
-use Rattle.fb_value.specs.Counts.{cells, entries_cells, depth, entries_depth, nesting, entries_nesting, is_whole, entries_whole}
+use Rattle.fb_value.specs.Counts.{cells, entries_cells, depth, entries_depth, nesting, entries_nesting, entries_whole}
 use Rattle.fb_value.specs.Fits.{EntriesFit, FitsRoot}
 use Rattle.flatc_tool.specs.declared.faults.Place.{Place}
 use Rattle.flatc_tool.specs.declared.faults.JsonFault.{JsonFault}
