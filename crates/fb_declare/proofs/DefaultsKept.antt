@@ -16,7 +16,7 @@ use Rattle.fb_schema.specs.declared.kinds.Base.TheVariants.{Bool as Boolean, I8,
 use Rattle.fb_schema.specs.declared.kinds.TypeId.{TypeId}
 use Rattle.fb_schema.specs.declared.kinds.Kind.TheVariants.{Scalar, Enum}
 use Rattle.fb_meaning.specs.Outline.{TypeRead, full_name}
-use Rattle.fb_meaning.specs.BasicTypes.{holds}
+use Rattle.fb_schema.specs.Ranges.{holds}
 use Rattle.fb_meaning.specs.Attributes.{integer_of}
 use Rattle.fb_meaning.specs.EnumsRead.{underlying_at, value_at, number_named, value_named, behind}
 use Rattle.fb_meaning.specs.Defaults.{number_within, null_or_wrong, scalar_named, enum_number, enum_named, given_to, given_by}

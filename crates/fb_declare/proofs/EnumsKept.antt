@@ -25,7 +25,7 @@ use Rattle.fb_meaning.specs.declared.meanings.Meaning.TheVariants.{Known, Float,
 use Rattle.fb_meaning.specs.declared.attributes.Known.TheVariants.{BitFlags}
 use Rattle.fb_declare.specs.declared.attribute_faults.Place.TheVariants as places
 use Rattle.fb_meaning.specs.Outline.{TypeRead}
-use Rattle.fb_meaning.specs.BasicTypes.{is_between, holds}
+use Rattle.fb_schema.specs.Ranges.{is_between, holds}
 use Rattle.fb_meaning.specs.Meaning.{meaning_of}
 use Rattle.fb_declare.specs.AttributeFaults.{may_stand, metadata_faults}
 use Rattle.fb_meaning.specs.EnumsRead.{integer_type, underlying, has_flags, written_number, written_numbers, value_number, may_be_written, base_or_ubyte, values_from, values_read}

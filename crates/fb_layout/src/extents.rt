@@ -26,23 +26,11 @@ pub struct StructSizes {
 // A string, a vector, a table and a union's value are stored as references.
 const REFERENCE: Extent = Extent { size: 4, align: 4 };
 
-/// The size of a number, which is its alignment too.
-fn base_size(base: Base) -> u16
-    ensures { result ≡ base_size base }
-{
-    match base {
-        Base::Bool | Base::I8 | Base::U8 => 1,
-        Base::I16 | Base::U16 => 2,
-        Base::I32 | Base::U32 => 4,
-        Base::I64 | Base::U64 => 8,
-    }
-}
-
 /// What a number takes.
 fn number_extent(base: Base) -> Extent
     ensures { result ≡ record { size = base_size base; align = base_size base } }
 {
-    let size = base_size(base);
+    let size = base.size();
     Extent { size, align: size }
 }
 

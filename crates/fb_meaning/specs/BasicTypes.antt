@@ -1,6 +1,6 @@
--- The names of basic types, and the numbers that they hold.
+-- The names of basic types.
 -- From the FlatBuffers documentation, "Writing a schema": Types.
-use Rattle.std.specs.Prelude.{◌&&◌, ◌||◌, Bool, Option, None, Some, ℤ, pos, negsuc, codes, if◌then◌else◌, int_le}
+use Rattle.std.specs.Prelude.{◌||◌, Bool, Option, None, Some, codes, if◌then◌else◌}
 use Rattle.std.specs.Option.{is_some}
 use Rattle.std.specs.Str.{bytes_eq}
 use Rattle.fb_schema.specs.Schema.{Name}
@@ -32,18 +32,3 @@ is_float_type name = either (codes "float") (codes "float32") name || either (co
 -- no declared type may have such a name
 abbrev pub is_reserved : Name → Bool
 is_reserved name = is_some (basic_type name) || is_text_type name || is_float_type name
-
-abbrev pub is_between : ℤ → ℤ → ℤ → Bool
-is_between low high n = int_le low n && int_le n high
-
--- whether a basic type holds a number; a `bool` is 0 or 1
-unfoldable pub holds : Base → ℤ → Bool
-holds Boolean n = is_between (pos 0) (pos 1) n
-holds I8 n = is_between (negsuc 127) (pos 127) n
-holds U8 n = is_between (pos 0) (pos 255) n
-holds I16 n = is_between (negsuc 32767) (pos 32767) n
-holds U16 n = is_between (pos 0) (pos 65535) n
-holds I32 n = is_between (negsuc 2147483647) (pos 2147483647) n
-holds U32 n = is_between (pos 0) (pos 4294967295) n
-holds I64 n = is_between (negsuc 9223372036854775807) (pos 9223372036854775807) n
-holds U64 n = is_between (pos 0) (pos 18446744073709551615) n

@@ -9,7 +9,7 @@ use Rattle.fb_syntax.specs.declared.declarations.DefaultValue.{DefaultValue}
 use Rattle.fb_syntax.specs.declared.declarations.DefaultValue.TheVariants.{Integer, Name as Named}
 use Rattle.fb_schema.specs.Schema.{Name}
 use Rattle.fb_meaning.specs.Outline.{TypeRead}
-use Rattle.fb_meaning.specs.BasicTypes.{holds}
+use Rattle.fb_schema.specs.Ranges.{holds}
 use Rattle.fb_meaning.specs.Meaning.{meaning_in}
 use Rattle.fb_meaning.specs.Attributes.{integer_of}
 use Rattle.fb_meaning.specs.EnumsRead.{underlying_at, value_at}

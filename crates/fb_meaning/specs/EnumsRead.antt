@@ -13,7 +13,7 @@ use Rattle.fb_syntax.specs.declared.declarations.Declaration.TheVariants as decl
 use Rattle.fb_schema.specs.Schema.{Name}
 use Rattle.fb_schema.specs.Alignments.{base_size}
 use Rattle.fb_meaning.specs.Outline.{TypeRead, full_name}
-use Rattle.fb_meaning.specs.BasicTypes.{holds}
+use Rattle.fb_schema.specs.Ranges.{holds}
 use Rattle.fb_meaning.specs.Meaning.{meaning_of}
 use Rattle.fb_meaning.specs.Attributes.{integer_of, has_attribute}
 use Rattle.fb_schema.specs.declared.kinds.Base.{Base}

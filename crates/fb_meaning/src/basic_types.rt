@@ -1,6 +1,6 @@
 //! The names of basic types, and the numbers that they hold.
 ghost use Rattle.std.specs.Prelude.{◌≡◌};
-ghost use Rattle.fb_meaning.specs.BasicTypes.{basic_type, is_text_type, is_float_type, is_reserved, holds};
+ghost use Rattle.fb_meaning.specs.BasicTypes.{basic_type, is_text_type, is_float_type, is_reserved};
 
 use fb_schema::Base;
 
@@ -43,23 +43,4 @@ pub fn is_reserved(name: &str) -> bool
     ensures { result ≡ is_reserved name.now }
 {
     basic_type(name).is_some() || is_text_type(name) || is_float_type(name)
-}
-
-/// Whether a basic type holds a number.
-#[tactic(auto, unfolding(crate::specs::BasicTypes::holds))]
-pub(crate) fn holds(base: Base, number: i128) -> bool
-    ensures { result ≡ holds base number }
-{
-    let (least, greatest) = match base {
-        Base::Bool => (0, 1),
-        Base::I8 => (-128, 127),
-        Base::U8 => (0, 255),
-        Base::I16 => (-32_768, 32_767),
-        Base::U16 => (0, 65_535),
-        Base::I32 => (-2_147_483_648, 2_147_483_647),
-        Base::U32 => (0, 4_294_967_295),
-        Base::I64 => (-9_223_372_036_854_775_808, 9_223_372_036_854_775_807),
-        Base::U64 => (0, 18_446_744_073_709_551_615),
-    };
-    least <= number && number <= greatest
 }

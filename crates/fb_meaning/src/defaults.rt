@@ -4,7 +4,6 @@ ghost use Rattle.std.specs.Option.{option_copied};
 ghost use Rattle.fb_meaning.specs.Defaults.{number_within, null_or_wrong, boolean_named, scalar_named, enum_number, enum_named, given_to, given_by};
 
 use crate::attributes::integer_of;
-use crate::basic_types::holds;
 use crate::enums::underlying_at;
 use crate::meanings::Meaning;
 use crate::types_read::TypesRead;
@@ -24,7 +23,7 @@ pub enum Given {
 fn number_within(base: Base, number: i128) -> Given
     ensures { result ≡ number_within base number }
 {
-    if holds(base, number) {
+    if base.holds(number) {
         Given::Number(number)
     } else {
         Given::Wrong

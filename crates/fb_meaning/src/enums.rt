@@ -4,7 +4,6 @@ ghost use Rattle.std.specs.Option.{option_copied};
 ghost use Rattle.fb_meaning.specs.EnumsRead.{integer_type, underlying, underlying_at, has_flags, bits_of, is_bit_of, value_number, may_be_written, written_number, values_from, values_read};
 
 use crate::attributes::{Known, has_attribute, integer_of};
-use crate::basic_types::holds;
 use crate::meanings::Meaning;
 use crate::types_read::TypesRead;
 use fb_schema::{Base, Kind};
@@ -99,7 +98,7 @@ pub fn may_be_written(base: Base, flags: bool, number: i128) -> bool
     if flags {
         is_bit_of(base, number)
     } else {
-        holds(base, number)
+        base.holds(number)
     }
 }
 

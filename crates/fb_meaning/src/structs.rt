@@ -16,17 +16,6 @@ use fb_schema::{Base, FieldInfo, Kind, Shape, TypeId};
 use fb_syntax::{AttributeUse, Declaration, Field, FieldType, TableDeclaration};
 use std::alloc::{AllocError, Global};
 
-fn base_size(base: Base) -> u16
-    ensures { result ≡ base_size base }
-{
-    match base {
-        Base::Bool | Base::I8 | Base::U8 => 1,
-        Base::I16 | Base::U16 => 2,
-        Base::I32 | Base::U32 => 4,
-        Base::I64 | Base::U64 => 8,
-    }
-}
-
 /// The kind of a use; a type at fault stands as a text.
 fn kind_or_text(meaning: Meaning) -> Kind
     ensures { result ≡ kind_or_text meaning }
@@ -58,9 +47,9 @@ fn align_by(
     ensures { IfOk result (λ a. a ≡ align_by types.entry.types.now lower.now kind.now meaning) }
 {
     Ok(match (kind, meaning) {
-        (FieldType::One(_), Meaning::Known(Kind::Scalar(base))) => base_size(base),
+        (FieldType::One(_), Meaning::Known(Kind::Scalar(base))) => base.size(),
         (FieldType::One(_), Meaning::Known(Kind::Enum(TypeId(number)))) => {
-            underlying_at(types, alloc, number as usize)?.map_or(0, base_size)
+            underlying_at(types, alloc, number as usize)?.map_or(0, Base::size)
         }
         (FieldType::One(_), Meaning::Known(Kind::Struct(TypeId(number)))) => {
             lower.get(number as usize).copied().unwrap_or(0)

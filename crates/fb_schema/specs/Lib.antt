@@ -1,6 +1,7 @@
 pub mod Schema
 pub mod Seen
 pub mod Alignments
+pub mod Ranges
 pub mod WellDeclared
 pub mod Found
 pub mod Indexed

@@ -2,37 +2,13 @@
 ghost use Rattle.std.specs.Prelude.{◌↔◌, ◌≡◌, IsTrue, Some, option_map};
 ghost use Rattle.fb_schema.specs.Seen.{field_seen};
 ghost use Rattle.fb_schema.specs.Schema.{DeclaredSchema};
-ghost use Rattle.fb_schema.specs.WellDeclared.{InRange, IsBetween};
 ghost use Rattle.fb_layout.specs.Laid.{LaidSchema, stored_kind, stored_shape, slot_of, kind_in};
 ghost use Rattle.fb_value.specs.Datum.{a_number, a_text, an_unknown};
 ghost use Rattle.fb_value.specs.Fits.{MayBeAbsent, Fits};
 ghost use Rattle.fb_value.specs.Wanted.{elements_wanted, struct_wanted, table_wanted, union_wanted, is_text, is_scalar, member_wanted};
 
 use fb_layout::Layout;
-use fb_schema::{Base, FieldInfo, Kind, Shape, TypeId};
-
-fn is_between(low: i128, high: i128, number: i128) -> bool
-    ensures { IsTrue result ↔ IsBetween low high number }
-{
-    low <= number && number <= high
-}
-
-/// Whether a basic type has the number.
-fn is_in_range(base: Base, number: i128) -> bool
-    ensures { IsTrue result ↔ InRange base number }
-{
-    match base {
-        Base::Bool => is_between(0, 1, number),
-        Base::I8 => is_between(i128::from(i8::MIN), i128::from(i8::MAX), number),
-        Base::U8 => is_between(0, i128::from(u8::MAX), number),
-        Base::I16 => is_between(i128::from(i16::MIN), i128::from(i16::MAX), number),
-        Base::U16 => is_between(0, i128::from(u16::MAX), number),
-        Base::I32 => is_between(i128::from(i32::MIN), i128::from(i32::MAX), number),
-        Base::U32 => is_between(0, i128::from(u32::MAX), number),
-        Base::I64 => is_between(i128::from(i64::MIN), i128::from(i64::MAX), number),
-        Base::U64 => is_between(0, i128::from(u64::MAX), number),
-    }
-}
+use fb_schema::{FieldInfo, Kind, Shape, TypeId};
 
 /// Whether a shape takes the number.
 pub(crate) fn takes_number(layout: &Layout, shape: Shape, number: i128) -> bool
@@ -42,8 +18,8 @@ pub(crate) fn takes_number(layout: &Layout, shape: Shape, number: i128) -> bool
         return false;
     };
     match kind {
-        Kind::Scalar(base) => is_in_range(base, number),
-        Kind::Enum(enumeration) => is_in_range(layout.base_of(enumeration), number),
+        Kind::Scalar(base) => base.holds(number),
+        Kind::Enum(enumeration) => layout.base_of(enumeration).holds(number),
         Kind::Struct(_) | Kind::Table(_) | Kind::Union(_) | Kind::Code(_) | Kind::Text => false,
     }
 }
