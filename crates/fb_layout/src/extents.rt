@@ -103,7 +103,7 @@ pub(crate) fn slot_extent(
 }
 
 /// The kind of a shape's one value or of its elements.
-pub(crate) fn kind_in(shape: Shape) -> Kind
+pub fn kind_in(shape: Shape) -> Kind
     ensures { (schema : DeclaredSchema) → stored_kind schema result ≡ kind_in (stored_shape schema shape) }
 {
     match shape {

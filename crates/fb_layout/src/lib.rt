@@ -10,6 +10,7 @@ mod layouts;
 mod structs;
 mod tables;
 
+pub use extents::kind_in;
 pub use faults::LayoutFault;
 pub use laws::one_layout;
 pub use layouts::{Layout, lay};

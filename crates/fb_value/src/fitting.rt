@@ -10,10 +10,10 @@ ghost use Rattle.fb_value.specs.Entries.{EntryFits};
 
 use crate::values::Value;
 use crate::wanted::{
-    elements_wanted, is_table, kind_in, may_be_absent, member_wanted, struct_wanted, takes_number,
+    elements_wanted, is_table, may_be_absent, member_wanted, struct_wanted, takes_number,
     takes_text, takes_unknown,
 };
-use fb_layout::Layout;
+use fb_layout::{Layout, kind_in};
 use fb_schema::{Body, FieldInfo, Kind, Schema, Shape, TypeId};
 
 /// Whether the type of this number may have the value.

@@ -2,7 +2,7 @@
 ghost use Rattle.std.specs.Prelude.{◌↔◌, ◌≡◌, IsTrue, Some, option_map};
 ghost use Rattle.fb_schema.specs.Seen.{field_seen};
 ghost use Rattle.fb_schema.specs.Schema.{DeclaredSchema};
-ghost use Rattle.fb_layout.specs.Laid.{LaidSchema, stored_kind, stored_shape, slot_of, kind_in};
+ghost use Rattle.fb_layout.specs.Laid.{LaidSchema, stored_kind, stored_shape, slot_of};
 ghost use Rattle.fb_value.specs.Datum.{a_number, a_text, an_unknown};
 ghost use Rattle.fb_value.specs.Fits.{MayBeAbsent, Fits};
 ghost use Rattle.fb_value.specs.Wanted.{elements_wanted, struct_wanted, table_wanted, union_wanted, is_text, is_scalar, member_wanted};
@@ -139,15 +139,6 @@ pub(crate) fn takes_unknown(layout: &Layout, shape: Shape, code: u8) -> bool
         return false;
     };
     code != 0 && layout.schema().member_by_code(union, code).is_none()
-}
-
-/// The kind of a shape's one value or of its elements.
-pub(crate) fn kind_in(shape: Shape) -> Kind
-    ensures { (schema : DeclaredSchema) → stored_kind schema result ≡ kind_in (stored_shape schema shape) }
-{
-    match shape {
-        Shape::One(kind) | Shape::Many(kind) => kind,
-    }
 }
 
 /// Whether a shape is a number.
