@@ -143,7 +143,7 @@ slots-small S structs sizes h a (f ∷ fs) =
 
 -- ---- whole tables
 
-ceil-is : (n : ℕ) → next_multiple_of n 4 ≡ ceil4 n
+pub ceil-is : (n : ℕ) → next_multiple_of n 4 ≡ ceil4 n
 ceil-is n = omega arith
 
 -- the greatest inline size and the alignment of a table of these slots

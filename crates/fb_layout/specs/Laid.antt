@@ -1,12 +1,13 @@
 -- A layout as contracts see it: a schema, and beside it what each struct takes.
 -- From the FlatBuffers documentation, "FlatBuffer Internals": Structs, Tables, Vectors, Unions.
-use Rattle.std.specs.Prelude.{ℕ, zero, suc, List, [], Bool, false, not, ◌&&◌, ◌||◌, ℤ, Option, None, Some, map, option_map, slice_get, slice_index_or}
+use Rattle.std.specs.Prelude.{ℕ, List, [], Bool, false, not, ◌&&◌, ◌||◌, ℤ, Option, None, Some, map, slice_index_or}
 use Rattle.fb_schema.specs.declared.kinds.Base.{Base}
 use Rattle.fb_schema.specs.declared.kinds.Kind.{Kind}
 use Rattle.fb_schema.specs.declared.kinds.Kind.TheVariants.{Scalar, Enum, Struct, Table, Union, Code, Text}
 use Rattle.fb_schema.specs.declared.kinds.Shape.{Shape}
 use Rattle.fb_schema.specs.declared.kinds.Shape.TheVariants.{One, Many}
-use Rattle.fb_schema.specs.Schema.{Name, DeclaredField, DeclaredSchema, body_at, slots_in, parts_in, base_in, members_in}
+use Rattle.fb_schema.specs.Schema.{DeclaredField, DeclaredSchema, body_at, slots_in, parts_in, base_in}
+use Rattle.fb_schema.specs.Found.{member_coded}
 use Rattle.fb_schema.specs.Alignments.{base_size}
 
 -- what a struct takes: its size and alignment in bytes, and where its fields stand
@@ -103,10 +104,6 @@ align_of L (union_kind u) = 4
 align_of L (code_kind u) = 1
 align_of L text_kind = 4
 
-abbrev pub member_in : List (Name × ℕ) → ℕ → Option ℕ
-member_in members zero = None
-member_in members (suc c) = option_map (λ m. m.1) (slice_get members c)
-
 -- the table that a union's code names, if it names one: 0 is `NONE`
 abbrev pub member_by_code : LaidSchema → ℕ → ℕ → Option ℕ
-member_by_code L u c = member_in (members_in (body_at L.schema u)) c
+member_by_code L u c = member_coded (body_at L.schema u) c

@@ -43,8 +43,8 @@ impl Model for Layout {
 /// The layout of a schema.
 ///
 /// A refusal hands the schema back. It names the type of the lowest number that fails a rule: a
-/// struct over 65,535 bytes, or a table that is over 65,535 bytes wide with all its fields stored or
-/// has over 32,765 slots. `Memory` is a refused allocation.
+/// struct over 65,535 bytes, or a table that is over 65,535 bytes wide with all its fields stored that
+/// aren't deprecated, or has over 32,765 slots. `Memory` is a refused allocation.
 pub fn lay(alloc: Global, schema: Schema) -> Result<Layout, (LayoutFault, Schema)>
     ensures schema { IfOk result (λ layout. layout.schema ≡ schema) }
     ensures made { IfOk result IsWellMade }

@@ -12,5 +12,5 @@ mod tables;
 
 pub use extents::kind_in;
 pub use faults::LayoutFault;
-pub use laws::one_layout;
+pub use laws::{least_multiple_of_four, one_layout};
 pub use layouts::{Layout, lay};

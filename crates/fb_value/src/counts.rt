@@ -56,7 +56,7 @@ fn cells_in_entries(entries: &Vec<Option<Value>>) -> Option<u32>
     Some(total)
 }
 
-/// The number of tables on the longest way, the value itself counted; None where that is over the
+/// The number of tables on the longest way, the outermost counted; None where that is over the
 /// type's range.
 pub fn depth(value: &Value) -> Option<u8>
     requires { nesting (view value.now) ≤ 300 }

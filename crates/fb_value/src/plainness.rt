@@ -3,7 +3,7 @@ ghost use Rattle.std.specs.Prelude.{◌↔◌, ◌≡◌, ◌≢◌, ◌≤◌, 
 ghost use Rattle.fb_schema.specs.declared.kinds.Base.TheVariants.{I32};
 ghost use Rattle.fb_schema.specs.declared.kinds.Kind.TheVariants.{Scalar};
 ghost use Rattle.fb_schema.specs.declared.kinds.Shape.TheVariants.{One};
-ghost use Rattle.fb_schema.specs.Schema.{Name};
+ghost use Rattle.fb_schema.specs.Schema.{Name, body_at, slots_in};
 ghost use Rattle.fb_schema.specs.Seen.{field_seen, body_seen, type_seen};
 ghost use Rattle.fb_layout.specs.WellMade.{IsWellMade};
 ghost use Rattle.fb_value.specs.OneTable.{one_table};
@@ -25,6 +25,7 @@ pub fn plain(layout: &Layout) -> bool
 pub fn plain_slots(layout: &Layout) -> &[FieldInfo]
     requires { IsPlain layout.now }
     ensures made { IsWellMade layout.now }
+    ensures slots { map field_seen result.now ≡ slots_in (body_at layout.now.schema layout.now.schema.root) }
     ensures table { (name : Name) × (layout.now ≡ one_table name (map slot_name result.now)) }
     ensures differ { AllPairs (λ a b. a ≢ b) (map slot_name result.now) }
     ensures few { length result.now ≤ 16382 }

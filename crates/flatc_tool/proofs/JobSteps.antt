@@ -36,7 +36,7 @@ same_layout schema L K a b = same_accepted schema L K a.0 b.0
 pub schema_excludes : (schema : List ℕ) (f : ToolFault) → SchemaRefused schema f → IsNotMemory f → (L : LaidSchema) → Accepts schema L → ⊥
 schema_excludes schema (Schema f) h rule L accepted = refused_excludes schema f h rule L accepted.0
 schema_excludes schema NotYet h rule L accepted = h.2 (subst IsPlain (same_accepted schema L h.0 accepted.0 h.1) accepted.1)
-schema_excludes schema Memory h rule L accepted = rule
+schema_excludes schema Memory h rule L accepted = h
 schema_excludes schema BadJson h rule L accepted = h
 schema_excludes schema (Json f) h rule L accepted = h
 schema_excludes schema (Build f) h rule L accepted = h

@@ -1,6 +1,6 @@
 -- A schema text has one layout at most, and none where a layer refuses it.
-use Rattle.std.proofs.Common.{◌≡◌, List, ℕ, subst, arith}
-use Rattle.std.specs.List.{Contains}
+use Rattle.std.proofs.Common.{◌≡◌, ◌∙◌, List, ℕ, Some, sym, ap, subst}
+use Rattle.std.proofs.lemmas.Option.{none-some}
 use Rattle.fb_syntax.specs.DeclsRead.{DeclsRead}
 use Rattle.fb_syntax.specs.Parsed.{Parses}
 use Rattle.fb_syntax.specs.GrammarSchema.{Reads}
@@ -9,7 +9,9 @@ use Rattle.fb_syntax.proofs.ReadsAs.{one_reading_shown}
 use Rattle.fb_syntax.proofs.TextSpellings.{one_spelling_shown}
 use Rattle.fb_schema.specs.Schema.{DeclaredSchema}
 use Rattle.fb_declare.specs.declared.faults.SchemaFault.{SchemaFault}
-use Rattle.fb_declare.specs.Declares.{Declares, Stands}
+use Rattle.fb_declare.specs.Declares.{Declares}
+use Rattle.fb_declare.specs.TypeFaults.{faults_of}
+use Rattle.fb_declare.specs.Faults.{least_of}
 use Rattle.fb_declare.proofs.OneSchema.{one_declared}
 use Rattle.fb_layout.specs.Laid.{LaidSchema}
 use Rattle.fb_layout.specs.WellMade.{IsSized}
@@ -37,16 +39,17 @@ same_accepted text L K a b =
     let structs = one_sizing K.schema L.structs K.structs b.made.declared sized b.made.sized in
     λ i. record { schema = schema i; structs = structs i }
 
--- no rule fails where declarations declare a schema
-pub none_stands : (d : DeclsRead) (S : DeclaredSchema) (f : SchemaFault) → Declares d S → Stands d f → ⊥
-none_stands d S f declares stands = let in_none = subst (λ fs. Contains fs f) declares.sound stands in omega (arith, in_none.1)
+-- there is no least fault where declarations declare a schema
+pub none_least : (d : DeclsRead) (S : DeclaredSchema) (f : SchemaFault) → Declares d S → least_of (faults_of d) ≡ Some f → ⊥
+unfolding least_of
+none_least d S f declares least = none-some f (sym (ap least_of declares.sound) ∙ least)
 
 -- A text that a layer refuses isn't accepted.
 pub refused_excludes : (text : List ℕ) (f : SchemaTextFault) → IsRefused text f → ¬ (IsWant f) → (L : LaidSchema) → IsAccepted text L → ⊥
 refused_excludes text (Syntax f) refused rule L accepted = refused rule accepted.decls accepted.parsed
 refused_excludes text (Schema f) refused rule L accepted =
     let same = one_parse text refused.0 accepted.decls refused.1 accepted.parsed in
-    none_stands accepted.decls L.schema f accepted.declared (subst (λ (d : DeclsRead). Stands d f) same (refused.2 rule))
+    none_least accepted.decls L.schema f accepted.declared (subst (λ (d : DeclsRead). least_of (faults_of d) ≡ Some f) same (refused.2 rule))
 refused_excludes text (Layout f) refused rule L accepted =
     let same = one_parse text refused.0 accepted.decls refused.2 accepted.parsed in
     let schema = one_declared accepted.decls L.schema refused.1 accepted.declared (subst (λ (d : DeclsRead). Declares d refused.1) same refused.3) in

@@ -1,6 +1,6 @@
 -- What the tool's jobs answer, layer by layer.
 -- From the FlatBuffers documentation, "Using the schema compiler": `--binary` and `--json`.
-use Rattle.std.specs.Prelude.{ℕ, ◌≡◌, ◌<◌, ◌≤◌, List, Bool, ⊤}
+use Rattle.std.specs.Prelude.{ℕ, ◌≡◌, ◌<◌, ◌≤◌, List, Bool}
 use Rattle.serde_json.specs.Data.{Data}
 use Rattle.fb_layout.specs.Laid.{LaidSchema}
 use Rattle.fb_value.specs.declared.faults.ReadFault.{ReadFault}
@@ -31,7 +31,6 @@ Accepts schema L = IsAccepted schema L × IsPlain L
 abbrev pub SchemaRefused : List ℕ → ToolFault → Type 0
 SchemaRefused schema (Schema f) = IsRefused schema f
 SchemaRefused schema NotYet = (L : LaidSchema) × IsAccepted schema L × (¬ (IsPlain L))
-SchemaRefused schema Memory = ⊤
 SchemaRefused schema _ = ⊥
 
 -- the JSON text means the value under the layout
@@ -66,7 +65,7 @@ JsonRefused schema json most unknown the_json.Memory = (L : LaidSchema) × Accep
 JsonRefused schema json most unknown f = (L : LaidSchema) × Accepts schema L × (t : Data) × IsTree json t × Breaks (field_names L) most unknown t f
 
 -- The refusal of the first layer that refuses, in the order schema, JSON text, value, size.
--- Where a layer wants memory, the layers before it have passed; `Memory` alone is of the schema or the JSON text.
+-- Where a layer wants memory, the layers before it have passed; `Memory` alone is of the reading of the JSON text.
 abbrev pub BinaryRefused : List ℕ → List ℕ → Bounds → Bool → ToolFault → Type 0
 BinaryRefused schema json most unknown (Schema f) = SchemaRefused schema (Schema f)
 BinaryRefused schema json most unknown NotYet = SchemaRefused schema NotYet
@@ -74,7 +73,7 @@ BinaryRefused schema json most unknown BadJson = (L : LaidSchema) × Accepts sch
 BinaryRefused schema json most unknown (Json f) = JsonRefused schema json most unknown f
 BinaryRefused schema json most unknown (Build the_build.TooBig) = (L : LaidSchema) × Accepts schema L × (v : Datum) × JsonMeans L most unknown json v × (most_room < room_of L v)
 BinaryRefused schema json most unknown (Build the_build.Memory) = MayBeBinary schema json most unknown
-BinaryRefused schema json most unknown Memory = ⊤
+BinaryRefused schema json most unknown Memory = (L : LaidSchema) × Accepts schema L
 BinaryRefused schema json most unknown _ = ⊥
 
 -- the text of the value that the bytes hold
@@ -97,13 +96,12 @@ ReadRefused schema b most raw the_read.Memory = (L : LaidSchema) × Accepts sche
 ReadRefused schema b most raw f = (L : LaidSchema) × Accepts schema L × Refuses L most raw b f
 
 -- The refusal of the schema, or the least fault of the bytes.
--- Where a layer wants memory, the layers before it have passed; `Memory` alone is of the schema.
+-- Where a layer wants memory, the layers before it have passed.
 abbrev pub TextRefused : List ℕ → Bytes → Bounds → Bool → ToolFault → Type 0
 TextRefused schema b most raw (Schema f) = SchemaRefused schema (Schema f)
 TextRefused schema b most raw NotYet = SchemaRefused schema NotYet
 TextRefused schema b most raw (Read f) = ReadRefused schema b most raw f
 TextRefused schema b most raw (Text the_text.Memory) = MayBeText schema b most raw
-TextRefused schema b most raw Memory = ⊤
 TextRefused schema b most raw _ = ⊥
 
 -- a refusal that is no want of memory

@@ -1,10 +1,12 @@
 -- What a schema text gives as a whole, and which layer refuses it.
-use Rattle.std.specs.Prelude.{◌≡◌, ◌≢◌, List, ℕ}
+use Rattle.std.specs.Prelude.{◌≡◌, ◌≢◌, List, ℕ, Some}
 use Rattle.fb_syntax.specs.DeclsRead.{DeclsRead}
 use Rattle.fb_syntax.specs.Parsed.{Parses}
 use Rattle.fb_syntax.specs.declared.faults.SyntaxFault.TheVariants as syntax_faults
 use Rattle.fb_schema.specs.Schema.{DeclaredSchema}
-use Rattle.fb_declare.specs.Declares.{Declares, Stands}
+use Rattle.fb_declare.specs.Declares.{Declares}
+use Rattle.fb_declare.specs.TypeFaults.{faults_of}
+use Rattle.fb_declare.specs.Faults.{least_of}
 use Rattle.fb_declare.specs.declared.faults.SchemaFault.TheVariants as schema_faults
 use Rattle.fb_layout.specs.Laid.{LaidSchema}
 use Rattle.fb_layout.specs.WellMade.{IsWellMade}
@@ -20,10 +22,10 @@ pub record IsAccepted (text : List ℕ) (L : LaidSchema) : Type 0 where
   pub declared : Declares decls L.schema
   pub made : IsWellMade L
 
--- The first layer that refuses: the layers before it have passed.
+-- The first layer that refuses: the layers before it have passed. Of the faults of declarations the least is told.
 abbrev pub IsRefused : List ℕ → SchemaTextFault → Type 0
 IsRefused text (Syntax f) = f ≢ syntax_faults.Memory → (d : DeclsRead) → ¬ (Parses text d)
-IsRefused text (Schema f) = (d : DeclsRead) × Parses text d × (f ≢ schema_faults.Memory → Stands d f)
+IsRefused text (Schema f) = (d : DeclsRead) × Parses text d × (f ≢ schema_faults.Memory → least_of (faults_of d) ≡ Some f)
 IsRefused text (Layout f) = (d : DeclsRead) × (S : DeclaredSchema) × Parses text d × Declares d S × (f ≢ layout_faults.Memory → Refuses S f)
 
 -- a want of memory in one of the layers

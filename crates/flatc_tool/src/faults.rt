@@ -49,7 +49,8 @@ pub enum TextFault {
 /// The refusal of the first layer that refuses.
 ///
 /// `BadJson` are bytes that are no JSON text, `NotYet` is a schema other than one table of `int`
-/// fields without marks, defaults and identifier, and `Memory` a refused allocation.
+/// fields with default 0, without marks and identifier, and `Memory` an allocation that was refused
+/// while the JSON text was read.
 #[derive(Clone, Copy, Debug, PartialEq, Eq, Drop, Error)]
 pub enum ToolFault {
     #[error(transparent)]
@@ -100,28 +101,6 @@ impl From<AllocError> for TextFault {
 
     fn from(_refused: AllocError) -> TextFault {
         TextFault::Memory
-    }
-}
-
-impl From<AllocError> for ToolFault {
-    ghost use Rattle.std.specs.Prelude.{◌≡◌};
-    ghost use Rattle.flatc_tool.specs.declared.faults.ToolFault.TheVariants.{Memory};
-
-    ghost from_gives = { λ _ e. e ≡ Memory };
-
-    fn from(_refused: AllocError) -> ToolFault {
-        ToolFault::Memory
-    }
-}
-
-impl<T: Drop> From<AllocFailed<T>> for ToolFault {
-    ghost use Rattle.std.specs.Prelude.{◌≡◌};
-    ghost use Rattle.flatc_tool.specs.declared.faults.ToolFault.TheVariants.{Memory};
-
-    ghost from_gives = { λ _ e. e ≡ Memory };
-
-    fn from(_refused: AllocFailed<T>) -> ToolFault {
-        ToolFault::Memory
     }
 }
 

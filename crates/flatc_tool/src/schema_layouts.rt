@@ -1,6 +1,9 @@
 //! Schema texts of the whole language.
-ghost use Rattle.std.specs.Prelude.{IfOk, IfErr};
+ghost use Rattle.std.specs.Prelude.{◌≡◌, ◌↔◌, ℕ, IfOk, IfErr, Err, IsUtf8};
+ghost use Rattle.std.specs.Str.Lossy.{utf8_valid_len};
+ghost use Rattle.fb_syntax.specs.declared.faults.SyntaxFault.TheVariants.{NotUtf8};
 ghost use Rattle.fb_layout.specs.Laid.{LaidSchema};
+ghost use Rattle.flatc_tool.specs.declared.schema_layouts.SchemaTextFault.TheVariants.{Syntax};
 ghost use Rattle.flatc_tool.specs.SchemaTexts.{IsAccepted, IsRefused, IsWant};
 
 use fb_declare::{SchemaFault, declare};
@@ -23,11 +26,13 @@ pub enum SchemaTextFault {
 
 /// The layout of the schema that a text declares.
 ///
-/// The refusal is that of the first layer that refuses; where it is no want of memory, the text has
-/// no layout.
+/// The refusal is that of the first layer that refuses, and of the faults of declarations the least;
+/// where it is no want of memory, the text has no layout.
 pub fn schema_of(alloc: Global, text: &[u8]) -> Result<Layout, SchemaTextFault>
     ensures accepted { IfOk result (IsAccepted text.now) }
     ensures refused { IfErr result (IsRefused text.now) }
+    ensures not_utf8 { (at : ℕ) → ((result ≡ Err (Syntax (NotUtf8 at)))
+        ↔ (¬ (IsUtf8 text.now) × (at ≡ utf8_valid_len text.now))) }
     ensures exact { IfErr result (λ f. ¬ (IsWant f) → (L : LaidSchema) → ¬ (IsAccepted text.now L)) }
 {
     let decls = match parse(alloc, text) {

@@ -2,6 +2,7 @@ use super::*;
 use crate::faults::{JsonFault, Place};
 use crate::schema_layouts::SchemaTextFault;
 use fb_declare::SchemaFault;
+use fb_layout::LayoutFault;
 use fb_read::ReadFault;
 use fb_schema::TypeId;
 use fb_syntax::SyntaxFault;
@@ -10,6 +11,16 @@ use std::test::Fail;
 const ONE_FIELD: &[u8] = b"table T { a:int; } root_type T;";
 
 const TWO_FIELDS: &[u8] = b"table T { a:int; b:int; } root_type T;";
+
+// Each struct has two of the one before it, and the last has 65,536 bytes.
+const DOUBLING_STRUCTS: &[u8] = b"struct A { x:ulong; y:ulong; } struct B { x:A; y:A; } \
+    struct C { x:B; y:B; } struct D { x:C; y:C; } \
+    struct E { x:D; y:D; } struct F { x:E; y:E; } \
+    struct G { x:F; y:F; } struct H { x:G; y:G; } \
+    struct I { x:H; y:H; } struct J { x:I; y:I; } \
+    struct K { x:J; y:J; } struct L { x:K; y:K; } \
+    struct M { x:L; y:L; } \
+    table T { } root_type T;";
 
 // The buffer of {"a":7} under one field.
 const SEVEN: [u8; 20] = [12, 0, 0, 0, 0, 0, 6, 0, 8, 0, 4, 0, 6, 0, 0, 0, 7, 0, 0, 0];
@@ -245,7 +256,7 @@ fn no_cells_refuse_bytes_at_the_table(rt: HostRuntime) {
 
 #[test]
 fn other_schemas_are_told_before_the_rest(rt: HostRuntime) {
-    let rows: [(&str, &[u8], ToolFault); 9] = [
+    let rows: [(&str, &[u8], ToolFault); 12] = [
         ("the empty text", b"", schema(SchemaFault::BadRoot(0))),
         (
             "no schema text",
@@ -263,13 +274,28 @@ fn other_schemas_are_told_before_the_rest(rt: HostRuntime) {
             schema(SchemaFault::UnknownType(29)),
         ),
         (
+            "a struct over 65,535 bytes",
+            DOUBLING_STRUCTS,
+            ToolFault::Schema(SchemaTextFault::Layout(LayoutFault::StructTooBig(TypeId(12)))),
+        ),
+        (
             "another type",
             b"table T { a:long; } root_type T;",
             ToolFault::NotYet,
         ),
         (
+            "an unsigned type",
+            b"table T { a:uint; } root_type T;",
+            ToolFault::NotYet,
+        ),
+        (
             "a default",
             b"table T { a:int = 1; } root_type T;",
+            ToolFault::NotYet,
+        ),
+        (
+            "an optional field",
+            b"table T { a:int = null; } root_type T;",
             ToolFault::NotYet,
         ),
         (

@@ -1,12 +1,29 @@
-use Rattle.std.proofs.Common.{subst}
+use Rattle.std.proofs.Common.{◌≡◌, Some, Result, Err, ap, subst}
+use Rattle.fb_syntax.specs.declared.faults.SyntaxFault.{SyntaxFault}
+use Rattle.fb_syntax.specs.declared.faults.SyntaxFault.TheVariants.{NotUtf8}
+use Rattle.flatc_tool.specs.declared.schema_layouts.SchemaTextFault.{SchemaTextFault}
+use Rattle.flatc_tool.specs.declared.schema_layouts.SchemaTextFault.TheVariants.{Syntax}
 use Rattle.fb_syntax.specs.DeclsRead.{DeclsRead}
-use Rattle.fb_declare.specs.Declares.{Declares, Stands}
+use Rattle.fb_declare.specs.Declares.{Declares}
+use Rattle.fb_declare.specs.TypeFaults.{faults_of}
+use Rattle.fb_declare.specs.Faults.{least_of}
 use Rattle.fb_declare.proofs.OneSchema.{one_declared}
-use Rattle.flatc_tool.proofs.OneText.{none_stands}
+use Rattle.flatc_tool.proofs.OneText.{none_least}
 use Rattle.flatc_tool.proofs.schema_layouts.schema_of.Goals as goal
 
 pub returns-in-Err-clause-refused : goal.returns-in-Err-clause-refused
 returns-in-Err-clause-refused c no_memory d parsed = no_memory (c.in-Err.ensures.exact d parsed)
+
+same_fault : {A : Type 0} (f g : SyntaxFault) → ◌≡◌ {A = Result A SchemaTextFault} (Err (Syntax f)) (Err (Syntax g)) → f ≡ g
+same_fault f g e = cc
+
+pub returns-in-Err-clause-not_utf8 : goal.returns-in-Err-clause-not_utf8
+returns-in-Err-clause-not_utf8 c at = (
+  λ e. (c.in-Err.ensures.not_utf8 at).0 (ap Err (same_fault c.in-Err.fault (NotUtf8 at) e)),
+  λ h.
+      let e = (c.in-Err.ensures.not_utf8 at).1 h in
+      cc,
+)
 
 pub returns-in-Err-clause-exact : goal.returns-in-Err-clause-exact
 returns-in-Err-clause-exact c no_want L accepted = no_want (c.in-Err.ensures.exact accepted.decls accepted.parsed)
@@ -14,7 +31,7 @@ returns-in-Err-clause-exact c no_want L accepted = no_want (c.in-Err.ensures.exa
 pub returns-in-Err-declare-clause-exact : goal.returns-in-Err-declare-clause-exact
 returns-in-Err-declare-clause-exact c no_want L accepted =
     let same = c.in-Ok.ensures.exact accepted.decls accepted.parsed in
-    none_stands accepted.decls L.schema c.in-Err-declare.fault accepted.declared (subst (λ (d : DeclsRead). Stands d c.in-Err-declare.fault) same (c.in-Err-declare.ensures.fault no_want))
+    none_least accepted.decls L.schema c.in-Err-declare.fault accepted.declared (subst (λ (d : DeclsRead). least_of (faults_of d) ≡ Some c.in-Err-declare.fault) same (c.in-Err-declare.ensures.least no_want))
 
 pub returns-clause-exact : goal.returns-clause-exact
 returns-clause-exact c no_want L accepted =
