@@ -6,7 +6,7 @@ use Rattle.fb_value.specs.Counts.{cells, depth}
 use Rattle.fb_value.specs.OldSlots.{OnlyOld}
 use Rattle.fb_value.proofs.Shown.{one_value_shown}
 use Rattle.flatc_tool.specs.declared.faults.BuildFault.{BuildFault}
-use Rattle.std.proofs.Common.{◌≡◌, ◌≢◌, ◌⊎◌, inl, inr, ℕ, ◌<◌, ◌≤◌, List, Bool, Some, refl, sym, ap, ◌∙◌, subst, arith}
+use Rattle.std.proofs.Common.{◌≡◌, ◌≢◌, ◌⊎◌, inl, inr, ℕ, ◌<◌, ◌≤◌, List, length, Bool, Some, refl, sym, ap, ◌∙◌, subst, arith}
 use Rattle.serde_json.specs.Data.{Data}
 use Rattle.fb_layout.specs.Laid.{LaidSchema}
 use Rattle.fb_value.specs.declared.faults.ReadFault.{ReadFault}
@@ -135,8 +135,8 @@ means_within names most unknown _ d h = absurd h
 -- The bytes that were built are those of the JSON text.
 pub binary_made : (schema json : List ℕ) (most : Bounds) (unknown : Bool) (L : LaidSchema) (t : Data) (v : Datum) (b : Bytes) → Accepts schema L → IsTree json t → Means (field_names L) most unknown t v
     → 1 ≤ most.depth → room_of L v ≤ most_room → ((bounds : Bounds) (raw : Bool) → depth v ≤ bounds.depth → cells v ≤ bounds.cells → Holds L bounds raw b v) → OnlyOld L b
-    → IsBinary schema json most unknown b
-binary_made schema json most unknown L t v b accepted tree means deep small holds old =
+    → length b ≤ room_of L v → IsBinary schema json most unknown b
+binary_made schema json most unknown L t v b accepted tree means deep small holds old short =
     let one_deep = means_depth (field_names L) most unknown t v means in
     let one_cell = means_cells (field_names L) most unknown t v means in
     let some = means_within (field_names L) most unknown t v means in
@@ -150,6 +150,7 @@ binary_made schema json most unknown L t v b accepted tree means deep small hold
       holds = held;
       only = λ raw w other. one_value_shown L most raw b w v other (held raw);
       old_slots = old;
+      short = short;
     }
 
 -- Where the bytes are refused, there is no text to be printed.

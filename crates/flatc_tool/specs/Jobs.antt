@@ -1,6 +1,6 @@
 -- What the tool's jobs answer, layer by layer.
 -- From the FlatBuffers documentation, "Using the schema compiler": `--binary` and `--json`.
-use Rattle.std.specs.Prelude.{ℕ, ◌≡◌, ◌<◌, ◌≤◌, List, Bool}
+use Rattle.std.specs.Prelude.{ℕ, ◌≡◌, ◌<◌, ◌≤◌, List, length, Bool}
 use Rattle.serde_json.specs.Data.{Data}
 use Rattle.fb_layout.specs.Laid.{LaidSchema}
 use Rattle.fb_value.specs.declared.faults.ReadFault.{ReadFault}
@@ -41,7 +41,7 @@ JsonMeans L most unknown json v = (t : Data) × IsTree json t × Means (field_na
 abbrev pub most_room : ℕ
 most_room = 2147483647
 
--- The bytes of a JSON text: exactly the value that it means lies in them, and only slots in use have something.
+-- The bytes of a JSON text: exactly the value that it means lies in them, only slots in use have something, and they are no longer than its room.
 pub record IsBinary (schema json : List ℕ) (most : Bounds) (unknown : Bool) (b : Bytes) : Type 0 where
   pub layout : LaidSchema
   pub accepted : Accepts schema layout
@@ -51,6 +51,7 @@ pub record IsBinary (schema json : List ℕ) (most : Bounds) (unknown : Bool) (b
   pub holds : (raw : Bool) → Holds layout most raw b value
   pub only : (raw : Bool) (v : Datum) → Holds layout most raw b v → v ≡ value
   pub old_slots : OnlyOld layout b
+  pub short : length b ≤ room_of layout value
 
 -- an accepted schema under which the JSON means a value that isn't too big
 pub record MayBeBinary (schema json : List ℕ) (most : Bounds) (unknown : Bool) : Type 0 where

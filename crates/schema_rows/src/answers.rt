@@ -2,10 +2,8 @@
 use crate::asks::{Ask, asked};
 use crate::laid::{LaidAsk, laid_line};
 use crate::shown::schema_line;
-use fb_declare::declare;
-use fb_layout::lay;
 use fb_schema::Schema;
-use fb_syntax::parse;
+use flatc_tool::{SchemaTextFault, schema_of};
 use std::alloc::{AllocError, Global};
 
 /// How far a text came: refused, declared and shown as a whole, or asked for a part.
@@ -30,27 +28,25 @@ pub(crate) fn answer_of(
     ask: Option<&Ask>,
     laid: Option<&LaidAsk>,
 ) -> Result<Answer, AllocError> {
-    let decls = match parse(alloc, text.as_bytes()) {
-        Ok(decls) => decls,
-        Err(fault) => return refused(format!(in alloc; "{fault:?}")?),
+    let layout = match schema_of(alloc, text.as_bytes()) {
+        Ok(layout) => layout,
+        Err(fault) => return refused(fault_line(alloc, fault)?),
     };
-    match declare(alloc, &decls) {
-        Ok(schema) => match laid {
-            Some(laid) => laid_out(alloc, schema, laid),
-            None => accepted(alloc, &schema, ask),
-        },
-        Err(fault) => refused(format!(in alloc; "{fault:?}")?),
+    match laid {
+        Some(laid) => Ok(Answer {
+            part: Part::Asked,
+            text: laid_line(alloc, &layout, laid)?,
+        }),
+        None => accepted(alloc, layout.schema(), ask),
     }
 }
 
-/// The answer of a schema's layout.
-fn laid_out(alloc: Global, schema: Schema, ask: &LaidAsk) -> Result<Answer, AllocError> {
-    match lay(alloc, schema) {
-        Ok(layout) => Ok(Answer {
-            part: Part::Asked,
-            text: laid_line(alloc, &layout, ask)?,
-        }),
-        Err((fault, _schema)) => refused(format!(in alloc; "{fault:?}")?),
+/// The fault of the layer that refuses.
+fn fault_line(alloc: Global, fault: SchemaTextFault) -> Result<String, AllocError> {
+    match fault {
+        SchemaTextFault::Syntax(fault) => format!(in alloc; "{fault:?}"),
+        SchemaTextFault::Schema(fault) => format!(in alloc; "{fault:?}"),
+        SchemaTextFault::Layout(fault) => format!(in alloc; "{fault:?}"),
     }
 }
 

@@ -37,7 +37,7 @@ pub returns-clause-binary : goal.returns-clause-binary
 returns-clause-binary c =
     let deep : 1 ≤ c.args.limits.depth = omega arith in
     binary_made c.args.schema.now c.args.json.now c.args.limits c.args.unknown c.in-Ok.layout (tree_view c.in-Ok-tree_of.tree) (view c.in_ok-value.value) c.in_ok-bytes.bytes.items c.in-Ok.ensures.accepted c.in-Ok-tree_of.ensures.tree
-    c.in_ok-value.ensures.means deep c.in_ok-bytes.ensures.within c.in_ok-bytes.ensures.holds c.in_ok-bytes.ensures.old_slots
+    c.in_ok-value.ensures.means deep c.in_ok-bytes.ensures.within c.in_ok-bytes.ensures.holds c.in_ok-bytes.ensures.old_slots c.in_ok-bytes.ensures.short
 
 pub returns-in-Err-clause-exact : goal.returns-in-Err-clause-exact
 returns-in-Err-clause-exact c rule may = schema_excludes c.args.schema.now c.in-Err.fault c.in-Err.ensures.refused rule may.layout may.accepted
