@@ -1,9 +1,11 @@
 //! What the declarations of types give.
-ghost use Rattle.std.specs.Prelude.{◌≡◌, IfOk, map, string_bytes};
+ghost use Rattle.std.specs.Prelude.{◌≡◌, List, Option, IfOk, map, string_bytes};
 ghost use Rattle.std.specs.List.{AllZip};
 ghost use Rattle.std.specs.Option.{option_copied};
 ghost use Rattle.fb_schema.specs.Seen.{body_seen, type_seen};
 ghost use Rattle.fb_syntax.specs.declared.declarations.Declaration.TheVariants as Declaration;
+ghost use Rattle.fb_schema.specs.Schema.{Name};
+ghost use Rattle.fb_meaning.specs.Outline.{TypeRead};
 ghost use Rattle.fb_meaning.specs.MembersRead.{member_read};
 ghost use Rattle.fb_declare.specs.Declares.{HasBody, IsType};
 ghost use Rattle.fb_declare.specs.Buildable.{IsBuildable, AreBuildable};
@@ -60,17 +62,12 @@ fn struct_body(
     Ok(Body::Struct(parts, forced_align(0, read.attributes.as_slice())))
 }
 
-fn enum_body(
-    types: TypesRead<'_, '_, '_>,
-    alloc: Global,
-    scope: Option<&str>,
-    read: &EnumDeclaration,
-) -> Result<Body, AllocError>
-    ensures { IfOk result (λ b. HasBody types.entry.types.now (option_copied scope.entry)
-        (Declaration.Enum read.now) (body_seen b)) }
+fn enum_body(alloc: Global, read: &EnumDeclaration) -> Result<Body, AllocError>
+    ensures { (types : List TypeRead) (scope : Option Name) → IfOk result
+        (λ b. HasBody types scope (Declaration.Enum read.now) (body_seen b)) }
 {
-    let base = underlying(types, alloc, scope, read)?.unwrap_or(Base::U8);
-    let values = values_read(types, alloc, scope, read)?;
+    let base = underlying(read).unwrap_or(Base::U8);
+    let values = values_read(alloc, read)?;
     Ok(Body::Enum(base, has_flags(read), values))
 }
 
@@ -113,7 +110,7 @@ fn body_of(
     match declaration {
         Declaration::Table(read) => table_body(types, alloc, scope, read),
         Declaration::Struct(read) => struct_body(types, alloc, scope, read),
-        Declaration::Enum(read) => enum_body(types, alloc, scope, read),
+        Declaration::Enum(read) => enum_body(alloc, read),
         Declaration::Union(read) => union_body(types, alloc, scope, read),
         _ => unreachable!(),
     }

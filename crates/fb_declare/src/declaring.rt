@@ -14,7 +14,9 @@ use crate::faults::{SchemaFault, earlier};
 use crate::found::Found;
 use crate::names_again::names_again;
 use crate::type_faults::{identifier_fault, root_fault, types_fault};
-use fb_meaning::{NamePlaces, Outline, RootRead, TypeRead, TypesRead, located_name, table_of};
+use fb_meaning::{
+    NamePlaces, Outline, RootRead, TypeRead, TypesRead, ValueNumbers, located_name, table_of,
+};
 use fb_schema::{Schema, TypeId};
 use fb_syntax::{Decls, Text};
 use std::alloc::{AllocError, Global};
@@ -109,11 +111,13 @@ pub fn declare(alloc: Global, decls: &Decls) -> Result<Schema, SchemaFault>
     let names = located_names(alloc, outline.types.as_slice())?;
     let texts = texts_of(alloc, names.as_slice())?;
     let places = NamePlaces::of(alloc, texts.as_slice())?;
+    let values = ValueNumbers::of(alloc, outline.types.as_slice())?;
     let attributes = NamePlaces::of(alloc, outline.attributes.as_slice())?;
     let found = Found {
         types: TypesRead {
             types: outline.types.as_slice(),
             places: &places,
+            values: &values,
         },
         declared: DeclaredNames {
             names: outline.attributes.as_slice(),

@@ -80,7 +80,7 @@ fn field_fault(
     let kind = &field.kind;
     let default = field.default.as_ref();
     let meaning = types.meaning_in(alloc, scope, kind)?;
-    let given = given_by(types, alloc, kind, meaning, default)?;
+    let given = given_by(types, kind, meaning, default);
     let fault = earlier(table_field_type(kind, meaning), bad_default(default, given));
     let place = place_of_field(kind, meaning);
     let attributes = field.attributes.as_slice();

@@ -11,3 +11,5 @@ pub mod IdsBelow
 pub mod PlacesTaken
 pub mod InOrder
 pub mod IntegerFound
+pub mod IntegerAlone
+pub mod Numbers

@@ -17,7 +17,7 @@ number_named-cons : (m : Name) (k : ℤ) (values : List (Name × ℤ)) (name : N
 unfolding number_named
 number_named-cons m k values name = first_number (bytes_eq name m) k m (find (λ v. bytes_eq name v.0) values)
 
-number_named-nil : (name : Name) → number_named [] name ≡ None
+pub number_named-nil : (name : Name) → number_named [] name ≡ None
 unfolding number_named
 number_named-nil name = refl
 

@@ -91,6 +91,18 @@ values_from base flags next (v ∷ vs) = let n = written_number next v in
 abbrev pub values_read : List TypeRead → Option Name → EnumRead → List (Name × ℤ)
 values_read types scope e = values_from (base_or_ubyte (underlying types scope e)) (has_flags e) (pos 0) e.values
 
+abbrev pub values_in : List TypeRead → Option Name → Declaration → List (Name × ℤ)
+values_in types scope (declarations.Enum e) = values_read types scope e
+values_in types scope _ = []
+
+abbrev pub values_of_read : List TypeRead → Option TypeRead → List (Name × ℤ)
+values_of_read types None = []
+values_of_read types (Some r) = values_in types r.scope r.declaration
+
+-- the values of the enum of a number; none of another type
+abbrev pub values_at : List TypeRead → ℕ → List (Name × ℤ)
+values_at types t = values_of_read types (slice_get types t)
+
 -- the number of the first value of a name
 unfoldable pub number_named : List (Name × ℤ) → Name → Option ℤ
 number_named values name = option_map (λ v. v.1) (find (λ v. bytes_eq name v.0) values)

@@ -9,3 +9,4 @@ pub mod SlotsRead
 pub mod StructsRead
 pub mod MembersRead
 pub mod NamePlaces
+pub mod ValueNumbers

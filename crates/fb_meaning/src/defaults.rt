@@ -1,5 +1,5 @@
 //! Defaults of fields.
-ghost use Rattle.std.specs.Prelude.{◌≡◌, IfOk};
+ghost use Rattle.std.specs.Prelude.{◌≡◌};
 ghost use Rattle.std.specs.Option.{option_copied};
 ghost use Rattle.fb_meaning.specs.Defaults.{number_within, null_or_wrong, boolean_named, scalar_named, enum_number, enum_named, given_to, given_by};
 
@@ -10,7 +10,6 @@ use crate::types_read::TypesRead;
 use crate::value_names::value_at;
 use fb_schema::{Base, Kind};
 use fb_syntax::{DefaultValue, FieldType};
-use std::alloc::{AllocError, Global};
 
 /// What a default gives: a number, no number but the mark that the field is optional, or nothing.
 #[derive(Clone, Copy, Debug, PartialEq, Eq, Drop)]
@@ -77,51 +76,47 @@ fn enum_named(number: Option<i128>, name: &str) -> Given
     }
 }
 
-/// What a default gives to one value of a type. The only error is a refused allocation.
+/// What a default gives to one value of a type.
 #[tactic(auto, unfolding(crate::specs::Defaults::given_to))]
 pub(crate) fn given_to(
     types: TypesRead<'_, '_, '_>,
-    alloc: Global,
     meaning: Meaning,
     default: &DefaultValue,
-) -> Result<Given, AllocError>
-    ensures { IfOk result (λ g. g ≡ given_to types.entry.types.now meaning default.now) }
+) -> Given
+    ensures { result ≡ given_to types.entry.types.now meaning default.now }
 {
     match (meaning, default) {
         (Meaning::Known(Kind::Scalar(base)), DefaultValue::Integer(number)) => {
-            Ok(number_within(base, integer_of(number)))
+            number_within(base, integer_of(number))
         }
         (Meaning::Known(Kind::Scalar(base)), DefaultValue::Name(name)) => {
-            Ok(scalar_named(base, name.text.as_str()))
+            scalar_named(base, name.text.as_str())
         }
         (Meaning::Known(Kind::Enum(id)), DefaultValue::Integer(number)) => {
-            let base = underlying_at(types, alloc, id.0 as usize)?;
-            Ok(enum_number(base, integer_of(number)))
+            enum_number(underlying_at(types, id.0 as usize), integer_of(number))
         }
         (Meaning::Known(Kind::Enum(id)), DefaultValue::Name(name)) => {
             let name = name.text.as_str();
-            let number = value_at(types, alloc, id.0 as usize, name)?;
-            Ok(enum_named(number, name))
+            enum_named(value_at(types, id.0 as usize, name), name)
         }
-        (Meaning::Known(_), _) => Ok(Given::Wrong),
-        (Meaning::Float | Meaning::Unknown, _) => Ok(Given::Number(0)),
+        (Meaning::Known(_), _) => Given::Wrong,
+        (Meaning::Float | Meaning::Unknown, _) => Given::Number(0),
     }
 }
 
-/// What a table's field of a type is given. The only error is a refused allocation.
+/// What a table's field of a type is given.
 pub fn given_by(
     types: TypesRead<'_, '_, '_>,
-    alloc: Global,
     kind: &FieldType,
     meaning: Meaning,
     default: Option<&DefaultValue>,
-) -> Result<Given, AllocError>
-    ensures { IfOk result
-        (λ g. g ≡ given_by types.entry.types.now kind.now meaning (option_copied default.entry)) }
+) -> Given
+    ensures { result
+        ≡ given_by types.entry.types.now kind.now meaning (option_copied default.entry) }
 {
     match (kind, default) {
-        (_, None) => Ok(Given::Number(0)),
-        (FieldType::One(_), Some(default)) => given_to(types, alloc, meaning, default),
-        (FieldType::Many(_, _), Some(_)) => Ok(Given::Wrong),
+        (_, None) => Given::Number(0),
+        (FieldType::One(_), Some(default)) => given_to(types, meaning, default),
+        (FieldType::Many(_, _), Some(_)) => Given::Wrong,
     }
 }

@@ -1,9 +1,11 @@
 //! The numbers of an enum's values, and what the name of a value means.
-ghost use Rattle.std.specs.Prelude.{◌≡◌, ◌≤◌, IfOk, pos, map, string_bytes};
-ghost use Rattle.std.specs.Option.{option_copied};
+ghost use Rattle.std.specs.Prelude.{◌≡◌, ◌≤◌, List, Option, IfOk, pos, map, string_bytes};
+ghost use Rattle.fb_schema.specs.Schema.{Name};
+ghost use Rattle.fb_meaning.specs.Outline.{TypeRead};
 ghost use Rattle.fb_meaning.specs.EnumsRead.{integer_type, underlying, underlying_at, has_flags, bits_of, is_bit_of, value_number, may_be_written, written_number, values_from, values_read};
 
 use crate::attributes::{Known, has_attribute, integer_of};
+use crate::basic_types::basic_type;
 use crate::meanings::Meaning;
 use crate::types_read::TypesRead;
 use fb_schema::{Base, Kind};
@@ -21,34 +23,24 @@ pub fn integer_type(meaning: Meaning) -> Option<Base>
     }
 }
 
-/// The underlying type of an enum, if it is an integer type. The only error is a refused allocation.
-pub fn underlying(
-    types: TypesRead<'_, '_, '_>,
-    alloc: Global,
-    scope: Option<&str>,
-    read: &EnumDeclaration,
-) -> Result<Option<Base>, AllocError>
-    ensures { IfOk result
-        (λ b. b ≡ underlying types.entry.types.now (option_copied scope.entry) read.now) }
+/// The underlying type of an enum, if it is an integer type. Its name alone tells, whatever types
+/// the text declares.
+#[tactic(auto, using(crate::proofs::IntegerAlone::underlying_alone))]
+pub fn underlying(read: &EnumDeclaration) -> Option<Base>
+    ensures { (types : List TypeRead) (scope : Option Name)
+        → result ≡ underlying types scope read.now }
 {
-    let meaning = types.meaning(alloc, scope, read.underlying.text.as_str())?;
-    Ok(integer_type(meaning))
+    let base = basic_type(read.underlying.text.as_str())?;
+    integer_type(Meaning::Known(Kind::Scalar(base)))
 }
 
-/// The underlying type of the enum of a number. The only error is a refused allocation.
-pub(crate) fn underlying_at(
-    types: TypesRead<'_, '_, '_>,
-    alloc: Global,
-    number: usize,
-) -> Result<Option<Base>, AllocError>
-    ensures { IfOk result (λ b. b ≡ underlying_at types.entry.types.now number) }
+/// The underlying type of the enum of a number.
+pub(crate) fn underlying_at(types: TypesRead<'_, '_, '_>, number: usize) -> Option<Base>
+    ensures { result ≡ underlying_at types.entry.types.now number }
 {
-    let Some(read) = types.types.get(number) else {
-        return Ok(None);
-    };
-    match read.declaration {
-        Declaration::Enum(declaration) => underlying(types, alloc, read.scope, declaration),
-        _ => Ok(None),
+    match types.types.get(number)?.declaration {
+        Declaration::Enum(declaration) => underlying(declaration),
+        _ => None,
     }
 }
 
@@ -134,15 +126,10 @@ fn values_from(
 }
 
 /// The values of an enum with their numbers. The only error is a refused allocation.
-pub fn values_read(
-    types: TypesRead<'_, '_, '_>,
-    alloc: Global,
-    scope: Option<&str>,
-    read: &EnumDeclaration,
-) -> Result<Vec<(String, i128)>, AllocError>
-    ensures { IfOk result (λ r. map (λ v. (string_bytes v.0, v.1)) r.items
-        ≡ values_read types.entry.types.now (option_copied scope.entry) read.now) }
+pub fn values_read(alloc: Global, read: &EnumDeclaration) -> Result<Vec<(String, i128)>, AllocError>
+    ensures { (types : List TypeRead) (scope : Option Name) → IfOk result
+        (λ r. map (λ v. (string_bytes v.0, v.1)) r.items ≡ values_read types scope read.now) }
 {
-    let base = underlying(types, alloc, scope, read)?.unwrap_or(Base::U8);
+    let base = underlying(read).unwrap_or(Base::U8);
     values_from(alloc, base, has_flags(read), read.values.as_slice())
 }

@@ -14,6 +14,7 @@ mod slots;
 mod structs;
 mod types_read;
 mod value_names;
+mod value_numbers;
 
 pub use attributes::{Known, integer_of, is_alignment, known_attribute};
 pub use basic_types::is_reserved;
@@ -27,3 +28,4 @@ pub use outline::{Outline, RootRead, TypeRead, located_name, name_of_type};
 pub use slots::{name_of_code, union_of};
 pub use structs::{align_of_read, forced_align, natural_align, parts_read};
 pub use types_read::TypesRead;
+pub use value_numbers::ValueNumbers;

@@ -35,7 +35,7 @@ fn value_slot(
         (λ f. field_seen f ≡ value_slot_of types.entry.types.now field.now meaning slot) }
 {
     let default = field.default.as_ref();
-    let given = given_by(types, alloc, &field.kind, meaning, default)?;
+    let given = given_by(types, &field.kind, meaning, default);
     let default = match given {
         Given::Number(number) => number,
         Given::Null | Given::Wrong => 0,

@@ -37,25 +37,19 @@ pub(crate) fn shape_of(kind: &FieldType, meaning: Meaning) -> Shape
 }
 
 /// The alignment that a field of a struct needs; 0 for a type at fault.
-fn align_by(
-    types: TypesRead<'_, '_, '_>,
-    alloc: Global,
-    lower: &[u16],
-    kind: &FieldType,
-    meaning: Meaning,
-) -> Result<u16, AllocError>
-    ensures { IfOk result (λ a. a ≡ align_by types.entry.types.now lower.now kind.now meaning) }
+fn align_by(types: TypesRead<'_, '_, '_>, lower: &[u16], kind: &FieldType, meaning: Meaning) -> u16
+    ensures { result ≡ align_by types.entry.types.now lower.now kind.now meaning }
 {
-    Ok(match (kind, meaning) {
+    match (kind, meaning) {
         (FieldType::One(_), Meaning::Known(Kind::Scalar(base))) => base.size(),
         (FieldType::One(_), Meaning::Known(Kind::Enum(TypeId(number)))) => {
-            underlying_at(types, alloc, number as usize)?.map_or(0, Base::size)
+            underlying_at(types, number as usize).map_or(0, Base::size)
         }
         (FieldType::One(_), Meaning::Known(Kind::Struct(TypeId(number)))) => {
             lower.get(number as usize).copied().unwrap_or(0)
         }
         _ => 0,
-    })
+    }
 }
 
 #[tactic(auto, unfolding(crate::specs::StructsRead::align_in))]
@@ -71,7 +65,7 @@ fn align_in(
 {
     let kind = &field.kind;
     let meaning = types.meaning(alloc, scope, type_name(kind).text.as_str())?;
-    align_by(types, alloc, lower, kind, meaning)
+    Ok(align_by(types, lower, kind, meaning))
 }
 
 /// The greatest alignment that the fields of a struct need, where these are the alignments of the

@@ -6,21 +6,26 @@ ghost use Rattle.fb_meaning.specs.Scopes.{place_of, type_meant};
 ghost use Rattle.fb_meaning.specs.Meaning.{use_of_read, meaning_of, meaning_in};
 ghost use Rattle.fb_meaning.specs.Outline.{inside, names_of_types};
 ghost use Rattle.fb_meaning.specs.NamePlaces.{Indexes};
+ghost use Rattle.fb_meaning.specs.ValueNumbers.{IndexesValues};
 
 use crate::basic_types::{basic_type, is_float_type, is_text_type};
 use crate::meanings::{Meaning, type_name};
 use crate::name_places::NamePlaces;
 use crate::outline::TypeRead;
+use crate::value_numbers::ValueNumbers;
 use fb_schema::{Kind, TypeId};
 use fb_syntax::{Declaration, FieldType};
 use std::alloc::{AllocError, Global};
 
-/// The types of a text by their numbers, and their numbers by their full names.
+/// The types of a text by their numbers, their numbers by their full names, and the numbers of the
+/// values of enums.
 #[derive(Clone, Copy)]
 pub struct TypesRead<'t, 'd, 'n> {
     pub types: &'t [TypeRead<'d>],
     pub places: &'t NamePlaces<'n>,
+    pub values: &'t ValueNumbers<'d>,
     ghost named: { Indexes places.now (names_of_types types.now) },
+    ghost numbered: { IndexesValues values.now types.now },
 }
 
 impl TypesRead<'_, '_, '_> {

@@ -1,39 +1,18 @@
 //! What the name of an enum's value means.
-ghost use Rattle.std.specs.Prelude.{◌≡◌, IfOk, pos};
+ghost use Rattle.std.specs.Prelude.{◌≡◌};
 ghost use Rattle.std.specs.Option.{option_copied, option_and_then};
 ghost use Rattle.fb_meaning.specs.Outline.{inside, full_name};
-ghost use Rattle.fb_meaning.specs.EnumsRead.{has_flags, values_from, number_named, behind_dot, behind, value_named, value_at};
+ghost use Rattle.fb_meaning.specs.EnumsRead.{values_at, number_named, behind_dot, behind, value_named, value_at};
 
-use crate::enums::{has_flags, underlying, value_number, written_number};
 use crate::types_read::TypesRead;
-use fb_schema::Base;
-use fb_syntax::{Declaration, EnumDeclaration, EnumValue};
-use std::alloc::{AllocError, Global};
+use fb_syntax::{Declaration, EnumDeclaration};
 
-/// The number of the first value of a name.
-fn number_named(base: Base, flags: bool, values: &[EnumValue], name: &[u8]) -> Option<i128>
-    ensures { result ≡ number_named (values_from base flags (pos 0) values.now) name.now }
-{
-    let mut next = 0;
-    for value in values {
-        let number = written_number(next, value);
-        if name == value.name.text.as_bytes() {
-            return Some(value_number(base, flags, number));
-        }
-        next = number + 1;
-    }
-    None
-}
-
-/// The same of a name that may be missing.
-fn number_behind(base: Base, flags: bool, values: &[EnumValue], name: Option<&[u8]>) -> Option<i128>
-    ensures { result ≡ option_and_then (number_named (values_from base flags (pos 0) values.now))
+/// The number of the value of a name, which may be missing, in the enum of a number.
+fn number_behind(types: TypesRead<'_, '_, '_>, number: usize, name: Option<&[u8]>) -> Option<i128>
+    ensures { result ≡ option_and_then (number_named (values_at types.entry.types.now number))
         (option_copied name.entry) }
 {
-    match name {
-        Some(name) => number_named(base, flags, values, name),
-        None => None,
-    }
+    types.values.number(number, name?)
 }
 
 fn behind_dot(name: &[u8]) -> Option<&[u8]>
@@ -79,37 +58,34 @@ fn behind_full_name<'n>(scope: Option<&str>, declared: &[u8], name: &'n [u8]) ->
     }
 }
 
-/// The number of the value that a name means in an enum over a type.
-fn value_named(scope: Option<&str>, read: &EnumDeclaration, base: Base, name: &[u8]) -> Option<i128>
+/// The number of the value that a name means in an enum, of which this is the type's number.
+fn value_named(
+    types: TypesRead<'_, '_, '_>,
+    number: usize,
+    scope: Option<&str>,
+    read: &EnumDeclaration,
+    name: &[u8],
+) -> Option<i128>
     ensures { result ≡ value_named (option_copied scope.entry) read.now
-        (values_from base (has_flags read.now) (pos 0) read.now.values) name.now }
+        (values_at types.entry.types.now number) name.now }
 {
-    let flags = has_flags(read);
-    let values = read.values.as_slice();
     let declared = read.name.text.as_bytes();
-    let alone = number_named(base, flags, values, name);
-    let behind_name = number_behind(base, flags, values, behind(declared, name));
+    let alone = types.values.number(number, name);
+    let behind_name = number_behind(types, number, behind(declared, name));
     let full_name = behind_full_name(scope, declared, name);
-    alone.or(behind_name.or(number_behind(base, flags, values, full_name)))
+    alone.or(behind_name.or(number_behind(types, number, full_name)))
 }
 
-/// The number of the value that a name means in the enum of a number. The only error is a refused
-/// allocation.
+/// The number of the value that a name means in the enum of a number.
 #[tactic(auto, unfolding(crate::specs::EnumsRead::value_at))]
-pub(crate) fn value_at(
-    types: TypesRead<'_, '_, '_>,
-    alloc: Global,
-    number: usize,
-    name: &str,
-) -> Result<Option<i128>, AllocError>
-    ensures { IfOk result (λ n. n ≡ value_at types.entry.types.now number name.now) }
+pub(crate) fn value_at(types: TypesRead<'_, '_, '_>, number: usize, name: &str) -> Option<i128>
+    ensures { result ≡ value_at types.entry.types.now number name.now }
 {
-    let Some(read) = types.types.get(number) else {
-        return Ok(None);
-    };
-    let Declaration::Enum(declaration) = read.declaration else {
-        return Ok(None);
-    };
-    let base = underlying(types, alloc, read.scope, declaration)?.unwrap_or(Base::U8);
-    Ok(value_named(read.scope, declaration, base, name.as_bytes()))
+    let read = types.types.get(number)?;
+    match read.declaration {
+        Declaration::Enum(declaration) => {
+            value_named(types, number, read.scope, declaration, name.as_bytes())
+        }
+        _ => None,
+    }
 }
