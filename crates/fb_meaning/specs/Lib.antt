@@ -10,3 +10,5 @@ pub mod StructsRead
 pub mod MembersRead
 pub mod NamePlaces
 pub mod ValueNumbers
+pub mod Words
+pub mod WordPlaces
