@@ -11,3 +11,7 @@ pub mod MembersRead
 pub mod NamePlaces
 pub mod ValueNumbers
 pub mod Words
+<<<<<<< HEAD
+=======
+pub mod WordPlaces
+>>>>>>> words

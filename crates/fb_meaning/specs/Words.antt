@@ -1,7 +1,7 @@
 -- The last word of a name.
 -- From the FlatBuffers documentation, "Writing a schema": Namespaces.
-use Rattle.std.specs.Prelude.{[], ◌∷◌, ◌==◌, Option, None, Some, if◌then◌else◌}
-use Rattle.std.specs.Option.{option_or, unwrap_or}
+use Rattle.std.specs.Prelude.{◌==◌, [], ◌∷◌, Option, None, Some, unwrap_or, if◌then◌else◌}
+use Rattle.std.specs.Option.{option_or}
 use Rattle.fb_syntax.specs.Signs.{dot}
 use Rattle.fb_schema.specs.Schema.{Name}
 

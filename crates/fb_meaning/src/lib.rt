@@ -15,6 +15,7 @@ mod structs;
 mod types_read;
 mod value_names;
 mod value_numbers;
+mod word_places;
 
 pub use attributes::{Known, integer_of, is_alignment, known_attribute};
 pub use basic_types::is_reserved;
@@ -29,3 +30,4 @@ pub use slots::{name_of_code, union_of};
 pub use structs::{align_of_read, forced_align, natural_align, parts_read};
 pub use types_read::TypesRead;
 pub use value_numbers::ValueNumbers;
+pub use word_places::WordPlaces;
