@@ -28,7 +28,7 @@ fn member_read(
         ≡ member_read types.entry.types.now (option_copied scope.entry) member.now) }
 {
     let name = member_name(alloc, member)?;
-    let meaning = types.meaning(alloc, scope, member.table.text.as_str())?;
+    let meaning = types.meaning(scope, member.table.text.as_str());
     let table = table_of(meaning).unwrap_or(TypeId(0));
     Ok((name.text, table))
 }

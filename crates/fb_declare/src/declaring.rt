@@ -54,7 +54,7 @@ fn root_table(
         return Ok(None);
     };
     let name = root.name;
-    let meaning = types.meaning(alloc, root.scope, name.text.as_str())?;
+    let meaning = types.meaning(root.scope, name.text.as_str());
     Ok(table_of(meaning))
 }
 

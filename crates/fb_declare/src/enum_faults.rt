@@ -71,7 +71,7 @@ pub(crate) fn enum_fault(
         (names_declared declared.entry) (option_copied scope.entry) read.now)) }
 {
     let values = read.values.as_slice();
-    let meaning = types.meaning(alloc, scope, read.underlying.text.as_str())?;
+    let meaning = types.meaning(scope, read.underlying.text.as_str());
     let base = integer_type(meaning);
     let under = underlying_fault(meaning, read.underlying.at);
     let place = place_of_enum(base);

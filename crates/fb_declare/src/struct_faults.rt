@@ -39,7 +39,7 @@ fn field_fault(
     ensures { IfOk result (λ f. f ≡ least_of (struct_field_faults types.entry.types.now
         (names_declared declared.entry) (option_copied scope.entry) number field.now)) }
 {
-    let meaning = types.meaning(alloc, scope, type_name(&field.kind).text.as_str())?;
+    let meaning = types.meaning(scope, type_name(&field.kind).text.as_str());
     let type_fault = struct_field_type(number, &field.kind, meaning);
     let fault = earlier(type_fault, default_in_struct(field.default.as_ref()));
     let attributes = field.attributes.as_slice();

@@ -29,7 +29,7 @@ fn push_names(
     ensures { OnOk result (names.new.items ≡ names.old.items
         ++ names_of_field types.entry.types.now (option_copied scope.entry) field.now) }
 {
-    let meaning = types.meaning_in(alloc, scope, &field.kind)?;
+    let meaning = types.meaning_in(scope, &field.kind);
     if union_of(&field.kind, meaning).is_some() {
         names.push(Text {
             text: name_of_code(alloc, field.name.text.as_str())?,
@@ -79,7 +79,7 @@ fn field_fault(
 {
     let kind = &field.kind;
     let default = field.default.as_ref();
-    let meaning = types.meaning_in(alloc, scope, kind)?;
+    let meaning = types.meaning_in(scope, kind);
     let given = given_by(types, kind, meaning, default);
     let fault = earlier(table_field_type(kind, meaning), bad_default(default, given));
     let place = place_of_field(kind, meaning);

@@ -120,7 +120,7 @@ pub(crate) fn root_fault(
         return Ok(Some(SchemaFault::BadRoot(text_len)));
     };
     let name = root.name;
-    let meaning = types.meaning(alloc, root.scope, name.text.as_str())?;
+    let meaning = types.meaning(root.scope, name.text.as_str());
     Ok(root_use_fault(meaning, name.at))
 }
 

@@ -38,7 +38,7 @@ fn fault_of_member(
         (meaning_of types.entry.types.now (option_copied scope.entry) member.now.table.bytes))) }
 {
     let name = member_name(alloc, member)?;
-    let meaning = types.meaning(alloc, scope, member.table.text.as_str())?;
+    let meaning = types.meaning(scope, member.table.text.as_str());
     Ok(member_fault(before, &name, member.table.at, meaning))
 }
 

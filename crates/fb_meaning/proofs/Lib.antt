@@ -1,6 +1,5 @@
 pub mod Places
 pub mod Bytes
-pub mod Meant
 pub mod Steps
 pub mod Underscores
 pub mod ValuesFrom
@@ -15,3 +14,4 @@ pub mod IntegerAlone
 pub mod Numbers
 pub mod ReadingsOf
 pub mod MeantAmong
+pub mod Searching

@@ -2,20 +2,16 @@
 use Rattle.std.proofs.Common.{◌≡◌, ◌≢◌, ◌<◌, ◌≤◌, ◌+◌, ◌⊎◌, inl, inr, ◌++◌, ◌||◌, ℕ, zero, suc, Bool, true, false, List, [], ◌∷◌, length, map, take, drop, get_or, Option, None, Some, nat_lt, refl, sym, ap, subst, ◌∙◌, arith, true≢false, if◌then◌else◌}
 use Rattle.std.proofs.lemmas.Bool.Decides.{nat_tests}
 use Rattle.std.proofs.lemmas.Slice.Eq.{bytes_eq-Decides}
-use Rattle.std.specs.List.{list_any}
 use Rattle.std.specs.Option.{option_or, option_map}
 use Rattle.std.specs.Str.{bytes_eq}
 use Rattle.fb_schema.specs.Schema.{Name}
-use Rattle.fb_meaning.specs.Scopes.{place_of, last_some}
+use Rattle.fb_meaning.specs.Scopes.{is_among, place_of, last_some}
 use Rattle.fb_meaning.specs.Words.{last_word}
 use Rattle.fb_meaning.proofs.ReadingsOf.{Longer, AscendingReadings}
 
 -- the place of the longest of some full names that stands in a list
 abbrev pub meant_among : List Name → List Name → Option ℕ
 meant_among names full_names = last_some (map (place_of names) full_names)
-
-abbrev pub is_among : Name → List Name → Bool
-is_among name full_names = list_any (λ r. bytes_eq name r) full_names
 
 or_none : (o : Option ℕ) → option_or o None ≡ o
 or_none None = refl

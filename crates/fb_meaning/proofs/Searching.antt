@@ -1,15 +1,15 @@
 -- The search for the type that a name means, from one type of its last word to the next.
-use Rattle.std.proofs.Common.{◌≡◌, ◌<◌, ◌≤◌, ◌+◌, ◌++◌, ℕ, zero, suc, Bool, true, false, List, [], ◌∷◌, length, map, take, drop, get_or, slice_get, Option, None, Some, nat_lt, refl, sym, ap, subst, ◌∙◌, arith, if◌then◌else◌}
+use Rattle.std.proofs.Common.{◌≡◌, ◌<◌, ◌≤◌, ◌+◌, ◌-◌, ◌++◌, ℕ, zero, suc, Bool, true, false, List, [], ◌∷◌, length, map, take, drop, get_or, slice_get, Option, None, Some, nat_lt, refl, sym, ap, subst, ◌∙◌, arith, if◌then◌else◌}
 use Rattle.std.proofs.Math.Seq.{take-suc, take-add}
 use Rattle.std.proofs.lemmas.List.{take-append-drop, get_or-take, get_or-map, length-map, length-take-le}
 use Rattle.std.specs.Option.{option_or, option_map}
 use Rattle.fb_schema.specs.Schema.{Name}
 use Rattle.fb_meaning.specs.Candidates.{candidate, longer, with_candidate}
 use Rattle.fb_meaning.specs.declared.candidates.Candidate.{Candidate}
-use Rattle.fb_meaning.specs.Scopes.{place_of}
+use Rattle.fb_meaning.specs.Scopes.{is_among, place_of}
 use Rattle.fb_meaning.specs.WordPlaces.{word_from}
 use Rattle.fb_meaning.specs.Words.{last_word}
-use Rattle.fb_meaning.proofs.MeantAmong.{meant_among, is_among, chosen, place_is, step_among, up_to, skipped, meant-nothing}
+use Rattle.fb_meaning.proofs.MeantAmong.{meant_among, chosen, place_is, step_among, up_to, skipped, meant-nothing}
 use Rattle.fb_meaning.proofs.ReadingsOf.{AscendingReadings}
 
 -- what was found before the next type of the word
@@ -77,8 +77,8 @@ ahead-from names word k (Some j) is p e =
 
     shifted : (k : ℕ) (names : List Name) (j : ℕ) → get_or names (k + j) [] ≡ get_or (drop k names) j []
     shifted zero names j = ap (λ i. get_or names i []) (let e : zero + j ≡ j = omega arith in e)
-    shifted (suc k) [] j = refl
-    shifted (suc k) (n ∷ names) j = shifted k names j
+    shifted (suc k) [] j = ap (λ i. get_or {A = Name} [] i []) (let e : suc k + j ≡ suc (k + j) = omega arith in e)
+    shifted (suc k) (n ∷ names) j = ap (λ i. get_or (n ∷ names) i []) (let e : suc k + j ≡ suc (k + j) = omega arith in e) ∙ shifted k names j
 
 -- one type more
 pub searching_more : (names : List Name) (word : Name) (full_names : List Name) (meant more : Option Candidate) (place : ℕ) (next : Option ℕ) → AscendingReadings full_names → EndIn full_names word
@@ -113,3 +113,15 @@ searching_last names word full_names meant next none searching =
     places : (o : Option ℕ) → option_map (λ c. c.place) (option_map (candidate names) o) ≡ o
     places None = refl
     places (Some p) = refl
+
+-- how many types are left
+abbrev pub left : List Name → Option ℕ → ℕ
+left names None = 0
+left names (Some p) = length names - p
+
+pub searching_less : (names : List Name) (word : Name) (place : ℕ) (next : Option ℕ) → place < length names → next ≡ word_from (suc place) names word → left names next < length names - place
+searching_less names word place next inside is = subst (λ (o : Option ℕ). left names o < length names - place) (sym is) (by (place_of (map last_word (drop (suc place) names)) word))
+  where
+    by : (o : Option ℕ) → left names (option_map (λ j. suc place + j) o) < length names - place
+    by None = omega (arith, inside)
+    by (Some j) = omega (arith, inside)

@@ -11,7 +11,5 @@ pub mod MembersRead
 pub mod NamePlaces
 pub mod ValueNumbers
 pub mod Words
-<<<<<<< HEAD
-=======
 pub mod WordPlaces
->>>>>>> words
+pub mod Candidates

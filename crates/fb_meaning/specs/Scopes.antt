@@ -1,6 +1,7 @@
 -- Which type a name means: the one in the innermost enclosing namespace.
 -- From the FlatBuffers documentation, "Writing a schema": Namespaces.
-use Rattle.std.specs.Prelude.{ℕ, suc, ◌==◌, ◌++◌, List, [], ◌∷◌, Option, None, Some, map, if◌then◌else◌}
+use Rattle.std.specs.Prelude.{ℕ, suc, ◌==◌, ◌++◌, List, [], ◌∷◌, Bool, Option, None, Some, map, if◌then◌else◌}
+use Rattle.std.specs.List.{list_any}
 use Rattle.std.specs.Option.{option_or, option_map}
 use Rattle.std.specs.Str.{bytes_eq}
 use Rattle.fb_syntax.specs.Signs.{dot}
@@ -16,6 +17,10 @@ parents (c ∷ cs) = (if c == dot then [] ∷ [] else []) ++ map (λ p. c ∷ p)
 abbrev pub readings : Option Name → Name → List Name
 readings None name = name ∷ []
 readings (Some scope) name = name ∷ map (λ outer. inside outer name) (parents scope ++ scope ∷ [])
+
+-- whether a name is one of several
+abbrev pub is_among : Name → List Name → Bool
+is_among name names = list_any (λ n. bytes_eq name n) names
 
 -- the first place of a name in a list of names
 abbrev pub place_of : List Name → Name → Option ℕ

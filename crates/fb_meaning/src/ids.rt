@@ -20,7 +20,7 @@ fn union_in(
     ensures { IfOk result
         (λ u. u ≡ union_in types.entry.types.now (option_copied scope.entry) field.now) }
 {
-    let meaning = types.meaning_in(alloc, scope, &field.kind)?;
+    let meaning = types.meaning_in(scope, &field.kind);
     Ok(union_of(&field.kind, meaning))
 }
 

@@ -3,6 +3,7 @@
 
 mod attributes;
 mod basic_types;
+mod candidates;
 mod defaults;
 mod enums;
 mod ids;
@@ -10,6 +11,7 @@ mod meanings;
 mod members;
 mod name_places;
 mod outline;
+mod readings;
 mod slots;
 mod structs;
 mod types_read;

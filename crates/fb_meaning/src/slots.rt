@@ -94,7 +94,7 @@ pub(crate) fn push_slots(
     ensures { OnOk result (map field_seen slots.new.items ≡ map field_seen slots.old.items
         ++ slots_of_field types.entry.types.now (option_copied scope.entry) field.now slot) }
 {
-    let meaning = types.meaning_in(alloc, scope, &field.kind)?;
+    let meaning = types.meaning_in(scope, &field.kind);
     match union_of(&field.kind, meaning) {
         Some(union) => {
             slots.push(code_slot(alloc, field, union, slot)?)?;

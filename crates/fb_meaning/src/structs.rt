@@ -64,7 +64,7 @@ fn align_in(
         (λ a. a ≡ align_in types.entry.types.now (option_copied scope.entry) lower.now field.now) }
 {
     let kind = &field.kind;
-    let meaning = types.meaning(alloc, scope, type_name(kind).text.as_str())?;
+    let meaning = types.meaning(scope, type_name(kind).text.as_str());
     Ok(align_by(types, lower, kind, meaning))
 }
 
@@ -148,7 +148,7 @@ fn part_read(
     ensures { IfOk result
         (λ f. field_seen f ≡ part_read types.entry.types.now (option_copied scope.entry) field.now number) }
 {
-    let meaning = types.meaning(alloc, scope, type_name(&field.kind).text.as_str())?;
+    let meaning = types.meaning(scope, type_name(&field.kind).text.as_str());
     Ok(FieldInfo {
         name: String::from_str(alloc, field.name.text.as_str())?,
         shape: shape_of(&field.kind, meaning),

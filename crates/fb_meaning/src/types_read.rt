@@ -1,88 +1,69 @@
 //! The types of a text, found by the names that are used for them.
-ghost use Rattle.std.specs.Prelude.{◌≡◌, ◌<◌, ◌==◌, IfOk, None, length, take, get_or, slice_get, if◌then◌else◌};
+ghost use Rattle.std.specs.Prelude.{◌≡◌, ◌<◌, [], length, map, get_or, slice_get};
 ghost use Rattle.std.specs.Option.{option_copied};
-ghost use Rattle.fb_syntax.specs.Signs.{dot};
-ghost use Rattle.fb_meaning.specs.Scopes.{place_of, type_meant};
+ghost use Rattle.fb_meaning.specs.Candidates.{candidate, with_candidate};
+ghost use Rattle.fb_meaning.specs.Scopes.{readings, is_among, type_meant};
 ghost use Rattle.fb_meaning.specs.Meaning.{use_of_read, meaning_of, meaning_in};
-ghost use Rattle.fb_meaning.specs.Outline.{inside, names_of_types};
-ghost use Rattle.fb_meaning.specs.NamePlaces.{Indexes};
+ghost use Rattle.fb_meaning.specs.Outline.{names_of_types};
+ghost use Rattle.fb_meaning.specs.WordPlaces.{IndexesWords};
 ghost use Rattle.fb_meaning.specs.ValueNumbers.{IndexesValues};
 
 use crate::basic_types::{basic_type, is_float_type, is_text_type};
+use crate::candidates::{Candidate, longer};
 use crate::meanings::{Meaning, type_name};
-use crate::name_places::NamePlaces;
 use crate::outline::TypeRead;
+use crate::readings::is_reading;
 use crate::value_numbers::ValueNumbers;
+use crate::word_places::{WordPlaces, last_word};
 use fb_schema::{Kind, TypeId};
 use fb_syntax::{Declaration, FieldType};
-use std::alloc::{AllocError, Global};
 
-/// The types of a text by their numbers, their numbers by their full names, and the numbers of the
-/// values of enums.
+/// The types of a text and their full names by their numbers, their numbers by the last words of
+/// these names, and the numbers of the values of enums.
 #[derive(Clone, Copy)]
 pub struct TypesRead<'t, 'd, 'n> {
     pub types: &'t [TypeRead<'d>],
-    pub places: &'t NamePlaces<'n>,
+    pub names: &'t [&'n str],
+    pub words: &'t WordPlaces<'n>,
     pub values: &'t ValueNumbers<'d>,
-    ghost named: { Indexes places.now (names_of_types types.now) },
+    ghost named: { map (λ n. n.now) names.now ≡ names_of_types types.now },
+    ghost worded: { IndexesWords words.now (names_of_types types.now) },
     ghost numbered: { IndexesValues values.now types.now },
 }
 
 impl TypesRead<'_, '_, '_> {
-    /// The first type whose full name is this one inside a namespace.
-    fn place_inside(
+    /// One candidate more for what a name means, if the full name of this type is one that the name
+    /// may stand for.
+    fn with_type(
         self,
-        alloc: Global,
-        outer: &[u8],
+        meant: Option<Candidate>,
+        scope: Option<&str>,
         name: &str,
-    ) -> Result<Option<usize>, AllocError>
-        ensures { IfOk result
-            (λ t. t ≡ place_of (names_of_types self.entry.types.now) (inside outer.now name.now)) }
+        place: usize,
+    ) -> Option<Candidate>
+        requires { place < length self.names.now }
+        ensures { result ≡ with_candidate (is_among (get_or (names_of_types self.entry.types.now) place [])
+            (readings (option_copied scope.entry) name.now)) meant (candidate (names_of_types self.entry.types.now) place) }
     {
-        let mut full_name = Vec::from_slice(alloc, outer)?;
-        full_name.push(b'.')?;
-        full_name.extend_from_slice(name.as_bytes())?;
-        Ok(self.places.place(full_name.as_slice()))
-    }
-
-    /// The same for the namespace that ends before a dot; `None` where another byte stands there.
-    fn place_before(
-        self,
-        alloc: Global,
-        scope: &[u8],
-        at: usize,
-        name: &str,
-    ) -> Result<Option<usize>, AllocError>
-        requires { at < length scope.now }
-        ensures { IfOk result (λ t. t ≡ (if get_or scope.now at 0 == dot
-            then place_of (names_of_types self.entry.types.now) (inside (take at scope.now) name.now) else None)) }
-    {
-        if scope[at] == b'.' {
-            self.place_inside(alloc, &scope[..at], name)
-        } else {
-            Ok(None)
+        let full_name = self.names[place];
+        if !is_reading(scope, name.as_bytes(), full_name.as_bytes()) {
+            return meant;
         }
+        let name_len = full_name.len();
+        Some(longer(meant, Candidate { place, name_len }))
     }
 
     /// The number of the type that a name means: that of the innermost enclosing namespace.
-    fn type_meant(
-        self,
-        alloc: Global,
-        scope: Option<&str>,
-        name: &str,
-    ) -> Result<Option<usize>, AllocError>
-        ensures { IfOk result
-            (λ t. t ≡ type_meant self.entry.types.now (option_copied scope.entry) name.now) }
+    fn type_meant(self, scope: Option<&str>, name: &str) -> Option<usize>
+        ensures { result ≡ type_meant self.entry.types.now (option_copied scope.entry) name.now }
     {
-        let mut meant = self.places.place(name.as_bytes());
-        let Some(scope) = scope else {
-            return Ok(meant);
-        };
-        let scope = scope.as_bytes();
-        for at in 0..scope.len() {
-            meant = self.place_before(alloc, scope, at, name)?.or(meant);
+        let mut meant = None;
+        let mut next = self.words.first(last_word(name.as_bytes()));
+        while let Some(place) = next {
+            meant = self.with_type(meant, scope, name, place);
+            next = self.words.next(place);
         }
-        Ok(self.place_inside(alloc, scope, name)?.or(meant))
+        Some(meant?.place)
     }
 
     /// A use of the type of a number.
@@ -102,42 +83,32 @@ impl TypesRead<'_, '_, '_> {
         }
     }
 
-    /// What a type's name means inside a namespace. The only error is a refused allocation.
+    /// What a type's name means inside a namespace.
     #[tactic(auto, unfolding(crate::specs::Meaning::meaning_of))]
-    pub fn meaning(
-        self,
-        alloc: Global,
-        scope: Option<&str>,
-        name: &str,
-    ) -> Result<Meaning, AllocError>
-        ensures { IfOk result
-            (λ m. m ≡ meaning_of self.entry.types.now (option_copied scope.entry) name.now) }
+    pub fn meaning(self, scope: Option<&str>, name: &str) -> Meaning
+        ensures { result
+            ≡ meaning_of self.entry.types.now (option_copied scope.entry) name.now }
     {
         if let Some(base) = basic_type(name) {
-            return Ok(Meaning::Known(Kind::Scalar(base)));
+            return Meaning::Known(Kind::Scalar(base));
         }
         if is_text_type(name) {
-            return Ok(Meaning::Known(Kind::Text));
+            return Meaning::Known(Kind::Text);
         }
         if is_float_type(name) {
-            return Ok(Meaning::Float);
+            return Meaning::Float;
         }
-        Ok(match self.type_meant(alloc, scope, name)? {
+        match self.type_meant(scope, name) {
             Some(number) => self.use_of(number),
             None => Meaning::Unknown,
-        })
+        }
     }
 
-    /// What the name in a field's type means. The only error is a refused allocation.
-    pub fn meaning_in(
-        self,
-        alloc: Global,
-        scope: Option<&str>,
-        kind: &FieldType,
-    ) -> Result<Meaning, AllocError>
-        ensures { IfOk result
-            (λ m. m ≡ meaning_in self.entry.types.now (option_copied scope.entry) kind.now) }
+    /// What the name in a field's type means.
+    pub fn meaning_in(self, scope: Option<&str>, kind: &FieldType) -> Meaning
+        ensures { result
+            ≡ meaning_in self.entry.types.now (option_copied scope.entry) kind.now }
     {
-        self.meaning(alloc, scope, type_name(kind).text.as_str())
+        self.meaning(scope, type_name(kind).text.as_str())
     }
 }
