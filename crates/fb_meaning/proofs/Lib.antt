@@ -13,3 +13,5 @@ pub mod InOrder
 pub mod IntegerFound
 pub mod IntegerAlone
 pub mod Numbers
+pub mod LastWords
+pub mod WordsFrom
