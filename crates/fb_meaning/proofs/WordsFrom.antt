@@ -45,10 +45,10 @@ pub record PlacesFrom (first : Name → Option ℕ) (next : List (Option ℕ)) (
   pub nexts : (k : ℕ) (name : Name) → place ≤ k → slice_get names k ≡ Some name → get_or next k None ≡ word_from (suc k) names (last_word name)
 
 -- no name is there
-pub places-none : (first : Name → Option ℕ) (next : List (Option ℕ)) (names : List Name) → length next ≡ length names → ((word : Name) → first word ≡ None) → PlacesFrom first next (length names) names
-places-none first next names long none = record {
+pub places-none : (first : Name → Option ℕ) (next : List (Option ℕ)) (place : ℕ) (names : List Name) → place ≡ length names → length next ≡ length names → ((word : Name) → first word ≡ None) → PlacesFrom first next place names
+places-none first next place names behind long none = record {
   long = long;
-  firsts = λ word. none word ∙ sym (word_from-end (length names) names word (omega arith));
+  firsts = λ word. none word ∙ sym (word_from-end place names word (omega arith));
   nexts = λ k name past at. let within = slice_get_within names k name at in absurd (omega arith);
 }
 
