@@ -1,5 +1,5 @@
 -- The places of names by their last words, from a place on.
-use Rattle.std.proofs.Common.{◌≡◌, ◌≢◌, ◌<◌, ◌≤◌, ◌+◌, ◌==◌, ℕ, zero, suc, Bool, true, false, List, [], ◌∷◌, length, map, drop, set, get_or, slice_get, Option, None, Some, cond, refl, sym, ap, ◌∙◌, arith, zero-add, inl, inr, if◌then◌else◌}
+use Rattle.std.proofs.Common.{◌≡◌, ◌≢◌, ◌<◌, ◌≤◌, ◌+◌, ℕ, suc, Bool, true, false, List, ◌∷◌, length, map, drop, set, get_or, slice_get, Option, None, Some, cond, refl, sym, ap, ◌∙◌, arith, zero-add, inl, inr, if◌then◌else◌}
 use Rattle.std.specs.Option.{option_map}
 use Rattle.std.specs.Str.{bytes_eq}
 use Rattle.std.proofs.lemmas.List.{length-set, get_or-set_other, get_or-set_same}

@@ -12,11 +12,11 @@ loop-place-preserved c =
     let word = c.loop-place.word.now in
     let rest = drop (i + 1) name in
     elim c.if-byte-eq46.branch [
-      | then-byte-eq46 w ↦ 
+      | then-byte-eq46 w ↦
           ap (λ b. unwrap_or (behind_last_dot rest) b.now) w.word-is
           ∙ ap (unwrap_or (behind_last_dot rest)) (take_rest name (i + 1))
           ∙ sym (last_word-dot name word i c.loop-place-test.true w.if-byte-eq46.true) ∙ c.loop-place.invariant
-      | else-byte-eq46 w ↦ 
+      | else-byte-eq46 w ↦
           ap (λ b. unwrap_or (behind_last_dot rest) b.now) w.word-is ∙ sym (last_word-on name word i c.loop-place-test.true w.if-byte-eq46.false) ∙ c.loop-place.invariant
     ]
 
