@@ -15,3 +15,5 @@ pub mod Numbers
 pub mod ReadingsOf
 pub mod MeantAmong
 pub mod Searching
+pub mod LastWords
+pub mod WordsFrom
