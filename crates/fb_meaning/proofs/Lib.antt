@@ -13,3 +13,4 @@ pub mod InOrder
 pub mod IntegerFound
 pub mod IntegerAlone
 pub mod Numbers
+pub mod ReadingsOf

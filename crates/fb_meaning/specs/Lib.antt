@@ -10,3 +10,4 @@ pub mod StructsRead
 pub mod MembersRead
 pub mod NamePlaces
 pub mod ValueNumbers
+pub mod Words

@@ -10,6 +10,7 @@ mod meanings;
 mod members;
 mod name_places;
 mod outline;
+mod readings;
 mod slots;
 mod structs;
 mod types_read;
