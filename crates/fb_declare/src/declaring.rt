@@ -15,7 +15,8 @@ use crate::found::Found;
 use crate::names_again::names_again;
 use crate::type_faults::{identifier_fault, root_fault, types_fault};
 use fb_meaning::{
-    NamePlaces, Outline, RootRead, TypeRead, TypesRead, ValueNumbers, located_name, table_of,
+    NamePlaces, Outline, RootRead, TypeRead, TypesRead, ValueNumbers, WordPlaces, located_name,
+    table_of,
 };
 use fb_schema::{Schema, TypeId};
 use fb_syntax::{Decls, Text};
@@ -110,13 +111,14 @@ pub fn declare(alloc: Global, decls: &Decls) -> Result<Schema, SchemaFault>
     let outline = Outline::of(alloc, decls)?;
     let names = located_names(alloc, outline.types.as_slice())?;
     let texts = texts_of(alloc, names.as_slice())?;
-    let places = NamePlaces::of(alloc, texts.as_slice())?;
+    let words = WordPlaces::of(alloc, texts.as_slice())?;
     let values = ValueNumbers::of(alloc, outline.types.as_slice())?;
     let attributes = NamePlaces::of(alloc, outline.attributes.as_slice())?;
     let found = Found {
         types: TypesRead {
             types: outline.types.as_slice(),
-            places: &places,
+            names: names.as_slice(),
+            words: &words,
             values: &values,
         },
         declared: DeclaredNames {

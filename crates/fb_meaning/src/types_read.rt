@@ -16,17 +16,17 @@ use crate::readings::is_reading;
 use crate::value_numbers::ValueNumbers;
 use crate::word_places::{WordPlaces, last_word};
 use fb_schema::{Kind, TypeId};
-use fb_syntax::{Declaration, FieldType};
+use fb_syntax::{Declaration, FieldType, Text};
 
 /// The types of a text and their full names by their numbers, their numbers by the last words of
 /// these names, and the numbers of the values of enums.
 #[derive(Clone, Copy)]
 pub struct TypesRead<'t, 'd, 'n> {
     pub types: &'t [TypeRead<'d>],
-    pub names: &'t [&'n str],
+    pub names: &'t [Text],
     pub words: &'t WordPlaces<'n>,
     pub values: &'t ValueNumbers<'d>,
-    ghost named: { map (λ n. n.now) names.now ≡ names_of_types types.now },
+    ghost named: { map (λ n. n.bytes) names.now ≡ names_of_types types.now },
     ghost worded: { IndexesWords words.now (names_of_types types.now) },
     ghost numbered: { IndexesValues values.now types.now },
 }
@@ -45,8 +45,8 @@ impl TypesRead<'_, '_, '_> {
         ensures { result ≡ with_candidate (is_among (get_or (names_of_types self.entry.types.now) place [])
             (readings (option_copied scope.entry) name.now)) meant (candidate (names_of_types self.entry.types.now) place) }
     {
-        let full_name = self.names[place];
-        if !is_reading(scope, name.as_bytes(), full_name.as_bytes()) {
+        let full_name = self.names[place].text.as_bytes();
+        if !is_reading(scope, name.as_bytes(), full_name) {
             return meant;
         }
         let name_len = full_name.len();

@@ -27,8 +27,8 @@ at_type c =
 pub with_type-meant-requires : goal.with_type-meant-requires
 with_type-meant-requires c =
     let inside = ((at_type c).ahead c.in-Some.place refl).0 in
-    let long : length (map (λ n. n.now) c.args.self.names.now) ≡ length c.args.self.names.now = length-map c.args.self.names.now (λ n. n.now) in
-    let same : length (map (λ n. n.now) c.args.self.names.now) ≡ length (names_of_types c.args.self.types.now) = ap length c.args.self.named in
+    let long : length (map (λ n. n.bytes) c.args.self.names.now) ≡ length c.args.self.names.now = length-map c.args.self.names.now (λ n. n.bytes) in
+    let same : length (map (λ n. n.bytes) c.args.self.names.now) ≡ length (names_of_types c.args.self.types.now) = ap length c.args.self.named in
     omega (arith, inside, long, same)
 
 -- the next type of the word
