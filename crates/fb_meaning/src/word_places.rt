@@ -1,8 +1,7 @@
 //! Names of a text by their last words, each found in one step.
-ghost use Rattle.std.specs.Prelude.{◌≡◌, IfOk, OnOk, None, map};
-ghost use Rattle.fb_schema.specs.Schema.{Name};
+ghost use Rattle.std.specs.Prelude.{◌≡◌, IfOk, map};
 ghost use Rattle.fb_meaning.specs.Words.{last_word};
-ghost use Rattle.fb_meaning.specs.WordPlaces.{first_in, next_in, word_from, IndexesWords};
+ghost use Rattle.fb_meaning.specs.WordPlaces.{first_in, next_in, IndexesWords};
 
 use indexmap::IndexMap;
 use std::alloc::{AllocError, Global};
