@@ -45,7 +45,8 @@ impl TypesRead<'_, '_, '_> {
         ensures { result ≡ with_candidate (is_among (get_or (names_of_types self.entry.types.now) place [])
             (readings (option_copied scope.entry) name.now)) meant (candidate (names_of_types self.entry.types.now) place) }
     {
-        let full_name = self.names[place].text.as_bytes();
+        let full_name = &self.names[place];
+        let full_name = full_name.text.as_bytes();
         if !is_reading(scope, name.as_bytes(), full_name) {
             return meant;
         }
