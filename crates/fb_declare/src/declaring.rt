@@ -32,16 +32,6 @@ fn located_names(alloc: Global, types: &[TypeRead<'_>]) -> Result<Vec<Text>, All
     Ok(names)
 }
 
-fn texts_of<'n>(alloc: Global, names: &'n [Text]) -> Result<Vec<&'n str>, AllocError>
-    ensures { IfOk result (λ texts. map (λ t. t.now) texts.items ≡ map (λ n. n.bytes) names.now) }
-{
-    let mut texts = Vec::with_capacity(alloc, names.len())?;
-    for name in names {
-        texts.push(name.text.as_str())?;
-    }
-    Ok(texts)
-}
-
 /// The number of the root's table.
 fn root_table(
     types: TypesRead<'_, '_, '_>,
@@ -110,8 +100,7 @@ pub fn declare(alloc: Global, decls: &Decls) -> Result<Schema, SchemaFault>
 {
     let outline = Outline::of(alloc, decls)?;
     let names = located_names(alloc, outline.types.as_slice())?;
-    let texts = texts_of(alloc, names.as_slice())?;
-    let words = WordPlaces::of(alloc, texts.as_slice())?;
+    let words = WordPlaces::of(alloc, names.as_slice())?;
     let values = ValueNumbers::of(alloc, outline.types.as_slice())?;
     let attributes = NamePlaces::of(alloc, outline.attributes.as_slice())?;
     let found = Found {

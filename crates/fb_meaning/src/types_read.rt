@@ -23,7 +23,7 @@ use fb_syntax::{Declaration, FieldType, Text};
 #[derive(Clone, Copy)]
 pub struct TypesRead<'t, 'd, 'n> {
     pub types: &'t [TypeRead<'d>],
-    pub names: &'t [Text],
+    pub names: &'n [Text],
     pub words: &'t WordPlaces<'n>,
     pub values: &'t ValueNumbers<'d>,
     ghost named: { map (λ n. n.bytes) names.now ≡ names_of_types types.now },

@@ -3,6 +3,7 @@ ghost use Rattle.std.specs.Prelude.{◌≡◌, IfOk, map};
 ghost use Rattle.fb_meaning.specs.Words.{last_word};
 ghost use Rattle.fb_meaning.specs.WordPlaces.{first_in, next_in, IndexesWords};
 
+use fb_syntax::Text;
 use indexmap::IndexMap;
 use std::alloc::{AllocError, Global};
 
@@ -15,15 +16,16 @@ pub struct WordPlaces<'n> {
 
 impl<'n> WordPlaces<'n> {
     /// The places of the last words of these names. The only error is a refused allocation.
-    pub fn of(alloc: Global, names: &[&'n str]) -> Result<WordPlaces<'n>, AllocError>
-        ensures { IfOk result (λ p. IndexesWords p (map (λ n. n.now) names.now)) }
+    pub fn of(alloc: Global, names: &'n [Text]) -> Result<WordPlaces<'n>, AllocError>
+        ensures { IfOk result (λ p. IndexesWords p (map (λ n. n.bytes) names.now)) }
     {
         let mut index = WordPlaces {
             first: IndexMap::new(alloc),
             next: vec![in alloc; None; names.len()]?,
         };
         for place in (0..names.len()).rev() {
-            let word = last_word(names[place].as_bytes());
+            let name = &names[place];
+            let word = last_word(name.text.as_bytes());
             index.next[place] = index.first.insert(word, place)?;
         }
         Ok(index)

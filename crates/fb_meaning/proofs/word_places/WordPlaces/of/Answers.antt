@@ -12,8 +12,8 @@ use Rattle.fb_meaning.proofs.word_places.WordPlaces.of.Goals as goal
 
 pub loop-place-init : goal.loop-place-init
 loop-place-init c =
-    let names = map (λ n. n.now) c.args.names.now in
-    let named : length names ≡ length c.args.names.now = length-map c.args.names.now (λ n. n.now) in
+    let names = map (λ n. n.bytes) c.args.names.now in
+    let named : length names ≡ length c.args.names.now = length-map c.args.names.now (λ n. n.bytes) in
     let next = c.in_ok-vec.field-0 in
     let long : length next.items ≡ length names = omega (arith, next.ok.0, c.in_ok-vec.ensures.len) in
     let index : WordPlaces = record { first = c.new.result; next = next } in
@@ -21,7 +21,7 @@ loop-place-init c =
     places-none (first_in index) next.items (length c.args.names.now) names (sym named) long none
 
 pub index_mut-requires : goal.index_mut-requires
-index_mut-requires c = omega (arith, c.loop-place.invariant.long, length-map c.args.names.now (λ n. n.now))
+index_mut-requires c = omega (arith, c.loop-place.invariant.long, length-map c.args.names.now (λ n. n.bytes))
 
 pub loop-place-preserved : goal.loop-place-preserved
 loop-place-preserved c =
@@ -29,19 +29,19 @@ loop-place-preserved c =
     let index = c.loop-place.index in
     let place = c.loop-place.place in
     let k = place - 1 in
-    let empty : Bor (List ℕ) = record { ref_ptr = (0, 0); now = [] } in
-    let name = (get_or names k empty).now in
+    let empty = c.index-names-place.result in
+    let name = (get_or names k empty).bytes in
     let h : k < length names = omega arith in
     let one_on : place ≡ suc k = omega arith in
-    let at : slice_get (map (λ n. n.now) names) k ≡ Some name = slice_get-map (λ n. n.now) names k ∙ ap (option_map (λ n. n.now)) (slice_get-get_or names k empty h) in
-    let word : c.last_word-word.result.now ≡ last_word name = c.last_word-word.ensures ∙ ap last_word c.as_bytes.ensures.value in
-    places-more (first_in index) _ index.next.items place k (map (λ n. n.now) names) name c.in_ok-index.field-0 c.loop-place.invariant one_on at
+    let at : slice_get (map (λ n. n.bytes) names) k ≡ Some name = slice_get-map (λ n. n.bytes) names k ∙ ap (option_map (λ n. n.bytes)) (slice_get-get_or names k empty h) in
+    let word : c.last_word-word.result.now ≡ last_word name = c.last_word-word.ensures ∙ ap last_word (c.as_bytes.ensures.value ∙ ap (λ n. n.bytes) (c.name.view_is ∙ c.index-names-place.is)) in
+    places-more (first_in index) _ index.next.items place k (map (λ n. n.bytes) names) name c.in_ok-index.field-0 c.loop-place.invariant one_on at
     (c.in_ok-index.ensures.old ∙ ap (first_in index) word)
     (λ other. c.in_ok-index.ensures.updates.0 (record { ref_ptr = (0, 0); now = other }) ∙ ap (λ w. cond (bytes_eq w other) (Some k) (first_in index other)) word)
 
 pub returns : goal.returns
 returns c =
-    let names = map (λ n. n.now) c.args.names.now in
+    let names = map (λ n. n.bytes) c.args.names.now in
     let index = c.loop-place.index in
     let end : c.loop-place.place ≡ 0 = omega arith in
     let all : PlacesFrom (first_in index) index.next.items 0 names = rw end at c.loop-place.invariant in
