@@ -33,20 +33,16 @@ fn located_names(alloc: Global, types: &[TypeRead<'_>]) -> Result<Vec<Text>, All
 }
 
 /// The number of the root's table.
-fn root_table(
-    types: TypesRead<'_, '_, '_>,
-    alloc: Global,
-    root: Option<&RootRead<'_>>,
-) -> Result<Option<TypeId>, AllocError>
-    ensures { IfOk result (λ t. option_map (λ n. n.0) t
-        ≡ root_table types.entry.types.now (option_copied root.entry)) }
+fn root_table(types: TypesRead<'_, '_, '_>, root: Option<&RootRead<'_>>) -> Option<TypeId>
+    ensures { option_map (λ n. n.0) result
+        ≡ root_table types.entry.types.now (option_copied root.entry) }
 {
     let Some(root) = root else {
-        return Ok(None);
+        return None;
     };
     let name = root.name;
     let meaning = types.meaning(root.scope, name.text.as_str());
-    Ok(table_of(meaning))
+    table_of(meaning)
 }
 
 fn identifier_of(identifier: Option<&Text>) -> Option<[u8; 4]>
@@ -69,7 +65,7 @@ fn least_fault(
 {
     let again = names_again(alloc, names)?;
     let types = types_fault(found.types, alloc, found.declared)?;
-    let root = root_fault(found.types, alloc, found.text_len, found.root)?;
+    let root = root_fault(found.types, found.text_len, found.root);
     Ok(earlier(
         earlier(earlier(again, types), root),
         identifier_fault(found.identifier),
@@ -82,7 +78,7 @@ fn schema_found(alloc: Global, found: Found<'_, '_, '_>) -> Result<Schema, Alloc
     requires types { DeclareTypes found.types.types.now }
     ensures { IfOk result (Gives (outline_found found.entry)) }
 {
-    let Some(root) = root_table(found.types, alloc, found.root)? else {
+    let Some(root) = root_table(found.types, found.root) else {
         unreachable!()
     };
     let types = types_of(found.types, alloc)?;

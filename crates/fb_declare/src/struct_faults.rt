@@ -91,7 +91,7 @@ pub(crate) fn struct_fault(
         (names_declared declared.entry) (option_copied scope.entry) lower.now read.now)) }
 {
     let fields = read.fields.as_slice();
-    let place = Place::Struct(natural_align(types, alloc, scope, lower, fields)?);
+    let place = Place::Struct(natural_align(types, scope, lower, fields));
     let marks = metadata_fault(alloc, declared, place, read.attributes.as_slice())?;
     let empty = when(is_empty(fields), SchemaFault::EmptyStruct(read.name.at));
     let names = field_names(alloc, fields)?;

@@ -91,7 +91,7 @@ pub(crate) fn types_fault(
     for read in types.types {
         let fault = type_fault(types, alloc, declared, lower.as_slice(), read)?;
         least = earlier(least, fault);
-        let align = align_of_read(types, alloc, lower.as_slice(), read)?;
+        let align = align_of_read(types, lower.as_slice(), read);
         lower.push(align)?;
     }
     Ok(least)
@@ -105,23 +105,22 @@ fn root_use_fault(meaning: Meaning, at: u64) -> Option<SchemaFault>
     earlier(use_fault(meaning, at), is_bad)
 }
 
-/// The least fault of the root. The only error is a refused allocation.
+/// The least fault of the root.
 #[tactic(auto, unfolding(crate::specs::FaultRows::root_faults, crate::specs::Faults::least_of))]
 pub(crate) fn root_fault(
     types: TypesRead<'_, '_, '_>,
-    alloc: Global,
     text_len: u64,
     root: Option<&RootRead<'_>>,
-) -> Result<Option<SchemaFault>, AllocError>
-    ensures { IfOk result
-        (λ f. f ≡ least_of (root_faults types.entry.types.now text_len (option_copied root.entry))) }
+) -> Option<SchemaFault>
+    ensures { result
+        ≡ least_of (root_faults types.entry.types.now text_len (option_copied root.entry)) }
 {
     let Some(root) = root else {
-        return Ok(Some(SchemaFault::BadRoot(text_len)));
+        return Some(SchemaFault::BadRoot(text_len));
     };
     let name = root.name;
     let meaning = types.meaning(root.scope, name.text.as_str());
-    Ok(root_use_fault(meaning, name.at))
+    root_use_fault(meaning, name.at)
 }
 
 fn is_printable(byte: u8) -> bool

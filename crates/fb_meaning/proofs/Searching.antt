@@ -1,10 +1,10 @@
 -- The search for the type that a name means, from one type of its last word to the next.
-use Rattle.std.proofs.Common.{◌≡◌, ◌<◌, ◌≤◌, ◌+◌, ◌-◌, ◌++◌, ℕ, zero, suc, Bool, true, false, List, [], ◌∷◌, length, map, take, drop, get_or, slice_get, Option, None, Some, nat_lt, refl, sym, ap, subst, ◌∙◌, arith, if◌then◌else◌}
+use Rattle.std.proofs.Common.{◌≡◌, ◌<◌, ◌+◌, ◌-◌, ◌++◌, ℕ, zero, suc, Bool, true, false, List, [], ◌∷◌, length, map, take, drop, get_or, Option, None, Some, nat_lt, refl, sym, ap, subst, ◌∙◌, arith, if◌then◌else◌}
 use Rattle.std.proofs.Math.Seq.{take-suc, take-add}
 use Rattle.std.proofs.lemmas.List.{take-append-drop, get_or-take, get_or-map, length-map, length-take-le}
 use Rattle.std.specs.Option.{option_or, option_map}
 use Rattle.fb_schema.specs.Schema.{Name}
-use Rattle.fb_meaning.specs.Candidates.{candidate, longer, with_candidate}
+use Rattle.fb_meaning.specs.Candidates.{candidate, with_candidate}
 use Rattle.fb_meaning.specs.declared.candidates.Candidate.{Candidate}
 use Rattle.fb_meaning.specs.Scopes.{is_among, place_of}
 use Rattle.fb_meaning.specs.WordPlaces.{word_from}

@@ -11,17 +11,12 @@ use fb_schema::{FieldInfo, TypeId};
 use fb_syntax::Field;
 use std::alloc::{AllocError, Global};
 
-fn union_in(
-    types: TypesRead<'_, '_, '_>,
-    alloc: Global,
-    scope: Option<&str>,
-    field: &Field,
-) -> Result<Option<TypeId>, AllocError>
-    ensures { IfOk result
-        (λ u. u ≡ union_in types.entry.types.now (option_copied scope.entry) field.now) }
+fn union_in(types: TypesRead<'_, '_, '_>, scope: Option<&str>, field: &Field) -> Option<TypeId>
+    ensures { result
+        ≡ union_in types.entry.types.now (option_copied scope.entry) field.now }
 {
     let meaning = types.meaning_in(scope, &field.kind);
-    Ok(union_of(&field.kind, meaning))
+    union_of(&field.kind, meaning)
 }
 
 /// The first slot of a field by its id, which is that of its value.
@@ -37,29 +32,23 @@ fn first_slot(union: Option<TypeId>, id: Option<i128>) -> Option<u64>
     }
 }
 
-/// The first slot of a field by its id. The only error is a refused allocation.
+/// The first slot of a field by its id.
 #[tactic(auto, using(crate::proofs::IdsBelow::number_called_below), unfolding(crate::specs::SlotsRead::slot_by_id))]
-fn slot_by_id(
-    types: TypesRead<'_, '_, '_>,
-    alloc: Global,
-    scope: Option<&str>,
-    field: &Field,
-) -> Result<Option<u64>, AllocError>
-    ensures slot { IfOk result
-        (λ s. s ≡ slot_by_id types.entry.types.now (option_copied scope.entry) field.now) }
+fn slot_by_id(types: TypesRead<'_, '_, '_>, scope: Option<&str>, field: &Field) -> Option<u64>
+    ensures slot { result
+        ≡ slot_by_id types.entry.types.now (option_copied scope.entry) field.now }
     ensures room { IsSome (union_in types.entry.types.now (option_copied scope.entry) field.now)
-        → IfOk result (λ o. IfSome o (λ s. s < 2 ^ 64 - 1)) }
+        → IfSome result (λ s. s < 2 ^ 64 - 1) }
 {
-    let union = union_in(types, alloc, scope, field)?;
+    let union = union_in(types, scope, field);
     let id = number_called(Known::Id, field.attributes.as_slice());
-    Ok(first_slot(union, id))
+    first_slot(union, id)
 }
 
 /// Adds the numbers of the slots that a field takes by its id; says whether it has one.
 #[tactic(auto, using(crate::proofs::IdsBelow::number_called_below), unfolding(crate::specs::SlotsRead::slot_by_id, crate::specs::SlotsRead::slots_of_field))]
 fn push_numbers(
     types: TypesRead<'_, '_, '_>,
-    alloc: Global,
     scope: Option<&str>,
     field: &Field,
     numbers: &mut Vec<u64>,
@@ -69,7 +58,7 @@ fn push_numbers(
     ensures numbers { result ≡ Ok true → numbers.new.items ≡ numbers.old.items
         ++ numbers_by_id types.entry.types.now (option_copied scope.entry) (field.now ∷ []) }
 {
-    let union = union_in(types, alloc, scope, field)?;
+    let union = union_in(types, scope, field);
     let id = number_called(Known::Id, field.attributes.as_slice());
     let Some(first) = first_slot(union, id) else {
         return Ok(false);
@@ -95,7 +84,7 @@ fn numbers_by_id(
 {
     let mut numbers = Vec::with_capacity(alloc, fields.len())?;
     for field in fields {
-        if !push_numbers(types, alloc, scope, field, &mut numbers)? {
+        if !push_numbers(types, scope, field, &mut numbers)? {
             return Ok(None);
         }
     }
@@ -157,7 +146,7 @@ fn slots_by_id(
 {
     let mut slots = Vec::with_capacity(alloc, fields.len())?;
     for field in fields {
-        let first = slot_by_id(types, alloc, scope, field)?.unwrap_or(0);
+        let first = slot_by_id(types, scope, field).unwrap_or(0);
         push_slots(types, alloc, scope, field, first, &mut slots)?;
     }
     Ok(slots)

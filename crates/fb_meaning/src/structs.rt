@@ -53,39 +53,32 @@ fn align_by(types: TypesRead<'_, '_, '_>, lower: &[u16], kind: &FieldType, meani
 }
 
 #[tactic(auto, unfolding(crate::specs::StructsRead::align_in))]
-fn align_in(
-    types: TypesRead<'_, '_, '_>,
-    alloc: Global,
-    scope: Option<&str>,
-    lower: &[u16],
-    field: &Field,
-) -> Result<u16, AllocError>
-    ensures { IfOk result
-        (λ a. a ≡ align_in types.entry.types.now (option_copied scope.entry) lower.now field.now) }
+fn align_in(types: TypesRead<'_, '_, '_>, scope: Option<&str>, lower: &[u16], field: &Field) -> u16
+    ensures { result
+        ≡ align_in types.entry.types.now (option_copied scope.entry) lower.now field.now }
 {
     let kind = &field.kind;
     let meaning = types.meaning(scope, type_name(kind).text.as_str());
-    Ok(align_by(types, lower, kind, meaning))
+    align_by(types, lower, kind, meaning)
 }
 
 /// The greatest alignment that the fields of a struct need, where these are the alignments of the
-/// types before it. The only error is a refused allocation.
+/// types before it.
 #[tactic(auto, unfolding(crate::specs::StructsRead::natural_align))]
 pub fn natural_align(
     types: TypesRead<'_, '_, '_>,
-    alloc: Global,
     scope: Option<&str>,
     lower: &[u16],
     fields: &[Field],
-) -> Result<u16, AllocError>
-    ensures { IfOk result
-        (λ a. a ≡ natural_align types.entry.types.now (option_copied scope.entry) lower.now fields.now) }
+) -> u16
+    ensures { result
+        ≡ natural_align types.entry.types.now (option_copied scope.entry) lower.now fields.now }
 {
     let mut natural = 0;
     for field in fields {
-        natural = natural.max(align_in(types, alloc, scope, lower, field)?);
+        natural = natural.max(align_in(types, scope, lower, field));
     }
-    Ok(natural)
+    natural
 }
 
 fn alignment_in(least: u16, number: i128) -> Option<u16>
@@ -108,33 +101,25 @@ pub fn forced_align(least: u16, attributes: &[AttributeUse]) -> Option<u16>
 
 fn align_of_struct(
     types: TypesRead<'_, '_, '_>,
-    alloc: Global,
     scope: Option<&str>,
     lower: &[u16],
     read: &TableDeclaration,
-) -> Result<u16, AllocError>
-    ensures { IfOk result
-        (λ a. a ≡ align_of_struct types.entry.types.now (option_copied scope.entry) lower.now read.now) }
+) -> u16
+    ensures { result
+        ≡ align_of_struct types.entry.types.now (option_copied scope.entry) lower.now read.now }
 {
-    let natural = natural_align(types, alloc, scope, lower, read.fields.as_slice())?;
-    Ok(forced_align(natural, read.attributes.as_slice()).unwrap_or(natural))
+    let natural = natural_align(types, scope, lower, read.fields.as_slice());
+    forced_align(natural, read.attributes.as_slice()).unwrap_or(natural)
 }
 
-/// The alignment of a type, 0 of what is no struct. The only error is a refused allocation.
+/// The alignment of a type, 0 of what is no struct.
 #[tactic(auto, unfolding(crate::specs::StructsRead::align_of_read))]
-pub fn align_of_read(
-    types: TypesRead<'_, '_, '_>,
-    alloc: Global,
-    lower: &[u16],
-    read: &TypeRead<'_>,
-) -> Result<u16, AllocError>
-    ensures { IfOk result (λ a. a ≡ align_of_read types.entry.types.now lower.now read.now) }
+pub fn align_of_read(types: TypesRead<'_, '_, '_>, lower: &[u16], read: &TypeRead<'_>) -> u16
+    ensures { result ≡ align_of_read types.entry.types.now lower.now read.now }
 {
     match read.declaration {
-        Declaration::Struct(declared) => {
-            align_of_struct(types, alloc, read.scope, lower, declared)
-        }
-        _ => Ok(0),
+        Declaration::Struct(declared) => align_of_struct(types, read.scope, lower, declared),
+        _ => 0,
     }
 }
 

@@ -10,7 +10,7 @@ use Rattle.fb_declare.proofs.declaring.schema_found.Goals as goal
 pub unreachable-requires : goal.unreachable-requires
 unreachable-requires c =
     let o = outline_found c.args.found in
-    let table = c.in_ok-root.ensures in
+    let table = c.root_table.ensures in
     let none : root_table o.types o.root ≡ None = sym table ∙ ap (option_map (λ n. n.0)) c.in_default.is in
     true≢false (sym (root_some o.types o.text_len o.root (root_right o c.requires.sound)) ∙ ap is_some none)
 
@@ -29,6 +29,6 @@ new-requires c =
     let o = outline_found c.args.found in
     kept o (schema_of c.in_ok-types.types.items c.in-Some.root c.identifier_of.result) c.requires.sound (record {
       types = c.in_ok-types.ensures;
-      root = sym (ap (option_map (λ n. n.0)) c.in-Some.is) ∙ c.in_ok-root.ensures;
+      root = sym (ap (option_map (λ n. n.0)) c.in-Some.is) ∙ c.root_table.ensures;
       identifier = c.identifier_of.ensures;
     })

@@ -1,8 +1,7 @@
-use Rattle.std.proofs.Common.{◌≡◌, ◌<◌, ◌∙◌, ℕ, suc, List, Option, Some, [], length, map, get_or, slice_get, sym, ap, subst, refl, arith}
+use Rattle.std.proofs.Common.{◌≡◌, ◌∙◌, ℕ, suc, Option, Some, [], length, map, get_or, sym, ap, subst, refl, arith}
 use Rattle.std.proofs.lemmas.List.{length-map}
 use Rattle.std.proofs.lemmas.Option.{slice_get-get_or}
 use Rattle.std.specs.Option.{option_copied, option_map}
-use Rattle.fb_schema.specs.Schema.{Name}
 use Rattle.fb_meaning.specs.Outline.{names_of_types}
 use Rattle.fb_meaning.specs.Scopes.{place_of, readings}
 use Rattle.fb_meaning.specs.WordPlaces.{first_in, word_from}
