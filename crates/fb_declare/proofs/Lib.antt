@@ -22,3 +22,4 @@ pub mod Kept
 pub mod Zipped
 pub mod Building
 pub mod OneSchema
+pub mod Places

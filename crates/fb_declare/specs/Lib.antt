@@ -6,3 +6,4 @@ pub mod Faults
 pub mod DeclaredNames
 pub mod Buildable
 pub mod Found
+pub mod NamePlaces

@@ -1,8 +1,8 @@
 //! The names of attributes that a text declares.
 ghost use Rattle.std.specs.Prelude.{◌≡◌, map};
-ghost use Rattle.fb_meaning.specs.NamePlaces.{Indexes};
+ghost use Rattle.fb_declare.specs.NamePlaces.{Indexes};
 
-use fb_meaning::NamePlaces;
+use crate::name_places::NamePlaces;
 
 /// The names of attributes that a text declares, each found in one step.
 #[derive(Clone, Copy)]

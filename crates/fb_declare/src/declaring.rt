@@ -12,11 +12,11 @@ use crate::bodies::types_of;
 use crate::declared_names::DeclaredNames;
 use crate::faults::{SchemaFault, earlier};
 use crate::found::Found;
+use crate::name_places::NamePlaces;
 use crate::names_again::names_again;
 use crate::type_faults::{identifier_fault, root_fault, types_fault};
 use fb_meaning::{
-    NamePlaces, Outline, RootRead, TypeRead, TypesRead, ValueNumbers, WordPlaces, located_name,
-    table_of,
+    Outline, RootRead, TypeRead, TypesRead, ValueNumbers, WordPlaces, located_name, table_of,
 };
 use fb_schema::{Schema, TypeId};
 use fb_syntax::{Decls, Text};

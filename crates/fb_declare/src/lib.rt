@@ -13,6 +13,7 @@ mod field_types;
 mod found;
 mod laws;
 mod member_faults;
+mod name_places;
 mod names_again;
 mod struct_faults;
 mod table_faults;

@@ -4,7 +4,7 @@ ghost use Rattle.fb_declare.specs.Faults.{least_of};
 ghost use Rattle.fb_declare.specs.FaultRows.{names_again};
 
 use crate::faults::{SchemaFault, earlier, when};
-use fb_meaning::NamePlaces;
+use crate::name_places::NamePlaces;
 use fb_syntax::Text;
 use std::alloc::{AllocError, Global};
 

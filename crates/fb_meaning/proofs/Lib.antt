@@ -1,4 +1,3 @@
-pub mod Places
 pub mod Bytes
 pub mod Steps
 pub mod Underscores

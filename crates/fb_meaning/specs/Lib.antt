@@ -8,7 +8,6 @@ pub mod Defaults
 pub mod SlotsRead
 pub mod StructsRead
 pub mod MembersRead
-pub mod NamePlaces
 pub mod ValueNumbers
 pub mod Words
 pub mod WordPlaces

@@ -9,7 +9,6 @@ mod enums;
 mod ids;
 mod meanings;
 mod members;
-mod name_places;
 mod outline;
 mod readings;
 mod slots;
@@ -26,7 +25,6 @@ pub use enums::{has_flags, integer_type, may_be_written, underlying, values_read
 pub use ids::{are_ids_wrong, table_slots};
 pub use meanings::{Meaning, type_name};
 pub use members::{is_table, member_name, table_of};
-pub use name_places::NamePlaces;
 pub use outline::{Outline, RootRead, TypeRead, located_name, name_of_type};
 pub use slots::{name_of_code, union_of};
 pub use structs::{align_of_read, forced_align, natural_align, parts_read};

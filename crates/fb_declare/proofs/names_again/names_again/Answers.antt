@@ -1,7 +1,7 @@
 use Rattle.std.proofs.Common.{◌≡◌, ◌∙◌, ap, sym, ◌+◌, take, drop, arith}
 use Rattle.fb_declare.specs.Faults.{earlier, least_of}
 use Rattle.fb_declare.specs.FaultRows.{names_again, is_among, when}
-use Rattle.fb_meaning.specs.NamePlaces.{place_in}
+use Rattle.fb_declare.specs.NamePlaces.{place_in}
 use Rattle.fb_declare.specs.declared.faults.SchemaFault.TheVariants.{DuplicateName}
 use Rattle.fb_declare.proofs.LeastMet.{met-more, met-all}
 use Rattle.fb_declare.proofs.Again.{names_again-at, names_again-end, is_among-at}

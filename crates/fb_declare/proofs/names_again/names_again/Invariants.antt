@@ -1,7 +1,7 @@
 use Rattle.std.proofs.Common.{◌≡◌, ℕ, List, take, drop, is_some, []}
 use Rattle.fb_declare.specs.Faults.{earlier, least_of}
 use Rattle.fb_declare.specs.FaultRows.{names_again, is_among}
-use Rattle.fb_meaning.specs.NamePlaces.{place_in}
+use Rattle.fb_declare.specs.NamePlaces.{place_in}
 use Rattle.fb_declare.proofs.names_again.names_again.Given as goal
 
 abbrev pub invariant-loop-name : goal.invariant-loop-name

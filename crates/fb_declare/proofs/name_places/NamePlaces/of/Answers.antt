@@ -1,6 +1,6 @@
 use Rattle.std.proofs.Common.{[]}
-use Rattle.fb_meaning.proofs.Places.{place_of-take}
-use Rattle.fb_meaning.proofs.name_places.NamePlaces.of.Goals as goal
+use Rattle.fb_declare.proofs.Places.{place_of-take}
+use Rattle.fb_declare.proofs.name_places.NamePlaces.of.Goals as goal
 
 pub loop-place-preserved : goal.loop-place-preserved
 loop-place-preserved c = λ name.

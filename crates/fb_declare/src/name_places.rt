@@ -1,7 +1,7 @@
 //! Names of a text, each found in one step.
 ghost use Rattle.std.specs.Prelude.{◌≡◌, IfOk, OnOk, None, is_some, map};
 ghost use Rattle.fb_schema.specs.Schema.{Name};
-ghost use Rattle.fb_meaning.specs.NamePlaces.{place_in, Notes, Indexes};
+ghost use Rattle.fb_declare.specs.NamePlaces.{place_in, Notes, Indexes};
 
 use indexmap::IndexMap;
 use std::alloc::{AllocError, Global};

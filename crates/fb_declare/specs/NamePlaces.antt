@@ -5,7 +5,7 @@ use Rattle.std.specs.Option.{option_or}
 use Rattle.std.specs.Str.{bytes_eq}
 use Rattle.fb_schema.specs.Schema.{Name}
 use Rattle.fb_meaning.specs.Scopes.{place_of}
-use Rattle.fb_meaning.specs.declared.name_places.NamePlaces.{NamePlaces}
+use Rattle.fb_declare.specs.declared.name_places.NamePlaces.{NamePlaces}
 
 -- the place that a name has in an index
 abbrev pub place_in : NamePlaces → Name → Option ℕ

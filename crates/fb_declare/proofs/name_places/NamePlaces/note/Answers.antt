@@ -1,9 +1,9 @@
 use Rattle.std.proofs.Common.{◌≡◌, ◌∙◌, sym, ap}
 use Rattle.fb_meaning.proofs.Bytes.{bytes_eq-equal, bytes_eq-sym, noted_once, none_of_some}
-use Rattle.fb_meaning.specs.NamePlaces.{place_in}
+use Rattle.fb_declare.specs.NamePlaces.{place_in}
 use Rattle.std.specs.Str.{bytes_eq}
 use Rattle.std.specs.Option.{option_or}
-use Rattle.fb_meaning.proofs.name_places.NamePlaces.note.Goals as goal
+use Rattle.fb_declare.proofs.name_places.NamePlaces.note.Goals as goal
 
 pub returns-in_ok-insert : goal.returns-in_ok-insert
 returns-in_ok-insert c = λ other.
