@@ -1,7 +1,7 @@
 -- The least fault of lists that are joined.
 use Rattle.std.proofs.Common.{◌≡◌, ◌++◌, ◌==◌, ◌&&◌, ◌||◌, nat_lt, ℕ, Bool, true, false, List, [], ◌∷◌, Option, None, Some, refl, ap, sym, ◌∙◌, arith, if◌then◌else◌}
 use Rattle.fb_declare.specs.declared.faults.SchemaFault.{SchemaFault}
-use Rattle.fb_declare.specs.Faults.{offset_of, number_of, comes_before, earlier, least_of}
+use Rattle.fb_declare.specs.Faults.{at_of, number_of, comes_before, earlier, least_of}
 
 earlier_none : (f : Option SchemaFault) → earlier f None ≡ f
 earlier_none None = refl
@@ -36,7 +36,7 @@ earlier_assoc None g h = refl
 earlier_assoc (Some f) None h = refl
 earlier_assoc (Some f) (Some g) None = earlier_none (earlier (Some f) (Some g))
 earlier_assoc (Some f) (Some g) (Some h) = earlier_if_left (comes_before g f) f g h
-    ∙ by_tests f g h (comes_before g f) (comes_before h g) (comes_before h f) (less_less (offset_of f) (number_of f) (offset_of g) (number_of g) (offset_of h) (number_of h)) (not_less (offset_of f) (number_of f) (offset_of g) (number_of g) (offset_of h) (number_of h))
+    ∙ by_tests f g h (comes_before g f) (comes_before h g) (comes_before h f) (less_less (at_of f) (number_of f) (at_of g) (number_of g) (at_of h) (number_of h)) (not_less (at_of f) (number_of f) (at_of g) (number_of g) (at_of h) (number_of h))
     ∙ sym (earlier_if_right (comes_before h g) f g h)
 
 pub least_of-nil : least_of [] ≡ None

@@ -1,25 +1,30 @@
 -- Which of several faults is told: the one of least offset, then of lowest number.
-use Rattle.std.specs.Prelude.{ℕ, ◌==◌, ◌&&◌, ◌||◌, Bool, List, [], ◌∷◌, Option, None, Some, if◌then◌else◌, nat_lt}
+use Rattle.std.specs.Prelude.{ℕ, ◌==◌, ◌&&◌, ◌||◌, Bool, List, [], ◌∷◌, Option, None, Some, if◌then◌else◌, nat_lt, unwrap_or}
 use Rattle.fb_declare.specs.declared.faults.SchemaFault.{SchemaFault}
 use Rattle.fb_declare.specs.declared.faults.SchemaFault.TheVariants.{DuplicateName, UnknownType, BadDefault, BadIds, IncompleteStruct, EmptyStruct, BadAttribute, UnknownAttribute, Unsupported, BadEnumValue, BadMember, BadRoot, BadIdentifier, Memory}
 
--- the offset that a fault tells
-abbrev pub offset_of : SchemaFault → ℕ
-offset_of (DuplicateName at) = at
-offset_of (UnknownType at) = at
-offset_of (BadDefault at) = at
-offset_of (BadIds at) = at
-offset_of (IncompleteStruct at) = at
-offset_of (EmptyStruct at) = at
-offset_of (BadAttribute at) = at
-offset_of (UnknownAttribute at) = at
-offset_of (Unsupported at) = at
-offset_of (BadEnumValue at) = at
-offset_of (BadMember at) = at
-offset_of (BadRoot at) = at
-offset_of (BadIdentifier at) = at
-offset_of Memory = 0
+-- where the rule fails, in bytes from the text's start; running out of memory has no place
+abbrev pub offset_of : SchemaFault → Option ℕ
+offset_of (DuplicateName at) = Some at
+offset_of (UnknownType at) = Some at
+offset_of (BadDefault at) = Some at
+offset_of (BadIds at) = Some at
+offset_of (IncompleteStruct at) = Some at
+offset_of (EmptyStruct at) = Some at
+offset_of (BadAttribute at) = Some at
+offset_of (UnknownAttribute at) = Some at
+offset_of (Unsupported at) = Some at
+offset_of (BadEnumValue at) = Some at
+offset_of (BadMember at) = Some at
+offset_of (BadRoot at) = Some at
+offset_of (BadIdentifier at) = Some at
+offset_of Memory = None
 
+-- the offset by which faults are ordered
+abbrev pub at_of : SchemaFault → ℕ
+at_of f = unwrap_or (offset_of f) 0
+
+-- the number of the rule, which no other fault has
 abbrev pub number_of : SchemaFault → ℕ
 number_of (DuplicateName at) = 10
 number_of (UnknownType at) = 11
@@ -37,7 +42,7 @@ number_of (BadIdentifier at) = 22
 number_of Memory = 23
 
 abbrev pub comes_before : SchemaFault → SchemaFault → Bool
-comes_before f g = nat_lt (offset_of f) (offset_of g) || (offset_of f == offset_of g && nat_lt (number_of f) (number_of g))
+comes_before f g = nat_lt (at_of f) (at_of g) || (at_of f == at_of g && nat_lt (number_of f) (number_of g))
 
 -- the one that comes before the other, if there are two
 abbrev pub earlier : Option SchemaFault → Option SchemaFault → Option SchemaFault

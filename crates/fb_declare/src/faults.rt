@@ -61,9 +61,10 @@ impl<T: Drop> From<AllocFailed<T>> for SchemaFault {
 
 impl SchemaFault {
     ghost use Rattle.std.specs.Prelude.{◌≡◌};
-    ghost use Rattle.fb_declare.specs.Faults.{offset_of, number_of, comes_before};
+    ghost use Rattle.fb_declare.specs.Faults.{offset_of, at_of, number_of, comes_before};
 
-    fn offset(self) -> u64
+    /// Where it stands, in bytes from the text's start; running out of memory has no place.
+    pub fn offset(self) -> Option<u64>
         ensures { result ≡ offset_of self }
     {
         match self {
@@ -79,12 +80,20 @@ impl SchemaFault {
             | SchemaFault::BadEnumValue(at)
             | SchemaFault::BadMember(at)
             | SchemaFault::BadRoot(at)
-            | SchemaFault::BadIdentifier(at) => at,
-            SchemaFault::Memory => 0,
+            | SchemaFault::BadIdentifier(at) => Some(at),
+            SchemaFault::Memory => None,
         }
     }
 
-    fn number(self) -> u8
+    // The offset by which faults are ordered.
+    fn at(self) -> u64
+        ensures { result ≡ at_of self }
+    {
+        self.offset().unwrap_or(0)
+    }
+
+    /// The fault's number, which tells it from all others.
+    pub fn number(self) -> u8
         ensures { result ≡ number_of self }
     {
         match self {
@@ -108,8 +117,7 @@ impl SchemaFault {
     fn comes_before(self, other: SchemaFault) -> bool
         ensures { result ≡ comes_before self other }
     {
-        self.offset() < other.offset()
-            || self.offset() == other.offset() && self.number() < other.number()
+        self.at() < other.at() || self.at() == other.at() && self.number() < other.number()
     }
 }
 

@@ -17,6 +17,29 @@ pub enum LayoutFault {
     Memory,
 }
 
+impl LayoutFault {
+    ghost use Rattle.std.specs.Prelude.{◌≡◌, None};
+    ghost use Rattle.fb_layout.specs.FaultNumbers.{number_of};
+
+    /// The fault's number, which tells it from all others.
+    pub fn number(self) -> u8
+        ensures { result ≡ number_of self }
+    {
+        match self {
+            LayoutFault::StructTooBig(_) => 30,
+            LayoutFault::TableTooWide(_) => 31,
+            LayoutFault::Memory => 32,
+        }
+    }
+
+    /// None: a layout's fault names a type and no place in the text.
+    pub fn offset(self) -> Option<u64>
+        ensures { result ≡ None }
+    {
+        None
+    }
+}
+
 impl From<AllocError> for LayoutFault {
     ghost use Rattle.std.specs.Prelude.{◌≡◌};
     ghost use Rattle.fb_layout.specs.declared.faults.LayoutFault.TheVariants.{Memory};

@@ -3,3 +3,4 @@ pub mod IntSlots
 pub mod Steps
 pub mod Found
 pub mod Refused
+pub mod IntEntries

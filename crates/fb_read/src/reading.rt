@@ -6,6 +6,7 @@ ghost use Rattle.fb_layout.specs.Laid.{LaidSchema};
 ghost use Rattle.fb_value.specs.Num.{num};
 ghost use Rattle.fb_value.specs.Places.{vtable};
 ghost use Rattle.fb_value.specs.View.{view};
+ghost use Rattle.fb_value.specs.Counts.{entered};
 ghost use Rattle.fb_value.specs.Fits.{FitsRoot};
 ghost use Rattle.fb_value.specs.Ints.{IsInt};
 ghost use Rattle.fb_value.specs.Plain.{IsPlain};
@@ -86,6 +87,7 @@ pub fn read(
         RootKeeps layout.now limits raw bytes.now }
     ensures rises { entries.old.count ≤ entries.new.count }
     ensures counted { entries.new.count ≤ entries.old.count + (limits.cells + 1) }
+    ensures each { IfOk result (λ v. entries.new.count ≡ entries.old.count + entered (view v)) }
 {
     let fields = plain_slots(layout);
     check_header(bytes)?;

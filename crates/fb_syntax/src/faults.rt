@@ -23,6 +23,41 @@ pub enum SyntaxFault {
     Memory,
 }
 
+impl SyntaxFault {
+    ghost use Rattle.std.specs.Prelude.{◌≡◌};
+    ghost use Rattle.fb_syntax.specs.FaultNumbers.{number_of, offset_of};
+
+    /// The fault's number, which tells it from all others.
+    pub fn number(self) -> u8
+        ensures { result ≡ number_of self }
+    {
+        match self {
+            SyntaxFault::NotUtf8(_) => 1,
+            SyntaxFault::BadByte(_) => 2,
+            SyntaxFault::Unterminated(_) => 3,
+            SyntaxFault::NumberTooBig(_) => 4,
+            SyntaxFault::Unexpected(_) => 5,
+            SyntaxFault::NestedVector(_) => 6,
+            SyntaxFault::Memory => 7,
+        }
+    }
+
+    /// Where it stands, in bytes from the text's start; running out of memory has no place.
+    pub fn offset(self) -> Option<u64>
+        ensures { result ≡ offset_of self }
+    {
+        match self {
+            SyntaxFault::NotUtf8(at)
+            | SyntaxFault::BadByte(at)
+            | SyntaxFault::Unterminated(at)
+            | SyntaxFault::NumberTooBig(at)
+            | SyntaxFault::Unexpected(at)
+            | SyntaxFault::NestedVector(at) => Some(at),
+            SyntaxFault::Memory => None,
+        }
+    }
+}
+
 impl From<AllocError> for SyntaxFault {
     ghost use Rattle.std.specs.Prelude.{◌≡◌};
     ghost use Rattle.fb_syntax.specs.declared.faults.SyntaxFault.TheVariants.{Memory};

@@ -29,3 +29,4 @@ pub mod ExampleUnions
 pub mod ExampleMarks
 pub mod ExampleRooms
 pub mod ExampleLimits
+pub mod FaultNumbers

@@ -37,6 +37,55 @@ pub enum ReadFault {
     Memory,
 }
 
+impl ReadFault {
+    ghost use Rattle.std.specs.Prelude.{◌≡◌};
+    ghost use Rattle.fb_value.specs.FaultNumbers.{number_of, offset_of};
+
+    /// The fault's number, which tells it from all others.
+    pub fn number(self) -> u8
+        ensures { result ≡ number_of self }
+    {
+        match self {
+            ReadFault::Short(_) => 50,
+            ReadFault::TooLong(_) => 51,
+            ReadFault::WrongIdentifier(_) => 52,
+            ReadFault::Misaligned(_) => 53,
+            ReadFault::OutOfBounds(_) => 54,
+            ReadFault::ZeroOffset(_) => 55,
+            ReadFault::BadVtable(_) => 56,
+            ReadFault::MissingRequired(_, _) => 57,
+            ReadFault::NoTerminator(_) => 58,
+            ReadFault::BadUtf8(_) => 59,
+            ReadFault::UnionMismatch(_) => 60,
+            ReadFault::TooDeep(_) => 62,
+            ReadFault::TooManyCells(_) => 63,
+            ReadFault::Memory => 64,
+        }
+    }
+
+    /// Where it stands, in bytes from the buffer's start; running out of memory has no place.
+    pub fn offset(self) -> Option<u64>
+        ensures { result ≡ offset_of self }
+    {
+        match self {
+            ReadFault::Short(at)
+            | ReadFault::TooLong(at)
+            | ReadFault::WrongIdentifier(at)
+            | ReadFault::Misaligned(at)
+            | ReadFault::OutOfBounds(at)
+            | ReadFault::ZeroOffset(at)
+            | ReadFault::BadVtable(at)
+            | ReadFault::MissingRequired(at, _)
+            | ReadFault::NoTerminator(at)
+            | ReadFault::BadUtf8(at)
+            | ReadFault::UnionMismatch(at)
+            | ReadFault::TooDeep(at)
+            | ReadFault::TooManyCells(at) => Some(at),
+            ReadFault::Memory => None,
+        }
+    }
+}
+
 impl From<AllocError> for ReadFault {
     ghost use Rattle.std.specs.Prelude.{◌≡◌};
     ghost use Rattle.fb_value.specs.declared.faults.ReadFault.TheVariants.{Memory};

@@ -1,8 +1,7 @@
 //! The command `flatc`.
 #![tactic(auto)]
 
-use fb_value::Limits;
-use flatc_tool::{ToolFault, to_binary, to_json};
+use flatc_tool::{Limits, ToolFault, to_binary, to_json};
 use std::alloc::Global;
 use std::process::ExitCode;
 use std::{env, io};

@@ -6,3 +6,4 @@ pub mod Printed
 pub mod Lines
 pub mod Jobs
 pub mod SchemaTexts
+pub mod FaultNumbers

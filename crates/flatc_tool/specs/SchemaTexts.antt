@@ -1,7 +1,10 @@
 -- What a schema text gives as a whole, and which layer refuses it.
-use Rattle.std.specs.Prelude.{◌≡◌, ◌≢◌, List, ℕ, Some}
+use Rattle.std.specs.Prelude.{◌≡◌, ◌≢◌, List, ℕ, Some, IsUtf8}
+use Rattle.std.specs.Str.Lossy.{utf8_valid_len}
 use Rattle.fb_syntax.specs.DeclsRead.{DeclsRead}
 use Rattle.fb_syntax.specs.Parsed.{Parses}
+use Rattle.fb_syntax.specs.Refusals.{IsToldOfNoTokens, IsToldOfTokens}
+use Rattle.fb_syntax.specs.declared.faults.SyntaxFault.{SyntaxFault}
 use Rattle.fb_syntax.specs.declared.faults.SyntaxFault.TheVariants as syntax_faults
 use Rattle.fb_schema.specs.Schema.{DeclaredSchema}
 use Rattle.fb_declare.specs.Declares.{Declares}
@@ -22,9 +25,15 @@ pub record IsAccepted (text : List ℕ) (L : LaidSchema) : Type 0 where
   pub declared : Declares decls L.schema
   pub made : IsWellMade L
 
+-- What a refusal by tokens or grammar says: whether the bytes are UTF-8 is looked at before all else.
+abbrev pub IsSyntaxRefused : List ℕ → SyntaxFault → Type 0
+IsSyntaxRefused text (syntax_faults.NotUtf8 at) = (¬ (IsUtf8 text)) × (at ≡ utf8_valid_len text)
+IsSyntaxRefused text syntax_faults.Memory = IsUtf8 text
+IsSyntaxRefused text f = IsUtf8 text × IsToldOfNoTokens text f × IsToldOfTokens text f × ((d : DeclsRead) → ¬ (Parses text d))
+
 -- The first layer that refuses: the layers before it have passed. Of the faults of declarations the least is told.
 abbrev pub IsRefused : List ℕ → SchemaTextFault → Type 0
-IsRefused text (Syntax f) = f ≢ syntax_faults.Memory → (d : DeclsRead) → ¬ (Parses text d)
+IsRefused text (Syntax f) = IsSyntaxRefused text f
 IsRefused text (Schema f) = (d : DeclsRead) × Parses text d × (f ≢ schema_faults.Memory → least_of (faults_of d) ≡ Some f)
 IsRefused text (Layout f) = (d : DeclsRead) × (S : DeclaredSchema) × Parses text d × Declares d S × (f ≢ layout_faults.Memory → Refuses S f)
 

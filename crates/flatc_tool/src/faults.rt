@@ -71,6 +71,105 @@ pub enum ToolFault {
     NotYet,
 }
 
+impl BuildFault {
+    ghost use Rattle.std.specs.Prelude.{◌≡◌, None};
+    ghost use Rattle.flatc_tool.specs.FaultNumbers.{build_number_of};
+
+    /// The fault's number, which tells it from all others.
+    pub fn number(self) -> u8
+        ensures { result ≡ build_number_of self }
+    {
+        match self {
+            BuildFault::TooBig => 40,
+            BuildFault::Memory => 41,
+        }
+    }
+
+    /// None: a value's size has no place.
+    pub fn offset(self) -> Option<u64>
+        ensures { result ≡ None }
+    {
+        None
+    }
+}
+
+impl JsonFault {
+    ghost use Rattle.std.specs.Prelude.{◌≡◌, None};
+    ghost use Rattle.flatc_tool.specs.FaultNumbers.{json_number_of};
+
+    /// The fault's number, which tells it from all others.
+    pub fn number(self) -> u8
+        ensures { result ≡ json_number_of self }
+    {
+        match self {
+            JsonFault::WrongShape(_) => 70,
+            JsonFault::NotWhole(_) => 71,
+            JsonFault::OutOfRange(_) => 72,
+            JsonFault::UnknownMember(_) => 74,
+            JsonFault::TooManyCells(_) => 79,
+            JsonFault::Memory => 80,
+        }
+    }
+
+    /// None: its place is a type and a slot, not an offset.
+    pub fn offset(self) -> Option<u64>
+        ensures { result ≡ None }
+    {
+        None
+    }
+}
+
+impl TextFault {
+    ghost use Rattle.std.specs.Prelude.{◌≡◌, None};
+
+    /// The fault's number, which tells it from all others.
+    pub fn number(self) -> u8
+        ensures { result ≡ 84 }
+    {
+        84
+    }
+
+    /// None: a text that isn't printed has no place.
+    pub fn offset(self) -> Option<u64>
+        ensures { result ≡ None }
+    {
+        None
+    }
+}
+
+impl ToolFault {
+    ghost use Rattle.std.specs.Prelude.{◌≡◌};
+    ghost use Rattle.flatc_tool.specs.FaultNumbers.{number_of, offset_of};
+
+    /// The fault's number, which tells it from all others.
+    pub fn number(self) -> u8
+        ensures { result ≡ number_of self }
+    {
+        match self {
+            ToolFault::Schema(fault) => fault.number(),
+            ToolFault::Json(fault) => fault.number(),
+            ToolFault::Build(fault) => fault.number(),
+            ToolFault::Read(fault) => fault.number(),
+            ToolFault::Text(fault) => fault.number(),
+            ToolFault::BadJson => 113,
+            ToolFault::Memory => 114,
+            ToolFault::NotYet => 120,
+        }
+    }
+
+    /// Where it stands in the schema text or the buffer, in bytes from the start, if it has such a
+    /// place.
+    pub fn offset(self) -> Option<u64>
+        ensures { result ≡ offset_of self }
+    {
+        match self {
+            ToolFault::Schema(fault) => fault.offset(),
+            ToolFault::Read(fault) => fault.offset(),
+            _ => None,
+        }
+    }
+}
+
 impl From<AllocError> for JsonFault {
     ghost use Rattle.std.specs.Prelude.{◌≡◌};
     ghost use Rattle.flatc_tool.specs.declared.faults.JsonFault.TheVariants.{Memory};

@@ -24,6 +24,33 @@ pub enum SchemaTextFault {
     Layout(LayoutFault),
 }
 
+impl SchemaTextFault {
+    ghost use Rattle.std.specs.Prelude.{◌≡◌};
+    ghost use Rattle.flatc_tool.specs.FaultNumbers.{schema_number_of, schema_offset_of};
+
+    /// The fault's number, which tells it from all others.
+    pub fn number(self) -> u8
+        ensures { result ≡ schema_number_of self }
+    {
+        match self {
+            SchemaTextFault::Syntax(fault) => fault.number(),
+            SchemaTextFault::Schema(fault) => fault.number(),
+            SchemaTextFault::Layout(fault) => fault.number(),
+        }
+    }
+
+    /// Where it stands, in bytes from the text's start, if it has such a place.
+    pub fn offset(self) -> Option<u64>
+        ensures { result ≡ schema_offset_of self }
+    {
+        match self {
+            SchemaTextFault::Syntax(fault) => fault.offset(),
+            SchemaTextFault::Schema(fault) => fault.offset(),
+            SchemaTextFault::Layout(fault) => fault.offset(),
+        }
+    }
+}
+
 /// The layout of the schema that a text declares.
 ///
 /// The refusal is that of the first layer that refuses, and of the faults of declarations the least;

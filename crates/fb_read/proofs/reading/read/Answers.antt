@@ -11,6 +11,7 @@ use Rattle.fb_value.proofs.IntTables.{fits_ints}
 use Rattle.fb_value.proofs.Views.{view-Fields}
 use Rattle.fb_read.proofs.Refused.{by_reference, by_table, by_cells, by_slot}
 use Rattle.fb_read.proofs.Found.{found, none_required, no_identifier}
+use Rattle.fb_read.proofs.IntEntries.{numbers_enter_none}
 use Rattle.fb_read.proofs.reading.read.Goals as goal
 
 pub returns-in_err-at-clause-fault : goal.returns-in_err-at-clause-fault
@@ -100,3 +101,8 @@ returns-clause-fits c =
     let numbers = c.in_ok-numbers.ensures.numbers (one_table is.0 names) in
     let long : length c.in_ok-numbers.numbers.items ≡ length names = numbers.long ∙ sym (length-map c.plain_slots-fields.result.now slot_name) in
     rw (is.1, view-Fields root c.in_ok-numbers.numbers) ((fits_ints is.0 names 0 0 c.in_ok-numbers.numbers.items).1 (refl, refl, long, c.in_ok-numbers.ensures.ints))
+
+pub returns-clause-each : goal.returns-clause-each
+returns-clause-each c =
+    let root : TypeId = record { 0 = 0 } in
+    rw (view-Fields root c.in_ok-numbers.numbers, numbers_enter_none c.in_ok-numbers.numbers.items c.in_ok-numbers.ensures.ints) (omega arith)

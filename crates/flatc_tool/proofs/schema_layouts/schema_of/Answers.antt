@@ -8,11 +8,12 @@ use Rattle.fb_declare.specs.Declares.{Declares}
 use Rattle.fb_declare.specs.TypeFaults.{faults_of}
 use Rattle.fb_declare.specs.Faults.{least_of}
 use Rattle.fb_declare.proofs.OneSchema.{one_declared}
-use Rattle.flatc_tool.proofs.OneText.{none_least}
+use Rattle.flatc_tool.proofs.OneText.{none_least, syntax_refused}
 use Rattle.flatc_tool.proofs.schema_layouts.schema_of.Goals as goal
 
 pub returns-in-Err-clause-refused : goal.returns-in-Err-clause-refused
-returns-in-Err-clause-refused c no_memory d parsed = no_memory (c.in-Err.ensures.exact d parsed)
+returns-in-Err-clause-refused c =
+    syntax_refused c.args.text.now c.in-Err.fault (λ at e. (c.in-Err.ensures.not_utf8 at).0 (ap Err e)) c.in-Err.ensures.utf8 c.in-Err.ensures.spelled_by_none c.in-Err.ensures.spelled (λ d parses. c.in-Err.ensures.exact d parses)
 
 same_fault : {A : Type 0} (f g : SyntaxFault) → ◌≡◌ {A = Result A SchemaTextFault} (Err (Syntax f)) (Err (Syntax g)) → f ≡ g
 same_fault f g e = cc
