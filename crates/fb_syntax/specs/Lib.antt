@@ -25,3 +25,4 @@ pub mod GrammarTypes
 pub mod GrammarSchema
 pub mod OneReading
 pub mod Parsed
+pub mod Refusals
