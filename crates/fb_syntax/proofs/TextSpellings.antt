@@ -8,6 +8,7 @@ use Rattle.fb_syntax.specs.declared.faults.SyntaxFault.{SyntaxFault}
 use Rattle.fb_syntax.specs.declared.faults.SyntaxFault.TheVariants.{NotUtf8, BadByte, Unterminated, NumberTooBig, Unexpected, NestedVector, Memory}
 use Rattle.fb_syntax.specs.Spells.{Finds, Spells, finished, gap, token, SpellsText, OneSpelling, byte_order_mark}
 use Rattle.fb_syntax.specs.SpelledTokens.{IsTokenOf}
+use Rattle.fb_syntax.specs.Refusals.{IsToldOfNoTokens}
 use Rattle.fb_syntax.specs.Marks.{mark_len}
 use Rattle.fb_syntax.specs.Pieces.{piece_at}
 use Rattle.fb_syntax.proofs.TokenStarts.{and_both}
@@ -138,3 +139,13 @@ finds_memory view (NumberTooBig at) tokens h = absurd h
 finds_memory view (Unexpected at) tokens h = absurd h
 finds_memory view (NestedVector at) tokens h = absurd h
 finds_memory view Memory tokens h = refl
+
+-- where tokens that spell a text would have been found, a fault of tokens says that none do
+pub told_of_no_tokens : {X : Type 0} (view : X → List Token) (text : List ℕ) (fault : SyntaxFault) → ((tokens : List Token) → SpellsText text tokens → Finds {X = X} view (Err fault) tokens) → IsToldOfNoTokens text fault
+told_of_no_tokens view text (NotUtf8 at) only = tt
+told_of_no_tokens view text (BadByte at) only = only
+told_of_no_tokens view text (Unterminated at) only = only
+told_of_no_tokens view text (NumberTooBig at) only = only
+told_of_no_tokens view text (Unexpected at) only = tt
+told_of_no_tokens view text (NestedVector at) only = tt
+told_of_no_tokens view text Memory only = tt

@@ -26,3 +26,4 @@ pub mod GrammarSchema
 pub mod OneReading
 pub mod Parsed
 pub mod FaultNumbers
+pub mod Refusals

@@ -1,8 +1,9 @@
 //! A schema text, from bytes to declarations.
-ghost use Rattle.std.specs.Prelude.{◌≡◌, ◌↔◌, ℕ, IfOk, MatchResult, Err, IsUtf8};
+ghost use Rattle.std.specs.Prelude.{◌≡◌, ◌↔◌, ℕ, IfOk, IfErr, MatchResult, Err, IsUtf8};
 ghost use Rattle.std.specs.Str.Lossy.{utf8_valid_len};
 ghost use Rattle.fb_syntax.specs.DeclsRead.{DeclsRead};
 ghost use Rattle.fb_syntax.specs.Parsed.{Parses};
+ghost use Rattle.fb_syntax.specs.Refusals.{IsToldOfUtf8, IsToldOfNoTokens, IsToldOfTokens};
 
 use crate::declarations::Decls;
 use crate::faults::SyntaxFault;
@@ -21,6 +22,9 @@ pub fn parse(alloc: Global, text: &[u8]) -> Result<Decls, SyntaxFault>
         → MatchResult result (λ r. r ≡ d) (λ e. e ≡ SyntaxFault.Memory) }
     ensures not_utf8 { (at : ℕ) → ((result ≡ Err (SyntaxFault.NotUtf8 at))
         ↔ (¬ (IsUtf8 text.now) × (at ≡ utf8_valid_len text.now))) }
+    ensures utf8 { IfErr result (IsToldOfUtf8 text.now) }
+    ensures spelled_by_none { IfErr result (IsToldOfNoTokens text.now) }
+    ensures spelled { IfErr result (IsToldOfTokens text.now) }
 {
     let readable = text_of(text)?;
     let tokens = tokens_in(alloc, readable)?;

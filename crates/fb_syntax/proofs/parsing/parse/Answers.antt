@@ -3,7 +3,7 @@ use Rattle.std.proofs.lemmas.Result.{err_from_is_err_and}
 use Rattle.fb_syntax.specs.declared.tokens.Token.{Token}
 use Rattle.fb_syntax.specs.Spells.{SpellsText}
 use Rattle.fb_syntax.specs.GrammarSchema.{Reads}
-use Rattle.fb_syntax.proofs.TextSpellings.{finds_memory, one_spelling_shown}
+use Rattle.fb_syntax.proofs.TextSpellings.{finds_memory, one_spelling_shown, told_of_no_tokens}
 use Rattle.fb_syntax.proofs.ReadableTokens.{all_readable}
 use Rattle.fb_syntax.proofs.parsing.parse.Goals as goal
 
@@ -13,6 +13,12 @@ returns-in_err-tokens-clause-exact c =
     λ d parses.
     (let spells = subst (λ (b : List ℕ). SpellsText b parses.0) (sym c.in_ok-readable.ensures.text.0) parses.1 in
     rw (p.1, p.2) (finds_memory {X = Vec Token Global} (λ v. v.items) c.in_err-tokens.field-0.0 parses.0 (c.in_err-tokens.ensures.only parses.0 spells)))
+
+pub returns-in_err-tokens-clause-spelled_by_none : goal.returns-in_err-tokens-clause-spelled_by_none
+returns-in_err-tokens-clause-spelled_by_none c =
+    let p = err_from_is_err_and c.from_residual-in_err-tokens.result c.from_residual-in_err-tokens.ensures.1 in
+    rw (p.1, p.2) (told_of_no_tokens {X = Vec Token Global} (λ v. v.items) c.args.text.now c.in_err-tokens.field-0.0
+    (λ tokens spells. c.in_err-tokens.ensures.only tokens (subst (λ (b : List ℕ). SpellsText b tokens) (sym c.in_ok-readable.ensures.text.0) spells)))
 
 pub declarations_of-requires : goal.declarations_of-requires
 declarations_of-requires c =

@@ -1,0 +1,24 @@
+-- What each fault of a schema text says of the text (Writing a schema; Grammar).
+use Rattle.std.specs.Prelude.{ℕ, ◌≤◌, List, length, IsUtf8}
+use Rattle.fb_syntax.specs.declared.tokens.Token.{Token}
+use Rattle.fb_syntax.specs.declared.faults.SyntaxFault.{SyntaxFault}
+use Rattle.fb_syntax.specs.declared.faults.SyntaxFault.TheVariants.{NotUtf8, BadByte, Unterminated, NumberTooBig, Unexpected, NestedVector, Memory}
+use Rattle.fb_syntax.specs.Spells.{SpellsText}
+
+-- Every fault but NotUtf8, also want of memory, is told of a text that is UTF-8.
+abbrev pub IsToldOfUtf8 : List ℕ → SyntaxFault → Type 0
+IsToldOfUtf8 text (NotUtf8 at) = Unit {0}
+IsToldOfUtf8 text _ = IsUtf8 text
+
+-- A byte that no token begins with, a comment or quoted text without an end, an integer too great: no tokens spell the text.
+abbrev pub IsToldOfNoTokens : List ℕ → SyntaxFault → Type 0
+IsToldOfNoTokens text (BadByte at) = (tokens : List Token) → ¬ (SpellsText text tokens)
+IsToldOfNoTokens text (Unterminated at) = (tokens : List Token) → ¬ (SpellsText text tokens)
+IsToldOfNoTokens text (NumberTooBig at) = (tokens : List Token) → ¬ (SpellsText text tokens)
+IsToldOfNoTokens text _ = Unit {0}
+
+-- A token that the grammar doesn't expect: tokens spell the text.
+abbrev pub IsToldOfTokens : List ℕ → SyntaxFault → Type 0
+IsToldOfTokens text (Unexpected at) = (tokens : List Token) × SpellsText text tokens
+IsToldOfTokens text (NestedVector at) = (tokens : List Token) × SpellsText text tokens
+IsToldOfTokens text _ = Unit {0}
