@@ -39,10 +39,6 @@ zip_length R [] (y ∷ ys) z = absurd z
 zip_length R (x ∷ xs) [] z = absurd z
 zip_length R (x ∷ xs) (y ∷ ys) z = ap suc (zip_length R xs ys z.1)
 
--- The schema has as many types.
-pub length-Gives : (o : Outline) (S : DeclaredSchema) → Gives o S → length o.types ≡ length S.types
-length-Gives o S g = zip_length (IsType o.types) o.types S.types g.types
-
 -- a type of the schema, and what declares it
 pub type_from_read : (o : Outline) (S : DeclaredSchema) → Gives o S → (t : ℕ) (r : TypeRead) → slice_get o.types t ≡ Some r
     → (type : DeclaredType) × (slice_get S.types t ≡ Some type) × IsType o.types r type
@@ -128,7 +124,3 @@ means_in o S g scope name = means_name S (basic_type name) _ (means_other S (is_
 -- a known name names a type of its kind
 pub kind_named : (o : Outline) (S : DeclaredSchema) → Gives o S → (scope : Option Name) (name : Name) (kind : Kind) → meaning_of o.types scope name ≡ Known kind → KindNames S kind
 kind_named o S g scope name kind e = (subst (MeansIn S) e (means_in o S g scope name)).0
-
--- and never a union's code
-pub never_code : (o : Outline) (S : DeclaredSchema) → Gives o S → (scope : Option Name) (name : Name) (kind : Kind) → meaning_of o.types scope name ≡ Known kind → IsNoCode kind
-never_code o S g scope name kind e = (subst (MeansIn S) e (means_in o S g scope name)).1

@@ -26,7 +26,3 @@ take-all [] zero h = refl
 take-all [] (suc i) h = refl
 take-all (x ∷ xs) zero h = absurd (omega arith)
 take-all (x ∷ xs) (suc i) h = ap (λ r. x ∷ r) (take-all xs i (omega arith))
-
--- all places
-pub zipped-all : {A B : Type 0} (R : A → B → Type 0) (xs : List A) (ys : List B) (i : ℕ) → length xs ≤ i → AllZip R (take i xs) ys → AllZip R xs ys
-zipped-all R xs ys i h zipped = subst (λ l. AllZip R l ys) (take-all xs i h) zipped

@@ -232,10 +232,6 @@ fields_small S structs positive placed h (f ∷ fs) =
 
 -- ---- whole structs
 
--- the alignment of a struct of these kinds
-abbrev pub whole_align : LaidSchema → List StoredKind → Option ℕ → ℕ
-whole_align L kinds force = unwrap_or force (natural_align L kinds)
-
 whole-small : (force : Option ℕ) (placed : StructLayout) → 0 < unwrap_or force placed.align
     → option_and_then (whole_struct force) (if_small placed) ≡ if_small (record { size = next_multiple_of placed.size (unwrap_or force placed.align); align = unwrap_or force placed.align; offsets = placed.offsets })
 whole-small force placed positive = by (nat_lt placed.size 65536) refl

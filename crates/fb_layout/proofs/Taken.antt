@@ -11,10 +11,6 @@ struct_known [] s = refl
 struct_known (k ∷ ks) zero = refl
 struct_known (k ∷ ks) (suc s) = struct_known ks s
 
-size_in : (sizes : Option StructLayout) → option_map_or (λ e. e.size) (extent_in sizes) 0 ≡ (unwrap_or sizes no_struct).size
-size_in None = refl
-size_in (Some s) = refl
-
 align_in : (sizes : Option StructLayout) → option_map_or (λ e. e.align) (extent_in sizes) 1 ≡ (unwrap_or sizes no_struct).align
 align_in None = refl
 align_in (Some s) = refl

@@ -44,10 +44,6 @@ place_is (n ∷ names) name p d e = by (bytes_eq name n) refl (place_of names na
         let found = rest r refl in
         (omega (arith, e, found.0), ap (λ k. get_or names k d) (sym e) ∙ found.1)
 
-none_or : (o r : Option ℕ) → option_or o r ≡ None → (o ≡ None) × (r ≡ None)
-none_or None r e = (refl, e)
-none_or (Some x) r e = cc
-
 -- what is meant among longer names is longer
 pub meant_longer : (names : List Name) (m : ℕ) (full_names : List Name) (p : ℕ) → Longer m full_names → meant_among names full_names ≡ Some p → (p < length names) × (m < length (get_or names p []))
 meant_longer names m [] p longer e = cc

@@ -127,10 +127,3 @@ one_value L b s p v w first second =
     let fuel = max (height v) (height w) in
     let e : Some v ≡ Some w = sym (at_complete L b s p v fuel first (omega arith)) ∙ at_complete L b s p w fuel second (omega arith) in
     cc
-
--- What stands in its place is one number or struct at most.
-pub one_inline : (L : LaidSchema) (b : Bytes) (kind : StoredKind) (p : ℕ) (v w : Datum) → LiesInline L b kind p v → LiesInline L b kind p w → v ≡ w
-one_inline L b kind p v w first second =
-    let fuel = max (height v) (height w) in
-    let e : Some v ≡ Some w = sym (inline_complete L b kind p v fuel first (omega arith)) ∙ inline_complete L b kind p w fuel second (omega arith) in
-    cc

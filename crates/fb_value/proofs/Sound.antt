@@ -147,7 +147,3 @@ sound (suc fuel) L b (part_place (member_part c t)) p d e =
 sound (suc fuel) L b (ref_place X) p d e = cc
 sound (suc fuel) L b (code_place u k required here) p d e = cc
 sound (suc fuel) L b (unknown_place c) p d e = cc
-
--- What is computed at a place, also through a reference, lies there.
-pub at_sound : (fuel : ℕ) (L : LaidSchema) (b : Bytes) (s : Sort) (p : ℕ) (d : Datum) → through L b s p (λ s q. datum_at fuel L b s q) ≡ Some d → LiesAt L b s p d
-at_sound fuel L b s p d e = through_sound L b fuel (λ s q x h. sound fuel L b s q x h) s p d e

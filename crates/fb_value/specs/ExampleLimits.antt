@@ -1,5 +1,7 @@
 -- Buffers that the limits of depth and cells refuse.
 use Rattle.std.specs.Prelude.{ℕ, zero, suc, ◌+◌, ◌-◌, ◌/◌, ◌%◌, ◌≡◌, List, [], ◌∷◌, ◌++◌, length, false, Option, None, Some, refl}
+use Rattle.std.specs.Str.Lossy.{utf8_valid_len}
+use Rattle.std.specs.Str.{is_utf8, chars}
 use Rattle.std.proofs.Common.{ap, subst, sym, lit≤}
 use Rattle.fb_layout.specs.Laid.{slots_of}
 use Rattle.fb_value.specs.declared.faults.ReadFault.{ReadFault}
@@ -13,7 +15,8 @@ use Rattle.fb_value.specs.Rules.{first_failing, fault_by, fault_at}
 use Rattle.fb_value.specs.Lies.{Lies, LiesSlots}
 use Rattle.fb_value.specs.Faults.{all_within, all, limited_fault, first_fault, fault_from}
 use Rattle.fb_value.specs.Holds.{header_fault, Holds, computed_fault}
-use Rattle.fb_value.specs.ExampleLayouts.{usual, one_int, table_in_table, tables_in_table}
+use Rattle.fb_value.specs.ExampleLayouts.{usual, one_int, one_text, table_in_table, tables_in_table}
+use Rattle.fb_value.specs.ExampleTexts.{hi_bytes}
 use Rattle.fb_value.specs.ExampleTables.{seven_bytes}
 
 -- Where no cell is allowed, the root's table is one too many.
@@ -143,3 +146,13 @@ too_many_at_table = refl
 pub too_many_at_vector : computed_fault tables_in_table (record { depth = 64; cells = 999 }) false doubled_bytes ≡ Some (TooManyCells 584)
 unfolding num slot_number named_slots named_elements first_failing fault_by all_within all limited_fault first_fault fault_from header_fault pairs_from
 too_many_at_vector = refl
+
+-- A text counts its bytes: 1 for the table, and 3 for the text `hi` are one more than 3.
+pub too_many_at_text : computed_fault one_text (record { depth = 64; cells = 3 }) false hi_bytes ≡ Some (TooManyCells 20)
+unfolding num slot_number named_slots named_elements first_failing fault_by all_within all limited_fault first_fault fault_from header_fault utf8_valid_len is_utf8 chars lib.Utf8.encode
+too_many_at_text = refl
+
+-- With 4 cells there is no fault.
+pub text_kept : computed_fault one_text (record { depth = 64; cells = 4 }) false hi_bytes ≡ None
+unfolding num slot_number named_slots named_elements first_failing fault_by all_within all limited_fault first_fault fault_from header_fault utf8_valid_len is_utf8 chars lib.Utf8.encode
+text_kept = refl

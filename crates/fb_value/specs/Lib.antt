@@ -29,4 +29,9 @@ pub mod ExampleUnions
 pub mod ExampleMarks
 pub mod ExampleRooms
 pub mod ExampleLimits
+pub mod ExampleNumbers
+pub mod ExampleRequiredUnions
+pub mod ExampleNested
+pub mod ExampleFits
+pub mod ExampleOldSlots
 pub mod FaultNumbers

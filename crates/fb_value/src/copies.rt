@@ -14,6 +14,14 @@ pub fn copy(alloc: Global, value: &Value) -> Result<Value, AllocError>
     copy_in(alloc, value)
 }
 
+/// The same value in memory of its own, for a caller that walks a value itself and so has bounded its
+/// nesting already.
+pub fn copy_part(alloc: Global, value: &Value) -> Result<Value, AllocError>
+    ensures { IfOk result (λ copied. view copied ≡ view value.now) }
+{
+    copy_in(alloc, value)
+}
+
 #[cycle(copy)]
 fn copy_in(alloc: Global, value: &Value) -> Result<Value, AllocError>
     ensures { IfOk result (λ copied. view copied ≡ view value.now) }

@@ -14,7 +14,7 @@ mod values;
 mod wanted;
 mod wholeness;
 
-pub use copies::copy;
+pub use copies::{copy, copy_part};
 pub use counts::{cells, depth};
 pub use faults::ReadFault;
 pub use fitting::fits;

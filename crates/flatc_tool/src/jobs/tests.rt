@@ -256,7 +256,34 @@ fn no_cells_refuse_bytes_at_the_table(rt: HostRuntime) {
 
 #[test]
 fn other_schemas_are_told_before_the_rest(rt: HostRuntime) {
-    let rows: [(&str, &[u8], ToolFault); 12] = [
+    let rows: [(&str, &[u8], ToolFault); 19] = [
+        (
+            "a byte that is no UTF-8",
+            b"table T\xff { }",
+            syntax(SyntaxFault::NotUtf8(7)),
+        ),
+        (
+            "such a byte behind one that begins no token",
+            b"# \xff",
+            syntax(SyntaxFault::NotUtf8(2)),
+        ),
+        (
+            "half a character in a comment",
+            b"table T { } // \xc3",
+            syntax(SyntaxFault::NotUtf8(15)),
+        ),
+        ("a byte that begins no token", b"} #", syntax(SyntaxFault::BadByte(2))),
+        ("an open comment", b"/* x", syntax(SyntaxFault::Unterminated(0))),
+        (
+            "an integer of 65 bits",
+            b"table T { a:int = 18446744073709551616; } root_type T;",
+            syntax(SyntaxFault::NumberTooBig(18)),
+        ),
+        (
+            "a vector of vectors",
+            b"table T { v:[[int]]; }",
+            syntax(SyntaxFault::NestedVector(13)),
+        ),
         ("the empty text", b"", schema(SchemaFault::BadRoot(0))),
         (
             "no schema text",
@@ -344,3 +371,5 @@ fn schema_texts_may_be_laid_out_at_will(rt: HostRuntime) -> Result<(), Fail> {
     }
     Ok(())
 }
+
+mod many_fields;
