@@ -1,11 +1,12 @@
 -- Laws of the bytes that hold a value, over every layout that is well made.
-use Rattle.std.specs.Prelude.{◌≡◌, ◌+◌, ◌↔◌, Bool, Option, None, Some}
+use Rattle.std.specs.Prelude.{◌≡◌, ◌+◌, ◌≤◌, ◌↔◌, Bool, Option, None, Some}
 use Rattle.fb_layout.specs.Laid.{LaidSchema}
 use Rattle.fb_layout.specs.WellMade.{IsWellMade}
 use Rattle.fb_value.specs.declared.faults.ReadFault.{ReadFault}
 use Rattle.fb_value.specs.Bounds.{Bounds}
 use Rattle.fb_value.specs.Datum.{Datum}
-use Rattle.fb_value.specs.Counts.{cells}
+use Rattle.fb_value.specs.Counts.{cells, depth, nesting}
+use Rattle.fb_value.specs.Fits.{FitsRoot}
 use Rattle.fb_value.specs.Num.{Bytes}
 use Rattle.fb_value.specs.Places.{Place, named}
 use Rattle.fb_value.specs.Rules.{fault_at}
@@ -47,3 +48,7 @@ HeldOrFault L most raw b (Some f) = Refuses L most raw b f
 -- A value is held exactly where no fault stands.
 abbrev pub ValueOrFault : Type 0
 ValueOrFault = (L : LaidSchema) (most : Bounds) (raw : Bool) (b : Bytes) → IsWellMade L → HeldOrFault L most raw b (computed_fault L most raw b)
+
+-- What fits the root with at most 127 tables in one another is nested at most 300 deep.
+abbrev pub NestingOfDepth : Type 0
+NestingOfDepth = (L : LaidSchema) (d : Datum) → IsWellMade L → FitsRoot L d → depth d ≤ 127 → nesting d ≤ 300

@@ -1,5 +1,5 @@
 //! Laws of the bytes that hold a value.
-ghost use Rattle.fb_value.specs.Laws.{OneValue, ValueWhereAllKeep, CellsOfPlace, CellsOfValue, FaultOfLeastPath, ValueOrFault};
+ghost use Rattle.fb_value.specs.Laws.{OneValue, ValueWhereAllKeep, CellsOfPlace, CellsOfValue, FaultOfLeastPath, ValueOrFault, NestingOfDepth};
 
 /// Bytes hold one value at most.
 pub fn one_value()
@@ -29,4 +29,9 @@ pub fn fault_of_least_path()
 /// Bytes hold a value exactly where no fault stands, and else have a least one.
 pub fn value_or_fault()
     ensures { ValueOrFault }
+{}
+
+/// What fits the root, with at most 127 tables in one another, is nested at most 300 deep.
+pub fn nesting_of_depth()
+    ensures { NestingOfDepth }
 {}
