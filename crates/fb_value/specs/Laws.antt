@@ -1,5 +1,5 @@
 -- Laws of the bytes that hold a value, over every layout that is well made.
-use Rattle.std.specs.Prelude.{◌≡◌, ◌+◌, ◌≤◌, ◌↔◌, Bool, Option, None, Some}
+use Rattle.std.specs.Prelude.{ℕ, ◌≡◌, ◌+◌, ◌≤◌, ◌↔◌, Bool, Option, None, Some}
 use Rattle.fb_layout.specs.Laid.{LaidSchema}
 use Rattle.fb_layout.specs.WellMade.{IsWellMade}
 use Rattle.fb_value.specs.declared.faults.ReadFault.{ReadFault}
@@ -12,7 +12,7 @@ use Rattle.fb_value.specs.Places.{Place, named}
 use Rattle.fb_value.specs.Rules.{fault_at}
 use Rattle.fb_value.specs.Lies.{LiesAt}
 use Rattle.fb_value.specs.Reached.{Path, AllKeep}
-use Rattle.fb_value.specs.Faults.{own_cells, sum_over, if_kept, FaultFrom, LeastFrom, all, fault_from}
+use Rattle.fb_value.specs.Faults.{own_cells, own_tables, sum_over, if_kept, or_else, limited_fault, FaultFrom, LeastFrom, first_among, all, fault_from}
 use Rattle.fb_value.specs.Holds.{Holds, HasNoFault, Refuses, computed_fault, root_place}
 
 -- Bytes hold one value at most.
@@ -52,3 +52,10 @@ ValueOrFault = (L : LaidSchema) (most : Bounds) (raw : Bool) (b : Bytes) → IsW
 -- What fits the root with at most 127 tables in one another is nested at most 300 deep.
 abbrev pub NestingOfDepth : Type 0
 NestingOfDepth = (L : LaidSchema) (d : Datum) → IsWellMade L → FitsRoot L d → depth d ≤ 127 → nesting d ≤ 300
+
+-- The first fault from a place: its own, the limits last, or the first among those of the places that it names.
+abbrev pub FaultOfPlace : Type 0
+FaultOfPlace =
+    (L : LaidSchema) (b : Bytes) (most : Bounds) (x : Place) (tables spent : ℕ) → fault_from L b most x tables spent
+    ≡ or_else (limited_fault L b most x (tables + own_tables x.sort) (spent + own_cells b x.sort x.at))
+    (first_among (λ y before. fault_from L b most y (tables + own_tables x.sort) before) (all L b) (spent + own_cells b x.sort x.at) (named L b x.sort x.at))

@@ -17,6 +17,7 @@ pub mod Faults
 pub mod Holds
 pub mod OldSlots
 pub mod Reads
+pub mod Nth
 pub mod Laws
 pub mod Ints
 pub mod ExampleLayouts

@@ -1,5 +1,6 @@
 //! Laws of the bytes that hold a value.
-ghost use Rattle.fb_value.specs.Laws.{OneValue, ValueWhereAllKeep, CellsOfPlace, CellsOfValue, FaultOfLeastPath, ValueOrFault, NestingOfDepth};
+ghost use Rattle.fb_value.specs.Laws.{OneValue, ValueWhereAllKeep, CellsOfPlace, CellsOfValue, FaultOfLeastPath, ValueOrFault, NestingOfDepth, FaultOfPlace};
+ghost use Rattle.fb_value.specs.Nth.{EntryLies, ElementLies, PartLies};
 
 /// Bytes hold one value at most.
 pub fn one_value()
@@ -34,4 +35,24 @@ pub fn value_or_fault()
 /// What fits the root, with at most 127 tables in one another, is nested at most 300 deep.
 pub fn nesting_of_depth()
     ensures { NestingOfDepth }
+{}
+
+/// What a table has in a slot lies where the slot's number leads.
+pub fn entry_lies()
+    ensures { EntryLies }
+{}
+
+/// What a vector has as an element lies as far on as its number says.
+pub fn element_lies()
+    ensures { ElementLies }
+{}
+
+/// What a struct has in a field lies at the field's offset.
+pub fn part_lies()
+    ensures { PartLies }
+{}
+
+/// The first fault from a place is its own, or the first of those that it names.
+pub fn fault_of_place()
+    ensures { FaultOfPlace }
 {}

@@ -19,8 +19,8 @@ pub use counts::{cells, depth};
 pub use faults::ReadFault;
 pub use fitting::fits;
 pub use laws::{
-    cells_of_place, cells_of_value, fault_of_least_path, nesting_of_depth, one_value,
-    value_or_fault, value_where_all_keep,
+    cells_of_place, cells_of_value, element_lies, entry_lies, fault_of_least_path, fault_of_place,
+    nesting_of_depth, one_value, part_lies, value_or_fault, value_where_all_keep,
 };
 pub use limits::Limits;
 pub use plainness::{plain, plain_slots};
