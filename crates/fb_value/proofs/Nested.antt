@@ -1,5 +1,6 @@
 -- What fits the root and is few tables deep is nested little deeper.
-use Rattle.std.proofs.Common.{◌≡◌, ℕ, suc, ◌+◌, ◌*◌, ◌≤◌, max, List, [], ◌∷◌, length, Bool, true, false, IsTrue, Option, None, Some, slice_get, refl, arith}
+use Rattle.std.proofs.Common.{◌≡◌, ◌↔◌, ℕ, suc, ◌+◌, ◌*◌, ◌<◌, ◌≤◌, max, List, [], ◌∷◌, length, Bool, true, false, IsTrue, Option, None, Some, slice_get, refl, arith}
+use Rattle.std.proofs.lemmas.Option.{slice_get-get_or}
 use Rattle.fb_schema.specs.Schema.{DeclaredBody, table_body, struct_body, enum_body, union_body, DeclaredType, body_in, is_table}
 use Rattle.fb_layout.specs.Laid.{LaidSchema, Slot, StoredKind, scalar_kind, struct_kind, table_kind, union_kind, code_kind, text_kind, StoredShape, one_of, vector_of, slots_of, parts_of, struct_at}
 use Rattle.fb_layout.specs.WellMade.{IsWellMade}
@@ -8,6 +9,10 @@ use Rattle.fb_value.specs.Counts.{depth, parts_depth, entries_depth, nesting, pa
 use Rattle.fb_value.specs.Fits.{Fits, PartsFit, EachFits, EntriesFit, kind_of_type, FitsKind, FitsRoot}
 use Rattle.fb_value.specs.Laws.{NestingOfDepth}
 use Rattle.fb_value.proofs.Resolved.{LowerParts, IsElement, IsStored, AreStored, IsResolved, resolved}
+
+-- a type that stands where none does
+no_type : DeclaredType
+no_type = record { name = []; body = table_body [] }
 
 module _ (L : LaidSchema) (most : ℕ) (made : IsResolved L most) where
   -- A struct's parts are numbers and structs, which take no level of their own.
@@ -65,21 +70,21 @@ module _ (L : LaidSchema) (most : ℕ) (made : IsResolved L most) where
         omega (arith, first, rest)
     entries_nested _ _ stored fit = absurd fit
 
--- What fits a declared table fits its kind.
-fits_body : (L : LaidSchema) (t : ℕ) (type : DeclaredType) (body : DeclaredBody) (d : Datum) → type.body ≡ body → IsTrue (is_table body) → FitsKind L (kind_of_type t (Some type)) d → Fits L (one_of (table_kind t)) d
-fits_body L t type (table_body fs) d e is fit = rw e at fit
-fits_body L t type (struct_body fs align) d e is fit = cc
-fits_body L t type (enum_body base flags values) d e is fit = cc
-fits_body L t type (union_body members) d e is fit = cc
+-- What fits a declared table's kind is what its type may have, and the other way round.
+body_fits : (L : LaidSchema) (t : ℕ) (type : DeclaredType) (body : DeclaredBody) (d : Datum) → type.body ≡ body → IsTrue (is_table body) → FitsKind L (kind_of_type t (Some type)) d ↔ Fits L (one_of (table_kind t)) d
+body_fits L t type (table_body fs) d e is = rw e ((λ h. h), (λ h. h))
+body_fits L t type (struct_body fs align) d e is = cc
+body_fits L t type (enum_body base flags values) d e is = cc
+body_fits L t type (union_body members) d e is = cc
 
-fits_declared : (L : LaidSchema) (t : ℕ) (o : Option DeclaredType) (d : Datum) → IsTrue (is_table (body_in o)) → FitsKind L (kind_of_type t o) d → Fits L (one_of (table_kind t)) d
-fits_declared L t None d is fit = absurd fit
-fits_declared L t (Some type) d is fit = fits_body L t type type.body d refl is fit
+type_fits : (L : LaidSchema) (t : ℕ) (o : Option DeclaredType) (d : Datum) → slice_get L.schema.types t ≡ o → t < length L.schema.types → IsTrue (is_table (body_in o)) → FitsKind L (kind_of_type t o) d ↔ Fits L (one_of (table_kind t)) d
+type_fits L t None d e within is = absurd (let there = slice_get-get_or L.schema.types t no_type within in cc)
+type_fits L t (Some type) d e within is = body_fits L t type type.body d refl is
 
--- What fits the root fits its table.
-pub fits_root : (L : LaidSchema) (d : Datum) → IsWellMade L → FitsRoot L d → Fits L (one_of (table_kind L.schema.root)) d
-fits_root L d made fit = fits_declared L L.schema.root (slice_get L.schema.types L.schema.root) d made.declared.root.1 fit
+-- What fits the root is what its table's kind may have.
+pub root_fits : (L : LaidSchema) (d : Datum) → IsWellMade L → FitsRoot L d ↔ Fits L (one_of (table_kind L.schema.root)) d
+root_fits L d made = type_fits L L.schema.root (slice_get L.schema.types L.schema.root) d refl made.declared.root.0 made.declared.root.1
 
 -- What fits the root with depth at most 127 is nested at most 300 deep.
 pub nesting_of_depth_shown : NestingOfDepth
-nesting_of_depth_shown L d made fit h = let within = table_nested L (length L.schema.types) (resolved L made) L.schema.root d (fits_root L d made fit) in omega (arith, within)
+nesting_of_depth_shown L d made fit h = let within = table_nested L (length L.schema.types) (resolved L made) L.schema.root d ((root_fits L d made).0 fit) in omega (arith, within)

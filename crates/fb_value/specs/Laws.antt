@@ -1,5 +1,5 @@
 -- Laws of the bytes that hold a value, over every layout that is well made.
-use Rattle.std.specs.Prelude.{ℕ, ◌≡◌, ◌+◌, ◌≤◌, ◌↔◌, Bool, Option, None, Some}
+use Rattle.std.specs.Prelude.{ℕ, ◌≡◌, ◌+◌, ◌<◌, ◌≤◌, ◌↔◌, All, Bool, Option, None, Some}
 use Rattle.fb_layout.specs.Laid.{LaidSchema}
 use Rattle.fb_layout.specs.WellMade.{IsWellMade}
 use Rattle.fb_value.specs.declared.faults.ReadFault.{ReadFault}
@@ -59,3 +59,7 @@ FaultOfPlace =
     (L : LaidSchema) (b : Bytes) (most : Bounds) (x : Place) (tables spent : ℕ) → fault_from L b most x tables spent
     ≡ or_else (limited_fault L b most x (tables + own_tables x.sort) (spent + own_cells b x.sort x.at))
     (first_among (λ y before. fault_from L b most y (tables + own_tables x.sort) before) (all L b) (spent + own_cells b x.sort x.at) (named L b x.sort x.at))
+
+-- The value that bytes hold is one that the root may have: each byte is below 256.
+abbrev pub FitsWhereHeld : Type 0
+FitsWhereHeld = (L : LaidSchema) (most : Bounds) (raw : Bool) (b : Bytes) (v : Datum) → IsWellMade L → All (λ x. x < 256) b → Holds L most raw b v → FitsRoot L v

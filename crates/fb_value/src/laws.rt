@@ -1,5 +1,5 @@
 //! Laws of the bytes that hold a value.
-ghost use Rattle.fb_value.specs.Laws.{OneValue, ValueWhereAllKeep, CellsOfPlace, CellsOfValue, FaultOfLeastPath, ValueOrFault, NestingOfDepth, FaultOfPlace};
+ghost use Rattle.fb_value.specs.Laws.{OneValue, ValueWhereAllKeep, CellsOfPlace, CellsOfValue, FaultOfLeastPath, ValueOrFault, NestingOfDepth, FaultOfPlace, FitsWhereHeld};
 ghost use Rattle.fb_value.specs.Nth.{EntryLies, ElementLies, PartLies};
 
 /// Bytes hold one value at most.
@@ -55,4 +55,9 @@ pub fn part_lies()
 /// The first fault from a place is its own, or the first of those that it names.
 pub fn fault_of_place()
     ensures { FaultOfPlace }
+{}
+
+/// The value that bytes hold fits the root.
+pub fn fits_where_held()
+    ensures { FitsWhereHeld }
 {}
