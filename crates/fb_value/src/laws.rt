@@ -1,5 +1,5 @@
 //! Laws of the bytes that hold a value.
-ghost use Rattle.fb_value.specs.Laws.{OneValue, ValueWhereAllKeep, CellsOfPlace, CellsOfValue, FaultOfLeastPath, ValueOrFault, NestingOfDepth, FaultOfPlace, FitsWhereHeld};
+ghost use Rattle.fb_value.specs.Laws.{OneValue, ValueWhereAllKeep, CellsOfPlace, CellsOfValue, FaultOfLeastPath, ValueOrFault, NestingOfDepth, FaultOfPlace, FitsWhereHeld, ValueOfPlace, ValueWhereLies};
 ghost use Rattle.fb_value.specs.Nth.{EntryLies, ElementLies, PartLies};
 
 /// Bytes hold one value at most.
@@ -60,4 +60,14 @@ pub fn fault_of_place()
 /// The value that bytes hold fits the root.
 pub fn fits_where_held()
     ensures { FitsWhereHeld }
+{}
+
+/// The value at a place is made of those at the places that it names.
+pub fn value_of_place()
+    ensures { ValueOfPlace }
+{}
+
+/// The value that is computed at a place is the one that lies there.
+pub fn value_where_lies()
+    ensures { ValueWhereLies }
 {}

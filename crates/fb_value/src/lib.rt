@@ -20,7 +20,8 @@ pub use faults::ReadFault;
 pub use fitting::fits;
 pub use laws::{
     cells_of_place, cells_of_value, element_lies, entry_lies, fault_of_least_path, fault_of_place,
-    fits_where_held, nesting_of_depth, one_value, part_lies, value_or_fault, value_where_all_keep,
+    fits_where_held, nesting_of_depth, one_value, part_lies, value_of_place, value_or_fault,
+    value_where_all_keep, value_where_lies,
 };
 pub use limits::Limits;
 pub use plainness::{plain, plain_slots};
