@@ -9,3 +9,5 @@ pub mod Wide
 pub mod FirstFault
 pub mod LaidOut
 pub mod OneSizing
+pub mod Alignments
+pub mod Filled

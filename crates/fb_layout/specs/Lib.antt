@@ -6,3 +6,4 @@ pub mod Known
 pub mod Refused
 pub mod Held
 pub mod OneLayout
+pub mod Laws

@@ -88,7 +88,8 @@ impl Layout {
 
     /// The fields of a struct; none of another type.
     pub fn parts_of(&self, structure: TypeId) -> &[FieldInfo]
-        ensures { map field_seen result.now ≡ parts_in (body_at self.now.schema structure.0) }
+        ensures parts { map field_seen result.now ≡ parts_in (body_at self.now.schema structure.0) }
+        ensures few { length result.now ≤ 65535 }
     {
         parts_at(&self.schema, structure)
     }
