@@ -1,5 +1,5 @@
 -- On a well-made layout alignments are powers of two, and sizes multiples of alignments.
-use Rattle.std.proofs.Common.{◌≡◌, ℕ, zero, suc, ◌+◌, ◌*◌, ◌<◌, ◌≤◌, ◌⊎◌, inl, inr, Bool, true, false, max, List, [], ◌∷◌, length, map, slice_get, slice_index_or, Option, None, Some, IsTrue, refl, arith, if◌then◌else◌}
+use Rattle.std.proofs.Common.{◌≡◌, ℕ, zero, suc, ◌*◌, ◌<◌, ◌≤◌, ◌⊎◌, inl, inr, Bool, true, false, max, List, [], ◌∷◌, length, map, slice_get, slice_index_or, Option, None, Some, IsTrue, refl, arith, if◌then◌else◌}
 use Rattle.std.specs.Option.{ForSome, unwrap_or}
 use Rattle.std.proofs.lemmas.Nat.{pow_pos}
 use Rattle.fb_schema.specs.declared.kinds.Base.{Base}
@@ -7,7 +7,7 @@ use Rattle.fb_schema.specs.declared.kinds.Base.TheVariants as the_base
 use Rattle.fb_schema.specs.declared.kinds.Kind.TheVariants.{Scalar, Enum, Struct, Table, Union, Code, Text}
 use Rattle.fb_schema.specs.declared.kinds.Shape.{Shape}
 use Rattle.fb_schema.specs.declared.kinds.Shape.TheVariants.{One, Many}
-use Rattle.fb_schema.specs.Schema.{DeclaredField, DeclaredType, body_at, slots_in, force_align_in, is_struct}
+use Rattle.fb_schema.specs.Schema.{DeclaredField, DeclaredType, body_at, slots_in, is_struct}
 use Rattle.fb_schema.specs.Alignments.{base_size, greatest_in}
 use Rattle.fb_schema.specs.WellDeclared.{IsPart, IsForceAlign}
 use Rattle.fb_layout.specs.Sizes.{IsAlignment}

@@ -11,7 +11,7 @@ use Rattle.fb_schema.specs.declared.types.FieldInfo.{FieldInfo}
 use Rattle.fb_schema.specs.Seen.{field_seen}
 use Rattle.fb_schema.specs.WellDeclared.{IsPart}
 use Rattle.fb_layout.specs.Laid.{LaidSchema, StoredKind, kind_in, stored_shape, parts_of, struct_at, size_of}
-use Rattle.fb_layout.specs.WellMade.{StandInOrder, IsStructLaid, IsWellMade}
+use Rattle.fb_layout.specs.WellMade.{StandInOrder, IsWellMade}
 use Rattle.fb_layout.specs.Laws.{StructsHaveFewParts}
 use Rattle.fb_layout.proofs.Exact.{kinds_of}
 use Rattle.fb_layout.proofs.SizedExact.{struct_told, body_told}

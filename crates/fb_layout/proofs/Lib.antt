@@ -11,3 +11,4 @@ pub mod LaidOut
 pub mod OneSizing
 pub mod Alignments
 pub mod Filled
+pub mod RequiredNumbers

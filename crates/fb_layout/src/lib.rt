@@ -7,6 +7,7 @@ mod faults;
 mod greatest;
 mod laws;
 mod layouts;
+mod required;
 mod structs;
 mod tables;
 

@@ -1,4 +1,3 @@
-use Rattle.std.proofs.Common.{subst, length, ◌≤◌}
 use Rattle.fb_layout.specs.Held.{layout_seen}
 use Rattle.fb_layout.proofs.Filled.{few_held}
 use Rattle.fb_layout.proofs.layouts.Layout.parts_of.Goals as goal
