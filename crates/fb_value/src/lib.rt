@@ -19,7 +19,8 @@ pub use counts::{cells, depth};
 pub use faults::ReadFault;
 pub use fitting::fits;
 pub use laws::{
-    cells_of_place, cells_of_value, fault_of_least_path, one_value, value_or_fault,
+    cells_of_place, cells_of_value, each_table_reached, fault_of_least_path, first_missing,
+    kept_by_multiple, kept_in_front, lies_in_whole, one_value, only_old_by_tables, value_or_fault,
     value_where_all_keep,
 };
 pub use limits::Limits;
