@@ -4,5 +4,7 @@ pub mod Widths
 pub mod WellMade
 pub mod Known
 pub mod Refused
+pub mod Required
 pub mod Held
 pub mod OneLayout
+pub mod Laws

@@ -1,6 +1,9 @@
 //! Laws of the bytes that hold a value.
 ghost use Rattle.fb_value.specs.Laws.{OneValue, ValueWhereAllKeep, CellsOfPlace, CellsOfValue, FaultOfLeastPath, ValueOrFault, NestingOfDepth, FaultOfPlace, FitsWhereHeld, ValueOfPlace, ValueWhereLies};
 ghost use Rattle.fb_value.specs.Nth.{EntryLies, ElementLies, PartLies};
+ghost use Rattle.fb_value.specs.TailLaws.{KeptInFront, KeptByMultiple, LiesInWhole};
+ghost use Rattle.fb_value.specs.EachTable.{EachTableReached, OnlyOldByTables};
+ghost use Rattle.fb_value.specs.Missing.{FirstMissing};
 
 /// Bytes hold one value at most.
 pub fn one_value()
@@ -70,4 +73,34 @@ pub fn value_of_place()
 /// The value that is computed at a place is the one that lies there.
 pub fn value_where_lies()
     ensures { ValueWhereLies }
+{}
+
+/// Bytes laid in front keep what lies in a tail.
+pub fn kept_in_front()
+    ensures { KeptInFront }
+{}
+
+/// What lies in a tail lies there for a greater multiple too.
+pub fn kept_by_multiple()
+    ensures { KeptByMultiple }
+{}
+
+/// What lies in a tail lies in a whole buffer whose length is a multiple of all alignments.
+pub fn lies_in_whole()
+    ensures { LiesInWhole }
+{}
+
+/// What holds of each table of a value holds of each table that is reached.
+pub fn each_table_reached()
+    ensures { EachTableReached }
+{}
+
+/// Where each table of a value has only slots in use, so has each that is reached.
+pub fn only_old_by_tables()
+    ensures { OnlyOldByTables }
+{}
+
+/// The least missing slot is the first missing one among the required slots.
+pub fn first_missing()
+    ensures { FirstMissing }
 {}
