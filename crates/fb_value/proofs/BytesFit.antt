@@ -1,14 +1,13 @@
 -- The value that bytes hold fits the root, where each byte is below 256.
-use Rattle.std.proofs.Common.{◌≡◌, ℕ, zero, suc, ◌+◌, ◌<◌, List, [], ◌∷◌, length, slice_get, All, Option, None, Some, refl, sym, ap, subst, ◌∙◌, arith}
+use Rattle.std.proofs.Common.{◌≡◌, ℕ, zero, suc, ◌+◌, ◌<◌, List, [], ◌∷◌, All, Option, None, Some, refl, subst, arith}
 use Rattle.std.proofs.lemmas.Bool.Decides.{nat_tests}
-use Rattle.fb_schema.specs.Schema.{DeclaredBody, table_body, struct_body, enum_body, union_body, DeclaredType, body_in, is_table}
-use Rattle.fb_layout.specs.Laid.{LaidSchema, Slot, StoredKind, scalar_kind, struct_kind, table_kind, text_kind, one_of, vector_of, slots_of, parts_of, struct_at, size_of}
+use Rattle.fb_layout.specs.Laid.{LaidSchema, StoredKind, scalar_kind, struct_kind, table_kind, text_kind, one_of, parts_of, struct_at, size_of}
 use Rattle.fb_layout.specs.WellMade.{IsWellMade}
 use Rattle.fb_value.specs.Datum.{Datum, a_number, a_text, a_vector, a_struct, a_table, a_member, Parts, no_parts, more_parts, SlotEntries, no_entries, absent_entry, present_entry}
 use Rattle.fb_value.specs.Num.{Bytes, num, part_of}
-use Rattle.fb_value.specs.Places.{Target, table_part, member_part, text_part, vector_part, Sort, ref_place, part_place, inline_place, code_place, unknown_place, named_slots, target_of}
+use Rattle.fb_value.specs.Places.{Target, table_part, member_part, text_part, vector_part, Sort, part_place, inline_place, target_of}
 use Rattle.fb_value.specs.Rules.{Keeps, fault_by}
-use Rattle.fb_value.specs.Lies.{LiesInline, LiesParts, Element, Lies, LiesItems, LiesSlots}
+use Rattle.fb_value.specs.Lies.{LiesInline, LiesParts, Element, Lies, LiesItems}
 use Rattle.fb_value.specs.Fits.{Fits, PartsFit, EachFits}
 use Rattle.fb_value.specs.Nth.{nth_entry}
 use Rattle.fb_value.specs.Laws.{FitsWhereHeld}

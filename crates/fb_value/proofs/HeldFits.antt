@@ -1,31 +1,22 @@
 -- What lies in bytes fits its type, where each byte is below 256.
-use Rattle.std.proofs.Common.{◌≡◌, ◌≢◌, ℕ, zero, suc, ◌+◌, ◌-◌, ◌<◌, ◌≤◌, ◌⊎◌, inl, inr, Bool, true, false, not, ◌&&◌, ◌||◌, ◌==◌, cond, nat_eq, nat_lt, List, [], ◌∷◌, length, drop, map, slice_get, slice_index, All, Option, None, Some, is_none, ℤ, pos, refl, sym, ap, subst, ◌∙◌, arith}
+use Rattle.std.proofs.Common.{◌≡◌, ◌≢◌, ℕ, zero, suc, ◌+◌, ◌-◌, ◌<◌, ◌≤◌, Bool, true, false, not, ◌&&◌, ◌||◌, ◌==◌, cond, List, [], ◌∷◌, drop, slice_get, All, Option, None, Some, is_none, ℤ, refl, sym, subst, ◌∙◌, arith}
 use Rattle.std.proofs.lemmas.Bool.Decides.{nat_tests}
-use Rattle.std.proofs.lemmas.Option.{slice_get-map}
-use Rattle.std.specs.Option.{option_map}
-use Rattle.std.specs.Str.{IsUtf8}
-use Rattle.std.specs.Str.Lossy.{utf8_valid_len}
-use Rattle.fb_schema.specs.declared.kinds.TypeId.{TypeId}
-use Rattle.fb_schema.specs.declared.kinds.Kind.{Kind}
 use Rattle.fb_schema.specs.declared.kinds.Kind.TheVariants.{Scalar, Enum, Struct, Table, Union, Code, Text}
 use Rattle.fb_schema.specs.declared.kinds.Shape.{Shape}
 use Rattle.fb_schema.specs.declared.kinds.Shape.TheVariants.{One, Many}
-use Rattle.fb_schema.specs.Schema.{DeclaredField, DeclaredBody, table_body, struct_body, enum_body, union_body, DeclaredType, DeclaredSchema, body_at, body_in, slots_in, base_in}
-use Rattle.fb_schema.specs.WellDeclared.{InRange, IsBody, IsShape, MarksFit, UnionsPaired}
-use Rattle.fb_layout.specs.Laid.{LaidSchema, Slot, StoredKind, scalar_kind, struct_kind, table_kind, union_kind, code_kind, text_kind, StoredShape, one_of, vector_of, stored_kind, stored_shape, default_of, slot_of, slots_of, parts_of, struct_at, size_of, member_by_code}
-use Rattle.fb_layout.specs.WellMade.{IsWellMade}
-use Rattle.fb_value.specs.Datum.{Datum, a_number, a_text, a_vector, a_struct, a_table, a_member, an_unknown, Parts, no_parts, more_parts, SlotEntries, no_entries, absent_entry, present_entry}
-use Rattle.fb_value.specs.Num.{Bytes, num, part_of}
-use Rattle.fb_value.specs.Places.{Target, table_part, member_part, text_part, vector_part, Sort, ref_place, part_place, inline_place, code_place, unknown_place, Place, named_slot, named_union, named_slots, target_of, is_present, code_at, slot_number, next_required}
-use Rattle.fb_value.specs.Rules.{Keeps, fault_by, first_missing, is_missing, is_union}
-use Rattle.fb_value.specs.Lies.{LiesInline, LiesParts, Element, Lies, LiesItems, LiesSlots, LiesAt}
-use Rattle.fb_value.specs.Fits.{MayBeAbsent, Fits, PartsFit, EachFits, EntriesFit, kind_of_type, FitsKind, FitsRoot}
+use Rattle.fb_schema.specs.Schema.{DeclaredField, DeclaredSchema, body_at, base_in}
+use Rattle.fb_schema.specs.WellDeclared.{InRange, MarksFit}
+use Rattle.fb_layout.specs.Laid.{LaidSchema, Slot, StoredKind, scalar_kind, struct_kind, table_kind, union_kind, code_kind, text_kind, StoredShape, one_of, vector_of, stored_kind, stored_shape, default_of, slot_of, slots_of, member_by_code}
+use Rattle.fb_value.specs.Datum.{Datum, a_member}
+use Rattle.fb_value.specs.Num.{Bytes, num}
+use Rattle.fb_value.specs.Places.{Target, table_part, member_part, text_part, vector_part, Sort, ref_place, part_place, inline_place, code_place, unknown_place, Place, named_slot, named_union, is_present, code_at, slot_number, next_required}
+use Rattle.fb_value.specs.Rules.{Keeps, fault_by, first_missing, is_missing}
+use Rattle.fb_value.specs.Lies.{Lies}
+use Rattle.fb_value.specs.Fits.{Fits}
 use Rattle.fb_value.specs.Entries.{EntryFits}
-use Rattle.fb_value.specs.Nth.{nth_entry, slot_place, LiesInSlot}
+use Rattle.fb_value.specs.Nth.{LiesInSlot}
 use Rattle.fb_value.proofs.Steps.{rule_held}
-use Rattle.fb_value.proofs.Counted.{text_length}
-use Rattle.fb_value.proofs.NthLies.{entry_lies_shown}
-use Rattle.fb_value.proofs.Ranged.{number_ranges, byte_small, utf8_whole}
+use Rattle.fb_value.proofs.Ranged.{byte_small}
 
 -- what lies at a place is what the place is for
 abbrev pub SortFits : LaidSchema → Sort → Datum → Type 0

@@ -1,11 +1,11 @@
 -- What lies in one slot, as one element, as one field.
-use Rattle.std.proofs.Common.{◌≡◌, ℕ, zero, suc, ◌+◌, ◌*◌, ◌<◌, List, [], ◌∷◌, length, drop, Option, None, Some, slice_get, refl, arith}
+use Rattle.std.proofs.Common.{◌≡◌, ℕ, zero, suc, ◌+◌, ◌*◌, List, [], ◌∷◌, length, drop, Some, slice_get, refl, arith}
 use Rattle.fb_layout.specs.Laid.{LaidSchema, Slot, StoredKind, size_of}
-use Rattle.fb_value.specs.Datum.{Datum, Parts, no_parts, more_parts, SlotEntries, no_entries, absent_entry, present_entry, count}
+use Rattle.fb_value.specs.Datum.{Parts, no_parts, more_parts, SlotEntries, no_entries, absent_entry, present_entry, count}
 use Rattle.fb_value.specs.Num.{Bytes}
-use Rattle.fb_value.specs.Places.{Place, named_slots, target_of}
-use Rattle.fb_value.specs.Lies.{Element, Lies, LiesInline, LiesParts, LiesItems, LiesSlots}
-use Rattle.fb_value.specs.Nth.{nth_entry, nth_part, slot_place, LiesInSlot, EntryLies, ElementLies, PartLies}
+use Rattle.fb_value.specs.Places.{named_slots}
+use Rattle.fb_value.specs.Lies.{LiesParts, LiesSlots}
+use Rattle.fb_value.specs.Nth.{nth_entry, slot_place, LiesInSlot, EntryLies, ElementLies, PartLies}
 
 -- What lies in a slot, from the slots from j on.
 pub slot_lies : (L : LaidSchema) (b : Bytes) (p j : ℕ) (fs : List Slot) (es : SlotEntries) (k : ℕ) (f : Slot) → LiesSlots L b fs (named_slots L b p j fs) es → slice_get fs k ≡ Some f

@@ -1,19 +1,19 @@
 -- What lies as the entries of a table fits its slots, and so the value that bytes hold fits the root.
-use Rattle.std.proofs.Common.{◌≡◌, ℕ, zero, suc, ◌+◌, ◌-◌, ◌<◌, Bool, true, false, not, ◌&&◌, ◌||◌, ◌==◌, cond, List, [], ◌∷◌, drop, length, map, slice_get, All, Option, None, Some, refl, sym, ap, subst, ◌∙◌, arith}
+use Rattle.std.proofs.Common.{◌≡◌, ℕ, zero, suc, ◌+◌, ◌-◌, ◌<◌, Bool, true, false, not, ◌==◌, List, [], ◌∷◌, drop, map, slice_get, All, Option, None, Some, refl, sym, subst, ◌∙◌, arith}
 use Rattle.fb_schema.specs.declared.kinds.TypeId.{TypeId}
 use Rattle.fb_schema.specs.declared.kinds.Kind.TheVariants.{Scalar, Enum, Struct, Table, Union, Code, Text}
 use Rattle.fb_schema.specs.declared.kinds.Shape.{Shape}
 use Rattle.fb_schema.specs.declared.kinds.Shape.TheVariants.{One, Many}
 use Rattle.fb_schema.specs.Schema.{DeclaredField, DeclaredBody, table_body, struct_body, enum_body, union_body, DeclaredType, DeclaredSchema, body_at, body_in, slots_in}
 use Rattle.fb_schema.specs.WellDeclared.{IsBody, MarksFit, IsUnionPair}
-use Rattle.fb_layout.specs.Laid.{LaidSchema, Slot, StoredKind, scalar_kind, struct_kind, table_kind, union_kind, code_kind, text_kind, StoredShape, one_of, vector_of, stored_shape, slot_of, slots_of, parts_of, struct_at, size_of}
+use Rattle.fb_layout.specs.Laid.{LaidSchema, Slot, stored_shape, slot_of, slots_of}
 use Rattle.fb_layout.specs.WellMade.{IsWellMade}
-use Rattle.fb_value.specs.Datum.{Datum, a_number, a_text, a_vector, a_struct, a_table, a_member, an_unknown, Parts, no_parts, more_parts, SlotEntries, no_entries, absent_entry, present_entry}
-use Rattle.fb_value.specs.Num.{Bytes, num, part_of}
-use Rattle.fb_value.specs.Places.{Target, table_part, member_part, text_part, vector_part, Sort, ref_place, part_place, inline_place, code_place, unknown_place, Place, named_slot, named_slots, target_of, is_present, code_at, slot_number, next_required}
-use Rattle.fb_value.specs.Rules.{Keeps, is_missing, is_union}
-use Rattle.fb_value.specs.Lies.{LiesInline, LiesParts, Element, Lies, LiesItems, LiesSlots}
-use Rattle.fb_value.specs.Fits.{Fits, PartsFit, EachFits, EntriesFit}
+use Rattle.fb_value.specs.Datum.{Datum, SlotEntries, no_entries, absent_entry, present_entry}
+use Rattle.fb_value.specs.Num.{Bytes}
+use Rattle.fb_value.specs.Places.{table_part, part_place, code_place, Place, named_slot, named_slots, is_present, code_at, slot_number, next_required}
+use Rattle.fb_value.specs.Rules.{Keeps, is_union}
+use Rattle.fb_value.specs.Lies.{LiesSlots}
+use Rattle.fb_value.specs.Fits.{EntriesFit}
 use Rattle.fb_value.specs.Entries.{EntryFits}
 use Rattle.fb_value.specs.Nth.{nth_entry, slot_place, LiesInSlot}
 use Rattle.fb_value.proofs.NthLies.{entry_lies_shown}

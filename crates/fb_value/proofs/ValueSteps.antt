@@ -1,8 +1,7 @@
 -- The value at a place, one step at a time.
-use Rattle.std.proofs.Common.{◌≡◌, ℕ, zero, suc, ◌+◌, ◌-◌, ◌*◌, ◌<◌, ◌≤◌, ◌↔◌, max, Bool, true, false, nat_lt, List, [], ◌∷◌, length, Option, None, Some, slice_get, refl, sym, ap, subst, ◌∙◌, arith}
+use Rattle.std.proofs.Common.{◌≡◌, ℕ, zero, suc, ◌+◌, ◌-◌, ◌*◌, ◌<◌, ◌≤◌, max, Bool, true, false, nat_lt, List, [], ◌∷◌, length, Option, None, Some, slice_get, refl, sym, ap, ◌∙◌, arith}
 use Rattle.std.proofs.lemmas.Bool.Decides.{nat_tests}
 use Rattle.std.proofs.lemmas.Option.{slice_get_past}
-use Rattle.fb_schema.specs.Schema.{body_in, parts_in}
 use Rattle.fb_layout.specs.Laid.{LaidSchema, Slot, StoredKind, scalar_kind, struct_kind, table_kind, union_kind, code_kind, text_kind, slots_of, parts_of, struct_at, size_of}
 use Rattle.fb_layout.specs.WellMade.{IsWellMade}
 use Rattle.fb_value.specs.declared.faults.ReadFault.{ReadFault}
@@ -10,13 +9,13 @@ use Rattle.fb_value.specs.Datum.{Datum, SlotEntries, a_struct, a_vector, a_table
 use Rattle.fb_value.specs.Num.{Bytes, num}
 use Rattle.fb_value.specs.Places.{Target, table_part, member_part, text_part, vector_part, Sort, ref_place, part_place, inline_place, code_place, unknown_place, Place, named_slots, target_of}
 use Rattle.fb_value.specs.Rules.{Keeps, fault_at, fault_by}
-use Rattle.fb_value.specs.Reads.{unless, ◌>>=◌, parts_at, inline_at, through, element_at, items_at, entry_at, slot_at, slots_at, datum_at, value_levels, value_at, inline_value, inline_step, value_step}
+use Rattle.fb_value.specs.Reads.{unless, ◌>>=◌, parts_at, inline_at, through, element_at, items_at, entry_at, slots_at, datum_at, value_levels, value_at, inline_value, inline_step, value_step}
 use Rattle.fb_value.specs.Lies.{Lies}
 use Rattle.fb_value.specs.Laws.{ValueOfPlace, ValueWhereLies}
 use Rattle.fb_value.proofs.Height.{height}
 use Rattle.fb_value.proofs.Sound.{sound}
 use Rattle.fb_value.proofs.Complete.{complete}
-use Rattle.fb_value.proofs.Resolved.{LowerParts, IsResolved, resolved, IsGood}
+use Rattle.fb_value.proofs.Resolved.{LowerParts, resolved, IsGood}
 use Rattle.fb_value.proofs.Steps.{steps_up}
 use Rattle.fb_value.proofs.Exists.{part_within, slots_good}
 
