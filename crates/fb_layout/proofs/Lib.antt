@@ -9,3 +9,6 @@ pub mod Wide
 pub mod FirstFault
 pub mod LaidOut
 pub mod OneSizing
+pub mod Alignments
+pub mod Filled
+pub mod RequiredNumbers

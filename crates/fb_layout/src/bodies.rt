@@ -6,7 +6,7 @@ ghost use Rattle.fb_schema.specs.Seen.{field_seen, body_seen};
 use fb_schema::{Body, FieldInfo, Schema, TypeId};
 
 /// The slots of a table; none of another type.
-fn slots_in(body: &Body) -> &[FieldInfo]
+pub(crate) fn slots_in(body: &Body) -> &[FieldInfo]
     ensures { map field_seen result.now ≡ slots_in (body_seen body.now) }
 {
     match body {

@@ -7,11 +7,13 @@ ghost use Rattle.fb_layout.specs.Laid.{LaidSchema, stored_kind, struct_at, size_
 ghost use Rattle.fb_layout.specs.Widths.{widest, table_align, greatest};
 ghost use Rattle.fb_layout.specs.WellMade.{IsWellMade};
 ghost use Rattle.fb_layout.specs.Refused.{Refuses};
+ghost use Rattle.fb_layout.specs.Required.{required_slots};
 
 use crate::bodies::{parts_at, slots_at};
 use crate::extents::{StructSizes, base_in, extent_of, offsets_in};
 use crate::faults::LayoutFault;
 use crate::greatest::greatest;
+use crate::required::required_of;
 use crate::structs::structs_of;
 use crate::tables::{TableSizes, tables_of};
 use fb_schema::{Base, FieldInfo, Kind, Schema, TypeId};
@@ -19,12 +21,13 @@ use std::alloc::Global;
 use std::marker::Model;
 
 /// A schema with the size and alignment of each struct, where its fields stand, and the greatest
-/// inline size of each table.
+/// inline size and the required slots of each table.
 #[derive(Drop)]
 pub struct Layout {
     schema: Schema,
     structs: Vec<Option<StructSizes>>,
     tables: Vec<TableSizes>,
+    required: Vec<Vec<u16>>,
     greatest: u16,
 }
 
@@ -60,11 +63,15 @@ pub fn lay(alloc: Global, schema: Schema) -> Result<Layout, (LayoutFault, Schema
         Ok(tables) => tables,
         Err(fault) => return Err((fault, schema)),
     };
+    let Ok(required) = required_of(alloc, &schema) else {
+        return Err((LayoutFault::Memory, schema));
+    };
     let greatest = greatest(&schema, structs.as_slice());
     Ok(Layout {
         schema,
         structs,
         tables,
+        required,
         greatest,
     })
 }
@@ -86,9 +93,21 @@ impl Layout {
         slots_at(&self.schema, table)
     }
 
+    /// The numbers of a table's required slots in rising order, deprecated ones left out; none of
+    /// another type.
+    pub fn required_slots(&self, table: TypeId) -> &[u16]
+        ensures { result.now ≡ required_slots self.now table.0 }
+    {
+        match self.required.get(table.0 as usize) {
+            Some(numbers) => numbers.as_slice(),
+            None => &[],
+        }
+    }
+
     /// The fields of a struct; none of another type.
     pub fn parts_of(&self, structure: TypeId) -> &[FieldInfo]
-        ensures { map field_seen result.now ≡ parts_in (body_at self.now.schema structure.0) }
+        ensures parts { map field_seen result.now ≡ parts_in (body_at self.now.schema structure.0) }
+        ensures few { length result.now ≤ 65535 }
     {
         parts_at(&self.schema, structure)
     }

@@ -7,10 +7,14 @@ mod faults;
 mod greatest;
 mod laws;
 mod layouts;
+mod required;
 mod structs;
 mod tables;
 
 pub use extents::kind_in;
 pub use faults::LayoutFault;
-pub use laws::{least_multiple_of_four, one_layout};
+pub use laws::{
+    greatest_aligned, kinds_aligned, least_multiple_of_four, none_aligned_to_zero, one_layout,
+    sizes_are_multiples, sizes_fit, structs_have_few_parts, tables_aligned,
+};
 pub use layouts::{Layout, lay};

@@ -16,7 +16,12 @@ pub mod Reached
 pub mod Faults
 pub mod Holds
 pub mod OldSlots
+pub mod Tails
+pub mod TailLaws
+pub mod EachTable
+pub mod Missing
 pub mod Reads
+pub mod Nth
 pub mod Laws
 pub mod Ints
 pub mod ExampleLayouts

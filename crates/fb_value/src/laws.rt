@@ -1,5 +1,9 @@
 //! Laws of the bytes that hold a value.
-ghost use Rattle.fb_value.specs.Laws.{OneValue, ValueWhereAllKeep, CellsOfPlace, CellsOfValue, FaultOfLeastPath, ValueOrFault};
+ghost use Rattle.fb_value.specs.Laws.{OneValue, ValueWhereAllKeep, CellsOfPlace, CellsOfValue, FaultOfLeastPath, ValueOrFault, NestingOfDepth, FaultOfPlace, FitsWhereHeld, ValueOfPlace, ValueWhereLies};
+ghost use Rattle.fb_value.specs.Nth.{EntryLies, ElementLies, PartLies};
+ghost use Rattle.fb_value.specs.TailLaws.{KeptInFront, KeptByMultiple, LiesInWhole};
+ghost use Rattle.fb_value.specs.EachTable.{EachTableReached, OnlyOldByTables};
+ghost use Rattle.fb_value.specs.Missing.{FirstMissing};
 
 /// Bytes hold one value at most.
 pub fn one_value()
@@ -29,4 +33,74 @@ pub fn fault_of_least_path()
 /// Bytes hold a value exactly where no fault stands, and else have a least one.
 pub fn value_or_fault()
     ensures { ValueOrFault }
+{}
+
+/// What fits the root, with at most 127 tables in one another, is nested at most 300 deep.
+pub fn nesting_of_depth()
+    ensures { NestingOfDepth }
+{}
+
+/// What a table has in a slot lies where the slot's number leads.
+pub fn entry_lies()
+    ensures { EntryLies }
+{}
+
+/// What a vector has as an element lies as far on as its number says.
+pub fn element_lies()
+    ensures { ElementLies }
+{}
+
+/// What a struct has in a field lies at the field's offset.
+pub fn part_lies()
+    ensures { PartLies }
+{}
+
+/// The first fault from a place is its own, or the first of those that it names.
+pub fn fault_of_place()
+    ensures { FaultOfPlace }
+{}
+
+/// The value that bytes hold fits the root.
+pub fn fits_where_held()
+    ensures { FitsWhereHeld }
+{}
+
+/// The value at a place is made of those at the places that it names.
+pub fn value_of_place()
+    ensures { ValueOfPlace }
+{}
+
+/// The value that is computed at a place is the one that lies there.
+pub fn value_where_lies()
+    ensures { ValueWhereLies }
+{}
+
+/// Bytes laid in front keep what lies in a tail.
+pub fn kept_in_front()
+    ensures { KeptInFront }
+{}
+
+/// What lies in a tail lies there for a greater multiple too.
+pub fn kept_by_multiple()
+    ensures { KeptByMultiple }
+{}
+
+/// What lies in a tail lies in a whole buffer whose length is a multiple of all alignments.
+pub fn lies_in_whole()
+    ensures { LiesInWhole }
+{}
+
+/// What holds of each table of a value holds of each table that is reached.
+pub fn each_table_reached()
+    ensures { EachTableReached }
+{}
+
+/// Where each table of a value has only slots in use, so has each that is reached.
+pub fn only_old_by_tables()
+    ensures { OnlyOldByTables }
+{}
+
+/// The least missing slot is the first missing one among the required slots.
+pub fn first_missing()
+    ensures { FirstMissing }
 {}

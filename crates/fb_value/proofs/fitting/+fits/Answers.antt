@@ -20,7 +20,7 @@ pub fits_in-returns-in-Some-struct_wanted : goal.fits_in-returns-in-Some-struct_
 fits_in-returns-in-Some-struct_wanted t c =
     let L = c.args.layout.now in
     let fits = struct_fits L (stored_shape L.schema c.args.shape) c.in-Some-struct_wanted.structure.0 (parts_view c.in-Fixed.parts.items) (sym (c.in-Some-struct_wanted.ensures L.schema)) in
-    let own = rw c.parts_of.ensures at c.parts_fit.ensures in
+    let own = rw c.parts_of.ensures.parts at c.parts_fit.ensures in
     rw (c.in-Fixed.is, view-Fixed c.in-Fixed.parts) ((λ yes. fits.1 (own.0 yes)), (λ h. own.1 (fits.0 h)))
 
 pub fits_in-returns-then-is_table : goal.fits_in-returns-then-is_table

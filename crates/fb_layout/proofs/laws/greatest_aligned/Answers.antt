@@ -1,0 +1,5 @@
+use Rattle.fb_layout.proofs.Alignments.{greatest_shown}
+use Rattle.fb_layout.proofs.laws.greatest_aligned.Goals as goal
+
+pub returns : goal.returns
+returns c = greatest_shown

@@ -1,0 +1,5 @@
+use Rattle.fb_layout.proofs.Alignments.{kinds_shown}
+use Rattle.fb_layout.proofs.laws.kinds_aligned.Goals as goal
+
+pub returns : goal.returns
+returns c = kinds_shown

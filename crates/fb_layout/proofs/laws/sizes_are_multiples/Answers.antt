@@ -1,0 +1,5 @@
+use Rattle.fb_layout.proofs.Alignments.{multiples_shown}
+use Rattle.fb_layout.proofs.laws.sizes_are_multiples.Goals as goal
+
+pub returns : goal.returns
+returns c = multiples_shown

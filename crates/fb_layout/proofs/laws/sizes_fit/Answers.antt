@@ -1,0 +1,5 @@
+use Rattle.fb_layout.proofs.Alignments.{sizes_shown}
+use Rattle.fb_layout.proofs.laws.sizes_fit.Goals as goal
+
+pub returns : goal.returns
+returns c = sizes_shown

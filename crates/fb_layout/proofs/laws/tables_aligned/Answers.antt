@@ -1,0 +1,5 @@
+use Rattle.fb_layout.proofs.Alignments.{tables_shown}
+use Rattle.fb_layout.proofs.laws.tables_aligned.Goals as goal
+
+pub returns : goal.returns
+returns c = tables_shown

@@ -1,0 +1,5 @@
+use Rattle.fb_value.proofs.TailsKept.{multiple_shown}
+use Rattle.fb_value.proofs.laws.kept_by_multiple.Goals as goal
+
+pub returns : goal.returns
+returns c = multiple_shown
