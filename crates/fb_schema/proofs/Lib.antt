@@ -4,3 +4,4 @@ pub mod NoRepeats
 pub mod LookUps
 pub mod DeclaredNames
 pub mod Got
+pub mod LastDot

@@ -1,7 +1,7 @@
 -- What is found in a schema by its name or number.
-use Rattle.std.specs.Prelude.{ℕ, zero, suc, List, [], Option, None, find, position, option_map, slice_get, bytes_eq, ℤ}
+use Rattle.std.specs.Prelude.{ℕ, zero, suc, List, [], Option, None, Some, find, position, option_map, slice_get, bytes_eq, codes, ℤ, if◌then◌else◌}
 use Rattle.std.specs.Ordering.{int_eq}
-use Rattle.fb_schema.specs.Schema.{Name, DeclaredField, DeclaredBody, table_body, struct_body, DeclaredSchema, values_in, members_in}
+use Rattle.fb_schema.specs.Schema.{Name, DeclaredField, DeclaredBody, table_body, struct_body, union_body, DeclaredSchema, values_in, members_in}
 
 -- the number of the first of some names that is this one
 abbrev pub index_of : List Name → Name → Option ℕ
@@ -29,3 +29,16 @@ member_coded body (suc k) = option_map (λ m. m.1) (slice_get (members_in body) 
 -- the name of an enum's value that has a number
 abbrev pub name_numbered : DeclaredBody → ℤ → Option Name
 name_numbered body number = option_map (λ v. v.0) (find (λ v. int_eq number v.1) (values_in body))
+
+-- the number of an enum's value that has a name
+abbrev pub number_named : DeclaredBody → Name → Option ℤ
+number_named body name = option_map (λ v. v.1) (find (λ v. bytes_eq name v.0) (values_in body))
+
+-- the code of a union's member that has a name, from 1 on; NONE is 0
+abbrev pub code_named : DeclaredBody → Name → Option ℕ
+code_named (union_body members) name = if bytes_eq name (codes "NONE") then Some 0 else option_map (λ k. suc k) (position (λ m. bytes_eq name m.0) members)
+code_named _ name = None
+
+-- the full name of the type that has a number
+abbrev pub name_at : DeclaredSchema → ℕ → Option Name
+name_at S t = option_map (λ t. t.name) (slice_get S.types t)

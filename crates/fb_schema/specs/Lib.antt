@@ -6,3 +6,5 @@ pub mod WellDeclared
 pub mod Found
 pub mod Indexed
 pub mod Held
+pub mod Bodies
+pub mod Paths

@@ -1,9 +1,9 @@
 //! What is found in one type through its index.
-ghost use Rattle.std.specs.Prelude.{◌≡◌, map, option_copied, option_map, string_bytes};
+ghost use Rattle.std.specs.Prelude.{◌≡◌, ◌≤◌, length, map, option_copied, option_map, string_bytes};
 ghost use Rattle.fb_schema.specs.Schema.{values_in, members_in};
 ghost use Rattle.fb_schema.specs.Seen.{field_seen, body_seen};
 ghost use Rattle.fb_schema.specs.Indexed.{inner_names, inner_numbers};
-ghost use Rattle.fb_schema.specs.Found.{fields_in, field_named, member_coded, name_numbered};
+ghost use Rattle.fb_schema.specs.Found.{fields_in, field_named, member_coded, name_numbered, number_named, code_named};
 
 use crate::kinds::TypeId;
 use crate::name_index::NameIndex;
@@ -25,9 +25,9 @@ fn fields_of(body: &Body) -> &[FieldInfo]
 fn values_of(body: &Body) -> &[(String, i128)]
     ensures { map (λ v. (string_bytes v.0, v.1)) result.now ≡ values_in (body_seen body.now) }
 {
-    match body {
-        Body::Enum(_, _, values) => values.as_slice(),
-        _ => &[],
+    match body.as_enum() {
+        Some((_, _, values)) => values,
+        None => &[],
     }
 }
 
@@ -35,10 +35,7 @@ fn values_of(body: &Body) -> &[(String, i128)]
 fn members_of(body: &Body) -> &[(String, TypeId)]
     ensures { map (λ m. (string_bytes m.0, m.1.0)) result.now ≡ members_in (body_seen body.now) }
 {
-    match body {
-        Body::Union(members) => members.as_slice(),
-        _ => &[],
-    }
+    body.as_union().unwrap_or(&[])
 }
 
 /// The field of a table or struct that has a name.
@@ -68,4 +65,28 @@ pub(crate) fn name_in<'a>(body: &'a Body, numbers: &NumberIndex, number: i128) -
     let at = numbers.position(number)?;
     let value = values_of(body).get(at)?;
     Some(value.0.as_str())
+}
+
+/// The number of an enum's value that has a name.
+pub(crate) fn number_in(body: &Body, names: &NameIndex, name: &str) -> Option<i128>
+    requires { names.now ≡ inner_names (body_seen body.now) }
+    ensures { result ≡ number_named (body_seen body.now) name.now }
+{
+    let at = names.position(name)?;
+    let value = values_of(body).get(at)?;
+    Some(value.1)
+}
+
+/// The code of a union's member that has a name; of `NONE` it is 0.
+pub(crate) fn code_in(body: &Body, names: &NameIndex, name: &str) -> Option<u8>
+    requires names { names.now ≡ inner_names (body_seen body.now) }
+    requires few { length (members_in (body_seen body.now)) ≤ 255 }
+    ensures { result ≡ code_named (body_seen body.now) name.now }
+{
+    let _members = body.as_union()?;
+    if name == "NONE" {
+        return Some(0);
+    }
+    let at = names.position(name)?;
+    Some(at as u8 + 1)
 }

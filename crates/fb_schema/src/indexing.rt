@@ -26,9 +26,9 @@ fn numbers_in(alloc: Global, body: &Body) -> Result<NumberIndex, AllocError>
     requires { AllPairs (λ a b. a ≢ b) (numbers_of_body (body_seen body.now)) }
     ensures { IfOk result (λ numbers. numbers ≡ numbers_of_body (body_seen body.now)) }
 {
-    match body {
-        Body::Enum(_, _, values) => NumberIndex::of(alloc, values.as_slice()),
-        _ => NumberIndex::of(alloc, &[]),
+    match body.as_enum() {
+        Some((_, _, values)) => NumberIndex::of(alloc, values),
+        None => NumberIndex::of(alloc, &[]),
     }
 }
 

@@ -7,6 +7,7 @@ mod kinds;
 mod name_index;
 mod named;
 mod number_index;
+mod paths;
 mod schema;
 mod types;
 

@@ -3,13 +3,15 @@ ghost use Rattle.std.specs.Prelude.{◌≡◌, map, option_copied, option_map, I
 ghost use Rattle.fb_schema.specs.Schema.{body_at};
 ghost use Rattle.fb_schema.specs.Seen.{field_seen, type_seen, schema_of};
 ghost use Rattle.fb_schema.specs.WellDeclared.{IsDeclared};
-ghost use Rattle.fb_schema.specs.Found.{type_named, field_named, member_coded, name_numbered};
+ghost use Rattle.fb_schema.specs.Found.{type_named, field_named, member_coded, name_numbered, number_named, code_named, name_at};
+ghost use Rattle.fb_schema.specs.Paths.{number_by_path, code_by_path};
 
-use crate::finding::{field_in, member_in, name_in};
+use crate::finding::{code_in, field_in, member_in, name_in, number_in};
 use crate::indexing::{inner_names, inner_numbers};
 use crate::kinds::TypeId;
 use crate::name_index::NameIndex;
 use crate::number_index::NumberIndex;
+use crate::paths::name_in_path;
 use crate::types::{FieldInfo, TypeInfo};
 use std::alloc::{AllocError, Global};
 use std::marker::Model;
@@ -120,5 +122,51 @@ impl Schema {
         let info = self.types.get(at)?;
         let numbers = self.inner_numbers.get(at)?;
         name_in(&info.body, numbers, number)
+    }
+
+    /// The number of an enum's value that has a name.
+    pub fn number_of_name(&self, enumeration: TypeId, name: &str) -> Option<i128>
+        ensures { result ≡ number_named (body_at self.now enumeration.0) name.now }
+    {
+        let at = enumeration.0 as usize;
+        let info = self.types.get(at)?;
+        let names = self.inner_names.get(at)?;
+        number_in(&info.body, names, name)
+    }
+
+    /// The code of a union's member that has a name; of `NONE` it is 0.
+    pub fn code_of_name(&self, union: TypeId, name: &str) -> Option<u8>
+        ensures { result ≡ code_named (body_at self.now union.0) name.now }
+    {
+        let at = union.0 as usize;
+        let info = self.types.get(at)?;
+        let names = self.inner_names.get(at)?;
+        code_in(&info.body, names, name)
+    }
+
+    /// The full name of the type that has a number.
+    pub fn name_at(&self, number: TypeId) -> Option<&str>
+        ensures { option_copied result ≡ name_at self.now number.0 }
+    {
+        let info = self.types.get(number.0 as usize)?;
+        Some(info.name.as_str())
+    }
+
+    /// The number of an enum's value by its name, which stands alone, or behind the enum's declared
+    /// name and a dot, or behind its full name and a dot.
+    pub fn number_by_path(&self, enumeration: TypeId, path: &str) -> Option<i128>
+        ensures { result ≡ number_by_path self.now enumeration.0 path.now }
+    {
+        let name = name_in_path(self.name_at(enumeration)?, path)?;
+        self.number_of_name(enumeration, name)
+    }
+
+    /// The code of a union's member by its name, or `NONE`, which stands alone, or behind the union's
+    /// declared name and a dot, or behind its full name and a dot.
+    pub fn code_by_path(&self, union: TypeId, path: &str) -> Option<u8>
+        ensures { result ≡ code_by_path self.now union.0 path.now }
+    {
+        let name = name_in_path(self.name_at(union)?, path)?;
+        self.code_of_name(union, name)
     }
 }

@@ -4,8 +4,8 @@ use Rattle.fb_syntax.specs.Located.{Located, joined}
 use Rattle.fb_syntax.specs.Lexemes.{Lexeme}
 use Rattle.fb_syntax.specs.Signs.{dot}
 use Rattle.fb_syntax.specs.Reading.{Fails, is_kind, is_only, is_sign, sign_at, token_at, name_more, name_at}
-use Rattle.fb_syntax.specs.declared.faults.SyntaxFault.{SyntaxFault}
-use Rattle.fb_syntax.specs.declared.faults.SyntaxFault.TheVariants.{Memory, NotUtf8, BadByte, Unterminated, NumberTooBig, Unexpected, NestedVector}
+use Rattle.fb_syntax.specs.declared.parser.stop.Stop.{Stop}
+use Rattle.fb_syntax.specs.declared.parser.stop.Stop.TheVariants.{Memory, Unexpected, NestedVector}
 use Rattle.fb_syntax.specs.declared.tokens.TokenKind.{TokenKind}
 use Rattle.fb_syntax.specs.declared.tokens.TokenKind.TheVariants.{Word, Integer, Quoted, Punct}
 
@@ -78,17 +78,13 @@ name_breaks s at (t ∷ v ∷ rest) inside e f =
     rw (h.0, token_at-none Word v rest g) refl
 
 -- What fails as memory does, or is none, fails where another is none with it.
-pub fails_with : {X Y : Type 0} (fault : SyntaxFault) (a : Option X) (b : Option Y) → (a ≡ None → b ≡ None) → Fails fault a → Fails fault b
+pub fails_with : {X Y : Type 0} (stop : Stop) (a : Option X) (b : Option Y) → (a ≡ None → b ≡ None) → Fails stop a → Fails stop b
 fails_with Memory a b f e = tt
-fails_with (NotUtf8 at) a b f e = e
-fails_with (BadByte at) a b f e = e
-fails_with (Unterminated at) a b f e = e
-fails_with (NumberTooBig at) a b f e = e
-fails_with (Unexpected at) a b f e = f e
-fails_with (NestedVector at) a b f e = f e
+fails_with Unexpected a b f e = f e
+fails_with NestedVector a b f e = f e
 
-pub more_fails : (fault : SyntaxFault) (s : Located) (at : ℕ) (ts inside : List Lexeme) (begun : Option (Located × List Lexeme)) → name_more s ts ≡ begun → sign_at dot ts ≡ Some (at, inside) → Fails fault (token_at Word inside) → Fails fault begun
-more_fails fault s at ts inside begun so_far e f = fails_with fault (token_at Word inside) begun (λ none. sym so_far ∙ name_breaks s at ts inside e none) f
+pub more_fails : (stop : Stop) (s : Located) (at : ℕ) (ts inside : List Lexeme) (begun : Option (Located × List Lexeme)) → name_more s ts ≡ begun → sign_at dot ts ≡ Some (at, inside) → Fails stop (token_at Word inside) → Fails stop begun
+more_fails stop s at ts inside begun so_far e f = fails_with stop (token_at Word inside) begun (λ none. sym so_far ∙ name_breaks s at ts inside e none) f
 
 no_word : (c : ℕ) (t : Lexeme) (rest : List Lexeme) → is_sign c (t ∷ rest) ≡ true → is_kind t.kind Word ≡ false
 no_word c t rest e = by_kind t.kind (is_only c t.text.bytes) e where

@@ -1,14 +1,15 @@
 -- What the tokens of a text read as.
-use Rattle.std.proofs.Common.{◌≡◌, ℕ, List, [], ◌∷◌, Option, Some, None, true, length, Result, Ok, Err, MatchResult, refl, sym, ap, ◌∙◌}
+use Rattle.std.proofs.Common.{◌≡◌, ℕ, List, [], ◌∷◌, Option, Some, None, true, length, refl, sym, ap, ◌∙◌}
 use Rattle.fb_syntax.specs.DeclsRead.{DeclsRead}
 use Rattle.fb_syntax.specs.Lexemes.{Lexeme, lexemes}
-use Rattle.fb_syntax.specs.Reading.{Fails, IsGrammarFault, is_empty, until}
+use Rattle.fb_syntax.specs.Reading.{Fails, fault_at, is_empty, until}
 use Rattle.fb_syntax.specs.ReadingSchema.{declaration_at, declarations_at}
 use Rattle.fb_syntax.specs.Grammar.{Repeated}
 use Rattle.fb_syntax.specs.GrammarSchema.{IsDeclaration, Reads}
 use Rattle.fb_syntax.specs.OneReading.{OneReading}
-use Rattle.fb_syntax.specs.declared.faults.SyntaxFault.{SyntaxFault}
-use Rattle.fb_syntax.specs.declared.faults.SyntaxFault.TheVariants.{Memory, NotUtf8, BadByte, Unterminated, NumberTooBig, Unexpected, NestedVector}
+use Rattle.fb_syntax.specs.declared.faults.SyntaxFault.TheVariants as faults
+use Rattle.fb_syntax.specs.declared.parser.stop.Stop.{Stop}
+use Rattle.fb_syntax.specs.declared.parser.stop.Stop.TheVariants.{Memory, Unexpected, NestedVector}
 use Rattle.fb_syntax.specs.declared.tokens.Token.{Token}
 use Rattle.fb_syntax.specs.declared.declarations.Declaration.{Declaration}
 use Rattle.fb_syntax.proofs.Names.{pair_of}
@@ -35,14 +36,10 @@ unfolding declarations_at
 until_declarations text tokens d h = declarations_read d.declarations (lexemes text tokens) h.whole
 
 -- Where tokens read as declarations, only memory fails.
-pub memory_alone : (text : List ℕ) (tokens : List Token) (d : DeclsRead) (fault : SyntaxFault) → Reads text tokens d → Fails fault (until declaration_at is_empty (lexemes text tokens)) → fault ≡ Memory
-memory_alone text tokens d Memory h e = refl
-memory_alone text tokens d (NotUtf8 at) h e = absurd e
-memory_alone text tokens d (BadByte at) h e = absurd e
-memory_alone text tokens d (Unterminated at) h e = absurd e
-memory_alone text tokens d (NumberTooBig at) h e = absurd e
-memory_alone text tokens d (Unexpected at) h e = absurd (none_some (sym e ∙ until_declarations text tokens d h))
-memory_alone text tokens d (NestedVector at) h e = absurd (none_some (sym e ∙ until_declarations text tokens d h))
+pub memory_alone : (text : List ℕ) (tokens : List Token) (d : DeclsRead) (stop : Stop) (offset : ℕ) → Reads text tokens d → Fails stop (until declaration_at is_empty (lexemes text tokens)) → fault_at stop offset ≡ faults.Memory
+memory_alone text tokens d Memory offset h e = refl
+memory_alone text tokens d Unexpected offset h e = absurd (none_some (sym e ∙ until_declarations text tokens d h))
+memory_alone text tokens d NestedVector offset h e = absurd (none_some (sym e ∙ until_declarations text tokens d h))
 
 same_decls : (d e : DeclsRead) → d.declarations ≡ e.declarations → d.text_len ≡ e.text_len → d ≡ e
 same_decls d e a b = let P : List Declaration → ℕ → DeclsRead = λ ds len. record { declarations = ds; text_len = len } in ap (λ ds. P ds d.text_len) a ∙ ap (P e.declarations) b
@@ -51,13 +48,3 @@ pub one_reading_shown : OneReading
 one_reading_shown text tokens d e h k =
     let same = pair_of d.declarations e.declarations [] [] (sym (until_declarations text tokens d h) ∙ until_declarations text tokens e k) in
     same_decls d e same.0 (h.len ∙ sym k.len)
-
--- what fails in the grammar is no fault of a token
-pub grammar_alone : {Y : Type 0} (fault : SyntaxFault) (read : Option Y) → Fails fault read → IsGrammarFault fault
-grammar_alone Memory read e = tt
-grammar_alone (NotUtf8 at) read e = e
-grammar_alone (BadByte at) read e = e
-grammar_alone (Unterminated at) read e = e
-grammar_alone (NumberTooBig at) read e = e
-grammar_alone (Unexpected at) read e = tt
-grammar_alone (NestedVector at) read e = tt

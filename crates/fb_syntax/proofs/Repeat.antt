@@ -1,7 +1,7 @@
 -- Loops over items.
 use Rattle.std.proofs.Common.{◌≡◌, ℕ, zero, suc, ◌<◌, List, [], ◌∷◌, ◌++◌, length, Bool, true, false, Some, None, refl, sym, ap, ◌∙◌, append_assoc, arith}
 use Rattle.std.proofs.lemmas.List.{append-nil}
-use Rattle.fb_syntax.specs.declared.faults.SyntaxFault.{SyntaxFault}
+use Rattle.fb_syntax.specs.declared.parser.stop.Stop.{Stop}
 use Rattle.fb_syntax.specs.Lexemes.{Lexeme}
 use Rattle.fb_syntax.specs.Reading.{◌>>=◌, Fails, Front, many, until}
 use Rattle.fb_syntax.proofs.Names.{fails_with}
@@ -69,5 +69,5 @@ module _ {X : Type 0} (item : List Lexeme → Front X) (stop : List Lexeme → B
       let before : with_front front (many item stop (suc more.0) rest) ≡ until item stop begun = rw more.1 at so_far.same in
       sym before ∙ ap (with_front front) (broken more.0 rest none e)
 
-  pub fails : (fault : SyntaxFault) (begun rest : List Lexeme) (front : List X) → Repeats item stop begun front rest → stop rest ≡ false → Fails fault (item rest) → Fails fault (until item stop begun)
-  fails fault begun rest front so_far none = fails_with fault (item rest) (until item stop begun) (stops begun rest front so_far none)
+  pub fails : (why : Stop) (begun rest : List Lexeme) (front : List X) → Repeats item stop begun front rest → stop rest ≡ false → Fails why (item rest) → Fails why (until item stop begun)
+  fails why begun rest front so_far none = fails_with why (item rest) (until item stop begun) (stops begun rest front so_far none)

@@ -22,3 +22,13 @@ abbrev pub IsToldOfTokens : List ℕ → SyntaxFault → Type 0
 IsToldOfTokens text (Unexpected at) = (tokens : List Token) × SpellsText text tokens
 IsToldOfTokens text (NestedVector at) = (tokens : List Token) × SpellsText text tokens
 IsToldOfTokens text _ = Unit {0}
+
+-- Where the fault stands, the text hasn't ended before it.
+abbrev pub StandsWithin : ℕ → SyntaxFault → Type 0
+StandsWithin len (NotUtf8 at) = at ≤ len
+StandsWithin len (BadByte at) = at ≤ len
+StandsWithin len (Unterminated at) = at ≤ len
+StandsWithin len (NumberTooBig at) = at ≤ len
+StandsWithin len (Unexpected at) = at ≤ len
+StandsWithin len (NestedVector at) = at ≤ len
+StandsWithin len Memory = Unit {0}

@@ -5,6 +5,7 @@ mod keywords;
 mod lists;
 mod metadata;
 mod schema;
+mod stop;
 mod unions;
 
 ghost use Rattle.std.specs.Prelude.{◌≡◌, ◌<◌, ◌≤◌, length, drop, Some, None, IfOk, IfSome, MatchOption};
@@ -12,11 +13,11 @@ ghost use Rattle.fb_syntax.specs.Lexemes.{IsReadable, AreReadable, content, lexe
 ghost use Rattle.fb_syntax.specs.Reading.{Gives, is_empty, is_only, is_sign, kind_at, name_at, name_more, sign_at, token_at};
 
 use crate::declarations::Text;
-use crate::faults::SyntaxFault;
 use crate::tokens::{Token, TokenKind};
 pub(crate) use schema::declarations_of;
 use std::alloc::Global;
 use std::marker::Model;
+use stop::Stop;
 
 /// What a token says, and its offset.
 #[derive(Clone, Copy)]
@@ -95,12 +96,11 @@ impl<'t> Parser<'t> {
         self.tokens.is_empty()
     }
 
-    /// The offset of the next token, or of the text's end.
-    fn offset(&self) -> u64 {
-        match self.tokens.first() {
-            Some(token) => token.at,
-            None => self.text.len() as u64,
-        }
+    /// How many tokens are left.
+    fn left(&self) -> usize
+        ensures { result ≡ length self.now }
+    {
+        self.tokens.len()
     }
 
     fn kind(&self) -> Option<TokenKind>
@@ -121,24 +121,33 @@ impl<'t> Parser<'t> {
         }
     }
 
+    /// The next token, not passed yet.
     #[tactic(auto, unfolding(crate::specs::Reading::token_at))]
-    fn token(&mut self, kind: TokenKind) -> Result<Spelling<'t>, SyntaxFault>
+    fn next(&self, kind: TokenKind) -> Result<Spelling<'t>, Stop>
+        ensures exact { Gives (λ t. (record { bytes = t.text.now; at = t.at }, drop 1 self.now))
+            result (token_at kind self.now) }
+        ensures some { IfOk result (λ _. 0 < length self.now) }
+    {
+        let [next, ..] = self.tokens else {
+            return Err(Stop::Unexpected);
+        };
+        if next.kind != kind {
+            return Err(Stop::Unexpected);
+        }
+        Ok(spelled(self.text, *next))
+    }
+
+    fn token(&mut self, kind: TokenKind) -> Result<Spelling<'t>, Stop>
         ensures exact { Gives (λ t. (record { bytes = t.text.now; at = t.at }, self.new)) result
             (token_at kind self.old) }
         ensures shorter { IfOk result (λ _. length self.new < length self.old) }
     {
-        let [next, ..] = self.tokens else {
-            return Err(SyntaxFault::Unexpected(self.offset()));
-        };
-        if next.kind != kind {
-            return Err(SyntaxFault::Unexpected(self.offset()));
-        }
-        let token = spelled(self.text, *next);
+        let token = self.next(kind)?;
         self.advance();
         Ok(token)
     }
 
-    fn text(&mut self, kind: TokenKind) -> Result<Text, SyntaxFault>
+    fn text(&mut self, kind: TokenKind) -> Result<Text, Stop>
         ensures exact { Gives (λ t. (t, self.new)) result (token_at kind self.old) }
         ensures shorter { IfOk result (λ _. length self.new < length self.old) }
     {
@@ -176,18 +185,18 @@ impl<'t> Parser<'t> {
         Some(at)
     }
 
-    fn sign(&mut self, sign: u8) -> Result<u64, SyntaxFault>
+    fn sign(&mut self, sign: u8) -> Result<u64, Stop>
         ensures exact { Gives (λ at. (at, self.new)) result (sign_at sign self.old) }
         ensures shorter { IfOk result (λ _. length self.new < length self.old) }
     {
         match self.take_sign(sign) {
             Some(at) => Ok(at),
-            None => Err(SyntaxFault::Unexpected(self.offset())),
+            None => Err(Stop::Unexpected),
         }
     }
 
     #[tactic(auto, unfolding(crate::specs::Reading::name_at))]
-    fn name(&mut self) -> Result<Text, SyntaxFault>
+    fn name(&mut self) -> Result<Text, Stop>
         ensures exact { Gives (λ t. (t, self.new)) result (name_at self.old) }
         ensures shorter { IfOk result (λ _. length self.new < length self.old) }
     {
@@ -196,7 +205,7 @@ impl<'t> Parser<'t> {
     }
 
     /// A name whose first word is read already.
-    fn name_from(&mut self, first: Text) -> Result<Text, SyntaxFault>
+    fn name_from(&mut self, first: Text) -> Result<Text, Stop>
         ensures exact { Gives (λ t. (t, self.new)) result (name_more first self.old) }
         ensures shorter { IfOk result (λ _. length self.new ≤ length self.old) }
     {

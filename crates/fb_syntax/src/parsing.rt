@@ -1,9 +1,9 @@
 //! A schema text, from bytes to declarations.
-ghost use Rattle.std.specs.Prelude.{◌≡◌, ◌↔◌, ℕ, IfOk, IfErr, MatchResult, Err, IsUtf8};
+ghost use Rattle.std.specs.Prelude.{◌≡◌, ◌↔◌, ℕ, IfOk, IfErr, MatchResult, Err, IsUtf8, length};
 ghost use Rattle.std.specs.Str.Lossy.{utf8_valid_len};
 ghost use Rattle.fb_syntax.specs.DeclsRead.{DeclsRead};
 ghost use Rattle.fb_syntax.specs.Parsed.{Parses};
-ghost use Rattle.fb_syntax.specs.Refusals.{IsToldOfUtf8, IsToldOfNoTokens, IsToldOfTokens};
+ghost use Rattle.fb_syntax.specs.Refusals.{IsToldOfUtf8, IsToldOfNoTokens, IsToldOfTokens, StandsWithin};
 
 use crate::declarations::Decls;
 use crate::faults::SyntaxFault;
@@ -25,6 +25,7 @@ pub fn parse(alloc: Global, text: &[u8]) -> Result<Decls, SyntaxFault>
     ensures utf8 { IfErr result (IsToldOfUtf8 text.now) }
     ensures spelled_by_none { IfErr result (IsToldOfNoTokens text.now) }
     ensures spelled { IfErr result (IsToldOfTokens text.now) }
+    ensures within { IfErr result (StandsWithin (length text.now)) }
 {
     let readable = text_of(text)?;
     let tokens = tokens_in(alloc, readable)?;

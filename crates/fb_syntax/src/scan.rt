@@ -3,6 +3,7 @@ ghost use Rattle.std.specs.Prelude.{◌≡◌, ◌≤◌, ◌<◌, ◌+◌, ◌^
 ghost use Rattle.std.specs.Str.Lossy.{utf8_valid_len};
 ghost use Rattle.fb_syntax.specs.declared.tokens.Token.{Token};
 ghost use Rattle.fb_syntax.specs.Spells.{Spells, SpellsText, OneSpelling, Finds};
+ghost use Rattle.fb_syntax.specs.Refusals.{StandsWithin};
 ghost use Rattle.fb_syntax.specs.SpelledTokens.{IsTokenOf, IsTokenFault};
 ghost use Rattle.fb_syntax.specs.Marks.{mark_len};
 ghost use Rattle.fb_syntax.specs.Pieces.{is_close, close_len, comment_at, integer_at, quoted_at, piece_at};
@@ -48,6 +49,7 @@ fn close_len(text: &[u8]) -> Option<usize>
 fn comment(at: u64, text: &[u8]) -> Result<Piece, SyntaxFault>
     ensures piece { result ≡ comment_at at text.now }
     ensures fault { IfErr result IsTokenFault }
+    ensures within { IfErr result (StandsWithin at) }
 {
     match text {
         [b'/', rest @ ..] => Ok(Piece::Gap(2 + line_run(rest))),
@@ -65,6 +67,7 @@ fn quoted(at: u64, text: &[u8]) -> Result<Piece, SyntaxFault>
     requires { at + length text.now < 2 ^ 64 }
     ensures piece { result ≡ quoted_at at text.now }
     ensures fault { IfErr result IsTokenFault }
+    ensures within { IfErr result (StandsWithin (at + length text.now)) }
 {
     let len = quotable_run(text);
     match text.get(len) {
@@ -80,6 +83,7 @@ fn integer(at: u64, sign: usize, text: &[u8]) -> Result<Piece, SyntaxFault>
     requires { sign ≤ length text.now }
     ensures piece { result ≡ integer_at at sign text.now }
     ensures fault { IfErr result IsTokenFault }
+    ensures within { IfErr result (StandsWithin at) }
 {
     let len = number_len(&text[sign..]);
     if len == 0 {
@@ -97,6 +101,7 @@ fn next_piece(at: u64, text: &[u8]) -> Result<Piece, SyntaxFault>
     requires { at + length text.now < 2 ^ 64 }
     ensures piece { result ≡ piece_at at text.now }
     ensures fault { IfErr result IsTokenFault }
+    ensures within { IfErr result (StandsWithin (at + length text.now)) }
 {
     let [first, rest @ ..] = text else {
         return Err(SyntaxFault::BadByte(at));
@@ -128,6 +133,7 @@ fn tokens_from(alloc: Global, start: usize, text: &[u8]) -> Result<Vec<Token>, S
     ensures only { (tokens : List Token) →
         Spells start (drop start text.now) tokens → Finds (λ v. v.items) result tokens }
     ensures fault { IfErr result IsTokenFault }
+    ensures within { IfErr result (StandsWithin (length text.now)) }
 {
     let mut found = Vec::new(alloc);
     let mut at = start;
@@ -181,6 +187,7 @@ pub(crate) fn tokens_in(alloc: Global, text: &str) -> Result<Vec<Token>, SyntaxF
         SpellsText text.now tokens → Finds (λ v. v.items) result tokens }
     ensures tokens { IfOk result (λ v. All (IsTokenOf text.now) v.items) }
     ensures fault { IfErr result IsTokenFault }
+    ensures within { IfErr result (StandsWithin (length text.now)) }
 {
     let bytes = text.as_bytes();
     tokens_from(alloc, mark_len(bytes), bytes)

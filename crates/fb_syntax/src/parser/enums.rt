@@ -4,14 +4,13 @@ ghost use Rattle.fb_syntax.specs.Signs.{close_brace};
 ghost use Rattle.fb_syntax.specs.Reading.{Gives, is_sign, some_until, until};
 ghost use Rattle.fb_syntax.specs.ReadingTypes.{enum_value_at, listed_value_at, enum_at};
 
-use super::Parser;
+use super::{Parser, Stop};
 use crate::declarations::{EnumDeclaration, EnumValue};
-use crate::faults::SyntaxFault;
 use crate::tokens::TokenKind;
 
 impl Parser<'_> {
     #[tactic(auto, unfolding(crate::specs::ReadingTypes::enum_value_at))]
-    fn enum_value(&mut self) -> Result<EnumValue, SyntaxFault>
+    fn enum_value(&mut self) -> Result<EnumValue, Stop>
         ensures exact { Gives (λ v. (v, self.new)) result (enum_value_at self.old) }
         ensures shorter { IfOk result (λ _. length self.new < length self.old) }
     {
@@ -24,7 +23,7 @@ impl Parser<'_> {
     }
 
     #[tactic(auto, unfolding(crate::specs::ReadingTypes::listed_value_at, crate::specs::Reading::listed_at))]
-    fn listed_value(&mut self) -> Result<EnumValue, SyntaxFault>
+    fn listed_value(&mut self) -> Result<EnumValue, Stop>
         ensures exact { Gives (λ v. (v, self.new)) result (listed_value_at self.old) }
         ensures shorter { IfOk result (λ _. length self.new < length self.old) }
     {
@@ -34,7 +33,7 @@ impl Parser<'_> {
     }
 
     /// The values before a closing brace.
-    fn values(&mut self) -> Result<Vec<EnumValue>, SyntaxFault>
+    fn values(&mut self) -> Result<Vec<EnumValue>, Stop>
         ensures exact { Gives (λ v. (v.items, self.new)) result
             (until listed_value_at (is_sign close_brace) self.old) }
         ensures shorter { IfOk result (λ _. length self.new ≤ length self.old) }
@@ -48,20 +47,20 @@ impl Parser<'_> {
     }
 
     #[tactic(auto, unfolding(crate::specs::Reading::some_until))]
-    fn some_values(&mut self) -> Result<Vec<EnumValue>, SyntaxFault>
+    fn some_values(&mut self) -> Result<Vec<EnumValue>, Stop>
         ensures exact { Gives (λ v. (v.items, self.new)) result
             (some_until listed_value_at close_brace self.old) }
         ensures shorter { IfOk result (λ _. length self.new ≤ length self.old) }
     {
         if self.is_sign(b'}') {
-            return Err(SyntaxFault::Unexpected(self.offset()));
+            return Err(Stop::Unexpected);
         }
         self.values()
     }
 
     /// An enum behind its first word.
     #[tactic(auto, unfolding(crate::specs::ReadingTypes::enum_at))]
-    pub(super) fn enumeration(&mut self) -> Result<EnumDeclaration, SyntaxFault>
+    pub(super) fn enumeration(&mut self) -> Result<EnumDeclaration, Stop>
         ensures exact { Gives (λ e. (e, self.new)) result (enum_at self.old) }
         ensures shorter { IfOk result (λ _. length self.new < length self.old) }
     {

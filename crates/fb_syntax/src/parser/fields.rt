@@ -5,25 +5,24 @@ ghost use Rattle.fb_syntax.specs.Reading.{Gives, is_sign, name_at, until};
 ghost use Rattle.fb_syntax.specs.ReadingFields.{type_at, default_value_at, default_at, field_at};
 ghost use Rattle.fb_syntax.specs.ReadingTypes.{table_at};
 
-use super::Parser;
+use super::{Parser, Stop};
 use crate::declarations::{DefaultValue, Field, FieldType, TableDeclaration, Text};
-use crate::faults::SyntaxFault;
 use crate::tokens::TokenKind;
 
 impl Parser<'_> {
     /// The name of the type of a vector's elements.
-    fn element(&mut self) -> Result<Text, SyntaxFault>
+    fn element(&mut self) -> Result<Text, Stop>
         ensures exact { Gives (λ t. (t, self.new)) result (name_at self.old) }
         ensures shorter { IfOk result (λ _. length self.new < length self.old) }
     {
         if self.is_sign(b'[') {
-            return Err(SyntaxFault::NestedVector(self.offset()));
+            return Err(Stop::NestedVector);
         }
         self.name()
     }
 
     #[tactic(auto, unfolding(crate::specs::ReadingFields::type_at))]
-    fn field_type(&mut self) -> Result<FieldType, SyntaxFault>
+    fn field_type(&mut self) -> Result<FieldType, Stop>
         ensures exact { Gives (λ t. (t, self.new)) result (type_at self.old) }
         ensures shorter { IfOk result (λ _. length self.new < length self.old) }
     {
@@ -38,7 +37,7 @@ impl Parser<'_> {
     }
 
     #[tactic(auto, unfolding(crate::specs::ReadingFields::default_value_at))]
-    fn default_value(&mut self) -> Result<DefaultValue, SyntaxFault>
+    fn default_value(&mut self) -> Result<DefaultValue, Stop>
         ensures exact { Gives (λ v. (v, self.new)) result (default_value_at self.old) }
         ensures shorter { IfOk result (λ _. length self.new < length self.old) }
     {
@@ -49,7 +48,7 @@ impl Parser<'_> {
     }
 
     #[tactic(auto, unfolding(crate::specs::ReadingFields::default_at))]
-    fn default(&mut self) -> Result<Option<DefaultValue>, SyntaxFault>
+    fn default(&mut self) -> Result<Option<DefaultValue>, Stop>
         ensures exact { Gives (λ v. (v, self.new)) result (default_at self.old) }
         ensures shorter { IfOk result (λ _. length self.new ≤ length self.old) }
     {
@@ -60,7 +59,7 @@ impl Parser<'_> {
     }
 
     #[tactic(auto, unfolding(crate::specs::ReadingFields::field_at))]
-    fn field(&mut self) -> Result<Field, SyntaxFault>
+    fn field(&mut self) -> Result<Field, Stop>
         ensures exact { Gives (λ f. (f, self.new)) result (field_at self.old) }
         ensures shorter { IfOk result (λ _. length self.new < length self.old) }
     {
@@ -78,7 +77,7 @@ impl Parser<'_> {
         })
     }
 
-    fn fields(&mut self) -> Result<Vec<Field>, SyntaxFault>
+    fn fields(&mut self) -> Result<Vec<Field>, Stop>
         ensures exact { Gives (λ v. (v.items, self.new)) result
             (until field_at (is_sign close_brace) self.old) }
         ensures shorter { IfOk result (λ _. length self.new ≤ length self.old) }
@@ -93,7 +92,7 @@ impl Parser<'_> {
 
     /// A table or struct behind its first word.
     #[tactic(auto, unfolding(crate::specs::ReadingTypes::table_at))]
-    pub(super) fn table(&mut self) -> Result<TableDeclaration, SyntaxFault>
+    pub(super) fn table(&mut self) -> Result<TableDeclaration, Stop>
         ensures exact { Gives (λ t. (t, self.new)) result (table_at self.old) }
         ensures shorter { IfOk result (λ _. length self.new < length self.old) }
     {

@@ -2,14 +2,13 @@
 ghost use Rattle.std.specs.Prelude.{◌≤◌, length, IfOk};
 ghost use Rattle.fb_syntax.specs.Reading.{Gives, comma_at};
 
-use super::Parser;
-use crate::faults::SyntaxFault;
+use super::{Parser, Stop};
 
 impl Parser<'_> {
     /// Passes a comma; nothing where the list's closing sign stands. Where `trailing` is false, an
     /// item has to follow the comma.
     #[tactic(auto, unfolding(crate::specs::Reading::comma_at))]
-    pub(super) fn comma(&mut self, trailing: bool, close: u8) -> Result<(), SyntaxFault>
+    pub(super) fn comma(&mut self, trailing: bool, close: u8) -> Result<(), Stop>
         ensures exact { Gives (λ _. self.new) result (comma_at trailing close self.old) }
         ensures shorter { IfOk result (λ _. length self.new ≤ length self.old) }
     {
@@ -17,11 +16,11 @@ impl Parser<'_> {
             return if self.is_sign(close) {
                 Ok(())
             } else {
-                Err(SyntaxFault::Unexpected(self.offset()))
+                Err(Stop::Unexpected)
             };
         }
         if self.is_sign(close) && !trailing {
-            Err(SyntaxFault::Unexpected(self.offset()))
+            Err(Stop::Unexpected)
         } else {
             Ok(())
         }

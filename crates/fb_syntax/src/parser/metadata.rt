@@ -4,14 +4,13 @@ ghost use Rattle.fb_syntax.specs.Signs.{close_round};
 ghost use Rattle.fb_syntax.specs.Reading.{Gives, is_sign, until};
 ghost use Rattle.fb_syntax.specs.ReadingFields.{attribute_value_at, attribute_use_at, listed_attribute_at, metadata_at};
 
-use super::Parser;
+use super::{Parser, Stop};
 use crate::declarations::{AttributeUse, AttributeValue};
-use crate::faults::SyntaxFault;
 use crate::tokens::TokenKind;
 
 impl Parser<'_> {
     #[tactic(auto, unfolding(crate::specs::ReadingFields::attribute_value_at))]
-    fn attribute_value(&mut self) -> Result<AttributeValue, SyntaxFault>
+    fn attribute_value(&mut self) -> Result<AttributeValue, Stop>
         ensures exact { Gives (λ v. (v, self.new)) result (attribute_value_at self.old) }
         ensures shorter { IfOk result (λ _. length self.new < length self.old) }
     {
@@ -23,7 +22,7 @@ impl Parser<'_> {
     }
 
     #[tactic(auto, unfolding(crate::specs::ReadingFields::attribute_use_at))]
-    fn attribute_use(&mut self) -> Result<AttributeUse, SyntaxFault>
+    fn attribute_use(&mut self) -> Result<AttributeUse, Stop>
         ensures exact { Gives (λ a. (a, self.new)) result (attribute_use_at self.old) }
         ensures shorter { IfOk result (λ _. length self.new < length self.old) }
     {
@@ -36,7 +35,7 @@ impl Parser<'_> {
     }
 
     #[tactic(auto, unfolding(crate::specs::ReadingFields::listed_attribute_at, crate::specs::Reading::listed_at))]
-    fn listed_attribute(&mut self) -> Result<AttributeUse, SyntaxFault>
+    fn listed_attribute(&mut self) -> Result<AttributeUse, Stop>
         ensures exact { Gives (λ a. (a, self.new)) result (listed_attribute_at self.old) }
         ensures shorter { IfOk result (λ _. length self.new < length self.old) }
     {
@@ -46,7 +45,7 @@ impl Parser<'_> {
     }
 
     /// The attributes before a closing parenthesis.
-    fn attributes(&mut self) -> Result<Vec<AttributeUse>, SyntaxFault>
+    fn attributes(&mut self) -> Result<Vec<AttributeUse>, Stop>
         ensures exact { Gives (λ v. (v.items, self.new)) result
             (until listed_attribute_at (is_sign close_round) self.old) }
         ensures shorter { IfOk result (λ _. length self.new ≤ length self.old) }
@@ -60,7 +59,7 @@ impl Parser<'_> {
     }
 
     #[tactic(auto, unfolding(crate::specs::ReadingFields::metadata_at))]
-    pub(super) fn metadata(&mut self) -> Result<Vec<AttributeUse>, SyntaxFault>
+    pub(super) fn metadata(&mut self) -> Result<Vec<AttributeUse>, Stop>
         ensures exact { Gives (λ v. (v.items, self.new)) result (metadata_at self.old) }
         ensures shorter { IfOk result (λ _. length self.new ≤ length self.old) }
     {

@@ -4,11 +4,12 @@ ghost use Rattle.fb_syntax.specs.declared.faults.SyntaxFault.TheVariants.{Memory
 ghost use Rattle.fb_syntax.specs.DeclsRead.{DeclsRead};
 ghost use Rattle.fb_syntax.specs.GrammarSchema.{Reads};
 ghost use Rattle.fb_syntax.specs.Lexemes.{AreReadable};
+ghost use Rattle.fb_syntax.specs.Refusals.{StandsWithin};
 ghost use Rattle.fb_syntax.specs.Reading.{Gives, IsGrammarFault, is_empty, until};
 ghost use Rattle.fb_syntax.specs.ReadingSchema.{keyword_at, namespace_at, attribute_at, root_at, quoted_at, declared_at, declaration_at};
 
-use super::Parser;
 use super::keywords::{Keyword, keyword_of};
+use super::{Parser, Stop};
 use crate::declarations::{Declaration, Decls, Text};
 use crate::faults::SyntaxFault;
 use crate::tokens::{Token, TokenKind};
@@ -16,7 +17,7 @@ use std::alloc::Global;
 
 impl Parser<'_> {
     #[tactic(auto, unfolding(crate::specs::ReadingSchema::namespace_at))]
-    fn namespace(&mut self) -> Result<Option<Text>, SyntaxFault>
+    fn namespace(&mut self) -> Result<Option<Text>, Stop>
         ensures exact { Gives (λ n. (n, self.new)) result (namespace_at self.old) }
         ensures shorter { IfOk result (λ _. length self.new < length self.old) }
     {
@@ -29,7 +30,7 @@ impl Parser<'_> {
     }
 
     #[tactic(auto, unfolding(crate::specs::ReadingSchema::attribute_at))]
-    fn attribute(&mut self) -> Result<Text, SyntaxFault>
+    fn attribute(&mut self) -> Result<Text, Stop>
         ensures exact { Gives (λ t. (t, self.new)) result (attribute_at self.old) }
         ensures shorter { IfOk result (λ _. length self.new < length self.old) }
     {
@@ -42,7 +43,7 @@ impl Parser<'_> {
     }
 
     #[tactic(auto, unfolding(crate::specs::ReadingSchema::root_at))]
-    fn root(&mut self) -> Result<Text, SyntaxFault>
+    fn root(&mut self) -> Result<Text, Stop>
         ensures exact { Gives (λ t. (t, self.new)) result (root_at self.old) }
         ensures shorter { IfOk result (λ _. length self.new < length self.old) }
     {
@@ -53,7 +54,7 @@ impl Parser<'_> {
 
     /// What a file's name ends in, or its identifier.
     #[tactic(auto, unfolding(crate::specs::ReadingSchema::quoted_at))]
-    fn quoted(&mut self) -> Result<Text, SyntaxFault>
+    fn quoted(&mut self) -> Result<Text, Stop>
         ensures exact { Gives (λ t. (t, self.new)) result (quoted_at self.old) }
         ensures shorter { IfOk result (λ _. length self.new < length self.old) }
     {
@@ -63,18 +64,19 @@ impl Parser<'_> {
     }
 
     #[tactic(auto, unfolding(crate::specs::ReadingSchema::keyword_at))]
-    fn keyword(&mut self) -> Result<Keyword, SyntaxFault>
+    fn keyword(&mut self) -> Result<Keyword, Stop>
         ensures exact { Gives (λ k. (k, self.new)) result (keyword_at self.old) }
         ensures shorter { IfOk result (λ _. length self.new < length self.old) }
     {
-        let at = self.offset();
-        let word = self.token(TokenKind::Word)?;
-        keyword_of(word.text).ok_or(SyntaxFault::Unexpected(at))
+        let word = self.next(TokenKind::Word)?;
+        let keyword = keyword_of(word.text).ok_or(Stop::Unexpected)?;
+        self.advance();
+        Ok(keyword)
     }
 
     /// The declaration that a word begins.
     #[tactic(auto, unfolding(crate::specs::ReadingSchema::declared_at))]
-    fn declared(&mut self, keyword: Keyword) -> Result<Declaration, SyntaxFault>
+    fn declared(&mut self, keyword: Keyword) -> Result<Declaration, Stop>
         ensures exact { Gives (λ d. (d, self.new)) result (declared_at keyword self.old) }
         ensures shorter { IfOk result (λ _. length self.new < length self.old) }
     {
@@ -92,7 +94,7 @@ impl Parser<'_> {
     }
 
     #[tactic(auto, unfolding(crate::specs::ReadingSchema::declaration_at))]
-    fn declaration(&mut self) -> Result<Declaration, SyntaxFault>
+    fn declaration(&mut self) -> Result<Declaration, Stop>
         ensures exact { Gives (λ d. (d, self.new)) result (declaration_at self.old) }
         ensures shorter { IfOk result (λ _. length self.new < length self.old) }
     {
@@ -100,7 +102,7 @@ impl Parser<'_> {
         self.declared(keyword)
     }
 
-    fn declarations(&mut self) -> Result<Vec<Declaration>, SyntaxFault>
+    fn declarations(&mut self) -> Result<Vec<Declaration>, Stop>
         ensures exact { Gives (λ v. (v.items, self.new)) result
             (until declaration_at is_empty self.old) }
         ensures shorter { IfOk result (λ _. length self.new ≤ length self.old) }
@@ -111,6 +113,17 @@ impl Parser<'_> {
             declarations.push(declaration)?;
         }
         Ok(declarations)
+    }
+}
+
+/// The offset of the first of the tokens that are left, or of the text's end.
+fn offset_of(text: &[u8], tokens: &[Token], left: usize) -> u64
+    requires { AreReadable text.now tokens.now }
+    ensures { result ≤ length text.now }
+{
+    match tokens.get(tokens.len().saturating_sub(left)) {
+        Some(token) => token.at,
+        None => text.len() as u64,
     }
 }
 
@@ -128,8 +141,11 @@ pub(crate) fn declarations_of(
     ensures exact { (d : DeclsRead) → Reads text.now tokens.now d
         → MatchResult result (λ r. r ≡ d) (λ e. e ≡ Memory) }
     ensures fault { IfErr result IsGrammarFault }
+    ensures within { IfErr result (StandsWithin (length text.now)) }
 {
     let mut parser = Parser::new(alloc, text, tokens);
-    let declarations = parser.declarations()?;
-    Ok(Decls::new(declarations, text.len() as u64))
+    match parser.declarations() {
+        Ok(declarations) => Ok(Decls::new(declarations, text.len() as u64)),
+        Err(stop) => Err(stop.at(offset_of(text, tokens, parser.left()))),
+    }
 }

@@ -4,14 +4,13 @@ ghost use Rattle.fb_syntax.specs.Signs.{close_brace};
 ghost use Rattle.fb_syntax.specs.Reading.{Gives, is_sign, some_until, until};
 ghost use Rattle.fb_syntax.specs.ReadingTypes.{member_at, listed_member_at, union_at};
 
-use super::Parser;
+use super::{Parser, Stop};
 use crate::declarations::{UnionDeclaration, UnionMember};
-use crate::faults::SyntaxFault;
 use crate::tokens::TokenKind;
 
 impl Parser<'_> {
     #[tactic(auto, unfolding(crate::specs::ReadingTypes::member_at))]
-    fn member(&mut self) -> Result<UnionMember, SyntaxFault>
+    fn member(&mut self) -> Result<UnionMember, Stop>
         ensures exact { Gives (λ m. (m, self.new)) result (member_at self.old) }
         ensures shorter { IfOk result (λ _. length self.new < length self.old) }
     {
@@ -32,7 +31,7 @@ impl Parser<'_> {
     }
 
     #[tactic(auto, unfolding(crate::specs::ReadingTypes::listed_member_at, crate::specs::Reading::listed_at))]
-    fn listed_member(&mut self) -> Result<UnionMember, SyntaxFault>
+    fn listed_member(&mut self) -> Result<UnionMember, Stop>
         ensures exact { Gives (λ m. (m, self.new)) result (listed_member_at self.old) }
         ensures shorter { IfOk result (λ _. length self.new < length self.old) }
     {
@@ -42,7 +41,7 @@ impl Parser<'_> {
     }
 
     /// The members before a closing brace.
-    fn members(&mut self) -> Result<Vec<UnionMember>, SyntaxFault>
+    fn members(&mut self) -> Result<Vec<UnionMember>, Stop>
         ensures exact { Gives (λ v. (v.items, self.new)) result
             (until listed_member_at (is_sign close_brace) self.old) }
         ensures shorter { IfOk result (λ _. length self.new ≤ length self.old) }
@@ -56,20 +55,20 @@ impl Parser<'_> {
     }
 
     #[tactic(auto, unfolding(crate::specs::Reading::some_until))]
-    fn some_members(&mut self) -> Result<Vec<UnionMember>, SyntaxFault>
+    fn some_members(&mut self) -> Result<Vec<UnionMember>, Stop>
         ensures exact { Gives (λ v. (v.items, self.new)) result
             (some_until listed_member_at close_brace self.old) }
         ensures shorter { IfOk result (λ _. length self.new ≤ length self.old) }
     {
         if self.is_sign(b'}') {
-            return Err(SyntaxFault::Unexpected(self.offset()));
+            return Err(Stop::Unexpected);
         }
         self.members()
     }
 
     /// A union behind its first word.
     #[tactic(auto, unfolding(crate::specs::ReadingTypes::union_at))]
-    pub(super) fn union(&mut self) -> Result<UnionDeclaration, SyntaxFault>
+    pub(super) fn union(&mut self) -> Result<UnionDeclaration, Stop>
         ensures exact { Gives (λ u. (u, self.new)) result (union_at self.old) }
         ensures shorter { IfOk result (λ _. length self.new < length self.old) }
     {

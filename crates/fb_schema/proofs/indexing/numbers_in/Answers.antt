@@ -1,23 +1,21 @@
-use Rattle.std.proofs.Common.{◌≡◌, ◌≢◌, List, Vec, String, Global, ℤ, Bool, map, AllPairs, IfOk, string_bytes, ap, sym, subst, ◌∙◌}
+use Rattle.std.proofs.Common.{◌≡◌, ◌≢◌, List, String, Global, ℤ, map, AllPairs, IfOk, string_bytes, sym, subst, ◌∙◌}
 use Rattle.std.proofs.lemmas.Simd.{map-map}
-use Rattle.fb_schema.specs.declared.kinds.Base.{Base}
-use Rattle.fb_schema.specs.declared.types.Body.{Body}
-use Rattle.fb_schema.specs.declared.types.Body.TheVariants.{Enum}
 use Rattle.fb_schema.specs.Seen.{body_seen}
 use Rattle.fb_schema.specs.Indexed.{inner_numbers}
+use Rattle.fb_schema.proofs.LookUps.{numbers_of}
 use Rattle.fb_schema.proofs.indexing.numbers_in.Goals as goal
+use Rattle.fb_schema.proofs.indexing.numbers_in.Goals.{In-Some}
 
--- the numbers are those of the items of a slice over the values
-numbers : (body : Body) {base : Base} {flags : Bool} (values : Vec (String Global × ℤ) Global) (xs : List (String Global × ℤ)) → xs ≡ values.items → body ≡ Enum base flags values
-    → inner_numbers (body_seen body) ≡ map (λ v. v.1) xs
-numbers body values xs lent is =
-    ap (λ (b : Body). inner_numbers (body_seen b)) is
-    ∙ (map-map (λ v. v.1) (λ (x : String Global × ℤ). (string_bytes x.0, x.1)) values.items ∙ ap (map (λ v. v.1)) (sym lent))
+-- the numbers are those of the values lent
+numbers : (c : In-Some) → inner_numbers (body_seen c.args.body.now) ≡ map (λ v. v.1) c.in-Some.values.now
+numbers c =
+    let values = c.in-Some.values.now in
+    numbers_of (body_seen c.args.body.now) c.in-Some.field-0-0 c.in-Some.field-0-1 _ c.in-Some.ensures
+    ∙ map-map (λ v. v.1) (λ (x : String Global × ℤ). (string_bytes x.0, x.1)) values
 
 pub of-requires : goal.of-requires
-of-requires c =
-    subst (λ (ns : List ℤ). AllPairs (λ a b. a ≢ b) ns) (numbers _ _ _ c.as_slice.ensures.value c.in-Enum.is) c.requires
+of-requires c = subst (λ (ns : List ℤ). AllPairs (λ a b. a ≢ b) ns) (numbers c) c.requires
 
-pub returns-in-Enum : goal.returns-in-Enum
-returns-in-Enum c =
-    subst (λ (ns : List ℤ). IfOk c.of.result (λ all. all ≡ ns)) (sym (numbers _ _ _ c.as_slice.ensures.value c.in-Enum.is)) c.of.ensures
+pub returns-in-Some : goal.returns-in-Some
+returns-in-Some c =
+    subst (λ (ns : List ℤ). IfOk c.of.result (λ all. all ≡ ns)) (sym (numbers (goal.at.returns-in-Some c).In-Some)) c.of.ensures

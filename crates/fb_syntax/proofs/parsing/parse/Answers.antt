@@ -1,5 +1,6 @@
 use Rattle.std.proofs.Common.{ℕ, List, Vec, Global, subst, sym}
 use Rattle.std.proofs.lemmas.Result.{err_from_is_err_and}
+use Rattle.std.proofs.lemmas.Str.{utf8_valid_len_le}
 use Rattle.fb_syntax.specs.declared.tokens.Token.{Token}
 use Rattle.fb_syntax.specs.Spells.{SpellsText}
 use Rattle.fb_syntax.specs.GrammarSchema.{Reads}
@@ -19,6 +20,11 @@ returns-in_err-tokens-clause-spelled_by_none c =
     let p = err_from_is_err_and c.from_residual-in_err-tokens.result c.from_residual-in_err-tokens.ensures.1 in
     rw (p.1, p.2) (told_of_no_tokens {X = Vec Token Global} (λ v. v.items) c.args.text.now c.in_err-tokens.field-0.0
     (λ tokens spells. c.in_err-tokens.ensures.only tokens (subst (λ (b : List ℕ). SpellsText b tokens) (sym c.in_ok-readable.ensures.text.0) spells)))
+
+pub returns-in_err-readable-clause-within : goal.returns-in_err-readable-clause-within
+returns-in_err-readable-clause-within c =
+    let p = err_from_is_err_and c.from_residual.result c.from_residual.ensures.1 in
+    rw (p.1, p.2, c.in_err-readable.ensures.not_utf8.1) (utf8_valid_len_le c.args.text.now)
 
 pub declarations_of-requires : goal.declarations_of-requires
 declarations_of-requires c =

@@ -1,0 +1,32 @@
+//! How values of enums and members of unions are named outside their types.
+ghost use Rattle.std.specs.Prelude.{◌≡◌, option_copied};
+ghost use Rattle.fb_schema.specs.Paths.{declared_name, is_name_of, name_in_path};
+
+/// A type's declared name: its full name without the namespace.
+fn declared_name(full: &str) -> &str
+    ensures { result.now ≡ declared_name full.now }
+{
+    match full.rsplit_once('.') {
+        Some((_, name)) => name,
+        None => full,
+    }
+}
+
+/// Whether a name is a type's full name or its declared one.
+fn is_name_of(full: &str, name: &str) -> bool
+    ensures { result ≡ is_name_of full.now name.now }
+{
+    name == full || name == declared_name(full)
+}
+
+/// The name of a value or member that a path says for the type with a full name: alone, or behind
+/// the type's declared name and a dot, or behind its full name and a dot.
+pub(crate) fn name_in_path<'p>(full: &str, path: &'p str) -> Option<&'p str>
+    ensures { option_copied result ≡ name_in_path full.now path.now }
+{
+    match path.rsplit_once('.') {
+        None => Some(path),
+        Some((before, name)) if is_name_of(full, before) => Some(name),
+        Some(_) => None,
+    }
+}
