@@ -7,8 +7,5 @@ pub mod Refused
 pub mod Required
 pub mod Held
 pub mod OneLayout
-<<<<<<< HEAD
 pub mod FaultNumbers
-=======
 pub mod Laws
->>>>>>> fc571db

@@ -1,12 +1,12 @@
 -- A schema text has one layout at most, and none where a layer refuses it.
-use Rattle.std.proofs.Common.{◌≡◌, ◌≢◌, ◌∙◌, List, ℕ, Some, refl, sym, ap, subst}
+use Rattle.std.proofs.Common.{◌≡◌, ◌≢◌, ◌∙◌, List, length, ℕ, Some, refl, sym, ap, subst}
 use Rattle.std.specs.Prelude.{IsUtf8}
 use Rattle.std.specs.Str.Lossy.{utf8_valid_len}
 use Rattle.std.proofs.lemmas.Option.{none-some}
 use Rattle.fb_syntax.specs.DeclsRead.{DeclsRead}
 use Rattle.fb_syntax.specs.Parsed.{Parses}
 use Rattle.fb_syntax.specs.GrammarSchema.{Reads}
-use Rattle.fb_syntax.specs.Refusals.{IsToldOfUtf8, IsToldOfNoTokens, IsToldOfTokens}
+use Rattle.fb_syntax.specs.Refusals.{IsToldOfUtf8, IsToldOfNoTokens, IsToldOfTokens, StandsWithin}
 use Rattle.fb_syntax.specs.declared.faults.SyntaxFault.{SyntaxFault}
 use Rattle.fb_syntax.specs.declared.faults.SyntaxFault.TheVariants.{NotUtf8, BadByte, Unterminated, NumberTooBig, Unexpected, NestedVector, Memory}
 use Rattle.fb_syntax.specs.declared.tokens.Token.{Token}
@@ -51,24 +51,24 @@ none_least d S f declares least = none-some f (sym (ap least_of declares.sound) 
 
 -- what the clauses of parsing say of a refusal, together
 pub syntax_refused : (text : List ℕ) (f : SyntaxFault) → ((at : ℕ) → f ≡ NotUtf8 at → (¬ (IsUtf8 text)) × (at ≡ utf8_valid_len text)) → IsToldOfUtf8 text f → IsToldOfNoTokens text f → IsToldOfTokens text f
-    → ((d : DeclsRead) → Parses text d → f ≡ Memory) → IsSyntaxRefused text f
-syntax_refused text (NotUtf8 at) bytes utf8 none some exact = bytes at refl
-syntax_refused text Memory bytes utf8 none some exact = utf8
-syntax_refused text (BadByte at) bytes utf8 none some exact = (utf8, none, some, λ d parses. let memory = exact d parses in cc)
-syntax_refused text (Unterminated at) bytes utf8 none some exact = (utf8, none, some, λ d parses. let memory = exact d parses in cc)
-syntax_refused text (NumberTooBig at) bytes utf8 none some exact = (utf8, none, some, λ d parses. let memory = exact d parses in cc)
-syntax_refused text (Unexpected at) bytes utf8 none some exact = (utf8, none, some, λ d parses. let memory = exact d parses in cc)
-syntax_refused text (NestedVector at) bytes utf8 none some exact = (utf8, none, some, λ d parses. let memory = exact d parses in cc)
+    → StandsWithin (length text) f → ((d : DeclsRead) → Parses text d → f ≡ Memory) → IsSyntaxRefused text f
+syntax_refused text (NotUtf8 at) bytes utf8 none some within exact = bytes at refl
+syntax_refused text Memory bytes utf8 none some within exact = utf8
+syntax_refused text (BadByte at) bytes utf8 none some within exact = (utf8, none, some, within, λ d parses. let memory = exact d parses in cc)
+syntax_refused text (Unterminated at) bytes utf8 none some within exact = (utf8, none, some, within, λ d parses. let memory = exact d parses in cc)
+syntax_refused text (NumberTooBig at) bytes utf8 none some within exact = (utf8, none, some, within, λ d parses. let memory = exact d parses in cc)
+syntax_refused text (Unexpected at) bytes utf8 none some within exact = (utf8, none, some, within, λ d parses. let memory = exact d parses in cc)
+syntax_refused text (NestedVector at) bytes utf8 none some within exact = (utf8, none, some, within, λ d parses. let memory = exact d parses in cc)
 
 -- where tokens or grammar refuse a text, it has no declarations
 syntax_excludes : (text : List ℕ) (f : SyntaxFault) → IsSyntaxRefused text f → f ≢ Memory → (d : DeclsRead) → Parses text d → ⊥
 syntax_excludes text (NotUtf8 at) h rule d parses = h.0 parses.1.utf8
 syntax_excludes text Memory h rule d parses = rule refl
-syntax_excludes text (BadByte at) h rule d parses = h.3 d parses
-syntax_excludes text (Unterminated at) h rule d parses = h.3 d parses
-syntax_excludes text (NumberTooBig at) h rule d parses = h.3 d parses
-syntax_excludes text (Unexpected at) h rule d parses = h.3 d parses
-syntax_excludes text (NestedVector at) h rule d parses = h.3 d parses
+syntax_excludes text (BadByte at) h rule d parses = h.4 d parses
+syntax_excludes text (Unterminated at) h rule d parses = h.4 d parses
+syntax_excludes text (NumberTooBig at) h rule d parses = h.4 d parses
+syntax_excludes text (Unexpected at) h rule d parses = h.4 d parses
+syntax_excludes text (NestedVector at) h rule d parses = h.4 d parses
 
 -- A text that a layer refuses isn't accepted.
 pub refused_excludes : (text : List ℕ) (f : SchemaTextFault) → IsRefused text f → ¬ (IsWant f) → (L : LaidSchema) → IsAccepted text L → ⊥

@@ -1,9 +1,9 @@
 -- What a schema text gives as a whole, and which layer refuses it.
-use Rattle.std.specs.Prelude.{◌≡◌, ◌≢◌, List, ℕ, Some, IsUtf8}
+use Rattle.std.specs.Prelude.{◌≡◌, ◌≢◌, List, length, ℕ, Some, IsUtf8}
 use Rattle.std.specs.Str.Lossy.{utf8_valid_len}
 use Rattle.fb_syntax.specs.DeclsRead.{DeclsRead}
 use Rattle.fb_syntax.specs.Parsed.{Parses}
-use Rattle.fb_syntax.specs.Refusals.{IsToldOfNoTokens, IsToldOfTokens}
+use Rattle.fb_syntax.specs.Refusals.{IsToldOfNoTokens, IsToldOfTokens, StandsWithin}
 use Rattle.fb_syntax.specs.declared.faults.SyntaxFault.{SyntaxFault}
 use Rattle.fb_syntax.specs.declared.faults.SyntaxFault.TheVariants as syntax_faults
 use Rattle.fb_schema.specs.Schema.{DeclaredSchema}
@@ -29,7 +29,7 @@ pub record IsAccepted (text : List ℕ) (L : LaidSchema) : Type 0 where
 abbrev pub IsSyntaxRefused : List ℕ → SyntaxFault → Type 0
 IsSyntaxRefused text (syntax_faults.NotUtf8 at) = (¬ (IsUtf8 text)) × (at ≡ utf8_valid_len text)
 IsSyntaxRefused text syntax_faults.Memory = IsUtf8 text
-IsSyntaxRefused text f = IsUtf8 text × IsToldOfNoTokens text f × IsToldOfTokens text f × ((d : DeclsRead) → ¬ (Parses text d))
+IsSyntaxRefused text f = IsUtf8 text × IsToldOfNoTokens text f × IsToldOfTokens text f × StandsWithin (length text) f × ((d : DeclsRead) → ¬ (Parses text d))
 
 -- The first layer that refuses: the layers before it have passed. Of the faults of declarations the least is told.
 abbrev pub IsRefused : List ℕ → SchemaTextFault → Type 0

@@ -13,7 +13,7 @@ use Rattle.flatc_tool.proofs.schema_layouts.schema_of.Goals as goal
 
 pub returns-in-Err-clause-refused : goal.returns-in-Err-clause-refused
 returns-in-Err-clause-refused c =
-    syntax_refused c.args.text.now c.in-Err.fault (λ at e. (c.in-Err.ensures.not_utf8 at).0 (ap Err e)) c.in-Err.ensures.utf8 c.in-Err.ensures.spelled_by_none c.in-Err.ensures.spelled (λ d parses. c.in-Err.ensures.exact d parses)
+    syntax_refused c.args.text.now c.in-Err.fault (λ at e. (c.in-Err.ensures.not_utf8 at).0 (ap Err e)) c.in-Err.ensures.utf8 c.in-Err.ensures.spelled_by_none c.in-Err.ensures.spelled c.in-Err.ensures.within (λ d parses. c.in-Err.ensures.exact d parses)
 
 same_fault : {A : Type 0} (f g : SyntaxFault) → ◌≡◌ {A = Result A SchemaTextFault} (Err (Syntax f)) (Err (Syntax g)) → f ≡ g
 same_fault f g e = cc
