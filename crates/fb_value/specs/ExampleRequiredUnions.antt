@@ -21,9 +21,9 @@ required_union = without_structs 3 (
     ∷ type_called 0x42 (table_body [])
     ∷ type_called 0x55 (union_body ((letter 0x41, 0) ∷ (letter 0x42, 1) ∷ []))
     ∷ type_called 0x54 (table_body (
-        plain (0x75 ∷ 0x5f ∷ 0x74 ∷ 0x79 ∷ 0x70 ∷ 0x65 ∷ []) 0 (One (Code (record { 0 = 2 })))
-        ∷ record (plain (letter 0x75) 1 (One (Union (record { 0 = 2 })))) { required = true }
-        ∷ []))
+    plain (0x75 ∷ 0x5f ∷ 0x74 ∷ 0x79 ∷ 0x70 ∷ 0x65 ∷ []) 0 (One (Code (record { 0 = 2 })))
+    ∷ record (plain (letter 0x75) 1 (One (Union (record { 0 = 2 })))) { required = true }
+    ∷ []))
     ∷ [])
 
 -- A member is there.

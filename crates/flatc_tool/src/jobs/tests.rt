@@ -272,8 +272,16 @@ fn other_schemas_are_told_before_the_rest(rt: HostRuntime) {
             b"table T { } // \xc3",
             syntax(SyntaxFault::NotUtf8(15)),
         ),
-        ("a byte that begins no token", b"} #", syntax(SyntaxFault::BadByte(2))),
-        ("an open comment", b"/* x", syntax(SyntaxFault::Unterminated(0))),
+        (
+            "a byte that begins no token",
+            b"} #",
+            syntax(SyntaxFault::BadByte(2)),
+        ),
+        (
+            "an open comment",
+            b"/* x",
+            syntax(SyntaxFault::Unterminated(0)),
+        ),
         (
             "an integer of 65 bits",
             b"table T { a:int = 18446744073709551616; } root_type T;",
