@@ -9,19 +9,16 @@ use fb_schema::{Body, FieldInfo, Schema, TypeId};
 pub(crate) fn slots_in(body: &Body) -> &[FieldInfo]
     ensures { map field_seen result.now ≡ slots_in (body_seen body.now) }
 {
-    match body {
-        Body::Table(slots) => slots.as_slice(),
-        Body::Struct(_, _) | Body::Enum(_, _, _) | Body::Union(_) => &[],
-    }
+    body.as_table().unwrap_or(&[])
 }
 
 /// The fields of a struct; none of another type.
 fn parts_in(body: &Body) -> &[FieldInfo]
     ensures { map field_seen result.now ≡ parts_in (body_seen body.now) }
 {
-    match body {
-        Body::Struct(parts, _) => parts.as_slice(),
-        Body::Table(_) | Body::Enum(_, _, _) | Body::Union(_) => &[],
+    match body.as_struct() {
+        Some((parts, _)) => parts,
+        None => &[],
     }
 }
 

@@ -6,7 +6,7 @@ ghost use Rattle.fb_schema.specs.Alignments.{base_size};
 ghost use Rattle.fb_layout.specs.Laid.{no_struct, stored_kind, stored_shape, kind_in};
 ghost use Rattle.fb_layout.specs.Known.{sizes_seen, struct_extent, extent_of, slot_extent};
 
-use fb_schema::{Base, Body, Kind, Schema, Shape, TypeId};
+use fb_schema::{Base, Kind, Schema, Shape, TypeId};
 
 /// The size and alignment of what is stored, in bytes.
 #[derive(Clone, Copy, Debug, Drop)]
@@ -41,9 +41,9 @@ pub(crate) fn base_in(schema: &Schema, enumeration: TypeId) -> Base
     let Some(info) = schema.types().get(enumeration.0 as usize) else {
         return Base::U8;
     };
-    match &info.body {
-        Body::Enum(base, _, _) => *base,
-        _ => Base::U8,
+    match info.body.as_enum() {
+        Some((base, _, _)) => base,
+        None => Base::U8,
     }
 }
 

@@ -67,17 +67,17 @@ fn struct_of(
 ) -> Result<Option<StructSizes>, AllocError>
     ensures { IfOk result (λ r. option_map sizes_seen r ≡ known_struct schema.now (map (option_map sizes_seen) structs.now) (body_seen body.now)) }
 {
-    let Body::Struct(fields, force) = body else {
+    let Some((fields, force_align)) = body.as_struct() else {
         return Ok(Some(StructSizes {
             size: 0,
             align: 1,
             offsets: Vec::new(alloc),
         }));
     };
-    let Some(placed) = fields_placed(alloc, schema, structs, fields.as_slice())? else {
+    let Some(placed) = fields_placed(alloc, schema, structs, fields)? else {
         return Ok(None);
     };
-    Ok(whole_struct(*force, placed))
+    Ok(whole_struct(force_align, placed))
 }
 
 /// One entry for each type: what it takes as a struct, None over 65,535 bytes.
