@@ -44,10 +44,6 @@ pub token_at-nothing : (kind : TokenKind) → token_at kind [] ≡ None
 unfolding token_at
 token_at-nothing kind = refl
 
-pub sign_at-shorter : (c at : ℕ) (ts after : List Lexeme) → sign_at c ts ≡ Some (at, after) → length ts ≡ suc (length after)
-sign_at-shorter c at [] after e = let none = sign_at-nothing c in absurd cc
-sign_at-shorter c at (t ∷ rest) after e = ap (λ (r : List Lexeme). suc (length r)) (sign_at-some c t rest after at e).2
-
 pub name_goes_on : (s w : Located) (at : ℕ) (ts inside after : List Lexeme) → sign_at dot ts ≡ Some (at, inside) → token_at Word inside ≡ Some (w, after) → name_more s ts ≡ name_more (joined s w.bytes) after
 unfolding name_more
 name_goes_on s w at [] inside after e f = let none = sign_at-nothing dot in absurd cc

@@ -15,9 +15,6 @@ use Rattle.fb_syntax.specs.declared.declarations.DefaultValue.{DefaultValue}
 abbrev pub Shortens : {X : Type 0} → (List Lexeme → X → List Lexeme → Type 0) → Type 0
 Shortens {X} R = (ts rest : List Lexeme) (x : X) → R ts x rest → length rest < length ts
 
-pub token_shorter : (kind : TokenKind) {ts rest : List Lexeme} {t : Located} → IsToken kind ts t rest → length rest < length ts
-token_shorter kind {ts} {rest} e = omega (arith, ap length e)
-
 pub sign_shorter : {c : ℕ} {ts rest : List Lexeme} → IsSign c ts rest → length rest < length ts
 sign_shorter {c} {ts} {rest} s = omega (arith, ap length s.1)
 

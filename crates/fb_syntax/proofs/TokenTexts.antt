@@ -31,12 +31,3 @@ ascii_from_all : (s : List ℕ) → list_all is_ascii s ≡ true → IsAscii s
 ascii_from_all [] e i = omega arith
 ascii_from_all (c ∷ cs) e zero = ltb-true c 128 (and_both (is_ascii c) (list_all is_ascii cs) e).0
 ascii_from_all (c ∷ cs) e (suc i) = ascii_from_all cs (and_both (is_ascii c) (list_all is_ascii cs) e).1 i
-
--- a word's bytes are of ASCII
-pub IsAscii-word : (text : List ℕ) (t : Token) → IsTokenOf text t → t.kind ≡ Word → IsAscii (token_bytes text t)
-IsAscii-word text t h k = ascii_from_all (token_bytes text t) (word_all_ascii (token_bytes text t) (rw k at h.spelled))
-
--- an integer is one that has a value
-pub integer_token : (text : List ℕ) (t : Token) → IsTokenOf text t → t.kind ≡ Integer → IsInteger (token_bytes text t)
-unfolding is_token
-integer_token text t h k = record { spelled = rw k at h.spelled; small = rw k at h.small }
