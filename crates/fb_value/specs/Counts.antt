@@ -1,4 +1,4 @@
--- Cells, depth and nesting of a value, and whether it is whole.
+-- Cells, tables, vectors and texts, depth and nesting of a value, and whether it is whole.
 -- From the FlatBuffers documentation, "Verification": the depth of tables is bounded. Cells are this project's own measure.
 use Rattle.std.specs.Prelude.{ℕ, suc, ◌+◌, max, length, Bool, true, false, ◌&&◌}
 use Rattle.fb_value.specs.Datum.{Datum, a_number, a_text, a_vector, a_struct, a_table, a_member, an_unknown, Parts, no_parts, more_parts, SlotEntries, no_entries, absent_entry, present_entry, count}
@@ -22,6 +22,26 @@ abbrev mutual
   entries_cells no_entries = 0
   entries_cells (absent_entry es) = entries_cells es
   entries_cells (present_entry d es) = cells d + entries_cells es
+
+-- Its tables, vectors and texts, each as often as it stands there.
+abbrev mutual
+  pub entered : Datum → ℕ
+  entered (a_number n) = 0
+  entered (a_text bytes) = 1
+  entered (a_vector ds) = 1 + parts_entered ds
+  entered (a_struct ds) = parts_entered ds
+  entered (a_table t es) = 1 + entries_entered es
+  entered (a_member c d) = entered d
+  entered (an_unknown c) = 0
+
+  pub parts_entered : Parts → ℕ
+  parts_entered no_parts = 0
+  parts_entered (more_parts d ds) = entered d + parts_entered ds
+
+  pub entries_entered : SlotEntries → ℕ
+  entries_entered no_entries = 0
+  entries_entered (absent_entry es) = entries_entered es
+  entries_entered (present_entry d es) = entered d + entries_entered es
 
 -- The number of tables on the longest way, the outermost counted.
 abbrev mutual
