@@ -1,0 +1,141 @@
+use Rattle.std.proofs.Common.{None, Some, ◌≡◌, ◌+◌, ◌<◌, ◌≤◌, map, sym, ap, ◌∙◌, arith}
+use Rattle.std.proofs.lemmas.Result.{err_from_is_err_and}
+use Rattle.fb_schema.specs.declared.kinds.Shape.TheVariants.{One}
+use Rattle.fb_layout.specs.Laid.{slot_of, slots_of, stored_kind, member_by_code}
+use Rattle.fb_value.specs.Bounds.{Bounds}
+use Rattle.fb_value.specs.Num.{num}
+use Rattle.fb_value.specs.Places.{table_part, vector_part}
+use Rattle.fb_read.specs.Visits.{slots_seen}
+use Rattle.fb_read.proofs.Visited.{visit_fault, visit_table, visit_vector, visit_member, union_none, no_references, has_target, no_target, code_entry, slots_next, slots_fail, slots_past, elements_step, elements_stop, elements_end}
+use Rattle.fb_read.proofs.walk.+walk.Goals as goal
+
+pub visit_elements-returns-in_err-after-clause-visit : goal.visit_elements-returns-in_err-after-clause-visit
+visit_elements-returns-in_err-after-clause-visit t c X is =
+    let p = err_from_is_err_and c.from_residual.result c.from_residual.ensures.1 in
+    let most : Bounds = record { depth = c.args.source.most_depth; cells = c.args.source.most_cells } in
+    rw (p.1, p.2) (sym (c.loop-i.invariant.visited X is)
+    ∙ elements_stop c.args.source.layout.now c.args.source.bytes.now most X c.args.at c.loop-i.i c.args.count c.args.tables c.loop-i.after _ c.loop-i-test.true (c.in_err-after.ensures.visit X is))
+
+pub visit_elements-loop-i-preserved : goal.visit_elements-loop-i-preserved
+visit_elements-loop-i-preserved t c =
+    let most : Bounds = record { depth = c.args.source.most_depth; cells = c.args.source.most_cells } in
+    record {
+      visited = λ X is. sym (elements_step c.args.source.layout.now c.args.source.bytes.now most X c.args.at c.loop-i.i c.args.count c.args.tables c.loop-i.after c.in_ok-after.after c.loop-i-test.true (c.in_ok-after.ensures.visit X is)) ∙ c.loop-i.invariant.visited X is;
+      rises = omega (arith, c.in_ok-after.ensures.rises);
+      few = c.in_ok-after.ensures.few;
+      ticked = omega (arith, c.in_ok-after.ensures.ticks);
+    }
+
+pub visit_elements-returns-clause-visit : goal.visit_elements-returns-clause-visit
+visit_elements-returns-clause-visit t c X is =
+    let most : Bounds = record { depth = c.args.source.most_depth; cells = c.args.source.most_cells } in
+    let end : c.loop-i.i ≡ c.args.count = omega arith in
+    sym (c.loop-i.invariant.visited X is) ∙ elements_end c.args.source.layout.now c.args.source.bytes.now most X c.args.at c.loop-i.i c.args.count c.args.tables c.loop-i.after end
+
+pub visit_table_behind-returns-in_err-target-clause-visit : goal.visit_table_behind-returns-in_err-target-clause-visit
+visit_table_behind-returns-in_err-target-clause-visit t c =
+    let p = err_from_is_err_and c.from_residual.result c.from_residual.ensures.1 in
+    rw (p.1, p.2) (visit_fault c.args.source.layout.now c.args.source.bytes.now _ _ c.args.tables c.args.spent _ (c.in_err-target.ensures.rules c.args.source.layout.now (table_part c.args.table.0)))
+
+pub visit_vector_behind-returns-in_err-target-clause-visit : goal.visit_vector_behind-returns-in_err-target-clause-visit
+visit_vector_behind-returns-in_err-target-clause-visit t c =
+    let p = err_from_is_err_and c.from_residual.result c.from_residual.ensures.1 in
+    let L = c.args.source.layout.now in
+    rw (p.1, p.2) (visit_fault L c.args.source.bytes.now _ _ c.args.tables c.args.spent _ (c.in_err-target.ensures.rules L (vector_part (stored_kind L.schema c.args.kind))))
+
+pub visit_table-returns-in_err-place-clause-visit : goal.visit_table-returns-in_err-place-clause-visit
+visit_table-returns-in_err-place-clause-visit t c =
+    let p = err_from_is_err_and c.from_residual.result c.from_residual.ensures.1 in
+    let L = c.args.source.layout.now in
+    let slots : slots_of L c.args.table.0 ≡ slots_seen L c.slots_of-slots.result.now = ap (λ fs. map (slot_of L.schema) fs) (sym c.slots_of-slots.ensures.slots) in
+    rw (p.1, p.2) (visit_fault L c.args.source.bytes.now _ _ c.args.tables c.args.spent _ (c.in_err-place.ensures.rules L c.args.table.0 slots))
+
+pub visit_table-returns-clause-visit : goal.visit_table-returns-clause-visit
+visit_table-returns-clause-visit t c =
+    let L = c.args.source.layout.now in
+    let most : Bounds = record { depth = c.args.source.most_depth; cells = c.args.source.most_cells } in
+    let slots : slots_of L c.args.table.0 ≡ slots_seen L c.slots_of-slots.result.now = ap (λ fs. map (slot_of L.schema) fs) (sym c.slots_of-slots.ensures.slots) in
+    let deep : c.args.tables < c.args.source.most_depth = omega arith in
+    let small : c.args.spent < c.args.source.most_cells = omega arith in
+    rw (visit_table L c.args.source.bytes.now most c.args.table.0 c.args.at c.args.tables c.args.spent (c.in_ok-place.ensures.rules L c.args.table.0 slots) deep small, slots) c.visit_slots.ensures.visit
+
+pub visit_vector-returns-in_err-count-clause-visit : goal.visit_vector-returns-in_err-count-clause-visit
+visit_vector-returns-in_err-count-clause-visit t c =
+    let p = err_from_is_err_and c.from_residual.result c.from_residual.ensures.1 in
+    let L = c.args.source.layout.now in
+    rw (p.1, p.2) (visit_fault L c.args.source.bytes.now _ _ c.args.tables c.args.spent _ (c.in_err-count.ensures.rules L (stored_kind L.schema c.args.kind) c.size_of.ensures c.align_of.ensures))
+
+pub visit_slot-returns-in-One-Code-clause-visit : goal.visit_slot-returns-in-One-Code-clause-visit
+visit_slot-returns-in-One-Code-clause-visit t c =
+    let L = c.args.source.layout.now in
+    let b = c.args.source.bytes.now in
+    let most : Bounds = record { depth = c.args.source.most_depth; cells = c.args.source.most_cells } in
+    let code = rw c.in-One-Code.is at c.in-One-Code.field-0-is in
+    let place = code_entry L b most c.args.at c.args.slot (slots_seen L c.args.later.now) c.args.field.now c.in-One-Code.field-0-0 c.slot_of-offset.result c.slot_of-value_offset.result (c.in-One-Code.is ∙ ap (λ k. One k) code) c.if-field.false c.slot_of-offset.ensures.number c.if-offset-eq0.false c.slot_of-value_offset.ensures.number in
+    rw (place, ← c.is_first_required.ensures L) (c.visit_code.ensures.visit c.args.tables c.in-One-Code.field-0-0.0)
+
+pub visit_slots-returns-in_err-after-clause-visit : goal.visit_slots-returns-in_err-after-clause-visit
+visit_slots-returns-in_err-after-clause-visit t c =
+    let p = err_from_is_err_and c.from_residual.result c.from_residual.ensures.1 in
+    let most : Bounds = record { depth = c.args.source.most_depth; cells = c.args.source.most_cells } in
+    let fails = rw c.split_at.ensures.back at c.in_err-after.ensures.visit in
+    rw (p.1, p.2) (sym c.loop-slot.invariant.visited
+    ∙ slots_fail c.args.source.layout.now c.args.source.bytes.now most c.args.at c.loop-slot.slot c.args.slots.now c.index-slots-slot.result c.args.tables c.loop-slot.after _ c.loop-slot-test.true c.index-slots-slot.is fails)
+
+pub visit_slots-loop-slot-preserved : goal.visit_slots-loop-slot-preserved
+visit_slots-loop-slot-preserved t c =
+    let most : Bounds = record { depth = c.args.source.most_depth; cells = c.args.source.most_cells } in
+    let fine = rw c.split_at.ensures.back at c.in_ok-after.ensures.visit in
+    record {
+      visited = sym (slots_next c.args.source.layout.now c.args.source.bytes.now most c.args.at c.loop-slot.slot c.args.slots.now c.index-slots-slot.result c.args.tables c.loop-slot.after c.in_ok-after.after c.loop-slot-test.true c.index-slots-slot.is fine) ∙ c.loop-slot.invariant.visited;
+      rises = omega (arith, c.in_ok-after.ensures.rises);
+      few = c.in_ok-after.ensures.few;
+      ticked = omega (arith, c.in_ok-after.ensures.ticks);
+    }
+
+pub visit_slots-returns-clause-visit : goal.visit_slots-returns-clause-visit
+visit_slots-returns-clause-visit t c =
+    let most : Bounds = record { depth = c.args.source.most_depth; cells = c.args.source.most_cells } in
+    sym c.loop-slot.invariant.visited ∙ slots_past c.args.source.layout.now c.args.source.bytes.now most c.args.at c.loop-slot.slot c.args.slots.now c.args.tables c.loop-slot.after (omega arith)
+
+pub visit_union-returns-in-None-clause-visit : goal.visit_union-returns-in-None-clause-visit
+visit_union-returns-in-None-clause-visit t c =
+    let L = c.args.source.layout.now in
+    let most : Bounds = record { depth = c.args.source.most_depth; cells = c.args.source.most_cells } in
+    let none : None ≡ member_by_code L c.args.union.0 c.args.code = rw (c.in-None.is, c.schema.ensures.schema) at c.member_by_code.ensures in
+    rw (← none) (union_none L c.args.source.bytes.now most c.args.code c.args.at c.args.tables c.args.spent)
+
+pub visit_union-returns-in-Some-clause-visit : goal.visit_union-returns-in-Some-clause-visit
+visit_union-returns-in-Some-clause-visit t c =
+    let L = c.args.source.layout.now in
+    let most : Bounds = record { depth = c.args.source.most_depth; cells = c.args.source.most_cells } in
+    let is : Some c.in-Some.table.0 ≡ member_by_code L c.args.union.0 c.args.code = rw (c.in-Some.is, c.schema.ensures.schema) at c.member_by_code.ensures in
+    rw (← is, visit_member L c.args.source.bytes.now most c.args.code c.in-Some.table.0 c.args.at c.args.tables c.args.spent) c.visit_table_behind.ensures.visit
+
+pub visit_vector-returns-in-Text-clause-visit : goal.visit_vector-returns-in-Text-clause-visit
+visit_vector-returns-in-Text-clause-visit t c =
+    let L = c.args.source.layout.now in
+    let b = c.args.source.bytes.now in
+    let most : Bounds = record { depth = c.args.source.most_depth; cells = c.args.source.most_cells } in
+    let keeps = c.in_ok-count.ensures.rules L (stored_kind L.schema c.args.kind) c.size_of.ensures c.align_of.ensures in
+    let long : c.in_ok-count.count ≡ num b c.args.at 4 = c.in_ok-count.ensures.count in
+    let small : c.args.spent + (1 + num b c.args.at 4) ≤ c.args.source.most_cells = omega arith in
+    let found = has_target L.schema c.args.kind c.in-Text.is in
+    let visited = rw (c.from.ensures, long) at (c.visit_elements.ensures.visit found.0 found.1) in
+    rw (visit_vector L b most (stored_kind L.schema c.args.kind) c.args.at c.args.tables c.args.spent keeps small, found.1) visited
+
+pub visit_vector-returns-in-Scalar : goal.visit_vector-returns-in-Scalar
+visit_vector-returns-in-Scalar t c =
+    let L = c.args.source.layout.now in
+    let b = c.args.source.bytes.now in
+    let most : Bounds = record { depth = c.args.source.most_depth; cells = c.args.source.most_cells } in
+    let keeps = c.in_ok-count.ensures.rules L (stored_kind L.schema c.args.kind) c.size_of.ensures c.align_of.ensures in
+    let long : c.from.result ≡ num b c.args.at 4 = c.from.ensures ∙ c.in_ok-count.ensures.count in
+    let small : c.args.spent + (1 + num b c.args.at 4) ≤ c.args.source.most_cells = omega arith in
+    let none = no_target L.schema c.args.kind c.in-Scalar.is in
+    record {
+      visit = rw (visit_vector L b most (stored_kind L.schema c.args.kind) c.args.at c.args.tables c.args.spent keeps small, none, long) (no_references L b most c.args.at c.args.tables (c.args.spent + (1 + num b c.args.at 4)));
+      few = omega arith;
+      rises = omega arith;
+      ticks = omega arith;
+    }
