@@ -6,6 +6,7 @@ mod numbers;
 mod places;
 mod reading;
 mod rules;
+mod source;
 mod verification;
 mod views;
 mod walk;

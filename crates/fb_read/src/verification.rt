@@ -6,10 +6,11 @@ ghost use Rattle.fb_value.specs.Places.{table_part, part_place};
 ghost use Rattle.fb_value.specs.Holds.{Holds, Refuses, header_fault, checked_identifier};
 
 use crate::counting::Entries;
-use crate::walk::{Source, visit_table_behind};
 use crate::numbers::u32_at;
 use crate::places::check_header;
+use crate::source::Source;
 use crate::views::View;
+use crate::walk::visit_table_behind;
 use fb_layout::Layout;
 use fb_value::{Limits, ReadFault};
 

@@ -7,8 +7,8 @@ ghost use Rattle.fb_layout.specs.Laid.{Slot, text_kind, one_of, slots_of};
 ghost use Rattle.fb_value.specs.Places.{is_present};
 ghost use Rattle.fb_read.specs.Views.{entry_of, text_in};
 
-use crate::rules::open_text;
 use crate::places::{follow, slot_of, vtable_of};
+use crate::rules::open_text;
 use fb_layout::Layout;
 use fb_schema::TypeId;
 

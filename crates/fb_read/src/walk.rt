@@ -1,39 +1,32 @@
-//! Looking at all that is reached.
+//! A walk over all that is reached from a place, without memory.
 ghost use Rattle.std.specs.Prelude.{◌≡◌, ℕ, ◌+◌, ◌*◌, ◌<◌, ◌≤◌, ◌^◌, length, map, Bool, List, MatchResult, OnOk, IfOk, IfSome, None, Some, Ok, Err, true};
 ghost use Rattle.fb_layout.specs.Laid.{LaidSchema, Slot, StoredKind, stored_kind, slots_of, member_by_code, size_of, align_of};
 ghost use Rattle.fb_value.specs.Num.{num};
 ghost use Rattle.fb_value.specs.Places.{Target, table_part, text_part, vector_part, ref_place, part_place, inline_place, code_place, vtable, slot_number, named_slots, named_elements, target_of};
 ghost use Rattle.fb_value.specs.Places.{next_required};
-ghost use Rattle.fb_read.specs.Visits.{visit, visit_each, Visits, visit_entry, entry_place, slot_seen, slots_seen, union_place};
+ghost use Rattle.fb_read.specs.Visits.{Visits, entry_place, slot_seen, slots_seen, union_place};
+ghost use Rattle.fb_read.specs.Walks.{place, visit_in, visit_each_in, visit_entry_in, TicksWithin};
 
 use crate::counting::Entries;
-use crate::rules::{check_code, check_inline, code_in, enter_table, open_text, open_vector};
 use crate::places::{follow, slot_of};
-use fb_layout::Layout;
+use crate::rules::{check_code, check_inline, code_in, enter_table, open_text, open_vector};
+use crate::source::Source;
 use fb_schema::{FieldInfo, Kind, Shape, TypeId};
-use fb_value::{Limits, ReadFault};
-
-/// What never changes while bytes are visited at.
-#[derive(Clone, Copy)]
-pub struct Source<'a> {
-    pub layout: &'a Layout,
-    pub bytes: &'a [u8],
-    pub most_depth: u8,
-    pub most_cells: u32,
-    ghost short: { length bytes.now < 2 ^ 31 },
-    ghost aligned: { (kind : StoredKind) → 1 ≤ align_of layout.now kind },
-    ghost small: { (kind : StoredKind) → size_of layout.now kind < 2 ^ 16 },
-}
+use fb_value::ReadFault;
 
 #[tactic(auto, using(crate::proofs::Visited::visit_fault, crate::proofs::Visited::visit_text, crate::proofs::Visited::visit_text_over))]
-fn visit_text(source: Source, at: usize, spent: u64, entries: &mut Entries) -> Result<u64, ReadFault>
+fn visit_text(
+    source: Source,
+    at: usize,
+    spent: u64,
+    entries: &mut Entries,
+) -> Result<u64, ReadFault>
     requires low { at < 2 ^ 33 }
     requires few { spent ≤ source.most_cells }
-    ensures visit { (tables : ℕ) → Visits result (visit source.entry.layout.now source.entry.bytes.now (record { depth = source.entry.most_depth; cells = source.entry.most_cells }) (record { sort = part_place text_part; at = at }) tables spent) }
+    ensures visit { (tables : ℕ) → Visits result (visit_in source.entry (place (part_place text_part) at) tables spent) }
     ensures few { IfOk result (λ n. n ≤ source.entry.most_cells) }
     ensures rises { entries.old.count ≤ entries.new.count }
-    ensures ticks { MatchResult result (λ n. entries.new.count + spent ≤ entries.old.count + n)
-        (λ _. entries.new.count + spent ≤ entries.old.count + (source.entry.most_cells + 1)) }
+    ensures ticks { TicksWithin source.entry entries.old.count entries.new.count spent result }
 {
     entries.tick();
     let text = open_text(source.bytes, at)?;
@@ -53,11 +46,10 @@ fn visit_text_behind(
 ) -> Result<u64, ReadFault>
     requires low { at < 2 ^ 33 }
     requires few { spent ≤ source.most_cells }
-    ensures visit { (tables : ℕ) → Visits result (visit source.entry.layout.now source.entry.bytes.now (record { depth = source.entry.most_depth; cells = source.entry.most_cells }) (record { sort = ref_place text_part; at = at }) tables spent) }
+    ensures visit { (tables : ℕ) → Visits result (visit_in source.entry (place (ref_place text_part) at) tables spent) }
     ensures few { IfOk result (λ n. n ≤ source.entry.most_cells) }
     ensures rises { entries.old.count ≤ entries.new.count }
-    ensures ticks { MatchResult result (λ n. entries.new.count + spent ≤ entries.old.count + n)
-        (λ _. entries.new.count + spent ≤ entries.old.count + (source.entry.most_cells + 1)) }
+    ensures ticks { TicksWithin source.entry entries.old.count entries.new.count spent result }
 {
     let target = follow(source.bytes, at)?;
     visit_text(source, target, spent, entries)
@@ -66,7 +58,7 @@ fn visit_text_behind(
 #[tactic(auto, using(crate::proofs::Visited::visit_fault, crate::proofs::Visited::visit_inline))]
 fn visit_inline(source: Source, kind: Kind, at: usize, spent: u64) -> Result<u64, ReadFault>
     requires low { at < 2 ^ 33 }
-    ensures visit { (tables : ℕ) → Visits result (visit source.entry.layout.now source.entry.bytes.now (record { depth = source.entry.most_depth; cells = source.entry.most_cells }) (record { sort = inline_place (stored_kind source.entry.layout.now.schema kind); at = at }) tables spent) }
+    ensures visit { (tables : ℕ) → Visits result (visit_in source.entry (place (inline_place (stored_kind source.entry.layout.now.schema kind)) at) tables spent) }
     ensures same { IfOk result (λ n. n ≡ spent) }
 {
     check_inline(
@@ -88,7 +80,7 @@ fn visit_code(
     spent: u64,
 ) -> Result<u64, ReadFault>
     requires low { at < 2 ^ 33 }
-    ensures visit { (tables u : ℕ) → Visits result (visit source.entry.layout.now source.entry.bytes.now (record { depth = source.entry.most_depth; cells = source.entry.most_cells }) (record { sort = code_place u value_slot required present; at = at }) tables spent) }
+    ensures visit { (tables u : ℕ) → Visits result (visit_in source.entry (place (code_place u value_slot required present) at) tables spent) }
     ensures same { IfOk result (λ n. n ≡ spent) }
 {
     check_code(source.bytes, at, value_slot, required, present)?;
@@ -118,11 +110,10 @@ pub fn visit_table_behind(
     requires low { at < 2 ^ 33 }
     requires few { spent ≤ source.most_cells }
     requires flat { tables ≤ source.most_depth }
-    ensures visit { Visits result (visit source.entry.layout.now source.entry.bytes.now (record { depth = source.entry.most_depth; cells = source.entry.most_cells }) (record { sort = ref_place (table_part table.0); at = at }) tables spent) }
+    ensures visit { Visits result (visit_in source.entry (place (ref_place (table_part table.0)) at) tables spent) }
     ensures few { IfOk result (λ n. n ≤ source.entry.most_cells) }
     ensures rises { entries.old.count ≤ entries.new.count }
-    ensures ticks { MatchResult result (λ n. entries.new.count + spent ≤ entries.old.count + n)
-        (λ _. entries.new.count + spent ≤ entries.old.count + (source.entry.most_cells + 1)) }
+    ensures ticks { TicksWithin source.entry entries.old.count entries.new.count spent result }
 {
     let target = follow(source.bytes, at)?;
     visit_table(source, table, target, tables, spent, entries)
@@ -141,11 +132,10 @@ fn visit_table(
     requires low { at < 2 ^ 33 }
     requires few { spent ≤ source.most_cells }
     requires flat { tables ≤ source.most_depth }
-    ensures visit { Visits result (visit source.entry.layout.now source.entry.bytes.now (record { depth = source.entry.most_depth; cells = source.entry.most_cells }) (record { sort = part_place (table_part table.0); at = at }) tables spent) }
+    ensures visit { Visits result (visit_in source.entry (place (part_place (table_part table.0)) at) tables spent) }
     ensures few { IfOk result (λ n. n ≤ source.entry.most_cells) }
     ensures rises { entries.old.count ≤ entries.new.count }
-    ensures ticks { MatchResult result (λ n. entries.new.count + spent ≤ entries.old.count + n)
-        (λ _. entries.new.count + spent ≤ entries.old.count + (source.entry.most_cells + 1)) }
+    ensures ticks { TicksWithin source.entry entries.old.count entries.new.count spent result }
 {
     entries.tick();
     let slots = source.layout.slots_of(table);
@@ -176,11 +166,10 @@ fn visit_slots(
     requires slots { length slots.now < 2 ^ 15 }
     requires few { spent ≤ source.most_cells }
     requires flat { tables ≤ source.most_depth }
-    ensures visit { Visits result (visit_each source.entry.layout.now source.entry.bytes.now (record { depth = source.entry.most_depth; cells = source.entry.most_cells }) (named_slots source.entry.layout.now source.entry.bytes.now at 0 (slots_seen source.entry.layout.now slots.now)) tables spent) }
+    ensures visit { Visits result (visit_each_in source.entry (named_slots source.entry.layout.now source.entry.bytes.now at 0 (slots_seen source.entry.layout.now slots.now)) tables spent) }
     ensures few { IfOk result (λ n. n ≤ source.entry.most_cells) }
     ensures rises { entries.old.count ≤ entries.new.count }
-    ensures ticks { MatchResult result (λ n. entries.new.count + spent ≤ entries.old.count + n)
-        (λ _. entries.new.count + spent ≤ entries.old.count + (source.entry.most_cells + 1)) }
+    ensures ticks { TicksWithin source.entry entries.old.count entries.new.count spent result }
 {
     let mut after = spent;
     for slot in 0..slots.len() {
@@ -219,11 +208,10 @@ fn visit_slot(
     requires slots { slot < 2 ^ 15 }
     requires few { spent ≤ source.most_cells }
     requires flat { tables ≤ source.most_depth }
-    ensures visit { Visits result (visit_entry source.entry.layout.now source.entry.bytes.now (record { depth = source.entry.most_depth; cells = source.entry.most_cells }) (entry_place source.entry.layout.now source.entry.bytes.now at slot (slots_seen source.entry.layout.now later.now) (slot_seen source.entry.layout.now field.now)) tables spent) }
+    ensures visit { Visits result (visit_entry_in source.entry (entry_place source.entry.layout.now source.entry.bytes.now at slot (slots_seen source.entry.layout.now later.now) (slot_seen source.entry.layout.now field.now)) tables spent) }
     ensures few { IfOk result (λ n. n ≤ source.entry.most_cells) }
     ensures rises { entries.old.count ≤ entries.new.count }
-    ensures ticks { MatchResult result (λ n. entries.new.count + spent ≤ entries.old.count + n)
-        (λ _. entries.new.count + spent ≤ entries.old.count + (source.entry.most_cells + 1)) }
+    ensures ticks { TicksWithin source.entry entries.old.count entries.new.count spent result }
 {
     if field.deprecated {
         return Ok(spent);
@@ -293,11 +281,10 @@ fn visit_union(
     requires low { at < 2 ^ 33 }
     requires few { spent ≤ source.most_cells }
     requires flat { tables ≤ source.most_depth }
-    ensures visit { Visits result (visit_entry source.entry.layout.now source.entry.bytes.now (record { depth = source.entry.most_depth; cells = source.entry.most_cells }) (union_place code at (member_by_code source.entry.layout.now union.0 code)) tables spent) }
+    ensures visit { Visits result (visit_entry_in source.entry (union_place code at (member_by_code source.entry.layout.now union.0 code)) tables spent) }
     ensures few { IfOk result (λ n. n ≤ source.entry.most_cells) }
     ensures rises { entries.old.count ≤ entries.new.count }
-    ensures ticks { MatchResult result (λ n. entries.new.count + spent ≤ entries.old.count + n)
-        (λ _. entries.new.count + spent ≤ entries.old.count + (source.entry.most_cells + 1)) }
+    ensures ticks { TicksWithin source.entry entries.old.count entries.new.count spent result }
 {
     match source.layout.schema().member_by_code(union, code) {
         None => Ok(spent),
@@ -318,11 +305,10 @@ fn visit_vector_behind(
     requires low { at < 2 ^ 33 }
     requires few { spent ≤ source.most_cells }
     requires flat { tables ≤ source.most_depth }
-    ensures visit { Visits result (visit source.entry.layout.now source.entry.bytes.now (record { depth = source.entry.most_depth; cells = source.entry.most_cells }) (record { sort = ref_place (vector_part (stored_kind source.entry.layout.now.schema kind)); at = at }) tables spent) }
+    ensures visit { Visits result (visit_in source.entry (place (ref_place (vector_part (stored_kind source.entry.layout.now.schema kind))) at) tables spent) }
     ensures few { IfOk result (λ n. n ≤ source.entry.most_cells) }
     ensures rises { entries.old.count ≤ entries.new.count }
-    ensures ticks { MatchResult result (λ n. entries.new.count + spent ≤ entries.old.count + n)
-        (λ _. entries.new.count + spent ≤ entries.old.count + (source.entry.most_cells + 1)) }
+    ensures ticks { TicksWithin source.entry entries.old.count entries.new.count spent result }
 {
     let target = follow(source.bytes, at)?;
     visit_vector(source, kind, target, tables, spent, entries)
@@ -341,11 +327,10 @@ fn visit_vector(
     requires low { at < 2 ^ 33 }
     requires few { spent ≤ source.most_cells }
     requires flat { tables ≤ source.most_depth }
-    ensures visit { Visits result (visit source.entry.layout.now source.entry.bytes.now (record { depth = source.entry.most_depth; cells = source.entry.most_cells }) (record { sort = part_place (vector_part (stored_kind source.entry.layout.now.schema kind)); at = at }) tables spent) }
+    ensures visit { Visits result (visit_in source.entry (place (part_place (vector_part (stored_kind source.entry.layout.now.schema kind))) at) tables spent) }
     ensures few { IfOk result (λ n. n ≤ source.entry.most_cells) }
     ensures rises { entries.old.count ≤ entries.new.count }
-    ensures ticks { MatchResult result (λ n. entries.new.count + spent ≤ entries.old.count + n)
-        (λ _. entries.new.count + spent ≤ entries.old.count + (source.entry.most_cells + 1)) }
+    ensures ticks { TicksWithin source.entry entries.old.count entries.new.count spent result }
 {
     entries.tick();
     let count = open_vector(
@@ -387,11 +372,10 @@ fn visit_elements(
     requires within { at + count * 4 ≤ length source.bytes.now }
     requires few { spent ≤ source.most_cells }
     requires flat { tables ≤ source.most_depth }
-    ensures visit { (X : Target) → target_of (stored_kind source.entry.layout.now.schema kind) ≡ Some X → Visits result (visit_each source.entry.layout.now source.entry.bytes.now (record { depth = source.entry.most_depth; cells = source.entry.most_cells }) (named_elements X at count) tables spent) }
+    ensures visit { (X : Target) → target_of (stored_kind source.entry.layout.now.schema kind) ≡ Some X → Visits result (visit_each_in source.entry (named_elements X at count) tables spent) }
     ensures few { IfOk result (λ n. n ≤ source.entry.most_cells) }
     ensures rises { entries.old.count ≤ entries.new.count }
-    ensures ticks { MatchResult result (λ n. entries.new.count + spent ≤ entries.old.count + n)
-        (λ _. entries.new.count + spent ≤ entries.old.count + (source.entry.most_cells + 1)) }
+    ensures ticks { TicksWithin source.entry entries.old.count entries.new.count spent result }
 {
     let mut after = spent;
     for i in 0..count {
@@ -412,11 +396,10 @@ fn visit_element(
     requires low { at < 2 ^ 33 }
     requires few { spent ≤ source.most_cells }
     requires flat { tables ≤ source.most_depth }
-    ensures visit { (X : Target) → target_of (stored_kind source.entry.layout.now.schema kind) ≡ Some X → Visits result (visit source.entry.layout.now source.entry.bytes.now (record { depth = source.entry.most_depth; cells = source.entry.most_cells }) (record { sort = ref_place X; at = at }) tables spent) }
+    ensures visit { (X : Target) → target_of (stored_kind source.entry.layout.now.schema kind) ≡ Some X → Visits result (visit_in source.entry (place (ref_place X) at) tables spent) }
     ensures few { IfOk result (λ n. n ≤ source.entry.most_cells) }
     ensures rises { entries.old.count ≤ entries.new.count }
-    ensures ticks { MatchResult result (λ n. entries.new.count + spent ≤ entries.old.count + n)
-        (λ _. entries.new.count + spent ≤ entries.old.count + (source.entry.most_cells + 1)) }
+    ensures ticks { TicksWithin source.entry entries.old.count entries.new.count spent result }
 {
     match kind {
         Kind::Text => visit_text_behind(source, at, spent, entries),
