@@ -7,20 +7,22 @@ use Rattle.fb_schema.specs.Schema.{DeclaredSchema}
 use Rattle.fb_schema.specs.declared.kinds.Kind.TheVariants.{Scalar, Enum, Struct, Table, Union, Code, Text}
 use Rattle.fb_schema.specs.declared.kinds.Shape.TheVariants.{One}
 use Rattle.fb_schema.specs.declared.types.FieldInfo.{FieldInfo}
-use Rattle.std.proofs.Common.{◌⊎◌, inl, inr, slice_index_or, nat_lt, not, ◌==◌, drop, length, ◌≡◌, ℕ, zero, suc, ◌+◌, ◌-◌, ◌*◌, ◌<◌, ◌≤◌, List, [], ◌∷◌, Bool, true, false, Option, None, Some, Result, Ok, Err, nat_le, if◌then◌else◌, refl, sym, ap, ◌∙◌, arith, add-zero, add_assoc}
-use Rattle.std.proofs.lemmas.Bool.{le-leb}
+use Rattle.std.proofs.Common.{◌⊎◌, inl, inr, slice_index_or, slice_get, nat_lt, not, ◌==◌, drop, length, ◌≡◌, ℕ, zero, suc, ◌+◌, ◌-◌, ◌*◌, ◌<◌, ◌≤◌, List, [], ◌∷◌, Bool, true, false, Option, None, Some, Result, Ok, Err, nat_le, ◌&&◌, cond, if◌then◌else◌, refl, sym, ap, ◌∙◌, arith, add-zero, add_assoc}
+use Rattle.std.proofs.lemmas.Bool.{le-leb, leb-true}
 use Rattle.std.proofs.lemmas.Bool.Decides.{nat_tests}
-use Rattle.fb_layout.specs.Laid.{LaidSchema, Slot, StoredKind, slots_of, stored_kind}
+use Rattle.fb_layout.specs.Laid.{LaidSchema, Slot, StoredKind, scalar_kind, struct_kind, table_kind, union_kind, code_kind, text_kind, StoredShape, one_of, vector_of, slots_of, stored_kind, member_by_code}
 use Rattle.fb_value.specs.declared.faults.ReadFault.{ReadFault}
 use Rattle.fb_value.specs.declared.faults.ReadFault.TheVariants.{TooDeep, TooManyCells}
 use Rattle.fb_value.specs.Bounds.{Bounds}
 use Rattle.fb_value.specs.Num.{Bytes, num}
-use Rattle.fb_value.specs.Places.{Target, table_part, member_part, text_part, vector_part, ref_place, part_place, inline_place, code_place, unknown_place, Place, named, named_slots, named_elements, target_of, named_vector, slot_number, next_required}
-use Rattle.fb_value.specs.Rules.{Keeps, fault_at, fault_by, first_failing}
+use Rattle.fb_value.specs.Places.{Target, table_part, member_part, text_part, vector_part, ref_place, part_place, inline_place, code_place, unknown_place, Place, named, named_slots, named_elements, target_of, named_vector, named_slot, named_union, code_at, slot_number, next_required}
+use Rattle.fb_value.specs.Missing.{is_missing_slot}
+use Rattle.fb_value.specs.Rules.{is_missing, Keeps, fault_at, fault_by, first_failing}
 use Rattle.fb_value.specs.Faults.{own_cells, own_tables, sum_over, all, or_else, limit_rules, limited_fault, first_among, fault_from}
 use Rattle.fb_value.proofs.Least.{all_is}
 use Rattle.fb_value.proofs.Unrolled.{fault_from_is}
-use Rattle.fb_read.specs.Visits.{outcome, visit, visit_each, visit_entry, entry_place, union_place, slot_seen, slots_seen}
+use Rattle.fb_value.specs.Nth.{slot_place}
+use Rattle.fb_read.specs.Visits.{outcome, visit, visit_each, visit_entry, union_place, slot_seen, slots_seen}
 
 module _ (L : LaidSchema) (b : Bytes) (most : Bounds) where
   pub each_nil : (tables spent : ℕ) → visit_each L b most [] tables spent ≡ Ok spent
@@ -190,15 +192,15 @@ module _ (L : LaidSchema) (b : Bytes) (most : Bounds) where
 
   -- ---- slots, one after another
 
-  pub slots_step : (p k : ℕ) (f : Slot) (fs : List Slot) (tables spent after : ℕ) → visit_entry L b most (entry_place L b p k fs f) tables spent ≡ Ok after
+  pub slots_step : (p k : ℕ) (f : Slot) (fs : List Slot) (tables spent after : ℕ) → visit_entry L b most (slot_place L b p k fs f) tables spent ≡ Ok after
       → visit_each L b most (named_slots L b p k (f ∷ fs)) tables spent ≡ visit_each L b most (named_slots L b p (suc k) fs) tables after
   unfolding named_slots
-  slots_step p k f fs tables spent after e = each_step (entry_place L b p k fs f) (named_slots L b p (suc k) fs) tables spent after e
+  slots_step p k f fs tables spent after e = each_step (slot_place L b p k fs f) (named_slots L b p (suc k) fs) tables spent after e
 
-  pub slots_stop : (p k : ℕ) (f : Slot) (fs : List Slot) (tables spent : ℕ) (fault : ReadFault) → visit_entry L b most (entry_place L b p k fs f) tables spent ≡ Err fault
+  pub slots_stop : (p k : ℕ) (f : Slot) (fs : List Slot) (tables spent : ℕ) (fault : ReadFault) → visit_entry L b most (slot_place L b p k fs f) tables spent ≡ Err fault
       → visit_each L b most (named_slots L b p k (f ∷ fs)) tables spent ≡ Err fault
   unfolding named_slots
-  slots_stop p k f fs tables spent fault e = each_stop (entry_place L b p k fs f) (named_slots L b p (suc k) fs) tables spent fault e
+  slots_stop p k f fs tables spent fault e = each_stop (slot_place L b p k fs f) (named_slots L b p (suc k) fs) tables spent fault e
 
   pub slots_end : (p k tables spent : ℕ) → visit_each L b most (named_slots L b p k []) tables spent ≡ Ok spent
   unfolding named_slots
@@ -237,6 +239,31 @@ module _ (L : LaidSchema) (b : Bytes) (most : Bounds) where
       by_code true = refl
       by_code false = visit_unknown c p tables spent
 
+-- the slot of one of some fields
+pub slot_there : (L : LaidSchema) (xs : List FieldInfo) (k : ℕ) (x : FieldInfo) → k < length xs → x ≡ slice_index_or xs k x → slice_get (slots_seen L xs) k ≡ Some (slot_seen L x)
+slot_there L [] k x less is = absurd (omega arith)
+slot_there L (y ∷ xs) zero x less is = rw is refl
+slot_there L (y ∷ xs) (suc k) x less is = slot_there L xs k x (omega arith) is
+
+-- there is none past them
+slot_none : (L : LaidSchema) (xs : List FieldInfo) (k : ℕ) → length xs ≤ k → slice_get (slots_seen L xs) k ≡ None
+slot_none L [] k past = refl
+slot_none L (y ∷ xs) zero past = absurd (omega arith)
+slot_none L (y ∷ xs) (suc k) past = slot_none L xs k (omega arith)
+
+pub unset_here : (L : LaidSchema) (b : Bytes) (p k : ℕ) (xs : List FieldInfo) (x : FieldInfo) → k < length xs → x ≡ slice_index_or xs k x → is_missing_slot b p k (slice_get (slots_seen L xs) k) ≡ is_missing b p k (slot_seen L x)
+unset_here L b p k xs x less is = rw (slot_there L xs k x less is) refl
+
+pub unset_past : (L : LaidSchema) (b : Bytes) (p k : ℕ) (xs : List FieldInfo) → length xs ≤ k → is_missing_slot b p k (slice_get (slots_seen L xs) k) ≡ false
+unset_past L b p k xs past = rw (slot_none L xs k past) refl
+
+-- the slots of the fields from one on
+pub seen_drop : (L : LaidSchema) (xs : List FieldInfo) (n : ℕ) → drop n (slots_seen L xs) ≡ slots_seen L (drop n xs)
+seen_drop L [] zero = refl
+seen_drop L [] (suc n) = refl
+seen_drop L (x ∷ xs) zero = refl
+seen_drop L (x ∷ xs) (suc n) = seen_drop L xs n
+
 -- a list from one of its elements on
 pub drop_here : {A : Type 0} (xs : List A) (k : ℕ) (x : A) → k < length xs → x ≡ slice_index_or xs k x → drop k xs ≡ x ∷ drop (suc k) xs
 drop_here xs k x less is = drop-cons xs k x less ∙ ap (λ y. y ∷ drop (suc k) xs) (sym is)
@@ -248,10 +275,35 @@ drop_past [] (suc k) h = refl
 drop_past (x ∷ xs) zero h = absurd (omega arith)
 drop_past (x ∷ xs) (suc k) h = drop_past xs k (omega arith)
 
+-- an absent slot names no place
+pub unset_place : (L : LaidSchema) (b : Bytes) (p k : ℕ) (fs : List Slot) (f : Slot) → slot_number b p k ≡ 0 → slot_place L b p k fs f ≡ None
+unset_place L b p k fs f none = by_use f.deprecated
+  where
+    by_member : (c : ℕ) (o : Option ℕ) → named_union b p k c o ≡ None
+    by_member c None = rw none (by_code (not (c == 0)))
+      where
+        by_code : (t : Bool) → cond {A = Option Place} (t && false) (Some (record { sort = unknown_place c; at = p + 0 })) None ≡ None
+        by_code true = refl
+        by_code false = refl
+    by_member c (Some t) = rw none refl
+
+    by_shape : (shape : StoredShape) → named_slot L b p k fs shape ≡ None
+    by_shape (vector_of kind) = rw none refl
+    by_shape (one_of (union_kind u)) = by_member (code_at b p (k - 1)) (member_by_code L u (code_at b p (k - 1)))
+    by_shape (one_of (scalar_kind base)) = rw none refl
+    by_shape (one_of (struct_kind s)) = rw none refl
+    by_shape (one_of (table_kind t)) = rw none refl
+    by_shape (one_of (code_kind u)) = rw none refl
+    by_shape (one_of text_kind) = rw none refl
+
+    by_use : (deprecated : Bool) → cond {A = Option Place} deprecated None (named_slot L b p k fs f.shape) ≡ None
+    by_use true = refl
+    by_use false = by_shape f.shape
+
 module _ (L : LaidSchema) (b : Bytes) (most : Bounds) where
   -- past a slot with no fault
   pub slots_next : (p k : ℕ) (xs : List FieldInfo) (x : FieldInfo) (tables spent after : ℕ) → k < length xs → x ≡ slice_index_or xs k x
-      → visit_entry L b most (entry_place L b p k (slots_seen L (drop (k + 1) xs)) (slot_seen L x)) tables spent ≡ Ok after
+      → visit_entry L b most (slot_place L b p k (slots_seen L (drop (k + 1) xs)) (slot_seen L x)) tables spent ≡ Ok after
       → visit_each L b most (named_slots L b p k (slots_seen L (drop k xs))) tables spent ≡ visit_each L b most (named_slots L b p (k + 1) (slots_seen L (drop (k + 1) xs))) tables after
   slots_next p k xs x tables spent after less is e =
       let one : k + 1 ≡ suc k = omega arith in
@@ -260,7 +312,7 @@ module _ (L : LaidSchema) (b : Bytes) (most : Bounds) where
 
   -- at a slot with a fault
   pub slots_fail : (p k : ℕ) (xs : List FieldInfo) (x : FieldInfo) (tables spent : ℕ) (f : ReadFault) → k < length xs → x ≡ slice_index_or xs k x
-      → visit_entry L b most (entry_place L b p k (slots_seen L (drop (k + 1) xs)) (slot_seen L x)) tables spent ≡ Err f
+      → visit_entry L b most (slot_place L b p k (slots_seen L (drop (k + 1) xs)) (slot_seen L x)) tables spent ≡ Err f
       → visit_each L b most (named_slots L b p k (slots_seen L (drop k xs))) tables spent ≡ Err f
   slots_fail p k xs x tables spent f less is e =
       let one : k + 1 ≡ suc k = omega arith in
@@ -271,17 +323,40 @@ module _ (L : LaidSchema) (b : Bytes) (most : Bounds) where
   pub slots_past : (p k : ℕ) (xs : List FieldInfo) (tables spent : ℕ) → length xs ≤ k → visit_each L b most (named_slots L b p k (slots_seen L (drop k xs))) tables spent ≡ Ok spent
   slots_past p k xs tables spent past = rw (drop_past xs k past) (slots_end L b most p k tables spent)
 
+  -- slots that are all absent
+  unset : (p k : ℕ) (fs : List Slot) (tables spent : ℕ) → ((j : ℕ) → k ≤ j → slot_number b p j ≡ 0) → visit_each L b most (named_slots L b p k fs) tables spent ≡ Ok spent
+  unfolding named_slots
+  unset p k [] tables spent none = each_nil L b most tables spent
+  unset p k (f ∷ fs) tables spent none =
+      let no_place = unset_place L b p k fs f (none k (omega arith)) in
+      each_step L b most (slot_place L b p k fs f) (named_slots L b p (suc k) fs) tables spent spent (rw no_place refl) ∙ unset p (suc k) fs tables spent (λ j h. none j (omega arith))
+
+  -- behind the last slot that is stored
+  pub slots_rest : (p k stored : ℕ) (xs : List FieldInfo) (tables spent : ℕ) → k ≡ stored → (stored < length xs → (j : ℕ) → stored ≤ j → slot_number b p j ≡ 0) → visit_each L b most (named_slots L b p k (slots_seen L (drop k xs))) tables spent ≡ Ok spent
+  slots_rest p k stored xs tables spent is none = by_case (nat_le (length xs) k) refl
+    where
+      by_case : (c : Bool) → nat_le (length xs) k ≡ c → visit_each L b most (named_slots L b p k (slots_seen L (drop k xs))) tables spent ≡ Ok spent
+      by_case true e = slots_past p k xs tables spent (leb-true _ _ e)
+      by_case false e = let less : k < length xs = grind (arith, nat_tests) in unset p k (slots_seen L (drop k xs)) tables spent (λ j h. none (omega (arith, is)) j (omega (arith, is)))
+
   present_is : (n : ℕ) → nat_lt 0 n ≡ not (n == 0)
   present_is n = grind (arith, nat_tests)
 
   -- the place of a code that is present
   pub code_entry : (p k : ℕ) (fs : List Slot) (f : FieldInfo) (u : TypeId) (offset value : ℕ) → f.shape ≡ One (Code u) → f.deprecated ≡ false → offset ≡ slot_number b p k → (offset ≡ 0 → ⊥) → value ≡ slot_number b p (k + 1)
-      → entry_place L b p k fs (slot_seen L f) ≡ Some (record { sort = code_place u.0 (k + 1) (next_required fs) (not (value == 0)); at = p + offset })
+      → slot_place L b p k fs (slot_seen L f) ≡ Some (record { sort = code_place u.0 (k + 1) (next_required fs) (not (value == 0)); at = p + offset })
   code_entry p k fs f u offset value shape live is here other =
       let there : nat_lt 0 offset ≡ true = grind (arith, nat_tests) in
       let one : k + 1 ≡ suc k = omega arith in
       let behind = rw one at other in
       rw (shape, live, ← is, there, one, ← behind, present_is value) refl
+
+  -- the place of a struct that is present
+  pub struct_entry : (p k : ℕ) (fs : List Slot) (f : FieldInfo) (s : TypeId) (offset : ℕ) → f.shape ≡ One (Struct s) → f.deprecated ≡ false → offset ≡ slot_number b p k → (offset ≡ 0 → ⊥)
+      → slot_place L b p k fs (slot_seen L f) ≡ Some (record { sort = inline_place (struct_kind s.0); at = p + offset })
+  struct_entry p k fs f s offset shape live is here =
+      let there : nat_lt 0 offset ≡ true = grind (arith, nat_tests) in
+      rw (shape, live, ← is, there) refl
 
 -- texts and tables are elements by reference
 pub has_target : (S : DeclaredSchema) (kind : Kind) → (kind ≡ Text) ⊎ ((t : TypeId) × (kind ≡ Table t)) → (X : Target) × (target_of (stored_kind S kind) ≡ Some X)

@@ -1,12 +1,13 @@
 -- What a visit of a place gives: the cells that are spent behind it, or its first fault.
-use Rattle.std.specs.Prelude.{ℕ, ◌+◌, ◌≡◌, List, map, Option, None, Some, Result, Ok, Err, MatchResult, ◌==◌, if◌then◌else◌}
+use Rattle.std.specs.Prelude.{ℕ, ◌+◌, ◌≡◌, List, map, find, slice_get, Option, None, Some, Result, Ok, Err, MatchResult, ◌==◌, if◌then◌else◌}
 use Rattle.fb_schema.specs.declared.types.FieldInfo.{FieldInfo}
 use Rattle.fb_schema.specs.Seen.{field_seen}
 use Rattle.fb_layout.specs.Laid.{LaidSchema, Slot, slot_of}
 use Rattle.fb_value.specs.declared.faults.ReadFault.{ReadFault}
 use Rattle.fb_value.specs.Bounds.{Bounds}
 use Rattle.fb_value.specs.Num.{Bytes}
-use Rattle.fb_value.specs.Places.{Place, named_slot, member_part, ref_place, unknown_place}
+use Rattle.fb_value.specs.Missing.{is_missing_slot}
+use Rattle.fb_value.specs.Places.{Place, member_part, ref_place, unknown_place}
 use Rattle.fb_value.specs.Faults.{sum_over, all, first_among, fault_from}
 
 abbrev pub outcome : Option ReadFault → ℕ → Result ℕ ReadFault
@@ -26,16 +27,16 @@ abbrev pub visit_entry : LaidSchema → Bytes → Bounds → Option Place → �
 visit_entry L b most None tables spent = Ok spent
 visit_entry L b most (Some x) tables spent = visit L b most x tables spent
 
--- the place that slot k of the table at p names; fs are the slots behind it
-abbrev pub entry_place : LaidSchema → Bytes → ℕ → ℕ → List Slot → Slot → Option Place
-entry_place L b p k fs f = if f.deprecated then None else named_slot L b p k fs f.shape
-
 -- the slots of some fields
 abbrev pub slot_seen : LaidSchema → FieldInfo → Slot
 slot_seen L f = slot_of L.schema (field_seen f)
 
 abbrev pub slots_seen : LaidSchema → List FieldInfo → List Slot
 slots_seen L fs = map (slot_of L.schema) (map field_seen fs)
+
+-- the first of some slots that is required and absent
+abbrev pub first_unset : LaidSchema → Bytes → ℕ → List FieldInfo → List ℕ → Option ℕ
+first_unset L b p fs required = find (λ k. is_missing_slot b p k (slice_get (slots_seen L fs) k)) required
 
 -- what a visit returned is what it gives
 abbrev pub Visits : Result ℕ ReadFault → Result ℕ ReadFault → Type 0

@@ -1,6 +1,7 @@
 //! Whether a buffer holds a value.
 ghost use Rattle.std.specs.Prelude.{◌≡◌, ◌+◌, ◌≤◌, ◌<◌, ◌^◌, IfOk, length, MatchResult, OnOk, IfErr, None, Some};
 ghost use Rattle.fb_value.specs.Datum.{Datum};
+ghost use Rattle.fb_value.specs.Counts.{entered};
 ghost use Rattle.fb_value.specs.Lies.{Lies};
 ghost use Rattle.fb_value.specs.Places.{table_part, part_place};
 ghost use Rattle.fb_value.specs.Holds.{Holds, Refuses, header_fault, checked_identifier};
@@ -77,6 +78,8 @@ pub fn verify<'a>(
     ensures fault { IfErr result (Refuses layout.now limits raw bytes.now) }
     ensures rises { entries.old.count ≤ entries.new.count }
     ensures counted { entries.new.count ≤ entries.old.count + (limits.cells + 1) }
+    ensures each { OnOk result ((v : Datum) → Holds layout.now limits raw bytes.now v
+        → entries.new.count ≡ entries.old.count + entered v) }
 {
     let schema = layout.schema();
     check_front(bytes, identifier_of(layout, raw))?;

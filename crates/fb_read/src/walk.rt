@@ -4,11 +4,12 @@ ghost use Rattle.fb_layout.specs.Laid.{LaidSchema, Slot, StoredKind, stored_kind
 ghost use Rattle.fb_value.specs.Num.{num};
 ghost use Rattle.fb_value.specs.Places.{Target, table_part, text_part, vector_part, ref_place, part_place, inline_place, code_place, vtable, slot_number, named_slots, named_elements, target_of};
 ghost use Rattle.fb_value.specs.Places.{next_required};
-ghost use Rattle.fb_read.specs.Visits.{Visits, entry_place, slot_seen, slots_seen, union_place};
-ghost use Rattle.fb_read.specs.Walks.{place, visit_in, visit_each_in, visit_entry_in, TicksWithin};
+ghost use Rattle.fb_value.specs.Nth.{slot_place};
+ghost use Rattle.fb_read.specs.Visits.{Visits, slot_seen, slots_seen, union_place};
+ghost use Rattle.fb_read.specs.Walks.{place, visit_in, visit_each_in, visit_entry_in, TicksWithin, EntersAt, EntersSlot, EntersSlots, EntersItems};
 
 use crate::counting::Entries;
-use crate::places::{follow, slot_of};
+use crate::places::{follow, slot_of, stored_slots};
 use crate::rules::{check_code, check_inline, code_in, enter_table, open_text, open_vector};
 use crate::source::Source;
 use fb_schema::{FieldInfo, Kind, Shape, TypeId};
@@ -27,6 +28,7 @@ fn visit_text(
     ensures few { IfOk result (λ n. n ≤ source.entry.most_cells) }
     ensures rises { entries.old.count ≤ entries.new.count }
     ensures ticks { TicksWithin source.entry entries.old.count entries.new.count spent result }
+    ensures each { OnOk result (EntersAt source.entry (place (part_place text_part) at) entries.old.count entries.new.count) }
 {
     entries.tick();
     let text = open_text(source.bytes, at)?;
@@ -50,6 +52,7 @@ fn visit_text_behind(
     ensures few { IfOk result (λ n. n ≤ source.entry.most_cells) }
     ensures rises { entries.old.count ≤ entries.new.count }
     ensures ticks { TicksWithin source.entry entries.old.count entries.new.count spent result }
+    ensures each { OnOk result (EntersAt source.entry (place (ref_place text_part) at) entries.old.count entries.new.count) }
 {
     let target = follow(source.bytes, at)?;
     visit_text(source, target, spent, entries)
@@ -114,6 +117,7 @@ pub fn visit_table_behind(
     ensures few { IfOk result (λ n. n ≤ source.entry.most_cells) }
     ensures rises { entries.old.count ≤ entries.new.count }
     ensures ticks { TicksWithin source.entry entries.old.count entries.new.count spent result }
+    ensures each { OnOk result (EntersAt source.entry (place (ref_place (table_part table.0)) at) entries.old.count entries.new.count) }
 {
     let target = follow(source.bytes, at)?;
     visit_table(source, table, target, tables, spent, entries)
@@ -136,16 +140,17 @@ fn visit_table(
     ensures few { IfOk result (λ n. n ≤ source.entry.most_cells) }
     ensures rises { entries.old.count ≤ entries.new.count }
     ensures ticks { TicksWithin source.entry entries.old.count entries.new.count spent result }
+    ensures each { OnOk result (EntersAt source.entry (place (part_place (table_part table.0)) at) entries.old.count entries.new.count) }
 {
     entries.tick();
-    let slots = source.layout.slots_of(table);
-    let place = enter_table(source.bytes, slots, at)?;
+    let place = enter_table(source.layout, table, source.bytes, at)?;
     if tables >= source.most_depth {
         return Err(ReadFault::TooDeep(at as u64));
     }
     if spent >= u64::from(source.most_cells) {
         return Err(ReadFault::TooManyCells(at as u64));
     }
+    let slots = source.layout.slots_of(table);
     visit_slots(source, slots, at, place, tables + 1, spent + 1, entries)
 }
 
@@ -170,9 +175,11 @@ fn visit_slots(
     ensures few { IfOk result (λ n. n ≤ source.entry.most_cells) }
     ensures rises { entries.old.count ≤ entries.new.count }
     ensures ticks { TicksWithin source.entry entries.old.count entries.new.count spent result }
+    ensures each { OnOk result (EntersSlots source.entry (slots_seen source.entry.layout.now slots.now) (named_slots source.entry.layout.now source.entry.bytes.now at 0 (slots_seen source.entry.layout.now slots.now)) entries.old.count entries.new.count) }
 {
     let mut after = spent;
-    for slot in 0..slots.len() {
+    let stored = stored_slots(source.bytes, at, place, slots.len());
+    for slot in 0..stored {
         let (_before, later) = slots.split_at(slot + 1);
         after = visit_slot(
             source,
@@ -208,10 +215,11 @@ fn visit_slot(
     requires slots { slot < 2 ^ 15 }
     requires few { spent ≤ source.most_cells }
     requires flat { tables ≤ source.most_depth }
-    ensures visit { Visits result (visit_entry_in source.entry (entry_place source.entry.layout.now source.entry.bytes.now at slot (slots_seen source.entry.layout.now later.now) (slot_seen source.entry.layout.now field.now)) tables spent) }
+    ensures visit { Visits result (visit_entry_in source.entry (slot_place source.entry.layout.now source.entry.bytes.now at slot (slots_seen source.entry.layout.now later.now) (slot_seen source.entry.layout.now field.now)) tables spent) }
     ensures few { IfOk result (λ n. n ≤ source.entry.most_cells) }
     ensures rises { entries.old.count ≤ entries.new.count }
     ensures ticks { TicksWithin source.entry entries.old.count entries.new.count spent result }
+    ensures each { OnOk result (EntersSlot source.entry (slot_place source.entry.layout.now source.entry.bytes.now at slot (slots_seen source.entry.layout.now later.now) (slot_seen source.entry.layout.now field.now)) entries.old.count entries.new.count) }
 {
     if field.deprecated {
         return Ok(spent);
@@ -285,6 +293,7 @@ fn visit_union(
     ensures few { IfOk result (λ n. n ≤ source.entry.most_cells) }
     ensures rises { entries.old.count ≤ entries.new.count }
     ensures ticks { TicksWithin source.entry entries.old.count entries.new.count spent result }
+    ensures each { OnOk result (EntersSlot source.entry (union_place code at (member_by_code source.entry.layout.now union.0 code)) entries.old.count entries.new.count) }
 {
     match source.layout.schema().member_by_code(union, code) {
         None => Ok(spent),
@@ -309,6 +318,7 @@ fn visit_vector_behind(
     ensures few { IfOk result (λ n. n ≤ source.entry.most_cells) }
     ensures rises { entries.old.count ≤ entries.new.count }
     ensures ticks { TicksWithin source.entry entries.old.count entries.new.count spent result }
+    ensures each { OnOk result (EntersAt source.entry (place (ref_place (vector_part (stored_kind source.entry.layout.now.schema kind))) at) entries.old.count entries.new.count) }
 {
     let target = follow(source.bytes, at)?;
     visit_vector(source, kind, target, tables, spent, entries)
@@ -331,6 +341,7 @@ fn visit_vector(
     ensures few { IfOk result (λ n. n ≤ source.entry.most_cells) }
     ensures rises { entries.old.count ≤ entries.new.count }
     ensures ticks { TicksWithin source.entry entries.old.count entries.new.count spent result }
+    ensures each { OnOk result (EntersAt source.entry (place (part_place (vector_part (stored_kind source.entry.layout.now.schema kind))) at) entries.old.count entries.new.count) }
 {
     entries.tick();
     let count = open_vector(
@@ -376,6 +387,8 @@ fn visit_elements(
     ensures few { IfOk result (λ n. n ≤ source.entry.most_cells) }
     ensures rises { entries.old.count ≤ entries.new.count }
     ensures ticks { TicksWithin source.entry entries.old.count entries.new.count spent result }
+    ensures each { (X : Target) → target_of (stored_kind source.entry.layout.now.schema kind) ≡ Some X
+        → OnOk result (EntersItems source.entry (stored_kind source.entry.layout.now.schema kind) at count entries.old.count entries.new.count) }
 {
     let mut after = spent;
     for i in 0..count {
@@ -400,6 +413,8 @@ fn visit_element(
     ensures few { IfOk result (λ n. n ≤ source.entry.most_cells) }
     ensures rises { entries.old.count ≤ entries.new.count }
     ensures ticks { TicksWithin source.entry entries.old.count entries.new.count spent result }
+    ensures each { (X : Target) → target_of (stored_kind source.entry.layout.now.schema kind) ≡ Some X
+        → OnOk result (EntersAt source.entry (place (ref_place X) at) entries.old.count entries.new.count) }
 {
     match kind {
         Kind::Text => visit_text_behind(source, at, spent, entries),

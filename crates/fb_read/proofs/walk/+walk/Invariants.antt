@@ -1,6 +1,10 @@
 use Rattle.std.proofs.Common.{◌≡◌, ◌+◌, ◌*◌, ◌-◌, ◌≤◌, Some, drop}
 use Rattle.fb_layout.specs.Laid.{stored_kind}
 use Rattle.fb_value.specs.Places.{Target, target_of, named_slots, named_elements}
+use Rattle.fb_value.specs.Datum.{Parts, SlotEntries, count}
+use Rattle.fb_value.specs.Counts.{parts_entered, entries_entered}
+use Rattle.fb_value.specs.Lies.{LiesItems, LiesSlots}
+use Rattle.fb_read.proofs.EnteredCounts.{entries_from, parts_from}
 use Rattle.fb_read.specs.Visits.{visit_each, slots_seen}
 use Rattle.fb_read.proofs.walk.+walk.Given as goal
 
@@ -39,6 +43,8 @@ invariant-visit_slots-loop-slot l = record {
   rises : l.fn.entries.count ≤ l.entries.count;
   few : l.after ≤ l.source.most_cells;
   ticked : l.entries.count + l.spent ≤ l.fn.entries.count + l.after;
+  entered : (es : SlotEntries) → LiesSlots l.source.layout.now l.source.bytes.now (slots_seen l.source.layout.now l.slots) (named_slots l.source.layout.now l.source.bytes.now l.at 0 (slots_seen l.source.layout.now l.slots)) es
+      → l.entries.count + entries_entered (entries_from l.slot es) ≡ l.fn.entries.count + entries_entered es;
 }
 
 abbrev pub invariant-visit_elements-loop-i : goal.invariant-visit_elements-loop-i
@@ -48,4 +54,6 @@ invariant-visit_elements-loop-i l = record {
   rises : l.fn.entries.count ≤ l.entries.count;
   few : l.after ≤ l.source.most_cells;
   ticked : l.entries.count + l.spent ≤ l.fn.entries.count + l.after;
+  entered : (X : Target) → target_of (stored_kind l.source.layout.now.schema l.kind) ≡ Some X → (ds : Parts) → count ds ≡ l.count → LiesItems l.source.layout.now l.source.bytes.now (stored_kind l.source.layout.now.schema l.kind) l.at ds
+      → l.entries.count + parts_entered (parts_from l.i ds) ≡ l.fn.entries.count + parts_entered ds;
 }
