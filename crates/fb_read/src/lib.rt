@@ -7,6 +7,7 @@ mod places;
 mod reading;
 mod rules;
 mod source;
+mod stored;
 mod verification;
 mod views;
 mod walk;
