@@ -5,7 +5,15 @@ mod counting;
 mod numbers;
 mod places;
 mod reading;
+mod rules;
+mod source;
+mod stored;
+mod verification;
+mod views;
+mod walk;
 
 pub use counting::Entries;
 pub use fb_value::ReadFault;
 pub use reading::read;
+pub use verification::verify;
+pub use views::View;

@@ -1,0 +1,6 @@
+use Rattle.std.proofs.Common.{◌∙◌}
+use Rattle.fb_read.proofs.Sums.{num_in_slice}
+use Rattle.fb_read.proofs.numbers.u64_at.Goals as goal
+
+pub returns : goal.returns
+returns c = c.read_u64.ensures ∙ num_in_slice c.args.bytes.now c.args.at 8

@@ -1,0 +1,102 @@
+//! Whether a buffer holds a value.
+ghost use Rattle.std.specs.Prelude.{◌≡◌, ◌+◌, ◌≤◌, ◌<◌, ◌^◌, IfOk, length, MatchResult, OnOk, IfErr, None, Some};
+ghost use Rattle.fb_value.specs.Datum.{Datum};
+ghost use Rattle.fb_value.specs.Counts.{entered};
+ghost use Rattle.fb_value.specs.Lies.{Lies};
+ghost use Rattle.fb_value.specs.Places.{table_part, part_place};
+ghost use Rattle.fb_value.specs.Holds.{Holds, Refuses, header_fault, checked_identifier};
+
+use crate::counting::Entries;
+use crate::numbers::u32_at;
+use crate::places::check_header;
+use crate::source::Source;
+use crate::views::View;
+use crate::walk::visit_table_behind;
+use fb_layout::Layout;
+use fb_value::{Limits, ReadFault};
+
+// The greatest length of a buffer.
+const MOST_BYTES: usize = 2_147_483_647;
+
+#[tactic(auto, unfolding(fb_value::specs::Holds::header_fault, fb_value::specs::Rules::first_failing))]
+fn check_identified(bytes: &[u8], identifier: [u8; 4]) -> Result<(), ReadFault>
+    ensures rules { MatchResult result
+        (λ _. header_fault bytes.now (Some identifier) ≡ None)
+        (λ f. header_fault bytes.now (Some identifier) ≡ Some f) }
+    ensures short { OnOk result (length bytes.now < 2 ^ 31) }
+    ensures long { OnOk result (4 ≤ length bytes.now) }
+{
+    if bytes.len() < 8 {
+        return Err(ReadFault::Short(bytes.len() as u64));
+    }
+    if bytes.len() > MOST_BYTES {
+        return Err(ReadFault::TooLong(MOST_BYTES as u64));
+    }
+    if &bytes[4..8] != identifier.as_slice() {
+        return Err(ReadFault::WrongIdentifier(4));
+    }
+    Ok(())
+}
+
+fn check_front(bytes: &[u8], identifier: Option<[u8; 4]>) -> Result<(), ReadFault>
+    ensures rules { MatchResult result
+        (λ _. header_fault bytes.now identifier ≡ None)
+        (λ f. header_fault bytes.now identifier ≡ Some f) }
+    ensures short { OnOk result (length bytes.now < 2 ^ 31) }
+    ensures long { OnOk result (4 ≤ length bytes.now) }
+{
+    match identifier {
+        Some(identifier) => check_identified(bytes, identifier),
+        None => check_header(bytes),
+    }
+}
+
+fn identifier_of(layout: &Layout, raw: bool) -> Option<[u8; 4]>
+    ensures { result ≡ checked_identifier layout.now raw }
+{
+    if raw {
+        None
+    } else {
+        layout.schema().identifier()
+    }
+}
+
+/// Whether the bytes hold a value; else the least of their faults.
+///
+/// `raw` leaves out the check of the file identifier. `entries` rises by one for each table, vector
+/// and text that is entered. No memory is taken.
+#[tactic(auto, using(crate::proofs::Verified::aligned_known, crate::proofs::Verified::small_known))]
+pub fn verify<'a>(
+    layout: &'a Layout,
+    bytes: &'a [u8],
+    limits: Limits,
+    raw: bool,
+    entries: &mut Entries,
+) -> Result<View<'a>, ReadFault>
+    ensures held { OnOk result ((v : Datum) × Holds layout.now limits raw bytes.now v) }
+    ensures stands { IfOk result (λ view. (v : Datum) → Holds layout.now limits raw bytes.now v → Lies view.layout.now view.bytes.now (part_place (table_part view.table.0)) view.at v) }
+    ensures fault { IfErr result (Refuses layout.now limits raw bytes.now) }
+    ensures rises { entries.old.count ≤ entries.new.count }
+    ensures counted { entries.new.count ≤ entries.old.count + (limits.cells + 1) }
+    ensures each { OnOk result ((v : Datum) → Holds layout.now limits raw bytes.now v
+        → entries.new.count ≡ entries.old.count + entered v) }
+{
+    let schema = layout.schema();
+    check_front(bytes, identifier_of(layout, raw))?;
+    let most_depth = limits.most_depth();
+    let most_cells = limits.most_cells();
+    let source = Source {
+        layout,
+        bytes,
+        most_depth,
+        most_cells,
+    };
+    let _spent = visit_table_behind(source, schema.root(), 0, 0, 0, entries)?;
+    let at = u32_at(bytes, 0) as usize;
+    Ok(View {
+        layout,
+        bytes,
+        table: schema.root(),
+        at,
+    })
+}

@@ -1,0 +1,426 @@
+//! A walk over all that is reached from a place, without memory.
+ghost use Rattle.std.specs.Prelude.{◌≡◌, ℕ, ◌+◌, ◌*◌, ◌<◌, ◌≤◌, ◌^◌, length, map, Bool, List, MatchResult, OnOk, IfOk, IfSome, None, Some, Ok, Err, true};
+ghost use Rattle.fb_layout.specs.Laid.{LaidSchema, Slot, StoredKind, stored_kind, slots_of, member_by_code, size_of, align_of};
+ghost use Rattle.fb_value.specs.Num.{num};
+ghost use Rattle.fb_value.specs.Places.{Target, table_part, text_part, vector_part, ref_place, part_place, inline_place, code_place, vtable, slot_number, named_slots, named_elements, target_of};
+ghost use Rattle.fb_value.specs.Places.{next_required};
+ghost use Rattle.fb_value.specs.Nth.{slot_place};
+ghost use Rattle.fb_read.specs.Visits.{Visits, slot_seen, slots_seen, union_place};
+ghost use Rattle.fb_read.specs.Walks.{place, visit_in, visit_each_in, visit_entry_in, TicksWithin, EntersAt, EntersSlot, EntersSlots, EntersItems};
+
+use crate::counting::Entries;
+use crate::places::{follow, slot_of, stored_slots};
+use crate::rules::{check_code, check_inline, code_in, enter_table, open_text, open_vector};
+use crate::source::Source;
+use fb_schema::{FieldInfo, Kind, Shape, TypeId};
+use fb_value::ReadFault;
+
+#[tactic(auto, using(crate::proofs::Visited::visit_fault, crate::proofs::Visited::visit_text, crate::proofs::Visited::visit_text_over))]
+fn visit_text(
+    source: Source,
+    at: usize,
+    spent: u64,
+    entries: &mut Entries,
+) -> Result<u64, ReadFault>
+    requires low { at < 2 ^ 33 }
+    requires few { spent ≤ source.most_cells }
+    ensures visit { (tables : ℕ) → Visits result (visit_in source.entry (place (part_place text_part) at) tables spent) }
+    ensures few { IfOk result (λ n. n ≤ source.entry.most_cells) }
+    ensures rises { entries.old.count ≤ entries.new.count }
+    ensures ticks { TicksWithin source.entry entries.old.count entries.new.count spent result }
+    ensures each { OnOk result (EntersAt source.entry (place (part_place text_part) at) entries.old.count entries.new.count) }
+{
+    entries.tick();
+    let text = open_text(source.bytes, at)?;
+    let after = spent + 1 + text.len() as u64;
+    if after > u64::from(source.most_cells) {
+        return Err(ReadFault::TooManyCells(at as u64));
+    }
+    Ok(after)
+}
+
+#[tactic(auto, using(crate::proofs::Visited::visit_fault, crate::proofs::Visited::visit_ref))]
+fn visit_text_behind(
+    source: Source,
+    at: usize,
+    spent: u64,
+    entries: &mut Entries,
+) -> Result<u64, ReadFault>
+    requires low { at < 2 ^ 33 }
+    requires few { spent ≤ source.most_cells }
+    ensures visit { (tables : ℕ) → Visits result (visit_in source.entry (place (ref_place text_part) at) tables spent) }
+    ensures few { IfOk result (λ n. n ≤ source.entry.most_cells) }
+    ensures rises { entries.old.count ≤ entries.new.count }
+    ensures ticks { TicksWithin source.entry entries.old.count entries.new.count spent result }
+    ensures each { OnOk result (EntersAt source.entry (place (ref_place text_part) at) entries.old.count entries.new.count) }
+{
+    let target = follow(source.bytes, at)?;
+    visit_text(source, target, spent, entries)
+}
+
+#[tactic(auto, using(crate::proofs::Visited::visit_fault, crate::proofs::Visited::visit_inline))]
+fn visit_inline(source: Source, kind: Kind, at: usize, spent: u64) -> Result<u64, ReadFault>
+    requires low { at < 2 ^ 33 }
+    ensures visit { (tables : ℕ) → Visits result (visit_in source.entry (place (inline_place (stored_kind source.entry.layout.now.schema kind)) at) tables spent) }
+    ensures same { IfOk result (λ n. n ≡ spent) }
+{
+    check_inline(
+        source.bytes,
+        at,
+        source.layout.size_of(kind),
+        source.layout.align_of(kind),
+    )?;
+    Ok(spent)
+}
+
+#[tactic(auto, using(crate::proofs::Visited::visit_fault, crate::proofs::Visited::visit_code))]
+fn visit_code(
+    source: Source,
+    at: usize,
+    value_slot: u16,
+    required: bool,
+    present: bool,
+    spent: u64,
+) -> Result<u64, ReadFault>
+    requires low { at < 2 ^ 33 }
+    ensures visit { (tables u : ℕ) → Visits result (visit_in source.entry (place (code_place u value_slot required present) at) tables spent) }
+    ensures same { IfOk result (λ n. n ≡ spent) }
+{
+    check_code(source.bytes, at, value_slot, required, present)?;
+    Ok(spent)
+}
+
+/// Whether the first of some slots is required.
+fn is_first_required(slots: &[FieldInfo]) -> bool
+    ensures { (L : LaidSchema) → result ≡ next_required (slots_seen L slots.now) }
+{
+    match slots.first() {
+        Some(slot) => slot.required && !slot.deprecated,
+        None => false,
+    }
+}
+
+#[cycle(walk)]
+#[tactic(auto, using(crate::proofs::Visited::visit_ref))]
+pub fn visit_table_behind(
+    source: Source,
+    table: TypeId,
+    at: usize,
+    tables: u8,
+    spent: u64,
+    entries: &mut Entries,
+) -> Result<u64, ReadFault>
+    requires low { at < 2 ^ 33 }
+    requires few { spent ≤ source.most_cells }
+    requires flat { tables ≤ source.most_depth }
+    ensures visit { Visits result (visit_in source.entry (place (ref_place (table_part table.0)) at) tables spent) }
+    ensures few { IfOk result (λ n. n ≤ source.entry.most_cells) }
+    ensures rises { entries.old.count ≤ entries.new.count }
+    ensures ticks { TicksWithin source.entry entries.old.count entries.new.count spent result }
+    ensures each { OnOk result (EntersAt source.entry (place (ref_place (table_part table.0)) at) entries.old.count entries.new.count) }
+{
+    let target = follow(source.bytes, at)?;
+    visit_table(source, table, target, tables, spent, entries)
+}
+
+#[cycle(walk)]
+#[tactic(auto, using(crate::proofs::Visited::visit_table_deep, crate::proofs::Visited::visit_table_over))]
+fn visit_table(
+    source: Source,
+    table: TypeId,
+    at: usize,
+    tables: u8,
+    spent: u64,
+    entries: &mut Entries,
+) -> Result<u64, ReadFault>
+    requires low { at < 2 ^ 33 }
+    requires few { spent ≤ source.most_cells }
+    requires flat { tables ≤ source.most_depth }
+    ensures visit { Visits result (visit_in source.entry (place (part_place (table_part table.0)) at) tables spent) }
+    ensures few { IfOk result (λ n. n ≤ source.entry.most_cells) }
+    ensures rises { entries.old.count ≤ entries.new.count }
+    ensures ticks { TicksWithin source.entry entries.old.count entries.new.count spent result }
+    ensures each { OnOk result (EntersAt source.entry (place (part_place (table_part table.0)) at) entries.old.count entries.new.count) }
+{
+    entries.tick();
+    let place = enter_table(source.layout, table, source.bytes, at)?;
+    if tables >= source.most_depth {
+        return Err(ReadFault::TooDeep(at as u64));
+    }
+    if spent >= u64::from(source.most_cells) {
+        return Err(ReadFault::TooManyCells(at as u64));
+    }
+    let slots = source.layout.slots_of(table);
+    visit_slots(source, slots, at, place, tables + 1, spent + 1, entries)
+}
+
+#[cycle(walk)]
+fn visit_slots(
+    source: Source,
+    slots: &[FieldInfo],
+    at: usize,
+    place: usize,
+    tables: u8,
+    spent: u64,
+    entries: &mut Entries,
+) -> Result<u64, ReadFault>
+    requires vtable { place ≡ vtable source.bytes.now at }
+    requires whole { place + num source.bytes.now place 2 ≤ length source.bytes.now }
+    requires within { place + 2 ≤ length source.bytes.now }
+    requires low { at < 2 ^ 32 }
+    requires slots { length slots.now < 2 ^ 15 }
+    requires few { spent ≤ source.most_cells }
+    requires flat { tables ≤ source.most_depth }
+    ensures visit { Visits result (visit_each_in source.entry (named_slots source.entry.layout.now source.entry.bytes.now at 0 (slots_seen source.entry.layout.now slots.now)) tables spent) }
+    ensures few { IfOk result (λ n. n ≤ source.entry.most_cells) }
+    ensures rises { entries.old.count ≤ entries.new.count }
+    ensures ticks { TicksWithin source.entry entries.old.count entries.new.count spent result }
+    ensures each { OnOk result (EntersSlots source.entry (slots_seen source.entry.layout.now slots.now) (named_slots source.entry.layout.now source.entry.bytes.now at 0 (slots_seen source.entry.layout.now slots.now)) entries.old.count entries.new.count) }
+{
+    let mut after = spent;
+    let stored = stored_slots(source.bytes, at, place, slots.len());
+    for slot in 0..stored {
+        let (_before, later) = slots.split_at(slot + 1);
+        after = visit_slot(
+            source,
+            &slots[slot],
+            later,
+            at,
+            place,
+            slot,
+            tables,
+            after,
+            entries,
+        )?;
+    }
+    Ok(after)
+}
+
+#[cycle(walk)]
+fn visit_slot(
+    source: Source,
+    field: &FieldInfo,
+    later: &[FieldInfo],
+    at: usize,
+    place: usize,
+    slot: usize,
+    tables: u8,
+    spent: u64,
+    entries: &mut Entries,
+) -> Result<u64, ReadFault>
+    requires vtable { place ≡ vtable source.bytes.now at }
+    requires whole { place + num source.bytes.now place 2 ≤ length source.bytes.now }
+    requires within { place + 2 ≤ length source.bytes.now }
+    requires low { at < 2 ^ 32 }
+    requires slots { slot < 2 ^ 15 }
+    requires few { spent ≤ source.most_cells }
+    requires flat { tables ≤ source.most_depth }
+    ensures visit { Visits result (visit_entry_in source.entry (slot_place source.entry.layout.now source.entry.bytes.now at slot (slots_seen source.entry.layout.now later.now) (slot_seen source.entry.layout.now field.now)) tables spent) }
+    ensures few { IfOk result (λ n. n ≤ source.entry.most_cells) }
+    ensures rises { entries.old.count ≤ entries.new.count }
+    ensures ticks { TicksWithin source.entry entries.old.count entries.new.count spent result }
+    ensures each { OnOk result (EntersSlot source.entry (slot_place source.entry.layout.now source.entry.bytes.now at slot (slots_seen source.entry.layout.now later.now) (slot_seen source.entry.layout.now field.now)) entries.old.count entries.new.count) }
+{
+    if field.deprecated {
+        return Ok(spent);
+    }
+    let offset = slot_of(source.bytes, at, place, slot);
+    if offset == 0 {
+        return Ok(spent);
+    }
+    match field.shape {
+        Shape::Many(kind) => visit_vector_behind(source, kind, at + offset, tables, spent, entries),
+        Shape::One(Kind::Text) => visit_text_behind(source, at + offset, spent, entries),
+        Shape::One(Kind::Table(table)) => visit_table_behind(
+            source,
+            table,
+            at + offset,
+            tables,
+            spent,
+            entries,
+        ),
+        Shape::One(Kind::Union(union)) => {
+            let code_offset = slot_of(source.bytes, at, place, slot.saturating_sub(1));
+            let code = code_in(source.bytes, at, code_offset);
+            visit_union(source, union, code, at + offset, tables, spent, entries)
+        }
+        Shape::One(Kind::Code(_)) => {
+            let value_offset = slot_of(source.bytes, at, place, slot + 1);
+            visit_code(
+                source,
+                at + offset,
+                slot as u16 + 1,
+                is_first_required(later),
+                value_offset != 0,
+                spent,
+            )
+        }
+        Shape::One(Kind::Scalar(base)) => visit_inline(
+            source,
+            Kind::Scalar(base),
+            at + offset,
+            spent,
+        ),
+        Shape::One(Kind::Enum(values)) => visit_inline(
+            source,
+            Kind::Enum(values),
+            at + offset,
+            spent,
+        ),
+        Shape::One(Kind::Struct(parts)) => visit_inline(
+            source,
+            Kind::Struct(parts),
+            at + offset,
+            spent,
+        ),
+    }
+}
+
+#[cycle(walk)]
+fn visit_union(
+    source: Source,
+    union: TypeId,
+    code: u8,
+    at: usize,
+    tables: u8,
+    spent: u64,
+    entries: &mut Entries,
+) -> Result<u64, ReadFault>
+    requires low { at < 2 ^ 33 }
+    requires few { spent ≤ source.most_cells }
+    requires flat { tables ≤ source.most_depth }
+    ensures visit { Visits result (visit_entry_in source.entry (union_place code at (member_by_code source.entry.layout.now union.0 code)) tables spent) }
+    ensures few { IfOk result (λ n. n ≤ source.entry.most_cells) }
+    ensures rises { entries.old.count ≤ entries.new.count }
+    ensures ticks { TicksWithin source.entry entries.old.count entries.new.count spent result }
+    ensures each { OnOk result (EntersSlot source.entry (union_place code at (member_by_code source.entry.layout.now union.0 code)) entries.old.count entries.new.count) }
+{
+    match source.layout.schema().member_by_code(union, code) {
+        None => Ok(spent),
+        Some(table) => visit_table_behind(source, table, at, tables, spent, entries),
+    }
+}
+
+#[cycle(walk)]
+#[tactic(auto, using(crate::proofs::Visited::visit_ref))]
+fn visit_vector_behind(
+    source: Source,
+    kind: Kind,
+    at: usize,
+    tables: u8,
+    spent: u64,
+    entries: &mut Entries,
+) -> Result<u64, ReadFault>
+    requires low { at < 2 ^ 33 }
+    requires few { spent ≤ source.most_cells }
+    requires flat { tables ≤ source.most_depth }
+    ensures visit { Visits result (visit_in source.entry (place (ref_place (vector_part (stored_kind source.entry.layout.now.schema kind))) at) tables spent) }
+    ensures few { IfOk result (λ n. n ≤ source.entry.most_cells) }
+    ensures rises { entries.old.count ≤ entries.new.count }
+    ensures ticks { TicksWithin source.entry entries.old.count entries.new.count spent result }
+    ensures each { OnOk result (EntersAt source.entry (place (ref_place (vector_part (stored_kind source.entry.layout.now.schema kind))) at) entries.old.count entries.new.count) }
+{
+    let target = follow(source.bytes, at)?;
+    visit_vector(source, kind, target, tables, spent, entries)
+}
+
+#[cycle(walk)]
+#[tactic(auto, using(crate::proofs::Visited::visit_vector_over))]
+fn visit_vector(
+    source: Source,
+    kind: Kind,
+    at: usize,
+    tables: u8,
+    spent: u64,
+    entries: &mut Entries,
+) -> Result<u64, ReadFault>
+    requires low { at < 2 ^ 33 }
+    requires few { spent ≤ source.most_cells }
+    requires flat { tables ≤ source.most_depth }
+    ensures visit { Visits result (visit_in source.entry (place (part_place (vector_part (stored_kind source.entry.layout.now.schema kind))) at) tables spent) }
+    ensures few { IfOk result (λ n. n ≤ source.entry.most_cells) }
+    ensures rises { entries.old.count ≤ entries.new.count }
+    ensures ticks { TicksWithin source.entry entries.old.count entries.new.count spent result }
+    ensures each { OnOk result (EntersAt source.entry (place (part_place (vector_part (stored_kind source.entry.layout.now.schema kind))) at) entries.old.count entries.new.count) }
+{
+    entries.tick();
+    let count = open_vector(
+        source.bytes,
+        at,
+        source.layout.size_of(kind),
+        source.layout.align_of(kind),
+    )?;
+    let after = spent + (1 + u64::from(count));
+    if after > u64::from(source.most_cells) {
+        return Err(ReadFault::TooManyCells(at as u64));
+    }
+    match kind {
+        Kind::Text | Kind::Table(_) => visit_elements(
+            source,
+            kind,
+            at + 4,
+            count,
+            tables,
+            after,
+            entries,
+        ),
+        Kind::Scalar(_) | Kind::Enum(_) | Kind::Struct(_) | Kind::Union(_) | Kind::Code(_) => Ok(
+            after,
+        ),
+    }
+}
+
+#[cycle(walk)]
+fn visit_elements(
+    source: Source,
+    kind: Kind,
+    at: usize,
+    count: u32,
+    tables: u8,
+    spent: u64,
+    entries: &mut Entries,
+) -> Result<u64, ReadFault>
+    requires within { at + count * 4 ≤ length source.bytes.now }
+    requires few { spent ≤ source.most_cells }
+    requires flat { tables ≤ source.most_depth }
+    ensures visit { (X : Target) → target_of (stored_kind source.entry.layout.now.schema kind) ≡ Some X → Visits result (visit_each_in source.entry (named_elements X at count) tables spent) }
+    ensures few { IfOk result (λ n. n ≤ source.entry.most_cells) }
+    ensures rises { entries.old.count ≤ entries.new.count }
+    ensures ticks { TicksWithin source.entry entries.old.count entries.new.count spent result }
+    ensures each { (X : Target) → target_of (stored_kind source.entry.layout.now.schema kind) ≡ Some X
+        → OnOk result (EntersItems source.entry (stored_kind source.entry.layout.now.schema kind) at count entries.old.count entries.new.count) }
+{
+    let mut after = spent;
+    for i in 0..count {
+        after = visit_element(source, kind, at + 4 * i as usize, tables, after, entries)?;
+    }
+    Ok(after)
+}
+
+#[cycle(walk)]
+fn visit_element(
+    source: Source,
+    kind: Kind,
+    at: usize,
+    tables: u8,
+    spent: u64,
+    entries: &mut Entries,
+) -> Result<u64, ReadFault>
+    requires low { at < 2 ^ 33 }
+    requires few { spent ≤ source.most_cells }
+    requires flat { tables ≤ source.most_depth }
+    ensures visit { (X : Target) → target_of (stored_kind source.entry.layout.now.schema kind) ≡ Some X → Visits result (visit_in source.entry (place (ref_place X) at) tables spent) }
+    ensures few { IfOk result (λ n. n ≤ source.entry.most_cells) }
+    ensures rises { entries.old.count ≤ entries.new.count }
+    ensures ticks { TicksWithin source.entry entries.old.count entries.new.count spent result }
+    ensures each { (X : Target) → target_of (stored_kind source.entry.layout.now.schema kind) ≡ Some X
+        → OnOk result (EntersAt source.entry (place (ref_place X) at) entries.old.count entries.new.count) }
+{
+    match kind {
+        Kind::Text => visit_text_behind(source, at, spent, entries),
+        Kind::Table(table) => visit_table_behind(source, table, at, tables, spent, entries),
+        Kind::Scalar(_) | Kind::Enum(_) | Kind::Struct(_) | Kind::Union(_) | Kind::Code(_) => Ok(
+            spent,
+        ),
+    }
+}
