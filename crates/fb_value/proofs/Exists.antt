@@ -78,7 +78,7 @@ either_good most true o y known e = cc
 either_good most false o y known e = known y cc
 
 -- What the slots of a table name is good.
-slots_good : (L : LaidSchema) (b : Bytes) (most p k : ℕ) (fs : List Slot) (j : ℕ) (y : Place) → AreStored most fs → slice_get (named_slots L b p k fs) j ≡ Some (Some y) → IsGood most y.sort
+pub slots_good : (L : LaidSchema) (b : Bytes) (most p k : ℕ) (fs : List Slot) (j : ℕ) (y : Place) → AreStored most fs → slice_get (named_slots L b p k fs) j ≡ Some (Some y) → IsGood most y.sort
 unfolding named_slots
 slots_good L b most p k [] j y good e = cc
 slots_good L b most p k (f ∷ fs) zero y good e = either_good most f.deprecated (named_slot L b p k fs f.shape) y (λ z h. slot_good L b most p k fs f.shape z good.0 h) e
@@ -226,7 +226,7 @@ module _ (L : LaidSchema) (b : Bytes) (most : ℕ) (made : IsResolved L most) wh
   as_member c t p keep (k ∷ path) y leads = keep (k ∷ path) y leads
 
   -- A part that keeps its rules begins inside the bytes.
-  part_within : (X : Target) (p : ℕ) → Keeps L b (part_place X) p → p + 4 ≤ length b
+  pub part_within : (X : Target) (p : ℕ) → Keeps L b (part_place X) p → p + 4 ≤ length b
   unfolding fault_by
   part_within (table_part t) p e = leb-true _ _ (rule_held _ _ _ (rule_held _ _ _ e).1).0
   part_within (member_part c t) p e = leb-true _ _ (rule_held _ _ _ (rule_held _ _ _ e).1).0

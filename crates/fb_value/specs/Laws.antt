@@ -1,17 +1,19 @@
 -- Laws of the bytes that hold a value, over every layout that is well made.
-use Rattle.std.specs.Prelude.{◌≡◌, ◌+◌, ◌↔◌, Bool, Option, None, Some}
-use Rattle.fb_layout.specs.Laid.{LaidSchema}
+use Rattle.std.specs.Prelude.{ℕ, ◌≡◌, ◌+◌, ◌<◌, ◌≤◌, ◌↔◌, All, Bool, Option, None, Some}
+use Rattle.fb_layout.specs.Laid.{LaidSchema, StoredKind}
 use Rattle.fb_layout.specs.WellMade.{IsWellMade}
 use Rattle.fb_value.specs.declared.faults.ReadFault.{ReadFault}
 use Rattle.fb_value.specs.Bounds.{Bounds}
 use Rattle.fb_value.specs.Datum.{Datum}
-use Rattle.fb_value.specs.Counts.{cells}
+use Rattle.fb_value.specs.Counts.{cells, depth, nesting}
+use Rattle.fb_value.specs.Fits.{FitsRoot}
 use Rattle.fb_value.specs.Num.{Bytes}
-use Rattle.fb_value.specs.Places.{Place, named}
+use Rattle.fb_value.specs.Places.{Sort, Place, named}
 use Rattle.fb_value.specs.Rules.{fault_at}
-use Rattle.fb_value.specs.Lies.{LiesAt}
+use Rattle.fb_value.specs.Lies.{Lies, LiesAt}
+use Rattle.fb_value.specs.Reads.{value_at, inline_value, value_step, inline_step}
 use Rattle.fb_value.specs.Reached.{Path, AllKeep}
-use Rattle.fb_value.specs.Faults.{own_cells, sum_over, if_kept, FaultFrom, LeastFrom, all, fault_from}
+use Rattle.fb_value.specs.Faults.{own_cells, own_tables, sum_over, if_kept, or_else, limited_fault, FaultFrom, LeastFrom, first_among, all, fault_from}
 use Rattle.fb_value.specs.Holds.{Holds, HasNoFault, Refuses, computed_fault, root_place}
 
 -- Bytes hold one value at most.
@@ -47,3 +49,28 @@ HeldOrFault L most raw b (Some f) = Refuses L most raw b f
 -- A value is held exactly where no fault stands.
 abbrev pub ValueOrFault : Type 0
 ValueOrFault = (L : LaidSchema) (most : Bounds) (raw : Bool) (b : Bytes) → IsWellMade L → HeldOrFault L most raw b (computed_fault L most raw b)
+
+-- What fits the root with at most 127 tables in one another is nested at most 300 deep.
+abbrev pub NestingOfDepth : Type 0
+NestingOfDepth = (L : LaidSchema) (d : Datum) → IsWellMade L → FitsRoot L d → depth d ≤ 127 → nesting d ≤ 300
+
+-- The first fault from a place: its own, the limits last, or the first among those of the places that it names.
+abbrev pub FaultOfPlace : Type 0
+FaultOfPlace =
+    (L : LaidSchema) (b : Bytes) (most : Bounds) (x : Place) (tables spent : ℕ) → fault_from L b most x tables spent
+    ≡ or_else (limited_fault L b most x (tables + own_tables x.sort) (spent + own_cells b x.sort x.at))
+    (first_among (λ y before. fault_from L b most y (tables + own_tables x.sort) before) (all L b) (spent + own_cells b x.sort x.at) (named L b x.sort x.at))
+
+-- The value that bytes hold is one that the root may have: each byte is below 256.
+abbrev pub FitsWhereHeld : Type 0
+FitsWhereHeld = (L : LaidSchema) (most : Bounds) (raw : Bool) (b : Bytes) (v : Datum) → IsWellMade L → All (λ x. x < 256) b → Holds L most raw b v → FitsRoot L v
+
+-- The value at a place, by one step; and of what stands in its place.
+abbrev pub ValueOfPlace : Type 0
+ValueOfPlace =
+    (L : LaidSchema) (b : Bytes) → IsWellMade L
+    → ((sort : Sort) (p : ℕ) → value_at L b sort p ≡ value_step L b sort p) × ((kind : StoredKind) (p : ℕ) → inline_value L b kind p ≡ inline_step L b kind p)
+
+-- The value that is computed at a place is the one that lies there.
+abbrev pub ValueWhereLies : Type 0
+ValueWhereLies = (L : LaidSchema) (b : Bytes) (sort : Sort) (p : ℕ) (d : Datum) → IsWellMade L → (value_at L b sort p ≡ Some d) ↔ Lies L b sort p d

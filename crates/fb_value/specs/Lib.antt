@@ -21,6 +21,7 @@ pub mod TailLaws
 pub mod EachTable
 pub mod Missing
 pub mod Reads
+pub mod Nth
 pub mod Laws
 pub mod Ints
 pub mod ExampleLayouts

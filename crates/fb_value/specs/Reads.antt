@@ -1,5 +1,5 @@
 -- The value at a place, computed, within a number of levels: a law ties it to where a value lies.
-use Rattle.std.specs.Prelude.{ℕ, zero, suc, ◌+◌, List, [], ◌∷◌, Option, None, Some, ℤ}
+use Rattle.std.specs.Prelude.{ℕ, zero, suc, ◌+◌, ◌-◌, ◌*◌, List, [], ◌∷◌, length, Option, None, Some, ℤ}
 use Rattle.fb_schema.specs.Alignments.{base_size}
 use Rattle.fb_layout.specs.Laid.{LaidSchema, Slot, StoredKind, scalar_kind, struct_kind, slots_of, parts_of, struct_at, size_of}
 use Rattle.fb_value.specs.declared.faults.ReadFault.{ReadFault}
@@ -83,3 +83,30 @@ datum_at (suc fuel) L b (part_place (table_part t)) p =
     unless (fault_at L b (part_place (table_part t)) p) (slots_at L b (λ s q. datum_at fuel L b s q) (slots_of L t) (named_slots L b p 0 (slots_of L t)) >>= λ ss. Some (a_table t ss))
 datum_at (suc fuel) L b (part_place (member_part c t)) p = datum_at fuel L b (part_place (table_part t)) p >>= λ d. Some (a_member c d)
 datum_at (suc fuel) L b _ p = None
+
+-- Enough levels: one for each struct in another, and two for each position, since a member takes one more than its table.
+abbrev pub value_levels : LaidSchema → Bytes → ℕ → ℕ
+value_levels L b p = (length L.schema.types + 2 * (length b - p)) + 4
+
+-- the same without levels
+unfoldable pub value_at : LaidSchema → Bytes → Sort → ℕ → Option Datum
+value_at L b sort p = datum_at (value_levels L b p) L b sort p
+
+unfoldable pub inline_value : LaidSchema → Bytes → StoredKind → ℕ → Option Datum
+inline_value L b kind p = inline_at (length L.schema.types + 2) L b kind p
+
+-- one step of it
+abbrev pub inline_step : LaidSchema → Bytes → StoredKind → ℕ → Option Datum
+inline_step L b (scalar_kind base) p = Some (a_number (scalar_of base (num b p (base_size base))))
+inline_step L b (struct_kind s) p = parts_at (inline_value L b) (parts_of L s) (struct_at L s).offsets p >>= λ ds. Some (a_struct ds)
+inline_step L b _ p = None
+
+abbrev pub value_step : LaidSchema → Bytes → Sort → ℕ → Option Datum
+value_step L b (inline_place kind) p = unless (fault_at L b (inline_place kind) p) (inline_value L b kind p)
+value_step L b (part_place text_part) p = unless (fault_at L b (part_place text_part) p) (Some (a_text (part_of b (p + 4) (num b p 4))))
+value_step L b (part_place (vector_part kind)) p =
+    unless (fault_at L b (part_place (vector_part kind)) p) (items_at L b (value_at L b) (inline_value L b) kind (p + 4) (num b p 4) >>= λ ds. Some (a_vector ds))
+value_step L b (part_place (table_part t)) p =
+    unless (fault_at L b (part_place (table_part t)) p) (slots_at L b (value_at L b) (slots_of L t) (named_slots L b p 0 (slots_of L t)) >>= λ ss. Some (a_table t ss))
+value_step L b (part_place (member_part c t)) p = value_at L b (part_place (table_part t)) p >>= λ d. Some (a_member c d)
+value_step L b _ p = None

@@ -1,5 +1,6 @@
 //! Laws of the bytes that hold a value.
-ghost use Rattle.fb_value.specs.Laws.{OneValue, ValueWhereAllKeep, CellsOfPlace, CellsOfValue, FaultOfLeastPath, ValueOrFault};
+ghost use Rattle.fb_value.specs.Laws.{OneValue, ValueWhereAllKeep, CellsOfPlace, CellsOfValue, FaultOfLeastPath, ValueOrFault, NestingOfDepth, FaultOfPlace, FitsWhereHeld, ValueOfPlace, ValueWhereLies};
+ghost use Rattle.fb_value.specs.Nth.{EntryLies, ElementLies, PartLies};
 ghost use Rattle.fb_value.specs.TailLaws.{KeptInFront, KeptByMultiple, LiesInWhole};
 ghost use Rattle.fb_value.specs.EachTable.{EachTableReached, OnlyOldByTables};
 ghost use Rattle.fb_value.specs.Missing.{FirstMissing};
@@ -32,6 +33,46 @@ pub fn fault_of_least_path()
 /// Bytes hold a value exactly where no fault stands, and else have a least one.
 pub fn value_or_fault()
     ensures { ValueOrFault }
+{}
+
+/// What fits the root, with at most 127 tables in one another, is nested at most 300 deep.
+pub fn nesting_of_depth()
+    ensures { NestingOfDepth }
+{}
+
+/// What a table has in a slot lies where the slot's number leads.
+pub fn entry_lies()
+    ensures { EntryLies }
+{}
+
+/// What a vector has as an element lies as far on as its number says.
+pub fn element_lies()
+    ensures { ElementLies }
+{}
+
+/// What a struct has in a field lies at the field's offset.
+pub fn part_lies()
+    ensures { PartLies }
+{}
+
+/// The first fault from a place is its own, or the first of those that it names.
+pub fn fault_of_place()
+    ensures { FaultOfPlace }
+{}
+
+/// The value that bytes hold fits the root.
+pub fn fits_where_held()
+    ensures { FitsWhereHeld }
+{}
+
+/// The value at a place is made of those at the places that it names.
+pub fn value_of_place()
+    ensures { ValueOfPlace }
+{}
+
+/// The value that is computed at a place is the one that lies there.
+pub fn value_where_lies()
+    ensures { ValueWhereLies }
 {}
 
 /// Bytes laid in front keep what lies in a tail.

@@ -19,9 +19,10 @@ pub use counts::{cells, depth};
 pub use faults::ReadFault;
 pub use fitting::fits;
 pub use laws::{
-    cells_of_place, cells_of_value, each_table_reached, fault_of_least_path, first_missing,
-    kept_by_multiple, kept_in_front, lies_in_whole, one_value, only_old_by_tables, value_or_fault,
-    value_where_all_keep,
+    cells_of_place, cells_of_value, each_table_reached, element_lies, entry_lies,
+    fault_of_least_path, fault_of_place, first_missing, fits_where_held, kept_by_multiple,
+    kept_in_front, lies_in_whole, nesting_of_depth, one_value, only_old_by_tables, part_lies,
+    value_of_place, value_or_fault, value_where_all_keep, value_where_lies,
 };
 pub use limits::Limits;
 pub use plainness::{plain, plain_slots};

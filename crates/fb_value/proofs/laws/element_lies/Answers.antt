@@ -1,0 +1,5 @@
+use Rattle.fb_value.proofs.NthLies.{element_lies_shown}
+use Rattle.fb_value.proofs.laws.element_lies.Goals as goal
+
+pub returns : goal.returns
+returns c = element_lies_shown

@@ -1,0 +1,5 @@
+use Rattle.fb_value.proofs.NthLies.{part_lies_shown}
+use Rattle.fb_value.proofs.laws.part_lies.Goals as goal
+
+pub returns : goal.returns
+returns c = part_lies_shown
