@@ -16,3 +16,6 @@ pub mod CycleSteps
 pub mod WholeBuffers
 pub mod Pairs
 pub mod VectorEnds
+pub mod NeedsRoom
+pub mod Placed
+pub mod Reserved

@@ -6,3 +6,5 @@ pub mod Needs
 pub mod Paired
 pub mod Parts
 pub mod Items
+pub mod Planned
+pub mod Ready

@@ -116,7 +116,7 @@ fn is_code(shape: Shape) -> bool
 }
 
 /// The code of the member at an entry, if there is one.
-fn code_at(entries: &[Option<Value>], k: usize) -> Option<u8>
+pub(crate) fn code_at(entries: &[Option<Value>], k: usize) -> Option<u8>
     ensures { result ≡ next_code (entries_seen (drop k entries.now)) }
 {
     if k >= entries.len() {
@@ -167,7 +167,7 @@ fn is_stored(layout: &Layout, slot: &FieldInfo, code: Option<u8>, entry: &Option
 }
 
 /// Whether an entry is stored at an alignment.
-fn is_at(
+pub(crate) fn is_at(
     layout: &Layout,
     align: u32,
     slot: &FieldInfo,

@@ -2,8 +2,12 @@
 #![tactic(auto)]
 
 mod blocks;
+mod buffers;
+mod faults;
 mod fields;
+mod keys;
 mod needs;
+mod plans;
 mod roots;
 mod tables;
 mod tail;
@@ -11,4 +15,6 @@ mod texts;
 mod vectors;
 mod vtables;
 
-pub use roots::fill;
+pub use buffers::{build, plan};
+pub use faults::BuildFault;
+pub use plans::Plan;
