@@ -31,18 +31,17 @@ use Rattle.fb_value.proofs.TailsKept.{front_shown}
 use Rattle.fb_build.proofs.Grown.{lies_grown}
 
 -- a number that was laid last
-pub scalar_end : (L : LaidSchema) (m : ℕ) (base : Base) (bits : ℕ) (n : ℤ) (s rest : Bytes) → s ≡ little_bytes (base_size base) bits ++ rest → length s ≡ base_size base + length rest → bits < 256 ^ base_size base → n ≡ scalar_of base bits
+pub scalar_end : (L : LaidSchema) (m : ℕ) (base : Base) (n : ℤ) (s : Bytes) (rest : ℕ) → length s ≡ rest + base_size base → n ≡ scalar_of base (num s 0 (base_size base))
     → divides (base_size base) (length s) ≡ true → divides (base_size base) m ≡ true → LiesInTail L m s (inline_place (scalar_kind base)) (length s) (a_number n)
 unfolding fault_by
-scalar_end L m base bits n s rest e long fits is whole most =
+scalar_end L m base n s rest long is whole most =
     let size = base_size base in
     let first : length s - length s ≡ 0 = omega arith in
     let all : length s - 0 ≡ length s = omega arith in
     let aligned : from_end s m size 0 ≡ true = and_from _ _ (rw all whole) most in
-    let number : num s 0 size ≡ bits = ap (λ b. num b 0 size) e ∙ num_first size bits rest fits in
     let inside : 0 + size ≤ length s = omega (arith, long) in
     let keeps : KeepsBy (from_end s m) L s (inline_place (scalar_kind base)) 0 = hold _ _ _ aligned (hold _ _ _ (le-leb _ _ inside) no_rules) in
-    record { within = omega arith; lies = rw first (keeps, is ∙ ap (scalar_of base) (sym number)) }
+    record { within = omega arith; lies = rw first (keeps, is) }
 
 -- a reference that was laid last
 pub reference_end : (L : LaidSchema) (m : ℕ) (X : Target) (e : ℕ) (d : Datum) (s rest : Bytes) → s ≡ little_bytes 4 ((length rest + 4) - e) ++ rest → length s ≡ 4 + length rest → length rest + 4 < 256 ^ 4

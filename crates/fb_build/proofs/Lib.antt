@@ -19,3 +19,4 @@ pub mod VectorEnds
 pub mod NeedsRoom
 pub mod Placed
 pub mod Reserved
+pub mod StructSteps

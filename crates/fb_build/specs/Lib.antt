@@ -8,3 +8,4 @@ pub mod Parts
 pub mod Items
 pub mod Planned
 pub mod Ready
+pub mod Structs

@@ -7,12 +7,12 @@ ghost use Rattle.fb_schema.specs.WellDeclared.{InRange};
 ghost use Rattle.fb_layout.specs.Laid.{LaidSchema, stored_shape, slot_of, scalar_kind};
 ghost use Rattle.fb_layout.specs.Widths.{inline_align};
 ghost use Rattle.fb_value.specs.Datum.{Datum, a_number};
-ghost use Rattle.fb_value.specs.Num.{scalar_of, divides};
+ghost use Rattle.fb_value.specs.Num.{num, scalar_of, divides};
 ghost use Rattle.fb_value.specs.Places.{Target, part_place, ref_place, inline_place};
 ghost use Rattle.fb_value.specs.View.{view};
 ghost use Rattle.fb_value.specs.Tails.{LiesInTail};
 ghost use Rattle.fb_build.specs.Tails.{Grows};
-ghost use Rattle.fb_build.specs.Fields.{IsSimple, StoredFits, stored_here, stored_seen, next_code, is_coded, scalar_in, number_in, is_stored, is_at, above, from, EntryEnd, EntriesEnd, AreKnown, count_at, slots_seen, entries_seen, stored_room, fields_size};
+ghost use Rattle.fb_build.specs.Fields.{IsSimple, StoredFits, stored_here, stored_seen, next_code, is_coded, scalar_in, number_in, number_of_datum, is_stored, is_at, above, from, EntryEnd, EntriesEnd, AreKnown, count_at, slots_seen, entries_seen, stored_room, fields_size};
 
 use crate::tail::Tail;
 use byteorder::{ByteOrder, LittleEndian};
@@ -35,7 +35,23 @@ fn bits_of(base: Base, number: i128) -> u64
     }
 }
 
-/// Lays a number.
+/// Lays a number, wherever it stands.
+pub(crate) fn put_number(out: &mut Tail, base: Base, number: i128)
+    requires range { InRange base number }
+    requires room { base_size base ≤ out.old.free }
+    ensures reads { number ≡ scalar_of base (num out.new.bytes 0 (base_size base)) }
+    ensures free { out.new.free + base_size base ≡ out.old.free }
+    ensures long { length out.new.bytes ≡ length out.old.bytes + base_size base }
+    ensures most { out.new.most ≡ out.old.most }
+    ensures grows { Grows out.old out.new }
+{
+    let size = base.size() as usize;
+    let mut bytes = [0u8; 8];
+    LittleEndian::write_uint(&mut bytes, bits_of(base, number), size);
+    out.lay(&bytes[..size]);
+}
+
+/// Lays a number at a multiple of its size.
 pub(crate) fn lay_number(out: &mut Tail, base: Base, number: i128)
     requires range { InRange base number }
     requires room { base_size base ≤ out.old.free }
@@ -47,10 +63,7 @@ pub(crate) fn lay_number(out: &mut Tail, base: Base, number: i128)
     ensures most { out.new.most ≡ out.old.most }
     ensures grows { Grows out.old out.new }
 {
-    let size = base.size() as usize;
-    let mut bytes = [0u8; 8];
-    LittleEndian::write_uint(&mut bytes, bits_of(base, number), size);
-    out.lay(&bytes[..size]);
+    put_number(out, base, number);
 }
 
 /// Lays a reference to what was laid at an end-count.
@@ -140,6 +153,16 @@ fn number_of(layout: &Layout, slot: &FieldInfo, code: Option<u8>, entry: &Option
     }
     match entry {
         Some(Value::Number(number)) => *number,
+        _ => 0,
+    }
+}
+
+/// The number that a value is; 0 of another.
+pub(crate) fn number_in(value: &Value) -> i128
+    ensures { result ≡ number_of_datum (view value.now) }
+{
+    match value {
+        Value::Number(number) => *number,
         _ => 0,
     }
 }

@@ -9,6 +9,7 @@ mod keys;
 mod needs;
 mod plans;
 mod roots;
+mod structs;
 mod tables;
 mod tail;
 mod texts;

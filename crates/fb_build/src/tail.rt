@@ -118,6 +118,16 @@ impl Tail {
         self.free -= zeros;
     }
 
+    /// Takes zeros that already stand there.
+    pub(crate) fn take_zeros(&mut self, zeros: usize)
+        requires room { zeros ≤ self.old.free }
+        ensures free { self.new.free + zeros ≡ self.old.free }
+        ensures most { self.new.most ≡ self.old.most }
+        ensures grows { Grows self.old self.new }
+    {
+        self.skip(zeros);
+    }
+
     fn widen(&mut self, align: usize)
         requires power { IsAlignment align }
         ensures bytes { self.new.bytes ≡ self.old.bytes }

@@ -9,24 +9,14 @@ ghost use Rattle.fb_value.specs.Room.{vector_room};
 ghost use Rattle.fb_value.specs.View.{view, parts_view};
 ghost use Rattle.fb_value.specs.Tails.{LiesInTail};
 ghost use Rattle.fb_build.specs.Tails.{Grows};
-ghost use Rattle.fb_build.specs.Fields.{IsElement, SlotFits, TargetEnd, target_for, sort_for, number_of_datum};
+ghost use Rattle.fb_build.specs.Fields.{IsElement, SlotFits, TargetEnd, target_for, sort_for};
 ghost use Rattle.fb_build.specs.Items.{ItemsEnd, ItemsKnown, TargetsEnd};
 
-use crate::fields::{lay_number, lay_reference, scalar_base};
+use crate::fields::{lay_number, lay_reference, number_in, scalar_base};
 use crate::tail::Tail;
 use fb_layout::Layout;
 use fb_schema::{Kind, Shape};
 use fb_value::Value;
-
-/// The number of an element; 0 of another.
-fn number_in(value: &Value) -> i128
-    ensures { result ≡ number_of_datum (view value.now) }
-{
-    match value {
-        Value::Number(number) => *number,
-        _ => 0,
-    }
-}
 
 /// Lays an element where it stands in its vector.
 fn lay_element(out: &mut Tail, layout: &Layout, kind: Kind, value: &Value, end: u32)
