@@ -1,17 +1,19 @@
 -- On a well-made layout alignments are powers of two, and sizes multiples of alignments.
-use Rattle.std.proofs.Common.{◌≡◌, ℕ, zero, suc, ◌*◌, ◌<◌, ◌≤◌, ◌⊎◌, inl, inr, Bool, true, false, max, List, [], ◌∷◌, length, map, slice_get, slice_index_or, Option, None, Some, IsTrue, refl, arith, if◌then◌else◌}
+use Rattle.std.proofs.Common.{◌≡◌, ℕ, zero, suc, ◌*◌, ◌<◌, ◌≤◌, ◌⊎◌, inl, inr, Bool, true, false, max, List, [], ◌∷◌, length, map, slice_get, slice_index_or, Option, None, Some, IsTrue, refl, ap, ◌∙◌, arith, if◌then◌else◌}
 use Rattle.std.specs.Option.{ForSome, unwrap_or}
 use Rattle.std.proofs.lemmas.Nat.{pow_pos}
+use Rattle.std.proofs.lemmas.Option.{slice_get-map}
+use Rattle.std.specs.Option.{option_map}
 use Rattle.fb_schema.specs.declared.kinds.Base.{Base}
 use Rattle.fb_schema.specs.declared.kinds.Base.TheVariants as the_base
 use Rattle.fb_schema.specs.declared.kinds.Kind.TheVariants.{Scalar, Enum, Struct, Table, Union, Code, Text}
 use Rattle.fb_schema.specs.declared.kinds.Shape.{Shape}
 use Rattle.fb_schema.specs.declared.kinds.Shape.TheVariants.{One, Many}
-use Rattle.fb_schema.specs.Schema.{DeclaredField, DeclaredType, body_at, slots_in, is_struct}
+use Rattle.fb_schema.specs.Schema.{DeclaredField, DeclaredType, body_in, body_at, slots_in, is_struct}
 use Rattle.fb_schema.specs.Alignments.{base_size, greatest_in}
 use Rattle.fb_schema.specs.WellDeclared.{IsPart, IsForceAlign}
 use Rattle.fb_layout.specs.Sizes.{IsAlignment}
-use Rattle.fb_layout.specs.Laid.{LaidSchema, StructLayout, no_struct, StoredKind, scalar_kind, struct_kind, table_kind, union_kind, code_kind, text_kind, StoredShape, one_of, vector_of, Slot, kind_in, stored_shape, slots_of, struct_at, size_of, align_of}
+use Rattle.fb_layout.specs.Laid.{LaidSchema, StructLayout, no_struct, StoredKind, scalar_kind, struct_kind, table_kind, union_kind, code_kind, text_kind, StoredShape, one_of, vector_of, Slot, slot_of, kind_in, stored_shape, slots_of, struct_at, size_of, align_of}
 use Rattle.fb_layout.specs.Widths.{inline_align, slots_align, table_align, greatest}
 use Rattle.fb_layout.specs.WellMade.{natural_align, IsWellMade}
 use Rattle.fb_layout.specs.Laws.{KindsAligned, TablesAligned, GreatestAligned, NoneAlignedToZero, SizesAreMultiples, SizesFit}
@@ -186,6 +188,31 @@ module _ (L : LaidSchema) (made : IsWellMade L) where
   kind_multiple (union_kind u) = (1, refl)
   kind_multiple (code_kind u) = (1, refl)
   kind_multiple text_kind = (1, refl)
+
+-- ---- what the greatest is above
+
+-- A number of a list isn't above its greatest.
+among : (ns : List ℕ) (k n : ℕ) → slice_get ns k ≡ Some n → n ≤ greatest_in ns
+among [] k n at = cc
+among (m ∷ ns) zero n at = let same : m ≡ n = cc in omega (arith, same)
+among (m ∷ ns) (suc k) n at = let rest = among ns k n at in omega (arith, rest)
+
+slots_below : (L : LaidSchema) (fs : List DeclaredField) (k : ℕ) (f : Slot) → slice_get (map (slot_of L.schema) fs) k ≡ Some f → align_of L (kind_in f.shape) ≤ greatest_in (map (λ g. align_of L (kind_in (stored_shape L.schema g.shape))) fs)
+slots_below L [] k f at = cc
+slots_below L (g ∷ fs) zero f at = let same : slot_of L.schema g ≡ f = cc in rw (← same) (omega arith)
+slots_below L (g ∷ fs) (suc k) f at = let rest = slots_below L fs k f at in omega (arith, rest)
+
+type_below : (L : LaidSchema) (types : List DeclaredType) (t : ℕ) (o : Option DeclaredType) → slice_get types t ≡ o → (k : ℕ) (f : Slot) → slice_get (map (slot_of L.schema) (slots_in (body_in o))) k ≡ Some f
+    → align_of L (kind_in f.shape) ≤ greatest_in (map (slots_align L) types)
+type_below L types t None found k f at = cc
+type_below L types t (Some type) found k f at =
+    let own = slots_below L (slots_in type.body) k f at in
+    let here = among (map (slots_align L) types) t (slots_align L type) (slice_get-map (slots_align L) types t ∙ ap (option_map (slots_align L)) found) in
+    omega (arith, own, here)
+
+-- What a slot holds, or its elements, aren't aligned above the greatest.
+pub slot_below : (L : LaidSchema) (t k : ℕ) (f : Slot) → slice_get (slots_of L t) k ≡ Some f → align_of L (kind_in f.shape) ≤ greatest L
+slot_below L t k f at = let own = type_below L L.schema.types t (slice_get L.schema.types t) refl k f at in omega (arith, own)
 
 -- ---- the laws
 

@@ -1,0 +1,110 @@
+-- A table that was laid, with a vtable that stands in the tail.
+use Rattle.std.proofs.Common.{◌≡◌, ℕ, zero, suc, ◌+◌, ◌-◌, ◌*◌, ◌^◌, ◌<◌, ◌≤◌, ◌⊎◌, inl, inr, ◌++◌, true, List, [], ◌∷◌, length, slice_get, slice_index, Option, Some, refl, ap, sym, ◌∙◌, subst, arith, length-append}
+use Rattle.std.proofs.lemmas.Bool.{and_from, eqb-true}
+use Rattle.byteorder.specs.Endian.{little_bytes}
+use Rattle.fb_layout.specs.Laid.{LaidSchema, Slot, slots_of}
+use Rattle.fb_value.specs.Datum.{Datum, a_table}
+use Rattle.fb_value.specs.View.{entries_in}
+use Rattle.fb_value.specs.Num.{Bytes, num, divides}
+use Rattle.fb_value.specs.Places.{part_place, table_part, slot_number}
+use Rattle.fb_value.specs.Tails.{from_end, LiesInTail}
+use Rattle.fb_build.specs.Tails.{TailSeen, Grows}
+use Rattle.fb_build.specs.Fields.{EntriesEnd, AreKnown, stored_in}
+use Rattle.fb_build.specs.TableBytes.{offset_from, offset_bytes, vtable_bytes, VtableEnd}
+use Rattle.fb_build.proofs.Standing.{num_behind, num_first, num_standing}
+use Rattle.fb_build.proofs.VtableSteps.{vtable_good, slot_there, slot_past, table_lies}
+use Rattle.fb_build.proofs.FieldSteps.{entries_grown, entry_under}
+use Rattle.fb_build.proofs.TableLies.{SlotKnown, all_lie, p}
+use Rattle.fb_value.specs.Entries.{EntryFits}
+use Rattle.fb_build.specs.Paired.{ArePaired}
+
+-- what an offset reads as
+offset_read : (c u k : ℕ) (ends : List ℕ) (rest : Bytes) → u ≤ length ends → k < u → offset_from c (slice_index ends k) < 256 ^ 2 → num (offset_bytes c u ends ++ rest) (2 * k) 2 ≡ offset_from c (slice_index ends k)
+offset_read c zero k ends rest within low fits = absurd (omega (arith, low))
+offset_read c (suc u) k [] rest within low fits = absurd (omega (arith, within))
+offset_read c (suc u) zero (e ∷ ends) rest within low fits = num_first 2 (offset_from c e) (offset_bytes c u ends ++ rest) fits
+offset_read c (suc u) (suc k) (e ∷ ends) rest within low fits =
+    let at : 2 * suc k ≡ 2 + 2 * k = omega arith in
+    rw at (num_behind (little_bytes 2 (offset_from c e)) (offset_bytes c u ends ++ rest) (2 * k) 2 ∙ offset_read c u k ends rest (omega (arith, within)) (omega (arith, low)) fits)
+
+offsets_long : (c u : ℕ) (ends : List ℕ) → u ≤ length ends → length (offset_bytes c u ends) ≡ 2 * u
+offsets_long c zero ends within = refl
+offsets_long c (suc u) [] within = absurd (omega (arith, within))
+offsets_long c (suc u) (e ∷ ends) within = omega (arith, offsets_long c u ends (omega (arith, within)))
+
+pub vtable_long : (c size u : ℕ) (ends : List ℕ) → u ≤ length ends → length (vtable_bytes c size u ends) ≡ 4 + 2 * u
+vtable_long c size u ends within = omega (arith, offsets_long c u ends within)
+
+-- one more offset
+pub offsets_more : (c k : ℕ) (ends : List ℕ) → k < length ends → offset_bytes c (k + 1) ends ≡ offset_bytes c k ends ++ little_bytes 2 (offset_from c (slice_index ends k))
+offsets_more c k ends low = let one : suc k ≡ k + 1 = omega arith in subst (λ (j : ℕ). offset_bytes c j ends ≡ offset_bytes c k ends ++ little_bytes 2 (offset_from c (slice_index ends k))) one (next k ends low)
+  where
+    next : (k : ℕ) (ends : List ℕ) → k < length ends → offset_bytes c (suc k) ends ≡ offset_bytes c k ends ++ little_bytes 2 (offset_from c (slice_index ends k))
+    next k [] low = absurd (omega (arith, low))
+    next zero (e ∷ ends) low = refl
+    next (suc k) (e ∷ ends) low = ap (λ x. little_bytes 2 (offset_from c e) ++ x) (next k ends (omega (arith, low)))
+
+lower : (i j : ℕ) → (i < j) ⊎ (j ≤ i)
+lower zero zero = inr (omega arith)
+lower zero (suc j) = inl (omega arith)
+lower (suc i) zero = inr (omega arith)
+lower (suc i) (suc j) = elim (lower i j) [ inl h ↦ inl (omega (arith, h)) | inr h ↦ inr (omega (arith, h)) ]
+
+module _ (L : LaidSchema) (low c size u : ℕ) (o n : TailSeen) (ends : List ℕ) (g : Grows o n) (behind : length o.bytes < c) (within : c ≤ length n.bytes) (four : divides 4 c ≡ true) (most : divides 4 n.most ≡ true) (two : divides 2 n.most ≡ true)
+    (short : length n.bytes < 2 ^ 31) (v : VtableEnd n.bytes c (vtable_bytes c size u ends)) (used : u ≤ length ends) (few : u ≤ 32765) (rest : (k : ℕ) → u ≤ k → slice_index ends k ≡ 0)
+    (fits : (k : ℕ) → offset_from c (slice_index ends k) < 256 ^ 2) where
+  s : Bytes
+  s = n.bytes
+
+  low_place : length s - c < 2 ^ 31
+  unfolding s
+  low_place = omega (arith, short)
+
+  low_vtable : length s - v.at < 2 ^ 31
+  unfolding s
+  low_vtable = omega (arith, short)
+
+  size_reads : num s (length s - v.at) 2 ≡ 4 + 2 * u
+  unfolding s
+  size_reads =
+      let at : (length s - v.at) + 0 ≡ length s - v.at = omega arith in
+      let read = num_standing s v.at (vtable_bytes c size u ends) v.stands 0 2 in
+      rw at at (read ∙ num_first 2 (4 + 2 * u) _ (omega (arith, few)))
+
+  offset_reads : (k : ℕ) → k < u → num s ((length s - v.at) + (4 + 2 * k)) 2 ≡ offset_from c (slice_index ends k)
+  unfolding s
+  offset_reads k under =
+      num_standing s v.at (vtable_bytes c size u ends) v.stands (4 + 2 * k) 2
+      ∙ num_behind (little_bytes 2 (4 + 2 * u) ++ little_bytes 2 size) (offset_bytes c u ends ++ v.stands.behind) (2 * k) 2
+      ∙ offset_read c u k ends v.stands.behind used under (fits k)
+
+  slots_read : (k : ℕ) → slot_number s (length s - c) k ≡ offset_from c (slice_index ends k)
+  unfolding s
+  slots_read k = by_case (lower k u)
+    where
+      by_case : (k < u) ⊎ (u ≤ k) → slot_number s (length s - c) k ≡ offset_from c (slice_index ends k)
+      by_case (inl under) = slot_there (from_end s n.most) s (length s - c) (length s - v.at) u low_place low_vtable v.way size_reads k under ∙ offset_reads k under
+      by_case (inr past) = slot_past (from_end s n.most) s (length s - c) (length s - v.at) u low_place low_vtable v.way size_reads k past ∙ sym (ap (offset_from c) (rest k past))
+
+  pub table_end : (t : ℕ) (xs : List (Option Datum)) → length (slots_of L t) ≡ length xs → ArePaired (slots_of L t) → ((k : ℕ) (f : Slot) (x : Option Datum) → slice_get (slots_of L t) k ≡ Some f → slice_get xs k ≡ Some x → EntryFits L f x)
+      → AreKnown L (slots_of L t) (stored_in (slots_of L t) xs) → EntriesEnd L low o.most o.bytes (λ k f. true) (slots_of L t) (stored_in (slots_of L t) xs) ends → LiesInTail L n.most n.bytes (part_place (table_part t)) c (a_table t (entries_in xs))
+  unfolding s p
+  table_end t xs long paired fit known state =
+      let now = entries_grown L low o n (λ k f. true) (slots_of L t) (stored_in (slots_of L t) xs) ends g state in
+      let slot : (k : ℕ) (f : Slot) (x : Option Datum) → slice_get (slots_of L t) k ≡ Some f → slice_get (stored_in (slots_of L t) xs) k ≡ Some x → SlotKnown L low n.most s c within k f x (slice_index ends k) =
+      λ k f x fk xk. record {
+        simple = (known.each k f x fk xk).0;
+        fits = (known.each k f x fk xk).1;
+        state = now k f x fk xk;
+        under = omega (arith, behind, entry_under L low o.most o.bytes f x (slice_index ends k) (state k f x fk xk));
+        number = slots_read k;
+      } in
+      let entries = all_lie L low n.most s c within (slots_of L t) xs ends long paired fit slot in
+      let back : length s - (length s - c) ≡ c = omega (arith, within) in
+      let far : length s - (length s - v.at) ≡ v.at = omega (arith, v.stands.within) in
+      let aligned : from_end s n.most 4 (length s - c) ≡ true = and_from _ _ (rw back four) most in
+      let even : from_end s n.most 2 (length s - v.at) ≡ true = and_from _ _ (rw far v.even) two in
+      let room : (length s - v.at) + (4 + 2 * u) ≤ length s = (let whole = length-append (vtable_bytes c size u ends) v.stands.behind in omega (arith, v.stands.at, v.stands.within, whole, vtable_long c size u ends used)) in
+      let good = vtable_good (from_end s n.most) s (length s - c) (length s - v.at) u low_place low_vtable v.way size_reads even room in
+      let inside : (length s - c) + 4 ≤ length s = omega (arith, within, behind, eqb-true _ _ four) in
+      record { within = within; lies = table_lies L (from_end s n.most) s t (length s - c) (entries_in xs) aligned inside good entries.1 entries.0 }

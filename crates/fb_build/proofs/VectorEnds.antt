@@ -1,0 +1,174 @@
+-- A vector that was laid.
+use Rattle.std.proofs.Common.{◌≡◌, ℕ, zero, suc, ◌+◌, ◌-◌, ◌*◌, ◌^◌, ◌%◌, ◌<◌, ◌≤◌, ◌++◌, ◌==◌, Bool, true, false, ◌||◌, nat_lt, max, List, [], ◌∷◌, length, map, drop, get_or, slice_get, Some, refl, ap, sym, ◌∙◌, subst, arith, length-append}
+use Rattle.std.proofs.lemmas.Bool.{le-leb, eq-eqb, and_from, and_parts, eqb-true}
+use Rattle.std.proofs.lemmas.List.{get_or-append-add}
+use Rattle.std.proofs.Math.Nat.{add-mul-mod_self_left}
+use Rattle.byteorder.specs.Endian.{little_bytes}
+use Rattle.byteorder.specs.Numbers.{length-bytes_low_first}
+use Rattle.fb_schema.specs.declared.kinds.Base.{Base}
+use Rattle.fb_schema.specs.declared.kinds.Base.TheVariants as the_base
+use Rattle.fb_layout.specs.Laid.{LaidSchema, StoredKind, scalar_kind, struct_kind, table_kind, union_kind, code_kind, text_kind, size_of, align_of, one_of}
+use Rattle.fb_value.specs.Datum.{Datum, a_vector, Parts, no_parts, more_parts, count}
+use Rattle.fb_value.specs.Num.{Bytes, num, divides}
+use Rattle.fb_value.specs.Places.{part_place, vector_part, target_of}
+use Rattle.fb_value.specs.Rules.{Aligned, fault_by, KeepsBy}
+use Rattle.fb_value.specs.Lies.{ElementBy, LiesBy, LiesItemsBy}
+use Rattle.fb_value.specs.View.{view, parts_view}
+use Rattle.fb_value.specs.declared.values.Value.{Value}
+use Rattle.fb_value.specs.Tails.{from_end, LiesInTail}
+use Rattle.fb_layout.specs.Sizes.{IsAlignment}
+use Rattle.fb_build.specs.Tails.{TailSeen, Grows}
+use Rattle.fb_build.specs.Fields.{IsElement, IsSimple, sort_for}
+use Rattle.fb_build.specs.Items.{ItemsEnd}
+use Rattle.fb_value.proofs.Moved.{hold, no_rules, items_lie}
+use Rattle.fb_value.proofs.TailsKept.{through}
+use Rattle.fb_build.proofs.Grown.{four_power, eight_power}
+use Rattle.fb_build.proofs.Standing.{num_first}
+use Rattle.fb_build.proofs.FieldSteps.{more_divides}
+
+pub element_simple : (kind : StoredKind) → IsElement kind → IsSimple (one_of kind)
+element_simple (scalar_kind b) h = tt
+element_simple text_kind h = tt
+element_simple (table_kind t) h = tt
+element_simple (struct_kind t) h = absurd h
+element_simple (union_kind t) h = absurd h
+element_simple (code_kind t) h = absurd h
+
+pub element_size : (L : LaidSchema) (kind : StoredKind) → IsElement kind → size_of L kind ≡ align_of L kind
+element_size L (scalar_kind b) h = refl
+element_size L text_kind h = refl
+element_size L (table_kind t) h = refl
+element_size L (struct_kind t) h = absurd h
+element_size L (union_kind t) h = absurd h
+element_size L (code_kind t) h = absurd h
+
+-- the elements of a vector take some room, and begin at a multiple of 4 or 8
+pub record IsPadded (L : LaidSchema) (kind : StoredKind) : Type 0 where
+  pub some : 0 < size_of L kind
+  pub least : 4 ≤ max 4 (align_of L kind)
+  pub most : max 4 (align_of L kind) ≤ 8
+  pub power : IsAlignment (max 4 (align_of L kind))
+  pub four : divides 4 (max 4 (align_of L kind)) ≡ true
+  pub size : divides (size_of L kind) (max 4 (align_of L kind)) ≡ true
+
+scalar_padded : (L : LaidSchema) (b : Base) → IsPadded L (scalar_kind b)
+scalar_padded L the_base.Bool = record { some = omega arith; least = omega arith; most = omega arith; power = four_power; four = refl; size = refl }
+scalar_padded L the_base.I8 = record { some = omega arith; least = omega arith; most = omega arith; power = four_power; four = refl; size = refl }
+scalar_padded L the_base.U8 = record { some = omega arith; least = omega arith; most = omega arith; power = four_power; four = refl; size = refl }
+scalar_padded L the_base.I16 = record { some = omega arith; least = omega arith; most = omega arith; power = four_power; four = refl; size = refl }
+scalar_padded L the_base.U16 = record { some = omega arith; least = omega arith; most = omega arith; power = four_power; four = refl; size = refl }
+scalar_padded L the_base.I32 = record { some = omega arith; least = omega arith; most = omega arith; power = four_power; four = refl; size = refl }
+scalar_padded L the_base.U32 = record { some = omega arith; least = omega arith; most = omega arith; power = four_power; four = refl; size = refl }
+scalar_padded L the_base.I64 = record { some = omega arith; least = omega arith; most = omega arith; power = eight_power; four = refl; size = refl }
+scalar_padded L the_base.U64 = record { some = omega arith; least = omega arith; most = omega arith; power = eight_power; four = refl; size = refl }
+
+pub element_padded : (L : LaidSchema) (kind : StoredKind) → IsElement kind → IsPadded L kind
+element_padded L (scalar_kind b) h = scalar_padded L b
+element_padded L text_kind h = record { some = omega arith; least = omega arith; most = omega arith; power = four_power; four = refl; size = refl }
+element_padded L (table_kind t) h = record { some = omega arith; least = omega arith; most = omega arith; power = four_power; four = refl; size = refl }
+element_padded L (struct_kind t) h = absurd h
+element_padded L (union_kind t) h = absurd h
+element_padded L (code_kind t) h = absurd h
+
+-- ---- elements in front of others
+
+items_moved : (L : LaidSchema) (m n : ℕ) (front s : Bytes) (kind : StoredKind) (ds : Parts) → divides m n ≡ true → ItemsEnd L m s kind ds → LiesItemsBy (from_end (front ++ s) n) L (front ++ s) kind (length front + 0) ds
+items_moved L m n front s kind ds mn h =
+    let whole : length (front ++ s) ≡ length front + length s = length-append front s in
+    items_lie L (from_end s m) (from_end (front ++ s) n) s (front ++ s) (length front) (omega (arith, whole)) (λ i. get_or-append-add front s i 0) (λ a p low is. same a p whole is) kind 0 ds h
+  where
+    same : (a p : ℕ) → length (front ++ s) ≡ length front + length s → from_end s m a p ≡ true → from_end (front ++ s) n a (length front + p) ≡ true
+    same a p whole is =
+        let parts = and_parts _ _ is in
+        let back : length (front ++ s) - (length front + p) ≡ length s - p = omega (arith, whole) in
+        and_from _ _ (rw back parts.0) (through a m n parts.1 mn)
+
+-- behind what was laid in front of them
+pub items_grown : (L : LaidSchema) (a b : TailSeen) (k : ℕ) (kind : StoredKind) (ds : Parts) → Grows a b → length b.bytes ≡ length a.bytes + k → ItemsEnd L a.most a.bytes kind ds → LiesItemsBy (from_end b.bytes b.most) L b.bytes kind (0 + k) ds
+items_grown L a b k kind ds g long h =
+    let parts = length-append g.front a.bytes in
+    let whole = ap length g.grown in
+    let at : length g.front + 0 ≡ 0 + k = omega (arith, parts, whole, long) in
+    rw g.grown (subst (λ (p : ℕ). LiesItemsBy (from_end (g.front ++ a.bytes) b.most) L (g.front ++ a.bytes) kind p ds) at (items_moved L a.most b.most g.front a.bytes kind ds g.multiple h))
+
+element_by : (L : LaidSchema) (m : ℕ) (s : Bytes) (kind : StoredKind) (d : Datum) → IsElement kind → LiesInTail L m s (sort_for (one_of kind) d) (length s) d → ElementBy (from_end s m) L s kind 0 (target_of kind) d (λ sort q. LiesBy (from_end s m) L s sort q d)
+element_by L m s (scalar_kind b) d el h = let first : length s - length s ≡ 0 = omega arith in (rw first at h.lies).1
+element_by L m s text_kind d el h = let first : length s - length s ≡ 0 = omega arith in rw first at h.lies
+element_by L m s (table_kind t) d el h = let first : length s - length s ≡ 0 = omega arith in rw first at h.lies
+element_by L m s (struct_kind t) d el h = absurd el
+element_by L m s (union_kind t) d el h = absurd el
+element_by L m s (code_kind t) d el h = absurd el
+
+pub one_more : (L : LaidSchema) (a b : TailSeen) (kind : StoredKind) (d : Datum) (ds : Parts) → IsElement kind → Grows a b → length b.bytes ≡ length a.bytes + size_of L kind → LiesInTail L b.most b.bytes (sort_for (one_of kind) d) (length b.bytes) d
+    → ItemsEnd L a.most a.bytes kind ds → ItemsEnd L b.most b.bytes kind (more_parts d ds)
+one_more L a b kind d ds el g long lies h = (element_by L b.most b.bytes kind d el lies, items_grown L a b (size_of L kind) kind ds g long h)
+
+pub parts_next : (items : List Value) (i : ℕ) (v : Value) → i < length items → v ≡ get_or items i v → parts_view (drop i items) ≡ more_parts (view v) (parts_view (drop (suc i) items))
+parts_next [] i v low is = absurd (omega (arith, low))
+parts_next (x ∷ items) zero v low is = rw is refl
+parts_next (x ∷ items) (suc i) v low is = parts_next items i v (omega (arith, low)) is
+
+pub views_at : (items : List Value) (i : ℕ) (v : Value) → i < length items → v ≡ get_or items i v → slice_get (map view items) i ≡ Some (view v)
+views_at [] i v low is = absurd (omega (arith, low))
+views_at (x ∷ items) zero v low is = ap (λ z. Some (view z)) (sym is)
+views_at (x ∷ items) (suc i) v low is = views_at items i v (omega (arith, low)) is
+
+pub times_more : (k z : ℕ) → (k + 1) * z ≡ k * z + z
+times_more k z = omega arith
+
+pub times_least : (k n z : ℕ) → k ≤ n → k * z ≤ n * z
+times_least k n z h =
+    let split : n ≡ k + (n - k) = omega (arith, h) in
+    let more : (k + (n - k)) * z ≡ k * z + (n - k) * z = omega arith in
+    let all : n * z ≡ (k + (n - k)) * z = ap (λ i. i * z) split in
+    omega (arith, all, more)
+
+-- ---- the whole vector
+
+pub without_items : (z n c : ℕ) → divides z (c + n * z) ≡ true → divides z c ≡ true
+without_items z n c h =
+    let same : c + n * z ≡ c + z * n = omega arith in
+    eq-eqb _ _ (sym (ap (λ x. x % z) same ∙ add-mul-mod_self_left c z n) ∙ eqb-true _ _ h)
+
+last_true : (a : Bool) → (a || true) ≡ true
+last_true true = refl
+last_true false = refl
+
+vector_keeps : (L : LaidSchema) (al : Aligned) (b : Bytes) (kind : StoredKind) (p : ℕ) → al 4 p ≡ true → p + 4 ≤ length b → (p + 4) + num b p 4 * size_of L kind ≤ length b → al (align_of L kind) (p + 4) ≡ true → KeepsBy al L b (part_place (vector_part kind)) p
+unfolding fault_by
+vector_keeps L al b kind p front within ends elements =
+    let any : ((nat_lt (length b) (p + 4) || (num b p 4 == 0)) || al (align_of L kind) (p + 4)) ≡ true = rw elements (last_true (nat_lt (length b) (p + 4) || (num b p 4 == 0))) in
+    hold _ _ _ (and_from _ _ front any) (hold _ _ _ (and_from _ _ (le-leb _ _ within) (le-leb _ _ ends)) no_rules)
+
+pub vector_end : (L : LaidSchema) (m n : ℕ) (a b : TailSeen) (kind : StoredKind) (ds : Parts) → IsElement kind → Grows a b → b.bytes ≡ little_bytes 4 n ++ a.bytes → n < 256 ^ 4 → count ds ≡ n
+    → divides (max 4 (align_of L kind)) (length a.bytes) ≡ true → divides (max 4 (align_of L kind)) b.most ≡ true → divides (align_of L kind) (max 4 (align_of L kind)) ≡ true → n * size_of L kind ≤ length a.bytes → ItemsEnd L a.most a.bytes kind ds
+    → LiesInTail L b.most b.bytes (part_place (vector_part kind)) (length b.bytes) (a_vector ds)
+vector_end L m n a b kind ds el g e short counted whole wide own room items =
+    let s = b.bytes in
+    let padded = element_padded L kind el in
+    let first : length s - length s ≡ 0 = omega arith in
+    let all : length s - 0 ≡ length s = omega arith in
+    let long : length s ≡ length a.bytes + 4 = (let w = ap length e in let parts = length-append (little_bytes 4 n) a.bytes in let size = length-bytes_low_first 0 4 n in omega (arith, w, parts, size)) in
+    let behind : length s - (0 + 4) ≡ length a.bytes = omega (arith, long) in
+    let number : num s 0 4 ≡ n = ap (λ x. num x 0 4) e ∙ num_first 4 n a.bytes short in
+    let four : divides 4 (length s) ≡ true = more_divides 4 (length a.bytes) (length s) (through 4 _ _ padded.four whole) long in
+    let front : from_end s b.most 4 0 ≡ true = and_from _ _ (rw all four) (through 4 _ _ padded.four wide) in
+    let elements : from_end s b.most (align_of L kind) (0 + 4) ≡ true = and_from _ _ (rw behind (through _ _ _ own whole)) (through _ _ _ own wide) in
+    let within : 0 + 4 ≤ length s = omega (arith, long) in
+    let ends : (0 + 4) + num s 0 4 * size_of L kind ≤ length s = (let same : num s 0 4 * size_of L kind ≡ n * size_of L kind = ap (λ i. i * size_of L kind) number in omega (arith, same, room, long)) in
+    let keeps : KeepsBy (from_end s b.most) L s (part_place (vector_part kind)) 0 = vector_keeps L (from_end s b.most) s kind 0 front within ends elements in
+    let laid = items_grown L a b 4 kind ds g long items in
+    record { within = omega arith; lies = rw first (keeps, counted ∙ sym number, laid) }
+
+pub parts_back : (items : List Value) (k : ℕ) (v : Value) → k < length items → v ≡ get_or items (length items - 1 - k) v → parts_view (drop (length items - (k + 1)) items) ≡ more_parts (view v) (parts_view (drop (length items - k) items))
+parts_back items k v low is =
+    let i = length items - 1 - k in
+    let a : length items - (k + 1) ≡ length items - 1 - k = omega arith in
+    let b : suc (length items - 1 - k) ≡ length items - k = omega (arith, low) in
+    rw a (subst (λ (j : ℕ). parts_view (drop (length items - 1 - k) items) ≡ more_parts (view v) (parts_view (drop j items))) b (parts_next items (length items - 1 - k) v (omega (arith, low)) is))
+
+pub parts_none : (items : List Value) (n : ℕ) → length items ≤ n → parts_view (drop n items) ≡ no_parts
+parts_none [] zero h = refl
+parts_none [] (suc n) h = refl
+parts_none (x ∷ items) zero h = absurd (omega (arith, h))
+parts_none (x ∷ items) (suc n) h = parts_none items n (omega (arith, h))

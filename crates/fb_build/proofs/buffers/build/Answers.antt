@@ -1,0 +1,15 @@
+use Rattle.std.proofs.Common.{◌≤◌, sym, subst}
+use Rattle.fb_layout.specs.Laid.{LaidSchema}
+use Rattle.fb_value.specs.Datum.{Datum}
+use Rattle.fb_value.specs.Counts.{cells, depth}
+use Rattle.fb_value.specs.Holds.{Holds}
+use Rattle.fb_value.specs.View.{view}
+use Rattle.fb_build.proofs.buffers.build.Goals as goal
+
+pub returns-clause-holds : goal.returns-clause-holds
+returns-clause-holds c most raw deep small =
+    let told = c.in_ok-plan.ensures in
+    let deep2 = subst (λ (d : Datum). depth d ≤ most.depth) (sym told.value) deep in
+    let small2 = subst (λ (d : Datum). cells d ≤ most.cells) (sym told.value) small in
+    let holds = c.finish.ensures.holds most raw deep2 small2 in
+    subst (λ (L : LaidSchema). Holds L most raw c.finish.result.items (view c.args.value.now)) told.layout (subst (λ (d : Datum). Holds c.in_ok-plan.field-0.layout most raw c.finish.result.items d) told.value holds)

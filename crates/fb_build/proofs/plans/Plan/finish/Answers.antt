@@ -1,0 +1,23 @@
+use Rattle.std.proofs.Common.{◌≡◌, ◌≤◌, ◌∙◌, ap, sym, subst, arith}
+use Rattle.fb_layout.specs.Laid.{LaidSchema}
+use Rattle.fb_value.specs.Datum.{Datum, a_table}
+use Rattle.fb_value.specs.Counts.{cells, depth}
+use Rattle.fb_value.specs.Holds.{Holds}
+use Rattle.fb_value.specs.View.{view, entries_view}
+use Rattle.fb_value.proofs.Views.{view-Fields}
+use Rattle.fb_build.proofs.plans.Plan.finish.Goals as goal
+
+pub fill-requires-clause-pending : goal.fill-requires-clause-pending
+fill-requires-clause-pending c =
+    let pending = rw (c.in-Fields.is, view-Fields c.in-Fields.table c.in-Fields.entries) at c.self.invariant.pending in
+    omega (arith, pending, c.as_mut_slice-2.ensures.len)
+
+pub returns-clause-holds : goal.returns-clause-holds
+returns-clause-holds c most raw deep small =
+    let layout = ap (λ p. p.layout) c.self.view_is in
+    let value : a_table c.in-Fields.table.0 (entries_view c.in-Fields.entries.items) ≡ view c.args.self.value =
+    sym (view-Fields c.in-Fields.table c.in-Fields.entries) ∙ ap view (sym c.in-Fields.is) ∙ ap (λ p. view p.value) c.self.view_is in
+    let deep2 = subst (λ (d : Datum). depth d ≤ most.depth) (sym value) deep in
+    let small2 = subst (λ (d : Datum). cells d ≤ most.cells) (sym value) small in
+    let holds = subst (λ (d : Datum). Holds c.self.inside.layout.now most raw c.fill.result.items d) value (c.fill.ensures.holds most raw deep2 small2) in
+    subst (λ (L : LaidSchema). Holds L most raw c.fill.result.items (view c.args.self.value)) layout holds

@@ -1,0 +1,24 @@
+use Rattle.std.proofs.Common.{ℕ, ◌≡◌, ◌%◌, ◌∙◌, true, ap, subst, length, arith}
+use Rattle.std.proofs.lemmas.Bool.{eq-eqb}
+use Rattle.fb_value.specs.Datum.{a_table}
+use Rattle.fb_value.specs.Num.{divides}
+use Rattle.fb_value.specs.Places.{part_place, table_part, ref_place}
+use Rattle.fb_value.specs.View.{entries_view}
+use Rattle.fb_value.specs.Tails.{LiesInTail}
+use Rattle.fb_build.proofs.Grown.{lies_grown}
+use Rattle.fb_build.proofs.WholeBuffers.{whole_holds}
+use Rattle.fb_build.proofs.roots.fill.Goals as goal
+
+pub returns-clause-holds : goal.returns-clause-holds
+returns-clause-holds c most raw deep small =
+    let L = c.args.layout.now in
+    let d = a_table c.args.table.0 (entries_view c.args.entries.now.items) in
+    let table = c.lay_table-place.new.out in
+    let end = c.lay_reference.new.out in
+    let same : end.most ≡ c.most-most.result = c.lay_reference.ensures.most ∙ omega (arith, c.pad.ensures.most, c.most-most.ensures.exact) in
+    let whole : divides end.most (length end.bytes) ≡ true = rw same (eq-eqb _ _ (ap (λ n. n % c.most-most.result) c.lay_reference.ensures.long ∙ c.pad.ensures.multiple)) in
+    let grown : LiesInTail L c.pad.new.self.most c.pad.new.self.bytes (part_place (table_part c.args.table.0)) c.lay_table-place.result d =
+    lies_grown L table c.pad.new.self (part_place (table_part c.args.table.0)) c.lay_table-place.result d c.pad.ensures.grows c.lay_table-place.ensures.lies in
+    let lies : LiesInTail L end.most end.bytes (ref_place (table_part c.args.table.0)) (length end.bytes) d = c.lay_reference.ensures.lies L (table_part c.args.table.0) d grown in
+    let rooted : LiesInTail L end.most end.bytes (ref_place (table_part L.schema.root)) (length end.bytes) d = subst (λ (t : ℕ). LiesInTail L end.most end.bytes (ref_place (table_part t)) (length end.bytes) d) c.requires.root lies in
+    rw c.into_bytes.ensures (whole_holds L end.most end.bytes d most raw c.requires.unmarked (omega (arith, c.lay_reference.ensures.long)) (omega (arith, c.count-count.ensures)) whole rooted deep small)

@@ -1,0 +1,63 @@
+use Rattle.std.proofs.Common.{ℕ, ◌≡◌, ◌+◌, ◌-◌, ◌∙◌, true, refl, sym, ap, subst, slice_index, arith}
+use Rattle.std.proofs.lemmas.Bool.{eq-eqb}
+use Rattle.fb_layout.specs.Laid.{slots_of}
+use Rattle.fb_value.specs.Num.{Bytes, divides}
+use Rattle.fb_build.specs.Fields.{stored_in, entries_seen}
+use Rattle.fb_build.specs.TableBytes.{VtableEnd, vtable_bytes}
+use Rattle.fb_build.proofs.Grown.{four_power, then_grows, grown_long}
+use Rattle.fb_value.proofs.TailsKept.{through}
+use Rattle.fb_build.proofs.VtableEnds.{shared_grown}
+use Rattle.fb_build.proofs.TableSpent.{ends_under, ends_high, offset_small}
+use Rattle.fb_build.proofs.TableEnds.{table_end}
+use Rattle.fb_build.proofs.tables.close_table.Goals as goal
+
+pub pad-requires-clause-power : goal.pad-requires-clause-power
+pad-requires-clause-power c = four_power
+
+pub put_vtable-slots-requires-clause-under : goal.put_vtable-slots-requires-clause-under
+put_vtable-slots-requires-clause-under c k =
+    let L = c.args.layout.now in
+    let under = ends_under L c.args.start c.args.out.now.most c.args.out.now.bytes (slots_of L c.args.table.0) (stored_in (slots_of L c.args.table.0) (entries_seen c.args.entries.now)) c.args.ends.now c.requires.fits.known c.requires.each c.requires.state k in
+    let long = grown_long c.args.out.now c.pad.new.self c.pad.ensures.grows in
+    omega (arith, under, long, c.pad.ensures.free, c.count.ensures.exact)
+
+pub put_vtable-slots-requires-clause-fits : goal.put_vtable-slots-requires-clause-fits
+put_vtable-slots-requires-clause-fits c k =
+    let L = c.args.layout.now in
+    let high = ends_high L c.args.start c.args.out.now.most c.args.out.now.bytes (slots_of L c.args.table.0) (stored_in (slots_of L c.args.table.0) (entries_seen c.args.entries.now)) c.args.ends.now c.requires.fits.known c.requires.each c.requires.state k in
+    let long = grown_long c.args.out.now c.pad.new.self c.pad.ensures.grows in
+    offset_small (c.count.result + 4) (slice_index c.args.ends.now k) c.args.start high (omega (arith, long, c.pad.ensures.free, c.pad.ensures.under, c.count.ensures.exact, c.requires.narrow))
+
+pub lay_vtable-requires-clause-shared : goal.lay_vtable-requires-clause-shared
+lay_vtable-requires-clause-shared c = shared_grown _ _ _ _ c.pad.ensures.grows c.requires.shared
+
+pub returns-clause-grows : goal.returns-clause-grows
+returns-clause-grows c = then_grows _ _ _ c.pad.ensures.grows c.lay_vtable.ensures.grows
+
+pub returns-clause-lies : goal.returns-clause-lies
+returns-clause-lies c =
+    let L = c.args.layout.now in
+    let o = c.args.out.now in
+    let n = c.lay_vtable.new.out in
+    let fs = slots_of L c.args.table.0 in
+    let xs = entries_seen c.args.entries.now in
+    let ends = c.args.ends.now in
+    let u = c.put_vtable-slots.result in
+    let place = c.count.result + 4 in
+    let size = place - c.args.start in
+    let same : c.lay_vtable.result ≡ place = c.lay_vtable.ensures.place ∙ sym (ap (λ i. i + 4) c.count.ensures.exact) in
+    let grows = then_grows _ _ _ c.pad.ensures.grows c.lay_vtable.ensures.grows in
+    let padded = grown_long o c.pad.new.self c.pad.ensures.grows in
+    let long = grown_long c.pad.new.self n c.lay_vtable.ensures.grows in
+    let high = ends_high L c.args.start o.most o.bytes fs (stored_in fs xs) ends c.requires.fits.known c.requires.each c.requires.state in
+    let most : divides 4 n.most ≡ true = rw c.lay_vtable.ensures.most c.pad.ensures.wide in
+    let stands : VtableEnd n.bytes place (vtable_bytes place size u ends) = subst (λ (i : ℕ). VtableEnd n.bytes i (vtable_bytes place size u ends)) same (subst (λ (x : Bytes). VtableEnd n.bytes c.lay_vtable.result x) c.put_vtable-slots.ensures.there c.lay_vtable.ensures.stands) in
+    rw same (table_end L c.args.start place size u o n ends grows
+    (omega (arith, padded, c.pad.ensures.free, c.count.ensures.exact))
+    (omega (arith, same, c.lay_vtable.ensures.inside))
+    (eq-eqb _ _ (omega (arith, c.pad.ensures.multiple, c.count.ensures.exact)))
+    most (through 2 4 n.most refl most)
+    (omega (arith, long, c.count.ensures))
+    stands c.put_vtable-slots.ensures.within (omega (arith, c.put_vtable-slots.ensures.within, c.requires.few)) c.put_vtable-slots.ensures.rest
+    (λ k. offset_small place (slice_index ends k) c.args.start (high k) (omega (arith, padded, c.pad.ensures.free, c.pad.ensures.under, c.count.ensures.exact, c.requires.narrow)))
+    c.args.table.0 xs c.requires.fits.long c.requires.fits.paired c.requires.fits.fits c.requires.fits.known c.requires.state)

@@ -1,0 +1,188 @@
+-- The fields of a table while it is laid: what each slot's end-count says.
+use Rattle.std.specs.Prelude.{ℕ, ◌+◌, ◌*◌, ◌≡◌, ◌<◌, ◌==◌, ◌&&◌, ◌||◌, not, List, [], ◌∷◌, Bool, true, false, nat_lt, nat_le, if◌then◌else◌, Option, None, Some, ℤ, pos, slice_get, slice_index, map, option_map, length}
+use Rattle.std.specs.Ordering.{int_eq}
+use Rattle.fb_schema.specs.declared.kinds.Base.{Base}
+use Rattle.fb_schema.specs.declared.kinds.Kind.TheVariants.{Code}
+use Rattle.fb_schema.specs.declared.kinds.Shape.{Shape}
+use Rattle.fb_schema.specs.declared.kinds.Shape.TheVariants.{One}
+use Rattle.fb_schema.specs.declared.types.FieldInfo.{FieldInfo}
+use Rattle.fb_schema.specs.Seen.{field_seen}
+use Rattle.fb_schema.specs.declared.kinds.Base.TheVariants.{U8}
+use Rattle.fb_schema.specs.WellDeclared.{InRange}
+use Rattle.fb_layout.specs.Laid.{slot_of, LaidSchema, Slot, StoredKind, scalar_kind, table_kind, union_kind, code_kind, text_kind, StoredShape, one_of, vector_of}
+use Rattle.fb_layout.specs.Widths.{inline_align}
+use Rattle.fb_value.specs.Datum.{Datum, a_number, a_table, a_member, an_unknown}
+use Rattle.fb_value.specs.declared.values.Value.{Value}
+use Rattle.fb_value.specs.View.{view}
+use Rattle.fb_value.specs.Fits.{Fits}
+use Rattle.fb_value.specs.Num.{Bytes}
+use Rattle.fb_value.specs.Places.{Target, table_part, member_part, text_part, vector_part, Sort, ref_place, part_place, inline_place}
+use Rattle.fb_value.specs.Tails.{LiesInTail}
+
+-- the kinds of elements that are laid so far
+abbrev pub IsElement : StoredKind → Type 0
+IsElement (scalar_kind base) = Unit {0}
+IsElement text_kind = Unit {0}
+IsElement (table_kind t) = Unit {0}
+IsElement _ = ⊥
+
+-- the kinds of slots that are laid so far
+abbrev pub IsSimple : StoredShape → Type 0
+IsSimple (one_of (scalar_kind base)) = Unit {0}
+IsSimple (one_of text_kind) = Unit {0}
+IsSimple (one_of (table_kind t)) = Unit {0}
+IsSimple (one_of (union_kind u)) = Unit {0}
+IsSimple (one_of (code_kind u)) = Unit {0}
+IsSimple (vector_of kind) = IsElement kind
+IsSimple _ = ⊥
+
+-- ---- what is stored: a union's code slot has no entry, and stores the code of the entry behind it
+
+abbrev pub code_in : Option Datum → Option ℕ
+code_in (Some (a_member c d)) = Some c
+code_in _ = None
+
+-- the code in the first of some entries
+abbrev pub next_code : List (Option Datum) → Option ℕ
+next_code [] = None
+next_code (x ∷ xs) = code_in x
+
+abbrev pub coded : Option ℕ → Option Datum
+coded None = None
+coded (Some c) = Some (a_number (pos c))
+
+-- what a slot of a shape stores, whose entry is x, where the entry behind it has this code
+abbrev pub stored_here : StoredShape → Option ℕ → Option Datum → Option Datum
+stored_here (one_of (code_kind u)) code x = coded code
+stored_here _ code x = x
+
+abbrev pub stored_in : List Slot → List (Option Datum) → List (Option Datum)
+stored_in (f ∷ fs) (x ∷ xs) = stored_here f.shape (next_code xs) x ∷ stored_in fs xs
+stored_in _ _ = []
+
+-- what a stored member's reference names
+abbrev pub member_target : Datum → Option Target
+member_target (a_member c (a_table t es)) = Some (member_part c t)
+member_target _ = None
+
+-- what the slot's reference names, if it is one
+abbrev pub target_for : StoredShape → Datum → Option Target
+target_for (vector_of kind) d = Some (vector_part kind)
+target_for (one_of text_kind) d = Some text_part
+target_for (one_of (table_kind t)) d = Some (table_part t)
+target_for (one_of (union_kind u)) d = member_target d
+target_for _ d = None
+
+-- what stands inline for a slot: a code is a number of one byte
+abbrev pub inline_kind : StoredShape → StoredKind
+inline_kind (one_of (code_kind u)) = scalar_kind U8
+inline_kind (one_of kind) = kind
+inline_kind (vector_of kind) = kind
+
+abbrev pub ref_or : StoredShape → Option Target → Sort
+ref_or shape None = inline_place (inline_kind shape)
+ref_or shape (Some X) = ref_place X
+
+-- what stands in a table for a stored slot of a shape
+abbrev pub sort_for : StoredShape → Datum → Sort
+sort_for shape d = ref_or shape (target_for shape d)
+
+-- the basic type of a number's slot
+abbrev pub scalar_in : StoredShape → Option Base
+scalar_in (one_of (scalar_kind base)) = Some base
+scalar_in (one_of (code_kind u)) = Some U8
+scalar_in _ = None
+
+abbrev pub number_in : Option Datum → ℤ
+number_in (Some (a_number n)) = n
+number_in _ = pos 0
+
+abbrev pub number_of_datum : Datum → ℤ
+number_of_datum d = number_in (Some d)
+
+-- a number that isn't stored
+abbrev pub IsDefault : Slot → Datum → Type 0
+IsDefault f d = (f.required ≡ false) × (n : ℤ) × (f.if_absent ≡ Some n) × (d ≡ a_number n)
+
+abbrev pub differs : Option ℤ → ℤ → Bool
+differs None n = true
+differs (Some k) n = not (int_eq k n)
+
+abbrev pub is_stored : Slot → Option Datum → Bool
+is_stored f None = false
+is_stored f (Some (a_number n)) = f.required || differs f.if_absent n
+is_stored f (Some d) = true
+
+abbrev pub TargetEnd : LaidSchema → ℕ → Bytes → Option Target → ℕ → Datum → Type 0
+TargetEnd L m s None e d = Unit {0}
+TargetEnd L m s (Some X) e d = LiesInTail L m s (part_place X) e d
+
+-- The end-count of a stored slot: of its field once that is laid, which is behind `low`, of what it names before.
+abbrev pub StoredEnd : LaidSchema → ℕ → ℕ → Bytes → Bool → Slot → Option Datum → ℕ → Type 0
+StoredEnd L low m s laid f None e = ⊥
+StoredEnd L low m s true f (Some d) e = (low < e) × LiesInTail L m s (sort_for f.shape d) e d
+StoredEnd L low m s false f (Some d) e = TargetEnd L m s (target_for f.shape d) e d
+
+-- 0 for a slot that isn't stored
+pub record EntryEnd (L : LaidSchema) (low m : ℕ) (s : Bytes) (laid : Bool) (f : Slot) (x : Option Datum) (e : ℕ) : Type 0 where
+  pub stored : is_stored f x ≡ true → StoredEnd L low m s laid f x e
+  pub absent : is_stored f x ≡ false → e ≡ 0
+
+-- Slots of an alignment above a are laid, or also those of a.
+abbrev pub above : LaidSchema → ℕ → Slot → Bool
+above L a f = nat_lt a (inline_align L f.shape)
+
+abbrev pub from : LaidSchema → ℕ → Slot → Bool
+from L a f = nat_le a (inline_align L f.shape)
+
+-- stored at an alignment
+abbrev pub is_at : LaidSchema → ℕ → Slot → Option Datum → Bool
+is_at L a f x = is_stored f x && (inline_align L f.shape == a)
+
+abbrev pub count_at : LaidSchema → ℕ → List Slot → List (Option Datum) → ℕ
+count_at L a (f ∷ fs) (x ∷ xs) = (if is_at L a f x then 1 else 0) + count_at L a fs xs
+count_at L a _ _ = 0
+
+-- the end-counts of all slots of a table; before slot `done` by the one test, from there on by the other
+abbrev pub EntriesEnd : LaidSchema → ℕ → ℕ → Bytes → (ℕ → Slot → Bool) → List Slot → List (Option Datum) → List ℕ → Type 0
+EntriesEnd L low m s laid fs xs ends =
+    (k : ℕ) (f : Slot) (x : Option Datum) → slice_get fs k ≡ Some f → slice_get xs k ≡ Some x → EntryEnd L low m s (laid k f) f x (slice_index ends k)
+
+-- whether a field is a union's code
+abbrev pub is_coded : Shape → Bool
+is_coded (One (Code u)) = true
+is_coded _ = false
+
+-- the slots of some fields, and the entries of some values
+abbrev pub slots_seen : LaidSchema → List FieldInfo → List Slot
+slots_seen L fs = map (slot_of L.schema) (map field_seen fs)
+
+abbrev pub entries_seen : List (Option Value) → List (Option Datum)
+entries_seen es = map (option_map view) es
+
+-- what the slots of some fields store, whose entries are some values
+abbrev pub stored_seen : LaidSchema → List FieldInfo → List (Option Value) → List (Option Datum)
+stored_seen L fs es = stored_in (slots_seen L fs) (entries_seen es)
+
+-- a number in range, a text, a table, a vector, or a member whose code the union has
+abbrev pub SlotFits : LaidSchema → StoredShape → Datum → Type 0
+SlotFits L (one_of (code_kind u)) (a_number n) = InRange U8 n
+SlotFits L (one_of (union_kind u)) (an_unknown c) = ⊥
+SlotFits L shape d = Fits L shape d
+
+abbrev pub StoredFits : LaidSchema → Slot → Option Datum → Type 0
+StoredFits L f None = Unit {0}
+StoredFits L f (Some d) = (f.deprecated ≡ false) × SlotFits L f.shape d
+
+-- what each slot stores fits, and slots are of these kinds alone
+pub record AreKnown (L : LaidSchema) (fs : List Slot) (xs : List (Option Datum)) : Type 0 where
+  pub long : length fs ≡ length xs
+  pub each : (k : ℕ) (f : Slot) (x : Option Datum) → slice_get fs k ≡ Some f → slice_get xs k ≡ Some x → IsSimple f.shape × StoredFits L f x
+
+-- the bytes of all stored fields
+abbrev pub fields_size : LaidSchema → List Slot → List (Option Datum) → ℕ
+fields_size L fs xs = 8 * count_at L 8 fs xs + (4 * count_at L 4 fs xs + (2 * count_at L 2 fs xs + 1 * count_at L 1 fs xs))
+
+-- with what is padded before them
+abbrev pub stored_room : LaidSchema → List Slot → List (Option Datum) → ℕ
+stored_room L fs xs = (if nat_lt 0 (count_at L 8 fs xs) then 7 else 3) + fields_size L fs xs

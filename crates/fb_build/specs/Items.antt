@@ -1,0 +1,20 @@
+-- The elements of a vector while it is laid.
+use Rattle.std.specs.Prelude.{ℕ, ◌≡◌, List, Some, slice_get, slice_index}
+use Rattle.fb_layout.specs.Laid.{LaidSchema, StoredKind, one_of}
+use Rattle.fb_value.specs.Datum.{Datum, Parts}
+use Rattle.fb_value.specs.Num.{Bytes}
+use Rattle.fb_value.specs.Lies.{LiesItemsBy}
+use Rattle.fb_value.specs.Tails.{from_end}
+use Rattle.fb_build.specs.Fields.{IsElement, SlotFits, TargetEnd, target_for}
+
+-- elements lie one behind the other, from the first byte of a tail on
+abbrev pub ItemsEnd : LaidSchema → ℕ → Bytes → StoredKind → Parts → Type 0
+ItemsEnd L m s kind ds = LiesItemsBy (from_end s m) L s kind 0 ds
+
+-- what each element's reference names lies at its end-count
+abbrev pub TargetsEnd : LaidSchema → ℕ → Bytes → StoredKind → List Datum → List ℕ → Type 0
+TargetsEnd L m s kind ds ends = (k : ℕ) (d : Datum) → slice_get ds k ≡ Some d → TargetEnd L m s (target_for (one_of kind) d) (slice_index ends k) d
+
+pub record ItemsKnown (L : LaidSchema) (kind : StoredKind) (ds : List Datum) : Type 0 where
+  pub element : IsElement kind
+  pub each : (k : ℕ) (d : Datum) → slice_get ds k ≡ Some d → SlotFits L (one_of kind) d

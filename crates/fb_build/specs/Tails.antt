@@ -1,0 +1,16 @@
+-- A block that is filled from its end, as contracts see it.
+use Rattle.std.specs.Prelude.{ℕ, ◌+◌, ◌≡◌, ◌++◌, length, true}
+use Rattle.fb_value.specs.Num.{Bytes, divides}
+
+-- the zeros that are left in front, what is laid, and the greatest multiple that was padded to
+pub record TailSeen : Type 0 where
+  pub free : ℕ
+  pub bytes : Bytes
+  pub most : ℕ
+
+-- From a to b only bytes were laid in front.
+pub record Grows (a b : TailSeen) : Type 0 where
+  pub front : Bytes
+  pub grown : b.bytes ≡ front ++ a.bytes
+  pub spent : b.free + length front ≡ a.free
+  pub multiple : divides a.most b.most ≡ true

@@ -1,0 +1,84 @@
+//! Builds buffers.
+ghost use Rattle.std.specs.Prelude.{◌≡◌, ◌≤◌, ◌<◌, length, true, None, Bool, IfOk, IfErr};
+ghost use Rattle.fb_value.specs.Bounds.{Bounds};
+ghost use Rattle.fb_value.specs.Counts.{cells, depth, is_whole};
+ghost use Rattle.fb_value.specs.Fits.{FitsRoot};
+ghost use Rattle.fb_value.specs.Holds.{Holds};
+ghost use Rattle.fb_value.specs.Room.{room_of};
+ghost use Rattle.fb_value.specs.View.{view};
+ghost use Rattle.fb_build.specs.declared.faults.BuildFault.TheVariants.{TooBig, Memory};
+ghost use Rattle.fb_build.specs.Needs.{IsSliced};
+
+use crate::faults::BuildFault;
+use crate::keys::add_table;
+use crate::needs::need_of;
+use crate::plans::Plan;
+use fb_layout::Layout;
+use fb_value::{Value, room};
+use indexmap::IndexSet;
+use std::alloc::Global;
+
+// A vtable has 65,534 bytes at most.
+const LONGEST_VTABLE: usize = 65_534;
+
+/// Takes all the memory that building a value takes, and lays no byte.
+pub fn plan<'v>(alloc: Global, layout: &'v Layout, value: &'v Value) -> Result<Plan<'v>, BuildFault>
+    requires sliced { IsSliced layout.now }
+    requires unmarked { layout.now.schema.identifier ≡ None }
+    requires fits { FitsRoot layout.now (view value.now) }
+    requires whole { is_whole (view value.now) ≡ true }
+    requires deep { depth (view value.now) ≤ 127 }
+    ensures layout { IfOk result (λ p. p.layout ≡ layout.now) }
+    ensures value { IfOk result (λ p. view p.value ≡ view value.now) }
+    ensures small { IfOk result (λ p. room_of layout.now (view value.now) ≤ 2147483647) }
+    ensures too_big { IfErr result (λ e. e ≡ TooBig → 2147483647 < room_of layout.now (view value.now)) }
+    ensures memory { IfErr result (λ e. e ≡ Memory → room_of layout.now (view value.now) ≤ 2147483647) }
+{
+    let _schema = layout.schema(); // tells that the layout is well made
+    let Some(room) = room(layout, value) else {
+        return Err(BuildFault::TooBig);
+    };
+    let Value::Fields(table, entries) = value else {
+        unreachable!();
+    };
+    let block = vec![in alloc; 0u8; room as usize]?;
+    let mut pending = vec![in alloc; 0u32; need_of(entries)]?;
+    let mut scratch = vec![in alloc; 0u8; LONGEST_VTABLE]?;
+    let mut known = IndexSet::new(alloc);
+    add_table(
+        alloc,
+        &mut known,
+        layout,
+        *table,
+        entries,
+        pending.as_mut_slice(),
+        scratch.as_mut_slice(),
+    )?;
+    let places = vec![in alloc; 0u32; known.len()]?;
+    Ok(Plan {
+        layout,
+        value,
+        block,
+        known,
+        places,
+        pending,
+        scratch,
+    })
+}
+
+/// The bytes in which a value of the root table lies.
+pub fn build(alloc: Global, layout: &Layout, value: &Value) -> Result<Vec<u8>, BuildFault>
+    requires sliced { IsSliced layout.now }
+    requires unmarked { layout.now.schema.identifier ≡ None }
+    requires fits { FitsRoot layout.now (view value.now) }
+    requires whole { is_whole (view value.now) ≡ true }
+    requires deep { depth (view value.now) ≤ 127 }
+    ensures holds { IfOk result (λ b. (most : Bounds) (raw : Bool) → depth (view value.now) ≤ most.depth
+        → cells (view value.now) ≤ most.cells → Holds layout.now most raw b.items (view value.now)) }
+    ensures short { IfOk result (λ b. length b.items ≤ room_of layout.now (view value.now)) }
+    ensures small { IfOk result (λ b. room_of layout.now (view value.now) ≤ 2147483647) }
+    ensures too_big { IfErr result (λ e. e ≡ TooBig → 2147483647 < room_of layout.now (view value.now)) }
+    ensures memory { IfErr result (λ e. e ≡ Memory → room_of layout.now (view value.now) ≤ 2147483647) }
+{
+    Ok(plan(alloc, layout, value)?.finish())
+}

@@ -1,0 +1,338 @@
+//! Lays the fields of tables.
+ghost use Rattle.std.specs.Prelude.{drop, ◌≡◌, ◌≤◌, ◌<◌, ◌+◌, ◌^◌, ◌%◌, length, true, false, option_map, if◌then◌else◌, nat_lt, ◌*◌, ◌⊎◌, max};
+ghost use Rattle.byteorder.specs.Endian.{little_bytes};
+ghost use Rattle.fb_schema.specs.Alignments.{base_size};
+ghost use Rattle.fb_schema.specs.Seen.{field_seen};
+ghost use Rattle.fb_schema.specs.WellDeclared.{InRange};
+ghost use Rattle.fb_layout.specs.Laid.{LaidSchema, stored_shape, slot_of, scalar_kind};
+ghost use Rattle.fb_layout.specs.Widths.{inline_align};
+ghost use Rattle.fb_value.specs.Datum.{Datum, a_number};
+ghost use Rattle.fb_value.specs.Num.{num, scalar_of, divides};
+ghost use Rattle.fb_value.specs.Places.{Target, part_place, ref_place, inline_place};
+ghost use Rattle.fb_value.specs.View.{view};
+ghost use Rattle.fb_value.specs.Tails.{LiesInTail};
+ghost use Rattle.fb_build.specs.Tails.{Grows};
+ghost use Rattle.fb_build.specs.Fields.{IsSimple, StoredFits, stored_here, stored_seen, next_code, is_coded, scalar_in, number_in, number_of_datum, is_stored, is_at, above, from, EntryEnd, EntriesEnd, AreKnown, count_at, slots_seen, entries_seen, stored_room, fields_size};
+
+use crate::tail::Tail;
+use byteorder::{ByteOrder, LittleEndian};
+use fb_layout::Layout;
+use fb_schema::{Base, FieldInfo, Kind, Shape};
+use fb_value::Value;
+
+/// The bits of a number in its bytes.
+fn bits_of(base: Base, number: i128) -> u64
+    requires { InRange base number }
+    ensures fits { result < 256 ^ base_size base }
+    ensures means { number ≡ scalar_of base result }
+{
+    match base {
+        Base::Bool | Base::U8 | Base::U16 | Base::U32 | Base::U64 => number as u64,
+        Base::I8 => u64::from((number as i8).cast_unsigned()),
+        Base::I16 => u64::from((number as i16).cast_unsigned()),
+        Base::I32 => u64::from((number as i32).cast_unsigned()),
+        Base::I64 => (number as i64).cast_unsigned(),
+    }
+}
+
+/// Lays a number, wherever it stands.
+pub(crate) fn put_number(out: &mut Tail, base: Base, number: i128)
+    requires range { InRange base number }
+    requires room { base_size base ≤ out.old.free }
+    ensures reads { number ≡ scalar_of base (num out.new.bytes 0 (base_size base)) }
+    ensures free { out.new.free + base_size base ≡ out.old.free }
+    ensures long { length out.new.bytes ≡ length out.old.bytes + base_size base }
+    ensures most { out.new.most ≡ out.old.most }
+    ensures grows { Grows out.old out.new }
+{
+    let size = base.size() as usize;
+    let mut bytes = [0u8; 8];
+    LittleEndian::write_uint(&mut bytes, bits_of(base, number), size);
+    out.lay(&bytes[..size]);
+}
+
+/// Lays a number at a multiple of its size.
+pub(crate) fn lay_number(out: &mut Tail, base: Base, number: i128)
+    requires range { InRange base number }
+    requires room { base_size base ≤ out.old.free }
+    requires whole { divides (base_size base) (length out.old.bytes) ≡ true }
+    requires wide { divides (base_size base) out.old.most ≡ true }
+    ensures lies { (L : LaidSchema) → LiesInTail L out.new.most out.new.bytes (inline_place (scalar_kind base)) (length out.new.bytes) (a_number number) }
+    ensures free { out.new.free + base_size base ≡ out.old.free }
+    ensures long { length out.new.bytes ≡ length out.old.bytes + base_size base }
+    ensures most { out.new.most ≡ out.old.most }
+    ensures grows { Grows out.old out.new }
+{
+    put_number(out, base, number);
+}
+
+/// Lays a reference to what was laid at an end-count.
+pub(crate) fn lay_reference(out: &mut Tail, target: u32)
+    requires inside { target ≤ length out.old.bytes }
+    requires room { 4 ≤ out.old.free }
+    requires whole { divides 4 (length out.old.bytes) ≡ true }
+    requires wide { divides 4 out.old.most ≡ true }
+    ensures lies { (L : LaidSchema) (X : Target) (d : Datum) → LiesInTail L out.old.most out.old.bytes (part_place X) target d
+        → LiesInTail L out.new.most out.new.bytes (ref_place X) (length out.new.bytes) d }
+    ensures free { out.new.free + 4 ≡ out.old.free }
+    ensures long { length out.new.bytes ≡ length out.old.bytes + 4 }
+    ensures most { out.new.most ≡ out.old.most }
+    ensures grows { Grows out.old out.new }
+{
+    let place = out.count() + 4;
+    out.lay_u32((place - target as usize) as u32);
+}
+
+/// What a slot's place in its table is a multiple of.
+fn slot_align(layout: &Layout, shape: Shape) -> u32
+    ensures { result ≡ inline_align layout.now (stored_shape layout.now.schema shape) }
+{
+    match shape {
+        Shape::One(kind) => layout.align_of(kind),
+        Shape::Many(_) => 4,
+    }
+}
+
+/// The basic type of a number's slot.
+pub(crate) fn scalar_base(layout: &Layout, shape: Shape) -> Option<Base>
+    ensures { result ≡ scalar_in (stored_shape layout.now.schema shape) }
+{
+    let Shape::One(kind) = shape else {
+        return None;
+    };
+    match kind {
+        Kind::Scalar(base) => Some(base),
+        Kind::Enum(enumeration) => Some(layout.base_of(enumeration)),
+        Kind::Code(_) => Some(Base::U8),
+        Kind::Struct(_) | Kind::Table(_) | Kind::Union(_) | Kind::Text => None,
+    }
+}
+
+/// The number of a slot where nothing is stored, if it has one.
+fn if_absent(layout: &Layout, slot: &FieldInfo) -> Option<i128>
+    ensures { result ≡ (slot_of layout.now.schema (field_seen slot.now)).if_absent }
+{
+    if slot.deprecated || slot.optional || is_code(slot.shape) {
+        return None;
+    }
+    match scalar_base(layout, slot.shape) {
+        Some(_) => Some(slot.default),
+        None => None,
+    }
+}
+
+/// Whether a slot is that of a union's code.
+fn is_code(shape: Shape) -> bool
+    ensures { result ≡ is_coded shape }
+{
+    matches!(shape, Shape::One(Kind::Code(_)))
+}
+
+/// The code of the member at an entry, if there is one.
+pub(crate) fn code_at(entries: &[Option<Value>], k: usize) -> Option<u8>
+    ensures { result ≡ next_code (entries_seen (drop k entries.now)) }
+{
+    if k >= entries.len() {
+        return None;
+    }
+    match &entries[k] {
+        Some(Value::Member(code, _)) => Some(*code),
+        _ => None,
+    }
+}
+
+/// The number that a slot stores; 0 of another.
+fn number_of(layout: &Layout, slot: &FieldInfo, code: Option<u8>, entry: &Option<Value>) -> i128
+    ensures { result ≡ number_in (stored_here (stored_shape layout.now.schema slot.now.shape) code (option_map view entry.now)) }
+{
+    if is_code(slot.shape) {
+        return match code {
+            Some(code) => i128::from(code),
+            None => 0,
+        };
+    }
+    match entry {
+        Some(Value::Number(number)) => *number,
+        _ => 0,
+    }
+}
+
+/// The number that a value is; 0 of another.
+pub(crate) fn number_in(value: &Value) -> i128
+    ensures { result ≡ number_of_datum (view value.now) }
+{
+    match value {
+        Value::Number(number) => *number,
+        _ => 0,
+    }
+}
+
+/// Whether a slot's entry is stored: a number that is the slot's default isn't.
+fn is_stored(layout: &Layout, slot: &FieldInfo, code: Option<u8>, entry: &Option<Value>) -> bool
+    ensures { result ≡ is_stored (slot_of layout.now.schema (field_seen slot.now)) (stored_here (stored_shape layout.now.schema slot.now.shape) code (option_map view entry.now)) }
+{
+    if is_code(slot.shape) {
+        return code.is_some();
+    }
+    match entry {
+        None => false,
+        Some(Value::Number(number)) => {
+            if slot.required && !slot.deprecated {
+                return true;
+            }
+            match if_absent(layout, slot) {
+                Some(absent) => absent != *number,
+                None => true,
+            }
+        }
+        Some(_) => true,
+    }
+}
+
+/// Whether an entry is stored at an alignment.
+pub(crate) fn is_at(
+    layout: &Layout,
+    align: u32,
+    slot: &FieldInfo,
+    code: Option<u8>,
+    entry: &Option<Value>,
+) -> bool
+    ensures { result ≡ is_at layout.now align (slot_of layout.now.schema (field_seen slot.now)) (stored_here (stored_shape layout.now.schema slot.now.shape) code (option_map view entry.now)) }
+{
+    is_stored(layout, slot, code, entry) && slot_align(layout, slot.shape) == align
+}
+
+/// Lays the field of a slot, where it is stored at this alignment, and answers its end-count then.
+fn lay_field(
+    out: &mut Tail,
+    layout: &Layout,
+    align: u32,
+    slot: &FieldInfo,
+    code: Option<u8>,
+    entry: &Option<Value>,
+    start: u32,
+    end: u32,
+) -> u32
+    requires low { start ≤ length out.old.bytes }
+    requires simple { IsSimple (stored_shape layout.now.schema slot.now.shape) }
+    requires fits { StoredFits layout.now (slot_of layout.now.schema (field_seen slot.now)) (stored_here (stored_shape layout.now.schema slot.now.shape) code (option_map view entry.now)) }
+    requires state { EntryEnd layout.now start out.old.most out.old.bytes (above layout.now align (slot_of layout.now.schema (field_seen slot.now))) (slot_of layout.now.schema (field_seen slot.now)) (stored_here (stored_shape layout.now.schema slot.now.shape) code (option_map view entry.now)) end }
+    requires whole { is_at layout.now align (slot_of layout.now.schema (field_seen slot.now)) (stored_here (stored_shape layout.now.schema slot.now.shape) code (option_map view entry.now)) ≡ true → divides align (length out.old.bytes) ≡ true }
+    requires wide { is_at layout.now align (slot_of layout.now.schema (field_seen slot.now)) (stored_here (stored_shape layout.now.schema slot.now.shape) code (option_map view entry.now)) ≡ true → divides align out.old.most ≡ true }
+    requires room { (if is_at layout.now align (slot_of layout.now.schema (field_seen slot.now)) (stored_here (stored_shape layout.now.schema slot.now.shape) code (option_map view entry.now)) then align else 0) ≤ out.old.free }
+    ensures state { EntryEnd layout.now start out.new.most out.new.bytes (from layout.now align (slot_of layout.now.schema (field_seen slot.now))) (slot_of layout.now.schema (field_seen slot.now)) (stored_here (stored_shape layout.now.schema slot.now.shape) code (option_map view entry.now)) result }
+    ensures free { out.new.free + (if is_at layout.now align (slot_of layout.now.schema (field_seen slot.now)) (stored_here (stored_shape layout.now.schema slot.now.shape) code (option_map view entry.now)) then align else 0) ≡ out.old.free }
+    ensures most { out.new.most ≡ out.old.most }
+    ensures grows { Grows out.old out.new }
+{
+    if !is_at(layout, align, slot, code, entry) {
+        return end;
+    }
+    match scalar_base(layout, slot.shape) {
+        Some(base) => {
+            lay_number(out, base, number_of(layout, slot, code, entry));
+            out.count() as u32
+        }
+        None => {
+            lay_reference(out, end);
+            out.count() as u32
+        }
+    }
+}
+
+/// Whether a number of eight bytes is stored.
+fn has_wide(layout: &Layout, slots: &[FieldInfo], entries: &[Option<Value>]) -> bool
+    requires long { length entries.now ≡ length slots.now }
+    ensures { result ≡ nat_lt 0 (count_at layout.now 8 (slots_seen layout.now slots.now) (stored_seen layout.now slots.now entries.now)) }
+{
+    for k in 0..slots.len() {
+        if is_at(layout, 8, &slots[k], code_at(entries, k + 1), &entries[k]) {
+            return true;
+        }
+    }
+    false
+}
+
+/// Lays the fields that are stored at an alignment, the first slot's the highest.
+fn lay_pass(
+    out: &mut Tail,
+    layout: &Layout,
+    slots: &[FieldInfo],
+    entries: &[Option<Value>],
+    align: u32,
+    start: u32,
+    ends: &mut [u32],
+)
+    requires long { length entries.now ≡ length slots.now }
+    requires each { length ends.old ≡ length slots.now }
+    requires low { start ≤ length out.old.bytes }
+    requires known { AreKnown layout.now (slots_seen layout.now slots.now) (stored_seen layout.now slots.now entries.now) }
+    requires state { EntriesEnd layout.now start out.old.most out.old.bytes (λ k. above layout.now align) (slots_seen layout.now slots.now) (stored_seen layout.now slots.now entries.now) ends.old }
+    requires whole { 0 < count_at layout.now align (slots_seen layout.now slots.now) (stored_seen layout.now slots.now entries.now) → divides align (length out.old.bytes) ≡ true }
+    requires wide { 0 < count_at layout.now align (slots_seen layout.now slots.now) (stored_seen layout.now slots.now entries.now) → divides align out.old.most ≡ true }
+    requires room { align * count_at layout.now align (slots_seen layout.now slots.now) (stored_seen layout.now slots.now entries.now) ≤ out.old.free }
+    ensures each { length ends.new ≡ length slots.now }
+    ensures state { EntriesEnd layout.now start out.new.most out.new.bytes (λ k. from layout.now align) (slots_seen layout.now slots.now) (stored_seen layout.now slots.now entries.now) ends.new }
+    ensures free { out.new.free + align * count_at layout.now align (slots_seen layout.now slots.now) (stored_seen layout.now slots.now entries.now) ≡ out.old.free }
+    ensures most { out.new.most ≡ out.old.most }
+    ensures grows { Grows out.old out.new }
+{
+    for k in 0..slots.len() {
+        ends[k] = lay_field(
+            out,
+            layout,
+            align,
+            &slots[k],
+            code_at(entries, k + 1),
+            &entries[k],
+            start,
+            ends[k],
+        );
+    }
+}
+
+/// What the first field's place is a multiple of.
+fn start_align(layout: &Layout, slots: &[FieldInfo], entries: &[Option<Value>]) -> usize
+    requires long { length entries.now ≡ length slots.now }
+    ensures { ((result ≡ 8) × (0 < count_at layout.now 8 (slots_seen layout.now slots.now) (stored_seen layout.now slots.now entries.now)))
+        ⊎ ((result ≡ 4) × (count_at layout.now 8 (slots_seen layout.now slots.now) (stored_seen layout.now slots.now entries.now) ≡ 0)) }
+{
+    if has_wide(layout, slots, entries) {
+        8
+    } else {
+        4
+    }
+}
+
+/// Lays the fields of a table, and answers how many bytes were laid before the first one.
+pub(crate) fn lay_fields(
+    out: &mut Tail,
+    layout: &Layout,
+    slots: &[FieldInfo],
+    entries: &[Option<Value>],
+    ends: &mut [u32],
+) -> u32
+    requires long { length entries.now ≡ length slots.now }
+    requires each { length ends.old ≡ length slots.now }
+    requires known { AreKnown layout.now (slots_seen layout.now slots.now) (stored_seen layout.now slots.now entries.now) }
+    requires state { EntriesEnd layout.now 0 out.old.most out.old.bytes (λ k f. false) (slots_seen layout.now slots.now) (stored_seen layout.now slots.now entries.now) ends.old }
+    requires room { stored_room layout.now (slots_seen layout.now slots.now) (stored_seen layout.now slots.now entries.now) ≤ out.old.free }
+    ensures each { length ends.new ≡ length slots.now }
+    ensures state { EntriesEnd layout.now result out.new.most out.new.bytes (λ k f. true) (slots_seen layout.now slots.now) (stored_seen layout.now slots.now entries.now) ends.new }
+    ensures bound { out.new.most ≤ max out.old.most 8 }
+    ensures grows { Grows out.old out.new }
+    ensures wide { divides 4 out.new.most ≡ true }
+    ensures start { result ≤ length out.new.bytes }
+    ensures whole { result % 4 ≡ 0 }
+    ensures size { length out.new.bytes ≡ result + fields_size layout.now (slots_seen layout.now slots.now) (stored_seen layout.now slots.now entries.now) }
+    ensures spent { out.old.free ≤ out.new.free + stored_room layout.now (slots_seen layout.now slots.now) (stored_seen layout.now slots.now entries.now) }
+{
+    let align = start_align(layout, slots, entries);
+    out.pad(align, 0);
+    let start = out.count() as u32;
+    lay_pass(out, layout, slots, entries, 8, start, ends);
+    lay_pass(out, layout, slots, entries, 4, start, ends);
+    lay_pass(out, layout, slots, entries, 2, start, ends);
+    lay_pass(out, layout, slots, entries, 1, start, ends);
+    start
+}

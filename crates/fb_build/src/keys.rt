@@ -1,0 +1,195 @@
+//! The distinct vtables of a value, as keys that aren't laid yet.
+ghost use Rattle.std.specs.Prelude.{ℕ, ◌≡◌, ◌≤◌, ◌<◌, length, slice_index, IfErr};
+ghost use Rattle.fb_build.specs.declared.faults.BuildFault.TheVariants.{Memory};
+
+use crate::faults::BuildFault;
+use crate::fields::{code_at, is_at};
+use crate::vtables::{index_of, put_vtable};
+use fb_layout::Layout;
+use fb_schema::{FieldInfo, TypeId};
+use fb_value::Value;
+use indexmap::IndexSet;
+use std::alloc::Global;
+
+// The greatest inline size of a table, without its first number.
+const WIDEST: u32 = 65_528;
+
+/// Places the field of slot k, where it is stored at an alignment, and returns where the fields end.
+fn place_field(
+    layout: &Layout,
+    slots: &[FieldInfo],
+    entries: &[Option<Value>],
+    align: u32,
+    k: usize,
+    end: u32,
+    ends: &mut [u32],
+) -> u32
+    requires within { k < length ends.old }
+    requires under { (j : ℕ) → slice_index ends.old j ≤ end }
+    ensures under { (j : ℕ) → slice_index ends.new j ≤ result }
+    ensures each { length ends.new ≡ length ends.old }
+{
+    if k >= slots.len() || k >= entries.len() {
+        return end;
+    }
+    if !is_at(
+        layout,
+        align,
+        &slots[k],
+        code_at(entries, k + 1),
+        &entries[k],
+    ) {
+        return end;
+    }
+    let next = end.saturating_add(align);
+    ends[k] = next;
+    next
+}
+
+/// Places the fields that are stored at an alignment behind those before, and returns where they end.
+fn place_pass(
+    layout: &Layout,
+    slots: &[FieldInfo],
+    entries: &[Option<Value>],
+    align: u32,
+    from: u32,
+    ends: &mut [u32],
+) -> u32
+    requires under { (j : ℕ) → slice_index ends.old j ≤ from }
+    ensures under { (j : ℕ) → slice_index ends.new j ≤ result }
+    ensures each { length ends.new ≡ length ends.old }
+{
+    let mut end = from;
+    for k in 0..ends.len() {
+        end = place_field(layout, slots, entries, align, k, end, ends);
+    }
+    end
+}
+
+/// Places the stored fields of a table, and returns where they end. Counts begin at the table's end,
+/// and are 0 for what isn't stored.
+fn place_fields(
+    layout: &Layout,
+    slots: &[FieldInfo],
+    entries: &[Option<Value>],
+    ends: &mut [u32],
+) -> u32
+    ensures under { (k : ℕ) → slice_index ends.new k ≤ result }
+    ensures each { length ends.new ≡ length ends.old }
+{
+    ends.fill(0);
+    let end = place_pass(layout, slots, entries, 8, 0, ends);
+    let end = place_pass(layout, slots, entries, 4, end, ends);
+    let end = place_pass(layout, slots, entries, 2, end, ends);
+    place_pass(layout, slots, entries, 1, end, ends)
+}
+
+/// Adds the vtable of a table, unless it is known.
+fn add_vtable(
+    alloc: Global,
+    known: &mut IndexSet<Vec<u8>>,
+    layout: &Layout,
+    table: TypeId,
+    entries: &[Option<Value>],
+    ends: &mut [u32],
+    scratch: &mut [u8],
+) -> Result<(), BuildFault>
+    requires long { 65534 ≤ length scratch.old }
+    ensures long { length scratch.new ≡ length scratch.old }
+    ensures each { length ends.new ≡ length ends.old }
+    ensures fault { IfErr result (λ e. e ≡ Memory) }
+{
+    let slots = layout.slots_of(table);
+    let count = slots.len().min(entries.len()).min(ends.len());
+    let ends = &mut ends[..count];
+    let end = place_fields(layout, slots, entries, ends);
+    if end > WIDEST {
+        return Ok(());
+    }
+    let place = end.next_multiple_of(4) + 4;
+    let used = put_vtable(scratch, ends, place, place as u16);
+    let vtable = &scratch[..4 + 2 * used];
+    if index_of(known, vtable).is_none() {
+        known.insert(vtable.to_vec(alloc)?)?;
+    }
+    Ok(())
+}
+
+/// Adds the vtables of the tables of a value.
+#[cycle(keys)]
+fn add_tables(
+    alloc: Global,
+    known: &mut IndexSet<Vec<u8>>,
+    layout: &Layout,
+    value: &Value,
+    ends: &mut [u32],
+    scratch: &mut [u8],
+) -> Result<(), BuildFault>
+    requires long { 65534 ≤ length scratch.old }
+    ensures long { length scratch.new ≡ length scratch.old }
+    ensures each { length ends.new ≡ length ends.old }
+    ensures fault { IfErr result (λ e. e ≡ Memory) }
+{
+    match value {
+        Value::Fields(table, entries) => {
+            add_table(alloc, known, layout, *table, entries, ends, scratch)
+        }
+        Value::Items(items) => add_items(alloc, known, layout, items, ends, scratch),
+        Value::Member(_, member) => add_tables(alloc, known, layout, member, ends, scratch),
+        Value::Number(_) | Value::Text(_) | Value::Fixed(_) | Value::Other(_) => Ok(()),
+    }
+}
+
+/// Adds the vtables of the tables in a vector.
+#[cycle(keys)]
+fn add_items(
+    alloc: Global,
+    known: &mut IndexSet<Vec<u8>>,
+    layout: &Layout,
+    items: &Vec<Value>,
+    ends: &mut [u32],
+    scratch: &mut [u8],
+) -> Result<(), BuildFault>
+    requires long { 65534 ≤ length scratch.old }
+    ensures long { length scratch.new ≡ length scratch.old }
+    ensures each { length ends.new ≡ length ends.old }
+    ensures fault { IfErr result (λ e. e ≡ Memory) }
+{
+    for item in items {
+        add_tables(alloc, known, layout, item, ends, scratch)?;
+    }
+    Ok(())
+}
+
+/// Adds the vtables of a table and of the tables in it.
+#[cycle(keys)]
+pub(crate) fn add_table(
+    alloc: Global,
+    known: &mut IndexSet<Vec<u8>>,
+    layout: &Layout,
+    table: TypeId,
+    entries: &Vec<Option<Value>>,
+    ends: &mut [u32],
+    scratch: &mut [u8],
+) -> Result<(), BuildFault>
+    requires long { 65534 ≤ length scratch.old }
+    ensures long { length scratch.new ≡ length scratch.old }
+    ensures each { length ends.new ≡ length ends.old }
+    ensures fault { IfErr result (λ e. e ≡ Memory) }
+{
+    add_vtable(
+        alloc,
+        known,
+        layout,
+        table,
+        entries.as_slice(),
+        ends,
+        scratch,
+    )?;
+    for entry in entries {
+        if let Some(value) = entry {
+            add_tables(alloc, known, layout, value, ends, scratch)?;
+        }
+    }
+    Ok(())
+}

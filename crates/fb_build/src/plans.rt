@@ -1,0 +1,75 @@
+//! A value for which all memory is taken.
+ghost use Rattle.std.specs.Prelude.{ℕ, Bool, ◌≡◌, ◌≤◌, length};
+ghost use Rattle.fb_value.specs.Bounds.{Bounds};
+ghost use Rattle.fb_value.specs.Counts.{cells, depth};
+ghost use Rattle.fb_value.specs.Holds.{Holds};
+ghost use Rattle.fb_value.specs.Room.{room_of};
+ghost use Rattle.fb_value.specs.View.{view};
+
+use crate::roots::fill;
+use fb_layout::Layout;
+use fb_value::Value;
+use indexmap::IndexSet;
+use std::marker::Model;
+
+/// A value with all the memory that laying its bytes takes: a block of its room, a count for each
+/// reference that waits, and each of its vtables once.
+#[derive(Drop)]
+pub struct Plan<'v> {
+    pub(crate) layout: &'v Layout,
+    pub(crate) value: &'v Value,
+    pub(crate) block: Vec<u8>,
+    pub(crate) known: IndexSet<Vec<u8>>,
+    pub(crate) places: Vec<u32>,
+    pub(crate) pending: Vec<u32>,
+    pub(crate) scratch: Vec<u8>,
+}
+
+impl<'v> Model for Plan<'v> {
+    ghost use Rattle.fb_build.specs.Planned.{Planned};
+
+    ghost Value = { Planned };
+
+    ghost use Rattle.fb_value.specs.contracts.values.Value as value_contracts;
+    ghost use Rattle.std.specs.Coded.{codes};
+
+    ghost coded = { Prim.hlevel (codes, value_contracts.the_row.coded) };
+
+    ghost use Rattle.fb_build.specs.Ready.{planned_seen, IsReady};
+
+    ghost view = { planned_seen };
+
+    ghost invariant = { IsReady };
+}
+
+impl Plan<'_> {
+    /// Lays the bytes, with no memory but what the plan has.
+    pub fn finish(self) -> Vec<u8>
+        ensures holds { (most : Bounds) (raw : Bool) → depth (view self.entry.value) ≤ most.depth
+            → cells (view self.entry.value) ≤ most.cells → Holds self.entry.layout most raw result.items (view self.entry.value) }
+        ensures short { length result.items ≤ room_of self.entry.layout (view self.entry.value) }
+    {
+        let Plan {
+            layout,
+            value,
+            block,
+            known,
+            mut places,
+            mut pending,
+            mut scratch,
+        } = self;
+        let Value::Fields(table, entries) = value else {
+            unreachable!();
+        };
+        fill(
+            layout,
+            *table,
+            entries,
+            block,
+            &known,
+            places.as_mut_slice(),
+            pending.as_mut_slice(),
+            scratch.as_mut_slice(),
+        )
+    }
+}

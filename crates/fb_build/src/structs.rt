@@ -1,0 +1,65 @@
+//! Lays structs.
+ghost use Rattle.std.specs.Prelude.{◌≡◌, ◌≤◌, ◌+◌, length, IsTrue};
+ghost use Rattle.fb_schema.specs.Schema.{body_at, is_struct};
+ghost use Rattle.fb_layout.specs.Laid.{stored_kind, one_of, parts_of, struct_at, size_of};
+ghost use Rattle.fb_value.specs.Fits.{Fits, PartsFit};
+ghost use Rattle.fb_value.specs.Lies.{LiesInline, LiesParts};
+ghost use Rattle.fb_value.specs.View.{view, parts_view};
+ghost use Rattle.fb_build.specs.Tails.{Grows};
+ghost use Rattle.fb_build.specs.Structs.{IsInline};
+
+use crate::fields::{number_in, put_number, scalar_base};
+use crate::tail::Tail;
+use fb_layout::{Layout, kind_in};
+use fb_schema::{Kind, Shape, TypeId};
+use fb_value::Value;
+
+/// Lays the fields of a struct from the last to the first, with the zeros behind each.
+#[cycle(structs)]
+pub(crate) fn lay_struct(out: &mut Tail, layout: &Layout, structure: TypeId, parts: &Vec<Value>)
+    requires there { IsTrue (is_struct (body_at layout.now.schema structure.0)) }
+    requires fits { PartsFit layout.now (parts_of layout.now structure.0) (parts_view parts.now.items) }
+    requires room { (struct_at layout.now structure.0).size ≤ out.old.free }
+    ensures lies { LiesParts layout.now out.new.bytes (parts_of layout.now structure.0) (struct_at layout.now structure.0).offsets 0 (parts_view parts.now.items) }
+    ensures free { out.new.free + (struct_at layout.now structure.0).size ≡ out.old.free }
+    ensures most { out.new.most ≡ out.old.most }
+    ensures grows { Grows out.old out.new }
+{
+    let _schema = layout.schema(); // tells that the layout is well made
+    let fields = layout.parts_of(structure);
+    let mut behind = layout.size_of(Kind::Struct(structure)) as usize;
+    for k in 0..fields.len() {
+        let i = fields.len() - 1 - k;
+        let kind = kind_in(fields[i].shape);
+        let offset = layout.offset_of(structure, i as u16) as usize;
+        let end = offset + layout.size_of(kind) as usize;
+        out.take_zeros(behind - end);
+        lay_inline(out, layout, kind, &parts[i]);
+        behind = offset;
+    }
+    out.take_zeros(behind);
+}
+
+/// Lays a number or a struct, wherever it stands.
+#[cycle(structs)]
+fn lay_inline(out: &mut Tail, layout: &Layout, kind: Kind, value: &Value)
+    requires inline { IsInline layout.now (stored_kind layout.now.schema kind) }
+    requires fits { Fits layout.now (one_of (stored_kind layout.now.schema kind)) (view value.now) }
+    requires room { size_of layout.now (stored_kind layout.now.schema kind) ≤ out.old.free }
+    ensures lies { LiesInline layout.now out.new.bytes (stored_kind layout.now.schema kind) 0 (view value.now) }
+    ensures free { out.new.free + size_of layout.now (stored_kind layout.now.schema kind) ≡ out.old.free }
+    ensures most { out.new.most ≡ out.old.most }
+    ensures grows { Grows out.old out.new }
+{
+    if let Some(base) = scalar_base(layout, Shape::One(kind)) {
+        put_number(out, base, number_in(value));
+        return;
+    }
+    let Kind::Struct(structure) = kind else {
+        unreachable!();
+    };
+    let Value::Fixed(parts) = value else {
+        unreachable!();
+    };
+    lay_struct(out, layout, structure, parts);
+}

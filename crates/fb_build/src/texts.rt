@@ -1,0 +1,27 @@
+//! Lays texts.
+ghost use Rattle.std.specs.Prelude.{◌≡◌, ◌≤◌, ◌+◌, max, length};
+ghost use Rattle.fb_layout.specs.Laid.{LaidSchema};
+ghost use Rattle.fb_value.specs.Datum.{a_text};
+ghost use Rattle.fb_value.specs.Places.{part_place, text_part};
+ghost use Rattle.fb_value.specs.Tails.{LiesInTail};
+ghost use Rattle.fb_build.specs.Tails.{Grows};
+
+use crate::tail::Tail;
+
+/// Lays a text, and answers how many bytes are laid then.
+pub(crate) fn lay_text(out: &mut Tail, text: &str) -> usize
+    requires room { length text.now + 8 ≤ out.old.free }
+    ensures lies { (L : LaidSchema) → LiesInTail L out.new.most out.new.bytes (part_place text_part) result (a_text text.now) }
+    ensures exact { result ≡ length out.new.bytes }
+    ensures bound { out.new.most ≤ max out.old.most 8 }
+    ensures grows { Grows out.old out.new }
+    ensures spent { out.old.free ≤ out.new.free + (length text.now + 8) }
+{
+    let count = text.len();
+    let _laid = out.count();
+    out.pad(4, count + 1);
+    out.lay(&[0]);
+    out.lay(text.as_bytes());
+    out.lay_u32(count as u32);
+    out.count()
+}

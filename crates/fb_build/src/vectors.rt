@@ -1,0 +1,91 @@
+//! Lays the elements of vectors.
+ghost use Rattle.std.specs.Prelude.{◌≡◌, ◌≤◌, ◌<◌, ◌+◌, ◌*◌, length, true, map, max};
+ghost use Rattle.fb_schema.specs.WellDeclared.{InRange};
+ghost use Rattle.fb_layout.specs.Laid.{stored_kind, one_of, size_of, align_of};
+ghost use Rattle.fb_value.specs.Datum.{a_vector};
+ghost use Rattle.fb_value.specs.Num.{divides};
+ghost use Rattle.fb_value.specs.Places.{part_place, vector_part};
+ghost use Rattle.fb_value.specs.Room.{vector_room};
+ghost use Rattle.fb_value.specs.View.{view, parts_view};
+ghost use Rattle.fb_value.specs.Tails.{LiesInTail};
+ghost use Rattle.fb_build.specs.Tails.{Grows};
+ghost use Rattle.fb_build.specs.Fields.{IsElement, SlotFits, TargetEnd, target_for, sort_for};
+ghost use Rattle.fb_build.specs.Items.{ItemsEnd, ItemsKnown, TargetsEnd};
+
+use crate::fields::{lay_number, lay_reference, number_in, scalar_base};
+use crate::tail::Tail;
+use fb_layout::Layout;
+use fb_schema::{Kind, Shape};
+use fb_value::Value;
+
+/// Lays an element where it stands in its vector.
+fn lay_element(out: &mut Tail, layout: &Layout, kind: Kind, value: &Value, end: u32)
+    requires element { IsElement (stored_kind layout.now.schema kind) }
+    requires fits { SlotFits layout.now (one_of (stored_kind layout.now.schema kind)) (view value.now) }
+    requires target { TargetEnd layout.now out.old.most out.old.bytes (target_for (one_of (stored_kind layout.now.schema kind)) (view value.now)) end (view value.now) }
+    requires room { size_of layout.now (stored_kind layout.now.schema kind) ≤ out.old.free }
+    requires whole { divides (size_of layout.now (stored_kind layout.now.schema kind)) (length out.old.bytes) ≡ true }
+    requires wide { divides (size_of layout.now (stored_kind layout.now.schema kind)) out.old.most ≡ true }
+    ensures lies { LiesInTail layout.now out.new.most out.new.bytes (sort_for (one_of (stored_kind layout.now.schema kind)) (view value.now)) (length out.new.bytes) (view value.now) }
+    ensures free { out.new.free + size_of layout.now (stored_kind layout.now.schema kind) ≡ out.old.free }
+    ensures long { length out.new.bytes ≡ length out.old.bytes + size_of layout.now (stored_kind layout.now.schema kind) }
+    ensures most { out.new.most ≡ out.old.most }
+    ensures grows { Grows out.old out.new }
+{
+    match scalar_base(layout, Shape::One(kind)) {
+        Some(base) => lay_number(out, base, number_in(value)),
+        None => lay_reference(out, end),
+    }
+}
+
+/// Lays the elements of a vector, from the last to the first.
+fn lay_elements(out: &mut Tail, layout: &Layout, kind: Kind, items: &[Value], ends: &[u32])
+    requires known { ItemsKnown layout.now (stored_kind layout.now.schema kind) (map view items.now) }
+    requires targets { TargetsEnd layout.now out.old.most out.old.bytes (stored_kind layout.now.schema kind) (map view items.now) ends.now }
+    requires each { length ends.now ≡ length items.now }
+    requires room { length items.now * size_of layout.now (stored_kind layout.now.schema kind) ≤ out.old.free }
+    requires whole { divides (size_of layout.now (stored_kind layout.now.schema kind)) (length out.old.bytes) ≡ true }
+    requires wide { divides (size_of layout.now (stored_kind layout.now.schema kind)) out.old.most ≡ true }
+    ensures lies { ItemsEnd layout.now out.new.most out.new.bytes (stored_kind layout.now.schema kind) (parts_view items.now) }
+    ensures free { out.new.free + length items.now * size_of layout.now (stored_kind layout.now.schema kind) ≡ out.old.free }
+    ensures most { out.new.most ≡ out.old.most }
+    ensures grows { Grows out.old out.new }
+{
+    for k in 0..items.len() {
+        let i = items.len() - 1 - k;
+        lay_element(out, layout, kind, &items[i], ends[i]);
+    }
+}
+
+/// What the place of a vector's elements is a multiple of.
+fn items_align(layout: &Layout, kind: Kind) -> usize
+    ensures { result ≡ max 4 (align_of layout.now (stored_kind layout.now.schema kind)) }
+{
+    layout.align_of(kind).max(4) as usize
+}
+
+/// Lays the elements of a vector and their count, and answers how many bytes are laid then.
+pub(crate) fn close_vector(
+    out: &mut Tail,
+    layout: &Layout,
+    kind: Kind,
+    items: &[Value],
+    ends: &[u32],
+) -> u32
+    requires known { ItemsKnown layout.now (stored_kind layout.now.schema kind) (map view items.now) }
+    requires targets { TargetsEnd layout.now out.old.most out.old.bytes (stored_kind layout.now.schema kind) (map view items.now) ends.now }
+    requires each { length ends.now ≡ length items.now }
+    requires room { vector_room layout.now (stored_kind layout.now.schema kind) (length items.now) ≤ out.old.free }
+    ensures lies { LiesInTail layout.now out.new.most out.new.bytes (part_place (vector_part (stored_kind layout.now.schema kind))) result (a_vector (parts_view items.now)) }
+    ensures bound { out.new.most ≤ max out.old.most 8 }
+    ensures grows { Grows out.old out.new }
+    ensures spent { out.old.free ≤ out.new.free + vector_room layout.now (stored_kind layout.now.schema kind) (length items.now) }
+{
+    let _laid = out.count();
+    let size = layout.size_of(kind) as usize;
+    let align = items_align(layout, kind);
+    out.pad(align, items.len() * size);
+    lay_elements(out, layout, kind, items, ends);
+    out.lay_u32(items.len() as u32);
+    out.count() as u32
+}
