@@ -1,0 +1,501 @@
+-- A fault is a rule that the tree breaks.
+use Rattle.std.proofs.Common.{◌≡◌, ◌∙◌, ◌⊎◌, inl, inr, ℕ, zero, suc, ◌+◌, ◌<◌, ◌||◌, ℤ, pos, negsuc, List, [], ◌∷◌, length, Bool, true, false, true≢false, Option, Some, None, option_map, is_some, slice_get, Result, Ok, Err, nat_lt, if◌then◌else◌, Less, Equal, Greater, refl, sym, ap, subst, arith}
+use Rattle.std.proofs.lemmas.Bool.Decides.{nat_tests}
+use Rattle.std.proofs.lemmas.Int.{ints}
+use Rattle.std.specs.Ordering.{nat_cmp, match_ordering}
+use Rattle.std.specs.Cmp.Lexicographic.{slice_cmp}
+use Rattle.serde_json.specs.Data.{Num, Data, null, boolean, number, string, array, object, Items, no_items, item, Members, no_members, member}
+use Rattle.serde_json.specs.Find.{as_integer, get_member, get_item}
+use Rattle.fb_schema.specs.declared.kinds.Base.{Base}
+use Rattle.fb_schema.specs.declared.kinds.Base.TheVariants.{Bool as Boolean, U8}
+use Rattle.fb_schema.specs.declared.kinds.TypeId.{TypeId}
+use Rattle.fb_schema.specs.declared.kinds.Kind.{Kind}
+use Rattle.fb_schema.specs.declared.kinds.Kind.TheVariants.{Scalar, Enum, Struct, Table, Union, Code, Text}
+use Rattle.fb_schema.specs.declared.kinds.Shape.{Shape}
+use Rattle.fb_schema.specs.declared.kinds.Shape.TheVariants.{One, Many}
+use Rattle.fb_schema.specs.Ranges.{holds}
+use Rattle.fb_schema.specs.Schema.{Name, DeclaredField, DeclaredSchema, body_at, base_in, slots_in, parts_in as fields_of_struct}
+use Rattle.fb_schema.specs.Found.{member_coded}
+use Rattle.fb_schema.specs.WellDeclared.{InRange}
+use Rattle.fb_layout.specs.Laid.{LaidSchema, slot_of, member_by_code}
+use Rattle.fb_value.specs.Datum.{Datum}
+use Rattle.fb_json.specs.declared.faults.Place.{Place}
+use Rattle.fb_json.specs.declared.faults.JsonFault.{JsonFault}
+use Rattle.fb_json.specs.declared.faults.JsonFault.TheVariants.{WrongShape, NotWhole, OutOfRange, UnknownName, UnknownMember, MissingMember, MissingRequired, UnionMismatch, TooDeep, TooManyCells}
+use Rattle.fb_json.specs.Outcome.{Counted, spent}
+use Rattle.fb_schema.specs.Paths.{code_by_path}
+use Rattle.fb_json.specs.EnumTexts.{number_told}
+use Rattle.fb_json.specs.Leaves.{in_range, boolean_in, scalar_meant, enum_meant, text_meant, leaf_meant, code_numbered, code_told}
+use Rattle.fb_json.specs.Meant.{Meaner, type_place, slot_place, part_place, names_known, if_known, present, code_in, code_after, as_absent, as_member, union_meant, plain_meant, used_meant, entry_meant, slots_meant, table_meant, part_meant, parts_meant, struct_meant, object_meant, vector_meant, meant, items_meant, look, count as items_count}
+use Rattle.fb_json.specs.Means.{unless_null, member_called, CodeAt}
+use Rattle.fb_json.specs.Breaks.{may_be, base_of, OwnBreaks, ToldBreaks, ToldBehind, EntryBreaks, is_own, slots_at, parts_at, IsSlot, Breaks, here, unknown_in_table, unknown_in_struct, in_code, in_entry, in_slot, in_member, missing_part, in_part, in_element}
+use Rattle.fb_json.specs.Laws.{IsLimit}
+use Rattle.fb_json.proofs.Binds.{bind_err, or_err}
+use Rattle.fb_json.proofs.Looked.{with_meaning, looked}
+use Rattle.fb_json.proofs.Sound.{present_is, code_ok}
+use Rattle.fb_json.proofs.InRange.{holds_in_range}
+
+pub err_inj : {A : Type 0} (a b : JsonFault) → ◌≡◌ {A = Result A JsonFault} (Err a) (Err b) → a ≡ b
+err_inj a b h = cc
+
+pub no_err : {A : Type 0} (a : A) (f : JsonFault) → ◌≡◌ {A = Result A JsonFault} (Ok a) (Err f) → ⊥
+no_err a f h = cc
+
+abbrev Refused : LaidSchema → Bool → Data → Shape → Place → JsonFault → Type 0
+Refused L unknown t shape at f = IsLimit f ⊎ Breaks L unknown t shape at f
+
+-- ---- leaves
+
+module _ (S : DeclaredSchema) (at : Place) where
+  range_by : (b : Bool) (shape : Shape) (base : Base) (x : Num) (n : ℤ) (f : JsonFault) → base_of S shape ≡ Some base → as_integer x ≡ Some n → holds base n ≡ b
+      → ◌≡◌ {A = Result ℤ JsonFault} (if b then Ok n else Err (OutOfRange at)) (Err f) → OwnBreaks S (number x) shape at f
+  range_by true shape base x n f has is held h = absurd (no_err n f h)
+  range_by false shape base x n f has is held h =
+      let out : InRange base n → ⊥ = λ within. true≢false (sym (holds_in_range base n within) ∙ held) in
+      subst (OwnBreaks S (number x) shape at) (err_inj {A = ℤ} (OutOfRange at) f h) (refl, (base, has, (n, is, out)))
+
+  in_range_broken : (shape : Shape) (base : Base) (x : Num) (o : Option ℤ) (f : JsonFault) → base_of S shape ≡ Some base → as_integer x ≡ o → in_range base at o ≡ Err f → OwnBreaks S (number x) shape at f
+  in_range_broken shape base x None f has is h = subst (OwnBreaks S (number x) shape at) (err_inj {A = ℤ} (NotWhole at) f h) (refl, (base, has, is))
+  in_range_broken shape base x (Some n) f has is h = range_by (holds base n) shape base x n f has is refl h
+
+  wrong : (A : Type 0) (t : Data) (shape : Shape) (f : JsonFault) → may_be t shape ≡ false → ◌≡◌ {A = Result A JsonFault} (Err (WrongShape at)) (Err f) → OwnBreaks S t shape at f
+  wrong A t shape f never h = subst (OwnBreaks S t shape at) (err_inj {A = A} (WrongShape at) f h) (refl, never)
+
+  boolean_broken : (base : Base) (b : Bool) (f : JsonFault) → boolean_in base b at ≡ Err f → OwnBreaks S (boolean b) (One (Scalar base)) at f
+  boolean_broken Boolean true f h = absurd (no_err (pos 1) f h)
+  boolean_broken Boolean false f h = absurd (no_err (pos 0) f h)
+  boolean_broken base b f h = wrong ℤ (boolean b) (One (Scalar base)) f refl h
+
+  pub scalar_broken : (base : Base) (t : Data) (f : JsonFault) → scalar_meant base t at ≡ Err f → OwnBreaks S t (One (Scalar base)) at f
+  unfolding scalar_meant
+  scalar_broken base (number x) f h = in_range_broken (One (Scalar base)) base x (as_integer x) f refl refl h
+  scalar_broken base (boolean b) f h = boolean_broken base b f h
+  scalar_broken base null f h = wrong ℤ null (One (Scalar base)) f refl h
+  scalar_broken base (string s) f h = wrong ℤ (string s) (One (Scalar base)) f refl h
+  scalar_broken base (array ts) f h = wrong ℤ (array ts) (One (Scalar base)) f refl h
+  scalar_broken base (object ms) f h = wrong ℤ (object ms) (One (Scalar base)) f refl h
+
+  pub enum_broken : (e : TypeId) (t : Data) (f : JsonFault) → enum_meant S e.0 t at ≡ Err f → OwnBreaks S t (One (Enum e)) at f
+  unfolding enum_meant
+  enum_broken e (number x) f h = in_range_broken (One (Enum e)) (base_in (body_at S e.0)) x (as_integer x) f refl refl h
+  enum_broken e (string s) f h =
+      let none = or_err (number_told S e.0 s) (UnknownName at) f h in
+      subst (OwnBreaks S (string s) (One (Enum e)) at) none.1 (refl, none.0)
+  enum_broken e null f h = wrong ℤ null (One (Enum e)) f refl h
+  enum_broken e (boolean b) f h = wrong ℤ (boolean b) (One (Enum e)) f refl h
+  enum_broken e (array ts) f h = wrong ℤ (array ts) (One (Enum e)) f refl h
+  enum_broken e (object ms) f h = wrong ℤ (object ms) (One (Enum e)) f refl h
+
+spent_by : (b : Bool) (n m : ℕ) (at : Place) (f : JsonFault) → ◌≡◌ {A = Result ℕ JsonFault} (if b then Err (TooManyCells at) else Ok m) (Err f) → IsLimit f
+spent_by true n m at f h = subst IsLimit (err_inj {A = ℕ} (TooManyCells at) f h) tt
+spent_by false n m at f h = absurd (no_err m f h)
+
+spent_limit : (n : ℕ) (at : Place) (left : ℕ) (f : JsonFault) → spent n at left ≡ Err f → IsLimit f
+spent_limit n at left f h = spent_by (nat_lt left n) n _ at f h
+
+module _ (L : LaidSchema) (unknown : Bool) where
+  own : (t : Data) (shape : Shape) (at : Place) (f : JsonFault) → OwnBreaks L.schema t shape at f → Refused L unknown t shape at f
+  own t shape at f h = inr (here t shape at f h)
+
+  text_broken : (t : Data) (at : Place) (left : ℕ) (f : JsonFault) → text_meant t at left ≡ Err f → Refused L unknown t (One Text) at f
+  unfolding text_meant
+  text_broken (string s) at left f h =
+      elim (bind_err (spent (1 + length s) at left) _ f h) as (λ _. Refused L unknown (string s) (One Text) at f) [ inl e ↦ inl (spent_limit (1 + length s) at left f e) | inr x ↦ absurd (no_err _ f x.2) ]
+  text_broken null at left f h = own null (One Text) at f (wrong L.schema at _ null (One Text) f refl h)
+  text_broken (boolean b) at left f h = own (boolean b) (One Text) at f (wrong L.schema at _ (boolean b) (One Text) f refl h)
+  text_broken (number x) at left f h = own (number x) (One Text) at f (wrong L.schema at _ (number x) (One Text) f refl h)
+  text_broken (array ts) at left f h = own (array ts) (One Text) at f (wrong L.schema at _ (array ts) (One Text) f refl h)
+  text_broken (object ms) at left f h = own (object ms) (One Text) at f (wrong L.schema at _ (object ms) (One Text) f refl h)
+
+  -- what no leaf may be
+  abbrev IsNoTree : Data → Type 0
+  IsNoTree t = ((s : TypeId) → may_be t (One (Struct s)) ≡ false) × ((s : TypeId) → may_be t (One (Table s)) ≡ false) × ((s : TypeId) → may_be t (One (Union s)) ≡ false) × ((s : TypeId) → may_be t (One (Code s)) ≡ false) × ((k : Kind) → may_be t (Many k) ≡ false)
+
+  leaf_broken : (t : Data) (shape : Shape) (at : Place) (left : ℕ) (f : JsonFault) → IsNoTree t → leaf_meant L.schema t shape at left ≡ Err f → Refused L unknown t shape at f
+  unfolding leaf_meant
+  leaf_broken t (One (Scalar base)) at left f never h =
+      elim (bind_err (scalar_meant base t at) _ f h) as (λ _. Refused L unknown t (One (Scalar base)) at f) [ inl e ↦ own t (One (Scalar base)) at f (scalar_broken L.schema at base t f e) | inr x ↦ absurd (no_err _ f x.2) ]
+  leaf_broken t (One (Enum id)) at left f never h =
+      elim (bind_err (enum_meant L.schema id.0 t at) _ f h) as (λ _. Refused L unknown t (One (Enum id)) at f) [ inl e ↦ own t (One (Enum id)) at f (enum_broken L.schema at id t f e) | inr x ↦ absurd (no_err _ f x.2) ]
+  leaf_broken t (One Text) at left f never h = text_broken t at left f h
+  leaf_broken t (One (Struct s)) at left f never h = own t (One (Struct s)) at f (wrong L.schema at _ t (One (Struct s)) f (never.0 s) h)
+  leaf_broken t (One (Table s)) at left f never h = own t (One (Table s)) at f (wrong L.schema at _ t (One (Table s)) f (never.1 s) h)
+  leaf_broken t (One (Union s)) at left f never h = own t (One (Union s)) at f (wrong L.schema at _ t (One (Union s)) f (never.2 s) h)
+  leaf_broken t (One (Code s)) at left f never h = own t (One (Code s)) at f (wrong L.schema at _ t (One (Code s)) f (never.3 s) h)
+  leaf_broken t (Many k) at left f never h = own t (Many k) at f (wrong L.schema at _ t (Many k) f (never.4 k) h)
+
+  abbrev pub BrokenAt : Data → Type 0
+  BrokenAt t = (shape : Shape) (at : Place) (levels left : ℕ) (f : JsonFault) → meant L unknown t shape at levels left ≡ Err f → Refused L unknown t shape at f
+
+-- ---- codes
+
+module _ (S : DeclaredSchema) (u : ℕ) (at : Place) where
+  none_of : {A : Type 0} (o : Option A) → is_some o ≡ false → o ≡ None
+  none_of None h = refl
+  none_of (Some x) h = cc
+
+  coded_broken : (b d : Bool) (n : ℕ) (x : Num) (f : JsonFault) → nat_lt 255 (suc n) ≡ b → is_some (member_coded (body_at S u) (suc n)) ≡ d → as_integer x ≡ Some (pos (suc n))
+      → ◌≡◌ {A = Result ℕ JsonFault} (if b then Err (OutOfRange at) else (if d then Ok (suc n) else Err (UnknownName at))) (Err f) → ToldBreaks S u (number x) at f
+  coded_broken true d n x f big named is h =
+      let over : InRange U8 (pos (suc n)) → ⊥ = λ within. let high = within.1 in let much : 255 < suc n = grind (arith, nat_tests) in omega (arith, ints) in
+      subst (ToldBreaks S u (number x) at) (err_inj {A = ℕ} (OutOfRange at) f h) (refl, (pos (suc n), is, over))
+  coded_broken false true n x f big named is h = absurd (no_err (suc n) f h)
+  coded_broken false false n x f big named is h = subst (ToldBreaks S u (number x) at) (err_inj {A = ℕ} (UnknownName at) f h) (refl, (n, is, none_of (member_coded (body_at S u) (suc n)) named))
+
+  numbered_broken : (x : Num) (o : Option ℤ) (f : JsonFault) → as_integer x ≡ o → code_numbered S u at o ≡ Err f → ToldBreaks S u (number x) at f
+  numbered_broken x None f is h = subst (ToldBreaks S u (number x) at) (err_inj {A = ℕ} (WrongShape at) f h) (refl, is)
+  numbered_broken x (Some (negsuc n)) f is h =
+      let under : InRange U8 (negsuc n) → ⊥ = λ within. let low = within.0 in omega (arith, ints) in
+      subst (ToldBreaks S u (number x) at) (err_inj {A = ℕ} (OutOfRange at) f h) (refl, (negsuc n, is, under))
+  numbered_broken x (Some (pos zero)) f is h = absurd (no_err 0 f h)
+  numbered_broken x (Some (pos (suc n))) f is h = coded_broken (nat_lt 255 (suc n)) (is_some (member_coded (body_at S u) (suc n))) n x f refl refl is h
+
+  pub told_broken : (t : Data) (f : JsonFault) → code_told S u t at ≡ Err f → ToldBreaks S u t at f
+  unfolding code_told
+  told_broken null f h = absurd (no_err 0 f h)
+  told_broken (number x) f h = numbered_broken x (as_integer x) f refl h
+  told_broken (string s) f h =
+      let none = or_err (code_by_path S u s) (UnknownName at) f h in
+      subst (ToldBreaks S u (string s) at) none.1 (refl, none.0)
+  told_broken (boolean b) f h = subst (ToldBreaks S u (boolean b) at) (err_inj {A = ℕ} (WrongShape at) f h) refl
+  told_broken (array ts) f h = subst (ToldBreaks S u (array ts) at) (err_inj {A = ℕ} (WrongShape at) f h) refl
+  told_broken (object ms) f h = subst (ToldBreaks S u (object ms) at) (err_inj {A = ℕ} (WrongShape at) f h) refl
+
+-- ---- slots
+
+module _ (L : LaidSchema) (unknown : Bool) where
+  -- what a member's own tree breaks, at a slot
+  abbrev Inner : Shape → ℕ → Option Data → Place → JsonFault → Type 0
+  Inner shape c o at f = ((t : Data) × (o ≡ Some t) × (is_own shape ≡ true) × Breaks L unknown t shape at f)
+      ⊎ ((u : TypeId) × (table : ℕ) × (t : Data) × (shape ≡ One (Union u)) × (member_by_code L u.0 c ≡ Some table) × (o ≡ Some t) × Breaks L unknown t (One (Table (record { 0 = table }))) at f)
+
+  abbrev Entry : DeclaredField → ℕ → Option Data → Shape → Place → JsonFault → Type 0
+  Entry s c o shape at f = IsLimit f ⊎ (EntryBreaks L s c o at f ⊎ Inner shape c o at f)
+
+  absent_broken : (s : DeclaredField) (c : ℕ) (a : Option ℤ) (required : Bool) (shape : Shape) (at : Place) (left : ℕ) (f : JsonFault) → (slot_of L.schema s).required ≡ required → as_absent a required at left ≡ Err f → Entry s c None shape at f
+  absent_broken s c (Some n) required shape at left f is h = absurd (no_err _ f h)
+  absent_broken s c None false shape at left f is h = absurd (no_err _ f h)
+  absent_broken s c None true shape at left f is h = subst (Entry s c None shape at) (err_inj {A = Option Datum × ℕ} (MissingRequired at) f h) (inr (inl (refl, refl, is)))
+
+  as_own : (s : DeclaredField) (c : ℕ) (t : Data) (shape : Shape) (at : Place) (f : JsonFault) → is_own shape ≡ true → Refused L unknown t shape at f → Entry s c (Some t) shape at f
+  as_own s c t shape at f is (inl limit) = inl limit
+  as_own s c t shape at f is (inr h) = inr (inr (inl (t, refl, is, h)))
+
+  plain_broken : (s : DeclaredField) (c : ℕ) (shape : Shape) (o : Option Data) (at : Place) (levels left : ℕ) (f : JsonFault) → is_own shape ≡ true → ((t : Data) → o ≡ Some t → BrokenAt L unknown t)
+      → plain_meant (slot_of L.schema s) shape (option_map (meant L unknown) o) at levels left ≡ Err f → Entry s c o shape at f
+  unfolding plain_meant
+  plain_broken s c shape None at levels left f is broken h = absent_broken s c (slot_of L.schema s).if_absent (slot_of L.schema s).required shape at left f refl h
+  plain_broken s c shape (Some t) at levels left f is broken h =
+      elim (bind_err (meant L unknown t shape at levels left) _ f h) as (λ _. Entry s c (Some t) shape at f) [ inl e ↦ as_own s c t shape at f is (broken t refl shape at levels left f e) | inr x ↦ absurd (no_err _ f x.2) ]
+
+  under_code : (s : DeclaredField) (u : TypeId) (c table : ℕ) (t : Data) (at : Place) (f : JsonFault) → member_by_code L u.0 c ≡ Some table → Refused L unknown t (One (Table (record { 0 = table }))) at f → Entry s c (Some t) (One (Union u)) at f
+  under_code s u c table t at f is (inl limit) = inl limit
+  under_code s u c table t at f is (inr h) = inr (inr (inr (u, table, t, refl, is, refl, h)))
+
+  member_broken : (s : DeclaredField) (u : TypeId) (c : ℕ) (t : Data) (at : Place) (levels left : ℕ) (f : JsonFault) (table : Option ℕ) → s.shape ≡ One (Union u) → member_by_code L u.0 c ≡ table → BrokenAt L unknown t
+      → as_member c table (meant L unknown t) at levels left ≡ Err f → Entry s c (Some t) (One (Union u)) at f
+  member_broken s u c t at levels left f None one is broken h = subst (Entry s c (Some t) (One (Union u)) at) (err_inj {A = Option Datum × ℕ} (UnionMismatch at) f h) (inr (inl (refl, (u, one, is))))
+  member_broken s u c t at levels left f (Some table) one is broken h =
+      elim (bind_err (meant L unknown t (One (Table (record { 0 = table }))) at levels left) _ f h) as (λ _. Entry s c (Some t) (One (Union u)) at f) [
+        | inl e ↦ under_code s u c table t at f is (broken (One (Table (record { 0 = table }))) at levels left f e)
+        | inr x ↦ absurd (no_err _ f x.2)
+      ]
+
+  union_broken : (s : DeclaredField) (u : TypeId) (c : ℕ) (o : Option Data) (at : Place) (levels left : ℕ) (f : JsonFault) → s.shape ≡ One (Union u) → ((t : Data) → o ≡ Some t → BrokenAt L unknown t)
+      → union_meant L u.0 (slot_of L.schema s) c (option_map (meant L unknown) o) at levels left ≡ Err f → Entry s c o (One (Union u)) at f
+  unfolding union_meant
+  union_broken s u zero None at levels left f one broken h = absent_broken s 0 (slot_of L.schema s).if_absent (slot_of L.schema s).required (One (Union u)) at left f refl h
+  union_broken s u (suc c) None at levels left f one broken h = subst (Entry s (suc c) None (One (Union u)) at) (err_inj {A = Option Datum × ℕ} (UnionMismatch at) f h) (inr (inl (refl, (u, one, (λ e. omega arith)))))
+  union_broken s u zero (Some t) at levels left f one broken h = member_broken s u 0 t at levels left f (member_by_code L u.0 0) one refl (broken t refl) h
+  union_broken s u (suc c) (Some t) at levels left f one broken h = member_broken s u (suc c) t at levels left f (member_by_code L u.0 (suc c)) one refl (broken t refl) h
+
+  used_broken : (s : DeclaredField) (c : ℕ) (o : Option Data) (at : Place) (levels left : ℕ) (shape : Shape) (f : JsonFault) → s.shape ≡ shape → ((t : Data) → o ≡ Some t → BrokenAt L unknown t)
+      → used_meant L s c (option_map (meant L unknown) o) at levels left shape ≡ Err f → Entry s c o shape at f
+  used_broken s c o at levels left (One (Code u)) f is broken h = absurd (no_err _ f h)
+  used_broken s c o at levels left (One (Union u)) f is broken h = union_broken s u c o at levels left f is broken h
+  used_broken s c o at levels left (One (Scalar b)) f is broken h = plain_broken s c (One (Scalar b)) o at levels left f refl broken h
+  used_broken s c o at levels left (One (Enum b)) f is broken h = plain_broken s c (One (Enum b)) o at levels left f refl broken h
+  used_broken s c o at levels left (One (Struct b)) f is broken h = plain_broken s c (One (Struct b)) o at levels left f refl broken h
+  used_broken s c o at levels left (One (Table b)) f is broken h = plain_broken s c (One (Table b)) o at levels left f refl broken h
+  used_broken s c o at levels left (One Text) f is broken h = plain_broken s c (One Text) o at levels left f refl broken h
+  used_broken s c o at levels left (Many b) f is broken h = plain_broken s c (Many b) o at levels left f refl broken h
+
+  told_at : (o : Option Data) (u : ℕ) (at : Place) (f : JsonFault) → code_in L.schema u at (option_map (with_meaning L unknown) o) ≡ Err f → (t : Data) × (o ≡ Some t) × ToldBreaks L.schema u t at f
+  told_at None u at f h = absurd (no_err 0 f h)
+  told_at (Some t) u at f h = (t, refl, told_broken L.schema u at t f h)
+
+module _ (L : LaidSchema) (unknown : Bool) (ms : Members) (broken : (k : Name) (t : Data) → get_member k ms ≡ Some t → BrokenAt L unknown t) where
+  found_in : (o : Option Data) (t : Data) → unless_null o ≡ Some t → o ≡ Some t
+  found_in None t h = cc
+  found_in (Some null) t h = cc
+  found_in (Some (boolean b)) t h = h
+  found_in (Some (number x)) t h = h
+  found_in (Some (string s)) t h = h
+  found_in (Some (array ts)) t h = h
+  found_in (Some (object es)) t h = h
+
+  -- a code that is wrong, at a slot in use
+  abbrev WrongCode : DeclaredField → Place → JsonFault → Type 0
+  WrongCode s at f = (u : TypeId) × (t : Data) × (s.shape ≡ One (Code u)) × (get_member s.name ms ≡ Some t) × ToldBreaks L.schema u.0 t at f
+
+  code_by : (s : DeclaredField) (at : Place) (before : ℕ) (deprecated : Bool) (shape : Shape) (f : JsonFault) → s.shape ≡ shape → code_after L.schema (look L unknown ms) at before deprecated s.name shape ≡ Err f
+      → (deprecated ≡ false) × WrongCode s at f
+  unfolding code_after
+  code_by s at before false (One (Code u)) f is h =
+      let P : Option (Data × Meaner) → Type 0 = λ o. code_in L.schema u.0 at o ≡ Err f in
+      let got = told_at L unknown (get_member s.name ms) u.0 at f (subst P (looked L unknown ms s.name) h) in
+      (refl, (u, got.0, is, got.1, got.2))
+  code_by s at before true shape f is h = absurd (no_err before f h)
+  code_by s at before false _ f is h = absurd (no_err before f h)
+
+  abbrev EntryAt : DeclaredField → ℕ → Place → JsonFault → Type 0
+  EntryAt s c at f = Entry L unknown s c (member_called s.name ms) s.shape at f
+
+  entry_by : (s : DeclaredField) (at : Place) (c levels left : ℕ) (deprecated : Bool) (f : JsonFault)
+      → ◌≡◌ {A = Counted (Option Datum)} (if deprecated then Ok (None, left) else used_meant L s c (present (look L unknown ms s.name)) at levels left s.shape) (Err f) → (deprecated ≡ false) × EntryAt s c at f
+  entry_by s at c levels left true f h = absurd (no_err _ f h)
+  entry_by s at c levels left false f h =
+      let is : present (look L unknown ms s.name) ≡ option_map (meant L unknown) (member_called s.name ms) = ap present (looked L unknown ms s.name) ∙ present_is L unknown (get_member s.name ms) in
+      let P : Option Meaner → Type 0 = λ m. used_meant L s c m at levels left s.shape ≡ Err f in
+      (refl, used_broken L unknown s c (member_called s.name ms) at levels left s.shape f refl (λ t has. broken s.name t (found_in (get_member s.name ms) t has)) (subst P is h))
+
+  entry_broken : (s : DeclaredField) (at : Place) (c levels left : ℕ) (f : JsonFault) → entry_meant L (look L unknown ms) s at c levels left ≡ Err f → (s.deprecated ≡ false) × EntryAt s c at f
+  unfolding entry_meant
+  entry_broken s at c levels left f h = entry_by s at c levels left s.deprecated f h
+
+  -- the slot at fault among these, which begin at slot k behind the code that was told
+  pub record SlotFault (id k before : ℕ) (fs : List DeclaredField) (f : JsonFault) : Type 0 where
+    pub index : ℕ
+    pub slot : DeclaredField
+    pub stands : slice_get fs index ≡ Some slot
+    pub used : slot.deprecated ≡ false
+    pub why : WrongCode slot (slot_place id (k + index)) f ⊎ ((c : ℕ) × ToldBehind L.schema ms before fs index c × (EntryBreaks L slot c (member_called slot.name ms) (slot_place id (k + index)) f ⊎ Inner L unknown slot.shape c (member_called slot.name ms) (slot_place id (k + index)) f))
+
+  first_at : (id k before c : ℕ) (s : DeclaredField) (fs : List DeclaredField) (f : JsonFault) → s.deprecated ≡ false → CodeAt L.schema ms s s.deprecated s.shape before c → EntryAt s c (slot_place id k) f → IsLimit f ⊎ SlotFault id k before (s ∷ fs) f
+  first_at id k before c s fs f used told (inl limit) = inl limit
+  first_at id k before c s fs f used told (inr why) =
+      let same : k ≡ k + 0 = omega arith in
+      let P : ℕ → Type 0 = λ n. EntryBreaks L s c (member_called s.name ms) (slot_place id n) f ⊎ Inner L unknown s.shape c (member_called s.name ms) (slot_place id n) f in
+      inr (record { index = 0; slot = s; stands = refl; used = used; why = inr (c, told, subst P same why) })
+
+  later_at : (id k before c : ℕ) (s : DeclaredField) (fs : List DeclaredField) (f : JsonFault) → CodeAt L.schema ms s s.deprecated s.shape before c → IsLimit f ⊎ SlotFault id (k + 1) c fs f → IsLimit f ⊎ SlotFault id k before (s ∷ fs) f
+  later_at id k before c s fs f told (inl limit) = inl limit
+  later_at id k before c s fs f told (inr at) =
+      let same : (k + 1) + at.index ≡ k + suc at.index = omega arith in
+      let W : ℕ → Type 0 = λ n. WrongCode at.slot (slot_place id n) f ⊎ ((b : ℕ) × ToldBehind L.schema ms before (s ∷ fs) (suc at.index) b × (EntryBreaks L at.slot b (member_called at.slot.name ms) (slot_place id n) f ⊎ Inner L unknown at.slot.shape b (member_called at.slot.name ms) (slot_place id n) f)) in
+      let why : W ((k + 1) + at.index) = elim at.why as (λ _. W ((k + 1) + at.index)) [ inl code ↦ inl code | inr x ↦ inr (x.0, (c, told, x.1), x.2) ] in
+      inr (record { index = suc at.index; slot = at.slot; stands = at.stands; used = at.used; why = subst W same why })
+
+  slots_broken : (fs : List DeclaredField) (id k before levels left : ℕ) (f : JsonFault) → slots_meant L (look L unknown ms) id fs k before levels left ≡ Err f → IsLimit f ⊎ SlotFault id k before fs f
+  unfolding slots_meant
+  slots_broken [] id k before levels left f h = absurd (no_err _ f h)
+  slots_broken (s ∷ fs) id k before levels left f h =
+      elim (bind_err (code_after L.schema (look L unknown ms) (slot_place id k) before s.deprecated s.name s.shape) _ f h) as (λ _. IsLimit f ⊎ SlotFault id k before (s ∷ fs) f) [
+        | inl e ↦
+            let got = code_by s (slot_place id k) before s.deprecated s.shape f refl e in
+            let same : k ≡ k + 0 = omega arith in
+            let P : ℕ → Type 0 = λ n. WrongCode s (slot_place id n) f in
+            inr (record { index = 0; slot = s; stands = refl; used = got.0; why = inl (subst P same got.1) })
+        | inr x ↦
+            let told = code_ok L unknown ms s (slot_place id k) before x.0 s.deprecated s.shape x.1 in
+            elim (bind_err (entry_meant L (look L unknown ms) s (slot_place id k) x.0 levels left) _ f x.2) as (λ _. IsLimit f ⊎ SlotFault id k before (s ∷ fs) f) [
+              | inl e ↦ let got = entry_broken s (slot_place id k) x.0 levels left f e in first_at id k before x.0 s fs f got.0 told got.1
+              | inr y ↦
+                  elim (bind_err (slots_meant L (look L unknown ms) id fs (k + 1) x.0 levels y.0.1) _ f y.2) as (λ _. IsLimit f ⊎ SlotFault id k before (s ∷ fs) f) [
+                    | inl e ↦ later_at id k before x.0 s fs f told (slots_broken fs id (k + 1) x.0 levels y.0.1 f e)
+                    | inr z ↦ absurd (no_err _ f z.2)
+                  ]
+            ]
+      ]
+
+  both_false : (b c : Bool) → (b || c) ≡ false → (b ≡ false) × (c ≡ false)
+  both_false false c h = (refl, h)
+  both_false true c h = cc
+
+  unknown_by : (b : Bool) (at : Place) (f : JsonFault) → if_known b at ≡ Err f → (b ≡ false) × (UnknownMember at ≡ f)
+  unknown_by true at f h = absurd (no_err _ f h)
+  unknown_by false at f h = (refl, err_inj {A = Unit {0}} (UnknownMember at) f h)
+
+  slot_broken : (id : TypeId) (at : Place) (f : JsonFault) → IsLimit f ⊎ SlotFault id.0 0 0 (slots_at L id) f → Refused L unknown (object ms) (One (Table id)) at f
+  slot_broken id at f (inl limit) = inl limit
+  slot_broken id at f (inr found) =
+      let same : 0 + found.index ≡ found.index = omega arith in
+      let slot : IsSlot L id found.index found.slot = record { stands = found.stands; used = found.used } in
+      let W : ℕ → Type 0 = λ n. WrongCode found.slot (slot_place id.0 n) f ⊎ ((b : ℕ) × ToldBehind L.schema ms 0 (slots_at L id) found.index b
+      × (EntryBreaks L found.slot b (member_called found.slot.name ms) (slot_place id.0 n) f ⊎ Inner L unknown found.slot.shape b (member_called found.slot.name ms) (slot_place id.0 n) f)) in
+      elim (subst W same found.why) as (λ _. Refused L unknown (object ms) (One (Table id)) at f) [
+        | inl code ↦ inr (in_code ms id at found.index found.slot code.0 code.1 f slot code.2 code.3 code.4)
+        | inr x ↦ elim x.2 as (λ _. Refused L unknown (object ms) (One (Table id)) at f) [
+          | inl entry ↦ inr (in_entry ms id at found.index found.slot x.0 f slot x.1 entry)
+          | inr inner ↦ elim inner as (λ _. Refused L unknown (object ms) (One (Table id)) at f) [
+            | inl y ↦ inr (in_slot ms id at found.index found.slot y.0 f slot y.2 y.1 y.3)
+            | inr y ↦ inr (in_member ms id at found.index found.slot y.0 x.0 y.1 y.2 f slot y.3 x.1 y.4 y.5 y.6)
+          ]
+        ]
+      ]
+
+  table_broken : (id : TypeId) (at : Place) (levels left : ℕ) (f : JsonFault) → table_meant L unknown ms (look L unknown ms) id.0 at levels left ≡ Err f → Refused L unknown (object ms) (One (Table id)) at f
+  unfolding table_meant
+  table_broken id at zero left f h = inl (subst IsLimit (err_inj {A = Datum × ℕ} (TooDeep at) f h) tt)
+  table_broken id at (suc levels) left f h =
+      elim (bind_err (spent 1 at left) _ f h) as (λ _. Refused L unknown (object ms) (One (Table id)) at f) [
+        | inl e ↦ inl (spent_limit 1 at left f e)
+        | inr x ↦
+            elim (bind_err (if_known (unknown || names_known (body_at L.schema id.0) ms) (type_place id.0)) _ f x.2) as (λ _. Refused L unknown (object ms) (One (Table id)) at f) [
+              | inl e ↦
+                  let got = unknown_by _ (type_place id.0) f e in
+                  let both = both_false unknown _ got.0 in
+                  inr (subst (Breaks L unknown (object ms) (One (Table id)) at) got.1 (unknown_in_table ms id at both.0 both.1))
+              | inr y ↦
+                  elim (bind_err (slots_meant L (look L unknown ms) id.0 (slots_in (body_at L.schema id.0)) 0 0 levels x.0) _ f y.2) as (λ _. Refused L unknown (object ms) (One (Table id)) at f) [
+                    | inl e ↦ slot_broken id at f (slots_broken (slots_in (body_at L.schema id.0)) id.0 0 0 levels x.0 f e)
+                    | inr z ↦ absurd (no_err _ f z.2)
+                  ]
+            ]
+      ]
+
+  -- the field at fault among these, which begin at field k
+  abbrev PartWhy : ℕ → DeclaredField → JsonFault → ℕ → Type 0
+  PartWhy s p f n = ((get_member p.name ms ≡ None) × (MissingMember (part_place s n) ≡ f)) ⊎ ((t : Data) × (get_member p.name ms ≡ Some t) × Breaks L unknown t p.shape (part_place s n) f)
+
+  pub record PartFault (s k : ℕ) (fs : List DeclaredField) (f : JsonFault) : Type 0 where
+    pub index : ℕ
+    pub part : DeclaredField
+    pub stands : slice_get fs index ≡ Some part
+    pub why : PartWhy s part f (k + index)
+
+  part_by : (s k : ℕ) (p : DeclaredField) (o : Option Data) (levels left : ℕ) (f : JsonFault) → get_member p.name ms ≡ o → part_meant (option_map (with_meaning L unknown) o) p.shape (part_place s k) levels left ≡ Err f
+      → IsLimit f ⊎ PartWhy s p f k
+  part_by s k p None levels left f is h = inr (inl (is, err_inj {A = Datum × ℕ} (MissingMember (part_place s k)) f h))
+  part_by s k p (Some t) levels left f is h =
+      elim (broken p.name t is p.shape (part_place s k) levels left f h) as (λ _. IsLimit f ⊎ PartWhy s p f k) [ inl limit ↦ inl limit | inr e ↦ inr (inr (t, is, e)) ]
+
+  parts_broken : (fs : List DeclaredField) (s k levels left : ℕ) (f : JsonFault) → parts_meant (look L unknown ms) s fs k levels left ≡ Err f → IsLimit f ⊎ PartFault s k fs f
+  unfolding parts_meant
+  parts_broken [] s k levels left f h = absurd (no_err _ f h)
+  parts_broken (p ∷ fs) s k levels left f h =
+      elim (bind_err (part_meant (look L unknown ms p.name) p.shape (part_place s k) levels left) _ f h) as (λ _. IsLimit f ⊎ PartFault s k (p ∷ fs) f) [
+        | inl e ↦
+            let P : Option (Data × Meaner) → Type 0 = λ o. part_meant o p.shape (part_place s k) levels left ≡ Err f in
+            let same : k ≡ k + 0 = omega arith in
+            elim (part_by s k p (get_member p.name ms) levels left f refl (subst P (looked L unknown ms p.name) e)) as (λ _. IsLimit f ⊎ PartFault s k (p ∷ fs) f) [
+              | inl limit ↦ inl limit
+              | inr why ↦ inr (record { index = 0; part = p; stands = refl; why = subst (PartWhy s p f) same why })
+            ]
+        | inr x ↦
+            elim (bind_err (parts_meant (look L unknown ms) s fs (k + 1) levels x.0.1) _ f x.2) as (λ _. IsLimit f ⊎ PartFault s k (p ∷ fs) f) [
+              | inl e ↦
+                  elim (parts_broken fs s (k + 1) levels x.0.1 f e) as (λ _. IsLimit f ⊎ PartFault s k (p ∷ fs) f) [
+                    | inl limit ↦ inl limit
+                    | inr at ↦
+                        let same : (k + 1) + at.index ≡ k + suc at.index = omega arith in
+                        inr (record { index = suc at.index; part = at.part; stands = at.stands; why = subst (PartWhy s at.part f) same at.why })
+                  ]
+              | inr z ↦ absurd (no_err _ f z.2)
+            ]
+      ]
+
+  part_broken : (id : TypeId) (at : Place) (f : JsonFault) → IsLimit f ⊎ PartFault id.0 0 (parts_at L id) f → Refused L unknown (object ms) (One (Struct id)) at f
+  part_broken id at f (inl limit) = inl limit
+  part_broken id at f (inr found) =
+      let same : 0 + found.index ≡ found.index = omega arith in
+      elim (subst (PartWhy id.0 found.part f) same found.why) as (λ _. Refused L unknown (object ms) (One (Struct id)) at f) [
+        | inl x ↦ inr (subst (Breaks L unknown (object ms) (One (Struct id)) at) x.1 (missing_part ms id at found.index found.part found.stands x.0))
+        | inr x ↦ inr (in_part ms id at found.index found.part x.0 f found.stands x.1 x.2)
+      ]
+
+  struct_broken : (id : TypeId) (at : Place) (levels left : ℕ) (f : JsonFault) → struct_meant L unknown ms (look L unknown ms) id.0 levels left ≡ Err f → Refused L unknown (object ms) (One (Struct id)) at f
+  unfolding struct_meant
+  struct_broken id at levels left f h =
+      elim (bind_err (if_known (unknown || names_known (body_at L.schema id.0) ms) (type_place id.0)) _ f h) as (λ _. Refused L unknown (object ms) (One (Struct id)) at f) [
+        | inl e ↦
+            let got = unknown_by _ (type_place id.0) f e in
+            let both = both_false unknown _ got.0 in
+            inr (subst (Breaks L unknown (object ms) (One (Struct id)) at) got.1 (unknown_in_struct ms id at both.0 both.1))
+        | inr y ↦
+            elim (bind_err (parts_meant (look L unknown ms) id.0 (fields_of_struct (body_at L.schema id.0)) 0 levels left) _ f y.2) as (λ _. Refused L unknown (object ms) (One (Struct id)) at f) [
+              | inl e ↦ part_broken id at f (parts_broken (fields_of_struct (body_at L.schema id.0)) id.0 0 levels left f e)
+              | inr z ↦ absurd (no_err _ f z.2)
+            ]
+      ]
+
+  wrong_object : (shape : Shape) (at : Place) (f : JsonFault) → may_be (object ms) shape ≡ false → ◌≡◌ {A = Counted Datum} (Err (WrongShape at)) (Err f) → Refused L unknown (object ms) shape at f
+  wrong_object shape at f never h = own L unknown (object ms) shape at f (wrong L.schema at _ (object ms) shape f never h)
+
+  object_broken : (shape : Shape) (at : Place) (levels left : ℕ) (f : JsonFault) → object_meant L unknown ms (look L unknown ms) shape at levels left ≡ Err f → Refused L unknown (object ms) shape at f
+  unfolding object_meant
+  object_broken (One (Table id)) at levels left f h = table_broken id at levels left f h
+  object_broken (One (Struct s)) at levels left f h = struct_broken s at levels left f h
+  object_broken (One (Scalar Boolean)) at levels left f h = wrong_object (One (Scalar Boolean)) at f refl h
+  object_broken (One (Scalar b)) at levels left f h = wrong_object (One (Scalar b)) at f refl h
+  object_broken (One (Enum b)) at levels left f h = wrong_object (One (Enum b)) at f refl h
+  object_broken (One (Union b)) at levels left f h = wrong_object (One (Union b)) at f refl h
+  object_broken (One (Code b)) at levels left f h = wrong_object (One (Code b)) at f refl h
+  object_broken (One Text) at levels left f h = wrong_object (One Text) at f refl h
+  object_broken (Many kind) at levels left f h = wrong_object (Many kind) at f refl h
+
+-- ---- trees
+
+abbrev ItemFault : LaidSchema → Bool → Items → Kind → Place → JsonFault → Type 0
+ItemFault L unknown ts kind at f = IsLimit f ⊎ ((i : ℕ) × (t : Data) × (get_item i ts ≡ Some t) × Breaks L unknown t (One kind) at f)
+
+item_broken : (L : LaidSchema) (unknown : Bool) (ts : Items) (kind : Kind) (at : Place) (f : JsonFault) → ItemFault L unknown ts kind at f → Refused L unknown (array ts) (Many kind) at f
+item_broken L unknown ts kind at f (inl limit) = inl limit
+item_broken L unknown ts kind at f (inr x) = inr (in_element ts kind at x.0 x.1 f x.2 x.3)
+
+wrong_list : (L : LaidSchema) (unknown : Bool) (ts : Items) (shape : Shape) (at : Place) (f : JsonFault) → may_be (array ts) shape ≡ false → ◌≡◌ {A = Counted Datum} (Err (WrongShape at)) (Err f) → Refused L unknown (array ts) shape at f
+wrong_list L unknown ts shape at f never h = own L unknown (array ts) shape at f (wrong L.schema at _ (array ts) shape f never h)
+
+vector_broken : (L : LaidSchema) (unknown : Bool) (ts : Items) (shape : Shape) (at : Place) (levels left : ℕ) (f : JsonFault) → ((kind : Kind) (l : ℕ) → items_meant L unknown ts kind at levels l ≡ Err f → ItemFault L unknown ts kind at f)
+    → vector_meant (items_meant L unknown ts) (items_count ts) shape at levels left ≡ Err f → Refused L unknown (array ts) shape at f
+unfolding vector_meant
+vector_broken L unknown ts (Many kind) at levels left f each h =
+    elim (bind_err (spent (1 + items_count ts) at left) _ f h) as (λ _. Refused L unknown (array ts) (Many kind) at f) [
+      | inl e ↦ inl (spent_limit (1 + items_count ts) at left f e)
+      | inr x ↦
+          elim (bind_err (items_meant L unknown ts kind at levels x.0) _ f x.2) as (λ _. Refused L unknown (array ts) (Many kind) at f) [
+            | inl e ↦ item_broken L unknown ts kind at f (each kind x.0 e)
+            | inr z ↦ absurd (no_err _ f z.2)
+          ]
+    ]
+vector_broken L unknown ts (One (Table b)) at levels left f each h = wrong_list L unknown ts (One (Table b)) at f refl h
+vector_broken L unknown ts (One (Struct b)) at levels left f each h = wrong_list L unknown ts (One (Struct b)) at f refl h
+vector_broken L unknown ts (One (Scalar Boolean)) at levels left f each h = wrong_list L unknown ts (One (Scalar Boolean)) at f refl h
+vector_broken L unknown ts (One (Scalar b)) at levels left f each h = wrong_list L unknown ts (One (Scalar b)) at f refl h
+vector_broken L unknown ts (One (Enum b)) at levels left f each h = wrong_list L unknown ts (One (Enum b)) at f refl h
+vector_broken L unknown ts (One (Union b)) at levels left f each h = wrong_list L unknown ts (One (Union b)) at f refl h
+vector_broken L unknown ts (One (Code b)) at levels left f each h = wrong_list L unknown ts (One (Code b)) at f refl h
+vector_broken L unknown ts (One Text) at levels left f each h = wrong_list L unknown ts (One Text) at f refl h
+
+some_inj : (a b : Data) → Some a ≡ Some b → a ≡ b
+some_inj a b h = cc
+
+mutual
+  pub broken : (L : LaidSchema) (unknown : Bool) (t : Data) → BrokenAt L unknown t
+  broken L unknown null shape at levels left f h = leaf_broken L unknown null shape at left f ((λ s. refl), (λ s. refl), (λ s. refl), (λ s. refl), (λ k. refl)) h
+  broken L unknown (boolean b) shape at levels left f h = leaf_broken L unknown (boolean b) shape at left f ((λ s. refl), (λ s. refl), (λ s. refl), (λ s. refl), (λ k. refl)) h
+  broken L unknown (number x) shape at levels left f h = leaf_broken L unknown (number x) shape at left f ((λ s. refl), (λ s. refl), (λ s. refl), (λ s. refl), (λ k. refl)) h
+  broken L unknown (string s) shape at levels left f h = leaf_broken L unknown (string s) shape at left f ((λ s. refl), (λ s. refl), (λ s. refl), (λ s. refl), (λ k. refl)) h
+  broken L unknown (array ts) shape at levels left f h = vector_broken L unknown ts shape at levels left f (λ kind l g. items_broken L unknown ts kind at levels l f g) h
+  broken L unknown (object ms) shape at levels left f h = object_broken L unknown ms (λ k t found. member_is_broken L unknown ms k t found) shape at levels left f h
+
+  items_broken : (L : LaidSchema) (unknown : Bool) (ts : Items) (kind : Kind) (at : Place) (levels left : ℕ) (f : JsonFault) → items_meant L unknown ts kind at levels left ≡ Err f → ItemFault L unknown ts kind at f
+  items_broken L unknown no_items kind at levels left f h = absurd (no_err _ f h)
+  items_broken L unknown (item t ts) kind at levels left f h =
+      elim (bind_err (meant L unknown t (One kind) at levels left) _ f h) as (λ _. ItemFault L unknown (item t ts) kind at f) [
+        | inl e ↦ elim (broken L unknown t (One kind) at levels left f e) as (λ _. ItemFault L unknown (item t ts) kind at f) [ inl limit ↦ inl limit | inr b ↦ inr (0, t, refl, b) ]
+        | inr x ↦
+            elim (bind_err (items_meant L unknown ts kind at levels x.0.1) _ f x.2) as (λ _. ItemFault L unknown (item t ts) kind at f) [
+              | inl e ↦ elim (items_broken L unknown ts kind at levels x.0.1 f e) as (λ _. ItemFault L unknown (item t ts) kind at f) [ inl limit ↦ inl limit | inr b ↦ inr (suc b.0, b.1, b.2, b.3) ]
+              | inr z ↦ absurd (no_err _ f z.2)
+            ]
+      ]
+
+  member_is_broken : (L : LaidSchema) (unknown : Bool) (ms : Members) (k : Name) (t : Data) → get_member k ms ≡ Some t → BrokenAt L unknown t
+  member_is_broken L unknown no_members k t found = cc
+  member_is_broken L unknown (member l d ms) k t found =
+      elim (slice_cmp nat_cmp k l) as (λ o. match_ordering o (get_member k ms) (Some d) (get_member k ms) ≡ Some t → BrokenAt L unknown t) [
+        | Less ↦ λ h. member_is_broken L unknown ms k t h
+        | Equal ↦ λ h. subst (BrokenAt L unknown) (some_inj d t h) (broken L unknown d)
+        | Greater ↦ λ h. member_is_broken L unknown ms k t h
+      ] found

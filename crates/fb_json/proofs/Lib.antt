@@ -1,0 +1,12 @@
+pub mod Looked
+pub mod Told
+pub mod Steps
+pub mod Entries
+pub mod InRange
+pub mod Binds
+pub mod Sound
+pub mod Complete
+pub mod Roots
+pub mod Broken
+pub mod Limited
+pub mod Words

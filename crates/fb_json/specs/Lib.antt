@@ -1,0 +1,9 @@
+pub mod Outcome
+pub mod EnumTexts
+pub mod Leaves
+pub mod Meant
+pub mod Means
+pub mod Laws
+pub mod Breaks
+pub mod TreeCounts
+pub mod Refuses

@@ -1,0 +1,68 @@
+//! Slots without a member.
+ghost use Rattle.std.specs.Prelude.{◌≡◌, ℕ, None, false, option_map};
+ghost use Rattle.serde_json.specs.View.{view as tree_view};
+ghost use Rattle.fb_schema.specs.Schema.{DeclaredSchema};
+ghost use Rattle.fb_schema.specs.Seen.{field_seen};
+ghost use Rattle.fb_layout.specs.Laid.{LaidSchema, slot_of};
+ghost use Rattle.fb_value.specs.View.{view};
+ghost use Rattle.fb_json.specs.Outcome.{Gives};
+ghost use Rattle.fb_json.specs.Meant.{as_absent, is_null, used_meant};
+
+use crate::faults::{JsonFault, Place};
+use fb_schema::{FieldInfo, Kind, Shape};
+use fb_value::Value;
+use serde_json::Value as Json;
+
+/// The entry of a slot that has no member.
+fn absent(slot: &FieldInfo, place: Place, left: u32) -> Result<(Option<Value>, u32), JsonFault>
+    requires { slot.now.deprecated ≡ false }
+    ensures { (S : DeclaredSchema) → let s = slot_of S (field_seen slot.now) in
+        Gives (λ x. (option_map view x.0, x.1)) result
+        (as_absent s.if_absent s.required place left) }
+{
+    let number = match slot.shape {
+        Shape::One(Kind::Scalar(_) | Kind::Enum(_)) => !slot.optional,
+        _ => false,
+    };
+    if number {
+        return Ok((Some(Value::Number(slot.default)), left));
+    }
+    if slot.required {
+        return Err(JsonFault::MissingRequired(place));
+    }
+    Ok((None, left))
+}
+
+/// The entry of a slot in use that has no member.
+#[tactic(auto, unfolding(crate::specs::Meant::union_meant, crate::specs::Meant::plain_meant))]
+pub(crate) fn without(
+    slot: &FieldInfo,
+    place: Place,
+    code: u8,
+    left: u32,
+) -> Result<(Option<Value>, u32), JsonFault>
+    requires { slot.now.deprecated ≡ false }
+    ensures { (L : LaidSchema) (levels : ℕ) → let f = field_seen slot.now in
+        Gives (λ x. (option_map view x.0, x.1)) result
+        (used_meant L f code None place levels left f.shape) }
+{
+    match slot.shape {
+        Shape::One(Kind::Code(_)) => Ok((None, left)),
+        Shape::One(Kind::Union(_)) => {
+            if code != 0 {
+                return Err(JsonFault::UnionMismatch(place));
+            }
+            absent(slot, place, left)
+        }
+        _ => absent(slot, place, left),
+    }
+}
+
+pub(crate) fn is_null(tree: &Json) -> bool
+    ensures { result ≡ is_null (tree_view tree.now) }
+{
+    match tree {
+        Json::Null => true,
+        _ => false,
+    }
+}

@@ -1,0 +1,78 @@
+//! Codes of unions.
+ghost use Rattle.std.specs.Prelude.{◌≡◌};
+ghost use Rattle.serde_json.specs.View.{members_view};
+ghost use Rattle.fb_schema.specs.Seen.{field_seen};
+ghost use Rattle.fb_json.specs.Meant.{code_after, look};
+ghost use Rattle.serde_json.specs.View.{view as tree_view};
+ghost use Rattle.fb_json.specs.Leaves.{code_numbered, code_told};
+
+use crate::faults::{JsonFault, Place};
+use crate::source::Source;
+use fb_layout::Layout;
+use fb_schema::{FieldInfo, Kind, Shape, TypeId};
+use serde_json::{Map, Value as Json};
+
+/// The code of a number.
+fn code_numbered(
+    layout: &Layout,
+    union: TypeId,
+    number: Option<i128>,
+    place: Place,
+) -> Result<u8, JsonFault>
+    ensures { result ≡ code_numbered layout.now.schema union.0 place number }
+{
+    let number = number.ok_or(JsonFault::WrongShape(place))?;
+    if number < 0 || number > 255 {
+        return Err(JsonFault::OutOfRange(place));
+    }
+    let code = number as u8;
+    if code != 0 && layout.schema().member_by_code(union, code).is_none() {
+        return Err(JsonFault::UnknownName(place));
+    }
+    Ok(code)
+}
+
+/// The code that a tree tells; `null` tells none.
+#[tactic(auto, unfolding(crate::specs::Leaves::code_told))]
+fn code_told(layout: &Layout, union: TypeId, tree: &Json, place: Place) -> Result<u8, JsonFault>
+    ensures { result ≡ code_told layout.now.schema union.0 (tree_view tree.now) place }
+{
+    match tree {
+        Json::Null => Ok(0),
+        Json::Number(number) => code_numbered(layout, union, number.as_i128(), place),
+        Json::String(name) => layout
+            .schema()
+            .code_by_path(union, name.as_str())
+            .ok_or(JsonFault::UnknownName(place)),
+        _ => Err(JsonFault::WrongShape(place)),
+    }
+}
+
+/// The code that a slot tells; another slot hands on what it was handed.
+#[tactic(auto, unfolding(crate::specs::Meant::code_after))]
+pub(crate) fn code_after(
+    source: Source,
+    members: &Map<String, Json>,
+    slot: &FieldInfo,
+    place: Place,
+    code: u8,
+) -> Result<u8, JsonFault>
+    ensures { let L = source.entry.layout.now in let f = field_seen slot.now in
+        result ≡ code_after L.schema
+        (look L source.entry.unknown (members_view members.now.entries)) place code
+        f.deprecated f.name f.shape }
+{
+    if slot.deprecated {
+        return Ok(code);
+    }
+    let Shape::One(kind) = slot.shape else {
+        return Ok(code);
+    };
+    match kind {
+        Kind::Code(union) => match members.get(slot.name.as_str()) {
+            Some(tree) => code_told(source.layout, union, tree, place),
+            None => Ok(0),
+        },
+        _ => Ok(code),
+    }
+}

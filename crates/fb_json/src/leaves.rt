@@ -1,0 +1,60 @@
+//! Trees without members and elements.
+ghost use Rattle.std.specs.Prelude.{◌≡◌};
+ghost use Rattle.serde_json.specs.View.{view as tree_view};
+ghost use Rattle.fb_value.specs.View.{view};
+ghost use Rattle.fb_json.specs.Outcome.{Gives};
+ghost use Rattle.fb_json.specs.Leaves.{text_meant, leaf_meant};
+
+use crate::faults::{JsonFault, Place};
+use crate::scalars::{enum_of, scalar_of};
+use crate::source::Source;
+use fb_schema::{Kind, Shape};
+use fb_value::Value;
+use serde_json::Value as Json;
+use std::alloc::Global;
+
+/// A text, and the cells that are left.
+#[tactic(auto, unfolding(crate::specs::Leaves::text_meant))]
+fn text(alloc: Global, tree: &Json, place: Place, left: u32) -> Result<(Value, u32), JsonFault>
+    ensures { Gives (λ x. (view x.0, x.1)) result (text_meant (tree_view tree.now) place left) }
+{
+    let Json::String(text) = tree else {
+        return Err(JsonFault::WrongShape(place));
+    };
+    if text.len() >= left as usize {
+        return Err(JsonFault::TooManyCells(place));
+    }
+    let rest = left - 1 - text.len() as u32;
+    Ok((Value::Text(String::from_str(alloc, text.as_str())?), rest))
+}
+
+/// What a tree without members and elements gives.
+#[tactic(auto, unfolding(crate::specs::Leaves::leaf_meant))]
+pub(crate) fn leaf(
+    source: Source,
+    tree: &Json,
+    shape: Shape,
+    place: Place,
+    left: u32,
+) -> Result<(Value, u32), JsonFault>
+    ensures { Gives (λ x. (view x.0, x.1)) result
+        (leaf_meant source.entry.layout.now.schema (tree_view tree.now) shape place left) }
+{
+    let Shape::One(kind) = shape else {
+        return Err(JsonFault::WrongShape(place));
+    };
+    match kind {
+        Kind::Scalar(base) => {
+            let number = scalar_of(base, tree, place)?;
+            Ok((Value::Number(number), left))
+        }
+        Kind::Enum(enumeration) => {
+            let number = enum_of(source.layout, enumeration, tree, place)?;
+            Ok((Value::Number(number), left))
+        }
+        Kind::Text => text(source.alloc, tree, place, left),
+        Kind::Struct(_) | Kind::Table(_) | Kind::Union(_) | Kind::Code(_) => {
+            Err(JsonFault::WrongShape(place))
+        }
+    }
+}

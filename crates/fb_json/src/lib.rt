@@ -1,0 +1,18 @@
+//! JSON in and out.
+#![tactic(auto)]
+
+mod absent;
+mod codes;
+mod enums;
+mod faults;
+mod laws;
+mod leaves;
+mod members;
+mod root;
+mod scalars;
+mod source;
+mod tree;
+
+pub use faults::{JsonFault, Place};
+pub use laws::{all_that_is_meant, faults_are_broken, limits_are_reached, only_what_is_meant};
+pub use root::value_of;

@@ -1,0 +1,55 @@
+//! The value of a whole tree.
+ghost use Rattle.std.specs.Prelude.{◌≡◌, ◌⊎◌, IfOk, IfErr};
+ghost use Rattle.serde_json.specs.View.{view as tree_view};
+ghost use Rattle.fb_value.specs.Datum.{Datum};
+ghost use Rattle.fb_value.specs.View.{view};
+ghost use Rattle.fb_json.specs.Means.{Means};
+ghost use Rattle.fb_json.specs.Refuses.{Refuses};
+
+use crate::faults::{JsonFault, Place};
+use crate::source::Source;
+use crate::tree::value;
+use fb_layout::Layout;
+use fb_schema::{Kind, Shape};
+use fb_value::{Limits, Value};
+use serde_json::Value as Json;
+use std::alloc::Global;
+
+/// The value of the root table that a tree means. `unknown` lets names through that no field has.
+pub fn value_of(
+    alloc: Global,
+    layout: &Layout,
+    tree: &Json,
+    limits: Limits,
+    unknown: bool,
+) -> Result<Value, JsonFault>
+    ensures means { IfOk result (λ v. Means layout.now limits unknown (tree_view tree.now) (view v)) }
+    ensures refuses { IfErr result (λ f. (f ≡ JsonFault.Memory)
+        ⊎ Refuses layout.now limits unknown (tree_view tree.now) f) }
+    ensures none { IfErr result (λ f. (f ≡ JsonFault.Memory)
+        ⊎ ((d : Datum) → ¬ Means layout.now limits unknown (tree_view tree.now) d)) }
+{
+    let source = Source {
+        alloc,
+        layout,
+        unknown,
+    };
+    let root = layout.schema().root();
+    let place = Place {
+        owner: root,
+        slot: None,
+    };
+    let depth = limits.most_depth();
+    let cells = limits.most_cells();
+    match value(
+        source,
+        tree,
+        Shape::One(Kind::Table(root)),
+        place,
+        depth,
+        cells,
+    ) {
+        Ok((value, _)) => Ok(value),
+        Err(fault) => Err(fault),
+    }
+}
