@@ -1,6 +1,7 @@
 //! Reading typed values from bytes.
 #![tactic(auto)]
 
+mod accessors;
 mod counting;
 mod numbers;
 mod places;

@@ -8,7 +8,7 @@ ghost use Rattle.fb_value.specs.Nth.{slot_place, LiesInSlot};
 ghost use Rattle.fb_read.specs.Visits.{slot_seen};
 ghost use Rattle.fb_layout.specs.Laid.{member_by_code};
 ghost use Rattle.fb_read.specs.Visits.{union_place};
-ghost use Rattle.fb_read.specs.Stored.{StoredAs};
+ghost use Rattle.fb_read.specs.Stored.{StoredAs, text_place_of, table_place_of, member_place_of, vector_place_of, struct_place_of, number_place_of, default_in, unknown_code_of};
 
 use crate::places::slot_of;
 use crate::rules::code_in;
@@ -34,6 +34,88 @@ pub enum Stored {
     Member(u8, TypeId, usize),
     /// The position of a reference to a vector.
     Vector(Kind, usize),
+}
+
+impl Stored {
+    /// Where a text's reference is.
+    pub fn text(self) -> Option<usize>
+        ensures { result ≡ text_place_of self }
+    {
+        match self {
+            Stored::Text(at) => Some(at),
+            _ => None,
+        }
+    }
+
+    /// Where a table's reference is.
+    pub fn table(self) -> Option<(TypeId, usize)>
+        ensures { result ≡ table_place_of self }
+    {
+        match self {
+            Stored::Table(table, at) => Some((table, at)),
+            _ => None,
+        }
+    }
+
+    /// Where the reference of a union's member is.
+    pub fn member(self) -> Option<(u8, TypeId, usize)>
+        ensures { result ≡ member_place_of self }
+    {
+        match self {
+            Stored::Member(code, table, at) => Some((code, table, at)),
+            _ => None,
+        }
+    }
+
+    /// Where a vector's reference is.
+    pub fn vector(self) -> Option<(Kind, usize)>
+        ensures { result ≡ vector_place_of self }
+    {
+        match self {
+            Stored::Vector(kind, at) => Some((kind, at)),
+            _ => None,
+        }
+    }
+
+    /// Where a struct is.
+    pub fn structure(self) -> Option<(TypeId, usize)>
+        ensures { result ≡ struct_place_of self }
+    {
+        match self {
+            Stored::Fixed(structure, at) => Some((structure, at)),
+            _ => None,
+        }
+    }
+
+    /// Where a number is.
+    pub fn number(self) -> Option<(Base, usize)>
+        ensures { result ≡ number_place_of self }
+    {
+        match self {
+            Stored::Number(base, at) => Some((base, at)),
+            _ => None,
+        }
+    }
+
+    /// The default of a number that isn't stored.
+    pub fn default(self) -> Option<i128>
+        ensures { result ≡ default_in self }
+    {
+        match self {
+            Stored::Absent(default) => default,
+            _ => None,
+        }
+    }
+
+    /// A union's code that no member has.
+    pub fn unknown(self) -> Option<u8>
+        ensures { result ≡ unknown_code_of self }
+    {
+        match self {
+            Stored::Unknown(code) => Some(code),
+            _ => None,
+        }
+    }
 }
 
 // A number's default, where it has one.

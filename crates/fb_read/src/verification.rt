@@ -2,8 +2,7 @@
 ghost use Rattle.std.specs.Prelude.{◌≡◌, ◌+◌, ◌≤◌, ◌<◌, ◌^◌, IfOk, length, MatchResult, OnOk, IfErr, None, Some};
 ghost use Rattle.fb_value.specs.Datum.{Datum};
 ghost use Rattle.fb_value.specs.Counts.{entered};
-ghost use Rattle.fb_value.specs.Lies.{Lies};
-ghost use Rattle.fb_value.specs.Places.{table_part, part_place};
+ghost use Rattle.fb_read.specs.Shows.{Shows};
 ghost use Rattle.fb_value.specs.Holds.{Holds, Refuses, header_fault, checked_identifier};
 
 use crate::counting::Entries;
@@ -74,7 +73,7 @@ pub fn verify<'a>(
     entries: &mut Entries,
 ) -> Result<View<'a>, ReadFault>
     ensures held { OnOk result ((v : Datum) × Holds layout.now limits raw bytes.now v) }
-    ensures stands { IfOk result (λ view. (v : Datum) → Holds layout.now limits raw bytes.now v → Lies view.layout.now view.bytes.now (part_place (table_part view.table.0)) view.at v) }
+    ensures stands { IfOk result (λ view. (v : Datum) → Holds layout.now limits raw bytes.now v → Shows view v) }
     ensures fault { IfErr result (Refuses layout.now limits raw bytes.now) }
     ensures rises { entries.old.count ≤ entries.new.count }
     ensures counted { entries.new.count ≤ entries.old.count + (limits.cells + 1) }

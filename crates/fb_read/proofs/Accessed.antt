@@ -1,0 +1,290 @@
+-- What the accessors of a view answer is what the entry of the slot is.
+use Rattle.std.proofs.Common.{◌≡◌, ℕ, zero, suc, ◌+◌, ◌<◌, ◌≤◌, Bool, true, false, nat_le, List, [], ◌∷◌, length, map, drop, slice_get, slice_index_or, Option, None, Some, ℤ, refl, sym, ap, subst, ◌∙◌, arith}
+use Rattle.std.proofs.Math.Logic.{∥∥₁_elim}
+use Rattle.std.proofs.lemmas.Bool.{leb-true, and_parts}
+use Rattle.std.proofs.lemmas.Bool.Decides.{nat_tests}
+use Rattle.std.proofs.lemmas.Grind.{merely}
+use Rattle.std.proofs.lemmas.Str.{is_utf8-from_IsUtf8}
+use Rattle.std.specs.Str.{is_utf8}
+use Rattle.fb_schema.specs.declared.kinds.Base.{Base}
+use Rattle.fb_schema.specs.declared.kinds.Kind.{Kind}
+use Rattle.fb_schema.specs.declared.kinds.TypeId.{TypeId}
+use Rattle.fb_schema.specs.declared.types.FieldInfo.{FieldInfo}
+use Rattle.fb_schema.specs.Alignments.{base_size}
+use Rattle.fb_layout.specs.Laid.{LaidSchema, Slot, StoredKind, scalar_kind, struct_kind, slots_of, stored_kind, size_of}
+use Rattle.fb_value.specs.Datum.{Datum, a_number, a_text, a_vector, a_struct, a_table, a_member, an_unknown, Parts, SlotEntries, no_entries, absent_entry, present_entry}
+use Rattle.fb_value.specs.Num.{Bytes, num, part_of, scalar_of}
+use Rattle.fb_value.specs.Places.{Target, table_part, member_part, text_part, vector_part, Sort, ref_place, part_place, inline_place, Place, named_slots}
+use Rattle.fb_value.specs.Rules.{Keeps, fault_by}
+use Rattle.fb_value.specs.Lies.{LiesInline, Lies, LiesAt, LiesSlots}
+use Rattle.fb_value.specs.Nth.{nth_entry, slot_place, LiesInSlot}
+use Rattle.fb_value.proofs.Steps.{rule_held}
+use Rattle.fb_value.proofs.Counted.{text_length}
+use Rattle.fb_value.proofs.Ranged.{utf8_whole}
+use Rattle.fb_value.proofs.NthLies.{entry_lies_shown}
+use Rattle.fb_read.specs.declared.stored.Stored.{Stored}
+use Rattle.fb_read.specs.declared.stored.Stored.TheVariants.{Absent, Unknown, Number, Fixed, Text, Table, Member, Vector}
+use Rattle.fb_read.specs.Stored.{HasAt, StoredAs, text_place_of, table_place_of, member_place_of, vector_place_of, struct_place_of, number_place_of, default_in, unknown_code_of, text_behind, IsTextBehind}
+use Rattle.fb_read.specs.Views.{entry_of, number_in, text_in, table_in, member_in, unknown_in}
+use Rattle.fb_read.specs.Visits.{slot_seen, slots_seen}
+use Rattle.fb_read.proofs.Visited.{slot_there}
+use Rattle.fb_read.proofs.Entered.{sure_of}
+
+-- ---- which sort of value an entry is
+
+abbrev pub class_in : Option Datum → ℕ
+class_in (Some (a_number n)) = 0
+class_in (Some (a_text bytes)) = 1
+class_in (Some (a_vector ds)) = 2
+class_in (Some (a_struct ds)) = 3
+class_in (Some (a_table t es)) = 4
+class_in (Some (a_member code d)) = 5
+class_in (Some (an_unknown code)) = 6
+class_in None = 7
+
+abbrev pub class_of : Stored → ℕ
+class_of (Absent None) = 7
+class_of (Absent (Some n)) = 0
+class_of (Unknown code) = 6
+class_of (Number base p) = 0
+class_of (Fixed s p) = 3
+class_of (Text p) = 1
+class_of (Table t p) = 4
+class_of (Member code t p) = 5
+class_of (Vector kind p) = 2
+
+number_class : (L : LaidSchema) (b : Bytes) (base : Base) (p : ℕ) (d : Datum) → LiesInline L b (scalar_kind base) p d → class_in (Some d) ≡ 0
+number_class L b base p (a_number n) lies = refl
+number_class L b base p _ lies = absurd lies
+
+struct_class : (L : LaidSchema) (b : Bytes) (s p : ℕ) (d : Datum) → LiesInline L b (struct_kind s) p d → class_in (Some d) ≡ 3
+struct_class L b s p (a_struct ds) lies = refl
+struct_class L b s p _ lies = absurd lies
+
+text_class : (L : LaidSchema) (b : Bytes) (p : ℕ) (d : Datum) → Lies L b (part_place text_part) p d → class_in (Some d) ≡ 1
+text_class L b p (a_text bytes) lies = refl
+text_class L b p _ lies = absurd lies
+
+table_class : (L : LaidSchema) (b : Bytes) (t p : ℕ) (d : Datum) → Lies L b (part_place (table_part t)) p d → class_in (Some d) ≡ 4
+table_class L b t p (a_table type es) lies = refl
+table_class L b t p _ lies = absurd lies
+
+member_class : (L : LaidSchema) (b : Bytes) (c t p : ℕ) (d : Datum) → Lies L b (part_place (member_part c t)) p d → class_in (Some d) ≡ 5
+member_class L b c t p (a_member code d) lies = refl
+member_class L b c t p _ lies = absurd lies
+
+vector_class : (L : LaidSchema) (b : Bytes) (kind : StoredKind) (p : ℕ) (d : Datum) → Lies L b (part_place (vector_part kind)) p d → class_in (Some d) ≡ 2
+vector_class L b kind p (a_vector ds) lies = refl
+vector_class L b kind p _ lies = absurd lies
+
+-- an entry is of the sort that was found
+stored_class : (L : LaidSchema) (b : Bytes) (s : Stored) (o : Option Datum) → StoredAs L b s o → class_in o ≡ class_of s
+stored_class L b (Absent None) o stored = rw stored refl
+stored_class L b (Absent (Some n)) o stored = rw stored refl
+stored_class L b (Unknown code) o stored = rw stored refl
+stored_class L b (Number base p) o stored = rw stored.1 (number_class L b base p stored.0 stored.2.1)
+stored_class L b (Fixed s p) o stored = rw stored.1 (struct_class L b s.0 p stored.0 stored.2.1)
+stored_class L b (Text p) o stored = rw stored.1 (text_class L b (p + num b p 4) stored.0 stored.2.1)
+stored_class L b (Table t p) o stored = rw stored.1 (table_class L b t.0 (p + num b p 4) stored.0 stored.2.1)
+stored_class L b (Member code t p) o stored = rw stored.1 (member_class L b code t.0 (p + num b p 4) stored.0 stored.2.1)
+stored_class L b (Vector kind p) o stored = rw stored.1 (vector_class L b (stored_kind L.schema kind) (p + num b p 4) stored.0 stored.2.1)
+
+number_else : (o : Option Datum) (k : ℕ) → class_in o ≡ k → (k ≡ 0 → ⊥) → number_in o ≡ None
+number_else (Some (a_number n)) k e h = absurd (h (sym e))
+number_else None k e h = refl
+number_else (Some _) k e h = refl
+
+text_else : (o : Option Datum) (k : ℕ) → class_in o ≡ k → (k ≡ 1 → ⊥) → text_in o ≡ None
+text_else (Some (a_text bytes)) k e h = absurd (h (sym e))
+text_else None k e h = refl
+text_else (Some _) k e h = refl
+
+table_else : (o : Option Datum) (k : ℕ) → class_in o ≡ k → (k ≡ 4 → ⊥) → table_in o ≡ None
+table_else (Some (a_table t es)) k e h = absurd (h (sym e))
+table_else None k e h = refl
+table_else (Some _) k e h = refl
+
+member_else : (o : Option Datum) (k : ℕ) → class_in o ≡ k → (k ≡ 5 → ⊥) → member_in o ≡ None
+member_else (Some (a_member c d)) k e h = absurd (h (sym e))
+member_else None k e h = refl
+member_else (Some _) k e h = refl
+
+unknown_else : (o : Option Datum) (k : ℕ) → class_in o ≡ k → (k ≡ 6 → ⊥) → unknown_in o ≡ None
+unknown_else (Some (an_unknown c)) k e h = absurd (h (sym e))
+unknown_else None k e h = refl
+unknown_else (Some _) k e h = refl
+
+-- ---- what is found, or not
+
+pub text_none : (L : LaidSchema) (b : Bytes) (s : Stored) (o : Option Datum) → StoredAs L b s o → text_place_of s ≡ None → text_in o ≡ None
+text_none L b (Text p) o stored none = cc
+text_none L b (Absent None) o stored none = rw stored refl
+text_none L b (Absent (Some n)) o stored none = rw stored refl
+text_none L b s o stored none = text_else o (class_of s) (stored_class L b s o stored) (λ e. omega arith)
+
+pub table_none : (L : LaidSchema) (b : Bytes) (s : Stored) (o : Option Datum) → StoredAs L b s o → table_place_of s ≡ None → table_in o ≡ None
+table_none L b (Table t p) o stored none = cc
+table_none L b (Absent None) o stored none = rw stored refl
+table_none L b (Absent (Some n)) o stored none = rw stored refl
+table_none L b s o stored none = table_else o (class_of s) (stored_class L b s o stored) (λ e. omega arith)
+
+pub member_none : (L : LaidSchema) (b : Bytes) (s : Stored) (o : Option Datum) → StoredAs L b s o → member_place_of s ≡ None → member_in o ≡ None
+member_none L b (Member c t p) o stored none = cc
+member_none L b (Absent None) o stored none = rw stored refl
+member_none L b (Absent (Some n)) o stored none = rw stored refl
+member_none L b s o stored none = member_else o (class_of s) (stored_class L b s o stored) (λ e. omega arith)
+
+pub unknown_found : (L : LaidSchema) (b : Bytes) (s : Stored) (o : Option Datum) → StoredAs L b s o → unknown_code_of s ≡ unknown_in o
+unknown_found L b (Unknown c) o stored = rw stored refl
+unknown_found L b (Absent None) o stored = rw stored refl
+unknown_found L b (Absent (Some n)) o stored = rw stored refl
+unknown_found L b s o stored = sym (unknown_else o (class_of s) (stored_class L b s o stored) (λ e. omega arith))
+
+pub number_none : (L : LaidSchema) (b : Bytes) (s : Stored) (o : Option Datum) → StoredAs L b s o → number_place_of s ≡ None → default_in s ≡ number_in o
+number_none L b (Number base p) o stored none = cc
+number_none L b (Absent None) o stored none = rw stored refl
+number_none L b (Absent (Some n)) o stored none = rw stored refl
+number_none L b s o stored none = sym (number_else o (class_of s) (stored_class L b s o stored) (λ e. omega arith))
+
+text_is : (s : Stored) (q : ℕ) → text_place_of s ≡ Some q → s ≡ Text q
+text_is (Text p) q e = let is : p ≡ q = cc in rw is refl
+text_is _ q e = cc
+
+table_is : (s : Stored) (t : TypeId) (q : ℕ) → table_place_of s ≡ Some (t, q) → s ≡ Table t q
+table_is (Table x p) t q e = let same : (x, p) ≡ (t, q) = cc in ap (λ (y : TypeId × ℕ). Table y.0 y.1) same
+table_is _ t q e = cc
+
+member_is : (s : Stored) (c : ℕ) (t : TypeId) (q : ℕ) → member_place_of s ≡ Some (c, t, q) → s ≡ Member c t q
+member_is (Member k x p) c t q e = let same : (k, x, p) ≡ (c, t, q) = cc in ap (λ (y : ℕ × TypeId × ℕ). Member y.0 y.1 y.2) same
+member_is _ c t q e = cc
+
+number_is : (s : Stored) (base : Base) (q : ℕ) → number_place_of s ≡ Some (base, q) → s ≡ Number base q
+number_is (Number x p) base q e = let same : (x, p) ≡ (base, q) = cc in ap (λ (y : Base × ℕ). Number y.0 y.1) same
+number_is _ base q e = cc
+
+scalar_there : (L : LaidSchema) (b : Bytes) (base : Base) (p : ℕ) (d : Datum) → LiesInline L b (scalar_kind base) p d → number_in (Some d) ≡ Some (scalar_of base (num b p (base_size base)))
+scalar_there L b base p (a_number n) lies = ap Some lies
+scalar_there L b base p _ lies = absurd lies
+
+-- the number that was found
+pub number_found : (L : LaidSchema) (b : Bytes) (s : Stored) (base : Base) (q : ℕ) (o : Option Datum) → number_place_of s ≡ Some (base, q) → StoredAs L b s o → Some (scalar_of base (num b q (base_size base))) ≡ number_in o
+number_found L b s base q o e stored =
+    let has = rw (number_is s base q e) at stored in
+    rw has.1 (sym (scalar_there L b base q has.0 has.2.1))
+
+text_here : (L : LaidSchema) (b : Bytes) (q : ℕ) (d : Datum) → Lies L b (part_place text_part) q d → text_in (Some d) ≡ Some (part_of b (q + 4) (num b q 4))
+text_here L b q (a_text bytes) lies = ap Some lies.1
+text_here L b q _ lies = absurd lies
+
+-- the text that was found
+pub text_found : (L : LaidSchema) (b : Bytes) (s : Stored) (q : ℕ) (o : Option Datum) → text_place_of s ≡ Some q → StoredAs L b s o → Some (text_behind b q) ≡ text_in o
+text_found L b s q o e stored =
+    let has = rw (text_is s q e) at stored in
+    rw has.1 (sym (text_here L b (q + num b q 4) has.0 has.2.1))
+
+table_here : (L : LaidSchema) (b : Bytes) (t q : ℕ) (d : Datum) → Lies L b (part_place (table_part t)) q d → table_in (Some d) ≡ Some d
+table_here L b t q (a_table type es) lies = refl
+table_here L b t q _ lies = absurd lies
+
+table_from : (L : LaidSchema) (b : Bytes) (t q : ℕ) (o : Option Datum) (x : Datum) → o ≡ Some x → Lies L b (part_place (table_part t)) q x → (d : Datum) × (table_in o ≡ Some d) × Lies L b (part_place (table_part t)) q d
+table_from L b t q o x e lies = (x, rw e (table_here L b t q x lies), lies)
+
+-- the table that was found
+pub table_found : (L : LaidSchema) (b : Bytes) (s : Stored) (t : TypeId) (q : ℕ) (o : Option Datum) → table_place_of s ≡ Some (t, q) → StoredAs L b s o → (d : Datum) × (table_in o ≡ Some d) × Lies L b (part_place (table_part t.0)) (q + num b q 4) d
+table_found L b s t q o e stored =
+    let has = rw (table_is s t q e) at stored in
+    table_from L b t.0 (q + num b q 4) o has.0 has.1 has.2.1
+
+member_here : (L : LaidSchema) (b : Bytes) (c t q : ℕ) (x : Datum) → Lies L b (part_place (member_part c t)) q x → (d : Datum) × (member_in (Some x) ≡ Some (c, d)) × Lies L b (part_place (table_part t)) q d
+member_here L b c t q (a_member code d) lies = (d, rw lies.0 refl, lies.1)
+member_here L b c t q _ lies = absurd lies
+
+member_from : (L : LaidSchema) (b : Bytes) (c t q : ℕ) (o : Option Datum) (x : Datum) → o ≡ Some x → Lies L b (part_place (member_part c t)) q x → (d : Datum) × (member_in o ≡ Some (c, d)) × Lies L b (part_place (table_part t)) q d
+member_from L b c t q o x e lies = let found = member_here L b c t q x lies in (found.0, rw e found.1, found.2)
+
+-- the member that was found
+pub member_found : (L : LaidSchema) (b : Bytes) (s : Stored) (c : ℕ) (t : TypeId) (q : ℕ) (o : Option Datum) → member_place_of s ≡ Some (c, t, q) → StoredAs L b s o → (d : Datum) × (member_in o ≡ Some (c, d)) × Lies L b (part_place (table_part t.0)) (q + num b q 4) d
+member_found L b s c t q o e stored =
+    let has = rw (member_is s c t q e) at stored in
+    member_from L b c t.0 (q + num b q 4) o has.0 has.1 has.2.1
+
+-- ---- the slots of a table
+
+nth_past : (L : LaidSchema) (b : Bytes) (fs : List Slot) (xs : List (Option Place)) (es : SlotEntries) (k : ℕ) → LiesSlots L b fs xs es → length fs ≤ k → nth_entry es k ≡ None
+nth_past L b [] [] no_entries k lies past = refl
+nth_past L b (f ∷ fs) (x ∷ xs) (absent_entry es) zero lies past = absurd (omega arith)
+nth_past L b (f ∷ fs) (x ∷ xs) (absent_entry es) (suc k) lies past = nth_past L b fs xs es k lies.1 (omega arith)
+nth_past L b (f ∷ fs) (x ∷ xs) (present_entry d es) zero lies past = absurd (omega arith)
+nth_past L b (f ∷ fs) (x ∷ xs) (present_entry d es) (suc k) lies past = nth_past L b fs xs es k lies.1 (omega arith)
+nth_past L b _ _ _ k lies past = absurd lies
+
+seen_length : (L : LaidSchema) (xs : List FieldInfo) → length (slots_seen L xs) ≡ length xs
+seen_length L [] = refl
+seen_length L (x ∷ xs) = rw (seen_length L xs) refl
+
+-- past the slots there is no entry
+pub entry_past : (L : LaidSchema) (b : Bytes) (t p : ℕ) (xs : List FieldInfo) (d : Datum) (k : ℕ) → slots_of L t ≡ slots_seen L xs → length xs ≤ k → Lies L b (part_place (table_part t)) p d → entry_of d k ≡ None
+entry_past L b t p xs (a_table type es) k seen past lies = nth_past L b (slots_of L t) (named_slots L b p 0 (slots_of L t)) es k lies.2 (rw (seen, seen_length L xs) past)
+entry_past L b t p xs _ k seen past lies = absurd lies
+
+-- what lies in one slot
+pub entry_there : (L : LaidSchema) (b : Bytes) (t p : ℕ) (xs : List FieldInfo) (d : Datum) (k : ℕ) (x : FieldInfo) → slots_of L t ≡ slots_seen L xs → k < length xs → x ≡ slice_index_or xs k x → Lies L b (part_place (table_part t)) p d
+    → LiesInSlot L b (slot_seen L x) (slot_place L b p k (drop (suc k) (slots_of L t)) (slot_seen L x)) (entry_of d k)
+entry_there L b t p xs (a_table type es) k x seen less is lies = entry_lies_shown L b p (slots_of L t) es k (slot_seen L x) lies.2 (rw seen (slot_there L xs k x less is))
+entry_there L b t p xs _ k x seen less is lies = absurd lies
+
+-- ---- what is sure of a view
+
+-- what follows from what is there is there
+pub there_too : {P Q : Type 0} → ∥ P ∥₁ → (P → Q) → ∥ Q ∥₁
+there_too there f = ∥∥₁_elim there (hlevel) (λ p. merely (f p))
+
+ref_within : (L : LaidSchema) (b : Bytes) (X : Target) (q : ℕ) → Keeps L b (ref_place X) q → nat_le (q + 4) (length b) ≡ true
+unfolding fault_by
+ref_within L b X q e = (rule_held _ _ _ (rule_held _ _ _ e).1).0
+
+inline_within : (L : LaidSchema) (b : Bytes) (kind : StoredKind) (q : ℕ) → Keeps L b (inline_place kind) q → nat_le (q + size_of L kind) (length b) ≡ true
+unfolding fault_by
+inline_within L b kind q e = (rule_held _ _ _ (rule_held _ _ _ e).1).0
+
+text_keeps : (L : LaidSchema) (b : Bytes) (q : ℕ) (d : Datum) → Lies L b (part_place text_part) q d → Keeps L b (part_place text_part) q
+text_keeps L b q (a_text bytes) lies = lies.0
+text_keeps L b q _ lies = absurd lies
+
+text_counted : (L : LaidSchema) (b : Bytes) (q : ℕ) → Keeps L b (part_place text_part) q → (nat_le (q + 4) (length b) ≡ true) × (nat_le ((q + 4) + num b q 4) (length b) ≡ true)
+unfolding fault_by
+text_counted L b q e = and_parts _ _ (rule_held _ _ _ (rule_held _ _ _ e).1).0
+
+text_valid : (L : LaidSchema) (b : Bytes) (q : ℕ) → Keeps L b (part_place text_part) q → is_utf8 (part_of b (q + 4) (num b q 4)) ≡ true
+unfolding fault_by
+text_valid L b q keeps =
+    let valid = (rule_held _ _ _ (rule_held _ _ _ (rule_held _ _ _ (rule_held _ _ _ keeps).1).1).1).0 in
+    let long = text_length L b q keeps in
+    is_utf8-from_IsUtf8 (part_of b (q + 4) (num b q 4)) (utf8_whole (part_of b (q + 4) (num b q 4)) (grind (arith, nat_tests)))
+
+module _ (L : LaidSchema) (b : Bytes) (t p k : ℕ) (s : Stored) (there : ∥ ((d : Datum) × Lies L b (part_place (table_part t)) p d) ∥₁) (known : (d : Datum) → Lies L b (part_place (table_part t)) p d → StoredAs L b s (entry_of d k)) where
+  -- a text that was found is within the bytes
+  pub text_sure : (q : ℕ) → text_place_of s ≡ Some q → IsTextBehind b q
+  text_sure q e =
+      let has = λ (found : (d : Datum) × Lies L b (part_place (table_part t)) p d). rw (text_is s q e) at (known found.0 found.1) in
+      record {
+        reference = leb-true _ _ (sure_of _ there (λ found. ref_within L b text_part q (has found).2.0));
+        count = leb-true _ _ (sure_of _ there (λ found. (text_counted L b (q + num b q 4) (text_keeps L b (q + num b q 4) (has found).0 (has found).2.1)).0));
+        within = leb-true _ _ (sure_of _ there (λ found. (text_counted L b (q + num b q 4) (text_keeps L b (q + num b q 4) (has found).0 (has found).2.1)).1));
+        valid = sure_of _ there (λ found. text_valid L b (q + num b q 4) (text_keeps L b (q + num b q 4) (has found).0 (has found).2.1));
+      }
+
+  pub table_sure : (x : TypeId) (q : ℕ) → table_place_of s ≡ Some (x, q) → q + 4 ≤ length b
+  table_sure x q e = leb-true _ _ (sure_of _ there (λ found. ref_within L b (table_part x.0) q (rw (table_is s x q e) at (known found.0 found.1)).2.0))
+
+  pub table_lies : (x : TypeId) (q : ℕ) → table_place_of s ≡ Some (x, q) → ∥ ((d : Datum) × Lies L b (part_place (table_part x.0)) (q + num b q 4) d) ∥₁
+  table_lies x q e = there_too there (λ found. let has = table_found L b s x q (entry_of found.0 k) e (known found.0 found.1) in (has.0, has.2))
+
+  pub member_sure : (c : ℕ) (x : TypeId) (q : ℕ) → member_place_of s ≡ Some (c, x, q) → q + 4 ≤ length b
+  member_sure c x q e = leb-true _ _ (sure_of _ there (λ found. ref_within L b (member_part c x.0) q (rw (member_is s c x q e) at (known found.0 found.1)).2.0))
+
+  pub member_lies : (c : ℕ) (x : TypeId) (q : ℕ) → member_place_of s ≡ Some (c, x, q) → ∥ ((d : Datum) × Lies L b (part_place (table_part x.0)) (q + num b q 4) d) ∥₁
+  member_lies c x q e = there_too there (λ found. let has = member_found L b s c x q (entry_of found.0 k) e (known found.0 found.1) in (has.0, has.2))
+
+  pub number_sure : (base : Base) (q : ℕ) → number_place_of s ≡ Some (base, q) → q + base_size base ≤ length b
+  number_sure base q e = leb-true _ _ (sure_of _ there (λ found. inline_within L b (scalar_kind base) q (rw (number_is s base q e) at (known found.0 found.1)).2.0))

@@ -1,0 +1,12 @@
+use Rattle.std.proofs.Common.{◌≡◌, ◌+◌, ◌-◌, ◌∙◌, sym, ap, take, drop, true, arith}
+use Rattle.std.proofs.lemmas.Str.{IsUtf8-from_is_utf8}
+use Rattle.std.specs.Str.{is_utf8}
+use Rattle.fb_value.specs.Num.{num}
+use Rattle.fb_read.specs.Stored.{text_behind}
+use Rattle.fb_read.proofs.accessors.text_behind.Goals as goal
+
+pub from_utf8_unchecked-requires : goal.from_utf8_unchecked-requires
+from_utf8_unchecked-requires c = IsUtf8-from_is_utf8 _ (rw (c.u32_at-2.ensures, c.u32_at.ensures) (rw (long _ _) c.requires.valid))
+  where
+    long : (p n : _) → (((p + 4) + n) - (p + 4)) ≡ n
+    long p n = omega arith
