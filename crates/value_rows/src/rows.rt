@@ -1,0 +1,100 @@
+//! A row, read and judged.
+use crate::hex::bytes_of;
+use crate::outcomes::{Flags, built_of, of_bytes, of_json};
+use fb_value::Limits;
+use flatc_tool::schema_of;
+use serde::Deserialize;
+use std::alloc::{AllocError, Global};
+
+/// A schema text under a plain name, with a JSON text, with bytes in hexadecimal or with both, and
+/// what has to come of them.
+///
+/// Of a JSON text the value that it means is wanted, of bytes the value that they hold, or the fault.
+/// Where both are there, the text becomes exactly these bytes, and what is wanted is the text that
+/// they print as.
+#[derive(Drop, Deserialize)]
+#[serde(deny_unknown_fields)]
+struct Row {
+    row: String,
+    schema: String,
+    #[serde(default)]
+    json: Option<String>,
+    #[serde(default)]
+    bytes: Option<String>,
+    #[serde(default)]
+    depth: Option<u8>,
+    #[serde(default)]
+    cells: Option<u32>,
+    #[serde(default)]
+    unknown: bool,
+    #[serde(default)]
+    raw: bool,
+    #[serde(default)]
+    defaults: bool,
+    want: String,
+}
+
+/// What a row begins with.
+#[derive(Clone, Copy, Drop)]
+pub(crate) enum Source {
+    Both,
+    Json,
+    Bytes,
+}
+
+/// Whether a row holds.
+#[derive(Drop)]
+pub(crate) enum Verdict {
+    Holds(Source),
+    Wrong(String),
+}
+
+/// What comes of a row.
+fn outcome_of(alloc: Global, row: &Row) -> Result<(Source, String), AllocError> {
+    let depth = row.depth.unwrap_or(64);
+    let cells = row.cells.unwrap_or(100_000_000);
+    let Some(limits) = Limits::new(depth, cells) else {
+        return Ok((Source::Json, format!(in alloc; "no limits")?));
+    };
+    let layout = match schema_of(alloc, row.schema.as_bytes()) {
+        Ok(layout) => layout,
+        Err(fault) => return Ok((Source::Json, format!(in alloc; "{fault:?}")?)),
+    };
+    let flags = Flags {
+        limits,
+        unknown: row.unknown,
+        raw: row.raw,
+        defaults: row.defaults,
+    };
+    match (&row.json, &row.bytes) {
+        (Some(json), None) => Ok((Source::Json, of_json(alloc, &layout, json.as_str(), flags)?)),
+        (None, Some(hex)) => match bytes_of(alloc, hex.as_str())? {
+            Some(bytes) => Ok((
+                Source::Bytes,
+                of_bytes(alloc, &layout, bytes.as_slice(), flags)?,
+            )),
+            None => Ok((Source::Bytes, format!(in alloc; "no bytes")?)),
+        },
+        (Some(json), Some(_)) => Ok((
+            Source::Both,
+            built_of(alloc, &layout, json.as_str(), flags)?,
+        )),
+        (None, None) => Ok((Source::Both, format!(in alloc; "nothing")?)),
+    }
+}
+
+/// The verdict on a line. A line that is no row is wrong.
+pub(crate) fn judge(alloc: Global, line: &str) -> Result<Verdict, AllocError> {
+    let row: Row = match serde_json::from_str(alloc, line) {
+        Ok(row) => row,
+        Err(fault) => return Ok(Verdict::Wrong(format!(in alloc; "{line}: no row, {fault}")?)),
+    };
+    let (source, found) = outcome_of(alloc, &row)?;
+    if found.as_str() == row.want.as_str() {
+        return Ok(Verdict::Holds(source));
+    }
+    let name = row.row.as_str();
+    let want = row.want.as_str();
+    let wrong = format!(in alloc; "{name}: wanted {want}, got {found}")?;
+    Ok(Verdict::Wrong(wrong))
+}
