@@ -2,10 +2,9 @@
 use Rattle.std.proofs.Common.{ℕ, ◌<◌, ◌≤◌, List, length, Option, ap, arith}
 use Rattle.fb_syntax.specs.Located.{Located}
 use Rattle.fb_syntax.specs.Lexemes.{Lexeme}
-use Rattle.fb_syntax.specs.Grammar.{IsToken, IsSign, IsMore, no_further, further, IsName, Repeated, no_more, one_more, Listed, last_item, item_before, IsNothing, MayBeComma, no_comma, one_comma}
+use Rattle.fb_syntax.specs.Grammar.{IsSign, IsMore, no_further, further, IsName, Repeated, no_more, one_more, Listed, last_item, item_before, IsNothing, MayBeComma, no_comma, one_comma}
 use Rattle.fb_syntax.specs.GrammarFields.{IsAttributeValue, integer_value, word_value, quoted_value, IsAttributeUse, without_value, with_value, IsMetadata, no_metadata, no_attributes, some_attributes, IsType, one_type, many_type, IsDefaultValue, integer_default, name_default, IsDefault, no_default, some_default, IsField}
 use Rattle.fb_syntax.specs.GrammarTypes.{IsTable, IsEnumValue, without_number, with_number, IsEnum, IsMember, with_alias, without_alias, IsUnion}
-use Rattle.fb_syntax.specs.declared.tokens.TokenKind.{TokenKind}
 use Rattle.fb_syntax.specs.declared.declarations.AttributeUse.{AttributeUse}
 use Rattle.fb_syntax.specs.declared.declarations.AttributeValue.{AttributeValue}
 use Rattle.fb_syntax.specs.declared.declarations.FieldType.{FieldType}

@@ -3,13 +3,11 @@ use Rattle.std.proofs.Common.{◌≡◌, ℕ, zero, suc, ◌+◌, ◌-◌, true,
 use Rattle.std.proofs.lemmas.Str.{IsUtf8-between}
 use Rattle.std.specs.Str.{IsAscii}
 use Rattle.std.specs.List.{list_all}
-use Rattle.fb_syntax.specs.declared.tokens.TokenKind.TheVariants.{Word, Integer, Quoted}
+use Rattle.fb_syntax.specs.declared.tokens.TokenKind.TheVariants.{Quoted}
 use Rattle.fb_syntax.specs.declared.tokens.Token.{Token}
-use Rattle.fb_syntax.specs.Integers.{IsInteger}
-use Rattle.fb_syntax.specs.TokenBytes.{is_token}
 use Rattle.fb_syntax.specs.SpelledTokens.{IsTokenOf, token_bytes, quoted_bytes}
 use Rattle.fb_syntax.proofs.TokenStarts.{and_both}
-use Rattle.fb_syntax.proofs.TokenEnds.{is_ascii, word_all_ascii, quoted_len, IsCharBoundary-before_token, IsCharBoundary-after_token, IsCharBoundary-after_quote, IsCharBoundary-before_quote}
+use Rattle.fb_syntax.proofs.TokenEnds.{is_ascii, quoted_len, IsCharBoundary-before_token, IsCharBoundary-after_token, IsCharBoundary-after_quote, IsCharBoundary-before_quote}
 use borrow.Author.Tests.{ltb-true}
 
 -- a token's bytes are UTF-8

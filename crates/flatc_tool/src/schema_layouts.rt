@@ -53,8 +53,8 @@ impl SchemaTextFault {
 
 /// The layout of the schema that a text declares.
 ///
-/// The refusal is that of the first layer that refuses, and of the faults of declarations the least;
-/// where it is no want of memory, the text has no layout.
+/// The error is that of the first layer that refuses, and of the faults of declarations the least.
+/// Unless memory ran out, it means that the text has no layout.
 pub fn schema_of(alloc: Global, text: &[u8]) -> Result<Layout, SchemaTextFault>
     ensures accepted { IfOk result (IsAccepted text.now) }
     ensures refused { IfErr result (IsRefused text.now) }
