@@ -1,5 +1,5 @@
 -- What the accessors of a view answer is what the entry of the slot is.
-use Rattle.std.proofs.Common.{◌≡◌, ℕ, zero, suc, ◌+◌, ◌<◌, ◌≤◌, Bool, true, false, nat_le, List, [], ◌∷◌, length, map, drop, slice_get, slice_index_or, Option, None, Some, ℤ, refl, sym, ap, subst, ◌∙◌, arith}
+use Rattle.std.proofs.Common.{◌≡◌, ℕ, zero, suc, ◌+◌, ◌*◌, ◌<◌, ◌≤◌, Bool, true, false, nat_le, List, [], ◌∷◌, length, map, drop, slice_get, slice_index_or, Option, None, Some, ℤ, refl, sym, ap, subst, ◌∙◌, arith}
 use Rattle.std.proofs.Math.Logic.{∥∥₁_elim}
 use Rattle.std.proofs.lemmas.Bool.{leb-true, and_parts}
 use Rattle.std.proofs.lemmas.Bool.Decides.{nat_tests}
@@ -11,12 +11,12 @@ use Rattle.fb_schema.specs.declared.kinds.Kind.{Kind}
 use Rattle.fb_schema.specs.declared.kinds.TypeId.{TypeId}
 use Rattle.fb_schema.specs.declared.types.FieldInfo.{FieldInfo}
 use Rattle.fb_schema.specs.Alignments.{base_size}
-use Rattle.fb_layout.specs.Laid.{LaidSchema, Slot, StoredKind, scalar_kind, struct_kind, slots_of, stored_kind, size_of}
-use Rattle.fb_value.specs.Datum.{Datum, a_number, a_text, a_vector, a_struct, a_table, a_member, an_unknown, Parts, SlotEntries, no_entries, absent_entry, present_entry}
+use Rattle.fb_layout.specs.Laid.{LaidSchema, Slot, StoredKind, scalar_kind, struct_kind, slots_of, parts_of, struct_at, stored_kind, size_of}
+use Rattle.fb_value.specs.Datum.{Datum, a_number, a_text, a_vector, a_struct, a_table, a_member, an_unknown, Parts, count, SlotEntries, no_entries, absent_entry, present_entry}
 use Rattle.fb_value.specs.Num.{Bytes, num, part_of, scalar_of}
 use Rattle.fb_value.specs.Places.{Target, table_part, member_part, text_part, vector_part, Sort, ref_place, part_place, inline_place, Place, named_slots}
 use Rattle.fb_value.specs.Rules.{Keeps, fault_by}
-use Rattle.fb_value.specs.Lies.{LiesInline, Lies, LiesAt, LiesSlots}
+use Rattle.fb_value.specs.Lies.{LiesInline, LiesParts, Lies, LiesAt, LiesItems, LiesSlots}
 use Rattle.fb_value.specs.Nth.{nth_entry, slot_place, LiesInSlot}
 use Rattle.fb_value.proofs.Steps.{rule_held}
 use Rattle.fb_value.proofs.Counted.{text_length}
@@ -25,7 +25,7 @@ use Rattle.fb_value.proofs.NthLies.{entry_lies_shown}
 use Rattle.fb_read.specs.declared.stored.Stored.{Stored}
 use Rattle.fb_read.specs.declared.stored.Stored.TheVariants.{Absent, Unknown, Number, Fixed, Text, Table, Member, Vector}
 use Rattle.fb_read.specs.Stored.{HasAt, StoredAs, text_place_of, table_place_of, member_place_of, vector_place_of, struct_place_of, number_place_of, default_in, unknown_code_of, text_behind, IsTextBehind}
-use Rattle.fb_read.specs.Views.{entry_of, number_in, text_in, table_in, member_in, unknown_in}
+use Rattle.fb_read.specs.Views.{entry_of, number_in, text_in, table_in, struct_in, vector_in, member_in, unknown_in}
 use Rattle.fb_read.specs.Visits.{slot_seen, slots_seen}
 use Rattle.fb_read.proofs.Visited.{slot_there}
 use Rattle.fb_read.proofs.Entered.{sure_of}
@@ -53,19 +53,19 @@ class_of (Table t p) = 4
 class_of (Member code t p) = 5
 class_of (Vector kind p) = 2
 
-number_class : (L : LaidSchema) (b : Bytes) (base : Base) (p : ℕ) (d : Datum) → LiesInline L b (scalar_kind base) p d → class_in (Some d) ≡ 0
+pub number_class : (L : LaidSchema) (b : Bytes) (base : Base) (p : ℕ) (d : Datum) → LiesInline L b (scalar_kind base) p d → class_in (Some d) ≡ 0
 number_class L b base p (a_number n) lies = refl
 number_class L b base p _ lies = absurd lies
 
-struct_class : (L : LaidSchema) (b : Bytes) (s p : ℕ) (d : Datum) → LiesInline L b (struct_kind s) p d → class_in (Some d) ≡ 3
+pub struct_class : (L : LaidSchema) (b : Bytes) (s p : ℕ) (d : Datum) → LiesInline L b (struct_kind s) p d → class_in (Some d) ≡ 3
 struct_class L b s p (a_struct ds) lies = refl
 struct_class L b s p _ lies = absurd lies
 
-text_class : (L : LaidSchema) (b : Bytes) (p : ℕ) (d : Datum) → Lies L b (part_place text_part) p d → class_in (Some d) ≡ 1
+pub text_class : (L : LaidSchema) (b : Bytes) (p : ℕ) (d : Datum) → Lies L b (part_place text_part) p d → class_in (Some d) ≡ 1
 text_class L b p (a_text bytes) lies = refl
 text_class L b p _ lies = absurd lies
 
-table_class : (L : LaidSchema) (b : Bytes) (t p : ℕ) (d : Datum) → Lies L b (part_place (table_part t)) p d → class_in (Some d) ≡ 4
+pub table_class : (L : LaidSchema) (b : Bytes) (t p : ℕ) (d : Datum) → Lies L b (part_place (table_part t)) p d → class_in (Some d) ≡ 4
 table_class L b t p (a_table type es) lies = refl
 table_class L b t p _ lies = absurd lies
 
@@ -89,17 +89,17 @@ stored_class L b (Table t p) o stored = rw stored.1 (table_class L b t.0 (p + nu
 stored_class L b (Member code t p) o stored = rw stored.1 (member_class L b code t.0 (p + num b p 4) stored.0 stored.2.1)
 stored_class L b (Vector kind p) o stored = rw stored.1 (vector_class L b (stored_kind L.schema kind) (p + num b p 4) stored.0 stored.2.1)
 
-number_else : (o : Option Datum) (k : ℕ) → class_in o ≡ k → (k ≡ 0 → ⊥) → number_in o ≡ None
+pub number_else : (o : Option Datum) (k : ℕ) → class_in o ≡ k → (k ≡ 0 → ⊥) → number_in o ≡ None
 number_else (Some (a_number n)) k e h = absurd (h (sym e))
 number_else None k e h = refl
 number_else (Some _) k e h = refl
 
-text_else : (o : Option Datum) (k : ℕ) → class_in o ≡ k → (k ≡ 1 → ⊥) → text_in o ≡ None
+pub text_else : (o : Option Datum) (k : ℕ) → class_in o ≡ k → (k ≡ 1 → ⊥) → text_in o ≡ None
 text_else (Some (a_text bytes)) k e h = absurd (h (sym e))
 text_else None k e h = refl
 text_else (Some _) k e h = refl
 
-table_else : (o : Option Datum) (k : ℕ) → class_in o ≡ k → (k ≡ 4 → ⊥) → table_in o ≡ None
+pub table_else : (o : Option Datum) (k : ℕ) → class_in o ≡ k → (k ≡ 4 → ⊥) → table_in o ≡ None
 table_else (Some (a_table t es)) k e h = absurd (h (sym e))
 table_else None k e h = refl
 table_else (Some _) k e h = refl
@@ -172,7 +172,7 @@ number_found L b s base q o e stored =
     let has = rw (number_is s base q e) at stored in
     rw has.1 (sym (scalar_there L b base q has.0 has.2.1))
 
-text_here : (L : LaidSchema) (b : Bytes) (q : ℕ) (d : Datum) → Lies L b (part_place text_part) q d → text_in (Some d) ≡ Some (part_of b (q + 4) (num b q 4))
+pub text_here : (L : LaidSchema) (b : Bytes) (q : ℕ) (d : Datum) → Lies L b (part_place text_part) q d → text_in (Some d) ≡ Some (part_of b (q + 4) (num b q 4))
 text_here L b q (a_text bytes) lies = ap Some lies.1
 text_here L b q _ lies = absurd lies
 
@@ -186,7 +186,7 @@ table_here : (L : LaidSchema) (b : Bytes) (t q : ℕ) (d : Datum) → Lies L b (
 table_here L b t q (a_table type es) lies = refl
 table_here L b t q _ lies = absurd lies
 
-table_from : (L : LaidSchema) (b : Bytes) (t q : ℕ) (o : Option Datum) (x : Datum) → o ≡ Some x → Lies L b (part_place (table_part t)) q x → (d : Datum) × (table_in o ≡ Some d) × Lies L b (part_place (table_part t)) q d
+pub table_from : (L : LaidSchema) (b : Bytes) (t q : ℕ) (o : Option Datum) (x : Datum) → o ≡ Some x → Lies L b (part_place (table_part t)) q x → (d : Datum) × (table_in o ≡ Some d) × Lies L b (part_place (table_part t)) q d
 table_from L b t q o x e lies = (x, rw e (table_here L b t q x lies), lies)
 
 -- the table that was found
@@ -239,7 +239,7 @@ entry_there L b t p xs _ k x seen less is lies = absurd lies
 pub there_too : {P Q : Type 0} → ∥ P ∥₁ → (P → Q) → ∥ Q ∥₁
 there_too there f = ∥∥₁_elim there (hlevel) (λ p. merely (f p))
 
-ref_within : (L : LaidSchema) (b : Bytes) (X : Target) (q : ℕ) → Keeps L b (ref_place X) q → nat_le (q + 4) (length b) ≡ true
+pub ref_within : (L : LaidSchema) (b : Bytes) (X : Target) (q : ℕ) → Keeps L b (ref_place X) q → nat_le (q + 4) (length b) ≡ true
 unfolding fault_by
 ref_within L b X q e = (rule_held _ _ _ (rule_held _ _ _ e).1).0
 
@@ -262,17 +262,98 @@ text_valid L b q keeps =
     let long = text_length L b q keeps in
     is_utf8-from_IsUtf8 (part_of b (q + 4) (num b q 4)) (utf8_whole (part_of b (q + 4) (num b q 4)) (grind (arith, nat_tests)))
 
+-- a text that lies behind a reference is within the bytes
+pub text_behind_sure : (L : LaidSchema) (b : Bytes) (q : ℕ) → ∥ ((d : Datum) × Keeps L b (ref_place text_part) q × Lies L b (part_place text_part) (q + num b q 4) d) ∥₁ → IsTextBehind b q
+text_behind_sure L b q there = record {
+  reference = leb-true _ _ (sure_of _ there (λ found. ref_within L b text_part q found.1));
+  count = leb-true _ _ (sure_of _ there (λ found. (text_counted L b (q + num b q 4) (text_keeps L b (q + num b q 4) found.0 found.2)).0));
+  within = leb-true _ _ (sure_of _ there (λ found. (text_counted L b (q + num b q 4) (text_keeps L b (q + num b q 4) found.0 found.2)).1));
+  valid = sure_of _ there (λ found. text_valid L b (q + num b q 4) (text_keeps L b (q + num b q 4) found.0 found.2));
+}
+
+pub struct_else : (o : Option Datum) (k : ℕ) → class_in o ≡ k → (k ≡ 3 → ⊥) → struct_in o ≡ None
+struct_else (Some (a_struct ds)) k e h = absurd (h (sym e))
+struct_else None k e h = refl
+struct_else (Some _) k e h = refl
+
+vector_else : (o : Option Datum) (k : ℕ) → class_in o ≡ k → (k ≡ 2 → ⊥) → vector_in o ≡ None
+vector_else (Some (a_vector ds)) k e h = absurd (h (sym e))
+vector_else None k e h = refl
+vector_else (Some _) k e h = refl
+
+pub struct_none : (L : LaidSchema) (b : Bytes) (s : Stored) (o : Option Datum) → StoredAs L b s o → struct_place_of s ≡ None → struct_in o ≡ None
+struct_none L b (Fixed x p) o stored none = cc
+struct_none L b (Absent None) o stored none = rw stored refl
+struct_none L b (Absent (Some n)) o stored none = rw stored refl
+struct_none L b s o stored none = struct_else o (class_of s) (stored_class L b s o stored) (λ e. omega arith)
+
+pub vector_none : (L : LaidSchema) (b : Bytes) (s : Stored) (o : Option Datum) → StoredAs L b s o → vector_place_of s ≡ None → vector_in o ≡ None
+vector_none L b (Vector kind p) o stored none = cc
+vector_none L b (Absent None) o stored none = rw stored refl
+vector_none L b (Absent (Some n)) o stored none = rw stored refl
+vector_none L b s o stored none = vector_else o (class_of s) (stored_class L b s o stored) (λ e. omega arith)
+
+struct_is : (s : Stored) (t : TypeId) (q : ℕ) → struct_place_of s ≡ Some (t, q) → s ≡ Fixed t q
+struct_is (Fixed x p) t q e = let same : (x, p) ≡ (t, q) = cc in ap (λ (y : TypeId × ℕ). Fixed y.0 y.1) same
+struct_is _ t q e = cc
+
+vector_is : (s : Stored) (kind : Kind) (q : ℕ) → vector_place_of s ≡ Some (kind, q) → s ≡ Vector kind q
+vector_is (Vector x p) kind q e = let same : (x, p) ≡ (kind, q) = cc in ap (λ (y : Kind × ℕ). Vector y.0 y.1) same
+vector_is _ kind q e = cc
+
+struct_from : (L : LaidSchema) (b : Bytes) (s q : ℕ) (o : Option Datum) (d : Datum) → o ≡ Some d → LiesInline L b (struct_kind s) q d → (ds : Parts) × (struct_in o ≡ Some ds) × LiesParts L b (parts_of L s) (struct_at L s).offsets q ds
+struct_from L b s q o (a_struct ds) e lies = (ds, rw e refl, lies)
+struct_from L b s q o _ e lies = absurd lies
+
+-- the struct that was found
+pub struct_found : (L : LaidSchema) (b : Bytes) (s : Stored) (t : TypeId) (q : ℕ) (o : Option Datum) → struct_place_of s ≡ Some (t, q) → StoredAs L b s o → (ds : Parts) × (struct_in o ≡ Some ds) × LiesParts L b (parts_of L t.0) (struct_at L t.0).offsets q ds
+struct_found L b s t q o e stored =
+    let has = rw (struct_is s t q e) at stored in
+    struct_from L b t.0 q o has.0 has.1 has.2.1
+
+vector_from : (L : LaidSchema) (b : Bytes) (kind : StoredKind) (q : ℕ) (o : Option Datum) (d : Datum) → o ≡ Some d → Lies L b (part_place (vector_part kind)) q d → (ds : Parts) × (vector_in o ≡ Some ds) × (count ds ≡ num b q 4) × LiesItems L b kind (q + 4) ds
+vector_from L b kind q o (a_vector ds) e lies = (ds, rw e refl, lies.1, lies.2)
+vector_from L b kind q o _ e lies = absurd lies
+
+-- the vector that was found
+pub vector_found : (L : LaidSchema) (b : Bytes) (s : Stored) (kind : Kind) (q : ℕ) (o : Option Datum) → vector_place_of s ≡ Some (kind, q) → StoredAs L b s o
+    → (ds : Parts) × (vector_in o ≡ Some ds) × (count ds ≡ num b (q + num b q 4) 4) × LiesItems L b (stored_kind L.schema kind) ((q + num b q 4) + 4) ds
+vector_found L b s kind q o e stored =
+    let has = rw (vector_is s kind q e) at stored in
+    vector_from L b (stored_kind L.schema kind) (q + num b q 4) o has.0 has.1 has.2.1
+
+vector_keeps : (L : LaidSchema) (b : Bytes) (kind : StoredKind) (q : ℕ) (d : Datum) → Lies L b (part_place (vector_part kind)) q d → Keeps L b (part_place (vector_part kind)) q
+vector_keeps L b kind q (a_vector ds) lies = lies.0
+vector_keeps L b kind q _ lies = absurd lies
+
+vector_counted : (L : LaidSchema) (b : Bytes) (kind : StoredKind) (q : ℕ) → Keeps L b (part_place (vector_part kind)) q → (nat_le (q + 4) (length b) ≡ true) × (nat_le ((q + 4) + num b q 4 * size_of L kind) (length b) ≡ true)
+unfolding fault_by
+vector_counted L b kind q e = and_parts _ _ (rule_held _ _ _ (rule_held _ _ _ e).1).0
+
 module _ (L : LaidSchema) (b : Bytes) (t p k : ℕ) (s : Stored) (there : ∥ ((d : Datum) × Lies L b (part_place (table_part t)) p d) ∥₁) (known : (d : Datum) → Lies L b (part_place (table_part t)) p d → StoredAs L b s (entry_of d k)) where
   -- a text that was found is within the bytes
   pub text_sure : (q : ℕ) → text_place_of s ≡ Some q → IsTextBehind b q
-  text_sure q e =
-      let has = λ (found : (d : Datum) × Lies L b (part_place (table_part t)) p d). rw (text_is s q e) at (known found.0 found.1) in
-      record {
-        reference = leb-true _ _ (sure_of _ there (λ found. ref_within L b text_part q (has found).2.0));
-        count = leb-true _ _ (sure_of _ there (λ found. (text_counted L b (q + num b q 4) (text_keeps L b (q + num b q 4) (has found).0 (has found).2.1)).0));
-        within = leb-true _ _ (sure_of _ there (λ found. (text_counted L b (q + num b q 4) (text_keeps L b (q + num b q 4) (has found).0 (has found).2.1)).1));
-        valid = sure_of _ there (λ found. text_valid L b (q + num b q 4) (text_keeps L b (q + num b q 4) (has found).0 (has found).2.1));
-      }
+  text_sure q e = text_behind_sure L b q (there_too there (λ found. let has = rw (text_is s q e) at (known found.0 found.1) in (has.0, has.2.0, has.2.1)))
+
+  -- a struct is
+  pub struct_sure : (x : TypeId) (q : ℕ) → struct_place_of s ≡ Some (x, q) → q + (struct_at L x.0).size ≤ length b
+  struct_sure x q e = leb-true _ _ (sure_of _ there (λ found. inline_within L b (struct_kind x.0) q (rw (struct_is s x q e) at (known found.0 found.1)).2.0))
+
+  vector_there : (kind : Kind) (q : ℕ) → vector_place_of s ≡ Some (kind, q) → ∥ ((d : Datum) × Keeps L b (ref_place (vector_part (stored_kind L.schema kind))) q × Lies L b (part_place (vector_part (stored_kind L.schema kind))) (q + num b q 4) d) ∥₁
+  vector_there kind q e = there_too there (λ found. let has = rw (vector_is s kind q e) at (known found.0 found.1) in (has.0, has.2.0, has.2.1))
+
+  -- so are a vector's reference, its count and its elements
+  pub vector_sure : (kind : Kind) (q : ℕ) → vector_place_of s ≡ Some (kind, q) → q + 4 ≤ length b
+  vector_sure kind q e = leb-true _ _ (sure_of _ (vector_there kind q e) (λ found. ref_within L b (vector_part (stored_kind L.schema kind)) q found.1))
+
+  pub count_sure : (kind : Kind) (q : ℕ) → vector_place_of s ≡ Some (kind, q) → (q + num b q 4) + 4 ≤ length b
+  count_sure kind q e = leb-true _ _ (sure_of _ (vector_there kind q e) (λ found. (vector_counted L b (stored_kind L.schema kind) (q + num b q 4) (vector_keeps L b (stored_kind L.schema kind) (q + num b q 4) found.0 found.2)).0))
+
+  pub items_sure : (kind : Kind) (q : ℕ) → vector_place_of s ≡ Some (kind, q) → ((q + num b q 4) + 4) + num b (q + num b q 4) 4 * size_of L (stored_kind L.schema kind) ≤ length b
+  items_sure kind q e = leb-true _ _ (sure_of _ (vector_there kind q e) (λ found. (vector_counted L b (stored_kind L.schema kind) (q + num b q 4) (vector_keeps L b (stored_kind L.schema kind) (q + num b q 4) found.0 found.2)).1))
+
+  pub items_lie : (kind : Kind) (q : ℕ) → vector_place_of s ≡ Some (kind, q) → ∥ ((ds : Parts) × (count ds ≡ num b (q + num b q 4) 4) × LiesItems L b (stored_kind L.schema kind) ((q + num b q 4) + 4) ds) ∥₁
+  items_lie kind q e = there_too there (λ found. let has = vector_found L b s kind q (entry_of found.0 k) e (known found.0 found.1) in (has.0, has.2, has.3))
 
   pub table_sure : (x : TypeId) (q : ℕ) → table_place_of s ≡ Some (x, q) → q + 4 ≤ length b
   table_sure x q e = leb-true _ _ (sure_of _ there (λ found. ref_within L b (table_part x.0) q (rw (table_is s x q e) at (known found.0 found.1)).2.0))

@@ -5,8 +5,10 @@ ghost use Rattle.fb_value.specs.Num.{num};
 ghost use Rattle.fb_value.specs.Places.{vtable};
 ghost use Rattle.fb_read.specs.Stored.{StoredAs, IsTextBehind, text_behind};
 ghost use Rattle.fb_read.specs.Views.{entry_of, number_in, text_in, unknown_in};
-ghost use Rattle.fb_read.specs.Shows.{Shows, ShowsTable, ShowsMember};
+ghost use Rattle.fb_read.specs.Shows.{Shows, ShowsTable, ShowsMember, ShowsStruct, ShowsVector};
 
+use crate::fixed::FixedView;
+use crate::items::Items;
 use crate::numbers::{number_at, u32_at};
 use crate::places::vtable_of;
 use crate::stored::{Stored, stored_in};
@@ -15,8 +17,8 @@ use fb_layout::Layout;
 use fb_schema::TypeId;
 use std::str::from_utf8_unchecked;
 
-// The text behind the reference at a position.
-fn text_behind(bytes: &[u8], at: usize) -> &str
+/// The text behind the reference at a position.
+pub fn text_behind(bytes: &[u8], at: usize) -> &str
     requires { IsTextBehind bytes.now at }
     ensures { result.now ≡ text_behind bytes.now at }
 {
@@ -129,6 +131,40 @@ impl<'a> View<'a> {
                     at: at + u32_at(self.bytes, at) as usize,
                 },
             )),
+            None => None,
+        }
+    }
+
+    /// The struct in a slot.
+    pub fn fixed(self, slot: u16) -> Option<FixedView<'a>>
+        ensures { (d : Datum) → Shows self.entry d → ShowsStruct result (entry_of d slot) }
+    {
+        match self.stored(slot).structure() {
+            Some((structure, at)) => Some(FixedView {
+                layout: self.layout,
+                bytes: self.bytes,
+                structure,
+                at,
+            }),
+            None => None,
+        }
+    }
+
+    /// The vector in a slot.
+    pub fn items(self, slot: u16) -> Option<Items<'a>>
+        ensures { (d : Datum) → Shows self.entry d → ShowsVector result (entry_of d slot) }
+    {
+        match self.stored(slot).vector() {
+            Some((kind, at)) => {
+                let target = at + u32_at(self.bytes, at) as usize;
+                Some(Items {
+                    layout: self.layout,
+                    bytes: self.bytes,
+                    kind,
+                    at: target + 4,
+                    len: u32_at(self.bytes, target),
+                })
+            }
             None => None,
         }
     }

@@ -3,6 +3,11 @@
 
 mod accessors;
 mod counting;
+mod elements;
+mod fields;
+mod fixed;
+mod items;
+mod kinds;
 mod numbers;
 mod places;
 mod reading;
@@ -15,6 +20,8 @@ mod walk;
 
 pub use counting::Entries;
 pub use fb_value::ReadFault;
+pub use fixed::FixedView;
+pub use items::Items;
 pub use reading::read;
 pub use verification::verify;
 pub use views::View;

@@ -1,0 +1,63 @@
+//! What the values of a kind are.
+ghost use Rattle.std.specs.Prelude.{◌≡◌, option_map};
+ghost use Rattle.fb_layout.specs.Laid.{LaidSchema, stored_kind};
+ghost use Rattle.fb_read.specs.Kinds.{base_wanted, structure_wanted, table_wanted, is_text};
+
+use fb_layout::Layout;
+use fb_schema::{Base, Kind, TypeId};
+
+/// The basic type of a kind's numbers.
+pub fn base_of(layout: &Layout, kind: Kind) -> Option<Base>
+    ensures { result ≡ base_wanted (stored_kind layout.now.schema kind) }
+{
+    match kind {
+        Kind::Scalar(base) => Some(base),
+        Kind::Enum(values) => Some(layout.base_of(values)),
+        Kind::Struct(_) | Kind::Table(_) | Kind::Union(_) | Kind::Code(_) | Kind::Text => None,
+    }
+}
+
+/// The struct of a kind.
+pub fn structure_of(kind: Kind) -> Option<TypeId>
+    ensures { (L : LaidSchema) → option_map (λ s. s.0) result ≡ structure_wanted (stored_kind L.schema kind) }
+{
+    match kind {
+        Kind::Struct(structure) => Some(structure),
+        Kind::Scalar(_)
+        | Kind::Enum(_)
+        | Kind::Table(_)
+        | Kind::Union(_)
+        | Kind::Code(_)
+        | Kind::Text => None,
+    }
+}
+
+/// The table of a kind.
+pub fn table_of(kind: Kind) -> Option<TypeId>
+    ensures { (L : LaidSchema) → option_map (λ t. t.0) result ≡ table_wanted (stored_kind L.schema kind) }
+{
+    match kind {
+        Kind::Table(table) => Some(table),
+        Kind::Scalar(_)
+        | Kind::Enum(_)
+        | Kind::Struct(_)
+        | Kind::Union(_)
+        | Kind::Code(_)
+        | Kind::Text => None,
+    }
+}
+
+/// Whether a kind's values are texts.
+pub fn is_text(kind: Kind) -> bool
+    ensures { (L : LaidSchema) → result ≡ is_text (stored_kind L.schema kind) }
+{
+    match kind {
+        Kind::Text => true,
+        Kind::Scalar(_)
+        | Kind::Enum(_)
+        | Kind::Struct(_)
+        | Kind::Table(_)
+        | Kind::Union(_)
+        | Kind::Code(_) => false,
+    }
+}
