@@ -7,7 +7,6 @@ ghost use Rattle.fb_value.specs.Holds.{Holds};
 ghost use Rattle.fb_value.specs.Room.{room_of};
 ghost use Rattle.fb_value.specs.View.{view};
 ghost use Rattle.fb_build.specs.declared.faults.BuildFault.TheVariants.{TooBig, Memory};
-ghost use Rattle.fb_build.specs.Needs.{IsSliced};
 
 use crate::faults::BuildFault;
 use crate::keys::add_table;
@@ -23,7 +22,6 @@ const LONGEST_VTABLE: usize = 65_534;
 
 /// Takes all the memory that building a value takes, and lays no byte.
 pub fn plan<'v>(alloc: Global, layout: &'v Layout, value: &'v Value) -> Result<Plan<'v>, BuildFault>
-    requires sliced { IsSliced layout.now }
     requires unmarked { layout.now.schema.identifier ≡ None }
     requires fits { FitsRoot layout.now (view value.now) }
     requires whole { is_whole (view value.now) ≡ true }
@@ -68,7 +66,6 @@ pub fn plan<'v>(alloc: Global, layout: &'v Layout, value: &'v Value) -> Result<P
 
 /// The bytes in which a value of the root table lies.
 pub fn build(alloc: Global, layout: &Layout, value: &Value) -> Result<Vec<u8>, BuildFault>
-    requires sliced { IsSliced layout.now }
     requires unmarked { layout.now.schema.identifier ≡ None }
     requires fits { FitsRoot layout.now (view value.now) }
     requires whole { is_whole (view value.now) ≡ true }

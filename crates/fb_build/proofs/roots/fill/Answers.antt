@@ -1,5 +1,6 @@
-use Rattle.std.proofs.Common.{ℕ, ◌≡◌, ◌%◌, ◌∙◌, true, ap, subst, length, arith}
-use Rattle.std.proofs.lemmas.Bool.{eq-eqb}
+use Rattle.std.proofs.Common.{ℕ, ◌≡◌, ◌+◌, ◌%◌, ◌∙◌, true, ap, subst, length, arith}
+use Rattle.std.proofs.lemmas.Bool.{eq-eqb, eqb-true}
+use Rattle.fb_value.proofs.TailsKept.{through}
 use Rattle.fb_value.specs.Datum.{a_table}
 use Rattle.fb_value.specs.Num.{divides}
 use Rattle.fb_value.specs.Places.{part_place, table_part, ref_place}
@@ -8,6 +9,15 @@ use Rattle.fb_value.specs.Tails.{LiesInTail}
 use Rattle.fb_build.proofs.Grown.{lies_grown}
 use Rattle.fb_build.proofs.WholeBuffers.{whole_holds}
 use Rattle.fb_build.proofs.roots.fill.Goals as goal
+
+pub lay_reference-requires-clause-whole : goal.lay_reference-requires-clause-whole
+lay_reference-requires-clause-whole c =
+    let most = c.most-most.result in
+    let table : divides 4 c.lay_table-place.new.out.most ≡ true = rw c.new-out.ensures.most at c.lay_table-place.ensures.grows.multiple in
+    let four : divides 4 most ≡ true = rw c.most-most.ensures.exact table in
+    let all : divides most (length c.pad.new.self.bytes + 4) ≡ true = eq-eqb _ _ c.pad.ensures.multiple in
+    let rest = eqb-true _ _ (through 4 most (length c.pad.new.self.bytes + 4) four all) in
+    eq-eqb _ _ (omega (arith, rest))
 
 pub returns-clause-holds : goal.returns-clause-holds
 returns-clause-holds c most raw deep small =
