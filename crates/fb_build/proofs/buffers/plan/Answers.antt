@@ -35,7 +35,6 @@ invariant_of-result c =
     let short : length c.in_ok-block.block.items ≤ 2147483647 = omega (arith, long, c.in-Some.ensures.0) in
     record {
       sliced = (all_known c.args.layout.now c.schema-schema.ensures.made);
-      unmarked = c.requires.unmarked;
       fits = (root_fits L _ c.schema-schema.ensures.made).0 c.requires.fits;
       whole = c.requires.whole;
       zeros = zeros_in _ _ block;
