@@ -15,7 +15,8 @@ use Rattle.fb_schema.specs.declared.kinds.Base.{Base}
 use Rattle.fb_schema.specs.declared.kinds.Base.TheVariants as the_base
 use Rattle.fb_schema.specs.Alignments.{base_size}
 use Rattle.fb_layout.specs.Laid.{LaidSchema, Slot, scalar_kind, struct_kind, table_kind, union_kind, code_kind, text_kind, StoredShape, one_of, vector_of}
-use Rattle.fb_layout.specs.Widths.{inline_align}
+use Rattle.fb_layout.specs.Widths.{inline_size, inline_align}
+use Rattle.fb_value.specs.Wanted.{struct_wanted}
 use Rattle.fb_schema.specs.WellDeclared.{InRange}
 use Rattle.fb_value.specs.Datum.{Datum, a_number, a_text, a_vector, a_struct, a_table, a_member, an_unknown}
 use Rattle.fb_value.specs.Num.{Bytes, num, scalar_of, divides}
@@ -149,9 +150,9 @@ member_known L u (a_member c (a_member k d)) h = absurd h.2
 member_known L u (a_member c (an_unknown k)) h = absurd h.2
 member_known L u (an_unknown c) h = absurd h
 
-pub reference_known : (L : LaidSchema) (shape : StoredShape) (d : Datum) → IsSimple shape → scalar_in shape ≡ None → SlotFits L shape d → IsReference L shape d
+pub reference_known : (L : LaidSchema) (shape : StoredShape) (d : Datum) → struct_wanted shape ≡ None → scalar_in shape ≡ None → SlotFits L shape d → IsReference L shape d
 reference_known L (one_of (scalar_kind b)) d h e fits = cc
-reference_known L (one_of (struct_kind s)) d h e fits = absurd h
+reference_known L (one_of (struct_kind s)) d h e fits = cc
 reference_known L (one_of (table_kind t)) d h e fits = record { target = Rattle.fb_value.specs.Places.table_part t; named = refl; sort = refl; align = refl }
 reference_known L (one_of (union_kind u)) d h e fits = let known = member_known L u d fits in record { target = known.0; named = known.1; sort = rw known.1 refl; align = refl }
 reference_known L (one_of (code_kind u)) d h e fits = cc
@@ -195,12 +196,22 @@ now_laid L low m s a f d e at is some lies =
 stored_at : (L : LaidSchema) (a : ℕ) (f : Slot) (x : Option Datum) → is_at L a f x ≡ true → (is_stored f x ≡ true) × (inline_align L f.shape ≡ a)
 stored_at L a f x h = let parts = and_parts _ _ h in (parts.0, eqb-true _ _ parts.1)
 
-pub number_known : (L : LaidSchema) (a : ℕ) (f : Slot) (x : Option Datum) (base : Base) → is_at L a f x ≡ true → scalar_in f.shape ≡ Some base → StoredFits L f x → InRange base (number_in x) × (base_size base ≡ a)
+-- a number takes its own size
+number_size : (L : LaidSchema) (shape : StoredShape) (base : Base) → scalar_in shape ≡ Some base → inline_size L shape ≡ base_size base
+number_size L (one_of (scalar_kind b)) base e = let same : b ≡ base = cc in ap base_size same
+number_size L (one_of (struct_kind s)) base e = cc
+number_size L (one_of (table_kind t)) base e = cc
+number_size L (one_of (union_kind u)) base e = cc
+number_size L (one_of (code_kind u)) base e = let same : the_base.U8 ≡ base = cc in ap base_size same
+number_size L (one_of text_kind) base e = cc
+number_size L (vector_of kind) base e = cc
+
+pub number_known : (L : LaidSchema) (a : ℕ) (f : Slot) (x : Option Datum) (base : Base) → is_at L a f x ≡ true → scalar_in f.shape ≡ Some base → StoredFits L f x → InRange base (number_in x) × (base_size base ≡ a) × (inline_size L f.shape ≡ base_size base)
 number_known L a f None base is scalar fits = cc
 number_known L a f (Some d) base is scalar fits =
     let known = number_fits L f.shape base d scalar fits.1 in
     let at = (stored_at L a f (Some d) is).1 in
-    (known.range, sym known.align ∙ at)
+    (known.range, sym known.align ∙ at, number_size L f.shape base scalar)
 
 pub number_laid : (L : LaidSchema) (low : ℕ) (m : ℕ) (s : Bytes) (a : ℕ) (f : Slot) (x : Option Datum) (base : Base) → is_at L a f x ≡ true → scalar_in f.shape ≡ Some base → StoredFits L f x → low < length s
     → LiesInTail L m s (inline_place (scalar_kind base)) (length s) (a_number (number_in x)) → EntryEnd L low m s (from L a f) f x (length s)
@@ -211,72 +222,31 @@ number_laid L low m s a f (Some d) base is scalar fits some lies =
     let there : LiesInTail L m s (sort_for f.shape d) (length s) d = rw known.sort (subst (λ (y : Datum). LiesInTail L m s (inline_place (scalar_kind base)) (length s) y) (sym known.is) lies) in
     now_laid L low m s a f d (length s) at.1 at.0 some there
 
-pub reference_at : (L : LaidSchema) (low : ℕ) (m : ℕ) (s : Bytes) (a : ℕ) (f : Slot) (x : Option Datum) (e : ℕ) → IsSimple f.shape → StoredFits L f x → is_at L a f x ≡ true → scalar_in f.shape ≡ None → EntryEnd L low m s (above L a f) f x e → (a ≡ 4) × (e ≤ length s)
-reference_at L low m s a f None e simple fits is scalar h = cc
-reference_at L low m s a f (Some d) e simple fits is scalar h =
-    let at = stored_at L a f (Some d) is in
-    let known = reference_known L f.shape d simple scalar fits.1 in
-    let target = target_known L low m s a f d e known.target at.1 at.0 known.named h in
-    (sym at.1 ∙ known.align, target.within)
+pub place_laid : (L : LaidSchema) (low m : ℕ) (s : Bytes) (a : ℕ) (f : Slot) (x : Option Datum) (d : Datum) → x ≡ Some d → is_at L a f x ≡ true → low < length s
+    → LiesInTail L m s (sort_for f.shape d) (length s) d → EntryEnd L low m s (from L a f) f x (length s)
+place_laid L low m s a f x d e is some lies =
+    let at = stored_at L a f (Some d) (rw e at is) in
+    rw e (now_laid L low m s a f d (length s) at.1 at.0 some lies)
 
-pub reference_laid : (L : LaidSchema) (low : ℕ) (m0 m : ℕ) (s0 s : Bytes) (a : ℕ) (f : Slot) (x : Option Datum) (e : ℕ) → IsSimple f.shape → StoredFits L f x → is_at L a f x ≡ true → scalar_in f.shape ≡ None → EntryEnd L low m0 s0 (above L a f) f x e → low < length s
-    → ((X : Target) (d : Datum) → LiesInTail L m0 s0 (part_place X) e d → LiesInTail L m s (ref_place X) (length s) d) → EntryEnd L low m s (from L a f) f x (length s)
-reference_laid L low m0 m s0 s a f None e simple fits is scalar h some lies = cc
-reference_laid L low m0 m s0 s a f (Some d) e simple fits is scalar h some lies =
-    let at = stored_at L a f (Some d) is in
-    let known = reference_known L f.shape d simple scalar fits.1 in
-    let target = target_known L low m0 s0 a f d e known.target at.1 at.0 known.named h in
-    now_laid L low m s a f d (length s) at.1 at.0 some (rw known.sort (lies known.target d target))
+-- what the place of a stored slot names lies already
+pub place_target : (L : LaidSchema) (low m : ℕ) (s : Bytes) (a : ℕ) (f : Slot) (x : Option Datum) (d : Datum) (e : ℕ) → x ≡ Some d → is_at L a f x ≡ true → EntryEnd L low m s (above L a f) f x e → TargetEnd L m s (target_for f.shape d) e d
+place_target L low m s a f x d e same is h =
+    let at = stored_at L a f (Some d) (rw same at is) in
+    let out : nat_lt a (inline_align L f.shape) ≡ false = rw at.1 (not_below a) in
+    let known : EntryEnd L low m s (above L a f) f (Some d) e = rw same at h in
+    subst (λ (t : Bool). StoredEnd L low m s t f (Some d) e) out (known.stored at.0)
+  where
+    not_below : (n : ℕ) → nat_lt n n ≡ false
+    not_below n = grind (arith, nat_tests)
+
+-- what is stored at an alignment, and what of a size
+pub at_known : (L : LaidSchema) (a : ℕ) (f : Slot) (x : Option Datum) → is_at L a f x ≡ true → (is_stored f x ≡ true) × (inline_align L f.shape ≡ a)
+at_known L a f x h = stored_at L a f x h
 
 pub more_divides : (a n k : ℕ) → divides a n ≡ true → k ≡ n + a → divides a k ≡ true
 more_divides a n k h e =
     let one : n + a ≡ n + a * 1 = omega arith in
     eq-eqb _ _ (ap (λ x. x % a) (e ∙ one) ∙ add-mul-mod_self_left n a 1 ∙ eqb-true _ _ h)
-
--- ---- the tests of one pass and the next
-
-pub before_eight : (L : LaidSchema) (f : Slot) → IsSimple f.shape → above L 8 f ≡ false
-before_eight L f h = by_shape f.shape h
-  where
-    by_shape : (shape : StoredShape) → IsSimple shape → nat_lt 8 (inline_align L shape) ≡ false
-    by_shape (one_of (scalar_kind the_base.Bool)) h = refl
-    by_shape (one_of (scalar_kind the_base.I8)) h = refl
-    by_shape (one_of (scalar_kind the_base.U8)) h = refl
-    by_shape (one_of (scalar_kind the_base.I16)) h = refl
-    by_shape (one_of (scalar_kind the_base.U16)) h = refl
-    by_shape (one_of (scalar_kind the_base.I32)) h = refl
-    by_shape (one_of (scalar_kind the_base.U32)) h = refl
-    by_shape (one_of (scalar_kind the_base.I64)) h = refl
-    by_shape (one_of (scalar_kind the_base.U64)) h = refl
-    by_shape (one_of (struct_kind t)) h = absurd h
-    by_shape (one_of (table_kind t)) h = refl
-    by_shape (one_of (union_kind u)) h = refl
-    by_shape (one_of (code_kind u)) h = refl
-    by_shape (one_of text_kind) h = refl
-    by_shape (vector_of kind) h = refl
-
-pub record AreTests (L : LaidSchema) (shape : StoredShape) : Type 0 where
-  pub eight : nat_le 8 (inline_align L shape) ≡ nat_lt 4 (inline_align L shape)
-  pub four : nat_le 4 (inline_align L shape) ≡ nat_lt 2 (inline_align L shape)
-  pub two : nat_le 2 (inline_align L shape) ≡ nat_lt 1 (inline_align L shape)
-  pub one : nat_le 1 (inline_align L shape) ≡ true
-
-pub tests : (L : LaidSchema) (shape : StoredShape) → IsSimple shape → AreTests L shape
-tests L (one_of (scalar_kind the_base.Bool)) h = record { eight = refl; four = refl; two = refl; one = refl }
-tests L (one_of (scalar_kind the_base.I8)) h = record { eight = refl; four = refl; two = refl; one = refl }
-tests L (one_of (scalar_kind the_base.U8)) h = record { eight = refl; four = refl; two = refl; one = refl }
-tests L (one_of (scalar_kind the_base.I16)) h = record { eight = refl; four = refl; two = refl; one = refl }
-tests L (one_of (scalar_kind the_base.U16)) h = record { eight = refl; four = refl; two = refl; one = refl }
-tests L (one_of (scalar_kind the_base.I32)) h = record { eight = refl; four = refl; two = refl; one = refl }
-tests L (one_of (scalar_kind the_base.U32)) h = record { eight = refl; four = refl; two = refl; one = refl }
-tests L (one_of (scalar_kind the_base.I64)) h = record { eight = refl; four = refl; two = refl; one = refl }
-tests L (one_of (scalar_kind the_base.U64)) h = record { eight = refl; four = refl; two = refl; one = refl }
-tests L (one_of (struct_kind t)) h = absurd h
-tests L (one_of (table_kind t)) h = record { eight = refl; four = refl; two = refl; one = refl }
-tests L (one_of (union_kind u)) h = record { eight = refl; four = refl; two = refl; one = refl }
-tests L (one_of (code_kind u)) h = record { eight = refl; four = refl; two = refl; one = refl }
-tests L (one_of text_kind) h = record { eight = refl; four = refl; two = refl; one = refl }
-tests L (vector_of kind) h = record { eight = refl; four = refl; two = refl; one = refl }
 
 -- under tests that say the same
 pub entries_tested : (L : LaidSchema) (low : ℕ) (m : ℕ) (s : Bytes) (t u : ℕ → Slot → Bool) (fs : List Slot) (xs : List (Option Datum)) (ends : List ℕ) → ((k : ℕ) (f : Slot) → slice_get fs k ≡ Some f → t k f ≡ u k f)
@@ -359,6 +329,14 @@ entry_high L low m s f x e h some = by_stored (is_stored f x) refl
     by_stored true is = by_entry x (h.stored is)
     by_stored false out = absurd (omega (arith, h.absent out, some))
 
-pub entries_retested : (L : LaidSchema) (low m : ℕ) (s : Bytes) (t u : ℕ → Slot → Bool) (fs : List Slot) (xs : List (Option Datum)) (ends : List ℕ) → AreKnown L fs xs → ((k : ℕ) (f : Slot) → IsSimple f.shape → t k f ≡ u k f)
+pub entries_retested : (L : LaidSchema) (low m : ℕ) (s : Bytes) (t u : ℕ → Slot → Bool) (fs : List Slot) (xs : List (Option Datum)) (ends : List ℕ) → AreKnown L fs xs → ((k : ℕ) (f : Slot) → IsSimple L f.shape → t k f ≡ u k f)
     → EntriesEnd L low m s t fs xs ends → EntriesEnd L low m s u fs xs ends
 entries_retested L low m s t u fs xs ends known same h k f x fk xk = subst (λ (b : Bool). EntryEnd L low m s b f x (slice_index ends k)) (same k f (known.each k f x fk xk).0) (h k f x fk xk)
+
+-- Nothing is stored above an alignment, and nothing is laid.
+pub entries_unlaid : (L : LaidSchema) (low m : ℕ) (s : Bytes) (a : ℕ) (fs : List Slot) (xs : List (Option Datum)) (ends : List ℕ) → ((k : ℕ) (f : Slot) (x : Option Datum) → slice_get fs k ≡ Some f → slice_get xs k ≡ Some x → is_stored f x ≡ true → nat_lt a (inline_align L f.shape) ≡ false)
+    → EntriesEnd L low m s (λ k f. false) fs xs ends → EntriesEnd L low m s (λ k. above L a) fs xs ends
+entries_unlaid L low m s a fs xs ends none h k f x fk xk = record {
+  stored = λ is. subst (λ (b : Bool). StoredEnd L low m s b f x (slice_index ends k)) (sym (none k f x fk xk is)) ((h k f x fk xk).stored is);
+  absent = (h k f x fk xk).absent;
+}

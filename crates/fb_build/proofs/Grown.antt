@@ -18,7 +18,7 @@ use Rattle.fb_value.proofs.TailsKept.{front_shown, multiple_shown, through}
 pub self_divides : (n : ℕ) → divides n n ≡ true
 self_divides n = eq-eqb _ _ (let e : n * 1 ≡ n = omega arith in subst (λ (x : ℕ). x % n ≡ 0) e (mul-mod_right n 1))
 
-lower : (i j : ℕ) → (i ≤ j) ⊎ (j < i)
+pub lower : (i j : ℕ) → (i ≤ j) ⊎ (j < i)
 lower zero j = inl (omega arith)
 lower (suc i) zero = inr (omega arith)
 lower (suc i) (suc j) = elim (lower i j) [ inl h ↦ inl (omega (arith, h)) | inr h ↦ inr (omega (arith, h)) ]

@@ -6,7 +6,8 @@ use Rattle.fb_value.specs.Fits.{Fits, EachFits, EntriesFit}
 use Rattle.fb_value.specs.Room.{room, parts_room, entries_room, table_room}
 use Rattle.fb_build.specs.Fields.{IsSimple}
 use Rattle.fb_build.specs.Needs.{need, parts_need, entries_count, entries_need, IsSliced}
-use Rattle.fb_build.proofs.VectorEnds.{element_padded, element_simple}
+use Rattle.fb_build.proofs.VectorEnds.{element_padded}
+use Rattle.fb_build.proofs.Simple.{element_simple}
 
 fits_count : (L : LaidSchema) (fs : List Slot) (es : SlotEntries) → EntriesFit L fs es → entries_count es ≡ length fs
 fits_count L [] no_entries h = refl
@@ -27,7 +28,7 @@ table_enough L t es h rest = let many = fits_count L (slots_of L t) es h in omeg
 
 module _ (L : LaidSchema) (sliced : IsSliced L) where
   mutual
-    pub need_room : (shape : StoredShape) (d : Datum) → IsSimple shape → Fits L shape d → need d ≤ room L shape d
+    pub need_room : (shape : StoredShape) (d : Datum) → IsSimple L shape → Fits L shape d → need d ≤ room L shape d
     need_room shape (a_number n) simple h = omega arith
     need_room shape (a_text bytes) simple h = omega arith
     need_room shape (a_struct ds) simple h = omega arith
@@ -40,7 +41,7 @@ module _ (L : LaidSchema) (sliced : IsSliced L) where
         table_enough L type es own (slots_need (slots_of L type) es (λ k f e. sliced type k f e) own)
     need_room (one_of (union_kind u)) (a_member c _) simple h = absurd h.2
     need_room (vector_of kind) (a_vector ds) simple h =
-        let own = items_need kind ds (element_simple kind simple) h in
+        let own = items_need kind ds (element_simple L kind simple) h in
         let many = times_one (count ds) (size_of L kind) (element_padded L kind simple).some in
         omega (arith, own, many)
     need_room (one_of (scalar_kind u)) (a_vector ds) simple h = absurd h
@@ -51,7 +52,7 @@ module _ (L : LaidSchema) (sliced : IsSliced L) where
     need_room (one_of text_kind) (a_vector ds) simple h = absurd h
     need_room _ _ simple h = absurd h
 
-    slots_need : (fs : List Slot) (es : SlotEntries) → ((k : ℕ) (f : Slot) → slice_get fs k ≡ Some f → IsSimple f.shape) → EntriesFit L fs es → entries_need es ≤ entries_room L fs es
+    slots_need : (fs : List Slot) (es : SlotEntries) → ((k : ℕ) (f : Slot) → slice_get fs k ≡ Some f → IsSimple L f.shape) → EntriesFit L fs es → entries_need es ≤ entries_room L fs es
     slots_need [] no_entries simple h = omega arith
     slots_need (f ∷ fs) (absent_entry es) simple h = slots_need fs es (λ k g e. simple (suc k) g e) h.1
     slots_need (f ∷ fs) (present_entry d es) simple h =
@@ -60,7 +61,7 @@ module _ (L : LaidSchema) (sliced : IsSliced L) where
         omega (arith, own, rest)
     slots_need _ _ simple h = absurd h
 
-    items_need : (kind : StoredKind) (ds : Parts) → IsSimple (one_of kind) → EachFits L kind ds → parts_need ds ≤ parts_room L kind ds
+    items_need : (kind : StoredKind) (ds : Parts) → IsSimple L (one_of kind) → EachFits L kind ds → parts_need ds ≤ parts_room L kind ds
     items_need kind no_parts simple h = omega arith
     items_need kind (more_parts d ds) simple h =
         let own = need_room (one_of kind) d simple h.0 in

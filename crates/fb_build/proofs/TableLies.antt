@@ -70,13 +70,12 @@ module _ (L : LaidSchema) (low m : ℕ) (s : Bytes) (c : ℕ) (within : c ≤ le
   IsOwn : StoredShape → Type 0
   IsOwn (one_of (code_kind u)) = ⊥
   IsOwn (one_of (union_kind u)) = ⊥
-  IsOwn (one_of (struct_kind t)) = ⊥
   IsOwn shape = Unit {0}
 
   nothing_there : (k : ℕ) (fs : List Slot) (shape : StoredShape) → IsOwn shape → slot_number s p k ≡ 0 → named_slot L s p k fs shape ≡ None
   unfolding IsOwn
   nothing_there k fs (one_of (scalar_kind b)) h e = rw e refl
-  nothing_there k fs (one_of (struct_kind t)) h e = absurd h
+  nothing_there k fs (one_of (struct_kind t)) h e = rw e refl
   nothing_there k fs (one_of (table_kind t)) h e = rw e refl
   nothing_there k fs (one_of (union_kind u)) h e = absurd h
   nothing_there k fs (one_of (code_kind u)) h e = absurd h
@@ -86,7 +85,7 @@ module _ (L : LaidSchema) (low m : ℕ) (s : Bytes) (c : ℕ) (within : c ≤ le
   something_there : (k : ℕ) (fs : List Slot) (shape : StoredShape) (d : Datum) → IsOwn shape → is_present s p k ≡ true → named_slot L s p k fs shape ≡ Some (record { sort = sort_for shape d; at = p + slot_number s p k })
   unfolding IsOwn
   something_there k fs (one_of (scalar_kind b)) d h e = rw e refl
-  something_there k fs (one_of (struct_kind t)) d h e = absurd h
+  something_there k fs (one_of (struct_kind t)) d h e = rw e refl
   something_there k fs (one_of (table_kind t)) d h e = rw e refl
   something_there k fs (one_of (union_kind u)) d h e = absurd h
   something_there k fs (one_of (code_kind u)) d h e = absurd h
@@ -96,7 +95,7 @@ module _ (L : LaidSchema) (low m : ℕ) (s : Bytes) (c : ℕ) (within : c ≤ le
   no_union : (shape : StoredShape) → IsOwn shape → is_union shape ≡ false
   unfolding IsOwn
   no_union (one_of (scalar_kind b)) h = refl
-  no_union (one_of (struct_kind t)) h = absurd h
+  no_union (one_of (struct_kind t)) h = refl
   no_union (one_of (table_kind t)) h = refl
   no_union (one_of (union_kind u)) h = absurd h
   no_union (one_of (code_kind u)) h = absurd h
@@ -105,7 +104,7 @@ module _ (L : LaidSchema) (low m : ℕ) (s : Bytes) (c : ℕ) (within : c ≤ le
 
   -- slot k of the table, what it stores and its end-count
   pub record SlotKnown (k : ℕ) (f : Slot) (x : Option Datum) (e : ℕ) : Type 0 where
-    pub simple : IsSimple f.shape
+    pub simple : IsSimple L f.shape
     pub fits : StoredFits L f x
     pub state : EntryEnd L low m s true f x e
     pub under : e < c
@@ -362,7 +361,7 @@ module _ (L : LaidSchema) (low m : ℕ) (s : Bytes) (c : ℕ) (within : c ≤ le
 
         by_shape : (shape : StoredShape) → f.shape ≡ shape → SlotLies k f (drop (suc k) fs) x
         by_shape (one_of (scalar_kind b)) is = own (one_of (scalar_kind b)) is tt refl
-        by_shape (one_of (struct_kind t)) is = absurd (rw is at (known_here k f x fk xk).simple)
+        by_shape (one_of (struct_kind t)) is = own (one_of (struct_kind t)) is tt refl
         by_shape (one_of (table_kind t)) is = own (one_of (table_kind t)) is tt refl
         by_shape (one_of (union_kind u)) is =
             let led = paired.led k f u fk is in

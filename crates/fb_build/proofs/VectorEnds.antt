@@ -1,12 +1,9 @@
 -- A vector that was laid.
-use Rattle.std.proofs.Common.{◌≡◌, ℕ, zero, suc, ◌+◌, ◌-◌, ◌*◌, ◌^◌, ◌%◌, ◌<◌, ◌≤◌, ◌++◌, ◌==◌, Bool, true, false, ◌||◌, nat_lt, max, List, [], ◌∷◌, length, map, drop, get_or, slice_get, Some, refl, ap, sym, ◌∙◌, subst, arith, length-append}
-use Rattle.std.proofs.lemmas.Bool.{le-leb, eq-eqb, and_from, and_parts, eqb-true}
+use Rattle.std.proofs.Common.{◌≡◌, ℕ, zero, suc, ◌+◌, ◌-◌, ◌*◌, ◌^◌, ◌<◌, ◌≤◌, ◌++◌, ◌==◌, Bool, true, false, ◌||◌, nat_lt, max, List, [], ◌∷◌, length, map, drop, get_or, slice_get, Some, refl, ap, sym, ◌∙◌, subst, arith, length-append}
+use Rattle.std.proofs.lemmas.Bool.{le-leb, and_from, and_parts}
 use Rattle.std.proofs.lemmas.List.{get_or-append-add}
-use Rattle.std.proofs.Math.Nat.{add-mul-mod_self_left}
 use Rattle.byteorder.specs.Endian.{little_bytes}
 use Rattle.byteorder.specs.Numbers.{length-bytes_low_first}
-use Rattle.fb_schema.specs.declared.kinds.Base.{Base}
-use Rattle.fb_schema.specs.declared.kinds.Base.TheVariants as the_base
 use Rattle.fb_layout.specs.Laid.{LaidSchema, StoredKind, scalar_kind, struct_kind, table_kind, union_kind, code_kind, text_kind, size_of, align_of, one_of}
 use Rattle.fb_value.specs.Datum.{Datum, a_vector, Parts, no_parts, more_parts, count}
 use Rattle.fb_value.specs.Num.{Bytes, num, divides}
@@ -18,57 +15,37 @@ use Rattle.fb_value.specs.declared.values.Value.{Value}
 use Rattle.fb_value.specs.Tails.{from_end, LiesInTail}
 use Rattle.fb_layout.specs.Sizes.{IsAlignment}
 use Rattle.fb_build.specs.Tails.{TailSeen, Grows}
-use Rattle.fb_build.specs.Fields.{IsElement, IsSimple, sort_for}
+use Rattle.fb_build.specs.Fields.{IsElement, sort_for}
 use Rattle.fb_build.specs.Items.{ItemsEnd}
 use Rattle.fb_value.proofs.Moved.{hold, no_rules, items_lie}
-use Rattle.fb_value.proofs.TailsKept.{through}
-use Rattle.fb_build.proofs.Grown.{four_power, eight_power}
+use Rattle.fb_value.proofs.TailsKept.{through, from_other_end}
+use Rattle.fb_build.proofs.Grown.{four_power, power_max, left_divides, right_divides}
+use Rattle.fb_build.proofs.Halves.{times_divides}
+use Rattle.fb_build.proofs.Simple.{element_simple, simple_aligned, simple_multiple, simple_some}
 use Rattle.fb_build.proofs.Standing.{num_first}
 use Rattle.fb_build.proofs.FieldSteps.{more_divides}
 
-pub element_simple : (kind : StoredKind) → IsElement kind → IsSimple (one_of kind)
-element_simple (scalar_kind b) h = tt
-element_simple text_kind h = tt
-element_simple (table_kind t) h = tt
-element_simple (struct_kind t) h = absurd h
-element_simple (union_kind t) h = absurd h
-element_simple (code_kind t) h = absurd h
-
-pub element_size : (L : LaidSchema) (kind : StoredKind) → IsElement kind → size_of L kind ≡ align_of L kind
-element_size L (scalar_kind b) h = refl
-element_size L text_kind h = refl
-element_size L (table_kind t) h = refl
-element_size L (struct_kind t) h = absurd h
-element_size L (union_kind t) h = absurd h
-element_size L (code_kind t) h = absurd h
-
--- the elements of a vector take some room, and begin at a multiple of 4 or 8
+-- the elements of a vector take some room, and begin at a multiple of 4 or more
 pub record IsPadded (L : LaidSchema) (kind : StoredKind) : Type 0 where
   pub some : 0 < size_of L kind
   pub least : 4 ≤ max 4 (align_of L kind)
-  pub most : max 4 (align_of L kind) ≤ 8
   pub power : IsAlignment (max 4 (align_of L kind))
   pub four : divides 4 (max 4 (align_of L kind)) ≡ true
-  pub size : divides (size_of L kind) (max 4 (align_of L kind)) ≡ true
+  pub own : divides (align_of L kind) (max 4 (align_of L kind)) ≡ true
+  pub size : divides (align_of L kind) (size_of L kind) ≡ true
 
-scalar_padded : (L : LaidSchema) (b : Base) → IsPadded L (scalar_kind b)
-scalar_padded L the_base.Bool = record { some = omega arith; least = omega arith; most = omega arith; power = four_power; four = refl; size = refl }
-scalar_padded L the_base.I8 = record { some = omega arith; least = omega arith; most = omega arith; power = four_power; four = refl; size = refl }
-scalar_padded L the_base.U8 = record { some = omega arith; least = omega arith; most = omega arith; power = four_power; four = refl; size = refl }
-scalar_padded L the_base.I16 = record { some = omega arith; least = omega arith; most = omega arith; power = four_power; four = refl; size = refl }
-scalar_padded L the_base.U16 = record { some = omega arith; least = omega arith; most = omega arith; power = four_power; four = refl; size = refl }
-scalar_padded L the_base.I32 = record { some = omega arith; least = omega arith; most = omega arith; power = four_power; four = refl; size = refl }
-scalar_padded L the_base.U32 = record { some = omega arith; least = omega arith; most = omega arith; power = four_power; four = refl; size = refl }
-scalar_padded L the_base.I64 = record { some = omega arith; least = omega arith; most = omega arith; power = eight_power; four = refl; size = refl }
-scalar_padded L the_base.U64 = record { some = omega arith; least = omega arith; most = omega arith; power = eight_power; four = refl; size = refl }
-
-pub element_padded : (L : LaidSchema) (kind : StoredKind) → IsElement kind → IsPadded L kind
-element_padded L (scalar_kind b) h = scalar_padded L b
-element_padded L text_kind h = record { some = omega arith; least = omega arith; most = omega arith; power = four_power; four = refl; size = refl }
-element_padded L (table_kind t) h = record { some = omega arith; least = omega arith; most = omega arith; power = four_power; four = refl; size = refl }
-element_padded L (struct_kind t) h = absurd h
-element_padded L (union_kind t) h = absurd h
-element_padded L (code_kind t) h = absurd h
+pub element_padded : (L : LaidSchema) (kind : StoredKind) → IsElement L kind → IsPadded L kind
+element_padded L kind h =
+    let simple = element_simple L kind h in
+    let aligned : IsAlignment (align_of L kind) = simple_aligned L (one_of kind) simple in
+    record {
+      some = simple_some L (one_of kind) simple;
+      least = omega arith;
+      power = power_max 4 (align_of L kind) four_power aligned;
+      four = left_divides 4 (align_of L kind) four_power aligned;
+      own = right_divides 4 (align_of L kind) four_power aligned;
+      size = simple_multiple L (one_of kind) simple;
+    }
 
 -- ---- elements in front of others
 
@@ -91,15 +68,15 @@ items_grown L a b k kind ds g long h =
     let at : length g.front + 0 ≡ 0 + k = omega (arith, parts, whole, long) in
     rw g.grown (subst (λ (p : ℕ). LiesItemsBy (from_end (g.front ++ a.bytes) b.most) L (g.front ++ a.bytes) kind p ds) at (items_moved L a.most b.most g.front a.bytes kind ds g.multiple h))
 
-element_by : (L : LaidSchema) (m : ℕ) (s : Bytes) (kind : StoredKind) (d : Datum) → IsElement kind → LiesInTail L m s (sort_for (one_of kind) d) (length s) d → ElementBy (from_end s m) L s kind 0 (target_of kind) d (λ sort q. LiesBy (from_end s m) L s sort q d)
+element_by : (L : LaidSchema) (m : ℕ) (s : Bytes) (kind : StoredKind) (d : Datum) → IsElement L kind → LiesInTail L m s (sort_for (one_of kind) d) (length s) d → ElementBy (from_end s m) L s kind 0 (target_of kind) d (λ sort q. LiesBy (from_end s m) L s sort q d)
 element_by L m s (scalar_kind b) d el h = let first : length s - length s ≡ 0 = omega arith in (rw first at h.lies).1
 element_by L m s text_kind d el h = let first : length s - length s ≡ 0 = omega arith in rw first at h.lies
 element_by L m s (table_kind t) d el h = let first : length s - length s ≡ 0 = omega arith in rw first at h.lies
-element_by L m s (struct_kind t) d el h = absurd el
+element_by L m s (struct_kind t) d el h = let first : length s - length s ≡ 0 = omega arith in (rw first at h.lies).1
 element_by L m s (union_kind t) d el h = absurd el
 element_by L m s (code_kind t) d el h = absurd el
 
-pub one_more : (L : LaidSchema) (a b : TailSeen) (kind : StoredKind) (d : Datum) (ds : Parts) → IsElement kind → Grows a b → length b.bytes ≡ length a.bytes + size_of L kind → LiesInTail L b.most b.bytes (sort_for (one_of kind) d) (length b.bytes) d
+pub one_more : (L : LaidSchema) (a b : TailSeen) (kind : StoredKind) (d : Datum) (ds : Parts) → IsElement L kind → Grows a b → length b.bytes ≡ length a.bytes + size_of L kind → LiesInTail L b.most b.bytes (sort_for (one_of kind) d) (length b.bytes) d
     → ItemsEnd L a.most a.bytes kind ds → ItemsEnd L b.most b.bytes kind (more_parts d ds)
 one_more L a b kind d ds el g long lies h = (element_by L b.most b.bytes kind d el lies, items_grown L a b (size_of L kind) kind ds g long h)
 
@@ -125,10 +102,10 @@ times_least k n z h =
 
 -- ---- the whole vector
 
-pub without_items : (z n c : ℕ) → divides z (c + n * z) ≡ true → divides z c ≡ true
-without_items z n c h =
-    let same : c + n * z ≡ c + z * n = omega arith in
-    eq-eqb _ _ (sym (ap (λ x. x % z) same ∙ add-mul-mod_self_left c z n) ∙ eqb-true _ _ h)
+pub without_items : (a z n c : ℕ) → divides a z ≡ true → divides a (c + n * z) ≡ true → divides a c ≡ true
+without_items a z n c size h =
+    let rest : (c + n * z) - c ≡ n * z = omega arith in
+    from_other_end a (c + n * z) c (omega arith) h (rw rest (times_divides a n z size))
 
 last_true : (a : Bool) → (a || true) ≡ true
 last_true true = refl
@@ -140,7 +117,7 @@ vector_keeps L al b kind p front within ends elements =
     let any : ((nat_lt (length b) (p + 4) || (num b p 4 == 0)) || al (align_of L kind) (p + 4)) ≡ true = rw elements (last_true (nat_lt (length b) (p + 4) || (num b p 4 == 0))) in
     hold _ _ _ (and_from _ _ front any) (hold _ _ _ (and_from _ _ (le-leb _ _ within) (le-leb _ _ ends)) no_rules)
 
-pub vector_end : (L : LaidSchema) (m n : ℕ) (a b : TailSeen) (kind : StoredKind) (ds : Parts) → IsElement kind → Grows a b → b.bytes ≡ little_bytes 4 n ++ a.bytes → n < 256 ^ 4 → count ds ≡ n
+pub vector_end : (L : LaidSchema) (m n : ℕ) (a b : TailSeen) (kind : StoredKind) (ds : Parts) → IsElement L kind → Grows a b → b.bytes ≡ little_bytes 4 n ++ a.bytes → n < 256 ^ 4 → count ds ≡ n
     → divides (max 4 (align_of L kind)) (length a.bytes) ≡ true → divides (max 4 (align_of L kind)) b.most ≡ true → divides (align_of L kind) (max 4 (align_of L kind)) ≡ true → n * size_of L kind ≤ length a.bytes → ItemsEnd L a.most a.bytes kind ds
     → LiesInTail L b.most b.bytes (part_place (vector_part kind)) (length b.bytes) (a_vector ds)
 vector_end L m n a b kind ds el g e short counted whole wide own room items =

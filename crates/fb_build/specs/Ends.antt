@@ -9,3 +9,6 @@ pub record StandsEnd (s : Bytes) (e : ℕ) (xs : Bytes) : Type 0 where
   pub before : Bytes
   pub split : s ≡ before ++ (xs ++ behind)
   pub at : length (xs ++ behind) ≡ e
+
+abbrev pub BeginsWith : Bytes → Bytes → Type 0
+BeginsWith front s = (rest : Bytes) × (s ≡ front ++ rest)

@@ -1,5 +1,5 @@
 -- The fields of a table while it is laid: what each slot's end-count says.
-use Rattle.std.specs.Prelude.{ℕ, ◌+◌, ◌*◌, ◌≡◌, ◌<◌, ◌==◌, ◌&&◌, ◌||◌, not, List, [], ◌∷◌, Bool, true, false, nat_lt, nat_le, if◌then◌else◌, Option, None, Some, ℤ, pos, slice_get, slice_index, map, option_map, length}
+use Rattle.std.specs.Prelude.{ℕ, ◌+◌, ◌-◌, ◌≡◌, ◌<◌, ◌≤◌, max, IsTrue, ◌==◌, ◌&&◌, ◌||◌, not, List, [], ◌∷◌, Bool, true, false, nat_lt, nat_le, if◌then◌else◌, Option, None, Some, ℤ, pos, slice_get, slice_index, map, option_map, length}
 use Rattle.std.specs.Ordering.{int_eq}
 use Rattle.fb_schema.specs.declared.kinds.Base.{Base}
 use Rattle.fb_schema.specs.declared.kinds.Kind.TheVariants.{Code}
@@ -9,32 +9,38 @@ use Rattle.fb_schema.specs.declared.types.FieldInfo.{FieldInfo}
 use Rattle.fb_schema.specs.Seen.{field_seen}
 use Rattle.fb_schema.specs.declared.kinds.Base.TheVariants.{U8}
 use Rattle.fb_schema.specs.WellDeclared.{InRange}
-use Rattle.fb_layout.specs.Laid.{slot_of, LaidSchema, Slot, StoredKind, scalar_kind, table_kind, union_kind, code_kind, text_kind, StoredShape, one_of, vector_of}
-use Rattle.fb_layout.specs.Widths.{inline_align}
+use Rattle.fb_schema.specs.Schema.{body_at, is_struct}
+use Rattle.fb_layout.specs.Sizes.{IsAlignment}
+use Rattle.fb_layout.specs.Laid.{slot_of, kind_in, struct_at, align_of, LaidSchema, Slot, StoredKind, scalar_kind, struct_kind, table_kind, union_kind, code_kind, text_kind, StoredShape, one_of, vector_of}
+use Rattle.fb_layout.specs.Widths.{inline_size, inline_align, greatest}
 use Rattle.fb_value.specs.Datum.{Datum, a_number, a_table, a_member, an_unknown}
 use Rattle.fb_value.specs.declared.values.Value.{Value}
 use Rattle.fb_value.specs.View.{view}
 use Rattle.fb_value.specs.Fits.{Fits}
-use Rattle.fb_value.specs.Num.{Bytes}
+use Rattle.fb_value.specs.Num.{Bytes, divides}
 use Rattle.fb_value.specs.Places.{Target, table_part, member_part, text_part, vector_part, Sort, ref_place, part_place, inline_place}
 use Rattle.fb_value.specs.Tails.{LiesInTail}
 
--- the kinds of elements that are laid so far
-abbrev pub IsElement : StoredKind → Type 0
-IsElement (scalar_kind base) = Unit {0}
-IsElement text_kind = Unit {0}
-IsElement (table_kind t) = Unit {0}
-IsElement _ = ⊥
+-- a declared struct, with what is known of its alignment
+pub record IsStructThere (L : LaidSchema) (s : ℕ) : Type 0 where
+  pub is : IsTrue (is_struct (body_at L.schema s))
+  pub some : 0 < (struct_at L s).size
+  pub align : IsAlignment (struct_at L s).align
+  pub multiple : divides (struct_at L s).align (struct_at L s).size ≡ true
 
--- the kinds of slots that are laid so far
-abbrev pub IsSimple : StoredShape → Type 0
-IsSimple (one_of (scalar_kind base)) = Unit {0}
-IsSimple (one_of text_kind) = Unit {0}
-IsSimple (one_of (table_kind t)) = Unit {0}
-IsSimple (one_of (union_kind u)) = Unit {0}
-IsSimple (one_of (code_kind u)) = Unit {0}
-IsSimple (vector_of kind) = IsElement kind
-IsSimple _ = ⊥
+-- the kinds that a vector's elements may have
+abbrev pub IsElement : LaidSchema → StoredKind → Type 0
+IsElement L (scalar_kind base) = Unit {0}
+IsElement L (struct_kind s) = IsStructThere L s
+IsElement L text_kind = Unit {0}
+IsElement L (table_kind t) = Unit {0}
+IsElement L _ = ⊥
+
+-- the shapes that a table's slot may have
+abbrev pub IsSimple : LaidSchema → StoredShape → Type 0
+IsSimple L (one_of (struct_kind s)) = IsStructThere L s
+IsSimple L (one_of kind) = Unit {0}
+IsSimple L (vector_of kind) = IsElement L kind
 
 -- ---- what is stored: a union's code slot has no entry, and stores the code of the entry behind it
 
@@ -139,9 +145,15 @@ from L a f = nat_le a (inline_align L f.shape)
 abbrev pub is_at : LaidSchema → ℕ → Slot → Option Datum → Bool
 is_at L a f x = is_stored f x && (inline_align L f.shape == a)
 
-abbrev pub count_at : LaidSchema → ℕ → List Slot → List (Option Datum) → ℕ
-count_at L a (f ∷ fs) (x ∷ xs) = (if is_at L a f x then 1 else 0) + count_at L a fs xs
-count_at L a _ _ = 0
+-- what the fields take that are stored at an alignment
+abbrev pub size_at : LaidSchema → ℕ → List Slot → List (Option Datum) → ℕ
+size_at L a (f ∷ fs) (x ∷ xs) = (if is_at L a f x then inline_size L f.shape else 0) + size_at L a fs xs
+size_at L a _ _ = 0
+
+-- or above it
+abbrev pub size_above : LaidSchema → ℕ → List Slot → List (Option Datum) → ℕ
+size_above L a (f ∷ fs) (x ∷ xs) = (if is_stored f x && nat_lt a (inline_align L f.shape) then inline_size L f.shape else 0) + size_above L a fs xs
+size_above L a _ _ = 0
 
 -- the end-counts of all slots of a table; before slot `done` by the one test, from there on by the other
 abbrev pub EntriesEnd : LaidSchema → ℕ → ℕ → Bytes → (ℕ → Slot → Bool) → List Slot → List (Option Datum) → List ℕ → Type 0
@@ -174,15 +186,22 @@ abbrev pub StoredFits : LaidSchema → Slot → Option Datum → Type 0
 StoredFits L f None = Unit {0}
 StoredFits L f (Some d) = (f.deprecated ≡ false) × SlotFits L f.shape d
 
--- what each slot stores fits, and slots are of these kinds alone
+-- What each slot stores fits, and is aligned to the greatest alignment at most.
 pub record AreKnown (L : LaidSchema) (fs : List Slot) (xs : List (Option Datum)) : Type 0 where
   pub long : length fs ≡ length xs
-  pub each : (k : ℕ) (f : Slot) (x : Option Datum) → slice_get fs k ≡ Some f → slice_get xs k ≡ Some x → IsSimple f.shape × StoredFits L f x
+  pub each : (k : ℕ) (f : Slot) (x : Option Datum) → slice_get fs k ≡ Some f → slice_get xs k ≡ Some x → IsSimple L f.shape × StoredFits L f x
+  pub low : (k : ℕ) (f : Slot) → slice_get fs k ≡ Some f → align_of L (kind_in f.shape) ≤ greatest L
 
 -- the bytes of all stored fields
 abbrev pub fields_size : LaidSchema → List Slot → List (Option Datum) → ℕ
-fields_size L fs xs = 8 * count_at L 8 fs xs + (4 * count_at L 4 fs xs + (2 * count_at L 2 fs xs + 1 * count_at L 1 fs xs))
+fields_size L (f ∷ fs) (x ∷ xs) = (if is_stored f x then inline_size L f.shape else 0) + fields_size L fs xs
+fields_size L _ _ = 0
 
--- with what is padded before them
+-- the greatest of the stored fields' alignments; 0 where there is none
+abbrev pub stored_align : LaidSchema → List Slot → List (Option Datum) → ℕ
+stored_align L (f ∷ fs) (x ∷ xs) = max (if is_stored f x then inline_align L f.shape else 0) (stored_align L fs xs)
+stored_align L _ _ = 0
+
+-- the bytes of all stored fields, with what is padded before them
 abbrev pub stored_room : LaidSchema → List Slot → List (Option Datum) → ℕ
-stored_room L fs xs = (if nat_lt 0 (count_at L 8 fs xs) then 7 else 3) + fields_size L fs xs
+stored_room L fs xs = (max 4 (stored_align L fs xs) - 1) + fields_size L fs xs

@@ -16,5 +16,5 @@ abbrev pub TargetsEnd : LaidSchema → ℕ → Bytes → StoredKind → List Dat
 TargetsEnd L m s kind ds ends = (k : ℕ) (d : Datum) → slice_get ds k ≡ Some d → TargetEnd L m s (target_for (one_of kind) d) (slice_index ends k) d
 
 pub record ItemsKnown (L : LaidSchema) (kind : StoredKind) (ds : List Datum) : Type 0 where
-  pub element : IsElement kind
+  pub element : IsElement L kind
   pub each : (k : ℕ) (d : Datum) → slice_get ds k ≡ Some d → SlotFits L (one_of kind) d

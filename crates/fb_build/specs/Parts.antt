@@ -1,6 +1,7 @@
 -- What is laid outside of a table for one of its entries, or for an element of a vector.
-use Rattle.std.specs.Prelude.{ℕ, ◌≡◌, true, Option, None, Some, List, length, slice_get}
-use Rattle.fb_layout.specs.Laid.{LaidSchema, Slot, StoredShape, vector_of, slots_of}
+use Rattle.std.specs.Prelude.{ℕ, ◌≡◌, ◌≤◌, true, Option, None, Some, List, length, slice_get}
+use Rattle.fb_layout.specs.Laid.{LaidSchema, Slot, StoredShape, vector_of, slots_of, align_of}
+use Rattle.fb_layout.specs.Widths.{greatest}
 use Rattle.fb_value.specs.Datum.{Datum, a_number, a_text, a_vector, a_table, a_member}
 use Rattle.fb_value.specs.Counts.{is_whole}
 use Rattle.fb_value.specs.Entries.{EntryFits}
@@ -15,7 +16,7 @@ use Rattle.fb_build.specs.Paired.{ArePaired}
 abbrev pub PartFits : LaidSchema → StoredShape → Datum → Type 0
 PartFits L shape (a_table t es) = EntriesFit L (slots_of L t) es
 PartFits L shape (a_member c d) = PartFits L shape d
-PartFits L (vector_of kind) (a_vector ds) = IsElement kind × EachFits L kind ds
+PartFits L (vector_of kind) (a_vector ds) = IsElement L kind × EachFits L kind ds × (align_of L kind ≤ greatest L)
 PartFits L shape _ = Unit {0}
 
 abbrev pub MemberEnd : LaidSchema → ℕ → Bytes → ℕ → Datum → ℕ → Type 0

@@ -1,5 +1,5 @@
 -- A plan as it is held: its memory is enough for its value.
-use Rattle.std.specs.Prelude.{ℕ, ◌≡◌, ◌≤◌, None, true, length, replicate, slice_index}
+use Rattle.std.specs.Prelude.{ℕ, ◌≡◌, ◌≤◌, true, length, replicate, slice_index}
 use Rattle.fb_layout.specs.Laid.{one_of, table_kind}
 use Rattle.fb_value.specs.Counts.{is_whole}
 use Rattle.fb_value.specs.Fits.{Fits}
@@ -14,7 +14,6 @@ planned_seen p = record { layout = p.layout.now; value = p.value.now }
 
 pub record IsReady (p : Inside) : Type 0 where
   pub sliced : IsSliced p.layout.now
-  pub unmarked : p.layout.now.schema.identifier ≡ None
   pub fits : Fits p.layout.now (one_of (table_kind p.layout.now.schema.root)) (view p.value.now)
   pub whole : is_whole (view p.value.now) ≡ true
   pub zeros : p.block.items ≡ replicate (length p.block.items) 0

@@ -1,19 +1,20 @@
 //! Lays the fields of tables.
-ghost use Rattle.std.specs.Prelude.{drop, ◌≡◌, ◌≤◌, ◌<◌, ◌+◌, ◌^◌, ◌%◌, length, true, false, option_map, if◌then◌else◌, nat_lt, ◌*◌, ◌⊎◌, max};
+ghost use Rattle.std.specs.Prelude.{drop, ◌≡◌, ◌≤◌, ◌<◌, ◌+◌, ◌^◌, ◌%◌, length, true, false, option_map, if◌then◌else◌, max};
 ghost use Rattle.byteorder.specs.Endian.{little_bytes};
 ghost use Rattle.fb_schema.specs.Alignments.{base_size};
 ghost use Rattle.fb_schema.specs.Seen.{field_seen};
 ghost use Rattle.fb_schema.specs.WellDeclared.{InRange};
 ghost use Rattle.fb_layout.specs.Laid.{LaidSchema, stored_shape, slot_of, scalar_kind};
-ghost use Rattle.fb_layout.specs.Widths.{inline_align};
+ghost use Rattle.fb_layout.specs.Widths.{inline_size, inline_align, greatest};
 ghost use Rattle.fb_value.specs.Datum.{Datum, a_number};
 ghost use Rattle.fb_value.specs.Num.{num, scalar_of, divides};
 ghost use Rattle.fb_value.specs.Places.{Target, part_place, ref_place, inline_place};
 ghost use Rattle.fb_value.specs.View.{view};
 ghost use Rattle.fb_value.specs.Tails.{LiesInTail};
 ghost use Rattle.fb_build.specs.Tails.{Grows};
-ghost use Rattle.fb_build.specs.Fields.{IsSimple, StoredFits, stored_here, stored_seen, next_code, is_coded, scalar_in, number_in, number_of_datum, is_stored, is_at, above, from, EntryEnd, EntriesEnd, AreKnown, count_at, slots_seen, entries_seen, stored_room, fields_size};
+ghost use Rattle.fb_build.specs.Fields.{IsSimple, StoredFits, stored_here, stored_seen, next_code, is_coded, scalar_in, number_in, number_of_datum, is_stored, is_at, above, from, EntryEnd, EntriesEnd, AreKnown, size_at, stored_align, slots_seen, entries_seen, stored_room, fields_size};
 
+use crate::places::lay_place;
 use crate::tail::Tail;
 use byteorder::{ByteOrder, LittleEndian};
 use fb_layout::Layout;
@@ -84,7 +85,7 @@ pub(crate) fn lay_reference(out: &mut Tail, target: u32)
 }
 
 /// What a slot's place in its table is a multiple of.
-fn slot_align(layout: &Layout, shape: Shape) -> u32
+pub(crate) fn slot_align(layout: &Layout, shape: Shape) -> u32
     ensures { result ≡ inline_align layout.now (stored_shape layout.now.schema shape) }
 {
     match shape {
@@ -189,6 +190,16 @@ fn is_stored(layout: &Layout, slot: &FieldInfo, code: Option<u8>, entry: &Option
     }
 }
 
+/// The bytes that a slot takes in its table.
+pub(crate) fn slot_size(layout: &Layout, shape: Shape) -> u32
+    ensures { result ≡ inline_size layout.now (stored_shape layout.now.schema shape) }
+{
+    match shape {
+        Shape::One(kind) => layout.size_of(kind),
+        Shape::Many(_) => 4,
+    }
+}
+
 /// Whether an entry is stored at an alignment.
 pub(crate) fn is_at(
     layout: &Layout,
@@ -214,43 +225,29 @@ fn lay_field(
     end: u32,
 ) -> u32
     requires low { start ≤ length out.old.bytes }
-    requires simple { IsSimple (stored_shape layout.now.schema slot.now.shape) }
+    requires simple { IsSimple layout.now (stored_shape layout.now.schema slot.now.shape) }
     requires fits { StoredFits layout.now (slot_of layout.now.schema (field_seen slot.now)) (stored_here (stored_shape layout.now.schema slot.now.shape) code (option_map view entry.now)) }
     requires state { EntryEnd layout.now start out.old.most out.old.bytes (above layout.now align (slot_of layout.now.schema (field_seen slot.now))) (slot_of layout.now.schema (field_seen slot.now)) (stored_here (stored_shape layout.now.schema slot.now.shape) code (option_map view entry.now)) end }
     requires whole { is_at layout.now align (slot_of layout.now.schema (field_seen slot.now)) (stored_here (stored_shape layout.now.schema slot.now.shape) code (option_map view entry.now)) ≡ true → divides align (length out.old.bytes) ≡ true }
     requires wide { is_at layout.now align (slot_of layout.now.schema (field_seen slot.now)) (stored_here (stored_shape layout.now.schema slot.now.shape) code (option_map view entry.now)) ≡ true → divides align out.old.most ≡ true }
-    requires room { (if is_at layout.now align (slot_of layout.now.schema (field_seen slot.now)) (stored_here (stored_shape layout.now.schema slot.now.shape) code (option_map view entry.now)) then align else 0) ≤ out.old.free }
+    requires room { (if is_at layout.now align (slot_of layout.now.schema (field_seen slot.now)) (stored_here (stored_shape layout.now.schema slot.now.shape) code (option_map view entry.now)) then inline_size layout.now (stored_shape layout.now.schema slot.now.shape) else 0) ≤ out.old.free }
     ensures state { EntryEnd layout.now start out.new.most out.new.bytes (from layout.now align (slot_of layout.now.schema (field_seen slot.now))) (slot_of layout.now.schema (field_seen slot.now)) (stored_here (stored_shape layout.now.schema slot.now.shape) code (option_map view entry.now)) result }
-    ensures free { out.new.free + (if is_at layout.now align (slot_of layout.now.schema (field_seen slot.now)) (stored_here (stored_shape layout.now.schema slot.now.shape) code (option_map view entry.now)) then align else 0) ≡ out.old.free }
+    ensures free { out.new.free + (if is_at layout.now align (slot_of layout.now.schema (field_seen slot.now)) (stored_here (stored_shape layout.now.schema slot.now.shape) code (option_map view entry.now)) then inline_size layout.now (stored_shape layout.now.schema slot.now.shape) else 0) ≡ out.old.free }
     ensures most { out.new.most ≡ out.old.most }
     ensures grows { Grows out.old out.new }
 {
     if !is_at(layout, align, slot, code, entry) {
         return end;
     }
-    match scalar_base(layout, slot.shape) {
-        Some(base) => {
-            lay_number(out, base, number_of(layout, slot, code, entry));
-            out.count() as u32
-        }
-        None => {
-            lay_reference(out, end);
-            out.count() as u32
-        }
+    if let Some(base) = scalar_base(layout, slot.shape) {
+        lay_number(out, base, number_of(layout, slot, code, entry));
+        return out.count() as u32;
     }
-}
-
-/// Whether a number of eight bytes is stored.
-fn has_wide(layout: &Layout, slots: &[FieldInfo], entries: &[Option<Value>]) -> bool
-    requires long { length entries.now ≡ length slots.now }
-    ensures { result ≡ nat_lt 0 (count_at layout.now 8 (slots_seen layout.now slots.now) (stored_seen layout.now slots.now entries.now)) }
-{
-    for k in 0..slots.len() {
-        if is_at(layout, 8, &slots[k], code_at(entries, k + 1), &entries[k]) {
-            return true;
-        }
-    }
-    false
+    let Some(value) = entry else {
+        unreachable!();
+    };
+    lay_place(out, layout, slot.shape, value, end);
+    out.count() as u32
 }
 
 /// Lays the fields that are stored at an alignment, the first slot's the highest.
@@ -268,12 +265,13 @@ fn lay_pass(
     requires low { start ≤ length out.old.bytes }
     requires known { AreKnown layout.now (slots_seen layout.now slots.now) (stored_seen layout.now slots.now entries.now) }
     requires state { EntriesEnd layout.now start out.old.most out.old.bytes (λ k. above layout.now align) (slots_seen layout.now slots.now) (stored_seen layout.now slots.now entries.now) ends.old }
-    requires whole { 0 < count_at layout.now align (slots_seen layout.now slots.now) (stored_seen layout.now slots.now entries.now) → divides align (length out.old.bytes) ≡ true }
-    requires wide { 0 < count_at layout.now align (slots_seen layout.now slots.now) (stored_seen layout.now slots.now entries.now) → divides align out.old.most ≡ true }
-    requires room { align * count_at layout.now align (slots_seen layout.now slots.now) (stored_seen layout.now slots.now entries.now) ≤ out.old.free }
+    requires whole { divides align (length out.old.bytes) ≡ true }
+    requires wide { divides align out.old.most ≡ true }
+    requires room { size_at layout.now align (slots_seen layout.now slots.now) (stored_seen layout.now slots.now entries.now) ≤ out.old.free }
     ensures each { length ends.new ≡ length slots.now }
     ensures state { EntriesEnd layout.now start out.new.most out.new.bytes (λ k. from layout.now align) (slots_seen layout.now slots.now) (stored_seen layout.now slots.now entries.now) ends.new }
-    ensures free { out.new.free + align * count_at layout.now align (slots_seen layout.now slots.now) (stored_seen layout.now slots.now entries.now) ≡ out.old.free }
+    ensures whole { divides align (length out.new.bytes) ≡ true }
+    ensures free { out.new.free + size_at layout.now align (slots_seen layout.now slots.now) (stored_seen layout.now slots.now entries.now) ≡ out.old.free }
     ensures most { out.new.most ≡ out.old.most }
     ensures grows { Grows out.old out.new }
 {
@@ -291,20 +289,31 @@ fn lay_pass(
     }
 }
 
-/// What the first field's place is a multiple of.
-fn start_align(layout: &Layout, slots: &[FieldInfo], entries: &[Option<Value>]) -> usize
-    requires long { length entries.now ≡ length slots.now }
-    ensures { ((result ≡ 8) × (0 < count_at layout.now 8 (slots_seen layout.now slots.now) (stored_seen layout.now slots.now entries.now)))
-        ⊎ ((result ≡ 4) × (count_at layout.now 8 (slots_seen layout.now slots.now) (stored_seen layout.now slots.now entries.now) ≡ 0)) }
+/// What a field's place is a multiple of, where it is stored; 0 where it isn't.
+fn field_align(layout: &Layout, slot: &FieldInfo, code: Option<u8>, entry: &Option<Value>) -> u32
+    ensures { result ≡ (if is_stored (slot_of layout.now.schema (field_seen slot.now)) (stored_here (stored_shape layout.now.schema slot.now.shape) code (option_map view entry.now)) then inline_align layout.now (stored_shape layout.now.schema slot.now.shape) else 0) }
 {
-    if has_wide(layout, slots, entries) {
-        8
+    if is_stored(layout, slot, code, entry) {
+        slot_align(layout, slot.shape)
     } else {
-        4
+        0
     }
 }
 
-/// Lays the fields of a table, and answers how many bytes were laid before the first one.
+/// What the begin of a table's fields is a multiple of.
+pub(crate) fn start_align(layout: &Layout, slots: &[FieldInfo], entries: &[Option<Value>]) -> u32
+    requires long { length entries.now ≡ length slots.now }
+    ensures { result ≡ max 4 (stored_align layout.now (slots_seen layout.now slots.now) (stored_seen layout.now slots.now entries.now)) }
+{
+    let mut align = 4;
+    for k in 0..slots.len() {
+        align = field_align(layout, &slots[k], code_at(entries, k + 1), &entries[k]).max(align);
+    }
+    align
+}
+
+/// Lays the fields of a table by falling alignment, and returns how many bytes were laid before the
+/// first one.
 pub(crate) fn lay_fields(
     out: &mut Tail,
     layout: &Layout,
@@ -319,7 +328,7 @@ pub(crate) fn lay_fields(
     requires room { stored_room layout.now (slots_seen layout.now slots.now) (stored_seen layout.now slots.now entries.now) ≤ out.old.free }
     ensures each { length ends.new ≡ length slots.now }
     ensures state { EntriesEnd layout.now result out.new.most out.new.bytes (λ k f. true) (slots_seen layout.now slots.now) (stored_seen layout.now slots.now entries.now) ends.new }
-    ensures bound { out.new.most ≤ max out.old.most 8 }
+    ensures bound { out.new.most ≤ max out.old.most (greatest layout.now) }
     ensures grows { Grows out.old out.new }
     ensures wide { divides 4 out.new.most ≡ true }
     ensures start { result ≤ length out.new.bytes }
@@ -327,12 +336,12 @@ pub(crate) fn lay_fields(
     ensures size { length out.new.bytes ≡ result + fields_size layout.now (slots_seen layout.now slots.now) (stored_seen layout.now slots.now entries.now) }
     ensures spent { out.old.free ≤ out.new.free + stored_room layout.now (slots_seen layout.now slots.now) (stored_seen layout.now slots.now entries.now) }
 {
-    let align = start_align(layout, slots, entries);
-    out.pad(align, 0);
+    let mut align = start_align(layout, slots, entries);
+    out.pad(align as usize, 0);
     let start = out.count() as u32;
-    lay_pass(out, layout, slots, entries, 8, start, ends);
-    lay_pass(out, layout, slots, entries, 4, start, ends);
-    lay_pass(out, layout, slots, entries, 2, start, ends);
-    lay_pass(out, layout, slots, entries, 1, start, ends);
+    while align > 0 {
+        lay_pass(out, layout, slots, entries, align, start, ends);
+        align /= 2;
+    }
     start
 }

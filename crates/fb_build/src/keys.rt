@@ -3,7 +3,7 @@ ghost use Rattle.std.specs.Prelude.{ℕ, ◌≡◌, ◌≤◌, ◌<◌, length, 
 ghost use Rattle.fb_build.specs.declared.faults.BuildFault.TheVariants.{Memory};
 
 use crate::faults::BuildFault;
-use crate::fields::{code_at, is_at};
+use crate::fields::{code_at, is_at, slot_size, start_align};
 use crate::vtables::{index_of, put_vtable};
 use fb_layout::Layout;
 use fb_schema::{FieldInfo, TypeId};
@@ -41,7 +41,7 @@ fn place_field(
     ) {
         return end;
     }
-    let next = end.saturating_add(align);
+    let next = end.saturating_add(slot_size(layout, slots[k].shape));
     ends[k] = next;
     next
 }
@@ -74,14 +74,18 @@ fn place_fields(
     entries: &[Option<Value>],
     ends: &mut [u32],
 ) -> u32
+    requires long { length entries.now ≡ length slots.now }
     ensures under { (k : ℕ) → slice_index ends.new k ≤ result }
     ensures each { length ends.new ≡ length ends.old }
 {
     ends.fill(0);
-    let end = place_pass(layout, slots, entries, 8, 0, ends);
-    let end = place_pass(layout, slots, entries, 4, end, ends);
-    let end = place_pass(layout, slots, entries, 2, end, ends);
-    place_pass(layout, slots, entries, 1, end, ends)
+    let mut align = start_align(layout, slots, entries);
+    let mut end = 0;
+    while align > 0 {
+        end = place_pass(layout, slots, entries, align, end, ends);
+        align /= 2;
+    }
+    end
 }
 
 /// Adds the vtable of a table, unless it is known.
@@ -102,7 +106,7 @@ fn add_vtable(
     let slots = layout.slots_of(table);
     let count = slots.len().min(entries.len()).min(ends.len());
     let ends = &mut ends[..count];
-    let end = place_fields(layout, slots, entries, ends);
+    let end = place_fields(layout, &slots[..count], &entries[..count], ends);
     if end > WIDEST {
         return Ok(());
     }

@@ -1,6 +1,7 @@
 //! Lays tables.
 ghost use Rattle.std.specs.Prelude.{ℕ, Option, ◌≡◌, ◌≤◌, ◌<◌, ◌+◌, ◌-◌, ◌*◌, ◌/◌, ◌%◌, length, true, false, map, max, option_map};
-ghost use Rattle.fb_layout.specs.Laid.{slots_of, slot_of, stored_shape, stored_kind};
+ghost use Rattle.fb_layout.specs.Laid.{slots_of, slot_of, stored_shape, stored_kind, kind_in, align_of};
+ghost use Rattle.fb_layout.specs.Widths.{greatest};
 ghost use Rattle.fb_schema.specs.Seen.{field_seen};
 ghost use Rattle.fb_value.specs.Entries.{EntryFits, entry_room};
 ghost use Rattle.fb_value.specs.Fits.{EntriesFit, EachFits};
@@ -55,7 +56,7 @@ fn close_table(
     requires shared { AreLaid (map (λ k. k.items) known.now.keys) places.old out.old.bytes }
     ensures lies { LiesInTail layout.now out.new.most out.new.bytes (part_place (table_part table.0)) result (a_table table.0 (entries_view entries.now)) }
     ensures shared { AreLaid (map (λ k. k.items) known.now.keys) places.new out.new.bytes }
-    ensures bound { out.new.most ≤ max out.old.most 8 }
+    ensures bound { out.new.most ≤ max out.old.most (greatest layout.now) }
     ensures grows { Grows out.old out.new }
     ensures long { length scratch.new ≡ length scratch.old }
     ensures spent { out.old.free + (length out.old.bytes - start) ≤ out.new.free + (ceil4 (length out.old.bytes - start) + (8 + 2 * length ends.now)) }
@@ -87,7 +88,7 @@ pub(crate) fn lay_table(
     requires shared { AreLaid (map (λ k. k.items) known.now.keys) places.old out.old.bytes }
     ensures lies { LiesInTail layout.now out.new.most out.new.bytes (part_place (table_part table.0)) result (a_table table.0 (entries_view entries.now.items)) }
     ensures shared { AreLaid (map (λ k. k.items) known.now.keys) places.new out.new.bytes }
-    ensures bound { out.new.most ≤ max out.old.most 8 }
+    ensures bound { out.new.most ≤ max out.old.most (greatest layout.now) }
     ensures grows { Grows out.old out.new }
     ensures long { length scratch.new ≡ length scratch.old }
     ensures spent { out.old.free ≤ out.new.free + (table_room layout.now table.0 + entries_room layout.now (slots_of layout.now table.0) (entries_view entries.now.items)) }
@@ -135,7 +136,7 @@ fn lay_targets(
     ensures each { length ends.new ≡ length slots.now }
     ensures state { EntriesEnd layout.now 0 out.new.most out.new.bytes (λ k f. false) (slots_seen layout.now slots.now) (stored_seen layout.now slots.now entries.now.items) ends.new }
     ensures shared { AreLaid (map (λ k. k.items) known.now.keys) places.new out.new.bytes }
-    ensures bound { out.new.most ≤ max out.old.most 8 }
+    ensures bound { out.new.most ≤ max out.old.most (greatest layout.now) }
     ensures grows { Grows out.old out.new }
     ensures long { length scratch.new ≡ length scratch.old }
     ensures spent { out.old.free ≤ out.new.free + entries_room layout.now (slots_seen layout.now slots.now) (entries_view entries.now.items) }
@@ -167,7 +168,8 @@ fn lay_target(
     scratch: &mut [u8],
 ) -> u32
     requires sliced { IsSliced layout.now }
-    requires simple { IsSimple (stored_shape layout.now.schema slot.now.shape) }
+    requires low { align_of layout.now (kind_in (stored_shape layout.now.schema slot.now.shape)) ≤ greatest layout.now }
+    requires simple { IsSimple layout.now (stored_shape layout.now.schema slot.now.shape) }
     requires fits { EntryFits layout.now (slot_of layout.now.schema (field_seen slot.now)) (option_map view entry.now) }
     requires whole { EntryWhole (option_map view entry.now) }
     requires room { entry_room layout.now (slot_of layout.now.schema (field_seen slot.now)) (option_map view entry.now) ≤ out.old.free }
@@ -176,7 +178,7 @@ fn lay_target(
     requires shared { AreLaid (map (λ k. k.items) known.now.keys) places.old out.old.bytes }
     ensures state { (code : Option ℕ) → EntryEnd layout.now 0 out.new.most out.new.bytes false (slot_of layout.now.schema (field_seen slot.now)) (stored_here (stored_shape layout.now.schema slot.now.shape) code (option_map view entry.now)) result }
     ensures shared { AreLaid (map (λ k. k.items) known.now.keys) places.new out.new.bytes }
-    ensures bound { out.new.most ≤ max out.old.most 8 }
+    ensures bound { out.new.most ≤ max out.old.most (greatest layout.now) }
     ensures grows { Grows out.old out.new }
     ensures long { length scratch.new ≡ length scratch.old }
     ensures spent { out.old.free ≤ out.new.free + entry_room layout.now (slot_of layout.now.schema (field_seen slot.now)) (option_map view entry.now) }
@@ -211,7 +213,7 @@ fn lay_part(
     requires shared { AreLaid (map (λ k. k.items) known.now.keys) places.old out.old.bytes }
     ensures state { PartEnd layout.now out.new.most out.new.bytes (stored_shape layout.now.schema shape) (view value.now) result }
     ensures shared { AreLaid (map (λ k. k.items) known.now.keys) places.new out.new.bytes }
-    ensures bound { out.new.most ≤ max out.old.most 8 }
+    ensures bound { out.new.most ≤ max out.old.most (greatest layout.now) }
     ensures grows { Grows out.old out.new }
     ensures long { length scratch.new ≡ length scratch.old }
     ensures spent { out.old.free ≤ out.new.free + room layout.now (stored_shape layout.now.schema shape) (view value.now) }
@@ -252,7 +254,8 @@ fn lay_items(
     scratch: &mut [u8],
 ) -> u32
     requires sliced { IsSliced layout.now }
-    requires element { IsElement (stored_kind layout.now.schema kind) }
+    requires low { align_of layout.now (stored_kind layout.now.schema kind) ≤ greatest layout.now }
+    requires element { IsElement layout.now (stored_kind layout.now.schema kind) }
     requires fits { EachFits layout.now (stored_kind layout.now.schema kind) (parts_view items.now.items) }
     requires whole { parts_whole (parts_view items.now.items) ≡ true }
     requires room { vector_room layout.now (stored_kind layout.now.schema kind) (count (parts_view items.now.items)) + parts_room layout.now (stored_kind layout.now.schema kind) (parts_view items.now.items) ≤ out.old.free }
@@ -261,7 +264,7 @@ fn lay_items(
     requires shared { AreLaid (map (λ k. k.items) known.now.keys) places.old out.old.bytes }
     ensures lies { LiesInTail layout.now out.new.most out.new.bytes (part_place (vector_part (stored_kind layout.now.schema kind))) result (a_vector (parts_view items.now.items)) }
     ensures shared { AreLaid (map (λ k. k.items) known.now.keys) places.new out.new.bytes }
-    ensures bound { out.new.most ≤ max out.old.most 8 }
+    ensures bound { out.new.most ≤ max out.old.most (greatest layout.now) }
     ensures grows { Grows out.old out.new }
     ensures long { length scratch.new ≡ length scratch.old }
     ensures spent { out.old.free ≤ out.new.free + (vector_room layout.now (stored_kind layout.now.schema kind) (count (parts_view items.now.items)) + parts_room layout.now (stored_kind layout.now.schema kind) (parts_view items.now.items)) }
@@ -285,7 +288,8 @@ fn lay_item_targets(
     scratch: &mut [u8],
 )
     requires sliced { IsSliced layout.now }
-    requires element { IsElement (stored_kind layout.now.schema kind) }
+    requires low { align_of layout.now (stored_kind layout.now.schema kind) ≤ greatest layout.now }
+    requires element { IsElement layout.now (stored_kind layout.now.schema kind) }
     requires each { length ends.old ≡ length items.now.items }
     requires fits { EachFits layout.now (stored_kind layout.now.schema kind) (parts_view items.now.items) }
     requires whole { parts_whole (parts_view items.now.items) ≡ true }
@@ -296,7 +300,7 @@ fn lay_item_targets(
     ensures each { length ends.new ≡ length items.now.items }
     ensures state { TargetsEnd layout.now out.new.most out.new.bytes (stored_kind layout.now.schema kind) (map view items.now.items) ends.new }
     ensures shared { AreLaid (map (λ k. k.items) known.now.keys) places.new out.new.bytes }
-    ensures bound { out.new.most ≤ max out.old.most 8 }
+    ensures bound { out.new.most ≤ max out.old.most (greatest layout.now) }
     ensures grows { Grows out.old out.new }
     ensures long { length scratch.new ≡ length scratch.old }
     ensures spent { out.old.free ≤ out.new.free + parts_room layout.now (stored_kind layout.now.schema kind) (parts_view items.now.items) }

@@ -2,6 +2,7 @@
 ghost use Rattle.std.specs.Prelude.{◌≡◌, ◌≤◌, ◌<◌, ◌+◌, ◌*◌, length, true, map, max};
 ghost use Rattle.fb_schema.specs.WellDeclared.{InRange};
 ghost use Rattle.fb_layout.specs.Laid.{stored_kind, one_of, size_of, align_of};
+ghost use Rattle.fb_layout.specs.Widths.{greatest};
 ghost use Rattle.fb_value.specs.Datum.{a_vector};
 ghost use Rattle.fb_value.specs.Num.{divides};
 ghost use Rattle.fb_value.specs.Places.{part_place, vector_part};
@@ -12,7 +13,8 @@ ghost use Rattle.fb_build.specs.Tails.{Grows};
 ghost use Rattle.fb_build.specs.Fields.{IsElement, SlotFits, TargetEnd, target_for, sort_for};
 ghost use Rattle.fb_build.specs.Items.{ItemsEnd, ItemsKnown, TargetsEnd};
 
-use crate::fields::{lay_number, lay_reference, number_in, scalar_base};
+use crate::fields::{lay_number, number_in, scalar_base};
+use crate::places::lay_place;
 use crate::tail::Tail;
 use fb_layout::Layout;
 use fb_schema::{Kind, Shape};
@@ -20,12 +22,12 @@ use fb_value::Value;
 
 /// Lays an element where it stands in its vector.
 fn lay_element(out: &mut Tail, layout: &Layout, kind: Kind, value: &Value, end: u32)
-    requires element { IsElement (stored_kind layout.now.schema kind) }
+    requires element { IsElement layout.now (stored_kind layout.now.schema kind) }
     requires fits { SlotFits layout.now (one_of (stored_kind layout.now.schema kind)) (view value.now) }
     requires target { TargetEnd layout.now out.old.most out.old.bytes (target_for (one_of (stored_kind layout.now.schema kind)) (view value.now)) end (view value.now) }
     requires room { size_of layout.now (stored_kind layout.now.schema kind) ≤ out.old.free }
-    requires whole { divides (size_of layout.now (stored_kind layout.now.schema kind)) (length out.old.bytes) ≡ true }
-    requires wide { divides (size_of layout.now (stored_kind layout.now.schema kind)) out.old.most ≡ true }
+    requires whole { divides (align_of layout.now (stored_kind layout.now.schema kind)) (length out.old.bytes) ≡ true }
+    requires wide { divides (align_of layout.now (stored_kind layout.now.schema kind)) out.old.most ≡ true }
     ensures lies { LiesInTail layout.now out.new.most out.new.bytes (sort_for (one_of (stored_kind layout.now.schema kind)) (view value.now)) (length out.new.bytes) (view value.now) }
     ensures free { out.new.free + size_of layout.now (stored_kind layout.now.schema kind) ≡ out.old.free }
     ensures long { length out.new.bytes ≡ length out.old.bytes + size_of layout.now (stored_kind layout.now.schema kind) }
@@ -34,7 +36,7 @@ fn lay_element(out: &mut Tail, layout: &Layout, kind: Kind, value: &Value, end: 
 {
     match scalar_base(layout, Shape::One(kind)) {
         Some(base) => lay_number(out, base, number_in(value)),
-        None => lay_reference(out, end),
+        None => lay_place(out, layout, Shape::One(kind), value, end),
     }
 }
 
@@ -44,8 +46,8 @@ fn lay_elements(out: &mut Tail, layout: &Layout, kind: Kind, items: &[Value], en
     requires targets { TargetsEnd layout.now out.old.most out.old.bytes (stored_kind layout.now.schema kind) (map view items.now) ends.now }
     requires each { length ends.now ≡ length items.now }
     requires room { length items.now * size_of layout.now (stored_kind layout.now.schema kind) ≤ out.old.free }
-    requires whole { divides (size_of layout.now (stored_kind layout.now.schema kind)) (length out.old.bytes) ≡ true }
-    requires wide { divides (size_of layout.now (stored_kind layout.now.schema kind)) out.old.most ≡ true }
+    requires whole { divides (align_of layout.now (stored_kind layout.now.schema kind)) (length out.old.bytes) ≡ true }
+    requires wide { divides (align_of layout.now (stored_kind layout.now.schema kind)) out.old.most ≡ true }
     ensures lies { ItemsEnd layout.now out.new.most out.new.bytes (stored_kind layout.now.schema kind) (parts_view items.now) }
     ensures free { out.new.free + length items.now * size_of layout.now (stored_kind layout.now.schema kind) ≡ out.old.free }
     ensures most { out.new.most ≡ out.old.most }
@@ -73,11 +75,12 @@ pub(crate) fn close_vector(
     ends: &[u32],
 ) -> u32
     requires known { ItemsKnown layout.now (stored_kind layout.now.schema kind) (map view items.now) }
+    requires low { align_of layout.now (stored_kind layout.now.schema kind) ≤ greatest layout.now }
     requires targets { TargetsEnd layout.now out.old.most out.old.bytes (stored_kind layout.now.schema kind) (map view items.now) ends.now }
     requires each { length ends.now ≡ length items.now }
     requires room { vector_room layout.now (stored_kind layout.now.schema kind) (length items.now) ≤ out.old.free }
     ensures lies { LiesInTail layout.now out.new.most out.new.bytes (part_place (vector_part (stored_kind layout.now.schema kind))) result (a_vector (parts_view items.now)) }
-    ensures bound { out.new.most ≤ max out.old.most 8 }
+    ensures bound { out.new.most ≤ max out.old.most (greatest layout.now) }
     ensures grows { Grows out.old out.new }
     ensures spent { out.old.free ≤ out.new.free + vector_room layout.now (stored_kind layout.now.schema kind) (length items.now) }
 {

@@ -71,6 +71,10 @@ module _ (L : LaidSchema) (made : IsWellMade L) where
   takes_below zero t low is = absurd (omega (arith, low))
   takes_below (suc n) t low is = (struct_takes t (λ u lower is2. takes_below n u (omega (arith, low, lower)) is2) is).0
 
+  -- A declared struct takes a byte at least.
+  pub struct_filled : (s : ℕ) → IsTrue (is_struct (body_at L.schema s)) → 1 ≤ (struct_at L s).size
+  struct_filled s is = (struct_takes s (takes_below s) is).0
+
   no_parts_in : (b : DeclaredBody) → is_struct b ≡ false → length (kinds_of L.schema (parts_in b)) ≤ 65535
   no_parts_in (table_body fs) is = omega arith
   no_parts_in (struct_body fs a) is = cc

@@ -5,6 +5,7 @@ use Rattle.fb_value.specs.View.{view}
 use Rattle.fb_value.proofs.Views.{view-Fields}
 use Rattle.fb_value.proofs.Nested.{nesting_of_depth_shown, root_fits}
 use Rattle.fb_build.specs.Needs.{need}
+use Rattle.fb_build.proofs.Simple.{all_known}
 use Rattle.fb_build.proofs.Reserved.{long_in, zeros_in, zero_in, need_within}
 use Rattle.fb_build.proofs.buffers.plan.Goals as goal
 
@@ -15,7 +16,7 @@ pub need_of-requires : goal.need_of-requires
 need_of-requires c =
     let L = c.args.layout.now in
     let fits = (root_fits L _ c.schema-schema.ensures.made).0 c.requires.fits in
-    let within = need_within L (view c.args.value.now) c.requires.sliced fits c.in-Some.ensures.0 in
+    let within = need_within L (view c.args.value.now) (all_known c.args.layout.now c.schema-schema.ensures.made) fits c.in-Some.ensures.0 in
     record { small = rw (c.in-Fields.is, view-Fields c.in-Fields.table c.in-Fields.entries) at within }
 
 pub invariant_of-result : goal.invariant_of-result
@@ -33,8 +34,7 @@ invariant_of-result c =
     let long : length c.in_ok-block.block.items ≡ room_of L (view c.args.value.now) = long_in _ _ block ∙ c.in-Some.ensures.1 in
     let short : length c.in_ok-block.block.items ≤ 2147483647 = omega (arith, long, c.in-Some.ensures.0) in
     record {
-      sliced = c.requires.sliced;
-      unmarked = c.requires.unmarked;
+      sliced = (all_known c.args.layout.now c.schema-schema.ensures.made);
       fits = (root_fits L _ c.schema-schema.ensures.made).0 c.requires.fits;
       whole = c.requires.whole;
       zeros = zeros_in _ _ block;

@@ -1,9 +1,8 @@
 use Rattle.std.proofs.Common.{◌≡◌, ◌≤◌, ◌+◌, ◌-◌, ◌∙◌, length, slice_index, sym, refl, arith, rules}
-use Rattle.fb_schema.specs.Seen.{field_seen}
-use Rattle.fb_layout.specs.Laid.{stored_kind, parts_of, struct_at, size_of}
+use Rattle.fb_layout.specs.Laid.{stored_kind, parts_of, struct_at}
 use Rattle.fb_value.specs.declared.values.Value.{the_lemmas}
 use Rattle.fb_build.proofs.Grown.{same_grows, then_grows}
-use Rattle.fb_build.proofs.StructSteps.{begin_at, index_past, part_fits_at, struct_known, kind_found, none_from, whole_from, ends_before, begins_next, one_laid}
+use Rattle.fb_build.proofs.StructSteps.{index_past, part_fits_at, struct_known, kind_found, none_from, whole_from, ends_before, begins_next, one_laid}
 use Rattle.fb_build.proofs.structs.+structs.Goals as goal
 
 pub lay_struct-loop-k-init : goal.lay_struct-loop-k-init
@@ -53,9 +52,16 @@ lay_struct-lay_inline-requires t c =
     let kind = stored_kind L.schema c.kind_in-kind.result in
     let known = struct_known L s fields items c.schema-schema.ensures.made c.requires.there c.parts_of-fields.ensures.parts c.requires.fits in
     let at = kind_found L s fields i c.index-fields-i.result kind c.parts_of-fields.ensures.parts (omega (arith, c.loop-k-test.true)) c.index-fields-i.is (c.kind_in-kind.ensures L.schema) in
-    let before = ends_before L s (length fields) k items known c.loop-k-test.true kind at in
-    (search (rules, the_lemmas), (known.inline i kind at, (part_fits_at L (parts_of L s) items i kind c.index.result.now c.requires.fits at (omega (arith, known.long, c.loop-k-test.true)) c.index.ensures,
-      omega (arith, before, c.loop-k.invariant.begins, c.offset_of-offset.ensures, c.size_of.ensures, c.take_zeros.ensures.free, c.loop-k.invariant.free, c.requires.room))))
+    let before = ends_before L s (length fields) k items known c.loop-k-test.true kind at in (
+      search (rules, the_lemmas),
+      (
+        known.inline i kind at,
+        (
+          part_fits_at L (parts_of L s) items i kind c.index.result.now c.requires.fits at (omega (arith, known.long, c.loop-k-test.true)) c.index.ensures,
+          omega (arith, before, c.loop-k.invariant.begins, c.offset_of-offset.ensures, c.size_of.ensures, c.take_zeros.ensures.free, c.loop-k.invariant.free, c.requires.room),
+        ),
+      ),
+    )
 
 pub lay_struct-loop-k-preserved : goal.lay_struct-loop-k-preserved
 lay_struct-loop-k-preserved t c =

@@ -1,4 +1,4 @@
-use Rattle.std.proofs.Common.{◌≡◌, ◌<◌, ◌+◌, ◌*◌, ◌^◌, ◌∙◌, true, max, subst, length, ℕ, arith}
+use Rattle.std.proofs.Common.{◌≡◌, ◌<◌, ◌+◌, ◌*◌, ◌^◌, ◌∙◌, true, max, length, arith}
 use Rattle.std.proofs.lemmas.Bool.{eq-eqb}
 use Rattle.fb_layout.specs.Laid.{stored_kind, size_of, align_of}
 use Rattle.fb_value.specs.Num.{divides}
@@ -7,7 +7,7 @@ use Rattle.fb_value.proofs.Views.{count-parts_view}
 use Rattle.fb_value.proofs.TailsKept.{through}
 use Rattle.fb_build.proofs.FieldSteps.{target_grown}
 use Rattle.fb_build.proofs.Grown.{then_grows, grown_long}
-use Rattle.fb_build.proofs.VectorEnds.{element_padded, element_size, without_items, times_least, vector_end}
+use Rattle.fb_build.proofs.VectorEnds.{element_padded, without_items, times_least, vector_end}
 use Rattle.fb_build.proofs.vectors.close_vector.Goals as goal
 
 pub pad-requires-clause-power : goal.pad-requires-clause-power
@@ -23,7 +23,7 @@ lay_elements-requires-clause-whole c =
     let padded = element_padded L kind c.requires.known.element in
     let n = length c.args.items.now in
     let all : divides (max 4 (align_of L kind)) (length c.pad.new.self.bytes + n * size_of L kind) ≡ true = rw (← c.items_align-align.ensures, ← c.size_of-size.ensures) (eq-eqb _ _ c.pad.ensures.multiple) in
-    without_items (size_of L kind) n (length c.pad.new.self.bytes) (through _ _ _ padded.size all)
+    without_items (align_of L kind) (size_of L kind) n (length c.pad.new.self.bytes) padded.size (through _ _ _ padded.own all)
 
 pub lay_elements-requires-clause-wide : goal.lay_elements-requires-clause-wide
 lay_elements-requires-clause-wide c =
@@ -31,15 +31,14 @@ lay_elements-requires-clause-wide c =
     let kind = stored_kind L.schema c.args.kind in
     let padded = element_padded L kind c.requires.known.element in
     let wide : divides (max 4 (align_of L kind)) c.pad.new.self.most ≡ true = rw (← c.items_align-align.ensures) c.pad.ensures.wide in
-    through _ _ _ padded.size wide
+    through _ _ _ padded.own wide
 
 pub returns-clause-grows : goal.returns-clause-grows
 returns-clause-grows c = then_grows _ _ _ c.pad.ensures.grows (then_grows _ _ _ c.lay_elements.ensures.grows c.lay_u32.ensures.grows)
 
 pub returns-clause-bound : goal.returns-clause-bound
 returns-clause-bound c =
-    let padded = element_padded c.args.layout.now (stored_kind c.args.layout.now.schema c.args.kind) c.requires.known.element in
-    omega (arith, padded.most, c.items_align-align.ensures, c.pad.ensures.most, c.lay_elements.ensures.most, c.lay_u32.ensures.most)
+    omega (arith, c.requires.low, c.items_align-align.ensures, c.pad.ensures.most, c.lay_elements.ensures.most, c.lay_u32.ensures.most)
 
 pub returns-clause-lies : goal.returns-clause-lies
 returns-clause-lies c =
@@ -58,5 +57,4 @@ returns-clause-lies c =
     let whole : divides (max 4 (align_of L kind)) (length a.bytes) ≡ true = rw long all in
     let most : b.most ≡ c.pad.new.self.most = c.lay_u32.ensures.most ∙ c.lay_elements.ensures.most in
     let wide2 : divides (max 4 (align_of L kind)) b.most ≡ true = rw most wide in
-    let own : divides (align_of L kind) (max 4 (align_of L kind)) ≡ true = subst (λ (z : ℕ). divides z (max 4 (align_of L kind)) ≡ true) (element_size L kind c.requires.known.element) padded.size in
-    rw c.count.ensures.exact (vector_end L a.most n a b kind (parts_view c.args.items.now) c.requires.known.element c.lay_u32.ensures.grows c.lay_u32.ensures.bytes short (count-parts_view c.args.items.now) whole wide2 own (omega (arith, long)) c.lay_elements.ensures.lies)
+    rw c.count.ensures.exact (vector_end L a.most n a b kind (parts_view c.args.items.now) c.requires.known.element c.lay_u32.ensures.grows c.lay_u32.ensures.bytes short (count-parts_view c.args.items.now) whole wide2 padded.own (omega (arith, long)) c.lay_elements.ensures.lies)

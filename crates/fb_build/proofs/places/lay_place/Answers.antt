@@ -1,0 +1,37 @@
+use Rattle.std.proofs.Common.{◌≡◌, ◌+◌, ◌∙◌, true, Some, None, option_map, length, ap, sym, arith}
+use Rattle.fb_schema.specs.declared.kinds.TypeId.{TypeId}
+use Rattle.fb_layout.specs.Laid.{stored_shape}
+use Rattle.fb_layout.specs.Widths.{inline_size, inline_align}
+use Rattle.fb_value.specs.Num.{divides}
+use Rattle.fb_value.specs.Places.{part_place}
+use Rattle.fb_value.specs.Tails.{LiesInTail}
+use Rattle.fb_value.specs.View.{view, parts_view}
+use Rattle.fb_value.specs.Wanted.{struct_wanted}
+use Rattle.fb_value.proofs.Views.{view-Fixed}
+use Rattle.fb_build.proofs.FieldSteps.{reference_known}
+use Rattle.fb_build.proofs.Grown.{grown_long}
+use Rattle.fb_build.proofs.Halves.{sum_divides}
+use Rattle.fb_build.proofs.Simple.{simple_multiple}
+use Rattle.fb_build.proofs.PlaceSteps.{struct_slot, struct_end}
+use Rattle.fb_build.proofs.places.lay_place.Goals as goal
+
+pub returns-in-Fixed-clause-lies : goal.returns-in-Fixed-clause-lies
+returns-in-Fixed-clause-lies c =
+    let L = c.args.layout.now in
+    let shape = stored_shape L.schema c.args.shape in
+    let n = c.lay_struct.new.out in
+    let wanted : struct_wanted shape ≡ Some c.in-Some.structure.0 = sym c.struct_in.ensures ∙ ap (option_map (λ (t : TypeId). t.0)) c.in-Some.is in
+    let fits = rw (c.in-Fixed.is, view-Fixed c.in-Fixed.parts) at c.requires.fits in
+    let slot = struct_slot L shape c.in-Some.structure.0 (parts_view c.in-Fixed.parts.items) wanted c.requires.simple fits in
+    let long : length n.bytes ≡ length c.args.out.now.bytes + inline_size L shape = (let grown = grown_long c.args.out.now n c.lay_struct.ensures.grows in omega (arith, grown, c.lay_struct.ensures.free, slot.size)) in
+    let whole : divides (inline_align L shape) (length n.bytes) ≡ true = sum_divides _ _ _ _ c.requires.whole (simple_multiple L shape c.requires.simple) long in
+    rw (c.in-Fixed.is, view-Fixed c.in-Fixed.parts) (struct_end L n.most n.bytes shape c.in-Some.structure.0 (parts_view c.in-Fixed.parts.items) wanted c.lay_struct.ensures.lies whole (rw c.lay_struct.ensures.most c.requires.wide) (omega (arith, long)))
+
+pub returns-in-None-clause-lies : goal.returns-in-None-clause-lies
+returns-in-None-clause-lies c =
+    let L = c.args.layout.now in
+    let shape = stored_shape L.schema c.args.shape in
+    let wanted : struct_wanted shape ≡ None = sym c.struct_in.ensures ∙ ap (option_map (λ (t : TypeId). t.0)) c.in-None.is in
+    let known = reference_known L shape (view c.args.value.now) wanted c.requires.other c.requires.fits in
+    let target : LiesInTail L c.args.out.now.most c.args.out.now.bytes (part_place known.target) c.args.end (view c.args.value.now) = rw known.named at c.requires.target in
+    rw known.sort (c.lay_reference.ensures.lies L known.target (view c.args.value.now) target)
