@@ -10,3 +10,6 @@ pub mod Roots
 pub mod Broken
 pub mod Limited
 pub mod Words
+pub mod Utf8Texts
+pub mod InEnums
+pub mod Fitted

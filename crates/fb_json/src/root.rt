@@ -2,15 +2,15 @@
 ghost use Rattle.std.specs.Prelude.{◌≡◌, ◌⊎◌, IfOk, IfErr};
 ghost use Rattle.serde_json.specs.View.{view as tree_view};
 ghost use Rattle.fb_value.specs.Datum.{Datum};
+ghost use Rattle.fb_value.specs.Fits.{FitsRoot};
 ghost use Rattle.fb_value.specs.View.{view};
 ghost use Rattle.fb_json.specs.Means.{Means};
-ghost use Rattle.fb_json.specs.Refuses.{Refuses};
+ghost use Rattle.fb_json.specs.Refuses.{MayLackMemory, Refuses};
 
 use crate::faults::{JsonFault, Place};
 use crate::source::Source;
-use crate::tree::value;
+use crate::tree::table;
 use fb_layout::Layout;
-use fb_schema::{Kind, Shape};
 use fb_value::{Limits, Value};
 use serde_json::Value as Json;
 use std::alloc::Global;
@@ -24,10 +24,12 @@ pub fn value_of(
     unknown: bool,
 ) -> Result<Value, JsonFault>
     ensures means { IfOk result (λ v. Means layout.now limits unknown (tree_view tree.now) (view v)) }
+    ensures fits { IfOk result (λ v. FitsRoot layout.now (view v)) }
     ensures refuses { IfErr result (λ f. (f ≡ JsonFault.Memory)
         ⊎ Refuses layout.now limits unknown (tree_view tree.now) f) }
     ensures none { IfErr result (λ f. (f ≡ JsonFault.Memory)
         ⊎ ((d : Datum) → ¬ Means layout.now limits unknown (tree_view tree.now) d)) }
+    ensures memory { IfErr result (MayLackMemory limits (tree_view tree.now)) }
 {
     let source = Source {
         alloc,
@@ -41,15 +43,11 @@ pub fn value_of(
     };
     let depth = limits.most_depth();
     let cells = limits.most_cells();
-    match value(
-        source,
-        tree,
-        Shape::One(Kind::Table(root)),
-        place,
-        depth,
-        cells,
-    ) {
-        Ok((value, _)) => Ok(value),
-        Err(fault) => Err(fault),
+    match tree.as_object() {
+        None => Err(JsonFault::WrongShape(place)),
+        Some(members) => match table(source, members, root, place, depth, cells) {
+            Ok((value, _)) => Ok(value),
+            Err(fault) => Err(fault),
+        },
     }
 }

@@ -1,10 +1,11 @@
 //! Values of trees under their types.
-ghost use Rattle.std.specs.Prelude.{◌≡◌, ◌≤◌, Some, false, map, length, option_map};
+ghost use Rattle.std.specs.Prelude.{◌≡◌, ◌≤◌, Some, false, IfErr, map, length, option_map};
 ghost use Rattle.serde_json.specs.View.{view as tree_view, items_view, members_view};
 ghost use Rattle.fb_schema.specs.Seen.{field_seen};
 ghost use Rattle.fb_layout.specs.Laid.{member_by_code};
 ghost use Rattle.fb_value.specs.View.{view};
 ghost use Rattle.fb_json.specs.Outcome.{Gives};
+ghost use Rattle.fb_json.specs.Refuses.{LeavesRoom};
 ghost use Rattle.fb_json.specs.Meant.{meant, items_meant, vector_meant, object_meant, table_meant, struct_meant};
 ghost use Rattle.fb_json.specs.Meant.{look, slots_meant, entry_meant, used_meant, unless_null, as_member};
 ghost use Rattle.fb_json.specs.Meant.{parts_meant, part_meant, part_place};
@@ -32,7 +33,7 @@ fn part_place(owner: TypeId, field: usize) -> Place
 /// What a tree gives under a shape, and the cells that are left. `levels` is how many tables may
 /// stand in one another.
 #[cycle(tree)]
-pub(crate) fn value(
+fn value(
     source: Source,
     tree: &Json,
     shape: Shape,
@@ -127,7 +128,7 @@ fn object(
 
 #[cycle(tree)]
 #[tactic(auto, unfolding(crate::specs::Meant::table_meant))]
-fn table(
+pub(crate) fn table(
     source: Source,
     members: &Map<String, Json>,
     owner: TypeId,
@@ -135,10 +136,11 @@ fn table(
     levels: u8,
     left: u32,
 ) -> Result<(Value, u32), JsonFault>
-    ensures { let L = source.entry.layout.now in let ms = members_view members.now.entries in
+    ensures gives { let L = source.entry.layout.now in let ms = members_view members.now.entries in
         Gives (λ x. (view x.0, x.1)) result
         (table_meant L source.entry.unknown ms (look L source.entry.unknown ms)
         owner.0 place levels left) }
+    ensures memory { IfErr result (LeavesRoom levels left) }
 {
     if levels == 0 {
         return Err(JsonFault::TooDeep(place));
