@@ -2,6 +2,7 @@
 //! bytes that it becomes and the text that they print as, and what bytes hold.
 #![tactic(auto)]
 
+mod agree;
 mod hex;
 mod outcomes;
 mod rows;

@@ -1,10 +1,11 @@
 //! What comes of JSON texts and of bytes.
+use crate::agree::table_agrees;
 use crate::hex::hex_of;
 use fb_build::build;
 use fb_json::value_of;
-use fb_read::{Entries, verify};
 use fb_layout::Layout;
-use fb_value::Limits;
+use fb_read::{Entries, verify};
+use fb_value::{Limits, whole};
 use serde_json::Value as Json;
 use std::alloc::{AllocError, Global};
 
@@ -48,7 +49,7 @@ pub(crate) fn of_bytes(
     }
 }
 
-/// The bytes that a JSON text becomes, or the fault.
+/// The bytes that a JSON text becomes, or the fault. A view of them shows the value that it means.
 pub(crate) fn built_of(
     alloc: Global,
     layout: &Layout,
@@ -63,8 +64,17 @@ pub(crate) fn built_of(
         Ok(value) => value,
         Err(fault) => return format!(in alloc; "{fault:?}"),
     };
-    match build(alloc, layout, &value) {
-        Ok(bytes) => hex_of(alloc, bytes.as_slice()),
+    if !whole(&value) {
+        return format!(in alloc; "a code that no member has");
+    }
+    let bytes = match build(alloc, layout, &value) {
+        Ok(bytes) => bytes,
+        Err(fault) => return format!(in alloc; "{fault:?}"),
+    };
+    let mut entries = Entries::new();
+    match verify(layout, bytes.as_slice(), flags.limits, false, &mut entries) {
+        Ok(view) if table_agrees(view, &value) => hex_of(alloc, bytes.as_slice()),
+        Ok(_) => format!(in alloc; "a view that shows another value"),
         Err(fault) => format!(in alloc; "{fault:?}"),
     }
 }

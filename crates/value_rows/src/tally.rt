@@ -42,6 +42,9 @@ impl fmt::Display for Tally {
             read,
             wrong,
         } = self;
-        write!(f, "{built} built, {meant} meant, {read} read, {wrong} wrong")
+        write!(
+            f,
+            "{built} built, {meant} meant, {read} read, {wrong} wrong"
+        )
     }
 }
