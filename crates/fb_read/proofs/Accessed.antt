@@ -1,5 +1,5 @@
 -- What the accessors of a view answer is what the entry of the slot is.
-use Rattle.std.proofs.Common.{◌≡◌, ℕ, zero, suc, ◌+◌, ◌*◌, ◌<◌, ◌≤◌, Bool, true, false, nat_le, List, [], ◌∷◌, length, map, drop, slice_get, slice_index_or, Option, None, Some, ℤ, refl, sym, ap, subst, ◌∙◌, arith}
+use Rattle.std.proofs.Common.{◌≡◌, ℕ, zero, suc, ◌+◌, ◌*◌, ◌<◌, ◌≤◌, true, nat_le, List, [], ◌∷◌, length, drop, slice_index_or, Option, None, Some, refl, sym, ap, arith}
 use Rattle.std.proofs.Math.Logic.{∥∥₁_elim}
 use Rattle.std.proofs.lemmas.Bool.{leb-true, and_parts}
 use Rattle.std.proofs.lemmas.Bool.Decides.{nat_tests}
@@ -14,9 +14,9 @@ use Rattle.fb_schema.specs.Alignments.{base_size}
 use Rattle.fb_layout.specs.Laid.{LaidSchema, Slot, StoredKind, scalar_kind, struct_kind, slots_of, parts_of, struct_at, stored_kind, size_of}
 use Rattle.fb_value.specs.Datum.{Datum, a_number, a_text, a_vector, a_struct, a_table, a_member, an_unknown, Parts, count, SlotEntries, no_entries, absent_entry, present_entry}
 use Rattle.fb_value.specs.Num.{Bytes, num, part_of, scalar_of}
-use Rattle.fb_value.specs.Places.{Target, table_part, member_part, text_part, vector_part, Sort, ref_place, part_place, inline_place, Place, named_slots}
+use Rattle.fb_value.specs.Places.{Target, table_part, member_part, text_part, vector_part, ref_place, part_place, inline_place, Place, named_slots}
 use Rattle.fb_value.specs.Rules.{Keeps, fault_by}
-use Rattle.fb_value.specs.Lies.{LiesInline, LiesParts, Lies, LiesAt, LiesItems, LiesSlots}
+use Rattle.fb_value.specs.Lies.{LiesInline, LiesParts, Lies, LiesItems, LiesSlots}
 use Rattle.fb_value.specs.Nth.{nth_entry, slot_place, LiesInSlot}
 use Rattle.fb_value.proofs.Steps.{rule_held}
 use Rattle.fb_value.proofs.Counted.{text_length}
@@ -24,7 +24,7 @@ use Rattle.fb_value.proofs.Ranged.{utf8_whole}
 use Rattle.fb_value.proofs.NthLies.{entry_lies_shown}
 use Rattle.fb_read.specs.declared.stored.Stored.{Stored}
 use Rattle.fb_read.specs.declared.stored.Stored.TheVariants.{Absent, Unknown, Number, Fixed, Text, Table, Member, Vector}
-use Rattle.fb_read.specs.Stored.{HasAt, StoredAs, text_place_of, table_place_of, member_place_of, vector_place_of, struct_place_of, number_place_of, default_in, unknown_code_of, text_behind, IsTextBehind}
+use Rattle.fb_read.specs.Stored.{StoredAs, text_place_of, table_place_of, member_place_of, vector_place_of, struct_place_of, number_place_of, default_in, unknown_code_of, text_behind, IsTextBehind}
 use Rattle.fb_read.specs.Views.{entry_of, number_in, text_in, table_in, struct_in, vector_in, member_in, unknown_in}
 use Rattle.fb_read.specs.Visits.{slot_seen, slots_seen}
 use Rattle.fb_read.proofs.Visited.{slot_there}

@@ -1,25 +1,23 @@
 -- What the fields of a struct and the elements of a vector are.
-use Rattle.std.proofs.Common.{◌≡◌, ℕ, zero, suc, ◌+◌, ◌*◌, ◌<◌, ◌≤◌, Bool, true, false, nat_le, List, [], ◌∷◌, length, map, slice_get, slice_index, slice_index_or, Option, None, Some, option_map, ℤ, IsTrue, refl, sym, ap, subst, ◌∙◌, mul_comm, arith}
+use Rattle.std.proofs.Common.{◌≡◌, ℕ, zero, suc, ◌+◌, ◌*◌, ◌<◌, ◌≤◌, true, false, List, [], ◌∷◌, length, map, slice_get, slice_index, slice_index_or, Option, None, Some, IsTrue, refl, sym, ap, subst, mul_comm, arith}
 use Rattle.std.proofs.lemmas.Bool.{leb-true}
 use Rattle.fb_schema.specs.declared.kinds.Base.{Base}
-use Rattle.fb_schema.specs.declared.kinds.Kind.{Kind}
-use Rattle.fb_schema.specs.declared.kinds.TypeId.{TypeId}
 use Rattle.fb_schema.specs.declared.types.FieldInfo.{FieldInfo}
 use Rattle.fb_schema.specs.Seen.{field_seen}
 use Rattle.fb_schema.specs.Alignments.{base_size}
-use Rattle.fb_schema.specs.Schema.{DeclaredBody, table_body, struct_body, enum_body, union_body, DeclaredSchema, body_at, parts_in, is_struct}
-use Rattle.fb_layout.specs.Laid.{LaidSchema, StoredKind, scalar_kind, struct_kind, table_kind, union_kind, code_kind, text_kind, parts_of, struct_at, stored_kind, stored_shape, kind_in, size_of}
+use Rattle.fb_schema.specs.Schema.{DeclaredBody, struct_body, body_at, parts_in, is_struct}
+use Rattle.fb_layout.specs.Laid.{LaidSchema, StoredKind, scalar_kind, struct_kind, table_kind, union_kind, code_kind, text_kind, parts_of, struct_at, stored_shape, kind_in, size_of}
 use Rattle.fb_layout.specs.WellMade.{StandInOrder, IsWellMade}
-use Rattle.fb_value.specs.Datum.{Datum, a_number, a_text, a_struct, a_table, Parts, no_parts, more_parts, count}
-use Rattle.fb_value.specs.Num.{Bytes, num, part_of, scalar_of}
-use Rattle.fb_value.specs.Places.{Target, table_part, text_part, ref_place, part_place, target_of}
+use Rattle.fb_value.specs.Datum.{Datum, a_number, a_struct, Parts, no_parts, more_parts, count}
+use Rattle.fb_value.specs.Num.{Bytes, num, scalar_of}
+use Rattle.fb_value.specs.Places.{table_part, text_part, ref_place, part_place, target_of}
 use Rattle.fb_value.specs.Lies.{LiesInline, LiesParts, Element, Lies, LiesItems}
 use Rattle.fb_value.specs.Nth.{nth_part}
 use Rattle.fb_value.proofs.NthLies.{element_lies_shown, part_lies_shown}
 use Rattle.fb_value.specs.Rules.{Keeps}
 use Rattle.std.proofs.Math.Nat.{mul-le-mul_left}
 use Rattle.fb_read.proofs.Entered.{sure_of}
-use Rattle.fb_read.proofs.Accessed.{class_in, number_class, struct_class, text_class, table_class, number_else, text_else, table_else, struct_else, text_here, table_from, ref_within, there_too, text_behind_sure}
+use Rattle.fb_read.proofs.Accessed.{number_class, struct_class, text_class, table_class, number_else, text_else, table_else, struct_else, text_here, table_from, ref_within, there_too, text_behind_sure}
 use Rattle.fb_read.specs.Kinds.{base_wanted, structure_wanted, table_wanted, is_text}
 use Rattle.fb_read.specs.Stored.{text_behind, IsTextBehind}
 use Rattle.fb_read.specs.Views.{number_in, text_in, table_in, struct_in}

@@ -1,12 +1,12 @@
 -- How many tables, vectors and texts stand in what lies at a place.
-use Rattle.std.proofs.Common.{◌≡◌, ℕ, zero, suc, ◌+◌, ◌*◌, ◌≤◌, ◌<◌, min, Bool, true, false, nat_le, List, [], ◌∷◌, length, drop, slice_get, slice_index_or, Option, None, Some, Result, Ok, Err, OnOk, refl, sym, ap, ◌∙◌, arith}
+use Rattle.std.proofs.Common.{◌≡◌, ℕ, zero, suc, ◌+◌, ◌*◌, ◌≤◌, ◌<◌, Bool, true, false, nat_le, List, [], ◌∷◌, length, drop, slice_index_or, Option, None, Some, Result, Ok, Err, OnOk, refl, sym, ◌∙◌, arith}
 use Rattle.std.proofs.lemmas.Bool.{leb-true}
 use Rattle.std.proofs.lemmas.Bool.Decides.{nat_tests}
 use Rattle.fb_layout.specs.Laid.{LaidSchema, Slot, StoredKind, scalar_kind, struct_kind, table_kind, text_kind, slots_of, parts_of, struct_at, size_of}
 use Rattle.fb_value.specs.Datum.{Datum, a_number, a_text, a_vector, a_struct, a_table, a_member, an_unknown, Parts, no_parts, more_parts, SlotEntries, no_entries, absent_entry, present_entry, count}
 use Rattle.fb_value.specs.Counts.{entered, parts_entered, entries_entered}
 use Rattle.fb_value.specs.Num.{Bytes, num}
-use Rattle.fb_value.specs.Places.{Target, table_part, member_part, text_part, vector_part, Sort, ref_place, part_place, inline_place, code_place, unknown_place, Place, named_slots, target_of, slot_number}
+use Rattle.fb_value.specs.Places.{Target, table_part, member_part, text_part, vector_part, ref_place, part_place, inline_place, code_place, unknown_place, named_slots, target_of, slot_number}
 use Rattle.fb_value.specs.Rules.{fault_by}
 use Rattle.fb_value.specs.Lies.{LiesInline, LiesParts, Element, Lies, LiesAt, LiesItems, LiesSlots}
 use Rattle.fb_value.specs.Nth.{nth_entry, nth_part, LiesInSlot, slot_place}

@@ -1,16 +1,15 @@
 -- What was found in a slot is what its entry is.
-use Rattle.std.proofs.Common.{◌≡◌, ℕ, suc, ◌+◌, ◌-◌, Bool, true, false, not, ◌&&◌, ◌||◌, ◌==◌, cond, nat_lt, Option, None, Some, List, ℤ, refl, sym, ap, ◌∙◌, arith}
+use Rattle.std.proofs.Common.{◌≡◌, ℕ, ◌+◌, ◌-◌, Bool, true, false, not, ◌&&◌, ◌||◌, ◌==◌, cond, nat_lt, Option, None, Some, List, ℤ, refl, arith}
 use Rattle.std.proofs.lemmas.Bool.Decides.{nat_tests}
 use Rattle.fb_schema.specs.declared.kinds.TypeId.{TypeId}
-use Rattle.fb_schema.specs.declared.kinds.Kind.{Kind}
 use Rattle.fb_schema.specs.declared.kinds.Kind.TheVariants.{Scalar, Enum, Struct, Table, Union, Code, Text}
 use Rattle.fb_schema.specs.declared.kinds.Shape.{Shape}
 use Rattle.fb_schema.specs.declared.kinds.Shape.TheVariants.{One, Many}
 use Rattle.fb_schema.specs.declared.types.FieldInfo.{FieldInfo}
-use Rattle.fb_layout.specs.Laid.{LaidSchema, Slot, StoredKind, stored_shape, stored_kind, one_of, union_kind, code_kind, StoredShape, vector_of, default_of, member_by_code}
-use Rattle.fb_value.specs.Datum.{Datum, a_number}
+use Rattle.fb_layout.specs.Laid.{LaidSchema, Slot, StoredKind, stored_shape, one_of, union_kind, StoredShape, vector_of, default_of, member_by_code}
+use Rattle.fb_value.specs.Datum.{Datum}
 use Rattle.fb_value.specs.Num.{Bytes}
-use Rattle.fb_value.specs.Places.{Target, Sort, ref_place, inline_place, code_place, unknown_place, Place, slot_number, sort_of, code_at, named_union}
+use Rattle.fb_value.specs.Places.{Target, ref_place, inline_place, code_place, unknown_place, Place, slot_number, sort_of, code_at, named_union}
 use Rattle.fb_value.specs.Nth.{slot_place, LiesInSlot}
 use Rattle.fb_read.specs.Visits.{slot_seen, union_place}
 use Rattle.fb_read.specs.Stored.{HasAt, number_entry}

@@ -16,6 +16,7 @@ mod source;
 mod stored;
 mod verification;
 mod views;
+mod visits;
 mod walk;
 
 pub use counting::Entries;

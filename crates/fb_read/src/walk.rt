@@ -10,95 +10,11 @@ ghost use Rattle.fb_read.specs.Walks.{place, visit_in, visit_each_in, visit_entr
 
 use crate::counting::Entries;
 use crate::places::{follow, slot_of, stored_slots};
-use crate::rules::{check_code, check_inline, code_in, enter_table, open_text, open_vector};
+use crate::rules::{code_in, enter_table, open_vector};
 use crate::source::Source;
+use crate::visits::{is_first_required, visit_code, visit_inline, visit_text_behind};
 use fb_schema::{FieldInfo, Kind, Shape, TypeId};
 use fb_value::ReadFault;
-
-#[tactic(auto, using(crate::proofs::Visited::visit_fault, crate::proofs::Visited::visit_text, crate::proofs::Visited::visit_text_over))]
-fn visit_text(
-    source: Source,
-    at: usize,
-    spent: u64,
-    entries: &mut Entries,
-) -> Result<u64, ReadFault>
-    requires low { at < 2 ^ 33 }
-    requires few { spent ≤ source.most_cells }
-    ensures visit { (tables : ℕ) → Visits result (visit_in source.entry (place (part_place text_part) at) tables spent) }
-    ensures few { IfOk result (λ n. n ≤ source.entry.most_cells) }
-    ensures rises { entries.old.count ≤ entries.new.count }
-    ensures ticks { TicksWithin source.entry entries.old.count entries.new.count spent result }
-    ensures each { OnOk result (EntersAt source.entry (place (part_place text_part) at) entries.old.count entries.new.count) }
-{
-    entries.tick();
-    let text = open_text(source.bytes, at)?;
-    let after = spent + 1 + text.len() as u64;
-    if after > u64::from(source.most_cells) {
-        return Err(ReadFault::TooManyCells(at as u64));
-    }
-    Ok(after)
-}
-
-#[tactic(auto, using(crate::proofs::Visited::visit_fault, crate::proofs::Visited::visit_ref))]
-fn visit_text_behind(
-    source: Source,
-    at: usize,
-    spent: u64,
-    entries: &mut Entries,
-) -> Result<u64, ReadFault>
-    requires low { at < 2 ^ 33 }
-    requires few { spent ≤ source.most_cells }
-    ensures visit { (tables : ℕ) → Visits result (visit_in source.entry (place (ref_place text_part) at) tables spent) }
-    ensures few { IfOk result (λ n. n ≤ source.entry.most_cells) }
-    ensures rises { entries.old.count ≤ entries.new.count }
-    ensures ticks { TicksWithin source.entry entries.old.count entries.new.count spent result }
-    ensures each { OnOk result (EntersAt source.entry (place (ref_place text_part) at) entries.old.count entries.new.count) }
-{
-    let target = follow(source.bytes, at)?;
-    visit_text(source, target, spent, entries)
-}
-
-#[tactic(auto, using(crate::proofs::Visited::visit_fault, crate::proofs::Visited::visit_inline))]
-fn visit_inline(source: Source, kind: Kind, at: usize, spent: u64) -> Result<u64, ReadFault>
-    requires low { at < 2 ^ 33 }
-    ensures visit { (tables : ℕ) → Visits result (visit_in source.entry (place (inline_place (stored_kind source.entry.layout.now.schema kind)) at) tables spent) }
-    ensures same { IfOk result (λ n. n ≡ spent) }
-{
-    check_inline(
-        source.bytes,
-        at,
-        source.layout.size_of(kind),
-        source.layout.align_of(kind),
-    )?;
-    Ok(spent)
-}
-
-#[tactic(auto, using(crate::proofs::Visited::visit_fault, crate::proofs::Visited::visit_code))]
-fn visit_code(
-    source: Source,
-    at: usize,
-    value_slot: u16,
-    required: bool,
-    present: bool,
-    spent: u64,
-) -> Result<u64, ReadFault>
-    requires low { at < 2 ^ 33 }
-    ensures visit { (tables u : ℕ) → Visits result (visit_in source.entry (place (code_place u value_slot required present) at) tables spent) }
-    ensures same { IfOk result (λ n. n ≡ spent) }
-{
-    check_code(source.bytes, at, value_slot, required, present)?;
-    Ok(spent)
-}
-
-/// Whether the first of some slots is required.
-fn is_first_required(slots: &[FieldInfo]) -> bool
-    ensures { (L : LaidSchema) → result ≡ next_required (slots_seen L slots.now) }
-{
-    match slots.first() {
-        Some(slot) => slot.required && !slot.deprecated,
-        None => false,
-    }
-}
 
 #[cycle(walk)]
 #[tactic(auto, using(crate::proofs::Visited::visit_ref))]

@@ -1,8 +1,5 @@
-use Rattle.std.proofs.Common.{◌≡◌, ◌+◌, ◌-◌, ◌∙◌, sym, ap, take, drop, true, arith}
+use Rattle.std.proofs.Common.{◌≡◌, ◌+◌, ◌-◌, arith}
 use Rattle.std.proofs.lemmas.Str.{IsUtf8-from_is_utf8}
-use Rattle.std.specs.Str.{is_utf8}
-use Rattle.fb_value.specs.Num.{num}
-use Rattle.fb_read.specs.Stored.{text_behind}
 use Rattle.fb_read.proofs.accessors.text_behind.Goals as goal
 
 pub from_utf8_unchecked-requires : goal.from_utf8_unchecked-requires

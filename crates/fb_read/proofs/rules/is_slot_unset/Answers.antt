@@ -1,4 +1,4 @@
-use Rattle.std.proofs.Common.{◌≡◌, sym, ◌∙◌}
+use Rattle.std.proofs.Common.{sym, ◌∙◌}
 use Rattle.fb_read.proofs.Visited.{unset_here, unset_past}
 use Rattle.fb_read.proofs.rules.is_slot_unset.Goals as goal
 

@@ -1,5 +1,5 @@
-use Rattle.std.proofs.Common.{◌≡◌, ◌+◌, ◌<◌, ◌≤◌, ◌∙◌, length, slice_index_or, Some, None, option_map, refl, sym, ap, arith, rules}
-use Rattle.fb_layout.specs.Laid.{stored_kind, size_of}
+use Rattle.std.proofs.Common.{◌≡◌, ◌<◌, ◌≤◌, ◌∙◌, length, slice_index_or, Some, None, option_map, refl, sym, ap, arith}
+use Rattle.fb_layout.specs.Laid.{stored_kind}
 use Rattle.fb_schema.specs.declared.types.FieldInfo.{FieldInfo}
 use Rattle.fb_schema.specs.declared.kinds.TypeId.{TypeId}
 use Rattle.fb_read.specs.Kinds.{structure_wanted}

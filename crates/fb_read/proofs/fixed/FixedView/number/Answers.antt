@@ -1,6 +1,6 @@
 use mir.Facts.{to_z-of_z}
-use Rattle.std.proofs.Common.{◌≡◌, ◌+◌, ◌<◌, ◌≤◌, ◌∙◌, length, slice_index_or, Some, None, option_map, refl, sym, ap, arith, rules}
-use Rattle.fb_layout.specs.Laid.{stored_kind, size_of}
+use Rattle.std.proofs.Common.{◌≡◌, ◌<◌, ◌≤◌, ◌∙◌, length, slice_index_or, Some, None, refl, sym, ap, arith, rules}
+use Rattle.fb_layout.specs.Laid.{stored_kind}
 use Rattle.fb_schema.specs.declared.types.FieldInfo.{FieldInfo}
 use Rattle.std.specs.Prelude.{FitsSigned}
 use Rattle.std.specs.Int.{w128}

@@ -1,4 +1,4 @@
-use Rattle.std.proofs.Common.{◌≡◌, ◌∙◌, Some, true, false, sym, ap}
+use Rattle.std.proofs.Common.{◌∙◌, Some, sym, ap}
 use Rattle.fb_layout.specs.Laid.{stored_kind}
 use Rattle.fb_read.specs.Stored.{text_behind}
 use Rattle.fb_read.proofs.Contained.{item_text_sure, item_text, item_no_text}

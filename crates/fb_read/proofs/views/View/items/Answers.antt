@@ -1,5 +1,4 @@
-use Rattle.std.proofs.Common.{◌≡◌, ◌+◌, ◌≤◌, length, sym, ap, ◌∙◌, arith}
-use Rattle.fb_value.specs.Num.{num}
+use Rattle.std.proofs.Common.{sym, ◌∙◌, arith}
 use Rattle.fb_read.specs.Views.{entry_of}
 use Rattle.fb_read.proofs.Accessed.{vector_sure, count_sure, items_sure, items_lie, vector_found, vector_none}
 use Rattle.fb_read.proofs.views.View.items.Goals as goal

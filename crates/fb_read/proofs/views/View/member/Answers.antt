@@ -1,5 +1,4 @@
-use Rattle.std.proofs.Common.{◌≡◌, ◌+◌, ◌<◌, ◌≤◌, length, sym, ap, Some, ◌∙◌, arith}
-use Rattle.fb_value.specs.Num.{num}
+use Rattle.std.proofs.Common.{sym, ◌∙◌, arith}
 use Rattle.fb_read.specs.Views.{entry_of}
 use Rattle.fb_read.proofs.Accessed.{member_sure, member_lies, member_found, member_none}
 use Rattle.fb_read.proofs.views.View.member.Goals as goal

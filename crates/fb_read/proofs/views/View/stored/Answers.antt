@@ -1,4 +1,4 @@
-use Rattle.std.proofs.Common.{◌≡◌, ◌+◌, suc, drop, map, sym, ap}
+use Rattle.std.proofs.Common.{◌≡◌, suc, drop, map, sym, ap}
 use Rattle.fb_layout.specs.Laid.{slot_of, slots_of}
 use Rattle.fb_read.specs.Views.{entry_of}
 use Rattle.fb_read.specs.Visits.{slots_seen}

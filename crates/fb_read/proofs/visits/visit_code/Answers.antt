@@ -1,6 +1,6 @@
 use Rattle.std.proofs.lemmas.Result.{err_from_is_err_and}
 use Rattle.fb_read.proofs.Visited.{visit_fault}
-use Rattle.fb_read.proofs.walk.visit_code.Goals as goal
+use Rattle.fb_read.proofs.visits.visit_code.Goals as goal
 
 pub returns-in_err-check_code-clause-visit : goal.returns-in_err-check_code-clause-visit
 returns-in_err-check_code-clause-visit c tables u =

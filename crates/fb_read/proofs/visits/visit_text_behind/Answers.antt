@@ -1,7 +1,7 @@
 use Rattle.std.proofs.lemmas.Result.{err_from_is_err_and}
 use Rattle.fb_value.specs.Places.{text_part}
 use Rattle.fb_read.proofs.Visited.{visit_fault}
-use Rattle.fb_read.proofs.walk.visit_text_behind.Goals as goal
+use Rattle.fb_read.proofs.visits.visit_text_behind.Goals as goal
 
 pub returns-in_err-target-clause-visit : goal.returns-in_err-target-clause-visit
 returns-in_err-target-clause-visit c tables =

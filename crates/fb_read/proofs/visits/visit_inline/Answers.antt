@@ -1,7 +1,7 @@
 use Rattle.std.proofs.lemmas.Result.{err_from_is_err_and}
 use Rattle.fb_layout.specs.Laid.{stored_kind}
 use Rattle.fb_read.proofs.Visited.{visit_fault}
-use Rattle.fb_read.proofs.walk.visit_inline.Goals as goal
+use Rattle.fb_read.proofs.visits.visit_inline.Goals as goal
 
 pub returns-in_err-check_inline-clause-visit : goal.returns-in_err-check_inline-clause-visit
 returns-in_err-check_inline-clause-visit c tables =
