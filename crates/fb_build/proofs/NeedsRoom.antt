@@ -1,11 +1,11 @@
 -- No more end-counts wait than a value has room.
-use Rattle.std.proofs.Common.{◌≡◌, ℕ, zero, suc, ◌+◌, ◌*◌, ◌<◌, ◌≤◌, List, [], ◌∷◌, length, slice_get, Some, refl, sym, subst, arith}
+use Rattle.std.proofs.Common.{Bool, true, false, if◌then◌else◌, ◌≡◌, ℕ, zero, suc, ◌+◌, ◌*◌, ◌<◌, ◌≤◌, List, [], ◌∷◌, length, slice_get, Some, refl, sym, subst, arith}
 use Rattle.fb_layout.specs.Laid.{LaidSchema, Slot, StoredKind, scalar_kind, struct_kind, table_kind, union_kind, code_kind, text_kind, StoredShape, one_of, vector_of, slots_of, size_of}
 use Rattle.fb_value.specs.Datum.{Datum, a_number, a_text, a_vector, a_struct, a_table, a_member, an_unknown, Parts, no_parts, more_parts, SlotEntries, no_entries, absent_entry, present_entry, count}
 use Rattle.fb_value.specs.Fits.{Fits, EachFits, EntriesFit}
 use Rattle.fb_value.specs.Room.{room, parts_room, entries_room, table_room}
 use Rattle.fb_build.specs.Fields.{IsSimple}
-use Rattle.fb_build.specs.Needs.{need, parts_need, entries_count, entries_need, IsSliced}
+use Rattle.fb_build.specs.Needs.{first_waits, need, parts_need, entries_count, entries_need, IsSliced}
 use Rattle.fb_build.proofs.VectorEnds.{element_padded}
 use Rattle.fb_build.proofs.Simple.{element_simple}
 
@@ -26,6 +26,10 @@ times_one (suc n) z some = let rest = times_one n z some in let more : suc n * z
 table_enough : (L : LaidSchema) (t : ℕ) (es : SlotEntries) → EntriesFit L (slots_of L t) es → entries_need es ≤ entries_room L (slots_of L t) es → entries_count es + entries_need es ≤ table_room L t + entries_room L (slots_of L t) es
 table_enough L t es h rest = let many = fits_count L (slots_of L t) es h in omega (arith, rest, many)
 
+either_need : (b : Bool) (n room : ℕ) → n ≤ room → (if b then n else 0) ≤ room
+either_need true n room h = h
+either_need false n room h = omega arith
+
 module _ (L : LaidSchema) (sliced : IsSliced L) where
   mutual
     pub need_room : (shape : StoredShape) (d : Datum) → IsSimple L shape → Fits L shape d → need d ≤ room L shape d
@@ -43,7 +47,7 @@ module _ (L : LaidSchema) (sliced : IsSliced L) where
     need_room (vector_of kind) (a_vector ds) simple h =
         let own = items_need kind ds (element_simple L kind simple) h in
         let many = times_one (count ds) (size_of L kind) (element_padded L kind simple).some in
-        omega (arith, own, many)
+        either_need (first_waits ds) (count ds + parts_need ds) _ (omega (arith, own, many))
     need_room (one_of (scalar_kind u)) (a_vector ds) simple h = absurd h
     need_room (one_of (struct_kind u)) (a_vector ds) simple h = absurd h
     need_room (one_of (table_kind u)) (a_vector ds) simple h = absurd h

@@ -21,6 +21,7 @@ ghost use Rattle.fb_build.specs.Items.{TargetsEnd};
 ghost use Rattle.fb_build.specs.TableBytes.{AreLaid};
 
 use crate::fields::lay_fields;
+use crate::needs::waits;
 use crate::tail::Tail;
 use crate::texts::lay_text;
 use crate::vectors::close_vector;
@@ -259,7 +260,7 @@ fn lay_items(
     requires fits { EachFits layout.now (stored_kind layout.now.schema kind) (parts_view items.now.items) }
     requires whole { parts_whole (parts_view items.now.items) ≡ true }
     requires room { vector_room layout.now (stored_kind layout.now.schema kind) (count (parts_view items.now.items)) + parts_room layout.now (stored_kind layout.now.schema kind) (parts_view items.now.items) ≤ out.old.free }
-    requires pending { count (parts_view items.now.items) + parts_need (parts_view items.now.items) ≤ length pending.old }
+    requires pending { need (a_vector (parts_view items.now.items)) ≤ length pending.old }
     requires long { 65534 ≤ length scratch.old }
     requires shared { AreLaid (map (λ k. k.items) known.now.keys) places.old out.old.bytes }
     ensures lies { LiesInTail layout.now out.new.most out.new.bytes (part_place (vector_part (stored_kind layout.now.schema kind))) result (a_vector (parts_view items.now.items)) }
@@ -269,6 +270,9 @@ fn lay_items(
     ensures long { length scratch.new ≡ length scratch.old }
     ensures spent { out.old.free ≤ out.new.free + (vector_room layout.now (stored_kind layout.now.schema kind) (count (parts_view items.now.items)) + parts_room layout.now (stored_kind layout.now.schema kind) (parts_view items.now.items)) }
 {
+    if !waits(items.as_slice()) {
+        return close_vector(out, layout, kind, items.as_slice(), &[]);
+    }
     let (ends, rest) = pending.split_at_mut(items.len());
     lay_item_targets(out, known, places, layout, kind, items, ends, rest, scratch);
     close_vector(out, layout, kind, items.as_slice(), ends)

@@ -1,5 +1,5 @@
 //! Lays the elements of vectors.
-ghost use Rattle.std.specs.Prelude.{◌≡◌, ◌≤◌, ◌<◌, ◌+◌, ◌*◌, length, true, map, max};
+ghost use Rattle.std.specs.Prelude.{◌≡◌, ◌≤◌, ◌<◌, ◌+◌, ◌*◌, length, true, map, max, slice_index};
 ghost use Rattle.fb_schema.specs.WellDeclared.{InRange};
 ghost use Rattle.fb_layout.specs.Laid.{stored_kind, one_of, size_of, align_of};
 ghost use Rattle.fb_layout.specs.Widths.{greatest};
@@ -40,11 +40,20 @@ fn lay_element(out: &mut Tail, layout: &Layout, kind: Kind, value: &Value, end: 
     }
 }
 
+/// The end-count of an element; 0 where none waits.
+fn end_at(ends: &[u32], i: usize) -> u32
+    ensures { result ≡ slice_index ends.now i }
+{
+    match ends.get(i) {
+        Some(end) => *end,
+        None => 0,
+    }
+}
+
 /// Lays the elements of a vector, from the last to the first.
 fn lay_elements(out: &mut Tail, layout: &Layout, kind: Kind, items: &[Value], ends: &[u32])
     requires known { ItemsKnown layout.now (stored_kind layout.now.schema kind) (map view items.now) }
     requires targets { TargetsEnd layout.now out.old.most out.old.bytes (stored_kind layout.now.schema kind) (map view items.now) ends.now }
-    requires each { length ends.now ≡ length items.now }
     requires room { length items.now * size_of layout.now (stored_kind layout.now.schema kind) ≤ out.old.free }
     requires whole { divides (align_of layout.now (stored_kind layout.now.schema kind)) (length out.old.bytes) ≡ true }
     requires wide { divides (align_of layout.now (stored_kind layout.now.schema kind)) out.old.most ≡ true }
@@ -55,7 +64,7 @@ fn lay_elements(out: &mut Tail, layout: &Layout, kind: Kind, items: &[Value], en
 {
     for k in 0..items.len() {
         let i = items.len() - 1 - k;
-        lay_element(out, layout, kind, &items[i], ends[i]);
+        lay_element(out, layout, kind, &items[i], end_at(ends, i));
     }
 }
 
@@ -77,7 +86,6 @@ pub(crate) fn close_vector(
     requires known { ItemsKnown layout.now (stored_kind layout.now.schema kind) (map view items.now) }
     requires low { align_of layout.now (stored_kind layout.now.schema kind) ≤ greatest layout.now }
     requires targets { TargetsEnd layout.now out.old.most out.old.bytes (stored_kind layout.now.schema kind) (map view items.now) ends.now }
-    requires each { length ends.now ≡ length items.now }
     requires room { vector_room layout.now (stored_kind layout.now.schema kind) (length items.now) ≤ out.old.free }
     ensures lies { LiesInTail layout.now out.new.most out.new.bytes (part_place (vector_part (stored_kind layout.now.schema kind))) result (a_vector (parts_view items.now)) }
     ensures bound { out.new.most ≤ max out.old.most (greatest layout.now) }
