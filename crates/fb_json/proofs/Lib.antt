@@ -13,3 +13,5 @@ pub mod Words
 pub mod Utf8Texts
 pub mod InEnums
 pub mod Fitted
+pub mod Doubled
+pub mod Escaped

@@ -7,3 +7,5 @@ pub mod Laws
 pub mod Breaks
 pub mod TreeCounts
 pub mod Refuses
+pub mod Texts
+pub mod Escapes
