@@ -1,5 +1,5 @@
 -- A text escaped: a stretch as it is, the escape of a byte, and the rest escaped.
-use Rattle.std.proofs.Common.{◌≡◌, ◌≢◌, ℕ, zero, suc, ◌+◌, ◌<◌, ◌≤◌, Bool, true, false, ◌&&◌, ◌==◌, not, nat_le, nat_lt, List, [], ◌∷◌, ◌++◌, length, get_or, slice_get, Some, None, take, drop, append_assoc, subst, refl, ap, sym, ◌∙◌, arith, ne_eqb, add-one, drop-cons}
+use Rattle.std.proofs.Common.{◌≡◌, ℕ, zero, suc, ◌+◌, ◌<◌, ◌≤◌, Bool, true, false, ◌&&◌, ◌==◌, not, nat_le, nat_lt, List, [], ◌∷◌, ◌++◌, length, get_or, slice_get, Some, None, take, drop, append_assoc, subst, refl, ap, sym, ◌∙◌, arith, ne_eqb, add-one, drop-cons}
 use Rattle.std.specs.List.{prefix_len}
 use Rattle.std.proofs.lemmas.Bool.{and_parts}
 use Rattle.std.proofs.lemmas.Bool.Decides.{nat_tests}

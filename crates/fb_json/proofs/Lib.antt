@@ -15,3 +15,4 @@ pub mod InEnums
 pub mod Fitted
 pub mod Doubled
 pub mod Escaped
+pub mod WholeNamed

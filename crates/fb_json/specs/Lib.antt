@@ -9,3 +9,4 @@ pub mod TreeCounts
 pub mod Refuses
 pub mod Texts
 pub mod Escapes
+pub mod Unnamed

@@ -1,19 +1,19 @@
 -- The JSON text of a value: strict JSON, two blanks an indent, one member or element a line.
 -- From the FlatBuffers documentation, "JSON parsing" (text output) and RFC 8259 (strings).
-use Rattle.std.specs.Prelude.{ℕ, zero, suc, ◌+◌, ◌/◌, ◌%◌, ◌==◌, ◌&&◌, ◌||◌, ℤ, pos, negsuc, List, [], ◌∷◌, ◌++◌, Bool, true, false, not, Option, None, Some, codes, is_some, option_map, slice_get, if◌then◌else◌}
+use Rattle.std.specs.Prelude.{ℕ, zero, suc, ◌+◌, ◌/◌, ◌%◌, ◌==◌, ◌&&◌, ◌||◌, ℤ, pos, negsuc, List, [], ◌∷◌, ◌++◌, Bool, true, false, not, Option, codes, is_some, option_map, slice_get, if◌then◌else◌}
 use Rattle.std.specs.Fmt.{signed_decimal}
 use Rattle.std.specs.Option.{option_map_or, unwrap_or}
 use Rattle.std.specs.Ordering.{int_eq}
 use Rattle.json.specs.Print.{quoted}
 use Rattle.fb_schema.specs.declared.kinds.Base.TheVariants.{Bool as Boolean}
 use Rattle.fb_schema.specs.declared.kinds.Kind.{Kind}
-use Rattle.fb_schema.specs.declared.kinds.Kind.TheVariants.{Scalar, Enum, Struct, Table, Union, Code, Text}
+use Rattle.fb_schema.specs.declared.kinds.Kind.TheVariants.{Scalar, Enum, Struct, Table, Union}
 use Rattle.fb_schema.specs.declared.kinds.Shape.{Shape}
 use Rattle.fb_schema.specs.declared.kinds.Shape.TheVariants.{One, Many}
 use Rattle.fb_schema.specs.Schema.{Name, DeclaredField, DeclaredBody, DeclaredSchema, body_at, slots_in, parts_in, members_in}
 use Rattle.fb_schema.specs.Found.{name_numbered}
-use Rattle.fb_layout.specs.Laid.{LaidSchema, member_by_code}
-use Rattle.fb_value.specs.Datum.{Datum, a_number, a_text, a_vector, a_struct, a_table, a_member, an_unknown, Parts, no_parts, more_parts, SlotEntries, no_entries, absent_entry, present_entry}
+use Rattle.fb_layout.specs.Laid.{LaidSchema}
+use Rattle.fb_value.specs.Datum.{Datum, a_number, a_text, a_vector, a_struct, a_table, a_member, Parts, no_parts, more_parts, SlotEntries, absent_entry, present_entry}
 use Rattle.fb_json.specs.EnumTexts.{has_flags}
 
 -- ---- numbers

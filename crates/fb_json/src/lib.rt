@@ -15,8 +15,11 @@ mod quote;
 mod root;
 mod scalars;
 mod source;
+mod text;
 mod tree;
+mod unnamed;
 
-pub use faults::{JsonFault, Place};
+pub use faults::{JsonFault, Place, TextFault};
 pub use laws::{all_that_is_meant, faults_are_broken, limits_are_reached, only_what_is_meant};
 pub use root::value_of;
+pub use text::text_of;

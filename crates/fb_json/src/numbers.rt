@@ -127,12 +127,9 @@ fn push_bit(
     if bits % 2 != 1 {
         return Ok(());
     }
+    let name = schema.name_of_number(enumeration, bit as i128);
     text.push_str(if some { " " } else { "" })?;
-    text.push_str(
-        schema
-            .name_of_number(enumeration, bit as i128)
-            .unwrap_or(""),
-    )
+    text.push_str(name.unwrap_or(""))
 }
 
 /// Whether a name stands before those behind the lowest bit.
