@@ -1,9 +1,7 @@
 -- What a tree means under a type of a declared schema fits the type, where its texts are UTF-8.
-use Rattle.std.proofs.Common.{◌≡◌, ℕ, suc, Bool, true, false, not, ◌&&◌, ◌||◌, List, [], ◌∷◌, Option, Some, None, IsTrue, ℤ, map, get_or, slice_get, refl, sym, ap, subst, ◌∙◌, arith, rules}
-use Rattle.std.specs.Prelude.{pos}
+use Rattle.std.proofs.Common.{◌≡◌, ℕ, suc, Bool, true, false, not, ◌&&◌, ◌||◌, List, [], ◌∷◌, Option, Some, None, IsTrue, ℤ, map, get_or, slice_get, refl, sym, ap, subst, ◌∙◌, arith}
 use Rattle.std.proofs.lemmas.Int.{ints}
-use Rattle.serde_json.specs.Data.{Num, Data, null, boolean, number, string, array, object, Items, no_items, item, Members}
-use Rattle.serde_json.specs.Find.{get_member}
+use Rattle.serde_json.specs.Data.{Data, boolean, number, string, Items, no_items, item, Members}
 use Rattle.fb_schema.specs.declared.kinds.Base.{Base}
 use Rattle.fb_schema.specs.declared.kinds.Base.TheVariants.{Bool as Boolean, I8, U8, I16, U16, I32, U32, I64, U64}
 use Rattle.fb_schema.specs.declared.kinds.Kind.{Kind}
@@ -12,12 +10,12 @@ use Rattle.fb_schema.specs.declared.kinds.Shape.{Shape}
 use Rattle.fb_schema.specs.declared.kinds.Shape.TheVariants.{One, Many}
 use Rattle.fb_schema.specs.Schema.{DeclaredField, DeclaredBody, table_body, struct_body, enum_body, union_body, DeclaredType, DeclaredSchema, body_in, body_at, base_in, slots_in, parts_in, is_table}
 use Rattle.fb_schema.specs.WellDeclared.{InRange, MarksFit, IsPart, IsBody, IsDeclared}
-use Rattle.fb_layout.specs.Laid.{LaidSchema, Slot, StoredKind, scalar_kind, code_kind, union_kind, table_kind, StoredShape, one_of, stored_kind, stored_shape, default_of, slot_of, kind_in, member_by_code}
-use Rattle.fb_value.specs.Datum.{Datum, a_number, a_text, a_vector, a_struct, a_table, a_member, an_unknown, Parts, no_parts, more_parts, SlotEntries, no_entries, absent_entry, present_entry}
+use Rattle.fb_layout.specs.Laid.{LaidSchema, code_kind, union_kind, table_kind, one_of, stored_kind, stored_shape, default_of, slot_of, kind_in}
+use Rattle.fb_value.specs.Datum.{Datum, a_number, a_text, a_vector, a_struct, a_table, a_member, Parts, no_parts, more_parts, SlotEntries, no_entries, absent_entry, present_entry}
 use Rattle.fb_value.specs.Bounds.{Bounds}
 use Rattle.fb_value.specs.Fits.{MayBeAbsent, Fits, PartsFit, EachFits, EntriesFit, FitsKind, FitsType, FitsRoot, kind_of_type}
 use Rattle.std.proofs.lemmas.Option.{slice_get-get_or}
-use Rattle.fb_json.specs.Means.{ScalarMeans, EnumMeans, CodeAt, AbsentMeans, AbsentAt, PresentAs, PresentMeans, member_called, MeansAs, MemberMeans, PartsMean, EachMeans, SlotsMean, Means}
+use Rattle.fb_json.specs.Means.{ScalarMeans, EnumMeans, AbsentMeans, AbsentAt, PresentAs, PresentMeans, member_called, MeansAs, MemberMeans, PartsMean, EachMeans, SlotsMean, Means}
 use Rattle.fb_json.proofs.InEnums.{told_in_range}
 use Rattle.fb_json.proofs.Utf8Texts.{HasUtf8, HaveUtf8, EntriesHaveUtf8}
 

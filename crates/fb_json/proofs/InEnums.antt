@@ -1,5 +1,5 @@
 -- A number that a text names in an enum is in the range of its underlying type.
-use Rattle.std.proofs.Common.{◌≡◌, ℕ, suc, ◌<◌, ◌≤◌, ◌^◌, ◌*◌, Bool, true, false, List, [], ◌∷◌, Option, Some, None, All, IsTrue, bytes_eq, ℤ, slice_get, bit_or, refl, sym, ap, subst, arith, lit<}
+use Rattle.std.proofs.Common.{◌≡◌, ℕ, suc, ◌<◌, ◌≤◌, ◌^◌, ◌*◌, Bool, true, false, List, [], ◌∷◌, Option, Some, None, All, IsTrue, bytes_eq, ℤ, slice_get, bit_or, refl, ap, subst, arith, lit<}
 use Rattle.std.specs.Prelude.{pos, find, if◌then◌else◌}
 use Rattle.std.specs.Option.{option_map, option_and_then}
 use Rattle.std.specs.Int.{int_bit_or, w128}

@@ -13,3 +13,6 @@ pub mod Words
 pub mod Utf8Texts
 pub mod InEnums
 pub mod Fitted
+pub mod Doubled
+pub mod Escaped
+pub mod WholeNamed

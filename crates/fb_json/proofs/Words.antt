@@ -1,9 +1,9 @@
 -- A text's words: what stands before its first blank, and the words behind it.
-use Rattle.std.proofs.Common.{◌≡◌, ◌≢◌, ℕ, zero, suc, ◌<◌, false, List, [], ◌∷◌, ◌++◌, length, get_or, Option, None, Some, ℤ, bit_or, refl, ap, sym, ◌∙◌, arith, ne_eqb}
+use Rattle.std.proofs.Common.{◌≡◌, ◌≢◌, ℕ, suc, ◌<◌, List, [], ◌∷◌, ◌++◌, length, get_or, Option, None, Some, ℤ, bit_or, refl, ap, sym, arith, ne_eqb}
 use Rattle.std.specs.Int.{int_bit_or, w128, cast_signed, cast_unsigned}
 use Rattle.std.proofs.Math.Facts.{of_z-to_z}
 use mir.Val.{Fits}
-use Rattle.fb_json.specs.EnumTexts.{blank, with_byte, words, flags_named}
+use Rattle.fb_json.specs.EnumTexts.{blank, words, flags_named}
 
 -- no blank stands in it
 abbrev pub HasNoBlank : List ℕ → Type 0

@@ -7,3 +7,6 @@ pub mod Laws
 pub mod Breaks
 pub mod TreeCounts
 pub mod Refuses
+pub mod Texts
+pub mod Escapes
+pub mod Unnamed

@@ -21,7 +21,7 @@ use fb_value::Value;
 use serde_json::{Map, Value as Json};
 
 /// The place of a struct's field.
-fn part_place(owner: TypeId, field: usize) -> Place
+pub(crate) fn part_place(owner: TypeId, field: usize) -> Place
     ensures { result ≡ part_place owner.0 field }
 {
     Place {

@@ -1,4 +1,4 @@
-use Rattle.std.proofs.Common.{◌≡◌, Some, None, ap, sym, ◌∙◌, arith, rules}
+use Rattle.std.proofs.Common.{Some, None, ap, sym, ◌∙◌, arith, rules}
 use Rattle.std.proofs.lemmas.Str.Pattern.{split_parts}
 use Rattle.std.specs.Int.{w128, cast_signed}
 use Rattle.fb_schema.specs.Paths.{number_by_path}

@@ -1,11 +1,10 @@
-use Rattle.std.proofs.Common.{◌≡◌, ◌∙◌, ℕ, Result, None, inr, ap, sym, subst}
+use Rattle.std.proofs.Common.{◌∙◌, ℕ, Result, inr, ap, sym, subst}
 use Rattle.fb_schema.specs.Schema.{DeclaredSchema}
 use Rattle.serde_json.specs.View.{view as tree_view, members_view}
 use Rattle.fb_value.specs.Datum.{Datum}
 use Rattle.fb_value.specs.View.{view}
 use Rattle.fb_json.specs.declared.faults.JsonFault.{JsonFault}
 use Rattle.fb_json.specs.declared.faults.JsonFault.TheVariants.{WrongShape}
-use Rattle.fb_schema.specs.WellDeclared.{IsDeclared}
 use Rattle.fb_json.specs.Means.{Means}
 use Rattle.fb_json.specs.Meant.{type_place}
 use Rattle.fb_json.specs.Outcome.{Fails}

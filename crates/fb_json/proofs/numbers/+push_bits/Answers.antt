@@ -1,0 +1,24 @@
+use Rattle.std.proofs.Common.{◌≡◌, ℕ, suc, ◌+◌, ◌-◌, ◌/◌, ◌<◌, ◌^◌, ◌++◌, ◌||◌, ℤ, Bool, Option, ap, arith, append_assoc}
+use Rattle.std.proofs.lemmas.Grind.{common_steps}
+use Rattle.fb_schema.specs.Schema.{Name, body_at}
+use Rattle.fb_schema.specs.Found.{name_numbered}
+use Rattle.fb_json.specs.Texts.{is_odd, bit_text, bits_text}
+use Rattle.fb_json.proofs.Doubled.{doubled}
+use Rattle.fb_json.proofs.numbers.+push_bits.Goals as goal
+
+pub push_bits-requires : goal.push_bits-requires
+push_bits-requires t c = (omega arith, doubled c.args.bit c.args.left (2 ^ 64) (omega arith) c.requires)
+
+-- the lowest bit's name and those behind it
+more_bits : (name : ℤ → Option Name) (left bit m : ℕ) (some : Bool) → 0 < left
+    → bits_text name left bit m some ≡ bit_text name bit m some ++ bits_text name (left - 1) (bit + bit) (m / 2) (some || is_odd m)
+unfolding bits_text
+more_bits name left bit m some h =
+    let next : left ≡ suc (left - 1) = omega arith in
+    ap (λ n. bits_text name n bit m some) next
+
+pub returns : goal.returns
+returns t c =
+    let name = name_numbered (body_at c.args.schema.now c.args.enumeration.0) in
+    let more = more_bits name c.args.left c.args.bit c.args.bits c.args.some (omega arith) in
+    rw more (grind (arith, common_steps, append_assoc))

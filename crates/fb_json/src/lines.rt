@@ -1,0 +1,116 @@
+//! The lines of a JSON text.
+ghost use Rattle.std.specs.Prelude.{◌≡◌, ◌++◌, map, IfOk, string_bytes};
+ghost use Rattle.fb_schema.specs.Schema.{body_at, members_in};
+ghost use Rattle.fb_value.specs.View.{view};
+ghost use Rattle.fb_json.specs.Texts.{line, closing, inside, member_line, member_name, in_quotes, code_text, has_code};
+
+use fb_schema::{Kind, Schema, Shape, TypeId};
+use fb_value::Value;
+use std::alloc::{AllocError, Global};
+
+/// Two blanks more than an indent.
+pub(crate) fn indented(alloc: Global, indent: &str) -> Result<String, AllocError>
+    ensures { IfOk result (λ s. string_bytes s ≡ inside indent.now) }
+{
+    let mut inner = String::from_str(alloc, indent)?;
+    inner.push_str("  ")?;
+    Ok(inner)
+}
+
+/// Adds what stands in front of a member or an element.
+pub(crate) fn push_line(text: &mut String, indent: &str, some: bool) -> Result<(), AllocError>
+    ensures { IfOk result
+        (λ _. string_bytes text.new ≡ string_bytes text.old ++ line indent.now some) }
+{
+    text.push_str(if some { ",\n" } else { "\n" })?;
+    text.push_str(indent)
+}
+
+/// Adds what stands in front of a closing bracket.
+pub(crate) fn push_closing(text: &mut String, indent: &str, some: bool) -> Result<(), AllocError>
+    ensures { IfOk result
+        (λ _. string_bytes text.new ≡ string_bytes text.old ++ closing indent.now some) }
+{
+    if !some {
+        return Ok(());
+    }
+    text.push_str("\n")?;
+    text.push_str(indent)
+}
+
+/// Adds a member's line up to its value. Its name is in two parts.
+pub(crate) fn push_member_line(
+    text: &mut String,
+    indent: &str,
+    some: bool,
+    name: &str,
+    behind: &str,
+) -> Result<(), AllocError>
+    ensures { IfOk result (λ _. string_bytes text.new
+        ≡ string_bytes text.old ++ member_line indent.now some name.now behind.now) }
+{
+    push_line(text, indent, some)?;
+    text.push_str("\"")?;
+    text.push_str(name)?;
+    text.push_str(behind)?;
+    text.push_str("\": ")
+}
+
+/// Adds a name in quotes.
+pub(crate) fn push_name(text: &mut String, name: &str) -> Result<(), AllocError>
+    ensures { IfOk result
+        (λ _. string_bytes text.new ≡ string_bytes text.old ++ in_quotes name.now) }
+{
+    text.push_str("\"")?;
+    text.push_str(name)?;
+    text.push_str("\"")
+}
+
+/// The members of a union; none of another type.
+fn members_of(schema: &Schema, union: TypeId) -> &[(String, TypeId)]
+    ensures { map (λ m. (string_bytes m.0, m.1.0)) result.now
+        ≡ members_in (body_at schema.now union.0) }
+{
+    match schema.types().get(union.0 as usize) {
+        Some(info) => info.body.as_union().unwrap_or(&[]),
+        None => &[],
+    }
+}
+
+/// The name of the member that a union's code names; nothing where it names none.
+fn member_name(schema: &Schema, union: TypeId, code: u8) -> &str
+    ensures { result.now ≡ member_name (body_at schema.now union.0) code }
+{
+    let Some(at) = code.checked_sub(1) else {
+        return "";
+    };
+    match members_of(schema, union).get(usize::from(at)) {
+        Some(member) => member.0.as_str(),
+        None => "",
+    }
+}
+
+/// Adds a union's code in front of its member, and says whether there is one.
+pub(crate) fn push_code(
+    text: &mut String,
+    schema: &Schema,
+    indent: &str,
+    some: bool,
+    name: &str,
+    shape: Shape,
+    value: &Value,
+) -> Result<bool, AllocError>
+    ensures text { IfOk result (λ _. string_bytes text.new ≡ string_bytes text.old
+        ++ code_text schema.now indent.now some name.now shape (view value.now)) }
+    ensures coded { IfOk result (λ coded. coded ≡ has_code shape (view value.now)) }
+{
+    let Value::Member(code, _) = value else {
+        return Ok(false);
+    };
+    let Shape::One(Kind::Union(union)) = shape else {
+        return Ok(false);
+    };
+    push_member_line(text, indent, some, name, "_type")?;
+    push_name(text, member_name(schema, union, *code))?;
+    Ok(true)
+}

@@ -1,0 +1,52 @@
+//! Unions whose codes name no member.
+ghost use Rattle.std.specs.Prelude.{◌≡◌};
+ghost use Rattle.fb_value.specs.View.{view, parts_view, entries_view};
+ghost use Rattle.fb_json.specs.Unnamed.{first_unnamed, first_in_parts, first_in_entries};
+
+use crate::faults::Place;
+use crate::tree::part_place;
+use fb_schema::TypeId;
+use fb_value::Value;
+
+/// The place of the first union, in the order of printing, whose code names no member.
+#[cycle(unnamed)]
+pub(crate) fn first_unnamed(place: Place, value: &Value) -> Option<Place>
+    ensures { result ≡ first_unnamed place (view value.now) }
+{
+    match value {
+        Value::Number(_) | Value::Text(_) => None,
+        Value::Items(items) => first_in_parts(place, items),
+        Value::Fixed(parts) => first_in_parts(place, parts),
+        Value::Fields(owner, entries) => first_in_entries(*owner, entries),
+        Value::Member(_, member) => first_unnamed(place, member),
+        Value::Other(_) => Some(place),
+    }
+}
+
+#[cycle(unnamed)]
+fn first_in_parts(place: Place, parts: &Vec<Value>) -> Option<Place>
+    ensures { result ≡ first_in_parts place (parts_view parts.now.items) }
+{
+    for part in parts {
+        let found = first_unnamed(place, part);
+        if found.is_some() {
+            return found;
+        }
+    }
+    None
+}
+
+#[cycle(unnamed)]
+fn first_in_entries(owner: TypeId, entries: &Vec<Option<Value>>) -> Option<Place>
+    ensures { result ≡ first_in_entries owner.0 0 (entries_view entries.now.items) }
+{
+    for k in 0..entries.len() {
+        if let Some(value) = &entries[k] {
+            let found = first_unnamed(part_place(owner, k), value);
+            if found.is_some() {
+                return found;
+            }
+        }
+    }
+    None
+}
