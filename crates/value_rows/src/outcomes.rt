@@ -1,11 +1,16 @@
 //! What comes of JSON texts and of bytes.
+ghost use Rattle.std.specs.Prelude.{◌≤◌, IfOk};
+ghost use Rattle.fb_value.specs.View.{view};
+ghost use Rattle.fb_value.specs.Fits.{FitsRoot};
+ghost use Rattle.fb_value.specs.Counts.{depth, nesting};
+
 use crate::agree::table_agrees;
 use crate::hex::hex_of;
 use fb_build::build;
-use fb_json::value_of;
+use fb_json::{JsonFault, text_of, value_of};
 use fb_layout::Layout;
 use fb_read::{Entries, verify};
-use fb_value::{Limits, whole};
+use fb_value::{Limits, Value, same, whole};
 use serde_json::Value as Json;
 use std::alloc::{AllocError, Global};
 
@@ -18,6 +23,39 @@ pub(crate) struct Flags {
     pub(crate) defaults: bool,
 }
 
+/// Why a JSON text gives no value.
+#[derive(Clone, Copy, Debug, Drop)]
+pub(crate) enum Unmeant {
+    NoJson,
+    Fault(JsonFault),
+}
+
+/// The value that a JSON text means.
+fn meant(alloc: Global, layout: &Layout, json: &str, flags: Flags) -> Result<Value, Unmeant>
+    ensures fits { IfOk result (λ v. FitsRoot layout.now (view v)) }
+    ensures deep { IfOk result (λ v. depth (view v) ≤ 127) }
+    ensures nests { IfOk result (λ v. nesting (view v) ≤ 300) }
+{
+    let _schema = layout.schema();
+    let limits = flags.limits;
+    let _depth = limits.most_depth();
+    let Ok(tree) = Json::from_str(alloc, json) else {
+        return Err(Unmeant::NoJson);
+    };
+    match value_of(alloc, layout, &tree, limits, flags.unknown) {
+        Ok(value) => Ok(value),
+        Err(fault) => Err(Unmeant::Fault(fault)),
+    }
+}
+
+/// Why no value is meant, in one line.
+fn refused(alloc: Global, unmeant: Unmeant) -> Result<String, AllocError> {
+    match unmeant {
+        Unmeant::NoJson => format!(in alloc; "no JSON"),
+        Unmeant::Fault(fault) => format!(in alloc; "{fault:?}"),
+    }
+}
+
 /// The value that a JSON text means, or the fault.
 pub(crate) fn of_json(
     alloc: Global,
@@ -25,17 +63,13 @@ pub(crate) fn of_json(
     json: &str,
     flags: Flags,
 ) -> Result<String, AllocError> {
-    let tree = match Json::from_str(alloc, json) {
-        Ok(tree) => tree,
-        Err(_) => return format!(in alloc; "no JSON"),
-    };
-    match value_of(alloc, layout, &tree, flags.limits, flags.unknown) {
+    match meant(alloc, layout, json, flags) {
         Ok(value) => format!(in alloc; "{value:?}"),
-        Err(fault) => format!(in alloc; "{fault:?}"),
+        Err(unmeant) => refused(alloc, unmeant),
     }
 }
 
-/// Whether bytes hold a value, or the fault.
+/// `held` where bytes hold a value, or the fault.
 pub(crate) fn of_bytes(
     alloc: Global,
     layout: &Layout,
@@ -49,20 +83,40 @@ pub(crate) fn of_bytes(
     }
 }
 
-/// The bytes that a JSON text becomes, or the fault. A view of them shows the value that it means.
-pub(crate) fn built_of(
+/// The text that a value prints as, which means the same value again.
+fn printed(
+    alloc: Global,
+    layout: &Layout,
+    value: &Value,
+    flags: Flags,
+) -> Result<String, AllocError>
+    requires fits { FitsRoot layout.now (view value.now) }
+    requires deep { depth (view value.now) ≤ 127 }
+    requires nests { nesting (view value.now) ≤ 300 }
+{
+    let text = match text_of(alloc, layout, value, flags.defaults) {
+        Ok(text) => text,
+        Err(fault) => return format!(in alloc; "{fault:?}"),
+    };
+    match meant(alloc, layout, text.as_str(), flags) {
+        Ok(again) if same(value, &again) => Ok(text),
+        Ok(_) => format!(in alloc; "another value when it is read again: {text}"),
+        Err(unmeant) => refused(alloc, unmeant),
+    }
+}
+
+/// The text that a JSON text prints as, where it becomes these bytes and a view of them shows the
+/// value that it means.
+pub(crate) fn of_both(
     alloc: Global,
     layout: &Layout,
     json: &str,
+    wanted: &[u8],
     flags: Flags,
 ) -> Result<String, AllocError> {
-    let tree = match Json::from_str(alloc, json) {
-        Ok(tree) => tree,
-        Err(_) => return format!(in alloc; "no JSON"),
-    };
-    let value = match value_of(alloc, layout, &tree, flags.limits, flags.unknown) {
+    let value = match meant(alloc, layout, json, flags) {
         Ok(value) => value,
-        Err(fault) => return format!(in alloc; "{fault:?}"),
+        Err(unmeant) => return refused(alloc, unmeant),
     };
     if !whole(&value) {
         return format!(in alloc; "a code that no member has");
@@ -71,9 +125,12 @@ pub(crate) fn built_of(
         Ok(bytes) => bytes,
         Err(fault) => return format!(in alloc; "{fault:?}"),
     };
+    if bytes.as_slice() != wanted {
+        return hex_of(alloc, bytes.as_slice());
+    }
     let mut entries = Entries::new();
-    match verify(layout, bytes.as_slice(), flags.limits, false, &mut entries) {
-        Ok(view) if table_agrees(view, &value) => hex_of(alloc, bytes.as_slice()),
+    match verify(layout, wanted, flags.limits, false, &mut entries) {
+        Ok(view) if table_agrees(view, &value) => printed(alloc, layout, &value, flags),
         Ok(_) => format!(in alloc; "a view that shows another value"),
         Err(fault) => format!(in alloc; "{fault:?}"),
     }

@@ -1,6 +1,6 @@
 //! A row, read and judged.
 use crate::hex::bytes_of;
-use crate::outcomes::{Flags, built_of, of_bytes, of_json};
+use crate::outcomes::{Flags, of_both, of_bytes, of_json};
 use fb_value::Limits;
 use flatc_tool::schema_of;
 use serde::Deserialize;
@@ -66,20 +66,21 @@ fn outcome_of(alloc: Global, row: &Row) -> Result<(Source, String), AllocError> 
         raw: row.raw,
         defaults: row.defaults,
     };
-    match (&row.json, &row.bytes) {
-        (Some(json), None) => Ok((Source::Json, of_json(alloc, &layout, json.as_str(), flags)?)),
-        (None, Some(hex)) => match bytes_of(alloc, hex.as_str())? {
-            Some(bytes) => Ok((
-                Source::Bytes,
-                of_bytes(alloc, &layout, bytes.as_slice(), flags)?,
-            )),
-            None => Ok((Source::Bytes, format!(in alloc; "no bytes")?)),
-        },
-        (Some(json), Some(_)) => Ok((
+    let bytes = match &row.bytes {
+        None => None,
+        Some(hex) => bytes_of(alloc, hex.as_str())?,
+    };
+    match (&row.json, &bytes) {
+        (Some(json), Some(bytes)) => Ok((
             Source::Both,
-            built_of(alloc, &layout, json.as_str(), flags)?,
+            of_both(alloc, &layout, json.as_str(), bytes.as_slice(), flags)?,
         )),
-        (None, None) => Ok((Source::Both, format!(in alloc; "nothing")?)),
+        (Some(json), None) => Ok((Source::Json, of_json(alloc, &layout, json.as_str(), flags)?)),
+        (None, Some(bytes)) => Ok((
+            Source::Bytes,
+            of_bytes(alloc, &layout, bytes.as_slice(), flags)?,
+        )),
+        (None, None) => Ok((Source::Bytes, format!(in alloc; "neither JSON nor bytes")?)),
     }
 }
 
