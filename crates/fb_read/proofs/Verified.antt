@@ -1,5 +1,5 @@
 -- What a visit from the root says of the whole buffer.
-use Rattle.std.proofs.Common.{◌≡◌, ℕ, ◌+◌, ◌<◌, ◌≤◌, ◌^◌, Bool, Option, None, Some, Ok, Err, refl, sym, subst, arith}
+use Rattle.std.proofs.Common.{◌≡◌, ℕ, ◌+◌, ◌<◌, ◌≤◌, ◌^◌, Bool, Option, None, Some, Ok, Err, refl, arith}
 use Rattle.fb_layout.specs.Laid.{LaidSchema, StoredKind, size_of, align_of}
 use Rattle.fb_layout.specs.WellMade.{IsWellMade}
 use Rattle.fb_layout.proofs.Alignments.{positive_shown, sizes_shown}
