@@ -1,13 +1,8 @@
 -- What a visit from the root says of the whole buffer.
-use Rattle.std.proofs.Common.{◌≡◌, ℕ, ◌+◌, ◌<◌, ◌≤◌, ◌^◌, Bool, Option, None, Some, Ok, Err, refl, sym, subst, arith}
-use Rattle.fb_schema.specs.declared.kinds.Base.{Base}
-use Rattle.fb_schema.specs.declared.kinds.Base.TheVariants.{Bool as Boolean, I8, U8, I16, U16, I32, U32, I64, U64}
-use Rattle.fb_schema.specs.Alignments.{base_size}
-use Rattle.fb_layout.specs.Laid.{LaidSchema, StoredKind, scalar_kind, struct_kind, table_kind, union_kind, code_kind, text_kind, size_of, align_of}
+use Rattle.std.proofs.Common.{◌≡◌, ℕ, ◌+◌, ◌<◌, ◌≤◌, ◌^◌, Bool, Option, None, Some, Ok, Err, refl, arith}
+use Rattle.fb_layout.specs.Laid.{LaidSchema, StoredKind, size_of, align_of}
 use Rattle.fb_layout.specs.WellMade.{IsWellMade}
-use Rattle.fb_layout.proofs.Exact.{with_structs, exact, align_positive}
-use Rattle.fb_layout.proofs.SizedExact.{positive, exact_sized}
-use Rattle.fb_layout.proofs.OneSizing.{one_sizing}
+use Rattle.fb_layout.proofs.Alignments.{positive_shown, sizes_shown}
 use Rattle.fb_value.specs.declared.faults.ReadFault.{ReadFault}
 use Rattle.fb_value.specs.Bounds.{Bounds}
 use Rattle.fb_value.specs.Datum.{Datum}
@@ -21,29 +16,11 @@ use Rattle.fb_read.specs.Visits.{outcome, visit}
 
 -- A well-made layout aligns nothing to 0.
 pub aligned_known : (L : LaidSchema) → IsWellMade L → (kind : StoredKind) → 1 ≤ align_of L kind
-aligned_known L made kind =
-    let same : L.structs ≡ (exact L.schema).structs = one_sizing L.schema L.structs (exact L.schema).structs made.declared made.sized (exact_sized L.schema made.declared) in
-    subst (λ (structs : _). 1 ≤ align_of (with_structs L.schema structs) kind) (sym same) (align_positive L.schema (exact L.schema).structs (positive L.schema made.declared) kind)
-
-base_small : (base : Base) → base_size base < 2 ^ 16
-base_small Boolean = omega arith
-base_small I8 = omega arith
-base_small U8 = omega arith
-base_small I16 = omega arith
-base_small U16 = omega arith
-base_small I32 = omega arith
-base_small U32 = omega arith
-base_small I64 = omega arith
-base_small U64 = omega arith
+aligned_known L made kind = let positive = positive_shown L kind made in omega (arith, positive)
 
 -- nor is a size over 16 bits
 pub small_known : (L : LaidSchema) → IsWellMade L → (kind : StoredKind) → size_of L kind < 2 ^ 16
-small_known L made (scalar_kind base) = base_small base
-small_known L made (struct_kind s) = let small = made.small s in omega (arith, small)
-small_known L made (table_kind t) = omega arith
-small_known L made (union_kind u) = omega arith
-small_known L made (code_kind u) = omega arith
-small_known L made text_kind = omega arith
+small_known L made kind = let small = sizes_shown L kind made in omega (arith, small)
 
 err_told : (o : Option ReadFault) (n : ℕ) (f : ReadFault) → outcome o n ≡ Err f → o ≡ Some f
 err_told None n f e = cc
