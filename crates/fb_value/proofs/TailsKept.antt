@@ -1,5 +1,5 @@
 -- The laws of tails.
-use Rattle.std.proofs.Common.{◌≡◌, ℕ, ◌+◌, ◌-◌, ◌%◌, ◌≤◌, ◌++◌, true, length, slice_index, ap, sym, ◌∙◌, subst, arith, length-append}
+use Rattle.std.proofs.Common.{◌≡◌, ℕ, ◌+◌, ◌-◌, ◌%◌, ◌≤◌, ◌++◌, true, length, slice_index, refl, ap, sym, ◌∙◌, subst, arith, length-append}
 use Rattle.std.proofs.lemmas.Bool.{eqb-true, eq-eqb, and_parts, and_from}
 use Rattle.std.proofs.lemmas.List.{get_or-append-add}
 use Rattle.std.proofs.Math.Nat.{dvd_iff_mod-eq-zero, dvd-sub, mod-mod_of_dvd, zero-mod}
@@ -10,8 +10,9 @@ use Rattle.fb_value.specs.Places.{Sort}
 use Rattle.fb_value.specs.Rules.{Aligned, from_start}
 use Rattle.fb_value.specs.Lies.{LiesAtBy}
 use Rattle.fb_value.specs.Tails.{from_end}
-use Rattle.fb_value.specs.TailLaws.{KeptInFront, KeptByMultiple, LiesInWhole}
-use Rattle.fb_value.proofs.Moved.{at_moved}
+use Rattle.fb_value.specs.EachTable.{EachTableAt, IsOldTable}
+use Rattle.fb_value.specs.TailLaws.{KeptInFront, KeptByMultiple, LiesInWhole, OldKeptInFront}
+use Rattle.fb_value.proofs.Moved.{at_moved, each_at_moved}
 
 zero_rest : (a n : ℕ) → divides a n ≡ true → n % a ≡ 0
 zero_rest a n h = eqb-true _ _ h
@@ -72,3 +73,11 @@ whole_shown L m s sort e d whole h =
     same a p low is =
         let parts = and_parts (divides a (length s - p)) (divides a m) is in
         from_other_end a (length s) p low (through a m (length s) parts.1 whole) parts.0
+
+pub old_shown : OldKeptInFront
+old_shown L m front s sort e d h old =
+    let whole : length (front ++ s) ≡ length front + length s = length-append front s in
+    let at : length front + (length s - e) ≡ length (front ++ s) - e = omega (arith, h.within, whole) in
+    subst (λ (p : ℕ). EachTableAt L (front ++ s) (λ t p. IsOldTable L (front ++ s) t p) sort p d) at
+    (each_at_moved L (from_end s m) (λ a p. true) s (front ++ s) (length front) (omega (arith, whole)) (λ i. get_or-append-add front s i 0) (λ a p low is. refl)
+    (λ t p. IsOldTable L s t p) (λ t p. IsOldTable L (front ++ s) t p) (λ t p slots known j out. slots j ∙ known j out) sort (length s - e) d h.lies old)

@@ -16,9 +16,9 @@ pub mod Reached
 pub mod Faults
 pub mod Holds
 pub mod OldSlots
+pub mod EachTable
 pub mod Tails
 pub mod TailLaws
-pub mod EachTable
 pub mod Missing
 pub mod Reads
 pub mod Nth

@@ -7,6 +7,7 @@ use Rattle.fb_value.specs.Num.{Bytes, divides}
 use Rattle.fb_value.specs.Places.{Sort}
 use Rattle.fb_value.specs.Rules.{Aligned}
 use Rattle.fb_value.specs.Lies.{LiesAtBy}
+use Rattle.fb_value.specs.EachTable.{EachTableAt, IsOldTable}
 
 -- The count to the end is a multiple, and so is m, which stands for the whole buffer's length.
 abbrev pub from_end : Bytes → ℕ → Aligned
@@ -16,3 +17,7 @@ from_end s m a p = divides a (length s - p) && divides a m
 pub record LiesInTail (L : LaidSchema) (m : ℕ) (s : Bytes) (sort : Sort) (e : ℕ) (d : Datum) : Type 0 where
   pub within : e ≤ length s
   pub lies : LiesAtBy (from_end s m) L s sort (length s - e) d
+
+-- The tables of the value that lies e bytes before the end have nothing in slots that aren't in use.
+abbrev pub OldInTail : LaidSchema → Bytes → Sort → ℕ → Datum → Type 0
+OldInTail L s sort e d = EachTableAt L s (λ t p. IsOldTable L s t p) sort (length s - e) d

@@ -1,7 +1,7 @@
 //! Laws of the bytes that hold a value.
 ghost use Rattle.fb_value.specs.Laws.{OneValue, ValueWhereAllKeep, CellsOfPlace, CellsOfValue, FaultOfLeastPath, ValueOrFault, NestingOfDepth, FaultOfPlace, FitsWhereHeld, ValueOfPlace, ValueWhereLies};
 ghost use Rattle.fb_value.specs.Nth.{EntryLies, ElementLies, PartLies};
-ghost use Rattle.fb_value.specs.TailLaws.{KeptInFront, KeptByMultiple, LiesInWhole};
+ghost use Rattle.fb_value.specs.TailLaws.{KeptInFront, KeptByMultiple, LiesInWhole, OldKeptInFront};
 ghost use Rattle.fb_value.specs.EachTable.{EachTableReached, OnlyOldByTables};
 ghost use Rattle.fb_value.specs.Missing.{FirstMissing};
 
@@ -83,6 +83,11 @@ pub fn kept_in_front()
 /// What lies in a tail lies there for a greater multiple too.
 pub fn kept_by_multiple()
     ensures { KeptByMultiple }
+{}
+
+/// Bytes laid in front keep that the tables of a tail have only slots in use.
+pub fn old_kept_in_front()
+    ensures { OldKeptInFront }
 {}
 
 /// What lies in a tail lies in a whole buffer whose length is a multiple of all alignments.
