@@ -1,5 +1,5 @@
 -- What a look-up through an index finds is what is there.
-use Rattle.std.proofs.Common.{◌≡◌, ◌≤◌, ℕ, suc, lit≤, length, Bool, true, false, List, [], map, find, position, slice_get, Option, None, Some, bytes_eq, codes, ℤ, if◌then◌else◌, refl, ap, sym, ◌∙◌}
+use Rattle.std.proofs.Common.{◌≡◌, ◌≤◌, ℕ, suc, lit≤, length, Bool, false, List, [], map, find, position, slice_get, Option, None, Some, bytes_eq, codes, ℤ, if◌then◌else◌, refl, ap, sym, ◌∙◌}
 use Rattle.std.specs.Option.{option_map, option_and_then}
 use Rattle.std.specs.Ordering.{int_eq}
 use Rattle.std.proofs.lemmas.Option.{slice_get-map}

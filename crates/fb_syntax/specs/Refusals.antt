@@ -1,5 +1,5 @@
 -- What each fault of a schema text says of the text (Writing a schema; Grammar).
-use Rattle.std.specs.Prelude.{ℕ, ◌≤◌, List, length, IsUtf8}
+use Rattle.std.specs.Prelude.{ℕ, ◌≤◌, List, IsUtf8}
 use Rattle.fb_syntax.specs.declared.tokens.Token.{Token}
 use Rattle.fb_syntax.specs.declared.faults.SyntaxFault.{SyntaxFault}
 use Rattle.fb_syntax.specs.declared.faults.SyntaxFault.TheVariants.{NotUtf8, BadByte, Unterminated, NumberTooBig, Unexpected, NestedVector, Memory}

@@ -1,4 +1,4 @@
-use Rattle.std.proofs.Common.{◌≡◌, ℕ, ◌+◌, suc, Bool, false, Option, None, Some, bytes_eq, codes, ap, sym, ◌∙◌, arith, rules}
+use Rattle.std.proofs.Common.{◌≡◌, ◌+◌, suc, false, None, Some, bytes_eq, codes, ap, sym, ◌∙◌, arith}
 use Rattle.fb_schema.specs.Seen.{body_seen}
 use Rattle.fb_schema.proofs.LookUps.{union_of, code_through}
 use Rattle.fb_schema.proofs.finding.code_in.Goals as goal

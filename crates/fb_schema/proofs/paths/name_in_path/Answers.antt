@@ -1,4 +1,4 @@
-use Rattle.std.proofs.Common.{arith, rules}
+use Rattle.std.proofs.Common.{rules}
 use Rattle.fb_schema.proofs.LastDot.{split_at_dot}
 use Rattle.fb_schema.proofs.paths.name_in_path.Goals as goal
 
