@@ -57,7 +57,8 @@ impl<'a> View<'a> {
     }
 
     fn stored(self, slot: u16) -> Stored
-        ensures { (d : Datum) → Shows self.entry d → StoredAs self.entry.layout.now self.entry.bytes.now result (entry_of d slot) }
+        ensures { (d : Datum) → Shows self.entry d
+            → StoredAs self.entry.layout.now self.entry.bytes.now result (entry_of d slot) }
     {
         let slots = self.layout.slots_of(self.table);
         let slot = usize::from(slot);

@@ -17,5 +17,6 @@ pub struct Items<'a> {
     pub len: u32,
     ghost short: { length bytes.now < 2 ^ 31 },
     ghost within: { at + len * size_of layout.now (stored_kind layout.now.schema kind) ≤ length bytes.now },
-    ghost lies: { ∥ ((ds : Parts) × (count ds ≡ len) × LiesItems layout.now bytes.now (stored_kind layout.now.schema kind) at ds) ∥₁ },
+    ghost lies: { ∥ ((ds : Parts) × (count ds ≡ len) × LiesItems layout.now bytes.now
+        (stored_kind layout.now.schema kind) at ds) ∥₁ },
 }

@@ -55,7 +55,8 @@ fn numbers_in(
     requires low { at < 2 ^ 32 }
     ensures numbers { (L : LaidSchema) → IfOk result (λ es. AreNumbers L bytes.now at count es.items) }
     ensures ints { IfOk result (λ es. All IsInt es.items) }
-    ensures fault { (L : LaidSchema) → IfErr result (λ f. f ≢ ReadFault.Memory → FailsFirst L bytes.now at count f) }
+    ensures fault { (L : LaidSchema) → IfErr result (λ f. f ≢ ReadFault.Memory
+        → FailsFirst L bytes.now at count f) }
 {
     let mut entries = Vec::with_capacity(alloc, count)?;
     for slot in 0..count {

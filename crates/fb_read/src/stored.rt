@@ -134,7 +134,9 @@ fn default_of(layout: &Layout, field: &FieldInfo) -> Option<i128>
 
 // What a union's slot has, by the code that stands before it.
 fn stored_member(layout: &Layout, union: TypeId, code: u8, at: usize) -> Stored
-    ensures { (bytes : Bytes) (f : Slot) (o : Option Datum) → f.if_absent ≡ None → LiesInSlot layout.now bytes f (union_place code at (member_by_code layout.now union.0 code)) o → StoredAs layout.now bytes result o }
+    ensures { (bytes : Bytes) (f : Slot) (o : Option Datum) → f.if_absent ≡ None
+        → LiesInSlot layout.now bytes f (union_place code at (member_by_code layout.now union.0 code)) o
+        → StoredAs layout.now bytes result o }
 {
     match layout.schema().member_by_code(union, code) {
         Some(table) => Stored::Member(code, table, at),
@@ -158,7 +160,9 @@ pub fn stored_in(
     requires short { length bytes.now < 2 ^ 31 }
     requires low { at < 2 ^ 32 }
     requires few { slot < 2 ^ 15 }
-    ensures { (rest : List Slot) (o : Option Datum) → LiesInSlot layout.now bytes.now (slot_seen layout.now field.now) (slot_place layout.now bytes.now at slot rest (slot_seen layout.now field.now)) o
+    ensures { (rest : List Slot) (o : Option Datum)
+        → LiesInSlot layout.now bytes.now (slot_seen layout.now field.now)
+        (slot_place layout.now bytes.now at slot rest (slot_seen layout.now field.now)) o
         → StoredAs layout.now bytes.now result o }
 {
     if field.deprecated {

@@ -73,7 +73,8 @@ pub fn verify<'a>(
     entries: &mut Entries,
 ) -> Result<View<'a>, ReadFault>
     ensures held { OnOk result ((v : Datum) × Holds layout.now limits raw bytes.now v) }
-    ensures stands { IfOk result (λ view. (v : Datum) → Holds layout.now limits raw bytes.now v → Shows view v) }
+    ensures stands { IfOk result (λ view. (v : Datum) → Holds layout.now limits raw bytes.now v
+        → Shows view v) }
     ensures fault { IfErr result (Refuses layout.now limits raw bytes.now) }
     ensures rises { entries.old.count ≤ entries.new.count }
     ensures counted { entries.new.count ≤ entries.old.count + (limits.cells + 1) }

@@ -22,11 +22,13 @@ pub fn visit_text(
 ) -> Result<u64, ReadFault>
     requires low { at < 2 ^ 33 }
     requires few { spent ≤ source.most_cells }
-    ensures visit { (tables : ℕ) → Visits result (visit_in source.entry (place (part_place text_part) at) tables spent) }
+    ensures visit { (tables : ℕ)
+        → Visits result (visit_in source.entry (place (part_place text_part) at) tables spent) }
     ensures few { IfOk result (λ n. n ≤ source.entry.most_cells) }
     ensures rises { entries.old.count ≤ entries.new.count }
     ensures ticks { TicksWithin source.entry entries.old.count entries.new.count spent result }
-    ensures each { OnOk result (EntersAt source.entry (place (part_place text_part) at) entries.old.count entries.new.count) }
+    ensures each { OnOk result (EntersAt source.entry (place
+        (part_place text_part) at) entries.old.count entries.new.count) }
 {
     entries.tick();
     let text = open_text(source.bytes, at)?;
@@ -47,11 +49,13 @@ pub fn visit_text_behind(
 ) -> Result<u64, ReadFault>
     requires low { at < 2 ^ 33 }
     requires few { spent ≤ source.most_cells }
-    ensures visit { (tables : ℕ) → Visits result (visit_in source.entry (place (ref_place text_part) at) tables spent) }
+    ensures visit { (tables : ℕ)
+        → Visits result (visit_in source.entry (place (ref_place text_part) at) tables spent) }
     ensures few { IfOk result (λ n. n ≤ source.entry.most_cells) }
     ensures rises { entries.old.count ≤ entries.new.count }
     ensures ticks { TicksWithin source.entry entries.old.count entries.new.count spent result }
-    ensures each { OnOk result (EntersAt source.entry (place (ref_place text_part) at) entries.old.count entries.new.count) }
+    ensures each { OnOk result (EntersAt source.entry (place
+        (ref_place text_part) at) entries.old.count entries.new.count) }
 {
     let target = follow(source.bytes, at)?;
     visit_text(source, target, spent, entries)
@@ -61,7 +65,9 @@ pub fn visit_text_behind(
 #[tactic(auto, using(crate::proofs::Visited::visit_fault, crate::proofs::Visited::visit_inline))]
 pub fn visit_inline(source: Source, kind: Kind, at: usize, spent: u64) -> Result<u64, ReadFault>
     requires low { at < 2 ^ 33 }
-    ensures visit { (tables : ℕ) → Visits result (visit_in source.entry (place (inline_place (stored_kind source.entry.layout.now.schema kind)) at) tables spent) }
+    ensures visit { (tables : ℕ)
+        → Visits result (visit_in source.entry (place (inline_place
+        (stored_kind source.entry.layout.now.schema kind)) at) tables spent) }
     ensures same { IfOk result (λ n. n ≡ spent) }
 {
     check_inline(
@@ -84,7 +90,9 @@ pub fn visit_code(
     spent: u64,
 ) -> Result<u64, ReadFault>
     requires low { at < 2 ^ 33 }
-    ensures visit { (tables u : ℕ) → Visits result (visit_in source.entry (place (code_place u value_slot required present) at) tables spent) }
+    ensures visit { (tables u : ℕ)
+        → Visits result (visit_in source.entry (place
+        (code_place u value_slot required present) at) tables spent) }
     ensures same { IfOk result (λ n. n ≡ spent) }
 {
     check_code(source.bytes, at, value_slot, required, present)?;

@@ -29,11 +29,13 @@ pub fn visit_table_behind(
     requires low { at < 2 ^ 33 }
     requires few { spent ≤ source.most_cells }
     requires flat { tables ≤ source.most_depth }
-    ensures visit { Visits result (visit_in source.entry (place (ref_place (table_part table.0)) at) tables spent) }
+    ensures visit { Visits result (visit_in source.entry (place (ref_place
+        (table_part table.0)) at) tables spent) }
     ensures few { IfOk result (λ n. n ≤ source.entry.most_cells) }
     ensures rises { entries.old.count ≤ entries.new.count }
     ensures ticks { TicksWithin source.entry entries.old.count entries.new.count spent result }
-    ensures each { OnOk result (EntersAt source.entry (place (ref_place (table_part table.0)) at) entries.old.count entries.new.count) }
+    ensures each { OnOk result (EntersAt source.entry (place (ref_place
+        (table_part table.0)) at) entries.old.count entries.new.count) }
 {
     let target = follow(source.bytes, at)?;
     visit_table(source, table, target, tables, spent, entries)
@@ -52,11 +54,13 @@ fn visit_table(
     requires low { at < 2 ^ 33 }
     requires few { spent ≤ source.most_cells }
     requires flat { tables ≤ source.most_depth }
-    ensures visit { Visits result (visit_in source.entry (place (part_place (table_part table.0)) at) tables spent) }
+    ensures visit { Visits result (visit_in source.entry (place (part_place
+        (table_part table.0)) at) tables spent) }
     ensures few { IfOk result (λ n. n ≤ source.entry.most_cells) }
     ensures rises { entries.old.count ≤ entries.new.count }
     ensures ticks { TicksWithin source.entry entries.old.count entries.new.count spent result }
-    ensures each { OnOk result (EntersAt source.entry (place (part_place (table_part table.0)) at) entries.old.count entries.new.count) }
+    ensures each { OnOk result (EntersAt source.entry (place (part_place
+        (table_part table.0)) at) entries.old.count entries.new.count) }
 {
     entries.tick();
     let place = enter_table(source.layout, table, source.bytes, at)?;
@@ -87,11 +91,15 @@ fn visit_slots(
     requires slots { length slots.now < 2 ^ 15 }
     requires few { spent ≤ source.most_cells }
     requires flat { tables ≤ source.most_depth }
-    ensures visit { Visits result (visit_each_in source.entry (named_slots source.entry.layout.now source.entry.bytes.now at 0 (slots_seen source.entry.layout.now slots.now)) tables spent) }
+    ensures visit { Visits result (visit_each_in source.entry
+        (named_slots source.entry.layout.now source.entry.bytes.now at 0
+        (slots_seen source.entry.layout.now slots.now)) tables spent) }
     ensures few { IfOk result (λ n. n ≤ source.entry.most_cells) }
     ensures rises { entries.old.count ≤ entries.new.count }
     ensures ticks { TicksWithin source.entry entries.old.count entries.new.count spent result }
-    ensures each { OnOk result (EntersSlots source.entry (slots_seen source.entry.layout.now slots.now) (named_slots source.entry.layout.now source.entry.bytes.now at 0 (slots_seen source.entry.layout.now slots.now)) entries.old.count entries.new.count) }
+    ensures each { OnOk result (EntersSlots source.entry (slots_seen source.entry.layout.now slots.now)
+        (named_slots source.entry.layout.now source.entry.bytes.now at 0
+        (slots_seen source.entry.layout.now slots.now)) entries.old.count entries.new.count) }
 {
     let mut after = spent;
     let stored = stored_slots(source.bytes, at, place, slots.len());
@@ -131,11 +139,17 @@ fn visit_slot(
     requires slots { slot < 2 ^ 15 }
     requires few { spent ≤ source.most_cells }
     requires flat { tables ≤ source.most_depth }
-    ensures visit { Visits result (visit_entry_in source.entry (slot_place source.entry.layout.now source.entry.bytes.now at slot (slots_seen source.entry.layout.now later.now) (slot_seen source.entry.layout.now field.now)) tables spent) }
+    ensures visit { Visits result (visit_entry_in source.entry
+        (slot_place source.entry.layout.now source.entry.bytes.now at slot
+        (slots_seen source.entry.layout.now later.now)
+        (slot_seen source.entry.layout.now field.now)) tables spent) }
     ensures few { IfOk result (λ n. n ≤ source.entry.most_cells) }
     ensures rises { entries.old.count ≤ entries.new.count }
     ensures ticks { TicksWithin source.entry entries.old.count entries.new.count spent result }
-    ensures each { OnOk result (EntersSlot source.entry (slot_place source.entry.layout.now source.entry.bytes.now at slot (slots_seen source.entry.layout.now later.now) (slot_seen source.entry.layout.now field.now)) entries.old.count entries.new.count) }
+    ensures each { OnOk result (EntersSlot source.entry
+        (slot_place source.entry.layout.now source.entry.bytes.now at slot
+        (slots_seen source.entry.layout.now later.now)
+        (slot_seen source.entry.layout.now field.now)) entries.old.count entries.new.count) }
 {
     if field.deprecated {
         return Ok(spent);
@@ -205,11 +219,13 @@ fn visit_union(
     requires low { at < 2 ^ 33 }
     requires few { spent ≤ source.most_cells }
     requires flat { tables ≤ source.most_depth }
-    ensures visit { Visits result (visit_entry_in source.entry (union_place code at (member_by_code source.entry.layout.now union.0 code)) tables spent) }
+    ensures visit { Visits result (visit_entry_in source.entry (union_place code at
+        (member_by_code source.entry.layout.now union.0 code)) tables spent) }
     ensures few { IfOk result (λ n. n ≤ source.entry.most_cells) }
     ensures rises { entries.old.count ≤ entries.new.count }
     ensures ticks { TicksWithin source.entry entries.old.count entries.new.count spent result }
-    ensures each { OnOk result (EntersSlot source.entry (union_place code at (member_by_code source.entry.layout.now union.0 code)) entries.old.count entries.new.count) }
+    ensures each { OnOk result (EntersSlot source.entry (union_place code at
+        (member_by_code source.entry.layout.now union.0 code)) entries.old.count entries.new.count) }
 {
     match source.layout.schema().member_by_code(union, code) {
         None => Ok(spent),
@@ -230,11 +246,13 @@ fn visit_vector_behind(
     requires low { at < 2 ^ 33 }
     requires few { spent ≤ source.most_cells }
     requires flat { tables ≤ source.most_depth }
-    ensures visit { Visits result (visit_in source.entry (place (ref_place (vector_part (stored_kind source.entry.layout.now.schema kind))) at) tables spent) }
+    ensures visit { Visits result (visit_in source.entry (place (ref_place (vector_part
+        (stored_kind source.entry.layout.now.schema kind))) at) tables spent) }
     ensures few { IfOk result (λ n. n ≤ source.entry.most_cells) }
     ensures rises { entries.old.count ≤ entries.new.count }
     ensures ticks { TicksWithin source.entry entries.old.count entries.new.count spent result }
-    ensures each { OnOk result (EntersAt source.entry (place (ref_place (vector_part (stored_kind source.entry.layout.now.schema kind))) at) entries.old.count entries.new.count) }
+    ensures each { OnOk result (EntersAt source.entry (place (ref_place (vector_part
+        (stored_kind source.entry.layout.now.schema kind))) at) entries.old.count entries.new.count) }
 {
     let target = follow(source.bytes, at)?;
     visit_vector(source, kind, target, tables, spent, entries)
@@ -253,11 +271,13 @@ fn visit_vector(
     requires low { at < 2 ^ 33 }
     requires few { spent ≤ source.most_cells }
     requires flat { tables ≤ source.most_depth }
-    ensures visit { Visits result (visit_in source.entry (place (part_place (vector_part (stored_kind source.entry.layout.now.schema kind))) at) tables spent) }
+    ensures visit { Visits result (visit_in source.entry (place (part_place (vector_part
+        (stored_kind source.entry.layout.now.schema kind))) at) tables spent) }
     ensures few { IfOk result (λ n. n ≤ source.entry.most_cells) }
     ensures rises { entries.old.count ≤ entries.new.count }
     ensures ticks { TicksWithin source.entry entries.old.count entries.new.count spent result }
-    ensures each { OnOk result (EntersAt source.entry (place (part_place (vector_part (stored_kind source.entry.layout.now.schema kind))) at) entries.old.count entries.new.count) }
+    ensures each { OnOk result (EntersAt source.entry (place (part_place (vector_part
+        (stored_kind source.entry.layout.now.schema kind))) at) entries.old.count entries.new.count) }
 {
     entries.tick();
     let count = open_vector(
@@ -299,12 +319,14 @@ fn visit_elements(
     requires within { at + count * 4 ≤ length source.bytes.now }
     requires few { spent ≤ source.most_cells }
     requires flat { tables ≤ source.most_depth }
-    ensures visit { (X : Target) → target_of (stored_kind source.entry.layout.now.schema kind) ≡ Some X → Visits result (visit_each_in source.entry (named_elements X at count) tables spent) }
+    ensures visit { (X : Target) → target_of (stored_kind source.entry.layout.now.schema kind) ≡ Some X
+        → Visits result (visit_each_in source.entry (named_elements X at count) tables spent) }
     ensures few { IfOk result (λ n. n ≤ source.entry.most_cells) }
     ensures rises { entries.old.count ≤ entries.new.count }
     ensures ticks { TicksWithin source.entry entries.old.count entries.new.count spent result }
     ensures each { (X : Target) → target_of (stored_kind source.entry.layout.now.schema kind) ≡ Some X
-        → OnOk result (EntersItems source.entry (stored_kind source.entry.layout.now.schema kind) at count entries.old.count entries.new.count) }
+        → OnOk result (EntersItems source.entry
+        (stored_kind source.entry.layout.now.schema kind) at count entries.old.count entries.new.count) }
 {
     let mut after = spent;
     for i in 0..count {
@@ -325,7 +347,8 @@ fn visit_element(
     requires low { at < 2 ^ 33 }
     requires few { spent ≤ source.most_cells }
     requires flat { tables ≤ source.most_depth }
-    ensures visit { (X : Target) → target_of (stored_kind source.entry.layout.now.schema kind) ≡ Some X → Visits result (visit_in source.entry (place (ref_place X) at) tables spent) }
+    ensures visit { (X : Target) → target_of (stored_kind source.entry.layout.now.schema kind) ≡ Some X
+        → Visits result (visit_in source.entry (place (ref_place X) at) tables spent) }
     ensures few { IfOk result (λ n. n ≤ source.entry.most_cells) }
     ensures rises { entries.old.count ≤ entries.new.count }
     ensures ticks { TicksWithin source.entry entries.old.count entries.new.count spent result }
