@@ -213,7 +213,7 @@ pub(crate) fn is_at(
     is_stored(layout, slot, code, entry) && slot_align(layout, slot.shape) == align
 }
 
-/// Lays the field of a slot, where it is stored at this alignment, and answers its end-count then.
+/// Lays the field of a slot, where it is stored at this alignment, and returns its end-count then.
 fn lay_field(
     out: &mut Tail,
     layout: &Layout,

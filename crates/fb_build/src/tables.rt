@@ -32,7 +32,7 @@ use fb_value::Value;
 use indexmap::IndexSet;
 
 /// Lays what stands before the fields of a table, and its vtable unless an equal one is laid, and
-/// answers how many bytes are laid up to the table.
+/// returns how many bytes are laid up to the table.
 fn close_table(
     out: &mut Tail,
     known: &IndexSet<Vec<u8>>,
@@ -68,7 +68,7 @@ fn close_table(
     lay_vtable(out, known, places, &scratch[..4 + 2 * slots])
 }
 
-/// Lays a table and what its references name, and answers how many bytes are laid up to the table.
+/// Lays a table and what its references name, and returns how many bytes are laid up to the table.
 #[cycle(tables)]
 pub(crate) fn lay_table(
     out: &mut Tail,
@@ -156,7 +156,7 @@ fn lay_targets(
     }
 }
 
-/// Lays what a reference names, and answers its end-count; 0 where there is none.
+/// Lays what a reference names, and returns its end-count; 0 where there is none.
 #[cycle(tables)]
 fn lay_target(
     out: &mut Tail,
@@ -192,7 +192,7 @@ fn lay_target(
     }
 }
 
-/// Lays what a value needs outside of where it stands, and answers its end-count; 0 where there is
+/// Lays what a value needs outside of where it stands, and returns its end-count; 0 where there is
 /// nothing.
 #[cycle(tables)]
 fn lay_part(
@@ -242,7 +242,7 @@ fn lay_part(
     }
 }
 
-/// Lays a vector and what its elements name, and answers its end-count.
+/// Lays a vector and what its elements name, and returns its end-count.
 #[cycle(tables)]
 fn lay_items(
     out: &mut Tail,

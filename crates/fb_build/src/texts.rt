@@ -8,7 +8,7 @@ ghost use Rattle.fb_build.specs.Tails.{Grows};
 
 use crate::tail::Tail;
 
-/// Lays a text, and answers how many bytes are laid then.
+/// Lays a text, and returns how many bytes are laid then.
 pub(crate) fn lay_text(out: &mut Tail, text: &str) -> usize
     requires room { length text.now + 8 ≤ out.old.free }
     ensures lies { (L : LaidSchema) → LiesInTail L out.new.most out.new.bytes (part_place text_part) result (a_text text.now) }

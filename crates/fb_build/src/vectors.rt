@@ -75,7 +75,7 @@ fn items_align(layout: &Layout, kind: Kind) -> usize
     layout.align_of(kind).max(4) as usize
 }
 
-/// Lays the elements of a vector and their count, and answers how many bytes are laid then.
+/// Lays the elements of a vector and their count, and returns how many bytes are laid then.
 pub(crate) fn close_vector(
     out: &mut Tail,
     layout: &Layout,
