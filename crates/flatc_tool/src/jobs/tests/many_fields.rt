@@ -93,7 +93,12 @@ const FIFTY_STORED: [u8; 412] = [
 #[test]
 fn tables_of_many_fields_become_these_bytes(rt: HostRuntime) -> Result<(), Fail> {
     let rows: [(&str, &str, &str, &[u8]); 2] = [
-        ("all sixty stored", SIXTY_FIELDS, SIXTY_NUMBERS, &SIXTY_STORED),
+        (
+            "all sixty stored",
+            SIXTY_FIELDS,
+            SIXTY_NUMBERS,
+            &SIXTY_STORED,
+        ),
         (
             "fifty of a hundred",
             HUNDRED_FIELDS,
