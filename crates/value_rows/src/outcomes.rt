@@ -70,10 +70,10 @@ pub(crate) fn of_json(
 }
 
 /// `held` where bytes hold a value, or the fault.
-pub(crate) fn of_bytes(
+pub(crate) fn of_bytes<'a>(
     alloc: Global,
-    layout: &Layout,
-    bytes: &[u8],
+    layout: &'a Layout,
+    bytes: &'a [u8],
     flags: Flags,
 ) -> Result<String, AllocError> {
     let mut entries = Entries::new();
@@ -107,11 +107,11 @@ fn printed(
 
 /// The text that a JSON text prints as, where it becomes these bytes and a view of them shows the
 /// value that it means.
-pub(crate) fn of_both(
+pub(crate) fn of_both<'a>(
     alloc: Global,
-    layout: &Layout,
+    layout: &'a Layout,
     json: &str,
-    wanted: &[u8],
+    wanted: &'a [u8],
     flags: Flags,
 ) -> Result<String, AllocError> {
     let value = match meant(alloc, layout, json, flags) {
