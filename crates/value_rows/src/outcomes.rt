@@ -10,14 +10,13 @@ use fb_build::build;
 use fb_json::{JsonFault, text_of, value_of};
 use fb_layout::Layout;
 use fb_read::{Entries, verify};
-use fb_value::{Limits, Value, same, whole};
+use fb_value::{Limits, ReadFault, Value, same, whole};
 use serde_json::Value as Json;
 use std::alloc::{AllocError, Global};
 
-/// The limits and the flags of the calls that a row makes.
+/// The flags of the calls that a row makes.
 #[derive(Clone, Copy)]
 pub(crate) struct Flags {
-    pub(crate) limits: Limits,
     pub(crate) unknown: bool,
     pub(crate) raw: bool,
     pub(crate) defaults: bool,
@@ -31,18 +30,23 @@ pub(crate) enum Unmeant {
 }
 
 /// The value that a JSON text means.
-fn meant(alloc: Global, layout: &Layout, json: &str, flags: Flags) -> Result<Value, Unmeant>
+fn meant(
+    alloc: Global,
+    layout: &Layout,
+    json: &str,
+    limits: Limits,
+    unknown: bool,
+) -> Result<Value, Unmeant>
     ensures fits { IfOk result (λ v. FitsRoot layout.now (view v)) }
     ensures deep { IfOk result (λ v. depth (view v) ≤ 127) }
     ensures nests { IfOk result (λ v. nesting (view v) ≤ 300) }
 {
     let _schema = layout.schema();
-    let limits = flags.limits;
     let _depth = limits.most_depth();
     let Ok(tree) = Json::from_str(alloc, json) else {
         return Err(Unmeant::NoJson);
     };
-    match value_of(alloc, layout, &tree, limits, flags.unknown) {
+    match value_of(alloc, layout, &tree, limits, unknown) {
         Ok(value) => Ok(value),
         Err(fault) => Err(Unmeant::Fault(fault)),
     }
@@ -61,9 +65,10 @@ pub(crate) fn of_json(
     alloc: Global,
     layout: &Layout,
     json: &str,
+    limits: Limits,
     flags: Flags,
 ) -> Result<String, AllocError> {
-    match meant(alloc, layout, json, flags) {
+    match meant(alloc, layout, json, limits, flags.unknown) {
         Ok(value) => format!(in alloc; "{value:?}"),
         Err(unmeant) => refused(alloc, unmeant),
     }
@@ -74,10 +79,11 @@ pub(crate) fn of_bytes<'a>(
     alloc: Global,
     layout: &'a Layout,
     bytes: &'a [u8],
+    limits: Limits,
     flags: Flags,
 ) -> Result<String, AllocError> {
     let mut entries = Entries::new();
-    match verify(layout, bytes, flags.limits, flags.raw, &mut entries) {
+    match verify(layout, bytes, limits, flags.raw, &mut entries) {
         Ok(_) => format!(in alloc; "held"),
         Err(fault) => format!(in alloc; "{fault:?}"),
     }
@@ -88,6 +94,7 @@ fn printed(
     alloc: Global,
     layout: &Layout,
     value: &Value,
+    limits: Limits,
     flags: Flags,
 ) -> Result<String, AllocError>
     requires fits { FitsRoot layout.now (view value.now) }
@@ -98,40 +105,70 @@ fn printed(
         Ok(text) => text,
         Err(fault) => return format!(in alloc; "{fault:?}"),
     };
-    match meant(alloc, layout, text.as_str(), flags) {
+    match meant(alloc, layout, text.as_str(), limits, flags.unknown) {
         Ok(again) if same(value, &again) => Ok(text),
         Ok(_) => format!(in alloc; "another value when it is read again: {text}"),
         Err(unmeant) => refused(alloc, unmeant),
     }
 }
 
+/// Whether a view of bytes shows a value, or their fault.
+fn shows<'a>(
+    layout: &'a Layout,
+    bytes: &'a [u8],
+    limits: Limits,
+    value: &Value,
+) -> Result<bool, ReadFault> {
+    let mut entries = Entries::new();
+    match verify(layout, bytes, limits, false, &mut entries) {
+        Ok(view) => Ok(table_agrees(view, value)),
+        Err(fault) => Err(fault),
+    }
+}
+
+/// The bytes that a value becomes, or why there are none.
+fn built(
+    alloc: Global,
+    layout: &Layout,
+    value: &Value,
+) -> Result<Result<Vec<u8>, String>, AllocError>
+    requires fits { FitsRoot layout.now (view value.now) }
+    requires deep { depth (view value.now) ≤ 127 }
+    requires nests { nesting (view value.now) ≤ 300 }
+{
+    if !whole(value) {
+        return Ok(Err(format!(in alloc; "a code that no member has")?));
+    }
+    match build(alloc, layout, value) {
+        Ok(bytes) => Ok(Ok(bytes)),
+        Err(fault) => Ok(Err(format!(in alloc; "{fault:?}")?)),
+    }
+}
+
 /// The text that a JSON text prints as, where it becomes these bytes and a view of them shows the
 /// value that it means.
-pub(crate) fn of_both<'a>(
+pub(crate) fn of_both(
     alloc: Global,
-    layout: &'a Layout,
+    layout: &Layout,
     json: &str,
-    wanted: &'a [u8],
+    wanted: &[u8],
+    limits: Limits,
     flags: Flags,
 ) -> Result<String, AllocError> {
-    let value = match meant(alloc, layout, json, flags) {
+    let value = match meant(alloc, layout, json, limits, flags.unknown) {
         Ok(value) => value,
         Err(unmeant) => return refused(alloc, unmeant),
     };
-    if !whole(&value) {
-        return format!(in alloc; "a code that no member has");
-    }
-    let bytes = match build(alloc, layout, &value) {
+    let bytes = match built(alloc, layout, &value)? {
         Ok(bytes) => bytes,
-        Err(fault) => return format!(in alloc; "{fault:?}"),
+        Err(why) => return Ok(why),
     };
     if bytes.as_slice() != wanted {
         return hex_of(alloc, bytes.as_slice());
     }
-    let mut entries = Entries::new();
-    match verify(layout, wanted, flags.limits, false, &mut entries) {
-        Ok(view) if table_agrees(view, &value) => printed(alloc, layout, &value, flags),
-        Ok(_) => format!(in alloc; "a view that shows another value"),
+    match shows(layout, wanted, limits, &value) {
+        Ok(true) => printed(alloc, layout, &value, limits, flags),
+        Ok(false) => format!(in alloc; "a view that shows another value"),
         Err(fault) => format!(in alloc; "{fault:?}"),
     }
 }

@@ -61,7 +61,6 @@ fn outcome_of(alloc: Global, row: &Row) -> Result<(Source, String), AllocError> 
         Err(fault) => return Ok((Source::Json, format!(in alloc; "{fault:?}")?)),
     };
     let flags = Flags {
-        limits,
         unknown: row.unknown,
         raw: row.raw,
         defaults: row.defaults,
@@ -73,12 +72,22 @@ fn outcome_of(alloc: Global, row: &Row) -> Result<(Source, String), AllocError> 
     match (&row.json, &bytes) {
         (Some(json), Some(bytes)) => Ok((
             Source::Both,
-            of_both(alloc, &layout, json.as_str(), bytes.as_slice(), flags)?,
+            of_both(
+                alloc,
+                &layout,
+                json.as_str(),
+                bytes.as_slice(),
+                limits,
+                flags,
+            )?,
         )),
-        (Some(json), None) => Ok((Source::Json, of_json(alloc, &layout, json.as_str(), flags)?)),
+        (Some(json), None) => Ok((
+            Source::Json,
+            of_json(alloc, &layout, json.as_str(), limits, flags)?,
+        )),
         (None, Some(bytes)) => Ok((
             Source::Bytes,
-            of_bytes(alloc, &layout, bytes.as_slice(), flags)?,
+            of_bytes(alloc, &layout, bytes.as_slice(), limits, flags)?,
         )),
         (None, None) => Ok((Source::Bytes, format!(in alloc; "neither JSON nor bytes")?)),
     }
