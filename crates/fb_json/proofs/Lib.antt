@@ -16,3 +16,4 @@ pub mod Fitted
 pub mod Doubled
 pub mod Escaped
 pub mod WholeNamed
+pub mod MeantWhole

@@ -1,6 +1,7 @@
 //! The value of a whole tree.
-ghost use Rattle.std.specs.Prelude.{◌≡◌, ◌⊎◌, IfOk, IfErr};
+ghost use Rattle.std.specs.Prelude.{◌≡◌, ◌⊎◌, true, IfOk, IfErr};
 ghost use Rattle.serde_json.specs.View.{view as tree_view};
+ghost use Rattle.fb_value.specs.Counts.{is_whole};
 ghost use Rattle.fb_value.specs.Datum.{Datum};
 ghost use Rattle.fb_value.specs.Fits.{FitsRoot};
 ghost use Rattle.fb_value.specs.View.{view};
@@ -25,6 +26,7 @@ pub fn value_of(
 ) -> Result<Value, JsonFault>
     ensures means { IfOk result (λ v. Means layout.now limits unknown (tree_view tree.now) (view v)) }
     ensures fits { IfOk result (λ v. FitsRoot layout.now (view v)) }
+    ensures whole { IfOk result (λ v. is_whole (view v) ≡ true) }
     ensures refuses { IfErr result (λ f. (f ≡ JsonFault.Memory)
         ⊎ Refuses layout.now limits unknown (tree_view tree.now) f) }
     ensures none { IfErr result (λ f. (f ≡ JsonFault.Memory)

@@ -14,7 +14,7 @@ use Rattle.fb_value.specs.Lies.{Lies, LiesAt}
 use Rattle.fb_value.specs.Reads.{value_at, inline_value, value_step, inline_step}
 use Rattle.fb_value.specs.Reached.{Path, AllKeep}
 use Rattle.fb_value.specs.Faults.{own_cells, own_tables, sum_over, if_kept, or_else, limited_fault, FaultFrom, LeastFrom, first_among, all, fault_from}
-use Rattle.fb_value.specs.Holds.{Holds, HasNoFault, Refuses, computed_fault, root_place}
+use Rattle.fb_value.specs.Holds.{Holds, HasNoFault, IsLeastFault, Refuses, computed_fault, root_place}
 
 -- Bytes hold one value at most.
 abbrev pub OneValue : Type 0
@@ -49,6 +49,10 @@ HeldOrFault L most raw b (Some f) = Refuses L most raw b f
 -- A value is held exactly where no fault stands.
 abbrev pub ValueOrFault : Type 0
 ValueOrFault = (L : LaidSchema) (most : Bounds) (raw : Bool) (b : Bytes) → IsWellMade L → HeldOrFault L most raw b (computed_fault L most raw b)
+
+-- Bytes have one least fault at most.
+abbrev pub OneLeastFault : Type 0
+OneLeastFault = (L : LaidSchema) (most : Bounds) (raw : Bool) (b : Bytes) (f g : ReadFault) → IsLeastFault L most raw b f → IsLeastFault L most raw b g → f ≡ g
 
 -- What fits the root with at most 127 tables in one another is nested at most 300 deep.
 abbrev pub NestingOfDepth : Type 0

@@ -1,5 +1,5 @@
 //! Laws of the bytes that hold a value.
-ghost use Rattle.fb_value.specs.Laws.{OneValue, ValueWhereAllKeep, CellsOfPlace, CellsOfValue, FaultOfLeastPath, ValueOrFault, NestingOfDepth, FaultOfPlace, FitsWhereHeld, ValueOfPlace, ValueWhereLies};
+ghost use Rattle.fb_value.specs.Laws.{OneValue, ValueWhereAllKeep, CellsOfPlace, CellsOfValue, FaultOfLeastPath, ValueOrFault, OneLeastFault, NestingOfDepth, FaultOfPlace, FitsWhereHeld, ValueOfPlace, ValueWhereLies};
 ghost use Rattle.fb_value.specs.Nth.{EntryLies, ElementLies, PartLies};
 ghost use Rattle.fb_value.specs.TailLaws.{KeptInFront, KeptByMultiple, LiesInWhole, OldKeptInFront};
 ghost use Rattle.fb_value.specs.EachTable.{EachTableReached, OnlyOldByTables};
@@ -33,6 +33,11 @@ pub fn fault_of_least_path()
 /// Bytes hold a value exactly where no fault stands, and else have a least one.
 pub fn value_or_fault()
     ensures { ValueOrFault }
+{}
+
+/// Bytes have one least fault at most.
+pub fn one_least_fault()
+    ensures { OneLeastFault }
 {}
 
 /// What fits the root, with at most 127 tables in one another, is nested at most 300 deep.

@@ -11,6 +11,7 @@ use Rattle.fb_json.specs.Outcome.{Fails}
 use Rattle.fb_json.proofs.Roots.{failed, means_root, none_root, refuses_root, root_object, root_other, may_lack}
 use Rattle.fb_json.proofs.Utf8Texts.{value_utf8}
 use Rattle.fb_json.proofs.Fitted.{root_fitted}
+use Rattle.fb_json.proofs.MeantWhole.{meant_whole}
 use Rattle.fb_json.proofs.root.value_of.Goals as goal
 use Rattle.fb_json.proofs.root.value_of.Goals.{In-Ok}
 
@@ -31,6 +32,10 @@ pub returns-in-Ok-clause-fits : goal.returns-in-Ok-clause-fits
 returns-in-Ok-clause-fits c =
     let declared = c.schema.ensures.made.declared in
     root_fitted c.args.layout.now declared c.args.limits c.args.unknown (tree_view c.args.tree.now) (view c.in-Ok.value) (meant_root (goal.at.returns-in-Ok-clause-fits c).In-Ok) (value_utf8 c.in-Ok.value)
+
+pub returns-in-Ok-clause-whole : goal.returns-in-Ok-clause-whole
+returns-in-Ok-clause-whole c =
+    meant_whole c.args.layout.now c.args.limits c.args.unknown (tree_view c.args.tree.now) (view c.in-Ok.value) (meant_root (goal.at.returns-in-Ok-clause-whole c).In-Ok)
 
 pub returns-in-Err-clause-none : goal.returns-in-Err-clause-none
 returns-in-Err-clause-none c =
