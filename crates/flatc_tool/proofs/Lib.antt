@@ -1,11 +1,3 @@
 pub mod OneText
-pub mod Members
-pub mod Listed
-pub mod Meanings
-pub mod JsonSteps
-pub mod Numbered
-pub mod Standing
-pub mod PlacedLies
-pub mod BuiltHolds
-pub mod Printing
 pub mod JobSteps
+pub mod Headlines

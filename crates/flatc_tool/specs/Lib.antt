@@ -1,9 +1,5 @@
 pub mod JsonText
-pub mod Meaning
-pub mod Named
-pub mod Placed
-pub mod Printed
-pub mod Lines
 pub mod Jobs
+pub mod Headline
 pub mod SchemaTexts
 pub mod FaultNumbers

@@ -1,21 +1,37 @@
 //! The jobs over schema texts, JSON texts and buffers.
-ghost use Rattle.std.specs.Prelude.{IfOk, IfErr, string_bytes};
+ghost use Rattle.std.specs.Prelude.{◌≡◌, ◌⊎◌, IfOk, IfErr, string_bytes};
+ghost use Rattle.serde_json.specs.Data.{Data};
+ghost use Rattle.serde_json.specs.View.{view as tree_view};
 ghost use Rattle.flatc_tool.specs.Jobs.{IsBinary, MayBeBinary, BinaryRefused, IsText, MayBeText, TextRefused, IsNotMemory};
+ghost use Rattle.flatc_tool.specs.JsonText.{IsTree};
 
-use crate::building::build;
 use crate::faults::ToolFault;
-use crate::json::{tree_of, value_of};
-use crate::plain_schemas::layout_of;
-use crate::text::text_of;
+use crate::schema_layouts::schema_of;
+use fb_build::build;
+use fb_json::{text_of, value_of};
 use fb_read::{Entries, read};
 use fb_value::Limits;
+use serde_json::Value as Json;
 use std::alloc::Global;
+
+/// The tree of a JSON text.
+fn tree_of(alloc: Global, json: &[u8]) -> Result<Json, ToolFault>
+    ensures tree { IfOk result (λ v. IsTree json.now (tree_view v)) }
+    ensures refused { IfErr result (λ f. (f ≡ ToolFault.Memory)
+        ⊎ ((f ≡ ToolFault.BadJson) × ((t : Data) → ¬ IsTree json.now t))) }
+{
+    Json::from_slice(alloc, json).map_err(|e| if e.is_memory() {
+        ToolFault::Memory
+    } else {
+        ToolFault::BadJson
+    })
+}
 
 /// The buffer of a JSON text under a schema text.
 ///
 /// `unknown` lets members through that no field has. The schema is looked at first, then the JSON
 /// text, the value that it means, and that value's size; the first of these that refuses is
-/// answered. So far the schema is one table of `int` fields, and any other is `NotYet`.
+/// answered.
 pub fn to_binary(
     alloc: Global,
     schema: &[u8],
@@ -28,25 +44,30 @@ pub fn to_binary(
     ensures exact { IfErr result
         (λ f. IsNotMemory f → ¬ MayBeBinary schema.now json.now limits unknown) }
 {
-    let layout = match layout_of(alloc, schema) {
+    let layout = match schema_of(alloc, schema) {
         Ok(layout) => layout,
-        Err(fault) => return Err(fault),
+        Err(fault) => return Err(ToolFault::Schema(fault)),
     };
     let tree = match tree_of(alloc, json) {
         Ok(tree) => tree,
         Err(fault) => return Err(fault),
     };
-    let value = value_of(alloc, &layout, &tree, limits, unknown)?;
-    let depth = limits.most_depth();
-    prove!(depth >= 1); // one table is never too deep
-    let bytes = build(alloc, &layout, &value)?;
-    Ok(bytes)
+    let _depth = limits.most_depth();
+    let value = match value_of(alloc, &layout, &tree, limits, unknown) {
+        Ok(value) => value,
+        Err(fault) => return Err(ToolFault::Json(fault)),
+    };
+    match build(alloc, &layout, &value) {
+        Ok(bytes) => Ok(bytes),
+        Err(fault) => Err(ToolFault::Build(fault)),
+    }
 }
 
 /// The JSON text of the value that a buffer holds under a schema text.
 ///
 /// `raw` leaves out the check of the file identifier, and `defaults` prints scalars at their
-/// defaults too. The schema is looked at before the bytes.
+/// defaults too. The schema is looked at before the bytes, and the bytes before a union's code that
+/// has no name.
 pub fn to_json(
     alloc: Global,
     schema: &[u8],
@@ -61,14 +82,19 @@ pub fn to_json(
     ensures exact { IfErr result
         (λ f. IsNotMemory f → ¬ MayBeText schema.now bytes.now limits raw) }
 {
-    let layout = match layout_of(alloc, schema) {
+    let layout = match schema_of(alloc, schema) {
         Ok(layout) => layout,
-        Err(fault) => return Err(fault),
+        Err(fault) => return Err(ToolFault::Schema(fault)),
     };
     let mut entries = Entries::new();
-    let value = read(alloc, &layout, bytes, limits, raw, &mut entries)?;
-    let text = text_of(alloc, &layout, &value, defaults)?;
-    Ok(text)
+    let value = match read(alloc, &layout, bytes, limits, raw, &mut entries) {
+        Ok(value) => value,
+        Err(fault) => return Err(ToolFault::Read(fault)),
+    };
+    match text_of(alloc, &layout, &value, defaults) {
+        Ok(text) => Ok(text),
+        Err(fault) => Err(ToolFault::Text(fault)),
+    }
 }
 
 #[cfg(test)]

@@ -1,19 +1,19 @@
 //! The tool's jobs over texts and bytes.
 #![tactic(auto)]
 
-mod building;
 mod faults;
+mod headline;
 mod jobs;
-mod json;
-mod plain_schemas;
 mod schema_layouts;
-mod text;
 
-pub use faults::{BuildFault, JsonFault, Place, TextFault, ToolFault};
+pub use faults::ToolFault;
+pub use fb_build::BuildFault;
 pub use fb_declare::SchemaFault;
+pub use fb_json::{JsonFault, Place, TextFault};
 pub use fb_layout::{Layout, LayoutFault};
 pub use fb_schema::TypeId;
 pub use fb_syntax::SyntaxFault;
 pub use fb_value::{Limits, ReadFault};
+pub use headline::{json_is_carried, others_are_refused};
 pub use jobs::{to_binary, to_json};
 pub use schema_layouts::{SchemaTextFault, schema_of};

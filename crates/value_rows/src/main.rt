@@ -3,8 +3,10 @@
 #![tactic(auto)]
 
 mod agree;
+mod damage;
 mod hex;
 mod outcomes;
+mod readings;
 mod rows;
 mod tally;
 

@@ -4,13 +4,12 @@ ghost use Rattle.fb_value.specs.View.{view};
 ghost use Rattle.fb_value.specs.Fits.{FitsRoot};
 ghost use Rattle.fb_value.specs.Counts.{depth, nesting};
 
-use crate::agree::table_agrees;
 use crate::hex::hex_of;
+use crate::readings::value_in;
 use fb_build::build;
 use fb_json::{JsonFault, text_of, value_of};
 use fb_layout::Layout;
-use fb_read::{Entries, verify};
-use fb_value::{Limits, ReadFault, Value, same, whole};
+use fb_value::{Limits, Value, same, whole};
 use serde_json::Value as Json;
 use std::alloc::{AllocError, Global};
 
@@ -19,6 +18,7 @@ use std::alloc::{AllocError, Global};
 pub(crate) struct Flags {
     pub(crate) unknown: bool,
     pub(crate) raw: bool,
+    pub(crate) printed: bool,
     pub(crate) defaults: bool,
 }
 
@@ -74,7 +74,7 @@ pub(crate) fn of_json(
     }
 }
 
-/// `held` where bytes hold a value, or the fault.
+/// The value that bytes hold, or the text that it prints as, or the fault.
 pub(crate) fn of_bytes<'a>(
     alloc: Global,
     layout: &'a Layout,
@@ -82,10 +82,10 @@ pub(crate) fn of_bytes<'a>(
     limits: Limits,
     flags: Flags,
 ) -> Result<String, AllocError> {
-    let mut entries = Entries::new();
-    match verify(layout, bytes, limits, flags.raw, &mut entries) {
-        Ok(_) => format!(in alloc; "held"),
-        Err(fault) => format!(in alloc; "{fault:?}"),
+    match value_in(alloc, layout, bytes, limits, flags.raw) {
+        Ok(value) if flags.printed => printed(alloc, layout, &value, limits, flags),
+        Ok(value) => format!(in alloc; "{value:?}"),
+        Err(unread) => format!(in alloc; "{unread}"),
     }
 }
 
@@ -109,20 +109,6 @@ fn printed(
         Ok(again) if same(value, &again) => Ok(text),
         Ok(_) => format!(in alloc; "another value when it is read again: {text}"),
         Err(unmeant) => refused(alloc, unmeant),
-    }
-}
-
-/// Whether a view of bytes shows a value, or their fault.
-fn shows<'a>(
-    layout: &'a Layout,
-    bytes: &'a [u8],
-    limits: Limits,
-    value: &Value,
-) -> Result<bool, ReadFault> {
-    let mut entries = Entries::new();
-    match verify(layout, bytes, limits, false, &mut entries) {
-        Ok(view) => Ok(table_agrees(view, value)),
-        Err(fault) => Err(fault),
     }
 }
 
@@ -166,9 +152,9 @@ pub(crate) fn of_both(
     if bytes.as_slice() != wanted {
         return hex_of(alloc, bytes.as_slice());
     }
-    match shows(layout, wanted, limits, &value) {
-        Ok(true) => printed(alloc, layout, &value, limits, flags),
-        Ok(false) => format!(in alloc; "a view that shows another value"),
-        Err(fault) => format!(in alloc; "{fault:?}"),
+    match value_in(alloc, layout, wanted, limits, false) {
+        Ok(found) if same(&found, &value) => printed(alloc, layout, &value, limits, flags),
+        Ok(found) => format!(in alloc; "{found:?} when it is read"),
+        Err(unread) => format!(in alloc; "{unread}"),
     }
 }

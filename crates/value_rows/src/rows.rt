@@ -1,4 +1,5 @@
 //! A row, read and judged.
+use crate::damage::damaged;
 use crate::hex::bytes_of;
 use crate::outcomes::{Flags, of_both, of_bytes, of_json};
 use fb_value::Limits;
@@ -9,9 +10,10 @@ use std::alloc::{AllocError, Global};
 /// A schema text under a plain name, with a JSON text, with bytes in hexadecimal or with both, and
 /// what has to come of them.
 ///
-/// Of a JSON text the value that it means is wanted, of bytes the value that they hold, or the fault.
-/// Where both are there, the text becomes exactly these bytes, and what is wanted is the text that
-/// they print as.
+/// Of a JSON text the value that it means is wanted, of bytes the value that they hold or, where it
+/// is `printed`, its text, or the fault. Where both are there, the text becomes exactly these bytes,
+/// they hold the value that it means, and what is wanted is the text that they print as. Of bytes
+/// that are `damaged` what comes of each damage is counted.
 #[derive(Drop, Deserialize)]
 #[serde(deny_unknown_fields)]
 struct Row {
@@ -31,6 +33,10 @@ struct Row {
     raw: bool,
     #[serde(default)]
     defaults: bool,
+    #[serde(default)]
+    printed: bool,
+    #[serde(default)]
+    damaged: bool,
     want: String,
 }
 
@@ -40,6 +46,7 @@ pub(crate) enum Source {
     Both,
     Json,
     Bytes,
+    Damaged,
 }
 
 /// Whether a row holds.
@@ -63,6 +70,7 @@ fn outcome_of(alloc: Global, row: &Row) -> Result<(Source, String), AllocError> 
     let flags = Flags {
         unknown: row.unknown,
         raw: row.raw,
+        printed: row.printed,
         defaults: row.defaults,
     };
     let bytes = match &row.bytes {
@@ -84,6 +92,10 @@ fn outcome_of(alloc: Global, row: &Row) -> Result<(Source, String), AllocError> 
         (Some(json), None) => Ok((
             Source::Json,
             of_json(alloc, &layout, json.as_str(), limits, flags)?,
+        )),
+        (None, Some(bytes)) if row.damaged => Ok((
+            Source::Damaged,
+            damaged(alloc, &layout, bytes.as_slice(), limits, row.raw)?,
         )),
         (None, Some(bytes)) => Ok((
             Source::Bytes,

@@ -9,6 +9,7 @@ pub(crate) struct Tally {
     built: u64,
     meant: u64,
     read: u64,
+    damaged: u64,
     wrong: u64,
 }
 
@@ -19,6 +20,7 @@ impl Tally {
             Verdict::Holds(Source::Both) => &mut self.built,
             Verdict::Holds(Source::Json) => &mut self.meant,
             Verdict::Holds(Source::Bytes) => &mut self.read,
+            Verdict::Holds(Source::Damaged) => &mut self.damaged,
             Verdict::Wrong(_) => &mut self.wrong,
         };
         *counter = counter.saturating_add(1);
@@ -40,11 +42,12 @@ impl fmt::Display for Tally {
             built,
             meant,
             read,
+            damaged,
             wrong,
         } = self;
         write!(
             f,
-            "{built} built, {meant} meant, {read} read, {wrong} wrong"
+            "{built} built, {meant} meant, {read} read, {damaged} damaged, {wrong} wrong"
         )
     }
 }
