@@ -23,17 +23,18 @@ use Rattle.fb_value.specs.Num.{Bytes, num, scalar_of, divides}
 use Rattle.fb_value.specs.Places.{Target, Sort, ref_place, part_place, inline_place}
 use Rattle.fb_value.specs.Rules.{fault_by, KeepsBy}
 use Rattle.fb_value.specs.Lies.{LiesBy}
-use Rattle.fb_value.specs.Tails.{from_end, LiesInTail}
-use Rattle.fb_build.specs.Tails.{TailSeen, Grows}
+use Rattle.fb_value.specs.EachTable.{EachTable, EachTableAt, IsOldTable}
+use Rattle.fb_value.specs.Tails.{from_end, LiesInTail, OldInTail}
+use Rattle.fb_build.specs.Tails.{TailSeen, Grows, LaidInTail}
 use Rattle.fb_build.specs.Fields.{IsSimple, SlotFits, StoredFits, member_target, scalar_in, number_in, above, from, is_at, is_stored, differs, IsDefault, TargetEnd, StoredEnd, EntryEnd, EntriesEnd, AreKnown, sort_for, target_for}
 use Rattle.fb_value.proofs.Moved.{hold, no_rules}
 use Rattle.fb_build.proofs.Standing.{num_first}
-use Rattle.fb_value.proofs.TailsKept.{front_shown}
-use Rattle.fb_build.proofs.Grown.{lies_grown}
+use Rattle.fb_value.proofs.TailsKept.{front_shown, old_shown}
+use Rattle.fb_build.proofs.Grown.{laid_grown}
 
 -- a number that was laid last
 pub scalar_end : (L : LaidSchema) (m : ℕ) (base : Base) (n : ℤ) (s : Bytes) (rest : ℕ) → length s ≡ rest + base_size base → n ≡ scalar_of base (num s 0 (base_size base))
-    → divides (base_size base) (length s) ≡ true → divides (base_size base) m ≡ true → LiesInTail L m s (inline_place (scalar_kind base)) (length s) (a_number n)
+    → divides (base_size base) (length s) ≡ true → divides (base_size base) m ≡ true → LaidInTail L m s (inline_place (scalar_kind base)) (length s) (a_number n)
 unfolding fault_by
 scalar_end L m base n s rest long is whole most =
     let size = base_size base in
@@ -42,11 +43,11 @@ scalar_end L m base n s rest long is whole most =
     let aligned : from_end s m size 0 ≡ true = and_from _ _ (rw all whole) most in
     let inside : 0 + size ≤ length s = omega (arith, long) in
     let keeps : KeepsBy (from_end s m) L s (inline_place (scalar_kind base)) 0 = hold _ _ _ aligned (hold _ _ _ (le-leb _ _ inside) no_rules) in
-    record { within = omega arith; lies = rw first (keeps, is) }
+    record { lies = record { within = omega arith; lies = rw first (keeps, is) }; old = tt }
 
 -- a reference that was laid last
 pub reference_end : (L : LaidSchema) (m : ℕ) (X : Target) (e : ℕ) (d : Datum) (s rest : Bytes) → s ≡ little_bytes 4 ((length rest + 4) - e) ++ rest → length s ≡ 4 + length rest → length rest + 4 < 256 ^ 4
-    → divides 4 (length s) ≡ true → divides 4 m ≡ true → LiesInTail L m rest (part_place X) e d → LiesInTail L m s (ref_place X) (length s) d
+    → divides 4 (length s) ≡ true → divides 4 m ≡ true → LaidInTail L m rest (part_place X) e d → LaidInTail L m s (ref_place X) (length s) d
 unfolding fault_by
 reference_end L m X e d s rest is long short whole most h =
     let x = (length rest + 4) - e in
@@ -55,11 +56,15 @@ reference_end L m X e d s rest is long short whole most h =
     let aligned : from_end s m 4 0 ≡ true = and_from _ _ (rw all whole) most in
     let number : num s 0 4 ≡ x = ap (λ b. num b 0 4) is ∙ num_first 4 x rest (omega (arith, short)) in
     let inside : 0 + 4 ≤ length s = omega (arith, long) in
-    let some : 0 < num s 0 4 = omega (arith, number, h.within) in
+    let some : 0 < num s 0 4 = omega (arith, number, h.lies.within) in
     let keeps : KeepsBy (from_end s m) L s (ref_place X) 0 = hold _ _ _ aligned (hold _ _ _ (le-leb _ _ inside) (hold _ _ _ (lt-ltb _ _ some) no_rules)) in
-    let now : LiesInTail L m s (part_place X) e d = rw is (front_shown L m (little_bytes 4 x) rest (part_place X) e d h) in
-    let place : length s - e ≡ 0 + num s 0 4 = omega (arith, number, long, h.within) in
-    record { within = omega arith; lies = rw first (keeps, subst (λ (q : ℕ). LiesBy (from_end s m) L s (part_place X) q d) place now.lies) }
+    let now : LiesInTail L m s (part_place X) e d = rw is (front_shown L m (little_bytes 4 x) rest (part_place X) e d h.lies) in
+    let old = subst (λ (b : Bytes). OldInTail L b (part_place X) e d) (sym is) (old_shown L m (little_bytes 4 x) rest (part_place X) e d h.lies h.old) in
+    let place : length s - e ≡ 0 + num s 0 4 = omega (arith, number, long, h.lies.within) in
+    record {
+      lies = record { within = omega arith; lies = rw first (keeps, subst (λ (q : ℕ). LiesBy (from_end s m) L s (part_place X) q d) place now.lies) };
+      old = subst (λ (q : ℕ). EachTableAt L s (λ t p. IsOldTable L s t p) (ref_place X) q d) (sym first) (subst (λ (q : ℕ). EachTable L s (λ t p. IsOldTable L s t p) (part_place X) q d) place old);
+    }
 
 -- what isn't stored is a default
 pub default_known : (f : Slot) (d : Datum) → is_stored f (Some d) ≡ false → IsDefault f d
@@ -87,11 +92,11 @@ default_known f (an_unknown c) e = cc
 
 pub target_grown : (L : LaidSchema) (a b : TailSeen) (X : Option Target) (e : ℕ) (d : Datum) → Grows a b → TargetEnd L a.most a.bytes X e d → TargetEnd L b.most b.bytes X e d
 target_grown L a b None e d g h = h
-target_grown L a b (Some X) e d g h = lies_grown L a b (part_place X) e d g h
+target_grown L a b (Some X) e d g h = laid_grown L a b (part_place X) e d g h
 
 stored_grown : (L : LaidSchema) (low : ℕ) (a b : TailSeen) (laid : Bool) (f : Slot) (x : Option Datum) (e : ℕ) → Grows a b → StoredEnd L low a.most a.bytes laid f x e → StoredEnd L low b.most b.bytes laid f x e
 stored_grown L low a b laid f None e g h = absurd h
-stored_grown L low a b true f (Some d) e g h = (h.0, lies_grown L a b (sort_for f.shape d) e d g h.1)
+stored_grown L low a b true f (Some d) e g h = (h.0, laid_grown L a b (sort_for f.shape d) e d g h.1)
 stored_grown L low a b false f (Some d) e g h = target_grown L a b (target_for f.shape d) e d g h
 
 pub entry_grown : (L : LaidSchema) (low : ℕ) (a b : TailSeen) (laid : Bool) (f : Slot) (x : Option Datum) (e : ℕ) → Grows a b → EntryEnd L low a.most a.bytes laid f x e → EntryEnd L low b.most b.bytes laid f x e
@@ -170,10 +175,10 @@ passed_over L low m s a f x e out h = record {
 }
 
 -- at this alignment: its target is known before, its field is laid then
-target_there : (L : LaidSchema) (low : ℕ) (m : ℕ) (s : Bytes) (t : Bool) (f : Slot) (d : Datum) (e : ℕ) (X : Target) → t ≡ false → target_for f.shape d ≡ Some X → StoredEnd L low m s t f (Some d) e → LiesInTail L m s (part_place X) e d
+target_there : (L : LaidSchema) (low : ℕ) (m : ℕ) (s : Bytes) (t : Bool) (f : Slot) (d : Datum) (e : ℕ) (X : Target) → t ≡ false → target_for f.shape d ≡ Some X → StoredEnd L low m s t f (Some d) e → LaidInTail L m s (part_place X) e d
 target_there L low m s t f d e X out is h = let known : StoredEnd L low m s false f (Some d) e = subst (λ (u : Bool). StoredEnd L low m s u f (Some d) e) out h in rw is at known
 
-pub target_known : (L : LaidSchema) (low : ℕ) (m : ℕ) (s : Bytes) (a : ℕ) (f : Slot) (d : Datum) (e : ℕ) (X : Target) → inline_align L f.shape ≡ a → is_stored f (Some d) ≡ true → target_for f.shape d ≡ Some X → EntryEnd L low m s (above L a f) f (Some d) e → LiesInTail L m s (part_place X) e d
+pub target_known : (L : LaidSchema) (low : ℕ) (m : ℕ) (s : Bytes) (a : ℕ) (f : Slot) (d : Datum) (e : ℕ) (X : Target) → inline_align L f.shape ≡ a → is_stored f (Some d) ≡ true → target_for f.shape d ≡ Some X → EntryEnd L low m s (above L a f) f (Some d) e → LaidInTail L m s (part_place X) e d
 target_known L low m s a f d e X at is target h =
     let out : nat_lt a (inline_align L f.shape) ≡ false = rw at (not_below a) in
     target_there L low m s (above L a f) f d e X out target (h.stored is)
@@ -181,7 +186,7 @@ target_known L low m s a f d e X at is target h =
     not_below : (n : ℕ) → nat_lt n n ≡ false
     not_below n = grind (arith, nat_tests)
 
-pub now_laid : (L : LaidSchema) (low : ℕ) (m : ℕ) (s : Bytes) (a : ℕ) (f : Slot) (d : Datum) (e : ℕ) → inline_align L f.shape ≡ a → is_stored f (Some d) ≡ true → low < e → LiesInTail L m s (sort_for f.shape d) e d → EntryEnd L low m s (from L a f) f (Some d) e
+pub now_laid : (L : LaidSchema) (low : ℕ) (m : ℕ) (s : Bytes) (a : ℕ) (f : Slot) (d : Datum) (e : ℕ) → inline_align L f.shape ≡ a → is_stored f (Some d) ≡ true → low < e → LaidInTail L m s (sort_for f.shape d) e d → EntryEnd L low m s (from L a f) f (Some d) e
 now_laid L low m s a f d e at is some lies =
     let yes : nat_le a (inline_align L f.shape) ≡ true = rw at (le-leb _ _ (omega arith)) in
     record {
@@ -214,16 +219,16 @@ number_known L a f (Some d) base is scalar fits =
     (known.range, sym known.align ∙ at, number_size L f.shape base scalar)
 
 pub number_laid : (L : LaidSchema) (low : ℕ) (m : ℕ) (s : Bytes) (a : ℕ) (f : Slot) (x : Option Datum) (base : Base) → is_at L a f x ≡ true → scalar_in f.shape ≡ Some base → StoredFits L f x → low < length s
-    → LiesInTail L m s (inline_place (scalar_kind base)) (length s) (a_number (number_in x)) → EntryEnd L low m s (from L a f) f x (length s)
+    → LaidInTail L m s (inline_place (scalar_kind base)) (length s) (a_number (number_in x)) → EntryEnd L low m s (from L a f) f x (length s)
 number_laid L low m s a f None base is scalar fits some lies = cc
 number_laid L low m s a f (Some d) base is scalar fits some lies =
     let known = number_fits L f.shape base d scalar fits.1 in
     let at = stored_at L a f (Some d) is in
-    let there : LiesInTail L m s (sort_for f.shape d) (length s) d = rw known.sort (subst (λ (y : Datum). LiesInTail L m s (inline_place (scalar_kind base)) (length s) y) (sym known.is) lies) in
+    let there : LaidInTail L m s (sort_for f.shape d) (length s) d = rw known.sort (subst (λ (y : Datum). LaidInTail L m s (inline_place (scalar_kind base)) (length s) y) (sym known.is) lies) in
     now_laid L low m s a f d (length s) at.1 at.0 some there
 
 pub place_laid : (L : LaidSchema) (low m : ℕ) (s : Bytes) (a : ℕ) (f : Slot) (x : Option Datum) (d : Datum) → x ≡ Some d → is_at L a f x ≡ true → low < length s
-    → LiesInTail L m s (sort_for f.shape d) (length s) d → EntryEnd L low m s (from L a f) f x (length s)
+    → LaidInTail L m s (sort_for f.shape d) (length s) d → EntryEnd L low m s (from L a f) f x (length s)
 place_laid L low m s a f x d e is some lies =
     let at = stored_at L a f (Some d) (rw e at is) in
     rw e (now_laid L low m s a f d (length s) at.1 at.0 some lies)
@@ -311,7 +316,7 @@ entry_under L low m s f x e h = by_stored (is_stored f x) refl
   where
     by_entry : (x : Option Datum) → StoredEnd L low m s true f x e → e ≤ length s
     by_entry None h = absurd h
-    by_entry (Some d) h = h.1.within
+    by_entry (Some d) h = h.1.lies.within
 
     by_stored : (t : Bool) → is_stored f x ≡ t → e ≤ length s
     by_stored true is = by_entry x (h.stored is)

@@ -12,8 +12,8 @@ use Rattle.fb_value.specs.Places.{Sort}
 use Rattle.fb_value.specs.Tails.{LiesInTail}
 use Rattle.fb_build.specs.Ends.{StandsEnd}
 use Rattle.fb_layout.specs.Sizes.{IsAlignment}
-use Rattle.fb_build.specs.Tails.{TailSeen, Grows}
-use Rattle.fb_value.proofs.TailsKept.{front_shown, multiple_shown, through}
+use Rattle.fb_build.specs.Tails.{TailSeen, Grows, LaidInTail}
+use Rattle.fb_value.proofs.TailsKept.{front_shown, multiple_shown, old_shown, through}
 
 pub self_divides : (n : ℕ) → divides n n ≡ true
 self_divides n = eq-eqb _ _ (let e : n * 1 ≡ n = omega arith in subst (λ (x : ℕ). x % n ≡ 0) e (mul-mod_right n 1))
@@ -92,10 +92,16 @@ then_grows a b c g h = record {
 pub grown_long : (a b : TailSeen) → Grows a b → length b.bytes + b.free ≡ length a.bytes + a.free
 grown_long a b g = let long = ap length g.grown in let parts = length-append g.front a.bytes in omega (arith, long, parts, g.spent)
 
-pub lies_grown : (L : LaidSchema) (a b : TailSeen) (sort : Sort) (e : ℕ) (d : Datum) → Grows a b → LiesInTail L a.most a.bytes sort e d → LiesInTail L b.most b.bytes sort e d
+lies_grown : (L : LaidSchema) (a b : TailSeen) (sort : Sort) (e : ℕ) (d : Datum) → Grows a b → LiesInTail L a.most a.bytes sort e d → LiesInTail L b.most b.bytes sort e d
 lies_grown L a b sort e d g h =
     let more = multiple_shown L a.most b.most a.bytes sort e d g.multiple h in
     rw g.grown (front_shown L b.most g.front a.bytes sort e d more)
+
+pub laid_grown : (L : LaidSchema) (a b : TailSeen) (sort : Sort) (e : ℕ) (d : Datum) → Grows a b → LaidInTail L a.most a.bytes sort e d → LaidInTail L b.most b.bytes sort e d
+laid_grown L a b sort e d g h = record {
+  lies = lies_grown L a b sort e d g h.lies;
+  old = rw g.grown (old_shown L a.most g.front a.bytes sort e d h.lies h.old);
+}
 
 pub stands_grown : (a b : TailSeen) (e : ℕ) (xs : Bytes) → Grows a b → StandsEnd a.bytes e xs → StandsEnd b.bytes e xs
 stands_grown a b e xs g h =

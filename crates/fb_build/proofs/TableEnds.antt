@@ -7,14 +7,16 @@ use Rattle.fb_value.specs.Datum.{Datum, a_table}
 use Rattle.fb_value.specs.View.{entries_in}
 use Rattle.fb_value.specs.Num.{Bytes, num, divides}
 use Rattle.fb_value.specs.Places.{part_place, table_part, slot_number}
-use Rattle.fb_value.specs.Tails.{from_end, LiesInTail}
-use Rattle.fb_build.specs.Tails.{TailSeen, Grows}
+use Rattle.fb_value.specs.EachTable.{IsOldTable}
+use Rattle.fb_value.specs.Tails.{from_end}
+use Rattle.fb_build.specs.Tails.{TailSeen, Grows, LaidInTail}
 use Rattle.fb_build.specs.Fields.{EntriesEnd, AreKnown, stored_in}
 use Rattle.fb_build.specs.TableBytes.{offset_from, offset_bytes, vtable_bytes, VtableEnd}
 use Rattle.fb_build.proofs.Standing.{num_behind, num_first, num_standing}
 use Rattle.fb_build.proofs.VtableSteps.{vtable_good, slot_there, slot_past, table_lies}
 use Rattle.fb_build.proofs.FieldSteps.{entries_grown, entry_under}
 use Rattle.fb_build.proofs.TableLies.{SlotKnown, all_lie, p}
+use Rattle.fb_build.proofs.TableSpent.{unused_end}
 use Rattle.fb_value.specs.Entries.{EntryFits}
 use Rattle.fb_build.specs.Paired.{ArePaired}
 
@@ -86,10 +88,10 @@ module _ (L : LaidSchema) (low c size u : ℕ) (o n : TailSeen) (ends : List ℕ
       by_case (inl under) = slot_there (from_end s n.most) s (length s - c) (length s - v.at) u low_place low_vtable v.way size_reads k under ∙ offset_reads k under
       by_case (inr past) = slot_past (from_end s n.most) s (length s - c) (length s - v.at) u low_place low_vtable v.way size_reads k past ∙ sym (ap (offset_from c) (rest k past))
 
-  pub table_end : (t : ℕ) (xs : List (Option Datum)) → length (slots_of L t) ≡ length xs → ArePaired (slots_of L t) → ((k : ℕ) (f : Slot) (x : Option Datum) → slice_get (slots_of L t) k ≡ Some f → slice_get xs k ≡ Some x → EntryFits L f x)
-      → AreKnown L (slots_of L t) (stored_in (slots_of L t) xs) → EntriesEnd L low o.most o.bytes (λ k f. true) (slots_of L t) (stored_in (slots_of L t) xs) ends → LiesInTail L n.most n.bytes (part_place (table_part t)) c (a_table t (entries_in xs))
+  pub table_end : (t : ℕ) (xs : List (Option Datum)) → length ends ≡ length (slots_of L t) → length (slots_of L t) ≡ length xs → ArePaired (slots_of L t) → ((k : ℕ) (f : Slot) (x : Option Datum) → slice_get (slots_of L t) k ≡ Some f → slice_get xs k ≡ Some x → EntryFits L f x)
+      → AreKnown L (slots_of L t) (stored_in (slots_of L t) xs) → EntriesEnd L low o.most o.bytes (λ k f. true) (slots_of L t) (stored_in (slots_of L t) xs) ends → LaidInTail L n.most n.bytes (part_place (table_part t)) c (a_table t (entries_in xs))
   unfolding s p
-  table_end t xs long paired fit known state =
+  table_end t xs each long paired fit known state =
       let now = entries_grown L low o n (λ k f. true) (slots_of L t) (stored_in (slots_of L t) xs) ends g state in
       let slot : (k : ℕ) (f : Slot) (x : Option Datum) → slice_get (slots_of L t) k ≡ Some f → slice_get (stored_in (slots_of L t) xs) k ≡ Some x → SlotKnown L low n.most s c within k f x (slice_index ends k) =
       λ k f x fk xk. record {
@@ -107,4 +109,5 @@ module _ (L : LaidSchema) (low c size u : ℕ) (o n : TailSeen) (ends : List ℕ
       let room : (length s - v.at) + (4 + 2 * u) ≤ length s = (let whole = length-append (vtable_bytes c size u ends) v.stands.behind in omega (arith, v.stands.at, v.stands.within, whole, vtable_long c size u ends used)) in
       let good = vtable_good (from_end s n.most) s (length s - c) (length s - v.at) u low_place low_vtable v.way size_reads even room in
       let inside : (length s - c) + 4 ≤ length s = omega (arith, within, behind, eqb-true _ _ four) in
-      record { within = within; lies = table_lies L (from_end s n.most) s t (length s - c) (entries_in xs) aligned inside good entries.1 entries.0 }
+      let old : IsOldTable L s t (length s - c) = λ k out. slots_read k ∙ ap (offset_from c) (unused_end L low o.most o.bytes (slots_of L t) (stored_in (slots_of L t) xs) ends known each state k out) in
+      record { lies = record { within = within; lies = table_lies L (from_end s n.most) s t (length s - c) (entries_in xs) aligned inside good entries.kept entries.lie }; old = (old, entries.old) }

@@ -13,8 +13,9 @@ use Rattle.fb_value.specs.Num.{Bytes, num, part_of, divides}
 use Rattle.fb_value.specs.Places.{part_place, text_part}
 use Rattle.fb_value.specs.Rules.{Aligned, fault_by, KeepsBy}
 use Rattle.fb_value.specs.Lies.{LiesBy}
-use Rattle.fb_value.specs.Tails.{from_end, LiesInTail}
+use Rattle.fb_value.specs.Tails.{from_end}
 use Rattle.fb_value.proofs.Moved.{hold, no_rules}
+use Rattle.fb_build.specs.Tails.{LaidInTail}
 use Rattle.fb_build.proofs.Standing.{num_first}
 
 -- a text's count, bytes and zero byte stand at p
@@ -54,10 +55,10 @@ text_tail t d short =
 
 -- a text that was laid last
 pub text_end : (L : LaidSchema) (m : ℕ) (s t d : Bytes) → s ≡ little_bytes 4 (length t) ++ (t ++ (0 ∷ d)) → length t < 256 ^ 4 → IsUtf8 t → divides 4 (length s) ≡ true → divides 4 m ≡ true
-    → LiesInTail L m s (part_place text_part) (length s) (a_text t)
+    → LaidInTail L m s (part_place text_part) (length s) (a_text t)
 text_end L m s t d e short utf8 four most =
     let first : length s - length s ≡ 0 = omega arith in
     let whole : length s - 0 ≡ length s = omega arith in
     let is : IsTextAt s 0 t = subst (λ (x : Bytes). IsTextAt x 0 t) (sym e) (text_tail t d short) in
     let aligned : from_end s m 4 0 ≡ true = and_from _ _ (rw whole four) most in
-    record { within = omega arith; lies = rw first (text_lies L (from_end s m) s 0 t is utf8 aligned) }
+    record { lies = record { within = omega arith; lies = rw first (text_lies L (from_end s m) s 0 t is utf8 aligned) }; old = tt }

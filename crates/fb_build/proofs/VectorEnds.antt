@@ -7,17 +7,18 @@ use Rattle.byteorder.specs.Numbers.{length-bytes_low_first}
 use Rattle.fb_layout.specs.Laid.{LaidSchema, StoredKind, scalar_kind, struct_kind, table_kind, union_kind, code_kind, text_kind, size_of, align_of, one_of}
 use Rattle.fb_value.specs.Datum.{Datum, a_vector, Parts, no_parts, more_parts, count}
 use Rattle.fb_value.specs.Num.{Bytes, num, divides}
-use Rattle.fb_value.specs.Places.{part_place, vector_part, target_of}
+use Rattle.fb_value.specs.Places.{part_place, ref_place, table_part, text_part, vector_part, target_of}
 use Rattle.fb_value.specs.Rules.{Aligned, fault_by, KeepsBy}
 use Rattle.fb_value.specs.Lies.{ElementBy, LiesBy, LiesItemsBy}
 use Rattle.fb_value.specs.View.{view, parts_view}
 use Rattle.fb_value.specs.declared.values.Value.{Value}
-use Rattle.fb_value.specs.Tails.{from_end, LiesInTail}
+use Rattle.fb_value.specs.EachTable.{EachElement, EachItem, EachTable, EachTableAt, IsOldTable}
+use Rattle.fb_value.specs.Tails.{from_end}
 use Rattle.fb_layout.specs.Sizes.{IsAlignment}
-use Rattle.fb_build.specs.Tails.{TailSeen, Grows}
+use Rattle.fb_build.specs.Tails.{TailSeen, Grows, LaidInTail}
 use Rattle.fb_build.specs.Fields.{IsElement, sort_for}
 use Rattle.fb_build.specs.Items.{ItemsEnd}
-use Rattle.fb_value.proofs.Moved.{hold, no_rules, items_lie}
+use Rattle.fb_value.proofs.Moved.{hold, no_rules, items_lie, each_items}
 use Rattle.fb_value.proofs.TailsKept.{through, from_other_end}
 use Rattle.fb_build.proofs.Grown.{four_power, power_max, left_divides, right_divides}
 use Rattle.fb_build.proofs.Halves.{times_divides}
@@ -49,7 +50,7 @@ element_padded L kind h =
 
 -- ---- elements in front of others
 
-items_moved : (L : LaidSchema) (m n : ℕ) (front s : Bytes) (kind : StoredKind) (ds : Parts) → divides m n ≡ true → ItemsEnd L m s kind ds → LiesItemsBy (from_end (front ++ s) n) L (front ++ s) kind (length front + 0) ds
+items_moved : (L : LaidSchema) (m n : ℕ) (front s : Bytes) (kind : StoredKind) (ds : Parts) → divides m n ≡ true → LiesItemsBy (from_end s m) L s kind 0 ds → LiesItemsBy (from_end (front ++ s) n) L (front ++ s) kind (length front + 0) ds
 items_moved L m n front s kind ds mn h =
     let whole : length (front ++ s) ≡ length front + length s = length-append front s in
     items_lie L (from_end s m) (from_end (front ++ s) n) s (front ++ s) (length front) (omega (arith, whole)) (λ i. get_or-append-add front s i 0) (λ a p low is. same a p whole is) kind 0 ds h
@@ -60,25 +61,44 @@ items_moved L m n front s kind ds mn h =
         let back : length (front ++ s) - (length front + p) ≡ length s - p = omega (arith, whole) in
         and_from _ _ (rw back parts.0) (through a m n parts.1 mn)
 
+old_items_moved : (L : LaidSchema) (m : ℕ) (front s : Bytes) (kind : StoredKind) (ds : Parts) → ItemsEnd L m s kind ds → EachItem L (front ++ s) (λ t p. IsOldTable L (front ++ s) t p) kind (length front + 0) ds
+old_items_moved L m front s kind ds h =
+    let whole : length (front ++ s) ≡ length front + length s = length-append front s in
+    each_items L (from_end s m) (λ a p. true) s (front ++ s) (length front) (omega (arith, whole)) (λ i. get_or-append-add front s i 0) (λ a p low is. refl)
+    (λ t p. IsOldTable L s t p) (λ t p. IsOldTable L (front ++ s) t p) (λ t p slots known j out. slots j ∙ known j out) kind 0 ds h.lie h.old
+
 -- behind what was laid in front of them
-pub items_grown : (L : LaidSchema) (a b : TailSeen) (k : ℕ) (kind : StoredKind) (ds : Parts) → Grows a b → length b.bytes ≡ length a.bytes + k → ItemsEnd L a.most a.bytes kind ds → LiesItemsBy (from_end b.bytes b.most) L b.bytes kind (0 + k) ds
+pub items_grown : (L : LaidSchema) (a b : TailSeen) (k : ℕ) (kind : StoredKind) (ds : Parts) → Grows a b → length b.bytes ≡ length a.bytes + k → ItemsEnd L a.most a.bytes kind ds
+    → LiesItemsBy (from_end b.bytes b.most) L b.bytes kind (0 + k) ds × EachItem L b.bytes (λ t p. IsOldTable L b.bytes t p) kind (0 + k) ds
 items_grown L a b k kind ds g long h =
     let parts = length-append g.front a.bytes in
     let whole = ap length g.grown in
     let at : length g.front + 0 ≡ 0 + k = omega (arith, parts, whole, long) in
-    rw g.grown (subst (λ (p : ℕ). LiesItemsBy (from_end (g.front ++ a.bytes) b.most) L (g.front ++ a.bytes) kind p ds) at (items_moved L a.most b.most g.front a.bytes kind ds g.multiple h))
+    let lie = subst (λ (p : ℕ). LiesItemsBy (from_end (g.front ++ a.bytes) b.most) L (g.front ++ a.bytes) kind p ds) at (items_moved L a.most b.most g.front a.bytes kind ds g.multiple h.lie) in
+    let old = subst (λ (p : ℕ). EachItem L (g.front ++ a.bytes) (λ t q. IsOldTable L (g.front ++ a.bytes) t q) kind p ds) at (old_items_moved L a.most g.front a.bytes kind ds h) in
+    (rw g.grown lie, rw g.grown old)
 
-element_by : (L : LaidSchema) (m : ℕ) (s : Bytes) (kind : StoredKind) (d : Datum) → IsElement L kind → LiesInTail L m s (sort_for (one_of kind) d) (length s) d → ElementBy (from_end s m) L s kind 0 (target_of kind) d (λ sort q. LiesBy (from_end s m) L s sort q d)
-element_by L m s (scalar_kind b) d el h = let first : length s - length s ≡ 0 = omega arith in (rw first at h.lies).1
-element_by L m s text_kind d el h = let first : length s - length s ≡ 0 = omega arith in rw first at h.lies
-element_by L m s (table_kind t) d el h = let first : length s - length s ≡ 0 = omega arith in rw first at h.lies
-element_by L m s (struct_kind t) d el h = let first : length s - length s ≡ 0 = omega arith in (rw first at h.lies).1
+element_by : (L : LaidSchema) (m : ℕ) (s : Bytes) (kind : StoredKind) (d : Datum) → IsElement L kind → LaidInTail L m s (sort_for (one_of kind) d) (length s) d → ElementBy (from_end s m) L s kind 0 (target_of kind) d (λ sort q. LiesBy (from_end s m) L s sort q d)
+element_by L m s (scalar_kind b) d el h = let first : length s - length s ≡ 0 = omega arith in (rw first at h.lies.lies).1
+element_by L m s text_kind d el h = let first : length s - length s ≡ 0 = omega arith in rw first at h.lies.lies
+element_by L m s (table_kind t) d el h = let first : length s - length s ≡ 0 = omega arith in rw first at h.lies.lies
+element_by L m s (struct_kind t) d el h = let first : length s - length s ≡ 0 = omega arith in (rw first at h.lies.lies).1
 element_by L m s (union_kind t) d el h = absurd el
 element_by L m s (code_kind t) d el h = absurd el
 
-pub one_more : (L : LaidSchema) (a b : TailSeen) (kind : StoredKind) (d : Datum) (ds : Parts) → IsElement L kind → Grows a b → length b.bytes ≡ length a.bytes + size_of L kind → LiesInTail L b.most b.bytes (sort_for (one_of kind) d) (length b.bytes) d
+element_old : (L : LaidSchema) (m : ℕ) (s : Bytes) (kind : StoredKind) (d : Datum) → IsElement L kind → LaidInTail L m s (sort_for (one_of kind) d) (length s) d → EachElement s (target_of kind) 0 (λ sort q. EachTable L s (λ t p. IsOldTable L s t p) sort q d)
+element_old L m s (scalar_kind b) d el h = tt
+element_old L m s text_kind d el h = let first : length s - length s ≡ 0 = omega arith in subst (λ (q : ℕ). EachTableAt L s (λ t p. IsOldTable L s t p) (ref_place text_part) q d) first h.old
+element_old L m s (table_kind t) d el h = let first : length s - length s ≡ 0 = omega arith in subst (λ (q : ℕ). EachTableAt L s (λ t p. IsOldTable L s t p) (ref_place (table_part t)) q d) first h.old
+element_old L m s (struct_kind t) d el h = tt
+element_old L m s (union_kind t) d el h = absurd el
+element_old L m s (code_kind t) d el h = absurd el
+
+pub one_more : (L : LaidSchema) (a b : TailSeen) (kind : StoredKind) (d : Datum) (ds : Parts) → IsElement L kind → Grows a b → length b.bytes ≡ length a.bytes + size_of L kind → LaidInTail L b.most b.bytes (sort_for (one_of kind) d) (length b.bytes) d
     → ItemsEnd L a.most a.bytes kind ds → ItemsEnd L b.most b.bytes kind (more_parts d ds)
-one_more L a b kind d ds el g long lies h = (element_by L b.most b.bytes kind d el lies, items_grown L a b (size_of L kind) kind ds g long h)
+one_more L a b kind d ds el g long lies h =
+    let rest = items_grown L a b (size_of L kind) kind ds g long h in
+    record { lie = (element_by L b.most b.bytes kind d el lies, rest.0); old = (element_old L b.most b.bytes kind d el lies, rest.1) }
 
 pub parts_next : (items : List Value) (i : ℕ) (v : Value) → i < length items → v ≡ get_or items i v → parts_view (drop i items) ≡ more_parts (view v) (parts_view (drop (suc i) items))
 parts_next [] i v low is = absurd (omega (arith, low))
@@ -119,7 +139,7 @@ vector_keeps L al b kind p front within ends elements =
 
 pub vector_end : (L : LaidSchema) (m n : ℕ) (a b : TailSeen) (kind : StoredKind) (ds : Parts) → IsElement L kind → Grows a b → b.bytes ≡ little_bytes 4 n ++ a.bytes → n < 256 ^ 4 → count ds ≡ n
     → divides (max 4 (align_of L kind)) (length a.bytes) ≡ true → divides (max 4 (align_of L kind)) b.most ≡ true → divides (align_of L kind) (max 4 (align_of L kind)) ≡ true → n * size_of L kind ≤ length a.bytes → ItemsEnd L a.most a.bytes kind ds
-    → LiesInTail L b.most b.bytes (part_place (vector_part kind)) (length b.bytes) (a_vector ds)
+    → LaidInTail L b.most b.bytes (part_place (vector_part kind)) (length b.bytes) (a_vector ds)
 vector_end L m n a b kind ds el g e short counted whole wide own room items =
     let s = b.bytes in
     let padded = element_padded L kind el in
@@ -135,7 +155,7 @@ vector_end L m n a b kind ds el g e short counted whole wide own room items =
     let ends : (0 + 4) + num s 0 4 * size_of L kind ≤ length s = (let same : num s 0 4 * size_of L kind ≡ n * size_of L kind = ap (λ i. i * size_of L kind) number in omega (arith, same, room, long)) in
     let keeps : KeepsBy (from_end s b.most) L s (part_place (vector_part kind)) 0 = vector_keeps L (from_end s b.most) s kind 0 front within ends elements in
     let laid = items_grown L a b 4 kind ds g long items in
-    record { within = omega arith; lies = rw first (keeps, counted ∙ sym number, laid) }
+    record { lies = record { within = omega arith; lies = rw first (keeps, counted ∙ sym number, laid.0) }; old = rw first laid.1 }
 
 pub parts_back : (items : List Value) (k : ℕ) (v : Value) → k < length items → v ≡ get_or items (length items - 1 - k) v → parts_view (drop (length items - (k + 1)) items) ≡ more_parts (view v) (parts_view (drop (length items - k) items))
 parts_back items k v low is =

@@ -8,12 +8,17 @@ use Rattle.fb_value.specs.Bounds.{Bounds}
 use Rattle.fb_value.specs.Counts.{cells, depth}
 use Rattle.fb_value.specs.Datum.{Datum}
 use Rattle.fb_value.specs.Num.{Bytes, divides}
-use Rattle.fb_value.specs.Places.{ref_place, table_part}
+use Rattle.fb_value.specs.Places.{Target, part_place, ref_place, table_part}
 use Rattle.fb_value.specs.Rules.{first_failing}
 use Rattle.fb_value.specs.Lies.{LiesAt}
 use Rattle.fb_value.specs.Holds.{Holds, header_fault, checked_identifier}
 use Rattle.fb_value.specs.Tails.{LiesInTail}
+use Rattle.fb_value.specs.EachTable.{EachTableAt, IsOldTable}
+use Rattle.fb_value.specs.OldSlots.{OnlyOld}
+use Rattle.fb_value.proofs.EachReached.{only_old_shown}
 use Rattle.fb_value.proofs.TailsKept.{whole_shown}
+use Rattle.fb_build.specs.Tails.{TailSeen, Grows, LaidInTail}
+use Rattle.fb_build.proofs.Grown.{laid_grown}
 use Rattle.fb_build.specs.Ends.{BeginsWith}
 
 -- the identifier stands behind the root's reference
@@ -44,6 +49,13 @@ checked L b raw identified id e = by_raw raw e
     by_raw true e = cc
     by_raw false e = identified id e
 
+-- the root's table, and the reference to it that is laid last
+pub root_laid : (L : LaidSchema) (a b c : TailSeen) (t e : ℕ) (d : Datum) → t ≡ L.schema.root → Grows a b → LaidInTail L a.most a.bytes (part_place (table_part t)) e d
+    → ((X : Target) → LaidInTail L b.most b.bytes (part_place X) e d → LaidInTail L c.most c.bytes (ref_place X) (length c.bytes) d)
+    → LaidInTail L c.most c.bytes (ref_place (table_part L.schema.root)) (length c.bytes) d
+root_laid L a b c t e d root g laid last =
+    subst (λ (n : ℕ). LaidInTail L c.most c.bytes (ref_place (table_part n)) (length c.bytes) d) root (last (table_part t) (laid_grown L a b (part_place (table_part t)) e d g laid))
+
 pub whole_holds : (L : LaidSchema) (m : ℕ) (b : Bytes) (v : Datum) (most : Bounds) (raw : Bool) → ((id : Bytes) → L.schema.identifier ≡ Some id → IsIdentified b id) → 4 ≤ length b → length b ≤ 2147483647 → divides m (length b) ≡ true
     → LiesInTail L m b (ref_place (table_part L.schema.root)) (length b) v → depth v ≤ most.depth → cells v ≤ most.cells → Holds L most raw b v
 whole_holds L m b v most raw identified low high whole lies deep small =
@@ -54,3 +66,9 @@ whole_holds L m b v most raw identified low high whole lies deep small =
       deep = deep;
       small = small;
     }
+
+pub whole_old : (L : LaidSchema) (m : ℕ) (b : Bytes) (v : Datum) → divides m (length b) ≡ true → LaidInTail L m b (ref_place (table_part L.schema.root)) (length b) v → OnlyOld L b
+whole_old L m b v whole laid =
+    let front : length b - length b ≡ 0 = omega arith in
+    let lies = subst (λ (p : ℕ). LiesAt L b (ref_place (table_part L.schema.root)) p v) front (whole_shown L m b (ref_place (table_part L.schema.root)) (length b) v whole laid.lies) in
+    only_old_shown L b v lies (subst (λ (p : ℕ). EachTableAt L b (λ t q. IsOldTable L b t q) (ref_place (table_part L.schema.root)) p v) front laid.old)

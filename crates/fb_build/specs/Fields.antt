@@ -19,7 +19,7 @@ use Rattle.fb_value.specs.View.{view}
 use Rattle.fb_value.specs.Fits.{Fits}
 use Rattle.fb_value.specs.Num.{Bytes, divides}
 use Rattle.fb_value.specs.Places.{Target, table_part, member_part, text_part, vector_part, Sort, ref_place, part_place, inline_place}
-use Rattle.fb_value.specs.Tails.{LiesInTail}
+use Rattle.fb_build.specs.Tails.{LaidInTail}
 
 -- a declared struct, with what is known of its alignment
 pub record IsStructThere (L : LaidSchema) (s : ℕ) : Type 0 where
@@ -121,12 +121,12 @@ is_stored f (Some d) = true
 
 abbrev pub TargetEnd : LaidSchema → ℕ → Bytes → Option Target → ℕ → Datum → Type 0
 TargetEnd L m s None e d = Unit {0}
-TargetEnd L m s (Some X) e d = LiesInTail L m s (part_place X) e d
+TargetEnd L m s (Some X) e d = LaidInTail L m s (part_place X) e d
 
 -- The end-count of a stored slot: of its field once that is laid, which is behind `low`, of what it names before.
 abbrev pub StoredEnd : LaidSchema → ℕ → ℕ → Bytes → Bool → Slot → Option Datum → ℕ → Type 0
 StoredEnd L low m s laid f None e = ⊥
-StoredEnd L low m s true f (Some d) e = (low < e) × LiesInTail L m s (sort_for f.shape d) e d
+StoredEnd L low m s true f (Some d) e = (low < e) × LaidInTail L m s (sort_for f.shape d) e d
 StoredEnd L low m s false f (Some d) e = TargetEnd L m s (target_for f.shape d) e d
 
 -- 0 for a slot that isn't stored

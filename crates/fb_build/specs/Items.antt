@@ -3,13 +3,15 @@ use Rattle.std.specs.Prelude.{ℕ, ◌≡◌, List, Some, slice_get, slice_index
 use Rattle.fb_layout.specs.Laid.{LaidSchema, StoredKind, one_of}
 use Rattle.fb_value.specs.Datum.{Datum, Parts}
 use Rattle.fb_value.specs.Num.{Bytes}
+use Rattle.fb_value.specs.EachTable.{EachItem, IsOldTable}
 use Rattle.fb_value.specs.Lies.{LiesItemsBy}
 use Rattle.fb_value.specs.Tails.{from_end}
 use Rattle.fb_build.specs.Fields.{IsElement, SlotFits, TargetEnd, target_for}
 
--- elements lie one behind the other, from the first byte of a tail on
-abbrev pub ItemsEnd : LaidSchema → ℕ → Bytes → StoredKind → Parts → Type 0
-ItemsEnd L m s kind ds = LiesItemsBy (from_end s m) L s kind 0 ds
+-- Elements lie one behind the other, from the first byte of a tail on, and their tables have nothing in slots that aren't in use.
+pub record ItemsEnd (L : LaidSchema) (m : ℕ) (s : Bytes) (kind : StoredKind) (ds : Parts) : Type 0 where
+  pub lie : LiesItemsBy (from_end s m) L s kind 0 ds
+  pub old : EachItem L s (λ t p. IsOldTable L s t p) kind 0 ds
 
 -- what each element's reference names lies at its end-count
 abbrev pub TargetsEnd : LaidSchema → ℕ → Bytes → StoredKind → List Datum → List ℕ → Type 0

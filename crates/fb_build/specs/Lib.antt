@@ -9,3 +9,4 @@ pub mod Items
 pub mod Planned
 pub mod Ready
 pub mod Structs
+pub mod FaultNumbers

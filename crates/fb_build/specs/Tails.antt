@@ -1,6 +1,10 @@
 -- A block that is filled from its end, as contracts see it.
 use Rattle.std.specs.Prelude.{ℕ, ◌+◌, ◌≡◌, ◌++◌, length, true}
+use Rattle.fb_layout.specs.Laid.{LaidSchema}
+use Rattle.fb_value.specs.Datum.{Datum}
 use Rattle.fb_value.specs.Num.{Bytes, divides}
+use Rattle.fb_value.specs.Places.{Sort}
+use Rattle.fb_value.specs.Tails.{LiesInTail, OldInTail}
 
 -- the zeros that are left in front, what is laid, and the greatest multiple that was padded to
 pub record TailSeen : Type 0 where
@@ -14,3 +18,8 @@ pub record Grows (a b : TailSeen) : Type 0 where
   pub grown : b.bytes ≡ front ++ a.bytes
   pub spent : b.free + length front ≡ a.free
   pub multiple : divides a.most b.most ≡ true
+
+-- A value lies e bytes before the end, and its tables have nothing in slots that aren't in use.
+pub record LaidInTail (L : LaidSchema) (m : ℕ) (s : Bytes) (sort : Sort) (e : ℕ) (d : Datum) : Type 0 where
+  pub lies : LiesInTail L m s sort e d
+  pub old : OldInTail L s sort e d

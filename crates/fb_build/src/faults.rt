@@ -13,6 +13,28 @@ pub enum BuildFault {
     Memory,
 }
 
+impl BuildFault {
+    ghost use Rattle.std.specs.Prelude.{◌≡◌, None};
+    ghost use Rattle.fb_build.specs.FaultNumbers.{number_of};
+
+    /// The fault's number, which tells it from all others.
+    pub fn number(self) -> u8
+        ensures { result ≡ number_of self }
+    {
+        match self {
+            BuildFault::TooBig => 40,
+            BuildFault::Memory => 41,
+        }
+    }
+
+    /// None: a value's size has no place.
+    pub fn offset(self) -> Option<u64>
+        ensures { result ≡ None }
+    {
+        None
+    }
+}
+
 impl From<AllocError> for BuildFault {
     ghost use Rattle.std.specs.Prelude.{◌≡◌};
     ghost use Rattle.fb_build.specs.declared.faults.BuildFault.TheVariants.{Memory};

@@ -10,8 +10,7 @@ ghost use Rattle.fb_value.specs.Datum.{Datum, a_number};
 ghost use Rattle.fb_value.specs.Num.{num, scalar_of, divides};
 ghost use Rattle.fb_value.specs.Places.{Target, part_place, ref_place, inline_place};
 ghost use Rattle.fb_value.specs.View.{view};
-ghost use Rattle.fb_value.specs.Tails.{LiesInTail};
-ghost use Rattle.fb_build.specs.Tails.{Grows};
+ghost use Rattle.fb_build.specs.Tails.{Grows, LaidInTail};
 ghost use Rattle.fb_build.specs.Fields.{IsSimple, StoredFits, stored_here, stored_seen, next_code, is_coded, scalar_in, number_in, number_of_datum, is_stored, is_at, above, from, EntryEnd, EntriesEnd, AreKnown, size_at, stored_align, slots_seen, entries_seen, stored_room, fields_size};
 
 use crate::places::lay_place;
@@ -58,7 +57,7 @@ pub(crate) fn lay_number(out: &mut Tail, base: Base, number: i128)
     requires room { base_size base ≤ out.old.free }
     requires whole { divides (base_size base) (length out.old.bytes) ≡ true }
     requires wide { divides (base_size base) out.old.most ≡ true }
-    ensures lies { (L : LaidSchema) → LiesInTail L out.new.most out.new.bytes (inline_place (scalar_kind base)) (length out.new.bytes) (a_number number) }
+    ensures lies { (L : LaidSchema) → LaidInTail L out.new.most out.new.bytes (inline_place (scalar_kind base)) (length out.new.bytes) (a_number number) }
     ensures free { out.new.free + base_size base ≡ out.old.free }
     ensures long { length out.new.bytes ≡ length out.old.bytes + base_size base }
     ensures most { out.new.most ≡ out.old.most }
@@ -73,8 +72,8 @@ pub(crate) fn lay_reference(out: &mut Tail, target: u32)
     requires room { 4 ≤ out.old.free }
     requires whole { divides 4 (length out.old.bytes) ≡ true }
     requires wide { divides 4 out.old.most ≡ true }
-    ensures lies { (L : LaidSchema) (X : Target) (d : Datum) → LiesInTail L out.old.most out.old.bytes (part_place X) target d
-        → LiesInTail L out.new.most out.new.bytes (ref_place X) (length out.new.bytes) d }
+    ensures lies { (L : LaidSchema) (X : Target) (d : Datum) → LaidInTail L out.old.most out.old.bytes (part_place X) target d
+        → LaidInTail L out.new.most out.new.bytes (ref_place X) (length out.new.bytes) d }
     ensures free { out.new.free + 4 ≡ out.old.free }
     ensures long { length out.new.bytes ≡ length out.old.bytes + 4 }
     ensures most { out.new.most ≡ out.old.most }

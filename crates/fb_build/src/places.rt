@@ -3,10 +3,9 @@ ghost use Rattle.std.specs.Prelude.{◌≡◌, ◌≤◌, ◌+◌, length, true,
 ghost use Rattle.fb_layout.specs.Laid.{stored_shape};
 ghost use Rattle.fb_layout.specs.Widths.{inline_size, inline_align};
 ghost use Rattle.fb_value.specs.Num.{divides};
-ghost use Rattle.fb_value.specs.Tails.{LiesInTail};
 ghost use Rattle.fb_value.specs.View.{view};
 ghost use Rattle.fb_value.specs.Wanted.{struct_wanted};
-ghost use Rattle.fb_build.specs.Tails.{Grows};
+ghost use Rattle.fb_build.specs.Tails.{Grows, LaidInTail};
 ghost use Rattle.fb_build.specs.Fields.{IsSimple, SlotFits, TargetEnd, target_for, sort_for, scalar_in};
 
 use crate::fields::lay_reference;
@@ -43,7 +42,7 @@ pub(crate) fn lay_place(out: &mut Tail, layout: &Layout, shape: Shape, value: &V
     requires room { inline_size layout.now (stored_shape layout.now.schema shape) ≤ out.old.free }
     requires whole { divides (inline_align layout.now (stored_shape layout.now.schema shape)) (length out.old.bytes) ≡ true }
     requires wide { divides (inline_align layout.now (stored_shape layout.now.schema shape)) out.old.most ≡ true }
-    ensures lies { LiesInTail layout.now out.new.most out.new.bytes (sort_for (stored_shape layout.now.schema shape) (view value.now)) (length out.new.bytes) (view value.now) }
+    ensures lies { LaidInTail layout.now out.new.most out.new.bytes (sort_for (stored_shape layout.now.schema shape) (view value.now)) (length out.new.bytes) (view value.now) }
     ensures free { out.new.free + inline_size layout.now (stored_shape layout.now.schema shape) ≡ out.old.free }
     ensures long { length out.new.bytes ≡ length out.old.bytes + inline_size layout.now (stored_shape layout.now.schema shape) }
     ensures most { out.new.most ≡ out.old.most }

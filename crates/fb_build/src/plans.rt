@@ -3,6 +3,7 @@ ghost use Rattle.std.specs.Prelude.{ℕ, Bool, ◌≡◌, ◌≤◌, length};
 ghost use Rattle.fb_value.specs.Bounds.{Bounds};
 ghost use Rattle.fb_value.specs.Counts.{cells, depth};
 ghost use Rattle.fb_value.specs.Holds.{Holds};
+ghost use Rattle.fb_value.specs.OldSlots.{OnlyOld};
 ghost use Rattle.fb_value.specs.Room.{room_of};
 ghost use Rattle.fb_value.specs.View.{view};
 
@@ -47,6 +48,7 @@ impl Plan<'_> {
     pub fn finish(self) -> Vec<u8>
         ensures holds { (most : Bounds) (raw : Bool) → depth (view self.entry.value) ≤ most.depth
             → cells (view self.entry.value) ≤ most.cells → Holds self.entry.layout most raw result.items (view self.entry.value) }
+        ensures old_slots { OnlyOld self.entry.layout result.items }
         ensures short { length result.items ≤ room_of self.entry.layout (view self.entry.value) }
     {
         let Plan {

@@ -12,8 +12,7 @@ ghost use Rattle.fb_value.specs.Datum.{a_table, a_vector, count};
 ghost use Rattle.fb_value.specs.Num.{divides};
 ghost use Rattle.fb_value.specs.Places.{part_place, table_part, vector_part};
 ghost use Rattle.fb_value.specs.View.{view, parts_view, entries_view};
-ghost use Rattle.fb_value.specs.Tails.{LiesInTail};
-ghost use Rattle.fb_build.specs.Tails.{Grows};
+ghost use Rattle.fb_build.specs.Tails.{Grows, LaidInTail};
 ghost use Rattle.fb_build.specs.Fields.{EntriesEnd, EntryEnd, IsSimple, IsElement, stored_here, stored_in, stored_seen, slots_seen, entries_seen};
 ghost use Rattle.fb_build.specs.Needs.{entries_count, entries_need, entry_need, need, parts_need, IsSliced};
 ghost use Rattle.fb_build.specs.Parts.{PartFits, PartEnd, EntryWhole, TableKnown};
@@ -55,7 +54,7 @@ fn close_table(
     requires narrow { length out.old.bytes ≤ start + 65528 }
     requires room { ceil4 (length out.old.bytes - start) + (8 + 2 * length ends.now) ≤ out.old.free + (length out.old.bytes - start) }
     requires shared { AreLaid (map (λ k. k.items) known.now.keys) places.old out.old.bytes }
-    ensures lies { LiesInTail layout.now out.new.most out.new.bytes (part_place (table_part table.0)) result (a_table table.0 (entries_view entries.now)) }
+    ensures lies { LaidInTail layout.now out.new.most out.new.bytes (part_place (table_part table.0)) result (a_table table.0 (entries_view entries.now)) }
     ensures shared { AreLaid (map (λ k. k.items) known.now.keys) places.new out.new.bytes }
     ensures bound { out.new.most ≤ max out.old.most (greatest layout.now) }
     ensures grows { Grows out.old out.new }
@@ -87,7 +86,7 @@ pub(crate) fn lay_table(
     requires pending { entries_count (entries_view entries.now.items) + entries_need (entries_view entries.now.items) ≤ length pending.old }
     requires long { 65534 ≤ length scratch.old }
     requires shared { AreLaid (map (λ k. k.items) known.now.keys) places.old out.old.bytes }
-    ensures lies { LiesInTail layout.now out.new.most out.new.bytes (part_place (table_part table.0)) result (a_table table.0 (entries_view entries.now.items)) }
+    ensures lies { LaidInTail layout.now out.new.most out.new.bytes (part_place (table_part table.0)) result (a_table table.0 (entries_view entries.now.items)) }
     ensures shared { AreLaid (map (λ k. k.items) known.now.keys) places.new out.new.bytes }
     ensures bound { out.new.most ≤ max out.old.most (greatest layout.now) }
     ensures grows { Grows out.old out.new }
@@ -263,7 +262,7 @@ fn lay_items(
     requires pending { need (a_vector (parts_view items.now.items)) ≤ length pending.old }
     requires long { 65534 ≤ length scratch.old }
     requires shared { AreLaid (map (λ k. k.items) known.now.keys) places.old out.old.bytes }
-    ensures lies { LiesInTail layout.now out.new.most out.new.bytes (part_place (vector_part (stored_kind layout.now.schema kind))) result (a_vector (parts_view items.now.items)) }
+    ensures lies { LaidInTail layout.now out.new.most out.new.bytes (part_place (vector_part (stored_kind layout.now.schema kind))) result (a_vector (parts_view items.now.items)) }
     ensures shared { AreLaid (map (λ k. k.items) known.now.keys) places.new out.new.bytes }
     ensures bound { out.new.most ≤ max out.old.most (greatest layout.now) }
     ensures grows { Grows out.old out.new }

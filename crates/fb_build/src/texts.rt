@@ -3,15 +3,14 @@ ghost use Rattle.std.specs.Prelude.{◌≡◌, ◌≤◌, ◌+◌, max, length};
 ghost use Rattle.fb_layout.specs.Laid.{LaidSchema};
 ghost use Rattle.fb_value.specs.Datum.{a_text};
 ghost use Rattle.fb_value.specs.Places.{part_place, text_part};
-ghost use Rattle.fb_value.specs.Tails.{LiesInTail};
-ghost use Rattle.fb_build.specs.Tails.{Grows};
+ghost use Rattle.fb_build.specs.Tails.{Grows, LaidInTail};
 
 use crate::tail::Tail;
 
 /// Lays a text, and returns how many bytes are laid then.
 pub(crate) fn lay_text(out: &mut Tail, text: &str) -> usize
     requires room { length text.now + 8 ≤ out.old.free }
-    ensures lies { (L : LaidSchema) → LiesInTail L out.new.most out.new.bytes (part_place text_part) result (a_text text.now) }
+    ensures lies { (L : LaidSchema) → LaidInTail L out.new.most out.new.bytes (part_place text_part) result (a_text text.now) }
     ensures exact { result ≡ length out.new.bytes }
     ensures bound { out.new.most ≤ max out.old.most 4 }
     ensures grows { Grows out.old out.new }

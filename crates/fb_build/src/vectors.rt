@@ -8,8 +8,7 @@ ghost use Rattle.fb_value.specs.Num.{divides};
 ghost use Rattle.fb_value.specs.Places.{part_place, vector_part};
 ghost use Rattle.fb_value.specs.Room.{vector_room};
 ghost use Rattle.fb_value.specs.View.{view, parts_view};
-ghost use Rattle.fb_value.specs.Tails.{LiesInTail};
-ghost use Rattle.fb_build.specs.Tails.{Grows};
+ghost use Rattle.fb_build.specs.Tails.{Grows, LaidInTail};
 ghost use Rattle.fb_build.specs.Fields.{IsElement, SlotFits, TargetEnd, target_for, sort_for};
 ghost use Rattle.fb_build.specs.Items.{ItemsEnd, ItemsKnown, TargetsEnd};
 
@@ -28,7 +27,7 @@ fn lay_element(out: &mut Tail, layout: &Layout, kind: Kind, value: &Value, end: 
     requires room { size_of layout.now (stored_kind layout.now.schema kind) ≤ out.old.free }
     requires whole { divides (align_of layout.now (stored_kind layout.now.schema kind)) (length out.old.bytes) ≡ true }
     requires wide { divides (align_of layout.now (stored_kind layout.now.schema kind)) out.old.most ≡ true }
-    ensures lies { LiesInTail layout.now out.new.most out.new.bytes (sort_for (one_of (stored_kind layout.now.schema kind)) (view value.now)) (length out.new.bytes) (view value.now) }
+    ensures lies { LaidInTail layout.now out.new.most out.new.bytes (sort_for (one_of (stored_kind layout.now.schema kind)) (view value.now)) (length out.new.bytes) (view value.now) }
     ensures free { out.new.free + size_of layout.now (stored_kind layout.now.schema kind) ≡ out.old.free }
     ensures long { length out.new.bytes ≡ length out.old.bytes + size_of layout.now (stored_kind layout.now.schema kind) }
     ensures most { out.new.most ≡ out.old.most }
@@ -87,7 +86,7 @@ pub(crate) fn close_vector(
     requires low { align_of layout.now (stored_kind layout.now.schema kind) ≤ greatest layout.now }
     requires targets { TargetsEnd layout.now out.old.most out.old.bytes (stored_kind layout.now.schema kind) (map view items.now) ends.now }
     requires room { vector_room layout.now (stored_kind layout.now.schema kind) (length items.now) ≤ out.old.free }
-    ensures lies { LiesInTail layout.now out.new.most out.new.bytes (part_place (vector_part (stored_kind layout.now.schema kind))) result (a_vector (parts_view items.now)) }
+    ensures lies { LaidInTail layout.now out.new.most out.new.bytes (part_place (vector_part (stored_kind layout.now.schema kind))) result (a_vector (parts_view items.now)) }
     ensures bound { out.new.most ≤ max out.old.most (greatest layout.now) }
     ensures grows { Grows out.old out.new }
     ensures spent { out.old.free ≤ out.new.free + vector_room layout.now (stored_kind layout.now.schema kind) (length items.now) }

@@ -4,7 +4,7 @@ use Rattle.fb_layout.specs.Laid.{stored_shape}
 use Rattle.fb_layout.specs.Widths.{inline_size, inline_align}
 use Rattle.fb_value.specs.Num.{divides}
 use Rattle.fb_value.specs.Places.{part_place}
-use Rattle.fb_value.specs.Tails.{LiesInTail}
+use Rattle.fb_build.specs.Tails.{LaidInTail}
 use Rattle.fb_value.specs.View.{view, parts_view}
 use Rattle.fb_value.specs.Wanted.{struct_wanted}
 use Rattle.fb_value.proofs.Views.{view-Fixed}
@@ -33,5 +33,5 @@ returns-in-None-clause-lies c =
     let shape = stored_shape L.schema c.args.shape in
     let wanted : struct_wanted shape ≡ None = sym c.struct_in.ensures ∙ ap (option_map (λ (t : TypeId). t.0)) c.in-None.is in
     let known = reference_known L shape (view c.args.value.now) wanted c.requires.other c.requires.fits in
-    let target : LiesInTail L c.args.out.now.most c.args.out.now.bytes (part_place known.target) c.args.end (view c.args.value.now) = rw known.named at c.requires.target in
+    let target : LaidInTail L c.args.out.now.most c.args.out.now.bytes (part_place known.target) c.args.end (view c.args.value.now) = rw known.named at c.requires.target in
     rw known.sort (c.lay_reference.ensures.lies L known.target (view c.args.value.now) target)

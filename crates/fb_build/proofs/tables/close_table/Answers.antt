@@ -60,4 +60,4 @@ returns-clause-lies c =
     (omega (arith, long, c.count.ensures))
     stands c.put_vtable-slots.ensures.within (omega (arith, c.put_vtable-slots.ensures.within, c.requires.few)) c.put_vtable-slots.ensures.rest
     (λ k. offset_small place (slice_index ends k) c.args.start (high k) (omega (arith, padded, c.pad.ensures.free, c.pad.ensures.under, c.count.ensures.exact, c.requires.narrow)))
-    c.args.table.0 xs c.requires.fits.long c.requires.fits.paired c.requires.fits.fits c.requires.fits.known c.requires.state)
+    c.args.table.0 xs c.requires.each c.requires.fits.long c.requires.fits.paired c.requires.fits.fits c.requires.fits.known c.requires.state)

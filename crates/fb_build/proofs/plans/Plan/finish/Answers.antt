@@ -3,6 +3,7 @@ use Rattle.fb_layout.specs.Laid.{LaidSchema}
 use Rattle.fb_value.specs.Datum.{Datum, a_table}
 use Rattle.fb_value.specs.Counts.{cells, depth}
 use Rattle.fb_value.specs.Holds.{Holds}
+use Rattle.fb_value.specs.OldSlots.{OnlyOld}
 use Rattle.fb_value.specs.View.{view, entries_view}
 use Rattle.fb_value.proofs.Views.{view-Fields}
 use Rattle.fb_build.proofs.plans.Plan.finish.Goals as goal
@@ -21,3 +22,6 @@ returns-clause-holds c most raw deep small =
     let small2 = subst (λ (d : Datum). cells d ≤ most.cells) (sym value) small in
     let holds = subst (λ (d : Datum). Holds c.self.inside.layout.now most raw c.fill.result.items d) value (c.fill.ensures.holds most raw deep2 small2) in
     subst (λ (L : LaidSchema). Holds L most raw c.fill.result.items (view c.args.self.value)) layout holds
+
+pub returns-clause-old_slots : goal.returns-clause-old_slots
+returns-clause-old_slots c = subst (λ (L : LaidSchema). OnlyOld L c.fill.result.items) (ap (λ p. p.layout) c.self.view_is) c.fill.ensures.old_slots
