@@ -26,7 +26,7 @@ use Rattle.fb_json.specs.Outcome.{Counted, spent}
 use Rattle.fb_schema.specs.Paths.{code_by_path}
 use Rattle.fb_json.specs.EnumTexts.{number_told}
 use Rattle.fb_json.specs.Leaves.{in_range, boolean_in, scalar_meant, enum_meant, text_meant, leaf_meant, code_numbered, code_told}
-use Rattle.fb_json.specs.Meant.{Meaner, type_place, slot_place, part_place, names_known, if_known, present, code_in, code_after, as_absent, as_member, union_meant, plain_meant, used_meant, entry_meant, slots_meant, table_meant, part_meant, parts_meant, struct_meant, object_meant, vector_meant, meant, items_meant, look, count as items_count}
+use Rattle.fb_json.specs.Meant.{Meaner, type_place, slot_place, names_known, if_known, present, code_in, code_after, as_absent, as_member, union_meant, plain_meant, used_meant, entry_meant, slots_meant, table_meant, part_meant, parts_meant, struct_meant, object_meant, vector_meant, meant, items_meant, look, count as items_count}
 use Rattle.fb_json.specs.Means.{unless_null, member_called, CodeAt}
 use Rattle.fb_json.specs.Breaks.{may_be, base_of, OwnBreaks, ToldBreaks, ToldBehind, EntryBreaks, is_own, slots_at, parts_at, IsSlot, Breaks, here, unknown_in_table, unknown_in_struct, in_code, in_entry, in_slot, in_member, missing_part, in_part, in_element}
 use Rattle.fb_json.specs.Laws.{IsLimit}
@@ -231,7 +231,7 @@ module _ (L : LaidSchema) (unknown : Bool) (ms : Members) (broken : (k : Name) (
 
   -- the field at fault among these, which begin at field k
   abbrev PartWhy : ℕ → DeclaredField → JsonFault → ℕ → Type 0
-  PartWhy s p f n = ((get_member p.name ms ≡ None) × (MissingMember (part_place s n) ≡ f)) ⊎ ((t : Data) × (get_member p.name ms ≡ Some t) × Breaks L unknown t p.shape (part_place s n) f)
+  PartWhy s p f n = ((get_member p.name ms ≡ None) × (MissingMember (slot_place s n) ≡ f)) ⊎ ((t : Data) × (get_member p.name ms ≡ Some t) × Breaks L unknown t p.shape (slot_place s n) f)
 
   pub record PartFault (s k : ℕ) (fs : List DeclaredField) (f : JsonFault) : Type 0 where
     pub index : ℕ
@@ -239,19 +239,19 @@ module _ (L : LaidSchema) (unknown : Bool) (ms : Members) (broken : (k : Name) (
     pub stands : slice_get fs index ≡ Some part
     pub why : PartWhy s part f (k + index)
 
-  part_by : (s k : ℕ) (p : DeclaredField) (o : Option Data) (levels left : ℕ) (f : JsonFault) → get_member p.name ms ≡ o → part_meant (option_map (with_meaning L unknown) o) p.shape (part_place s k) levels left ≡ Err f
+  part_by : (s k : ℕ) (p : DeclaredField) (o : Option Data) (levels left : ℕ) (f : JsonFault) → get_member p.name ms ≡ o → part_meant (option_map (with_meaning L unknown) o) p.shape (slot_place s k) levels left ≡ Err f
       → IsLimit f ⊎ PartWhy s p f k
-  part_by s k p None levels left f is h = inr (inl (is, err_inj {A = Datum × ℕ} (MissingMember (part_place s k)) f h))
+  part_by s k p None levels left f is h = inr (inl (is, err_inj {A = Datum × ℕ} (MissingMember (slot_place s k)) f h))
   part_by s k p (Some t) levels left f is h =
-      elim (broken p.name t is p.shape (part_place s k) levels left f h) as (λ _. IsLimit f ⊎ PartWhy s p f k) [ inl limit ↦ inl limit | inr e ↦ inr (inr (t, is, e)) ]
+      elim (broken p.name t is p.shape (slot_place s k) levels left f h) as (λ _. IsLimit f ⊎ PartWhy s p f k) [ inl limit ↦ inl limit | inr e ↦ inr (inr (t, is, e)) ]
 
   parts_broken : (fs : List DeclaredField) (s k levels left : ℕ) (f : JsonFault) → parts_meant (look L unknown ms) s fs k levels left ≡ Err f → IsLimit f ⊎ PartFault s k fs f
   unfolding parts_meant
   parts_broken [] s k levels left f h = absurd (no_err _ f h)
   parts_broken (p ∷ fs) s k levels left f h =
-      elim (bind_err (part_meant (look L unknown ms p.name) p.shape (part_place s k) levels left) _ f h) as (λ _. IsLimit f ⊎ PartFault s k (p ∷ fs) f) [
+      elim (bind_err (part_meant (look L unknown ms p.name) p.shape (slot_place s k) levels left) _ f h) as (λ _. IsLimit f ⊎ PartFault s k (p ∷ fs) f) [
         | inl e ↦
-            let P : Option (Data × Meaner) → Type 0 = λ o. part_meant o p.shape (part_place s k) levels left ≡ Err f in
+            let P : Option (Data × Meaner) → Type 0 = λ o. part_meant o p.shape (slot_place s k) levels left ≡ Err f in
             let same : k ≡ k + 0 = omega arith in
             elim (part_by s k p (get_member p.name ms) levels left f refl (subst P (looked L unknown ms p.name) e)) as (λ _. IsLimit f ⊎ PartFault s k (p ∷ fs) f) [
               | inl limit ↦ inl limit

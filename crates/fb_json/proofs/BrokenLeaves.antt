@@ -26,7 +26,7 @@ use Rattle.fb_json.specs.Outcome.{Counted, spent}
 use Rattle.fb_schema.specs.Paths.{code_by_path}
 use Rattle.fb_json.specs.EnumTexts.{number_told}
 use Rattle.fb_json.specs.Leaves.{in_range, boolean_in, scalar_meant, enum_meant, text_meant, leaf_meant, code_numbered, code_told}
-use Rattle.fb_json.specs.Meant.{Meaner, type_place, slot_place, part_place, names_known, if_known, present, code_in, code_after, as_absent, as_member, union_meant, plain_meant, used_meant, entry_meant, slots_meant, table_meant, part_meant, parts_meant, struct_meant, object_meant, vector_meant, meant, items_meant, look, count as items_count}
+use Rattle.fb_json.specs.Meant.{Meaner, type_place, slot_place, names_known, if_known, present, code_in, code_after, as_absent, as_member, union_meant, plain_meant, used_meant, entry_meant, slots_meant, table_meant, part_meant, parts_meant, struct_meant, object_meant, vector_meant, meant, items_meant, look, count as items_count}
 use Rattle.fb_json.specs.Means.{unless_null, member_called, CodeAt}
 use Rattle.fb_json.specs.Breaks.{may_be, base_of, OwnBreaks, ToldBreaks, ToldBehind, EntryBreaks, is_own, slots_at, parts_at, IsSlot, Breaks, here, unknown_in_table, unknown_in_struct, in_code, in_entry, in_slot, in_member, missing_part, in_part, in_element}
 use Rattle.fb_json.specs.Laws.{IsLimit}

@@ -19,7 +19,7 @@ use Rattle.fb_value.specs.Datum.{Datum, a_number, a_text, a_vector, a_struct, a_
 use Rattle.fb_value.specs.View.{parts_in, entries_in}
 use Rattle.fb_json.specs.declared.faults.Place.{Place}
 use Rattle.fb_json.specs.Leaves.{in_range, boolean_in, scalar_meant, enum_meant, text_meant, leaf_meant, code_numbered, code_told}
-use Rattle.fb_json.specs.Meant.{slot_place, part_place, present, code_in, code_after, as_member, union_meant, plain_meant, used_meant, entry_meant, slots_meant, table_meant, parts_meant, struct_meant, object_meant, vector_meant, meant, items_meant, look, count as items_count}
+use Rattle.fb_json.specs.Meant.{slot_place, present, code_in, code_after, as_member, union_meant, plain_meant, used_meant, entry_meant, slots_meant, table_meant, parts_meant, struct_meant, object_meant, vector_meant, meant, items_meant, look, count as items_count}
 use Rattle.fb_json.specs.Means.{ScalarMeans, EnumMeans, CodeMeans, CodeAt, unless_null, member_called, IsKnown, AbsentMeans, AbsentAt, PresentAs, PresentMeans, MeansAs, MemberMeans, PartsMean, EachMeans, SlotsMean}
 use Rattle.fb_json.proofs.Binds.{spends}
 use Rattle.fb_json.proofs.Looked.{with_meaning, looked}

@@ -18,7 +18,7 @@ use Rattle.fb_json.specs.declared.faults.JsonFault.{JsonFault}
 use Rattle.fb_json.specs.declared.faults.JsonFault.TheVariants.{WrongShape, UnknownMember, MissingMember, MissingRequired, UnionMismatch, TooDeep, TooManyCells}
 use Rattle.fb_json.specs.Outcome.{Counted, spent}
 use Rattle.fb_json.specs.Leaves.{scalar_meant, enum_meant, text_meant, leaf_meant}
-use Rattle.fb_json.specs.Meant.{Meaner, type_place, slot_place, part_place, names_known, if_known, present, code_in, code_after, as_absent, as_member, union_meant, plain_meant, used_meant, entry_meant, slots_meant, table_meant, part_meant, parts_meant, struct_meant, object_meant, vector_meant, meant, items_meant, look, count as items_count}
+use Rattle.fb_json.specs.Meant.{Meaner, type_place, slot_place, names_known, if_known, present, code_in, code_after, as_absent, as_member, union_meant, plain_meant, used_meant, entry_meant, slots_meant, table_meant, part_meant, parts_meant, struct_meant, object_meant, vector_meant, meant, items_meant, look, count as items_count}
 use Rattle.fb_json.specs.Means.{unless_null, member_called, CodeAt}
 use Rattle.std.proofs.lemmas.Bool.Decides.{nat_tests}
 use Rattle.std.proofs.Common.{max}

@@ -18,7 +18,7 @@ use Rattle.fb_json.specs.declared.faults.JsonFault.{JsonFault}
 use Rattle.fb_json.specs.declared.faults.JsonFault.TheVariants.{WrongShape, UnknownMember, MissingMember, MissingRequired, UnionMismatch, TooDeep, TooManyCells}
 use Rattle.fb_json.specs.Outcome.{Counted, spent}
 use Rattle.fb_json.specs.Leaves.{scalar_meant, enum_meant, text_meant, leaf_meant}
-use Rattle.fb_json.specs.Meant.{Meaner, type_place, slot_place, part_place, names_known, if_known, present, code_in, code_after, as_absent, as_member, union_meant, plain_meant, used_meant, entry_meant, slots_meant, table_meant, part_meant, parts_meant, struct_meant, object_meant, vector_meant, meant, items_meant, look, count as items_count}
+use Rattle.fb_json.specs.Meant.{Meaner, type_place, slot_place, names_known, if_known, present, code_in, code_after, as_absent, as_member, union_meant, plain_meant, used_meant, entry_meant, slots_meant, table_meant, part_meant, parts_meant, struct_meant, object_meant, vector_meant, meant, items_meant, look, count as items_count}
 use Rattle.fb_json.specs.Means.{unless_null, member_called, CodeAt}
 use Rattle.std.proofs.lemmas.Bool.Decides.{nat_tests}
 use Rattle.std.proofs.Common.{max}
@@ -257,11 +257,11 @@ module _ (L : LaidSchema) (unknown : Bool) (ms : Members) where
   unfolding parts_meant
   parts_spent spends [] id k levels left xs h = let same = ap (λ (q : List Datum × ℕ). q.1) (ok_inj _ xs h) in omega arith
   parts_spent spends (s ∷ fs) id k levels left xs h =
-      let given = bind_ok (part_meant (look L unknown ms s.name) s.shape (part_place id k) levels left) _ xs h in
+      let given = bind_ok (part_meant (look L unknown ms s.name) s.shape (slot_place id k) levels left) _ xs h in
       let later = bind_ok (parts_meant (look L unknown ms) id fs (k + 1) levels given.0.1) _ xs given.2 in
       let same = ap (λ (q : List Datum × ℕ). q.1) (ok_inj _ xs later.2) in
-      let P : Option (Data × Meaner) → Type 0 = λ o. part_meant o s.shape (part_place id k) levels left ≡ Ok given.0 in
-      let one = part_spent spends (get_member s.name ms) s (part_place id k) levels left given.0 refl (subst P (looked L unknown ms s.name) given.1) in
+      let P : Option (Data × Meaner) → Type 0 = λ o. part_meant o s.shape (slot_place id k) levels left ≡ Ok given.0 in
+      let one = part_spent spends (get_member s.name ms) s (slot_place id k) levels left given.0 refl (subst P (looked L unknown ms s.name) given.1) in
       let rest = parts_spent spends fs id (k + 1) levels given.0.1 later.0 later.1 in
       omega arith
 
@@ -269,13 +269,13 @@ module _ (L : LaidSchema) (unknown : Bool) (ms : Members) where
   unfolding parts_meant
   parts_limit spends limits [] id k levels left f h = absurd (no_err _ f h)
   parts_limit spends limits (s ∷ fs) id k levels left f h =
-      elim (bind_err (part_meant (look L unknown ms s.name) s.shape (part_place id k) levels left) _ f h) as (λ _. Over (deep_parts (s ∷ fs)) (many_parts (s ∷ fs)) levels left f) [
+      elim (bind_err (part_meant (look L unknown ms s.name) s.shape (slot_place id k) levels left) _ f h) as (λ _. Over (deep_parts (s ∷ fs)) (many_parts (s ∷ fs)) levels left f) [
         | inl e ↦
-            let P : Option (Data × Meaner) → Type 0 = λ o. part_meant o s.shape (part_place id k) levels left ≡ Err f in
-            over_map _ _ _ _ levels levels left left f (λ l. omega arith) (λ l. omega arith) (part_limit limits (get_member s.name ms) s (part_place id k) levels left f refl (subst P (looked L unknown ms s.name) e))
+            let P : Option (Data × Meaner) → Type 0 = λ o. part_meant o s.shape (slot_place id k) levels left ≡ Err f in
+            over_map _ _ _ _ levels levels left left f (λ l. omega arith) (λ l. omega arith) (part_limit limits (get_member s.name ms) s (slot_place id k) levels left f refl (subst P (looked L unknown ms s.name) e))
         | inr x ↦
-            let P : Option (Data × Meaner) → Type 0 = λ o. part_meant o s.shape (part_place id k) levels left ≡ Ok x.0 in
-            let one = part_spent spends (get_member s.name ms) s (part_place id k) levels left x.0 refl (subst P (looked L unknown ms s.name) x.1) in
+            let P : Option (Data × Meaner) → Type 0 = λ o. part_meant o s.shape (slot_place id k) levels left ≡ Ok x.0 in
+            let one = part_spent spends (get_member s.name ms) s (slot_place id k) levels left x.0 refl (subst P (looked L unknown ms s.name) x.1) in
             elim (bind_err (parts_meant (look L unknown ms) id fs (k + 1) levels x.0.1) _ f x.2) as (λ _. Over (deep_parts (s ∷ fs)) (many_parts (s ∷ fs)) levels left f) [
               | inl e ↦ over_map (deep_parts fs) _ (many_parts fs) _ levels levels x.0.1 left f (λ l. omega arith) (λ l. omega arith) (parts_limit spends limits fs id (k + 1) levels x.0.1 f e)
               | inr z ↦ absurd (no_err _ f z.2)
