@@ -5,9 +5,13 @@ pub mod Entries
 pub mod InRange
 pub mod Binds
 pub mod Sound
+pub mod CompleteLeaves
 pub mod Complete
 pub mod Roots
+pub mod BrokenLeaves
 pub mod Broken
+pub mod LimitedLeaves
+pub mod LimitedSlots
 pub mod Limited
 pub mod Words
 pub mod Utf8Texts

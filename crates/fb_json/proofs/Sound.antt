@@ -25,7 +25,7 @@ use Rattle.fb_json.specs.Outcome.{spent}
 use Rattle.fb_schema.specs.Paths.{code_by_path}
 use Rattle.fb_json.specs.EnumTexts.{number_told}
 use Rattle.fb_json.specs.Leaves.{in_range, boolean_in, scalar_meant, enum_meant, text_meant, leaf_meant, code_numbered, code_told}
-use Rattle.fb_json.specs.Meant.{Meaner, type_place, slot_place, part_place, names_known, if_known, present, code_in, code_after, as_absent, as_member, union_meant, plain_meant, used_meant, entry_meant, slots_meant, table_meant, part_meant, parts_meant, struct_meant, object_meant, vector_meant, meant, items_meant, look, count as items_count}
+use Rattle.fb_json.specs.Meant.{Meaner, type_place, slot_place, names_known, if_known, present, code_in, code_after, as_absent, as_member, union_meant, plain_meant, used_meant, entry_meant, slots_meant, table_meant, part_meant, parts_meant, struct_meant, object_meant, vector_meant, meant, items_meant, look, count as items_count}
 use Rattle.fb_json.specs.Means.{ScalarMeans, EnumMeans, CodeMeans, CodeAt, unless_null, member_called, AbsentMeans, AbsentAt, PresentAs, PresentMeans, MeansAs, MemberMeans, PartsMean, EachMeans, SlotsMean}
 use Rattle.fb_json.proofs.Binds.{ok_inj, or_ok, bind_ok, spent_ok}
 use Rattle.fb_json.proofs.Looked.{with_meaning, looked}
@@ -279,10 +279,10 @@ module _ (L : LaidSchema) (unknown : Bool) (ms : Members) (sound : (k : Name) (t
   unfolding parts_meant
   parts_ok [] s k levels left xs h = subst (GoodParts [] levels left) (ok_inj ([], left) xs h) (tt, omega arith, omega arith)
   parts_ok (f ∷ fs) s k levels left xs h =
-      let given = bind_ok (part_meant (look L unknown ms f.name) f.shape (part_place s k) levels left) _ xs h in
+      let given = bind_ok (part_meant (look L unknown ms f.name) f.shape (slot_place s k) levels left) _ xs h in
       let later = bind_ok (parts_meant (look L unknown ms) s fs (k + 1) levels given.0.1) _ xs given.2 in
-      let P : Option (Data × Meaner) → Type 0 = λ o. part_meant o f.shape (part_place s k) levels left ≡ Ok given.0 in
-      let one = part_ok (get_member f.name ms) f (part_place s k) levels left given.0 refl (subst P (looked L unknown ms f.name) given.1) in
+      let P : Option (Data × Meaner) → Type 0 = λ o. part_meant o f.shape (slot_place s k) levels left ≡ Ok given.0 in
+      let one = part_ok (get_member f.name ms) f (slot_place s k) levels left given.0 refl (subst P (looked L unknown ms f.name) given.1) in
       let rest = parts_ok fs s (k + 1) levels given.0.1 later.0 later.1 in
       let above = one.2.1 in
       let below = rest.1 in

@@ -4,8 +4,7 @@ use Rattle.std.specs.Option.{option_or}
 use Rattle.fb_value.specs.Datum.{Datum, a_number, a_text, a_vector, a_struct, a_table, a_member, an_unknown, Parts, no_parts, more_parts, SlotEntries, no_entries, absent_entry, present_entry}
 use Rattle.fb_value.specs.Counts.{is_whole, parts_whole, entries_whole}
 use Rattle.fb_json.specs.declared.faults.Place.{Place}
-use Rattle.fb_json.specs.Meant.{part_place}
-use Rattle.fb_json.specs.Unnamed.{first_unnamed, first_in_parts, first_in_entries}
+use Rattle.fb_json.specs.Unnamed.{entry_place, first_unnamed, first_in_parts, first_in_entries}
 
 neither : (a b : Option Place) → not (is_some (option_or a b)) ≡ (not (is_some a) && not (is_some b))
 neither None b = refl
@@ -30,8 +29,8 @@ mutual
   entries_named type k no_entries = refl
   entries_named type k (absent_entry es) = entries_named type (k + 1) es
   entries_named type k (present_entry d es) =
-      neither (first_unnamed (part_place type k) d) (first_in_entries type (k + 1) es)
-      ∙ (ap (λ (b : Bool). b && not (is_some (first_in_entries type (k + 1) es))) (unnamed_whole (part_place type k) d) ∙ ap (λ (b : Bool). is_whole d && b) (entries_named type (k + 1) es))
+      neither (first_unnamed (entry_place type k) d) (first_in_entries type (k + 1) es)
+      ∙ (ap (λ (b : Bool). b && not (is_some (first_in_entries type (k + 1) es))) (unnamed_whole (entry_place type k) d) ∙ ap (λ (b : Bool). is_whole d && b) (entries_named type (k + 1) es))
 
 -- where no place is found, the value is whole, and where one is, it isn't
 pub named_whole : (at : Place) (d : Datum) → None ≡ first_unnamed at d → is_whole d ≡ true

@@ -18,7 +18,7 @@ use Rattle.fb_layout.specs.Laid.{LaidSchema, slot_of, member_by_code}
 use Rattle.fb_json.specs.declared.faults.Place.{Place}
 use Rattle.fb_json.specs.declared.faults.JsonFault.{JsonFault}
 use Rattle.fb_json.specs.declared.faults.JsonFault.TheVariants.{WrongShape, NotWhole, OutOfRange, UnknownName, UnknownMember, MissingMember, MissingRequired, UnionMismatch}
-use Rattle.fb_json.specs.Meant.{type_place, slot_place, part_place, names_known}
+use Rattle.fb_json.specs.Meant.{type_place, slot_place, names_known}
 use Rattle.fb_json.specs.EnumTexts.{number_told}
 use Rattle.fb_json.specs.Means.{CodeAt, member_called}
 
@@ -120,7 +120,7 @@ pub data Breaks (L : LaidSchema) (unknown : Bool) : Data → Shape → Place →
       → Breaks L unknown t s.shape (slot_place id.0 k) f → Breaks L unknown (object ms) (One (Table id)) at f
   in_member : (ms : Members) (id : TypeId) (at : Place) (k : ℕ) (s : DeclaredField) (u : TypeId) (c table : ℕ) (t : Data) (f : JsonFault) → IsSlot L id k s → s.shape ≡ One (Union u) → ToldBehind L.schema ms 0 (slots_at L id) k c
       → member_by_code L u.0 c ≡ Some table → member_called s.name ms ≡ Some t → Breaks L unknown t (One (Table (record { 0 = table }))) (slot_place id.0 k) f → Breaks L unknown (object ms) (One (Table id)) at f
-  missing_part : (ms : Members) (id : TypeId) (at : Place) (k : ℕ) (s : DeclaredField) → slice_get (parts_at L id) k ≡ Some s → get_member s.name ms ≡ None → Breaks L unknown (object ms) (One (Struct id)) at (MissingMember (part_place id.0 k))
+  missing_part : (ms : Members) (id : TypeId) (at : Place) (k : ℕ) (s : DeclaredField) → slice_get (parts_at L id) k ≡ Some s → get_member s.name ms ≡ None → Breaks L unknown (object ms) (One (Struct id)) at (MissingMember (slot_place id.0 k))
   in_part : (ms : Members) (id : TypeId) (at : Place) (k : ℕ) (s : DeclaredField) (t : Data) (f : JsonFault) → slice_get (parts_at L id) k ≡ Some s → get_member s.name ms ≡ Some t
-      → Breaks L unknown t s.shape (part_place id.0 k) f → Breaks L unknown (object ms) (One (Struct id)) at f
+      → Breaks L unknown t s.shape (slot_place id.0 k) f → Breaks L unknown (object ms) (One (Struct id)) at f
   in_element : (ts : Items) (kind : Kind) (at : Place) (i : ℕ) (t : Data) (f : JsonFault) → get_item i ts ≡ Some t → Breaks L unknown t (One kind) at f → Breaks L unknown (array ts) (Many kind) at f

@@ -8,5 +8,7 @@ pub mod Breaks
 pub mod TreeCounts
 pub mod Refuses
 pub mod Texts
+pub mod Indents
 pub mod Escapes
 pub mod Unnamed
+pub mod FaultNumbers

@@ -5,6 +5,7 @@ mod absent;
 mod codes;
 mod enums;
 mod faults;
+mod indents;
 mod laws;
 mod leaves;
 mod lines;

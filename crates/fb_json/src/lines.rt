@@ -2,52 +2,45 @@
 ghost use Rattle.std.specs.Prelude.{◌≡◌, ◌++◌, map, IfOk, string_bytes};
 ghost use Rattle.fb_schema.specs.Schema.{body_at, members_in};
 ghost use Rattle.fb_value.specs.View.{view};
-ghost use Rattle.fb_json.specs.Texts.{line, closing, inside, member_line, member_name, in_quotes, code_text, has_code};
+ghost use Rattle.fb_json.specs.Indents.{blanks};
+ghost use Rattle.fb_json.specs.Texts.{line, closing, member_line, member_name, in_quotes, code_text, has_code};
 
+use crate::indents::{Indent, push_blanks};
 use fb_schema::{Kind, Schema, Shape, TypeId};
 use fb_value::Value;
-use std::alloc::{AllocError, Global};
-
-/// Two blanks more than an indent.
-pub(crate) fn indented(alloc: Global, indent: &str) -> Result<String, AllocError>
-    ensures { IfOk result (λ s. string_bytes s ≡ inside indent.now) }
-{
-    let mut inner = String::from_str(alloc, indent)?;
-    inner.push_str("  ")?;
-    Ok(inner)
-}
+use std::alloc::AllocError;
 
 /// Adds what stands in front of a member or an element.
-pub(crate) fn push_line(text: &mut String, indent: &str, some: bool) -> Result<(), AllocError>
+pub(crate) fn push_line(text: &mut String, indent: &Indent, some: bool) -> Result<(), AllocError>
     ensures { IfOk result
-        (λ _. string_bytes text.new ≡ string_bytes text.old ++ line indent.now some) }
+        (λ _. string_bytes text.new ≡ string_bytes text.old ++ line (blanks indent.now) some) }
 {
     text.push_str(if some { ",\n" } else { "\n" })?;
-    text.push_str(indent)
+    push_blanks(text, indent)
 }
 
 /// Adds what stands in front of a closing bracket.
-pub(crate) fn push_closing(text: &mut String, indent: &str, some: bool) -> Result<(), AllocError>
+pub(crate) fn push_closing(text: &mut String, indent: &Indent, some: bool) -> Result<(), AllocError>
     ensures { IfOk result
-        (λ _. string_bytes text.new ≡ string_bytes text.old ++ closing indent.now some) }
+        (λ _. string_bytes text.new ≡ string_bytes text.old ++ closing (blanks indent.now) some) }
 {
     if !some {
         return Ok(());
     }
     text.push_str("\n")?;
-    text.push_str(indent)
+    push_blanks(text, indent)
 }
 
 /// Adds a member's line up to its value. Its name is in two parts.
 pub(crate) fn push_member_line(
     text: &mut String,
-    indent: &str,
+    indent: &Indent,
     some: bool,
     name: &str,
     behind: &str,
 ) -> Result<(), AllocError>
     ensures { IfOk result (λ _. string_bytes text.new
-        ≡ string_bytes text.old ++ member_line indent.now some name.now behind.now) }
+        ≡ string_bytes text.old ++ member_line (blanks indent.now) some name.now behind.now) }
 {
     push_line(text, indent, some)?;
     text.push_str("\"")?;
@@ -94,14 +87,14 @@ fn member_name(schema: &Schema, union: TypeId, code: u8) -> &str
 pub(crate) fn push_code(
     text: &mut String,
     schema: &Schema,
-    indent: &str,
+    indent: &Indent,
     some: bool,
     name: &str,
     shape: Shape,
     value: &Value,
 ) -> Result<bool, AllocError>
     ensures text { IfOk result (λ _. string_bytes text.new ≡ string_bytes text.old
-        ++ code_text schema.now indent.now some name.now shape (view value.now)) }
+        ++ code_text schema.now (blanks indent.now) some name.now shape (view value.now)) }
     ensures coded { IfOk result (λ coded. coded ≡ has_code shape (view value.now)) }
 {
     let Value::Member(code, _) = value else {

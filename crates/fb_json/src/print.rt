@@ -4,20 +4,21 @@ ghost use Rattle.fb_schema.specs.Seen.{field_seen};
 ghost use Rattle.fb_value.specs.Datum.{a_vector, a_struct, a_table};
 ghost use Rattle.fb_value.specs.View.{view, parts_view, entries_view};
 ghost use Rattle.fb_json.specs.Texts.{value_text, items_text, parts_text, members_text, entry_text};
-ghost use Rattle.fb_json.specs.Texts.{inside, is_printed};
+ghost use Rattle.fb_json.specs.Texts.{is_printed};
+ghost use Rattle.fb_json.specs.Indents.{blanks};
 
-use crate::lines::{indented, push_closing, push_code, push_line, push_member_line};
+use crate::indents::Indent;
+use crate::lines::{push_closing, push_code, push_line, push_member_line};
 use crate::numbers::push_number;
 use crate::quote::push_quoted;
 use fb_layout::Layout;
 use fb_schema::{FieldInfo, Kind, Shape, TypeId};
 use fb_value::Value;
-use std::alloc::{AllocError, Global};
+use std::alloc::AllocError;
 
 /// How values are printed.
 #[derive(Clone, Copy)]
 pub(crate) struct Style<'a> {
-    pub alloc: Global,
     pub layout: &'a Layout,
     pub defaults: bool,
 }
@@ -27,12 +28,13 @@ pub(crate) struct Style<'a> {
 pub(crate) fn push_value(
     text: &mut String,
     style: Style,
-    indent: &str,
+    indent: &Indent,
     shape: Shape,
     value: &Value,
 ) -> Result<(), AllocError>
     ensures { IfOk result (λ _. string_bytes text.new ≡ string_bytes text.old
-        ++ value_text style.entry.layout.now style.entry.defaults indent.now shape (view value.now)) }
+        ++ value_text style.entry.layout.now style.entry.defaults (blanks indent.now) shape
+        (view value.now)) }
 {
     match value {
         Value::Number(number) => match shape {
@@ -52,34 +54,34 @@ pub(crate) fn push_value(
 fn push_vector(
     text: &mut String,
     style: Style,
-    indent: &str,
+    indent: &Indent,
     shape: Shape,
     items: &Vec<Value>,
 ) -> Result<(), AllocError>
     ensures { IfOk result (λ _. string_bytes text.new ≡ string_bytes text.old
-        ++ value_text style.entry.layout.now style.entry.defaults indent.now shape
+        ++ value_text style.entry.layout.now style.entry.defaults (blanks indent.now) shape
         (a_vector (parts_view items.now.items))) }
 {
     let Shape::Many(kind) = shape else {
         return Ok(());
     };
-    let inner = indented(style.alloc, indent)?;
+    let inner = indent.inner();
     text.push_str("[")?;
-    push_items(text, style, inner.as_str(), indent, kind, items)
+    push_items(text, style, &inner, indent, kind, items)
 }
 
 #[cycle(print)]
 fn push_items(
     text: &mut String,
     style: Style,
-    inner: &str,
-    indent: &str,
+    inner: &Indent,
+    indent: &Indent,
     kind: Kind,
     items: &Vec<Value>,
 ) -> Result<(), AllocError>
     ensures { IfOk result (λ _. string_bytes text.new ≡ string_bytes text.old
-        ++ items_text style.entry.layout.now style.entry.defaults inner.now indent.now kind false
-        (parts_view items.now.items)) }
+        ++ items_text style.entry.layout.now style.entry.defaults (blanks inner.now) (blanks indent.now)
+        kind false (parts_view items.now.items)) }
 {
     let mut some = false;
     for item in items {
@@ -95,35 +97,35 @@ fn push_items(
 fn push_struct(
     text: &mut String,
     style: Style,
-    indent: &str,
+    indent: &Indent,
     shape: Shape,
     parts: &Vec<Value>,
 ) -> Result<(), AllocError>
     ensures { IfOk result (λ _. string_bytes text.new ≡ string_bytes text.old
-        ++ value_text style.entry.layout.now style.entry.defaults indent.now shape
+        ++ value_text style.entry.layout.now style.entry.defaults (blanks indent.now) shape
         (a_struct (parts_view parts.now.items))) }
 {
     let Shape::One(Kind::Struct(structure)) = shape else {
         return Ok(());
     };
-    let inner = indented(style.alloc, indent)?;
+    let inner = indent.inner();
     text.push_str("{")?;
     let fields = style.layout.parts_of(structure);
-    push_parts(text, style, inner.as_str(), indent, fields, parts)
+    push_parts(text, style, &inner, indent, fields, parts)
 }
 
 #[cycle(print)]
 fn push_parts(
     text: &mut String,
     style: Style,
-    inner: &str,
-    indent: &str,
+    inner: &Indent,
+    indent: &Indent,
     fields: &[FieldInfo],
     parts: &Vec<Value>,
 ) -> Result<(), AllocError>
     ensures { IfOk result (λ _. string_bytes text.new ≡ string_bytes text.old
-        ++ parts_text style.entry.layout.now style.entry.defaults inner.now indent.now false
-        (map field_seen fields.now) (parts_view parts.now.items)) }
+        ++ parts_text style.entry.layout.now style.entry.defaults (blanks inner.now) (blanks indent.now)
+        false (map field_seen fields.now) (parts_view parts.now.items)) }
 {
     let mut some = false;
     for k in 0..fields.len().min(parts.len()) {
@@ -140,33 +142,33 @@ fn push_parts(
 fn push_table(
     text: &mut String,
     style: Style,
-    indent: &str,
+    indent: &Indent,
     shape: Shape,
     owner: TypeId,
     entries: &Vec<Option<Value>>,
 ) -> Result<(), AllocError>
     ensures { IfOk result (λ _. string_bytes text.new ≡ string_bytes text.old
-        ++ value_text style.entry.layout.now style.entry.defaults indent.now shape
+        ++ value_text style.entry.layout.now style.entry.defaults (blanks indent.now) shape
         (a_table owner.0 (entries_view entries.now.items))) }
 {
-    let inner = indented(style.alloc, indent)?;
+    let inner = indent.inner();
     text.push_str("{")?;
     let slots = style.layout.slots_of(owner);
-    push_members(text, style, inner.as_str(), indent, slots, entries)
+    push_members(text, style, &inner, indent, slots, entries)
 }
 
 #[cycle(print)]
 fn push_members(
     text: &mut String,
     style: Style,
-    inner: &str,
-    indent: &str,
+    inner: &Indent,
+    indent: &Indent,
     slots: &[FieldInfo],
     entries: &Vec<Option<Value>>,
 ) -> Result<(), AllocError>
     ensures { IfOk result (λ _. string_bytes text.new ≡ string_bytes text.old
-        ++ members_text style.entry.layout.now style.entry.defaults inner.now indent.now false
-        (map field_seen slots.now) (entries_view entries.now.items)) }
+        ++ members_text style.entry.layout.now style.entry.defaults (blanks inner.now) (blanks indent.now)
+        false (map field_seen slots.now) (entries_view entries.now.items)) }
 {
     let mut some = false;
     for k in 0..slots.len().min(entries.len()) {
@@ -184,7 +186,7 @@ fn push_members(
 fn push_entry(
     text: &mut String,
     style: Style,
-    inner: &str,
+    inner: &Indent,
     some: bool,
     slot: &FieldInfo,
     value: &Value,
@@ -192,8 +194,8 @@ fn push_entry(
     ensures text { let f = field_seen slot.now in let d = view value.now in
         IfOk result (λ _. string_bytes text.new ≡ string_bytes text.old
         ++ entry_text style.entry.layout.now.schema (is_printed style.entry.defaults f d)
-        inner.now some f.name f.shape d
-        (value_text style.entry.layout.now style.entry.defaults inner.now f.shape d)) }
+        (blanks inner.now) some f.name f.shape d
+        (value_text style.entry.layout.now style.entry.defaults (blanks inner.now) f.shape d)) }
     ensures some { IfOk result (λ more. more
         ≡ (some || is_printed style.entry.defaults (field_seen slot.now) (view value.now))) }
 {

@@ -7,6 +7,7 @@ ghost use Rattle.fb_json.specs.Texts.{json_text};
 ghost use Rattle.fb_json.specs.Unnamed.{IsRefused};
 
 use crate::faults::{Place, TextFault};
+use crate::indents::Indent;
 use crate::print::{Style, push_value};
 use crate::unnamed::first_unnamed;
 use fb_layout::Layout;
@@ -35,13 +36,16 @@ pub fn text_of(
     if let Some(unnamed) = first_unnamed(place, value) {
         return Err(TextFault::NoMemberName(unnamed));
     }
-    let style = Style {
-        alloc,
-        layout,
-        defaults,
-    };
+    let style = Style { layout, defaults };
+    let edge = Indent::edge();
     let mut text = String::new(alloc);
-    push_value(&mut text, style, "", Shape::One(Kind::Table(root)), value)?;
+    push_value(
+        &mut text,
+        style,
+        &edge,
+        Shape::One(Kind::Table(root)),
+        value,
+    )?;
     text.push_str("\n")?;
     Ok(text)
 }

@@ -8,7 +8,7 @@ ghost use Rattle.fb_json.specs.Outcome.{Gives};
 ghost use Rattle.fb_json.specs.Refuses.{LeavesRoom};
 ghost use Rattle.fb_json.specs.Meant.{meant, items_meant, vector_meant, object_meant, table_meant, struct_meant};
 ghost use Rattle.fb_json.specs.Meant.{look, slots_meant, entry_meant, used_meant, unless_null, as_member};
-ghost use Rattle.fb_json.specs.Meant.{parts_meant, part_meant, part_place};
+ghost use Rattle.fb_json.specs.Meant.{parts_meant, part_meant};
 
 use crate::absent::{is_null, without};
 use crate::codes::code_after;
@@ -19,16 +19,6 @@ use crate::source::Source;
 use fb_schema::{FieldInfo, Kind, Shape, TypeId};
 use fb_value::Value;
 use serde_json::{Map, Value as Json};
-
-/// The place of a struct's field.
-pub(crate) fn part_place(owner: TypeId, field: usize) -> Place
-    ensures { result ≡ part_place owner.0 field }
-{
-    Place {
-        owner,
-        slot: Some(field.min(65535) as u16),
-    }
-}
 
 /// What a tree gives under a shape, and the cells that are left. `levels` is how many tables may
 /// stand in one another.
@@ -346,6 +336,7 @@ fn parts(
     levels: u8,
     left: u32,
 ) -> Result<(Vec<Value>, u32), JsonFault>
+    requires { length fields.now ≤ 65535 }
     ensures { let L = source.entry.layout.now in Gives (λ x. (map view x.0.items, x.1)) result
         (parts_meant (look L source.entry.unknown (members_view members.now.entries)) owner.0
         (map field_seen fields.now) 0 levels left) }
@@ -353,7 +344,10 @@ fn parts(
     let mut found = Vec::with_capacity(source.alloc, fields.len())?;
     let mut left = left;
     for (k, field) in fields.iter().enumerate() {
-        let place = part_place(owner, k);
+        let place = Place {
+            owner,
+            slot: Some(k as u16),
+        };
         let (part, rest) = part(source, members, field, place, levels, left)?;
         found.push(part)?;
         left = rest;

@@ -1,12 +1,21 @@
 //! Unions whose codes name no member.
 ghost use Rattle.std.specs.Prelude.{◌≡◌};
 ghost use Rattle.fb_value.specs.View.{view, parts_view, entries_view};
-ghost use Rattle.fb_json.specs.Unnamed.{first_unnamed, first_in_parts, first_in_entries};
+ghost use Rattle.fb_json.specs.Unnamed.{entry_place, first_unnamed, first_in_parts, first_in_entries};
 
 use crate::faults::Place;
-use crate::tree::part_place;
 use fb_schema::TypeId;
 use fb_value::Value;
+
+/// The place of an entry. A value that fits no type may have more entries than there are slots.
+fn entry_place(owner: TypeId, slot: usize) -> Place
+    ensures { result ≡ entry_place owner.0 slot }
+{
+    Place {
+        owner,
+        slot: Some(slot.min(65535) as u16),
+    }
+}
 
 /// The place of the first union, in the order of printing, whose code names no member.
 #[cycle(unnamed)]
@@ -42,7 +51,7 @@ fn first_in_entries(owner: TypeId, entries: &Vec<Option<Value>>) -> Option<Place
 {
     for k in 0..entries.len() {
         if let Some(value) = &entries[k] {
-            let found = first_unnamed(part_place(owner, k), value);
+            let found = first_unnamed(entry_place(owner, k), value);
             if found.is_some() {
                 return found;
             }

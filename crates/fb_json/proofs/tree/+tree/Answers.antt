@@ -45,15 +45,15 @@ parts-returns-in_err-part t c =
     let L = c.args.source.layout.now in
     let seen = look L c.args.source.unknown (members_view c.args.members.now.entries) in
     let p = err_from_is_err_and c.from_residual-in_err-part.result c.from_residual-in_err-part.ensures.1 in
-    rw (p.1, p.2) (fails_by c.in_err-part.field-0.0 (part_meant (seen (field_seen c.index-fields-k.result).name) c.index-fields-k.result.shape c.part_place-place.result c.args.levels c.loop-k.left) _
-    (λ h. c.loop-k.invariant ∙ parts_ungiven L seen c.args.owner.0 c.args.fields.now c.loop-k.k c.index-fields-k.result c.loop-k-test.true c.index-fields-k.is (map view c.loop-k.found.items) c.args.levels c.loop-k.left c.part_place-place.result c.part_place-place.ensures _ h) c.in_err-part.ensures)
+    rw (p.1, p.2) (fails_by c.in_err-part.field-0.0 (part_meant (seen (field_seen c.index-fields-k.result).name) c.index-fields-k.result.shape (slot_place c.args.owner.0 c.loop-k.k) c.args.levels c.loop-k.left) _
+    (λ h. c.loop-k.invariant ∙ parts_ungiven L seen c.args.owner.0 c.args.fields.now c.loop-k.k c.index-fields-k.result c.loop-k-test.true c.index-fields-k.is (map view c.loop-k.found.items) c.args.levels c.loop-k.left (slot_place c.args.owner.0 c.loop-k.k) refl _ h) c.in_err-part.ensures)
 
 pub parts-loop-k-preserved : goal.parts-loop-k-preserved
 parts-loop-k-preserved t c =
     let L = c.args.source.layout.now in
     let seen = look L c.args.source.unknown (members_view c.args.members.now.entries) in
     let e : map view c.push.new.self.items ≡ map view c.loop-k.found.items ++ view c.in_ok-part.part ∷ [] = rw c.in_ok-push.ensures.items (map_push _ c.loop-k.found.items c.in_ok-part.part) in
-    rw e (c.loop-k.invariant ∙ parts_next L seen c.args.owner.0 c.args.fields.now c.loop-k.k c.index-fields-k.result c.loop-k-test.true c.index-fields-k.is (map view c.loop-k.found.items) c.args.levels c.loop-k.left c.part_place-place.result c.part_place-place.ensures c.in_ok-part.rest (view c.in_ok-part.part) c.in_ok-part.ensures)
+    rw e (c.loop-k.invariant ∙ parts_next L seen c.args.owner.0 c.args.fields.now c.loop-k.k c.index-fields-k.result c.loop-k-test.true c.index-fields-k.is (map view c.loop-k.found.items) c.args.levels c.loop-k.left (slot_place c.args.owner.0 c.loop-k.k) refl c.in_ok-part.rest (view c.in_ok-part.part) c.in_ok-part.ensures)
 
 pub parts-returns : goal.parts-returns
 parts-returns t c =

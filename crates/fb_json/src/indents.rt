@@ -1,0 +1,47 @@
+//! How far lines are indented.
+ghost use Rattle.std.specs.Prelude.{◌≡◌, ◌++◌, IfOk, string_bytes};
+ghost use Rattle.fb_json.specs.Indents.{blanks};
+
+use std::alloc::AllocError;
+
+/// How far a line is indented: at the edge, or one level further than another.
+///
+/// Each level borrows the one around it, so that a printer of any depth takes no memory for it.
+#[derive(Clone, Copy)]
+pub(crate) enum Indent<'a> {
+    Edge,
+    Inside(&'a Indent<'a>),
+}
+
+impl Indent<'_> {
+    ghost use Rattle.std.specs.Prelude.{◌≡◌, []};
+    ghost use Rattle.fb_json.specs.Indents.{blanks};
+    ghost use Rattle.fb_json.specs.Texts.{inside};
+
+    /// No blanks.
+    pub(crate) fn edge() -> Indent<'static>
+        ensures { blanks result ≡ [] }
+    {
+        Indent::Edge
+    }
+
+    /// One level further.
+    pub(crate) fn inner(&self) -> Indent<'_>
+        ensures { blanks result ≡ inside (blanks self.now) }
+    {
+        Indent::Inside(self)
+    }
+}
+
+/// Adds the blanks of an indent.
+pub(crate) fn push_blanks(text: &mut String, indent: &Indent) -> Result<(), AllocError>
+    ensures { IfOk result (λ _. string_bytes text.new ≡ string_bytes text.old ++ blanks indent.now) }
+{
+    match indent {
+        Indent::Edge => Ok(()),
+        Indent::Inside(outer) => {
+            push_blanks(text, outer)?;
+            text.push_str("  ")
+        }
+    }
+}

@@ -1,0 +1,78 @@
+//! Bytes that are collected before they are written.
+ghost use Rattle.std.specs.Prelude.{◌≡◌, ◌≤◌, ◌+◌, ◌-◌, ◌^◌, [], ◌++◌, length, min, true};
+
+const MOST: usize = 4096;
+
+/// Bytes of a text that wait to be written, so that a writer gets few large pieces, and how many
+/// were written before. They stand on the stack.
+#[derive(Drop)]
+pub(crate) struct Page {
+    bytes: [u8; MOST],
+    len: usize,
+    written: u64,
+    ghost within: { len ≤ 4096 },
+}
+
+impl Page {
+    ghost use Rattle.fb_text.specs.Pages.{pending, written_before};
+
+    /// A page without bytes, in front of which none were written.
+    pub(crate) fn new() -> Page
+        ensures pending { pending result ≡ [] }
+        ensures written { written_before result ≡ 0 }
+    {
+        Page {
+            bytes: [0; MOST],
+            len: 0,
+            written: 0,
+        }
+    }
+
+    /// The bytes that wait.
+    pub(crate) fn pending(&self) -> &[u8]
+        ensures { result.now ≡ pending self.now }
+    {
+        &self.bytes[..self.len]
+    }
+
+    /// Whether so many bytes have room behind those that wait.
+    pub(crate) fn has_room(&self, more: usize) -> bool
+        ensures { result ≡ true → length (pending self.now) + more ≤ 4096 }
+    {
+        more <= MOST - self.len
+    }
+
+    /// Adds bytes to those that wait.
+    pub(crate) fn add(&mut self, more: &[u8])
+        requires { length (pending self.old) + length more.now ≤ 4096 }
+        ensures pending { pending self.new ≡ pending self.old ++ more.now }
+        ensures written { written_before self.new ≡ written_before self.old }
+    {
+        let end = self.len + more.len();
+        self.bytes[self.len..end].copy_from_slice(more);
+        self.len = end;
+    }
+
+    /// Counts bytes as written. The count stops at its greatest value.
+    pub(crate) fn count(&mut self, more: u64)
+        ensures pending { pending self.new ≡ pending self.old }
+        ensures written { written_before self.new ≡ min (written_before self.old + more) (2 ^ 64 - 1) }
+    {
+        self.written = self.written.saturating_add(more);
+    }
+
+    /// Drops the bytes that wait.
+    pub(crate) fn clear(&mut self)
+        ensures pending { pending self.new ≡ [] }
+        ensures written { written_before self.new ≡ written_before self.old }
+    {
+        self.len = 0;
+    }
+
+    /// How many bytes were written before those that wait.
+    pub(crate) fn written(&self) -> u64
+        ensures { result ≡ written_before self.now }
+    {
+        self.written
+    }
+}
