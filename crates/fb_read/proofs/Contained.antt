@@ -72,7 +72,7 @@ kinds_there L [] k x less is = absurd (omega arith)
 kinds_there L (y ∷ xs) zero x less is = rw is refl
 kinds_there L (y ∷ xs) (suc k) x less is = kinds_there L xs k x (omega arith) is
 
-kinds_long : (L : LaidSchema) (xs : List FieldInfo) → length (map (λ f. kind_in (stored_shape L.schema f.shape)) (map field_seen xs)) ≡ length xs
+pub kinds_long : (L : LaidSchema) (xs : List FieldInfo) → length (map (λ f. kind_in (stored_shape L.schema f.shape)) (map field_seen xs)) ≡ length xs
 kinds_long L [] = refl
 kinds_long L (x ∷ xs) = rw (kinds_long L xs) refl
 
@@ -109,7 +109,7 @@ with_fields _ [] k seen less = absurd (omega arith)
 with_fields _ (x ∷ xs) k seen less = cc
 
 module _ (L : LaidSchema) (s : ℕ) (xs : List FieldInfo) (seen : map field_seen xs ≡ parts_in (body_at L.schema s)) where
-  kind_there : (k : ℕ) (x : FieldInfo) → k < length xs → x ≡ slice_index_or xs k x → slice_get (parts_of L s) k ≡ Some (field_kind L x)
+  pub kind_there : (k : ℕ) (x : FieldInfo) → k < length xs → x ≡ slice_index_or xs k x → slice_get (parts_of L s) k ≡ Some (field_kind L x)
   kind_there k x less is = rw (← seen) (kinds_there L xs k x less is)
 
   field_offset : IsWellMade L → (k : ℕ) (x : FieldInfo) → k < length xs → x ≡ slice_index_or xs k x
@@ -124,7 +124,7 @@ module _ (L : LaidSchema) (s : ℕ) (xs : List FieldInfo) (seen : map field_seen
   field_within made p most k x less is within = let found = field_offset made k x less is in omega (arith, within, found.1)
 
   -- what a field has
-  field_there : IsWellMade L → (b : Bytes) (p : ℕ) (ds : Parts) (k : ℕ) (x : FieldInfo) → k < length xs → x ≡ slice_index_or xs k x → LiesParts L b (parts_of L s) (struct_at L s).offsets p ds
+  pub field_there : IsWellMade L → (b : Bytes) (p : ℕ) (ds : Parts) (k : ℕ) (x : FieldInfo) → k < length xs → x ≡ slice_index_or xs k x → LiesParts L b (parts_of L s) (struct_at L s).offsets p ds
       → (d : Datum) × (nth_part ds k ≡ Some d) × LiesInline L b (field_kind L x) (p + slice_index (struct_at L s).offsets k) d
   field_there made b p ds k x less is lies =
       part_lies_shown L b (parts_of L s) (struct_at L s).offsets p ds k (field_kind L x) (slice_index (struct_at L s).offsets k) lies (kind_there k x less is) (field_offset made k x less is).0

@@ -183,7 +183,7 @@ parts_end zero (more_parts d ds) e = absurd (omega arith)
 parts_end (suc i) (more_parts d ds) e = parts_end i ds (omega arith)
 
 -- references take four bytes
-target_size : (L : LaidSchema) (kind : StoredKind) (X : Target) → target_of kind ≡ Some X → size_of L kind ≡ 4
+pub target_size : (L : LaidSchema) (kind : StoredKind) (X : Target) → target_of kind ≡ Some X → size_of L kind ≡ 4
 target_size L text_kind X e = refl
 target_size L (table_kind t) X e = refl
 target_size L (scalar_kind base) X e = cc

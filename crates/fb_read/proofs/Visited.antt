@@ -10,7 +10,7 @@ use Rattle.fb_schema.specs.declared.types.FieldInfo.{FieldInfo}
 use Rattle.std.proofs.Common.{◌⊎◌, inl, inr, slice_index_or, slice_get, nat_lt, not, ◌==◌, drop, length, ◌≡◌, ℕ, zero, suc, ◌+◌, ◌-◌, ◌*◌, ◌<◌, ◌≤◌, List, [], ◌∷◌, Bool, true, false, Option, None, Some, Result, Ok, Err, nat_le, ◌&&◌, cond, if◌then◌else◌, refl, sym, ap, ◌∙◌, arith, add-zero, add_assoc}
 use Rattle.std.proofs.lemmas.Bool.{le-leb, leb-true}
 use Rattle.std.proofs.lemmas.Bool.Decides.{nat_tests}
-use Rattle.fb_layout.specs.Laid.{LaidSchema, Slot, StoredKind, scalar_kind, struct_kind, table_kind, union_kind, code_kind, text_kind, StoredShape, one_of, vector_of, slots_of, stored_kind, member_by_code}
+use Rattle.fb_layout.specs.Laid.{LaidSchema, Slot, StoredKind, scalar_kind, struct_kind, table_kind, union_kind, code_kind, text_kind, StoredShape, one_of, vector_of, slots_of, stored_kind, member_by_code, size_of}
 use Rattle.fb_value.specs.declared.faults.ReadFault.{ReadFault}
 use Rattle.fb_value.specs.declared.faults.ReadFault.TheVariants.{TooDeep, TooManyCells}
 use Rattle.fb_value.specs.Bounds.{Bounds}
@@ -20,6 +20,7 @@ use Rattle.fb_value.specs.Missing.{is_missing_slot}
 use Rattle.fb_value.specs.Rules.{is_missing, Keeps, fault_at, fault_by, first_failing}
 use Rattle.fb_value.specs.Faults.{own_cells, own_tables, sum_over, all, or_else, limit_rules, limited_fault, first_among, fault_from}
 use Rattle.fb_value.proofs.Least.{all_is}
+use Rattle.fb_value.proofs.Steps.{rule_held}
 use Rattle.fb_value.proofs.Unrolled.{fault_from_is}
 use Rattle.fb_value.specs.Nth.{slot_place}
 use Rattle.fb_read.specs.Visits.{outcome, visit, visit_each, visit_entry, union_place, slot_seen, slots_seen}
@@ -371,3 +372,8 @@ no_target S kind (inr (inl e)) = rw e.1 refl
 no_target S kind (inr (inr (inl e))) = rw e.1 refl
 no_target S kind (inr (inr (inr (inl e)))) = rw e.1 refl
 no_target S kind (inr (inr (inr (inr e)))) = rw e.1 refl
+
+-- what stands in its place ends within the bytes
+pub inline_within : (L : LaidSchema) (b : Bytes) (kind : StoredKind) (p : ℕ) → Keeps L b (inline_place kind) p → p + size_of L kind ≤ length b
+unfolding fault_by
+inline_within L b kind p keeps = leb-true _ _ (rule_held _ _ _ (rule_held _ _ _ keeps).1).0

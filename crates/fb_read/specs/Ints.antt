@@ -1,15 +1,14 @@
 -- What the slots of a table of `int` fields have.
 -- From the FlatBuffers documentation, "FlatBuffer Internals": Tables. An absent scalar has its default.
-use Rattle.std.specs.Prelude.{ℕ, ◌+◌, ◌≡◌, ◌<◌, ℤ, pos, List, length, slice_get, Option, None, Some, if◌then◌else◌}
+use Rattle.std.specs.Prelude.{ℕ, ◌+◌, ◌≡◌, ℤ, pos, List, length, slice_get, Option, None, Some, if◌then◌else◌}
 use Rattle.fb_schema.specs.declared.kinds.Base.TheVariants.{I32}
 use Rattle.fb_layout.specs.Laid.{LaidSchema, scalar_kind}
-use Rattle.fb_value.specs.declared.faults.ReadFault.{ReadFault}
 use Rattle.fb_value.specs.declared.values.Value.{Value}
 use Rattle.fb_value.specs.Datum.{a_number}
 use Rattle.fb_value.specs.View.{view}
 use Rattle.fb_value.specs.Num.{Bytes, num, scalar_of}
 use Rattle.fb_value.specs.Places.{Place, inline_place, is_present, slot_number}
-use Rattle.fb_value.specs.Rules.{fault_at, Keeps}
+use Rattle.fb_value.specs.Rules.{Keeps}
 
 -- the place that an `int` in slot k of the table at p has, if it is present
 abbrev pub int_place : Bytes → ℕ → ℕ → Option Place
@@ -20,11 +19,6 @@ abbrev pub HasNumber : LaidSchema → Bytes → Option Place → ℤ → Type 0
 HasNumber L b None n = n ≡ pos 0
 HasNumber L b (Some x) n = Keeps L b x.sort x.at × (n ≡ scalar_of I32 (num b x.at 4))
 
--- the rule that fails at a slot's place
-abbrev pub HasFault : LaidSchema → Bytes → Option Place → ReadFault → Type 0
-HasFault L b None f = ⊥
-HasFault L b (Some x) f = fault_at L b x.sort x.at ≡ Some f
-
 -- an entry that is the number of slot k
 abbrev pub IsNumberOf : LaidSchema → Bytes → ℕ → ℕ → Option Value → Type 0
 IsNumberOf L b p k None = ⊥
@@ -34,10 +28,3 @@ IsNumberOf L b p k (Some v) = (n : ℤ) × (view v ≡ a_number n) × HasNumber 
 pub record AreNumbers (L : LaidSchema) (b : Bytes) (p count : ℕ) (entries : List (Option Value)) : Type 0 where
   pub long : length entries ≡ count
   pub numbers : (k : ℕ) (e : Option Value) → slice_get entries k ≡ Some e → IsNumberOf L b p k e
-
--- The first of the slots whose place breaks a rule.
-pub record FailsFirst (L : LaidSchema) (b : Bytes) (p count : ℕ) (f : ReadFault) : Type 0 where
-  pub slot : ℕ
-  pub few : slot < count
-  pub fails : HasFault L b (int_place b p slot) f
-  pub before : (k : ℕ) → k < slot → (n : ℤ) × HasNumber L b (int_place b p k) n

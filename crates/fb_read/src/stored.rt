@@ -118,8 +118,8 @@ impl Stored {
     }
 }
 
-// A number's default, where it has one.
-fn default_of(layout: &Layout, field: &FieldInfo) -> Option<i128>
+/// A number's default, where it has one.
+pub fn default_of(layout: &Layout, field: &FieldInfo) -> Option<i128>
     ensures { field.now.deprecated ≡ false → result ≡ (slot_seen layout.now field.now).if_absent }
 {
     if field.optional {

@@ -1,5 +1,5 @@
 //! Whether a buffer holds a value.
-ghost use Rattle.std.specs.Prelude.{◌≡◌, ◌+◌, ◌≤◌, ◌<◌, ◌^◌, IfOk, length, MatchResult, OnOk, IfErr, None, Some};
+ghost use Rattle.std.specs.Prelude.{◌≡◌, ◌+◌, ◌≤◌, ◌<◌, ◌^◌, IfOk, length, MatchResult, OnOk, IfErr, None, Some, Err};
 ghost use Rattle.fb_value.specs.Datum.{Datum};
 ghost use Rattle.fb_value.specs.Counts.{entered};
 ghost use Rattle.fb_read.specs.Shows.{Shows};
@@ -24,6 +24,7 @@ fn check_identified(bytes: &[u8], identifier: [u8; 4]) -> Result<(), ReadFault>
         (λ f. header_fault bytes.now (Some identifier) ≡ Some f) }
     ensures short { OnOk result (length bytes.now < 2 ^ 31) }
     ensures long { OnOk result (4 ≤ length bytes.now) }
+    ensures rule { result ≡ Err ReadFault.Memory → ⊥ }
 {
     if bytes.len() < 8 {
         return Err(ReadFault::Short(bytes.len() as u64));
@@ -37,12 +38,14 @@ fn check_identified(bytes: &[u8], identifier: [u8; 4]) -> Result<(), ReadFault>
     Ok(())
 }
 
-fn check_front(bytes: &[u8], identifier: Option<[u8; 4]>) -> Result<(), ReadFault>
+/// The rules of a header.
+pub fn check_front(bytes: &[u8], identifier: Option<[u8; 4]>) -> Result<(), ReadFault>
     ensures rules { MatchResult result
         (λ _. header_fault bytes.now identifier ≡ None)
         (λ f. header_fault bytes.now identifier ≡ Some f) }
     ensures short { OnOk result (length bytes.now < 2 ^ 31) }
     ensures long { OnOk result (4 ≤ length bytes.now) }
+    ensures rule { result ≡ Err ReadFault.Memory → ⊥ }
 {
     match identifier {
         Some(identifier) => check_identified(bytes, identifier),
@@ -50,7 +53,8 @@ fn check_front(bytes: &[u8], identifier: Option<[u8; 4]>) -> Result<(), ReadFaul
     }
 }
 
-fn identifier_of(layout: &Layout, raw: bool) -> Option<[u8; 4]>
+/// The identifier that is checked.
+pub fn identifier_of(layout: &Layout, raw: bool) -> Option<[u8; 4]>
     ensures { result ≡ checked_identifier layout.now raw }
 {
     if raw {

@@ -1,0 +1,56 @@
+//! Reading a buffer.
+ghost use Rattle.std.specs.Prelude.{◌≡◌, ◌≢◌, ◌+◌, ◌≤◌, IfOk, IfErr, Err};
+ghost use Rattle.fb_value.specs.View.{view};
+ghost use Rattle.fb_value.specs.Counts.{entered};
+ghost use Rattle.fb_value.specs.Fits.{FitsRoot};
+ghost use Rattle.fb_value.specs.Holds.{Holds, RootKeeps, Refuses};
+ghost use Rattle.fb_read.specs.Memory.{PartIsReached};
+
+use crate::counting::Entries;
+use crate::source::Source;
+use crate::trees::read_table_behind;
+use crate::verification::{check_front, identifier_of};
+use fb_layout::Layout;
+use fb_value::{Limits, ReadFault, Value};
+use std::alloc::Global;
+
+/// The value that the bytes hold, or the least of their faults.
+///
+/// `raw` leaves out the check of the file identifier. `entries` rises by one for each table, vector
+/// and text that is entered. The bytes are read as the FlatBuffers documentation lays them out
+/// ("FlatBuffer Internals"). `Memory` may come in place of a fault that stands behind a table, vector
+/// or text for which memory ran out, never of one before it.
+#[tactic(auto, using(crate::proofs::Verified::aligned_known, crate::proofs::Verified::small_known))]
+pub fn read<'a>(
+    alloc: Global,
+    layout: &'a Layout,
+    bytes: &'a [u8],
+    limits: Limits,
+    raw: bool,
+    entries: &mut Entries,
+) -> Result<Value, ReadFault>
+    ensures value { IfOk result (λ v. Holds layout.now limits raw bytes.now (view v)) }
+    ensures fits { IfOk result (λ v. FitsRoot layout.now (view v)) }
+    ensures fault { IfErr result
+        (λ f. f ≢ ReadFault.Memory → Refuses layout.now limits raw bytes.now f) }
+    ensures memory { result ≡ Err ReadFault.Memory →
+        RootKeeps layout.now limits raw bytes.now }
+    ensures reached { result ≡ Err ReadFault.Memory →
+        PartIsReached layout.now limits raw bytes.now }
+    ensures rises { entries.old.count ≤ entries.new.count }
+    ensures counted { entries.new.count ≤ entries.old.count + (limits.cells + 1) }
+    ensures each { IfOk result (λ v. entries.new.count ≡ entries.old.count + entered (view v)) }
+{
+    let schema = layout.schema();
+    check_front(bytes, identifier_of(layout, raw))?;
+    let most_depth = limits.most_depth();
+    let most_cells = limits.most_cells();
+    let source = Source {
+        layout,
+        bytes,
+        most_depth,
+        most_cells,
+    };
+    let mut spent = 0;
+    read_table_behind(alloc, source, schema.root(), 0, 0, &mut spent, entries)
+}
