@@ -1,5 +1,5 @@
 -- What the layers' refusals exclude.
-use Rattle.std.proofs.Common.{◌≡◌, ◌≢◌, ◌⊎◌, inl, inr, ℕ, ◌<◌, ◌≤◌, List, length, Bool, true, Ok, Some, refl, sym, ap, ◌∙◌, subst, arith}
+use Rattle.std.proofs.Common.{◌≡◌, ◌≢◌, ◌⊎◌, inl, inr, ℕ, ◌<◌, ◌≤◌, List, length, Bool, true, Result, Ok, Err, Some, refl, sym, ap, ◌∙◌, subst, arith}
 use Rattle.serde_json.specs.Data.{Data}
 use Rattle.fb_schema.specs.declared.kinds.Kind.TheVariants.{Table}
 use Rattle.fb_schema.specs.declared.kinds.Shape.TheVariants.{One}
@@ -14,6 +14,7 @@ use Rattle.fb_value.specs.Room.{room_of}
 use Rattle.fb_value.specs.Holds.{Holds, Refuses}
 use Rattle.fb_value.specs.OldSlots.{OnlyOld}
 use Rattle.fb_value.proofs.Shown.{one_value_shown}
+use Rattle.fb_read.specs.Memory.{PartIsReached}
 use Rattle.fb_json.specs.declared.faults.JsonFault.{JsonFault}
 use Rattle.fb_json.specs.declared.faults.JsonFault.TheVariants as the_json
 use Rattle.fb_json.specs.declared.faults.TextFault.{TextFault}
@@ -36,15 +37,20 @@ use Rattle.flatc_tool.proofs.OneText.{same_accepted}
 pub same_tree : (json : List ℕ) (t u : Data) → IsTree json t → IsTree json u → t ≡ u
 same_tree json t u a b = let both : Some t ≡ Some u = sym a.1 ∙ b.1 in cc
 
+-- the value that is computed, or another in its place
+value_or : Datum → Result (Datum × ℕ) JsonFault → Datum
+value_or d (Ok p) = p.0
+value_or d (Err f) = d
+
 -- a tree means one value
 pub means_once : (L : LaidSchema) (most : Bounds) (unknown : Bool) (t : Data) (v w : Datum) → Means L most unknown t v → Means L most unknown t w → v ≡ w
+unfolding value_or
 means_once L most unknown t v w a b =
     let root = One (Table (record { 0 = L.schema.root })) in
     let at = type_place L.schema.root in
     let first = complete L unknown t root at most.depth most.cells v a.0 a.1 a.2 in
     let second = complete L unknown t root at most.depth most.cells w b.0 b.1 b.2 in
-    let both = sym first ∙ second in
-    cc
+    ap (value_or v) (sym first ∙ second)
 
 -- a JSON text means one value
 pub same_value : (L : LaidSchema) (most : Bounds) (unknown : Bool) (json : List ℕ) (v w : Datum) → JsonMeans L most unknown json v → JsonMeans L most unknown json w → v ≡ w
@@ -124,6 +130,23 @@ module _ (schema : List ℕ) (b : Bytes) (most : Bounds) (raw : Bool) (L : LaidS
       let layout = same_accepted schema may.layout L may.accepted accepted in
       let none = refuses (λ memory. subst (λ (g : ReadFault). IsNotMemory (Read g)) memory rule) in
       none.1 may.value (subst (λ (K : LaidSchema). Holds K most raw b may.value) layout may.holds)
+
+  -- the least fault is the refusal, or a part is reached that memory is asked for
+  pub bytes_refused : (f : ReadFault) → (f ≢ the_read.Memory → Refuses L most raw b f) → (f ≡ the_read.Memory → PartIsReached L most raw b) → TextRefused schema b most raw (Read f)
+  bytes_refused the_read.Memory refuses reached = (L, accepted, reached refl)
+  bytes_refused (the_read.Short at) refuses reached = (L, accepted, refuses (λ e. cc))
+  bytes_refused (the_read.TooLong at) refuses reached = (L, accepted, refuses (λ e. cc))
+  bytes_refused (the_read.WrongIdentifier at) refuses reached = (L, accepted, refuses (λ e. cc))
+  bytes_refused (the_read.Misaligned at) refuses reached = (L, accepted, refuses (λ e. cc))
+  bytes_refused (the_read.OutOfBounds at) refuses reached = (L, accepted, refuses (λ e. cc))
+  bytes_refused (the_read.ZeroOffset at) refuses reached = (L, accepted, refuses (λ e. cc))
+  bytes_refused (the_read.BadVtable at) refuses reached = (L, accepted, refuses (λ e. cc))
+  bytes_refused (the_read.MissingRequired at slot) refuses reached = (L, accepted, refuses (λ e. cc))
+  bytes_refused (the_read.NoTerminator at) refuses reached = (L, accepted, refuses (λ e. cc))
+  bytes_refused (the_read.BadUtf8 at) refuses reached = (L, accepted, refuses (λ e. cc))
+  bytes_refused (the_read.UnionMismatch at) refuses reached = (L, accepted, refuses (λ e. cc))
+  bytes_refused (the_read.TooDeep at) refuses reached = (L, accepted, refuses (λ e. cc))
+  bytes_refused (the_read.TooManyCells at) refuses reached = (L, accepted, refuses (λ e. cc))
 
   -- the value that is held has a code without a name, or memory ran out
   pub text_refused : (v : Datum) (f : TextFault) → Holds L most raw b v → IsUnnamed (type_place L.schema.root) v f → TextRefused schema b most raw (Text f)

@@ -10,8 +10,9 @@ use Rattle.fb_value.specs.Counts.{is_whole}
 use Rattle.fb_value.specs.Datum.{Datum}
 use Rattle.fb_value.specs.Num.{Bytes}
 use Rattle.fb_value.specs.Room.{room_of}
-use Rattle.fb_value.specs.Holds.{Holds, RootKeeps, Refuses}
+use Rattle.fb_value.specs.Holds.{Holds, Refuses}
 use Rattle.fb_value.specs.OldSlots.{OnlyOld}
+use Rattle.fb_read.specs.Memory.{PartIsReached}
 use Rattle.fb_json.specs.declared.faults.JsonFault.{JsonFault}
 use Rattle.fb_json.specs.declared.faults.JsonFault.TheVariants as the_json
 use Rattle.fb_json.specs.declared.faults.TextFault.{TextFault}
@@ -92,8 +93,9 @@ pub record MayBeText (schema : List ℕ) (b : Bytes) (most : Bounds) (raw : Bool
   pub holds : Holds layout most raw b value
   pub whole : is_whole value ≡ true
 
+-- The least fault of the bytes. Memory is asked for only for a part that is reached before any fault.
 abbrev pub ReadRefused : List ℕ → Bytes → Bounds → Bool → ReadFault → Type 0
-ReadRefused schema b most raw the_read.Memory = (L : LaidSchema) × IsAccepted schema L × RootKeeps L most raw b
+ReadRefused schema b most raw the_read.Memory = (L : LaidSchema) × IsAccepted schema L × PartIsReached L most raw b
 ReadRefused schema b most raw f = (L : LaidSchema) × IsAccepted schema L × Refuses L most raw b f
 
 -- The refusal of the schema, the least fault of the bytes, or the first code in the value that has no name.
