@@ -1,6 +1,6 @@
 -- What a walk that makes values gives.
 use Rattle.std.specs.Prelude.{ℕ, ◌+◌, ◌≡◌, ◌≢◌, ◌<◌, ◌≤◌, List, [], Option, None, Some, Result, Ok, Err, MatchResult, ℤ}
-use Rattle.fb_layout.specs.Laid.{Slot, StoredKind, scalar_kind, struct_kind}
+use Rattle.fb_layout.specs.Laid.{Slot, StoredKind}
 use Rattle.fb_value.specs.declared.faults.ReadFault.{ReadFault}
 use Rattle.fb_value.specs.declared.faults.ReadFault.TheVariants.{Memory}
 use Rattle.fb_value.specs.Datum.{Datum, Parts, SlotEntries, count}
@@ -8,7 +8,7 @@ use Rattle.fb_value.specs.Num.{num}
 use Rattle.fb_value.specs.Rules.{Keeps}
 use Rattle.fb_value.specs.Places.{Target, table_part, member_part, text_part, vector_part, ref_place, part_place, inline_place, code_place, unknown_place, Place, named_elements}
 use Rattle.fb_layout.specs.Laid.{LaidSchema, stored_kind}
-use Rattle.fb_value.specs.Lies.{LiesInline, LiesAt, LiesItems, LiesParts, LiesSlots}
+use Rattle.fb_value.specs.Lies.{LiesInline, LiesAt, LiesItems, LiesSlots}
 use Rattle.fb_value.specs.Nth.{LiesInSlot}
 use Rattle.fb_read.specs.declared.named.Named.{Named}
 use Rattle.fb_read.specs.declared.named.Named.TheVariants.{Nothing, Code, Unknown, Inline, Text, Table, Member, Vector}

@@ -1,15 +1,15 @@
-use Rattle.std.proofs.Common.{None, Some, Ok, ◌≡◌, ◌+◌, ◌*◌, ◌<◌, ◌≤◌, length, refl, map, sym, ap, ◌∙◌, arith}
+use Rattle.std.proofs.Common.{◌≡◌, ◌+◌, ◌<◌, ◌≤◌, map, sym, ap, ◌∙◌, arith}
 use Rattle.std.proofs.lemmas.Result.{err_from_is_err_and}
 use Rattle.fb_layout.specs.Laid.{slot_of, slots_of, stored_kind}
 use Rattle.fb_value.specs.Bounds.{Bounds}
 use Rattle.fb_value.specs.Num.{num}
-use Rattle.fb_value.specs.Places.{table_part, member_part, vector_part, ref_place, named_vector, target_of}
+use Rattle.fb_value.specs.Places.{table_part, vector_part, target_of}
 use Rattle.fb_value.specs.View.{view, entries_view}
-use Rattle.fb_value.proofs.Views.{view-Fields, view-Member, view-Items}
-use Rattle.fb_read.specs.Values.{led_to, elements_named, IsOpen}
+use Rattle.fb_value.proofs.Views.{view-Fields, view-Member}
+use Rattle.fb_read.specs.Values.{led_to}
 use Rattle.fb_read.specs.Visits.{slot_seen, slots_seen}
 use Rattle.fb_read.proofs.Grown.{parts_entered_more, parts_whole, entries_entered_more, entries_whole}
-use Rattle.fb_read.proofs.ValueSteps.{table_is, vector_is, member_is, element_grown, slot_grown, fields_count, vector_named}
+use Rattle.fb_read.proofs.ValueSteps.{table_is, member_is, element_grown, slot_grown, fields_count, vector_named}
 use Rattle.fb_read.proofs.Visited.{visit_fault, visit_table, visit_vector, visit_member, visit_code, visit_unknown, no_target, slots_next, slots_fail, slots_past, elements_step, elements_stop, elements_end, no_references}
 use Rattle.fb_read.proofs.trees.+tree.Goals as goal
 
