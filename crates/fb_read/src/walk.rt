@@ -3,15 +3,17 @@ ghost use Rattle.std.specs.Prelude.{◌≡◌, ◌+◌, ◌*◌, ◌<◌, ◌≤
 ghost use Rattle.fb_layout.specs.Laid.{StoredKind, stored_kind};
 ghost use Rattle.fb_value.specs.Num.{num};
 ghost use Rattle.fb_value.specs.Places.{table_part, vector_part, ref_place, part_place, vtable, named_slots, named_elements, target_of};
+ghost use Rattle.fb_read.specs.Stored.{stored_place, stored_at};
 ghost use Rattle.fb_read.specs.Visits.{Visits, slots_seen};
-ghost use Rattle.fb_read.specs.Values.{named_place, named_at, led_to};
+ghost use Rattle.fb_read.specs.Values.{led_to};
 ghost use Rattle.fb_read.specs.Walks.{place, visit_in, visit_each_in, visit_entry_in, TicksWithin, EntersAt, EntersSlot, EntersSlots, EntersItems};
 
 use crate::counting::Entries;
-use crate::named::{Named, Reference, named_in};
 use crate::places::{follow, stored_slots};
+use crate::reference::Reference;
 use crate::rules::{enter_table, open_vector};
 use crate::source::Source;
+use crate::stored::{Stored, stored_in};
 use crate::visits::{visit_code, visit_inline, visit_text_behind};
 use fb_schema::{FieldInfo, Kind, TypeId};
 use fb_value::ReadFault;
@@ -102,10 +104,10 @@ fn visit_slots(
         (slots_seen source.entry.layout.now slots.now)) entries.old.count entries.new.count) }
 {
     let mut after = spent;
-    let stored = stored_slots(source.bytes, at, place, slots.len());
-    for slot in 0..stored {
+    let present = stored_slots(source.bytes, at, place, slots.len());
+    for slot in 0..present {
         let (_before, later) = slots.split_at(slot + 1);
-        let named = named_in(
+        let stored = stored_in(
             source.layout,
             source.bytes,
             &slots[slot],
@@ -114,34 +116,34 @@ fn visit_slots(
             place,
             slot,
         );
-        after = visit_named(source, named, tables, after, entries)?;
+        after = visit_stored(source, stored, tables, after, entries)?;
     }
     Ok(after)
 }
 
 #[cycle(walk)]
-fn visit_named(
+fn visit_stored(
     source: Source,
-    named: Named,
+    stored: Stored,
     tables: u8,
     spent: u64,
     entries: &mut Entries,
 ) -> Result<u64, ReadFault>
-    requires low { named_at named < 2 ^ 33 }
+    requires low { stored_at stored < 2 ^ 33 }
     requires few { spent ≤ source.most_cells }
     requires flat { tables ≤ source.most_depth }
     ensures visit { Visits result (visit_entry_in source.entry
-        (named_place source.entry.layout.now named) tables spent) }
+        (stored_place source.entry.layout.now stored) tables spent) }
     ensures few { IfOk result (λ n. n ≤ source.entry.most_cells) }
     ensures rises { entries.old.count ≤ entries.new.count }
     ensures ticks { TicksWithin source.entry entries.old.count entries.new.count spent result }
     ensures each { OnOk result (EntersSlot source.entry
-        (named_place source.entry.layout.now named) entries.old.count entries.new.count) }
+        (stored_place source.entry.layout.now stored) entries.old.count entries.new.count) }
 {
-    match named {
-        Named::Nothing(_) => Ok(spent),
-        Named::Unknown(_, _) => Ok(spent),
-        Named::Code(code, at) => visit_code(
+    match stored {
+        Stored::Absent(_) => Ok(spent),
+        Stored::Unknown(_, _) => Ok(spent),
+        Stored::Code(code, at) => visit_code(
             source,
             at,
             code.value_slot,
@@ -149,13 +151,14 @@ fn visit_named(
             code.present,
             spent,
         ),
-        Named::Inline(kind, at) => visit_inline(source, kind, at, spent),
-        Named::Text(at) => visit_text_behind(source, at, spent, entries),
-        Named::Table(table, at) => visit_table_behind(source, table, at, tables, spent, entries),
-        Named::Member(_, table, at) => visit_table_behind(
+        Stored::Number(base, at) => visit_inline(source, Kind::Scalar(base), at, spent),
+        Stored::Fixed(structure, at) => visit_inline(source, Kind::Struct(structure), at, spent),
+        Stored::Text(at) => visit_text_behind(source, at, spent, entries),
+        Stored::Table(table, at) => visit_table_behind(source, table, at, tables, spent, entries),
+        Stored::Member(_, table, at) => visit_table_behind(
             source, table, at, tables, spent, entries,
         ),
-        Named::Vector(kind, at) => visit_vector_behind(source, kind, at, tables, spent, entries),
+        Stored::Vector(kind, at) => visit_vector_behind(source, kind, at, tables, spent, entries),
     }
 }
 

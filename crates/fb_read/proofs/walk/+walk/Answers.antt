@@ -1,6 +1,6 @@
 use Rattle.std.proofs.Common.{◌≡◌, ◌+◌, ◌<◌, ◌≤◌, length, refl, map, sym, ap, ◌∙◌, arith}
 use Rattle.std.proofs.lemmas.Result.{err_from_is_err_and}
-use Rattle.fb_layout.specs.Laid.{slot_of, slots_of, stored_kind}
+use Rattle.fb_layout.specs.Laid.{struct_kind, slot_of, slots_of, stored_kind}
 use Rattle.fb_value.specs.Bounds.{Bounds}
 use Rattle.fb_value.specs.Num.{num}
 use Rattle.fb_value.specs.Places.{table_part, vector_part}
@@ -76,31 +76,31 @@ pub visit_slots-returns-in_err-after-clause-visit : goal.visit_slots-returns-in_
 visit_slots-returns-in_err-after-clause-visit t c =
     let p = err_from_is_err_and c.from_residual.result c.from_residual.ensures.1 in
     let most : Bounds = record { depth = c.args.source.most_depth; cells = c.args.source.most_cells } in
-    let fails = rw (c.named_in-named.ensures.place, c.split_at.ensures.back) at c.in_err-after.ensures.visit in
+    let fails = rw (c.stored_in-stored.ensures.place, c.split_at.ensures.back) at c.in_err-after.ensures.visit in
     rw (p.1, p.2) (sym c.loop-slot.invariant.visited
-    ∙ slots_fail c.args.source.layout.now c.args.source.bytes.now most c.args.at c.loop-slot.slot c.args.slots.now c.index-slots-slot.result c.args.tables c.loop-slot.after _ (omega (arith, c.loop-slot-test.true, c.stored_slots-stored.ensures.few)) c.index-slots-slot.is fails)
+    ∙ slots_fail c.args.source.layout.now c.args.source.bytes.now most c.args.at c.loop-slot.slot c.args.slots.now c.index-slots-slot.result c.args.tables c.loop-slot.after _ (omega (arith, c.loop-slot-test.true, c.stored_slots-present.ensures.few)) c.index-slots-slot.is fails)
 
 pub visit_slots-loop-slot-preserved : goal.visit_slots-loop-slot-preserved
 visit_slots-loop-slot-preserved t c =
     let most : Bounds = record { depth = c.args.source.most_depth; cells = c.args.source.most_cells } in
-    let fine = rw (c.named_in-named.ensures.place, c.split_at.ensures.back) at c.in_ok-after.ensures.visit in
-    let less : c.loop-slot.slot < length c.args.slots.now = omega (arith, c.loop-slot-test.true, c.stored_slots-stored.ensures.few) in
+    let fine = rw (c.stored_in-stored.ensures.place, c.split_at.ensures.back) at c.in_ok-after.ensures.visit in
+    let less : c.loop-slot.slot < length c.args.slots.now = omega (arith, c.loop-slot-test.true, c.stored_slots-present.ensures.few) in
     record {
       visited = sym (slots_next c.args.source.layout.now c.args.source.bytes.now most c.args.at c.loop-slot.slot c.args.slots.now c.index-slots-slot.result c.args.tables c.loop-slot.after c.in_ok-after.after less c.index-slots-slot.is fine) ∙ c.loop-slot.invariant.visited;
       rises = omega (arith, c.in_ok-after.ensures.rises);
       few = c.in_ok-after.ensures.few;
       ticked = omega (arith, c.in_ok-after.ensures.ticks);
-      entered = λ es lies. slot_step c.args.source.layout.now c.args.source.bytes.now c.args.at c.loop-slot.slot c.args.slots.now c.index-slots-slot.result es _ _ _ lies less c.index-slots-slot.is (rw (c.named_in-named.ensures.place, c.split_at.ensures.back) at c.in_ok-after.ensures.each) (c.loop-slot.invariant.entered es lies);
+      entered = λ es lies. slot_step c.args.source.layout.now c.args.source.bytes.now c.args.at c.loop-slot.slot c.args.slots.now c.index-slots-slot.result es _ _ _ lies less c.index-slots-slot.is (rw (c.stored_in-stored.ensures.place, c.split_at.ensures.back) at c.in_ok-after.ensures.each) (c.loop-slot.invariant.entered es lies);
     }
 
 pub visit_slots-returns-clause-visit : goal.visit_slots-returns-clause-visit
 visit_slots-returns-clause-visit t c =
     let most : Bounds = record { depth = c.args.source.most_depth; cells = c.args.source.most_cells } in
-    sym c.loop-slot.invariant.visited ∙ slots_rest c.args.source.layout.now c.args.source.bytes.now most c.args.at c.loop-slot.slot c.stored_slots-stored.result c.args.slots.now c.args.tables c.loop-slot.after (omega arith) c.stored_slots-stored.ensures.past
+    sym c.loop-slot.invariant.visited ∙ slots_rest c.args.source.layout.now c.args.source.bytes.now most c.args.at c.loop-slot.slot c.stored_slots-present.result c.args.slots.now c.args.tables c.loop-slot.after (omega arith) c.stored_slots-present.ensures.past
 
 pub visit_slots-returns-clause-each : goal.visit_slots-returns-clause-each
 visit_slots-returns-clause-each t c es lies =
-    let rest = rest_entered c.args.source.layout.now c.args.source.bytes.now c.args.at c.loop-slot.slot c.stored_slots-stored.result c.args.slots.now es (omega arith) c.stored_slots-stored.ensures.past lies in
+    let rest = rest_entered c.args.source.layout.now c.args.source.bytes.now c.args.at c.loop-slot.slot c.stored_slots-present.result c.args.slots.now es (omega arith) c.stored_slots-present.ensures.past lies in
     let all = c.loop-slot.invariant.entered es lies in
     omega (arith, rest, all)
 
@@ -121,23 +121,18 @@ visit_vector-returns-in-Scalar t c =
       each = vector_entered L b (stored_kind L.schema c.args.kind) c.args.at (num b c.args.at 4) _ _ refl (λ ds long lies. let free = items_free L b (stored_kind L.schema c.args.kind) (c.args.at + 4) ds none lies in omega (arith, free, c.tick.ensures));
     }
 
-pub visit_named-returns-in-Unknown-clause-visit : goal.visit_named-returns-in-Unknown-clause-visit
-visit_named-returns-in-Unknown-clause-visit t c =
+pub visit_stored-returns-in-Unknown-clause-visit : goal.visit_stored-returns-in-Unknown-clause-visit
+visit_stored-returns-in-Unknown-clause-visit t c =
     rw c.in-Unknown.is (visit_unknown c.args.source.layout.now c.args.source.bytes.now _ c.in-Unknown.field-0 c.in-Unknown.field-1 c.args.tables c.args.spent)
 
-pub visit_named-returns-in-Inline-clause-each : goal.visit_named-returns-in-Inline-clause-each
-visit_named-returns-in-Inline-clause-each t c =
-    let L = c.args.source.layout.now in
-    on_any c.visit_inline.result (λ f o lies. let free = inline_slot_entered L c.args.source.bytes.now f (stored_kind L.schema c.in-Inline.kind) c.in-Inline.at o (rw c.in-Inline.is at lies) in omega (arith, free))
-
-pub visit_named-returns-in-Member-clause-visit : goal.visit_named-returns-in-Member-clause-visit
-visit_named-returns-in-Member-clause-visit t c =
+pub visit_stored-returns-in-Member-clause-visit : goal.visit_stored-returns-in-Member-clause-visit
+visit_stored-returns-in-Member-clause-visit t c =
     let L = c.args.source.layout.now in
     let most : Bounds = record { depth = c.args.source.most_depth; cells = c.args.source.most_cells } in
     rw (c.in-Member.is, visit_member L c.args.source.bytes.now most c.in-Member.field-0 c.in-Member.table.0 c.in-Member.at c.args.tables c.args.spent) c.visit_table_behind-in-Member.ensures.visit
 
-pub visit_named-returns-in-Member-clause-each : goal.visit_named-returns-in-Member-clause-each
-visit_named-returns-in-Member-clause-each t c =
+pub visit_stored-returns-in-Member-clause-each : goal.visit_stored-returns-in-Member-clause-each
+visit_stored-returns-in-Member-clause-each t c =
     let L = c.args.source.layout.now in
     on_ok c.visit_table_behind-in-Member.result (λ known f o lies. member_slot_entered L c.args.source.bytes.now f c.in-Member.field-0 c.in-Member.table.0 c.in-Member.at _ _ o known (rw c.in-Member.is at lies)) c.visit_table_behind-in-Member.ensures.each
 
@@ -174,3 +169,8 @@ visit_vector-returns-in-Table-clause-each t c =
     let L = c.args.source.layout.now in
     let b = c.args.source.bytes.now in
     on_ok c.visit_elements-in-Table.result (λ all. vector_entered L b (stored_kind L.schema c.args.kind) c.args.at c.in_ok-count.count _ _ c.in_ok-count.ensures.count (λ ds long lies. omega (arith, c.tick.ensures, all ds long lies))) (c.visit_elements-in-Table.ensures.each (stored_kind L.schema c.args.kind) (rw c.in-Table.is refl))
+
+pub visit_stored-returns-in-Fixed-clause-each : goal.visit_stored-returns-in-Fixed-clause-each
+visit_stored-returns-in-Fixed-clause-each t c =
+    let L = c.args.source.layout.now in
+    on_any c.visit_inline-in-Fixed.result (λ f o lies. let free = inline_slot_entered L c.args.source.bytes.now f (struct_kind c.in-Fixed.structure.0) c.in-Fixed.at o (rw c.in-Fixed.is at lies) in omega (arith, free))

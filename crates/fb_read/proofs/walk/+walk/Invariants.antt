@@ -13,8 +13,8 @@ use Rattle.fb_read.proofs.walk.+walk.Given as goal
 abbrev pub decreases-visit_slots : goal.decreases-visit_slots
 decreases-visit_slots l = 16 * (l.source.most_depth - l.tables) + 8
 
-abbrev pub decreases-visit_named : goal.decreases-visit_named
-decreases-visit_named l = 16 * (l.source.most_depth - l.tables) + 7
+abbrev pub decreases-visit_stored : goal.decreases-visit_stored
+decreases-visit_stored l = 16 * (l.source.most_depth - l.tables) + 7
 
 abbrev pub decreases-visit_vector_behind : goal.decreases-visit_vector_behind
 decreases-visit_vector_behind l = 16 * (l.source.most_depth - l.tables) + 5
