@@ -23,11 +23,12 @@ use Rattle.fb_value.proofs.Counted.{text_length}
 use Rattle.fb_value.proofs.Ranged.{utf8_whole}
 use Rattle.fb_value.proofs.NthLies.{entry_lies_shown}
 use Rattle.fb_read.specs.declared.stored.Stored.{Stored}
-use Rattle.fb_read.specs.declared.stored.Stored.TheVariants.{Absent, Unknown, Number, Fixed, Text, Table, Member, Vector}
-use Rattle.fb_read.specs.Stored.{StoredAs, text_place_of, table_place_of, member_place_of, vector_place_of, struct_place_of, number_place_of, default_in, unknown_code_of, text_behind, IsTextBehind}
+use Rattle.fb_read.specs.declared.stored.Stored.TheVariants.{Absent, Code, Unknown, Number, Fixed, Text, Table, Member, Vector}
+use Rattle.fb_read.specs.Stored.{StoredAs, stored_place, text_place_of, table_place_of, member_place_of, vector_place_of, struct_place_of, number_place_of, default_in, unknown_code_of, text_behind, IsTextBehind}
 use Rattle.fb_read.specs.Views.{entry_of, number_in, text_in, table_in, struct_in, vector_in, member_in, unknown_in}
 use Rattle.fb_read.specs.Visits.{slot_seen, slots_seen}
-use Rattle.fb_read.proofs.Visited.{slot_there}
+use Rattle.fb_read.proofs.Visited.{slot_there, seen_drop}
+use Rattle.fb_read.proofs.StoredEntries.{stored_as}
 use Rattle.fb_read.proofs.Entered.{sure_of}
 
 -- ---- which sort of value an entry is
@@ -45,7 +46,8 @@ class_in None = 7
 abbrev pub class_of : Stored → ℕ
 class_of (Absent None) = 7
 class_of (Absent (Some n)) = 0
-class_of (Unknown code) = 6
+class_of (Code code p) = 7
+class_of (Unknown code p) = 6
 class_of (Number base p) = 0
 class_of (Fixed s p) = 3
 class_of (Text p) = 1
@@ -81,7 +83,8 @@ vector_class L b kind p _ lies = absurd lies
 stored_class : (L : LaidSchema) (b : Bytes) (s : Stored) (o : Option Datum) → StoredAs L b s o → class_in o ≡ class_of s
 stored_class L b (Absent None) o stored = rw stored refl
 stored_class L b (Absent (Some n)) o stored = rw stored refl
-stored_class L b (Unknown code) o stored = rw stored refl
+stored_class L b (Code code p) o stored = rw stored refl
+stored_class L b (Unknown code p) o stored = rw stored refl
 stored_class L b (Number base p) o stored = rw stored.1 (number_class L b base p stored.0 stored.2.1)
 stored_class L b (Fixed s p) o stored = rw stored.1 (struct_class L b s.0 p stored.0 stored.2.1)
 stored_class L b (Text p) o stored = rw stored.1 (text_class L b (p + num b p 4) stored.0 stored.2.1)
@@ -135,7 +138,7 @@ member_none L b (Absent (Some n)) o stored none = rw stored refl
 member_none L b s o stored none = member_else o (class_of s) (stored_class L b s o stored) (λ e. omega arith)
 
 pub unknown_found : (L : LaidSchema) (b : Bytes) (s : Stored) (o : Option Datum) → StoredAs L b s o → unknown_code_of s ≡ unknown_in o
-unknown_found L b (Unknown c) o stored = rw stored refl
+unknown_found L b (Unknown c p) o stored = rw stored refl
 unknown_found L b (Absent None) o stored = rw stored refl
 unknown_found L b (Absent (Some n)) o stored = rw stored refl
 unknown_found L b s o stored = sym (unknown_else o (class_of s) (stored_class L b s o stored) (λ e. omega arith))
@@ -232,6 +235,14 @@ pub entry_there : (L : LaidSchema) (b : Bytes) (t p : ℕ) (xs : List FieldInfo)
     → LiesInSlot L b (slot_seen L x) (slot_place L b p k (drop (suc k) (slots_of L t)) (slot_seen L x)) (entry_of d k)
 entry_there L b t p xs (a_table type es) k x seen less is lies = entry_lies_shown L b p (slots_of L t) es k (slot_seen L x) lies.2 (rw seen (slot_there L xs k x less is))
 entry_there L b t p xs _ k x seen less is lies = absurd lies
+
+-- what was found in one slot is its entry
+pub entry_stored : (L : LaidSchema) (b : Bytes) (t p : ℕ) (xs : List FieldInfo) (d : Datum) (k : ℕ) (x : FieldInfo) (s : Stored) → slots_of L t ≡ slots_seen L xs → k < length xs → x ≡ slice_index_or xs k x → Lies L b (part_place (table_part t)) p d
+    → stored_place L s ≡ slot_place L b p k (slots_seen L (drop (k + 1) xs)) (slot_seen L x) → (stored_place L s ≡ None → default_in s ≡ (slot_seen L x).if_absent) → StoredAs L b s (entry_of d k)
+entry_stored L b t p xs d k x s seen less is lies place default =
+    let one : suc k ≡ k + 1 = omega arith in
+    let there = rw (seen, seen_drop L xs (suc k), one) at (entry_there L b t p xs d k x seen less is lies) in
+    stored_as L b (slot_seen L x) s (entry_of d k) default (rw place there)
 
 -- ---- what is sure of a view
 

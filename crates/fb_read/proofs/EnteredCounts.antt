@@ -6,7 +6,7 @@ use Rattle.fb_layout.specs.Laid.{LaidSchema, Slot, StoredKind, scalar_kind, stru
 use Rattle.fb_value.specs.Datum.{Datum, a_number, a_text, a_vector, a_struct, a_table, a_member, an_unknown, Parts, no_parts, more_parts, SlotEntries, no_entries, absent_entry, present_entry, count}
 use Rattle.fb_value.specs.Counts.{entered, parts_entered, entries_entered}
 use Rattle.fb_value.specs.Num.{Bytes, num}
-use Rattle.fb_value.specs.Places.{Target, table_part, member_part, text_part, vector_part, ref_place, part_place, inline_place, code_place, unknown_place, named_slots, target_of, slot_number}
+use Rattle.fb_value.specs.Places.{Target, table_part, member_part, text_part, vector_part, ref_place, part_place, inline_place, named_slots, target_of, slot_number}
 use Rattle.fb_value.specs.Rules.{fault_by}
 use Rattle.fb_value.specs.Lies.{LiesInline, LiesParts, Element, Lies, LiesAt, LiesItems, LiesSlots}
 use Rattle.fb_value.specs.Nth.{nth_entry, nth_part, LiesInSlot, slot_place}
@@ -87,14 +87,6 @@ none_entered L b f (Some d) lies = rw lies.2 refl
 pub inline_slot_entered : (L : LaidSchema) (b : Bytes) (f : Slot) (kind : StoredKind) (q : ℕ) (o : Option Datum) → LiesInSlot L b f (Some (record { sort = inline_place kind; at = q })) o → entered_in o ≡ 0
 inline_slot_entered L b f kind q None lies = refl
 inline_slot_entered L b f kind q (Some d) lies = inline_entered L b kind q d lies.1
-
-pub code_slot_entered : (L : LaidSchema) (b : Bytes) (f : Slot) (u k : ℕ) (needed here : Bool) (q : ℕ) (o : Option Datum) → LiesInSlot L b f (Some (record { sort = code_place u k needed here; at = q })) o → entered_in o ≡ 0
-code_slot_entered L b f u k needed here q None lies = refl
-code_slot_entered L b f u k needed here q (Some d) lies = absurd lies
-
-pub unknown_slot_entered : (L : LaidSchema) (b : Bytes) (f : Slot) (c q : ℕ) (o : Option Datum) → LiesInSlot L b f (Some (record { sort = unknown_place c; at = q })) o → entered_in o ≡ 0
-unknown_slot_entered L b f c q None lies = refl
-unknown_slot_entered L b f c q (Some d) lies = rw lies refl
 
 -- a slot that names a reference has what lies behind it
 pub ref_slot_entered : (L : LaidSchema) (b : Bytes) (f : Slot) (X : Target) (q old new : ℕ) (o : Option Datum) → ((d : Datum) → LiesAt L b (ref_place X) q d → new ≡ old + entered d) → LiesInSlot L b f (Some (record { sort = ref_place X; at = q })) o → new ≡ old + entered_in o

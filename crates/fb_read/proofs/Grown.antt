@@ -1,9 +1,9 @@
 -- Values that are made one behind another, beside what lies there.
-use Rattle.std.proofs.Common.{◌≡◌, ℕ, zero, suc, ◌+◌, ◌<◌, ◌≤◌, List, [], ◌∷◌, ◌++◌, length, map, Option, None, Some, option_map, slice_get, refl, sym, ap, ◌∙◌, arith}
+use Rattle.std.proofs.Common.{◌≡◌, ℕ, zero, suc, ◌+◌, ◌<◌, List, [], ◌∷◌, ◌++◌, Option, None, Some, option_map, refl, sym, ap, ◌∙◌, arith}
 use Rattle.fb_value.specs.Datum.{Datum, Parts, no_parts, more_parts, SlotEntries, no_entries, absent_entry, present_entry, count}
 use Rattle.fb_value.specs.Counts.{entered, parts_entered, entries_entered}
 use Rattle.fb_value.specs.Nth.{nth_entry, nth_part}
-use Rattle.fb_value.specs.View.{view, parts_in, entries_in, parts_view, entries_view}
+use Rattle.fb_value.specs.View.{view, parts_view, entries_view}
 use Rattle.fb_value.specs.declared.values.Value.{Value}
 use Rattle.fb_read.specs.Walks.{entered_in}
 use Rattle.fb_read.proofs.EnteredCounts.{entries_from, parts_from}

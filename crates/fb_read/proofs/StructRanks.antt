@@ -1,22 +1,19 @@
 -- Numbers and structs in their place.
-use Rattle.std.proofs.Common.{◌≡◌, ℕ, zero, suc, ◌+◌, ◌*◌, ◌<◌, ◌≤◌, List, [], ◌∷◌, length, map, Option, None, Some, slice_get, slice_index_or, option_map, refl, sym, ap, ◌∙◌, subst, arith}
+use Rattle.std.proofs.Common.{◌≡◌, ℕ, zero, suc, ◌<◌, ◌≤◌, List, [], ◌∷◌, length, map, Option, None, Some, slice_get, slice_index_or, option_map, sym, ap, ◌∙◌, arith}
 use Rattle.fb_schema.specs.declared.types.FieldInfo.{FieldInfo}
 use Rattle.fb_schema.specs.Seen.{field_seen}
 use Rattle.fb_schema.specs.Schema.{body_at, parts_in}
-use Rattle.fb_layout.specs.Laid.{LaidSchema, StoredKind, scalar_kind, struct_kind, table_kind, union_kind, code_kind, text_kind, parts_of, struct_at, size_of}
+use Rattle.fb_layout.specs.Laid.{LaidSchema, StoredKind, scalar_kind, struct_kind, parts_of, struct_at}
 use Rattle.fb_layout.specs.WellMade.{IsWellMade}
-use Rattle.fb_value.specs.Datum.{Datum, a_number, a_struct, Parts, no_parts, more_parts, count}
+use Rattle.fb_value.specs.Datum.{Datum, a_struct, Parts}
 use Rattle.fb_value.specs.Num.{Bytes}
-use Rattle.fb_value.specs.Places.{target_of}
-use Rattle.fb_value.specs.Lies.{LiesInline, LiesParts, LiesItems}
-use Rattle.fb_value.specs.Nth.{nth_part}
+use Rattle.fb_value.specs.Lies.{LiesInline, LiesParts}
 use Rattle.fb_value.specs.View.{view, parts_view}
 use Rattle.fb_value.specs.declared.values.Value.{Value}
 use Rattle.fb_value.proofs.Resolved.{LowerParts, resolved}
-use Rattle.fb_value.proofs.NthLies.{element_lies_shown, parts_long}
+use Rattle.fb_value.proofs.NthLies.{parts_long}
 use Rattle.fb_read.specs.Kinds.{rank}
-use Rattle.fb_read.specs.Values.{IsInline}
-use Rattle.fb_read.proofs.Contained.{field_kind, field_there, kind_there, kinds_long}
+use Rattle.fb_read.proofs.Contained.{field_kind, kind_there, kinds_long}
 use Rattle.fb_read.proofs.EnteredCounts.{parts_from}
 use Rattle.fb_read.proofs.Grown.{parts_before, parts_whole}
 

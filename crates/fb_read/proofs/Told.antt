@@ -1,5 +1,5 @@
 -- What a reading of the root table says of the whole buffer.
-use Rattle.std.proofs.Common.{◌≡◌, ℕ, zero, suc, ◌≢◌, ◌+◌, ◌<◌, ◌≤◌, List, [], ◌∷◌, Bool, true, nat_le, All, Option, None, Some, Result, Ok, Err, IfOk, IfErr, refl, sym, subst, arith, ◌⊎◌, inl, inr}
+use Rattle.std.proofs.Common.{◌≡◌, ℕ, ◌≢◌, ◌+◌, ◌<◌, ◌≤◌, [], ◌∷◌, Bool, true, nat_le, All, None, Some, Result, Ok, Err, IfOk, IfErr, refl, arith, inl, inr}
 use Rattle.std.proofs.lemmas.Bool.{le-leb}
 use Rattle.fb_layout.specs.Laid.{LaidSchema}
 use Rattle.fb_layout.specs.WellMade.{IsWellMade}
@@ -7,7 +7,7 @@ use Rattle.fb_value.specs.declared.faults.ReadFault.{ReadFault}
 use Rattle.fb_value.specs.Bounds.{Bounds}
 use Rattle.fb_value.specs.Datum.{Datum}
 use Rattle.fb_value.specs.Num.{Bytes, num}
-use Rattle.fb_value.specs.Places.{table_part, ref_place, part_place, Place}
+use Rattle.fb_value.specs.Places.{table_part, ref_place, part_place}
 use Rattle.fb_value.specs.Rules.{Keeps, first_failing}
 use Rattle.fb_value.specs.Lies.{LiesAt}
 use Rattle.fb_value.specs.Reached.{Path, ComesBefore}

@@ -1,14 +1,13 @@
 -- A value that is made of others is what lies there.
-use Rattle.std.proofs.Common.{◌≡◌, ℕ, zero, suc, ◌+◌, ◌*◌, ◌<◌, ◌≤◌, List, [], ◌∷◌, ◌++◌, length, drop, slice_index_or, Option, None, Some, option_map, Result, Ok, refl, sym, ap, ◌∙◌, arith}
-use Rattle.std.proofs.lemmas.List.{length-map}
+use Rattle.std.proofs.Common.{◌≡◌, ℕ, suc, ◌+◌, ◌*◌, ◌<◌, List, [], ◌∷◌, ◌++◌, length, drop, slice_index_or, Option, None, Some, option_map, refl, sym, ◌∙◌, arith}
 use Rattle.fb_schema.specs.declared.types.FieldInfo.{FieldInfo}
 use Rattle.fb_layout.specs.Laid.{LaidSchema, Slot, StoredKind, slots_of, size_of}
 use Rattle.fb_value.specs.Datum.{Datum, a_number, a_text, a_vector, a_struct, a_table, a_member, an_unknown, Parts, SlotEntries, no_entries, absent_entry, present_entry, count}
 use Rattle.fb_value.specs.Num.{Bytes, num}
 use Rattle.fb_value.specs.Places.{Target, table_part, member_part, vector_part, ref_place, part_place, named_slots, target_of, named_vector}
 use Rattle.fb_value.specs.Rules.{fault_by}
-use Rattle.fb_value.specs.Lies.{LiesInline, Element, Lies, LiesAt, LiesItems, LiesSlots}
-use Rattle.fb_value.specs.Nth.{nth_part, nth_entry, LiesInSlot, slot_place}
+use Rattle.fb_value.specs.Lies.{LiesInline, LiesAt, LiesItems, LiesSlots}
+use Rattle.fb_value.specs.Nth.{nth_entry, LiesInSlot, slot_place}
 use Rattle.fb_value.specs.View.{view}
 use Rattle.fb_value.specs.declared.values.Value.{Value}
 use Rattle.fb_value.proofs.NthLies.{entry_lies_shown, element_lies_shown}

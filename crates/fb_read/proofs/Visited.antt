@@ -4,10 +4,9 @@ use Rattle.fb_schema.specs.declared.kinds.TypeId.{TypeId}
 use Rattle.fb_schema.specs.declared.kinds.Kind.{Kind}
 use Rattle.fb_schema.specs.declared.kinds.Base.{Base}
 use Rattle.fb_schema.specs.Schema.{DeclaredSchema}
-use Rattle.fb_schema.specs.declared.kinds.Kind.TheVariants.{Scalar, Enum, Struct, Table, Union, Code, Text}
-use Rattle.fb_schema.specs.declared.kinds.Shape.TheVariants.{One}
+use Rattle.fb_schema.specs.declared.kinds.Kind.TheVariants.{Scalar, Enum, Struct, Union, Code}
 use Rattle.fb_schema.specs.declared.types.FieldInfo.{FieldInfo}
-use Rattle.std.proofs.Common.{◌⊎◌, inl, inr, slice_index_or, slice_get, nat_lt, not, ◌==◌, drop, length, ◌≡◌, ℕ, zero, suc, ◌+◌, ◌-◌, ◌*◌, ◌<◌, ◌≤◌, List, [], ◌∷◌, Bool, true, false, Option, None, Some, Result, Ok, Err, nat_le, ◌&&◌, cond, if◌then◌else◌, refl, sym, ap, ◌∙◌, arith, add-zero, add_assoc}
+use Rattle.std.proofs.Common.{◌⊎◌, inl, inr, slice_index_or, slice_get, not, ◌==◌, drop, length, ◌≡◌, ℕ, zero, suc, ◌+◌, ◌-◌, ◌*◌, ◌<◌, ◌≤◌, List, [], ◌∷◌, Bool, true, false, Option, None, Some, Result, Ok, Err, nat_le, ◌&&◌, cond, refl, sym, ap, ◌∙◌, arith, add-zero, add_assoc}
 use Rattle.std.proofs.lemmas.Bool.{le-leb, leb-true}
 use Rattle.std.proofs.lemmas.Bool.Decides.{nat_tests}
 use Rattle.fb_layout.specs.Laid.{LaidSchema, Slot, StoredKind, scalar_kind, struct_kind, table_kind, union_kind, code_kind, text_kind, StoredShape, one_of, vector_of, slots_of, stored_kind, member_by_code, size_of}
@@ -15,7 +14,7 @@ use Rattle.fb_value.specs.declared.faults.ReadFault.{ReadFault}
 use Rattle.fb_value.specs.declared.faults.ReadFault.TheVariants.{TooDeep, TooManyCells}
 use Rattle.fb_value.specs.Bounds.{Bounds}
 use Rattle.fb_value.specs.Num.{Bytes, num}
-use Rattle.fb_value.specs.Places.{Target, table_part, member_part, text_part, vector_part, ref_place, part_place, inline_place, code_place, unknown_place, Place, named, named_slots, named_elements, target_of, named_vector, named_slot, named_union, code_at, slot_number, next_required}
+use Rattle.fb_value.specs.Places.{Target, table_part, member_part, text_part, vector_part, ref_place, part_place, inline_place, code_place, unknown_place, Place, named, named_slots, named_elements, target_of, named_vector, named_slot, named_union, code_at, slot_number}
 use Rattle.fb_value.specs.Missing.{is_missing_slot}
 use Rattle.fb_value.specs.Rules.{is_missing, Keeps, fault_at, fault_by, first_failing}
 use Rattle.fb_value.specs.Faults.{own_cells, own_tables, sum_over, all, or_else, limit_rules, limited_fault, first_among, fault_from}
@@ -23,7 +22,7 @@ use Rattle.fb_value.proofs.Least.{all_is}
 use Rattle.fb_value.proofs.Steps.{rule_held}
 use Rattle.fb_value.proofs.Unrolled.{fault_from_is}
 use Rattle.fb_value.specs.Nth.{slot_place}
-use Rattle.fb_read.specs.Visits.{outcome, visit, visit_each, visit_entry, union_place, slot_seen, slots_seen}
+use Rattle.fb_read.specs.Visits.{outcome, visit, visit_each, visit_entry, slot_seen, slots_seen}
 
 module _ (L : LaidSchema) (b : Bytes) (most : Bounds) where
   pub each_nil : (tables spent : ℕ) → visit_each L b most [] tables spent ≡ Ok spent
@@ -232,14 +231,6 @@ module _ (L : LaidSchema) (b : Bytes) (most : Bounds) where
   pub no_references : (p : ℕ) (tables spent : ℕ) → visit_each L b most (named_vector b p None) tables spent ≡ Ok spent
   no_references p tables spent = each_nil tables spent
 
-  -- a union's code that no member has
-  pub union_none : (c p tables spent : ℕ) → visit_entry L b most (union_place c p None) tables spent ≡ Ok spent
-  union_none c p tables spent = by_code (c == 0)
-    where
-      by_code : (none : Bool) → visit_entry L b most (if none then None else Some (record { sort = unknown_place c; at = p })) tables spent ≡ Ok spent
-      by_code true = refl
-      by_code false = visit_unknown c p tables spent
-
 -- the slot of one of some fields
 pub slot_there : (L : LaidSchema) (xs : List FieldInfo) (k : ℕ) (x : FieldInfo) → k < length xs → x ≡ slice_index_or xs k x → slice_get (slots_seen L xs) k ≡ Some (slot_seen L x)
 slot_there L [] k x less is = absurd (omega arith)
@@ -340,31 +331,7 @@ module _ (L : LaidSchema) (b : Bytes) (most : Bounds) where
       by_case true e = slots_past p k xs tables spent (leb-true _ _ e)
       by_case false e = let less : k < length xs = grind (arith, nat_tests) in unset p k (slots_seen L (drop k xs)) tables spent (λ j h. none (omega (arith, is)) j (omega (arith, is)))
 
-  present_is : (n : ℕ) → nat_lt 0 n ≡ not (n == 0)
-  present_is n = grind (arith, nat_tests)
-
-  -- the place of a code that is present
-  pub code_entry : (p k : ℕ) (fs : List Slot) (f : FieldInfo) (u : TypeId) (offset value : ℕ) → f.shape ≡ One (Code u) → f.deprecated ≡ false → offset ≡ slot_number b p k → (offset ≡ 0 → ⊥) → value ≡ slot_number b p (k + 1)
-      → slot_place L b p k fs (slot_seen L f) ≡ Some (record { sort = code_place u.0 (k + 1) (next_required fs) (not (value == 0)); at = p + offset })
-  code_entry p k fs f u offset value shape live is here other =
-      let there : nat_lt 0 offset ≡ true = grind (arith, nat_tests) in
-      let one : k + 1 ≡ suc k = omega arith in
-      let behind = rw one at other in
-      rw (shape, live, ← is, there, one, ← behind, present_is value) refl
-
-  -- the place of a struct that is present
-  pub struct_entry : (p k : ℕ) (fs : List Slot) (f : FieldInfo) (s : TypeId) (offset : ℕ) → f.shape ≡ One (Struct s) → f.deprecated ≡ false → offset ≡ slot_number b p k → (offset ≡ 0 → ⊥)
-      → slot_place L b p k fs (slot_seen L f) ≡ Some (record { sort = inline_place (struct_kind s.0); at = p + offset })
-  struct_entry p k fs f s offset shape live is here =
-      let there : nat_lt 0 offset ≡ true = grind (arith, nat_tests) in
-      rw (shape, live, ← is, there) refl
-
--- texts and tables are elements by reference
-pub has_target : (S : DeclaredSchema) (kind : Kind) → (kind ≡ Text) ⊎ ((t : TypeId) × (kind ≡ Table t)) → (X : Target) × (target_of (stored_kind S kind) ≡ Some X)
-has_target S kind (inl e) = (text_part, rw e refl)
-has_target S kind (inr e) = (table_part e.0.0, rw e.1 refl)
-
--- and no others
+-- only texts and tables are elements by reference
 pub no_target : (S : DeclaredSchema) (kind : Kind) → ((x : Base) × (kind ≡ Scalar x)) ⊎ (((x : TypeId) × (kind ≡ Enum x)) ⊎ (((x : TypeId) × (kind ≡ Struct x)) ⊎ (((x : TypeId) × (kind ≡ Union x)) ⊎ ((x : TypeId) × (kind ≡ Code x)))))
     → target_of (stored_kind S kind) ≡ None
 no_target S kind (inl e) = rw e.1 refl

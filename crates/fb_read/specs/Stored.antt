@@ -8,10 +8,34 @@ use Rattle.fb_schema.specs.declared.kinds.Base.{Base}
 use Rattle.fb_layout.specs.Laid.{LaidSchema, scalar_kind, struct_kind, stored_kind}
 use Rattle.fb_value.specs.Datum.{Datum, a_number, an_unknown}
 use Rattle.fb_value.specs.Num.{Bytes, num, part_of}
-use Rattle.fb_value.specs.Places.{Sort, table_part, member_part, text_part, vector_part, ref_place, inline_place}
+use Rattle.fb_value.specs.Places.{Sort, table_part, member_part, text_part, vector_part, ref_place, inline_place, code_place, unknown_place, Place}
 use Rattle.fb_value.specs.Lies.{LiesAt}
 use Rattle.fb_read.specs.declared.stored.Stored.{Stored}
-use Rattle.fb_read.specs.declared.stored.Stored.TheVariants.{Absent, Unknown, Number, Fixed, Text, Table, Member, Vector}
+use Rattle.fb_read.specs.declared.stored.Stored.TheVariants.{Absent, Code, Unknown, Number, Fixed, Text, Table, Member, Vector}
+
+-- the place that a slot names
+abbrev pub stored_place : LaidSchema → Stored → Option Place
+stored_place L (Absent default) = None
+stored_place L (Code code p) = Some (record { sort = code_place code.union.0 code.value_slot code.required code.present; at = p })
+stored_place L (Unknown code p) = Some (record { sort = unknown_place code; at = p })
+stored_place L (Number base p) = Some (record { sort = inline_place (scalar_kind base); at = p })
+stored_place L (Fixed s p) = Some (record { sort = inline_place (struct_kind s.0); at = p })
+stored_place L (Text p) = Some (record { sort = ref_place text_part; at = p })
+stored_place L (Table t p) = Some (record { sort = ref_place (table_part t.0); at = p })
+stored_place L (Member code t p) = Some (record { sort = ref_place (member_part code t.0); at = p })
+stored_place L (Vector kind p) = Some (record { sort = ref_place (vector_part (stored_kind L.schema kind)); at = p })
+
+-- where that is
+abbrev pub stored_at : Stored → ℕ
+stored_at (Absent default) = 0
+stored_at (Code code p) = p
+stored_at (Unknown code p) = p
+stored_at (Number base p) = p
+stored_at (Fixed s p) = p
+stored_at (Text p) = p
+stored_at (Table t p) = p
+stored_at (Member code t p) = p
+stored_at (Vector kind p) = p
 
 -- an entry that lies at a place
 abbrev pub HasAt : LaidSchema → Bytes → Sort → ℕ → Option Datum → Type 0
@@ -24,7 +48,8 @@ number_entry (Some n) = Some (a_number n)
 -- the entry is what was found, or lies where it was found
 abbrev pub StoredAs : LaidSchema → Bytes → Stored → Option Datum → Type 0
 StoredAs L b (Absent default) o = o ≡ number_entry default
-StoredAs L b (Unknown code) o = o ≡ Some (an_unknown code)
+StoredAs L b (Code code p) o = o ≡ None
+StoredAs L b (Unknown code p) o = o ≡ Some (an_unknown code)
 StoredAs L b (Number base p) o = HasAt L b (inline_place (scalar_kind base)) p o
 StoredAs L b (Fixed s p) o = HasAt L b (inline_place (struct_kind s.0)) p o
 StoredAs L b (Text p) o = HasAt L b (ref_place text_part) p o
@@ -62,7 +87,7 @@ default_in (Absent default) = default
 default_in _ = None
 
 abbrev pub unknown_code_of : Stored → Option ℕ
-unknown_code_of (Unknown code) = Some code
+unknown_code_of (Unknown code p) = Some code
 unknown_code_of _ = None
 
 -- the bytes of the text behind the reference at p

@@ -1,47 +1,17 @@
 -- What a walk that makes values gives.
-use Rattle.std.specs.Prelude.{ℕ, ◌+◌, ◌≡◌, ◌≢◌, ◌<◌, ◌≤◌, List, [], Option, None, Some, Result, Ok, Err, MatchResult, ℤ}
-use Rattle.fb_layout.specs.Laid.{Slot, StoredKind, scalar_kind, struct_kind}
+use Rattle.std.specs.Prelude.{ℕ, ◌+◌, ◌≡◌, ◌≢◌, ◌<◌, ◌≤◌, List, [], Option, None, Some, Result, Ok, Err, MatchResult}
+use Rattle.fb_layout.specs.Laid.{LaidSchema, Slot, StoredKind}
 use Rattle.fb_value.specs.declared.faults.ReadFault.{ReadFault}
 use Rattle.fb_value.specs.declared.faults.ReadFault.TheVariants.{Memory}
 use Rattle.fb_value.specs.Datum.{Datum, Parts, SlotEntries, count}
 use Rattle.fb_value.specs.Num.{num}
 use Rattle.fb_value.specs.Rules.{Keeps}
-use Rattle.fb_value.specs.Places.{Target, table_part, member_part, text_part, vector_part, ref_place, part_place, inline_place, code_place, unknown_place, Place, named_elements}
-use Rattle.fb_layout.specs.Laid.{LaidSchema, stored_kind}
-use Rattle.fb_value.specs.Lies.{LiesInline, LiesAt, LiesItems, LiesParts, LiesSlots}
+use Rattle.fb_value.specs.Places.{Target, table_part, text_part, ref_place, part_place, Place, named_elements}
+use Rattle.fb_value.specs.Lies.{LiesInline, LiesAt, LiesItems, LiesSlots}
 use Rattle.fb_value.specs.Nth.{LiesInSlot}
-use Rattle.fb_read.specs.declared.named.Named.{Named}
-use Rattle.fb_read.specs.declared.named.Named.TheVariants.{Nothing, Code, Unknown, Inline, Text, Table, Member, Vector}
-use Rattle.fb_read.specs.declared.named.Reference.{Reference}
-use Rattle.fb_read.specs.declared.named.Reference.TheVariants.{ToText, ToTable}
+use Rattle.fb_read.specs.declared.reference.Reference.{Reference}
+use Rattle.fb_read.specs.declared.reference.Reference.TheVariants.{ToText, ToTable}
 use Rattle.fb_read.specs.declared.source.Source.{Source}
-
--- the place that a slot names
-abbrev pub named_place : LaidSchema → Named → Option Place
-named_place L (Nothing default) = None
-named_place L (Code code p) = Some (record { sort = code_place code.union.0 code.value_slot code.required code.present; at = p })
-named_place L (Unknown code p) = Some (record { sort = unknown_place code; at = p })
-named_place L (Inline kind p) = Some (record { sort = inline_place (stored_kind L.schema kind); at = p })
-named_place L (Text p) = Some (record { sort = ref_place text_part; at = p })
-named_place L (Table t p) = Some (record { sort = ref_place (table_part t.0); at = p })
-named_place L (Member code t p) = Some (record { sort = ref_place (member_part code t.0); at = p })
-named_place L (Vector kind p) = Some (record { sort = ref_place (vector_part (stored_kind L.schema kind)); at = p })
-
--- the default of a slot that names no place
-abbrev pub named_default : Named → Option ℤ
-named_default (Nothing default) = default
-named_default _ = None
-
--- where the place is
-abbrev pub named_at : Named → ℕ
-named_at (Nothing default) = 0
-named_at (Code code p) = p
-named_at (Unknown code p) = p
-named_at (Inline kind p) = p
-named_at (Text p) = p
-named_at (Table t p) = p
-named_at (Member code t p) = p
-named_at (Vector kind p) = p
 
 -- what an element by reference leads to
 abbrev pub led_to : Reference → Target

@@ -65,13 +65,16 @@ impl<'a> View<'a> {
         if slot >= slots.len() {
             return Stored::Absent(None);
         }
+        let (_before, later) = slots.split_at(slot + 1);
+        let place = self.vtable();
         stored_in(
             self.layout,
             self.bytes,
-            self.at,
-            self.vtable(),
-            slot,
             &slots[slot],
+            later,
+            self.at,
+            place,
+            slot,
         )
     }
 

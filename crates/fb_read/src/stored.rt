@@ -1,27 +1,36 @@
 //! What the slots of a table have.
-ghost use Rattle.std.specs.Prelude.{◌≡◌, ℕ, ◌+◌, ◌<◌, ◌≤◌, ◌^◌, length, List, Option, None, false};
-ghost use Rattle.fb_layout.specs.Laid.{Slot};
-ghost use Rattle.fb_value.specs.Datum.{Datum};
-ghost use Rattle.fb_value.specs.Num.{Bytes, num};
-ghost use Rattle.fb_value.specs.Places.{vtable};
-ghost use Rattle.fb_value.specs.Nth.{slot_place, LiesInSlot};
-ghost use Rattle.fb_read.specs.Visits.{slot_seen};
+ghost use Rattle.std.specs.Prelude.{◌≡◌, ◌+◌, ◌<◌, ◌≤◌, ◌^◌, length, None, false};
 ghost use Rattle.fb_layout.specs.Laid.{member_by_code};
-ghost use Rattle.fb_read.specs.Visits.{union_place};
-ghost use Rattle.fb_read.specs.Stored.{StoredAs, text_place_of, table_place_of, member_place_of, vector_place_of, struct_place_of, number_place_of, default_in, unknown_code_of};
+ghost use Rattle.fb_value.specs.Num.{num};
+ghost use Rattle.fb_value.specs.Places.{vtable};
+ghost use Rattle.fb_value.specs.Nth.{slot_place};
+ghost use Rattle.fb_read.specs.Visits.{slot_seen, slots_seen, union_place};
+ghost use Rattle.fb_read.specs.Stored.{stored_place, stored_at, text_place_of, table_place_of, member_place_of, vector_place_of, struct_place_of, number_place_of, default_in, unknown_code_of};
 
 use crate::places::slot_of;
 use crate::rules::code_in;
+use crate::visits::is_first_required;
 use fb_layout::Layout;
 use fb_schema::{Base, FieldInfo, Kind, Shape, TypeId};
+
+/// A union's code: its value's slot, and whether the value is required and present.
+#[derive(Clone, Copy)]
+pub struct UnionCode {
+    pub union: TypeId,
+    pub value_slot: u16,
+    pub required: bool,
+    pub present: bool,
+}
 
 /// What a slot has, or where it stands in the bytes.
 #[derive(Clone, Copy)]
 pub enum Stored {
     /// Nothing is stored: the default, if there is one.
     Absent(Option<i128>),
-    /// A union's code that no member has.
-    Unknown(u8),
+    /// The position of a union's code.
+    Code(UnionCode, usize),
+    /// The position of a union's value under a code that no member has.
+    Unknown(u8, usize),
     /// A number's position.
     Number(Base, usize),
     /// A struct's position.
@@ -112,7 +121,7 @@ impl Stored {
         ensures { result ≡ unknown_code_of self }
     {
         match self {
-            Stored::Unknown(code) => Some(code),
+            Stored::Unknown(code, _) => Some(code),
             _ => None,
         }
     }
@@ -132,16 +141,18 @@ pub fn default_of(layout: &Layout, field: &FieldInfo) -> Option<i128>
     }
 }
 
-// What a union's slot has, by the code that stands before it.
+// What a union's slot has that is present, by the code before it.
 fn stored_member(layout: &Layout, union: TypeId, code: u8, at: usize) -> Stored
-    ensures { (bytes : Bytes) (f : Slot) (o : Option Datum) → f.if_absent ≡ None
-        → LiesInSlot layout.now bytes f (union_place code at (member_by_code layout.now union.0 code)) o
-        → StoredAs layout.now bytes result o }
+    requires low { at < 2 ^ 33 }
+    ensures place { stored_place layout.now result ≡ union_place code at
+        (member_by_code layout.now union.0 code) }
+    ensures default { default_in result ≡ None }
+    ensures low { stored_at result < 2 ^ 33 }
 {
     match layout.schema().member_by_code(union, code) {
         Some(table) => Stored::Member(code, table, at),
         None if code == 0 => Stored::Absent(None),
-        None => Stored::Unknown(code),
+        None => Stored::Unknown(code, at),
     }
 }
 
@@ -149,10 +160,11 @@ fn stored_member(layout: &Layout, union: TypeId, code: u8, at: usize) -> Stored
 pub fn stored_in(
     layout: &Layout,
     bytes: &[u8],
+    field: &FieldInfo,
+    later: &[FieldInfo],
     at: usize,
     place: usize,
     slot: usize,
-    field: &FieldInfo,
 ) -> Stored
     requires vtable { place ≡ vtable bytes.now at }
     requires whole { place + num bytes.now place 2 ≤ length bytes.now }
@@ -160,10 +172,11 @@ pub fn stored_in(
     requires short { length bytes.now < 2 ^ 31 }
     requires low { at < 2 ^ 32 }
     requires few { slot < 2 ^ 15 }
-    ensures { (rest : List Slot) (o : Option Datum)
-        → LiesInSlot layout.now bytes.now (slot_seen layout.now field.now)
-        (slot_place layout.now bytes.now at slot rest (slot_seen layout.now field.now)) o
-        → StoredAs layout.now bytes.now result o }
+    ensures place { stored_place layout.now result ≡ slot_place layout.now bytes.now at slot
+        (slots_seen layout.now later.now) (slot_seen layout.now field.now) }
+    ensures default { stored_place layout.now result ≡ None
+        → default_in result ≡ (slot_seen layout.now field.now).if_absent }
+    ensures low { stored_at result < 2 ^ 33 }
 {
     if field.deprecated {
         return Stored::Absent(None);
@@ -181,7 +194,16 @@ pub fn stored_in(
             let code = code_in(bytes, at, code_offset);
             stored_member(layout, union, code, at + offset)
         }
-        Shape::One(Kind::Code(_)) => Stored::Absent(None),
+        Shape::One(Kind::Code(union)) => {
+            let value_offset = slot_of(bytes, at, place, slot + 1);
+            let code = UnionCode {
+                union,
+                value_slot: slot as u16 + 1,
+                required: is_first_required(later),
+                present: value_offset != 0,
+            };
+            Stored::Code(code, at + offset)
+        }
         Shape::One(Kind::Scalar(base)) => Stored::Number(base, at + offset),
         Shape::One(Kind::Enum(values)) => Stored::Number(layout.base_of(values), at + offset),
         Shape::One(Kind::Struct(structure)) => Stored::Fixed(structure, at + offset),

@@ -5,17 +5,19 @@ ghost use Rattle.fb_value.specs.Num.{num};
 ghost use Rattle.fb_value.specs.View.{view, parts_view, entries_view};
 ghost use Rattle.fb_value.specs.Counts.{entered, parts_entered, entries_entered};
 ghost use Rattle.fb_value.specs.Places.{table_part, member_part, vector_part, ref_place, part_place, vtable, named_slots, named_elements, target_of};
+ghost use Rattle.fb_read.specs.Stored.{stored_place, stored_at, default_in};
 ghost use Rattle.fb_read.specs.Visits.{slots_seen};
 ghost use Rattle.fb_read.specs.Walks.{place, visit_in, visit_each_in, visit_entry_in, entered_in};
-ghost use Rattle.fb_read.specs.Values.{named_place, named_default, named_at, led_to, elements_named, Gives, CountsWithin, IsAt, IsInSlot, AreInSlots, AreItems, IsOpen, IsOpenBehind};
+ghost use Rattle.fb_read.specs.Values.{led_to, elements_named, Gives, CountsWithin, IsAt, IsInSlot, AreInSlots, AreItems, IsOpen, IsOpenBehind};
 
 use crate::counting::Entries;
 use crate::inlines::read_inlines;
 use crate::leaves::{read_inline_at, read_text_behind};
-use crate::named::{Named, Reference, named_in};
 use crate::places::follow;
+use crate::reference::Reference;
 use crate::rules::{check_code, enter_table, open_vector};
 use crate::source::Source;
+use crate::stored::{Stored, stored_in};
 use fb_schema::{FieldInfo, Kind, TypeId};
 use fb_value::{ReadFault, Value};
 use std::alloc::Global;
@@ -122,7 +124,7 @@ fn read_slots(
     let mut fields = Vec::with_capacity(alloc, slots.len())?;
     for slot in 0..slots.len() {
         let (_before, later) = slots.split_at(slot + 1);
-        let named = named_in(
+        let stored = stored_in(
             source.layout,
             source.bytes,
             &slots[slot],
@@ -131,39 +133,39 @@ fn read_slots(
             place,
             slot,
         );
-        let field = read_named(alloc, source, named, tables, spent, entries)?;
+        let field = read_stored(alloc, source, stored, tables, spent, entries)?;
         fields.push(field)?;
     }
     Ok(fields)
 }
 
 #[cycle(tree)]
-fn read_named(
+fn read_stored(
     alloc: Global,
     source: Source,
-    named: Named,
+    stored: Stored,
     tables: u8,
     spent: &mut u64,
     entries: &mut Entries,
 ) -> Result<Option<Value>, ReadFault>
-    requires low { named_at named < 2 ^ 33 }
+    requires low { stored_at stored < 2 ^ 33 }
     requires few { spent.old ≤ source.most_cells }
     requires flat { tables ≤ source.most_depth }
     ensures visit { Gives result spent.new (visit_entry_in source.entry
-        (named_place source.entry.layout.now named) tables spent.old) }
+        (stored_place source.entry.layout.now stored) tables spent.old) }
     ensures few { OnOk result (spent.new ≤ source.entry.most_cells) }
     ensures value { IfOk result (λ e. (f : Slot)
-        → (named_place source.entry.layout.now named ≡ None → named_default named ≡ f.if_absent)
-        → IsInSlot source.entry f (named_place source.entry.layout.now named) (option_map view e)) }
+        → (stored_place source.entry.layout.now stored ≡ None → default_in stored ≡ f.if_absent)
+        → IsInSlot source.entry f (stored_place source.entry.layout.now stored) (option_map view e)) }
     ensures rises { entries.old.count ≤ entries.new.count }
     ensures ticks { CountsWithin source.entry entries.old.count entries.new.count spent.old spent.new result }
     ensures each { IfOk result (λ e. entries.new.count ≡ entries.old.count + entered_in (option_map view e)) }
 {
-    match named {
-        Named::Nothing(Some(default)) => Ok(Some(Value::Number(default))),
-        Named::Nothing(None) => Ok(None),
-        Named::Unknown(code, _) => Ok(Some(Value::Other(code))),
-        Named::Code(code, at) => {
+    match stored {
+        Stored::Absent(Some(default)) => Ok(Some(Value::Number(default))),
+        Stored::Absent(None) => Ok(None),
+        Stored::Unknown(code, _) => Ok(Some(Value::Other(code))),
+        Stored::Code(code, at) => {
             check_code(
                 source.bytes,
                 at,
@@ -173,15 +175,16 @@ fn read_named(
             )?;
             Ok(None)
         }
-        Named::Inline(kind, at) => read_inline_at(alloc, source, kind, at),
-        Named::Text(at) => Ok(Some(read_text_behind(alloc, source, at, spent, entries)?)),
-        Named::Table(table, at) => Ok(Some(read_table_behind(
+        Stored::Number(base, at) => read_inline_at(alloc, source, Kind::Scalar(base), at),
+        Stored::Fixed(structure, at) => read_inline_at(alloc, source, Kind::Struct(structure), at),
+        Stored::Text(at) => Ok(Some(read_text_behind(alloc, source, at, spent, entries)?)),
+        Stored::Table(table, at) => Ok(Some(read_table_behind(
             alloc, source, table, at, tables, spent, entries,
         )?)),
-        Named::Member(code, table, at) => Ok(Some(read_member(
+        Stored::Member(code, table, at) => Ok(Some(read_member(
             alloc, source, code, table, at, tables, spent, entries,
         )?)),
-        Named::Vector(kind, at) => Ok(Some(read_vector_behind(
+        Stored::Vector(kind, at) => Ok(Some(read_vector_behind(
             alloc, source, kind, at, tables, spent, entries,
         )?)),
     }

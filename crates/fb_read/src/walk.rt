@@ -1,19 +1,21 @@
 //! A walk over all that is reached from a place, without memory.
-ghost use Rattle.std.specs.Prelude.{◌≡◌, ℕ, ◌+◌, ◌*◌, ◌<◌, ◌≤◌, ◌^◌, length, map, Bool, List, MatchResult, OnOk, IfOk, IfSome, None, Some, Ok, Err, true};
-ghost use Rattle.fb_layout.specs.Laid.{LaidSchema, Slot, StoredKind, stored_kind, slots_of, member_by_code, size_of, align_of};
+ghost use Rattle.std.specs.Prelude.{◌≡◌, ◌+◌, ◌*◌, ◌<◌, ◌≤◌, ◌^◌, length, MatchResult, OnOk, IfOk, Some};
+ghost use Rattle.fb_layout.specs.Laid.{StoredKind, stored_kind};
 ghost use Rattle.fb_value.specs.Num.{num};
-ghost use Rattle.fb_value.specs.Places.{Target, table_part, text_part, vector_part, ref_place, part_place, inline_place, code_place, vtable, slot_number, named_slots, named_elements, target_of};
-ghost use Rattle.fb_value.specs.Places.{next_required};
-ghost use Rattle.fb_value.specs.Nth.{slot_place};
-ghost use Rattle.fb_read.specs.Visits.{Visits, slot_seen, slots_seen, union_place};
+ghost use Rattle.fb_value.specs.Places.{table_part, vector_part, ref_place, part_place, vtable, named_slots, named_elements, target_of};
+ghost use Rattle.fb_read.specs.Stored.{stored_place, stored_at};
+ghost use Rattle.fb_read.specs.Visits.{Visits, slots_seen};
+ghost use Rattle.fb_read.specs.Values.{led_to};
 ghost use Rattle.fb_read.specs.Walks.{place, visit_in, visit_each_in, visit_entry_in, TicksWithin, EntersAt, EntersSlot, EntersSlots, EntersItems};
 
 use crate::counting::Entries;
-use crate::places::{follow, slot_of, stored_slots};
-use crate::rules::{code_in, enter_table, open_vector};
+use crate::places::{follow, stored_slots};
+use crate::reference::Reference;
+use crate::rules::{enter_table, open_vector};
 use crate::source::Source;
-use crate::visits::{is_first_required, visit_code, visit_inline, visit_text_behind};
-use fb_schema::{FieldInfo, Kind, Shape, TypeId};
+use crate::stored::{Stored, stored_in};
+use crate::visits::{visit_code, visit_inline, visit_text_behind};
+use fb_schema::{FieldInfo, Kind, TypeId};
 use fb_value::ReadFault;
 
 #[cycle(walk)]
@@ -102,134 +104,61 @@ fn visit_slots(
         (slots_seen source.entry.layout.now slots.now)) entries.old.count entries.new.count) }
 {
     let mut after = spent;
-    let stored = stored_slots(source.bytes, at, place, slots.len());
-    for slot in 0..stored {
+    let present = stored_slots(source.bytes, at, place, slots.len());
+    for slot in 0..present {
         let (_before, later) = slots.split_at(slot + 1);
-        after = visit_slot(
-            source,
+        let stored = stored_in(
+            source.layout,
+            source.bytes,
             &slots[slot],
             later,
             at,
             place,
             slot,
-            tables,
-            after,
-            entries,
-        )?;
+        );
+        after = visit_stored(source, stored, tables, after, entries)?;
     }
     Ok(after)
 }
 
 #[cycle(walk)]
-fn visit_slot(
+fn visit_stored(
     source: Source,
-    field: &FieldInfo,
-    later: &[FieldInfo],
-    at: usize,
-    place: usize,
-    slot: usize,
+    stored: Stored,
     tables: u8,
     spent: u64,
     entries: &mut Entries,
 ) -> Result<u64, ReadFault>
-    requires vtable { place ≡ vtable source.bytes.now at }
-    requires whole { place + num source.bytes.now place 2 ≤ length source.bytes.now }
-    requires within { place + 2 ≤ length source.bytes.now }
-    requires low { at < 2 ^ 32 }
-    requires slots { slot < 2 ^ 15 }
+    requires low { stored_at stored < 2 ^ 33 }
     requires few { spent ≤ source.most_cells }
     requires flat { tables ≤ source.most_depth }
     ensures visit { Visits result (visit_entry_in source.entry
-        (slot_place source.entry.layout.now source.entry.bytes.now at slot
-        (slots_seen source.entry.layout.now later.now)
-        (slot_seen source.entry.layout.now field.now)) tables spent) }
+        (stored_place source.entry.layout.now stored) tables spent) }
     ensures few { IfOk result (λ n. n ≤ source.entry.most_cells) }
     ensures rises { entries.old.count ≤ entries.new.count }
     ensures ticks { TicksWithin source.entry entries.old.count entries.new.count spent result }
     ensures each { OnOk result (EntersSlot source.entry
-        (slot_place source.entry.layout.now source.entry.bytes.now at slot
-        (slots_seen source.entry.layout.now later.now)
-        (slot_seen source.entry.layout.now field.now)) entries.old.count entries.new.count) }
+        (stored_place source.entry.layout.now stored) entries.old.count entries.new.count) }
 {
-    if field.deprecated {
-        return Ok(spent);
-    }
-    let offset = slot_of(source.bytes, at, place, slot);
-    if offset == 0 {
-        return Ok(spent);
-    }
-    match field.shape {
-        Shape::Many(kind) => visit_vector_behind(source, kind, at + offset, tables, spent, entries),
-        Shape::One(Kind::Text) => visit_text_behind(source, at + offset, spent, entries),
-        Shape::One(Kind::Table(table)) => visit_table_behind(
+    match stored {
+        Stored::Absent(_) => Ok(spent),
+        Stored::Unknown(_, _) => Ok(spent),
+        Stored::Code(code, at) => visit_code(
             source,
-            table,
-            at + offset,
-            tables,
-            spent,
-            entries,
-        ),
-        Shape::One(Kind::Union(union)) => {
-            let code_offset = slot_of(source.bytes, at, place, slot.saturating_sub(1));
-            let code = code_in(source.bytes, at, code_offset);
-            visit_union(source, union, code, at + offset, tables, spent, entries)
-        }
-        Shape::One(Kind::Code(_)) => {
-            let value_offset = slot_of(source.bytes, at, place, slot + 1);
-            visit_code(
-                source,
-                at + offset,
-                slot as u16 + 1,
-                is_first_required(later),
-                value_offset != 0,
-                spent,
-            )
-        }
-        Shape::One(Kind::Scalar(base)) => visit_inline(
-            source,
-            Kind::Scalar(base),
-            at + offset,
+            at,
+            code.value_slot,
+            code.required,
+            code.present,
             spent,
         ),
-        Shape::One(Kind::Enum(values)) => visit_inline(
-            source,
-            Kind::Enum(values),
-            at + offset,
-            spent,
+        Stored::Number(base, at) => visit_inline(source, Kind::Scalar(base), at, spent),
+        Stored::Fixed(structure, at) => visit_inline(source, Kind::Struct(structure), at, spent),
+        Stored::Text(at) => visit_text_behind(source, at, spent, entries),
+        Stored::Table(table, at) => visit_table_behind(source, table, at, tables, spent, entries),
+        Stored::Member(_, table, at) => visit_table_behind(
+            source, table, at, tables, spent, entries,
         ),
-        Shape::One(Kind::Struct(parts)) => visit_inline(
-            source,
-            Kind::Struct(parts),
-            at + offset,
-            spent,
-        ),
-    }
-}
-
-#[cycle(walk)]
-fn visit_union(
-    source: Source,
-    union: TypeId,
-    code: u8,
-    at: usize,
-    tables: u8,
-    spent: u64,
-    entries: &mut Entries,
-) -> Result<u64, ReadFault>
-    requires low { at < 2 ^ 33 }
-    requires few { spent ≤ source.most_cells }
-    requires flat { tables ≤ source.most_depth }
-    ensures visit { Visits result (visit_entry_in source.entry (union_place code at
-        (member_by_code source.entry.layout.now union.0 code)) tables spent) }
-    ensures few { IfOk result (λ n. n ≤ source.entry.most_cells) }
-    ensures rises { entries.old.count ≤ entries.new.count }
-    ensures ticks { TicksWithin source.entry entries.old.count entries.new.count spent result }
-    ensures each { OnOk result (EntersSlot source.entry (union_place code at
-        (member_by_code source.entry.layout.now union.0 code)) entries.old.count entries.new.count) }
-{
-    match source.layout.schema().member_by_code(union, code) {
-        None => Ok(spent),
-        Some(table) => visit_table_behind(source, table, at, tables, spent, entries),
+        Stored::Vector(kind, at) => visit_vector_behind(source, kind, at, tables, spent, entries),
     }
 }
 
@@ -290,11 +219,21 @@ fn visit_vector(
     if after > u64::from(source.most_cells) {
         return Err(ReadFault::TooManyCells(at as u64));
     }
+    let first = at + 4;
     match kind {
-        Kind::Text | Kind::Table(_) => visit_elements(
+        Kind::Text => visit_elements(
             source,
-            kind,
-            at + 4,
+            Reference::ToText,
+            first,
+            count,
+            tables,
+            after,
+            entries,
+        ),
+        Kind::Table(table) => visit_elements(
+            source,
+            Reference::ToTable(table),
+            first,
             count,
             tables,
             after,
@@ -309,7 +248,7 @@ fn visit_vector(
 #[cycle(walk)]
 fn visit_elements(
     source: Source,
-    kind: Kind,
+    reference: Reference,
     at: usize,
     count: u32,
     tables: u8,
@@ -319,26 +258,32 @@ fn visit_elements(
     requires within { at + count * 4 ≤ length source.bytes.now }
     requires few { spent ≤ source.most_cells }
     requires flat { tables ≤ source.most_depth }
-    ensures visit { (X : Target) → target_of (stored_kind source.entry.layout.now.schema kind) ≡ Some X
-        → Visits result (visit_each_in source.entry (named_elements X at count) tables spent) }
+    ensures visit { Visits result (visit_each_in source.entry (named_elements
+        (led_to reference) at count) tables spent) }
     ensures few { IfOk result (λ n. n ≤ source.entry.most_cells) }
     ensures rises { entries.old.count ≤ entries.new.count }
     ensures ticks { TicksWithin source.entry entries.old.count entries.new.count spent result }
-    ensures each { (X : Target) → target_of (stored_kind source.entry.layout.now.schema kind) ≡ Some X
-        → OnOk result (EntersItems source.entry
-        (stored_kind source.entry.layout.now.schema kind) at count entries.old.count entries.new.count) }
+    ensures each { (kind : StoredKind) → target_of kind ≡ Some (led_to reference)
+        → OnOk result (EntersItems source.entry kind at count entries.old.count entries.new.count) }
 {
     let mut after = spent;
     for i in 0..count {
-        after = visit_element(source, kind, at + 4 * i as usize, tables, after, entries)?;
+        after = visit_behind(
+            source,
+            reference,
+            at + 4 * i as usize,
+            tables,
+            after,
+            entries,
+        )?;
     }
     Ok(after)
 }
 
 #[cycle(walk)]
-fn visit_element(
+fn visit_behind(
     source: Source,
-    kind: Kind,
+    reference: Reference,
     at: usize,
     tables: u8,
     spent: u64,
@@ -347,19 +292,16 @@ fn visit_element(
     requires low { at < 2 ^ 33 }
     requires few { spent ≤ source.most_cells }
     requires flat { tables ≤ source.most_depth }
-    ensures visit { (X : Target) → target_of (stored_kind source.entry.layout.now.schema kind) ≡ Some X
-        → Visits result (visit_in source.entry (place (ref_place X) at) tables spent) }
+    ensures visit { Visits result (visit_in source.entry (place
+        (ref_place (led_to reference)) at) tables spent) }
     ensures few { IfOk result (λ n. n ≤ source.entry.most_cells) }
     ensures rises { entries.old.count ≤ entries.new.count }
     ensures ticks { TicksWithin source.entry entries.old.count entries.new.count spent result }
-    ensures each { (X : Target) → target_of (stored_kind source.entry.layout.now.schema kind) ≡ Some X
-        → OnOk result (EntersAt source.entry (place (ref_place X) at) entries.old.count entries.new.count) }
+    ensures each { OnOk result (EntersAt source.entry (place
+        (ref_place (led_to reference)) at) entries.old.count entries.new.count) }
 {
-    match kind {
-        Kind::Text => visit_text_behind(source, at, spent, entries),
-        Kind::Table(table) => visit_table_behind(source, table, at, tables, spent, entries),
-        Kind::Scalar(_) | Kind::Enum(_) | Kind::Struct(_) | Kind::Union(_) | Kind::Code(_) => Ok(
-            spent,
-        ),
+    match reference {
+        Reference::ToText => visit_text_behind(source, at, spent, entries),
+        Reference::ToTable(table) => visit_table_behind(source, table, at, tables, spent, entries),
     }
 }

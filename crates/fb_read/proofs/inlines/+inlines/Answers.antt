@@ -1,7 +1,6 @@
-use Rattle.std.proofs.Common.{◌≡◌, ◌≤◌, ◌<◌, ◌∙◌, length, slice_index_or, Some, option_map, sym, ap, refl, arith}
+use Rattle.std.proofs.Common.{◌≡◌, ◌≤◌, ◌<◌, ◌∙◌, length, Some, sym, ap, arith}
 use Rattle.fb_schema.specs.declared.types.FieldInfo.{FieldInfo}
 use Rattle.fb_layout.specs.Laid.{stored_kind}
-use Rattle.fb_value.specs.View.{view}
 use Rattle.fb_value.proofs.Views.{view-Fixed}
 use Rattle.fb_read.specs.Kinds.{rank}
 use Rattle.fb_read.proofs.Contained.{field_kind, field_within, field_there}

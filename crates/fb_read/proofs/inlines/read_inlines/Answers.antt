@@ -1,6 +1,5 @@
-use Rattle.std.proofs.Common.{◌≡◌, ◌+◌, ◌*◌, ◌<◌, arith}
-use Rattle.fb_layout.specs.Laid.{stored_kind, size_of}
-use Rattle.fb_value.specs.Datum.{count}
+use Rattle.std.proofs.Common.{arith}
+use Rattle.fb_layout.specs.Laid.{stored_kind}
 use Rattle.fb_read.proofs.Grown.{parts_entered_more, parts_whole}
 use Rattle.fb_read.proofs.ValueSteps.{inline_grown, inline_missed}
 use Rattle.fb_read.proofs.inlines.read_inlines.Goals.{in-Some+in_ok-push, in_default}

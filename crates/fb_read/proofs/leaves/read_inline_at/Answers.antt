@@ -1,6 +1,5 @@
-use Rattle.std.proofs.Common.{◌≡◌, ◌+◌, ◌≤◌, length}
 use Rattle.std.proofs.lemmas.Result.{err_from_is_err_and}
-use Rattle.fb_layout.specs.Laid.{stored_kind, size_of}
+use Rattle.fb_layout.specs.Laid.{stored_kind}
 use Rattle.fb_read.proofs.Visited.{visit_fault, visit_inline, inline_within}
 use Rattle.fb_read.proofs.leaves.read_inline_at.Goals as goal
 

@@ -1,15 +1,15 @@
-use Rattle.std.proofs.Common.{None, Some, Ok, ◌≡◌, ◌+◌, ◌*◌, ◌<◌, ◌≤◌, length, refl, map, sym, ap, ◌∙◌, arith}
+use Rattle.std.proofs.Common.{◌≡◌, ◌+◌, ◌<◌, ◌≤◌, map, sym, ap, ◌∙◌, arith}
 use Rattle.std.proofs.lemmas.Result.{err_from_is_err_and}
 use Rattle.fb_layout.specs.Laid.{slot_of, slots_of, stored_kind}
 use Rattle.fb_value.specs.Bounds.{Bounds}
 use Rattle.fb_value.specs.Num.{num}
-use Rattle.fb_value.specs.Places.{table_part, member_part, vector_part, ref_place, named_vector, target_of}
+use Rattle.fb_value.specs.Places.{table_part, vector_part, target_of}
 use Rattle.fb_value.specs.View.{view, entries_view}
-use Rattle.fb_value.proofs.Views.{view-Fields, view-Member, view-Items}
-use Rattle.fb_read.specs.Values.{led_to, elements_named, IsOpen}
+use Rattle.fb_value.proofs.Views.{view-Fields, view-Member}
+use Rattle.fb_read.specs.Values.{led_to}
 use Rattle.fb_read.specs.Visits.{slot_seen, slots_seen}
 use Rattle.fb_read.proofs.Grown.{parts_entered_more, parts_whole, entries_entered_more, entries_whole}
-use Rattle.fb_read.proofs.ValueSteps.{table_is, vector_is, member_is, element_grown, slot_grown, fields_count, vector_named}
+use Rattle.fb_read.proofs.ValueSteps.{table_is, member_is, element_grown, slot_grown, fields_count, vector_named}
 use Rattle.fb_read.proofs.Visited.{visit_fault, visit_table, visit_vector, visit_member, visit_code, visit_unknown, no_target, slots_next, slots_fail, slots_past, elements_step, elements_stop, elements_end, no_references}
 use Rattle.fb_read.proofs.trees.+tree.Goals as goal
 
@@ -76,18 +76,18 @@ read_member-returns-clause-value t c d lies =
     rw (view-Member c.args.code c.in_ok-new.field-0, c.in_ok-new.ensures.ok)
     (member_is c.args.source.layout.now c.args.source.bytes.now c.args.code c.args.table.0 c.args.at (view c.in_ok-member.member) c.in_ok-member.ensures.value d lies)
 
-pub read_named-returns-in_err-check_code-in-Code-clause-visit : goal.read_named-returns-in_err-check_code-in-Code-clause-visit
-read_named-returns-in_err-check_code-in-Code-clause-visit t c =
+pub read_stored-returns-in_err-check_code-in-Code-clause-visit : goal.read_stored-returns-in_err-check_code-in-Code-clause-visit
+read_stored-returns-in_err-check_code-in-Code-clause-visit t c =
     let p = err_from_is_err_and c.from_residual.result c.from_residual.ensures.1 in
     let L = c.args.source.layout.now in
     rw (p.1, p.2, c.in-Code.is) (λ other. visit_fault L c.args.source.bytes.now _ _ c.args.tables c.args.spent.now _ (c.in_err-check_code-in-Code.ensures.rules L c.in-Code.code.union.0))
 
-pub read_named-returns-in-Unknown-clause-visit : goal.read_named-returns-in-Unknown-clause-visit
-read_named-returns-in-Unknown-clause-visit t c =
+pub read_stored-returns-in-Unknown-clause-visit : goal.read_stored-returns-in-Unknown-clause-visit
+read_stored-returns-in-Unknown-clause-visit t c =
     rw c.in-Unknown.is (visit_unknown c.args.source.layout.now c.args.source.bytes.now _ c.in-Unknown.code c.in-Unknown.field-1 c.args.tables c.args.spent.now)
 
-pub read_named-returns-in_ok-check_code-in-Code-clause-visit : goal.read_named-returns-in_ok-check_code-in-Code-clause-visit
-read_named-returns-in_ok-check_code-in-Code-clause-visit t c =
+pub read_stored-returns-in_ok-check_code-in-Code-clause-visit : goal.read_stored-returns-in_ok-check_code-in-Code-clause-visit
+read_stored-returns-in_ok-check_code-in-Code-clause-visit t c =
     let L = c.args.source.layout.now in
     let code = c.in-Code.code in
     rw c.in-Code.is (visit_code L c.args.source.bytes.now _ code.union.0 code.value_slot code.required code.present c.in-Code.at c.args.tables c.args.spent.now (c.in_ok-check_code-in-Code.ensures.rules L code.union.0))
@@ -96,7 +96,7 @@ pub read_slots-returns-in_err-field-clause-visit : goal.read_slots-returns-in_er
 read_slots-returns-in_err-field-clause-visit t c =
     let p = err_from_is_err_and c.from_residual-in_err-field.result c.from_residual-in_err-field.ensures.1 in
     let most : Bounds = record { depth = c.args.source.most_depth; cells = c.args.source.most_cells } in
-    let fails = rw (c.named_in-named.ensures.place, c.split_at.ensures.back) at c.in_err-field.ensures.visit in
+    let fails = rw (c.stored_in-stored.ensures.place, c.split_at.ensures.back) at c.in_err-field.ensures.visit in
     rw (p.1, p.2) (λ other. sym c.loop-slot.invariant.visited
     ∙ slots_fail c.args.source.layout.now c.args.source.bytes.now most c.args.at c.loop-slot.slot c.args.slots.now c.index-slots-slot.result c.args.tables c.loop-slot.spent _ c.loop-slot-test.true c.index-slots-slot.is (fails other))
 
@@ -105,10 +105,10 @@ read_slots-loop-slot-preserved t c =
     let most : Bounds = record { depth = c.args.source.most_depth; cells = c.args.source.most_cells } in
     let L = c.args.source.layout.now in
     let b = c.args.source.bytes.now in
-    let fine = rw (c.named_in-named.ensures.place, c.split_at.ensures.back) at c.in_ok-field.ensures.visit in
-    let known = rw (c.named_in-named.ensures.place, c.split_at.ensures.back) at (c.in_ok-field.ensures.value (slot_seen L c.index-slots-slot.result) c.named_in-named.ensures.default) in
+    let fine = rw (c.stored_in-stored.ensures.place, c.split_at.ensures.back) at c.in_ok-field.ensures.visit in
+    let known = rw (c.stored_in-stored.ensures.place, c.split_at.ensures.back) at (c.in_ok-field.ensures.value (slot_seen L c.index-slots-slot.result) c.stored_in-stored.ensures.default) in
     record {
-      visited = sym (slots_next L b most c.args.at c.loop-slot.slot c.args.slots.now c.index-slots-slot.result c.args.tables c.loop-slot.spent c.read_named.new.spent c.loop-slot-test.true c.index-slots-slot.is fine) ∙ c.loop-slot.invariant.visited;
+      visited = sym (slots_next L b most c.args.at c.loop-slot.slot c.args.slots.now c.index-slots-slot.result c.args.tables c.loop-slot.spent c.read_stored.new.spent c.loop-slot-test.true c.index-slots-slot.is fine) ∙ c.loop-slot.invariant.visited;
       rises = omega (arith, c.in_ok-field.ensures.rises);
       few = c.in_ok-field.ensures.few;
       ticked = omega (arith, c.in_ok-field.ensures.ticks);

@@ -15,8 +15,8 @@ use Rattle.fb_read.proofs.trees.+tree.Given as goal
 abbrev pub decreases-read_slots : goal.decreases-read_slots
 decreases-read_slots l = 16 * (l.source.most_depth - l.tables) + 10
 
-abbrev pub decreases-read_named : goal.decreases-read_named
-decreases-read_named l = 16 * (l.source.most_depth - l.tables) + 9
+abbrev pub decreases-read_stored : goal.decreases-read_stored
+decreases-read_stored l = 16 * (l.source.most_depth - l.tables) + 9
 
 abbrev pub decreases-read_member : goal.decreases-read_member
 decreases-read_member l = 16 * (l.source.most_depth - l.tables) + 8

@@ -1,10 +1,11 @@
 use Rattle.std.proofs.Common.{◌≡◌, ◌+◌, ◌*◌, ◌-◌, ◌≤◌, Some, drop}
-use Rattle.fb_layout.specs.Laid.{stored_kind}
-use Rattle.fb_value.specs.Places.{Target, target_of, named_slots, named_elements}
+use Rattle.fb_layout.specs.Laid.{StoredKind}
+use Rattle.fb_value.specs.Places.{target_of, named_slots, named_elements}
 use Rattle.fb_value.specs.Datum.{Parts, SlotEntries, count}
 use Rattle.fb_value.specs.Counts.{parts_entered, entries_entered}
 use Rattle.fb_value.specs.Lies.{LiesItems, LiesSlots}
 use Rattle.fb_read.proofs.EnteredCounts.{entries_from, parts_from}
+use Rattle.fb_read.specs.Values.{led_to}
 use Rattle.fb_read.specs.Visits.{visit_each, slots_seen}
 use Rattle.fb_read.proofs.walk.+walk.Given as goal
 
@@ -12,11 +13,8 @@ use Rattle.fb_read.proofs.walk.+walk.Given as goal
 abbrev pub decreases-visit_slots : goal.decreases-visit_slots
 decreases-visit_slots l = 16 * (l.source.most_depth - l.tables) + 8
 
-abbrev pub decreases-visit_slot : goal.decreases-visit_slot
-decreases-visit_slot l = 16 * (l.source.most_depth - l.tables) + 7
-
-abbrev pub decreases-visit_union : goal.decreases-visit_union
-decreases-visit_union l = 16 * (l.source.most_depth - l.tables) + 6
+abbrev pub decreases-visit_stored : goal.decreases-visit_stored
+decreases-visit_stored l = 16 * (l.source.most_depth - l.tables) + 7
 
 abbrev pub decreases-visit_vector_behind : goal.decreases-visit_vector_behind
 decreases-visit_vector_behind l = 16 * (l.source.most_depth - l.tables) + 5
@@ -27,8 +25,8 @@ decreases-visit_vector l = 16 * (l.source.most_depth - l.tables) + 4
 abbrev pub decreases-visit_elements : goal.decreases-visit_elements
 decreases-visit_elements l = 16 * (l.source.most_depth - l.tables) + 3
 
-abbrev pub decreases-visit_element : goal.decreases-visit_element
-decreases-visit_element l = 16 * (l.source.most_depth - l.tables) + 2
+abbrev pub decreases-visit_behind : goal.decreases-visit_behind
+decreases-visit_behind l = 16 * (l.source.most_depth - l.tables) + 2
 
 abbrev pub decreases-visit_table_behind : goal.decreases-visit_table_behind
 decreases-visit_table_behind l = 16 * (l.source.most_depth - l.tables) + 1
@@ -49,11 +47,11 @@ invariant-visit_slots-loop-slot l = record {
 
 abbrev pub invariant-visit_elements-loop-i : goal.invariant-visit_elements-loop-i
 invariant-visit_elements-loop-i l = record {
-  visited : (X : Target) → target_of (stored_kind l.source.layout.now.schema l.kind) ≡ Some X → visit_each l.source.layout.now l.source.bytes.now (record { depth = l.source.most_depth; cells = l.source.most_cells }) (named_elements X (l.at + 4 * l.i) (l.count - l.i)) l.tables l.after
-      ≡ visit_each l.source.layout.now l.source.bytes.now (record { depth = l.source.most_depth; cells = l.source.most_cells }) (named_elements X l.at l.count) l.tables l.spent;
+  visited : visit_each l.source.layout.now l.source.bytes.now (record { depth = l.source.most_depth; cells = l.source.most_cells }) (named_elements (led_to l.reference) (l.at + 4 * l.i) (l.count - l.i)) l.tables l.after
+      ≡ visit_each l.source.layout.now l.source.bytes.now (record { depth = l.source.most_depth; cells = l.source.most_cells }) (named_elements (led_to l.reference) l.at l.count) l.tables l.spent;
   rises : l.fn.entries.count ≤ l.entries.count;
   few : l.after ≤ l.source.most_cells;
   ticked : l.entries.count + l.spent ≤ l.fn.entries.count + l.after;
-  entered : (X : Target) → target_of (stored_kind l.source.layout.now.schema l.kind) ≡ Some X → (ds : Parts) → count ds ≡ l.count → LiesItems l.source.layout.now l.source.bytes.now (stored_kind l.source.layout.now.schema l.kind) l.at ds
+  entered : (kind : StoredKind) → target_of kind ≡ Some (led_to l.reference) → (ds : Parts) → count ds ≡ l.count → LiesItems l.source.layout.now l.source.bytes.now kind l.at ds
       → l.entries.count + parts_entered (parts_from l.i ds) ≡ l.fn.entries.count + parts_entered ds;
 }

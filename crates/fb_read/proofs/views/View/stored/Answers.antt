@@ -1,8 +1,7 @@
-use Rattle.std.proofs.Common.{◌≡◌, suc, drop, map, sym, ap}
+use Rattle.std.proofs.Common.{◌≡◌, map, sym, ap}
 use Rattle.fb_layout.specs.Laid.{slot_of, slots_of}
-use Rattle.fb_read.specs.Views.{entry_of}
 use Rattle.fb_read.specs.Visits.{slots_seen}
-use Rattle.fb_read.proofs.Accessed.{entry_past, entry_there}
+use Rattle.fb_read.proofs.Accessed.{entry_past, entry_stored}
 use Rattle.fb_read.proofs.views.View.stored.Goals as goal
 
 pub returns-then-slot-slots : goal.returns-then-slot-slots
@@ -15,5 +14,5 @@ pub returns : goal.returns
 returns c d lies =
     let L = c.args.self.layout.now in
     let seen : slots_of L c.args.self.table.0 ≡ slots_seen L c.slots_of-slots.result.now = ap (λ fs. map (slot_of L.schema) fs) (sym c.slots_of-slots.ensures.slots) in
-    let there = entry_there L c.args.self.bytes.now c.args.self.table.0 c.args.self.at c.slots_of-slots.result.now d c.from-slot.result c.index-slots-slot.result seen c.if-slot-slots.false c.index-slots-slot.is lies in
-    rw (← c.from-slot.ensures) (c.stored_in.ensures (drop (suc c.from-slot.result) (slots_of L c.args.self.table.0)) (entry_of d c.from-slot.result) there)
+    let place = rw c.split_at.ensures.back at c.stored_in.ensures.place in
+    rw (← c.from-slot.ensures) (entry_stored L c.args.self.bytes.now c.args.self.table.0 c.args.self.at c.slots_of-slots.result.now d c.from-slot.result c.index-slots-slot.result c.stored_in.result seen c.if-slot-slots.false c.index-slots-slot.is lies place c.stored_in.ensures.default)
