@@ -202,6 +202,11 @@ abbrev pub stored_align : LaidSchema → List Slot → List (Option Datum) → �
 stored_align L (f ∷ fs) (x ∷ xs) = max (if is_stored f x then inline_align L f.shape else 0) (stored_align L fs xs)
 stored_align L _ _ = 0
 
+-- the greatest of the stored fields' alignments below one; 0 where there is none
+abbrev pub stored_below : LaidSchema → ℕ → List Slot → List (Option Datum) → ℕ
+stored_below L a (f ∷ fs) (x ∷ xs) = max (if is_stored f x && nat_lt (inline_align L f.shape) a then inline_align L f.shape else 0) (stored_below L a fs xs)
+stored_below L a _ _ = 0
+
 -- the bytes of all stored fields, with what is padded before them
 abbrev pub stored_room : LaidSchema → List Slot → List (Option Datum) → ℕ
 stored_room L fs xs = (max 4 (stored_align L fs xs) - 1) + fields_size L fs xs

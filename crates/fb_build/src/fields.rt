@@ -1,5 +1,5 @@
 //! Lays the fields of tables.
-ghost use Rattle.std.specs.Prelude.{drop, ◌≡◌, ◌≤◌, ◌<◌, ◌+◌, ◌^◌, ◌%◌, length, true, false, option_map, if◌then◌else◌, max};
+ghost use Rattle.std.specs.Prelude.{drop, ◌≡◌, ◌≤◌, ◌<◌, ◌+◌, ◌^◌, ◌%◌, ◌&&◌, nat_lt, length, true, false, option_map, if◌then◌else◌, max};
 ghost use Rattle.byteorder.specs.Endian.{little_bytes};
 ghost use Rattle.fb_schema.specs.Alignments.{base_size};
 ghost use Rattle.fb_schema.specs.Seen.{field_seen};
@@ -11,7 +11,7 @@ ghost use Rattle.fb_value.specs.Num.{num, scalar_of, divides};
 ghost use Rattle.fb_value.specs.Places.{Target, part_place, ref_place, inline_place};
 ghost use Rattle.fb_value.specs.View.{view};
 ghost use Rattle.fb_build.specs.Tails.{Grows, LaidInTail};
-ghost use Rattle.fb_build.specs.Fields.{IsSimple, StoredFits, stored_here, stored_seen, next_code, is_coded, scalar_in, number_in, number_of_datum, is_stored, is_at, above, from, EntryEnd, EntriesEnd, AreKnown, size_at, stored_align, slots_seen, entries_seen, stored_room, fields_size};
+ghost use Rattle.fb_build.specs.Fields.{IsSimple, StoredFits, stored_here, stored_seen, next_code, is_coded, scalar_in, number_in, number_of_datum, is_stored, is_at, above, from, EntryEnd, EntriesEnd, AreKnown, size_at, stored_align, stored_below, slots_seen, entries_seen, stored_room, fields_size};
 
 use crate::places::lay_place;
 use crate::tail::Tail;
@@ -249,45 +249,6 @@ fn lay_field(
     out.count() as u32
 }
 
-/// Lays the fields that are stored at an alignment, the first slot's the highest.
-fn lay_pass(
-    out: &mut Tail,
-    layout: &Layout,
-    slots: &[FieldInfo],
-    entries: &[Option<Value>],
-    align: u32,
-    start: u32,
-    ends: &mut [u32],
-)
-    requires long { length entries.now ≡ length slots.now }
-    requires each { length ends.old ≡ length slots.now }
-    requires low { start ≤ length out.old.bytes }
-    requires known { AreKnown layout.now (slots_seen layout.now slots.now) (stored_seen layout.now slots.now entries.now) }
-    requires state { EntriesEnd layout.now start out.old.most out.old.bytes (λ k. above layout.now align) (slots_seen layout.now slots.now) (stored_seen layout.now slots.now entries.now) ends.old }
-    requires whole { divides align (length out.old.bytes) ≡ true }
-    requires wide { divides align out.old.most ≡ true }
-    requires room { size_at layout.now align (slots_seen layout.now slots.now) (stored_seen layout.now slots.now entries.now) ≤ out.old.free }
-    ensures each { length ends.new ≡ length slots.now }
-    ensures state { EntriesEnd layout.now start out.new.most out.new.bytes (λ k. from layout.now align) (slots_seen layout.now slots.now) (stored_seen layout.now slots.now entries.now) ends.new }
-    ensures whole { divides align (length out.new.bytes) ≡ true }
-    ensures free { out.new.free + size_at layout.now align (slots_seen layout.now slots.now) (stored_seen layout.now slots.now entries.now) ≡ out.old.free }
-    ensures most { out.new.most ≡ out.old.most }
-    ensures grows { Grows out.old out.new }
-{
-    for k in 0..slots.len() {
-        ends[k] = lay_field(
-            out,
-            layout,
-            align,
-            &slots[k],
-            code_at(entries, k + 1),
-            &entries[k],
-            start,
-            ends[k],
-        );
-    }
-}
-
 /// What a field's place is a multiple of, where it is stored; 0 where it isn't.
 fn field_align(layout: &Layout, slot: &FieldInfo, code: Option<u8>, entry: &Option<Value>) -> u32
     ensures { result ≡ (if is_stored (slot_of layout.now.schema (field_seen slot.now)) (stored_here (stored_shape layout.now.schema slot.now.shape) code (option_map view entry.now)) then inline_align layout.now (stored_shape layout.now.schema slot.now.shape) else 0) }
@@ -299,11 +260,72 @@ fn field_align(layout: &Layout, slot: &FieldInfo, code: Option<u8>, entry: &Opti
     }
 }
 
-/// What the begin of a table's fields is a multiple of.
-pub(crate) fn start_align(layout: &Layout, slots: &[FieldInfo], entries: &[Option<Value>]) -> u32
-    requires long { length entries.now ≡ length slots.now }
-    ensures { result ≡ max 4 (stored_align layout.now (slots_seen layout.now slots.now) (stored_seen layout.now slots.now entries.now)) }
+/// The same, where it is below an alignment; 0 where it isn't.
+pub(crate) fn align_below(
+    layout: &Layout,
+    align: u32,
+    slot: &FieldInfo,
+    code: Option<u8>,
+    entry: &Option<Value>,
+) -> u32
+    ensures { result ≡ (if is_stored (slot_of layout.now.schema (field_seen slot.now)) (stored_here (stored_shape layout.now.schema slot.now.shape) code (option_map view entry.now)) && nat_lt (inline_align layout.now (stored_shape layout.now.schema slot.now.shape)) align then inline_align layout.now (stored_shape layout.now.schema slot.now.shape) else 0) }
 {
+    let own = field_align(layout, slot, code, entry);
+    if own < align { own } else { 0 }
+}
+
+/// Lays the fields that are stored at an alignment, the first slot's the highest, and returns the
+/// greatest alignment below it at which any is stored; 0 where there is none.
+fn lay_pass(
+    out: &mut Tail,
+    layout: &Layout,
+    slots: &[FieldInfo],
+    entries: &[Option<Value>],
+    align: u32,
+    start: u32,
+    ends: &mut [u32],
+) -> u32
+    requires long { length entries.now ≡ length slots.now }
+    requires each { length ends.old ≡ length slots.now }
+    requires low { start ≤ length out.old.bytes }
+    requires known { AreKnown layout.now (slots_seen layout.now slots.now) (stored_seen layout.now slots.now entries.now) }
+    requires state { EntriesEnd layout.now start out.old.most out.old.bytes (λ k. above layout.now align) (slots_seen layout.now slots.now) (stored_seen layout.now slots.now entries.now) ends.old }
+    requires whole { divides align (length out.old.bytes) ≡ true }
+    requires wide { divides align out.old.most ≡ true }
+    requires room { size_at layout.now align (slots_seen layout.now slots.now) (stored_seen layout.now slots.now entries.now) ≤ out.old.free }
+    ensures next { result ≡ stored_below layout.now align (slots_seen layout.now slots.now) (stored_seen layout.now slots.now entries.now) }
+    ensures each { length ends.new ≡ length slots.now }
+    ensures state { EntriesEnd layout.now start out.new.most out.new.bytes (λ k. from layout.now align) (slots_seen layout.now slots.now) (stored_seen layout.now slots.now entries.now) ends.new }
+    ensures whole { divides align (length out.new.bytes) ≡ true }
+    ensures free { out.new.free + size_at layout.now align (slots_seen layout.now slots.now) (stored_seen layout.now slots.now entries.now) ≡ out.old.free }
+    ensures most { out.new.most ≡ out.old.most }
+    ensures grows { Grows out.old out.new }
+{
+    let mut next = 0;
+    for k in 0..slots.len() {
+        let slot = &slots[k];
+        let entry = &entries[k];
+        let code = code_at(entries, k + 1);
+        next = align_below(layout, align, slot, code, entry).max(next);
+        ends[k] = lay_field(out, layout, align, slot, code, entry, start, ends[k]);
+    }
+    next
+}
+
+/// What the begin of a table's fields is a multiple of, where none is aligned above `most`.
+pub(crate) fn start_align(
+    layout: &Layout,
+    slots: &[FieldInfo],
+    entries: &[Option<Value>],
+    most: u32,
+) -> u32
+    requires long { length entries.now ≡ length slots.now }
+    ensures { stored_align layout.now (slots_seen layout.now slots.now) (stored_seen layout.now slots.now entries.now) ≤ most
+        → result ≡ max 4 (stored_align layout.now (slots_seen layout.now slots.now) (stored_seen layout.now slots.now entries.now)) }
+{
+    if most <= 4 {
+        return 4;
+    }
     let mut align = 4;
     for k in 0..slots.len() {
         align = field_align(layout, &slots[k], code_at(entries, k + 1), &entries[k]).max(align);
@@ -311,16 +333,18 @@ pub(crate) fn start_align(layout: &Layout, slots: &[FieldInfo], entries: &[Optio
     align
 }
 
-/// Lays the fields of a table by falling alignment, and returns how many bytes were laid before the
-/// first one.
+/// Lays the fields of a table by falling alignment, none of them above `most`, and returns how many
+/// bytes were laid before the first one.
 pub(crate) fn lay_fields(
     out: &mut Tail,
     layout: &Layout,
     slots: &[FieldInfo],
     entries: &[Option<Value>],
+    most: u32,
     ends: &mut [u32],
 ) -> u32
     requires long { length entries.now ≡ length slots.now }
+    requires low { stored_align layout.now (slots_seen layout.now slots.now) (stored_seen layout.now slots.now entries.now) ≤ most }
     requires each { length ends.old ≡ length slots.now }
     requires known { AreKnown layout.now (slots_seen layout.now slots.now) (stored_seen layout.now slots.now entries.now) }
     requires state { EntriesEnd layout.now 0 out.old.most out.old.bytes (λ k f. false) (slots_seen layout.now slots.now) (stored_seen layout.now slots.now entries.now) ends.old }
@@ -335,12 +359,11 @@ pub(crate) fn lay_fields(
     ensures size { length out.new.bytes ≡ result + fields_size layout.now (slots_seen layout.now slots.now) (stored_seen layout.now slots.now entries.now) }
     ensures spent { out.old.free ≤ out.new.free + stored_room layout.now (slots_seen layout.now slots.now) (stored_seen layout.now slots.now entries.now) }
 {
-    let mut align = start_align(layout, slots, entries);
+    let mut align = start_align(layout, slots, entries, most);
     out.pad(align as usize, 0);
     let start = out.count() as u32;
     while align > 0 {
-        lay_pass(out, layout, slots, entries, align, start, ends);
-        align /= 2;
+        align = lay_pass(out, layout, slots, entries, align, start, ends);
     }
     start
 }

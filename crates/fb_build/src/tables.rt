@@ -99,7 +99,8 @@ pub(crate) fn lay_table(
     lay_targets(
         out, known, places, layout, slots, entries, ends, rest, scratch,
     );
-    let start = lay_fields(out, layout, slots, entries.as_slice(), ends);
+    let most = layout.table_align(table);
+    let start = lay_fields(out, layout, slots, entries.as_slice(), most, ends);
     close_table(
         out,
         known,

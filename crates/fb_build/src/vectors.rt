@@ -9,18 +9,26 @@ ghost use Rattle.fb_value.specs.Places.{part_place, vector_part};
 ghost use Rattle.fb_value.specs.Room.{vector_room};
 ghost use Rattle.fb_value.specs.View.{view, parts_view};
 ghost use Rattle.fb_build.specs.Tails.{Grows, LaidInTail};
-ghost use Rattle.fb_build.specs.Fields.{IsElement, SlotFits, TargetEnd, target_for, sort_for};
+ghost use Rattle.fb_build.specs.Fields.{IsElement, SlotFits, TargetEnd, target_for, sort_for, scalar_in};
 ghost use Rattle.fb_build.specs.Items.{ItemsEnd, ItemsKnown, TargetsEnd};
 
 use crate::fields::{lay_number, number_in, scalar_base};
 use crate::places::lay_place;
 use crate::tail::Tail;
 use fb_layout::Layout;
-use fb_schema::{Kind, Shape};
+use fb_schema::{Base, Kind, Shape};
 use fb_value::Value;
 
-/// Lays an element where it stands in its vector.
-fn lay_element(out: &mut Tail, layout: &Layout, kind: Kind, value: &Value, end: u32)
+/// Lays an element where it stands in its vector; of numbers `base` is the basic type.
+fn lay_element(
+    out: &mut Tail,
+    layout: &Layout,
+    kind: Kind,
+    base: Option<Base>,
+    value: &Value,
+    end: u32,
+)
+    requires base { base ≡ scalar_in (one_of (stored_kind layout.now.schema kind)) }
     requires element { IsElement layout.now (stored_kind layout.now.schema kind) }
     requires fits { SlotFits layout.now (one_of (stored_kind layout.now.schema kind)) (view value.now) }
     requires target { TargetEnd layout.now out.old.most out.old.bytes (target_for (one_of (stored_kind layout.now.schema kind)) (view value.now)) end (view value.now) }
@@ -33,7 +41,7 @@ fn lay_element(out: &mut Tail, layout: &Layout, kind: Kind, value: &Value, end: 
     ensures most { out.new.most ≡ out.old.most }
     ensures grows { Grows out.old out.new }
 {
-    match scalar_base(layout, Shape::One(kind)) {
+    match base {
         Some(base) => lay_number(out, base, number_in(value)),
         None => lay_place(out, layout, Shape::One(kind), value, end),
     }
@@ -61,9 +69,10 @@ fn lay_elements(out: &mut Tail, layout: &Layout, kind: Kind, items: &[Value], en
     ensures most { out.new.most ≡ out.old.most }
     ensures grows { Grows out.old out.new }
 {
+    let base = scalar_base(layout, Shape::One(kind));
     for k in 0..items.len() {
         let i = items.len() - 1 - k;
-        lay_element(out, layout, kind, &items[i], end_at(ends, i));
+        lay_element(out, layout, kind, base, &items[i], end_at(ends, i));
     }
 }
 
