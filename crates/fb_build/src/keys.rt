@@ -205,8 +205,9 @@ pub(crate) fn add_table(
         scratch,
     )?;
     for entry in entries {
-        if let Some(value) = entry {
-            add_tables(alloc, known, layout, value, ends, scratch)?;
+        match entry {
+            None | Some(Value::Number(_)) => {}
+            Some(value) => add_tables(alloc, known, layout, value, ends, scratch)?,
         }
     }
     Ok(())

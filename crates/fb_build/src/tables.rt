@@ -186,6 +186,7 @@ fn lay_target(
 {
     match entry {
         None => 0,
+        Some(Value::Number(_)) => 0,
         Some(value) => lay_part(
             out, known, places, layout, slot.shape, value, pending, scratch,
         ),
