@@ -1,17 +1,21 @@
 //! Lays the fields of tables.
-ghost use Rattle.std.specs.Prelude.{drop, ◌≡◌, ◌≤◌, ◌<◌, ◌+◌, ◌^◌, ◌%◌, ◌&&◌, nat_lt, length, true, false, option_map, if◌then◌else◌, max};
+ghost use Rattle.std.specs.Prelude.{drop, ◌≡◌, ◌≤◌, ◌<◌, ◌+◌, ◌^◌, ◌%◌, ◌&&◌, nat_lt, length, true};
+ghost use Rattle.std.specs.Prelude.{false, if◌then◌else◌, max};
 ghost use Rattle.byteorder.specs.Endian.{little_bytes};
 ghost use Rattle.fb_schema.specs.Alignments.{base_size};
-ghost use Rattle.fb_schema.specs.Seen.{field_seen};
 ghost use Rattle.fb_schema.specs.WellDeclared.{InRange};
-ghost use Rattle.fb_layout.specs.Laid.{LaidSchema, stored_shape, slot_of, scalar_kind};
+ghost use Rattle.fb_layout.specs.Laid.{LaidSchema, scalar_kind};
 ghost use Rattle.fb_layout.specs.Widths.{inline_size, inline_align, greatest};
 ghost use Rattle.fb_value.specs.Datum.{Datum, a_number};
 ghost use Rattle.fb_value.specs.Num.{num, scalar_of, divides};
 ghost use Rattle.fb_value.specs.Places.{Target, part_place, ref_place, inline_place};
 ghost use Rattle.fb_value.specs.View.{view};
 ghost use Rattle.fb_build.specs.Tails.{Grows, LaidInTail};
-ghost use Rattle.fb_build.specs.Fields.{IsSimple, StoredFits, stored_here, stored_seen, next_code, is_coded, scalar_in, number_in, number_of_datum, is_stored, is_at, above, from, EntryEnd, EntriesEnd, AreKnown, size_at, stored_align, stored_below, slots_seen, entries_seen, stored_room, fields_size};
+ghost use Rattle.fb_build.specs.Fields.{IsSimple, StoredFits, stored_seen, next_code, is_coded};
+ghost use Rattle.fb_build.specs.Fields.{scalar_in, number_in, number_of_datum, is_stored, is_at, above};
+ghost use Rattle.fb_build.specs.Fields.{from, EntryEnd, EntriesEnd, AreKnown, size_at, stored_align};
+ghost use Rattle.fb_build.specs.Fields.{stored_below, slots_seen, entries_seen, stored_room};
+ghost use Rattle.fb_build.specs.Fields.{fields_size, slot_seen, entry_stored, shape_seen};
 
 use crate::places::lay_place;
 use crate::tail::Tail;
@@ -57,7 +61,8 @@ pub(crate) fn lay_number(out: &mut Tail, base: Base, number: i128)
     requires room { base_size base ≤ out.old.free }
     requires whole { divides (base_size base) (length out.old.bytes) ≡ true }
     requires wide { divides (base_size base) out.old.most ≡ true }
-    ensures lies { (L : LaidSchema) → LaidInTail L out.new.most out.new.bytes (inline_place (scalar_kind base)) (length out.new.bytes) (a_number number) }
+    ensures lies { (L : LaidSchema) → LaidInTail L out.new.most out.new.bytes
+        (inline_place (scalar_kind base)) (length out.new.bytes) (a_number number) }
     ensures free { out.new.free + base_size base ≡ out.old.free }
     ensures long { length out.new.bytes ≡ length out.old.bytes + base_size base }
     ensures most { out.new.most ≡ out.old.most }
@@ -72,7 +77,8 @@ pub(crate) fn lay_reference(out: &mut Tail, target: u32)
     requires room { 4 ≤ out.old.free }
     requires whole { divides 4 (length out.old.bytes) ≡ true }
     requires wide { divides 4 out.old.most ≡ true }
-    ensures lies { (L : LaidSchema) (X : Target) (d : Datum) → LaidInTail L out.old.most out.old.bytes (part_place X) target d
+    ensures lies { (L : LaidSchema) (X : Target) (d : Datum) → LaidInTail L out.old.most out.old.bytes
+        (part_place X) target d
         → LaidInTail L out.new.most out.new.bytes (ref_place X) (length out.new.bytes) d }
     ensures free { out.new.free + 4 ≡ out.old.free }
     ensures long { length out.new.bytes ≡ length out.old.bytes + 4 }
@@ -85,7 +91,7 @@ pub(crate) fn lay_reference(out: &mut Tail, target: u32)
 
 /// What a slot's place in its table is a multiple of.
 pub(crate) fn slot_align(layout: &Layout, shape: Shape) -> u32
-    ensures { result ≡ inline_align layout.now (stored_shape layout.now.schema shape) }
+    ensures { result ≡ inline_align layout.now (shape_seen layout.now shape) }
 {
     match shape {
         Shape::One(kind) => layout.align_of(kind),
@@ -95,7 +101,7 @@ pub(crate) fn slot_align(layout: &Layout, shape: Shape) -> u32
 
 /// The basic type of a number's slot.
 pub(crate) fn scalar_base(layout: &Layout, shape: Shape) -> Option<Base>
-    ensures { result ≡ scalar_in (stored_shape layout.now.schema shape) }
+    ensures { result ≡ scalar_in (shape_seen layout.now shape) }
 {
     let Shape::One(kind) = shape else {
         return None;
@@ -110,7 +116,7 @@ pub(crate) fn scalar_base(layout: &Layout, shape: Shape) -> Option<Base>
 
 /// The number of a slot where nothing is stored, if it has one.
 fn if_absent(layout: &Layout, slot: &FieldInfo) -> Option<i128>
-    ensures { result ≡ (slot_of layout.now.schema (field_seen slot.now)).if_absent }
+    ensures { result ≡ (slot_seen layout.now slot.now).if_absent }
 {
     if slot.deprecated || slot.optional || is_code(slot.shape) {
         return None;
@@ -143,7 +149,7 @@ pub(crate) fn code_at(entries: &[Option<Value>], k: usize) -> Option<u8>
 
 /// The number that a slot stores; 0 of another.
 fn number_of(layout: &Layout, slot: &FieldInfo, code: Option<u8>, entry: &Option<Value>) -> i128
-    ensures { result ≡ number_in (stored_here (stored_shape layout.now.schema slot.now.shape) code (option_map view entry.now)) }
+    ensures { result ≡ number_in (entry_stored layout.now slot.now code entry.now) }
 {
     if is_code(slot.shape) {
         return match code {
@@ -169,7 +175,8 @@ pub(crate) fn number_in(value: &Value) -> i128
 
 /// Whether a slot's entry is stored: a number that is the slot's default isn't.
 fn is_stored(layout: &Layout, slot: &FieldInfo, code: Option<u8>, entry: &Option<Value>) -> bool
-    ensures { result ≡ is_stored (slot_of layout.now.schema (field_seen slot.now)) (stored_here (stored_shape layout.now.schema slot.now.shape) code (option_map view entry.now)) }
+    ensures { result ≡ is_stored (slot_seen layout.now slot.now)
+        (entry_stored layout.now slot.now code entry.now) }
 {
     if is_code(slot.shape) {
         return code.is_some();
@@ -191,7 +198,7 @@ fn is_stored(layout: &Layout, slot: &FieldInfo, code: Option<u8>, entry: &Option
 
 /// The bytes that a slot takes in its table.
 pub(crate) fn slot_size(layout: &Layout, shape: Shape) -> u32
-    ensures { result ≡ inline_size layout.now (stored_shape layout.now.schema shape) }
+    ensures { result ≡ inline_size layout.now (shape_seen layout.now shape) }
 {
     match shape {
         Shape::One(kind) => layout.size_of(kind),
@@ -207,7 +214,8 @@ pub(crate) fn is_at(
     code: Option<u8>,
     entry: &Option<Value>,
 ) -> bool
-    ensures { result ≡ is_at layout.now align (slot_of layout.now.schema (field_seen slot.now)) (stored_here (stored_shape layout.now.schema slot.now.shape) code (option_map view entry.now)) }
+    ensures { result ≡ is_at layout.now align (slot_seen layout.now slot.now)
+        (entry_stored layout.now slot.now code entry.now) }
 {
     is_stored(layout, slot, code, entry) && slot_align(layout, slot.shape) == align
 }
@@ -224,14 +232,27 @@ fn lay_field(
     end: u32,
 ) -> u32
     requires low { start ≤ length out.old.bytes }
-    requires simple { IsSimple layout.now (stored_shape layout.now.schema slot.now.shape) }
-    requires fits { StoredFits layout.now (slot_of layout.now.schema (field_seen slot.now)) (stored_here (stored_shape layout.now.schema slot.now.shape) code (option_map view entry.now)) }
-    requires state { EntryEnd layout.now start out.old.most out.old.bytes (above layout.now align (slot_of layout.now.schema (field_seen slot.now))) (slot_of layout.now.schema (field_seen slot.now)) (stored_here (stored_shape layout.now.schema slot.now.shape) code (option_map view entry.now)) end }
-    requires whole { is_at layout.now align (slot_of layout.now.schema (field_seen slot.now)) (stored_here (stored_shape layout.now.schema slot.now.shape) code (option_map view entry.now)) ≡ true → divides align (length out.old.bytes) ≡ true }
-    requires wide { is_at layout.now align (slot_of layout.now.schema (field_seen slot.now)) (stored_here (stored_shape layout.now.schema slot.now.shape) code (option_map view entry.now)) ≡ true → divides align out.old.most ≡ true }
-    requires room { (if is_at layout.now align (slot_of layout.now.schema (field_seen slot.now)) (stored_here (stored_shape layout.now.schema slot.now.shape) code (option_map view entry.now)) then inline_size layout.now (stored_shape layout.now.schema slot.now.shape) else 0) ≤ out.old.free }
-    ensures state { EntryEnd layout.now start out.new.most out.new.bytes (from layout.now align (slot_of layout.now.schema (field_seen slot.now))) (slot_of layout.now.schema (field_seen slot.now)) (stored_here (stored_shape layout.now.schema slot.now.shape) code (option_map view entry.now)) result }
-    ensures free { out.new.free + (if is_at layout.now align (slot_of layout.now.schema (field_seen slot.now)) (stored_here (stored_shape layout.now.schema slot.now.shape) code (option_map view entry.now)) then inline_size layout.now (stored_shape layout.now.schema slot.now.shape) else 0) ≡ out.old.free }
+    requires simple { IsSimple layout.now (shape_seen layout.now slot.now.shape) }
+    requires fits { StoredFits layout.now (slot_seen layout.now slot.now)
+        (entry_stored layout.now slot.now code entry.now) }
+    requires state { EntryEnd layout.now start out.old.most out.old.bytes
+        (above layout.now align (slot_seen layout.now slot.now)) (slot_seen layout.now slot.now)
+        (entry_stored layout.now slot.now code entry.now) end }
+    requires whole { is_at layout.now align (slot_seen layout.now slot.now)
+        (entry_stored layout.now slot.now code entry.now) ≡ true → divides align (length out.old.bytes)
+        ≡ true }
+    requires wide { is_at layout.now align (slot_seen layout.now slot.now)
+        (entry_stored layout.now slot.now code entry.now) ≡ true → divides align out.old.most ≡ true }
+    requires room { (if is_at layout.now align (slot_seen layout.now slot.now)
+        (entry_stored layout.now slot.now code entry.now)
+        then inline_size layout.now (shape_seen layout.now slot.now.shape) else 0) ≤ out.old.free }
+    ensures state { EntryEnd layout.now start out.new.most out.new.bytes
+        (from layout.now align (slot_seen layout.now slot.now)) (slot_seen layout.now slot.now)
+        (entry_stored layout.now slot.now code entry.now) result }
+    ensures free { out.new.free
+        + (if is_at layout.now align (slot_seen layout.now slot.now)
+        (entry_stored layout.now slot.now code entry.now)
+        then inline_size layout.now (shape_seen layout.now slot.now.shape) else 0) ≡ out.old.free }
     ensures most { out.new.most ≡ out.old.most }
     ensures grows { Grows out.old out.new }
 {
@@ -251,7 +272,9 @@ fn lay_field(
 
 /// What a field's place is a multiple of, where it is stored; 0 where it isn't.
 fn field_align(layout: &Layout, slot: &FieldInfo, code: Option<u8>, entry: &Option<Value>) -> u32
-    ensures { result ≡ (if is_stored (slot_of layout.now.schema (field_seen slot.now)) (stored_here (stored_shape layout.now.schema slot.now.shape) code (option_map view entry.now)) then inline_align layout.now (stored_shape layout.now.schema slot.now.shape) else 0) }
+    ensures { result
+        ≡ (if is_stored (slot_seen layout.now slot.now) (entry_stored layout.now slot.now code entry.now)
+        then inline_align layout.now (shape_seen layout.now slot.now.shape) else 0) }
 {
     if is_stored(layout, slot, code, entry) {
         slot_align(layout, slot.shape)
@@ -268,7 +291,10 @@ pub(crate) fn align_below(
     code: Option<u8>,
     entry: &Option<Value>,
 ) -> u32
-    ensures { result ≡ (if is_stored (slot_of layout.now.schema (field_seen slot.now)) (stored_here (stored_shape layout.now.schema slot.now.shape) code (option_map view entry.now)) && nat_lt (inline_align layout.now (stored_shape layout.now.schema slot.now.shape)) align then inline_align layout.now (stored_shape layout.now.schema slot.now.shape) else 0) }
+    ensures { result
+        ≡ (if is_stored (slot_seen layout.now slot.now) (entry_stored layout.now slot.now code entry.now)
+        && nat_lt (inline_align layout.now (shape_seen layout.now slot.now.shape)) align
+        then inline_align layout.now (shape_seen layout.now slot.now.shape) else 0) }
 {
     let own = field_align(layout, slot, code, entry);
     if own < align { own } else { 0 }
@@ -288,16 +314,22 @@ fn lay_pass(
     requires long { length entries.now ≡ length slots.now }
     requires each { length ends.old ≡ length slots.now }
     requires low { start ≤ length out.old.bytes }
-    requires known { AreKnown layout.now (slots_seen layout.now slots.now) (stored_seen layout.now slots.now entries.now) }
-    requires state { EntriesEnd layout.now start out.old.most out.old.bytes (λ k. above layout.now align) (slots_seen layout.now slots.now) (stored_seen layout.now slots.now entries.now) ends.old }
+    requires known { AreKnown layout.now (slots_seen layout.now slots.now)
+        (stored_seen layout.now slots.now entries.now) }
+    requires state { EntriesEnd layout.now start out.old.most out.old.bytes (λ k. above layout.now align)
+        (slots_seen layout.now slots.now) (stored_seen layout.now slots.now entries.now) ends.old }
     requires whole { divides align (length out.old.bytes) ≡ true }
     requires wide { divides align out.old.most ≡ true }
-    requires room { size_at layout.now align (slots_seen layout.now slots.now) (stored_seen layout.now slots.now entries.now) ≤ out.old.free }
-    ensures next { result ≡ stored_below layout.now align (slots_seen layout.now slots.now) (stored_seen layout.now slots.now entries.now) }
+    requires room { size_at layout.now align (slots_seen layout.now slots.now)
+        (stored_seen layout.now slots.now entries.now) ≤ out.old.free }
+    ensures next { result ≡ stored_below layout.now align (slots_seen layout.now slots.now)
+        (stored_seen layout.now slots.now entries.now) }
     ensures each { length ends.new ≡ length slots.now }
-    ensures state { EntriesEnd layout.now start out.new.most out.new.bytes (λ k. from layout.now align) (slots_seen layout.now slots.now) (stored_seen layout.now slots.now entries.now) ends.new }
+    ensures state { EntriesEnd layout.now start out.new.most out.new.bytes (λ k. from layout.now align)
+        (slots_seen layout.now slots.now) (stored_seen layout.now slots.now entries.now) ends.new }
     ensures whole { divides align (length out.new.bytes) ≡ true }
-    ensures free { out.new.free + size_at layout.now align (slots_seen layout.now slots.now) (stored_seen layout.now slots.now entries.now) ≡ out.old.free }
+    ensures free { out.new.free + size_at layout.now align (slots_seen layout.now slots.now)
+        (stored_seen layout.now slots.now entries.now) ≡ out.old.free }
     ensures most { out.new.most ≡ out.old.most }
     ensures grows { Grows out.old out.new }
 {
@@ -320,8 +352,10 @@ pub(crate) fn start_align(
     most: u32,
 ) -> u32
     requires long { length entries.now ≡ length slots.now }
-    ensures { stored_align layout.now (slots_seen layout.now slots.now) (stored_seen layout.now slots.now entries.now) ≤ most
-        → result ≡ max 4 (stored_align layout.now (slots_seen layout.now slots.now) (stored_seen layout.now slots.now entries.now)) }
+    ensures { stored_align layout.now (slots_seen layout.now slots.now)
+        (stored_seen layout.now slots.now entries.now) ≤ most
+        → result ≡ max 4 (stored_align layout.now (slots_seen layout.now slots.now)
+        (stored_seen layout.now slots.now entries.now)) }
 {
     if most <= 4 {
         return 4;
@@ -344,20 +378,28 @@ pub(crate) fn lay_fields(
     ends: &mut [u32],
 ) -> u32
     requires long { length entries.now ≡ length slots.now }
-    requires low { stored_align layout.now (slots_seen layout.now slots.now) (stored_seen layout.now slots.now entries.now) ≤ most }
+    requires low { stored_align layout.now (slots_seen layout.now slots.now)
+        (stored_seen layout.now slots.now entries.now) ≤ most }
     requires each { length ends.old ≡ length slots.now }
-    requires known { AreKnown layout.now (slots_seen layout.now slots.now) (stored_seen layout.now slots.now entries.now) }
-    requires state { EntriesEnd layout.now 0 out.old.most out.old.bytes (λ k f. false) (slots_seen layout.now slots.now) (stored_seen layout.now slots.now entries.now) ends.old }
-    requires room { stored_room layout.now (slots_seen layout.now slots.now) (stored_seen layout.now slots.now entries.now) ≤ out.old.free }
+    requires known { AreKnown layout.now (slots_seen layout.now slots.now)
+        (stored_seen layout.now slots.now entries.now) }
+    requires state { EntriesEnd layout.now 0 out.old.most out.old.bytes (λ k f. false)
+        (slots_seen layout.now slots.now) (stored_seen layout.now slots.now entries.now) ends.old }
+    requires room { stored_room layout.now (slots_seen layout.now slots.now)
+        (stored_seen layout.now slots.now entries.now) ≤ out.old.free }
     ensures each { length ends.new ≡ length slots.now }
-    ensures state { EntriesEnd layout.now result out.new.most out.new.bytes (λ k f. true) (slots_seen layout.now slots.now) (stored_seen layout.now slots.now entries.now) ends.new }
+    ensures state { EntriesEnd layout.now result out.new.most out.new.bytes (λ k f. true)
+        (slots_seen layout.now slots.now) (stored_seen layout.now slots.now entries.now) ends.new }
     ensures bound { out.new.most ≤ max out.old.most (greatest layout.now) }
     ensures grows { Grows out.old out.new }
     ensures wide { divides 4 out.new.most ≡ true }
     ensures start { result ≤ length out.new.bytes }
     ensures whole { result % 4 ≡ 0 }
-    ensures size { length out.new.bytes ≡ result + fields_size layout.now (slots_seen layout.now slots.now) (stored_seen layout.now slots.now entries.now) }
-    ensures spent { out.old.free ≤ out.new.free + stored_room layout.now (slots_seen layout.now slots.now) (stored_seen layout.now slots.now entries.now) }
+    ensures size { length out.new.bytes ≡ result
+        + fields_size layout.now (slots_seen layout.now slots.now)
+        (stored_seen layout.now slots.now entries.now) }
+    ensures spent { out.old.free ≤ out.new.free + stored_room layout.now (slots_seen layout.now slots.now)
+        (stored_seen layout.now slots.now entries.now) }
 {
     let mut align = start_align(layout, slots, entries, most);
     out.pad(align as usize, 0);
