@@ -9,7 +9,8 @@ ghost use Rattle.fb_build.specs.Tails.{Grows};
 ghost use Rattle.fb_build.specs.Structs.{IsInline};
 ghost use Rattle.fb_build.specs.Fields.{kind_seen};
 
-use crate::fields::{number_in, put_number, scalar_base};
+use crate::fields::{number_in, scalar_base};
+use crate::numbers::put_number;
 use crate::tail::Tail;
 use fb_layout::{Layout, kind_in};
 use fb_schema::{Kind, Shape, TypeId};

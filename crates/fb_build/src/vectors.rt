@@ -13,7 +13,8 @@ ghost use Rattle.fb_build.specs.Fields.{IsElement, SlotFits, TargetEnd, target_f
 ghost use Rattle.fb_build.specs.Fields.{kind_seen};
 ghost use Rattle.fb_build.specs.Items.{ItemsEnd, ItemsKnown, TargetsEnd};
 
-use crate::fields::{lay_number, number_in, scalar_base};
+use crate::fields::{number_in, scalar_base};
+use crate::numbers::lay_number;
 use crate::places::lay_place;
 use crate::tail::Tail;
 use fb_layout::Layout;
