@@ -26,7 +26,7 @@ use Rattle.fb_value.specs.Lies.{LiesBy}
 use Rattle.fb_value.specs.EachTable.{EachTable, EachTableAt, IsOldTable}
 use Rattle.fb_value.specs.Tails.{from_end, LiesInTail, OldInTail}
 use Rattle.fb_build.specs.Tails.{TailSeen, Grows, LaidInTail}
-use Rattle.fb_build.specs.Fields.{IsSimple, SlotFits, StoredFits, member_target, scalar_in, number_in, above, from, is_at, is_stored, differs, IsDefault, TargetEnd, StoredEnd, EntryEnd, EntriesEnd, AreKnown, sort_for, target_for}
+use Rattle.fb_build.specs.Fields.{SlotFits, StoredFits, member_target, scalar_in, number_in, above, from, is_at, is_stored, differs, IsDefault, TargetEnd, StoredEnd, EntryEnd, EntriesEnd, sort_for, target_for}
 use Rattle.fb_value.proofs.Moved.{hold, no_rules}
 use Rattle.fb_build.proofs.Standing.{num_first}
 use Rattle.fb_value.proofs.TailsKept.{front_shown, old_shown}
@@ -334,9 +334,12 @@ entry_high L low m s f x e h some = by_stored (is_stored f x) refl
     by_stored true is = by_entry x (h.stored is)
     by_stored false out = absurd (omega (arith, h.absent out, some))
 
-pub entries_retested : (L : LaidSchema) (low m : ℕ) (s : Bytes) (t u : ℕ → Slot → Bool) (fs : List Slot) (xs : List (Option Datum)) (ends : List ℕ) → AreKnown L fs xs → ((k : ℕ) (f : Slot) → IsSimple L f.shape → t k f ≡ u k f)
+pub entries_retested : (L : LaidSchema) (low m : ℕ) (s : Bytes) (t u : ℕ → Slot → Bool) (fs : List Slot) (xs : List (Option Datum)) (ends : List ℕ) → ((k : ℕ) (f : Slot) (x : Option Datum) → slice_get fs k ≡ Some f → slice_get xs k ≡ Some x → is_stored f x ≡ true → t k f ≡ u k f)
     → EntriesEnd L low m s t fs xs ends → EntriesEnd L low m s u fs xs ends
-entries_retested L low m s t u fs xs ends known same h k f x fk xk = subst (λ (b : Bool). EntryEnd L low m s b f x (slice_index ends k)) (same k f (known.each k f x fk xk).0) (h k f x fk xk)
+entries_retested L low m s t u fs xs ends same h k f x fk xk = record {
+  stored = λ is. subst (λ (b : Bool). StoredEnd L low m s b f x (slice_index ends k)) (same k f x fk xk is) ((h k f x fk xk).stored is);
+  absent = (h k f x fk xk).absent;
+}
 
 -- Nothing is stored above an alignment, and nothing is laid.
 pub entries_unlaid : (L : LaidSchema) (low m : ℕ) (s : Bytes) (a : ℕ) (fs : List Slot) (xs : List (Option Datum)) (ends : List ℕ) → ((k : ℕ) (f : Slot) (x : Option Datum) → slice_get fs k ≡ Some f → slice_get xs k ≡ Some x → is_stored f x ≡ true → nat_lt a (inline_align L f.shape) ≡ false)

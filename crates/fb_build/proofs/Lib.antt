@@ -20,6 +20,6 @@ pub mod NeedsRoom
 pub mod Placed
 pub mod Reserved
 pub mod StructSteps
-pub mod Halves
+pub mod Multiples
 pub mod Simple
 pub mod PlaceSteps

@@ -18,7 +18,7 @@ use Rattle.fb_value.specs.Num.{divides}
 use Rattle.fb_build.specs.Fields.{IsStructThere, IsElement, IsSimple}
 use Rattle.fb_build.specs.Needs.{IsSliced}
 use Rattle.fb_build.proofs.Grown.{four_power, self_divides}
-use Rattle.fb_build.proofs.Halves.{times_divides}
+use Rattle.fb_build.proofs.Multiples.{times_divides}
 
 pub struct_there : (L : LaidSchema) → IsWellMade L → (s : ℕ) → IsTrue (is_struct (body_at L.schema s)) → IsStructThere L s
 struct_there L made s is =

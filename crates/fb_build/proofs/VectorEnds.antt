@@ -21,7 +21,7 @@ use Rattle.fb_build.specs.Items.{ItemsEnd}
 use Rattle.fb_value.proofs.Moved.{hold, no_rules, items_lie, each_items}
 use Rattle.fb_value.proofs.TailsKept.{through, from_other_end}
 use Rattle.fb_build.proofs.Grown.{four_power, power_max, left_divides, right_divides}
-use Rattle.fb_build.proofs.Halves.{times_divides}
+use Rattle.fb_build.proofs.Multiples.{times_divides}
 use Rattle.fb_build.proofs.Simple.{element_simple, simple_aligned, simple_multiple, simple_some}
 use Rattle.fb_build.proofs.Standing.{num_first}
 use Rattle.fb_build.proofs.FieldSteps.{more_divides}

@@ -2,6 +2,7 @@
 use Rattle.std.specs.Prelude.{ℕ, ◌+◌, ◌-◌, ◌≡◌, ◌<◌, ◌≤◌, max, IsTrue, ◌==◌, ◌&&◌, ◌||◌, not, List, [], ◌∷◌, Bool, true, false, nat_lt, nat_le, if◌then◌else◌, Option, None, Some, ℤ, pos, slice_get, slice_index, map, option_map, length}
 use Rattle.std.specs.Ordering.{int_eq}
 use Rattle.fb_schema.specs.declared.kinds.Base.{Base}
+use Rattle.fb_schema.specs.declared.kinds.Kind.{Kind}
 use Rattle.fb_schema.specs.declared.kinds.Kind.TheVariants.{Code}
 use Rattle.fb_schema.specs.declared.kinds.Shape.{Shape}
 use Rattle.fb_schema.specs.declared.kinds.Shape.TheVariants.{One}
@@ -11,7 +12,7 @@ use Rattle.fb_schema.specs.declared.kinds.Base.TheVariants.{U8}
 use Rattle.fb_schema.specs.WellDeclared.{InRange}
 use Rattle.fb_schema.specs.Schema.{body_at, is_struct}
 use Rattle.fb_layout.specs.Sizes.{IsAlignment}
-use Rattle.fb_layout.specs.Laid.{slot_of, kind_in, struct_at, align_of, LaidSchema, Slot, StoredKind, scalar_kind, struct_kind, table_kind, union_kind, code_kind, text_kind, StoredShape, one_of, vector_of}
+use Rattle.fb_layout.specs.Laid.{slot_of, stored_shape, stored_kind, kind_in, struct_at, align_of, LaidSchema, Slot, StoredKind, scalar_kind, struct_kind, table_kind, union_kind, code_kind, text_kind, StoredShape, one_of, vector_of}
 use Rattle.fb_layout.specs.Widths.{inline_size, inline_align, greatest}
 use Rattle.fb_value.specs.Datum.{Datum, a_number, a_table, a_member, an_unknown}
 use Rattle.fb_value.specs.declared.values.Value.{Value}
@@ -160,6 +161,20 @@ abbrev pub EntriesEnd : LaidSchema → ℕ → ℕ → Bytes → (ℕ → Slot �
 EntriesEnd L low m s laid fs xs ends =
     (k : ℕ) (f : Slot) (x : Option Datum) → slice_get fs k ≡ Some f → slice_get xs k ≡ Some x → EntryEnd L low m s (laid k f) f x (slice_index ends k)
 
+-- a shape, a kind and a slot as the layout has them
+abbrev pub shape_seen : LaidSchema → Shape → StoredShape
+shape_seen L shape = stored_shape L.schema shape
+
+abbrev pub kind_seen : LaidSchema → Kind → StoredKind
+kind_seen L kind = stored_kind L.schema kind
+
+abbrev pub slot_seen : LaidSchema → FieldInfo → Slot
+slot_seen L f = slot_of L.schema (field_seen f)
+
+-- what a slot stores whose entry is some value, where the entry behind it has this code
+abbrev pub entry_stored : LaidSchema → FieldInfo → Option ℕ → Option Value → Option Datum
+entry_stored L f code e = stored_here (stored_shape L.schema f.shape) code (option_map view e)
+
 -- whether a field is a union's code
 abbrev pub is_coded : Shape → Bool
 is_coded (One (Code u)) = true
@@ -201,6 +216,11 @@ fields_size L _ _ = 0
 abbrev pub stored_align : LaidSchema → List Slot → List (Option Datum) → ℕ
 stored_align L (f ∷ fs) (x ∷ xs) = max (if is_stored f x then inline_align L f.shape else 0) (stored_align L fs xs)
 stored_align L _ _ = 0
+
+-- the greatest of the stored fields' alignments below one; 0 where there is none
+abbrev pub stored_below : LaidSchema → ℕ → List Slot → List (Option Datum) → ℕ
+stored_below L a (f ∷ fs) (x ∷ xs) = max (if is_stored f x && nat_lt (inline_align L f.shape) a then inline_align L f.shape else 0) (stored_below L a fs xs)
+stored_below L a _ _ = 0
 
 -- the bytes of all stored fields, with what is padded before them
 abbrev pub stored_room : LaidSchema → List Slot → List (Option Datum) → ℕ

@@ -1,70 +1,28 @@
 //! Lays the fields of tables.
-ghost use Rattle.std.specs.Prelude.{drop, ◌≡◌, ◌≤◌, ◌<◌, ◌+◌, ◌^◌, ◌%◌, length, true, false, option_map, if◌then◌else◌, max};
+ghost use Rattle.std.specs.Prelude.{drop, ◌≡◌, ◌≤◌, ◌<◌, ◌+◌, ◌^◌, ◌%◌, ◌&&◌, nat_lt, length, true};
+ghost use Rattle.std.specs.Prelude.{false, if◌then◌else◌, max};
 ghost use Rattle.byteorder.specs.Endian.{little_bytes};
 ghost use Rattle.fb_schema.specs.Alignments.{base_size};
-ghost use Rattle.fb_schema.specs.Seen.{field_seen};
 ghost use Rattle.fb_schema.specs.WellDeclared.{InRange};
-ghost use Rattle.fb_layout.specs.Laid.{LaidSchema, stored_shape, slot_of, scalar_kind};
+ghost use Rattle.fb_layout.specs.Laid.{LaidSchema, scalar_kind};
 ghost use Rattle.fb_layout.specs.Widths.{inline_size, inline_align, greatest};
 ghost use Rattle.fb_value.specs.Datum.{Datum, a_number};
 ghost use Rattle.fb_value.specs.Num.{num, scalar_of, divides};
 ghost use Rattle.fb_value.specs.Places.{Target, part_place, ref_place, inline_place};
 ghost use Rattle.fb_value.specs.View.{view};
 ghost use Rattle.fb_build.specs.Tails.{Grows, LaidInTail};
-ghost use Rattle.fb_build.specs.Fields.{IsSimple, StoredFits, stored_here, stored_seen, next_code, is_coded, scalar_in, number_in, number_of_datum, is_stored, is_at, above, from, EntryEnd, EntriesEnd, AreKnown, size_at, stored_align, slots_seen, entries_seen, stored_room, fields_size};
+ghost use Rattle.fb_build.specs.Fields.{IsSimple, StoredFits, stored_seen, next_code, is_coded};
+ghost use Rattle.fb_build.specs.Fields.{scalar_in, number_in, number_of_datum, is_stored, is_at, above};
+ghost use Rattle.fb_build.specs.Fields.{from, EntryEnd, EntriesEnd, AreKnown, size_at, stored_align};
+ghost use Rattle.fb_build.specs.Fields.{stored_below, slots_seen, entries_seen, stored_room};
+ghost use Rattle.fb_build.specs.Fields.{fields_size, slot_seen, entry_stored, shape_seen};
 
+use crate::numbers::lay_number;
 use crate::places::lay_place;
 use crate::tail::Tail;
-use byteorder::{ByteOrder, LittleEndian};
 use fb_layout::Layout;
 use fb_schema::{Base, FieldInfo, Kind, Shape};
 use fb_value::Value;
-
-/// The bits of a number in its bytes.
-fn bits_of(base: Base, number: i128) -> u64
-    requires { InRange base number }
-    ensures fits { result < 256 ^ base_size base }
-    ensures means { number ≡ scalar_of base result }
-{
-    match base {
-        Base::Bool | Base::U8 | Base::U16 | Base::U32 | Base::U64 => number as u64,
-        Base::I8 => u64::from((number as i8).cast_unsigned()),
-        Base::I16 => u64::from((number as i16).cast_unsigned()),
-        Base::I32 => u64::from((number as i32).cast_unsigned()),
-        Base::I64 => (number as i64).cast_unsigned(),
-    }
-}
-
-/// Lays a number, wherever it stands.
-pub(crate) fn put_number(out: &mut Tail, base: Base, number: i128)
-    requires range { InRange base number }
-    requires room { base_size base ≤ out.old.free }
-    ensures reads { number ≡ scalar_of base (num out.new.bytes 0 (base_size base)) }
-    ensures free { out.new.free + base_size base ≡ out.old.free }
-    ensures long { length out.new.bytes ≡ length out.old.bytes + base_size base }
-    ensures most { out.new.most ≡ out.old.most }
-    ensures grows { Grows out.old out.new }
-{
-    let size = base.size() as usize;
-    let mut bytes = [0u8; 8];
-    LittleEndian::write_uint(&mut bytes, bits_of(base, number), size);
-    out.lay(&bytes[..size]);
-}
-
-/// Lays a number at a multiple of its size.
-pub(crate) fn lay_number(out: &mut Tail, base: Base, number: i128)
-    requires range { InRange base number }
-    requires room { base_size base ≤ out.old.free }
-    requires whole { divides (base_size base) (length out.old.bytes) ≡ true }
-    requires wide { divides (base_size base) out.old.most ≡ true }
-    ensures lies { (L : LaidSchema) → LaidInTail L out.new.most out.new.bytes (inline_place (scalar_kind base)) (length out.new.bytes) (a_number number) }
-    ensures free { out.new.free + base_size base ≡ out.old.free }
-    ensures long { length out.new.bytes ≡ length out.old.bytes + base_size base }
-    ensures most { out.new.most ≡ out.old.most }
-    ensures grows { Grows out.old out.new }
-{
-    put_number(out, base, number);
-}
 
 /// Lays a reference to what was laid at an end-count.
 pub(crate) fn lay_reference(out: &mut Tail, target: u32)
@@ -72,7 +30,8 @@ pub(crate) fn lay_reference(out: &mut Tail, target: u32)
     requires room { 4 ≤ out.old.free }
     requires whole { divides 4 (length out.old.bytes) ≡ true }
     requires wide { divides 4 out.old.most ≡ true }
-    ensures lies { (L : LaidSchema) (X : Target) (d : Datum) → LaidInTail L out.old.most out.old.bytes (part_place X) target d
+    ensures lies { (L : LaidSchema) (X : Target) (d : Datum) → LaidInTail L out.old.most out.old.bytes
+        (part_place X) target d
         → LaidInTail L out.new.most out.new.bytes (ref_place X) (length out.new.bytes) d }
     ensures free { out.new.free + 4 ≡ out.old.free }
     ensures long { length out.new.bytes ≡ length out.old.bytes + 4 }
@@ -85,7 +44,7 @@ pub(crate) fn lay_reference(out: &mut Tail, target: u32)
 
 /// What a slot's place in its table is a multiple of.
 pub(crate) fn slot_align(layout: &Layout, shape: Shape) -> u32
-    ensures { result ≡ inline_align layout.now (stored_shape layout.now.schema shape) }
+    ensures { result ≡ inline_align layout.now (shape_seen layout.now shape) }
 {
     match shape {
         Shape::One(kind) => layout.align_of(kind),
@@ -95,7 +54,7 @@ pub(crate) fn slot_align(layout: &Layout, shape: Shape) -> u32
 
 /// The basic type of a number's slot.
 pub(crate) fn scalar_base(layout: &Layout, shape: Shape) -> Option<Base>
-    ensures { result ≡ scalar_in (stored_shape layout.now.schema shape) }
+    ensures { result ≡ scalar_in (shape_seen layout.now shape) }
 {
     let Shape::One(kind) = shape else {
         return None;
@@ -110,7 +69,7 @@ pub(crate) fn scalar_base(layout: &Layout, shape: Shape) -> Option<Base>
 
 /// The number of a slot where nothing is stored, if it has one.
 fn if_absent(layout: &Layout, slot: &FieldInfo) -> Option<i128>
-    ensures { result ≡ (slot_of layout.now.schema (field_seen slot.now)).if_absent }
+    ensures { result ≡ (slot_seen layout.now slot.now).if_absent }
 {
     if slot.deprecated || slot.optional || is_code(slot.shape) {
         return None;
@@ -143,7 +102,7 @@ pub(crate) fn code_at(entries: &[Option<Value>], k: usize) -> Option<u8>
 
 /// The number that a slot stores; 0 of another.
 fn number_of(layout: &Layout, slot: &FieldInfo, code: Option<u8>, entry: &Option<Value>) -> i128
-    ensures { result ≡ number_in (stored_here (stored_shape layout.now.schema slot.now.shape) code (option_map view entry.now)) }
+    ensures { result ≡ number_in (entry_stored layout.now slot.now code entry.now) }
 {
     if is_code(slot.shape) {
         return match code {
@@ -169,7 +128,8 @@ pub(crate) fn number_in(value: &Value) -> i128
 
 /// Whether a slot's entry is stored: a number that is the slot's default isn't.
 fn is_stored(layout: &Layout, slot: &FieldInfo, code: Option<u8>, entry: &Option<Value>) -> bool
-    ensures { result ≡ is_stored (slot_of layout.now.schema (field_seen slot.now)) (stored_here (stored_shape layout.now.schema slot.now.shape) code (option_map view entry.now)) }
+    ensures { result ≡ is_stored (slot_seen layout.now slot.now)
+        (entry_stored layout.now slot.now code entry.now) }
 {
     if is_code(slot.shape) {
         return code.is_some();
@@ -191,7 +151,7 @@ fn is_stored(layout: &Layout, slot: &FieldInfo, code: Option<u8>, entry: &Option
 
 /// The bytes that a slot takes in its table.
 pub(crate) fn slot_size(layout: &Layout, shape: Shape) -> u32
-    ensures { result ≡ inline_size layout.now (stored_shape layout.now.schema shape) }
+    ensures { result ≡ inline_size layout.now (shape_seen layout.now shape) }
 {
     match shape {
         Shape::One(kind) => layout.size_of(kind),
@@ -207,7 +167,8 @@ pub(crate) fn is_at(
     code: Option<u8>,
     entry: &Option<Value>,
 ) -> bool
-    ensures { result ≡ is_at layout.now align (slot_of layout.now.schema (field_seen slot.now)) (stored_here (stored_shape layout.now.schema slot.now.shape) code (option_map view entry.now)) }
+    ensures { result ≡ is_at layout.now align (slot_seen layout.now slot.now)
+        (entry_stored layout.now slot.now code entry.now) }
 {
     is_stored(layout, slot, code, entry) && slot_align(layout, slot.shape) == align
 }
@@ -224,14 +185,27 @@ fn lay_field(
     end: u32,
 ) -> u32
     requires low { start ≤ length out.old.bytes }
-    requires simple { IsSimple layout.now (stored_shape layout.now.schema slot.now.shape) }
-    requires fits { StoredFits layout.now (slot_of layout.now.schema (field_seen slot.now)) (stored_here (stored_shape layout.now.schema slot.now.shape) code (option_map view entry.now)) }
-    requires state { EntryEnd layout.now start out.old.most out.old.bytes (above layout.now align (slot_of layout.now.schema (field_seen slot.now))) (slot_of layout.now.schema (field_seen slot.now)) (stored_here (stored_shape layout.now.schema slot.now.shape) code (option_map view entry.now)) end }
-    requires whole { is_at layout.now align (slot_of layout.now.schema (field_seen slot.now)) (stored_here (stored_shape layout.now.schema slot.now.shape) code (option_map view entry.now)) ≡ true → divides align (length out.old.bytes) ≡ true }
-    requires wide { is_at layout.now align (slot_of layout.now.schema (field_seen slot.now)) (stored_here (stored_shape layout.now.schema slot.now.shape) code (option_map view entry.now)) ≡ true → divides align out.old.most ≡ true }
-    requires room { (if is_at layout.now align (slot_of layout.now.schema (field_seen slot.now)) (stored_here (stored_shape layout.now.schema slot.now.shape) code (option_map view entry.now)) then inline_size layout.now (stored_shape layout.now.schema slot.now.shape) else 0) ≤ out.old.free }
-    ensures state { EntryEnd layout.now start out.new.most out.new.bytes (from layout.now align (slot_of layout.now.schema (field_seen slot.now))) (slot_of layout.now.schema (field_seen slot.now)) (stored_here (stored_shape layout.now.schema slot.now.shape) code (option_map view entry.now)) result }
-    ensures free { out.new.free + (if is_at layout.now align (slot_of layout.now.schema (field_seen slot.now)) (stored_here (stored_shape layout.now.schema slot.now.shape) code (option_map view entry.now)) then inline_size layout.now (stored_shape layout.now.schema slot.now.shape) else 0) ≡ out.old.free }
+    requires simple { IsSimple layout.now (shape_seen layout.now slot.now.shape) }
+    requires fits { StoredFits layout.now (slot_seen layout.now slot.now)
+        (entry_stored layout.now slot.now code entry.now) }
+    requires state { EntryEnd layout.now start out.old.most out.old.bytes
+        (above layout.now align (slot_seen layout.now slot.now)) (slot_seen layout.now slot.now)
+        (entry_stored layout.now slot.now code entry.now) end }
+    requires whole { is_at layout.now align (slot_seen layout.now slot.now)
+        (entry_stored layout.now slot.now code entry.now) ≡ true → divides align (length out.old.bytes)
+        ≡ true }
+    requires wide { is_at layout.now align (slot_seen layout.now slot.now)
+        (entry_stored layout.now slot.now code entry.now) ≡ true → divides align out.old.most ≡ true }
+    requires room { (if is_at layout.now align (slot_seen layout.now slot.now)
+        (entry_stored layout.now slot.now code entry.now)
+        then inline_size layout.now (shape_seen layout.now slot.now.shape) else 0) ≤ out.old.free }
+    ensures state { EntryEnd layout.now start out.new.most out.new.bytes
+        (from layout.now align (slot_seen layout.now slot.now)) (slot_seen layout.now slot.now)
+        (entry_stored layout.now slot.now code entry.now) result }
+    ensures free { out.new.free
+        + (if is_at layout.now align (slot_seen layout.now slot.now)
+        (entry_stored layout.now slot.now code entry.now)
+        then inline_size layout.now (shape_seen layout.now slot.now.shape) else 0) ≡ out.old.free }
     ensures most { out.new.most ≡ out.old.most }
     ensures grows { Grows out.old out.new }
 {
@@ -249,48 +223,11 @@ fn lay_field(
     out.count() as u32
 }
 
-/// Lays the fields that are stored at an alignment, the first slot's the highest.
-fn lay_pass(
-    out: &mut Tail,
-    layout: &Layout,
-    slots: &[FieldInfo],
-    entries: &[Option<Value>],
-    align: u32,
-    start: u32,
-    ends: &mut [u32],
-)
-    requires long { length entries.now ≡ length slots.now }
-    requires each { length ends.old ≡ length slots.now }
-    requires low { start ≤ length out.old.bytes }
-    requires known { AreKnown layout.now (slots_seen layout.now slots.now) (stored_seen layout.now slots.now entries.now) }
-    requires state { EntriesEnd layout.now start out.old.most out.old.bytes (λ k. above layout.now align) (slots_seen layout.now slots.now) (stored_seen layout.now slots.now entries.now) ends.old }
-    requires whole { divides align (length out.old.bytes) ≡ true }
-    requires wide { divides align out.old.most ≡ true }
-    requires room { size_at layout.now align (slots_seen layout.now slots.now) (stored_seen layout.now slots.now entries.now) ≤ out.old.free }
-    ensures each { length ends.new ≡ length slots.now }
-    ensures state { EntriesEnd layout.now start out.new.most out.new.bytes (λ k. from layout.now align) (slots_seen layout.now slots.now) (stored_seen layout.now slots.now entries.now) ends.new }
-    ensures whole { divides align (length out.new.bytes) ≡ true }
-    ensures free { out.new.free + size_at layout.now align (slots_seen layout.now slots.now) (stored_seen layout.now slots.now entries.now) ≡ out.old.free }
-    ensures most { out.new.most ≡ out.old.most }
-    ensures grows { Grows out.old out.new }
-{
-    for k in 0..slots.len() {
-        ends[k] = lay_field(
-            out,
-            layout,
-            align,
-            &slots[k],
-            code_at(entries, k + 1),
-            &entries[k],
-            start,
-            ends[k],
-        );
-    }
-}
-
 /// What a field's place is a multiple of, where it is stored; 0 where it isn't.
 fn field_align(layout: &Layout, slot: &FieldInfo, code: Option<u8>, entry: &Option<Value>) -> u32
-    ensures { result ≡ (if is_stored (slot_of layout.now.schema (field_seen slot.now)) (stored_here (stored_shape layout.now.schema slot.now.shape) code (option_map view entry.now)) then inline_align layout.now (stored_shape layout.now.schema slot.now.shape) else 0) }
+    ensures { result
+        ≡ (if is_stored (slot_seen layout.now slot.now) (entry_stored layout.now slot.now code entry.now)
+        then inline_align layout.now (shape_seen layout.now slot.now.shape) else 0) }
 {
     if is_stored(layout, slot, code, entry) {
         slot_align(layout, slot.shape)
@@ -299,11 +236,83 @@ fn field_align(layout: &Layout, slot: &FieldInfo, code: Option<u8>, entry: &Opti
     }
 }
 
-/// What the begin of a table's fields is a multiple of.
-pub(crate) fn start_align(layout: &Layout, slots: &[FieldInfo], entries: &[Option<Value>]) -> u32
-    requires long { length entries.now ≡ length slots.now }
-    ensures { result ≡ max 4 (stored_align layout.now (slots_seen layout.now slots.now) (stored_seen layout.now slots.now entries.now)) }
+/// The same, where it is below an alignment; 0 where it isn't.
+pub(crate) fn align_below(
+    layout: &Layout,
+    align: u32,
+    slot: &FieldInfo,
+    code: Option<u8>,
+    entry: &Option<Value>,
+) -> u32
+    ensures { result
+        ≡ (if is_stored (slot_seen layout.now slot.now) (entry_stored layout.now slot.now code entry.now)
+        && nat_lt (inline_align layout.now (shape_seen layout.now slot.now.shape)) align
+        then inline_align layout.now (shape_seen layout.now slot.now.shape) else 0) }
 {
+    let own = field_align(layout, slot, code, entry);
+    if own < align { own } else { 0 }
+}
+
+/// Lays the fields that are stored at an alignment, the first slot's the highest, and returns the
+/// greatest alignment below it at which any is stored; 0 where there is none.
+fn lay_pass(
+    out: &mut Tail,
+    layout: &Layout,
+    slots: &[FieldInfo],
+    entries: &[Option<Value>],
+    align: u32,
+    start: u32,
+    ends: &mut [u32],
+) -> u32
+    requires long { length entries.now ≡ length slots.now }
+    requires each { length ends.old ≡ length slots.now }
+    requires low { start ≤ length out.old.bytes }
+    requires known { AreKnown layout.now (slots_seen layout.now slots.now)
+        (stored_seen layout.now slots.now entries.now) }
+    requires state { EntriesEnd layout.now start out.old.most out.old.bytes (λ k. above layout.now align)
+        (slots_seen layout.now slots.now) (stored_seen layout.now slots.now entries.now) ends.old }
+    requires whole { divides align (length out.old.bytes) ≡ true }
+    requires wide { divides align out.old.most ≡ true }
+    requires room { size_at layout.now align (slots_seen layout.now slots.now)
+        (stored_seen layout.now slots.now entries.now) ≤ out.old.free }
+    ensures next { result ≡ stored_below layout.now align (slots_seen layout.now slots.now)
+        (stored_seen layout.now slots.now entries.now) }
+    ensures each { length ends.new ≡ length slots.now }
+    ensures state { EntriesEnd layout.now start out.new.most out.new.bytes (λ k. from layout.now align)
+        (slots_seen layout.now slots.now) (stored_seen layout.now slots.now entries.now) ends.new }
+    ensures whole { divides align (length out.new.bytes) ≡ true }
+    ensures free { out.new.free + size_at layout.now align (slots_seen layout.now slots.now)
+        (stored_seen layout.now slots.now entries.now) ≡ out.old.free }
+    ensures most { out.new.most ≡ out.old.most }
+    ensures grows { Grows out.old out.new }
+{
+    let mut next = 0;
+    for k in 0..slots.len() {
+        let slot = &slots[k];
+        let entry = &entries[k];
+        let code = code_at(entries, k + 1);
+        next = align_below(layout, align, slot, code, entry).max(next);
+        ends[k] = lay_field(out, layout, align, slot, code, entry, start, ends[k]);
+    }
+    next
+}
+
+/// What the begin of a table's fields is a multiple of, where none is aligned above `most`.
+pub(crate) fn start_align(
+    layout: &Layout,
+    slots: &[FieldInfo],
+    entries: &[Option<Value>],
+    most: u32,
+) -> u32
+    requires long { length entries.now ≡ length slots.now }
+    ensures { stored_align layout.now (slots_seen layout.now slots.now)
+        (stored_seen layout.now slots.now entries.now) ≤ most
+        → result ≡ max 4 (stored_align layout.now (slots_seen layout.now slots.now)
+        (stored_seen layout.now slots.now entries.now)) }
+{
+    if most <= 4 {
+        return 4;
+    }
     let mut align = 4;
     for k in 0..slots.len() {
         align = field_align(layout, &slots[k], code_at(entries, k + 1), &entries[k]).max(align);
@@ -311,36 +320,45 @@ pub(crate) fn start_align(layout: &Layout, slots: &[FieldInfo], entries: &[Optio
     align
 }
 
-/// Lays the fields of a table by falling alignment, and returns how many bytes were laid before the
-/// first one.
+/// Lays the fields of a table by falling alignment, none of them above `most`, and returns how many
+/// bytes were laid before the first one.
 pub(crate) fn lay_fields(
     out: &mut Tail,
     layout: &Layout,
     slots: &[FieldInfo],
     entries: &[Option<Value>],
+    most: u32,
     ends: &mut [u32],
 ) -> u32
     requires long { length entries.now ≡ length slots.now }
+    requires low { stored_align layout.now (slots_seen layout.now slots.now)
+        (stored_seen layout.now slots.now entries.now) ≤ most }
     requires each { length ends.old ≡ length slots.now }
-    requires known { AreKnown layout.now (slots_seen layout.now slots.now) (stored_seen layout.now slots.now entries.now) }
-    requires state { EntriesEnd layout.now 0 out.old.most out.old.bytes (λ k f. false) (slots_seen layout.now slots.now) (stored_seen layout.now slots.now entries.now) ends.old }
-    requires room { stored_room layout.now (slots_seen layout.now slots.now) (stored_seen layout.now slots.now entries.now) ≤ out.old.free }
+    requires known { AreKnown layout.now (slots_seen layout.now slots.now)
+        (stored_seen layout.now slots.now entries.now) }
+    requires state { EntriesEnd layout.now 0 out.old.most out.old.bytes (λ k f. false)
+        (slots_seen layout.now slots.now) (stored_seen layout.now slots.now entries.now) ends.old }
+    requires room { stored_room layout.now (slots_seen layout.now slots.now)
+        (stored_seen layout.now slots.now entries.now) ≤ out.old.free }
     ensures each { length ends.new ≡ length slots.now }
-    ensures state { EntriesEnd layout.now result out.new.most out.new.bytes (λ k f. true) (slots_seen layout.now slots.now) (stored_seen layout.now slots.now entries.now) ends.new }
+    ensures state { EntriesEnd layout.now result out.new.most out.new.bytes (λ k f. true)
+        (slots_seen layout.now slots.now) (stored_seen layout.now slots.now entries.now) ends.new }
     ensures bound { out.new.most ≤ max out.old.most (greatest layout.now) }
     ensures grows { Grows out.old out.new }
     ensures wide { divides 4 out.new.most ≡ true }
     ensures start { result ≤ length out.new.bytes }
     ensures whole { result % 4 ≡ 0 }
-    ensures size { length out.new.bytes ≡ result + fields_size layout.now (slots_seen layout.now slots.now) (stored_seen layout.now slots.now entries.now) }
-    ensures spent { out.old.free ≤ out.new.free + stored_room layout.now (slots_seen layout.now slots.now) (stored_seen layout.now slots.now entries.now) }
+    ensures size { length out.new.bytes ≡ result
+        + fields_size layout.now (slots_seen layout.now slots.now)
+        (stored_seen layout.now slots.now entries.now) }
+    ensures spent { out.old.free ≤ out.new.free + stored_room layout.now (slots_seen layout.now slots.now)
+        (stored_seen layout.now slots.now entries.now) }
 {
-    let mut align = start_align(layout, slots, entries);
+    let mut align = start_align(layout, slots, entries, most);
     out.pad(align as usize, 0);
     let start = out.count() as u32;
     while align > 0 {
-        lay_pass(out, layout, slots, entries, align, start, ends);
-        align /= 2;
+        align = lay_pass(out, layout, slots, entries, align, start, ends);
     }
     start
 }

@@ -3,7 +3,7 @@ ghost use Rattle.std.specs.Prelude.{ℕ, ◌≡◌, ◌≤◌, ◌<◌, length, 
 ghost use Rattle.fb_build.specs.declared.faults.BuildFault.TheVariants.{Memory};
 
 use crate::faults::BuildFault;
-use crate::fields::{code_at, is_at, slot_size, start_align};
+use crate::fields::{align_below, code_at, is_at, slot_size, start_align};
 use crate::vtables::{index_of, put_vtable};
 use fb_layout::Layout;
 use fb_schema::{FieldInfo, TypeId};
@@ -17,9 +17,10 @@ const WIDEST: u32 = 65_528;
 /// Places the field of slot k, where it is stored at an alignment, and returns where the fields end.
 fn place_field(
     layout: &Layout,
-    slots: &[FieldInfo],
-    entries: &[Option<Value>],
     align: u32,
+    slot: &FieldInfo,
+    code: Option<u8>,
+    entry: &Option<Value>,
     k: usize,
     end: u32,
     ends: &mut [u32],
@@ -29,24 +30,22 @@ fn place_field(
     ensures under { (j : ℕ) → slice_index ends.new j ≤ result }
     ensures each { length ends.new ≡ length ends.old }
 {
-    if k >= slots.len() || k >= entries.len() {
+    if !is_at(layout, align, slot, code, entry) {
         return end;
     }
-    if !is_at(
-        layout,
-        align,
-        &slots[k],
-        code_at(entries, k + 1),
-        &entries[k],
-    ) {
-        return end;
-    }
-    let next = end.saturating_add(slot_size(layout, slots[k].shape));
+    let next = end.saturating_add(slot_size(layout, slot.shape));
     ends[k] = next;
     next
 }
 
-/// Places the fields that are stored at an alignment behind those before, and returns where they end.
+/// Where the fields that are placed end, and the next alignment at which any is stored.
+#[derive(Clone, Copy, Drop)]
+struct Placed {
+    end: u32,
+    next: u32,
+}
+
+/// Places the fields that are stored at an alignment behind those before.
 fn place_pass(
     layout: &Layout,
     slots: &[FieldInfo],
@@ -54,36 +53,47 @@ fn place_pass(
     align: u32,
     from: u32,
     ends: &mut [u32],
-) -> u32
+) -> Placed
+    requires long { length entries.now ≡ length slots.now }
+    requires each { length ends.old ≡ length slots.now }
     requires under { (j : ℕ) → slice_index ends.old j ≤ from }
-    ensures under { (j : ℕ) → slice_index ends.new j ≤ result }
+    ensures next { 0 < align → result.next < align }
+    ensures under { (j : ℕ) → slice_index ends.new j ≤ result.end }
     ensures each { length ends.new ≡ length ends.old }
 {
     let mut end = from;
-    for k in 0..ends.len() {
-        end = place_field(layout, slots, entries, align, k, end, ends);
+    let mut next = 0;
+    for k in 0..slots.len() {
+        let slot = &slots[k];
+        let entry = &entries[k];
+        let code = code_at(entries, k + 1);
+        next = align_below(layout, align, slot, code, entry).max(next);
+        end = place_field(layout, align, slot, code, entry, k, end, ends);
     }
-    end
+    Placed { end, next }
 }
 
-/// Places the stored fields of a table, and returns where they end. Counts begin at the table's end,
-/// and are 0 for what isn't stored.
+/// Places the stored fields of a table, none aligned above `most`, and returns where they end. Counts
+/// begin at the table's end, and are 0 for what isn't stored.
 fn place_fields(
     layout: &Layout,
     slots: &[FieldInfo],
     entries: &[Option<Value>],
+    most: u32,
     ends: &mut [u32],
 ) -> u32
     requires long { length entries.now ≡ length slots.now }
+    requires each { length ends.old ≡ length slots.now }
     ensures under { (k : ℕ) → slice_index ends.new k ≤ result }
     ensures each { length ends.new ≡ length ends.old }
 {
     ends.fill(0);
-    let mut align = start_align(layout, slots, entries);
+    let mut align = start_align(layout, slots, entries, most);
     let mut end = 0;
     while align > 0 {
-        end = place_pass(layout, slots, entries, align, end, ends);
-        align /= 2;
+        let placed = place_pass(layout, slots, entries, align, end, ends);
+        end = placed.end;
+        align = placed.next;
     }
     end
 }
@@ -106,7 +116,8 @@ fn add_vtable(
     let slots = layout.slots_of(table);
     let count = slots.len().min(entries.len()).min(ends.len());
     let ends = &mut ends[..count];
-    let end = place_fields(layout, &slots[..count], &entries[..count], ends);
+    let most = layout.table_align(table);
+    let end = place_fields(layout, &slots[..count], &entries[..count], most, ends);
     if end > WIDEST {
         return Ok(());
     }
@@ -144,7 +155,7 @@ fn add_tables(
     }
 }
 
-/// Adds the vtables of the tables in a vector.
+/// Adds the vtables of the tables in a vector. All its elements are tables where the first is.
 #[cycle(keys)]
 fn add_items(
     alloc: Global,
@@ -159,6 +170,9 @@ fn add_items(
     ensures each { length ends.new ≡ length ends.old }
     ensures fault { IfErr result (λ e. e ≡ Memory) }
 {
+    if !matches!(items.first(), Some(Value::Fields(_, _))) {
+        return Ok(());
+    }
     for item in items {
         add_tables(alloc, known, layout, item, ends, scratch)?;
     }
@@ -191,8 +205,9 @@ pub(crate) fn add_table(
         scratch,
     )?;
     for entry in entries {
-        if let Some(value) = entry {
-            add_tables(alloc, known, layout, value, ends, scratch)?;
+        match entry {
+            None | Some(Value::Number(_)) => {}
+            Some(value) => add_tables(alloc, known, layout, value, ends, scratch)?,
         }
     }
     Ok(())

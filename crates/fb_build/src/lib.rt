@@ -7,6 +7,7 @@ mod faults;
 mod fields;
 mod keys;
 mod needs;
+mod numbers;
 mod places;
 mod plans;
 mod roots;

@@ -1,12 +1,12 @@
 //! Lays what stands in the place of a value that is no number.
 ghost use Rattle.std.specs.Prelude.{◌≡◌, ◌≤◌, ◌+◌, length, true, None, option_map};
-ghost use Rattle.fb_layout.specs.Laid.{stored_shape};
 ghost use Rattle.fb_layout.specs.Widths.{inline_size, inline_align};
 ghost use Rattle.fb_value.specs.Num.{divides};
 ghost use Rattle.fb_value.specs.View.{view};
 ghost use Rattle.fb_value.specs.Wanted.{struct_wanted};
 ghost use Rattle.fb_build.specs.Tails.{Grows, LaidInTail};
 ghost use Rattle.fb_build.specs.Fields.{IsSimple, SlotFits, TargetEnd, target_for, sort_for, scalar_in};
+ghost use Rattle.fb_build.specs.Fields.{shape_seen};
 
 use crate::fields::lay_reference;
 use crate::structs::lay_struct;
@@ -17,7 +17,7 @@ use fb_value::Value;
 
 /// The struct of a shape that is one.
 fn struct_in(layout: &Layout, shape: Shape) -> Option<TypeId>
-    ensures { option_map (λ t. t.0) result ≡ struct_wanted (stored_shape layout.now.schema shape) }
+    ensures { option_map (λ t. t.0) result ≡ struct_wanted (shape_seen layout.now shape) }
 {
     let Shape::One(kind) = shape else {
         return None;
@@ -35,16 +35,21 @@ fn struct_in(layout: &Layout, shape: Shape) -> Option<TypeId>
 
 /// Lays a struct, or a reference to what was laid at an end-count.
 pub(crate) fn lay_place(out: &mut Tail, layout: &Layout, shape: Shape, value: &Value, end: u32)
-    requires simple { IsSimple layout.now (stored_shape layout.now.schema shape) }
-    requires other { scalar_in (stored_shape layout.now.schema shape) ≡ None }
-    requires fits { SlotFits layout.now (stored_shape layout.now.schema shape) (view value.now) }
-    requires target { TargetEnd layout.now out.old.most out.old.bytes (target_for (stored_shape layout.now.schema shape) (view value.now)) end (view value.now) }
-    requires room { inline_size layout.now (stored_shape layout.now.schema shape) ≤ out.old.free }
-    requires whole { divides (inline_align layout.now (stored_shape layout.now.schema shape)) (length out.old.bytes) ≡ true }
-    requires wide { divides (inline_align layout.now (stored_shape layout.now.schema shape)) out.old.most ≡ true }
-    ensures lies { LaidInTail layout.now out.new.most out.new.bytes (sort_for (stored_shape layout.now.schema shape) (view value.now)) (length out.new.bytes) (view value.now) }
-    ensures free { out.new.free + inline_size layout.now (stored_shape layout.now.schema shape) ≡ out.old.free }
-    ensures long { length out.new.bytes ≡ length out.old.bytes + inline_size layout.now (stored_shape layout.now.schema shape) }
+    requires simple { IsSimple layout.now (shape_seen layout.now shape) }
+    requires other { scalar_in (shape_seen layout.now shape) ≡ None }
+    requires fits { SlotFits layout.now (shape_seen layout.now shape) (view value.now) }
+    requires target { TargetEnd layout.now out.old.most out.old.bytes
+        (target_for (shape_seen layout.now shape) (view value.now)) end (view value.now) }
+    requires room { inline_size layout.now (shape_seen layout.now shape) ≤ out.old.free }
+    requires whole { divides (inline_align layout.now (shape_seen layout.now shape))
+        (length out.old.bytes) ≡ true }
+    requires wide { divides (inline_align layout.now (shape_seen layout.now shape)) out.old.most ≡ true }
+    ensures lies { LaidInTail layout.now out.new.most out.new.bytes
+        (sort_for (shape_seen layout.now shape) (view value.now)) (length out.new.bytes)
+        (view value.now) }
+    ensures free { out.new.free + inline_size layout.now (shape_seen layout.now shape) ≡ out.old.free }
+    ensures long { length out.new.bytes ≡ length out.old.bytes
+        + inline_size layout.now (shape_seen layout.now shape) }
     ensures most { out.new.most ≡ out.old.most }
     ensures grows { Grows out.old out.new }
 {

@@ -47,7 +47,8 @@ impl Plan<'_> {
     /// Lays the bytes, with no memory but what the plan has.
     pub fn finish(self) -> Vec<u8>
         ensures holds { (most : Bounds) (raw : Bool) → depth (view self.entry.value) ≤ most.depth
-            → cells (view self.entry.value) ≤ most.cells → Holds self.entry.layout most raw result.items (view self.entry.value) }
+            → cells (view self.entry.value) ≤ most.cells → Holds self.entry.layout most raw result.items
+            (view self.entry.value) }
         ensures old_slots { OnlyOld self.entry.layout result.items }
         ensures short { length result.items ≤ room_of self.entry.layout (view self.entry.value) }
     {

@@ -1,14 +1,16 @@
 //! Lays structs.
 ghost use Rattle.std.specs.Prelude.{◌≡◌, ◌≤◌, ◌+◌, length, IsTrue};
 ghost use Rattle.fb_schema.specs.Schema.{body_at, is_struct};
-ghost use Rattle.fb_layout.specs.Laid.{stored_kind, one_of, parts_of, struct_at, size_of};
+ghost use Rattle.fb_layout.specs.Laid.{one_of, parts_of, struct_at, size_of};
 ghost use Rattle.fb_value.specs.Fits.{Fits, PartsFit};
 ghost use Rattle.fb_value.specs.Lies.{LiesInline, LiesParts};
 ghost use Rattle.fb_value.specs.View.{view, parts_view};
 ghost use Rattle.fb_build.specs.Tails.{Grows};
 ghost use Rattle.fb_build.specs.Structs.{IsInline};
+ghost use Rattle.fb_build.specs.Fields.{kind_seen};
 
-use crate::fields::{number_in, put_number, scalar_base};
+use crate::fields::{number_in, scalar_base};
+use crate::numbers::put_number;
 use crate::tail::Tail;
 use fb_layout::{Layout, kind_in};
 use fb_schema::{Kind, Shape, TypeId};
@@ -20,7 +22,8 @@ pub(crate) fn lay_struct(out: &mut Tail, layout: &Layout, structure: TypeId, par
     requires there { IsTrue (is_struct (body_at layout.now.schema structure.0)) }
     requires fits { PartsFit layout.now (parts_of layout.now structure.0) (parts_view parts.now.items) }
     requires room { (struct_at layout.now structure.0).size ≤ out.old.free }
-    ensures lies { LiesParts layout.now out.new.bytes (parts_of layout.now structure.0) (struct_at layout.now structure.0).offsets 0 (parts_view parts.now.items) }
+    ensures lies { LiesParts layout.now out.new.bytes (parts_of layout.now structure.0)
+        (struct_at layout.now structure.0).offsets 0 (parts_view parts.now.items) }
     ensures free { out.new.free + (struct_at layout.now structure.0).size ≡ out.old.free }
     ensures most { out.new.most ≡ out.old.most }
     ensures grows { Grows out.old out.new }
@@ -43,11 +46,11 @@ pub(crate) fn lay_struct(out: &mut Tail, layout: &Layout, structure: TypeId, par
 /// Lays a number or a struct, wherever it stands.
 #[cycle(structs)]
 fn lay_inline(out: &mut Tail, layout: &Layout, kind: Kind, value: &Value)
-    requires inline { IsInline layout.now (stored_kind layout.now.schema kind) }
-    requires fits { Fits layout.now (one_of (stored_kind layout.now.schema kind)) (view value.now) }
-    requires room { size_of layout.now (stored_kind layout.now.schema kind) ≤ out.old.free }
-    ensures lies { LiesInline layout.now out.new.bytes (stored_kind layout.now.schema kind) 0 (view value.now) }
-    ensures free { out.new.free + size_of layout.now (stored_kind layout.now.schema kind) ≡ out.old.free }
+    requires inline { IsInline layout.now (kind_seen layout.now kind) }
+    requires fits { Fits layout.now (one_of (kind_seen layout.now kind)) (view value.now) }
+    requires room { size_of layout.now (kind_seen layout.now kind) ≤ out.old.free }
+    ensures lies { LiesInline layout.now out.new.bytes (kind_seen layout.now kind) 0 (view value.now) }
+    ensures free { out.new.free + size_of layout.now (kind_seen layout.now kind) ≡ out.old.free }
     ensures most { out.new.most ≡ out.old.most }
     ensures grows { Grows out.old out.new }
 {

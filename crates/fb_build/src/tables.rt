@@ -1,8 +1,8 @@
 //! Lays tables.
-ghost use Rattle.std.specs.Prelude.{ℕ, Option, ◌≡◌, ◌≤◌, ◌<◌, ◌+◌, ◌-◌, ◌*◌, ◌/◌, ◌%◌, length, true, false, map, max, option_map};
-ghost use Rattle.fb_layout.specs.Laid.{slots_of, slot_of, stored_shape, stored_kind, kind_in, align_of};
+ghost use Rattle.std.specs.Prelude.{ℕ, Option, ◌≡◌, ◌≤◌, ◌<◌, ◌+◌, ◌-◌, ◌*◌, ◌/◌, ◌%◌, length, true};
+ghost use Rattle.std.specs.Prelude.{false, map, max, option_map};
+ghost use Rattle.fb_layout.specs.Laid.{slots_of, kind_in, align_of};
 ghost use Rattle.fb_layout.specs.Widths.{greatest};
-ghost use Rattle.fb_schema.specs.Seen.{field_seen};
 ghost use Rattle.fb_value.specs.Entries.{EntryFits, entry_room};
 ghost use Rattle.fb_value.specs.Fits.{EntriesFit, EachFits};
 ghost use Rattle.fb_value.specs.Room.{room, table_room, vector_room, parts_room, entries_room};
@@ -13,7 +13,9 @@ ghost use Rattle.fb_value.specs.Num.{divides};
 ghost use Rattle.fb_value.specs.Places.{part_place, table_part, vector_part};
 ghost use Rattle.fb_value.specs.View.{view, parts_view, entries_view};
 ghost use Rattle.fb_build.specs.Tails.{Grows, LaidInTail};
-ghost use Rattle.fb_build.specs.Fields.{EntriesEnd, EntryEnd, IsSimple, IsElement, stored_here, stored_in, stored_seen, slots_seen, entries_seen};
+ghost use Rattle.fb_build.specs.Fields.{EntriesEnd, EntryEnd, IsSimple, IsElement, stored_in};
+ghost use Rattle.fb_build.specs.Fields.{stored_seen, slots_seen, entries_seen, slot_seen, entry_stored};
+ghost use Rattle.fb_build.specs.Fields.{shape_seen, kind_seen};
 ghost use Rattle.fb_build.specs.Needs.{entries_count, entries_need, entry_need, need, parts_need, IsSliced};
 ghost use Rattle.fb_build.specs.Parts.{PartFits, PartEnd, EntryWhole, TableKnown};
 ghost use Rattle.fb_build.specs.Items.{TargetsEnd};
@@ -47,19 +49,24 @@ fn close_table(
     requires long { 65534 ≤ length scratch.old }
     requires fits { TableKnown layout.now (slots_of layout.now table.0) (entries_seen entries.now) }
     requires each { length ends.now ≡ length (slots_of layout.now table.0) }
-    requires state { EntriesEnd layout.now start out.old.most out.old.bytes (λ k f. true) (slots_of layout.now table.0) (stored_in (slots_of layout.now table.0) (entries_seen entries.now)) ends.now }
+    requires state { EntriesEnd layout.now start out.old.most out.old.bytes (λ k f. true)
+        (slots_of layout.now table.0) (stored_in (slots_of layout.now table.0) (entries_seen entries.now))
+        ends.now }
     requires wide { divides 4 out.old.most ≡ true }
     requires start { start ≤ length out.old.bytes }
     requires whole { start % 4 ≡ 0 }
     requires narrow { length out.old.bytes ≤ start + 65528 }
-    requires room { ceil4 (length out.old.bytes - start) + (8 + 2 * length ends.now) ≤ out.old.free + (length out.old.bytes - start) }
+    requires room { ceil4 (length out.old.bytes - start) + (8 + 2 * length ends.now) ≤ out.old.free
+        + (length out.old.bytes - start) }
     requires shared { AreLaid (map (λ k. k.items) known.now.keys) places.old out.old.bytes }
-    ensures lies { LaidInTail layout.now out.new.most out.new.bytes (part_place (table_part table.0)) result (a_table table.0 (entries_view entries.now)) }
+    ensures lies { LaidInTail layout.now out.new.most out.new.bytes (part_place (table_part table.0))
+        result (a_table table.0 (entries_view entries.now)) }
     ensures shared { AreLaid (map (λ k. k.items) known.now.keys) places.new out.new.bytes }
     ensures bound { out.new.most ≤ max out.old.most (greatest layout.now) }
     ensures grows { Grows out.old out.new }
     ensures long { length scratch.new ≡ length scratch.old }
-    ensures spent { out.old.free + (length out.old.bytes - start) ≤ out.new.free + (ceil4 (length out.old.bytes - start) + (8 + 2 * length ends.now)) }
+    ensures spent { out.old.free + (length out.old.bytes - start) ≤ out.new.free
+        + (ceil4 (length out.old.bytes - start) + (8 + 2 * length ends.now)) }
 {
     out.pad(4, 0);
     let place = out.count() as u32 + 4;
@@ -82,16 +89,21 @@ pub(crate) fn lay_table(
     requires sliced { IsSliced layout.now }
     requires fits { EntriesFit layout.now (slots_of layout.now table.0) (entries_view entries.now.items) }
     requires whole { entries_whole (entries_view entries.now.items) ≡ true }
-    requires room { table_room layout.now table.0 + entries_room layout.now (slots_of layout.now table.0) (entries_view entries.now.items) ≤ out.old.free }
-    requires pending { entries_count (entries_view entries.now.items) + entries_need (entries_view entries.now.items) ≤ length pending.old }
+    requires room { table_room layout.now table.0 + entries_room layout.now (slots_of layout.now table.0)
+        (entries_view entries.now.items) ≤ out.old.free }
+    requires pending { entries_count (entries_view entries.now.items)
+        + entries_need (entries_view entries.now.items) ≤ length pending.old }
     requires long { 65534 ≤ length scratch.old }
     requires shared { AreLaid (map (λ k. k.items) known.now.keys) places.old out.old.bytes }
-    ensures lies { LaidInTail layout.now out.new.most out.new.bytes (part_place (table_part table.0)) result (a_table table.0 (entries_view entries.now.items)) }
+    ensures lies { LaidInTail layout.now out.new.most out.new.bytes (part_place (table_part table.0))
+        result (a_table table.0 (entries_view entries.now.items)) }
     ensures shared { AreLaid (map (λ k. k.items) known.now.keys) places.new out.new.bytes }
     ensures bound { out.new.most ≤ max out.old.most (greatest layout.now) }
     ensures grows { Grows out.old out.new }
     ensures long { length scratch.new ≡ length scratch.old }
-    ensures spent { out.old.free ≤ out.new.free + (table_room layout.now table.0 + entries_room layout.now (slots_of layout.now table.0) (entries_view entries.now.items)) }
+    ensures spent { out.old.free ≤ out.new.free
+        + (table_room layout.now table.0 + entries_room layout.now (slots_of layout.now table.0)
+        (entries_view entries.now.items)) }
 {
     let _schema = layout.schema(); // tells that the layout is well made
     let slots = layout.slots_of(table);
@@ -99,7 +111,8 @@ pub(crate) fn lay_table(
     lay_targets(
         out, known, places, layout, slots, entries, ends, rest, scratch,
     );
-    let start = lay_fields(out, layout, slots, entries.as_slice(), ends);
+    let most = layout.table_align(table);
+    let start = lay_fields(out, layout, slots, entries.as_slice(), most, ends);
     close_table(
         out,
         known,
@@ -129,17 +142,20 @@ fn lay_targets(
     requires sliced { IsSliced layout.now }
     requires each { length ends.old ≡ length slots.now }
     requires fits { TableKnown layout.now (slots_seen layout.now slots.now) (entries_seen entries.now.items) }
-    requires room { entries_room layout.now (slots_seen layout.now slots.now) (entries_view entries.now.items) ≤ out.old.free }
+    requires room { entries_room layout.now (slots_seen layout.now slots.now)
+        (entries_view entries.now.items) ≤ out.old.free }
     requires pending { entries_need (entries_view entries.now.items) ≤ length pending.old }
     requires long { 65534 ≤ length scratch.old }
     requires shared { AreLaid (map (λ k. k.items) known.now.keys) places.old out.old.bytes }
     ensures each { length ends.new ≡ length slots.now }
-    ensures state { EntriesEnd layout.now 0 out.new.most out.new.bytes (λ k f. false) (slots_seen layout.now slots.now) (stored_seen layout.now slots.now entries.now.items) ends.new }
+    ensures state { EntriesEnd layout.now 0 out.new.most out.new.bytes (λ k f. false)
+        (slots_seen layout.now slots.now) (stored_seen layout.now slots.now entries.now.items) ends.new }
     ensures shared { AreLaid (map (λ k. k.items) known.now.keys) places.new out.new.bytes }
     ensures bound { out.new.most ≤ max out.old.most (greatest layout.now) }
     ensures grows { Grows out.old out.new }
     ensures long { length scratch.new ≡ length scratch.old }
-    ensures spent { out.old.free ≤ out.new.free + entries_room layout.now (slots_seen layout.now slots.now) (entries_view entries.now.items) }
+    ensures spent { out.old.free ≤ out.new.free
+        + entries_room layout.now (slots_seen layout.now slots.now) (entries_view entries.now.items) }
 {
     for k in 0..slots.len() {
         ends[k] = lay_target(
@@ -168,23 +184,28 @@ fn lay_target(
     scratch: &mut [u8],
 ) -> u32
     requires sliced { IsSliced layout.now }
-    requires low { align_of layout.now (kind_in (stored_shape layout.now.schema slot.now.shape)) ≤ greatest layout.now }
-    requires simple { IsSimple layout.now (stored_shape layout.now.schema slot.now.shape) }
-    requires fits { EntryFits layout.now (slot_of layout.now.schema (field_seen slot.now)) (option_map view entry.now) }
+    requires low { align_of layout.now (kind_in (shape_seen layout.now slot.now.shape))
+        ≤ greatest layout.now }
+    requires simple { IsSimple layout.now (shape_seen layout.now slot.now.shape) }
+    requires fits { EntryFits layout.now (slot_seen layout.now slot.now) (option_map view entry.now) }
     requires whole { EntryWhole (option_map view entry.now) }
-    requires room { entry_room layout.now (slot_of layout.now.schema (field_seen slot.now)) (option_map view entry.now) ≤ out.old.free }
+    requires room { entry_room layout.now (slot_seen layout.now slot.now) (option_map view entry.now)
+        ≤ out.old.free }
     requires pending { entry_need (option_map view entry.now) ≤ length pending.old }
     requires long { 65534 ≤ length scratch.old }
     requires shared { AreLaid (map (λ k. k.items) known.now.keys) places.old out.old.bytes }
-    ensures state { (code : Option ℕ) → EntryEnd layout.now 0 out.new.most out.new.bytes false (slot_of layout.now.schema (field_seen slot.now)) (stored_here (stored_shape layout.now.schema slot.now.shape) code (option_map view entry.now)) result }
+    ensures state { (code : Option ℕ) → EntryEnd layout.now 0 out.new.most out.new.bytes false
+        (slot_seen layout.now slot.now) (entry_stored layout.now slot.now code entry.now) result }
     ensures shared { AreLaid (map (λ k. k.items) known.now.keys) places.new out.new.bytes }
     ensures bound { out.new.most ≤ max out.old.most (greatest layout.now) }
     ensures grows { Grows out.old out.new }
     ensures long { length scratch.new ≡ length scratch.old }
-    ensures spent { out.old.free ≤ out.new.free + entry_room layout.now (slot_of layout.now.schema (field_seen slot.now)) (option_map view entry.now) }
+    ensures spent { out.old.free ≤ out.new.free + entry_room layout.now (slot_seen layout.now slot.now)
+        (option_map view entry.now) }
 {
     match entry {
         None => 0,
+        Some(Value::Number(_)) => 0,
         Some(value) => lay_part(
             out, known, places, layout, slot.shape, value, pending, scratch,
         ),
@@ -205,18 +226,20 @@ fn lay_part(
     scratch: &mut [u8],
 ) -> u32
     requires sliced { IsSliced layout.now }
-    requires fits { PartFits layout.now (stored_shape layout.now.schema shape) (view value.now) }
+    requires fits { PartFits layout.now (shape_seen layout.now shape) (view value.now) }
     requires whole { is_whole (view value.now) ≡ true }
-    requires room { room layout.now (stored_shape layout.now.schema shape) (view value.now) ≤ out.old.free }
+    requires room { room layout.now (shape_seen layout.now shape) (view value.now) ≤ out.old.free }
     requires pending { need (view value.now) ≤ length pending.old }
     requires long { 65534 ≤ length scratch.old }
     requires shared { AreLaid (map (λ k. k.items) known.now.keys) places.old out.old.bytes }
-    ensures state { PartEnd layout.now out.new.most out.new.bytes (stored_shape layout.now.schema shape) (view value.now) result }
+    ensures state { PartEnd layout.now out.new.most out.new.bytes (shape_seen layout.now shape)
+        (view value.now) result }
     ensures shared { AreLaid (map (λ k. k.items) known.now.keys) places.new out.new.bytes }
     ensures bound { out.new.most ≤ max out.old.most (greatest layout.now) }
     ensures grows { Grows out.old out.new }
     ensures long { length scratch.new ≡ length scratch.old }
-    ensures spent { out.old.free ≤ out.new.free + room layout.now (stored_shape layout.now.schema shape) (view value.now) }
+    ensures spent { out.old.free ≤ out.new.free + room layout.now (shape_seen layout.now shape)
+        (view value.now) }
 {
     match value {
         Value::Text(text) => {
@@ -254,20 +277,26 @@ fn lay_items(
     scratch: &mut [u8],
 ) -> u32
     requires sliced { IsSliced layout.now }
-    requires low { align_of layout.now (stored_kind layout.now.schema kind) ≤ greatest layout.now }
-    requires element { IsElement layout.now (stored_kind layout.now.schema kind) }
-    requires fits { EachFits layout.now (stored_kind layout.now.schema kind) (parts_view items.now.items) }
+    requires low { align_of layout.now (kind_seen layout.now kind) ≤ greatest layout.now }
+    requires element { IsElement layout.now (kind_seen layout.now kind) }
+    requires fits { EachFits layout.now (kind_seen layout.now kind) (parts_view items.now.items) }
     requires whole { parts_whole (parts_view items.now.items) ≡ true }
-    requires room { vector_room layout.now (stored_kind layout.now.schema kind) (count (parts_view items.now.items)) + parts_room layout.now (stored_kind layout.now.schema kind) (parts_view items.now.items) ≤ out.old.free }
+    requires room { vector_room layout.now (kind_seen layout.now kind)
+        (count (parts_view items.now.items)) + parts_room layout.now (kind_seen layout.now kind)
+        (parts_view items.now.items) ≤ out.old.free }
     requires pending { need (a_vector (parts_view items.now.items)) ≤ length pending.old }
     requires long { 65534 ≤ length scratch.old }
     requires shared { AreLaid (map (λ k. k.items) known.now.keys) places.old out.old.bytes }
-    ensures lies { LaidInTail layout.now out.new.most out.new.bytes (part_place (vector_part (stored_kind layout.now.schema kind))) result (a_vector (parts_view items.now.items)) }
+    ensures lies { LaidInTail layout.now out.new.most out.new.bytes
+        (part_place (vector_part (kind_seen layout.now kind))) result
+        (a_vector (parts_view items.now.items)) }
     ensures shared { AreLaid (map (λ k. k.items) known.now.keys) places.new out.new.bytes }
     ensures bound { out.new.most ≤ max out.old.most (greatest layout.now) }
     ensures grows { Grows out.old out.new }
     ensures long { length scratch.new ≡ length scratch.old }
-    ensures spent { out.old.free ≤ out.new.free + (vector_room layout.now (stored_kind layout.now.schema kind) (count (parts_view items.now.items)) + parts_room layout.now (stored_kind layout.now.schema kind) (parts_view items.now.items)) }
+    ensures spent { out.old.free ≤ out.new.free
+        + (vector_room layout.now (kind_seen layout.now kind) (count (parts_view items.now.items))
+        + parts_room layout.now (kind_seen layout.now kind) (parts_view items.now.items)) }
 {
     if !waits(items.as_slice()) {
         return close_vector(out, layout, kind, items.as_slice(), &[]);
@@ -291,22 +320,25 @@ fn lay_item_targets(
     scratch: &mut [u8],
 )
     requires sliced { IsSliced layout.now }
-    requires low { align_of layout.now (stored_kind layout.now.schema kind) ≤ greatest layout.now }
-    requires element { IsElement layout.now (stored_kind layout.now.schema kind) }
+    requires low { align_of layout.now (kind_seen layout.now kind) ≤ greatest layout.now }
+    requires element { IsElement layout.now (kind_seen layout.now kind) }
     requires each { length ends.old ≡ length items.now.items }
-    requires fits { EachFits layout.now (stored_kind layout.now.schema kind) (parts_view items.now.items) }
+    requires fits { EachFits layout.now (kind_seen layout.now kind) (parts_view items.now.items) }
     requires whole { parts_whole (parts_view items.now.items) ≡ true }
-    requires room { parts_room layout.now (stored_kind layout.now.schema kind) (parts_view items.now.items) ≤ out.old.free }
+    requires room { parts_room layout.now (kind_seen layout.now kind) (parts_view items.now.items)
+        ≤ out.old.free }
     requires pending { parts_need (parts_view items.now.items) ≤ length pending.old }
     requires long { 65534 ≤ length scratch.old }
     requires shared { AreLaid (map (λ k. k.items) known.now.keys) places.old out.old.bytes }
     ensures each { length ends.new ≡ length items.now.items }
-    ensures state { TargetsEnd layout.now out.new.most out.new.bytes (stored_kind layout.now.schema kind) (map view items.now.items) ends.new }
+    ensures state { TargetsEnd layout.now out.new.most out.new.bytes (kind_seen layout.now kind)
+        (map view items.now.items) ends.new }
     ensures shared { AreLaid (map (λ k. k.items) known.now.keys) places.new out.new.bytes }
     ensures bound { out.new.most ≤ max out.old.most (greatest layout.now) }
     ensures grows { Grows out.old out.new }
     ensures long { length scratch.new ≡ length scratch.old }
-    ensures spent { out.old.free ≤ out.new.free + parts_room layout.now (stored_kind layout.now.schema kind) (parts_view items.now.items) }
+    ensures spent { out.old.free ≤ out.new.free + parts_room layout.now (kind_seen layout.now kind)
+        (parts_view items.now.items) }
 {
     for k in 0..items.len() {
         ends[k] = lay_part(

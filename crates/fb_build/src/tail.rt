@@ -1,5 +1,6 @@
 //! A block that is filled from its end.
-ghost use Rattle.std.specs.Prelude.{◌≡◌, ◌≤◌, ◌<◌, ◌+◌, ◌-◌, ◌^◌, ◌%◌, ◌++◌, length, take, drop, replicate, max, true, ℕ};
+ghost use Rattle.std.specs.Prelude.{◌≡◌, ◌≤◌, ◌<◌, ◌+◌, ◌-◌, ◌^◌, ◌%◌, ◌++◌, length, take, drop};
+ghost use Rattle.std.specs.Prelude.{replicate, max, true, ℕ};
 ghost use Rattle.fb_value.specs.Num.{divides};
 ghost use Rattle.byteorder.specs.Endian.{little_bytes};
 ghost use Rattle.fb_layout.specs.Sizes.{IsAlignment};
@@ -26,7 +27,8 @@ impl Model for Tail {
 
     ghost view = { λ t. record { free = t.free; bytes = drop t.free t.block.items; most = t.most } };
 
-    ghost invariant = { λ t. (t.free ≤ length t.block.items) × (length t.block.items ≤ 2147483647) × (take t.free t.block.items ≡ replicate t.free 0) × IsAlignment t.most };
+    ghost invariant = { λ t. (t.free ≤ length t.block.items) × (length t.block.items ≤ 2147483647)
+        × (take t.free t.block.items ≡ replicate t.free 0) × IsAlignment t.most };
 }
 
 impl Tail {

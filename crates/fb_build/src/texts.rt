@@ -10,7 +10,8 @@ use crate::tail::Tail;
 /// Lays a text, and returns how many bytes are laid then.
 pub(crate) fn lay_text(out: &mut Tail, text: &str) -> usize
     requires room { length text.now + 8 ≤ out.old.free }
-    ensures lies { (L : LaidSchema) → LaidInTail L out.new.most out.new.bytes (part_place text_part) result (a_text text.now) }
+    ensures lies { (L : LaidSchema) → LaidInTail L out.new.most out.new.bytes (part_place text_part)
+        result (a_text text.now) }
     ensures exact { result ≡ length out.new.bytes }
     ensures bound { out.new.most ≤ max out.old.most 4 }
     ensures grows { Grows out.old out.new }

@@ -1,7 +1,7 @@
 //! Lays the elements of vectors.
 ghost use Rattle.std.specs.Prelude.{◌≡◌, ◌≤◌, ◌<◌, ◌+◌, ◌*◌, length, true, map, max, slice_index};
 ghost use Rattle.fb_schema.specs.WellDeclared.{InRange};
-ghost use Rattle.fb_layout.specs.Laid.{stored_kind, one_of, size_of, align_of};
+ghost use Rattle.fb_layout.specs.Laid.{one_of, size_of, align_of};
 ghost use Rattle.fb_layout.specs.Widths.{greatest};
 ghost use Rattle.fb_value.specs.Datum.{a_vector};
 ghost use Rattle.fb_value.specs.Num.{divides};
@@ -9,31 +9,45 @@ ghost use Rattle.fb_value.specs.Places.{part_place, vector_part};
 ghost use Rattle.fb_value.specs.Room.{vector_room};
 ghost use Rattle.fb_value.specs.View.{view, parts_view};
 ghost use Rattle.fb_build.specs.Tails.{Grows, LaidInTail};
-ghost use Rattle.fb_build.specs.Fields.{IsElement, SlotFits, TargetEnd, target_for, sort_for};
+ghost use Rattle.fb_build.specs.Fields.{IsElement, SlotFits, TargetEnd, target_for, sort_for, scalar_in};
+ghost use Rattle.fb_build.specs.Fields.{kind_seen};
 ghost use Rattle.fb_build.specs.Items.{ItemsEnd, ItemsKnown, TargetsEnd};
 
-use crate::fields::{lay_number, number_in, scalar_base};
+use crate::fields::{number_in, scalar_base};
+use crate::numbers::lay_number;
 use crate::places::lay_place;
 use crate::tail::Tail;
 use fb_layout::Layout;
-use fb_schema::{Kind, Shape};
+use fb_schema::{Base, Kind, Shape};
 use fb_value::Value;
 
-/// Lays an element where it stands in its vector.
-fn lay_element(out: &mut Tail, layout: &Layout, kind: Kind, value: &Value, end: u32)
-    requires element { IsElement layout.now (stored_kind layout.now.schema kind) }
-    requires fits { SlotFits layout.now (one_of (stored_kind layout.now.schema kind)) (view value.now) }
-    requires target { TargetEnd layout.now out.old.most out.old.bytes (target_for (one_of (stored_kind layout.now.schema kind)) (view value.now)) end (view value.now) }
-    requires room { size_of layout.now (stored_kind layout.now.schema kind) ≤ out.old.free }
-    requires whole { divides (align_of layout.now (stored_kind layout.now.schema kind)) (length out.old.bytes) ≡ true }
-    requires wide { divides (align_of layout.now (stored_kind layout.now.schema kind)) out.old.most ≡ true }
-    ensures lies { LaidInTail layout.now out.new.most out.new.bytes (sort_for (one_of (stored_kind layout.now.schema kind)) (view value.now)) (length out.new.bytes) (view value.now) }
-    ensures free { out.new.free + size_of layout.now (stored_kind layout.now.schema kind) ≡ out.old.free }
-    ensures long { length out.new.bytes ≡ length out.old.bytes + size_of layout.now (stored_kind layout.now.schema kind) }
+/// Lays an element where it stands in its vector; of numbers `base` is the basic type.
+fn lay_element(
+    out: &mut Tail,
+    layout: &Layout,
+    kind: Kind,
+    base: Option<Base>,
+    value: &Value,
+    end: u32,
+)
+    requires base { base ≡ scalar_in (one_of (kind_seen layout.now kind)) }
+    requires element { IsElement layout.now (kind_seen layout.now kind) }
+    requires fits { SlotFits layout.now (one_of (kind_seen layout.now kind)) (view value.now) }
+    requires target { TargetEnd layout.now out.old.most out.old.bytes
+        (target_for (one_of (kind_seen layout.now kind)) (view value.now)) end (view value.now) }
+    requires room { size_of layout.now (kind_seen layout.now kind) ≤ out.old.free }
+    requires whole { divides (align_of layout.now (kind_seen layout.now kind)) (length out.old.bytes) ≡ true }
+    requires wide { divides (align_of layout.now (kind_seen layout.now kind)) out.old.most ≡ true }
+    ensures lies { LaidInTail layout.now out.new.most out.new.bytes
+        (sort_for (one_of (kind_seen layout.now kind)) (view value.now)) (length out.new.bytes)
+        (view value.now) }
+    ensures free { out.new.free + size_of layout.now (kind_seen layout.now kind) ≡ out.old.free }
+    ensures long { length out.new.bytes ≡ length out.old.bytes
+        + size_of layout.now (kind_seen layout.now kind) }
     ensures most { out.new.most ≡ out.old.most }
     ensures grows { Grows out.old out.new }
 {
-    match scalar_base(layout, Shape::One(kind)) {
+    match base {
         Some(base) => lay_number(out, base, number_in(value)),
         None => lay_place(out, layout, Shape::One(kind), value, end),
     }
@@ -51,25 +65,29 @@ fn end_at(ends: &[u32], i: usize) -> u32
 
 /// Lays the elements of a vector, from the last to the first.
 fn lay_elements(out: &mut Tail, layout: &Layout, kind: Kind, items: &[Value], ends: &[u32])
-    requires known { ItemsKnown layout.now (stored_kind layout.now.schema kind) (map view items.now) }
-    requires targets { TargetsEnd layout.now out.old.most out.old.bytes (stored_kind layout.now.schema kind) (map view items.now) ends.now }
-    requires room { length items.now * size_of layout.now (stored_kind layout.now.schema kind) ≤ out.old.free }
-    requires whole { divides (align_of layout.now (stored_kind layout.now.schema kind)) (length out.old.bytes) ≡ true }
-    requires wide { divides (align_of layout.now (stored_kind layout.now.schema kind)) out.old.most ≡ true }
-    ensures lies { ItemsEnd layout.now out.new.most out.new.bytes (stored_kind layout.now.schema kind) (parts_view items.now) }
-    ensures free { out.new.free + length items.now * size_of layout.now (stored_kind layout.now.schema kind) ≡ out.old.free }
+    requires known { ItemsKnown layout.now (kind_seen layout.now kind) (map view items.now) }
+    requires targets { TargetsEnd layout.now out.old.most out.old.bytes (kind_seen layout.now kind)
+        (map view items.now) ends.now }
+    requires room { length items.now * size_of layout.now (kind_seen layout.now kind) ≤ out.old.free }
+    requires whole { divides (align_of layout.now (kind_seen layout.now kind)) (length out.old.bytes) ≡ true }
+    requires wide { divides (align_of layout.now (kind_seen layout.now kind)) out.old.most ≡ true }
+    ensures lies { ItemsEnd layout.now out.new.most out.new.bytes (kind_seen layout.now kind)
+        (parts_view items.now) }
+    ensures free { out.new.free + length items.now * size_of layout.now (kind_seen layout.now kind)
+        ≡ out.old.free }
     ensures most { out.new.most ≡ out.old.most }
     ensures grows { Grows out.old out.new }
 {
+    let base = scalar_base(layout, Shape::One(kind));
     for k in 0..items.len() {
         let i = items.len() - 1 - k;
-        lay_element(out, layout, kind, &items[i], end_at(ends, i));
+        lay_element(out, layout, kind, base, &items[i], end_at(ends, i));
     }
 }
 
 /// What the place of a vector's elements is a multiple of.
 fn items_align(layout: &Layout, kind: Kind) -> usize
-    ensures { result ≡ max 4 (align_of layout.now (stored_kind layout.now.schema kind)) }
+    ensures { result ≡ max 4 (align_of layout.now (kind_seen layout.now kind)) }
 {
     layout.align_of(kind).max(4) as usize
 }
@@ -82,14 +100,17 @@ pub(crate) fn close_vector(
     items: &[Value],
     ends: &[u32],
 ) -> u32
-    requires known { ItemsKnown layout.now (stored_kind layout.now.schema kind) (map view items.now) }
-    requires low { align_of layout.now (stored_kind layout.now.schema kind) ≤ greatest layout.now }
-    requires targets { TargetsEnd layout.now out.old.most out.old.bytes (stored_kind layout.now.schema kind) (map view items.now) ends.now }
-    requires room { vector_room layout.now (stored_kind layout.now.schema kind) (length items.now) ≤ out.old.free }
-    ensures lies { LaidInTail layout.now out.new.most out.new.bytes (part_place (vector_part (stored_kind layout.now.schema kind))) result (a_vector (parts_view items.now)) }
+    requires known { ItemsKnown layout.now (kind_seen layout.now kind) (map view items.now) }
+    requires low { align_of layout.now (kind_seen layout.now kind) ≤ greatest layout.now }
+    requires targets { TargetsEnd layout.now out.old.most out.old.bytes (kind_seen layout.now kind)
+        (map view items.now) ends.now }
+    requires room { vector_room layout.now (kind_seen layout.now kind) (length items.now) ≤ out.old.free }
+    ensures lies { LaidInTail layout.now out.new.most out.new.bytes
+        (part_place (vector_part (kind_seen layout.now kind))) result (a_vector (parts_view items.now)) }
     ensures bound { out.new.most ≤ max out.old.most (greatest layout.now) }
     ensures grows { Grows out.old out.new }
-    ensures spent { out.old.free ≤ out.new.free + vector_room layout.now (stored_kind layout.now.schema kind) (length items.now) }
+    ensures spent { out.old.free ≤ out.new.free + vector_room layout.now (kind_seen layout.now kind)
+        (length items.now) }
 {
     let _laid = out.count();
     let size = layout.size_of(kind) as usize;

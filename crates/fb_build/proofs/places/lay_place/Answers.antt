@@ -10,7 +10,7 @@ use Rattle.fb_value.specs.Wanted.{struct_wanted}
 use Rattle.fb_value.proofs.Views.{view-Fixed}
 use Rattle.fb_build.proofs.FieldSteps.{reference_known}
 use Rattle.fb_build.proofs.Grown.{grown_long}
-use Rattle.fb_build.proofs.Halves.{sum_divides}
+use Rattle.fb_build.proofs.Multiples.{sum_divides}
 use Rattle.fb_build.proofs.Simple.{simple_multiple}
 use Rattle.fb_build.proofs.PlaceSteps.{struct_slot, struct_end}
 use Rattle.fb_build.proofs.places.lay_place.Goals as goal

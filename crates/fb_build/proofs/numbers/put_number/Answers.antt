@@ -5,7 +5,7 @@ use Rattle.fb_schema.specs.Alignments.{base_size}
 use Rattle.fb_value.specs.Num.{num, scalar_of}
 use Rattle.fb_build.proofs.Standing.{num_first}
 use Rattle.fb_build.proofs.FieldSteps.{number_bytes}
-use Rattle.fb_build.proofs.fields.put_number.Goals as goal
+use Rattle.fb_build.proofs.numbers.put_number.Goals as goal
 
 pub returns-clause-reads : goal.returns-clause-reads
 returns-clause-reads c =

@@ -1,0 +1,60 @@
+//! Lays numbers.
+ghost use Rattle.std.specs.Prelude.{◌≡◌, ◌≤◌, ◌<◌, ◌+◌, ◌^◌, length, true};
+ghost use Rattle.fb_schema.specs.Alignments.{base_size};
+ghost use Rattle.fb_schema.specs.WellDeclared.{InRange};
+ghost use Rattle.fb_layout.specs.Laid.{LaidSchema, scalar_kind};
+ghost use Rattle.fb_value.specs.Datum.{a_number};
+ghost use Rattle.fb_value.specs.Num.{num, scalar_of, divides};
+ghost use Rattle.fb_value.specs.Places.{inline_place};
+ghost use Rattle.fb_build.specs.Tails.{Grows, LaidInTail};
+
+use crate::tail::Tail;
+use byteorder::{ByteOrder, LittleEndian};
+use fb_schema::Base;
+
+/// The bits of a number in its bytes.
+fn bits_of(base: Base, number: i128) -> u64
+    requires { InRange base number }
+    ensures fits { result < 256 ^ base_size base }
+    ensures means { number ≡ scalar_of base result }
+{
+    match base {
+        Base::Bool | Base::U8 | Base::U16 | Base::U32 | Base::U64 => number as u64,
+        Base::I8 => u64::from((number as i8).cast_unsigned()),
+        Base::I16 => u64::from((number as i16).cast_unsigned()),
+        Base::I32 => u64::from((number as i32).cast_unsigned()),
+        Base::I64 => (number as i64).cast_unsigned(),
+    }
+}
+
+/// Lays a number, wherever it stands.
+pub(crate) fn put_number(out: &mut Tail, base: Base, number: i128)
+    requires range { InRange base number }
+    requires room { base_size base ≤ out.old.free }
+    ensures reads { number ≡ scalar_of base (num out.new.bytes 0 (base_size base)) }
+    ensures free { out.new.free + base_size base ≡ out.old.free }
+    ensures long { length out.new.bytes ≡ length out.old.bytes + base_size base }
+    ensures most { out.new.most ≡ out.old.most }
+    ensures grows { Grows out.old out.new }
+{
+    let size = base.size() as usize;
+    let mut bytes = [0u8; 8];
+    LittleEndian::write_uint(&mut bytes, bits_of(base, number), size);
+    out.lay(&bytes[..size]);
+}
+
+/// Lays a number at a multiple of its size.
+pub(crate) fn lay_number(out: &mut Tail, base: Base, number: i128)
+    requires range { InRange base number }
+    requires room { base_size base ≤ out.old.free }
+    requires whole { divides (base_size base) (length out.old.bytes) ≡ true }
+    requires wide { divides (base_size base) out.old.most ≡ true }
+    ensures lies { (L : LaidSchema) → LaidInTail L out.new.most out.new.bytes
+        (inline_place (scalar_kind base)) (length out.new.bytes) (a_number number) }
+    ensures free { out.new.free + base_size base ≡ out.old.free }
+    ensures long { length out.new.bytes ≡ length out.old.bytes + base_size base }
+    ensures most { out.new.most ≡ out.old.most }
+    ensures grows { Grows out.old out.new }
+{
+    put_number(out, base, number);
+}
