@@ -20,3 +20,4 @@ pub mod Fitted
 pub mod Doubled
 pub mod Escaped
 pub mod WholeNamed
+pub mod NoBits

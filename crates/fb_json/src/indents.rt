@@ -1,6 +1,7 @@
 //! How far lines are indented.
 ghost use Rattle.std.specs.Prelude.{◌≡◌, ◌++◌, IfOk, string_bytes};
 ghost use Rattle.fb_json.specs.Indents.{blanks};
+ghost use Rattle.fb_json.specs.Texts.{line};
 
 use std::alloc::AllocError;
 
@@ -33,15 +34,20 @@ impl Indent<'_> {
     }
 }
 
-/// Adds the blanks of an indent.
-pub(crate) fn push_blanks(text: &mut String, indent: &Indent) -> Result<(), AllocError>
-    ensures { IfOk result (λ _. string_bytes text.new ≡ string_bytes text.old ++ blanks indent.now) }
+/// Adds what stands in front of a member or an element: few levels in one piece.
+pub(crate) fn push_line(text: &mut String, indent: &Indent, some: bool) -> Result<(), AllocError>
+    ensures { IfOk result (λ _. string_bytes text.new
+        ≡ string_bytes text.old ++ line (blanks indent.now) some) }
 {
-    match indent {
-        Indent::Edge => Ok(()),
-        Indent::Inside(outer) => {
-            push_blanks(text, outer)?;
-            text.push_str("  ")
-        }
-    }
+    let Indent::Inside(one) = indent else {
+        return text.push_str(if some { ",\n" } else { "\n" });
+    };
+    let Indent::Inside(two) = one else {
+        return text.push_str(if some { ",\n  " } else { "\n  " });
+    };
+    let Indent::Inside(three) = two else {
+        return text.push_str(if some { ",\n    " } else { "\n    " });
+    };
+    push_line(text, three, some)?;
+    text.push_str("      ")
 }
