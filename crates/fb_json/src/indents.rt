@@ -9,7 +9,7 @@ use std::alloc::AllocError;
 ///
 /// Each level borrows the one around it, so that a printer of any depth takes no memory for it.
 #[derive(Clone, Copy)]
-pub(crate) enum Indent<'a> {
+pub enum Indent<'a> {
     Edge,
     Inside(&'a Indent<'a>),
 }
@@ -20,14 +20,14 @@ impl Indent<'_> {
     ghost use Rattle.fb_json.specs.Texts.{inside};
 
     /// No blanks.
-    pub(crate) fn edge() -> Indent<'static>
+    pub fn edge() -> Indent<'static>
         ensures { blanks result ≡ [] }
     {
         Indent::Edge
     }
 
     /// One level further.
-    pub(crate) fn inner(&self) -> Indent<'_>
+    pub fn inner(&self) -> Indent<'_>
         ensures { blanks result ≡ inside (blanks self.now) }
     {
         Indent::Inside(self)

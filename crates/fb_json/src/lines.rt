@@ -61,7 +61,7 @@ fn members_of(schema: &Schema, union: TypeId) -> &[(String, TypeId)]
 }
 
 /// The name of the member that a union's code names; nothing where it names none.
-fn member_name(schema: &Schema, union: TypeId, code: u8) -> &str
+pub fn member_name(schema: &Schema, union: TypeId, code: u8) -> &str
     ensures { result.now ≡ member_name (body_at schema.now union.0) code }
 {
     let Some(at) = code.checked_sub(1) else {

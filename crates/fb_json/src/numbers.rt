@@ -74,14 +74,14 @@ fn push_flags(
 }
 
 /// The bits of a number; a negative one has none here.
-fn bits_of(number: i128) -> u128
+pub fn bits_of(number: i128) -> u128
     ensures { result ≡ bits_of number }
 {
     if number < 0 { 0 } else { number as u128 }
 }
 
 /// Whether a number has bits and each has a name.
-fn are_flags(schema: &Schema, enumeration: TypeId, bits: u128) -> bool
+pub fn are_flags(schema: &Schema, enumeration: TypeId, bits: u128) -> bool
     ensures { result ≡ are_flags (body_at schema.now enumeration.0) bits }
 {
     bits != 0 && are_named(schema, enumeration, 64, 1, bits)
