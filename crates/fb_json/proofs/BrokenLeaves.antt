@@ -1,11 +1,9 @@
 -- A fault of a leaf or a code is a rule that it breaks.
-use Rattle.std.proofs.Common.{◌≡◌, ◌∙◌, ◌⊎◌, inl, inr, ℕ, zero, suc, ◌+◌, ◌<◌, ◌||◌, ℤ, pos, negsuc, List, [], ◌∷◌, length, Bool, true, false, true≢false, Option, Some, None, option_map, is_some, slice_get, Result, Ok, Err, nat_lt, if◌then◌else◌, Less, Equal, Greater, refl, sym, ap, subst, arith}
+use Rattle.std.proofs.Common.{◌≡◌, ◌∙◌, ◌⊎◌, inl, inr, ℕ, zero, suc, ◌+◌, ◌<◌, ℤ, pos, negsuc, length, Bool, true, false, true≢false, Option, Some, None, is_some, Result, Ok, Err, nat_lt, if◌then◌else◌, refl, sym, subst, arith}
 use Rattle.std.proofs.lemmas.Bool.Decides.{nat_tests}
 use Rattle.std.proofs.lemmas.Int.{ints}
-use Rattle.std.specs.Ordering.{nat_cmp, match_ordering}
-use Rattle.std.specs.Cmp.Lexicographic.{slice_cmp}
-use Rattle.serde_json.specs.Data.{Num, Data, null, boolean, number, string, array, object, Items, no_items, item, Members, no_members, member}
-use Rattle.serde_json.specs.Find.{as_integer, get_member, get_item}
+use Rattle.serde_json.specs.Data.{Num, Data, null, boolean, number, string, array, object}
+use Rattle.serde_json.specs.Find.{as_integer}
 use Rattle.fb_schema.specs.declared.kinds.Base.{Base}
 use Rattle.fb_schema.specs.declared.kinds.Base.TheVariants.{Bool as Boolean, U8}
 use Rattle.fb_schema.specs.declared.kinds.TypeId.{TypeId}
@@ -14,25 +12,21 @@ use Rattle.fb_schema.specs.declared.kinds.Kind.TheVariants.{Scalar, Enum, Struct
 use Rattle.fb_schema.specs.declared.kinds.Shape.{Shape}
 use Rattle.fb_schema.specs.declared.kinds.Shape.TheVariants.{One, Many}
 use Rattle.fb_schema.specs.Ranges.{holds}
-use Rattle.fb_schema.specs.Schema.{Name, DeclaredField, DeclaredSchema, body_at, base_in, slots_in, parts_in as fields_of_struct}
+use Rattle.fb_schema.specs.Schema.{DeclaredSchema, body_at, base_in}
 use Rattle.fb_schema.specs.Found.{member_coded}
 use Rattle.fb_schema.specs.WellDeclared.{InRange}
-use Rattle.fb_layout.specs.Laid.{LaidSchema, slot_of, member_by_code}
-use Rattle.fb_value.specs.Datum.{Datum}
+use Rattle.fb_layout.specs.Laid.{LaidSchema}
 use Rattle.fb_json.specs.declared.faults.Place.{Place}
 use Rattle.fb_json.specs.declared.faults.JsonFault.{JsonFault}
-use Rattle.fb_json.specs.declared.faults.JsonFault.TheVariants.{WrongShape, NotWhole, OutOfRange, UnknownName, UnknownMember, MissingMember, MissingRequired, UnionMismatch, TooDeep, TooManyCells}
-use Rattle.fb_json.specs.Outcome.{Counted, spent}
+use Rattle.fb_json.specs.declared.faults.JsonFault.TheVariants.{WrongShape, NotWhole, OutOfRange, UnknownName, TooManyCells}
+use Rattle.fb_json.specs.Outcome.{spent}
 use Rattle.fb_schema.specs.Paths.{code_by_path}
 use Rattle.fb_json.specs.EnumTexts.{number_told}
 use Rattle.fb_json.specs.Leaves.{in_range, boolean_in, scalar_meant, enum_meant, text_meant, leaf_meant, code_numbered, code_told}
-use Rattle.fb_json.specs.Meant.{Meaner, type_place, slot_place, names_known, if_known, present, code_in, code_after, as_absent, as_member, union_meant, plain_meant, used_meant, entry_meant, slots_meant, table_meant, part_meant, parts_meant, struct_meant, object_meant, vector_meant, meant, items_meant, look, count as items_count}
-use Rattle.fb_json.specs.Means.{unless_null, member_called, CodeAt}
-use Rattle.fb_json.specs.Breaks.{may_be, base_of, OwnBreaks, ToldBreaks, ToldBehind, EntryBreaks, is_own, slots_at, parts_at, IsSlot, Breaks, here, unknown_in_table, unknown_in_struct, in_code, in_entry, in_slot, in_member, missing_part, in_part, in_element}
+use Rattle.fb_json.specs.Meant.{meant}
+use Rattle.fb_json.specs.Breaks.{may_be, base_of, OwnBreaks, ToldBreaks, Breaks, here}
 use Rattle.fb_json.specs.Laws.{IsLimit}
 use Rattle.fb_json.proofs.Binds.{bind_err, or_err}
-use Rattle.fb_json.proofs.Looked.{with_meaning, looked}
-use Rattle.fb_json.proofs.Sound.{present_is, code_ok}
 use Rattle.fb_json.proofs.InRange.{holds_in_range}
 
 pub err_inj : {A : Type 0} (a b : JsonFault) → ◌≡◌ {A = Result A JsonFault} (Err a) (Err b) → a ≡ b

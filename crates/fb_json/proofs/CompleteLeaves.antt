@@ -1,29 +1,25 @@
 -- What leaves and codes mean is computed.
-use Rattle.std.proofs.Common.{◌≡◌, ◌∙◌, ℕ, zero, suc, ◌+◌, ◌-◌, ◌≤◌, ◌||◌, ℤ, List, [], ◌∷◌, length, Bool, true, false, Option, Some, None, option_map, Ok, nat_lt, if◌then◌else◌, Less, Equal, Greater, refl, sym, ap, subst, arith}
+use Rattle.std.proofs.Common.{◌≡◌, ℕ, zero, suc, ◌+◌, ◌-◌, ◌≤◌, ℤ, List, [], ◌∷◌, length, Bool, true, false, Option, Some, None, option_map, Ok, nat_lt, refl, sym, ap, arith}
 use Rattle.std.proofs.lemmas.Bool.Decides.{nat_tests}
-use Rattle.std.specs.Ordering.{nat_cmp, match_ordering}
-use Rattle.std.specs.Cmp.Lexicographic.{slice_cmp}
-use Rattle.serde_json.specs.Data.{Num, Data, null, boolean, number, string, array, object, Items, no_items, item, Members, no_members, member}
+use Rattle.serde_json.specs.Data.{Num, Data, null, boolean, number, string, array, object, Items, Members}
 use Rattle.serde_json.specs.Find.{as_integer, get_member}
 use Rattle.fb_schema.specs.declared.kinds.Base.{Base}
 use Rattle.fb_schema.specs.declared.kinds.Base.TheVariants.{Bool as Boolean, I8, U8, I16, U16, I32, U32, I64, U64}
-use Rattle.fb_schema.specs.declared.kinds.Kind.{Kind}
-use Rattle.fb_schema.specs.declared.kinds.Kind.TheVariants.{Scalar, Enum, Struct, Table, Union, Code, Text}
+use Rattle.fb_schema.specs.declared.kinds.Kind.TheVariants.{Scalar, Enum, Struct, Table, Code, Text}
 use Rattle.fb_schema.specs.declared.kinds.Shape.{Shape}
 use Rattle.fb_schema.specs.declared.kinds.Shape.TheVariants.{One, Many}
-use Rattle.fb_schema.specs.Schema.{Name, DeclaredField, DeclaredSchema, body_at, base_in, slots_in, parts_in as fields_of_struct}
+use Rattle.fb_schema.specs.Schema.{DeclaredField, DeclaredSchema, body_at, base_in}
 use Rattle.fb_schema.specs.WellDeclared.{InRange}
-use Rattle.fb_layout.specs.Laid.{LaidSchema, Slot, slot_of, one_of, union_kind, code_kind, default_of, member_by_code}
-use Rattle.fb_value.specs.Counts.{cells, parts_cells, entries_cells, depth, parts_depth, entries_depth}
-use Rattle.fb_value.specs.Datum.{Datum, a_number, a_text, a_vector, a_struct, a_table, a_member, Parts, no_parts, more_parts, SlotEntries, no_entries, absent_entry, present_entry, count}
+use Rattle.fb_layout.specs.Laid.{LaidSchema}
+use Rattle.fb_value.specs.Counts.{cells, depth}
+use Rattle.fb_value.specs.Datum.{Datum, a_number, a_text, a_vector, a_struct, a_table, Parts, no_parts, more_parts, SlotEntries, no_entries, absent_entry, present_entry}
 use Rattle.fb_value.specs.View.{parts_in, entries_in}
 use Rattle.fb_json.specs.declared.faults.Place.{Place}
 use Rattle.fb_json.specs.Leaves.{in_range, boolean_in, scalar_meant, enum_meant, text_meant, leaf_meant, code_numbered, code_told}
-use Rattle.fb_json.specs.Meant.{slot_place, present, code_in, code_after, as_member, union_meant, plain_meant, used_meant, entry_meant, slots_meant, table_meant, parts_meant, struct_meant, object_meant, vector_meant, meant, items_meant, look, count as items_count}
-use Rattle.fb_json.specs.Means.{ScalarMeans, EnumMeans, CodeMeans, CodeAt, unless_null, member_called, IsKnown, AbsentMeans, AbsentAt, PresentAs, PresentMeans, MeansAs, MemberMeans, PartsMean, EachMeans, SlotsMean}
+use Rattle.fb_json.specs.Meant.{code_in, code_after, meant, look}
+use Rattle.fb_json.specs.Means.{ScalarMeans, EnumMeans, CodeMeans, CodeAt, MeansAs}
 use Rattle.fb_json.proofs.Binds.{spends}
 use Rattle.fb_json.proofs.Looked.{with_meaning, looked}
-use Rattle.fb_json.proofs.Sound.{present_is}
 use Rattle.fb_json.proofs.InRange.{holds_in_range}
 
 -- the lists of parts and entries

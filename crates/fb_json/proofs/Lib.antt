@@ -21,3 +21,4 @@ pub mod Doubled
 pub mod Escaped
 pub mod WholeNamed
 pub mod MeantWhole
+pub mod NoBits

@@ -1,35 +1,31 @@
 -- What leaves and codes spend, and a fault of the limits in them.
-use Rattle.std.proofs.Common.{◌≡◌, ◌∙◌, inl, inr, ℕ, zero, suc, ◌+◌, ◌≤◌, ◌<◌, ◌||◌, ℤ, List, [], ◌∷◌, length, Bool, true, false, Option, Some, None, option_map, Result, Ok, Err, nat_lt, if◌then◌else◌, Ordering, Less, Equal, Greater, refl, sym, ap, subst, arith}
+use Rattle.std.proofs.Common.{◌≡◌, ◌∙◌, inl, inr, ℕ, ◌+◌, ◌≤◌, ◌<◌, length, Bool, true, false, Option, Some, None, Result, Ok, Err, nat_lt, if◌then◌else◌, Ordering, Less, Equal, Greater, refl, sym, ap, subst, arith}
 use Rattle.std.specs.Ordering.{nat_cmp, match_ordering}
 use Rattle.std.specs.Cmp.Lexicographic.{slice_cmp}
-use Rattle.serde_json.specs.Data.{Data, null, boolean, number, string, array, object, Items, no_items, item, Members, no_members, member}
+use Rattle.serde_json.specs.Data.{Data, null, boolean, number, string, array, object, Members, no_members, member}
 use Rattle.serde_json.specs.Find.{get_member}
 use Rattle.fb_schema.specs.declared.kinds.Base.{Base}
 use Rattle.fb_schema.specs.declared.kinds.TypeId.{TypeId}
-use Rattle.fb_schema.specs.declared.kinds.Kind.{Kind}
 use Rattle.fb_schema.specs.declared.kinds.Kind.TheVariants.{Scalar, Enum, Struct, Table, Union, Code, Text}
 use Rattle.fb_schema.specs.declared.kinds.Shape.{Shape}
 use Rattle.fb_schema.specs.declared.kinds.Shape.TheVariants.{One, Many}
-use Rattle.fb_schema.specs.Schema.{Name, DeclaredField, DeclaredSchema, body_at, slots_in, parts_in as fields_of_struct}
-use Rattle.fb_layout.specs.Laid.{LaidSchema, Slot, slot_of, member_by_code}
+use Rattle.fb_schema.specs.Schema.{Name, DeclaredField, DeclaredSchema}
+use Rattle.fb_layout.specs.Laid.{LaidSchema}
 use Rattle.fb_value.specs.Datum.{Datum}
 use Rattle.fb_json.specs.declared.faults.Place.{Place}
 use Rattle.fb_json.specs.declared.faults.JsonFault.{JsonFault}
-use Rattle.fb_json.specs.declared.faults.JsonFault.TheVariants.{WrongShape, UnknownMember, MissingMember, MissingRequired, UnionMismatch, TooDeep, TooManyCells}
-use Rattle.fb_json.specs.Outcome.{Counted, spent}
+use Rattle.fb_json.specs.declared.faults.JsonFault.TheVariants.{WrongShape, TooDeep, TooManyCells}
+use Rattle.fb_json.specs.Outcome.{spent}
 use Rattle.fb_json.specs.Leaves.{scalar_meant, enum_meant, text_meant, leaf_meant}
-use Rattle.fb_json.specs.Meant.{Meaner, type_place, slot_place, names_known, if_known, present, code_in, code_after, as_absent, as_member, union_meant, plain_meant, used_meant, entry_meant, slots_meant, table_meant, part_meant, parts_meant, struct_meant, object_meant, vector_meant, meant, items_meant, look, count as items_count}
+use Rattle.fb_json.specs.Meant.{type_place, meant}
 use Rattle.fb_json.specs.Means.{unless_null, member_called, CodeAt}
 use Rattle.std.proofs.lemmas.Bool.Decides.{nat_tests}
-use Rattle.std.proofs.Common.{max}
 use Rattle.fb_json.specs.Breaks.{OwnBreaks, ToldBreaks}
 use Rattle.fb_json.specs.Laws.{Over}
-use Rattle.fb_json.specs.TreeCounts.{Measure, cells_measure, depth_measure, code_of, code_behind, Counter, member_count, slot_count, slots_count, parts_count, counted, items_counted, counter, tree_cells, tree_depth}
+use Rattle.fb_json.specs.TreeCounts.{Measure, code_of, code_behind, counted, counter, tree_cells, tree_depth}
 use Rattle.fb_json.proofs.Binds.{bind_err, bind_ok, ok_inj, spent_ok}
-use Rattle.fb_json.proofs.Looked.{with_meaning, looked}
-use Rattle.fb_json.proofs.Sound.{present_is, code_ok}
 use Rattle.fb_json.proofs.CompleteLeaves.{told_full}
-use Rattle.fb_json.proofs.BrokenLeaves.{err_inj, no_err, scalar_broken, enum_broken, told_broken}
+use Rattle.fb_json.proofs.BrokenLeaves.{err_inj, no_err, scalar_broken, enum_broken}
 use Rattle.fb_json.specs.Means.{CodeMeans}
 
 -- ---- faults

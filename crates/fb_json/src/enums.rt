@@ -7,7 +7,7 @@ ghost use Rattle.fb_json.specs.EnumTexts.{has_flags, flags_named, number_told, w
 use fb_schema::{Schema, TypeId};
 
 /// Whether the values of an enum are flags.
-pub(crate) fn has_flags(schema: &Schema, enumeration: TypeId) -> bool
+pub fn has_flags(schema: &Schema, enumeration: TypeId) -> bool
     ensures { result ≡ has_flags (body_at schema.now enumeration.0) }
 {
     let Some(info) = schema.types().get(enumeration.0 as usize) else {

@@ -1,6 +1,7 @@
 //! How far lines are indented.
 ghost use Rattle.std.specs.Prelude.{◌≡◌, ◌++◌, IfOk, string_bytes};
 ghost use Rattle.fb_json.specs.Indents.{blanks};
+ghost use Rattle.fb_json.specs.Texts.{line};
 
 use std::alloc::AllocError;
 
@@ -8,7 +9,7 @@ use std::alloc::AllocError;
 ///
 /// Each level borrows the one around it, so that a printer of any depth takes no memory for it.
 #[derive(Clone, Copy)]
-pub(crate) enum Indent<'a> {
+pub enum Indent<'a> {
     Edge,
     Inside(&'a Indent<'a>),
 }
@@ -19,29 +20,34 @@ impl Indent<'_> {
     ghost use Rattle.fb_json.specs.Texts.{inside};
 
     /// No blanks.
-    pub(crate) fn edge() -> Indent<'static>
+    pub fn edge() -> Indent<'static>
         ensures { blanks result ≡ [] }
     {
         Indent::Edge
     }
 
     /// One level further.
-    pub(crate) fn inner(&self) -> Indent<'_>
+    pub fn inner(&self) -> Indent<'_>
         ensures { blanks result ≡ inside (blanks self.now) }
     {
         Indent::Inside(self)
     }
 }
 
-/// Adds the blanks of an indent.
-pub(crate) fn push_blanks(text: &mut String, indent: &Indent) -> Result<(), AllocError>
-    ensures { IfOk result (λ _. string_bytes text.new ≡ string_bytes text.old ++ blanks indent.now) }
+/// Adds what stands in front of a member or an element: few levels in one piece.
+pub(crate) fn push_line(text: &mut String, indent: &Indent, some: bool) -> Result<(), AllocError>
+    ensures { IfOk result (λ _. string_bytes text.new
+        ≡ string_bytes text.old ++ line (blanks indent.now) some) }
 {
-    match indent {
-        Indent::Edge => Ok(()),
-        Indent::Inside(outer) => {
-            push_blanks(text, outer)?;
-            text.push_str("  ")
-        }
-    }
+    let Indent::Inside(one) = indent else {
+        return text.push_str(if some { ",\n" } else { "\n" });
+    };
+    let Indent::Inside(two) = one else {
+        return text.push_str(if some { ",\n  " } else { "\n  " });
+    };
+    let Indent::Inside(three) = two else {
+        return text.push_str(if some { ",\n    " } else { "\n    " });
+    };
+    push_line(text, three, some)?;
+    text.push_str("      ")
 }

@@ -3,21 +3,12 @@ ghost use Rattle.std.specs.Prelude.{◌≡◌, ◌++◌, map, IfOk, string_bytes
 ghost use Rattle.fb_schema.specs.Schema.{body_at, members_in};
 ghost use Rattle.fb_value.specs.View.{view};
 ghost use Rattle.fb_json.specs.Indents.{blanks};
-ghost use Rattle.fb_json.specs.Texts.{line, closing, member_line, member_name, in_quotes, code_text, has_code};
+ghost use Rattle.fb_json.specs.Texts.{closing, member_line, member_name, in_quotes, code_text, has_code};
 
-use crate::indents::{Indent, push_blanks};
+use crate::indents::{Indent, push_line};
 use fb_schema::{Kind, Schema, Shape, TypeId};
 use fb_value::Value;
 use std::alloc::AllocError;
-
-/// Adds what stands in front of a member or an element.
-pub(crate) fn push_line(text: &mut String, indent: &Indent, some: bool) -> Result<(), AllocError>
-    ensures { IfOk result
-        (λ _. string_bytes text.new ≡ string_bytes text.old ++ line (blanks indent.now) some) }
-{
-    text.push_str(if some { ",\n" } else { "\n" })?;
-    push_blanks(text, indent)
-}
 
 /// Adds what stands in front of a closing bracket.
 pub(crate) fn push_closing(text: &mut String, indent: &Indent, some: bool) -> Result<(), AllocError>
@@ -27,8 +18,7 @@ pub(crate) fn push_closing(text: &mut String, indent: &Indent, some: bool) -> Re
     if !some {
         return Ok(());
     }
-    text.push_str("\n")?;
-    push_blanks(text, indent)
+    push_line(text, indent, false)
 }
 
 /// Adds a member's line up to its value. Its name is in two parts.
@@ -71,7 +61,7 @@ fn members_of(schema: &Schema, union: TypeId) -> &[(String, TypeId)]
 }
 
 /// The name of the member that a union's code names; nothing where it names none.
-fn member_name(schema: &Schema, union: TypeId, code: u8) -> &str
+pub fn member_name(schema: &Schema, union: TypeId, code: u8) -> &str
     ensures { result.now ≡ member_name (body_at schema.now union.0) code }
 {
     let Some(at) = code.checked_sub(1) else {

@@ -74,14 +74,14 @@ fn push_flags(
 }
 
 /// The bits of a number; a negative one has none here.
-fn bits_of(number: i128) -> u128
+pub fn bits_of(number: i128) -> u128
     ensures { result ≡ bits_of number }
 {
     if number < 0 { 0 } else { number as u128 }
 }
 
 /// Whether a number has bits and each has a name.
-fn are_flags(schema: &Schema, enumeration: TypeId, bits: u128) -> bool
+pub fn are_flags(schema: &Schema, enumeration: TypeId, bits: u128) -> bool
     ensures { result ≡ are_flags (body_at schema.now enumeration.0) bits }
 {
     bits != 0 && are_named(schema, enumeration, 64, 1, bits)
@@ -96,13 +96,13 @@ fn has_name(schema: &Schema, enumeration: TypeId, bit: u128, bits: u128) -> bool
 }
 
 /// Whether so many of a number's bits have names where they are set. The lowest stands for `bit`.
-#[tactic(auto, unfolding(crate::specs::Texts::are_named))]
+#[tactic(auto, using(crate::proofs::NoBits::none_named), unfolding(crate::specs::Texts::are_named))]
 fn are_named(schema: &Schema, enumeration: TypeId, left: u32, bit: u128, bits: u128) -> bool
     requires { bit * 2 ^ left ≤ 2 ^ 64 }
     ensures { result
         ≡ are_named (name_numbered (body_at schema.now enumeration.0)) left bit bits }
 {
-    if left == 0 {
+    if left == 0 || bits == 0 {
         return true;
     }
     if !has_name(schema, enumeration, bit, bits) {
@@ -154,7 +154,7 @@ fn push_bits(
     ensures { IfOk result (λ _. string_bytes text.new ≡ string_bytes text.old
         ++ bits_text (name_numbered (body_at schema.now enumeration.0)) left bit bits some) }
 {
-    if left == 0 {
+    if left == 0 || bits == 0 {
         return Ok(());
     }
     push_bit(text, schema, enumeration, bit, bits, some)?;

@@ -7,8 +7,8 @@ ghost use Rattle.fb_json.specs.Texts.{value_text, items_text, parts_text, member
 ghost use Rattle.fb_json.specs.Texts.{is_printed};
 ghost use Rattle.fb_json.specs.Indents.{blanks};
 
-use crate::indents::Indent;
-use crate::lines::{push_closing, push_code, push_line, push_member_line};
+use crate::indents::{Indent, push_line};
+use crate::lines::{push_closing, push_code, push_member_line};
 use crate::numbers::push_number;
 use crate::quote::push_quoted;
 use fb_layout::Layout;

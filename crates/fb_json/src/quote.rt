@@ -25,7 +25,7 @@ fn is_plain(byte: u8) -> bool
 }
 
 /// How many bytes at the front stand as they are.
-fn plain_run(text: &[u8]) -> usize
+pub fn plain_run(text: &[u8]) -> usize
     ensures run { result ≡ prefix_len is_plain text.now }
     ensures within { result ≤ length text.now }
 {

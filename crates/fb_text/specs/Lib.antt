@@ -1,2 +1,3 @@
 pub mod Noted
 pub mod Pages
+pub mod Writes

@@ -3,5 +3,6 @@
 
 mod noted;
 mod pages;
+mod writing;
 
 pub use noted::Noted;

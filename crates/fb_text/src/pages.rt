@@ -53,20 +53,13 @@ impl Page {
         self.len = end;
     }
 
-    /// Counts bytes as written. The count stops at its greatest value.
-    pub(crate) fn count(&mut self, more: u64)
-        ensures pending { pending self.new ≡ pending self.old }
-        ensures written { written_before self.new ≡ min (written_before self.old + more) (2 ^ 64 - 1) }
-    {
-        self.written = self.written.saturating_add(more);
-    }
-
-    /// Drops the bytes that wait.
-    pub(crate) fn clear(&mut self)
+    /// Begins anew, with no bytes, once so many were written.
+    pub(crate) fn restart(&mut self, written: u64)
         ensures pending { pending self.new ≡ [] }
-        ensures written { written_before self.new ≡ written_before self.old }
+        ensures written { written_before self.new ≡ written }
     {
         self.len = 0;
+        self.written = written;
     }
 
     /// How many bytes were written before those that wait.

@@ -6,7 +6,6 @@ use Rattle.fb_schema.specs.declared.kinds.Shape.{Shape}
 use Rattle.fb_schema.specs.declared.kinds.Shape.TheVariants.{One, Many}
 use Rattle.fb_schema.specs.Schema.{Name, DeclaredField, DeclaredBody, table_body, struct_body, union_body, DeclaredType}
 use Rattle.fb_layout.specs.Laid.{LaidSchema, StructLayout, no_struct}
-use Rattle.fb_value.specs.OneTable.{one_table_schema, one_table}
 use Rattle.fb_value.specs.Bounds.{Bounds}
 
 -- what the program allows
@@ -46,15 +45,15 @@ root_alone fields = without_structs 0 (type_called 0x54 (table_body fields) ∷ 
 
 -- table T { a:int; }
 abbrev pub one_int : LaidSchema
-one_int = one_table (letter 0x54) (letter 0x61 ∷ [])
+one_int = root_alone (a_int ∷ [])
 
 -- the same with file_identifier "TEST";
 abbrev pub identified_int : LaidSchema
-identified_int = record one_int { schema = record (one_table_schema (letter 0x54) (letter 0x61 ∷ [])) { identifier = Some (0x54 ∷ 0x45 ∷ 0x53 ∷ 0x54 ∷ []) } }
+identified_int = record one_int { schema = record one_int.schema { identifier = Some (0x54 ∷ 0x45 ∷ 0x53 ∷ 0x54 ∷ []) } }
 
 -- table T { a:int; b:int; }
 abbrev pub two_ints : LaidSchema
-two_ints = one_table (letter 0x54) (letter 0x61 ∷ letter 0x62 ∷ [])
+two_ints = root_alone (a_int ∷ b_int ∷ [])
 
 -- table T { b:bool; }
 abbrev pub one_bool : LaidSchema

@@ -3,8 +3,6 @@ pub mod Counts
 pub mod View
 pub mod Fits
 pub mod Room
-pub mod OneTable
-pub mod Plain
 pub mod Entries
 pub mod Wanted
 pub mod Bounds
@@ -23,7 +21,6 @@ pub mod Missing
 pub mod Reads
 pub mod Nth
 pub mod Laws
-pub mod Ints
 pub mod ExampleLayouts
 pub mod ExampleTables
 pub mod ExampleIdentifier

@@ -7,7 +7,6 @@ mod faults;
 mod fitting;
 mod laws;
 mod limits;
-mod plainness;
 mod rooms;
 mod sameness;
 mod values;
@@ -26,7 +25,6 @@ pub use laws::{
     value_where_lies,
 };
 pub use limits::Limits;
-pub use plainness::{plain, plain_slots};
 pub use rooms::room;
 pub use sameness::same;
 pub use values::Value;

@@ -1,9 +1,11 @@
-use Rattle.std.proofs.Common.{◌≡◌, ℕ, suc, ◌+◌, ◌-◌, ◌/◌, ◌<◌, ◌^◌, ◌++◌, ◌||◌, ℤ, Bool, Option, ap, arith, append_assoc}
+use Rattle.std.proofs.Common.{◌≡◌, ℕ, suc, ◌+◌, ◌-◌, ◌/◌, ◌<◌, ◌^◌, ◌++◌, ◌||◌, ℤ, Bool, Option, ap, arith, append_assoc, append-nil, sym, []}
 use Rattle.std.proofs.lemmas.Grind.{common_steps}
 use Rattle.fb_schema.specs.Schema.{Name, body_at}
 use Rattle.fb_schema.specs.Found.{name_numbered}
 use Rattle.fb_json.specs.Texts.{is_odd, bit_text, bits_text}
 use Rattle.fb_json.proofs.Doubled.{doubled}
+use Rattle.fb_json.proofs.NoBits.{no_places, no_bits}
+use Rattle.fb_json.proofs.numbers.+push_bits.Goals.{then-left-eq0-via-then-left-eq0, then-left-eq0-via-else-left-eq0+then-bits-eq0}
 use Rattle.fb_json.proofs.numbers.+push_bits.Goals as goal
 
 pub push_bits-requires : goal.push_bits-requires
@@ -22,3 +24,13 @@ returns t c =
     let name = name_numbered (body_at c.args.schema.now c.args.enumeration.0) in
     let more = more_bits name c.args.left c.args.bit c.args.bits c.args.some (omega arith) in
     rw more (grind (arith, common_steps, append_assoc))
+
+pub returns-then-left-eq0 : goal.returns-then-left-eq0
+returns-then-left-eq0 t c =
+    let name = name_numbered (body_at c.args.schema.now c.args.enumeration.0) in
+    let none : bits_text name c.args.left c.args.bit c.args.bits c.args.some ≡ [] =
+    elim c.then-left-eq0.branch as (λ _. bits_text name c.args.left c.args.bit c.args.bits c.args.some ≡ []) [
+      | then-left-eq0-via-then-left-eq0 w ↦ no_places name c.args.left c.args.bit c.args.bits c.args.some w.if-left-eq0.true
+      | then-left-eq0-via-else-left-eq0+then-bits-eq0 w ↦ no_bits name c.args.left c.args.bit c.args.bits c.args.some w.if-bits-eq0.true
+    ] in
+    rw none (sym (append-nil _))

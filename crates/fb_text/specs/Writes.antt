@@ -1,0 +1,43 @@
+-- What a piece of a text does to a page and to the writer below it.
+use Rattle.std.specs.Prelude.{ℕ, ◌≡◌, ◌++◌, ◌<◌, ◌-◌, ◌^◌, min, List, length, Bool, true, false, Option}
+use Rattle.std.specs.Io.KnownBytes.{Appends}
+use Rattle.fb_text.specs.declared.noted.Noted.{Noted}
+use Rattle.fb_text.specs.declared.pages.Page.{Page}
+use Rattle.fb_text.specs.Noted.{write_failed, writer_of}
+use Rattle.fb_text.specs.Pages.{pending, written_before}
+
+-- the bytes that a writer has, if they are known, whether its last write failed, what waits on the page, and how many bytes of the text were written
+pub record State : Type 0 where
+  pub known : Option (List ℕ)
+  pub failed : Bool
+  pub waits : List ℕ
+  pub written : ℕ
+
+abbrev pub state_of : {W : Type 0} → (W → Option (List ℕ)) → Page → Noted W → State
+state_of contents page out = record { known = contents (writer_of out); failed = write_failed out; waits = pending page; written = written_before page }
+
+-- a count of bytes, which stops at the greatest one
+abbrev pub counted : ℕ → ℕ
+counted n = min n (2 ^ 64 - 1)
+
+-- Behind the bytes of the start stand some bytes of a text, so many.
+pub record Sent (start : Option (List ℕ)) (s : State) : Type 0 where
+  pub bytes : List ℕ
+  pub gone : Appends start s.known bytes
+  pub count : s.written ≡ counted (length bytes)
+
+-- Where no write failed, the rest of the text waits. Where one did, something of it will never be written.
+abbrev pub IsLeft : Bool → State → List ℕ → Type 0
+IsLeft false s left = left ≡ s.waits
+IsLeft true s left = 0 < length left
+
+-- The text stands, but for what is left.
+pub record Stands (start : Option (List ℕ)) (s : State) (text : List ℕ) : Type 0 where
+  pub sent : Sent start s
+  pub left : List ℕ
+  pub whole : text ≡ sent.bytes ++ left
+  pub rest : IsLeft s.failed s left
+
+-- A piece is added to whatever text stands.
+pub record Adds (old new : State) (piece : List ℕ) : Type 0 where
+  pub adds : (start : Option (List ℕ)) (text : List ℕ) → Stands start old text → Stands start new (text ++ piece)
