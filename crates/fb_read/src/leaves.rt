@@ -1,6 +1,6 @@
 //! Values of what names no table.
-ghost use Rattle.std.specs.Prelude.{◌≡◌, ℕ, ◌+◌, ◌<◌, ◌≤◌, ◌^◌, length, option_map, MatchResult, OnOk, IfOk};
-ghost use Rattle.fb_layout.specs.Laid.{LaidSchema, stored_kind};
+ghost use Rattle.std.specs.Prelude.{◌≡◌, ℕ, ◌+◌, ◌<◌, ◌≤◌, ◌^◌, option_map, OnOk, IfOk};
+ghost use Rattle.fb_layout.specs.Laid.{stored_kind};
 ghost use Rattle.fb_value.specs.View.{view};
 ghost use Rattle.fb_value.specs.Counts.{entered};
 ghost use Rattle.fb_value.specs.Places.{text_part, ref_place, part_place, inline_place};

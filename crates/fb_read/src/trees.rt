@@ -1,5 +1,5 @@
 //! The value of all that is reached from a place.
-ghost use Rattle.std.specs.Prelude.{◌≡◌, ℕ, ◌+◌, ◌*◌, ◌<◌, ◌≤◌, ◌^◌, length, option_map, MatchResult, OnOk, IfOk, None, Some, Err};
+ghost use Rattle.std.specs.Prelude.{◌≡◌, ◌+◌, ◌*◌, ◌<◌, ◌≤◌, ◌^◌, length, option_map, OnOk, IfOk, None, Some, Err};
 ghost use Rattle.fb_layout.specs.Laid.{StoredKind, Slot, stored_kind, size_of};
 ghost use Rattle.fb_value.specs.Num.{num};
 ghost use Rattle.fb_value.specs.View.{view, parts_view, entries_view};

@@ -7,7 +7,6 @@ ghost use Rattle.fb_value.specs.Holds.{Holds, Refuses, header_fault, checked_ide
 
 use crate::counting::Entries;
 use crate::numbers::u32_at;
-use crate::places::check_header;
 use crate::source::Source;
 use crate::views::View;
 use crate::walk::visit_table_behind;
@@ -39,6 +38,7 @@ fn check_identified(bytes: &[u8], identifier: [u8; 4]) -> Result<(), ReadFault>
 }
 
 /// The rules of a header.
+#[tactic(auto, unfolding(fb_value::specs::Holds::header_fault, fb_value::specs::Rules::first_failing))]
 pub fn check_front(bytes: &[u8], identifier: Option<[u8; 4]>) -> Result<(), ReadFault>
     ensures rules { MatchResult result
         (λ _. header_fault bytes.now identifier ≡ None)
@@ -49,7 +49,9 @@ pub fn check_front(bytes: &[u8], identifier: Option<[u8; 4]>) -> Result<(), Read
 {
     match identifier {
         Some(identifier) => check_identified(bytes, identifier),
-        None => check_header(bytes),
+        None if bytes.len() < 4 => Err(ReadFault::Short(bytes.len() as u64)),
+        None if bytes.len() > MOST_BYTES => Err(ReadFault::TooLong(MOST_BYTES as u64)),
+        None => Ok(()),
     }
 }
 

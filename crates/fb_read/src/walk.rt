@@ -1,5 +1,5 @@
 //! A walk over all that is reached from a place, without memory.
-ghost use Rattle.std.specs.Prelude.{◌≡◌, ◌+◌, ◌*◌, ◌<◌, ◌≤◌, ◌^◌, length, MatchResult, OnOk, IfOk, Some};
+ghost use Rattle.std.specs.Prelude.{◌≡◌, ◌+◌, ◌*◌, ◌<◌, ◌≤◌, ◌^◌, length, OnOk, IfOk, Some};
 ghost use Rattle.fb_layout.specs.Laid.{StoredKind, stored_kind};
 ghost use Rattle.fb_value.specs.Num.{num};
 ghost use Rattle.fb_value.specs.Places.{table_part, vector_part, ref_place, part_place, vtable, named_slots, named_elements, target_of};
