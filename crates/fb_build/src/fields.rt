@@ -1,13 +1,10 @@
 //! Lays the fields of tables.
-ghost use Rattle.std.specs.Prelude.{drop, ◌≡◌, ◌≤◌, ◌<◌, ◌+◌, ◌^◌, ◌%◌, length, true, false, max};
-ghost use Rattle.byteorder.specs.Endian.{little_bytes};
-ghost use Rattle.fb_schema.specs.Alignments.{base_size};
-ghost use Rattle.fb_schema.specs.WellDeclared.{InRange};
-ghost use Rattle.fb_layout.specs.Laid.{LaidSchema, scalar_kind};
+ghost use Rattle.std.specs.Prelude.{drop, ◌≡◌, ◌≤◌, ◌<◌, ◌+◌, ◌%◌, length, true, false, max};
+ghost use Rattle.fb_layout.specs.Laid.{LaidSchema};
 ghost use Rattle.fb_layout.specs.Widths.{inline_size, inline_align, greatest};
-ghost use Rattle.fb_value.specs.Datum.{Datum, a_number};
-ghost use Rattle.fb_value.specs.Num.{num, scalar_of, divides};
-ghost use Rattle.fb_value.specs.Places.{Target, part_place, ref_place, inline_place};
+ghost use Rattle.fb_value.specs.Datum.{Datum};
+ghost use Rattle.fb_value.specs.Num.{divides};
+ghost use Rattle.fb_value.specs.Places.{Target, part_place, ref_place};
 ghost use Rattle.fb_value.specs.View.{view};
 ghost use Rattle.fb_build.specs.Tails.{Grows, LaidInTail};
 ghost use Rattle.fb_build.specs.Fields.{IsSimple, StoredFits, stored_seen, next_code, is_coded};
