@@ -1,14 +1,10 @@
 //! Lays the fields of tables.
-ghost use Rattle.std.specs.Prelude.{drop, ◌≡◌, ◌≤◌, ◌<◌, ◌+◌, ◌^◌, ◌%◌, ◌&&◌, nat_lt, length, true};
-ghost use Rattle.std.specs.Prelude.{false, if◌then◌else◌, max};
-ghost use Rattle.byteorder.specs.Endian.{little_bytes};
-ghost use Rattle.fb_schema.specs.Alignments.{base_size};
-ghost use Rattle.fb_schema.specs.WellDeclared.{InRange};
-ghost use Rattle.fb_layout.specs.Laid.{LaidSchema, scalar_kind};
+ghost use Rattle.std.specs.Prelude.{drop, ◌≡◌, ◌≤◌, ◌<◌, ◌+◌, ◌%◌, length, true, false, max};
+ghost use Rattle.fb_layout.specs.Laid.{LaidSchema};
 ghost use Rattle.fb_layout.specs.Widths.{inline_size, inline_align, greatest};
-ghost use Rattle.fb_value.specs.Datum.{Datum, a_number};
-ghost use Rattle.fb_value.specs.Num.{num, scalar_of, divides};
-ghost use Rattle.fb_value.specs.Places.{Target, part_place, ref_place, inline_place};
+ghost use Rattle.fb_value.specs.Datum.{Datum};
+ghost use Rattle.fb_value.specs.Num.{divides};
+ghost use Rattle.fb_value.specs.Places.{Target, part_place, ref_place};
 ghost use Rattle.fb_value.specs.View.{view};
 ghost use Rattle.fb_build.specs.Tails.{Grows, LaidInTail};
 ghost use Rattle.fb_build.specs.Fields.{IsSimple, StoredFits, stored_seen, next_code, is_coded};
@@ -16,6 +12,7 @@ ghost use Rattle.fb_build.specs.Fields.{scalar_in, number_in, number_of_datum, i
 ghost use Rattle.fb_build.specs.Fields.{from, EntryEnd, EntriesEnd, AreKnown, size_at, stored_align};
 ghost use Rattle.fb_build.specs.Fields.{stored_below, slots_seen, entries_seen, stored_room};
 ghost use Rattle.fb_build.specs.Fields.{fields_size, slot_seen, entry_stored, shape_seen};
+ghost use Rattle.fb_build.specs.Fields.{size_if_at, align_if_stored, align_if_below};
 
 use crate::numbers::lay_number;
 use crate::places::lay_place;
@@ -196,16 +193,13 @@ fn lay_field(
         ≡ true }
     requires wide { is_at layout.now align (slot_seen layout.now slot.now)
         (entry_stored layout.now slot.now code entry.now) ≡ true → divides align out.old.most ≡ true }
-    requires room { (if is_at layout.now align (slot_seen layout.now slot.now)
-        (entry_stored layout.now slot.now code entry.now)
-        then inline_size layout.now (shape_seen layout.now slot.now.shape) else 0) ≤ out.old.free }
+    requires room { size_if_at layout.now align (slot_seen layout.now slot.now)
+        (entry_stored layout.now slot.now code entry.now) ≤ out.old.free }
     ensures state { EntryEnd layout.now start out.new.most out.new.bytes
         (from layout.now align (slot_seen layout.now slot.now)) (slot_seen layout.now slot.now)
         (entry_stored layout.now slot.now code entry.now) result }
-    ensures free { out.new.free
-        + (if is_at layout.now align (slot_seen layout.now slot.now)
-        (entry_stored layout.now slot.now code entry.now)
-        then inline_size layout.now (shape_seen layout.now slot.now.shape) else 0) ≡ out.old.free }
+    ensures free { out.new.free + size_if_at layout.now align (slot_seen layout.now slot.now)
+        (entry_stored layout.now slot.now code entry.now) ≡ out.old.free }
     ensures most { out.new.most ≡ out.old.most }
     ensures grows { Grows out.old out.new }
 {
@@ -225,9 +219,8 @@ fn lay_field(
 
 /// What a field's place is a multiple of, where it is stored; 0 where it isn't.
 fn field_align(layout: &Layout, slot: &FieldInfo, code: Option<u8>, entry: &Option<Value>) -> u32
-    ensures { result
-        ≡ (if is_stored (slot_seen layout.now slot.now) (entry_stored layout.now slot.now code entry.now)
-        then inline_align layout.now (shape_seen layout.now slot.now.shape) else 0) }
+    ensures { result ≡ align_if_stored layout.now (slot_seen layout.now slot.now)
+        (entry_stored layout.now slot.now code entry.now) }
 {
     if is_stored(layout, slot, code, entry) {
         slot_align(layout, slot.shape)
@@ -244,10 +237,8 @@ pub(crate) fn align_below(
     code: Option<u8>,
     entry: &Option<Value>,
 ) -> u32
-    ensures { result
-        ≡ (if is_stored (slot_seen layout.now slot.now) (entry_stored layout.now slot.now code entry.now)
-        && nat_lt (inline_align layout.now (shape_seen layout.now slot.now.shape)) align
-        then inline_align layout.now (shape_seen layout.now slot.now.shape) else 0) }
+    ensures { result ≡ align_if_below layout.now align (slot_seen layout.now slot.now)
+        (entry_stored layout.now slot.now code entry.now) }
 {
     let own = field_align(layout, slot, code, entry);
     if own < align { own } else { 0 }

@@ -1,5 +1,5 @@
 //! A value for which all memory is taken.
-ghost use Rattle.std.specs.Prelude.{ℕ, Bool, ◌≡◌, ◌≤◌, length};
+ghost use Rattle.std.specs.Prelude.{Bool, ◌≤◌, length};
 ghost use Rattle.fb_value.specs.Bounds.{Bounds};
 ghost use Rattle.fb_value.specs.Counts.{cells, depth};
 ghost use Rattle.fb_value.specs.Holds.{Holds};

@@ -1,5 +1,5 @@
 //! Lays structs.
-ghost use Rattle.std.specs.Prelude.{◌≡◌, ◌≤◌, ◌+◌, length, IsTrue};
+ghost use Rattle.std.specs.Prelude.{◌≡◌, ◌≤◌, ◌+◌, IsTrue};
 ghost use Rattle.fb_schema.specs.Schema.{body_at, is_struct};
 ghost use Rattle.fb_layout.specs.Laid.{one_of, parts_of, struct_at, size_of};
 ghost use Rattle.fb_value.specs.Fits.{Fits, PartsFit};
