@@ -1,5 +1,5 @@
 -- What adds a piece.
-use Rattle.std.proofs.Common.{◌≡◌, ℕ, ◌+◌, ◌<◌, ◌^◌, min, [], List, ◌++◌, Option, Bool, true, false, length, take, sym, ap, subst, ◌∙◌, arith, append_assoc, length-append, refl}
+use Rattle.std.proofs.Common.{◌≡◌, ℕ, ◌+◌, ◌<◌, ◌^◌, min, [], List, ◌++◌, Option, Bool, true, false, length, take, sym, ap, subst, ◌∙◌, arith, append_assoc, append-nil, length-append, refl}
 use Rattle.std.specs.Io.KnownBytes.{Appends}
 use Rattle.fb_text.specs.Writes.{State, Sent, Stands, IsLeft, Adds, counted}
 use Rattle.fb_text.proofs.Written.{all_written, some_written}
@@ -51,3 +51,14 @@ module _ (a b : State) (piece bytes : List ℕ) (was : a.failed ≡ false) (wait
   pub added_written : (b.failed ≡ false → Appends a.known b.known bytes × (b.written ≡ counted (a.written + length bytes)))
       → (b.failed ≡ true → (m : ℕ) × (m < length bytes) × Appends a.known b.known (take m bytes) × (b.written ≡ counted (a.written + m))) → Adds a b piece
   added_written all some = record { adds = by_failure b.failed refl all some }
+
+pub added_none : (a : State) → Adds a a []
+added_none a = added_waiting a a [] refl refl refl (λ _. sym (append-nil a.waits))
+
+-- the same, for proofs that name the pieces one by one
+pub then : {a b c : State} {one two : List ℕ} → Adds a b one → Adds b c two → Adds a c (one ++ two)
+then {a} {b} {c} {one} {two} first second = added_then a b c one two first second
+
+-- a piece under another spelling
+pub added_as : {a b : State} {one two : List ℕ} → one ≡ two → Adds a b one → Adds a b two
+added_as {a} {b} same h = subst (Adds a b) same h

@@ -1,3 +1,4 @@
 pub mod Known
 pub mod Written
 pub mod Added
+pub mod EscapedPieces

@@ -1,3 +1,4 @@
 pub mod Noted
 pub mod Pages
 pub mod Writes
+pub mod FaultNumbers

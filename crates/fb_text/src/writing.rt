@@ -43,12 +43,16 @@ pub(crate) fn flush<W: Write>(page: &mut Page, out: &mut Noted<W>)
     page.restart(written);
 }
 
-/// Writes a piece that has no room on a page. No bytes wait.
-fn write_long<W: Write>(page: &mut Page, out: &mut Noted<W>, piece: &[u8])
+/// Adds a piece where no bytes wait: to a page where it has room, and else to the writer.
+fn put_first<W: Write>(page: &mut Page, out: &mut Noted<W>, piece: &[u8])
     requires { pending page.old ≡ [] }
     ensures { Adds (state_of W.contents page.old out.old) (state_of W.contents page.new out.new)
         piece.now }
 {
+    if page.has_room(piece.len()) {
+        page.add(piece);
+        return;
+    }
     if out.failed() {
         return;
     }
@@ -57,7 +61,7 @@ fn write_long<W: Write>(page: &mut Page, out: &mut Noted<W>, piece: &[u8])
     page.restart(written);
 }
 
-/// Adds a piece of a text: to a page where it has room, and else to the writer, behind what waits.
+/// Adds a piece of a text. What waits is written where the piece has no room behind it.
 #[tactic(auto, using(crate::proofs::Added::added_then))]
 pub(crate) fn put<W: Write>(page: &mut Page, out: &mut Noted<W>, piece: &[u8])
     ensures { Adds (state_of W.contents page.old out.old) (state_of W.contents page.new out.new)
@@ -68,5 +72,5 @@ pub(crate) fn put<W: Write>(page: &mut Page, out: &mut Noted<W>, piece: &[u8])
         return;
     }
     flush(page, out);
-    write_long(page, out, piece);
+    put_first(page, out, piece);
 }

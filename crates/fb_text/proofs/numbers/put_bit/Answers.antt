@@ -1,0 +1,9 @@
+use Rattle.std.proofs.Common.{◌≡◌, true, refl}
+use Rattle.fb_json.specs.Texts.{is_odd}
+use Rattle.fb_text.proofs.Added.{then}
+use Rattle.fb_text.proofs.numbers.put_bit.Goals as goal
+
+pub returns : goal.returns
+returns g c =
+    let odd : is_odd c.args.bits ≡ true = rw c.if-bits-ne1.false refl in
+    rw (odd, ← c.gap.ensures, ← c.bit_name.ensures) (then c.put_str.ensures c.put_str-2.ensures)

@@ -1,0 +1,80 @@
+//! The lines of a JSON text, written.
+ghost use Rattle.fb_json.specs.Indents.{blanks};
+ghost use Rattle.fb_json.specs.Texts.{line, closing, member_line, in_quotes};
+ghost use Rattle.fb_text.specs.Writes.{state_of, Adds};
+
+use crate::noted::Noted;
+use crate::pages::Page;
+use crate::writing::put;
+use fb_json::Indent;
+use std::io::Write;
+
+/// Adds a piece of text as it is.
+pub(crate) fn put_str<W: Write>(page: &mut Page, out: &mut Noted<W>, piece: &str)
+    ensures { Adds (state_of W.contents page.old out.old) (state_of W.contents page.new out.new)
+        piece.now }
+{
+    put(page, out, piece.as_bytes());
+}
+
+/// Adds what stands in front of a member or an element: few levels in one piece.
+#[tactic(auto, using(crate::proofs::Added::added_then))]
+pub(crate) fn put_line<W: Write>(page: &mut Page, out: &mut Noted<W>, indent: &Indent, some: bool)
+    ensures { Adds (state_of W.contents page.old out.old) (state_of W.contents page.new out.new)
+        (line (blanks indent.now) some) }
+{
+    let Indent::Inside(one) = indent else {
+        return put_str(page, out, if some { ",\n" } else { "\n" });
+    };
+    let Indent::Inside(two) = one else {
+        return put_str(page, out, if some { ",\n  " } else { "\n  " });
+    };
+    put_line(page, out, two, some);
+    put_str(page, out, "    ");
+}
+
+/// Adds what stands in front of a closing bracket.
+pub(crate) fn put_closing<W: Write>(
+    page: &mut Page,
+    out: &mut Noted<W>,
+    indent: &Indent,
+    some: bool,
+)
+    ensures { Adds (state_of W.contents page.old out.old) (state_of W.contents page.new out.new)
+        (closing (blanks indent.now) some) }
+{
+    if some {
+        put_line(page, out, indent, false);
+    }
+}
+
+/// Adds a member's line up to its value. Its name is in two parts.
+#[tactic(auto, using(crate::proofs::Added::added_then))]
+pub(crate) fn put_member_line<W: Write>(
+    page: &mut Page,
+    out: &mut Noted<W>,
+    indent: &Indent,
+    some: bool,
+    name: &str,
+    behind: &str,
+)
+    ensures { Adds (state_of W.contents page.old out.old) (state_of W.contents page.new out.new)
+        (member_line (blanks indent.now) some name.now behind.now) }
+{
+    put_line(page, out, indent, some);
+    put_str(page, out, "\"");
+    put_str(page, out, name);
+    put_str(page, out, behind);
+    put_str(page, out, "\": ");
+}
+
+/// Adds a name in quotes.
+#[tactic(auto, using(crate::proofs::Added::added_then))]
+pub(crate) fn put_name<W: Write>(page: &mut Page, out: &mut Noted<W>, name: &str)
+    ensures { Adds (state_of W.contents page.old out.old) (state_of W.contents page.new out.new)
+        (in_quotes name.now) }
+{
+    put_str(page, out, "\"");
+    put_str(page, out, name);
+    put_str(page, out, "\"");
+}

@@ -1,0 +1,160 @@
+//! Numbers in JSON texts, written.
+ghost use Rattle.std.specs.Prelude.{◌≡◌, [], ◌^◌, ◌<◌, ◌*◌, ◌≤◌, ◌||◌, false, pos, codes, if◌then◌else◌};
+ghost use Rattle.std.specs.Option.{unwrap_or};
+ghost use Rattle.std.specs.Fmt.{signed_decimal};
+ghost use Rattle.fb_schema.specs.Schema.{body_at};
+ghost use Rattle.fb_schema.specs.Found.{name_numbered};
+ghost use Rattle.fb_json.specs.Texts.{is_odd, bit_text, bits_text, flags_text, enum_text, number_text};
+ghost use Rattle.fb_text.specs.Writes.{state_of, Adds};
+
+use crate::lines::{put_name, put_str};
+use crate::noted::Noted;
+use crate::pages::Page;
+use fb_json::{are_flags, bits_of, has_flags};
+use fb_schema::{Base, Kind, Schema, TypeId};
+use itoa::Buffer;
+use std::io::Write;
+
+fn put_digits<W: Write>(page: &mut Page, out: &mut Noted<W>, number: i128)
+    ensures { Adds (state_of W.contents page.old out.old) (state_of W.contents page.new out.new)
+        (signed_decimal number) }
+{
+    put_str(page, out, Buffer::new().format(number));
+}
+
+/// Adds a number of a kind.
+pub(crate) fn put_number<W: Write>(
+    page: &mut Page,
+    out: &mut Noted<W>,
+    schema: &Schema,
+    kind: Kind,
+    number: i128,
+)
+    ensures { Adds (state_of W.contents page.old out.old) (state_of W.contents page.new out.new)
+        (number_text schema.now kind number) }
+{
+    match kind {
+        Kind::Scalar(Base::Bool) => put_str(page, out, if number == 0 { "false" } else { "true" }),
+        Kind::Enum(enumeration) => put_enum(page, out, schema, enumeration, number),
+        _ => put_digits(page, out, number),
+    }
+}
+
+/// Adds the name of an enum's number, or the number.
+fn put_enum<W: Write>(
+    page: &mut Page,
+    out: &mut Noted<W>,
+    schema: &Schema,
+    enumeration: TypeId,
+    number: i128,
+)
+    ensures { Adds (state_of W.contents page.old out.old) (state_of W.contents page.new out.new)
+        (enum_text (body_at schema.now enumeration.0) number) }
+{
+    if has_flags(schema, enumeration) {
+        return put_flags(page, out, schema, enumeration, number);
+    }
+    match schema.name_of_number(enumeration, number) {
+        Some(name) => put_name(page, out, name),
+        None => put_digits(page, out, number),
+    }
+}
+
+/// Adds the names of a number's bits, where it has bits and each has a name, or the number.
+#[tactic(auto, using(crate::proofs::Added::added_then))]
+fn put_flags<W: Write>(
+    page: &mut Page,
+    out: &mut Noted<W>,
+    schema: &Schema,
+    enumeration: TypeId,
+    number: i128,
+)
+    ensures { Adds (state_of W.contents page.old out.old) (state_of W.contents page.new out.new)
+        (flags_text (body_at schema.now enumeration.0) number) }
+{
+    let bits = bits_of(number);
+    if !are_flags(schema, enumeration, bits) {
+        return put_digits(page, out, number);
+    }
+    put_str(page, out, "\"");
+    put_bits(page, out, schema, enumeration, 64, 1, bits, false);
+    put_str(page, out, "\"");
+}
+
+/// What stands in front of a name: a blank behind an earlier one.
+fn gap(some: bool) -> &'static str
+    ensures { result.now ≡ (if some then codes " " else []) }
+{
+    if some { " " } else { "" }
+}
+
+/// The name of a bit; nothing where it has none.
+fn bit_name(schema: &Schema, enumeration: TypeId, bit: u128) -> &str
+    requires { bit < 2 ^ 127 }
+    ensures { result.now ≡ unwrap_or (name_numbered (body_at schema.now enumeration.0) (pos bit)) [] }
+{
+    schema
+        .name_of_number(enumeration, bit as i128)
+        .unwrap_or("")
+}
+
+/// Adds the name of a number's lowest bit, if it is set.
+#[tactic(auto, using(crate::proofs::Added::added_then, crate::proofs::Added::added_none))]
+fn put_bit<W: Write>(
+    page: &mut Page,
+    out: &mut Noted<W>,
+    schema: &Schema,
+    enumeration: TypeId,
+    bit: u128,
+    bits: u128,
+    some: bool,
+)
+    requires { bit < 2 ^ 127 }
+    ensures { Adds (state_of W.contents page.old out.old) (state_of W.contents page.new out.new)
+        (bit_text (name_numbered (body_at schema.now enumeration.0)) bit bits some) }
+{
+    if bits % 2 != 1 {
+        return;
+    }
+    put_str(page, out, gap(some));
+    put_str(page, out, bit_name(schema, enumeration, bit));
+}
+
+/// Whether a name stands before those behind the lowest bit.
+fn is_more(some: bool, bits: u128) -> bool
+    ensures { result ≡ (some || is_odd bits) }
+{
+    some || bits % 2 == 1
+}
+
+/// Adds the names of so many of a number's bits, with a blank between two.
+fn put_bits<W: Write>(
+    page: &mut Page,
+    out: &mut Noted<W>,
+    schema: &Schema,
+    enumeration: TypeId,
+    left: u32,
+    bit: u128,
+    bits: u128,
+    some: bool,
+)
+    requires { bit * 2 ^ left ≤ 2 ^ 64 }
+    ensures { Adds (state_of W.contents page.old out.old) (state_of W.contents page.new out.new)
+        (bits_text (name_numbered (body_at schema.now enumeration.0)) left bit bits some) }
+{
+    if left == 0 || bits == 0 {
+        return;
+    }
+    put_bit(page, out, schema, enumeration, bit, bits, some);
+    let some = is_more(some, bits);
+    put_bits(
+        page,
+        out,
+        schema,
+        enumeration,
+        left - 1,
+        bit + bit,
+        bits / 2,
+        some,
+    );
+}
