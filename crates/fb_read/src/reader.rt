@@ -18,8 +18,10 @@ use std::alloc::Global;
 ///
 /// `raw` leaves out the check of the file identifier. `entries` rises by one for each table, vector
 /// and text that is entered. The bytes are read as the FlatBuffers documentation lays them out
-/// ("FlatBuffer Internals"). `Memory` may come in place of a fault that stands behind a table, vector
-/// or text for which memory ran out, never of one before it.
+/// ("FlatBuffer Internals").
+///
+/// `Memory` is returned only where a table, vector or text is reached that keeps its rules and is within
+/// the limits, with no fault at or before it: it may stand in place of a fault that comes later.
 #[tactic(auto, using(crate::proofs::Verified::aligned_known, crate::proofs::Verified::small_known))]
 pub fn read<'a>(
     alloc: Global,

@@ -91,6 +91,7 @@ fn read_table(
     Ok(Value::Fields(table, fields))
 }
 
+// One entry for each slot, also for those behind the vtable's end.
 #[cycle(tree)]
 fn read_slots(
     alloc: Global,
@@ -139,6 +140,7 @@ fn read_slots(
     Ok(fields)
 }
 
+// What a slot has: its default, a union's unknown code, or what stands at its place.
 #[cycle(tree)]
 fn read_stored(
     alloc: Global,
@@ -279,6 +281,7 @@ fn read_vector(
     Ok(Value::Items(items))
 }
 
+// The elements of a vector: texts and tables stand behind references, all else in its place.
 #[cycle(tree)]
 fn read_items(
     alloc: Global,
@@ -331,6 +334,7 @@ fn read_items(
     }
 }
 
+// The elements behind the references from a position on.
 #[cycle(tree)]
 fn read_elements(
     alloc: Global,

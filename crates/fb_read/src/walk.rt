@@ -18,6 +18,7 @@ use crate::visits::{visit_code, visit_inline, visit_text_behind};
 use fb_schema::{FieldInfo, Kind, TypeId};
 use fb_value::ReadFault;
 
+/// Visits the table behind a reference.
 #[cycle(walk)]
 #[tactic(auto, using(crate::proofs::Visited::visit_ref))]
 pub fn visit_table_behind(
@@ -121,6 +122,7 @@ fn visit_slots(
     Ok(after)
 }
 
+// Visits what a slot has.
 #[cycle(walk)]
 fn visit_stored(
     source: Source,
@@ -245,6 +247,7 @@ fn visit_vector(
     }
 }
 
+// Visits what the references from a position on lead to.
 #[cycle(walk)]
 fn visit_elements(
     source: Source,
