@@ -1,5 +1,5 @@
-use Rattle.std.proofs.Common.{◌≡◌, ◌<◌, ℕ, [], List, length, take, subst, sym, ◌∙◌, append-nil}
-use Rattle.fb_text.specs.Writes.{state_of, Stands, counted}
+use Rattle.std.proofs.Common.{subst, sym, ◌∙◌, append-nil}
+use Rattle.fb_text.specs.Writes.{state_of, Stands}
 use Rattle.fb_text.proofs.Written.{written_whole, written_front}
 use Rattle.fb_text.proofs.writing.finish.Goals as goal
 
