@@ -1,5 +1,5 @@
 -- What adds a piece.
-use Rattle.std.proofs.Common.{◌≡◌, ℕ, ◌+◌, ◌<◌, ◌^◌, min, [], List, ◌++◌, Option, Bool, true, false, length, take, sym, ap, subst, ◌∙◌, arith, append_assoc, append-nil, length-append, refl}
+use Rattle.std.proofs.Common.{◌≡◌, ℕ, ◌+◌, ◌<◌, [], List, ◌++◌, Option, Bool, true, false, length, take, sym, ap, subst, ◌∙◌, arith, append_assoc, append-nil, length-append, refl}
 use Rattle.std.specs.Io.KnownBytes.{Appends}
 use Rattle.fb_text.specs.Writes.{State, Sent, Stands, IsLeft, Adds, counted}
 use Rattle.fb_text.proofs.Written.{all_written, some_written}

@@ -1,5 +1,6 @@
 -- What stands once bytes were written.
-use Rattle.std.proofs.Common.{◌≡◌, ℕ, ◌+◌, ◌-◌, ◌<◌, ◌≤◌, ◌^◌, min, [], List, ◌++◌, length, take, drop, Option, Bool, true, false, sym, ap, subst, ◌∙◌, arith, append_assoc, append-nil, length-append, length-drop, take-append-drop}
+use Rattle.std.proofs.Common.{◌≡◌, ℕ, ◌+◌, ◌<◌, [], List, ◌++◌, length, take, drop, Option, Bool, true, false, sym, ap, subst, ◌∙◌, arith, append_assoc, append-nil, length-append, length-drop, take-append-drop}
+use Rattle.std.proofs.Math.Seq.{take-append_seam}
 use Rattle.std.proofs.lemmas.List.{length-take}
 use Rattle.std.proofs.KnownBytes.{Appends-trans}
 use Rattle.std.specs.Io.KnownBytes.{Appends}
@@ -37,3 +38,19 @@ module _ (start : Option (List ℕ)) (old new : State) (sent : Sent start old) w
         whole = is ∙ (ap (λ l. sent.bytes ++ l) (sym (take-append-drop m bytes)) ∙ sym (append_assoc sent.bytes (take m bytes) (drop m bytes)));
         rest = subst (λ (b : Bool). IsLeft b new (drop m bytes)) (sym broke) more;
       }
+
+-- what stands once nothing waits
+module _ (start : Option (List ℕ)) (s : State) (text : List ℕ) (stands : Stands start s text) where
+  pub written_whole : s.failed ≡ false → s.waits ≡ [] → Appends start s.known text
+  written_whole fine empty =
+      let none : stands.left ≡ [] = subst (λ (b : Bool). IsLeft b s stands.left) fine stands.rest ∙ empty in
+      let all : text ≡ stands.sent.bytes = stands.whole ∙ (ap (λ l. stands.sent.bytes ++ l) none ∙ append-nil stands.sent.bytes) in
+      subst (λ (l : List ℕ). Appends start s.known l) (sym all) stands.sent.gone
+
+  pub written_front : s.failed ≡ true → (m : ℕ) × (m < length text) × Appends start s.known (take m text) × (s.written ≡ counted m)
+  written_front broken =
+      let more : 0 < length stands.left = subst (λ (b : Bool). IsLeft b s stands.left) broken stands.rest in
+      let sent = stands.sent.bytes in
+      let longer : length text ≡ length sent + length stands.left = ap length stands.whole ∙ length-append sent stands.left in
+      let front : take (length sent) text ≡ sent = ap (take (length sent)) stands.whole ∙ take-append_seam sent stands.left in
+      (length sent, omega arith, subst (λ (l : List ℕ). Appends start s.known l) (sym front) stands.sent.gone, stands.sent.count)

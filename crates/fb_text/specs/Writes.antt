@@ -1,6 +1,8 @@
 -- What a piece of a text does to a page and to the writer below it.
-use Rattle.std.specs.Prelude.{ℕ, ◌≡◌, ◌++◌, ◌<◌, ◌-◌, ◌^◌, min, List, length, Bool, true, false, Option}
+use Rattle.std.specs.Prelude.{ℕ, ◌≡◌, ◌++◌, ◌<◌, ◌-◌, ◌^◌, min, List, length, take, Bool, true, false, Option, Result, Ok, Err}
 use Rattle.std.specs.Io.KnownBytes.{Appends}
+use Rattle.fb_text.specs.declared.faults.WriteFault.{WriteFault}
+use Rattle.fb_text.specs.declared.faults.WriteFault.TheVariants.{NoMemberName, WriteFailed}
 use Rattle.fb_text.specs.declared.noted.Noted.{Noted}
 use Rattle.fb_text.specs.declared.pages.Page.{Page}
 use Rattle.fb_text.specs.Noted.{write_failed, writer_of}
@@ -41,3 +43,9 @@ pub record Stands (start : Option (List ℕ)) (s : State) (text : List ℕ) : Ty
 -- A piece is added to whatever text stands.
 pub record Adds (old new : State) (piece : List ℕ) : Type 0 where
   pub adds : (start : Option (List ℕ)) (text : List ℕ) → Stands start old text → Stands start new (text ++ piece)
+
+-- All of a text was written behind the bytes of the start, or a write failed behind the first bytes of it.
+abbrev pub IsWritten : {A : Type 0} → Option (List ℕ) → Option (List ℕ) → List ℕ → Result A WriteFault → Type 0
+IsWritten start known text (Ok x) = Appends start known text
+IsWritten start known text (Err (WriteFailed n)) = (m : ℕ) × (m < length text) × Appends start known (take m text) × (n ≡ counted m)
+IsWritten start known text (Err (NoMemberName at)) = ⊥

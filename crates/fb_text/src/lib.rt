@@ -11,3 +11,6 @@ mod writing;
 
 pub use faults::WriteFault;
 pub use noted::Noted;
+
+#[cfg(test)]
+mod tests;

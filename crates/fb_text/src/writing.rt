@@ -1,10 +1,11 @@
 //! Pieces of a text, written by way of a page.
-ghost use Rattle.std.specs.Prelude.{◌≡◌, ◌<◌, ◌+◌, ◌++◌, [], ℕ, length, take, false, true};
+ghost use Rattle.std.specs.Prelude.{◌≡◌, ◌<◌, ◌+◌, ◌++◌, [], ℕ, length, take, false, true, ◌↔◌, List, Option, IsErr, IsTrue};
 ghost use Rattle.std.specs.Io.KnownBytes.{Appends};
 ghost use Rattle.fb_text.specs.Noted.{write_failed, writer_of};
 ghost use Rattle.fb_text.specs.Pages.{pending};
-ghost use Rattle.fb_text.specs.Writes.{state_of, counted, Adds};
+ghost use Rattle.fb_text.specs.Writes.{state_of, counted, Stands, Adds, IsWritten};
 
+use crate::faults::WriteFault;
 use crate::noted::Noted;
 use crate::pages::Page;
 use std::io::Write;
@@ -73,4 +74,18 @@ pub(crate) fn put<W: Write>(page: &mut Page, out: &mut Noted<W>, piece: &[u8])
     }
     flush(page, out);
     put_first(page, out, piece);
+}
+
+/// Writes what waits, and returns whether all of a text was written.
+pub(crate) fn finish<W: Write>(page: &mut Page, out: &mut Noted<W>) -> Result<(), WriteFault>
+    ensures written { (start : Option (List ℕ)) (text : List ℕ)
+        → Stands start (state_of W.contents page.old out.old) text
+        → IsWritten start (W.contents (writer_of out.new)) text result }
+    ensures failed { IsErr result ↔ IsTrue (write_failed out.new) }
+{
+    flush(page, out);
+    if out.failed() {
+        return Err(WriteFault::WriteFailed(page.written()));
+    }
+    Ok(())
 }
