@@ -35,14 +35,7 @@ fn usual() -> Limits {
 #[test]
 fn a_text_goes_to_a_buffer_and_back(rt: HostRuntime) -> Result<(), Fail> {
     let built = to_binary(rt.alloc(), SCHEMA, TEXT.as_bytes(), usual(), false)?;
-    let printed = to_json(
-        rt.alloc(),
-        SCHEMA,
-        built.as_slice(),
-        usual(),
-        false,
-        false,
-    )?;
+    let printed = to_json(rt.alloc(), SCHEMA, built.as_slice(), usual(), false, false)?;
     assert_eq!(rt; printed.as_str(), TEXT);
     Ok(())
 }
