@@ -1,6 +1,6 @@
 //! Visits of what names no table, without memory.
 ghost use Rattle.std.specs.Prelude.{◌≡◌, ℕ, ◌+◌, ◌<◌, ◌≤◌, ◌^◌, length, MatchResult, OnOk, IfOk};
-ghost use Rattle.fb_layout.specs.Laid.{LaidSchema, stored_kind};
+ghost use Rattle.fb_layout.specs.Laid.{LaidSchema, scalar_kind, stored_kind};
 ghost use Rattle.fb_value.specs.Places.{text_part, ref_place, part_place, inline_place, code_place, next_required};
 ghost use Rattle.fb_read.specs.Visits.{Visits, slots_seen};
 ghost use Rattle.fb_read.specs.Walks.{place, visit_in, TicksWithin, EntersAt};
@@ -9,7 +9,7 @@ use crate::counting::Entries;
 use crate::places::follow;
 use crate::rules::{check_code, check_inline, open_text};
 use crate::source::Source;
-use fb_schema::{FieldInfo, Kind};
+use fb_schema::{Base, FieldInfo, Kind};
 use fb_value::ReadFault;
 
 /// Visits the text at a position.
@@ -76,6 +76,19 @@ pub fn visit_inline(source: Source, kind: Kind, at: usize, spent: u64) -> Result
         source.layout.size_of(kind),
         source.layout.align_of(kind),
     )?;
+    Ok(spent)
+}
+
+/// Visits a number, whose size and alignment need no look-up.
+#[tactic(auto, using(crate::proofs::Visited::visit_fault, crate::proofs::Visited::visit_inline))]
+pub fn visit_number(source: Source, base: Base, at: usize, spent: u64) -> Result<u64, ReadFault>
+    requires low { at < 2 ^ 33 }
+    ensures visit { (tables : ℕ)
+        → Visits result (visit_in source.entry (place (inline_place (scalar_kind base)) at) tables spent) }
+    ensures same { IfOk result (λ n. n ≡ spent) }
+{
+    let size = u32::from(base.size());
+    check_inline(source.bytes, at, size, size)?;
     Ok(spent)
 }
 

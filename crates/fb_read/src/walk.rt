@@ -14,7 +14,7 @@ use crate::reference::Reference;
 use crate::rules::{enter_table, open_vector};
 use crate::source::Source;
 use crate::stored::{Stored, stored_in};
-use crate::visits::{visit_code, visit_inline, visit_text_behind};
+use crate::visits::{visit_code, visit_inline, visit_number, visit_text_behind};
 use fb_schema::{FieldInfo, Kind, TypeId};
 use fb_value::ReadFault;
 
@@ -153,7 +153,7 @@ fn visit_stored(
             code.present,
             spent,
         ),
-        Stored::Number(base, at) => visit_inline(source, Kind::Scalar(base), at, spent),
+        Stored::Number(base, at) => visit_number(source, base, at, spent),
         Stored::Fixed(structure, at) => visit_inline(source, Kind::Struct(structure), at, spent),
         Stored::Text(at) => visit_text_behind(source, at, spent, entries),
         Stored::Table(table, at) => visit_table_behind(source, table, at, tables, spent, entries),

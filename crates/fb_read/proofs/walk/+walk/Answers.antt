@@ -173,4 +173,4 @@ visit_vector-returns-in-Table-clause-each t c =
 pub visit_stored-returns-in-Fixed-clause-each : goal.visit_stored-returns-in-Fixed-clause-each
 visit_stored-returns-in-Fixed-clause-each t c =
     let L = c.args.source.layout.now in
-    on_any c.visit_inline-in-Fixed.result (λ f o lies. let free = inline_slot_entered L c.args.source.bytes.now f (struct_kind c.in-Fixed.structure.0) c.in-Fixed.at o (rw c.in-Fixed.is at lies) in omega (arith, free))
+    on_any c.visit_inline.result (λ f o lies. let free = inline_slot_entered L c.args.source.bytes.now f (struct_kind c.in-Fixed.structure.0) c.in-Fixed.at o (rw c.in-Fixed.is at lies) in omega (arith, free))
