@@ -18,7 +18,7 @@ use Rattle.flatc_tool.specs.SchemaTexts.{IsAccepted}
 use Rattle.flatc_tool.specs.Jobs.{JsonMeans, IsBinary, IsText, TextRefused, IsNotMemory}
 use Rattle.flatc_tool.specs.Headline.{CarriesValue, JsonIsCarried, NoneLies, OthersAreRefused}
 use Rattle.flatc_tool.specs.declared.faults.ToolFault.{ToolFault}
-use Rattle.flatc_tool.specs.declared.faults.ToolFault.TheVariants.{Schema, Json, Build, Read, Text, BadJson, Memory}
+use Rattle.flatc_tool.specs.declared.faults.ToolFault.TheVariants.{Schema, Json, Build, Read, Text, Write, FileRead, FileWrite, FileTooLong, BadJson, Memory}
 use Rattle.flatc_tool.proofs.OneText.{same_accepted, refused_excludes}
 use Rattle.flatc_tool.proofs.JobSteps.{same_value}
 
@@ -82,6 +82,10 @@ module _ (schema : List ℕ) (b : Bytes) (most : Bounds) (raw : Bool) (L : LaidS
         absurd (none refused.2 (subst (λ (K : LaidSchema). Holds K most raw b refused.2) same refused.3))
     answered (Json f) refused rule = absurd refused
     answered (Build f) refused rule = absurd refused
+    answered (Write f) refused rule = absurd refused
+    answered FileRead refused rule = absurd refused
+    answered FileWrite refused rule = absurd refused
+    answered FileTooLong refused rule = absurd refused
     answered BadJson refused rule = absurd refused
     answered Memory refused rule = absurd refused
 

@@ -1,3 +1,4 @@
 pub mod OneText
 pub mod JobSteps
 pub mod Headlines
+pub mod Known

@@ -6,10 +6,11 @@ use Rattle.fb_layout.specs.FaultNumbers as layout_faults
 use Rattle.fb_value.specs.FaultNumbers as read_faults
 use Rattle.fb_build.specs.FaultNumbers as build_faults
 use Rattle.fb_json.specs.FaultNumbers as json_faults
+use Rattle.fb_text.specs.FaultNumbers as write_faults
 use Rattle.flatc_tool.specs.declared.schema_layouts.SchemaTextFault.{SchemaTextFault}
 use Rattle.flatc_tool.specs.declared.schema_layouts.SchemaTextFault.TheVariants as the_schema
 use Rattle.flatc_tool.specs.declared.faults.ToolFault.{ToolFault}
-use Rattle.flatc_tool.specs.declared.faults.ToolFault.TheVariants.{Schema, Json, Build, Read, Text, BadJson, Memory}
+use Rattle.flatc_tool.specs.declared.faults.ToolFault.TheVariants.{Schema, Json, Build, Read, Text, Write, FileRead, FileWrite, FileTooLong, BadJson, Memory}
 
 abbrev pub schema_number_of : SchemaTextFault → ℕ
 schema_number_of (the_schema.Syntax f) = syntax_faults.number_of f
@@ -27,6 +28,10 @@ number_of (Json f) = json_faults.number_of f
 number_of (Build f) = build_faults.number_of f
 number_of (Read f) = read_faults.number_of f
 number_of (Text f) = json_faults.text_number_of f
+number_of (Write f) = write_faults.number_of f
+number_of FileRead = 110
+number_of FileWrite = 111
+number_of FileTooLong = 112
 number_of BadJson = 113
 number_of Memory = 114
 

@@ -3,3 +3,10 @@ pub mod Jobs
 pub mod Headline
 pub mod SchemaTexts
 pub mod FaultNumbers
+pub mod FaultNames
+pub mod FaultPlaces
+pub mod FaultLines
+pub mod Heard
+pub mod Commands
+pub mod Lines
+pub mod Checks

@@ -1,14 +1,17 @@
 //! Why the tool refuses.
 use crate::schema_layouts::SchemaTextFault;
 use fb_build::BuildFault;
-use fb_json::{JsonFault, TextFault};
+use fb_json::{JsonFault, Place, TextFault};
+use fb_layout::LayoutFault;
+use fb_schema::TypeId;
+use fb_text::WriteFault;
 use fb_value::ReadFault;
 use thiserror::Error;
 
 /// The refusal of the first layer that refuses.
 ///
-/// `BadJson` are bytes that are no JSON text, and `Memory` is an allocation that was refused while
-/// the JSON text was read.
+/// `FileRead`, `FileWrite` and `FileTooLong` are of files, `BadJson` are bytes that are no JSON text,
+/// and `Memory` is an allocation that was refused while a file or a JSON text was read.
 #[derive(Clone, Copy, Debug, PartialEq, Eq, Drop, Error)]
 pub enum ToolFault {
     #[error(transparent)]
@@ -21,6 +24,14 @@ pub enum ToolFault {
     Read(ReadFault),
     #[error(transparent)]
     Text(TextFault),
+    #[error(transparent)]
+    Write(WriteFault),
+    #[error("a file can't be read")]
+    FileRead,
+    #[error("a file can't be written")]
+    FileWrite,
+    #[error("a file is longer than 2147483647 bytes")]
+    FileTooLong,
     #[error("bad JSON")]
     BadJson,
     #[error("out of memory")]
@@ -28,8 +39,9 @@ pub enum ToolFault {
 }
 
 impl ToolFault {
-    ghost use Rattle.std.specs.Prelude.{◌≡◌};
+    ghost use Rattle.std.specs.Prelude.{◌≡◌, option_map};
     ghost use Rattle.flatc_tool.specs.FaultNumbers.{number_of, offset_of};
+    ghost use Rattle.flatc_tool.specs.FaultPlaces.{place_of, owner_of, slot_of, written_of};
 
     /// The fault's number, which tells it from all others.
     pub fn number(self) -> u8
@@ -41,6 +53,10 @@ impl ToolFault {
             ToolFault::Build(fault) => fault.number(),
             ToolFault::Read(fault) => fault.number(),
             ToolFault::Text(fault) => fault.number(),
+            ToolFault::Write(fault) => fault.number(),
+            ToolFault::FileRead => 110,
+            ToolFault::FileWrite => 111,
+            ToolFault::FileTooLong => 112,
             ToolFault::BadJson => 113,
             ToolFault::Memory => 114,
         }
@@ -54,6 +70,50 @@ impl ToolFault {
         match self {
             ToolFault::Schema(fault) => fault.offset(),
             ToolFault::Read(fault) => fault.offset(),
+            _ => None,
+        }
+    }
+
+    fn place(self) -> Option<Place>
+        ensures { result ≡ place_of self }
+    {
+        match self {
+            ToolFault::Json(fault) => fault.place(),
+            ToolFault::Text(fault) => fault.place(),
+            ToolFault::Write(fault) => fault.place(),
+            _ => None,
+        }
+    }
+
+    /// The declared type where it stands, if it has such a place.
+    pub fn owner(self) -> Option<TypeId>
+        ensures { option_map (λ owner. owner.0) result ≡ owner_of self }
+    {
+        match self {
+            ToolFault::Schema(SchemaTextFault::Layout(LayoutFault::StructTooBig(owner)))
+            | ToolFault::Schema(SchemaTextFault::Layout(LayoutFault::TableTooWide(owner))) => {
+                Some(owner)
+            }
+            _ => self.place().map(|place| place.owner),
+        }
+    }
+
+    /// The slot where it stands, if it has one.
+    pub fn slot(self) -> Option<u16>
+        ensures { result ≡ slot_of self }
+    {
+        match self {
+            ToolFault::Read(ReadFault::MissingRequired(_, slot)) => Some(slot),
+            _ => self.place()?.slot,
+        }
+    }
+
+    /// How many bytes were written before a write failed.
+    pub fn written(self) -> Option<u64>
+        ensures { result ≡ written_of self }
+    {
+        match self {
+            ToolFault::Write(fault) => fault.written(),
             _ => None,
         }
     }

@@ -1,11 +1,19 @@
 //! The tool's jobs over texts and bytes.
 #![tactic(auto)]
 
+mod checks;
+mod commands;
 mod faults;
 mod headline;
+mod heard;
+mod job;
 mod jobs;
+mod lines;
+mod names;
 mod schema_layouts;
 
+pub use checks::check;
+pub use commands::VERSION;
 pub use faults::ToolFault;
 pub use fb_build::BuildFault;
 pub use fb_declare::SchemaFault;
@@ -13,7 +21,11 @@ pub use fb_json::{JsonFault, Place, TextFault};
 pub use fb_layout::{Layout, LayoutFault};
 pub use fb_schema::TypeId;
 pub use fb_syntax::SyntaxFault;
+pub use fb_text::{Noted, WriteFault};
 pub use fb_value::{Limits, ReadFault};
 pub use headline::{json_is_carried, others_are_refused};
+pub use heard::{Heard, take_all};
+pub use job::{Job, job_of};
 pub use jobs::{to_binary, to_json};
+pub use lines::fault_line;
 pub use schema_layouts::{SchemaTextFault, schema_of};

@@ -1,0 +1,21 @@
+-- What a check of a schema text, and of a buffer under it, answers.
+use Rattle.std.specs.Prelude.{ℕ, List, Bool, Option, None, Some}
+use Rattle.fb_layout.specs.Laid.{LaidSchema}
+use Rattle.fb_value.specs.Bounds.{Bounds}
+use Rattle.fb_value.specs.Datum.{Datum}
+use Rattle.fb_value.specs.Num.{Bytes}
+use Rattle.fb_value.specs.Holds.{Holds, Refuses}
+use Rattle.flatc_tool.specs.SchemaTexts.{IsAccepted, IsRefused}
+use Rattle.flatc_tool.specs.declared.faults.ToolFault.{ToolFault}
+use Rattle.flatc_tool.specs.declared.faults.ToolFault.TheVariants.{Schema, Read}
+
+-- The schema is accepted and, where there are bytes, a value lies in them.
+abbrev pub IsSound : List ℕ → Option Bytes → Bounds → Bool → Type 0
+IsSound schema None most raw = (L : LaidSchema) × IsAccepted schema L
+IsSound schema (Some b) most raw = (L : LaidSchema) × IsAccepted schema L × (v : Datum) × Holds L most raw b v
+
+-- The refusal of the schema, else the least fault of the bytes, for which no memory is taken.
+abbrev pub CheckRefused : List ℕ → Option Bytes → Bounds → Bool → ToolFault → Type 0
+CheckRefused schema bytes most raw (Schema f) = IsRefused schema f
+CheckRefused schema (Some b) most raw (Read f) = (L : LaidSchema) × IsAccepted schema L × Refuses L most raw b f
+CheckRefused schema bytes most raw _ = ⊥

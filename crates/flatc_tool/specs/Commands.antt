@@ -1,0 +1,44 @@
+-- The command `flatc`, as clap sees it.
+-- After the FlatBuffers documentation, "Using the schema compiler": the options keep its words.
+use Rattle.std.specs.Prelude.{◌≡◌, Bool, true, false, Some, codes}
+use Rattle.clap.specs.Words.{App, Rule, Text, app_of, new_app, new_rule, with_rule, with_subcommand}
+use Rattle.clap.specs.declared.builder.action.ArgAction.TheVariants.{SetTrue}
+use Rattle.clap.specs.declared.builder.command.Command.{Command}
+use Rattle.clap.specs.declared.builder.command.Command.TheViews.{out-Command}
+
+abbrev pub path_rule : Text → Bool → Rule
+path_rule id required = record (new_rule id) { required = required }
+
+abbrev pub flag_rule : Text → Rule
+flag_rule name = record (new_rule name) { long = Some name; action = Some SetTrue }
+
+abbrev pub with_path : App → Text → App
+with_path a id = with_rule a (path_rule id true)
+
+abbrev pub with_flag : App → Text → App
+with_flag a name = with_rule a (flag_rule name)
+
+abbrev pub binary_app : App
+binary_app = with_path (with_path (with_path (with_flag (new_app (codes "binary")) (codes "unknown-json")) (codes "SCHEMA")) (codes "JSON")) (codes "OUT")
+
+abbrev pub json_app : App
+json_app = with_path (with_path (with_flag (with_flag (new_app (codes "json")) (codes "raw-binary")) (codes "defaults-json")) (codes "SCHEMA")) (codes "BIN")
+
+abbrev pub check_app : App
+check_app = with_rule (with_path (with_flag (new_app (codes "check")) (codes "raw-binary")) (codes "SCHEMA")) (path_rule (codes "BIN") false)
+
+abbrev pub conform_app : App
+conform_app = with_path (with_path (new_app (codes "conform")) (codes "OLD")) (codes "NEW")
+
+-- words without the program's name, the first of which names a job, and `--version`
+abbrev pub plain_app : App
+plain_app = record (new_app (codes "flatc")) {
+  top = record (new_app (codes "flatc")).top { no_binary_name = true; subcommand_required = true; has_version = true };
+}
+
+abbrev pub flatc_app : App
+flatc_app = with_subcommand (with_subcommand (with_subcommand (with_subcommand plain_app binary_app.top) json_app.top) check_app.top) conform_app.top
+
+-- a command that clap sees as this one, none of whose arguments is global
+abbrev pub HasApp : App → Command → Type 0
+HasApp a c = (app_of c ≡ a) × ((out-Command c).has_globals ≡ false)

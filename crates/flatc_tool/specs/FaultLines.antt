@@ -1,0 +1,15 @@
+-- The line that tells a fault: its number and name, and of its place what it has.
+use Rattle.std.specs.Prelude.{ℕ, ◌++◌, List, [], Option, None, Some, codes, decimal}
+use Rattle.flatc_tool.specs.FaultNames.{name_of}
+use Rattle.flatc_tool.specs.FaultNumbers.{number_of, offset_of}
+use Rattle.flatc_tool.specs.FaultPlaces.{owner_of, slot_of, written_of}
+use Rattle.flatc_tool.specs.declared.faults.ToolFault.{ToolFault}
+
+abbrev pub noted : List ℕ → Option ℕ → List ℕ
+noted word None = []
+noted word (Some n) = word ++ decimal n
+
+abbrev pub line_of : ToolFault → List ℕ
+line_of f = decimal (number_of f) ++ codes " " ++ name_of f
+    ++ noted (codes " at ") (offset_of f) ++ noted (codes " in type ") (owner_of f)
+    ++ noted (codes " slot ") (slot_of f) ++ noted (codes " after ") (written_of f)

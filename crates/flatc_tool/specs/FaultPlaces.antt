@@ -1,0 +1,33 @@
+-- What a fault of the tool says of its place, besides an offset: a declared type, a slot, how much was written.
+use Rattle.std.specs.Prelude.{ℕ, Option, None, Some, option_map}
+use Rattle.std.specs.Option.{option_map_or}
+use Rattle.fb_layout.specs.declared.faults.LayoutFault.TheVariants as the_layout
+use Rattle.fb_value.specs.declared.faults.ReadFault.TheVariants as the_read
+use Rattle.fb_json.specs.FaultNumbers as json_faults
+use Rattle.fb_json.specs.declared.faults.Place.{Place}
+use Rattle.fb_text.specs.FaultNumbers as write_faults
+use Rattle.flatc_tool.specs.declared.schema_layouts.SchemaTextFault.TheVariants.{Layout}
+use Rattle.flatc_tool.specs.declared.faults.ToolFault.{ToolFault}
+use Rattle.flatc_tool.specs.declared.faults.ToolFault.TheVariants.{Schema, Json, Read, Text, Write}
+
+-- JSON, values and their texts have declared places, a type and one of its slots
+abbrev pub place_of : ToolFault → Option Place
+place_of (Json f) = json_faults.place_of f
+place_of (Text f) = json_faults.text_place_of f
+place_of (Write f) = write_faults.place_of f
+place_of _ = None
+
+-- the number of the type
+abbrev pub owner_of : ToolFault → Option ℕ
+owner_of (Schema (Layout (the_layout.StructTooBig owner))) = Some owner.0
+owner_of (Schema (Layout (the_layout.TableTooWide owner))) = Some owner.0
+owner_of f = option_map (λ (p : Place). p.owner.0) (place_of f)
+
+abbrev pub slot_of : ToolFault → Option ℕ
+slot_of (Read (the_read.MissingRequired at slot)) = Some slot
+slot_of f = option_map_or (λ (p : Place). p.slot) (place_of f) None
+
+-- how many bytes were written before a write failed
+abbrev pub written_of : ToolFault → Option ℕ
+written_of (Write f) = write_faults.written_of f
+written_of _ = None

@@ -1,0 +1,45 @@
+//! The check of schema texts and buffers.
+ghost use Rattle.std.specs.Prelude.{OnOk, IfErr, option_map};
+ghost use Rattle.flatc_tool.specs.Checks.{IsSound, CheckRefused};
+ghost use Rattle.flatc_tool.specs.Jobs.{IsNotMemory};
+
+use crate::faults::ToolFault;
+use crate::schema_layouts::schema_of;
+use fb_read::{Entries, verify};
+use fb_value::Limits;
+use std::alloc::Global;
+
+/// Whether a schema text is accepted and, where there are bytes, they hold a value under it.
+///
+/// `raw` leaves out the check of the file identifier. The schema is looked at before the bytes. No
+/// value is made: memory is taken for the schema alone.
+pub fn check(
+    alloc: Global,
+    schema: &[u8],
+    bytes: Option<&[u8]>,
+    limits: Limits,
+    raw: bool,
+) -> Result<(), ToolFault>
+    ensures sound { OnOk result
+        (IsSound schema.now (option_map (λ b. b.now) bytes) limits raw) }
+    ensures refused { IfErr result
+        (CheckRefused schema.now (option_map (λ b. b.now) bytes) limits raw) }
+    ensures exact { IfErr result (λ f. IsNotMemory f
+        → ¬ IsSound schema.now (option_map (λ b. b.now) bytes) limits raw) }
+{
+    let layout = match schema_of(alloc, schema) {
+        Ok(layout) => layout,
+        Err(fault) => return Err(ToolFault::Schema(fault)),
+    };
+    let Some(bytes) = bytes else {
+        return Ok(());
+    };
+    let mut entries = Entries::new();
+    match verify(&layout, bytes, limits, raw, &mut entries) {
+        Ok(_) => Ok(()),
+        Err(fault) => Err(ToolFault::Read(fault)),
+    }
+}
+
+#[cfg(test)]
+mod tests;
