@@ -21,11 +21,11 @@ pub fn check(
     raw: bool,
 ) -> Result<(), ToolFault>
     ensures sound { OnOk result
-        (IsSound schema.now (option_map (λ b. b.now) bytes) limits raw) }
+        (IsSound schema.now (option_map (λ b. b.now) bytes.entry) limits raw) }
     ensures refused { IfErr result
-        (CheckRefused schema.now (option_map (λ b. b.now) bytes) limits raw) }
+        (CheckRefused schema.now (option_map (λ b. b.now) bytes.entry) limits raw) }
     ensures exact { IfErr result (λ f. IsNotMemory f
-        → ¬ IsSound schema.now (option_map (λ b. b.now) bytes) limits raw) }
+        → ¬ IsSound schema.now (option_map (λ b. b.now) bytes.entry) limits raw) }
 {
     let layout = match schema_of(alloc, schema) {
         Ok(layout) => layout,
