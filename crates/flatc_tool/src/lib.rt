@@ -10,6 +10,7 @@ mod job;
 mod jobs;
 mod lines;
 mod names;
+mod reports;
 mod schema_layouts;
 
 pub use checks::check;
@@ -28,4 +29,5 @@ pub use heard::{Heard, take_all};
 pub use job::{Job, job_of};
 pub use jobs::{to_binary, to_json};
 pub use lines::fault_line;
+pub use reports::report;
 pub use schema_layouts::{SchemaTextFault, schema_of};
