@@ -168,10 +168,10 @@ item_within p n size most i less within =
 abbrev pub IsElementAt : LaidSchema → Bytes → StoredKind → ℕ → Datum → Type 0
 IsElementAt L b kind q d = Element L b kind q (target_of kind) d (λ sort r. Lies L b sort r d)
 
-no_union : (L : LaidSchema) (b : Bytes) (u q : ℕ) (d : Datum) → LiesInline L b (union_kind u) q d → ⊥
+pub no_union : (L : LaidSchema) (b : Bytes) (u q : ℕ) (d : Datum) → LiesInline L b (union_kind u) q d → ⊥
 no_union L b u q _ lies = lies
 
-no_code : (L : LaidSchema) (b : Bytes) (u q : ℕ) (d : Datum) → LiesInline L b (code_kind u) q d → ⊥
+pub no_code : (L : LaidSchema) (b : Bytes) (u q : ℕ) (d : Datum) → LiesInline L b (code_kind u) q d → ⊥
 no_code L b u q _ lies = lies
 
 element_number : (L : LaidSchema) (b : Bytes) (kind : StoredKind) (base : Base) (q : ℕ) (d : Datum) → base_wanted kind ≡ Some base → IsElementAt L b kind q d → number_in (Some d) ≡ Some (scalar_of base (num b q (base_size base)))
@@ -224,7 +224,7 @@ element_no_struct L b (code_kind u) q d e lies = absurd (no_code L b u q d lies)
 
 module _ (L : LaidSchema) (b : Bytes) (kind : StoredKind) (p n i : ℕ) (less : i < n) where
   -- what element i is
-  item_there : (ds : Parts) → (count ds ≡ n) × LiesItems L b kind p ds → (d : Datum) × (nth_part ds i ≡ Some d) × IsElementAt L b kind (p + i * size_of L kind) d
+  pub item_there : (ds : Parts) → (count ds ≡ n) × LiesItems L b kind p ds → (d : Datum) × (nth_part ds i ≡ Some d) × IsElementAt L b kind (p + i * size_of L kind) d
   item_there ds shows = element_lies_shown L b kind p ds i shows.1 (omega (arith, less, shows.0))
 
   pub item_number : (ds : Parts) (base : Base) → (count ds ≡ n) × LiesItems L b kind p ds → base_wanted kind ≡ Some base → Some (scalar_of base (num b (p + i * size_of L kind) (base_size base))) ≡ number_in (nth_part ds i)

@@ -5,6 +5,7 @@ ghost use Rattle.fb_value.specs.Num.{num};
 ghost use Rattle.fb_value.specs.Places.{vtable};
 ghost use Rattle.fb_read.specs.Stored.{StoredAs, IsTextBehind, text_behind};
 ghost use Rattle.fb_read.specs.Views.{entry_of, number_in, text_in, unknown_in};
+ghost use Rattle.fb_read.specs.Weights.{StandsBehind};
 ghost use Rattle.fb_read.specs.Shows.{Shows, ShowsTable, ShowsMember, ShowsStruct, ShowsVector};
 
 use crate::fixed::FixedView;
@@ -56,9 +57,10 @@ impl<'a> View<'a> {
         }
     }
 
-    fn stored(self, slot: u16) -> Stored
-        ensures { (d : Datum) → Shows self.entry d
+    pub(crate) fn stored(self, slot: u16) -> Stored
+        ensures stands { (d : Datum) → Shows self.entry d
             → StoredAs self.entry.layout.now self.entry.bytes.now result (entry_of d slot) }
+        ensures behind { StandsBehind self.entry.at result }
     {
         let slots = self.layout.slots_of(self.table);
         let slot = usize::from(slot);

@@ -28,7 +28,7 @@ impl<'a> Items<'a> {
         self.len
     }
 
-    fn position(self, i: u32) -> usize
+    pub(crate) fn position(self, i: u32) -> usize
         requires { i < self.len }
         ensures { result ≡ item_at self.entry i }
     {

@@ -4,6 +4,7 @@
 mod accessors;
 mod counting;
 mod elements;
+mod entries;
 mod fields;
 mod fixed;
 mod inlines;
@@ -24,6 +25,7 @@ mod visits;
 mod walk;
 
 pub use counting::Entries;
+pub use entries::Entry;
 pub use fb_value::ReadFault;
 pub use fixed::FixedView;
 pub use items::Items;

@@ -1,10 +1,11 @@
 //! What the slots of a table have.
-ghost use Rattle.std.specs.Prelude.{◌≡◌, ◌+◌, ◌<◌, ◌≤◌, ◌^◌, length, None, false};
+ghost use Rattle.std.specs.Prelude.{◌≡◌, ℕ, ◌+◌, ◌<◌, ◌≤◌, ◌^◌, length, None, false};
 ghost use Rattle.fb_layout.specs.Laid.{member_by_code};
 ghost use Rattle.fb_value.specs.Num.{num};
 ghost use Rattle.fb_value.specs.Places.{vtable};
 ghost use Rattle.fb_value.specs.Nth.{slot_place};
 ghost use Rattle.fb_read.specs.Visits.{slot_seen, slots_seen, union_place};
+ghost use Rattle.fb_read.specs.Weights.{StandsBehind};
 ghost use Rattle.fb_read.specs.Stored.{stored_place, stored_at, text_place_of, table_place_of, member_place_of, vector_place_of, struct_place_of, number_place_of, default_in, unknown_code_of};
 
 use crate::places::slot_of;
@@ -148,6 +149,7 @@ fn stored_member(layout: &Layout, union: TypeId, code: u8, at: usize) -> Stored
         (member_by_code layout.now union.0 code) }
     ensures default { default_in result ≡ None }
     ensures low { stored_at result < 2 ^ 33 }
+    ensures behind { (p : ℕ) → p < at → StandsBehind p result }
 {
     match layout.schema().member_by_code(union, code) {
         Some(table) => Stored::Member(code, table, at),
@@ -177,6 +179,7 @@ pub fn stored_in(
     ensures default { stored_place layout.now result ≡ None
         → default_in result ≡ (slot_seen layout.now field.now).if_absent }
     ensures low { stored_at result < 2 ^ 33 }
+    ensures behind { StandsBehind at result }
 {
     if field.deprecated {
         return Stored::Absent(None);

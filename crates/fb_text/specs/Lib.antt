@@ -1,4 +1,5 @@
 pub mod Noted
 pub mod Pages
 pub mod Writes
+pub mod Printed
 pub mod FaultNumbers

@@ -3,6 +3,7 @@ ghost use Rattle.std.specs.Prelude.{◌≡◌, ◌<◌, ◌+◌, ◌++◌, [], �
 ghost use Rattle.std.specs.Io.KnownBytes.{Appends};
 ghost use Rattle.fb_text.specs.Noted.{write_failed, writer_of};
 ghost use Rattle.fb_text.specs.Pages.{pending};
+ghost use Rattle.fb_text.specs.Printed.{IfUnnamed};
 ghost use Rattle.fb_text.specs.Writes.{state_of, counted, Stands, Adds, IsWritten};
 
 use crate::faults::WriteFault;
@@ -82,6 +83,7 @@ pub(crate) fn finish<W: Write>(page: &mut Page, out: &mut Noted<W>) -> Result<()
         → Stands start (state_of W.contents page.old out.old) text
         → IsWritten start (W.contents (writer_of out.new)) text result }
     ensures failed { IsErr result ↔ IsTrue (write_failed out.new) }
+    ensures named { IfUnnamed result ⊥ }
 {
     flush(page, out);
     if out.failed() {

@@ -1,0 +1,58 @@
+//! Which members are printed, and the codes of unions.
+ghost use Rattle.std.specs.Prelude.{◌≡◌, ◌||◌, Option, Some};
+ghost use Rattle.fb_schema.specs.Seen.{field_seen};
+ghost use Rattle.fb_layout.specs.Laid.{LaidSchema};
+ghost use Rattle.fb_value.specs.Datum.{Datum};
+ghost use Rattle.fb_read.specs.Weights.{ShowsEntry};
+ghost use Rattle.fb_json.specs.Indents.{blanks};
+ghost use Rattle.fb_json.specs.Texts.{code_text, has_code};
+ghost use Rattle.fb_text.specs.Printed.{is_entry_printed};
+ghost use Rattle.fb_text.specs.Writes.{state_of, Adds};
+
+use crate::lines::{put_member_line, put_name};
+use crate::noted::Noted;
+use crate::pages::Page;
+use fb_json::{Indent, member_name};
+use fb_read::Entry;
+use fb_schema::{FieldInfo, Kind, Schema, Shape};
+use std::io::Write;
+
+/// Whether a slot is printed.
+pub(crate) fn is_printed(defaults: bool, slot: &FieldInfo, found: Entry) -> bool
+    ensures { (L : LaidSchema) (o : Option Datum) → ShowsEntry L found.entry o
+        → result ≡ is_entry_printed defaults (field_seen slot.now) o }
+{
+    match found {
+        Entry::Absent => false,
+        Entry::Number(number) => defaults || slot.optional || number != slot.default,
+        _ => true,
+    }
+}
+
+/// Adds a union's code in front of its member, and says whether there is a member now.
+pub(crate) fn put_code<W: Write>(
+    page: &mut Page,
+    out: &mut Noted<W>,
+    schema: &Schema,
+    indent: &Indent,
+    some: bool,
+    name: &str,
+    shape: Shape,
+    found: Entry,
+) -> bool
+    ensures text { (L : LaidSchema) (d : Datum) → ShowsEntry L found.entry (Some d)
+        → Adds (state_of W.contents page.old out.old) (state_of W.contents page.new out.new)
+        (code_text schema.now (blanks indent.now) some name.now shape d) }
+    ensures some { (L : LaidSchema) (d : Datum) → ShowsEntry L found.entry (Some d)
+        → result ≡ (some || has_code shape d) }
+{
+    let Entry::Member(code, _) = found else {
+        return some;
+    };
+    let Shape::One(Kind::Union(union)) = shape else {
+        return some;
+    };
+    put_member_line(page, out, indent, some, name, "_type");
+    put_name(page, out, member_name(schema, union, code));
+    true
+}
