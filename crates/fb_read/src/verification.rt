@@ -79,6 +79,8 @@ pub fn verify<'a>(
     entries: &mut Entries,
 ) -> Result<View<'a>, ReadFault>
     ensures held { OnOk result ((v : Datum) × Holds layout.now limits raw bytes.now v) }
+    ensures root { IfOk result (λ view. (view.layout.now ≡ layout.now)
+        × (view.table.0 ≡ layout.now.schema.root)) }
     ensures stands { IfOk result (λ view. (v : Datum) → Holds layout.now limits raw bytes.now v
         → Shows view v) }
     ensures fault { IfErr result (Refuses layout.now limits raw bytes.now) }

@@ -2,7 +2,6 @@
 use Rattle.std.proofs.Common.{◌≡◌, ◌⊎◌, inl, inr, ℕ, List, Bool, true, false, Option, None, Some, refl, sym, ap, ◌∙◌, subst}
 use Rattle.fb_layout.specs.Laid.{LaidSchema}
 use Rattle.fb_value.specs.declared.faults.ReadFault.{ReadFault}
-use Rattle.fb_value.specs.declared.faults.ReadFault.TheVariants as the_read
 use Rattle.fb_value.specs.Bounds.{Bounds}
 use Rattle.fb_value.specs.Datum.{Datum}
 use Rattle.fb_value.specs.Num.{Bytes}
@@ -63,20 +62,7 @@ module _ (schema : List ℕ) (b : Bytes) (most : Bounds) (raw : Bool) (L : LaidS
 
     answered : (f : ToolFault) → TextRefused schema b most raw f → IsNotMemory f → f ≡ Read fault
     answered (Schema f) refused rule = absurd (refused_excludes schema f refused rule L accepted)
-    answered (Read the_read.Memory) refused rule = absurd rule
-    answered (Read (the_read.Short at)) refused rule = same_fault (the_read.Short at) refused.0 refused.1 refused.2.0
-    answered (Read (the_read.TooLong at)) refused rule = same_fault (the_read.TooLong at) refused.0 refused.1 refused.2.0
-    answered (Read (the_read.WrongIdentifier at)) refused rule = same_fault (the_read.WrongIdentifier at) refused.0 refused.1 refused.2.0
-    answered (Read (the_read.Misaligned at)) refused rule = same_fault (the_read.Misaligned at) refused.0 refused.1 refused.2.0
-    answered (Read (the_read.OutOfBounds at)) refused rule = same_fault (the_read.OutOfBounds at) refused.0 refused.1 refused.2.0
-    answered (Read (the_read.ZeroOffset at)) refused rule = same_fault (the_read.ZeroOffset at) refused.0 refused.1 refused.2.0
-    answered (Read (the_read.BadVtable at)) refused rule = same_fault (the_read.BadVtable at) refused.0 refused.1 refused.2.0
-    answered (Read (the_read.MissingRequired at slot)) refused rule = same_fault (the_read.MissingRequired at slot) refused.0 refused.1 refused.2.0
-    answered (Read (the_read.NoTerminator at)) refused rule = same_fault (the_read.NoTerminator at) refused.0 refused.1 refused.2.0
-    answered (Read (the_read.BadUtf8 at)) refused rule = same_fault (the_read.BadUtf8 at) refused.0 refused.1 refused.2.0
-    answered (Read (the_read.UnionMismatch at)) refused rule = same_fault (the_read.UnionMismatch at) refused.0 refused.1 refused.2.0
-    answered (Read (the_read.TooDeep at)) refused rule = same_fault (the_read.TooDeep at) refused.0 refused.1 refused.2.0
-    answered (Read (the_read.TooManyCells at)) refused rule = same_fault (the_read.TooManyCells at) refused.0 refused.1 refused.2.0
+    answered (Read f) refused rule = same_fault f refused.0 refused.1 refused.2.0
     answered (Text f) refused rule =
         let same = same_accepted schema refused.0 L refused.1 accepted in
         absurd (none refused.2 (subst (λ (K : LaidSchema). Holds K most raw b refused.2) same refused.3))

@@ -5,7 +5,6 @@ use Rattle.fb_schema.specs.declared.kinds.Kind.TheVariants.{Table}
 use Rattle.fb_schema.specs.declared.kinds.Shape.TheVariants.{One}
 use Rattle.fb_layout.specs.Laid.{LaidSchema}
 use Rattle.fb_value.specs.declared.faults.ReadFault.{ReadFault}
-use Rattle.fb_value.specs.declared.faults.ReadFault.TheVariants as the_read
 use Rattle.fb_value.specs.Bounds.{Bounds}
 use Rattle.fb_value.specs.Counts.{cells, depth, is_whole}
 use Rattle.fb_value.specs.Datum.{Datum}
@@ -14,7 +13,6 @@ use Rattle.fb_value.specs.Room.{room_of}
 use Rattle.fb_value.specs.Holds.{Holds, Refuses}
 use Rattle.fb_value.specs.OldSlots.{OnlyOld}
 use Rattle.fb_value.proofs.Shown.{one_value_shown}
-use Rattle.fb_read.specs.Memory.{PartIsReached}
 use Rattle.fb_json.specs.declared.faults.JsonFault.{JsonFault}
 use Rattle.fb_json.specs.declared.faults.JsonFault.TheVariants as the_json
 use Rattle.fb_json.specs.declared.faults.TextFault.{TextFault}
@@ -28,7 +26,7 @@ use Rattle.fb_build.specs.declared.faults.BuildFault.{BuildFault}
 use Rattle.fb_build.specs.declared.faults.BuildFault.TheVariants as the_build
 use Rattle.flatc_tool.specs.SchemaTexts.{IsAccepted}
 use Rattle.flatc_tool.specs.JsonText.{IsTree}
-use Rattle.flatc_tool.specs.Jobs.{JsonMeans, most_room, IsBinary, MayBeBinary, TreeRefused, BinaryRefused, MayBeText, TextRefused, ReadRefused, IsNotMemory}
+use Rattle.flatc_tool.specs.Jobs.{JsonMeans, most_room, IsBinary, MayBeBinary, TreeRefused, BinaryRefused, MayBeText, TextRefused, IsNotMemory}
 use Rattle.flatc_tool.specs.declared.faults.ToolFault.{ToolFault}
 use Rattle.flatc_tool.specs.declared.faults.ToolFault.TheVariants.{Schema, Json, Build, Read, Text, BadJson, Memory}
 use Rattle.flatc_tool.proofs.OneText.{same_accepted}
@@ -125,28 +123,10 @@ module _ (schema json : List ℕ) (most : Bounds) (unknown : Bool) (L : LaidSche
 
 module _ (schema : List ℕ) (b : Bytes) (most : Bounds) (raw : Bool) (L : LaidSchema) (accepted : IsAccepted schema L) where
   -- where the bytes are refused, there is no text to be printed
-  pub bytes_exclude : (f : ReadFault) → (f ≢ the_read.Memory → Refuses L most raw b f) → IsNotMemory (Read f) → MayBeText schema b most raw → ⊥
-  bytes_exclude f refuses rule may =
+  pub bytes_exclude : (f : ReadFault) → Refuses L most raw b f → MayBeText schema b most raw → ⊥
+  bytes_exclude f refuses may =
       let layout = same_accepted schema may.layout L may.accepted accepted in
-      let none = refuses (λ memory. subst (λ (g : ReadFault). IsNotMemory (Read g)) memory rule) in
-      none.1 may.value (subst (λ (K : LaidSchema). Holds K most raw b may.value) layout may.holds)
-
-  -- the least fault is the refusal, or a part is reached that memory is asked for
-  pub bytes_refused : (f : ReadFault) → (f ≢ the_read.Memory → Refuses L most raw b f) → (f ≡ the_read.Memory → PartIsReached L most raw b) → TextRefused schema b most raw (Read f)
-  bytes_refused the_read.Memory refuses reached = (L, accepted, reached refl)
-  bytes_refused (the_read.Short at) refuses reached = (L, accepted, refuses (λ e. cc))
-  bytes_refused (the_read.TooLong at) refuses reached = (L, accepted, refuses (λ e. cc))
-  bytes_refused (the_read.WrongIdentifier at) refuses reached = (L, accepted, refuses (λ e. cc))
-  bytes_refused (the_read.Misaligned at) refuses reached = (L, accepted, refuses (λ e. cc))
-  bytes_refused (the_read.OutOfBounds at) refuses reached = (L, accepted, refuses (λ e. cc))
-  bytes_refused (the_read.ZeroOffset at) refuses reached = (L, accepted, refuses (λ e. cc))
-  bytes_refused (the_read.BadVtable at) refuses reached = (L, accepted, refuses (λ e. cc))
-  bytes_refused (the_read.MissingRequired at slot) refuses reached = (L, accepted, refuses (λ e. cc))
-  bytes_refused (the_read.NoTerminator at) refuses reached = (L, accepted, refuses (λ e. cc))
-  bytes_refused (the_read.BadUtf8 at) refuses reached = (L, accepted, refuses (λ e. cc))
-  bytes_refused (the_read.UnionMismatch at) refuses reached = (L, accepted, refuses (λ e. cc))
-  bytes_refused (the_read.TooDeep at) refuses reached = (L, accepted, refuses (λ e. cc))
-  bytes_refused (the_read.TooManyCells at) refuses reached = (L, accepted, refuses (λ e. cc))
+      refuses.1 may.value (subst (λ (K : LaidSchema). Holds K most raw b may.value) layout may.holds)
 
   -- the value that is held has a code without a name, or memory ran out
   pub text_refused : (v : Datum) (f : TextFault) → Holds L most raw b v → IsUnnamed (type_place L.schema.root) v f → TextRefused schema b most raw (Text f)

@@ -3,3 +3,7 @@ pub mod JobSteps
 pub mod Headlines
 pub mod Known
 pub mod Sound
+pub mod Utf8Names
+pub mod Utf8Values
+pub mod Utf8Texts
+pub mod PrintSteps

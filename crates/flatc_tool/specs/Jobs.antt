@@ -4,7 +4,6 @@ use Rattle.std.specs.Prelude.{ℕ, ◌≡◌, ◌<◌, ◌≤◌, List, length, 
 use Rattle.serde_json.specs.Data.{Data}
 use Rattle.fb_layout.specs.Laid.{LaidSchema}
 use Rattle.fb_value.specs.declared.faults.ReadFault.{ReadFault}
-use Rattle.fb_value.specs.declared.faults.ReadFault.TheVariants as the_read
 use Rattle.fb_value.specs.Bounds.{Bounds}
 use Rattle.fb_value.specs.Counts.{is_whole}
 use Rattle.fb_value.specs.Datum.{Datum}
@@ -12,7 +11,6 @@ use Rattle.fb_value.specs.Num.{Bytes}
 use Rattle.fb_value.specs.Room.{room_of}
 use Rattle.fb_value.specs.Holds.{Holds, Refuses}
 use Rattle.fb_value.specs.OldSlots.{OnlyOld}
-use Rattle.fb_read.specs.Memory.{PartIsReached}
 use Rattle.fb_json.specs.declared.faults.JsonFault.{JsonFault}
 use Rattle.fb_json.specs.declared.faults.JsonFault.TheVariants as the_json
 use Rattle.fb_json.specs.declared.faults.TextFault.{TextFault}
@@ -93,16 +91,15 @@ pub record MayBeText (schema : List ℕ) (b : Bytes) (most : Bounds) (raw : Bool
   pub holds : Holds layout most raw b value
   pub whole : is_whole value ≡ true
 
--- The least fault of the bytes. Memory is asked for only for a part that is reached before any fault.
-abbrev pub ReadRefused : List ℕ → Bytes → Bounds → Bool → ReadFault → Type 0
-ReadRefused schema b most raw the_read.Memory = (L : LaidSchema) × IsAccepted schema L × PartIsReached L most raw b
-ReadRefused schema b most raw f = (L : LaidSchema) × IsAccepted schema L × Refuses L most raw b f
+-- the least fault of the bytes
+abbrev pub BytesRefused : List ℕ → Bytes → Bounds → Bool → ReadFault → Type 0
+BytesRefused schema b most raw f = (L : LaidSchema) × IsAccepted schema L × Refuses L most raw b f
 
 -- The refusal of the schema, the least fault of the bytes, or the first code in the value that has no name.
--- Where a layer wants memory, the layers before it have passed.
+-- Memory is asked for only for the schema, and for the text of a whole value.
 abbrev pub TextRefused : List ℕ → Bytes → Bounds → Bool → ToolFault → Type 0
 TextRefused schema b most raw (Schema f) = IsRefused schema f
-TextRefused schema b most raw (Read f) = ReadRefused schema b most raw f
+TextRefused schema b most raw (Read f) = BytesRefused schema b most raw f
 TextRefused schema b most raw (Text f) = (L : LaidSchema) × IsAccepted schema L × (v : Datum) × Holds L most raw b v × IsUnnamed (type_place L.schema.root) v f
 TextRefused schema b most raw _ = ⊥
 
@@ -114,6 +111,5 @@ IsNotMemory Memory = ⊥
 IsNotMemory (Schema f) = ¬ (IsWant f)
 IsNotMemory (Json the_json.Memory) = ⊥
 IsNotMemory (Build the_build.Memory) = ⊥
-IsNotMemory (Read the_read.Memory) = ⊥
 IsNotMemory (Text the_text.Memory) = ⊥
 IsNotMemory _ = Unit {0}

@@ -10,3 +10,4 @@ pub mod Heard
 pub mod Commands
 pub mod Lines
 pub mod Checks
+pub mod Prints

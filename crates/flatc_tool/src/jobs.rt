@@ -1,15 +1,14 @@
 //! The jobs over schema texts, JSON texts and buffers.
-ghost use Rattle.std.specs.Prelude.{◌≡◌, ◌⊎◌, IfOk, IfErr, string_bytes};
+ghost use Rattle.std.specs.Prelude.{◌≡◌, ◌⊎◌, IfOk, IfErr};
 ghost use Rattle.serde_json.specs.Data.{Data};
 ghost use Rattle.serde_json.specs.View.{view as tree_view};
-ghost use Rattle.flatc_tool.specs.Jobs.{IsBinary, MayBeBinary, BinaryRefused, IsText, MayBeText, TextRefused, IsNotMemory};
+ghost use Rattle.flatc_tool.specs.Jobs.{IsBinary, MayBeBinary, BinaryRefused, IsNotMemory};
 ghost use Rattle.flatc_tool.specs.JsonText.{IsTree};
 
 use crate::faults::ToolFault;
 use crate::schema_layouts::schema_of;
 use fb_build::build;
-use fb_json::{text_of, value_of};
-use fb_read::{Entries, read};
+use fb_json::value_of;
 use fb_value::Limits;
 use serde_json::Value as Json;
 use std::alloc::Global;
@@ -60,40 +59,6 @@ pub fn to_binary(
     match build(alloc, &layout, &value) {
         Ok(bytes) => Ok(bytes),
         Err(fault) => Err(ToolFault::Build(fault)),
-    }
-}
-
-/// The JSON text of the value that a buffer holds under a schema text.
-///
-/// `raw` leaves out the check of the file identifier, and `defaults` prints scalars at their
-/// defaults too. The schema is looked at before the bytes, and the bytes before a union's code that
-/// has no name.
-pub fn to_json(
-    alloc: Global,
-    schema: &[u8],
-    bytes: &[u8],
-    limits: Limits,
-    raw: bool,
-    defaults: bool,
-) -> Result<String, ToolFault>
-    ensures text { IfOk result
-        (λ s. IsText schema.now bytes.now limits raw defaults (string_bytes s)) }
-    ensures refused { IfErr result (TextRefused schema.now bytes.now limits raw) }
-    ensures exact { IfErr result
-        (λ f. IsNotMemory f → ¬ MayBeText schema.now bytes.now limits raw) }
-{
-    let layout = match schema_of(alloc, schema) {
-        Ok(layout) => layout,
-        Err(fault) => return Err(ToolFault::Schema(fault)),
-    };
-    let mut entries = Entries::new();
-    let value = match read(alloc, &layout, bytes, limits, raw, &mut entries) {
-        Ok(value) => value,
-        Err(fault) => return Err(ToolFault::Read(fault)),
-    };
-    match text_of(alloc, &layout, &value, defaults) {
-        Ok(text) => Ok(text),
-        Err(fault) => Err(ToolFault::Text(fault)),
     }
 }
 

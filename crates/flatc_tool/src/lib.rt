@@ -10,6 +10,7 @@ mod job;
 mod jobs;
 mod lines;
 mod names;
+mod prints;
 mod reports;
 mod schema_layouts;
 
@@ -27,7 +28,8 @@ pub use fb_value::{Limits, ReadFault};
 pub use headline::{json_is_carried, others_are_refused};
 pub use heard::{Heard, take_all};
 pub use job::{Job, job_of};
-pub use jobs::{to_binary, to_json};
+pub use jobs::to_binary;
 pub use lines::fault_line;
+pub use prints::{print_to, to_json};
 pub use reports::report;
 pub use schema_layouts::{SchemaTextFault, schema_of};

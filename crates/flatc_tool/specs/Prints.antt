@@ -1,0 +1,55 @@
+-- What printing a buffer to a writer answers.
+-- From the FlatBuffers documentation, "Using the schema compiler": `--json`.
+use Rattle.std.specs.Prelude.{ℕ, ◌≡◌, ◌<◌, List, take, length, Bool, true, false, Option, Result, Ok, Err, IsUtf8}
+use Rattle.std.specs.Io.KnownBytes.{Appends}
+use Rattle.fb_layout.specs.Laid.{LaidSchema}
+use Rattle.fb_value.specs.Bounds.{Bounds}
+use Rattle.fb_value.specs.Datum.{Datum}
+use Rattle.fb_value.specs.Num.{Bytes}
+use Rattle.fb_value.specs.Holds.{Holds}
+use Rattle.fb_json.specs.declared.faults.TextFault.TheVariants as the_text
+use Rattle.fb_json.specs.Meant.{type_place}
+use Rattle.fb_json.specs.Unnamed.{IsRefused as IsUnnamed}
+use Rattle.fb_text.specs.Writes.{counted}
+use Rattle.fb_text.specs.declared.faults.WriteFault.TheVariants.{NoMemberName, WriteFailed}
+use Rattle.flatc_tool.specs.SchemaTexts.{IsAccepted, IsRefused}
+use Rattle.flatc_tool.specs.Jobs.{IsText, BytesRefused, IsNotMemory}
+use Rattle.flatc_tool.specs.declared.faults.ToolFault.{ToolFault}
+use Rattle.flatc_tool.specs.declared.faults.ToolFault.TheVariants.{Schema, Read, Text, Write}
+
+-- All of the text of the bytes, which is UTF-8, was written behind the bytes of the start.
+abbrev pub IsSent : List ℕ → Bytes → Bounds → Bool → Bool → Option (List ℕ) → Option (List ℕ) → Type 0
+IsSent schema b most raw defaults start known = (text : List ℕ) × IsText schema b most raw defaults text × IsUtf8 text × Appends start known text
+
+-- The refusal of the schema, the least fault of the bytes, or the first union's code without a name; else a write failed behind
+-- the first bytes of the text, as many as it counts.
+abbrev pub PrintRefused : List ℕ → Bytes → Bounds → Bool → Bool → Option (List ℕ) → Option (List ℕ) → ToolFault → Type 0
+PrintRefused schema b most raw defaults start known (Schema f) = IsRefused schema f
+PrintRefused schema b most raw defaults start known (Read f) = BytesRefused schema b most raw f
+PrintRefused schema b most raw defaults start known (Write (NoMemberName at)) =
+    (L : LaidSchema) × IsAccepted schema L × (v : Datum) × Holds L most raw b v × IsUnnamed (type_place L.schema.root) v (the_text.NoMemberName at)
+PrintRefused schema b most raw defaults start known (Write (WriteFailed n)) =
+    (text : List ℕ) × IsText schema b most raw defaults text × (m : ℕ) × (m < length text) × Appends start known (take m text) × (n ≡ counted m)
+PrintRefused schema b most raw defaults start known _ = ⊥
+
+-- a failed write is told exactly where the last write failed
+abbrev pub TellsFailure : {A : Type 0} → Bool → Result A ToolFault → Type 0
+TellsFailure failed (Err (Write (WriteFailed n))) = failed ≡ true
+TellsFailure failed _ = failed ≡ false
+
+-- what every refusal but a failed write leaves as it was
+abbrev pub IfUnwritten : {A : Type 0} → Result A ToolFault → Type 0 → Type 0
+IfUnwritten (Ok x) P = Unit {0}
+IfUnwritten (Err (Write (WriteFailed n))) P = Unit {0}
+IfUnwritten (Err f) P = P
+
+-- a refusal that is neither of memory nor of a write
+abbrev pub IsOfInput : ToolFault → Type 0
+IsOfInput (Write (WriteFailed n)) = ⊥
+IsOfInput f = IsNotMemory f
+
+-- the refusal to print to memory: a write fails only where memory runs out
+abbrev pub text_fault : ToolFault → ToolFault
+text_fault (Write (NoMemberName at)) = Text (the_text.NoMemberName at)
+text_fault (Write (WriteFailed n)) = Text the_text.Memory
+text_fault f = f
