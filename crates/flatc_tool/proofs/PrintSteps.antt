@@ -20,7 +20,7 @@ use Rattle.fb_text.specs.declared.faults.WriteFault.TheVariants.{NoMemberName, W
 use Rattle.fb_text.specs.Printed.{IsPrinted}
 use Rattle.fb_text.specs.Writes.{counted}
 use Rattle.flatc_tool.specs.SchemaTexts.{IsAccepted, IsWant}
-use Rattle.flatc_tool.specs.Jobs.{IsText, MayBeText, TextRefused, IsNotMemory}
+use Rattle.flatc_tool.specs.Jobs.{IsText, MayBeText, TextRefused}
 use Rattle.flatc_tool.specs.Prints.{IsSent, PrintRefused, IsOfInput, text_fault}
 use Rattle.flatc_tool.specs.declared.schema_layouts.SchemaTextFault.{SchemaTextFault}
 use Rattle.flatc_tool.specs.declared.faults.ToolFault.{ToolFault}
@@ -64,8 +64,8 @@ module _ (schema : List ℕ) (b : Bytes) (most : Bounds) (raw defaults : Bool) (
 
 -- ---- printing to memory
 
-module _ (schema : List ℕ) (b : Bytes) (most : Bounds) (raw defaults : Bool) (known : Option (List ℕ)) where
-  pub text_refused : (f : ToolFault) → PrintRefused schema b most raw defaults (Some []) known f → TextRefused schema b most raw (text_fault f)
+module _ (schema : List ℕ) (b : Bytes) (most : Bounds) (raw defaults : Bool) (start known : Option (List ℕ)) where
+  pub text_refused : (f : ToolFault) → PrintRefused schema b most raw defaults start known f → TextRefused schema b most raw (text_fault f)
   text_refused (Schema f) refused = refused
   text_refused (Read f) refused = refused
   text_refused (Write (NoMemberName at)) refused = refused
@@ -80,18 +80,3 @@ module _ (schema : List ℕ) (b : Bytes) (most : Bounds) (raw defaults : Bool) (
   text_refused FileTooLong refused = absurd refused
   text_refused BadJson refused = absurd refused
   text_refused Memory refused = absurd refused
-
-  -- where no memory ran out, no write failed
-  pub of_input : (f : ToolFault) → IsNotMemory (text_fault f) → IsOfInput f
-  of_input (Schema f) rule = rule
-  of_input (Read f) rule = rule
-  of_input (Write (NoMemberName at)) rule = tt
-  of_input (Write (WriteFailed n)) rule = rule
-  of_input (Json f) rule = rule
-  of_input (Build f) rule = rule
-  of_input (Text f) rule = rule
-  of_input FileRead rule = rule
-  of_input FileWrite rule = rule
-  of_input FileTooLong rule = rule
-  of_input BadJson rule = rule
-  of_input Memory rule = rule
