@@ -4,10 +4,10 @@
 use clap::Error;
 use clap::error::ErrorKind;
 use flatc_tool::{
-    Heard, Job, Limits, ToolFault, VERSION, check, job_of, report, take_all, to_binary, to_json,
+    Heard, Job, Limits, Noted, ToolFault, check, job_of, print_to, report, take_all, to_binary,
+    to_json,
 };
 use std::alloc::Global;
-use std::io::Write;
 use std::process::ExitCode;
 use std::{env, fs, io};
 
@@ -76,17 +76,15 @@ fn print_buffer(
 ) -> Result<(), ToolFault> {
     let schema = file_of(rt, schema)?;
     let bytes = file_of(rt, bin)?;
-    let text = to_json(
+    print_to(
         rt.alloc(),
         schema.as_slice(),
         bytes.as_slice(),
         limits(),
         raw,
         defaults,
-    )?;
-    rt.stdout()
-        .write_all(text.as_bytes())
-        .map_err(|_| ToolFault::FileWrite)
+        &mut Noted::over(rt.stdout()),
+    )
 }
 
 fn check_files(
