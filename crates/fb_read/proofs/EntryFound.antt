@@ -1,12 +1,23 @@
 -- What an entry is, by what was found of it.
-use Rattle.std.proofs.Common.{◌≡◌, ◌≤◌, ℕ, ◌+◌, ◌*◌, ◌<◌, List, Option, None, Some, ℤ, refl, ap, arith}
-use Rattle.fb_layout.specs.Laid.{LaidSchema, StoredKind, scalar_kind, struct_kind, union_kind, code_kind, size_of}
+use Rattle.std.proofs.Common.{◌≡◌, ◌≤◌, ◌∷◌, [], ℕ, zero, suc, ◌+◌, ◌*◌, ◌<◌, length, map, drop, slice_get, Bool, true, false, nat_le, List, Option, None, Some, ℤ, refl, ap, arith}
+use Rattle.std.proofs.lemmas.Bool.{leb-true}
+use Rattle.std.proofs.lemmas.Bool.Decides.{nat_tests}
+use Rattle.fb_schema.specs.Seen.{field_seen}
+use Rattle.fb_schema.specs.declared.types.FieldInfo.{FieldInfo}
+use Rattle.fb_schema.specs.Schema.{DeclaredSchema, body_at, slots_in}
+use Rattle.fb_layout.specs.Laid.{LaidSchema, Slot, slot_of, slots_of, StoredKind, scalar_kind, struct_kind, union_kind, code_kind, size_of}
 use Rattle.fb_value.specs.Datum.{Datum, a_number, a_text, a_vector, a_struct, a_table, a_member, Parts, count}
 use Rattle.fb_value.specs.Num.{Bytes}
-use Rattle.fb_value.specs.Lies.{LiesInline, LiesItems}
+use Rattle.fb_value.specs.Places.{slot_number, part_place, table_part}
+use Rattle.fb_value.specs.Lies.{LiesInline, LiesItems, Lies}
+use Rattle.fb_value.specs.Nth.{nth_entry}
+use Rattle.fb_value.proofs.NthLies.{entry_lies_shown}
 use Rattle.fb_read.specs.Kinds.{base_wanted, structure_wanted, rank}
-use Rattle.fb_read.specs.Views.{number_in, text_in, table_in, struct_in, vector_in, member_in}
+use Rattle.fb_read.specs.Stored.{number_entry}
+use Rattle.fb_read.specs.Views.{entry_of, number_in, text_in, table_in, struct_in, vector_in, member_in}
 use Rattle.fb_read.proofs.Contained.{no_union, no_code, item_there}
+use Rattle.fb_read.proofs.Visited.{unset_place}
+use Rattle.fb_read.proofs.StoredEntries.{absent_stored}
 
 pub number_told : (o : Option Datum) (n : ℤ) → number_in o ≡ Some n → o ≡ Some (a_number n)
 number_told (Some (a_number m)) n e = let is : m ≡ n = cc in rw is refl
@@ -56,3 +67,30 @@ module _ (L : LaidSchema) (b : Bytes) (u p n i : ℕ) (less : i < n) where
 
   pub no_code_item : (ds : Parts) → (count ds ≡ n) × LiesItems L b (code_kind u) p ds → ⊥
   no_code_item ds shows = let found = item_there L b (code_kind u) p n i less ds shows in no_code L b u (p + i * size_of L (code_kind u)) found.0 found.2
+
+-- ---- slots that the vtable has no number for
+
+pub past_none : (xs : List Slot) (k : ℕ) → length xs ≤ k → slice_get xs k ≡ None
+past_none [] k past = refl
+past_none (x ∷ xs) zero past = absurd (omega arith)
+past_none (x ∷ xs) (suc k) past = past_none xs k (omega arith)
+
+pub entry_unset : (L : LaidSchema) (b : Bytes) (t p : ℕ) (d : Datum) (k : ℕ) (s : Slot) → Lies L b (part_place (table_part t)) p d → slice_get (slots_of L t) k ≡ Some s → slot_number b p k ≡ 0 → entry_of d k ≡ number_entry s.if_absent
+entry_unset L b t p (a_table type es) k s lies there none =
+    absent_stored L b s s.if_absent (nth_entry es k) refl (rw (unset_place L b p k (drop (suc k) (slots_of L t)) s none) at (entry_lies_shown L b p (slots_of L t) es k s lies.2 there))
+entry_unset L b t p _ k s lies there none = absurd lies
+
+slots_mapped : (S : DeclaredSchema) (xs : List FieldInfo) → length (map (slot_of S) (map field_seen xs)) ≡ length xs
+slots_mapped S [] = refl
+slots_mapped S (x ∷ xs) = rw (slots_mapped S xs) refl
+
+pub slots_long : (L : LaidSchema) (t : ℕ) (xs : List FieldInfo) → map field_seen xs ≡ slots_in (body_at L.schema t) → length (slots_of L t) ≡ length xs
+slots_long L t xs seen = rw (← seen) (slots_mapped L.schema xs)
+
+-- a slot behind those that the vtable has numbers for
+pub entry_behind : (L : LaidSchema) (b : Bytes) (t p n m k : ℕ) (d : Datum) (s : Slot) → (n < m → (j : ℕ) → n ≤ j → slot_number b p j ≡ 0) → length (slots_of L t) ≡ m → n ≤ k → Lies L b (part_place (table_part t)) p d → slice_get (slots_of L t) k ≡ Some s → entry_of d k ≡ number_entry s.if_absent
+entry_behind L b t p n m k d s unset long past lies there = by_case (nat_le m k) refl
+  where
+    by_case : (c : Bool) → nat_le m k ≡ c → entry_of d k ≡ number_entry s.if_absent
+    by_case true e = let behind : m ≤ k = leb-true _ _ e in let none = past_none (slots_of L t) k (omega (arith, long, behind)) in cc
+    by_case false e = let before : k < m = grind (arith, nat_tests) in entry_unset L b t p d k s lies there (unset (omega (arith, before, past)) k past)

@@ -10,7 +10,7 @@ use Rattle.fb_read.specs.declared.stored.Stored.TheVariants.{Absent, Code, Unkno
 use Rattle.fb_read.specs.Stored.{HasAt, number_entry, StoredAs, stored_place, default_in}
 
 -- a slot that names no place has its default, or nothing
-absent_stored : (L : LaidSchema) (b : Bytes) (f : Slot) (default : Option ℤ) (o : Option Datum) → default ≡ f.if_absent → LiesInSlot L b f None o → o ≡ number_entry default
+pub absent_stored : (L : LaidSchema) (b : Bytes) (f : Slot) (default : Option ℤ) (o : Option Datum) → default ≡ f.if_absent → LiesInSlot L b f None o → o ≡ number_entry default
 absent_stored L b f default None is lies = rw (is, lies) refl
 absent_stored L b f default (Some d) is lies = rw (is, lies.1, lies.2) refl
 

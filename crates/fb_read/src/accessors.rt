@@ -45,7 +45,7 @@ impl<'a> View<'a> {
         self.table
     }
 
-    fn vtable(self) -> usize
+    pub(crate) fn vtable(self) -> usize
         ensures vtable { result ≡ vtable self.entry.bytes.now self.entry.at }
         ensures whole { result + num self.entry.bytes.now result 2 ≤ length self.entry.bytes.now }
         ensures within { result + 2 ≤ length self.entry.bytes.now }

@@ -1,8 +1,10 @@
 //! What stands in slots, in fields and as elements, read in place.
-ghost use Rattle.std.specs.Prelude.{◌<◌};
+ghost use Rattle.std.specs.Prelude.{◌≡◌, ℕ, ◌<◌, ◌≤◌, length, slice_get, Some};
+ghost use Rattle.fb_layout.specs.Laid.{Slot, slots_of};
 ghost use Rattle.fb_value.specs.Datum.{Datum, Parts};
 ghost use Rattle.fb_value.specs.Nth.{nth_part};
 ghost use Rattle.fb_read.specs.Views.{entry_of};
+ghost use Rattle.fb_read.specs.Stored.{number_entry};
 ghost use Rattle.fb_read.specs.Shows.{Shows, ShowsFields, ShowsItems};
 ghost use Rattle.fb_read.specs.Weights.{ShowsEntry, weight_of, table_weight, items_weight, struct_weight};
 
@@ -11,6 +13,7 @@ use crate::fixed::FixedView;
 use crate::items::Items;
 use crate::kinds::{base_of, structure_of};
 use crate::numbers::{number_at, u32_at};
+use crate::places::stored_slots;
 use crate::stored::Stored;
 use crate::views::View;
 use fb_layout::kind_in;
@@ -82,6 +85,20 @@ impl<'a> View<'a> {
                 })
             }
         }
+    }
+}
+
+impl View<'_> {
+    /// How many of the table's slots its vtable has numbers for. Those behind them have nothing but
+    /// their defaults.
+    pub fn stored_slots(self) -> u16
+        ensures few { result ≤ length (slots_of self.entry.layout.now self.entry.table.0) }
+        ensures behind { (d : Datum) (k : ℕ) (s : Slot) → Shows self.entry d → result ≤ k
+            → slice_get (slots_of self.entry.layout.now self.entry.table.0) k ≡ Some s
+            → entry_of d k ≡ number_entry s.if_absent }
+    {
+        let slots = self.layout.slots_of(self.table);
+        stored_slots(self.bytes, self.at, self.vtable(), slots.len()) as u16
     }
 }
 

@@ -3,6 +3,7 @@ pub mod Written
 pub mod Added
 pub mod EscapedPieces
 pub mod TextSteps
+pub mod Unprinted
 pub mod PrintSteps
 pub mod UnnamedSteps
 pub mod WholePrinted

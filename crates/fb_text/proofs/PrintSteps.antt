@@ -1,6 +1,5 @@
 -- What the printer's pieces add up to.
-use Rattle.std.proofs.Common.{◌≡◌, ℕ, zero, suc, ◌+◌, ◌<◌, ◌++◌, ◌||◌, List, [], ◌∷◌, length, map, slice_get, slice_index_or, Bool, true, false, Option, None, Some, Result, Ok, Err, refl, sym, subst, arith}
-use Rattle.fb_schema.specs.declared.kinds.Shape.{Shape}
+use Rattle.std.proofs.Common.{◌≡◌, ℕ, zero, suc, ◌<◌, ◌||◌, List, [], ◌∷◌, length, map, slice_get, slice_index_or, Bool, true, Option, None, Some, Result, Ok, Err, refl, subst, arith}
 use Rattle.fb_schema.specs.declared.types.FieldInfo.{FieldInfo}
 use Rattle.fb_schema.specs.Schema.{DeclaredField}
 use Rattle.fb_schema.specs.Seen.{field_seen}
@@ -9,7 +8,7 @@ use Rattle.fb_value.specs.Datum.{Datum, a_table, Parts, no_parts, more_parts, Sl
 use Rattle.fb_value.specs.Nth.{nth_part}
 use Rattle.fb_read.specs.declared.views.View.{View}
 use Rattle.fb_read.specs.Shows.{Shows}
-use Rattle.fb_json.specs.Texts.{is_printed, has_code, code_text, value_text}
+use Rattle.fb_json.specs.Texts.{has_code, code_text}
 use Rattle.fb_text.specs.declared.faults.WriteFault.{WriteFault}
 use Rattle.fb_text.specs.declared.faults.WriteFault.TheVariants.{NoMemberName, WriteFailed}
 use Rattle.fb_text.specs.Printed.{is_entry_printed, slot_text, named_text, IfUnnamed}

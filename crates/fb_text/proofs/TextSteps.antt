@@ -1,5 +1,5 @@
 -- The text of a list of members, fields or elements, one by one.
-use Rattle.std.proofs.Common.{◌≡◌, ℕ, zero, suc, ◌+◌, ◌<◌, ◌++◌, ◌||◌, List, [], ◌∷◌, length, drop, slice_get, Bool, true, false, Option, None, Some, refl, sym, ap, ◌∙◌, append_assoc, arith}
+use Rattle.std.proofs.Common.{◌≡◌, ℕ, zero, suc, ◌≤◌, ◌++◌, ◌||◌, List, [], ◌∷◌, length, drop, slice_get, Bool, true, false, Some, refl, sym, subst, ◌∙◌, append_assoc, arith}
 use Rattle.std.specs.Prelude.{codes, is_some}
 use Rattle.fb_schema.specs.declared.kinds.Kind.{Kind}
 use Rattle.fb_schema.specs.declared.kinds.Shape.{Shape}
@@ -9,7 +9,7 @@ use Rattle.fb_layout.specs.Laid.{LaidSchema}
 use Rattle.fb_value.specs.Datum.{Datum, a_table, Parts, no_parts, more_parts, SlotEntries, no_entries, absent_entry, present_entry, count}
 use Rattle.fb_value.specs.Nth.{nth_entry, nth_part}
 use Rattle.fb_read.proofs.EnteredCounts.{entries_from, parts_from}
-use Rattle.fb_json.specs.Texts.{inside, closing, value_text, items_text, parts_text, members_text, line, member_line, is_printed}
+use Rattle.fb_json.specs.Texts.{inside, closing, value_text, items_text, parts_text, members_text, line, member_line, entry_text}
 use Rattle.fb_text.specs.Printed.{is_entry_printed, slot_text, part_text}
 
 or_false : (some : Bool) → (some || false) ≡ some
@@ -21,6 +21,10 @@ module _ (L : LaidSchema) (defaults : Bool) (inner indent : List ℕ) where
   members_none : (some : Bool) (fs : List DeclaredField) → members_text L defaults inner indent some fs no_entries ≡ closing indent some ++ codes "}"
   members_none some [] = refl
   members_none some (f ∷ fs) = refl
+
+  members_nil : (some : Bool) (fs : List DeclaredField) (k : ℕ) → members_text L defaults inner indent some fs (entries_from k no_entries) ≡ closing indent some ++ codes "}"
+  members_nil some fs zero = members_none some fs
+  members_nil some fs (suc k) = members_none some fs
 
   -- nor where no slots are
   members_past : (some : Bool) (es : SlotEntries) → members_text L defaults inner indent some [] es ≡ closing indent some ++ codes "}"
@@ -40,13 +44,20 @@ module _ (L : LaidSchema) (defaults : Bool) (inner indent : List ℕ) where
   members_step some (g ∷ fs) (absent_entry es) (suc k) f e = members_step some fs es k f e
   members_step some (g ∷ fs) (present_entry d es) (suc k) f e = members_step some fs es k f e
 
-  pub members_end : (some : Bool) (fs : List DeclaredField) (es : SlotEntries) (k : ℕ) → k ≡ length fs → closing indent some ++ codes "}" ≡ members_text L defaults inner indent some (drop k fs) (entries_from k es)
-  members_end some [] es zero e = sym (members_past some es)
-  members_end some [] es (suc k) e = absurd (omega arith)
-  members_end some (f ∷ fs) es zero e = absurd (omega arith)
-  members_end some (f ∷ fs) no_entries (suc k) e = sym (members_none some (drop k fs))
-  members_end some (f ∷ fs) (absent_entry es) (suc k) e = members_end some fs es k (omega arith)
-  members_end some (f ∷ fs) (present_entry d es) (suc k) e = members_end some fs es k (omega arith)
+  -- where nothing behind is printed
+  pub members_behind : (some : Bool) (fs : List DeclaredField) (es : SlotEntries) (k : ℕ) → ((j : ℕ) (f : DeclaredField) → k ≤ j → slice_get fs j ≡ Some f → is_entry_printed defaults f (nth_entry es j) ≡ false)
+      → closing indent some ++ codes "}" ≡ members_text L defaults inner indent some (drop k fs) (entries_from k es)
+  members_behind some [] es zero none = sym (members_past some es)
+  members_behind some [] es (suc k) none = sym (members_past some (entries_from (suc k) es))
+  members_behind some (f ∷ fs) no_entries k none = sym (members_nil some (drop k (f ∷ fs)) k)
+  members_behind some (f ∷ fs) (absent_entry es) zero none = members_behind some fs es zero (λ j g past there. none (suc j) g (omega arith) there)
+  members_behind some (f ∷ fs) (present_entry d es) zero none =
+      let plain = none 0 f (omega arith) refl in
+      let rest = members_behind some fs es zero (λ j g past there. none (suc j) g (omega arith) there) in
+      subst (λ (p : Bool). closing indent some ++ codes "}" ≡ entry_text L.schema p inner some f.name f.shape d (value_text L defaults inner f.shape d) ++ members_text L defaults inner indent (some || p) fs es) (sym plain)
+      (subst (λ (q : Bool). closing indent some ++ codes "}" ≡ members_text L defaults inner indent q fs es) (sym (or_false some)) rest)
+  members_behind some (f ∷ fs) (absent_entry es) (suc k) none = members_behind some fs es k (λ j g past there. none (suc j) g (omega (arith, past)) there)
+  members_behind some (f ∷ fs) (present_entry d es) (suc k) none = members_behind some fs es k (λ j g past there. none (suc j) g (omega (arith, past)) there)
 
   parts_none : (some : Bool) (fs : List DeclaredField) → parts_text L defaults inner indent some fs no_parts ≡ closing indent some ++ codes "}"
   parts_none some [] = refl

@@ -1,23 +1,22 @@
 -- The first union without a name, one entry after another.
-use Rattle.std.proofs.Common.{◌≡◌, ℕ, zero, suc, ◌+◌, ◌<◌, ◌≤◌, List, [], ◌∷◌, length, map, Bool, true, false, Option, None, Some, refl, sym, ap, ◌∙◌, arith}
+use Rattle.std.proofs.Common.{◌≡◌, ℕ, zero, suc, ◌+◌, ◌≤◌, List, [], ◌∷◌, slice_get, ℤ, Bool, true, false, Option, None, Some, refl, sym, arith}
 use Rattle.std.specs.Prelude.{min}
 use Rattle.std.specs.Option.{option_or, is_some}
 use Rattle.fb_layout.specs.Laid.{LaidSchema, StoredKind, scalar_kind, struct_kind, table_kind, text_kind, union_kind, code_kind, Slot, parts_of, struct_at, size_of}
-use Rattle.fb_value.specs.Datum.{Datum, a_number, a_text, a_vector, a_struct, a_table, a_member, an_unknown, Parts, no_parts, more_parts, SlotEntries, no_entries, absent_entry, present_entry, count}
+use Rattle.fb_value.specs.Datum.{Datum, a_number, a_text, a_struct, a_table, Parts, no_parts, more_parts, SlotEntries, no_entries, absent_entry, present_entry, count}
 use Rattle.fb_value.specs.Num.{Bytes, num}
 use Rattle.fb_value.specs.Places.{Place as Spot, text_part, part_place, target_of}
 use Rattle.fb_value.specs.Lies.{LiesInline, LiesParts, Element, Lies, LiesItems, LiesSlots}
 use Rattle.fb_value.specs.Nth.{nth_entry, nth_part}
 use Rattle.fb_read.proofs.EnteredCounts.{entries_from, parts_from}
 use Rattle.fb_json.specs.declared.faults.Place.{Place}
+use Rattle.fb_read.specs.Stored.{number_entry}
 use Rattle.fb_text.specs.Printed.{first_in_entry}
 use Rattle.fb_schema.specs.declared.kinds.TypeId.{TypeId}
 use Rattle.fb_schema.specs.declared.kinds.Kind.{Kind}
 use Rattle.fb_schema.specs.declared.kinds.Kind.TheVariants.{Scalar, Enum, Struct, Table, Union, Code, Text}
-use Rattle.fb_schema.specs.Schema.{DeclaredSchema, body_at, slots_in}
-use Rattle.fb_schema.specs.Seen.{field_seen}
-use Rattle.fb_schema.specs.declared.types.FieldInfo.{FieldInfo}
-use Rattle.fb_layout.specs.Laid.{stored_kind, slot_of, slots_of}
+use Rattle.fb_schema.specs.Schema.{DeclaredSchema}
+use Rattle.fb_layout.specs.Laid.{stored_kind}
 use Rattle.fb_read.specs.declared.views.View.{View}
 use Rattle.fb_read.specs.Shows.{Shows}
 use Rattle.fb_json.specs.Unnamed.{entry_place, first_unnamed, first_in_parts, first_in_entries}
@@ -31,14 +30,21 @@ entries_step t j (suc k) no_entries = refl
 entries_step t j (suc k) (absent_entry es) = entries_step t j k es
 entries_step t j (suc k) (present_entry d es) = entries_step t j k es
 
--- no entries are left behind the slots
-pub entries_end : (L : LaidSchema) (b : Bytes) (t j k : ℕ) (fs : List Slot) (xs : List (Option Spot)) (es : SlotEntries) → LiesSlots L b fs xs es → length fs ≤ k → None ≡ first_in_entries t j (entries_from k es)
-entries_end L b t j zero [] [] no_entries lies past = refl
-entries_end L b t j (suc k) [] [] no_entries lies past = refl
-entries_end L b t j zero (f ∷ fs) (x ∷ xs) es lies past = absurd (omega arith)
-entries_end L b t j (suc k) (f ∷ fs) (x ∷ xs) (absent_entry es) lies past = entries_end L b t j k fs xs es lies.1 (omega arith)
-entries_end L b t j (suc k) (f ∷ fs) (x ∷ xs) (present_entry d es) lies past = entries_end L b t j k fs xs es lies.1 (omega arith)
-entries_end L b t j k _ _ _ lies past = absurd lies
+number_named : (at : Place) (o : Option Datum) (n : Option ℤ) → o ≡ number_entry n → None ≡ first_in_entry at o
+number_named at o None e = rw e refl
+number_named at o (Some n) e = rw e refl
+
+-- where all behind have their defaults alone
+pub entries_end : (L : LaidSchema) (b : Bytes) (t j k : ℕ) (fs : List Slot) (xs : List (Option Spot)) (es : SlotEntries) → LiesSlots L b fs xs es
+    → ((i : ℕ) (s : Slot) → k ≤ i → slice_get fs i ≡ Some s → nth_entry es i ≡ number_entry s.if_absent) → None ≡ first_in_entries t j (entries_from k es)
+entries_end L b t j zero [] [] no_entries lies unset = refl
+entries_end L b t j (suc k) [] [] no_entries lies unset = refl
+entries_end L b t j zero (f ∷ fs) (x ∷ xs) (absent_entry es) lies unset = entries_end L b t (j + 1) zero fs xs es lies.1 (λ i s past there. unset (suc i) s (omega arith) there)
+entries_end L b t j zero (f ∷ fs) (x ∷ xs) (present_entry d es) lies unset =
+    rw (← number_named (entry_place t j) (Some d) f.if_absent (unset 0 f (omega arith) refl)) (entries_end L b t (j + 1) zero fs xs es lies.1 (λ i s past there. unset (suc i) s (omega arith) there))
+entries_end L b t j (suc k) (f ∷ fs) (x ∷ xs) (absent_entry es) lies unset = entries_end L b t j k fs xs es lies.1 (λ i s past there. unset (suc i) s (omega (arith, past)) there)
+entries_end L b t j (suc k) (f ∷ fs) (x ∷ xs) (present_entry d es) lies unset = entries_end L b t j k fs xs es lies.1 (λ i s past there. unset (suc i) s (omega (arith, past)) there)
+entries_end L b t j k _ _ _ lies unset = absurd lies
 
 pub parts_step : (at : Place) (i : ℕ) (ds : Parts) (d : Datum) → nth_part ds i ≡ Some d → first_in_parts at (parts_from i ds) ≡ option_or (first_unnamed at d) (first_in_parts at (parts_from (suc i) ds))
 parts_step at i no_parts d e = cc
@@ -110,10 +116,3 @@ place_is owner u k is few = let least : min k 65535 ≡ k = omega arith in rw (i
 pub table_case : (view : View) (P : Datum → Type 0) (d : Datum) → Shows view d → ((t : ℕ) (es : SlotEntries) → Shows view (a_table t es) → P (a_table t es)) → P d
 table_case view P (a_table t es) lies known = known t es lies
 table_case view P _ lies known = absurd lies
-
-slots_mapped : (S : DeclaredSchema) (xs : List FieldInfo) → length (map (slot_of S) (map field_seen xs)) ≡ length xs
-slots_mapped S [] = refl
-slots_mapped S (x ∷ xs) = rw (slots_mapped S xs) refl
-
-pub slots_long : (L : LaidSchema) (t : ℕ) (xs : List FieldInfo) → map field_seen xs ≡ slots_in (body_at L.schema t) → length (slots_of L t) ≡ length xs
-slots_long L t xs seen = rw (← seen) (slots_mapped L.schema xs)

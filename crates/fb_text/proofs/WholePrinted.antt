@@ -1,8 +1,7 @@
 -- What stands at the start and at the end of a text.
-use Rattle.std.proofs.Common.{◌≡◌, ℕ, ◌+◌, ◌<◌, ◌∷◌, [], List, ◌++◌, length, Option, None, Some, Bool, true, false, Result, Ok, Err, refl, sym, length-append, arith}
+use Rattle.std.proofs.Common.{◌≡◌, ℕ, ◌<◌, ◌∷◌, [], List, length, Option, Bool, true, false, Result, Ok, Err, refl, sym, length-append, arith}
 use Rattle.std.proofs.KnownBytes.{Appends-nil}
 use Rattle.fb_layout.specs.Laid.{LaidSchema}
-use Rattle.fb_schema.specs.declared.kinds.Shape.{Shape}
 use Rattle.fb_schema.specs.declared.kinds.Kind.TheVariants.{Table}
 use Rattle.fb_schema.specs.declared.kinds.Shape.TheVariants.{One}
 use Rattle.fb_value.specs.Datum.{Datum}
@@ -12,7 +11,7 @@ use Rattle.fb_json.specs.Texts.{value_text, json_text}
 use Rattle.fb_text.specs.declared.faults.WriteFault.{WriteFault}
 use Rattle.fb_text.specs.declared.faults.WriteFault.TheVariants.{NoMemberName, WriteFailed}
 use Rattle.fb_text.specs.Printed.{IsPrinted}
-use Rattle.fb_text.specs.Writes.{State, Stands, IsWritten, IsLeft, counted}
+use Rattle.fb_text.specs.Writes.{State, Stands, IsWritten, IsLeft}
 use Rattle.std.proofs.Common.{subst}
 
 -- before the first byte

@@ -1,8 +1,11 @@
 //! Which members are printed, and the codes of unions.
-ghost use Rattle.std.specs.Prelude.{◌≡◌, ◌||◌, Option, Some};
+ghost use Rattle.std.specs.Prelude.{◌≡◌, ◌≤◌, ◌||◌, ℕ, Option, Some, false, length, slice_get};
+ghost use Rattle.fb_schema.specs.Schema.{DeclaredField, body_at, slots_in};
 ghost use Rattle.fb_schema.specs.Seen.{field_seen};
 ghost use Rattle.fb_layout.specs.Laid.{LaidSchema};
 ghost use Rattle.fb_value.specs.Datum.{Datum};
+ghost use Rattle.fb_read.specs.Shows.{Shows};
+ghost use Rattle.fb_read.specs.Views.{entry_of};
 ghost use Rattle.fb_read.specs.Weights.{ShowsEntry};
 ghost use Rattle.fb_json.specs.Indents.{blanks};
 ghost use Rattle.fb_json.specs.Texts.{code_text, has_code};
@@ -13,7 +16,7 @@ use crate::lines::{put_member_line, put_name};
 use crate::noted::Noted;
 use crate::pages::Page;
 use fb_json::{Indent, member_name};
-use fb_read::Entry;
+use fb_read::{Entry, View};
 use fb_schema::{FieldInfo, Kind, Schema, Shape};
 use std::io::Write;
 
@@ -27,6 +30,19 @@ pub(crate) fn is_printed(defaults: bool, slot: &FieldInfo, found: Entry) -> bool
         Entry::Number(number) => defaults || slot.optional || number != slot.default,
         _ => true,
     }
+}
+
+/// How many of a table's slots are looked at. None behind them is printed.
+pub(crate) fn printed_slots(defaults: bool, view: View) -> u16
+    ensures few { result ≤ length (slots_in (body_at view.entry.layout.now.schema view.entry.table.0)) }
+    ensures behind { (d : Datum) (k : ℕ) (f : DeclaredField) → Shows view.entry d → result ≤ k
+        → slice_get (slots_in (body_at view.entry.layout.now.schema view.entry.table.0)) k ≡ Some f
+        → is_entry_printed defaults f (entry_of d k) ≡ false }
+{
+    if defaults {
+        return view.layout().slots_of(view.type_id()).len() as u16;
+    }
+    view.stored_slots()
 }
 
 /// Adds a union's code in front of its member, and says whether there is a member now.

@@ -34,12 +34,12 @@ pub(crate) fn first_in_table(view: View) -> Option<Place>
     ensures { (at : Place) (d : Datum) → Shows view.entry d → result ≡ first_unnamed at d }
 {
     let owner = view.type_id();
-    for k in 0..view.layout().slots_of(owner).len() {
+    for k in 0..view.stored_slots() {
         let place = Place {
             owner,
-            slot: Some(k as u16),
+            slot: Some(k),
         };
-        let found = first_unnamed(place, view.slot(k as u16));
+        let found = first_unnamed(place, view.slot(k));
         if found.is_some() {
             return found;
         }

@@ -13,7 +13,7 @@ ghost use Rattle.fb_text.specs.Printed.{is_entry_printed, slot_text, named_text,
 ghost use Rattle.fb_text.specs.Writes.{state_of, Adds};
 
 use crate::lines::{put_closing, put_line, put_member_line, put_str};
-use crate::members::{is_printed, put_code};
+use crate::members::{is_printed, printed_slots, put_code};
 use crate::noted::Noted;
 use crate::numbers::put_number;
 use crate::pages::Page;
@@ -141,19 +141,12 @@ pub(crate) fn put_table<W: Write>(
         (value_text style.entry.layout.now style.entry.defaults (blanks indent.now) shape d) }
 {
     let inner = indent.inner();
-    let slots = style.layout.slots_of(view.type_id());
+    let slots = view.layout().slots_of(view.type_id());
     put_str(page, out, "{");
     let mut some = false;
-    for k in 0..slots.len() {
-        some = put_member(
-            page,
-            out,
-            style,
-            &inner,
-            some,
-            &slots[k],
-            view.slot(k as u16),
-        );
+    for k in 0..printed_slots(style.defaults, view) {
+        let slot = &slots[usize::from(k)];
+        some = put_member(page, out, style, &inner, some, slot, view.slot(k));
     }
     put_closing(page, out, indent, some);
     put_str(page, out, "}");

@@ -1,12 +1,12 @@
-use Rattle.std.proofs.Common.{◌≡◌, ◌+◌, ◌<◌, Some, None, List, length, take, refl, sym, ap, subst, ◌∙◌, arith}
+use Rattle.std.proofs.Common.{refl, sym, ◌∙◌}
 use Rattle.std.proofs.KnownBytes.{Appends-nil}
 use Rattle.fb_json.specs.Meant.{type_place}
-use Rattle.fb_json.specs.Texts.{json_text, value_text}
+use Rattle.fb_json.specs.Texts.{json_text}
 use Rattle.fb_json.proofs.WholeNamed.{named_whole, unnamed_part}
 use Rattle.fb_schema.specs.declared.kinds.Kind.TheVariants.{Table}
 use Rattle.fb_schema.specs.declared.kinds.Shape.TheVariants.{One}
-use Rattle.fb_text.specs.Writes.{state_of, Stands, IsWritten}
-use Rattle.fb_text.proofs.Added.{then, added_as}
+use Rattle.fb_text.specs.Writes.{state_of}
+use Rattle.fb_text.proofs.Added.{then}
 use Rattle.fb_text.proofs.PrintSteps.{never_unnamed}
 use Rattle.fb_text.proofs.WholePrinted.{nothing_stands, some_text, whole_printed}
 use Rattle.fb_text.proofs.text.write_text.Goals as goal

@@ -1,15 +1,12 @@
-use Rattle.std.proofs.Common.{◌≡◌, suc, ◌+◌, ◌<◌, ◌≤◌, Option, Some, None, ℕ, List, length, map, false, true, refl, sym, subst, ap, ◌∙◌, add-one, arith}
-use Rattle.fb_schema.specs.declared.kinds.Kind.{Kind}
+use Rattle.std.proofs.Common.{◌≡◌, suc, ◌+◌, ◌<◌, ◌≤◌, Some, None, ℕ, false, sym, subst, ap, ◌∙◌, add-one, arith}
 use Rattle.fb_schema.specs.declared.kinds.TypeId.{TypeId}
-use Rattle.fb_schema.specs.Seen.{field_seen}
-use Rattle.fb_layout.specs.Laid.{LaidSchema, stored_kind, slots_of}
-use Rattle.fb_value.specs.Datum.{Datum, a_struct, a_member, a_table, a_vector, count}
-use Rattle.fb_value.specs.Nth.{nth_entry, nth_part}
+use Rattle.fb_layout.specs.Laid.{stored_kind, slots_of}
+use Rattle.fb_value.specs.Datum.{a_table, count}
+use Rattle.fb_value.specs.Nth.{nth_entry}
 use Rattle.fb_read.proofs.EnteredCounts.{entries_from, parts_from}
-use Rattle.fb_read.specs.Weights.{ShowsEntry}
-use Rattle.fb_json.specs.Unnamed.{first_unnamed, first_in_parts, first_in_entries, entry_place}
+use Rattle.fb_json.specs.Unnamed.{first_unnamed, first_in_parts, first_in_entries}
 use Rattle.fb_text.proofs.PrintSteps.{part_there}
-use Rattle.fb_text.proofs.UnnamedSteps.{is_table, plain_kind, place_is, table_case, slots_long, entries_step, entries_end, parts_step, parts_end, found_first, found_later, fields_named, items_named}
+use Rattle.fb_text.proofs.UnnamedSteps.{is_table, plain_kind, place_is, table_case, entries_step, entries_end, parts_step, parts_end, found_first, found_later, fields_named, items_named}
 use Rattle.fb_text.proofs.unnamed.+unnamed.Goals.{first_in_items-in-Table, first_in_items-in_default}
 use Rattle.fb_text.proofs.unnamed.+unnamed.Goals as goal
 
@@ -53,7 +50,7 @@ pub first_in_table-returns-then-is_some : goal.first_in_table-returns-then-is_so
 first_in_table-returns-then-is_some t c at d lies =
     let k = c.loop-k.k in
     table_case c.args.view (λ x. c.first_unnamed-found.result ≡ first_unnamed at x) d lies (λ u es here.
-    let few : k ≤ 65535 = omega (arith, c.loop-k-test.true, c.slots_of-k-end.ensures.few) in
+    let few : k ≤ 65535 = omega (arith, c.loop-k-test.true, c.stored_slots-k-end.type_inv) in
     let place = place_is c.type_id-owner.result u k (here.1 ∙ ap (λ (x : TypeId). x.0) (sym c.type_id-owner.ensures)) few in
     let found = rw place at (c.first_unnamed-found.ensures c.args.view.layout.now (nth_entry es k) (c.slot.ensures.shows (a_table u es) here)) in
     sym (found_first _ (first_in_entries u (k + 1) (entries_from (suc k) es)) _ found (sym c.is_some.ensures ∙ c.if-is_some.true)) ∙ sym (entries_step u k k es) ∙ c.loop-k.invariant u es here)
@@ -61,7 +58,7 @@ first_in_table-returns-then-is_some t c at d lies =
 pub first_in_table-loop-k-preserved : goal.first_in_table-loop-k-preserved
 first_in_table-loop-k-preserved t c u es here =
     let k = c.loop-k.k in
-    let few : k ≤ 65535 = omega (arith, c.loop-k-test.true, c.slots_of-k-end.ensures.few) in
+    let few : k ≤ 65535 = omega (arith, c.loop-k-test.true, c.stored_slots-k-end.type_inv) in
     let place = place_is c.type_id-owner.result u k (here.1 ∙ ap (λ (x : TypeId). x.0) (sym c.type_id-owner.ensures)) few in
     let found = rw place at (c.first_unnamed-found.ensures c.args.view.layout.now (nth_entry es k) (c.slot.ensures.shows (a_table u es) here)) in
     let one : k + 1 ≡ suc k = omega arith in
@@ -70,8 +67,6 @@ first_in_table-loop-k-preserved t c u es here =
 pub first_in_table-returns : goal.first_in_table-returns
 first_in_table-returns t c at d lies =
     let L = c.args.view.layout.now in
-    let long = slots_long L c.args.view.table.0 c.slots_of-k-end.result.now (rw (c.layout.ensures, c.type_id-owner.ensures) at c.slots_of-k-end.ensures.slots) in
-    let past : length (slots_of L c.args.view.table.0) ≤ c.loop-k.k = omega (arith, long, c.loop-k-test.false) in
     table_case c.args.view (λ x. None ≡ first_unnamed at x) d lies (λ u es here.
-    entries_end L c.args.view.bytes.now u c.loop-k.k c.loop-k.k (slots_of L c.args.view.table.0) _ es here.2 past
+    entries_end L c.args.view.bytes.now u c.loop-k.k c.loop-k.k (slots_of L c.args.view.table.0) _ es here.2 (λ i s past there. c.stored_slots-k-end.ensures.behind (a_table u es) i s here (omega (arith, past, c.loop-k-test.false)) there)
     ∙ c.loop-k.invariant u es here)

@@ -1,17 +1,14 @@
-use Rattle.std.proofs.Common.{◌≡◌, ◌+◌, ◌<◌, ◌≤◌, ◌∷◌, ◌++◌, ◌||◌, Option, Some, None, ℕ, List, length, map, false, true, refl, sym, subst, ap, ◌∙◌, add-one, arith}
-use Rattle.std.specs.Prelude.{is_some}
+use Rattle.std.proofs.Common.{◌≡◌, ◌<◌, Option, Some, length, map, sym, subst, ap, ◌∙◌, add-one, arith}
+use Rattle.fb_schema.specs.Schema.{body_at, slots_in}
 use Rattle.fb_schema.specs.Seen.{field_seen}
 use Rattle.fb_value.specs.Datum.{Datum, a_table, a_member, count}
 use Rattle.fb_value.specs.Nth.{nth_entry, nth_part}
 use Rattle.fb_layout.specs.Laid.{LaidSchema}
-use Rattle.fb_read.specs.Shows.{Shows}
 use Rattle.fb_read.specs.Weights.{ShowsEntry}
-use Rattle.fb_read.specs.Views.{entry_of}
 use Rattle.fb_json.specs.Indents.{blanks}
 use Rattle.fb_json.specs.Texts.{value_text}
-use Rattle.fb_text.specs.Writes.{State, state_of, Adds}
 use Rattle.fb_text.proofs.Added.{then, added_as}
-use Rattle.fb_text.proofs.TextSteps.{members_step, members_end, parts_step, parts_end, items_step, items_end, table_text}
+use Rattle.fb_text.proofs.TextSteps.{members_step, members_behind, parts_step, parts_end, items_step, items_end, table_text}
 use Rattle.fb_text.proofs.PrintSteps.{seen_there, seen_long, part_there, entry_added, table_added}
 use Rattle.fb_text.proofs.values.+print.Goals as goal
 
@@ -49,22 +46,25 @@ put_table-loop-k-preserved g t c u es same lies end rest =
     let L = c.args.style.layout.now in
     let k = c.loop-k.k in
     let there = nth_entry es k in
-    let f = field_seen c.index-slots-k.result in
+    let f = field_seen c.index-slots-from.result in
     let fs = map field_seen c.slots_of-slots.result.now in
     let shows : ShowsEntry L c.slot.result there = subst (λ (M : LaidSchema). ShowsEntry M c.slot.result there) same (c.slot.ensures.shows (a_table u es) lies) in
-    let less : k < length c.slots_of-slots.result.now = omega (arith, c.loop-k-test.true) in
-    let step = members_step L c.args.style.defaults (blanks c.inner-inner.result) (blanks c.args.indent.now) c.loop-k.some fs es k f (seen_there c.slots_of-slots.result.now k c.index-slots-k.result less c.index-slots-k.is) in
+    let seen : map field_seen c.slots_of-slots.result.now ≡ slots_in (body_at c.args.view.layout.now.schema c.args.view.table.0) = rw (c.layout.ensures, c.type_id.ensures) at c.slots_of-slots.ensures.slots in
+    let long : length c.slots_of-slots.result.now ≡ length (slots_in (body_at c.args.view.layout.now.schema c.args.view.table.0)) = sym (seen_long c.slots_of-slots.result.now) ∙ ap length seen in
+    let less : k < length c.slots_of-slots.result.now = omega (arith, long, c.loop-k-test.true, c.printed_slots-k-end.ensures.few) in
+    let is = rw c.from.ensures at c.index-slots-from.is in
+    let step = members_step L c.args.style.defaults (blanks c.inner-inner.result) (blanks c.args.indent.now) c.loop-k.some fs es k f (seen_there c.slots_of-slots.result.now k c.index-slots-from.result less is) in
     c.loop-k.invariant u es same lies end (added_as step (then (c.put_member-some.ensures.text there shows) (rw (c.put_member-some.ensures.some there shows, add-one) at rest)))
 
 pub put_table-returns : goal.put_table-returns
 put_table-returns g t c shape d same lies =
     let L = c.args.style.layout.now in
     let fs = map field_seen c.slots_of-slots.result.now in
-    let over : c.loop-k.k ≡ length fs = omega (arith, seen_long c.slots_of-slots.result.now, c.loop-k-test.false, c.loop-k.auto.k-end) in
+    let seen : fs ≡ slots_in (body_at c.args.view.layout.now.schema c.args.view.table.0) = rw (c.layout.ensures, c.type_id.ensures) at c.slots_of-slots.ensures.slots in
     table_added c.args.view _ _ (λ x. value_text L c.args.style.defaults (blanks c.args.indent.now) shape x) d lies (λ u es here.
-    let end = members_end L c.args.style.defaults (blanks c.inner-inner.result) (blanks c.args.indent.now) c.loop-k.some fs es c.loop-k.k over in
+    let end = members_behind L c.args.style.defaults (blanks c.inner-inner.result) (blanks c.args.indent.now) c.loop-k.some fs es c.loop-k.k (λ j f past there. c.printed_slots-k-end.ensures.behind (a_table u es) j f here (omega (arith, past, c.loop-k-test.false)) (rw seen at there)) in
     let all = c.loop-k.invariant u es same here _ (added_as end (then c.put_closing.ensures c.put_str-2.ensures)) in
-    added_as (table_text L c.args.style.defaults (blanks c.inner-inner.result) (blanks c.args.indent.now) shape u es) (then c.put_str.ensures (rw (c.inner-inner.ensures, c.slots_of-slots.ensures.slots, c.type_id.ensures, ← here.1) at all)))
+    added_as (table_text L c.args.style.defaults (blanks c.inner-inner.result) (blanks c.args.indent.now) shape u es) (then c.put_str.ensures (rw (c.inner-inner.ensures, seen, same, ← here.1) at all)))
 
 pub put_value-returns-in-Table : goal.put_value-returns-in-Table
 put_value-returns-in-Table g t c d found =
