@@ -7,12 +7,13 @@ ghost use Rattle.fb_read.specs.Walks.{place, visit_in, TicksWithin, EntersAt};
 
 use crate::counting::Entries;
 use crate::places::follow;
-use crate::rules::{check_code, check_inline, open_text};
+use crate::rules::{check_code, check_inline, check_number, open_text};
 use crate::source::Source;
 use fb_schema::{Base, FieldInfo, Kind};
 use fb_value::ReadFault;
 
 /// Visits the text at a position.
+#[inline(always)]
 #[tactic(auto, using(crate::proofs::Visited::visit_fault, crate::proofs::Visited::visit_text, crate::proofs::Visited::visit_text_over))]
 pub fn visit_text(
     source: Source,
@@ -40,6 +41,7 @@ pub fn visit_text(
 }
 
 /// Visits the text behind a reference.
+#[inline(always)]
 #[tactic(auto, using(crate::proofs::Visited::visit_fault, crate::proofs::Visited::visit_ref))]
 pub fn visit_text_behind(
     source: Source,
@@ -61,7 +63,8 @@ pub fn visit_text_behind(
     visit_text(source, target, spent, entries)
 }
 
-/// Visits a number or struct.
+/// Visits a struct, or a number.
+#[inline(always)]
 #[tactic(auto, using(crate::proofs::Visited::visit_fault, crate::proofs::Visited::visit_inline))]
 pub fn visit_inline(source: Source, kind: Kind, at: usize, spent: u64) -> Result<u64, ReadFault>
     requires low { at < 2 ^ 33 }
@@ -79,7 +82,8 @@ pub fn visit_inline(source: Source, kind: Kind, at: usize, spent: u64) -> Result
     Ok(spent)
 }
 
-/// Visits a number, whose size and alignment need no look-up.
+/// Visits a number.
+#[inline(always)]
 #[tactic(auto, using(crate::proofs::Visited::visit_fault, crate::proofs::Visited::visit_inline))]
 pub fn visit_number(source: Source, base: Base, at: usize, spent: u64) -> Result<u64, ReadFault>
     requires low { at < 2 ^ 33 }
@@ -87,12 +91,12 @@ pub fn visit_number(source: Source, base: Base, at: usize, spent: u64) -> Result
         → Visits result (visit_in source.entry (place (inline_place (scalar_kind base)) at) tables spent) }
     ensures same { IfOk result (λ n. n ≡ spent) }
 {
-    let size = u32::from(base.size());
-    check_inline(source.bytes, at, size, size)?;
+    check_number(source.bytes, at, base)?;
     Ok(spent)
 }
 
 /// Visits a union's code.
+#[inline(always)]
 #[tactic(auto, using(crate::proofs::Visited::visit_fault, crate::proofs::Visited::visit_code))]
 pub fn visit_code(
     source: Source,
@@ -113,6 +117,7 @@ pub fn visit_code(
 }
 
 /// Whether the first of some slots is required.
+#[inline(always)]
 pub fn is_first_required(slots: &[FieldInfo]) -> bool
     ensures { (L : LaidSchema) → result ≡ next_required (slots_seen L slots.now) }
 {

@@ -1,24 +1,24 @@
 //! A walk over all that is reached from a place, without memory.
 ghost use Rattle.std.specs.Prelude.{◌≡◌, ◌+◌, ◌*◌, ◌<◌, ◌≤◌, ◌^◌, length, OnOk, IfOk, Some};
-ghost use Rattle.fb_layout.specs.Laid.{StoredKind, stored_kind};
+ghost use Rattle.fb_layout.specs.Laid.{StoredKind, stored_kind, member_by_code};
 ghost use Rattle.fb_value.specs.Num.{num};
 ghost use Rattle.fb_value.specs.Places.{table_part, vector_part, ref_place, part_place, vtable, named_slots, named_elements, target_of};
-ghost use Rattle.fb_read.specs.Stored.{stored_place, stored_at};
-ghost use Rattle.fb_read.specs.Visits.{Visits, slots_seen};
+ghost use Rattle.fb_value.specs.Nth.{slot_place};
+ghost use Rattle.fb_read.specs.Visits.{Visits, slot_seen, slots_seen, union_place};
 ghost use Rattle.fb_read.specs.Values.{led_to};
 ghost use Rattle.fb_read.specs.Walks.{place, visit_in, visit_each_in, visit_entry_in, TicksWithin, EntersAt, EntersSlot, EntersSlots, EntersItems};
 
 use crate::counting::Entries;
-use crate::places::{follow, stored_slots};
+use crate::places::{follow, held_slot, slot_of, stored_slots};
 use crate::reference::Reference;
-use crate::rules::{enter_table, open_vector};
+use crate::rules::{enter_table, open_vector, union_code};
 use crate::source::Source;
-use crate::stored::{Stored, stored_in};
-use crate::visits::{visit_code, visit_inline, visit_number, visit_text_behind};
-use fb_schema::{FieldInfo, Kind, TypeId};
+use crate::visits::{is_first_required, visit_code, visit_inline, visit_number, visit_text_behind};
+use fb_schema::{FieldInfo, Kind, Shape, TypeId};
 use fb_value::ReadFault;
 
 /// Visits the table behind a reference.
+#[inline(always)]
 #[cycle(walk)]
 #[tactic(auto, using(crate::proofs::Visited::visit_ref))]
 pub fn visit_table_behind(
@@ -77,6 +77,7 @@ fn visit_table(
     visit_slots(source, slots, at, place, tables + 1, spent + 1, entries)
 }
 
+#[inline(always)]
 #[cycle(walk)]
 fn visit_slots(
     source: Source,
@@ -108,62 +109,109 @@ fn visit_slots(
     let present = stored_slots(source.bytes, at, place, slots.len());
     for slot in 0..present {
         let (_before, later) = slots.split_at(slot + 1);
-        let stored = stored_in(
-            source.layout,
-            source.bytes,
-            &slots[slot],
-            later,
-            at,
-            place,
-            slot,
-        );
-        after = visit_stored(source, stored, tables, after, entries)?;
+        let field = &slots[slot];
+        after = visit_slot(
+            source, field, later, at, place, slot, tables, after, entries,
+        )?;
     }
     Ok(after)
 }
 
-// Visits what a slot has.
+// Visits what a slot names that the vtable reaches to.
+#[inline(always)]
 #[cycle(walk)]
-fn visit_stored(
+fn visit_slot(
     source: Source,
-    stored: Stored,
+    field: &FieldInfo,
+    later: &[FieldInfo],
+    at: usize,
+    place: usize,
+    slot: usize,
     tables: u8,
     spent: u64,
     entries: &mut Entries,
 ) -> Result<u64, ReadFault>
-    requires low { stored_at stored < 2 ^ 33 }
+    requires vtable { place ≡ vtable source.bytes.now at }
+    requires whole { place + num source.bytes.now place 2 ≤ length source.bytes.now }
+    requires within { place + 2 ≤ length source.bytes.now }
+    requires held { 6 + 2 * slot ≤ num source.bytes.now place 2 }
+    requires low { at < 2 ^ 32 }
+    requires slots { slot < 2 ^ 15 }
     requires few { spent ≤ source.most_cells }
     requires flat { tables ≤ source.most_depth }
-    ensures visit { Visits result (visit_entry_in source.entry
-        (stored_place source.entry.layout.now stored) tables spent) }
+    ensures visit { Visits result (visit_entry_in source.entry (slot_place source.entry.layout.now
+        source.entry.bytes.now at slot (slots_seen source.entry.layout.now later.now)
+        (slot_seen source.entry.layout.now field.now)) tables spent) }
     ensures few { IfOk result (λ n. n ≤ source.entry.most_cells) }
     ensures rises { entries.old.count ≤ entries.new.count }
     ensures ticks { TicksWithin source.entry entries.old.count entries.new.count spent result }
-    ensures each { OnOk result (EntersSlot source.entry
-        (stored_place source.entry.layout.now stored) entries.old.count entries.new.count) }
+    ensures each { OnOk result (EntersSlot source.entry (slot_place source.entry.layout.now
+        source.entry.bytes.now at slot (slots_seen source.entry.layout.now later.now)
+        (slot_seen source.entry.layout.now field.now)) entries.old.count entries.new.count) }
 {
-    match stored {
-        Stored::Absent(_) => Ok(spent),
-        Stored::Unknown(_, _) => Ok(spent),
-        Stored::Code(code, at) => visit_code(
-            source,
-            at,
-            code.value_slot,
-            code.required,
-            code.present,
-            spent,
+    if field.deprecated {
+        return Ok(spent);
+    }
+    let offset = held_slot(source.bytes, at, place, slot);
+    if offset == 0 {
+        return Ok(spent);
+    }
+    let found = at + offset;
+    match field.shape {
+        Shape::Many(kind) => visit_vector_behind(source, kind, found, tables, spent, entries),
+        Shape::One(Kind::Text) => visit_text_behind(source, found, spent, entries),
+        Shape::One(Kind::Table(table)) => visit_table_behind(
+            source, table, found, tables, spent, entries,
         ),
-        Stored::Number(base, at) => visit_number(source, base, at, spent),
-        Stored::Fixed(structure, at) => visit_inline(source, Kind::Struct(structure), at, spent),
-        Stored::Text(at) => visit_text_behind(source, at, spent, entries),
-        Stored::Table(table, at) => visit_table_behind(source, table, at, tables, spent, entries),
-        Stored::Member(_, table, at) => visit_table_behind(
-            source, table, at, tables, spent, entries,
-        ),
-        Stored::Vector(kind, at) => visit_vector_behind(source, kind, at, tables, spent, entries),
+        Shape::One(Kind::Union(union)) => {
+            let code = union_code(source.bytes, at, place, slot);
+            visit_union(source, union, code, found, tables, spent, entries)
+        }
+        Shape::One(Kind::Code(_)) => {
+            let present = slot_of(source.bytes, at, place, slot + 1) != 0;
+            let required = is_first_required(later);
+            visit_code(source, found, slot as u16 + 1, required, present, spent)
+        }
+        Shape::One(Kind::Scalar(base)) => visit_number(source, base, found, spent),
+        Shape::One(Kind::Enum(values)) => {
+            visit_number(source, source.layout.base_of(values), found, spent)
+        }
+        Shape::One(Kind::Struct(structure)) => {
+            visit_inline(source, Kind::Struct(structure), found, spent)
+        }
     }
 }
 
+// Visits a union's value under a code.
+#[inline(always)]
+#[cycle(walk)]
+fn visit_union(
+    source: Source,
+    union: TypeId,
+    code: u8,
+    at: usize,
+    tables: u8,
+    spent: u64,
+    entries: &mut Entries,
+) -> Result<u64, ReadFault>
+    requires low { at < 2 ^ 33 }
+    requires few { spent ≤ source.most_cells }
+    requires flat { tables ≤ source.most_depth }
+    ensures visit { Visits result (visit_entry_in source.entry (union_place code at
+        (member_by_code source.entry.layout.now union.0 code)) tables spent) }
+    ensures few { IfOk result (λ n. n ≤ source.entry.most_cells) }
+    ensures rises { entries.old.count ≤ entries.new.count }
+    ensures ticks { TicksWithin source.entry entries.old.count entries.new.count spent result }
+    ensures each { OnOk result (EntersSlot source.entry (union_place code at
+        (member_by_code source.entry.layout.now union.0 code)) entries.old.count entries.new.count) }
+{
+    match source.layout.schema().member_by_code(union, code) {
+        Some(table) => visit_table_behind(source, table, at, tables, spent, entries),
+        None => Ok(spent),
+    }
+}
+
+#[inline(always)]
 #[cycle(walk)]
 #[tactic(auto, using(crate::proofs::Visited::visit_ref))]
 fn visit_vector_behind(
@@ -189,6 +237,7 @@ fn visit_vector_behind(
     visit_vector(source, kind, target, tables, spent, entries)
 }
 
+#[inline(always)]
 #[cycle(walk)]
 #[tactic(auto, using(crate::proofs::Visited::visit_vector_over))]
 fn visit_vector(
@@ -248,6 +297,7 @@ fn visit_vector(
 }
 
 // Visits what the references from a position on lead to.
+#[inline(always)]
 #[cycle(walk)]
 fn visit_elements(
     source: Source,
@@ -283,6 +333,7 @@ fn visit_elements(
     Ok(after)
 }
 
+#[inline(always)]
 #[cycle(walk)]
 fn visit_behind(
     source: Source,

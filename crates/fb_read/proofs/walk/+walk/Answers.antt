@@ -1,13 +1,14 @@
-use Rattle.std.proofs.Common.{◌≡◌, ◌+◌, ◌<◌, ◌≤◌, length, refl, map, sym, ap, ◌∙◌, arith}
+use Rattle.std.proofs.Common.{◌≡◌, ◌+◌, ◌<◌, ◌≤◌, not, ◌==◌, length, Some, None, refl, map, sym, ap, ◌∙◌, arith, rules}
 use Rattle.std.proofs.lemmas.Result.{err_from_is_err_and}
-use Rattle.fb_layout.specs.Laid.{struct_kind, slot_of, slots_of, stored_kind}
+use Rattle.fb_layout.specs.Laid.{struct_kind, slot_of, slots_of, stored_kind, member_by_code}
 use Rattle.fb_value.specs.Bounds.{Bounds}
 use Rattle.fb_value.specs.Num.{num}
-use Rattle.fb_value.specs.Places.{table_part, vector_part}
+use Rattle.fb_value.specs.Nth.{slot_place}
+use Rattle.fb_value.specs.Places.{table_part, vector_part, inline_place, code_place}
 use Rattle.fb_read.specs.Values.{led_to}
-use Rattle.fb_read.specs.Visits.{slots_seen}
+use Rattle.fb_read.specs.Visits.{slot_seen, slots_seen}
 use Rattle.fb_read.proofs.EnteredCounts.{slot_step, rest_entered, element_step, parts_end, vector_entered, items_free, member_slot_entered, inline_slot_entered, on_ok, on_any}
-use Rattle.fb_read.proofs.Visited.{visit_fault, visit_table, visit_vector, visit_member, visit_unknown, no_references, no_target, slots_next, slots_fail, slots_rest, elements_step, elements_stop, elements_end}
+use Rattle.fb_read.proofs.Visited.{visit_fault, visit_table, visit_vector, visit_member, visit_no_member, no_references, no_target, slots_next, slots_fail, slots_rest, elements_step, elements_stop, elements_end}
 use Rattle.fb_read.proofs.walk.+walk.Goals as goal
 
 pub visit_elements-returns-in_err-after-clause-visit : goal.visit_elements-returns-in_err-after-clause-visit
@@ -76,21 +77,21 @@ pub visit_slots-returns-in_err-after-clause-visit : goal.visit_slots-returns-in_
 visit_slots-returns-in_err-after-clause-visit t c =
     let p = err_from_is_err_and c.from_residual.result c.from_residual.ensures.1 in
     let most : Bounds = record { depth = c.args.source.most_depth; cells = c.args.source.most_cells } in
-    let fails = rw (c.stored_in-stored.ensures.place, c.split_at.ensures.back) at c.in_err-after.ensures.visit in
+    let fails = rw c.split_at.ensures.back at c.in_err-after.ensures.visit in
     rw (p.1, p.2) (sym c.loop-slot.invariant.visited
     ∙ slots_fail c.args.source.layout.now c.args.source.bytes.now most c.args.at c.loop-slot.slot c.args.slots.now c.index-slots-slot.result c.args.tables c.loop-slot.after _ (omega (arith, c.loop-slot-test.true, c.stored_slots-present.ensures.few)) c.index-slots-slot.is fails)
 
 pub visit_slots-loop-slot-preserved : goal.visit_slots-loop-slot-preserved
 visit_slots-loop-slot-preserved t c =
     let most : Bounds = record { depth = c.args.source.most_depth; cells = c.args.source.most_cells } in
-    let fine = rw (c.stored_in-stored.ensures.place, c.split_at.ensures.back) at c.in_ok-after.ensures.visit in
+    let fine = rw c.split_at.ensures.back at c.in_ok-after.ensures.visit in
     let less : c.loop-slot.slot < length c.args.slots.now = omega (arith, c.loop-slot-test.true, c.stored_slots-present.ensures.few) in
     record {
       visited = sym (slots_next c.args.source.layout.now c.args.source.bytes.now most c.args.at c.loop-slot.slot c.args.slots.now c.index-slots-slot.result c.args.tables c.loop-slot.after c.in_ok-after.after less c.index-slots-slot.is fine) ∙ c.loop-slot.invariant.visited;
       rises = omega (arith, c.in_ok-after.ensures.rises);
       few = c.in_ok-after.ensures.few;
       ticked = omega (arith, c.in_ok-after.ensures.ticks);
-      entered = λ es lies. slot_step c.args.source.layout.now c.args.source.bytes.now c.args.at c.loop-slot.slot c.args.slots.now c.index-slots-slot.result es _ _ _ lies less c.index-slots-slot.is (rw (c.stored_in-stored.ensures.place, c.split_at.ensures.back) at c.in_ok-after.ensures.each) (c.loop-slot.invariant.entered es lies);
+      entered = λ es lies. slot_step c.args.source.layout.now c.args.source.bytes.now c.args.at c.loop-slot.slot c.args.slots.now c.index-slots-slot.result es _ _ _ lies less c.index-slots-slot.is (rw c.split_at.ensures.back at c.in_ok-after.ensures.each) (c.loop-slot.invariant.entered es lies);
     }
 
 pub visit_slots-returns-clause-visit : goal.visit_slots-returns-clause-visit
@@ -120,21 +121,6 @@ visit_vector-returns-in-Scalar t c =
       ticks = omega arith;
       each = vector_entered L b (stored_kind L.schema c.args.kind) c.args.at (num b c.args.at 4) _ _ refl (λ ds long lies. let free = items_free L b (stored_kind L.schema c.args.kind) (c.args.at + 4) ds none lies in omega (arith, free, c.tick.ensures));
     }
-
-pub visit_stored-returns-in-Unknown-clause-visit : goal.visit_stored-returns-in-Unknown-clause-visit
-visit_stored-returns-in-Unknown-clause-visit t c =
-    rw c.in-Unknown.is (visit_unknown c.args.source.layout.now c.args.source.bytes.now _ c.in-Unknown.field-0 c.in-Unknown.field-1 c.args.tables c.args.spent)
-
-pub visit_stored-returns-in-Member-clause-visit : goal.visit_stored-returns-in-Member-clause-visit
-visit_stored-returns-in-Member-clause-visit t c =
-    let L = c.args.source.layout.now in
-    let most : Bounds = record { depth = c.args.source.most_depth; cells = c.args.source.most_cells } in
-    rw (c.in-Member.is, visit_member L c.args.source.bytes.now most c.in-Member.field-0 c.in-Member.table.0 c.in-Member.at c.args.tables c.args.spent) c.visit_table_behind-in-Member.ensures.visit
-
-pub visit_stored-returns-in-Member-clause-each : goal.visit_stored-returns-in-Member-clause-each
-visit_stored-returns-in-Member-clause-each t c =
-    let L = c.args.source.layout.now in
-    on_ok c.visit_table_behind-in-Member.result (λ known f o lies. member_slot_entered L c.args.source.bytes.now f c.in-Member.field-0 c.in-Member.table.0 c.in-Member.at _ _ o known (rw c.in-Member.is at lies)) c.visit_table_behind-in-Member.ensures.each
 
 pub visit_vector-returns-in-Text-clause-visit : goal.visit_vector-returns-in-Text-clause-visit
 visit_vector-returns-in-Text-clause-visit t c =
@@ -170,7 +156,37 @@ visit_vector-returns-in-Table-clause-each t c =
     let b = c.args.source.bytes.now in
     on_ok c.visit_elements-in-Table.result (λ all. vector_entered L b (stored_kind L.schema c.args.kind) c.args.at c.in_ok-count.count _ _ c.in_ok-count.ensures.count (λ ds long lies. omega (arith, c.tick.ensures, all ds long lies))) (c.visit_elements-in-Table.ensures.each (stored_kind L.schema c.args.kind) (rw c.in-Table.is refl))
 
-pub visit_stored-returns-in-Fixed-clause-each : goal.visit_stored-returns-in-Fixed-clause-each
-visit_stored-returns-in-Fixed-clause-each t c =
+pub visit_union-returns-in-Some-clause-visit : goal.visit_union-returns-in-Some-clause-visit
+visit_union-returns-in-Some-clause-visit t c =
     let L = c.args.source.layout.now in
-    on_any c.visit_inline.result (λ f o lies. let free = inline_slot_entered L c.args.source.bytes.now f (struct_kind c.in-Fixed.structure.0) c.in-Fixed.at o (rw c.in-Fixed.is at lies) in omega (arith, free))
+    let most : Bounds = record { depth = c.args.source.most_depth; cells = c.args.source.most_cells } in
+    let known : member_by_code L c.args.union.0 c.args.code ≡ Some c.in-Some.table.0 = sym (rw c.schema.ensures.schema at c.in-Some.ensures) in
+    rw (known, visit_member L c.args.source.bytes.now most c.args.code c.in-Some.table.0 c.args.at c.args.tables c.args.spent) c.visit_table_behind.ensures.visit
+
+pub visit_union-returns-in-Some-clause-each : goal.visit_union-returns-in-Some-clause-each
+visit_union-returns-in-Some-clause-each t c =
+    let L = c.args.source.layout.now in
+    let known : member_by_code L c.args.union.0 c.args.code ≡ Some c.in-Some.table.0 = sym (rw c.schema.ensures.schema at c.in-Some.ensures) in
+    on_ok c.visit_table_behind.result (λ entered f o lies. member_slot_entered L c.args.source.bytes.now f c.args.code c.in-Some.table.0 c.args.at _ _ o entered (rw known at lies)) c.visit_table_behind.ensures.each
+
+pub visit_union-returns-in-None-clause-visit : goal.visit_union-returns-in-None-clause-visit
+visit_union-returns-in-None-clause-visit t c =
+    let L = c.args.source.layout.now in
+    let most : Bounds = record { depth = c.args.source.most_depth; cells = c.args.source.most_cells } in
+    let none : member_by_code L c.args.union.0 c.args.code ≡ None = sym (rw c.schema.ensures.schema at c.in-None.ensures) in
+    rw none (visit_no_member L c.args.source.bytes.now most c.args.code c.args.at c.args.tables c.args.spent)
+
+pub visit_slot-returns-in-One-Code-clause-visit : goal.visit_slot-returns-in-One-Code-clause-visit
+visit_slot-returns-in-One-Code-clause-visit t c =
+    let L = c.args.source.layout.now in
+    let b = c.args.source.bytes.now in
+    let named : slot_place L b c.args.at c.args.slot (slots_seen L c.args.later.now) (slot_seen L c.args.field.now)
+        ≡ Some (record { sort = code_place c.in-One-Code.field-0-0.0 (c.args.slot + 1) c.is_first_required-required.result (not (c.slot_of-present.result == 0)); at = c.args.at + c.held_slot-offset.result }) = search rules in
+    rw named (c.visit_code.ensures.visit c.args.tables c.in-One-Code.field-0-0.0)
+
+pub visit_slot-returns-in-One-Struct-clause-each : goal.visit_slot-returns-in-One-Struct-clause-each
+visit_slot-returns-in-One-Struct-clause-each t c =
+    let L = c.args.source.layout.now in
+    let b = c.args.source.bytes.now in
+    let named : slot_place L b c.args.at c.args.slot (slots_seen L c.args.later.now) (slot_seen L c.args.field.now) ≡ Some (record { sort = inline_place (struct_kind c.in-One-Struct.structure.0); at = c.args.at + c.held_slot-offset.result }) = search rules in
+    on_any c.visit_inline.result (λ f o lies. let free = inline_slot_entered L b f (struct_kind c.in-One-Struct.structure.0) (c.args.at + c.held_slot-offset.result) o (rw named at lies) in omega (arith, free))

@@ -13,8 +13,11 @@ use Rattle.fb_read.proofs.walk.+walk.Given as goal
 abbrev pub decreases-visit_slots : goal.decreases-visit_slots
 decreases-visit_slots l = 16 * (l.source.most_depth - l.tables) + 8
 
-abbrev pub decreases-visit_stored : goal.decreases-visit_stored
-decreases-visit_stored l = 16 * (l.source.most_depth - l.tables) + 7
+abbrev pub decreases-visit_slot : goal.decreases-visit_slot
+decreases-visit_slot l = 16 * (l.source.most_depth - l.tables) + 7
+
+abbrev pub decreases-visit_union : goal.decreases-visit_union
+decreases-visit_union l = 16 * (l.source.most_depth - l.tables) + 6
 
 abbrev pub decreases-visit_vector_behind : goal.decreases-visit_vector_behind
 decreases-visit_vector_behind l = 16 * (l.source.most_depth - l.tables) + 5
