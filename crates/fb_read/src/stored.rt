@@ -7,7 +7,7 @@ ghost use Rattle.fb_value.specs.Nth.{slot_place};
 ghost use Rattle.fb_read.specs.Visits.{slot_seen, slots_seen, union_place};
 ghost use Rattle.fb_read.specs.Stored.{stored_place, stored_at, text_place_of, table_place_of, member_place_of, vector_place_of, struct_place_of, number_place_of, default_in, unknown_code_of};
 
-use crate::places::slot_of;
+use crate::places::{is_stored, slot_of};
 use crate::rules::union_code;
 use crate::visits::is_first_required;
 use fb_layout::Layout;
@@ -197,12 +197,11 @@ pub fn stored_in(
             stored_member(layout, union, code, at + offset)
         }
         Shape::One(Kind::Code(union)) => {
-            let value_offset = slot_of(bytes, at, place, slot + 1);
             let code = UnionCode {
                 union,
                 value_slot: slot as u16 + 1,
                 required: is_first_required(later),
-                present: value_offset != 0,
+                present: is_stored(bytes, at, place, slot + 1),
             };
             Stored::Code(code, at + offset)
         }

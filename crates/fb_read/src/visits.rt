@@ -1,12 +1,13 @@
 //! Visits of what names no table, without memory.
 ghost use Rattle.std.specs.Prelude.{◌≡◌, ℕ, ◌+◌, ◌<◌, ◌≤◌, ◌^◌, length, MatchResult, OnOk, IfOk};
 ghost use Rattle.fb_layout.specs.Laid.{LaidSchema, scalar_kind, stored_kind};
-ghost use Rattle.fb_value.specs.Places.{text_part, ref_place, part_place, inline_place, code_place, next_required};
+ghost use Rattle.fb_value.specs.Num.{num};
+ghost use Rattle.fb_value.specs.Places.{vtable, is_present, text_part, ref_place, part_place, inline_place, code_place, next_required};
 ghost use Rattle.fb_read.specs.Visits.{Visits, slots_seen};
 ghost use Rattle.fb_read.specs.Walks.{place, visit_in, TicksWithin, EntersAt};
 
 use crate::counting::Entries;
-use crate::places::follow;
+use crate::places::{follow, is_stored};
 use crate::rules::{check_code, check_inline, check_number, open_text};
 use crate::source::Source;
 use fb_schema::{Base, FieldInfo, Kind};
@@ -95,24 +96,31 @@ pub fn visit_number(source: Source, base: Base, at: usize, spent: u64) -> Result
     Ok(spent)
 }
 
-/// Visits a union's code.
+/// Visits the code of a union that stands in a slot of the table at a position.
 #[inline(always)]
 #[tactic(auto, using(crate::proofs::Visited::visit_fault, crate::proofs::Visited::visit_code))]
 pub fn visit_code(
     source: Source,
+    later: &[FieldInfo],
+    owner: usize,
+    slots: usize,
+    slot: usize,
     at: usize,
-    value_slot: u16,
-    required: bool,
-    present: bool,
     spent: u64,
 ) -> Result<u64, ReadFault>
+    requires vtable { slots ≡ vtable source.bytes.now owner }
+    requires whole { slots + num source.bytes.now slots 2 ≤ length source.bytes.now }
+    requires within { slots + 2 ≤ length source.bytes.now }
+    requires few { slot < 2 ^ 15 }
     requires low { at < 2 ^ 33 }
-    ensures visit { (tables u : ℕ)
-        → Visits result (visit_in source.entry (place
-        (code_place u value_slot required present) at) tables spent) }
+    ensures visit { (tables u : ℕ) → Visits result (visit_in source.entry (place (code_place u (slot + 1)
+        (next_required (slots_seen source.entry.layout.now later.now))
+        (is_present source.entry.bytes.now owner (slot + 1))) at) tables spent) }
     ensures same { IfOk result (λ n. n ≡ spent) }
 {
-    check_code(source.bytes, at, value_slot, required, present)?;
+    let present = is_stored(source.bytes, owner, slots, slot + 1);
+    let required = is_first_required(later);
+    check_code(source.bytes, at, slot as u16 + 1, required, present)?;
     Ok(spent)
 }
 

@@ -9,11 +9,11 @@ ghost use Rattle.fb_read.specs.Values.{led_to};
 ghost use Rattle.fb_read.specs.Walks.{place, visit_in, visit_each_in, visit_entry_in, TicksWithin, EntersAt, EntersSlot, EntersSlots, EntersItems};
 
 use crate::counting::Entries;
-use crate::places::{follow, held_slot, slot_of, stored_slots};
+use crate::places::{follow, held_slot, stored_slots};
 use crate::reference::Reference;
 use crate::rules::{enter_table, open_vector, union_code};
 use crate::source::Source;
-use crate::visits::{is_first_required, visit_code, visit_inline, visit_number, visit_text_behind};
+use crate::visits::{visit_code, visit_inline, visit_number, visit_text_behind};
 use fb_schema::{FieldInfo, Kind, Shape, TypeId};
 use fb_value::ReadFault;
 
@@ -167,11 +167,7 @@ fn visit_slot(
             let code = union_code(source.bytes, at, place, slot);
             visit_union(source, union, code, found, tables, spent, entries)
         }
-        Shape::One(Kind::Code(_)) => {
-            let present = slot_of(source.bytes, at, place, slot + 1) != 0;
-            let required = is_first_required(later);
-            visit_code(source, found, slot as u16 + 1, required, present, spent)
-        }
+        Shape::One(Kind::Code(_)) => visit_code(source, later, at, place, slot, found, spent),
         Shape::One(Kind::Scalar(base)) => visit_number(source, base, found, spent),
         Shape::One(Kind::Enum(values)) => {
             visit_number(source, source.layout.base_of(values), found, spent)
@@ -297,7 +293,7 @@ fn visit_vector(
 }
 
 // Visits what the references from a position on lead to.
-#[inline(always)]
+#[inline(never)]
 #[cycle(walk)]
 fn visit_elements(
     source: Source,

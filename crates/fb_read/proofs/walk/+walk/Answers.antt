@@ -1,10 +1,10 @@
-use Rattle.std.proofs.Common.{◌≡◌, ◌+◌, ◌<◌, ◌≤◌, not, ◌==◌, length, Some, None, refl, map, sym, ap, ◌∙◌, arith, rules}
+use Rattle.std.proofs.Common.{◌≡◌, ◌+◌, ◌<◌, ◌≤◌, length, Some, None, refl, map, sym, ap, ◌∙◌, arith, rules}
 use Rattle.std.proofs.lemmas.Result.{err_from_is_err_and}
 use Rattle.fb_layout.specs.Laid.{struct_kind, slot_of, slots_of, stored_kind, member_by_code}
 use Rattle.fb_value.specs.Bounds.{Bounds}
 use Rattle.fb_value.specs.Num.{num}
 use Rattle.fb_value.specs.Nth.{slot_place}
-use Rattle.fb_value.specs.Places.{table_part, vector_part, inline_place, code_place}
+use Rattle.fb_value.specs.Places.{table_part, vector_part, inline_place, code_place, is_present, next_required}
 use Rattle.fb_read.specs.Values.{led_to}
 use Rattle.fb_read.specs.Visits.{slot_seen, slots_seen}
 use Rattle.fb_read.proofs.EnteredCounts.{slot_step, rest_entered, element_step, parts_end, vector_entered, items_free, member_slot_entered, inline_slot_entered, on_ok, on_any}
@@ -181,7 +181,7 @@ visit_slot-returns-in-One-Code-clause-visit t c =
     let L = c.args.source.layout.now in
     let b = c.args.source.bytes.now in
     let named : slot_place L b c.args.at c.args.slot (slots_seen L c.args.later.now) (slot_seen L c.args.field.now)
-        ≡ Some (record { sort = code_place c.in-One-Code.field-0-0.0 (c.args.slot + 1) c.is_first_required-required.result (not (c.slot_of-present.result == 0)); at = c.args.at + c.held_slot-offset.result }) = search rules in
+    ≡ Some (record { sort = code_place c.in-One-Code.field-0-0.0 (c.args.slot + 1) (next_required (slots_seen L c.args.later.now)) (is_present b c.args.at (c.args.slot + 1)); at = c.args.at + c.held_slot-offset.result }) = search rules in
     rw named (c.visit_code.ensures.visit c.args.tables c.in-One-Code.field-0-0.0)
 
 pub visit_slot-returns-in-One-Struct-clause-each : goal.visit_slot-returns-in-One-Struct-clause-each
