@@ -17,25 +17,26 @@ use fb_value::ReadFault;
 #[inline(always)]
 #[tactic(auto, using(crate::proofs::Visited::visit_fault, crate::proofs::Visited::visit_text, crate::proofs::Visited::visit_text_over))]
 pub fn visit_text(
-    source: Source,
+    source: &Source,
     at: usize,
     spent: u64,
     entries: &mut Entries,
 ) -> Result<u64, ReadFault>
     requires low { at < 2 ^ 33 }
-    requires few { spent ≤ source.most_cells }
+    requires few { spent ≤ source.now.most_cells }
     ensures visit { (tables : ℕ)
-        → Visits result (visit_in source.entry (place (part_place text_part) at) tables spent) }
-    ensures few { IfOk result (λ n. n ≤ source.entry.most_cells) }
+        → Visits result (visit_in source.now (place (part_place text_part) at) tables spent) }
+    ensures few { IfOk result (λ n. n ≤ source.now.most_cells) }
     ensures rises { entries.old.count ≤ entries.new.count }
-    ensures ticks { TicksWithin source.entry entries.old.count entries.new.count spent result }
-    ensures each { OnOk result (EntersAt source.entry (place
+    ensures ticks { TicksWithin source.now entries.old.count entries.new.count spent result }
+    ensures each { OnOk result (EntersAt source.now (place
         (part_place text_part) at) entries.old.count entries.new.count) }
 {
     entries.tick();
     let text = open_text(source.bytes, at)?;
+    let most = u64::from(source.most_cells);
     let after = spent + 1 + text.len() as u64;
-    if after > u64::from(source.most_cells) {
+    if after > most {
         return Err(ReadFault::TooManyCells(at as u64));
     }
     Ok(after)
@@ -45,19 +46,19 @@ pub fn visit_text(
 #[inline(always)]
 #[tactic(auto, using(crate::proofs::Visited::visit_fault, crate::proofs::Visited::visit_ref))]
 pub fn visit_text_behind(
-    source: Source,
+    source: &Source,
     at: usize,
     spent: u64,
     entries: &mut Entries,
 ) -> Result<u64, ReadFault>
     requires low { at < 2 ^ 33 }
-    requires few { spent ≤ source.most_cells }
+    requires few { spent ≤ source.now.most_cells }
     ensures visit { (tables : ℕ)
-        → Visits result (visit_in source.entry (place (ref_place text_part) at) tables spent) }
-    ensures few { IfOk result (λ n. n ≤ source.entry.most_cells) }
+        → Visits result (visit_in source.now (place (ref_place text_part) at) tables spent) }
+    ensures few { IfOk result (λ n. n ≤ source.now.most_cells) }
     ensures rises { entries.old.count ≤ entries.new.count }
-    ensures ticks { TicksWithin source.entry entries.old.count entries.new.count spent result }
-    ensures each { OnOk result (EntersAt source.entry (place
+    ensures ticks { TicksWithin source.now entries.old.count entries.new.count spent result }
+    ensures each { OnOk result (EntersAt source.now (place
         (ref_place text_part) at) entries.old.count entries.new.count) }
 {
     let target = follow(source.bytes, at)?;
@@ -67,11 +68,11 @@ pub fn visit_text_behind(
 /// Visits a struct, or a number.
 #[inline(always)]
 #[tactic(auto, using(crate::proofs::Visited::visit_fault, crate::proofs::Visited::visit_inline))]
-pub fn visit_inline(source: Source, kind: Kind, at: usize, spent: u64) -> Result<u64, ReadFault>
+pub fn visit_inline(source: &Source, kind: Kind, at: usize, spent: u64) -> Result<u64, ReadFault>
     requires low { at < 2 ^ 33 }
     ensures visit { (tables : ℕ)
-        → Visits result (visit_in source.entry (place (inline_place
-        (stored_kind source.entry.layout.now.schema kind)) at) tables spent) }
+        → Visits result (visit_in source.now (place (inline_place
+        (stored_kind source.now.layout.now.schema kind)) at) tables spent) }
     ensures same { IfOk result (λ n. n ≡ spent) }
 {
     check_inline(
@@ -86,10 +87,10 @@ pub fn visit_inline(source: Source, kind: Kind, at: usize, spent: u64) -> Result
 /// Visits a number.
 #[inline(always)]
 #[tactic(auto, using(crate::proofs::Visited::visit_fault, crate::proofs::Visited::visit_inline))]
-pub fn visit_number(source: Source, base: Base, at: usize, spent: u64) -> Result<u64, ReadFault>
+pub fn visit_number(source: &Source, base: Base, at: usize, spent: u64) -> Result<u64, ReadFault>
     requires low { at < 2 ^ 33 }
     ensures visit { (tables : ℕ)
-        → Visits result (visit_in source.entry (place (inline_place (scalar_kind base)) at) tables spent) }
+        → Visits result (visit_in source.now (place (inline_place (scalar_kind base)) at) tables spent) }
     ensures same { IfOk result (λ n. n ≡ spent) }
 {
     check_number(source.bytes, at, base)?;
@@ -100,7 +101,7 @@ pub fn visit_number(source: Source, base: Base, at: usize, spent: u64) -> Result
 #[inline(always)]
 #[tactic(auto, using(crate::proofs::Visited::visit_fault, crate::proofs::Visited::visit_code))]
 pub fn visit_code(
-    source: Source,
+    source: &Source,
     later: &[FieldInfo],
     owner: usize,
     slots: usize,
@@ -108,14 +109,14 @@ pub fn visit_code(
     at: usize,
     spent: u64,
 ) -> Result<u64, ReadFault>
-    requires vtable { slots ≡ vtable source.bytes.now owner }
-    requires whole { slots + num source.bytes.now slots 2 ≤ length source.bytes.now }
-    requires within { slots + 2 ≤ length source.bytes.now }
+    requires vtable { slots ≡ vtable source.now.bytes.now owner }
+    requires whole { slots + num source.now.bytes.now slots 2 ≤ length source.now.bytes.now }
+    requires within { slots + 2 ≤ length source.now.bytes.now }
     requires few { slot < 2 ^ 15 }
     requires low { at < 2 ^ 33 }
-    ensures visit { (tables u : ℕ) → Visits result (visit_in source.entry (place (code_place u (slot + 1)
-        (next_required (slots_seen source.entry.layout.now later.now))
-        (is_present source.entry.bytes.now owner (slot + 1))) at) tables spent) }
+    ensures visit { (tables u : ℕ) → Visits result (visit_in source.now (place (code_place u (slot + 1)
+        (next_required (slots_seen source.now.layout.now later.now))
+        (is_present source.now.bytes.now owner (slot + 1))) at) tables spent) }
     ensures same { IfOk result (λ n. n ≡ spent) }
 {
     let present = is_stored(source.bytes, owner, slots, slot + 1);

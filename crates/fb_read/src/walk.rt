@@ -22,7 +22,7 @@ use fb_value::ReadFault;
 #[cycle(walk)]
 #[tactic(auto, using(crate::proofs::Visited::visit_ref))]
 pub fn visit_table_behind(
-    source: Source,
+    source: &Source,
     table: TypeId,
     at: usize,
     tables: u8,
@@ -30,14 +30,14 @@ pub fn visit_table_behind(
     entries: &mut Entries,
 ) -> Result<u64, ReadFault>
     requires low { at < 2 ^ 33 }
-    requires few { spent ≤ source.most_cells }
-    requires flat { tables ≤ source.most_depth }
-    ensures visit { Visits result (visit_in source.entry (place (ref_place
+    requires few { spent ≤ source.now.most_cells }
+    requires flat { tables ≤ source.now.most_depth }
+    ensures visit { Visits result (visit_in source.now (place (ref_place
         (table_part table.0)) at) tables spent) }
-    ensures few { IfOk result (λ n. n ≤ source.entry.most_cells) }
+    ensures few { IfOk result (λ n. n ≤ source.now.most_cells) }
     ensures rises { entries.old.count ≤ entries.new.count }
-    ensures ticks { TicksWithin source.entry entries.old.count entries.new.count spent result }
-    ensures each { OnOk result (EntersAt source.entry (place (ref_place
+    ensures ticks { TicksWithin source.now entries.old.count entries.new.count spent result }
+    ensures each { OnOk result (EntersAt source.now (place (ref_place
         (table_part table.0)) at) entries.old.count entries.new.count) }
 {
     let target = follow(source.bytes, at)?;
@@ -47,7 +47,7 @@ pub fn visit_table_behind(
 #[cycle(walk)]
 #[tactic(auto, using(crate::proofs::Visited::visit_table_deep, crate::proofs::Visited::visit_table_over))]
 fn visit_table(
-    source: Source,
+    source: &Source,
     table: TypeId,
     at: usize,
     tables: u8,
@@ -55,14 +55,14 @@ fn visit_table(
     entries: &mut Entries,
 ) -> Result<u64, ReadFault>
     requires low { at < 2 ^ 33 }
-    requires few { spent ≤ source.most_cells }
-    requires flat { tables ≤ source.most_depth }
-    ensures visit { Visits result (visit_in source.entry (place (part_place
+    requires few { spent ≤ source.now.most_cells }
+    requires flat { tables ≤ source.now.most_depth }
+    ensures visit { Visits result (visit_in source.now (place (part_place
         (table_part table.0)) at) tables spent) }
-    ensures few { IfOk result (λ n. n ≤ source.entry.most_cells) }
+    ensures few { IfOk result (λ n. n ≤ source.now.most_cells) }
     ensures rises { entries.old.count ≤ entries.new.count }
-    ensures ticks { TicksWithin source.entry entries.old.count entries.new.count spent result }
-    ensures each { OnOk result (EntersAt source.entry (place (part_place
+    ensures ticks { TicksWithin source.now entries.old.count entries.new.count spent result }
+    ensures each { OnOk result (EntersAt source.now (place (part_place
         (table_part table.0)) at) entries.old.count entries.new.count) }
 {
     entries.tick();
@@ -80,7 +80,7 @@ fn visit_table(
 #[inline(always)]
 #[cycle(walk)]
 fn visit_slots(
-    source: Source,
+    source: &Source,
     slots: &[FieldInfo],
     at: usize,
     place: usize,
@@ -88,22 +88,22 @@ fn visit_slots(
     spent: u64,
     entries: &mut Entries,
 ) -> Result<u64, ReadFault>
-    requires vtable { place ≡ vtable source.bytes.now at }
-    requires whole { place + num source.bytes.now place 2 ≤ length source.bytes.now }
-    requires within { place + 2 ≤ length source.bytes.now }
+    requires vtable { place ≡ vtable source.now.bytes.now at }
+    requires whole { place + num source.now.bytes.now place 2 ≤ length source.now.bytes.now }
+    requires within { place + 2 ≤ length source.now.bytes.now }
     requires low { at < 2 ^ 32 }
     requires slots { length slots.now < 2 ^ 15 }
-    requires few { spent ≤ source.most_cells }
-    requires flat { tables ≤ source.most_depth }
-    ensures visit { Visits result (visit_each_in source.entry
-        (named_slots source.entry.layout.now source.entry.bytes.now at 0
-        (slots_seen source.entry.layout.now slots.now)) tables spent) }
-    ensures few { IfOk result (λ n. n ≤ source.entry.most_cells) }
+    requires few { spent ≤ source.now.most_cells }
+    requires flat { tables ≤ source.now.most_depth }
+    ensures visit { Visits result (visit_each_in source.now
+        (named_slots source.now.layout.now source.now.bytes.now at 0
+        (slots_seen source.now.layout.now slots.now)) tables spent) }
+    ensures few { IfOk result (λ n. n ≤ source.now.most_cells) }
     ensures rises { entries.old.count ≤ entries.new.count }
-    ensures ticks { TicksWithin source.entry entries.old.count entries.new.count spent result }
-    ensures each { OnOk result (EntersSlots source.entry (slots_seen source.entry.layout.now slots.now)
-        (named_slots source.entry.layout.now source.entry.bytes.now at 0
-        (slots_seen source.entry.layout.now slots.now)) entries.old.count entries.new.count) }
+    ensures ticks { TicksWithin source.now entries.old.count entries.new.count spent result }
+    ensures each { OnOk result (EntersSlots source.now (slots_seen source.now.layout.now slots.now)
+        (named_slots source.now.layout.now source.now.bytes.now at 0
+        (slots_seen source.now.layout.now slots.now)) entries.old.count entries.new.count) }
 {
     let mut after = spent;
     let present = stored_slots(source.bytes, at, place, slots.len());
@@ -121,7 +121,7 @@ fn visit_slots(
 #[inline(always)]
 #[cycle(walk)]
 fn visit_slot(
-    source: Source,
+    source: &Source,
     field: &FieldInfo,
     later: &[FieldInfo],
     at: usize,
@@ -131,23 +131,23 @@ fn visit_slot(
     spent: u64,
     entries: &mut Entries,
 ) -> Result<u64, ReadFault>
-    requires vtable { place ≡ vtable source.bytes.now at }
-    requires whole { place + num source.bytes.now place 2 ≤ length source.bytes.now }
-    requires within { place + 2 ≤ length source.bytes.now }
-    requires held { 6 + 2 * slot ≤ num source.bytes.now place 2 }
+    requires vtable { place ≡ vtable source.now.bytes.now at }
+    requires whole { place + num source.now.bytes.now place 2 ≤ length source.now.bytes.now }
+    requires within { place + 2 ≤ length source.now.bytes.now }
+    requires held { 6 + 2 * slot ≤ num source.now.bytes.now place 2 }
     requires low { at < 2 ^ 32 }
     requires slots { slot < 2 ^ 15 }
-    requires few { spent ≤ source.most_cells }
-    requires flat { tables ≤ source.most_depth }
-    ensures visit { Visits result (visit_entry_in source.entry (slot_place source.entry.layout.now
-        source.entry.bytes.now at slot (slots_seen source.entry.layout.now later.now)
-        (slot_seen source.entry.layout.now field.now)) tables spent) }
-    ensures few { IfOk result (λ n. n ≤ source.entry.most_cells) }
+    requires few { spent ≤ source.now.most_cells }
+    requires flat { tables ≤ source.now.most_depth }
+    ensures visit { Visits result (visit_entry_in source.now (slot_place source.now.layout.now
+        source.now.bytes.now at slot (slots_seen source.now.layout.now later.now)
+        (slot_seen source.now.layout.now field.now)) tables spent) }
+    ensures few { IfOk result (λ n. n ≤ source.now.most_cells) }
     ensures rises { entries.old.count ≤ entries.new.count }
-    ensures ticks { TicksWithin source.entry entries.old.count entries.new.count spent result }
-    ensures each { OnOk result (EntersSlot source.entry (slot_place source.entry.layout.now
-        source.entry.bytes.now at slot (slots_seen source.entry.layout.now later.now)
-        (slot_seen source.entry.layout.now field.now)) entries.old.count entries.new.count) }
+    ensures ticks { TicksWithin source.now entries.old.count entries.new.count spent result }
+    ensures each { OnOk result (EntersSlot source.now (slot_place source.now.layout.now
+        source.now.bytes.now at slot (slots_seen source.now.layout.now later.now)
+        (slot_seen source.now.layout.now field.now)) entries.old.count entries.new.count) }
 {
     if field.deprecated {
         return Ok(spent);
@@ -182,7 +182,7 @@ fn visit_slot(
 #[inline(always)]
 #[cycle(walk)]
 fn visit_union(
-    source: Source,
+    source: &Source,
     union: TypeId,
     code: u8,
     at: usize,
@@ -191,15 +191,15 @@ fn visit_union(
     entries: &mut Entries,
 ) -> Result<u64, ReadFault>
     requires low { at < 2 ^ 33 }
-    requires few { spent ≤ source.most_cells }
-    requires flat { tables ≤ source.most_depth }
-    ensures visit { Visits result (visit_entry_in source.entry (union_place code at
-        (member_by_code source.entry.layout.now union.0 code)) tables spent) }
-    ensures few { IfOk result (λ n. n ≤ source.entry.most_cells) }
+    requires few { spent ≤ source.now.most_cells }
+    requires flat { tables ≤ source.now.most_depth }
+    ensures visit { Visits result (visit_entry_in source.now (union_place code at
+        (member_by_code source.now.layout.now union.0 code)) tables spent) }
+    ensures few { IfOk result (λ n. n ≤ source.now.most_cells) }
     ensures rises { entries.old.count ≤ entries.new.count }
-    ensures ticks { TicksWithin source.entry entries.old.count entries.new.count spent result }
-    ensures each { OnOk result (EntersSlot source.entry (union_place code at
-        (member_by_code source.entry.layout.now union.0 code)) entries.old.count entries.new.count) }
+    ensures ticks { TicksWithin source.now entries.old.count entries.new.count spent result }
+    ensures each { OnOk result (EntersSlot source.now (union_place code at
+        (member_by_code source.now.layout.now union.0 code)) entries.old.count entries.new.count) }
 {
     match source.layout.schema().member_by_code(union, code) {
         Some(table) => visit_table_behind(source, table, at, tables, spent, entries),
@@ -211,7 +211,7 @@ fn visit_union(
 #[cycle(walk)]
 #[tactic(auto, using(crate::proofs::Visited::visit_ref))]
 fn visit_vector_behind(
-    source: Source,
+    source: &Source,
     kind: Kind,
     at: usize,
     tables: u8,
@@ -219,15 +219,15 @@ fn visit_vector_behind(
     entries: &mut Entries,
 ) -> Result<u64, ReadFault>
     requires low { at < 2 ^ 33 }
-    requires few { spent ≤ source.most_cells }
-    requires flat { tables ≤ source.most_depth }
-    ensures visit { Visits result (visit_in source.entry (place (ref_place (vector_part
-        (stored_kind source.entry.layout.now.schema kind))) at) tables spent) }
-    ensures few { IfOk result (λ n. n ≤ source.entry.most_cells) }
+    requires few { spent ≤ source.now.most_cells }
+    requires flat { tables ≤ source.now.most_depth }
+    ensures visit { Visits result (visit_in source.now (place (ref_place (vector_part
+        (stored_kind source.now.layout.now.schema kind))) at) tables spent) }
+    ensures few { IfOk result (λ n. n ≤ source.now.most_cells) }
     ensures rises { entries.old.count ≤ entries.new.count }
-    ensures ticks { TicksWithin source.entry entries.old.count entries.new.count spent result }
-    ensures each { OnOk result (EntersAt source.entry (place (ref_place (vector_part
-        (stored_kind source.entry.layout.now.schema kind))) at) entries.old.count entries.new.count) }
+    ensures ticks { TicksWithin source.now entries.old.count entries.new.count spent result }
+    ensures each { OnOk result (EntersAt source.now (place (ref_place (vector_part
+        (stored_kind source.now.layout.now.schema kind))) at) entries.old.count entries.new.count) }
 {
     let target = follow(source.bytes, at)?;
     visit_vector(source, kind, target, tables, spent, entries)
@@ -237,7 +237,7 @@ fn visit_vector_behind(
 #[cycle(walk)]
 #[tactic(auto, using(crate::proofs::Visited::visit_vector_over))]
 fn visit_vector(
-    source: Source,
+    source: &Source,
     kind: Kind,
     at: usize,
     tables: u8,
@@ -245,15 +245,15 @@ fn visit_vector(
     entries: &mut Entries,
 ) -> Result<u64, ReadFault>
     requires low { at < 2 ^ 33 }
-    requires few { spent ≤ source.most_cells }
-    requires flat { tables ≤ source.most_depth }
-    ensures visit { Visits result (visit_in source.entry (place (part_place (vector_part
-        (stored_kind source.entry.layout.now.schema kind))) at) tables spent) }
-    ensures few { IfOk result (λ n. n ≤ source.entry.most_cells) }
+    requires few { spent ≤ source.now.most_cells }
+    requires flat { tables ≤ source.now.most_depth }
+    ensures visit { Visits result (visit_in source.now (place (part_place (vector_part
+        (stored_kind source.now.layout.now.schema kind))) at) tables spent) }
+    ensures few { IfOk result (λ n. n ≤ source.now.most_cells) }
     ensures rises { entries.old.count ≤ entries.new.count }
-    ensures ticks { TicksWithin source.entry entries.old.count entries.new.count spent result }
-    ensures each { OnOk result (EntersAt source.entry (place (part_place (vector_part
-        (stored_kind source.entry.layout.now.schema kind))) at) entries.old.count entries.new.count) }
+    ensures ticks { TicksWithin source.now entries.old.count entries.new.count spent result }
+    ensures each { OnOk result (EntersAt source.now (place (part_place (vector_part
+        (stored_kind source.now.layout.now.schema kind))) at) entries.old.count entries.new.count) }
 {
     entries.tick();
     let count = open_vector(
@@ -262,8 +262,9 @@ fn visit_vector(
         source.layout.size_of(kind),
         source.layout.align_of(kind),
     )?;
+    let most = u64::from(source.most_cells);
     let after = spent + (1 + u64::from(count));
-    if after > u64::from(source.most_cells) {
+    if after > most {
         return Err(ReadFault::TooManyCells(at as u64));
     }
     let first = at + 4;
@@ -296,7 +297,7 @@ fn visit_vector(
 #[inline(never)]
 #[cycle(walk)]
 fn visit_elements(
-    source: Source,
+    source: &Source,
     reference: Reference,
     at: usize,
     count: u32,
@@ -304,16 +305,16 @@ fn visit_elements(
     spent: u64,
     entries: &mut Entries,
 ) -> Result<u64, ReadFault>
-    requires within { at + count * 4 ≤ length source.bytes.now }
-    requires few { spent ≤ source.most_cells }
-    requires flat { tables ≤ source.most_depth }
-    ensures visit { Visits result (visit_each_in source.entry (named_elements
+    requires within { at + count * 4 ≤ length source.now.bytes.now }
+    requires few { spent ≤ source.now.most_cells }
+    requires flat { tables ≤ source.now.most_depth }
+    ensures visit { Visits result (visit_each_in source.now (named_elements
         (led_to reference) at count) tables spent) }
-    ensures few { IfOk result (λ n. n ≤ source.entry.most_cells) }
+    ensures few { IfOk result (λ n. n ≤ source.now.most_cells) }
     ensures rises { entries.old.count ≤ entries.new.count }
-    ensures ticks { TicksWithin source.entry entries.old.count entries.new.count spent result }
+    ensures ticks { TicksWithin source.now entries.old.count entries.new.count spent result }
     ensures each { (kind : StoredKind) → target_of kind ≡ Some (led_to reference)
-        → OnOk result (EntersItems source.entry kind at count entries.old.count entries.new.count) }
+        → OnOk result (EntersItems source.now kind at count entries.old.count entries.new.count) }
 {
     let mut after = spent;
     for i in 0..count {
@@ -332,7 +333,7 @@ fn visit_elements(
 #[inline(always)]
 #[cycle(walk)]
 fn visit_behind(
-    source: Source,
+    source: &Source,
     reference: Reference,
     at: usize,
     tables: u8,
@@ -340,14 +341,14 @@ fn visit_behind(
     entries: &mut Entries,
 ) -> Result<u64, ReadFault>
     requires low { at < 2 ^ 33 }
-    requires few { spent ≤ source.most_cells }
-    requires flat { tables ≤ source.most_depth }
-    ensures visit { Visits result (visit_in source.entry (place
+    requires few { spent ≤ source.now.most_cells }
+    requires flat { tables ≤ source.now.most_depth }
+    ensures visit { Visits result (visit_in source.now (place
         (ref_place (led_to reference)) at) tables spent) }
-    ensures few { IfOk result (λ n. n ≤ source.entry.most_cells) }
+    ensures few { IfOk result (λ n. n ≤ source.now.most_cells) }
     ensures rises { entries.old.count ≤ entries.new.count }
-    ensures ticks { TicksWithin source.entry entries.old.count entries.new.count spent result }
-    ensures each { OnOk result (EntersAt source.entry (place
+    ensures ticks { TicksWithin source.now entries.old.count entries.new.count spent result }
+    ensures each { OnOk result (EntersAt source.now (place
         (ref_place (led_to reference)) at) entries.old.count entries.new.count) }
 {
     match reference {
