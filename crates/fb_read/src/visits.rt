@@ -1,16 +1,17 @@
 //! Visits of what names no table, without memory.
-ghost use Rattle.std.specs.Prelude.{◌≡◌, ℕ, ◌+◌, ◌<◌, ◌≤◌, ◌^◌, length, MatchResult, OnOk, IfOk};
-ghost use Rattle.fb_layout.specs.Laid.{LaidSchema, scalar_kind, stored_kind};
+ghost use Rattle.std.specs.Prelude.{◌≡◌, ℕ, ◌+◌, ◌*◌, ◌<◌, ◌≤◌, ◌^◌, length, List, IsTrue, Ok, MatchResult, OnOk, IfOk};
+ghost use Rattle.fb_layout.specs.Laid.{LaidSchema, Slot, scalar_kind, stored_kind};
 ghost use Rattle.fb_value.specs.Num.{num};
 ghost use Rattle.fb_value.specs.Places.{vtable, is_present, text_part, ref_place, part_place, inline_place, code_place, next_required};
-ghost use Rattle.fb_read.specs.Visits.{Visits, slots_seen};
-ghost use Rattle.fb_read.specs.Walks.{place, visit_in, TicksWithin, EntersAt};
+ghost use Rattle.fb_value.specs.Nth.{slot_place};
+ghost use Rattle.fb_read.specs.Visits.{Visits, slot_seen, slots_seen};
+ghost use Rattle.fb_read.specs.Walks.{place, visit_in, visit_entry_in, TicksWithin, EntersAt, EntersSlot};
 
 use crate::counting::Entries;
-use crate::places::{follow, is_stored};
+use crate::places::{follow, held_slot, is_stored};
 use crate::rules::{check_code, check_inline, check_number, open_text};
 use crate::source::Source;
-use fb_schema::{Base, FieldInfo, Kind};
+use fb_schema::{Base, FieldInfo, Kind, Shape};
 use fb_value::ReadFault;
 
 /// Visits the text at a position.
@@ -123,6 +124,40 @@ pub fn visit_code(
     let required = is_first_required(later);
     check_code(source.bytes, at, slot as u16 + 1, required, present)?;
     Ok(spent)
+}
+
+/// Whether a slot that the vtable reaches to has a number that keeps its rules: nothing more is to visit there.
+#[inline(always)]
+pub fn is_sound_number(
+    source: &Source,
+    field: &FieldInfo,
+    owner: usize,
+    slots: usize,
+    slot: usize,
+) -> bool
+    requires vtable { slots ≡ vtable source.now.bytes.now owner }
+    requires whole { slots + num source.now.bytes.now slots 2 ≤ length source.now.bytes.now }
+    requires within { slots + 2 ≤ length source.now.bytes.now }
+    requires held { 6 + 2 * slot ≤ num source.now.bytes.now slots 2 }
+    requires few { slot < 2 ^ 15 }
+    requires low { owner < 2 ^ 32 }
+    ensures visit { IsTrue result → (fs : List Slot) (tables spent : ℕ)
+        → visit_entry_in source.now (slot_place source.now.layout.now source.now.bytes.now owner slot fs
+        (slot_seen source.now.layout.now field.now)) tables spent ≡ Ok spent }
+    ensures each { IsTrue result → (fs : List Slot) (n : ℕ)
+        → EntersSlot source.now (slot_place source.now.layout.now source.now.bytes.now owner slot fs
+        (slot_seen source.now.layout.now field.now)) n n }
+{
+    if field.deprecated {
+        return false;
+    }
+    match field.shape {
+        Shape::One(Kind::Scalar(base)) => {
+            let offset = held_slot(source.bytes, owner, slots, slot);
+            offset != 0 && check_number(source.bytes, owner + offset, base).is_ok()
+        }
+        _ => false,
+    }
 }
 
 /// Whether the first of some slots is required.

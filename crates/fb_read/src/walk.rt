@@ -13,7 +13,7 @@ use crate::places::{follow, held_slot, stored_slots};
 use crate::reference::Reference;
 use crate::rules::{enter_table, open_vector, union_code};
 use crate::source::Source;
-use crate::visits::{visit_code, visit_inline, visit_number, visit_text_behind};
+use crate::visits::{is_sound_number, visit_code, visit_inline, visit_number, visit_text_behind};
 use fb_schema::{FieldInfo, Kind, Shape, TypeId};
 use fb_value::ReadFault;
 
@@ -108,8 +108,11 @@ fn visit_slots(
     let mut after = spent;
     let present = stored_slots(source.bytes, at, place, slots.len());
     for slot in 0..present {
-        let (_before, later) = slots.split_at(slot + 1);
         let field = &slots[slot];
+        if is_sound_number(source, field, at, place, slot) {
+            continue;
+        }
+        let (_before, later) = slots.split_at(slot + 1);
         after = visit_slot(
             source, field, later, at, place, slot, tables, after, entries,
         )?;

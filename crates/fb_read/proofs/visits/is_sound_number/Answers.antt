@@ -1,0 +1,23 @@
+use Rattle.std.proofs.Common.{◌≡◌, ◌+◌, true, Some, Result, Ok, Err, MatchResult, is_ok, sym, ◌∙◌, rules}
+use Rattle.fb_layout.specs.Laid.{scalar_kind}
+use Rattle.fb_value.specs.Bounds.{Bounds}
+use Rattle.fb_value.specs.Places.{inline_place}
+use Rattle.fb_value.specs.Nth.{slot_place}
+use Rattle.fb_read.specs.Visits.{slot_seen}
+use Rattle.fb_read.proofs.Visited.{visit_inline}
+use Rattle.fb_read.proofs.visits.is_sound_number.Goals as goal
+
+-- what holds of an Ok
+of_ok : {T E : Type 0} (r : Result T E) (P : Type 0) (Q : E → Type 0) → MatchResult r (λ _. P) Q → is_ok r ≡ true → P
+of_ok (Ok x) P Q holds fine = holds
+of_ok (Err e) P Q holds fine = cc
+
+pub returns-then-offset-ne0-clause-visit : goal.returns-then-offset-ne0-clause-visit
+returns-then-offset-ne0-clause-visit c fine fs tables spent =
+    let L = c.args.source.now.layout.now in
+    let b = c.args.source.now.bytes.now in
+    let most : Bounds = record { depth = c.args.source.now.most_depth; cells = c.args.source.now.most_cells } in
+    let keeps = of_ok c.check_number.result _ _ (c.check_number.ensures.rules L) (sym c.is_ok.ensures.value ∙ fine) in
+    let named : slot_place L b c.args.owner c.args.slot fs (slot_seen L c.args.field.now)
+    ≡ Some (record { sort = inline_place (scalar_kind c.in-One-Scalar.base); at = c.args.owner + c.held_slot-offset.result }) = search rules in
+    rw named (visit_inline L b most (scalar_kind c.in-One-Scalar.base) (c.args.owner + c.held_slot-offset.result) tables spent keeps)
