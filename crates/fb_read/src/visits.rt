@@ -8,10 +8,11 @@ ghost use Rattle.fb_read.specs.Visits.{Visits, slot_seen, slots_seen};
 ghost use Rattle.fb_read.specs.Walks.{place, visit_in, visit_entry_in, TicksWithin, EntersAt, EntersSlot};
 
 use crate::counting::Entries;
+use crate::kinds::base_of;
 use crate::places::{follow, held_slot, is_stored};
 use crate::rules::{check_code, check_inline, check_number, open_text};
 use crate::source::Source;
-use fb_schema::{Base, FieldInfo, Kind, Shape};
+use fb_schema::{FieldInfo, Kind, Shape};
 use fb_value::ReadFault;
 
 /// Visits the text at a position.
@@ -66,7 +67,7 @@ pub fn visit_text_behind(
     visit_text(source, target, spent, entries)
 }
 
-/// Visits a struct, or a number.
+/// Visits a number or struct.
 #[inline(always)]
 #[tactic(auto, using(crate::proofs::Visited::visit_fault, crate::proofs::Visited::visit_inline))]
 pub fn visit_inline(source: &Source, kind: Kind, at: usize, spent: u64) -> Result<u64, ReadFault>
@@ -82,19 +83,6 @@ pub fn visit_inline(source: &Source, kind: Kind, at: usize, spent: u64) -> Resul
         source.layout.size_of(kind),
         source.layout.align_of(kind),
     )?;
-    Ok(spent)
-}
-
-/// Visits a number.
-#[inline(always)]
-#[tactic(auto, using(crate::proofs::Visited::visit_fault, crate::proofs::Visited::visit_inline))]
-pub fn visit_number(source: &Source, base: Base, at: usize, spent: u64) -> Result<u64, ReadFault>
-    requires low { at < 2 ^ 33 }
-    ensures visit { (tables : ℕ)
-        → Visits result (visit_in source.now (place (inline_place (scalar_kind base)) at) tables spent) }
-    ensures same { IfOk result (λ n. n ≡ spent) }
-{
-    check_number(source.bytes, at, base)?;
     Ok(spent)
 }
 
@@ -151,13 +139,14 @@ pub fn is_sound_number(
     if field.deprecated {
         return false;
     }
-    match field.shape {
-        Shape::One(Kind::Scalar(base)) => {
-            let offset = held_slot(source.bytes, owner, slots, slot);
-            offset != 0 && check_number(source.bytes, owner + offset, base).is_ok()
-        }
-        _ => false,
-    }
+    let Shape::One(kind) = field.shape else {
+        return false;
+    };
+    let Some(base) = base_of(source.layout, kind) else {
+        return false;
+    };
+    let offset = held_slot(source.bytes, owner, slots, slot);
+    offset != 0 && check_number(source.bytes, owner + offset, base).is_ok()
 }
 
 /// Whether the first of some slots is required.

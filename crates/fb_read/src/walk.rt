@@ -13,7 +13,7 @@ use crate::places::{follow, held_slot, stored_slots};
 use crate::reference::Reference;
 use crate::rules::{enter_table, open_vector, union_code};
 use crate::source::Source;
-use crate::visits::{is_sound_number, visit_code, visit_inline, visit_number, visit_text_behind};
+use crate::visits::{is_sound_number, visit_code, visit_inline, visit_text_behind};
 use fb_schema::{FieldInfo, Kind, Shape, TypeId};
 use fb_value::ReadFault;
 
@@ -171,10 +171,8 @@ fn visit_slot(
             visit_union(source, union, code, found, tables, spent, entries)
         }
         Shape::One(Kind::Code(_)) => visit_code(source, later, at, place, slot, found, spent),
-        Shape::One(Kind::Scalar(base)) => visit_number(source, base, found, spent),
-        Shape::One(Kind::Enum(values)) => {
-            visit_number(source, source.layout.base_of(values), found, spent)
-        }
+        Shape::One(Kind::Scalar(base)) => visit_inline(source, Kind::Scalar(base), found, spent),
+        Shape::One(Kind::Enum(values)) => visit_inline(source, Kind::Enum(values), found, spent),
         Shape::One(Kind::Struct(structure)) => {
             visit_inline(source, Kind::Struct(structure), found, spent)
         }

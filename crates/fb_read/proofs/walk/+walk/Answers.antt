@@ -189,7 +189,7 @@ visit_slot-returns-in-One-Struct-clause-each t c =
     let L = c.args.source.now.layout.now in
     let b = c.args.source.now.bytes.now in
     let named : slot_place L b c.args.at c.args.slot (slots_seen L c.args.later.now) (slot_seen L c.args.field.now) ≡ Some (record { sort = inline_place (struct_kind c.in-One-Struct.structure.0); at = c.args.at + c.held_slot-offset.result }) = search rules in
-    on_any c.visit_inline.result (λ f o lies. let free = inline_slot_entered L b f (struct_kind c.in-One-Struct.structure.0) (c.args.at + c.held_slot-offset.result) o (rw named at lies) in omega (arith, free))
+    on_any c.visit_inline-in-One-Struct.result (λ f o lies. let free = inline_slot_entered L b f (struct_kind c.in-One-Struct.structure.0) (c.args.at + c.held_slot-offset.result) o (rw named at lies) in omega (arith, free))
 
 pub visit_slots-loop-slot-preserved-then-is_sound_number : goal.visit_slots-loop-slot-preserved-then-is_sound_number
 visit_slots-loop-slot-preserved-then-is_sound_number t c =

@@ -1,9 +1,0 @@
-use Rattle.std.proofs.lemmas.Result.{err_from_is_err_and}
-use Rattle.fb_read.proofs.Visited.{visit_fault}
-use Rattle.fb_read.proofs.visits.visit_number.Goals as goal
-
-pub returns-in_err-check_number-clause-visit : goal.returns-in_err-check_number-clause-visit
-returns-in_err-check_number-clause-visit c tables =
-    let p = err_from_is_err_and c.from_residual.result c.from_residual.ensures.1 in
-    let L = c.args.source.now.layout.now in
-    rw (p.1, p.2) (visit_fault L c.args.source.now.bytes.now _ _ tables c.args.spent _ (c.in_err-check_number.ensures.rules L))
