@@ -114,9 +114,10 @@ pub fn visit_code(
     Ok(spent)
 }
 
-/// Whether a slot that the vtable reaches to has a number that keeps its rules: nothing more is to visit there.
+/// Whether nothing is to visit at a number's slot: it is absent, or keeps its rules. Most slots are such,
+/// and a walk that passes by them at once makes no result for each.
 #[inline(always)]
-pub fn is_sound_number(
+pub fn is_settled_number(
     source: &Source,
     field: &FieldInfo,
     owner: usize,
@@ -146,7 +147,7 @@ pub fn is_sound_number(
         return false;
     };
     let offset = held_slot(source.bytes, owner, slots, slot);
-    offset != 0 && check_number(source.bytes, owner + offset, base).is_ok()
+    offset == 0 || check_number(source.bytes, owner + offset, base).is_ok()
 }
 
 /// Whether the first of some slots is required.

@@ -1,4 +1,7 @@
 //! A walk over all that is reached from a place, without memory.
+//!
+//! A call passes slices and results through memory, which costs more than most rules. So all that is
+//! done at a table is inlined into `visit_table`, but for what is seldom or has a loop of its own.
 ghost use Rattle.std.specs.Prelude.{◌≡◌, ◌+◌, ◌*◌, ◌<◌, ◌≤◌, ◌^◌, length, OnOk, IfOk, Some};
 ghost use Rattle.fb_layout.specs.Laid.{StoredKind, stored_kind, member_by_code};
 ghost use Rattle.fb_value.specs.Num.{num};
@@ -13,7 +16,7 @@ use crate::places::{follow, held_slot, stored_slots};
 use crate::reference::Reference;
 use crate::rules::{enter_table, open_vector, union_code};
 use crate::source::Source;
-use crate::visits::{is_sound_number, visit_code, visit_inline, visit_text_behind};
+use crate::visits::{is_settled_number, visit_code, visit_inline, visit_text_behind};
 use fb_schema::{FieldInfo, Kind, Shape, TypeId};
 use fb_value::ReadFault;
 
@@ -109,7 +112,7 @@ fn visit_slots(
     let present = stored_slots(source.bytes, at, place, slots.len());
     for slot in 0..present {
         let field = &slots[slot];
-        if is_sound_number(source, field, at, place, slot) {
+        if is_settled_number(source, field, at, place, slot) {
             continue;
         }
         let (_before, later) = slots.split_at(slot + 1);

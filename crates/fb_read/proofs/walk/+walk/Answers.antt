@@ -191,14 +191,14 @@ visit_slot-returns-in-One-Struct-clause-each t c =
     let named : slot_place L b c.args.at c.args.slot (slots_seen L c.args.later.now) (slot_seen L c.args.field.now) ≡ Some (record { sort = inline_place (struct_kind c.in-One-Struct.structure.0); at = c.args.at + c.held_slot-offset.result }) = search rules in
     on_any c.visit_inline-in-One-Struct.result (λ f o lies. let free = inline_slot_entered L b f (struct_kind c.in-One-Struct.structure.0) (c.args.at + c.held_slot-offset.result) o (rw named at lies) in omega (arith, free))
 
-pub visit_slots-loop-slot-preserved-then-is_sound_number : goal.visit_slots-loop-slot-preserved-then-is_sound_number
-visit_slots-loop-slot-preserved-then-is_sound_number t c =
+pub visit_slots-loop-slot-preserved-then-is_settled_number : goal.visit_slots-loop-slot-preserved-then-is_settled_number
+visit_slots-loop-slot-preserved-then-is_settled_number t c =
     let L = c.args.source.now.layout.now in
     let b = c.args.source.now.bytes.now in
     let most : Bounds = record { depth = c.args.source.now.most_depth; cells = c.args.source.now.most_cells } in
     let rest = slots_seen L (drop (c.loop-slot.slot + 1) c.args.slots.now) in
-    let fine = c.is_sound_number.ensures.visit c.if-is_sound_number.true rest c.args.tables c.loop-slot.after in
-    let still = c.is_sound_number.ensures.each c.if-is_sound_number.true rest c.loop-slot.entries.count in
+    let fine = c.is_settled_number.ensures.visit c.if-is_settled_number.true rest c.args.tables c.loop-slot.after in
+    let still = c.is_settled_number.ensures.each c.if-is_settled_number.true rest c.loop-slot.entries.count in
     let less : c.loop-slot.slot < length c.args.slots.now = omega (arith, c.loop-slot-test.true, c.stored_slots-present.ensures.few) in
     record {
       visited = sym (slots_next L b most c.args.at c.loop-slot.slot c.args.slots.now c.index-slots-slot.result c.args.tables c.loop-slot.after c.loop-slot.after less c.index-slots-slot.is fine) ∙ c.loop-slot.invariant.visited;

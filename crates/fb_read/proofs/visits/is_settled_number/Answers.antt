@@ -7,7 +7,7 @@ use Rattle.fb_value.specs.Nth.{slot_place}
 use Rattle.fb_read.specs.Kinds.{base_wanted}
 use Rattle.fb_read.specs.Visits.{slot_seen}
 use Rattle.fb_read.proofs.Visited.{visit_inline}
-use Rattle.fb_read.proofs.visits.is_sound_number.Goals as goal
+use Rattle.fb_read.proofs.visits.is_settled_number.Goals as goal
 
 -- what holds of an Ok
 of_ok : {T E : Type 0} (r : Result T E) (P : Type 0) (Q : E → Type 0) → MatchResult r (λ _. P) Q → is_ok r ≡ true → P
@@ -23,8 +23,8 @@ number_kind (union_kind u) base is = cc
 number_kind (code_kind u) base is = cc
 number_kind text_kind base is = cc
 
-pub returns-then-offset-ne0-clause-visit : goal.returns-then-offset-ne0-clause-visit
-returns-then-offset-ne0-clause-visit c fine fs tables spent =
+pub returns-else-offset-eq0-clause-visit : goal.returns-else-offset-eq0-clause-visit
+returns-else-offset-eq0-clause-visit c fine fs tables spent =
     let L = c.args.source.now.layout.now in
     let b = c.args.source.now.bytes.now in
     let most : Bounds = record { depth = c.args.source.now.most_depth; cells = c.args.source.now.most_cells } in
