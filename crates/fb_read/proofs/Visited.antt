@@ -22,7 +22,7 @@ use Rattle.fb_value.proofs.Least.{all_is}
 use Rattle.fb_value.proofs.Steps.{rule_held}
 use Rattle.fb_value.proofs.Unrolled.{fault_from_is}
 use Rattle.fb_value.specs.Nth.{slot_place}
-use Rattle.fb_read.specs.Visits.{outcome, visit, visit_each, visit_entry, slot_seen, slots_seen}
+use Rattle.fb_read.specs.Visits.{outcome, visit, visit_each, visit_entry, slot_seen, slots_seen, union_place}
 
 module _ (L : LaidSchema) (b : Bytes) (most : Bounds) where
   pub each_nil : (tables spent : ℕ) → visit_each L b most [] tables spent ≡ Ok spent
@@ -109,6 +109,14 @@ module _ (L : LaidSchema) (b : Bytes) (most : Bounds) where
   unfolding fault_by first_failing
   visit_unknown c p tables spent =
       visit_named (record { sort = unknown_place c; at = p }) tables spent refl no_limits ∙ each_nil (tables + 0) (spent + 0) ∙ ap (λ n. Ok n) (add-zero _)
+
+  -- what a code without a member has
+  pub visit_no_member : (c p tables spent : ℕ) → visit_entry L b most (union_place c p None) tables spent ≡ Ok spent
+  visit_no_member c p tables spent = by_code (c == 0)
+    where
+      by_code : (t : Bool) → visit_entry L b most (cond {A = Option Place} t None (Some (record { sort = unknown_place c; at = p }))) tables spent ≡ Ok spent
+      by_code true = refl
+      by_code false = visit_unknown c p tables spent
 
   -- ---- limits
 

@@ -29,6 +29,7 @@ impl Entries {
     }
 
     /// Counts one entry.
+    #[inline(always)]
     pub fn tick(&mut self)
         ensures { self.new.count ≡ self.old.count + 1 }
     {

@@ -7,6 +7,7 @@ use fb_layout::Layout;
 use fb_schema::{Base, Kind, TypeId};
 
 /// The basic type of a kind's numbers.
+#[inline(always)]
 pub fn base_of(layout: &Layout, kind: Kind) -> Option<Base>
     ensures { result ≡ base_wanted (stored_kind layout.now.schema kind) }
 {

@@ -8,6 +8,7 @@ use byteorder::{ByteOrder, LittleEndian};
 use fb_schema::Base;
 
 /// The number in the two bytes from a position on.
+#[inline(always)]
 pub fn u16_at(bytes: &[u8], at: usize) -> u16
     requires { at + 2 ≤ length bytes.now }
     ensures { result ≡ num bytes.now at 2 }
@@ -16,6 +17,7 @@ pub fn u16_at(bytes: &[u8], at: usize) -> u16
 }
 
 /// The number in the four bytes from a position on.
+#[inline(always)]
 pub fn u32_at(bytes: &[u8], at: usize) -> u32
     requires { at + 4 ≤ length bytes.now }
     ensures { result ≡ num bytes.now at 4 }
@@ -32,6 +34,7 @@ pub fn i32_at(bytes: &[u8], at: usize) -> i32
 }
 
 /// The byte at a position, 0 past the end.
+#[inline(always)]
 #[tactic(auto, unfolding(fb_value::specs::Num::num))]
 pub fn byte_at(bytes: &[u8], at: usize) -> u8
     ensures { result ≡ num bytes.now at 1 }

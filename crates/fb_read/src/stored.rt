@@ -8,8 +8,8 @@ ghost use Rattle.fb_read.specs.Visits.{slot_seen, slots_seen, union_place};
 ghost use Rattle.fb_read.specs.Weights.{StandsBehind};
 ghost use Rattle.fb_read.specs.Stored.{stored_place, stored_at, text_place_of, table_place_of, member_place_of, vector_place_of, struct_place_of, number_place_of, default_in, unknown_code_of};
 
-use crate::places::slot_of;
-use crate::rules::code_in;
+use crate::places::{is_stored, slot_of};
+use crate::rules::union_code;
 use crate::visits::is_first_required;
 use fb_layout::Layout;
 use fb_schema::{Base, FieldInfo, Kind, Shape, TypeId};
@@ -129,6 +129,7 @@ impl Stored {
 }
 
 /// A number's default, where it has one.
+#[inline(always)]
 pub fn default_of(layout: &Layout, field: &FieldInfo) -> Option<i128>
     ensures { field.now.deprecated ≡ false → result ≡ (slot_seen layout.now field.now).if_absent }
 {
@@ -143,6 +144,7 @@ pub fn default_of(layout: &Layout, field: &FieldInfo) -> Option<i128>
 }
 
 // What a union's slot has that is present, by the code before it.
+#[inline(always)]
 fn stored_member(layout: &Layout, union: TypeId, code: u8, at: usize) -> Stored
     requires low { at < 2 ^ 33 }
     ensures place { stored_place layout.now result ≡ union_place code at
@@ -159,6 +161,7 @@ fn stored_member(layout: &Layout, union: TypeId, code: u8, at: usize) -> Stored
 }
 
 /// What a slot of the table at a position has, its vtable standing at a place.
+#[inline(always)]
 pub fn stored_in(
     layout: &Layout,
     bytes: &[u8],
@@ -193,17 +196,15 @@ pub fn stored_in(
         Shape::One(Kind::Text) => Stored::Text(at + offset),
         Shape::One(Kind::Table(table)) => Stored::Table(table, at + offset),
         Shape::One(Kind::Union(union)) => {
-            let code_offset = slot_of(bytes, at, place, slot.saturating_sub(1));
-            let code = code_in(bytes, at, code_offset);
+            let code = union_code(bytes, at, place, slot);
             stored_member(layout, union, code, at + offset)
         }
         Shape::One(Kind::Code(union)) => {
-            let value_offset = slot_of(bytes, at, place, slot + 1);
             let code = UnionCode {
                 union,
                 value_slot: slot as u16 + 1,
                 required: is_first_required(later),
-                present: value_offset != 0,
+                present: is_stored(bytes, at, place, slot + 1),
             };
             Stored::Code(code, at + offset)
         }

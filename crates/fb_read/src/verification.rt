@@ -99,7 +99,7 @@ pub fn verify<'a>(
         most_depth,
         most_cells,
     };
-    let _spent = visit_table_behind(source, schema.root(), 0, 0, 0, entries)?;
+    let _spent = visit_table_behind(&source, schema.root(), 0, 0, 0, entries)?;
     let at = u32_at(bytes, 0) as usize;
     Ok(View {
         layout,

@@ -1,60 +1,66 @@
 //! Visits of what names no table, without memory.
-ghost use Rattle.std.specs.Prelude.{◌≡◌, ℕ, ◌+◌, ◌<◌, ◌≤◌, ◌^◌, length, MatchResult, OnOk, IfOk};
-ghost use Rattle.fb_layout.specs.Laid.{LaidSchema, scalar_kind, stored_kind};
-ghost use Rattle.fb_value.specs.Places.{text_part, ref_place, part_place, inline_place, code_place, next_required};
-ghost use Rattle.fb_read.specs.Visits.{Visits, slots_seen};
-ghost use Rattle.fb_read.specs.Walks.{place, visit_in, TicksWithin, EntersAt};
+ghost use Rattle.std.specs.Prelude.{◌≡◌, ℕ, ◌+◌, ◌*◌, ◌<◌, ◌≤◌, ◌^◌, length, List, IsTrue, Ok, MatchResult, OnOk, IfOk};
+ghost use Rattle.fb_layout.specs.Laid.{LaidSchema, Slot, scalar_kind, stored_kind};
+ghost use Rattle.fb_value.specs.Num.{num};
+ghost use Rattle.fb_value.specs.Places.{vtable, is_present, text_part, ref_place, part_place, inline_place, code_place, next_required};
+ghost use Rattle.fb_value.specs.Nth.{slot_place};
+ghost use Rattle.fb_read.specs.Visits.{Visits, slot_seen, slots_seen};
+ghost use Rattle.fb_read.specs.Walks.{place, visit_in, visit_entry_in, TicksWithin, EntersAt, EntersSlot};
 
 use crate::counting::Entries;
-use crate::places::follow;
-use crate::rules::{check_code, check_inline, open_text};
+use crate::kinds::base_of;
+use crate::places::{follow, held_slot, is_stored};
+use crate::rules::{check_code, check_inline, check_number, open_text};
 use crate::source::Source;
-use fb_schema::{Base, FieldInfo, Kind};
+use fb_schema::{FieldInfo, Kind, Shape};
 use fb_value::ReadFault;
 
 /// Visits the text at a position.
+#[inline(always)]
 #[tactic(auto, using(crate::proofs::Visited::visit_fault, crate::proofs::Visited::visit_text, crate::proofs::Visited::visit_text_over))]
 pub fn visit_text(
-    source: Source,
+    source: &Source,
     at: usize,
     spent: u64,
     entries: &mut Entries,
 ) -> Result<u64, ReadFault>
     requires low { at < 2 ^ 33 }
-    requires few { spent ≤ source.most_cells }
+    requires few { spent ≤ source.now.most_cells }
     ensures visit { (tables : ℕ)
-        → Visits result (visit_in source.entry (place (part_place text_part) at) tables spent) }
-    ensures few { IfOk result (λ n. n ≤ source.entry.most_cells) }
+        → Visits result (visit_in source.now (place (part_place text_part) at) tables spent) }
+    ensures few { IfOk result (λ n. n ≤ source.now.most_cells) }
     ensures rises { entries.old.count ≤ entries.new.count }
-    ensures ticks { TicksWithin source.entry entries.old.count entries.new.count spent result }
-    ensures each { OnOk result (EntersAt source.entry (place
+    ensures ticks { TicksWithin source.now entries.old.count entries.new.count spent result }
+    ensures each { OnOk result (EntersAt source.now (place
         (part_place text_part) at) entries.old.count entries.new.count) }
 {
     entries.tick();
     let text = open_text(source.bytes, at)?;
+    let most = u64::from(source.most_cells);
     let after = spent + 1 + text.len() as u64;
-    if after > u64::from(source.most_cells) {
+    if after > most {
         return Err(ReadFault::TooManyCells(at as u64));
     }
     Ok(after)
 }
 
 /// Visits the text behind a reference.
+#[inline(always)]
 #[tactic(auto, using(crate::proofs::Visited::visit_fault, crate::proofs::Visited::visit_ref))]
 pub fn visit_text_behind(
-    source: Source,
+    source: &Source,
     at: usize,
     spent: u64,
     entries: &mut Entries,
 ) -> Result<u64, ReadFault>
     requires low { at < 2 ^ 33 }
-    requires few { spent ≤ source.most_cells }
+    requires few { spent ≤ source.now.most_cells }
     ensures visit { (tables : ℕ)
-        → Visits result (visit_in source.entry (place (ref_place text_part) at) tables spent) }
-    ensures few { IfOk result (λ n. n ≤ source.entry.most_cells) }
+        → Visits result (visit_in source.now (place (ref_place text_part) at) tables spent) }
+    ensures few { IfOk result (λ n. n ≤ source.now.most_cells) }
     ensures rises { entries.old.count ≤ entries.new.count }
-    ensures ticks { TicksWithin source.entry entries.old.count entries.new.count spent result }
-    ensures each { OnOk result (EntersAt source.entry (place
+    ensures ticks { TicksWithin source.now entries.old.count entries.new.count spent result }
+    ensures each { OnOk result (EntersAt source.now (place
         (ref_place text_part) at) entries.old.count entries.new.count) }
 {
     let target = follow(source.bytes, at)?;
@@ -62,12 +68,13 @@ pub fn visit_text_behind(
 }
 
 /// Visits a number or struct.
+#[inline(always)]
 #[tactic(auto, using(crate::proofs::Visited::visit_fault, crate::proofs::Visited::visit_inline))]
-pub fn visit_inline(source: Source, kind: Kind, at: usize, spent: u64) -> Result<u64, ReadFault>
+pub fn visit_inline(source: &Source, kind: Kind, at: usize, spent: u64) -> Result<u64, ReadFault>
     requires low { at < 2 ^ 33 }
     ensures visit { (tables : ℕ)
-        → Visits result (visit_in source.entry (place (inline_place
-        (stored_kind source.entry.layout.now.schema kind)) at) tables spent) }
+        → Visits result (visit_in source.now (place (inline_place
+        (stored_kind source.now.layout.now.schema kind)) at) tables spent) }
     ensures same { IfOk result (λ n. n ≡ spent) }
 {
     check_inline(
@@ -79,40 +86,72 @@ pub fn visit_inline(source: Source, kind: Kind, at: usize, spent: u64) -> Result
     Ok(spent)
 }
 
-/// Visits a number, whose size and alignment need no look-up.
-#[tactic(auto, using(crate::proofs::Visited::visit_fault, crate::proofs::Visited::visit_inline))]
-pub fn visit_number(source: Source, base: Base, at: usize, spent: u64) -> Result<u64, ReadFault>
+/// Visits the code of a union that stands in a slot of the table at a position.
+#[inline(always)]
+#[tactic(auto, using(crate::proofs::Visited::visit_fault, crate::proofs::Visited::visit_code))]
+pub fn visit_code(
+    source: &Source,
+    later: &[FieldInfo],
+    owner: usize,
+    slots: usize,
+    slot: usize,
+    at: usize,
+    spent: u64,
+) -> Result<u64, ReadFault>
+    requires vtable { slots ≡ vtable source.now.bytes.now owner }
+    requires whole { slots + num source.now.bytes.now slots 2 ≤ length source.now.bytes.now }
+    requires within { slots + 2 ≤ length source.now.bytes.now }
+    requires few { slot < 2 ^ 15 }
     requires low { at < 2 ^ 33 }
-    ensures visit { (tables : ℕ)
-        → Visits result (visit_in source.entry (place (inline_place (scalar_kind base)) at) tables spent) }
+    ensures visit { (tables u : ℕ) → Visits result (visit_in source.now (place (code_place u (slot + 1)
+        (next_required (slots_seen source.now.layout.now later.now))
+        (is_present source.now.bytes.now owner (slot + 1))) at) tables spent) }
     ensures same { IfOk result (λ n. n ≡ spent) }
 {
-    let size = u32::from(base.size());
-    check_inline(source.bytes, at, size, size)?;
+    let present = is_stored(source.bytes, owner, slots, slot + 1);
+    let required = is_first_required(later);
+    check_code(source.bytes, at, slot as u16 + 1, required, present)?;
     Ok(spent)
 }
 
-/// Visits a union's code.
-#[tactic(auto, using(crate::proofs::Visited::visit_fault, crate::proofs::Visited::visit_code))]
-pub fn visit_code(
-    source: Source,
-    at: usize,
-    value_slot: u16,
-    required: bool,
-    present: bool,
-    spent: u64,
-) -> Result<u64, ReadFault>
-    requires low { at < 2 ^ 33 }
-    ensures visit { (tables u : ℕ)
-        → Visits result (visit_in source.entry (place
-        (code_place u value_slot required present) at) tables spent) }
-    ensures same { IfOk result (λ n. n ≡ spent) }
+/// Whether nothing is to visit at a number's slot: it is absent, or keeps its rules. Most slots are such,
+/// and a walk that passes by them at once makes no result for each.
+#[inline(always)]
+pub fn is_settled_number(
+    source: &Source,
+    field: &FieldInfo,
+    owner: usize,
+    slots: usize,
+    slot: usize,
+) -> bool
+    requires vtable { slots ≡ vtable source.now.bytes.now owner }
+    requires whole { slots + num source.now.bytes.now slots 2 ≤ length source.now.bytes.now }
+    requires within { slots + 2 ≤ length source.now.bytes.now }
+    requires held { 6 + 2 * slot ≤ num source.now.bytes.now slots 2 }
+    requires few { slot < 2 ^ 15 }
+    requires low { owner < 2 ^ 32 }
+    ensures visit { IsTrue result → (fs : List Slot) (tables spent : ℕ)
+        → visit_entry_in source.now (slot_place source.now.layout.now source.now.bytes.now owner slot fs
+        (slot_seen source.now.layout.now field.now)) tables spent ≡ Ok spent }
+    ensures each { IsTrue result → (fs : List Slot) (n : ℕ)
+        → EntersSlot source.now (slot_place source.now.layout.now source.now.bytes.now owner slot fs
+        (slot_seen source.now.layout.now field.now)) n n }
 {
-    check_code(source.bytes, at, value_slot, required, present)?;
-    Ok(spent)
+    if field.deprecated {
+        return false;
+    }
+    let Shape::One(kind) = field.shape else {
+        return false;
+    };
+    let Some(base) = base_of(source.layout, kind) else {
+        return false;
+    };
+    let offset = held_slot(source.bytes, owner, slots, slot);
+    offset == 0 || check_number(source.bytes, owner + offset, base).is_ok()
 }
 
 /// Whether the first of some slots is required.
+#[inline(always)]
 pub fn is_first_required(slots: &[FieldInfo]) -> bool
     ensures { (L : LaidSchema) → result ≡ next_required (slots_seen L slots.now) }
 {

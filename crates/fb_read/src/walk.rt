@@ -1,28 +1,31 @@
 //! A walk over all that is reached from a place, without memory.
+//!
+//! A call passes slices and results through memory, which costs more than most rules. So all that is
+//! done at a table is inlined into `visit_table`, but for what is seldom or has a loop of its own.
 ghost use Rattle.std.specs.Prelude.{◌≡◌, ◌+◌, ◌*◌, ◌<◌, ◌≤◌, ◌^◌, length, OnOk, IfOk, Some};
-ghost use Rattle.fb_layout.specs.Laid.{StoredKind, stored_kind};
+ghost use Rattle.fb_layout.specs.Laid.{StoredKind, stored_kind, member_by_code};
 ghost use Rattle.fb_value.specs.Num.{num};
 ghost use Rattle.fb_value.specs.Places.{table_part, vector_part, ref_place, part_place, vtable, named_slots, named_elements, target_of};
-ghost use Rattle.fb_read.specs.Stored.{stored_place, stored_at};
-ghost use Rattle.fb_read.specs.Visits.{Visits, slots_seen};
+ghost use Rattle.fb_value.specs.Nth.{slot_place};
+ghost use Rattle.fb_read.specs.Visits.{Visits, slot_seen, slots_seen, union_place};
 ghost use Rattle.fb_read.specs.Values.{led_to};
 ghost use Rattle.fb_read.specs.Walks.{place, visit_in, visit_each_in, visit_entry_in, TicksWithin, EntersAt, EntersSlot, EntersSlots, EntersItems};
 
 use crate::counting::Entries;
-use crate::places::{follow, stored_slots};
+use crate::places::{follow, held_slot, stored_slots};
 use crate::reference::Reference;
-use crate::rules::{enter_table, open_vector};
+use crate::rules::{enter_table, open_vector, union_code};
 use crate::source::Source;
-use crate::stored::{Stored, stored_in};
-use crate::visits::{visit_code, visit_inline, visit_number, visit_text_behind};
-use fb_schema::{FieldInfo, Kind, TypeId};
+use crate::visits::{is_settled_number, visit_code, visit_inline, visit_text_behind};
+use fb_schema::{FieldInfo, Kind, Shape, TypeId};
 use fb_value::ReadFault;
 
 /// Visits the table behind a reference.
+#[inline(always)]
 #[cycle(walk)]
 #[tactic(auto, using(crate::proofs::Visited::visit_ref))]
 pub fn visit_table_behind(
-    source: Source,
+    source: &Source,
     table: TypeId,
     at: usize,
     tables: u8,
@@ -30,14 +33,14 @@ pub fn visit_table_behind(
     entries: &mut Entries,
 ) -> Result<u64, ReadFault>
     requires low { at < 2 ^ 33 }
-    requires few { spent ≤ source.most_cells }
-    requires flat { tables ≤ source.most_depth }
-    ensures visit { Visits result (visit_in source.entry (place (ref_place
+    requires few { spent ≤ source.now.most_cells }
+    requires flat { tables ≤ source.now.most_depth }
+    ensures visit { Visits result (visit_in source.now (place (ref_place
         (table_part table.0)) at) tables spent) }
-    ensures few { IfOk result (λ n. n ≤ source.entry.most_cells) }
+    ensures few { IfOk result (λ n. n ≤ source.now.most_cells) }
     ensures rises { entries.old.count ≤ entries.new.count }
-    ensures ticks { TicksWithin source.entry entries.old.count entries.new.count spent result }
-    ensures each { OnOk result (EntersAt source.entry (place (ref_place
+    ensures ticks { TicksWithin source.now entries.old.count entries.new.count spent result }
+    ensures each { OnOk result (EntersAt source.now (place (ref_place
         (table_part table.0)) at) entries.old.count entries.new.count) }
 {
     let target = follow(source.bytes, at)?;
@@ -47,7 +50,7 @@ pub fn visit_table_behind(
 #[cycle(walk)]
 #[tactic(auto, using(crate::proofs::Visited::visit_table_deep, crate::proofs::Visited::visit_table_over))]
 fn visit_table(
-    source: Source,
+    source: &Source,
     table: TypeId,
     at: usize,
     tables: u8,
@@ -55,14 +58,14 @@ fn visit_table(
     entries: &mut Entries,
 ) -> Result<u64, ReadFault>
     requires low { at < 2 ^ 33 }
-    requires few { spent ≤ source.most_cells }
-    requires flat { tables ≤ source.most_depth }
-    ensures visit { Visits result (visit_in source.entry (place (part_place
+    requires few { spent ≤ source.now.most_cells }
+    requires flat { tables ≤ source.now.most_depth }
+    ensures visit { Visits result (visit_in source.now (place (part_place
         (table_part table.0)) at) tables spent) }
-    ensures few { IfOk result (λ n. n ≤ source.entry.most_cells) }
+    ensures few { IfOk result (λ n. n ≤ source.now.most_cells) }
     ensures rises { entries.old.count ≤ entries.new.count }
-    ensures ticks { TicksWithin source.entry entries.old.count entries.new.count spent result }
-    ensures each { OnOk result (EntersAt source.entry (place (part_place
+    ensures ticks { TicksWithin source.now entries.old.count entries.new.count spent result }
+    ensures each { OnOk result (EntersAt source.now (place (part_place
         (table_part table.0)) at) entries.old.count entries.new.count) }
 {
     entries.tick();
@@ -77,9 +80,10 @@ fn visit_table(
     visit_slots(source, slots, at, place, tables + 1, spent + 1, entries)
 }
 
+#[inline(always)]
 #[cycle(walk)]
 fn visit_slots(
-    source: Source,
+    source: &Source,
     slots: &[FieldInfo],
     at: usize,
     place: usize,
@@ -87,87 +91,131 @@ fn visit_slots(
     spent: u64,
     entries: &mut Entries,
 ) -> Result<u64, ReadFault>
-    requires vtable { place ≡ vtable source.bytes.now at }
-    requires whole { place + num source.bytes.now place 2 ≤ length source.bytes.now }
-    requires within { place + 2 ≤ length source.bytes.now }
+    requires vtable { place ≡ vtable source.now.bytes.now at }
+    requires whole { place + num source.now.bytes.now place 2 ≤ length source.now.bytes.now }
+    requires within { place + 2 ≤ length source.now.bytes.now }
     requires low { at < 2 ^ 32 }
     requires slots { length slots.now < 2 ^ 15 }
-    requires few { spent ≤ source.most_cells }
-    requires flat { tables ≤ source.most_depth }
-    ensures visit { Visits result (visit_each_in source.entry
-        (named_slots source.entry.layout.now source.entry.bytes.now at 0
-        (slots_seen source.entry.layout.now slots.now)) tables spent) }
-    ensures few { IfOk result (λ n. n ≤ source.entry.most_cells) }
+    requires few { spent ≤ source.now.most_cells }
+    requires flat { tables ≤ source.now.most_depth }
+    ensures visit { Visits result (visit_each_in source.now
+        (named_slots source.now.layout.now source.now.bytes.now at 0
+        (slots_seen source.now.layout.now slots.now)) tables spent) }
+    ensures few { IfOk result (λ n. n ≤ source.now.most_cells) }
     ensures rises { entries.old.count ≤ entries.new.count }
-    ensures ticks { TicksWithin source.entry entries.old.count entries.new.count spent result }
-    ensures each { OnOk result (EntersSlots source.entry (slots_seen source.entry.layout.now slots.now)
-        (named_slots source.entry.layout.now source.entry.bytes.now at 0
-        (slots_seen source.entry.layout.now slots.now)) entries.old.count entries.new.count) }
+    ensures ticks { TicksWithin source.now entries.old.count entries.new.count spent result }
+    ensures each { OnOk result (EntersSlots source.now (slots_seen source.now.layout.now slots.now)
+        (named_slots source.now.layout.now source.now.bytes.now at 0
+        (slots_seen source.now.layout.now slots.now)) entries.old.count entries.new.count) }
 {
     let mut after = spent;
     let present = stored_slots(source.bytes, at, place, slots.len());
     for slot in 0..present {
+        let field = &slots[slot];
+        if is_settled_number(source, field, at, place, slot) {
+            continue;
+        }
         let (_before, later) = slots.split_at(slot + 1);
-        let stored = stored_in(
-            source.layout,
-            source.bytes,
-            &slots[slot],
-            later,
-            at,
-            place,
-            slot,
-        );
-        after = visit_stored(source, stored, tables, after, entries)?;
+        after = visit_slot(
+            source, field, later, at, place, slot, tables, after, entries,
+        )?;
     }
     Ok(after)
 }
 
-// Visits what a slot has.
+// Visits what a slot names that the vtable reaches to.
+#[inline(always)]
 #[cycle(walk)]
-fn visit_stored(
-    source: Source,
-    stored: Stored,
+fn visit_slot(
+    source: &Source,
+    field: &FieldInfo,
+    later: &[FieldInfo],
+    at: usize,
+    place: usize,
+    slot: usize,
     tables: u8,
     spent: u64,
     entries: &mut Entries,
 ) -> Result<u64, ReadFault>
-    requires low { stored_at stored < 2 ^ 33 }
-    requires few { spent ≤ source.most_cells }
-    requires flat { tables ≤ source.most_depth }
-    ensures visit { Visits result (visit_entry_in source.entry
-        (stored_place source.entry.layout.now stored) tables spent) }
-    ensures few { IfOk result (λ n. n ≤ source.entry.most_cells) }
+    requires vtable { place ≡ vtable source.now.bytes.now at }
+    requires whole { place + num source.now.bytes.now place 2 ≤ length source.now.bytes.now }
+    requires within { place + 2 ≤ length source.now.bytes.now }
+    requires held { 6 + 2 * slot ≤ num source.now.bytes.now place 2 }
+    requires low { at < 2 ^ 32 }
+    requires slots { slot < 2 ^ 15 }
+    requires few { spent ≤ source.now.most_cells }
+    requires flat { tables ≤ source.now.most_depth }
+    ensures visit { Visits result (visit_entry_in source.now (slot_place source.now.layout.now
+        source.now.bytes.now at slot (slots_seen source.now.layout.now later.now)
+        (slot_seen source.now.layout.now field.now)) tables spent) }
+    ensures few { IfOk result (λ n. n ≤ source.now.most_cells) }
     ensures rises { entries.old.count ≤ entries.new.count }
-    ensures ticks { TicksWithin source.entry entries.old.count entries.new.count spent result }
-    ensures each { OnOk result (EntersSlot source.entry
-        (stored_place source.entry.layout.now stored) entries.old.count entries.new.count) }
+    ensures ticks { TicksWithin source.now entries.old.count entries.new.count spent result }
+    ensures each { OnOk result (EntersSlot source.now (slot_place source.now.layout.now
+        source.now.bytes.now at slot (slots_seen source.now.layout.now later.now)
+        (slot_seen source.now.layout.now field.now)) entries.old.count entries.new.count) }
 {
-    match stored {
-        Stored::Absent(_) => Ok(spent),
-        Stored::Unknown(_, _) => Ok(spent),
-        Stored::Code(code, at) => visit_code(
-            source,
-            at,
-            code.value_slot,
-            code.required,
-            code.present,
-            spent,
+    if field.deprecated {
+        return Ok(spent);
+    }
+    let offset = held_slot(source.bytes, at, place, slot);
+    if offset == 0 {
+        return Ok(spent);
+    }
+    let found = at + offset;
+    match field.shape {
+        Shape::Many(kind) => visit_vector_behind(source, kind, found, tables, spent, entries),
+        Shape::One(Kind::Text) => visit_text_behind(source, found, spent, entries),
+        Shape::One(Kind::Table(table)) => visit_table_behind(
+            source, table, found, tables, spent, entries,
         ),
-        Stored::Number(base, at) => visit_number(source, base, at, spent),
-        Stored::Fixed(structure, at) => visit_inline(source, Kind::Struct(structure), at, spent),
-        Stored::Text(at) => visit_text_behind(source, at, spent, entries),
-        Stored::Table(table, at) => visit_table_behind(source, table, at, tables, spent, entries),
-        Stored::Member(_, table, at) => visit_table_behind(
-            source, table, at, tables, spent, entries,
-        ),
-        Stored::Vector(kind, at) => visit_vector_behind(source, kind, at, tables, spent, entries),
+        Shape::One(Kind::Union(union)) => {
+            let code = union_code(source.bytes, at, place, slot);
+            visit_union(source, union, code, found, tables, spent, entries)
+        }
+        Shape::One(Kind::Code(_)) => visit_code(source, later, at, place, slot, found, spent),
+        Shape::One(Kind::Scalar(base)) => visit_inline(source, Kind::Scalar(base), found, spent),
+        Shape::One(Kind::Enum(values)) => visit_inline(source, Kind::Enum(values), found, spent),
+        Shape::One(Kind::Struct(structure)) => {
+            visit_inline(source, Kind::Struct(structure), found, spent)
+        }
     }
 }
 
+// Visits a union's value under a code.
+#[inline(always)]
+#[cycle(walk)]
+fn visit_union(
+    source: &Source,
+    union: TypeId,
+    code: u8,
+    at: usize,
+    tables: u8,
+    spent: u64,
+    entries: &mut Entries,
+) -> Result<u64, ReadFault>
+    requires low { at < 2 ^ 33 }
+    requires few { spent ≤ source.now.most_cells }
+    requires flat { tables ≤ source.now.most_depth }
+    ensures visit { Visits result (visit_entry_in source.now (union_place code at
+        (member_by_code source.now.layout.now union.0 code)) tables spent) }
+    ensures few { IfOk result (λ n. n ≤ source.now.most_cells) }
+    ensures rises { entries.old.count ≤ entries.new.count }
+    ensures ticks { TicksWithin source.now entries.old.count entries.new.count spent result }
+    ensures each { OnOk result (EntersSlot source.now (union_place code at
+        (member_by_code source.now.layout.now union.0 code)) entries.old.count entries.new.count) }
+{
+    match source.layout.schema().member_by_code(union, code) {
+        Some(table) => visit_table_behind(source, table, at, tables, spent, entries),
+        None => Ok(spent),
+    }
+}
+
+#[inline(always)]
 #[cycle(walk)]
 #[tactic(auto, using(crate::proofs::Visited::visit_ref))]
 fn visit_vector_behind(
-    source: Source,
+    source: &Source,
     kind: Kind,
     at: usize,
     tables: u8,
@@ -175,24 +223,25 @@ fn visit_vector_behind(
     entries: &mut Entries,
 ) -> Result<u64, ReadFault>
     requires low { at < 2 ^ 33 }
-    requires few { spent ≤ source.most_cells }
-    requires flat { tables ≤ source.most_depth }
-    ensures visit { Visits result (visit_in source.entry (place (ref_place (vector_part
-        (stored_kind source.entry.layout.now.schema kind))) at) tables spent) }
-    ensures few { IfOk result (λ n. n ≤ source.entry.most_cells) }
+    requires few { spent ≤ source.now.most_cells }
+    requires flat { tables ≤ source.now.most_depth }
+    ensures visit { Visits result (visit_in source.now (place (ref_place (vector_part
+        (stored_kind source.now.layout.now.schema kind))) at) tables spent) }
+    ensures few { IfOk result (λ n. n ≤ source.now.most_cells) }
     ensures rises { entries.old.count ≤ entries.new.count }
-    ensures ticks { TicksWithin source.entry entries.old.count entries.new.count spent result }
-    ensures each { OnOk result (EntersAt source.entry (place (ref_place (vector_part
-        (stored_kind source.entry.layout.now.schema kind))) at) entries.old.count entries.new.count) }
+    ensures ticks { TicksWithin source.now entries.old.count entries.new.count spent result }
+    ensures each { OnOk result (EntersAt source.now (place (ref_place (vector_part
+        (stored_kind source.now.layout.now.schema kind))) at) entries.old.count entries.new.count) }
 {
     let target = follow(source.bytes, at)?;
     visit_vector(source, kind, target, tables, spent, entries)
 }
 
+#[inline(always)]
 #[cycle(walk)]
 #[tactic(auto, using(crate::proofs::Visited::visit_vector_over))]
 fn visit_vector(
-    source: Source,
+    source: &Source,
     kind: Kind,
     at: usize,
     tables: u8,
@@ -200,15 +249,15 @@ fn visit_vector(
     entries: &mut Entries,
 ) -> Result<u64, ReadFault>
     requires low { at < 2 ^ 33 }
-    requires few { spent ≤ source.most_cells }
-    requires flat { tables ≤ source.most_depth }
-    ensures visit { Visits result (visit_in source.entry (place (part_place (vector_part
-        (stored_kind source.entry.layout.now.schema kind))) at) tables spent) }
-    ensures few { IfOk result (λ n. n ≤ source.entry.most_cells) }
+    requires few { spent ≤ source.now.most_cells }
+    requires flat { tables ≤ source.now.most_depth }
+    ensures visit { Visits result (visit_in source.now (place (part_place (vector_part
+        (stored_kind source.now.layout.now.schema kind))) at) tables spent) }
+    ensures few { IfOk result (λ n. n ≤ source.now.most_cells) }
     ensures rises { entries.old.count ≤ entries.new.count }
-    ensures ticks { TicksWithin source.entry entries.old.count entries.new.count spent result }
-    ensures each { OnOk result (EntersAt source.entry (place (part_place (vector_part
-        (stored_kind source.entry.layout.now.schema kind))) at) entries.old.count entries.new.count) }
+    ensures ticks { TicksWithin source.now entries.old.count entries.new.count spent result }
+    ensures each { OnOk result (EntersAt source.now (place (part_place (vector_part
+        (stored_kind source.now.layout.now.schema kind))) at) entries.old.count entries.new.count) }
 {
     entries.tick();
     let count = open_vector(
@@ -217,8 +266,9 @@ fn visit_vector(
         source.layout.size_of(kind),
         source.layout.align_of(kind),
     )?;
+    let most = u64::from(source.most_cells);
     let after = spent + (1 + u64::from(count));
-    if after > u64::from(source.most_cells) {
+    if after > most {
         return Err(ReadFault::TooManyCells(at as u64));
     }
     let first = at + 4;
@@ -248,9 +298,10 @@ fn visit_vector(
 }
 
 // Visits what the references from a position on lead to.
+#[inline(never)]
 #[cycle(walk)]
 fn visit_elements(
-    source: Source,
+    source: &Source,
     reference: Reference,
     at: usize,
     count: u32,
@@ -258,16 +309,16 @@ fn visit_elements(
     spent: u64,
     entries: &mut Entries,
 ) -> Result<u64, ReadFault>
-    requires within { at + count * 4 ≤ length source.bytes.now }
-    requires few { spent ≤ source.most_cells }
-    requires flat { tables ≤ source.most_depth }
-    ensures visit { Visits result (visit_each_in source.entry (named_elements
+    requires within { at + count * 4 ≤ length source.now.bytes.now }
+    requires few { spent ≤ source.now.most_cells }
+    requires flat { tables ≤ source.now.most_depth }
+    ensures visit { Visits result (visit_each_in source.now (named_elements
         (led_to reference) at count) tables spent) }
-    ensures few { IfOk result (λ n. n ≤ source.entry.most_cells) }
+    ensures few { IfOk result (λ n. n ≤ source.now.most_cells) }
     ensures rises { entries.old.count ≤ entries.new.count }
-    ensures ticks { TicksWithin source.entry entries.old.count entries.new.count spent result }
+    ensures ticks { TicksWithin source.now entries.old.count entries.new.count spent result }
     ensures each { (kind : StoredKind) → target_of kind ≡ Some (led_to reference)
-        → OnOk result (EntersItems source.entry kind at count entries.old.count entries.new.count) }
+        → OnOk result (EntersItems source.now kind at count entries.old.count entries.new.count) }
 {
     let mut after = spent;
     for i in 0..count {
@@ -283,9 +334,10 @@ fn visit_elements(
     Ok(after)
 }
 
+#[inline(always)]
 #[cycle(walk)]
 fn visit_behind(
-    source: Source,
+    source: &Source,
     reference: Reference,
     at: usize,
     tables: u8,
@@ -293,14 +345,14 @@ fn visit_behind(
     entries: &mut Entries,
 ) -> Result<u64, ReadFault>
     requires low { at < 2 ^ 33 }
-    requires few { spent ≤ source.most_cells }
-    requires flat { tables ≤ source.most_depth }
-    ensures visit { Visits result (visit_in source.entry (place
+    requires few { spent ≤ source.now.most_cells }
+    requires flat { tables ≤ source.now.most_depth }
+    ensures visit { Visits result (visit_in source.now (place
         (ref_place (led_to reference)) at) tables spent) }
-    ensures few { IfOk result (λ n. n ≤ source.entry.most_cells) }
+    ensures few { IfOk result (λ n. n ≤ source.now.most_cells) }
     ensures rises { entries.old.count ≤ entries.new.count }
-    ensures ticks { TicksWithin source.entry entries.old.count entries.new.count spent result }
-    ensures each { OnOk result (EntersAt source.entry (place
+    ensures ticks { TicksWithin source.now entries.old.count entries.new.count spent result }
+    ensures each { OnOk result (EntersAt source.now (place
         (ref_place (led_to reference)) at) entries.old.count entries.new.count) }
 {
     match reference {

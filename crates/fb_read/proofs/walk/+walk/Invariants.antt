@@ -11,28 +11,31 @@ use Rattle.fb_read.proofs.walk.+walk.Given as goal
 
 -- A table's slots are visited at with one table more above them, what stands behind a slot with as many.
 abbrev pub decreases-visit_slots : goal.decreases-visit_slots
-decreases-visit_slots l = 16 * (l.source.most_depth - l.tables) + 8
+decreases-visit_slots l = 16 * (l.source.now.most_depth - l.tables) + 8
 
-abbrev pub decreases-visit_stored : goal.decreases-visit_stored
-decreases-visit_stored l = 16 * (l.source.most_depth - l.tables) + 7
+abbrev pub decreases-visit_slot : goal.decreases-visit_slot
+decreases-visit_slot l = 16 * (l.source.now.most_depth - l.tables) + 7
+
+abbrev pub decreases-visit_union : goal.decreases-visit_union
+decreases-visit_union l = 16 * (l.source.now.most_depth - l.tables) + 6
 
 abbrev pub decreases-visit_vector_behind : goal.decreases-visit_vector_behind
-decreases-visit_vector_behind l = 16 * (l.source.most_depth - l.tables) + 5
+decreases-visit_vector_behind l = 16 * (l.source.now.most_depth - l.tables) + 5
 
 abbrev pub decreases-visit_vector : goal.decreases-visit_vector
-decreases-visit_vector l = 16 * (l.source.most_depth - l.tables) + 4
+decreases-visit_vector l = 16 * (l.source.now.most_depth - l.tables) + 4
 
 abbrev pub decreases-visit_elements : goal.decreases-visit_elements
-decreases-visit_elements l = 16 * (l.source.most_depth - l.tables) + 3
+decreases-visit_elements l = 16 * (l.source.now.most_depth - l.tables) + 3
 
 abbrev pub decreases-visit_behind : goal.decreases-visit_behind
-decreases-visit_behind l = 16 * (l.source.most_depth - l.tables) + 2
+decreases-visit_behind l = 16 * (l.source.now.most_depth - l.tables) + 2
 
 abbrev pub decreases-visit_table_behind : goal.decreases-visit_table_behind
-decreases-visit_table_behind l = 16 * (l.source.most_depth - l.tables) + 1
+decreases-visit_table_behind l = 16 * (l.source.now.most_depth - l.tables) + 1
 
 abbrev pub decreases-visit_table : goal.decreases-visit_table
-decreases-visit_table l = 16 * (l.source.most_depth - l.tables)
+decreases-visit_table l = 16 * (l.source.now.most_depth - l.tables)
 
 abbrev pub invariant-visit_slots-loop-slot : goal.invariant-visit_slots-loop-slot
 invariant-visit_slots-loop-slot l = record {
