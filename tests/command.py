@@ -1,0 +1,231 @@
+#!/usr/bin/env python3
+"""Runs the built program with words and files, and compares what it prints, its status and its files.
+
+usage: tests/command.py PROGRAM
+
+The last line is 'N passed, M failed'. A row that takes over 20 seconds fails.
+"""
+import os
+import subprocess
+import sys
+import tempfile
+
+ROOT = os.path.dirname(os.path.dirname(os.path.abspath(__file__)))
+LONGEST = 2_147_483_647
+SECONDS = 20
+
+ONE = b"table T { a:int; } root_type T;"
+SEVEN = bytes.fromhex("0c000000 0000 0600 0800 0400 06000000 07000000")
+SEVEN_TEXT = b'{\n  "a": 7\n}\n'
+STRUCTS = b"struct P { x:int; c:int; } table T { p:P; } root_type T;"
+UNION = (
+    b"table A { x:int; } table B { y:int; } union U { A } union V { A, B } "
+    b"table T { u:U; } table W { v:V; } root_type %s;"
+)
+
+FILES = {
+    "one.fbs": ONE,
+    "seven.json": b'{"a":7}',
+    "seven.bin": SEVEN,
+    "bad.json": b'{"a":',
+    "text.json": b'{"a":"x"}',
+    "more.json": b'{"a":7,"b":8}',
+    "cut.bin": SEVEN[:16],
+    "empty": b"",
+    "test.fbs": ONE + b' file_identifier "TEST";',
+    "other.bin": bytes.fromhex("0c000000 55455354 0400 0400 04000000"),
+    "default.bin": bytes.fromhex("08000000 0400 0400 04000000"),
+    "structs.fbs": STRUCTS,
+    "structs.json": b'{"p":{"x":1}}',
+    "union_old.fbs": UNION % b"T",
+    "union_new.fbs": UNION.replace(b"u:U", b"u:V") % b"T",
+    "union.json": b'{"u_type":"B","u":{"y":1}}',
+    "-dash.fbs": ONE,
+    "not_utf8.fbs": b"table T { a:int; } \xff",
+    "long.json": b'{"a":' + b" " * 3_000_000 + b"7}",
+}
+
+passed = 0
+failed = 0
+
+
+def tell(name, good, what=""):
+    global passed, failed
+    if good:
+        passed += 1
+    else:
+        failed += 1
+        print(f"command: {name}: {what}")
+
+
+def run(words, **more):
+    if "stdout" not in more:
+        more["stdout"] = subprocess.PIPE
+    return subprocess.run(
+        [PROGRAM] + words, stdin=subprocess.DEVNULL, stderr=subprocess.PIPE, timeout=SECONDS, **more
+    )
+
+
+def row(name, words, status, out=b"", err=b"", files=None):
+    """What is printed and the status; `err` None is any text that isn't empty. `files` is what files hold then."""
+    try:
+        done = run(words)
+    except subprocess.TimeoutExpired:
+        tell(name, False, "too slow")
+        return
+    problems = []
+    if done.returncode != status:
+        problems.append(f"status {done.returncode}, not {status}")
+    if done.stdout != out:
+        problems.append(f"printed {done.stdout[:200]!r}, not {out[:200]!r}")
+    if (err is None and not done.stderr) or (err is not None and done.stderr != err):
+        problems.append(f"told {done.stderr[:200]!r}, not {err!r}")
+    for path, want in (files or {}).items():
+        have = open(path, "rb").read() if os.path.exists(path) else None
+        if have != want:
+            problems.append(f"{path} holds {have!r}, not {want!r}")
+    tell(name, not problems, "; ".join(problems))
+
+
+def refused(name, words, line, files=None):
+    row(name, words, 1, b"", line + b"\n", files)
+
+
+def misused(name, words):
+    row(name, words, 2, b"", None)
+
+
+def helped(name, words, part):
+    done = run(words)
+    good = done.returncode == 0 and not done.stderr and part in done.stdout
+    tell(name, good, f"status {done.returncode}, printed {done.stdout[:200]!r}, told {done.stderr[:200]!r}")
+
+
+def jobs():
+    row("no words: the first example", [], 0, SEVEN_TEXT)
+    row("binary", ["binary", "one.fbs", "seven.json", "out.bin"], 0, files={"out.bin": SEVEN})
+    row("json", ["json", "one.fbs", "seven.bin"], 0, SEVEN_TEXT)
+    row("json of a default", ["json", "one.fbs", "default.bin"], 0, b"{}\n")
+    row("json with defaults", ["json", "--defaults-json", "one.fbs", "default.bin"], 0, b'{\n  "a": 0\n}\n')
+    row("check of a schema", ["check", "one.fbs"], 0, b"ok\n")
+    row("check of a buffer", ["check", "one.fbs", "seven.bin"], 0, b"ok\n")
+    row("an unknown member", ["binary", "--unknown-json", "one.fbs", "more.json", "out.bin"], 0, files={"out.bin": SEVEN})
+    row("three megabytes of blanks", ["binary", "one.fbs", "long.json", "out.bin"], 0, files={"out.bin": SEVEN})
+    row("the identifier unchecked", ["json", "--raw-binary", "test.fbs", "other.bin"], 0, b"{}\n")
+    row("check with the identifier unchecked", ["check", "--raw-binary", "test.fbs", "other.bin"], 0, b"ok\n")
+    row("two dashes before paths", ["check", "--", "one.fbs", "seven.bin"], 0, b"ok\n")
+    row("a path that begins with a dash", ["check", "--", "-dash.fbs"], 0, b"ok\n")
+    row("the same path for JSON and OUT", ["binary", "one.fbs", "copy.json", "copy.json"], 0, files={"copy.json": SEVEN})
+
+
+def refusals():
+    kept = {"kept.bin": b"kept"}
+    refused("a cut buffer", ["check", "one.fbs", "cut.bin"], b"54 OutOfBounds at 16")
+    refused("json of a cut buffer", ["json", "one.fbs", "cut.bin"], b"54 OutOfBounds at 16")
+    refused("an empty buffer", ["check", "one.fbs", "empty"], b"50 Short at 0")
+    refused("an empty schema", ["check", "empty"], b"21 BadRoot at 0")
+    refused("a schema that is no UTF-8", ["check", "not_utf8.fbs"], b"1 NotUtf8 at 19")
+    refused("another identifier", ["check", "test.fbs", "other.bin"], b"52 WrongIdentifier at 4")
+    refused("bad JSON", ["binary", "one.fbs", "bad.json", "kept.bin"], b"113 BadJson", kept)
+    refused("an empty JSON text", ["binary", "one.fbs", "empty", "kept.bin"], b"113 BadJson", kept)
+    refused("a text for a number", ["binary", "one.fbs", "text.json", "kept.bin"], b"70 WrongShape in type 0 slot 0", kept)
+    refused("a member that the schema lacks", ["binary", "one.fbs", "more.json", "kept.bin"], b"74 UnknownMember in type 0", kept)
+    refused(
+        "a struct's field that is missing",
+        ["binary", "structs.fbs", "structs.json", "kept.bin"],
+        b"75 MissingMember in type 0 slot 1",
+        kept,
+    )
+    refused("the schema before the JSON", ["binary", "empty", "bad.json", "kept.bin"], b"21 BadRoot at 0", kept)
+
+
+def unions():
+    row("a union of the new schema", ["binary", "union_new.fbs", "union.json", "union.bin"], 0)
+    row("an unknown code is no fault", ["check", "union_old.fbs", "union.bin"], 0, b"ok\n")
+    refused("an unknown code has no name", ["json", "union_old.fbs", "union.bin"], b"81 NoMemberName in type 4 slot 1")
+
+
+def files():
+    refused("a missing schema", ["check", "missing"], b"110 FileRead")
+    refused("a missing buffer", ["check", "one.fbs", "missing"], b"110 FileRead")
+    refused("a folder", ["check", "folder"], b"110 FileRead")
+    refused("a missing JSON text leaves OUT alone", ["binary", "one.fbs", "missing", "kept.bin"], b"110 FileRead", {"kept.bin": b"kept"})
+    refused("OUT in a missing folder", ["binary", "one.fbs", "seven.json", "missing/out"], b"111 FileWrite")
+    refused("OUT is a folder", ["binary", "one.fbs", "seven.json", "folder"], b"111 FileWrite")
+    refused("OUT is full", ["binary", "one.fbs", "seven.json", "/dev/full"], b"111 FileWrite")
+    if os.geteuid() != 0:
+        os.chmod("secret", 0)
+        refused("an unreadable file", ["check", "secret"], b"110 FileRead")
+    refused("a file over the limit", ["check", "one.fbs", "over"], b"112 FileTooLong")
+    refused("a file of the greatest length", ["check", "one.fbs", "longest"], b"55 ZeroOffset at 0")
+
+
+def streams():
+    with open("/dev/full", "wb") as full:
+        done = run(["json", "one.fbs", "seven.bin"], stdout=full)
+        tell("a full device", (done.returncode, done.stderr) == (1, b"82 WriteFailed after 0\n"), f"{done}")
+        done = run(["check", "one.fbs"], stdout=full)
+        tell("a full device for `ok`", done.returncode == 1, f"{done}")
+    read, write = os.pipe()
+    os.close(read)
+    done = run(["json", "one.fbs", "seven.bin"], stdout=write)
+    os.close(write)
+    tell("a closed pipe", (done.returncode, done.stderr) == (1, b"82 WriteFailed after 0\n"), f"{done}")
+
+
+def usage():
+    for words in (["--help"], ["-h"], ["help"]):
+        helped(f"help by {words}", words, b"Usage: flatc <COMMAND>")
+    for job in ("binary", "json", "check", "conform"):
+        helped(f"help of {job}", [job, "--help"], f"Usage: flatc {job} ".encode())
+        helped(f"short help of {job}", [job, "-h"], f"Usage: flatc {job} ".encode())
+    helped("the version", ["--version"], b"flatc 0.1.0\n")
+    misused("no such job", ["nothing"])
+    misused("a flag that no job has", ["check", "--nothing", "one.fbs"])
+    misused("a flag of another job", ["check", "--unknown-json", "one.fbs"])
+    misused("too few paths", ["json", "one.fbs"])
+    misused("one schema to compare", ["conform", "one.fbs"])
+    misused("too many paths", ["check", "one.fbs", "seven.bin", "seven.bin"])
+    misused("words that are no UTF-8", [b"check", b"\xff"])
+
+
+def examples():
+    folder = os.path.join(ROOT, "examples")
+    schema = os.path.join(folder, "monster.fbs")
+    json = os.path.join(folder, "monster.json")
+    row("the example's buffer", ["binary", schema, json, "monster.bin"], 0)
+    row("the example's buffer is sound", ["check", schema, "monster.bin"], 0, b"ok\n")
+    done = run(["json", schema, "monster.bin"])
+    open("monster.json", "wb").write(done.stdout)
+    row("the printed example", ["binary", schema, "monster.json", "again.bin"], 0)
+    same = open("again.bin", "rb").read() == open("monster.bin", "rb").read()
+    tell("the printed example means the same buffer", same and done.returncode == 0, f"{done.stderr!r}")
+
+
+def main():
+    with tempfile.TemporaryDirectory() as folder:
+        os.chdir(folder)
+        for name, content in FILES.items():
+            open(name, "wb").write(content)
+        open("copy.json", "wb").write(FILES["seven.json"])
+        open("kept.bin", "wb").write(b"kept")
+        open("secret", "wb").write(ONE)
+        os.mkdir("folder")
+        for name, length in (("over", LONGEST + 1), ("longest", LONGEST)):
+            with open(name, "wb") as file:
+                file.truncate(length)
+        for part in (jobs, refusals, unions, files, streams, usage, examples):
+            try:
+                part()
+            except Exception as problem:
+                tell(part.__name__, False, repr(problem))
+        os.chdir("/")
+    print(f"{passed} passed, {failed} failed")
+    return 1 if failed or not passed else 0
+
+
+if __name__ == "__main__":
+    if len(sys.argv) != 2:
+        sys.exit(__doc__)
+    PROGRAM = os.path.abspath(sys.argv[1])
+    sys.exit(main())
