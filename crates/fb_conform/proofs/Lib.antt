@@ -1,0 +1,11 @@
+pub mod Names
+pub mod Declared
+pub mod Moved
+pub mod Agrees
+pub mod Conforming
+pub mod RulesKept
+pub mod Whole
+pub mod Carried
+pub mod CarriedLaw
+pub mod Returned
+pub mod Chains

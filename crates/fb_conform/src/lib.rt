@@ -1,0 +1,8 @@
+//! How a schema may grow, and values under the schemas of one line.
+#![tactic(auto)]
+
+mod breaches;
+mod laws;
+
+pub use breaches::Breach;
+pub use laws::{back_holds, carried_holds, carries_on, conforms_on};
