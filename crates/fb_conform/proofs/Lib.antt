@@ -9,3 +9,5 @@ pub mod Carried
 pub mod CarriedLaw
 pub mod Returned
 pub mod Chains
+pub mod Entries
+pub mod Numbered

@@ -2,7 +2,11 @@
 #![tactic(auto)]
 
 mod breaches;
+mod carrying;
 mod laws;
+mod shapes;
+mod twins;
 
 pub use breaches::Breach;
+pub use carrying::carry;
 pub use laws::{back_holds, carried_holds, carries_on, conforms_on};
