@@ -11,3 +11,4 @@ pub mod Returned
 pub mod Chains
 pub mod Entries
 pub mod Numbered
+pub mod SlotLoops

@@ -2,7 +2,9 @@ pub mod Twins
 pub mod ByName
 pub mod Conforms
 pub mod BreachNumbers
+pub mod Order
+pub mod Told
 pub mod Carry
+pub mod CarriedEntries
 pub mod Back
 pub mod Laws
-pub mod CarriedEntries

@@ -5,6 +5,7 @@ mod breaches;
 mod carrying;
 mod laws;
 mod shapes;
+mod slots;
 mod twins;
 
 pub use breaches::Breach;
