@@ -12,7 +12,8 @@ use Rattle.fb_layout.specs.WellMade.{IsWellMade}
 use Rattle.fb_conform.specs.Laws.{ConformsOn, CarriesOn}
 use Rattle.fb_conform.proofs.Names.{twin_within, twin_declared, one_twin, twin_on}
 use Rattle.fb_conform.proofs.Declared.{is_body, slots_shaped}
-use Rattle.fb_conform.proofs.Conforming.{has_slot, still_table, number_kept, twins, agrees}
+use Rattle.fb_conform.proofs.KindsKept.{has_slot, still_table}
+use Rattle.fb_conform.proofs.Agreeing.{number_kept, twins, agrees}
 use Rattle.fb_conform.proofs.Moved.{KnownShape}
 use Rattle.fb_conform.proofs.Agrees.{Grown, types_in, Agrees}
 use Rattle.fb_conform.specs.Twins.{Twins, SlotTwins, to_new}

@@ -2,7 +2,8 @@ pub mod Names
 pub mod Declared
 pub mod Moved
 pub mod Agrees
-pub mod Conforming
+pub mod KindsKept
+pub mod Agreeing
 pub mod RulesKept
 pub mod Whole
 pub mod Carried
@@ -12,3 +13,10 @@ pub mod Chains
 pub mod Entries
 pub mod Numbered
 pub mod SlotLoops
+pub mod FieldLoops
+pub mod MemberLoops
+pub mod Values
+pub mod Telling
+pub mod Rows
+pub mod OfType
+pub mod FirstBreach

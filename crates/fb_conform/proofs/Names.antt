@@ -19,7 +19,7 @@ if_some : (c : Bool) (m n : ℕ) → cond c (Some m) None ≡ Some n → (c ≡ 
 if_some true m n e = (refl, cc)
 if_some false m n e = cc
 
-test_false : (b : Bool) → (b ≡ true → ⊥) → b ≡ false
+pub test_false : (b : Bool) → (b ≡ true → ⊥) → b ≡ false
 test_false true never = absurd (never refl)
 test_false false never = refl
 

@@ -22,7 +22,7 @@ use Rattle.fb_value.specs.Reads.{default_entry}
 use Rattle.fb_conform.specs.Carry.{unless_gone}
 use Rattle.fb_conform.specs.Laws.{BackHolds}
 use Rattle.fb_conform.proofs.Names.{named_twin, new_name}
-use Rattle.fb_conform.proofs.Conforming.{agrees, twins}
+use Rattle.fb_conform.proofs.Agreeing.{agrees, twins}
 use Rattle.fb_conform.proofs.Carried.{gone_depth, gone_cells, asked_same}
 use Rattle.fb_conform.proofs.RulesKept.{keeps_back, size_moved}
 
