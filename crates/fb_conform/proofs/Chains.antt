@@ -205,7 +205,7 @@ table_fits L t d name (struct_body fs m) is fits = cc
 table_fits L t d name (enum_body b flags values) is fits = cc
 table_fits L t d name (union_body ms) is fits = cc
 
-type_fits : (L : LaidSchema) (t : ℕ) (d : Datum) (o : Option DeclaredType) → IsTrue (is_table (body_in o)) → FitsKind L (kind_of_type t o) d → Fits L (one_of (table_kind t)) d
+pub type_fits : (L : LaidSchema) (t : ℕ) (d : Datum) (o : Option DeclaredType) → IsTrue (is_table (body_in o)) → FitsKind L (kind_of_type t o) d → Fits L (one_of (table_kind t)) d
 type_fits L t d None is fits = absurd fits
 type_fits L t d (Some type) is fits = table_fits L t d type.name type.body is fits
 

@@ -20,3 +20,4 @@ pub mod Telling
 pub mod Rows
 pub mod OfType
 pub mod FirstBreach
+pub mod CarriedFits

@@ -15,4 +15,4 @@ mod twins;
 pub use breaches::Breach;
 pub use carrying::carry;
 pub use conforming::conform;
-pub use laws::{back_holds, carried_holds, carries_on, conforms_on};
+pub use laws::{back_holds, carried_fits, carried_holds, carries_on, conforms_on};
