@@ -8,3 +8,6 @@ pub mod Carry
 pub mod CarriedEntries
 pub mod Back
 pub mod Laws
+pub mod ExampleSchemas
+pub mod ExampleCarried
+pub mod ExampleBreaches
