@@ -6,8 +6,11 @@ pub mod KindsKept
 pub mod Agreeing
 pub mod RulesKept
 pub mod Whole
+pub mod MovedPlaces
+pub mod CarriedCounts
 pub mod Carried
 pub mod CarriedLaw
+pub mod ReturnedCounts
 pub mod Returned
 pub mod Chains
 pub mod Entries

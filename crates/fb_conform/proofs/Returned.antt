@@ -1,10 +1,8 @@
 -- What lies under the new schema lies, taken back, under the old.
-use Rattle.std.proofs.Common.{◌≡◌, ℕ, suc, ◌+◌, ◌-◌, ◌<◌, ◌≤◌, ◌==◌, ◌&&◌, not, Bool, true, false, cond, List, [], ◌∷◌, map, Option, None, Some, slice_get, ℤ, refl, sym, ap, subst, ◌∙◌, arith}
+use Rattle.std.proofs.Common.{◌≡◌, ℕ, suc, ◌+◌, ◌-◌, ◌<◌, ◌==◌, Bool, true, false, cond, List, [], ◌∷◌, map, Option, None, Some, slice_get, ℤ, refl, sym, ap, subst, ◌∙◌, arith}
 use Rattle.std.specs.Option.{unwrap_or}
 use Rattle.fb_schema.specs.declared.kinds.Base.{Base}
 use Rattle.fb_value.specs.Datum.{Datum, a_number, a_text, a_vector, a_struct, a_table, a_member, an_unknown, Parts, no_parts, more_parts, SlotEntries, no_entries, absent_entry, present_entry, count}
-use Rattle.fb_value.specs.Counts.{depth, parts_depth, entries_depth, cells, parts_cells, entries_cells}
-use Rattle.std.proofs.lemmas.Bool.Decides.{Decides-eqb}
 use Rattle.fb_value.specs.Num.{Bytes, num}
 use Rattle.fb_layout.specs.Laid.{LaidSchema, Slot, StoredKind, scalar_kind, struct_kind, table_kind, union_kind, code_kind, text_kind, StoredShape, one_of, vector_of, slots_of, parts_of, struct_at, size_of, member_by_code}
 use Rattle.fb_value.specs.Places.{Target, table_part, member_part, text_part, vector_part, Sort, ref_place, part_place, inline_place, code_place, unknown_place, Place, named_slot, named_union, named_slots, named_elements, target_of, next_required, is_present, slot_number, code_at}
@@ -13,38 +11,19 @@ use Rattle.fb_value.specs.Lies.{LiesInline, LiesParts, Behind, EntryAt, IsCode, 
 use Rattle.fb_value.specs.Reached.{Path, Names, Leads}
 use Rattle.fb_value.specs.Holds.{header_fault}
 use Rattle.fb_value.specs.OldSlots.{OnlyOld, table_of, is_in_use}
-use Rattle.fb_value.proofs.Steps.{if_there}
 use Rattle.fb_conform.proofs.Moved.{moved_kind, moved_shape, moved_target, moved_sort, moved_place, KnownKind, KnownKinds, KnownShape, KnownSort}
 use Rattle.fb_conform.proofs.Agrees.{SlotStays, Grown, types_in, Agrees}
 use Rattle.fb_conform.specs.Twins.{to_new}
-use Rattle.fb_conform.specs.Back.{back, back_items, back_slots, if_known, union_known, known_code}
+use Rattle.fb_conform.specs.Back.{back, back_items, back_slots, if_known, union_known}
 use Rattle.fb_value.specs.Reads.{default_entry}
 use Rattle.fb_conform.specs.Carry.{unless_gone}
 use Rattle.fb_conform.specs.Laws.{BackHolds}
 use Rattle.fb_conform.proofs.Names.{named_twin, new_name}
 use Rattle.fb_conform.proofs.Agreeing.{agrees, twins}
-use Rattle.fb_conform.proofs.Carried.{gone_depth, gone_cells, asked_same}
+use Rattle.fb_conform.proofs.Carried.{asked_same}
 use Rattle.fb_conform.proofs.RulesKept.{keeps_back, size_moved}
-
--- a slot's place, moved
-MovedPlace : (ℕ → ℕ) → Option Place → Option Place
-MovedPlace to None = None
-MovedPlace to (Some x) = Some (moved_place to x)
-
-there_moved : (to : ℕ → ℕ) (c : Bool) (s : Sort) (q : ℕ) → cond c (Some (record { sort = moved_sort to s; at = q })) None ≡ MovedPlace to (cond c (Some (record { sort = s; at = q })) None)
-unfolding MovedPlace
-there_moved to true s q = refl
-there_moved to false s q = refl
-
-next_same : (to : ℕ → ℕ) (n : ℕ) (fs gs : List Slot) → Grown to n fs gs → next_required gs ≡ next_required fs
-next_same to n [] [] grown = refl
-next_same to n [] (g ∷ gs) grown = grown.0
-next_same to n (f ∷ fs) (g ∷ gs) grown = grown.0.required
-next_same to n (f ∷ fs) [] grown = absurd grown
-
-count_back : (A B : LaidSchema) (ds : Parts) → count (back_items A B ds) ≡ count ds
-count_back A B no_parts = refl
-count_back A B (more_parts d ds) = ap suc (count_back A B ds)
+use Rattle.fb_conform.proofs.MovedPlaces.{MovedPlace, next_same, UnionAt, Numbered, same_number, zero_test, empty_union, slot_moved, place_known, no_code, kept_code, union_is}
+use Rattle.fb_conform.proofs.ReturnedCounts.{count_back, depth_back, cells_back}
 
 inline_back : (A B : LaidSchema) (b : Bytes) (kind : StoredKind) (p : ℕ) (d : Datum) → LiesInline B b kind p d → back A B d ≡ d
 inline_back A B b (scalar_kind base) p (a_number n) lies = refl
@@ -52,26 +31,6 @@ inline_back A B b (struct_kind s) p (a_struct ds) lies = refl
 inline_back A B b _ p _ lies = absurd lies
 
 module _ (A B : LaidSchema) (b : Bytes) (agrees : Agrees A B) (returns : (t : ℕ) → t < types_in A → to_new B A (to_new A B t) ≡ t) where
-  -- a slot that is no union's value names the same place
-  slot_moved : (p k : ℕ) (f g : Slot) (fs gs : List Slot) (s : StoredShape) → is_union s ≡ false → KnownShape (types_in A) s → next_required gs ≡ next_required fs
-      → named_slot B b p k gs (moved_shape (to_new A B) s) ≡ MovedPlace (to_new A B) (named_slot A b p k fs s)
-  slot_moved p k f g fs gs (one_of (union_kind u)) plain known next = cc
-  slot_moved p k f g fs gs (one_of (scalar_kind base)) plain known next = there_moved _ (is_present b p k) _ _
-  slot_moved p k f g fs gs (one_of (struct_kind s)) plain known next = there_moved _ (is_present b p k) _ _
-  slot_moved p k f g fs gs (one_of (table_kind t)) plain known next = there_moved _ (is_present b p k) _ _
-  slot_moved p k f g fs gs (one_of (code_kind u)) plain known next = rw next (there_moved _ (is_present b p k) _ _)
-  slot_moved p k f g fs gs (one_of text_kind) plain known next = there_moved _ (is_present b p k) _ _
-  slot_moved p k f g fs gs (vector_of kind) plain known next = there_moved _ (is_present b p k) _ _
-
-  place_known : (p k : ℕ) (f : Slot) (fs : List Slot) (s : StoredShape) (y : Place) → is_union s ≡ false → KnownShape (types_in A) s → named_slot A b p k fs s ≡ Some y → KnownSort (types_in A) y.sort
-  place_known p k f fs (one_of (union_kind u)) y plain known e = cc
-  place_known p k f fs (one_of (scalar_kind base)) y plain known e = subst (λ (z : Place). KnownSort (types_in A) z.sort) (if_there _ _ y e).1 known
-  place_known p k f fs (one_of (struct_kind s)) y plain known e = subst (λ (z : Place). KnownSort (types_in A) z.sort) (if_there _ _ y e).1 known
-  place_known p k f fs (one_of (table_kind t)) y plain known e = subst (λ (z : Place). KnownSort (types_in A) z.sort) (if_there _ _ y e).1 known
-  place_known p k f fs (one_of (code_kind u)) y plain known e = subst (λ (z : Place). KnownSort (types_in A) z.sort) (if_there _ _ y e).1 known
-  place_known p k f fs (one_of text_kind) y plain known e = subst (λ (z : Place). KnownSort (types_in A) z.sort) (if_there _ _ y e).1 known
-  place_known p k f fs (vector_of kind) y plain known e = subst (λ (z : Place). KnownSort (types_in A) z.sort) (if_there _ _ y e).1 known
-
   -- nothing stands in unknown slots from a place on
   OnlyFrom : Place → Type 0
   OnlyFrom x = (path : Path) (X : Target) (q t k : ℕ) → Leads B b x path (record { sort = part_place X; at = q }) → table_of X ≡ Some t
@@ -113,13 +72,11 @@ module _ (A B : LaidSchema) (b : Bytes) (agrees : Agrees A B) (returns : (t : �
   code_back (unknown_place c) p known lies = absurd lies
 
   absent_back : (f g : Slot) (x : Option Place) → f.if_absent ≡ None → ((y : Place) → x ≡ Some y → KnownSort (types_in A) y.sort) → AbsentEntry B b g (MovedPlace (to_new A B) x) → AbsentEntry A b f x
-  unfolding MovedPlace
   absent_back f g None none known entry = none
   absent_back f g (Some y) none known entry = code_back y.sort y.at (known y refl) entry
 
   present_back : (f g : Slot) (x : Option Place) (d d2 : Datum) → g.if_absent ≡ f.if_absent → ((y : Place) → x ≡ Some y → KnownSort (types_in A) y.sort) → ((y : Place) → x ≡ Some y → OnlyAt y.sort y.at)
       → ((n : ℤ) → d ≡ a_number n → d2 ≡ a_number n) → ((c : ℕ) → d ≡ an_unknown c → d2 ≡ an_unknown c) → Knows d d2 → PresentEntry B b g (MovedPlace (to_new A B) x) d (λ s q. Lies B b s q d) → PresentEntry A b f x d2 (λ s q. Lies A b s q d2)
-  unfolding MovedPlace
   present_back f g None d d2 same known only as_number as_other knows entry = (entry.0, sym same ∙ entry.1, as_number entry.0 entry.2)
   present_back f g (Some y) d d2 same known only as_number as_other knows entry = entry_back y.sort y.at d d2 (known y refl) (only y refl) knows as_other entry
 
@@ -138,30 +95,13 @@ module _ (A B : LaidSchema) (b : Bytes) (agrees : Agrees A B) (returns : (t : �
   member_stays u c t w q (a_member c2 d) is lies = rw (lies.0, is) refl
   member_stays u c t w q _ is lies = absurd lies
 
-  abbrev UnionAt : Bool → ℕ → ℕ → Bool → Option ℕ → Option Place
-  UnionAt zero_code c q here None = cond (not zero_code && here) (Some (record { sort = unknown_place c; at = q })) None
-  UnionAt zero_code c q here (Some t) = cond here (Some (record { sort = ref_place (member_part c t); at = q })) None
-
-  Numbered : Option ℤ → Datum → Type 0
-  Numbered o d = (n : ℤ) × (o ≡ Some n) × (d ≡ a_number n)
-
   none_present : (f g : Slot) (u : ℕ) (d : Datum) → g.if_absent ≡ f.if_absent → Numbered g.if_absent d → Numbered f.if_absent (union_known A u d (back A B d))
-  unfolding Numbered
   none_present f g u d same entry = (entry.0, sym same ∙ entry.1, number_known u d entry.0 entry.2)
-
-  same_number : (m n : ℕ) → Some m ≡ Some n → m ≡ n
-  same_number m n e = cc
-
-  no_code : (u c w : ℕ) → c ≡ 0 → member_by_code B u c ≡ Some w → ⊥
-  no_code u c w e is = let h : member_by_code B u 0 ≡ Some w = subst (λ (z : ℕ). member_by_code B u z ≡ Some w) e is in cc
-
-  kept_code : (u c t : ℕ) → u < types_in A → member_by_code A u c ≡ Some t → member_by_code B (to_new A B u) c ≡ None → ⊥
-  kept_code u c t known is none = let h : None ≡ Some (to_new A B t) = sym none ∙ (agrees.members u c t known is).1 in cc
 
   union_present : (f g : Slot) (u c q : ℕ) (zero_code here : Bool) (oA oB : Option ℕ) (d : Datum) → u < types_in A → member_by_code A u c ≡ oA → member_by_code B (to_new A B u) c ≡ oB → (zero_code ≡ true → c ≡ 0) → g.if_absent ≡ f.if_absent
       → ((y : Place) → UnionAt zero_code c q here oB ≡ Some y → OnlyFrom y) → Knows d (back A B d)
       → PresentEntry B b g (UnionAt zero_code c q here oB) d (λ s q. Lies B b s q d) → PresentEntry A b f (UnionAt zero_code c q here oA) (union_known A u d (back A B d)) (λ s q. Lies A b s q (union_known A u d (back A B d)))
-  unfolding Numbered OnlyAt
+  unfolding OnlyAt
   union_present f g u c q true false None None d known is_old is_new zero_is same only knows entry = none_present f g u d same entry
   union_present f g u c q true false None (Some w) d known is_old is_new zero_is same only knows entry = none_present f g u d same entry
   union_present f g u c q true false (Some t) None d known is_old is_new zero_is same only knows entry = none_present f g u d same entry
@@ -172,9 +112,9 @@ module _ (A B : LaidSchema) (b : Bytes) (agrees : Agrees A B) (returns : (t : �
   union_present f g u c q false false (Some t) (Some w) d known is_old is_new zero_is same only knows entry = none_present f g u d same entry
   union_present f g u c q true true None None d known is_old is_new zero_is same only knows entry = none_present f g u d same entry
   union_present f g u c q false true None None d known is_old is_new zero_is same only knows entry = other_known u d c entry
-  union_present f g u c q true true None (Some w) d known is_old is_new zero_is same only knows entry = absurd (no_code (to_new A B u) c w (zero_is refl) is_new)
+  union_present f g u c q true true None (Some w) d known is_old is_new zero_is same only knows entry = absurd (no_code A B b agrees (to_new A B u) c w (zero_is refl) is_new)
   union_present f g u c q false true None (Some w) d known is_old is_new zero_is same only knows entry = member_lost u c w (q + num b q 4) d is_old entry.1
-  union_present f g u c q zero_code true (Some t) None d known is_old is_new zero_is same only knows entry = absurd (kept_code u c t known is_old is_new)
+  union_present f g u c q zero_code true (Some t) None d known is_old is_new zero_is same only knows entry = absurd (kept_code A B b agrees u c t known is_old is_new)
   union_present f g u c q zero_code true (Some t) (Some w) d known is_old is_new zero_is same only knows entry =
       let fact = agrees.members u c t known is_old in
       let one_table : w ≡ to_new A B t = same_number _ _ (sym is_new ∙ fact.1) in
@@ -191,23 +131,15 @@ module _ (A B : LaidSchema) (b : Bytes) (agrees : Agrees A B) (returns : (t : �
   union_absent f g u c q true true None oB known is_old is_new none entry = none
   union_absent f g u c q false true None None known is_old is_new none entry = absurd entry
   union_absent f g u c q false true None (Some w) known is_old is_new none entry = absurd entry
-  union_absent f g u c q zero_code true (Some t) None known is_old is_new none entry = absurd (kept_code u c t known is_old is_new)
+  union_absent f g u c q zero_code true (Some t) None known is_old is_new none entry = absurd (kept_code A B b agrees u c t known is_old is_new)
   union_absent f g u c q zero_code true (Some t) (Some w) known is_old is_new none entry = absurd entry
-
-  union_is : (p k c : ℕ) (o : Option ℕ) → named_union b p k c o ≡ UnionAt (c == 0) c (p + slot_number b p k) (is_present b p k) o
-  union_is p k c None = refl
-  union_is p k c (Some t) = refl
-
-  zero_test : (c : ℕ) → (c == 0) ≡ true → c ≡ 0
-  zero_test c e = (Decides-eqb c 0).0 e
 
   absent_plain : (p k : ℕ) (f g : Slot) (fs gs : List Slot) (s : StoredShape) → is_union s ≡ false → KnownShape (types_in A) s → next_required gs ≡ next_required fs → f.if_absent ≡ None
       → AbsentEntry B b g (named_slot B b p k gs (moved_shape (to_new A B) s)) → AbsentEntry A b f (named_slot A b p k fs s)
   absent_plain p k f g fs gs s plain known next none entry =
-      absent_back f g (named_slot A b p k fs s) none (λ y e. place_known p k f fs s y plain known e) (subst (λ (x : Option Place). AbsentEntry B b g x) (slot_moved p k f g fs gs s plain known next) entry)
+      absent_back f g (named_slot A b p k fs s) none (λ y e. place_known A B b agrees p k f fs s y plain known e) (subst (λ (x : Option Place). AbsentEntry B b g x) (slot_moved A B b agrees p k f g fs gs s plain known next) entry)
 
   moved_some : (x : Option Place) (y : Place) → x ≡ Some y → MovedPlace (to_new A B) x ≡ Some (moved_place (to_new A B) y)
-  unfolding MovedPlace
   moved_some None y e = cc
   moved_some (Some z) y e = let same : z ≡ y = cc in ap (λ w. Some (moved_place (to_new A B) w)) same
 
@@ -222,22 +154,17 @@ module _ (A B : LaidSchema) (b : Bytes) (agrees : Agrees A B) (returns : (t : �
       → PresentEntry B b g (named_slot B b p k gs (moved_shape (to_new A B) s)) d (λ s q. Lies B b s q d) → PresentEntry A b f (named_slot A b p k fs s) (back A B d) (λ s q. Lies A b s q (back A B d))
   unfolding OnlyAt
   present_plain p k f g fs gs s d plain known next same only knows entry =
-      let place = slot_moved p k f g fs gs s plain known next in
-      present_back f g (named_slot A b p k fs s) d (back A B d) same (λ y e. place_known p k f fs s y plain known e) (λ y e. only (moved_place (to_new A B) y) (place ∙ moved_some _ y e))
+      let place = slot_moved A B b agrees p k f g fs gs s plain known next in
+      present_back f g (named_slot A b p k fs s) d (back A B d) same (λ y e. place_known A B b agrees p k f fs s y plain known e) (λ y e. only (moved_place (to_new A B) y) (place ∙ moved_some _ y e))
       (λ n e. number_back d n e) (λ c e. other_back d c e) knows (subst (λ (x : Option Place). PresentEntry B b g x d (λ s q. Lies B b s q d)) place entry)
-
-  empty_union : (zero_code : Bool) (c q : ℕ) (o : Option ℕ) → UnionAt zero_code c q false o ≡ None
-  empty_union true c q None = refl
-  empty_union false c q None = refl
-  empty_union zero_code c q (Some t) = refl
 
   -- the entry of a slot that is in use in both
   absent_used : (p k : ℕ) (f g : Slot) (fs gs : List Slot) (s : StoredShape) → KnownShape (types_in A) s → next_required gs ≡ next_required fs → f.if_absent ≡ None
       → AbsentEntry B b g (named_slot B b p k gs (moved_shape (to_new A B) s)) → AbsentEntry A b f (named_slot A b p k fs s)
   absent_used p k f g fs gs (one_of (union_kind u)) known next none entry =
       let c = code_at b p (k - 1) in
-      subst (λ (x : Option Place). AbsentEntry A b f x) (sym (union_is p k c (member_by_code A u c)))
-      (union_absent f g u c (p + slot_number b p k) (c == 0) (is_present b p k) _ _ known refl refl none (subst (λ (x : Option Place). AbsentEntry B b g x) (union_is p k c (member_by_code B (to_new A B u) c)) entry))
+      subst (λ (x : Option Place). AbsentEntry A b f x) (sym (union_is A B b agrees p k c (member_by_code A u c)))
+      (union_absent f g u c (p + slot_number b p k) (c == 0) (is_present b p k) _ _ known refl refl none (subst (λ (x : Option Place). AbsentEntry B b g x) (union_is A B b agrees p k c (member_by_code B (to_new A B u) c)) entry))
   absent_used p k f g fs gs (one_of (scalar_kind base)) known next none entry = absent_plain p k f g fs gs (one_of (scalar_kind base)) refl known next none entry
   absent_used p k f g fs gs (one_of (struct_kind s)) known next none entry = absent_plain p k f g fs gs (one_of (struct_kind s)) refl known next none entry
   absent_used p k f g fs gs (one_of (table_kind t)) known next none entry = absent_plain p k f g fs gs (one_of (table_kind t)) refl known next none entry
@@ -250,8 +177,8 @@ module _ (A B : LaidSchema) (b : Bytes) (agrees : Agrees A B) (returns : (t : �
       → PresentEntry B b g (named_slot B b p k gs (moved_shape (to_new A B) s)) d (λ s q. Lies B b s q d) → PresentEntry A b f (named_slot A b p k fs s) (if_known A s d (back A B d)) (λ s2 q. Lies A b s2 q (if_known A s d (back A B d)))
   present_used p k f g fs gs (one_of (union_kind u)) d known next same only knows entry =
       let c = code_at b p (k - 1) in
-      let here = union_is p k c (member_by_code B (to_new A B u) c) in
-      subst (λ (x : Option Place). PresentEntry A b f x (union_known A u d (back A B d)) (λ s q. Lies A b s q (union_known A u d (back A B d)))) (sym (union_is p k c (member_by_code A u c)))
+      let here = union_is A B b agrees p k c (member_by_code B (to_new A B u) c) in
+      subst (λ (x : Option Place). PresentEntry A b f x (union_known A u d (back A B d)) (λ s q. Lies A b s q (union_known A u d (back A B d)))) (sym (union_is A B b agrees p k c (member_by_code A u c)))
       (union_present f g u c (p + slot_number b p k) (c == 0) (is_present b p k) _ _ d known refl refl (zero_test c) same (λ y e. only y (here ∙ e)) knows
       (subst (λ (x : Option Place). PresentEntry B b g x d (λ s q. Lies B b s q d)) here entry))
   present_used p k f g fs gs (one_of (scalar_kind base)) d known next same only knows entry = present_plain p k f g fs gs (one_of (scalar_kind base)) d refl known next same only knows entry
@@ -266,7 +193,7 @@ module _ (A B : LaidSchema) (b : Bytes) (agrees : Agrees A B) (returns : (t : �
   nothing_there p k f fs (one_of (union_kind u)) e = no_union (code_at b p (k - 1) == 0) (member_by_code A u (code_at b p (k - 1)))
     where
       no_union : (zero_code : Bool) (o : Option ℕ) → named_union b p k (code_at b p (k - 1)) o ≡ None
-      no_union z o = union_is p k (code_at b p (k - 1)) o ∙ rw e (empty_union (code_at b p (k - 1) == 0) (code_at b p (k - 1)) (p + 0) o)
+      no_union z o = union_is A B b agrees p k (code_at b p (k - 1)) o ∙ rw e (empty_union (code_at b p (k - 1) == 0) (code_at b p (k - 1)) (p + 0) o)
   nothing_there p k f fs (one_of (scalar_kind base)) e = rw e refl
   nothing_there p k f fs (one_of (struct_kind s)) e = rw e refl
   nothing_there p k f fs (one_of (table_kind t)) e = rw e refl
@@ -448,81 +375,6 @@ module _ (A B : LaidSchema) (b : Bytes) (agrees : Agrees A B) (returns : (t : �
       (subst (λ (z : ℕ). LiesAt B b (ref_place (table_part z)) 0 v) agrees.root lies)
 
 -- what is taken back is no deeper and takes no more cells
-default_depth : (o : Option ℤ) (ss : SlotEntries) → entries_depth (default_entry o ss) ≤ entries_depth ss
-default_depth None ss = omega arith
-default_depth (Some n) ss = omega arith
-
-default_cells : (o : Option ℤ) (ss : SlotEntries) → entries_cells (default_entry o ss) ≤ entries_cells ss
-default_cells None ss = omega arith
-default_cells (Some n) ss = omega arith
-
-code_depth : (o : Option ℕ) (c : ℕ) (e : Datum) → depth (known_code o c e) ≤ depth e
-code_depth None c e = omega arith
-code_depth (Some t) c e = omega arith
-
-code_cells : (o : Option ℕ) (c : ℕ) (e : Datum) → cells (known_code o c e) ≤ cells e
-code_cells None c e = omega arith
-code_cells (Some t) c e = omega arith
-
-union_depth : (A : LaidSchema) (u : ℕ) (d e : Datum) → depth (union_known A u d e) ≤ depth e
-union_depth A u (a_member c d) e = code_depth (member_by_code A u c) c e
-union_depth A u _ e = omega arith
-
-union_cells : (A : LaidSchema) (u : ℕ) (d e : Datum) → cells (union_known A u d e) ≤ cells e
-union_cells A u (a_member c d) e = code_cells (member_by_code A u c) c e
-union_cells A u _ e = omega arith
-
-known_depth : (A : LaidSchema) (s : StoredShape) (d e : Datum) → depth (if_known A s d e) ≤ depth e
-known_depth A (one_of (union_kind u)) d e = union_depth A u d e
-known_depth A _ d e = omega arith
-
-known_cells : (A : LaidSchema) (s : StoredShape) (d e : Datum) → cells (if_known A s d e) ≤ cells e
-known_cells A (one_of (union_kind u)) d e = union_cells A u d e
-known_cells A _ d e = omega arith
-
-module _ (A B : LaidSchema) where
-  mutual
-    depth_back : (d : Datum) → depth (back A B d) ≤ depth d
-    depth_back (a_number n) = omega arith
-    depth_back (a_text bytes) = omega arith
-    depth_back (a_vector ds) = items_depth_back ds
-    depth_back (a_struct ds) = omega arith
-    depth_back (a_table type ss) = omega (arith, slots_depth_back (slots_of A (to_new B A type)) ss)
-    depth_back (a_member c d) = depth_back d
-    depth_back (an_unknown c) = omega arith
-
-    items_depth_back : (ds : Parts) → parts_depth (back_items A B ds) ≤ parts_depth ds
-    items_depth_back no_parts = omega arith
-    items_depth_back (more_parts d ds) = omega (arith, depth_back d, items_depth_back ds)
-
-    slots_depth_back : (fs : List Slot) (ss : SlotEntries) → entries_depth (back_slots A B fs ss) ≤ entries_depth ss
-    slots_depth_back fs no_entries = omega arith
-    slots_depth_back [] (absent_entry ss) = omega arith
-    slots_depth_back [] (present_entry d ss) = omega arith
-    slots_depth_back (f ∷ fs) (absent_entry ss) = omega (arith, default_depth f.if_absent (back_slots A B fs ss), slots_depth_back fs ss)
-    slots_depth_back (f ∷ fs) (present_entry d ss) = gone_depth f.deprecated (if_known A f.shape d (back A B d)) d (back_slots A B fs ss) ss (omega (arith, known_depth A f.shape d (back A B d), depth_back d)) (slots_depth_back fs ss)
-
-  mutual
-    cells_back : (d : Datum) → cells (back A B d) ≤ cells d
-    cells_back (a_number n) = omega arith
-    cells_back (a_text bytes) = omega arith
-    cells_back (a_vector ds) = omega (arith, items_cells_back ds, count_back A B ds)
-    cells_back (a_struct ds) = omega arith
-    cells_back (a_table type ss) = omega (arith, slots_cells_back (slots_of A (to_new B A type)) ss)
-    cells_back (a_member c d) = cells_back d
-    cells_back (an_unknown c) = omega arith
-
-    items_cells_back : (ds : Parts) → parts_cells (back_items A B ds) ≤ parts_cells ds
-    items_cells_back no_parts = omega arith
-    items_cells_back (more_parts d ds) = omega (arith, cells_back d, items_cells_back ds)
-
-    slots_cells_back : (fs : List Slot) (ss : SlotEntries) → entries_cells (back_slots A B fs ss) ≤ entries_cells ss
-    slots_cells_back fs no_entries = omega arith
-    slots_cells_back [] (absent_entry ss) = omega arith
-    slots_cells_back [] (present_entry d ss) = omega arith
-    slots_cells_back (f ∷ fs) (absent_entry ss) = omega (arith, default_cells f.if_absent (back_slots A B fs ss), slots_cells_back fs ss)
-    slots_cells_back (f ∷ fs) (present_entry d ss) = gone_cells f.deprecated (if_known A f.shape d (back A B d)) d (back_slots A B fs ss) ss (omega (arith, known_cells A f.shape d (back A B d), cells_back d)) (slots_cells_back fs ss)
-
 pub back_holds : BackHolds
 back_holds A B most raw b v old new conforms only holds =
     let fits = agrees A B old new conforms in
