@@ -82,7 +82,8 @@ fn carry_entries(
 ) -> Result<Vec<Option<Value>>, AllocError>
     ensures { IfOk result (λ carried. entries_view carried.items
         ≡ carry_slots versions.entry.before.now versions.entry.after.now
-        (map (slot_of versions.entry.after.now.schema) (map field_seen slots.now)) (entries_view entries.now.items)) }
+        (map (slot_of versions.entry.after.now.schema) (map field_seen slots.now))
+        (entries_view entries.now.items)) }
 {
     let mut carried = Vec::with_capacity(alloc, slots.len())?;
     for i in 0..slots.len() {
@@ -104,7 +105,8 @@ fn carry_entry(
     was: &Option<Value>,
 ) -> Result<Option<Value>, AllocError>
     ensures { IfOk result (λ carried. option_map view carried
-        ≡ carried_entry versions.entry.before.now versions.entry.after.now (slot_of versions.entry.after.now.schema (field_seen slot.now))
+        ≡ carried_entry versions.entry.before.now versions.entry.after.now
+        (slot_of versions.entry.after.now.schema (field_seen slot.now))
         (Some (option_map view was.now))) }
 {
     match was {
