@@ -1,0 +1,13 @@
+pub mod Twins
+pub mod ByName
+pub mod Conforms
+pub mod BreachNumbers
+pub mod Order
+pub mod Told
+pub mod Carry
+pub mod CarriedEntries
+pub mod Back
+pub mod Laws
+pub mod ExampleSchemas
+pub mod ExampleCarried
+pub mod ExampleBreaches

@@ -1,0 +1,33 @@
+-- Types of two schemas that have one full name.
+-- From the FlatBuffers documentation, "Evolution": a type is known by its full name, wherever it is declared.
+use Rattle.std.specs.Prelude.{ℕ, ◌≡◌, List, Option, Some, slice_get, option_map, option_and_then, unwrap_or}
+use Rattle.fb_schema.specs.declared.kinds.TypeId.{TypeId}
+use Rattle.fb_schema.specs.Schema.{DeclaredField, DeclaredSchema, body_at, slots_in}
+use Rattle.fb_schema.specs.Found.{type_named, name_at}
+use Rattle.fb_layout.specs.Laid.{LaidSchema}
+
+-- two types, each of its own schema, have one full name
+abbrev pub SameName : DeclaredSchema → DeclaredSchema → ℕ → ℕ → Type 0
+SameName S T t u = name_at S t ≡ name_at T u
+
+-- the new type that has an old type's full name, if there is one
+abbrev pub twin : DeclaredSchema → DeclaredSchema → ℕ → Option ℕ
+twin S T t = option_and_then (λ name. type_named T name) (name_at S t)
+
+abbrev pub Twins : DeclaredSchema → DeclaredSchema → ℕ → ℕ → Type 0
+Twins S T t u = twin S T t ≡ Some u
+
+-- the old and the new field in a slot
+pub record SlotTwins (S T : DeclaredSchema) (t k : ℕ) (f g : DeclaredField) : Type 0 where
+  pub type : ℕ
+  pub twins : Twins S T t type
+  pub old : slice_get (slots_in (body_at S t)) k ≡ Some f
+  pub new : slice_get (slots_in (body_at T type)) k ≡ Some g
+
+-- the number that an old type has in the new schema, 0 where it is gone
+abbrev pub to_new : LaidSchema → LaidSchema → ℕ → ℕ
+to_new A B t = unwrap_or (twin A.schema B.schema t) 0
+
+-- the list has each old type's new number
+abbrev pub ListsNewNumbers : LaidSchema → LaidSchema → List TypeId → Type 0
+ListsNewNumbers A B numbers = (t : ℕ) → unwrap_or (option_map (λ u. u.0) (slice_get numbers t)) 0 ≡ to_new A B t

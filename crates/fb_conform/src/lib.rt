@@ -1,0 +1,18 @@
+//! How a schema may grow, and values under the schemas of one line.
+#![tactic(auto)]
+
+mod bodies;
+mod breaches;
+mod carrying;
+mod conforming;
+mod laws;
+mod members;
+mod shapes;
+mod slots;
+mod structs;
+mod twins;
+
+pub use breaches::Breach;
+pub use carrying::carry;
+pub use conforming::conform;
+pub use laws::{back_holds, carried_fits, carried_holds, carries_on, conforms_on};
