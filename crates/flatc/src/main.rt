@@ -4,8 +4,8 @@
 use clap::Error;
 use clap::error::ErrorKind;
 use flatc_tool::{
-    Heard, Job, Limits, Noted, ToolFault, check, job_of, print_to, report, take_all, to_binary,
-    to_json,
+    Heard, Job, Limits, Noted, ToolFault, check, conform_texts, job_of, print_to, report, take_all,
+    to_binary, to_json,
 };
 use std::alloc::Global;
 use std::process::ExitCode;
@@ -109,6 +109,12 @@ fn check_files(
     }
 }
 
+fn conform_files(rt: &HostRuntime, old: &str, new: &str) -> Result<(), ToolFault> {
+    let old = file_of(rt, old)?;
+    let new = file_of(rt, new)?;
+    conform_texts(rt.alloc(), old.as_slice(), new.as_slice())
+}
+
 /// Does a job, and returns what is printed then.
 fn do_job(rt: &HostRuntime, job: &Job) -> Result<&'static str, ToolFault> {
     match job {
@@ -138,7 +144,10 @@ fn do_job(rt: &HostRuntime, job: &Job) -> Result<&'static str, ToolFault> {
             check_files(rt, schema.as_str(), bin, *raw)?;
             Ok("ok\n")
         }
-        Job::Conform { .. } => Err(ToolFault::FileWrite),
+        Job::Conform { old, new } => {
+            conform_files(rt, old.as_str(), new.as_str())?;
+            Ok("conforms\n")
+        }
     }
 }
 

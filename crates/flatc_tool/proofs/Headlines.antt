@@ -13,11 +13,15 @@ use Rattle.fb_value.proofs.Outcomes.{value_or_fault_shown}
 use Rattle.fb_value.proofs.LeastOnce.{one_least_fault_shown}
 use Rattle.fb_json.specs.declared.faults.TextFault.TheVariants as the_text
 use Rattle.fb_json.specs.Texts.{json_text}
+use Rattle.fb_json.proofs.MeantWhole.{meant_whole}
+use Rattle.fb_conform.specs.Conforms.{Conforms}
+use Rattle.fb_conform.specs.Carry.{carry}
+use Rattle.fb_conform.proofs.CarriedLaw.{carried_holds}
 use Rattle.flatc_tool.specs.SchemaTexts.{IsAccepted}
 use Rattle.flatc_tool.specs.Jobs.{JsonMeans, IsBinary, IsText, TextRefused, IsNotMemory}
 use Rattle.flatc_tool.specs.Headline.{CarriesValue, JsonIsCarried, NoneLies, OthersAreRefused}
 use Rattle.flatc_tool.specs.declared.faults.ToolFault.{ToolFault}
-use Rattle.flatc_tool.specs.declared.faults.ToolFault.TheVariants.{Schema, Json, Build, Read, Text, Write, FileRead, FileWrite, FileTooLong, BadJson, Memory}
+use Rattle.flatc_tool.specs.declared.faults.ToolFault.TheVariants.{Schema, Json, Build, Read, Text, Write, Breach, Older, Newer, FileRead, FileWrite, FileTooLong, BadJson, Memory}
 use Rattle.flatc_tool.proofs.OneText.{same_accepted, refused_excludes}
 use Rattle.flatc_tool.proofs.JobSteps.{same_value}
 
@@ -40,12 +44,18 @@ module _ (schema json : List ℕ) (most : Bounds) (unknown : Bool) (b : Bytes) (
       let one = one_value_shown L most raw b is.value v there (held raw) in
       is.spelled ∙ (ap (λ (K : LaidSchema). json_text K defaults is.value) same ∙ ap (λ (w : Datum). json_text L defaults w) one)
 
+  evolved : (raw : Bool) (new : List ℕ) (K : LaidSchema) → IsAccepted new K → Conforms L K → Holds K most raw b (carry L K v)
+  evolved raw new K other conforms =
+      let whole = meant_whole L most unknown means.0 v means.2 in
+      carried_holds L K most raw b v accepted.made other.made conforms whole (subst (λ (M : LaidSchema). OnlyOld M b) layout made.old_slots) (held raw)
+
   carried : CarriesValue schema b most L v
   carried = record {
     holds = held;
     only = λ raw w other. one_value_shown L most raw b w v other (held raw);
     old_slots = subst (λ (K : LaidSchema). OnlyOld K b) layout made.old_slots;
     printed = printed;
+    evolved = evolved;
   }
 
 pub json_is_carried_shown : JsonIsCarried
@@ -69,6 +79,9 @@ module _ (schema : List ℕ) (b : Bytes) (most : Bounds) (raw : Bool) (L : LaidS
     answered (Json f) refused rule = absurd refused
     answered (Build f) refused rule = absurd refused
     answered (Write f) refused rule = absurd refused
+    answered (Breach b) refused rule = absurd refused
+    answered (Older f) refused rule = absurd refused
+    answered (Newer f) refused rule = absurd refused
     answered FileRead refused rule = absurd refused
     answered FileWrite refused rule = absurd refused
     answered FileTooLong refused rule = absurd refused

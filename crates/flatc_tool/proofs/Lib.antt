@@ -7,3 +7,4 @@ pub mod Utf8Names
 pub mod Utf8Values
 pub mod Utf8Texts
 pub mod PrintSteps
+pub mod Breaches

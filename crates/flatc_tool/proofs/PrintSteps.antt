@@ -24,7 +24,7 @@ use Rattle.flatc_tool.specs.Jobs.{IsText, MayBeText, TextRefused}
 use Rattle.flatc_tool.specs.Prints.{IsSent, PrintRefused, IsOfInput, text_fault}
 use Rattle.flatc_tool.specs.declared.schema_layouts.SchemaTextFault.{SchemaTextFault}
 use Rattle.flatc_tool.specs.declared.faults.ToolFault.{ToolFault}
-use Rattle.flatc_tool.specs.declared.faults.ToolFault.TheVariants.{Schema, Json, Build, Read, Text, Write, FileRead, FileWrite, FileTooLong, BadJson, Memory}
+use Rattle.flatc_tool.specs.declared.faults.ToolFault.TheVariants.{Schema, Json, Build, Read, Text, Write, Breach, Older, Newer, FileRead, FileWrite, FileTooLong, BadJson, Memory}
 use Rattle.flatc_tool.proofs.OneText.{same_accepted}
 use Rattle.flatc_tool.proofs.Utf8Names.{schema_utf8}
 use Rattle.flatc_tool.proofs.Utf8Values.{root_spells}
@@ -75,6 +75,9 @@ module _ (schema : List ℕ) (b : Bytes) (most : Bounds) (raw defaults : Bool) (
   text_refused (Json f) refused = absurd refused
   text_refused (Build f) refused = absurd refused
   text_refused (Text f) refused = absurd refused
+  text_refused (Breach b) refused = absurd refused
+  text_refused (Older f) refused = absurd refused
+  text_refused (Newer f) refused = absurd refused
   text_refused FileRead refused = absurd refused
   text_refused FileWrite refused = absurd refused
   text_refused FileTooLong refused = absurd refused

@@ -1,5 +1,5 @@
 -- The text of a value is UTF-8, where its own texts and the names of the schema are.
-use Rattle.std.proofs.Common.{◌≡◌, ℕ, zero, suc, ◌+◌, ◌/◌, ◌<◌, ◌≤◌, ◌^◌, ◌++◌, ◌||◌, ℤ, pos, negsuc, List, [], ◌∷◌, Bool, true, false, Option, None, Some, IsUtf8, codes, slice_get, refl, arith,  option_map, if◌then◌else◌}
+use Rattle.std.proofs.Common.{◌≡◌, ℕ, zero, suc, ◌+◌, ◌/◌, ◌<◌, ◌≤◌, ◌^◌, ◌++◌, ◌||◌, ℤ, pos, negsuc, List, [], ◌∷◌, Bool, true, false, Option, None, Some, IsUtf8, codes, slice_get, refl, arith, option_map, if◌then◌else◌}
 use Rattle.std.specs.Fmt.{decimal, signed_decimal}
 use Rattle.std.specs.Int.Signed.{mag}
 use Rattle.std.specs.Option.{option_map_or}

@@ -4,12 +4,19 @@ use Rattle.flatc_tool.specs.FaultNames.{name_of}
 use Rattle.flatc_tool.specs.FaultNumbers.{number_of, offset_of}
 use Rattle.flatc_tool.specs.FaultPlaces.{owner_of, slot_of, written_of}
 use Rattle.flatc_tool.specs.declared.faults.ToolFault.{ToolFault}
+use Rattle.flatc_tool.specs.declared.faults.ToolFault.TheVariants.{Older, Newer}
 
 abbrev pub noted : List ℕ → Option ℕ → List ℕ
 noted word None = []
 noted word (Some n) = word ++ decimal n
 
+-- which of two schemas is refused
+abbrev pub side_of : ToolFault → List ℕ
+side_of (Older f) = codes "old: "
+side_of (Newer f) = codes "new: "
+side_of _ = []
+
 abbrev pub line_of : ToolFault → List ℕ
-line_of f = decimal (number_of f) ++ codes " " ++ name_of f
+line_of f = side_of f ++ decimal (number_of f) ++ codes " " ++ name_of f
     ++ noted (codes " at ") (offset_of f) ++ noted (codes " in type ") (owner_of f)
     ++ noted (codes " slot ") (slot_of f) ++ noted (codes " after ") (written_of f)

@@ -16,10 +16,12 @@ use Rattle.fb_json.specs.declared.faults.TextFault.{TextFault}
 use Rattle.fb_json.specs.declared.faults.TextFault.TheVariants as the_text
 use Rattle.fb_text.specs.declared.faults.WriteFault.{WriteFault}
 use Rattle.fb_text.specs.declared.faults.WriteFault.TheVariants as the_write
+use Rattle.fb_conform.specs.declared.breaches.Breach.{Breach as OneBreach}
+use Rattle.fb_conform.specs.declared.breaches.Breach.TheVariants as the_breach
 use Rattle.flatc_tool.specs.declared.schema_layouts.SchemaTextFault.{SchemaTextFault}
 use Rattle.flatc_tool.specs.declared.schema_layouts.SchemaTextFault.TheVariants as the_texts
 use Rattle.flatc_tool.specs.declared.faults.ToolFault.{ToolFault}
-use Rattle.flatc_tool.specs.declared.faults.ToolFault.TheVariants.{Schema, Json, Build, Read, Text, Write, FileRead, FileWrite, FileTooLong, BadJson, Memory}
+use Rattle.flatc_tool.specs.declared.faults.ToolFault.TheVariants.{Schema, Json, Build, Read, Text, Write, Breach, Older, Newer, FileRead, FileWrite, FileTooLong, BadJson, Memory}
 
 abbrev pub syntax_name : SyntaxFault → List ℕ
 syntax_name (the_syntax.NotUtf8 at) = codes "NotUtf8"
@@ -97,6 +99,21 @@ abbrev pub write_name : WriteFault → List ℕ
 write_name (the_write.NoMemberName at) = codes "NoMemberName"
 write_name (the_write.WriteFailed n) = codes "WriteFailed"
 
+abbrev pub breach_name : OneBreach → List ℕ
+breach_name the_breach.RootChanged = codes "RootChanged"
+breach_name the_breach.IdentifierChanged = codes "IdentifierChanged"
+breach_name (the_breach.TypeGone t) = codes "TypeGone"
+breach_name (the_breach.KindChanged t) = codes "KindChanged"
+breach_name (the_breach.StructChanged t) = codes "StructChanged"
+breach_name (the_breach.SlotGone t k) = codes "SlotGone"
+breach_name (the_breach.FieldTypeChanged t k) = codes "FieldTypeChanged"
+breach_name (the_breach.DefaultChanged t k) = codes "DefaultChanged"
+breach_name (the_breach.RequiredChanged t k) = codes "RequiredChanged"
+breach_name (the_breach.DeprecatedTakenBack t k) = codes "DeprecatedTakenBack"
+breach_name (the_breach.NewRequired t k) = codes "NewRequired"
+breach_name (the_breach.EnumChanged t) = codes "EnumChanged"
+breach_name (the_breach.UnionChanged t) = codes "UnionChanged"
+
 abbrev pub name_of : ToolFault → List ℕ
 name_of (Schema f) = schema_text_name f
 name_of (Json f) = json_name f
@@ -104,6 +121,9 @@ name_of (Build f) = build_name f
 name_of (Read f) = read_name f
 name_of (Text f) = text_name f
 name_of (Write f) = write_name f
+name_of (Breach b) = breach_name b
+name_of (Older f) = schema_text_name f
+name_of (Newer f) = schema_text_name f
 name_of FileRead = codes "FileRead"
 name_of FileWrite = codes "FileWrite"
 name_of FileTooLong = codes "FileTooLong"

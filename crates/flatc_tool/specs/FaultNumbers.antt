@@ -7,10 +7,11 @@ use Rattle.fb_value.specs.FaultNumbers as read_faults
 use Rattle.fb_build.specs.FaultNumbers as build_faults
 use Rattle.fb_json.specs.FaultNumbers as json_faults
 use Rattle.fb_text.specs.FaultNumbers as write_faults
+use Rattle.fb_conform.specs.BreachNumbers as breaches
 use Rattle.flatc_tool.specs.declared.schema_layouts.SchemaTextFault.{SchemaTextFault}
 use Rattle.flatc_tool.specs.declared.schema_layouts.SchemaTextFault.TheVariants as the_schema
 use Rattle.flatc_tool.specs.declared.faults.ToolFault.{ToolFault}
-use Rattle.flatc_tool.specs.declared.faults.ToolFault.TheVariants.{Schema, Json, Build, Read, Text, Write, FileRead, FileWrite, FileTooLong, BadJson, Memory}
+use Rattle.flatc_tool.specs.declared.faults.ToolFault.TheVariants.{Schema, Json, Build, Read, Text, Write, Breach, Older, Newer, FileRead, FileWrite, FileTooLong, BadJson, Memory}
 
 abbrev pub schema_number_of : SchemaTextFault → ℕ
 schema_number_of (the_schema.Syntax f) = syntax_faults.number_of f
@@ -29,6 +30,9 @@ number_of (Build f) = build_faults.number_of f
 number_of (Read f) = read_faults.number_of f
 number_of (Text f) = json_faults.text_number_of f
 number_of (Write f) = write_faults.number_of f
+number_of (Breach b) = breaches.number_of b
+number_of (Older f) = schema_number_of f
+number_of (Newer f) = schema_number_of f
 number_of FileRead = 110
 number_of FileWrite = 111
 number_of FileTooLong = 112
@@ -38,5 +42,7 @@ number_of Memory = 114
 -- JSON, values and their texts have places of their own kind, a type and a slot.
 abbrev pub offset_of : ToolFault → Option ℕ
 offset_of (Schema f) = schema_offset_of f
+offset_of (Older f) = schema_offset_of f
+offset_of (Newer f) = schema_offset_of f
 offset_of (Read f) = read_faults.offset_of f
 offset_of _ = None

@@ -6,9 +6,12 @@ use Rattle.fb_value.specs.declared.faults.ReadFault.TheVariants as the_read
 use Rattle.fb_json.specs.FaultNumbers as json_faults
 use Rattle.fb_json.specs.declared.faults.Place.{Place}
 use Rattle.fb_text.specs.FaultNumbers as write_faults
+use Rattle.fb_schema.specs.declared.kinds.TypeId.{TypeId}
+use Rattle.fb_conform.specs.BreachNumbers as breaches
+use Rattle.flatc_tool.specs.declared.schema_layouts.SchemaTextFault.{SchemaTextFault}
 use Rattle.flatc_tool.specs.declared.schema_layouts.SchemaTextFault.TheVariants.{Layout}
 use Rattle.flatc_tool.specs.declared.faults.ToolFault.{ToolFault}
-use Rattle.flatc_tool.specs.declared.faults.ToolFault.TheVariants.{Schema, Json, Read, Text, Write}
+use Rattle.flatc_tool.specs.declared.faults.ToolFault.TheVariants.{Schema, Json, Read, Text, Write, Breach, Older, Newer}
 
 -- JSON, values and their texts have declared places, a type and one of its slots
 abbrev pub place_of : ToolFault → Option Place
@@ -17,14 +20,22 @@ place_of (Text f) = json_faults.text_place_of f
 place_of (Write f) = write_faults.place_of f
 place_of _ = None
 
--- the number of the type
+abbrev pub schema_owner_of : SchemaTextFault → Option ℕ
+schema_owner_of (Layout (the_layout.StructTooBig owner)) = Some owner.0
+schema_owner_of (Layout (the_layout.TableTooWide owner)) = Some owner.0
+schema_owner_of _ = None
+
+-- the number of the type, of two schemas the old one's
 abbrev pub owner_of : ToolFault → Option ℕ
-owner_of (Schema (Layout (the_layout.StructTooBig owner))) = Some owner.0
-owner_of (Schema (Layout (the_layout.TableTooWide owner))) = Some owner.0
+owner_of (Schema f) = schema_owner_of f
+owner_of (Older f) = schema_owner_of f
+owner_of (Newer f) = schema_owner_of f
+owner_of (Breach b) = option_map (λ (t : TypeId). t.0) (breaches.type_of b)
 owner_of f = option_map (λ (p : Place). p.owner.0) (place_of f)
 
 abbrev pub slot_of : ToolFault → Option ℕ
 slot_of (Read (the_read.MissingRequired at slot)) = Some slot
+slot_of (Breach b) = breaches.slot_of b
 slot_of f = option_map_or (λ (p : Place). p.slot) (place_of f) None
 
 -- how many bytes were written before a write failed

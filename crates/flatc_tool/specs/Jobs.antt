@@ -24,7 +24,7 @@ use Rattle.fb_build.specs.declared.faults.BuildFault.TheVariants as the_build
 use Rattle.flatc_tool.specs.SchemaTexts.{IsAccepted, IsRefused, IsWant}
 use Rattle.flatc_tool.specs.JsonText.{IsTree}
 use Rattle.flatc_tool.specs.declared.faults.ToolFault.{ToolFault}
-use Rattle.flatc_tool.specs.declared.faults.ToolFault.TheVariants.{Schema, Json, Build, Read, Text, BadJson, Memory}
+use Rattle.flatc_tool.specs.declared.faults.ToolFault.TheVariants.{Schema, Json, Build, Read, Text, Older, Newer, BadJson, Memory}
 
 -- ---- JSON to a buffer
 
@@ -112,4 +112,6 @@ IsNotMemory (Schema f) = ¬ (IsWant f)
 IsNotMemory (Json the_json.Memory) = ⊥
 IsNotMemory (Build the_build.Memory) = ⊥
 IsNotMemory (Text the_text.Memory) = ⊥
+IsNotMemory (Older f) = ¬ (IsWant f)
+IsNotMemory (Newer f) = ¬ (IsWant f)
 IsNotMemory _ = Unit {0}

@@ -11,3 +11,4 @@ pub mod Commands
 pub mod Lines
 pub mod Checks
 pub mod Prints
+pub mod Evolution

@@ -1,8 +1,8 @@
 //! Why the tool refuses.
 use crate::schema_layouts::SchemaTextFault;
 use fb_build::BuildFault;
+use fb_conform::Breach;
 use fb_json::{JsonFault, Place, TextFault};
-use fb_layout::LayoutFault;
 use fb_schema::TypeId;
 use fb_text::WriteFault;
 use fb_value::ReadFault;
@@ -26,6 +26,15 @@ pub enum ToolFault {
     Text(TextFault),
     #[error(transparent)]
     Write(WriteFault),
+    /// What in a new schema breaks with the old one.
+    #[error(transparent)]
+    Breach(Breach),
+    /// The older of two schema texts is refused.
+    #[error("old: {0}")]
+    Older(SchemaTextFault),
+    /// The newer of two schema texts is refused.
+    #[error("new: {0}")]
+    Newer(SchemaTextFault),
     #[error("a file can't be read")]
     FileRead,
     #[error("a file can't be written")]
@@ -54,6 +63,8 @@ impl ToolFault {
             ToolFault::Read(fault) => fault.number(),
             ToolFault::Text(fault) => fault.number(),
             ToolFault::Write(fault) => fault.number(),
+            ToolFault::Breach(breach) => breach.number(),
+            ToolFault::Older(fault) | ToolFault::Newer(fault) => fault.number(),
             ToolFault::FileRead => 110,
             ToolFault::FileWrite => 111,
             ToolFault::FileTooLong => 112,
@@ -68,7 +79,9 @@ impl ToolFault {
         ensures { result ≡ offset_of self }
     {
         match self {
-            ToolFault::Schema(fault) => fault.offset(),
+            ToolFault::Schema(fault) | ToolFault::Older(fault) | ToolFault::Newer(fault) => {
+                fault.offset()
+            }
             ToolFault::Read(fault) => fault.offset(),
             _ => None,
         }
@@ -90,10 +103,10 @@ impl ToolFault {
         ensures { option_map (λ owner. owner.0) result ≡ owner_of self }
     {
         match self {
-            ToolFault::Schema(SchemaTextFault::Layout(LayoutFault::StructTooBig(owner)))
-            | ToolFault::Schema(SchemaTextFault::Layout(LayoutFault::TableTooWide(owner))) => {
-                Some(owner)
+            ToolFault::Schema(fault) | ToolFault::Older(fault) | ToolFault::Newer(fault) => {
+                fault.owner()
             }
+            ToolFault::Breach(breach) => breach.type_id(),
             _ => self.place().map(|place| place.owner),
         }
     }
@@ -104,6 +117,7 @@ impl ToolFault {
     {
         match self {
             ToolFault::Read(ReadFault::MissingRequired(_, slot)) => Some(slot),
+            ToolFault::Breach(breach) => breach.slot(),
             _ => self.place()?.slot,
         }
     }

@@ -3,6 +3,7 @@
 
 mod checks;
 mod commands;
+mod evolution;
 mod faults;
 mod headline;
 mod heard;
@@ -16,8 +17,10 @@ mod schema_layouts;
 
 pub use checks::check;
 pub use commands::VERSION;
+pub use evolution::conform_texts;
 pub use faults::ToolFault;
 pub use fb_build::BuildFault;
+pub use fb_conform::Breach;
 pub use fb_declare::SchemaFault;
 pub use fb_json::{JsonFault, Place, TextFault};
 pub use fb_layout::{Layout, LayoutFault};

@@ -1,6 +1,6 @@
 //! The line that tells a fault.
 ghost use Rattle.std.specs.Prelude.{◌≡◌, ◌++◌, IfOk, OnOk, string_bytes};
-ghost use Rattle.flatc_tool.specs.FaultLines.{line_of, noted};
+ghost use Rattle.flatc_tool.specs.FaultLines.{line_of, noted, side_of};
 
 use crate::faults::ToolFault;
 use crate::names::name_of;
@@ -18,12 +18,24 @@ fn push_noted(line: &mut String, word: &str, number: Option<u64>) -> Result<(), 
     Ok(())
 }
 
+/// Which of two schemas is refused.
+fn side_of(fault: &ToolFault) -> &'static str
+    ensures { result.now ≡ side_of fault.now }
+{
+    match fault {
+        ToolFault::Older(_) => "old: ",
+        ToolFault::Newer(_) => "new: ",
+        _ => "",
+    }
+}
+
 /// The line that tells a fault, without a newline: its number and name, and what it has of an offset
 /// in bytes, a type, a slot, and a count of bytes that were written.
 pub fn fault_line(alloc: Global, fault: &ToolFault) -> Result<String, AllocError>
     ensures { IfOk result (λ s. string_bytes s ≡ line_of fault.now) }
 {
-    let mut line = String::from_str(alloc, Buffer::new().format(fault.number()))?;
+    let mut line = String::from_str(alloc, side_of(fault))?;
+    line.push_str(Buffer::new().format(fault.number()))?;
     line.push_str(" ")?;
     line.push_str(name_of(*fault))?;
     push_noted(&mut line, " at ", fault.offset())?;

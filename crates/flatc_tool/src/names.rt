@@ -5,6 +5,7 @@ ghost use Rattle.flatc_tool.specs.FaultNames as spec;
 use crate::faults::ToolFault;
 use crate::schema_layouts::SchemaTextFault;
 use fb_build::BuildFault;
+use fb_conform::Breach;
 use fb_declare::SchemaFault;
 use fb_json::{JsonFault, TextFault};
 use fb_layout::LayoutFault;
@@ -133,6 +134,26 @@ fn write_name(fault: WriteFault) -> &'static str
     }
 }
 
+fn breach_name(breach: Breach) -> &'static str
+    ensures { result.now ≡ spec.breach_name breach }
+{
+    match breach {
+        Breach::RootChanged => "RootChanged",
+        Breach::IdentifierChanged => "IdentifierChanged",
+        Breach::TypeGone(_) => "TypeGone",
+        Breach::KindChanged(_) => "KindChanged",
+        Breach::StructChanged(_) => "StructChanged",
+        Breach::SlotGone(_, _) => "SlotGone",
+        Breach::FieldTypeChanged(_, _) => "FieldTypeChanged",
+        Breach::DefaultChanged(_, _) => "DefaultChanged",
+        Breach::RequiredChanged(_, _) => "RequiredChanged",
+        Breach::DeprecatedTakenBack(_, _) => "DeprecatedTakenBack",
+        Breach::NewRequired(_, _) => "NewRequired",
+        Breach::EnumChanged(_) => "EnumChanged",
+        Breach::UnionChanged(_) => "UnionChanged",
+    }
+}
+
 /// The fault's name, that of its variant in the layer that refuses.
 pub(crate) fn name_of(fault: ToolFault) -> &'static str
     ensures { result.now ≡ spec.name_of fault }
@@ -144,6 +165,8 @@ pub(crate) fn name_of(fault: ToolFault) -> &'static str
         ToolFault::Read(fault) => read_name(fault),
         ToolFault::Text(fault) => text_name(fault),
         ToolFault::Write(fault) => write_name(fault),
+        ToolFault::Breach(breach) => breach_name(breach),
+        ToolFault::Older(fault) | ToolFault::Newer(fault) => schema_text_name(fault),
         ToolFault::FileRead => "FileRead",
         ToolFault::FileWrite => "FileWrite",
         ToolFault::FileTooLong => "FileTooLong",

@@ -8,6 +8,7 @@ ghost use Rattle.flatc_tool.specs.SchemaTexts.{IsAccepted, IsRefused, IsWant};
 
 use fb_declare::{SchemaFault, declare};
 use fb_layout::{Layout, LayoutFault, lay};
+use fb_schema::TypeId;
 use fb_syntax::{SyntaxFault, parse};
 use std::alloc::Global;
 use thiserror::Error;
@@ -25,8 +26,9 @@ pub enum SchemaTextFault {
 }
 
 impl SchemaTextFault {
-    ghost use Rattle.std.specs.Prelude.{◌≡◌};
+    ghost use Rattle.std.specs.Prelude.{◌≡◌, option_map};
     ghost use Rattle.flatc_tool.specs.FaultNumbers.{schema_number_of, schema_offset_of};
+    ghost use Rattle.flatc_tool.specs.FaultPlaces.{schema_owner_of};
 
     /// The fault's number, which tells it from all others.
     pub fn number(self) -> u8
@@ -47,6 +49,17 @@ impl SchemaTextFault {
             SchemaTextFault::Syntax(fault) => fault.offset(),
             SchemaTextFault::Schema(fault) => fault.offset(),
             SchemaTextFault::Layout(fault) => fault.offset(),
+        }
+    }
+
+    /// The declared type where it stands, if it has such a place.
+    pub fn owner(self) -> Option<TypeId>
+        ensures { option_map (λ owner. owner.0) result ≡ schema_owner_of self }
+    {
+        match self {
+            SchemaTextFault::Layout(LayoutFault::StructTooBig(owner))
+            | SchemaTextFault::Layout(LayoutFault::TableTooWide(owner)) => Some(owner),
+            _ => None,
         }
     }
 }

@@ -2,6 +2,7 @@ use super::fault_line;
 use crate::faults::ToolFault;
 use crate::schema_layouts::SchemaTextFault;
 use fb_build::BuildFault;
+use fb_conform::Breach;
 use fb_declare::SchemaFault;
 use fb_json::{JsonFault, Place, TextFault};
 use fb_layout::LayoutFault;
@@ -78,6 +79,69 @@ fn lines_of_schema_texts(rt: HostRuntime) -> Result<(), Fail> {
             "31 TableTooWide in type 0",
         ),
         (layout(LayoutFault::Memory), "32 Memory"),
+    ] {
+        assert_eq!(rt; fault_line(rt.alloc(), &fault)?.as_str(), line);
+    }
+    Ok(())
+}
+
+#[test]
+fn lines_of_two_schemas(rt: HostRuntime) -> Result<(), Fail> {
+    let t = TypeId(3);
+    let unread = SchemaTextFault::Syntax(SyntaxFault::BadByte(4));
+    let wide = SchemaTextFault::Layout(LayoutFault::TableTooWide(t));
+    for (fault, line) in [
+        (ToolFault::Breach(Breach::RootChanged), "90 RootChanged"),
+        (
+            ToolFault::Breach(Breach::IdentifierChanged),
+            "91 IdentifierChanged",
+        ),
+        (
+            ToolFault::Breach(Breach::TypeGone(t)),
+            "92 TypeGone in type 3",
+        ),
+        (
+            ToolFault::Breach(Breach::KindChanged(t)),
+            "93 KindChanged in type 3",
+        ),
+        (
+            ToolFault::Breach(Breach::StructChanged(t)),
+            "94 StructChanged in type 3",
+        ),
+        (
+            ToolFault::Breach(Breach::SlotGone(t, 2)),
+            "95 SlotGone in type 3 slot 2",
+        ),
+        (
+            ToolFault::Breach(Breach::FieldTypeChanged(t, 2)),
+            "96 FieldTypeChanged in type 3 slot 2",
+        ),
+        (
+            ToolFault::Breach(Breach::DefaultChanged(t, 2)),
+            "97 DefaultChanged in type 3 slot 2",
+        ),
+        (
+            ToolFault::Breach(Breach::RequiredChanged(t, 2)),
+            "98 RequiredChanged in type 3 slot 2",
+        ),
+        (
+            ToolFault::Breach(Breach::DeprecatedTakenBack(t, 2)),
+            "99 DeprecatedTakenBack in type 3 slot 2",
+        ),
+        (
+            ToolFault::Breach(Breach::NewRequired(t, 2)),
+            "100 NewRequired in type 3 slot 2",
+        ),
+        (
+            ToolFault::Breach(Breach::EnumChanged(t)),
+            "101 EnumChanged in type 3",
+        ),
+        (
+            ToolFault::Breach(Breach::UnionChanged(t)),
+            "102 UnionChanged in type 3",
+        ),
+        (ToolFault::Older(unread), "old: 2 BadByte at 4"),
+        (ToolFault::Newer(wide), "new: 31 TableTooWide in type 3"),
     ] {
         assert_eq!(rt; fault_line(rt.alloc(), &fault)?.as_str(), line);
     }
