@@ -25,6 +25,7 @@ UNION = (
 
 FILES = {
     "one.fbs": ONE,
+    "two.fbs": b"table T { a:int = 2; } root_type T;",
     "seven.json": b'{"a":7}',
     "seven.bin": SEVEN,
     "bad.json": b'{"a":',
@@ -145,6 +146,16 @@ def unions():
     refused("an unknown code has no name", ["json", "union_old.fbs", "union.bin"], b"81 NoMemberName in type 4 slot 1")
 
 
+def comparisons():
+    row("a schema conforms to itself", ["conform", "one.fbs", "one.fbs"], 0, b"conforms\n")
+    refused("a field of another union", ["conform", "union_old.fbs", "union_new.fbs"], b"96 FieldTypeChanged in type 4 slot 0")
+    refused("another default", ["conform", "one.fbs", "two.fbs"], b"97 DefaultChanged in type 0 slot 0")
+    refused("an identifier more", ["conform", "one.fbs", "test.fbs"], b"91 IdentifierChanged")
+    refused("the old schema is refused first", ["conform", "empty", "not_utf8.fbs"], b"old: 21 BadRoot at 0")
+    refused("the new schema is refused", ["conform", "one.fbs", "not_utf8.fbs"], b"new: 1 NotUtf8 at 19")
+    refused("a missing new schema", ["conform", "one.fbs", "missing"], b"110 FileRead")
+
+
 def files():
     refused("a missing schema", ["check", "missing"], b"110 FileRead")
     refused("a missing buffer", ["check", "one.fbs", "missing"], b"110 FileRead")
@@ -198,6 +209,13 @@ def examples():
     done = run(["json", schema, "monster.bin"])
     open("monster.json", "wb").write(done.stdout)
     row("the printed example", ["binary", schema, "monster.json", "again.bin"], 0)
+    newer = os.path.join(folder, "monster_v2.fbs")
+    row("the example's next version conforms", ["conform", schema, newer], 0, b"conforms\n")
+    refused("and not the other way round", ["conform", newer, schema], b"101 EnumChanged in type 1")
+    row("the next version reads the old buffer", ["check", newer, "monster.bin"], 0, b"ok\n")
+    row("flatc's own buffer is sound", ["check", schema, os.path.join(folder, "monster.bin")], 0, b"ok\n")
+    theirs = run(["json", schema, os.path.join(folder, "monster.bin")])
+    tell("flatc's own buffer prints the same", theirs.stdout == done.stdout, f"{theirs.stderr!r}")
     same = open("again.bin", "rb").read() == open("monster.bin", "rb").read()
     tell("the printed example means the same buffer", same and done.returncode == 0, f"{done.stderr!r}")
 
@@ -214,7 +232,7 @@ def main():
         for name, length in (("over", LONGEST + 1), ("longest", LONGEST)):
             with open(name, "wb") as file:
                 file.truncate(length)
-        for part in (jobs, refusals, unions, files, streams, usage, examples):
+        for part in (jobs, refusals, unions, comparisons, files, streams, usage, examples):
             try:
                 part()
             except Exception as problem:

@@ -94,3 +94,6 @@ pub fn to_json(
         Err(_) => unreachable!(),
     }
 }
+
+#[cfg(test)]
+mod tests;

@@ -1,4 +1,5 @@
 use super::*;
+use crate::prints::to_json;
 use fb_value::ReadFault;
 use std::test::Fail;
 
