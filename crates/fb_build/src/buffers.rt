@@ -11,7 +11,6 @@ ghost use Rattle.fb_build.specs.declared.faults.BuildFault.TheVariants.{TooBig, 
 
 use crate::faults::BuildFault;
 use crate::keys::add_table;
-use crate::needs::need_of;
 use crate::plans::Plan;
 use fb_layout::Layout;
 use fb_value::{Value, room};
@@ -20,6 +19,9 @@ use std::alloc::Global;
 
 // A vtable has 65,534 bytes at most.
 const LONGEST_VTABLE: usize = 65_534;
+
+// It has two bytes for each slot behind its first four.
+const MOST_SLOTS: usize = 32_765;
 
 /// Takes all the memory that building a value takes, and lays no byte.
 pub fn plan<'v>(alloc: Global, layout: &'v Layout, value: &'v Value) -> Result<Plan<'v>, BuildFault>
@@ -40,18 +42,19 @@ pub fn plan<'v>(alloc: Global, layout: &'v Layout, value: &'v Value) -> Result<P
         unreachable!();
     };
     let block = vec![in alloc; 0u8; room as usize]?;
-    let mut pending = vec![in alloc; 0u32; need_of(entries)]?;
+    let mut ends = vec![in alloc; 0u32; MOST_SLOTS]?;
     let mut scratch = vec![in alloc; 0u8; LONGEST_VTABLE]?;
     let mut known = IndexSet::new(alloc);
-    add_table(
+    let waiting = add_table(
         alloc,
         &mut known,
         layout,
         *table,
         entries,
-        pending.as_mut_slice(),
+        ends.as_mut_slice(),
         scratch.as_mut_slice(),
     )?;
+    let pending = vec![in alloc; 0u32; waiting]?;
     let places = vec![in alloc; 0u32; known.len()]?;
     Ok(Plan {
         layout,

@@ -1,9 +1,13 @@
 //! The distinct vtables of a value, as keys that aren't laid yet.
-ghost use Rattle.std.specs.Prelude.{ℕ, ◌≡◌, ◌≤◌, ◌<◌, length, slice_index, IfErr};
+ghost use Rattle.std.specs.Prelude.{ℕ, ◌≡◌, ◌≤◌, ◌<◌, ◌+◌, length, slice_index, IfOk, IfErr};
+ghost use Rattle.fb_value.specs.Datum.{count};
+ghost use Rattle.fb_value.specs.View.{view, parts_view, entries_view};
+ghost use Rattle.fb_build.specs.Needs.{need, parts_need, entries_count, entries_need};
 ghost use Rattle.fb_build.specs.declared.faults.BuildFault.TheVariants.{Memory};
 
 use crate::faults::BuildFault;
 use crate::fields::{align_below, code_at, is_at, slot_size, start_align};
+use crate::needs::waits;
 use crate::vtables::{index_of, put_vtable};
 use fb_layout::Layout;
 use fb_schema::{FieldInfo, TypeId};
@@ -130,7 +134,7 @@ fn add_vtable(
     Ok(())
 }
 
-/// Adds the vtables of the tables of a value.
+/// Adds the vtables of the tables of a value, and returns how many end-counts wait while it is laid.
 #[cycle(keys)]
 fn add_tables(
     alloc: Global,
@@ -139,8 +143,10 @@ fn add_tables(
     value: &Value,
     ends: &mut [u32],
     scratch: &mut [u8],
-) -> Result<(), BuildFault>
+) -> Result<usize, BuildFault>
+    requires small { need (view value.now) ≤ 2147483647 }
     requires long { 65534 ≤ length scratch.old }
+    ensures need { IfOk result (λ n. n ≡ need (view value.now)) }
     ensures long { length scratch.new ≡ length scratch.old }
     ensures each { length ends.new ≡ length ends.old }
     ensures fault { IfErr result (λ e. e ≡ Memory) }
@@ -149,13 +155,20 @@ fn add_tables(
         Value::Fields(table, entries) => {
             add_table(alloc, known, layout, *table, entries, ends, scratch)
         }
-        Value::Items(items) => add_items(alloc, known, layout, items, ends, scratch),
+        Value::Items(items) => {
+            if waits(items.as_slice()) {
+                add_items(alloc, known, layout, items, ends, scratch)
+            } else {
+                Ok(0)
+            }
+        }
         Value::Member(_, member) => add_tables(alloc, known, layout, member, ends, scratch),
-        Value::Number(_) | Value::Text(_) | Value::Fixed(_) | Value::Other(_) => Ok(()),
+        Value::Number(_) | Value::Text(_) | Value::Fixed(_) | Value::Other(_) => Ok(0),
     }
 }
 
-/// Adds the vtables of the tables in a vector. All its elements are tables where the first is.
+/// Adds the vtables of the tables in a vector of references, and returns how many end-counts wait
+/// while it is laid.
 #[cycle(keys)]
 fn add_items(
     alloc: Global,
@@ -164,22 +177,26 @@ fn add_items(
     items: &Vec<Value>,
     ends: &mut [u32],
     scratch: &mut [u8],
-) -> Result<(), BuildFault>
+) -> Result<usize, BuildFault>
+    requires small { count (parts_view items.now.items) + parts_need (parts_view items.now.items)
+        ≤ 2147483647 }
     requires long { 65534 ≤ length scratch.old }
+    ensures need { IfOk result (λ n. n ≡ count (parts_view items.now.items)
+        + parts_need (parts_view items.now.items)) }
     ensures long { length scratch.new ≡ length scratch.old }
     ensures each { length ends.new ≡ length ends.old }
     ensures fault { IfErr result (λ e. e ≡ Memory) }
 {
-    if !matches!(items.first(), Some(Value::Fields(_, _))) {
-        return Ok(());
-    }
+    let mut most = 0;
     for item in items {
-        add_tables(alloc, known, layout, item, ends, scratch)?;
+        let own = add_tables(alloc, known, layout, item, ends, scratch)?;
+        most = own.max(most);
     }
-    Ok(())
+    Ok(items.len() + most)
 }
 
-/// Adds the vtables of a table and of the tables in it.
+/// Adds the vtables of a table and of the tables in it, and returns how many end-counts wait while
+/// the table is laid.
 #[cycle(keys)]
 pub(crate) fn add_table(
     alloc: Global,
@@ -189,26 +206,27 @@ pub(crate) fn add_table(
     entries: &Vec<Option<Value>>,
     ends: &mut [u32],
     scratch: &mut [u8],
-) -> Result<(), BuildFault>
+) -> Result<usize, BuildFault>
+    requires small { entries_count (entries_view entries.now.items)
+        + entries_need (entries_view entries.now.items) ≤ 2147483647 }
     requires long { 65534 ≤ length scratch.old }
+    ensures need { IfOk result (λ n. n ≡ entries_count (entries_view entries.now.items)
+        + entries_need (entries_view entries.now.items)) }
     ensures long { length scratch.new ≡ length scratch.old }
     ensures each { length ends.new ≡ length ends.old }
     ensures fault { IfErr result (λ e. e ≡ Memory) }
 {
-    add_vtable(
-        alloc,
-        known,
-        layout,
-        table,
-        entries.as_slice(),
-        ends,
-        scratch,
-    )?;
+    let slots = entries.as_slice();
+    add_vtable(alloc, known, layout, table, slots, ends, scratch)?;
+    let mut most = 0;
     for entry in entries {
         match entry {
             None | Some(Value::Number(_)) => {}
-            Some(value) => add_tables(alloc, known, layout, value, ends, scratch)?,
+            Some(value) => {
+                let own = add_tables(alloc, known, layout, value, ends, scratch)?;
+                most = own.max(most);
+            }
         }
     }
-    Ok(())
+    Ok(entries.len() + most)
 }

@@ -12,24 +12,22 @@ use Rattle.fb_build.proofs.buffers.plan.Goals as goal
 pub room-requires-clause-nests : goal.room-requires-clause-nests
 room-requires-clause-nests c = nesting_of_depth_shown c.args.layout.now _ c.schema-schema.ensures.made c.requires.fits c.requires.deep
 
-pub need_of-requires : goal.need_of-requires
-need_of-requires c =
+pub add_table-requires-clause-small : goal.add_table-requires-clause-small
+add_table-requires-clause-small c =
     let L = c.args.layout.now in
     let fits = (root_fits L _ c.schema-schema.ensures.made).0 c.requires.fits in
     let within = need_within L (view c.args.value.now) (all_known c.args.layout.now c.schema-schema.ensures.made) fits c.in-Some.ensures.0 in
-    record { small = rw (c.in-Fields.is, view-Fields c.in-Fields.table c.in-Fields.entries) at within }
+    rw (c.in-Fields.is, view-Fields c.in-Fields.table c.in-Fields.entries) at within
 
 pub invariant_of-result : goal.invariant_of-result
 invariant_of-result c =
     let L = c.args.layout.now in
     let block = c.in_ok-block.ensures.items_if_clones_equal (λ y h. h) in
     let places = c.in_ok-places.ensures.items_if_clones_equal (λ y h. h) in
-    let counts : need (view c.args.value.now) ≡ c.need_of.result = rw (c.in-Fields.is, view-Fields c.in-Fields.table c.in-Fields.entries) (sym c.need_of.ensures) in
-    let pending = with_items c.in_ok-pending.pending c.add_table.new.ends in
+    let counts : need (view c.args.value.now) ≡ c.in_ok-waiting.waiting = rw (c.in-Fields.is, view-Fields c.in-Fields.table c.in-Fields.entries) (sym c.in_ok-waiting.ensures.need) in
     let scratch = with_items c.in_ok-scratch.scratch c.add_table.new.scratch in
-    let ends : length pending.items ≡ c.need_of.result = omega (arith, pending.ok.0, c.in_ok-pending.ensures.len) in
     let bytes : length scratch.items ≡ 65534 = omega (arith, scratch.ok.0, c.in_ok-scratch.ensures.len) in
-    let enough : need (view c.args.value.now) ≤ length pending.items = omega (arith, ends, counts) in
+    let enough : need (view c.args.value.now) ≤ length c.in_ok-pending.pending.items = omega (arith, c.in_ok-pending.ensures.len, counts) in
     let wide : 65534 ≤ length scratch.items = omega (arith, bytes) in
     let long : length c.in_ok-block.block.items ≡ room_of L (view c.args.value.now) = long_in _ _ block ∙ c.in-Some.ensures.1 in
     let short : length c.in_ok-block.block.items ≤ 2147483647 = omega (arith, long, c.in-Some.ensures.0) in
