@@ -59,6 +59,7 @@ fn fault_line(alloc: Global, fault: ToolFault) -> Result<String, AllocError> {
         ToolFault::Text(fault) => format!(in alloc; "{fault:?}"),
         ToolFault::BadJson => format!(in alloc; "no JSON"),
         ToolFault::Memory => format!(in alloc; "out of memory"),
+        other => format!(in alloc; "{other:?}"),
     }
 }
 
