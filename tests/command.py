@@ -156,6 +156,21 @@ def comparisons():
     refused("a missing new schema", ["conform", "one.fbs", "missing"], b"110 FileRead")
 
 
+def pairs():
+    for line in open(os.path.join(ROOT, "tests", "pairs.txt"), encoding="ascii"):
+        line = line.rstrip("\n")
+        if not line or line.startswith("#"):
+            continue
+        name, old, new, want = line.split(" | ")
+        for path, text in (("old.fbs", old), ("new.fbs", new)):
+            with open(path, "w", encoding="ascii") as file:
+                file.write(text.replace("..", "root_type T;"))
+        if want == "conforms":
+            row(name, ["conform", "old.fbs", "new.fbs"], 0, b"conforms\n")
+        else:
+            refused(name, ["conform", "old.fbs", "new.fbs"], want.encode())
+
+
 def files():
     refused("a missing schema", ["check", "missing"], b"110 FileRead")
     refused("a missing buffer", ["check", "one.fbs", "missing"], b"110 FileRead")
@@ -232,7 +247,7 @@ def main():
         for name, length in (("over", LONGEST + 1), ("longest", LONGEST)):
             with open(name, "wb") as file:
                 file.truncate(length)
-        for part in (jobs, refusals, unions, comparisons, files, streams, usage, examples):
+        for part in (jobs, refusals, unions, comparisons, pairs, files, streams, usage, examples):
             try:
                 part()
             except Exception as problem:
