@@ -157,7 +157,7 @@ pub(crate) fn slot_size(layout: &Layout, shape: Shape) -> u32
 }
 
 /// Whether an entry is stored at an alignment.
-pub(crate) fn is_at(
+fn is_at(
     layout: &Layout,
     align: u32,
     slot: &FieldInfo,
@@ -218,7 +218,12 @@ fn lay_field(
 }
 
 /// What a field's place is a multiple of, where it is stored; 0 where it isn't.
-fn field_align(layout: &Layout, slot: &FieldInfo, code: Option<u8>, entry: &Option<Value>) -> u32
+pub(crate) fn field_align(
+    layout: &Layout,
+    slot: &FieldInfo,
+    code: Option<u8>,
+    entry: &Option<Value>,
+) -> u32
     ensures { result ≡ align_if_stored layout.now (slot_seen layout.now slot.now)
         (entry_stored layout.now slot.now code entry.now) }
 {
@@ -230,7 +235,7 @@ fn field_align(layout: &Layout, slot: &FieldInfo, code: Option<u8>, entry: &Opti
 }
 
 /// The same, where it is below an alignment; 0 where it isn't.
-pub(crate) fn align_below(
+fn align_below(
     layout: &Layout,
     align: u32,
     slot: &FieldInfo,

@@ -6,7 +6,7 @@ ghost use Rattle.fb_build.specs.Needs.{need, parts_need, entries_count, entries_
 ghost use Rattle.fb_build.specs.declared.faults.BuildFault.TheVariants.{Memory};
 
 use crate::faults::BuildFault;
-use crate::fields::{align_below, code_at, is_at, slot_size, start_align};
+use crate::fields::{code_at, field_align, slot_size, start_align};
 use crate::needs::waits;
 use crate::vtables::{index_of, put_vtable};
 use fb_layout::Layout;
@@ -18,25 +18,13 @@ use std::alloc::Global;
 // The greatest inline size of a table, without its first number.
 const WIDEST: u32 = 65_528;
 
-/// Places the field of slot k, where it is stored at an alignment, and returns where the fields end.
-fn place_field(
-    layout: &Layout,
-    align: u32,
-    slot: &FieldInfo,
-    code: Option<u8>,
-    entry: &Option<Value>,
-    k: usize,
-    end: u32,
-    ends: &mut [u32],
-) -> u32
+/// Places the field of slot k behind those before, and returns where it ends.
+fn place_field(layout: &Layout, slot: &FieldInfo, k: usize, end: u32, ends: &mut [u32]) -> u32
     requires within { k < length ends.old }
     requires under { (j : ℕ) → slice_index ends.old j ≤ end }
     ensures under { (j : ℕ) → slice_index ends.new j ≤ result }
     ensures each { length ends.new ≡ length ends.old }
 {
-    if !is_at(layout, align, slot, code, entry) {
-        return end;
-    }
     let next = end.saturating_add(slot_size(layout, slot.shape));
     ends[k] = next;
     next
@@ -69,10 +57,12 @@ fn place_pass(
     let mut next = 0;
     for k in 0..slots.len() {
         let slot = &slots[k];
-        let entry = &entries[k];
-        let code = code_at(entries, k + 1);
-        next = align_below(layout, align, slot, code, entry).max(next);
-        end = place_field(layout, align, slot, code, entry, k, end, ends);
+        let own = field_align(layout, slot, code_at(entries, k + 1), &entries[k]);
+        if own == align {
+            end = place_field(layout, slot, k, end, ends);
+        } else if own < align {
+            next = own.max(next);
+        }
     }
     Placed { end, next }
 }
