@@ -3,7 +3,7 @@
 
 usage: tests/command.py PROGRAM
 
-The last line is 'N passed, M failed'. A row that takes over 20 seconds fails.
+The last line is 'N passed, M failed'. A row that takes over two minutes fails.
 """
 import os
 import subprocess
@@ -12,7 +12,7 @@ import tempfile
 
 ROOT = os.path.dirname(os.path.dirname(os.path.abspath(__file__)))
 LONGEST = 2_147_483_647
-SECONDS = 20
+SECONDS = 120
 
 ONE = b"table T { a:int; } root_type T;"
 SEVEN = bytes.fromhex("0c000000 0000 0600 0800 0400 06000000 07000000")
