@@ -5,6 +5,7 @@
 mod agree;
 mod damage;
 mod hex;
+mod later;
 mod outcomes;
 mod readings;
 mod rows;

@@ -2,6 +2,7 @@
 ghost use Rattle.std.specs.Prelude.{◌≤◌, IfOk};
 ghost use Rattle.fb_value.specs.View.{view};
 ghost use Rattle.fb_value.specs.Counts.{nesting};
+ghost use Rattle.fb_value.specs.Fits.{FitsRoot};
 
 use crate::hex::hex_of;
 use crate::readings::value_in;
@@ -29,7 +30,7 @@ pub(crate) enum Unmeant {
 }
 
 /// The value that a JSON text means.
-fn meant(
+pub(crate) fn meant(
     alloc: Global,
     layout: &Layout,
     json: &str,
@@ -37,6 +38,7 @@ fn meant(
     unknown: bool,
 ) -> Result<Value, Unmeant>
     ensures nests { IfOk result (λ v. nesting (view v) ≤ 300) }
+    ensures fits { IfOk result (λ v. FitsRoot layout.now (view v)) }
 {
     let _schema = layout.schema();
     let _depth = limits.most_depth();

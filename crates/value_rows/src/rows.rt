@@ -1,7 +1,9 @@
 //! A row, read and judged.
 use crate::damage::damaged;
 use crate::hex::bytes_of;
+use crate::later::{Line, of_later};
 use crate::outcomes::{Flags, of_both, of_bytes, of_json};
+use fb_layout::Layout;
 use fb_value::Limits;
 use flatc_tool::schema_of;
 use serde::Deserialize;
@@ -13,7 +15,8 @@ use std::alloc::{AllocError, Global};
 /// Of a JSON text the value that it means is wanted, of bytes the value that they hold or, where it
 /// is `printed`, its text, or the fault. Where both are there, the text becomes exactly these bytes,
 /// they hold the value that it means, and what is wanted is the text that they print as. Of bytes
-/// that are `damaged` what comes of each damage is counted.
+/// that are `damaged` what comes of each damage is counted. Of a JSON text beside a `later` schema
+/// the value that it means is wanted as it is under that schema, or the breach.
 #[derive(Drop, Deserialize)]
 #[serde(deny_unknown_fields)]
 struct Row {
@@ -23,6 +26,8 @@ struct Row {
     json: Option<String>,
     #[serde(default)]
     bytes: Option<String>,
+    #[serde(default)]
+    later: Option<String>,
     #[serde(default)]
     depth: Option<u8>,
     #[serde(default)]
@@ -47,6 +52,7 @@ pub(crate) enum Source {
     Json,
     Bytes,
     Damaged,
+    Later,
 }
 
 /// Whether a row holds.
@@ -54,6 +60,30 @@ pub(crate) enum Source {
 pub(crate) enum Verdict {
     Holds(Source),
     Wrong(String),
+}
+
+/// What comes of a row's JSON text under a later schema.
+fn later_outcome(
+    alloc: Global,
+    row: &Row,
+    later: &str,
+    older: &Layout,
+    limits: Limits,
+    flags: Flags,
+) -> Result<String, AllocError> {
+    let later = match schema_of(alloc, later.as_bytes()) {
+        Ok(layout) => layout,
+        Err(fault) => return format!(in alloc; "{fault:?}"),
+    };
+    let Some(json) = &row.json else {
+        return format!(in alloc; "no JSON");
+    };
+    let line = Line {
+        schema: row.schema.as_str(),
+        older,
+        later: &later,
+    };
+    of_later(alloc, line, json.as_str(), limits, flags)
 }
 
 /// What comes of a row.
@@ -73,6 +103,10 @@ fn outcome_of(alloc: Global, row: &Row) -> Result<(Source, String), AllocError> 
         printed: row.printed,
         defaults: row.defaults,
     };
+    if let Some(later) = &row.later {
+        let outcome = later_outcome(alloc, row, later.as_str(), &layout, limits, flags)?;
+        return Ok((Source::Later, outcome));
+    }
     let bytes = match &row.bytes {
         None => None,
         Some(hex) => bytes_of(alloc, hex.as_str())?,

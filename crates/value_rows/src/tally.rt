@@ -10,6 +10,7 @@ pub(crate) struct Tally {
     meant: u64,
     read: u64,
     damaged: u64,
+    carried: u64,
     wrong: u64,
 }
 
@@ -21,6 +22,7 @@ impl Tally {
             Verdict::Holds(Source::Json) => &mut self.meant,
             Verdict::Holds(Source::Bytes) => &mut self.read,
             Verdict::Holds(Source::Damaged) => &mut self.damaged,
+            Verdict::Holds(Source::Later) => &mut self.carried,
             Verdict::Wrong(_) => &mut self.wrong,
         };
         *counter = counter.saturating_add(1);
@@ -43,11 +45,12 @@ impl fmt::Display for Tally {
             meant,
             read,
             damaged,
+            carried,
             wrong,
         } = self;
         write!(
             f,
-            "{built} built, {meant} meant, {read} read, {damaged} damaged, {wrong} wrong"
+            "{built} built, {meant} meant, {read} read, {damaged} damaged, {carried} carried, {wrong} wrong"
         )
     }
 }

@@ -10,4 +10,4 @@ returns-in-Ok-value_of c =
     let few = c.most_depth-depth.ensures.few in
     let exact = c.most_depth-depth.ensures.exact in
     let deep : depth (view c.in-Ok-value_of.value) ≤ 127 = omega arith in
-    record { nests = nesting_of_depth_shown c.args.layout.now (view c.in-Ok-value_of.value) c.schema-schema.ensures.made c.in-Ok-value_of.ensures.fits deep }
+    record { nests = nesting_of_depth_shown c.args.layout.now (view c.in-Ok-value_of.value) c.schema-schema.ensures.made c.in-Ok-value_of.ensures.fits deep; fits = c.in-Ok-value_of.ensures.fits }
