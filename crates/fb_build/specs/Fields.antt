@@ -12,6 +12,7 @@ use Rattle.fb_schema.specs.declared.kinds.Base.TheVariants.{U8}
 use Rattle.fb_schema.specs.WellDeclared.{InRange}
 use Rattle.fb_schema.specs.Schema.{body_at, is_struct}
 use Rattle.fb_layout.specs.Sizes.{IsAlignment}
+pub use Rattle.fb_layout.specs.Seen.{shape_seen, kind_seen, slot_seen, slots_seen}
 use Rattle.fb_layout.specs.Laid.{slot_of, stored_shape, stored_kind, kind_in, struct_at, align_of, LaidSchema, Slot, StoredKind, scalar_kind, struct_kind, table_kind, union_kind, code_kind, text_kind, StoredShape, one_of, vector_of}
 use Rattle.fb_layout.specs.Widths.{inline_size, inline_align, greatest}
 use Rattle.fb_value.specs.Datum.{Datum, a_number, a_table, a_member, an_unknown}
@@ -173,16 +174,6 @@ abbrev pub EntriesEnd : LaidSchema → ℕ → ℕ → Bytes → (ℕ → Slot �
 EntriesEnd L low m s laid fs xs ends =
     (k : ℕ) (f : Slot) (x : Option Datum) → slice_get fs k ≡ Some f → slice_get xs k ≡ Some x → EntryEnd L low m s (laid k f) f x (slice_index ends k)
 
--- a shape, a kind and a slot as the layout has them
-abbrev pub shape_seen : LaidSchema → Shape → StoredShape
-shape_seen L shape = stored_shape L.schema shape
-
-abbrev pub kind_seen : LaidSchema → Kind → StoredKind
-kind_seen L kind = stored_kind L.schema kind
-
-abbrev pub slot_seen : LaidSchema → FieldInfo → Slot
-slot_seen L f = slot_of L.schema (field_seen f)
-
 -- what a slot stores whose entry is some value, where the entry behind it has this code
 abbrev pub entry_stored : LaidSchema → FieldInfo → Option ℕ → Option Value → Option Datum
 entry_stored L f code e = stored_here (stored_shape L.schema f.shape) code (option_map view e)
@@ -192,10 +183,7 @@ abbrev pub is_coded : Shape → Bool
 is_coded (One (Code u)) = true
 is_coded _ = false
 
--- the slots of some fields, and the entries of some values
-abbrev pub slots_seen : LaidSchema → List FieldInfo → List Slot
-slots_seen L fs = map (slot_of L.schema) (map field_seen fs)
-
+-- the entries of some values
 abbrev pub entries_seen : List (Option Value) → List (Option Datum)
 entries_seen es = map (option_map view) es
 

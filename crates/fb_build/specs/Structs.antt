@@ -4,6 +4,7 @@ use Rattle.fb_schema.specs.declared.types.FieldInfo.{FieldInfo}
 use Rattle.fb_schema.specs.Schema.{body_at, is_struct}
 use Rattle.fb_schema.specs.Seen.{field_seen}
 use Rattle.fb_layout.specs.Laid.{LaidSchema, StoredKind, scalar_kind, struct_kind, kind_in, stored_shape}
+pub use Rattle.fb_layout.specs.Seen.{kinds_seen}
 use Rattle.fb_value.specs.Datum.{Parts, no_parts, more_parts}
 use Rattle.fb_value.specs.Num.{Bytes}
 use Rattle.fb_value.specs.Lies.{LiesInline}
@@ -13,9 +14,6 @@ abbrev pub IsInline : LaidSchema → StoredKind → Type 0
 IsInline L (scalar_kind base) = Unit {0}
 IsInline L (struct_kind s) = IsTrue (is_struct (body_at L.schema s))
 IsInline L _ = ⊥
-
-abbrev pub kinds_seen : LaidSchema → List FieldInfo → List StoredKind
-kinds_seen L fields = map (λ f. kind_in (stored_shape L.schema f.shape)) (map field_seen fields)
 
 -- The fields of these offsets lie in a tail that begins at the offset `base`.
 abbrev pub LieFrom : LaidSchema → Bytes → ℕ → List StoredKind → List ℕ → Parts → Type 0

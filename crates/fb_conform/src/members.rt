@@ -1,5 +1,6 @@
 //! The values of two enums, and the members of two unions.
-ghost use Rattle.std.specs.Prelude.{ℕ, ◌≡◌, ◌≤◌, ◌↔◌, IsTrue, All, Contains, Some, length, map, string_bytes};
+ghost use Rattle.std.specs.Prelude.{ℕ, ◌≡◌, ◌≤◌, ◌↔◌, IsTrue, All, Contains, Some, length, map};
+ghost use Rattle.std.specs.Prelude.{string_bytes};
 ghost use Rattle.fb_schema.specs.Schema.{body_at, values_in, union_body};
 ghost use Rattle.fb_schema.specs.WellDeclared.{IsDeclared};
 ghost use Rattle.fb_schema.specs.Found.{member_coded};

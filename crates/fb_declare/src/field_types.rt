@@ -1,7 +1,8 @@
 //! Where the types of fields are at fault.
 ghost use Rattle.std.specs.Prelude.{◌≡◌};
 ghost use Rattle.fb_declare.specs.Faults.{least_of};
-ghost use Rattle.fb_declare.specs.FaultRows.{use_faults, union_vector, table_field_type, part_faults, struct_field_type};
+ghost use Rattle.fb_declare.specs.FaultRows.{use_faults, union_vector, table_field_type, part_faults};
+ghost use Rattle.fb_declare.specs.FaultRows.{struct_field_type};
 
 use crate::faults::{SchemaFault, earlier, when};
 use fb_meaning::{Meaning, type_name};

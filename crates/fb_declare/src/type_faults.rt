@@ -6,7 +6,8 @@ ghost use Rattle.fb_syntax.specs.Located.{Located};
 ghost use Rattle.fb_declare.specs.Faults.{least_of};
 ghost use Rattle.fb_declare.specs.DeclaredNames.{names_declared};
 ghost use Rattle.fb_meaning.specs.Outline.{word_of};
-ghost use Rattle.fb_declare.specs.FaultRows.{reserved_name, use_faults, bad_root, root_faults, is_printable, is_identifier, identifier_faults};
+ghost use Rattle.fb_declare.specs.FaultRows.{reserved_name, use_faults, bad_root, root_faults, is_printable};
+ghost use Rattle.fb_declare.specs.FaultRows.{is_identifier, identifier_faults};
 ghost use Rattle.fb_declare.specs.TypeFaults.{declaration_faults, type_faults, faults_of_types};
 
 use crate::declared_names::DeclaredNames;

@@ -19,6 +19,9 @@ sizes_seen s = record { size = s.size; align = s.align; offsets = s.offsets.item
 abbrev pub Known : Type 0
 Known = List (Option StructLayout)
 
+abbrev pub structs_seen : List (Option StructSizes) → Known
+structs_seen structs = map (option_map sizes_seen) structs
+
 -- a number, where it is 65,535 at most
 abbrev pub small : ℕ → Option ℕ
 small n = if nat_lt n 65536 then Some n else None
@@ -92,8 +95,12 @@ no_slots = record { widest = 0; align = 4 }
 abbrev pub whole_table : TableSizes → Option TableSizes
 whole_table sizes = option_and_then (λ sum. option_map (λ widest. record { widest = widest; align = sizes.align }) (small (4 + sum))) (aligned_up sizes.widest 4)
 
+-- the sum of some slots
+abbrev pub slots_summed : DeclaredSchema → Known → List DeclaredField → Option TableSizes
+slots_summed S known fs = each_added (slot_added S known) no_slots fs
+
 abbrev pub known_table : DeclaredSchema → Known → List DeclaredField → Option TableSizes
-known_table S known fs = if nat_le (length fs) 32765 then option_and_then whole_table (each_added (slot_added S known) no_slots fs) else None
+known_table S known fs = if nat_le (length fs) 32765 then option_and_then whole_table (slots_summed S known fs) else None
 
 -- what a type that is no table takes as one
 abbrev pub no_table : TableSizes
@@ -117,6 +124,10 @@ if_sized (Err fault) more = Err fault
 unfoldable pub tables_from : DeclaredSchema → Known → ℕ → List DeclaredType → Result (List TableSizes) LayoutFault
 tables_from S known t [] = Ok []
 tables_from S known t (type ∷ types) = if_sized (type_sizes S known t type.body) (tables_from S known (t + 1) types)
+
+-- the sizes of all types, or the first rule that one fails
+abbrev pub tables_known : DeclaredSchema → Known → Result (List TableSizes) LayoutFault
+tables_known S known = tables_from S known 0 S.types
 
 -- the layout whose structs are known: one that isn't takes nothing
 abbrev pub layout_known : DeclaredSchema → Known → LaidSchema

@@ -1,5 +1,6 @@
 pub mod Sizes
 pub mod Laid
+pub mod Seen
 pub mod Widths
 pub mod WellMade
 pub mod Known

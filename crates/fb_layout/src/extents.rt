@@ -1,10 +1,10 @@
 //! What kinds take where they are stored.
-ghost use Rattle.std.specs.Prelude.{◌≡◌, Some, map, option_map, slice_get};
+ghost use Rattle.std.specs.Prelude.{◌≡◌, Some, slice_get};
 ghost use Rattle.std.specs.Option.{unwrap_or};
 ghost use Rattle.fb_schema.specs.Schema.{DeclaredSchema, body_at, base_in};
 ghost use Rattle.fb_schema.specs.Alignments.{base_size};
 ghost use Rattle.fb_layout.specs.Laid.{no_struct, stored_kind, stored_shape, kind_in};
-ghost use Rattle.fb_layout.specs.Known.{sizes_seen, struct_extent, extent_of, slot_extent};
+ghost use Rattle.fb_layout.specs.Known.{structs_seen, struct_extent, extent_of, slot_extent};
 
 use fb_schema::{Base, Kind, Schema, Shape, TypeId};
 
@@ -49,7 +49,7 @@ pub(crate) fn base_in(schema: &Schema, enumeration: TypeId) -> Base
 
 /// What a struct takes; None where it is over 65,535 bytes.
 fn struct_extent(structs: &[Option<StructSizes>], number: TypeId) -> Option<Extent>
-    ensures { result ≡ struct_extent (map (option_map sizes_seen) structs.now) number.0 }
+    ensures { result ≡ struct_extent (structs_seen structs.now) number.0 }
 {
     let Some(known) = structs.get(number.0 as usize) else {
         return Some(Extent { size: 0, align: 1 });
@@ -63,7 +63,9 @@ fn struct_extent(structs: &[Option<StructSizes>], number: TypeId) -> Option<Exte
 
 /// Where the fields of a struct begin; none of another type.
 pub(crate) fn offsets_in(structs: &[Option<StructSizes>], number: TypeId) -> &[u16]
-    ensures { result.now ≡ (unwrap_or (unwrap_or (slice_get (map (option_map sizes_seen) structs.now) number.0) (Some no_struct)) no_struct).offsets }
+    ensures { result.now
+        ≡ (unwrap_or (unwrap_or (slice_get (structs_seen structs.now) number.0) (Some no_struct))
+        no_struct).offsets }
 {
     match structs.get(number.0 as usize) {
         Some(Some(sizes)) => sizes.offsets.as_slice(),
@@ -77,7 +79,7 @@ pub(crate) fn extent_of(
     structs: &[Option<StructSizes>],
     kind: Kind,
 ) -> Option<Extent>
-    ensures { result ≡ extent_of (map (option_map sizes_seen) structs.now) (stored_kind schema.now kind) }
+    ensures { result ≡ extent_of (structs_seen structs.now) (stored_kind schema.now kind) }
 {
     match kind {
         Kind::Scalar(base) => Some(number_extent(base)),
@@ -94,7 +96,7 @@ pub(crate) fn slot_extent(
     structs: &[Option<StructSizes>],
     shape: Shape,
 ) -> Option<Extent>
-    ensures { result ≡ slot_extent (map (option_map sizes_seen) structs.now) (stored_shape schema.now shape) }
+    ensures { result ≡ slot_extent (structs_seen structs.now) (stored_shape schema.now shape) }
 {
     match shape {
         Shape::One(kind) => extent_of(schema, structs, kind),

@@ -2,7 +2,8 @@
 ghost use Rattle.std.specs.Prelude.{ℕ};
 ghost use Rattle.fb_layout.specs.OneLayout.{OneLayout};
 ghost use Rattle.fb_layout.specs.Sizes.{IsLeastMultiple, ceil4};
-ghost use Rattle.fb_layout.specs.Laws.{KindsAligned, TablesAligned, GreatestAligned, NoneAlignedToZero, SizesAreMultiples, SizesFit, StructsHaveFewParts};
+ghost use Rattle.fb_layout.specs.Laws.{KindsAligned, TablesAligned, GreatestAligned, NoneAlignedToZero};
+ghost use Rattle.fb_layout.specs.Laws.{SizesAreMultiples, SizesFit, StructsHaveFewParts};
 
 /// A declared schema has one list of sizes at most.
 pub fn one_layout()

@@ -25,7 +25,8 @@ fn required_in(alloc: Global, slots: &[FieldInfo]) -> Result<Vec<u16>, AllocErro
 /// One entry for each type: the numbers of its required slots; none of a type that is no table.
 pub(crate) fn required_of(alloc: Global, schema: &Schema) -> Result<Vec<Vec<u16>>, AllocError>
     requires { (t : ℕ) → HaveSmallNumbers (slots_in (body_at schema.now t)) }
-    ensures { IfOk result (λ r. map (λ numbers. numbers.items) r.items ≡ map (λ type. required_numbers (slots_in type.body)) schema.now.types) }
+    ensures { IfOk result (λ r. map (λ numbers. numbers.items) r.items
+        ≡ map (λ type. required_numbers (slots_in type.body)) schema.now.types) }
 {
     let types = schema.types();
     let mut required = Vec::with_capacity(alloc, types.len())?;

@@ -1,7 +1,8 @@
 //! Sizes of structs, from one type to the next.
 ghost use Rattle.std.specs.Prelude.{◌≡◌, [], map, option_map, IfOk};
 ghost use Rattle.fb_schema.specs.Seen.{field_seen, body_seen, type_seen};
-ghost use Rattle.fb_layout.specs.Known.{sizes_seen, place_behind, each_added, field_placed, no_fields, whole_struct, known_struct, known_from};
+ghost use Rattle.fb_layout.specs.Known.{sizes_seen, structs_seen, place_behind, each_added, field_placed, no_fields};
+ghost use Rattle.fb_layout.specs.Known.{whole_struct, known_struct, known_from};
 
 use crate::extents::{Extent, StructSizes, extent_of, kind_in};
 use fb_schema::{Body, FieldInfo, Schema};
@@ -22,7 +23,8 @@ fn fields_placed(
     structs: &[Option<StructSizes>],
     fields: &[FieldInfo],
 ) -> Result<Option<StructSizes>, AllocError>
-    ensures { IfOk result (λ r. option_map sizes_seen r ≡ each_added (field_placed schema.now (map (option_map sizes_seen) structs.now)) no_fields (map field_seen fields.now)) }
+    ensures { IfOk result (λ r. option_map sizes_seen r
+        ≡ each_added (field_placed schema.now (structs_seen structs.now)) no_fields (map field_seen fields.now)) }
 {
     let mut offsets = Vec::with_capacity(alloc, fields.len())?;
     let mut size = 0u16;
@@ -65,7 +67,8 @@ fn struct_of(
     structs: &[Option<StructSizes>],
     body: &Body,
 ) -> Result<Option<StructSizes>, AllocError>
-    ensures { IfOk result (λ r. option_map sizes_seen r ≡ known_struct schema.now (map (option_map sizes_seen) structs.now) (body_seen body.now)) }
+    ensures { IfOk result (λ r. option_map sizes_seen r
+        ≡ known_struct schema.now (structs_seen structs.now) (body_seen body.now)) }
 {
     let Some((fields, force_align)) = body.as_struct() else {
         return Ok(Some(StructSizes {
@@ -85,7 +88,7 @@ pub(crate) fn structs_of(
     alloc: Global,
     schema: &Schema,
 ) -> Result<Vec<Option<StructSizes>>, AllocError>
-    ensures { IfOk result (λ r. map (option_map sizes_seen) r.items ≡ known_from schema.now [] schema.now.types) }
+    ensures { IfOk result (λ r. structs_seen r.items ≡ known_from schema.now [] schema.now.types) }
 {
     let types = schema.types();
     let mut structs = Vec::with_capacity(alloc, types.len())?;

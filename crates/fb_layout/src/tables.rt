@@ -1,9 +1,10 @@
 //! The greatest inline sizes of tables.
-ghost use Rattle.std.specs.Prelude.{◌≡◌, ◌≢◌, Ok, Err, map, option_map, IfOk, IfErr};
+ghost use Rattle.std.specs.Prelude.{◌≡◌, ◌≢◌, Ok, Err, map, IfOk, IfErr};
 ghost use Rattle.fb_schema.specs.Seen.{field_seen, body_seen};
 ghost use Rattle.fb_schema.specs.WellDeclared.{IsDeclared};
 ghost use Rattle.fb_layout.specs.declared.faults.LayoutFault.TheVariants.{Memory};
-ghost use Rattle.fb_layout.specs.Known.{sizes_seen, each_added, slot_added, no_slots, whole_table, known_table, type_sizes, tables_from};
+ghost use Rattle.fb_layout.specs.Known.{structs_seen, slot_added, slots_summed, whole_table, known_table};
+ghost use Rattle.fb_layout.specs.Known.{type_sizes, tables_known};
 
 use crate::extents::{StructSizes, slot_extent};
 use crate::faults::LayoutFault;
@@ -27,7 +28,7 @@ fn slot_added(
     sizes: TableSizes,
     field: &FieldInfo,
 ) -> Option<TableSizes>
-    ensures { result ≡ slot_added schema.now (map (option_map sizes_seen) structs.now) sizes (field_seen field.now) }
+    ensures { result ≡ slot_added schema.now (structs_seen structs.now) sizes (field_seen field.now) }
 {
     if field.deprecated {
         return Some(sizes);
@@ -45,7 +46,7 @@ fn slots_added(
     structs: &[Option<StructSizes>],
     slots: &[FieldInfo],
 ) -> Option<TableSizes>
-    ensures { result ≡ each_added (slot_added schema.now (map (option_map sizes_seen) structs.now)) no_slots (map field_seen slots.now) }
+    ensures { result ≡ slots_summed schema.now (structs_seen structs.now) (map field_seen slots.now) }
 {
     let mut sizes = TableSizes {
         widest: 0,
@@ -74,7 +75,7 @@ pub(crate) fn table_of(
     structs: &[Option<StructSizes>],
     slots: &[FieldInfo],
 ) -> Option<TableSizes>
-    ensures { result ≡ known_table schema.now (map (option_map sizes_seen) structs.now) (map field_seen slots.now) }
+    ensures { result ≡ known_table schema.now (structs_seen structs.now) (map field_seen slots.now) }
 {
     if slots.len() > MOST_SLOTS {
         return None;
@@ -89,7 +90,7 @@ fn type_sizes(
     number: TypeId,
     body: &Body,
 ) -> Result<TableSizes, LayoutFault>
-    ensures { result ≡ type_sizes schema.now (map (option_map sizes_seen) structs.now) number.0 (body_seen body.now) }
+    ensures { result ≡ type_sizes schema.now (structs_seen structs.now) number.0 (body_seen body.now) }
 {
     let none = TableSizes {
         widest: 4,
@@ -114,8 +115,9 @@ pub(crate) fn tables_of(
     structs: &[Option<StructSizes>],
 ) -> Result<Vec<TableSizes>, LayoutFault>
     ensures declared { IsDeclared schema.now }
-    ensures sizes { IfOk result (λ r. tables_from schema.now (map (option_map sizes_seen) structs.now) 0 schema.now.types ≡ Ok r.items) }
-    ensures fault { IfErr result (λ f. f ≢ Memory → tables_from schema.now (map (option_map sizes_seen) structs.now) 0 schema.now.types ≡ Err f) }
+    ensures sizes { IfOk result (λ r. tables_known schema.now (structs_seen structs.now) ≡ Ok r.items) }
+    ensures fault { IfErr result (λ f. f ≢ Memory
+        → tables_known schema.now (structs_seen structs.now) ≡ Err f) }
 {
     let types = schema.types();
     let mut tables = Vec::with_capacity(alloc, types.len())?;

@@ -1,7 +1,8 @@
 //! Attributes that need no declaration, and the integers that they have.
 ghost use Rattle.std.specs.Prelude.{◌≡◌};
 ghost use Rattle.std.specs.Option.{option_copied};
-ghost use Rattle.fb_meaning.specs.Attributes.{spelling, known_attribute, integer_of, is_alignment, has_attribute, attribute_called, number_called};
+ghost use Rattle.fb_meaning.specs.Attributes.{spelling, known_attribute, integer_of, is_alignment, has_attribute};
+ghost use Rattle.fb_meaning.specs.Attributes.{attribute_called, number_called};
 
 use fb_syntax::{AttributeUse, AttributeValue, Text, integer_value};
 

@@ -1,7 +1,8 @@
 //! Defaults of fields.
 ghost use Rattle.std.specs.Prelude.{◌≡◌};
 ghost use Rattle.std.specs.Option.{option_copied};
-ghost use Rattle.fb_meaning.specs.Defaults.{number_within, null_or_wrong, boolean_named, scalar_named, enum_number, enum_named, given_to, given_by};
+ghost use Rattle.fb_meaning.specs.Defaults.{number_within, null_or_wrong, boolean_named, scalar_named, enum_number};
+ghost use Rattle.fb_meaning.specs.Defaults.{enum_named, given_to, given_by};
 
 use crate::attributes::integer_of;
 use crate::enums::underlying_at;

@@ -2,7 +2,9 @@
 ghost use Rattle.std.specs.Prelude.{◌≡◌, ◌≤◌, List, Option, IfOk, pos, map, string_bytes};
 ghost use Rattle.fb_schema.specs.Schema.{Name};
 ghost use Rattle.fb_meaning.specs.Outline.{TypeRead};
-ghost use Rattle.fb_meaning.specs.EnumsRead.{integer_type, underlying, underlying_at, has_flags, bits_of, is_bit_of, value_number, may_be_written, written_number, values_from, values_read};
+ghost use Rattle.fb_meaning.specs.EnumsRead.{integer_type, underlying, underlying_at, has_flags, bits_of};
+ghost use Rattle.fb_meaning.specs.EnumsRead.{is_bit_of, value_number, may_be_written, written_number, values_from};
+ghost use Rattle.fb_meaning.specs.EnumsRead.{values_read};
 
 use crate::attributes::{Known, has_attribute, integer_of};
 use crate::basic_types::basic_type;

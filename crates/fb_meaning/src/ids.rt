@@ -1,7 +1,10 @@
 //! The slots that the ids of fields name.
-ghost use Rattle.std.specs.Prelude.{◌≡◌, ◌<◌, ◌-◌, ◌++◌, ◌^◌, [], ◌∷◌, IfOk, IfSome, IsSome, map, true, false, pos, ◌<ℤ◌};
+ghost use Rattle.std.specs.Prelude.{◌≡◌, ◌<◌, ◌-◌, ◌++◌, ◌^◌, [], ◌∷◌, IfOk, IfSome};
+ghost use Rattle.std.specs.Prelude.{IsSome, map, true, false, pos, ◌<ℤ◌};
 ghost use Rattle.std.specs.Option.{option_copied, is_some, ForSome};
-ghost use Rattle.fb_meaning.specs.SlotsRead.{union_in, first_slot, slot_by_id, numbers_by_id, have_ids, have_all_ids, are_places, are_ids_wrong, slots_by_id, slots_read, AreInPlace};
+ghost use Rattle.fb_meaning.specs.SlotsRead.{union_in, first_slot, slot_by_id, numbers_by_id, have_ids};
+ghost use Rattle.fb_meaning.specs.SlotsRead.{have_all_ids, are_places, are_ids_wrong, slots_by_id, slots_read};
+ghost use Rattle.fb_meaning.specs.SlotsRead.{AreInPlace};
 ghost use Rattle.fb_schema.specs.Seen.{field_seen};
 
 use crate::attributes::{Known, has_attribute, number_called};

@@ -1,9 +1,11 @@
 //! The slots that the fields of a table take.
-ghost use Rattle.std.specs.Prelude.{◌≡◌, ◌<◌, ◌-◌, ◌++◌, ◌^◌, IfOk, OnOk, IsSome, map, string_bytes};
+ghost use Rattle.std.specs.Prelude.{◌≡◌, ◌<◌, ◌-◌, ◌++◌, ◌^◌, IfOk, OnOk, IsSome, map};
+ghost use Rattle.std.specs.Prelude.{string_bytes};
 ghost use Rattle.std.specs.Option.{option_copied};
 ghost use Rattle.fb_schema.specs.Seen.{field_seen};
 ghost use Rattle.fb_meaning.specs.Meaning.{meaning_in};
-ghost use Rattle.fb_meaning.specs.SlotsRead.{union_of, union_in, value_slot_of, name_of_code, code_slot, slots_of_field, slots_in_order};
+ghost use Rattle.fb_meaning.specs.SlotsRead.{union_of, union_in, value_slot_of, name_of_code, code_slot};
+ghost use Rattle.fb_meaning.specs.SlotsRead.{slots_of_field, slots_in_order};
 
 use crate::attributes::{Known, has_attribute, number_called};
 use crate::defaults::{Given, given_by};

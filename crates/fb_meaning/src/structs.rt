@@ -3,7 +3,8 @@ ghost use Rattle.std.specs.Prelude.{◌≡◌, ◌≤◌, IfOk, Some, map};
 ghost use Rattle.std.specs.Option.{option_copied, option_map_or};
 ghost use Rattle.fb_schema.specs.Alignments.{base_size};
 ghost use Rattle.fb_schema.specs.Seen.{field_seen};
-ghost use Rattle.fb_meaning.specs.StructsRead.{align_by, align_in, natural_align, alignment_in, forced_align, align_of_struct, align_of_read, part_read, parts_from};
+ghost use Rattle.fb_meaning.specs.StructsRead.{align_by, align_in, natural_align, alignment_in, forced_align};
+ghost use Rattle.fb_meaning.specs.StructsRead.{align_of_struct, align_of_read, part_read, parts_from};
 ghost use Rattle.fb_meaning.specs.SlotsRead.{kind_or_text, shape_of};
 ghost use Rattle.fb_meaning.specs.Meaning.{meaning_in};
 

@@ -43,7 +43,8 @@ impl TypesRead<'_, '_, '_> {
     ) -> Option<Candidate>
         requires { place < length self.names.now }
         ensures { result ≡ with_candidate (is_among (get_or (names_of_types self.entry.types.now) place [])
-            (readings (option_copied scope.entry) name.now)) meant (candidate (names_of_types self.entry.types.now) place) }
+            (readings (option_copied scope.entry) name.now)) meant
+            (candidate (names_of_types self.entry.types.now) place) }
     {
         let full_name = &self.names[place];
         let full_name = full_name.text.as_bytes();

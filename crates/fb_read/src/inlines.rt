@@ -1,5 +1,6 @@
 //! Numbers and structs as values.
-ghost use Rattle.std.specs.Prelude.{◌≡◌, ◌+◌, ◌*◌, ◌<◌, ◌≤◌, ◌^◌, IfOk, length, option_map, None, Some};
+ghost use Rattle.std.specs.Prelude.{◌≡◌, ◌+◌, ◌*◌, ◌<◌, ◌≤◌, ◌^◌, IfOk, length};
+ghost use Rattle.std.specs.Prelude.{option_map, None, Some};
 ghost use Rattle.fb_layout.specs.Laid.{stored_kind, size_of, struct_kind, struct_at};
 ghost use Rattle.fb_value.specs.Places.{target_of};
 ghost use Rattle.fb_value.specs.View.{view, parts_view};

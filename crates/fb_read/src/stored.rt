@@ -6,7 +6,9 @@ ghost use Rattle.fb_value.specs.Places.{vtable};
 ghost use Rattle.fb_value.specs.Nth.{slot_place};
 ghost use Rattle.fb_read.specs.Visits.{slot_seen, slots_seen, union_place};
 ghost use Rattle.fb_read.specs.Weights.{StandsBehind};
-ghost use Rattle.fb_read.specs.Stored.{stored_place, stored_at, text_place_of, table_place_of, member_place_of, vector_place_of, struct_place_of, number_place_of, default_in, unknown_code_of};
+ghost use Rattle.fb_read.specs.Stored.{stored_place, stored_at, text_place_of, table_place_of, member_place_of};
+ghost use Rattle.fb_read.specs.Stored.{vector_place_of, struct_place_of, number_place_of, default_in};
+ghost use Rattle.fb_read.specs.Stored.{unknown_code_of};
 
 use crate::places::{is_stored, slot_of};
 use crate::rules::union_code;

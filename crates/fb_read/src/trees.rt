@@ -1,14 +1,17 @@
 //! The value of all that is reached from a place.
-ghost use Rattle.std.specs.Prelude.{◌≡◌, ◌+◌, ◌*◌, ◌<◌, ◌≤◌, ◌^◌, length, option_map, OnOk, IfOk, None, Some, Err};
+ghost use Rattle.std.specs.Prelude.{◌≡◌, ◌+◌, ◌*◌, ◌<◌, ◌≤◌, ◌^◌, length, option_map};
+ghost use Rattle.std.specs.Prelude.{OnOk, IfOk, None, Some, Err};
 ghost use Rattle.fb_layout.specs.Laid.{StoredKind, Slot, stored_kind, size_of};
 ghost use Rattle.fb_value.specs.Num.{num};
 ghost use Rattle.fb_value.specs.View.{view, parts_view, entries_view};
 ghost use Rattle.fb_value.specs.Counts.{entered, parts_entered, entries_entered};
-ghost use Rattle.fb_value.specs.Places.{table_part, member_part, vector_part, ref_place, part_place, vtable, named_slots, named_elements, target_of};
+ghost use Rattle.fb_value.specs.Places.{table_part, member_part, vector_part, ref_place, part_place, vtable};
+ghost use Rattle.fb_value.specs.Places.{named_slots, named_elements, target_of};
 ghost use Rattle.fb_read.specs.Stored.{stored_place, stored_at, default_in};
 ghost use Rattle.fb_read.specs.Visits.{slots_seen};
 ghost use Rattle.fb_read.specs.Walks.{place, visit_in, visit_each_in, visit_entry_in, entered_in};
-ghost use Rattle.fb_read.specs.Values.{led_to, elements_named, Gives, CountsWithin, IsAt, IsInSlot, AreInSlots, AreItems, IsOpen, IsOpenBehind};
+ghost use Rattle.fb_read.specs.Values.{led_to, elements_named, Gives, CountsWithin, IsAt, IsInSlot, AreInSlots};
+ghost use Rattle.fb_read.specs.Values.{AreItems, IsOpen, IsOpenBehind};
 
 use crate::counting::Entries;
 use crate::inlines::read_inlines;

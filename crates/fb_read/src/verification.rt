@@ -1,5 +1,6 @@
 //! Whether a buffer holds a value.
-ghost use Rattle.std.specs.Prelude.{◌≡◌, ◌+◌, ◌≤◌, ◌<◌, ◌^◌, IfOk, length, MatchResult, OnOk, IfErr, None, Some, Err};
+ghost use Rattle.std.specs.Prelude.{◌≡◌, ◌+◌, ◌≤◌, ◌<◌, ◌^◌, IfOk, length, MatchResult};
+ghost use Rattle.std.specs.Prelude.{OnOk, IfErr, None, Some, Err};
 ghost use Rattle.fb_value.specs.Datum.{Datum};
 ghost use Rattle.fb_value.specs.Counts.{entered};
 ghost use Rattle.fb_read.specs.Shows.{Shows};

@@ -1,8 +1,10 @@
 //! Visits of what names no table, without memory.
-ghost use Rattle.std.specs.Prelude.{◌≡◌, ℕ, ◌+◌, ◌*◌, ◌<◌, ◌≤◌, ◌^◌, length, List, IsTrue, Ok, MatchResult, OnOk, IfOk};
+ghost use Rattle.std.specs.Prelude.{◌≡◌, ℕ, ◌+◌, ◌*◌, ◌<◌, ◌≤◌, ◌^◌, length, List};
+ghost use Rattle.std.specs.Prelude.{IsTrue, Ok, MatchResult, OnOk, IfOk};
 ghost use Rattle.fb_layout.specs.Laid.{LaidSchema, Slot, scalar_kind, stored_kind};
 ghost use Rattle.fb_value.specs.Num.{num};
-ghost use Rattle.fb_value.specs.Places.{vtable, is_present, text_part, ref_place, part_place, inline_place, code_place, next_required};
+ghost use Rattle.fb_value.specs.Places.{vtable, is_present, text_part, ref_place, part_place, inline_place};
+ghost use Rattle.fb_value.specs.Places.{code_place, next_required};
 ghost use Rattle.fb_value.specs.Nth.{slot_place};
 ghost use Rattle.fb_read.specs.Visits.{Visits, slot_seen, slots_seen};
 ghost use Rattle.fb_read.specs.Walks.{place, visit_in, visit_entry_in, TicksWithin, EntersAt, EntersSlot};

@@ -5,11 +5,13 @@
 ghost use Rattle.std.specs.Prelude.{◌≡◌, ◌+◌, ◌*◌, ◌<◌, ◌≤◌, ◌^◌, length, OnOk, IfOk, Some};
 ghost use Rattle.fb_layout.specs.Laid.{StoredKind, stored_kind, member_by_code};
 ghost use Rattle.fb_value.specs.Num.{num};
-ghost use Rattle.fb_value.specs.Places.{table_part, vector_part, ref_place, part_place, vtable, named_slots, named_elements, target_of};
+ghost use Rattle.fb_value.specs.Places.{table_part, vector_part, ref_place, part_place, vtable, named_slots};
+ghost use Rattle.fb_value.specs.Places.{named_elements, target_of};
 ghost use Rattle.fb_value.specs.Nth.{slot_place};
 ghost use Rattle.fb_read.specs.Visits.{Visits, slot_seen, slots_seen, union_place};
 ghost use Rattle.fb_read.specs.Values.{led_to};
-ghost use Rattle.fb_read.specs.Walks.{place, visit_in, visit_each_in, visit_entry_in, TicksWithin, EntersAt, EntersSlot, EntersSlots, EntersItems};
+ghost use Rattle.fb_read.specs.Walks.{place, visit_in, visit_each_in, visit_entry_in, TicksWithin, EntersAt};
+ghost use Rattle.fb_read.specs.Walks.{EntersSlot, EntersSlots, EntersItems};
 
 use crate::counting::Entries;
 use crate::places::{follow, held_slot, stored_slots};

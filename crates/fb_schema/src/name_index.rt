@@ -1,5 +1,6 @@
 //! Names that are found in one step.
-ghost use Rattle.std.specs.Prelude.{◌≡◌, ◌≢◌, [], ◌∷◌, ◌++◌, map, AllPairs, IfOk, OnErr, is_some, not, if◌then◌else◌};
+ghost use Rattle.std.specs.Prelude.{◌≡◌, ◌≢◌, [], ◌∷◌, ◌++◌, map, AllPairs, IfOk, OnErr};
+ghost use Rattle.std.specs.Prelude.{is_some, not, if◌then◌else◌};
 ghost use Rattle.fb_schema.specs.Found.{index_of};
 
 use crate::named::Named;

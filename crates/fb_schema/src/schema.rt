@@ -3,7 +3,8 @@ ghost use Rattle.std.specs.Prelude.{◌≡◌, map, option_copied, option_map, I
 ghost use Rattle.fb_schema.specs.Schema.{body_at};
 ghost use Rattle.fb_schema.specs.Seen.{field_seen, type_seen, schema_of};
 ghost use Rattle.fb_schema.specs.WellDeclared.{IsDeclared};
-ghost use Rattle.fb_schema.specs.Found.{type_named, field_named, member_coded, name_numbered, number_named, code_named, name_at};
+ghost use Rattle.fb_schema.specs.Found.{type_named, field_named, member_coded, name_numbered, number_named};
+ghost use Rattle.fb_schema.specs.Found.{code_named, name_at};
 ghost use Rattle.fb_schema.specs.Paths.{number_by_path, code_by_path};
 
 use crate::finding::{code_in, field_in, member_in, name_in, number_in};

@@ -1,7 +1,8 @@
 //! The bytes that tokens are made of, and runs of them.
 ghost use Rattle.std.specs.Prelude.{◌≡◌, ◌≤◌, ◌==◌, not, length};
 ghost use Rattle.std.specs.List.{prefix_len};
-ghost use Rattle.fb_syntax.specs.Bytes.{is_letter, is_digit, is_word_byte, is_hex, is_blank, is_punct, is_quotable, is_sign};
+ghost use Rattle.fb_syntax.specs.Bytes.{is_letter, is_digit, is_word_byte, is_hex, is_blank, is_punct, is_quotable};
+ghost use Rattle.fb_syntax.specs.Bytes.{is_sign};
 
 pub(crate) fn is_letter(byte: u8) -> bool
     ensures { result ≡ is_letter byte }

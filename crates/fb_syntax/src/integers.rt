@@ -1,6 +1,8 @@
 //! Integers, their lengths and their values.
-ghost use Rattle.std.specs.Prelude.{◌≡◌, ◌≤◌, ◌<◌, ◌+◌, ◌*◌, ◌↔◌, length, MatchOption, IsTrue, IsSome, IfSome};
-ghost use Rattle.fb_syntax.specs.Integers.{is_integer, is_prefixed, without_sign, digit_value, digits_value, magnitude, is_negative, signed_value, greatest_magnitude, IsInteger};
+ghost use Rattle.std.specs.Prelude.{◌≡◌, ◌≤◌, ◌<◌, ◌+◌, ◌*◌, ◌↔◌, length};
+ghost use Rattle.std.specs.Prelude.{MatchOption, IsTrue, IsSome, IfSome};
+ghost use Rattle.fb_syntax.specs.Integers.{is_integer, is_prefixed, without_sign, digit_value, digits_value};
+ghost use Rattle.fb_syntax.specs.Integers.{magnitude, is_negative, signed_value, greatest_magnitude, IsInteger};
 ghost use Rattle.fb_syntax.specs.NumberLen.{number_len};
 
 use crate::bytes::{digit_run, hex_run, is_hex, is_sign};

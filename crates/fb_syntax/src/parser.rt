@@ -10,7 +10,8 @@ mod unions;
 
 ghost use Rattle.std.specs.Prelude.{◌≡◌, ◌<◌, ◌≤◌, length, drop, Some, None, IfOk, IfSome, MatchOption};
 ghost use Rattle.fb_syntax.specs.Lexemes.{IsReadable, AreReadable, content, lexemes};
-ghost use Rattle.fb_syntax.specs.Reading.{Gives, is_empty, is_only, is_sign, kind_at, name_at, name_more, sign_at, token_at};
+ghost use Rattle.fb_syntax.specs.Reading.{Gives, is_empty, is_only, is_sign, kind_at, name_at, name_more, sign_at};
+ghost use Rattle.fb_syntax.specs.Reading.{token_at};
 
 use crate::declarations::Text;
 use crate::tokens::{Token, TokenKind};

@@ -1,5 +1,6 @@
 //! The tokens of a text.
-ghost use Rattle.std.specs.Prelude.{◌≡◌, ◌≤◌, ◌<◌, ◌+◌, ◌^◌, length, drop, List, All, IfSome, IfOk, IfErr, IsTrue, IsUtf8};
+ghost use Rattle.std.specs.Prelude.{◌≡◌, ◌≤◌, ◌<◌, ◌+◌, ◌^◌, length, drop, List, All};
+ghost use Rattle.std.specs.Prelude.{IfSome, IfOk, IfErr, IsTrue, IsUtf8};
 ghost use Rattle.std.specs.Str.Lossy.{utf8_valid_len};
 ghost use Rattle.fb_syntax.specs.declared.tokens.Token.{Token};
 ghost use Rattle.fb_syntax.specs.Spells.{Spells, SpellsText, OneSpelling, Finds};

@@ -2,7 +2,7 @@
 -- From the FlatBuffers documentation, "Writing a schema": Tables, Structs, Unions, Attributes (`required`, `deprecated`).
 use Rattle.std.specs.Prelude.{ℕ, ◌≡◌, ◌≢◌, ◌≤◌, List, [], ◌∷◌, false, Option, None, Some, slice_get}
 use Rattle.std.specs.Str.{IsUtf8}
-use Rattle.fb_schema.specs.Schema.{DeclaredType, DeclaredBody, table_body, struct_body, enum_body, union_body}
+use Rattle.fb_schema.specs.Schema.{DeclaredSchema, DeclaredType, DeclaredBody, table_body, struct_body, enum_body, union_body}
 use Rattle.fb_schema.specs.WellDeclared.{InRange}
 use Rattle.fb_layout.specs.Laid.{LaidSchema, Slot, StoredKind, scalar_kind, struct_kind, table_kind, union_kind, text_kind, StoredShape, one_of, vector_of, slots_of, parts_of, member_by_code}
 use Rattle.fb_value.specs.Datum.{Datum, a_number, a_text, a_vector, a_struct, a_table, a_member, an_unknown, Parts, no_parts, more_parts, SlotEntries, no_entries, absent_entry, present_entry}
@@ -50,13 +50,17 @@ kind_of_type t (Some type) = Some (kind_of_body t type.body)
     kind_of_body t (enum_body base flags values) = scalar_kind base
     kind_of_body t (union_body members) = union_kind t
 
+-- what the type of a number is as a kind
+abbrev pub kind_at : DeclaredSchema → ℕ → Option StoredKind
+kind_at S t = kind_of_type t (slice_get S.types t)
+
 abbrev pub FitsKind : LaidSchema → Option StoredKind → Datum → Type 0
 FitsKind L None d = ⊥
 FitsKind L (Some kind) d = Fits L (one_of kind) d
 
 -- a value that the declared type of a number may have
 abbrev pub FitsType : LaidSchema → ℕ → Datum → Type 0
-FitsType L t d = FitsKind L (kind_of_type t (slice_get L.schema.types t)) d
+FitsType L t d = FitsKind L (kind_at L.schema t) d
 
 abbrev pub FitsRoot : LaidSchema → Datum → Type 0
 FitsRoot L d = FitsType L L.schema.root d

@@ -1,5 +1,6 @@
 pub mod Datum
 pub mod Counts
+pub mod UpTo
 pub mod View
 pub mod Fits
 pub mod Room

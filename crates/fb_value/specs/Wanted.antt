@@ -31,3 +31,7 @@ is_scalar _ = false
 abbrev pub member_wanted : LaidSchema → Option ℕ → ℕ → Option ℕ
 member_wanted L None c = None
 member_wanted L (Some u) c = member_by_code L u c
+
+-- the table that a code names in the union that a shape is
+abbrev pub member_in : LaidSchema → StoredShape → ℕ → Option ℕ
+member_in L shape c = member_wanted L (union_wanted shape) c

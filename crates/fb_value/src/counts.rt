@@ -1,8 +1,9 @@
 //! Counts over values.
-ghost use Rattle.std.specs.Prelude.{◌<◌, ◌≤◌, ◌^◌};
-ghost use Rattle.std.specs.Option.{SomeIff};
+ghost use Rattle.std.specs.Prelude.{◌≤◌, ◌^◌};
 ghost use Rattle.fb_value.specs.View.{view, parts_view, entries_view};
-ghost use Rattle.fb_value.specs.Counts.{cells as cells_of, parts_cells, entries_cells, depth as depth_of, parts_depth, entries_depth, nesting};
+ghost use Rattle.fb_value.specs.Counts.{cells as cells_of, parts_cells, entries_cells, nesting};
+ghost use Rattle.fb_value.specs.Counts.{depth as depth_of, parts_depth, entries_depth};
+ghost use Rattle.fb_value.specs.UpTo.{SomeBelow};
 
 use crate::values::Value;
 
@@ -10,14 +11,14 @@ use crate::values::Value;
 /// where that is over the type's range.
 pub fn cells(value: &Value) -> Option<u32>
     requires { nesting (view value.now) ≤ 300 }
-    ensures { SomeIff result (cells_of (view value.now) < 2 ^ 32) (cells_of (view value.now)) }
+    ensures { SomeBelow (2 ^ 32) result (cells_of (view value.now)) }
 {
     cells_in(value)
 }
 
 #[cycle(cells)]
 fn cells_in(value: &Value) -> Option<u32>
-    ensures { SomeIff result (cells_of (view value.now) < 2 ^ 32) (cells_of (view value.now)) }
+    ensures { SomeBelow (2 ^ 32) result (cells_of (view value.now)) }
 {
     match value {
         Value::Number(_) | Value::Other(_) => Some(0),
@@ -34,7 +35,7 @@ fn cells_in(value: &Value) -> Option<u32>
 
 #[cycle(cells)]
 fn cells_in_parts(parts: &Vec<Value>) -> Option<u32>
-    ensures { SomeIff result (parts_cells (parts_view parts.now.items) < 2 ^ 32) (parts_cells (parts_view parts.now.items)) }
+    ensures { SomeBelow (2 ^ 32) result (parts_cells (parts_view parts.now.items)) }
 {
     let mut total = 0u32;
     for part in parts {
@@ -45,7 +46,7 @@ fn cells_in_parts(parts: &Vec<Value>) -> Option<u32>
 
 #[cycle(cells)]
 fn cells_in_entries(entries: &Vec<Option<Value>>) -> Option<u32>
-    ensures { SomeIff result (entries_cells (entries_view entries.now.items) < 2 ^ 32) (entries_cells (entries_view entries.now.items)) }
+    ensures { SomeBelow (2 ^ 32) result (entries_cells (entries_view entries.now.items)) }
 {
     let mut total = 0u32;
     for entry in entries {
@@ -60,14 +61,14 @@ fn cells_in_entries(entries: &Vec<Option<Value>>) -> Option<u32>
 /// type's range.
 pub fn depth(value: &Value) -> Option<u8>
     requires { nesting (view value.now) ≤ 300 }
-    ensures { SomeIff result (depth_of (view value.now) < 2 ^ 8) (depth_of (view value.now)) }
+    ensures { SomeBelow (2 ^ 8) result (depth_of (view value.now)) }
 {
     depth_in(value)
 }
 
 #[cycle(depth)]
 fn depth_in(value: &Value) -> Option<u8>
-    ensures { SomeIff result (depth_of (view value.now) < 2 ^ 8) (depth_of (view value.now)) }
+    ensures { SomeBelow (2 ^ 8) result (depth_of (view value.now)) }
 {
     match value {
         Value::Number(_) | Value::Text(_) | Value::Other(_) => Some(0),
@@ -79,7 +80,7 @@ fn depth_in(value: &Value) -> Option<u8>
 
 #[cycle(depth)]
 fn depth_in_parts(parts: &Vec<Value>) -> Option<u8>
-    ensures { SomeIff result (parts_depth (parts_view parts.now.items) < 2 ^ 8) (parts_depth (parts_view parts.now.items)) }
+    ensures { SomeBelow (2 ^ 8) result (parts_depth (parts_view parts.now.items)) }
 {
     let mut deepest = 0u8;
     for part in parts {
@@ -90,7 +91,7 @@ fn depth_in_parts(parts: &Vec<Value>) -> Option<u8>
 
 #[cycle(depth)]
 fn depth_in_entries(entries: &Vec<Option<Value>>) -> Option<u8>
-    ensures { SomeIff result (entries_depth (entries_view entries.now.items) < 2 ^ 8) (entries_depth (entries_view entries.now.items)) }
+    ensures { SomeBelow (2 ^ 8) result (entries_depth (entries_view entries.now.items)) }
 {
     let mut deepest = 0u8;
     for entry in entries {

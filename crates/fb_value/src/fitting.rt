@@ -1,11 +1,12 @@
 //! Whether a value is one that a type may have.
-ghost use Rattle.std.specs.Prelude.{◌↔◌, ◌≡◌, ◌≤◌, IsTrue, Some, map, option_map, slice_get};
+ghost use Rattle.std.specs.Prelude.{◌↔◌, ◌≡◌, ◌≤◌, IsTrue, Some, option_map};
 ghost use Rattle.fb_schema.specs.Schema.{Name, DeclaredSchema};
-ghost use Rattle.fb_schema.specs.Seen.{field_seen, body_seen};
-ghost use Rattle.fb_layout.specs.Laid.{stored_kind, stored_shape, slot_of, kind_in};
+ghost use Rattle.fb_schema.specs.Seen.{body_seen};
+ghost use Rattle.fb_layout.specs.Laid.{stored_kind};
+ghost use Rattle.fb_layout.specs.Seen.{kind_seen, shape_seen, slot_seen, slots_seen, kinds_seen};
 ghost use Rattle.fb_value.specs.View.{view, parts_view, entries_view};
 ghost use Rattle.fb_value.specs.Counts.{nesting};
-ghost use Rattle.fb_value.specs.Fits.{Fits, PartsFit, EachFits, EntriesFit, kind_of_type, FitsType};
+ghost use Rattle.fb_value.specs.Fits.{Fits, PartsFit, EachFits, EntriesFit, kind_of_type, kind_at, FitsType};
 ghost use Rattle.fb_value.specs.Entries.{EntryFits};
 
 use crate::values::Value;
@@ -29,7 +30,7 @@ pub fn fits(layout: &Layout, type_id: TypeId, value: &Value) -> bool
 
 // What a declared type is as a kind.
 fn kind_of(schema: &Schema, type_id: TypeId) -> Option<Kind>
-    ensures { option_map (stored_kind schema.now) result ≡ kind_of_type type_id.0 (slice_get schema.now.types type_id.0) }
+    ensures { option_map (stored_kind schema.now) result ≡ kind_at schema.now type_id.0 }
 {
     match schema.types().get(type_id.0 as usize) {
         Some(info) => Some(kind_of_body(type_id, &info.body)),
@@ -38,7 +39,9 @@ fn kind_of(schema: &Schema, type_id: TypeId) -> Option<Kind>
 }
 
 fn kind_of_body(type_id: TypeId, body: &Body) -> Kind
-    ensures { (schema : DeclaredSchema) (name : Name) → kind_of_type type_id.0 (Some (record { name = name; body = body_seen body.now })) ≡ Some (stored_kind schema result) }
+    ensures { (schema : DeclaredSchema) (name : Name)
+        → kind_of_type type_id.0 (Some (record { name = name; body = body_seen body.now }))
+        ≡ Some (stored_kind schema result) }
 {
     match body {
         Body::Table(_) => Kind::Table(type_id),
@@ -50,7 +53,7 @@ fn kind_of_body(type_id: TypeId, body: &Body) -> Kind
 
 #[cycle(fits)]
 fn fits_in(layout: &Layout, shape: Shape, value: &Value) -> bool
-    ensures { IsTrue result ↔ Fits layout.now (stored_shape layout.now.schema shape) (view value.now) }
+    ensures { IsTrue result ↔ Fits layout.now (shape_seen layout.now shape) (view value.now) }
 {
     match value {
         Value::Number(number) => takes_number(layout, shape, *number),
@@ -76,7 +79,7 @@ fn fits_in(layout: &Layout, shape: Shape, value: &Value) -> bool
 
 #[cycle(fits)]
 fn each_fits(layout: &Layout, kind: Kind, items: &Vec<Value>) -> bool
-    ensures { IsTrue result ↔ EachFits layout.now (stored_kind layout.now.schema kind) (parts_view items.now.items) }
+    ensures { IsTrue result ↔ EachFits layout.now (kind_seen layout.now kind) (parts_view items.now.items) }
 {
     for item in items {
         if !fits_in(layout, Shape::One(kind), item) {
@@ -88,7 +91,7 @@ fn each_fits(layout: &Layout, kind: Kind, items: &Vec<Value>) -> bool
 
 #[cycle(fits)]
 fn parts_fit(layout: &Layout, fields: &[FieldInfo], parts: &Vec<Value>) -> bool
-    ensures { IsTrue result ↔ PartsFit layout.now (map (λ f. kind_in (stored_shape layout.now.schema f.shape)) (map field_seen fields.now)) (parts_view parts.now.items) }
+    ensures { IsTrue result ↔ PartsFit layout.now (kinds_seen layout.now fields.now) (parts_view parts.now.items) }
 {
     if fields.len() != parts.len() {
         return false;
@@ -104,7 +107,7 @@ fn parts_fit(layout: &Layout, fields: &[FieldInfo], parts: &Vec<Value>) -> bool
 
 #[cycle(fits)]
 fn entries_fit(layout: &Layout, slots: &[FieldInfo], entries: &Vec<Option<Value>>) -> bool
-    ensures { IsTrue result ↔ EntriesFit layout.now (map (slot_of layout.now.schema) (map field_seen slots.now)) (entries_view entries.now.items) }
+    ensures { IsTrue result ↔ EntriesFit layout.now (slots_seen layout.now slots.now) (entries_view entries.now.items) }
 {
     if slots.len() != entries.len() {
         return false;
@@ -119,7 +122,7 @@ fn entries_fit(layout: &Layout, slots: &[FieldInfo], entries: &Vec<Option<Value>
 
 #[cycle(fits)]
 fn entry_fits(layout: &Layout, slot: &FieldInfo, entry: &Option<Value>) -> bool
-    ensures { IsTrue result ↔ EntryFits layout.now (slot_of layout.now.schema (field_seen slot.now)) (option_map view entry.now) }
+    ensures { IsTrue result ↔ EntryFits layout.now (slot_seen layout.now slot.now) (option_map view entry.now) }
 {
     match entry {
         Some(value) => !slot.deprecated && fits_in(layout, slot.shape, value),

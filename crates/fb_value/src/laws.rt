@@ -1,5 +1,7 @@
 //! Laws of the bytes that hold a value.
-ghost use Rattle.fb_value.specs.Laws.{OneValue, ValueWhereAllKeep, CellsOfPlace, CellsOfValue, FaultOfLeastPath, ValueOrFault, OneLeastFault, NestingOfDepth, FaultOfPlace, FitsWhereHeld, ValueOfPlace, ValueWhereLies};
+ghost use Rattle.fb_value.specs.Laws.{OneValue, ValueWhereAllKeep, CellsOfPlace, CellsOfValue, FaultOfLeastPath};
+ghost use Rattle.fb_value.specs.Laws.{ValueOrFault, OneLeastFault, NestingOfDepth, FaultOfPlace, FitsWhereHeld};
+ghost use Rattle.fb_value.specs.Laws.{ValueOfPlace, ValueWhereLies};
 ghost use Rattle.fb_value.specs.Nth.{EntryLies, ElementLies, PartLies};
 ghost use Rattle.fb_value.specs.TailLaws.{KeptInFront, KeptByMultiple, LiesInWhole, OldKeptInFront};
 ghost use Rattle.fb_value.specs.EachTable.{EachTableReached, OnlyOldByTables};

@@ -1,13 +1,12 @@
 //! How many bytes are surely enough for a value.
-ghost use Rattle.std.specs.Prelude.{◌≤◌, ◌+◌, map, option_map};
-ghost use Rattle.std.specs.Option.{SomeIff};
-ghost use Rattle.fb_schema.specs.Seen.{field_seen};
-ghost use Rattle.fb_layout.specs.Laid.{stored_kind, stored_shape, slot_of};
+ghost use Rattle.std.specs.Prelude.{◌≤◌, ◌+◌, option_map};
+ghost use Rattle.fb_layout.specs.Seen.{kind_seen, shape_seen, slot_seen, slots_seen};
 ghost use Rattle.fb_value.specs.View.{view, parts_view, entries_view};
 ghost use Rattle.fb_value.specs.Counts.{nesting};
 ghost use Rattle.fb_value.specs.Fits.{FitsRoot};
 ghost use Rattle.fb_value.specs.Room.{table_room, vector_room, room as room_at, parts_room, entries_room, room_of};
 ghost use Rattle.fb_value.specs.Entries.{entry_room};
+ghost use Rattle.fb_value.specs.UpTo.{SomeUpTo};
 
 use crate::values::Value;
 use fb_layout::Layout;
@@ -24,7 +23,7 @@ const MOST: usize = 2_147_483_647;
 pub fn room(layout: &Layout, value: &Value) -> Option<u32>
     requires nests { nesting (view value.now) ≤ 300 }
     requires fits { FitsRoot layout.now (view value.now) }
-    ensures { SomeIff result (room_of layout.now (view value.now) ≤ 2147483647) (room_of layout.now (view value.now)) }
+    ensures { SomeUpTo 2147483647 result (room_of layout.now (view value.now)) }
 {
     let shape = Shape::One(Kind::Table(layout.schema().root()));
     let inner = room_in(layout, shape, value)?;
@@ -33,20 +32,20 @@ pub fn room(layout: &Layout, value: &Value) -> Option<u32>
 
 // None over the greatest room.
 fn within(sum: usize) -> Option<u32>
-    ensures { SomeIff result (sum ≤ 2147483647) sum }
+    ensures { SomeUpTo 2147483647 result sum }
 {
     if sum <= MOST { Some(sum as u32) } else { None }
 }
 
 fn sum_of(first: u32, second: u32) -> Option<u32>
-    ensures { SomeIff result (first + second ≤ 2147483647) (first + second) }
+    ensures { SomeUpTo 2147483647 result (first + second) }
 {
     within(first as usize + second as usize)
 }
 
 // A table and its vtable.
 fn room_of_table(layout: &Layout, table: TypeId) -> Option<u32>
-    ensures { SomeIff result (table_room layout.now table.0 ≤ 2147483647) (table_room layout.now table.0) }
+    ensures { SomeUpTo 2147483647 result (table_room layout.now table.0) }
 {
     let vtable = 4 + 2 * layout.slots_of(table).len();
     let padding = layout.table_align(table) as usize - 1;
@@ -55,7 +54,7 @@ fn room_of_table(layout: &Layout, table: TypeId) -> Option<u32>
 
 // The count and the elements of a vector.
 fn room_of_vector(layout: &Layout, kind: Kind, count: usize) -> Option<u32>
-    ensures { SomeIff result (vector_room layout.now (stored_kind layout.now.schema kind) count ≤ 2147483647) (vector_room layout.now (stored_kind layout.now.schema kind) count) }
+    ensures { SomeUpTo 2147483647 result (vector_room layout.now (kind_seen layout.now kind) count) }
 {
     let elements = within(count.checked_mul(layout.size_of(kind) as usize)?)?;
     let padding = layout.align_of(kind).max(4) - 1;
@@ -65,8 +64,7 @@ fn room_of_vector(layout: &Layout, kind: Kind, count: usize) -> Option<u32>
 // The part that a value takes outside of where it stands.
 #[cycle(room)]
 fn room_in(layout: &Layout, shape: Shape, value: &Value) -> Option<u32>
-    ensures { SomeIff result (room_at layout.now (stored_shape layout.now.schema shape) (view value.now) ≤ 2147483647)
-        (room_at layout.now (stored_shape layout.now.schema shape) (view value.now)) }
+    ensures { SomeUpTo 2147483647 result (room_at layout.now (shape_seen layout.now shape) (view value.now)) }
 {
     match value {
         Value::Number(_) | Value::Fixed(_) | Value::Other(_) => Some(0),
@@ -89,8 +87,8 @@ fn room_in(layout: &Layout, shape: Shape, value: &Value) -> Option<u32>
 
 #[cycle(room)]
 fn room_in_parts(layout: &Layout, kind: Kind, parts: &Vec<Value>) -> Option<u32>
-    ensures { SomeIff result (parts_room layout.now (stored_kind layout.now.schema kind) (parts_view parts.now.items) ≤ 2147483647)
-        (parts_room layout.now (stored_kind layout.now.schema kind) (parts_view parts.now.items)) }
+    ensures { SomeUpTo 2147483647 result
+        (parts_room layout.now (kind_seen layout.now kind) (parts_view parts.now.items)) }
 {
     let mut total = 0;
     for part in parts {
@@ -105,8 +103,8 @@ fn room_in_entries(
     slots: &[FieldInfo],
     entries: &Vec<Option<Value>>,
 ) -> Option<u32>
-    ensures { SomeIff result (entries_room layout.now (map (slot_of layout.now.schema) (map field_seen slots.now)) (entries_view entries.now.items) ≤ 2147483647)
-        (entries_room layout.now (map (slot_of layout.now.schema) (map field_seen slots.now)) (entries_view entries.now.items)) }
+    ensures { SomeUpTo 2147483647 result
+        (entries_room layout.now (slots_seen layout.now slots.now) (entries_view entries.now.items)) }
 {
     let mut total = 0;
     for i in 0..slots.len().min(entries.len()) {
@@ -117,8 +115,8 @@ fn room_in_entries(
 
 #[cycle(room)]
 fn room_in_entry(layout: &Layout, slot: &FieldInfo, entry: &Option<Value>) -> Option<u32>
-    ensures { SomeIff result (entry_room layout.now (slot_of layout.now.schema (field_seen slot.now)) (option_map view entry.now) ≤ 2147483647)
-        (entry_room layout.now (slot_of layout.now.schema (field_seen slot.now)) (option_map view entry.now)) }
+    ensures { SomeUpTo 2147483647 result
+        (entry_room layout.now (slot_seen layout.now slot.now) (option_map view entry.now)) }
 {
     match entry {
         Some(value) => room_in(layout, slot.shape, value),

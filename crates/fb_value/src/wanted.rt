@@ -3,16 +3,18 @@ ghost use Rattle.std.specs.Prelude.{◌↔◌, ◌≡◌, IsTrue, Some, option_m
 ghost use Rattle.fb_schema.specs.Seen.{field_seen};
 ghost use Rattle.fb_schema.specs.Schema.{DeclaredSchema};
 ghost use Rattle.fb_layout.specs.Laid.{LaidSchema, stored_kind, stored_shape, slot_of};
+ghost use Rattle.fb_layout.specs.Seen.{shape_seen};
 ghost use Rattle.fb_value.specs.Datum.{a_number, a_text, an_unknown};
 ghost use Rattle.fb_value.specs.Fits.{MayBeAbsent, Fits};
-ghost use Rattle.fb_value.specs.Wanted.{elements_wanted, struct_wanted, table_wanted, union_wanted, is_text, is_scalar, member_wanted};
+ghost use Rattle.fb_value.specs.Wanted.{elements_wanted, struct_wanted, table_wanted, union_wanted, member_in};
+ghost use Rattle.fb_value.specs.Wanted.{is_text, is_scalar};
 
 use fb_layout::Layout;
 use fb_schema::{FieldInfo, Kind, Shape, TypeId};
 
 /// Whether a shape takes the number.
 pub(crate) fn takes_number(layout: &Layout, shape: Shape, number: i128) -> bool
-    ensures { IsTrue result ↔ Fits layout.now (stored_shape layout.now.schema shape) (a_number number) }
+    ensures { IsTrue result ↔ Fits layout.now (shape_seen layout.now shape) (a_number number) }
 {
     let Shape::One(kind) = shape else {
         return false;
@@ -51,7 +53,8 @@ pub(crate) fn takes_text(shape: Shape, text: &str) -> bool
 
 /// The kind of a vector's elements.
 pub(crate) fn elements_wanted(shape: Shape) -> Option<Kind>
-    ensures { (schema : DeclaredSchema) → option_map (stored_kind schema) result ≡ elements_wanted (stored_shape schema shape) }
+    ensures { (schema : DeclaredSchema)
+        → option_map (stored_kind schema) result ≡ elements_wanted (stored_shape schema shape) }
 {
     match shape {
         Shape::Many(kind) => Some(kind),
@@ -97,7 +100,8 @@ fn table_wanted(shape: Shape) -> Option<TypeId>
 
 /// Whether a shape is the table of a number.
 pub(crate) fn is_table(shape: Shape, table: TypeId) -> bool
-    ensures { (schema : DeclaredSchema) → IsTrue result ↔ (table_wanted (stored_shape schema shape) ≡ Some table.0) }
+    ensures { (schema : DeclaredSchema)
+        → IsTrue result ↔ (table_wanted (stored_shape schema shape) ≡ Some table.0) }
 {
     match table_wanted(shape) {
         Some(wanted) => wanted.0 == table.0,
@@ -125,7 +129,7 @@ fn union_wanted(shape: Shape) -> Option<TypeId>
 
 /// The table that a code names, where a shape is a union.
 pub(crate) fn member_wanted(layout: &Layout, shape: Shape, code: u8) -> Option<TypeId>
-    ensures { option_map (λ t. t.0) result ≡ member_wanted layout.now (union_wanted (stored_shape layout.now.schema shape)) code }
+    ensures { option_map (λ t. t.0) result ≡ member_in layout.now (shape_seen layout.now shape) code }
 {
     let union = union_wanted(shape)?;
     layout.schema().member_by_code(union, code)
@@ -133,7 +137,7 @@ pub(crate) fn member_wanted(layout: &Layout, shape: Shape, code: u8) -> Option<T
 
 /// Whether a shape is a union without a member of this code, which isn't that of no member.
 pub(crate) fn takes_unknown(layout: &Layout, shape: Shape, code: u8) -> bool
-    ensures { IsTrue result ↔ Fits layout.now (stored_shape layout.now.schema shape) (an_unknown code) }
+    ensures { IsTrue result ↔ Fits layout.now (shape_seen layout.now shape) (an_unknown code) }
 {
     let Some(union) = union_wanted(shape) else {
         return false;

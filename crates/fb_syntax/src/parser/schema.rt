@@ -6,7 +6,8 @@ ghost use Rattle.fb_syntax.specs.GrammarSchema.{Reads};
 ghost use Rattle.fb_syntax.specs.Lexemes.{AreReadable};
 ghost use Rattle.fb_syntax.specs.Refusals.{StandsWithin};
 ghost use Rattle.fb_syntax.specs.Reading.{Gives, IsGrammarFault, is_empty, until};
-ghost use Rattle.fb_syntax.specs.ReadingSchema.{keyword_at, namespace_at, attribute_at, root_at, quoted_at, declared_at, declaration_at};
+ghost use Rattle.fb_syntax.specs.ReadingSchema.{keyword_at, namespace_at, attribute_at, root_at, quoted_at};
+ghost use Rattle.fb_syntax.specs.ReadingSchema.{declared_at, declaration_at};
 
 use super::keywords::{Keyword, keyword_of};
 use super::{Parser, Stop};
