@@ -1,5 +1,5 @@
 //! Lays the fields of tables.
-ghost use Rattle.std.specs.Prelude.{drop, ◌≡◌, ◌≤◌, ◌<◌, ◌+◌, ◌%◌, length, true, false, max};
+ghost use Rattle.std.specs.Prelude.{ℕ, drop, ◌≡◌, ◌≤◌, ◌+◌, ◌%◌, length, true, false, max};
 ghost use Rattle.fb_layout.specs.Laid.{LaidSchema};
 ghost use Rattle.fb_layout.specs.Widths.{inline_size, inline_align, greatest};
 ghost use Rattle.fb_value.specs.Datum.{Datum};
@@ -8,11 +8,11 @@ ghost use Rattle.fb_value.specs.Places.{Target, part_place, ref_place};
 ghost use Rattle.fb_value.specs.View.{view};
 ghost use Rattle.fb_build.specs.Tails.{Grows, LaidInTail};
 ghost use Rattle.fb_build.specs.Fields.{IsSimple, StoredFits, stored_seen, next_code, is_coded};
-ghost use Rattle.fb_build.specs.Fields.{scalar_in, number_in, number_of_datum, is_stored, is_at, above};
-ghost use Rattle.fb_build.specs.Fields.{from, EntryEnd, EntriesEnd, AreKnown, size_at, stored_align};
+ghost use Rattle.fb_build.specs.Fields.{scalar_in, number_in, number_of_datum, is_stored, above, from};
+ghost use Rattle.fb_build.specs.Fields.{StoredEnd, EntriesEnd, AreKnown, size_at, stored_align};
 ghost use Rattle.fb_build.specs.Fields.{stored_below, slots_seen, entries_seen, stored_room};
 ghost use Rattle.fb_build.specs.Fields.{fields_size, slot_seen, entry_stored, shape_seen};
-ghost use Rattle.fb_build.specs.Fields.{size_if_at, align_if_stored, align_if_below};
+ghost use Rattle.fb_build.specs.Fields.{align_if_stored};
 
 use crate::numbers::lay_number;
 use crate::places::lay_place;
@@ -156,56 +156,35 @@ pub(crate) fn slot_size(layout: &Layout, shape: Shape) -> u32
     }
 }
 
-/// Whether an entry is stored at an alignment.
-fn is_at(
-    layout: &Layout,
-    align: u32,
-    slot: &FieldInfo,
-    code: Option<u8>,
-    entry: &Option<Value>,
-) -> bool
-    ensures { result ≡ is_at layout.now align (slot_seen layout.now slot.now)
-        (entry_stored layout.now slot.now code entry.now) }
-{
-    is_stored(layout, slot, code, entry) && slot_align(layout, slot.shape) == align
-}
-
-/// Lays the field of a slot, where it is stored at this alignment, and returns its end-count then.
+/// Lays the field of a slot that is stored, and returns its end-count then.
 fn lay_field(
     out: &mut Tail,
     layout: &Layout,
-    align: u32,
     slot: &FieldInfo,
     code: Option<u8>,
     entry: &Option<Value>,
-    start: u32,
     end: u32,
 ) -> u32
-    requires low { start ≤ length out.old.bytes }
     requires simple { IsSimple layout.now (shape_seen layout.now slot.now.shape) }
     requires fits { StoredFits layout.now (slot_seen layout.now slot.now)
         (entry_stored layout.now slot.now code entry.now) }
-    requires state { EntryEnd layout.now start out.old.most out.old.bytes
-        (above layout.now align (slot_seen layout.now slot.now)) (slot_seen layout.now slot.now)
-        (entry_stored layout.now slot.now code entry.now) end }
-    requires whole { is_at layout.now align (slot_seen layout.now slot.now)
-        (entry_stored layout.now slot.now code entry.now) ≡ true → divides align (length out.old.bytes)
-        ≡ true }
-    requires wide { is_at layout.now align (slot_seen layout.now slot.now)
-        (entry_stored layout.now slot.now code entry.now) ≡ true → divides align out.old.most ≡ true }
-    requires room { size_if_at layout.now align (slot_seen layout.now slot.now)
-        (entry_stored layout.now slot.now code entry.now) ≤ out.old.free }
-    ensures state { EntryEnd layout.now start out.new.most out.new.bytes
-        (from layout.now align (slot_seen layout.now slot.now)) (slot_seen layout.now slot.now)
+    requires stored { is_stored (slot_seen layout.now slot.now)
+        (entry_stored layout.now slot.now code entry.now) ≡ true }
+    requires target { StoredEnd layout.now 0 out.old.most out.old.bytes false
+        (slot_seen layout.now slot.now) (entry_stored layout.now slot.now code entry.now) end }
+    requires room { inline_size layout.now (shape_seen layout.now slot.now.shape) ≤ out.old.free }
+    requires whole { divides (inline_align layout.now (shape_seen layout.now slot.now.shape))
+        (length out.old.bytes) ≡ true }
+    requires wide { divides (inline_align layout.now (shape_seen layout.now slot.now.shape))
+        out.old.most ≡ true }
+    ensures lies { (low : ℕ) → low ≤ length out.old.bytes
+        → StoredEnd layout.now low out.new.most out.new.bytes true (slot_seen layout.now slot.now)
         (entry_stored layout.now slot.now code entry.now) result }
-    ensures free { out.new.free + size_if_at layout.now align (slot_seen layout.now slot.now)
-        (entry_stored layout.now slot.now code entry.now) ≡ out.old.free }
+    ensures free { out.new.free + inline_size layout.now (shape_seen layout.now slot.now.shape)
+        ≡ out.old.free }
     ensures most { out.new.most ≡ out.old.most }
     ensures grows { Grows out.old out.new }
 {
-    if !is_at(layout, align, slot, code, entry) {
-        return end;
-    }
     if let Some(base) = scalar_base(layout, slot.shape) {
         lay_number(out, base, number_of(layout, slot, code, entry));
         return out.count() as u32;
@@ -232,21 +211,6 @@ pub(crate) fn field_align(
     } else {
         0
     }
-}
-
-/// The same, where it is below an alignment; 0 where it isn't.
-fn align_below(
-    layout: &Layout,
-    align: u32,
-    slot: &FieldInfo,
-    code: Option<u8>,
-    entry: &Option<Value>,
-) -> u32
-    ensures { result ≡ align_if_below layout.now align (slot_seen layout.now slot.now)
-        (entry_stored layout.now slot.now code entry.now) }
-{
-    let own = field_align(layout, slot, code, entry);
-    if own < align { own } else { 0 }
 }
 
 /// Lays the fields that are stored at an alignment, the first slot's the highest, and returns the
@@ -282,13 +246,18 @@ fn lay_pass(
     ensures most { out.new.most ≡ out.old.most }
     ensures grows { Grows out.old out.new }
 {
+    let _most = out.most(); // tells that the alignment isn't 0
     let mut next = 0;
     for k in 0..slots.len() {
         let slot = &slots[k];
         let entry = &entries[k];
         let code = code_at(entries, k + 1);
-        next = align_below(layout, align, slot, code, entry).max(next);
-        ends[k] = lay_field(out, layout, align, slot, code, entry, start, ends[k]);
+        let own = field_align(layout, slot, code, entry);
+        if own == align {
+            ends[k] = lay_field(out, layout, slot, code, entry, ends[k]);
+        } else if own < align {
+            next = own.max(next);
+        }
     }
     next
 }
