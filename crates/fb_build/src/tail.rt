@@ -1,6 +1,6 @@
 //! A block that is filled from its end.
-ghost use Rattle.std.specs.Prelude.{◌≡◌, ◌≤◌, ◌<◌, ◌+◌, ◌-◌, ◌%◌, ◌++◌, length, take, drop};
-ghost use Rattle.std.specs.Prelude.{replicate, max, true};
+ghost use Rattle.std.specs.Prelude.{◌≡◌, ◌≤◌, ◌<◌, ◌+◌, ◌-◌, ◌%◌, ◌++◌};
+ghost use Rattle.std.specs.Prelude.{length, take, drop, replicate, max, true};
 ghost use Rattle.fb_value.specs.Num.{divides};
 ghost use Rattle.byteorder.specs.Endian.{little_bytes};
 ghost use Rattle.fb_layout.specs.Sizes.{IsAlignment};
