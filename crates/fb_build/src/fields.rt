@@ -12,7 +12,6 @@ ghost use Rattle.fb_build.specs.Fields.{scalar_in, number_in, number_of_datum, i
 ghost use Rattle.fb_build.specs.Fields.{StoredEnd, EntriesEnd, AreKnown, size_at, stored_align};
 ghost use Rattle.fb_build.specs.Fields.{stored_below, slots_seen, entries_seen, stored_room};
 ghost use Rattle.fb_build.specs.Fields.{fields_size, slot_seen, entry_stored, shape_seen};
-ghost use Rattle.fb_build.specs.Fields.{align_if_stored};
 
 use crate::numbers::lay_number;
 use crate::places::lay_place;
@@ -124,7 +123,12 @@ pub(crate) fn number_in(value: &Value) -> i128
 }
 
 /// Whether a slot's entry is stored: a number that is the slot's default isn't.
-fn is_stored(layout: &Layout, slot: &FieldInfo, code: Option<u8>, entry: &Option<Value>) -> bool
+pub(crate) fn is_stored(
+    layout: &Layout,
+    slot: &FieldInfo,
+    code: Option<u8>,
+    entry: &Option<Value>,
+) -> bool
     ensures { result ≡ is_stored (slot_seen layout.now slot.now)
         (entry_stored layout.now slot.now code entry.now) }
 {
@@ -196,23 +200,6 @@ fn lay_field(
     out.count() as u32
 }
 
-/// What a field's place is a multiple of, where it is stored; 0 where it isn't.
-pub(crate) fn field_align(
-    layout: &Layout,
-    slot: &FieldInfo,
-    code: Option<u8>,
-    entry: &Option<Value>,
-) -> u32
-    ensures { result ≡ align_if_stored layout.now (slot_seen layout.now slot.now)
-        (entry_stored layout.now slot.now code entry.now) }
-{
-    if is_stored(layout, slot, code, entry) {
-        slot_align(layout, slot.shape)
-    } else {
-        0
-    }
-}
-
 /// Lays the fields that are stored at an alignment, the first slot's the highest, and returns the
 /// greatest alignment below it at which any is stored; 0 where there is none.
 fn lay_pass(
@@ -246,17 +233,19 @@ fn lay_pass(
     ensures most { out.new.most ≡ out.old.most }
     ensures grows { Grows out.old out.new }
 {
-    let _most = out.most(); // tells that the alignment isn't 0
     let mut next = 0;
     for k in 0..slots.len() {
         let slot = &slots[k];
         let entry = &entries[k];
         let code = code_at(entries, k + 1);
-        let own = field_align(layout, slot, code, entry);
-        if own == align {
-            ends[k] = lay_field(out, layout, slot, code, entry, ends[k]);
-        } else if own < align {
-            next = own.max(next);
+        let own = slot_align(layout, slot.shape);
+        // What is aligned above is laid already, and takes no further look.
+        if own <= align && is_stored(layout, slot, code, entry) {
+            if own == align {
+                ends[k] = lay_field(out, layout, slot, code, entry, ends[k]);
+            } else {
+                next = own.max(next);
+            }
         }
     }
     next
@@ -280,7 +269,13 @@ pub(crate) fn start_align(
     }
     let mut align = 4;
     for k in 0..slots.len() {
-        align = field_align(layout, &slots[k], code_at(entries, k + 1), &entries[k]).max(align);
+        let slot = &slots[k];
+        let entry = &entries[k];
+        let code = code_at(entries, k + 1);
+        let own = slot_align(layout, slot.shape);
+        if own > align && is_stored(layout, slot, code, entry) {
+            align = own;
+        }
     }
     align
 }
