@@ -1,12 +1,10 @@
 -- A field that was laid.
-use Rattle.std.proofs.Common.{◌≡◌, ℕ, ◌+◌, ◌-◌, ◌*◌, ◌^◌, ◌%◌, ◌<◌, ◌≤◌, ◌++◌, ◌==◌, Bool, true, false, not, nat_lt, nat_le, List, length, slice_get, slice_index, Option, None, Some, ℤ, pos, negsuc, to_z, of_z, take, refl, ap, sym, ◌∙◌, subst, arith}
+use Rattle.std.proofs.Common.{◌≡◌, ℕ, ◌+◌, ◌-◌, ◌*◌, ◌^◌, ◌%◌, ◌<◌, ◌≤◌, ◌++◌, ◌==◌, Bool, true, false, not, nat_lt, nat_le, List, ◌∷◌, length, slice_get, slice_index, Option, None, Some, ℤ, pos, negsuc, to_z, of_z, refl, ap, sym, ◌∙◌, subst, arith}
 use Rattle.std.proofs.lemmas.Bool.{le-leb, lt-ltb, eq-eqb, and_from, eqb-true}
-use Rattle.std.proofs.Math.Nat.{add-mul-mod_self_left}
+use Rattle.std.proofs.Math.Nat.{add-mul-mod_self_left, mod-eq_of_lt}
 use Rattle.std.proofs.lemmas.Bool.Decides.{Decides-int_eq, nat_tests}
 use Rattle.std.specs.Ordering.{int_eq}
 use Rattle.byteorder.specs.Endian.{little_bytes}
-use Rattle.byteorder.specs.Numbers.{length-bytes_low_first}
-use Rattle.std.proofs.Math.Seq.{take-append_seam}
 use mir.Facts.{to_z-of_z}
 use Rattle.std.specs.Prelude.{FitsSigned}
 use mir.Syntax.{w128}
@@ -278,11 +276,26 @@ size_some the_base.U32 = omega arith
 size_some the_base.I64 = omega arith
 size_some the_base.U64 = omega arith
 
-pub number_bytes : (size bits n : ℕ) (s buf old rest : Bytes) → n ≡ size → buf ≡ little_bytes n bits ++ old → s ≡ take n buf ++ rest → s ≡ little_bytes size bits ++ rest
-number_bytes size bits n s buf old rest same is e =
-    let long : length (little_bytes n bits) ≡ n = length-bytes_low_first 0 n bits in
-    let front : take n buf ≡ little_bytes n bits = ap (λ x. take n x) is ∙ subst (λ (k : ℕ). take k (little_bytes n bits ++ old) ≡ little_bytes n bits) long (take-append_seam (little_bytes n bits) old) in
-    e ∙ ap (λ x. x ++ rest) (front ∙ ap (λ k. little_bytes k bits) same)
+-- a number reads from the bytes that were laid for it
+pub number_reads : (base : Base) (n bits : ℕ) (s rest : Bytes) → base_size base ≡ n → bits < 256 ^ base_size base → s ≡ little_bytes n bits ++ rest → num s 0 (base_size base) ≡ bits
+number_reads base n bits s rest same fits is = rw same (ap (λ b. num b 0 n) is ∙ num_first n bits rest (rw same at fits))
+
+pub byte_reads : (base : Base) (bits : ℕ) (s rest : Bytes) → base_size base ≡ 1 → bits < 256 ^ base_size base → s ≡ bits ∷ rest → num s 0 (base_size base) ≡ bits
+byte_reads base bits s rest same fits is =
+    let low : bits % 256 ≡ bits = mod-eq_of_lt (rw same at fits) in
+    number_reads base 1 bits s rest same fits (is ∙ ap (λ (b : ℕ). b ∷ rest) (sym low))
+
+-- the size that isn't 1, 2 or 4
+pub eight_left : (base : Base) → (base_size base ≡ 1 → ⊥) → (base_size base ≡ 2 → ⊥) → (base_size base ≡ 4 → ⊥) → base_size base ≡ 8
+eight_left the_base.Bool one two four = absurd (one refl)
+eight_left the_base.I8 one two four = absurd (one refl)
+eight_left the_base.U8 one two four = absurd (one refl)
+eight_left the_base.I16 one two four = absurd (two refl)
+eight_left the_base.U16 one two four = absurd (two refl)
+eight_left the_base.I32 one two four = absurd (four refl)
+eight_left the_base.U32 one two four = absurd (four refl)
+eight_left the_base.I64 one two four = refl
+eight_left the_base.U64 one two four = refl
 
 -- before anything is laid the lowest place doesn't count
 pub entries_before : (L : LaidSchema) (low low2 m : ℕ) (s : Bytes) (fs : List Slot) (xs : List (Option Datum)) (ends : List ℕ) → EntriesEnd L low m s (λ k f. false) fs xs ends → EntriesEnd L low2 m s (λ k f. false) fs xs ends

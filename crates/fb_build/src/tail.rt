@@ -111,6 +111,19 @@ impl Tail {
         self.lay(&bytes);
     }
 
+    /// Lays a number of eight bytes.
+    pub(crate) fn lay_u64(&mut self, number: u64)
+        requires room { 8 ≤ self.old.free }
+        ensures bytes { self.new.bytes ≡ little_bytes 8 number ++ self.old.bytes }
+        ensures free { self.new.free + 8 ≡ self.old.free }
+        ensures most { self.new.most ≡ self.old.most }
+        ensures grows { Grows self.old self.new }
+    {
+        let mut bytes = [0u8; 8];
+        LittleEndian::write_u64(&mut bytes, number);
+        self.lay(&bytes);
+    }
+
     fn skip(&mut self, zeros: usize)
         requires room { zeros ≤ self.old.free }
         ensures bytes { self.new.bytes ≡ replicate zeros 0 ++ self.old.bytes }
