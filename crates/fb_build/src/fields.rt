@@ -264,11 +264,11 @@ pub(crate) fn start_align(
         → result ≡ max 4 (stored_align layout.now (slots_seen layout.now slots.now)
         (stored_seen layout.now slots.now entries.now)) }
 {
-    if most <= 4 {
-        return 4;
-    }
     let mut align = 4;
     for k in 0..slots.len() {
+        if align >= most {
+            break;
+        }
         let slot = &slots[k];
         let entry = &entries[k];
         let code = code_at(entries, k + 1);

@@ -20,12 +20,12 @@ loop-k-preserved c =
     elim c.if-own-align.branch [
       | then-own-align+then-is_stored w ↦
           let is = own_stored (is_stored f x) n (sym w.is_stored.ensures ∙ w.if-is_stored.true) in
-          rw w.align-is (omega (arith, inv, step, is, own, w.if-own-align.true))
+          rw w.align-is (record { low = omega (arith, inv.low, w.if-own-align.true); greatest = omega (arith, inv.greatest, step, is, own, w.if-own-align.true) })
       | else-own-align w ↦
           let low : (if is_stored f x then n else 0) ≤ c.loop-k.align =
           elim w.else-own-align.branch [
             | else-own-align-via-then-own-align+else-is_stored v ↦ none_stored (is_stored f x) n c.loop-k.align (sym v.is_stored.ensures ∙ v.if-is_stored.false)
             | else-own-align-via-else-own-align v ↦ own_low (is_stored f x) n c.loop-k.align (omega (arith, own, v.if-own-align.false))
           ] in
-          rw w.align-is (omega (arith, inv, step, low))
+          rw w.align-is (record { low = inv.low; greatest = omega (arith, inv.greatest, step, low) })
     ]
