@@ -1,12 +1,10 @@
 -- A field that was laid.
-use Rattle.std.proofs.Common.{◌≡◌, ℕ, ◌+◌, ◌-◌, ◌*◌, ◌^◌, ◌%◌, ◌<◌, ◌≤◌, ◌++◌, ◌==◌, Bool, true, false, not, nat_lt, nat_le, List, length, slice_get, slice_index, Option, None, Some, ℤ, pos, negsuc, to_z, of_z, take, refl, ap, sym, ◌∙◌, subst, arith}
-use Rattle.std.proofs.lemmas.Bool.{le-leb, lt-ltb, eq-eqb, and_from, and_parts, eqb-true}
-use Rattle.std.proofs.Math.Nat.{add-mul-mod_self_left}
+use Rattle.std.proofs.Common.{◌≡◌, ℕ, ◌+◌, ◌-◌, ◌*◌, ◌^◌, ◌%◌, ◌<◌, ◌≤◌, ◌++◌, ◌==◌, Bool, true, false, not, nat_lt, nat_le, List, ◌∷◌, length, slice_get, slice_index, Option, None, Some, ℤ, pos, negsuc, to_z, of_z, refl, ap, sym, ◌∙◌, subst, arith}
+use Rattle.std.proofs.lemmas.Bool.{le-leb, lt-ltb, eq-eqb, and_from, eqb-true}
+use Rattle.std.proofs.Math.Nat.{add-mul-mod_self_left, mod-eq_of_lt}
 use Rattle.std.proofs.lemmas.Bool.Decides.{Decides-int_eq, nat_tests}
 use Rattle.std.specs.Ordering.{int_eq}
 use Rattle.byteorder.specs.Endian.{little_bytes}
-use Rattle.byteorder.specs.Numbers.{length-bytes_low_first}
-use Rattle.std.proofs.Math.Seq.{take-append_seam}
 use mir.Facts.{to_z-of_z}
 use Rattle.std.specs.Prelude.{FitsSigned}
 use mir.Syntax.{w128}
@@ -174,32 +172,30 @@ passed_over L low m s a f x e out h = record {
   absent = h.absent;
 }
 
--- at this alignment: its target is known before, its field is laid then
-target_there : (L : LaidSchema) (low : ℕ) (m : ℕ) (s : Bytes) (t : Bool) (f : Slot) (d : Datum) (e : ℕ) (X : Target) → t ≡ false → target_for f.shape d ≡ Some X → StoredEnd L low m s t f (Some d) e → LaidInTail L m s (part_place X) e d
-target_there L low m s t f d e X out is h = let known : StoredEnd L low m s false f (Some d) e = subst (λ (u : Bool). StoredEnd L low m s u f (Some d) e) out h in rw is at known
-
-pub target_known : (L : LaidSchema) (low : ℕ) (m : ℕ) (s : Bytes) (a : ℕ) (f : Slot) (d : Datum) (e : ℕ) (X : Target) → inline_align L f.shape ≡ a → is_stored f (Some d) ≡ true → target_for f.shape d ≡ Some X → EntryEnd L low m s (above L a f) f (Some d) e → LaidInTail L m s (part_place X) e d
-target_known L low m s a f d e X at is target h =
+-- at this alignment: what its reference names lies before, its field is laid then
+pub target_waits : (L : LaidSchema) (low : ℕ) (m : ℕ) (s : Bytes) (a : ℕ) (f : Slot) (x : Option Datum) (e : ℕ) → inline_align L f.shape ≡ a → is_stored f x ≡ true → EntryEnd L low m s (above L a f) f x e → StoredEnd L 0 m s false f x e
+target_waits L low m s a f x e at is h =
     let out : nat_lt a (inline_align L f.shape) ≡ false = rw at (not_below a) in
-    target_there L low m s (above L a f) f d e X out target (h.stored is)
+    any_low x (subst (λ (t : Bool). StoredEnd L low m s t f x e) out (h.stored is))
   where
     not_below : (n : ℕ) → nat_lt n n ≡ false
     not_below n = grind (arith, nat_tests)
 
-pub now_laid : (L : LaidSchema) (low : ℕ) (m : ℕ) (s : Bytes) (a : ℕ) (f : Slot) (d : Datum) (e : ℕ) → inline_align L f.shape ≡ a → is_stored f (Some d) ≡ true → low < e → LaidInTail L m s (sort_for f.shape d) e d → EntryEnd L low m s (from L a f) f (Some d) e
-now_laid L low m s a f d e at is some lies =
+    any_low : (x : Option Datum) → StoredEnd L low m s false f x e → StoredEnd L 0 m s false f x e
+    any_low None h = absurd h
+    any_low (Some d) h = h
+
+pub now_laid : (L : LaidSchema) (low : ℕ) (m : ℕ) (s : Bytes) (a : ℕ) (f : Slot) (x : Option Datum) (e : ℕ) → inline_align L f.shape ≡ a → is_stored f x ≡ true → StoredEnd L low m s true f x e → EntryEnd L low m s (from L a f) f x e
+now_laid L low m s a f x e at is lies =
     let yes : nat_le a (inline_align L f.shape) ≡ true = rw at (le-leb _ _ (omega arith)) in
     record {
-      stored = λ _. subst (λ (t : Bool). StoredEnd L low m s t f (Some d) e) (sym yes) (some, lies);
-      absent = λ out. absurd (no_both (is_stored f (Some d)) is out);
+      stored = λ _. subst (λ (t : Bool). StoredEnd L low m s t f x e) (sym yes) lies;
+      absent = λ out. absurd (no_both (is_stored f x) is out);
     }
   where
     no_both : (b : Bool) → b ≡ true → b ≡ false → ⊥
     no_both true a b = cc
     no_both false a b = cc
-
-stored_at : (L : LaidSchema) (a : ℕ) (f : Slot) (x : Option Datum) → is_at L a f x ≡ true → (is_stored f x ≡ true) × (inline_align L f.shape ≡ a)
-stored_at L a f x h = let parts = and_parts _ _ h in (parts.0, eqb-true _ _ parts.1)
 
 -- a number takes its own size
 number_size : (L : LaidSchema) (shape : StoredShape) (base : Base) → scalar_in shape ≡ Some base → inline_size L shape ≡ base_size base
@@ -211,42 +207,25 @@ number_size L (one_of (code_kind u)) base e = let same : the_base.U8 ≡ base = 
 number_size L (one_of text_kind) base e = cc
 number_size L (vector_of kind) base e = cc
 
-pub number_known : (L : LaidSchema) (a : ℕ) (f : Slot) (x : Option Datum) (base : Base) → is_at L a f x ≡ true → scalar_in f.shape ≡ Some base → StoredFits L f x → InRange base (number_in x) × (base_size base ≡ a) × (inline_size L f.shape ≡ base_size base)
-number_known L a f None base is scalar fits = cc
-number_known L a f (Some d) base is scalar fits =
+pub number_known : (L : LaidSchema) (f : Slot) (x : Option Datum) (base : Base) → is_stored f x ≡ true → scalar_in f.shape ≡ Some base → StoredFits L f x → InRange base (number_in x) × (base_size base ≡ inline_align L f.shape) × (inline_size L f.shape ≡ base_size base)
+number_known L f None base is scalar fits = cc
+number_known L f (Some d) base is scalar fits =
     let known = number_fits L f.shape base d scalar fits.1 in
-    let at = (stored_at L a f (Some d) is).1 in
-    (known.range, sym known.align ∙ at, number_size L f.shape base scalar)
+    (known.range, sym known.align, number_size L f.shape base scalar)
 
-pub number_laid : (L : LaidSchema) (low : ℕ) (m : ℕ) (s : Bytes) (a : ℕ) (f : Slot) (x : Option Datum) (base : Base) → is_at L a f x ≡ true → scalar_in f.shape ≡ Some base → StoredFits L f x → low < length s
-    → LaidInTail L m s (inline_place (scalar_kind base)) (length s) (a_number (number_in x)) → EntryEnd L low m s (from L a f) f x (length s)
-number_laid L low m s a f None base is scalar fits some lies = cc
-number_laid L low m s a f (Some d) base is scalar fits some lies =
+pub number_laid : (L : LaidSchema) (low : ℕ) (m : ℕ) (s : Bytes) (f : Slot) (x : Option Datum) (base : Base) → is_stored f x ≡ true → scalar_in f.shape ≡ Some base → StoredFits L f x → low < length s
+    → LaidInTail L m s (inline_place (scalar_kind base)) (length s) (a_number (number_in x)) → StoredEnd L low m s true f x (length s)
+number_laid L low m s f None base is scalar fits some lies = cc
+number_laid L low m s f (Some d) base is scalar fits some lies =
     let known = number_fits L f.shape base d scalar fits.1 in
-    let at = stored_at L a f (Some d) is in
-    let there : LaidInTail L m s (sort_for f.shape d) (length s) d = rw known.sort (subst (λ (y : Datum). LaidInTail L m s (inline_place (scalar_kind base)) (length s) y) (sym known.is) lies) in
-    now_laid L low m s a f d (length s) at.1 at.0 some there
+    (some, rw known.sort (subst (λ (y : Datum). LaidInTail L m s (inline_place (scalar_kind base)) (length s) y) (sym known.is) lies))
 
-pub place_laid : (L : LaidSchema) (low m : ℕ) (s : Bytes) (a : ℕ) (f : Slot) (x : Option Datum) (d : Datum) → x ≡ Some d → is_at L a f x ≡ true → low < length s
-    → LaidInTail L m s (sort_for f.shape d) (length s) d → EntryEnd L low m s (from L a f) f x (length s)
-place_laid L low m s a f x d e is some lies =
-    let at = stored_at L a f (Some d) (rw e at is) in
-    rw e (now_laid L low m s a f d (length s) at.1 at.0 some lies)
+pub place_laid : (L : LaidSchema) (low m : ℕ) (s : Bytes) (f : Slot) (x : Option Datum) (d : Datum) → x ≡ Some d → low < length s → LaidInTail L m s (sort_for f.shape d) (length s) d → StoredEnd L low m s true f x (length s)
+place_laid L low m s f x d e some lies = rw e (some, lies)
 
 -- what the place of a stored slot names lies already
-pub place_target : (L : LaidSchema) (low m : ℕ) (s : Bytes) (a : ℕ) (f : Slot) (x : Option Datum) (d : Datum) (e : ℕ) → x ≡ Some d → is_at L a f x ≡ true → EntryEnd L low m s (above L a f) f x e → TargetEnd L m s (target_for f.shape d) e d
-place_target L low m s a f x d e same is h =
-    let at = stored_at L a f (Some d) (rw same at is) in
-    let out : nat_lt a (inline_align L f.shape) ≡ false = rw at.1 (not_below a) in
-    let known : EntryEnd L low m s (above L a f) f (Some d) e = rw same at h in
-    subst (λ (t : Bool). StoredEnd L low m s t f (Some d) e) out (known.stored at.0)
-  where
-    not_below : (n : ℕ) → nat_lt n n ≡ false
-    not_below n = grind (arith, nat_tests)
-
--- what is stored at an alignment, and what of a size
-pub at_known : (L : LaidSchema) (a : ℕ) (f : Slot) (x : Option Datum) → is_at L a f x ≡ true → (is_stored f x ≡ true) × (inline_align L f.shape ≡ a)
-at_known L a f x h = stored_at L a f x h
+pub place_target : (L : LaidSchema) (m : ℕ) (s : Bytes) (f : Slot) (x : Option Datum) (d : Datum) (e : ℕ) → x ≡ Some d → StoredEnd L 0 m s false f x e → TargetEnd L m s (target_for f.shape d) e d
+place_target L m s f x d e same h = rw same at h
 
 pub more_divides : (a n k : ℕ) → divides a n ≡ true → k ≡ n + a → divides a k ≡ true
 more_divides a n k h e =
@@ -297,11 +276,26 @@ size_some the_base.U32 = omega arith
 size_some the_base.I64 = omega arith
 size_some the_base.U64 = omega arith
 
-pub number_bytes : (size bits n : ℕ) (s buf old rest : Bytes) → n ≡ size → buf ≡ little_bytes n bits ++ old → s ≡ take n buf ++ rest → s ≡ little_bytes size bits ++ rest
-number_bytes size bits n s buf old rest same is e =
-    let long : length (little_bytes n bits) ≡ n = length-bytes_low_first 0 n bits in
-    let front : take n buf ≡ little_bytes n bits = ap (λ x. take n x) is ∙ subst (λ (k : ℕ). take k (little_bytes n bits ++ old) ≡ little_bytes n bits) long (take-append_seam (little_bytes n bits) old) in
-    e ∙ ap (λ x. x ++ rest) (front ∙ ap (λ k. little_bytes k bits) same)
+-- a number reads from the bytes that were laid for it
+pub number_reads : (base : Base) (n bits : ℕ) (s rest : Bytes) → base_size base ≡ n → bits < 256 ^ base_size base → s ≡ little_bytes n bits ++ rest → num s 0 (base_size base) ≡ bits
+number_reads base n bits s rest same fits is = rw same (ap (λ b. num b 0 n) is ∙ num_first n bits rest (rw same at fits))
+
+pub byte_reads : (base : Base) (bits : ℕ) (s rest : Bytes) → base_size base ≡ 1 → bits < 256 ^ base_size base → s ≡ bits ∷ rest → num s 0 (base_size base) ≡ bits
+byte_reads base bits s rest same fits is =
+    let low : bits % 256 ≡ bits = mod-eq_of_lt (rw same at fits) in
+    number_reads base 1 bits s rest same fits (is ∙ ap (λ (b : ℕ). b ∷ rest) (sym low))
+
+-- the size that isn't 1, 2 or 4
+pub eight_left : (base : Base) → (base_size base ≡ 1 → ⊥) → (base_size base ≡ 2 → ⊥) → (base_size base ≡ 4 → ⊥) → base_size base ≡ 8
+eight_left the_base.Bool one two four = absurd (one refl)
+eight_left the_base.I8 one two four = absurd (one refl)
+eight_left the_base.U8 one two four = absurd (one refl)
+eight_left the_base.I16 one two four = absurd (two refl)
+eight_left the_base.U16 one two four = absurd (two refl)
+eight_left the_base.I32 one two four = absurd (four refl)
+eight_left the_base.U32 one two four = absurd (four refl)
+eight_left the_base.I64 one two four = refl
+eight_left the_base.U64 one two four = refl
 
 -- before anything is laid the lowest place doesn't count
 pub entries_before : (L : LaidSchema) (low low2 m : ℕ) (s : Bytes) (fs : List Slot) (xs : List (Option Datum)) (ends : List ℕ) → EntriesEnd L low m s (λ k f. false) fs xs ends → EntriesEnd L low2 m s (λ k f. false) fs xs ends

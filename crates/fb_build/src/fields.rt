@@ -1,5 +1,5 @@
 //! Lays the fields of tables.
-ghost use Rattle.std.specs.Prelude.{drop, ◌≡◌, ◌≤◌, ◌<◌, ◌+◌, ◌%◌, length, true, false, max};
+ghost use Rattle.std.specs.Prelude.{ℕ, drop, ◌≡◌, ◌≤◌, ◌+◌, ◌%◌, length, true, false, max};
 ghost use Rattle.fb_layout.specs.Laid.{LaidSchema};
 ghost use Rattle.fb_layout.specs.Widths.{inline_size, inline_align, greatest};
 ghost use Rattle.fb_value.specs.Datum.{Datum};
@@ -8,11 +8,10 @@ ghost use Rattle.fb_value.specs.Places.{Target, part_place, ref_place};
 ghost use Rattle.fb_value.specs.View.{view};
 ghost use Rattle.fb_build.specs.Tails.{Grows, LaidInTail};
 ghost use Rattle.fb_build.specs.Fields.{IsSimple, StoredFits, stored_seen, next_code, is_coded};
-ghost use Rattle.fb_build.specs.Fields.{scalar_in, number_in, number_of_datum, is_stored, is_at, above};
-ghost use Rattle.fb_build.specs.Fields.{from, EntryEnd, EntriesEnd, AreKnown, size_at, stored_align};
+ghost use Rattle.fb_build.specs.Fields.{scalar_in, number_in, number_of_datum, is_stored, above, from};
+ghost use Rattle.fb_build.specs.Fields.{StoredEnd, EntriesEnd, AreKnown, size_at, stored_align};
 ghost use Rattle.fb_build.specs.Fields.{stored_below, slots_seen, entries_seen, stored_room};
 ghost use Rattle.fb_build.specs.Fields.{fields_size, slot_seen, entry_stored, shape_seen};
-ghost use Rattle.fb_build.specs.Fields.{size_if_at, align_if_stored, align_if_below};
 
 use crate::numbers::lay_number;
 use crate::places::lay_place;
@@ -124,7 +123,12 @@ pub(crate) fn number_in(value: &Value) -> i128
 }
 
 /// Whether a slot's entry is stored: a number that is the slot's default isn't.
-fn is_stored(layout: &Layout, slot: &FieldInfo, code: Option<u8>, entry: &Option<Value>) -> bool
+pub(crate) fn is_stored(
+    layout: &Layout,
+    slot: &FieldInfo,
+    code: Option<u8>,
+    entry: &Option<Value>,
+) -> bool
     ensures { result ≡ is_stored (slot_seen layout.now slot.now)
         (entry_stored layout.now slot.now code entry.now) }
 {
@@ -156,56 +160,35 @@ pub(crate) fn slot_size(layout: &Layout, shape: Shape) -> u32
     }
 }
 
-/// Whether an entry is stored at an alignment.
-fn is_at(
-    layout: &Layout,
-    align: u32,
-    slot: &FieldInfo,
-    code: Option<u8>,
-    entry: &Option<Value>,
-) -> bool
-    ensures { result ≡ is_at layout.now align (slot_seen layout.now slot.now)
-        (entry_stored layout.now slot.now code entry.now) }
-{
-    is_stored(layout, slot, code, entry) && slot_align(layout, slot.shape) == align
-}
-
-/// Lays the field of a slot, where it is stored at this alignment, and returns its end-count then.
+/// Lays the field of a slot that is stored, and returns its end-count then.
 fn lay_field(
     out: &mut Tail,
     layout: &Layout,
-    align: u32,
     slot: &FieldInfo,
     code: Option<u8>,
     entry: &Option<Value>,
-    start: u32,
     end: u32,
 ) -> u32
-    requires low { start ≤ length out.old.bytes }
     requires simple { IsSimple layout.now (shape_seen layout.now slot.now.shape) }
     requires fits { StoredFits layout.now (slot_seen layout.now slot.now)
         (entry_stored layout.now slot.now code entry.now) }
-    requires state { EntryEnd layout.now start out.old.most out.old.bytes
-        (above layout.now align (slot_seen layout.now slot.now)) (slot_seen layout.now slot.now)
-        (entry_stored layout.now slot.now code entry.now) end }
-    requires whole { is_at layout.now align (slot_seen layout.now slot.now)
-        (entry_stored layout.now slot.now code entry.now) ≡ true → divides align (length out.old.bytes)
-        ≡ true }
-    requires wide { is_at layout.now align (slot_seen layout.now slot.now)
-        (entry_stored layout.now slot.now code entry.now) ≡ true → divides align out.old.most ≡ true }
-    requires room { size_if_at layout.now align (slot_seen layout.now slot.now)
-        (entry_stored layout.now slot.now code entry.now) ≤ out.old.free }
-    ensures state { EntryEnd layout.now start out.new.most out.new.bytes
-        (from layout.now align (slot_seen layout.now slot.now)) (slot_seen layout.now slot.now)
+    requires stored { is_stored (slot_seen layout.now slot.now)
+        (entry_stored layout.now slot.now code entry.now) ≡ true }
+    requires target { StoredEnd layout.now 0 out.old.most out.old.bytes false
+        (slot_seen layout.now slot.now) (entry_stored layout.now slot.now code entry.now) end }
+    requires room { inline_size layout.now (shape_seen layout.now slot.now.shape) ≤ out.old.free }
+    requires whole { divides (inline_align layout.now (shape_seen layout.now slot.now.shape))
+        (length out.old.bytes) ≡ true }
+    requires wide { divides (inline_align layout.now (shape_seen layout.now slot.now.shape))
+        out.old.most ≡ true }
+    ensures lies { (low : ℕ) → low ≤ length out.old.bytes
+        → StoredEnd layout.now low out.new.most out.new.bytes true (slot_seen layout.now slot.now)
         (entry_stored layout.now slot.now code entry.now) result }
-    ensures free { out.new.free + size_if_at layout.now align (slot_seen layout.now slot.now)
-        (entry_stored layout.now slot.now code entry.now) ≡ out.old.free }
+    ensures free { out.new.free + inline_size layout.now (shape_seen layout.now slot.now.shape)
+        ≡ out.old.free }
     ensures most { out.new.most ≡ out.old.most }
     ensures grows { Grows out.old out.new }
 {
-    if !is_at(layout, align, slot, code, entry) {
-        return end;
-    }
     if let Some(base) = scalar_base(layout, slot.shape) {
         lay_number(out, base, number_of(layout, slot, code, entry));
         return out.count() as u32;
@@ -215,38 +198,6 @@ fn lay_field(
     };
     lay_place(out, layout, slot.shape, value, end);
     out.count() as u32
-}
-
-/// What a field's place is a multiple of, where it is stored; 0 where it isn't.
-pub(crate) fn field_align(
-    layout: &Layout,
-    slot: &FieldInfo,
-    code: Option<u8>,
-    entry: &Option<Value>,
-) -> u32
-    ensures { result ≡ align_if_stored layout.now (slot_seen layout.now slot.now)
-        (entry_stored layout.now slot.now code entry.now) }
-{
-    if is_stored(layout, slot, code, entry) {
-        slot_align(layout, slot.shape)
-    } else {
-        0
-    }
-}
-
-/// The same, where it is below an alignment; 0 where it isn't.
-fn align_below(
-    layout: &Layout,
-    align: u32,
-    slot: &FieldInfo,
-    code: Option<u8>,
-    entry: &Option<Value>,
-) -> u32
-    ensures { result ≡ align_if_below layout.now align (slot_seen layout.now slot.now)
-        (entry_stored layout.now slot.now code entry.now) }
-{
-    let own = field_align(layout, slot, code, entry);
-    if own < align { own } else { 0 }
 }
 
 /// Lays the fields that are stored at an alignment, the first slot's the highest, and returns the
@@ -287,8 +238,15 @@ fn lay_pass(
         let slot = &slots[k];
         let entry = &entries[k];
         let code = code_at(entries, k + 1);
-        next = align_below(layout, align, slot, code, entry).max(next);
-        ends[k] = lay_field(out, layout, align, slot, code, entry, start, ends[k]);
+        let own = slot_align(layout, slot.shape);
+        // What is aligned above is laid already, and takes no further look.
+        if own <= align && is_stored(layout, slot, code, entry) {
+            if own == align {
+                ends[k] = lay_field(out, layout, slot, code, entry, ends[k]);
+            } else {
+                next = own.max(next);
+            }
+        }
     }
     next
 }
@@ -306,12 +264,18 @@ pub(crate) fn start_align(
         → result ≡ max 4 (stored_align layout.now (slots_seen layout.now slots.now)
         (stored_seen layout.now slots.now entries.now)) }
 {
-    if most <= 4 {
-        return 4;
-    }
     let mut align = 4;
     for k in 0..slots.len() {
-        align = field_align(layout, &slots[k], code_at(entries, k + 1), &entries[k]).max(align);
+        if align >= most {
+            break;
+        }
+        let slot = &slots[k];
+        let entry = &entries[k];
+        let code = code_at(entries, k + 1);
+        let own = slot_align(layout, slot.shape);
+        if own > align && is_stored(layout, slot, code, entry) {
+            align = own;
+        }
     }
     align
 }

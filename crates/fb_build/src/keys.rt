@@ -6,7 +6,7 @@ ghost use Rattle.fb_build.specs.Needs.{need, parts_need, entries_count, entries_
 ghost use Rattle.fb_build.specs.declared.faults.BuildFault.TheVariants.{Memory};
 
 use crate::faults::BuildFault;
-use crate::fields::{code_at, field_align, slot_size, start_align};
+use crate::fields::{code_at, is_stored, slot_align, slot_size, start_align};
 use crate::needs::waits;
 use crate::vtables::{index_of, put_vtable};
 use fb_layout::Layout;
@@ -57,11 +57,14 @@ fn place_pass(
     let mut next = 0;
     for k in 0..slots.len() {
         let slot = &slots[k];
-        let own = field_align(layout, slot, code_at(entries, k + 1), &entries[k]);
-        if own == align {
-            end = place_field(layout, slot, k, end, ends);
-        } else if own < align {
-            next = own.max(next);
+        let own = slot_align(layout, slot.shape);
+        // What is aligned above is placed already, and takes no further look.
+        if own <= align && is_stored(layout, slot, code_at(entries, k + 1), &entries[k]) {
+            if own == align {
+                end = place_field(layout, slot, k, end, ends);
+            } else {
+                next = own.max(next);
+            }
         }
     }
     Placed { end, next }

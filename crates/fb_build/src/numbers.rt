@@ -9,7 +9,6 @@ ghost use Rattle.fb_value.specs.Places.{inline_place};
 ghost use Rattle.fb_build.specs.Tails.{Grows, LaidInTail};
 
 use crate::tail::Tail;
-use byteorder::{ByteOrder, LittleEndian};
 use fb_schema::Base;
 
 /// The bits of a number in its bytes.
@@ -37,10 +36,13 @@ pub(crate) fn put_number(out: &mut Tail, base: Base, number: i128)
     ensures most { out.new.most ≡ out.old.most }
     ensures grows { Grows out.old out.new }
 {
-    let size = base.size() as usize;
-    let mut bytes = [0u8; 8];
-    LittleEndian::write_uint(&mut bytes, bits_of(base, number), size);
-    out.lay(&bytes[..size]);
+    let bits = bits_of(base, number);
+    match base.size() {
+        1 => out.lay(&[bits as u8]),
+        2 => out.lay_u16(bits as u16),
+        4 => out.lay_u32(bits as u32),
+        _ => out.lay_u64(bits),
+    }
 }
 
 /// Lays a number at a multiple of its size.

@@ -1,6 +1,6 @@
 //! Lays tables.
-ghost use Rattle.std.specs.Prelude.{ℕ, Option, ◌≡◌, ◌≤◌, ◌<◌, ◌+◌, ◌-◌, ◌*◌, ◌/◌, ◌%◌, length, true};
-ghost use Rattle.std.specs.Prelude.{false, map, max, option_map};
+ghost use Rattle.std.specs.Prelude.{ℕ, ◌≡◌, ◌≤◌, ◌<◌, ◌+◌, ◌-◌, ◌*◌, ◌/◌, ◌%◌};
+ghost use Rattle.std.specs.Prelude.{Option, true, false, length, map, max, option_map};
 ghost use Rattle.fb_layout.specs.Laid.{slots_of, kind_in, align_of};
 ghost use Rattle.fb_layout.specs.Widths.{greatest};
 ghost use Rattle.fb_value.specs.Entries.{EntryFits, entry_room};

@@ -1,6 +1,6 @@
 //! A block that is filled from its end.
-ghost use Rattle.std.specs.Prelude.{◌≡◌, ◌≤◌, ◌<◌, ◌+◌, ◌-◌, ◌%◌, ◌++◌, length, take, drop};
-ghost use Rattle.std.specs.Prelude.{replicate, max, true};
+ghost use Rattle.std.specs.Prelude.{◌≡◌, ◌≤◌, ◌<◌, ◌+◌, ◌-◌, ◌%◌, ◌++◌};
+ghost use Rattle.std.specs.Prelude.{length, take, drop, replicate, max, true};
 ghost use Rattle.fb_value.specs.Num.{divides};
 ghost use Rattle.byteorder.specs.Endian.{little_bytes};
 ghost use Rattle.fb_layout.specs.Sizes.{IsAlignment};
@@ -108,6 +108,19 @@ impl Tail {
     {
         let mut bytes = [0u8; 4];
         LittleEndian::write_u32(&mut bytes, number);
+        self.lay(&bytes);
+    }
+
+    /// Lays a number of eight bytes.
+    pub(crate) fn lay_u64(&mut self, number: u64)
+        requires room { 8 ≤ self.old.free }
+        ensures bytes { self.new.bytes ≡ little_bytes 8 number ++ self.old.bytes }
+        ensures free { self.new.free + 8 ≡ self.old.free }
+        ensures most { self.new.most ≡ self.old.most }
+        ensures grows { Grows self.old self.new }
+    {
+        let mut bytes = [0u8; 8];
+        LittleEndian::write_u64(&mut bytes, number);
         self.lay(&bytes);
     }
 

@@ -1,17 +1,19 @@
-use Rattle.std.proofs.Common.{◌≡◌, ◌++◌, ◌∙◌, sym, ap}
-use Rattle.byteorder.specs.Endian.{little_bytes}
+use Rattle.std.proofs.Common.{◌∙◌, sym, ap, arith}
 use mir.Facts.{to_z-of_z}
-use Rattle.fb_schema.specs.Alignments.{base_size}
-use Rattle.fb_value.specs.Num.{num, scalar_of}
-use Rattle.fb_build.proofs.Standing.{num_first}
-use Rattle.fb_build.proofs.FieldSteps.{number_bytes}
+use Rattle.fb_value.specs.Num.{scalar_of}
+use Rattle.fb_build.proofs.FieldSteps.{number_reads, byte_reads, eight_left}
 use Rattle.fb_build.proofs.numbers.put_number.Goals as goal
 
-pub returns-clause-reads : goal.returns-clause-reads
-returns-clause-reads c =
-    let base = c.args.base in
-    let s = c.lay.new.self.bytes in
-    let rest = c.args.out.now.bytes in
-    let e : s ≡ little_bytes (base_size base) c.bits_of.result ++ rest = number_bytes (base_size base) c.bits_of.result c.size-size.result s c.write_uint.new.buf _ rest c.size-size.ensures c.write_uint.ensures c.lay.ensures.bytes in
-    let number : num s 0 (base_size base) ≡ c.bits_of.result = ap (λ b. num b 0 (base_size base)) e ∙ num_first (base_size base) c.bits_of.result rest c.bits_of.ensures.fits in
-    sym (to_z-of_z c.ranges.number) ∙ c.bits_of.ensures.means ∙ ap (scalar_of base) (sym number)
+pub returns-in-1-clause-reads : goal.returns-in-1-clause-reads
+returns-in-1-clause-reads c = sym (to_z-of_z c.ranges.number) ∙ c.bits_of-bits.ensures.means ∙ ap (scalar_of c.args.base) (sym (byte_reads c.args.base c.bits_of-bits.result c.lay.new.self.bytes c.args.out.now.bytes (sym c.size.ensures ∙ c.in-1.is) c.bits_of-bits.ensures.fits c.lay.ensures.bytes))
+
+pub returns-in-2-clause-reads : goal.returns-in-2-clause-reads
+returns-in-2-clause-reads c = sym (to_z-of_z c.ranges.number) ∙ c.bits_of-bits.ensures.means ∙ ap (scalar_of c.args.base) (sym (number_reads c.args.base 2 c.bits_of-bits.result c.lay_u16.new.self.bytes c.args.out.now.bytes (sym c.size.ensures ∙ c.in-2.is) c.bits_of-bits.ensures.fits c.lay_u16.ensures.bytes))
+
+pub returns-in-4-clause-reads : goal.returns-in-4-clause-reads
+returns-in-4-clause-reads c = sym (to_z-of_z c.ranges.number) ∙ c.bits_of-bits.ensures.means ∙ ap (scalar_of c.args.base) (sym (number_reads c.args.base 4 c.bits_of-bits.result c.lay_u32.new.self.bytes c.args.out.now.bytes (sym c.size.ensures ∙ c.in-4.is) c.bits_of-bits.ensures.fits c.lay_u32.ensures.bytes))
+
+pub returns-in_default-clause-reads : goal.returns-in_default-clause-reads
+returns-in_default-clause-reads c =
+    let eight = eight_left c.args.base (λ e. absurd (omega (arith, e, c.size.ensures))) (λ e. absurd (omega (arith, e, c.size.ensures))) (λ e. absurd (omega (arith, e, c.size.ensures))) in
+    sym (to_z-of_z c.ranges.number) ∙ c.bits_of-bits.ensures.means ∙ ap (scalar_of c.args.base) (sym (number_reads c.args.base 8 c.bits_of-bits.result c.lay_u64.new.self.bytes c.args.out.now.bytes eight c.bits_of-bits.ensures.fits c.lay_u64.ensures.bytes))
