@@ -1,9 +1,11 @@
 //! Numbers in JSON texts.
-ghost use Rattle.std.specs.Prelude.{◌≡◌, ◌++◌, ◌||◌, ◌^◌, ◌<◌, ◌*◌, ◌≤◌, pos, IfOk, string_bytes};
+ghost use Rattle.std.specs.Prelude.{◌≡◌, ◌++◌, ◌||◌, ◌^◌, ◌<◌, ◌*◌, ◌≤◌};
+ghost use Rattle.std.specs.Prelude.{pos, IfOk, string_bytes};
 ghost use Rattle.std.specs.Fmt.{signed_decimal};
 ghost use Rattle.fb_schema.specs.Schema.{body_at};
 ghost use Rattle.fb_schema.specs.Found.{name_numbered};
-ghost use Rattle.fb_json.specs.Texts.{bits_of, is_odd, are_flags, has_name, are_named, bit_text, bits_text, flags_text, enum_text, number_text};
+ghost use Rattle.fb_json.specs.Texts.{bits_of, is_odd, are_flags, has_name, are_named, bit_text, bits_text};
+ghost use Rattle.fb_json.specs.Texts.{flags_text, enum_text, number_text};
 
 use crate::enums::has_flags;
 use crate::lines::push_name;

@@ -1,16 +1,18 @@
 //! Bytes that are collected before they are written.
-ghost use Rattle.std.specs.Prelude.{◌≡◌, ◌≤◌, ◌+◌, ◌-◌, ◌^◌, [], ◌++◌, length, min, true};
+ghost use Rattle.std.specs.Prelude.{◌≡◌, ◌≤◌, ◌+◌, [], ◌++◌, length, true};
+ghost use Rattle.fb_text.specs.declared.pages.TheConstants.{CAPACITY};
 
-const MOST: usize = 4096;
+/// How many bytes a page takes: as many as a pipe holds on Linux.
+const CAPACITY: usize = 65_536;
 
 /// Bytes of a text that wait to be written, so that a writer gets few large pieces, and how many
 /// were written before. They stand on the stack.
 #[derive(Drop)]
 pub(crate) struct Page {
-    bytes: [u8; MOST],
+    bytes: [u8; CAPACITY],
     len: usize,
     written: u64,
-    ghost within: { len ≤ 4096 },
+    ghost within: { len ≤ CAPACITY },
 }
 
 impl Page {
@@ -22,7 +24,7 @@ impl Page {
         ensures written { written_before result ≡ 0 }
     {
         Page {
-            bytes: [0; MOST],
+            bytes: [0; CAPACITY],
             len: 0,
             written: 0,
         }
@@ -37,14 +39,14 @@ impl Page {
 
     /// Whether so many bytes have room behind those that wait.
     pub(crate) fn has_room(&self, more: usize) -> bool
-        ensures { result ≡ true → length (pending self.now) + more ≤ 4096 }
+        ensures { result ≡ true → length (pending self.now) + more ≤ CAPACITY }
     {
-        more <= MOST - self.len
+        more <= CAPACITY - self.len
     }
 
     /// Adds bytes to those that wait.
     pub(crate) fn add(&mut self, more: &[u8])
-        requires { length (pending self.old) + length more.now ≤ 4096 }
+        requires { length (pending self.old) + length more.now ≤ CAPACITY }
         ensures pending { pending self.new ≡ pending self.old ++ more.now }
         ensures written { written_before self.new ≡ written_before self.old }
     {

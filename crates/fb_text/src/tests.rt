@@ -1,4 +1,4 @@
-ghost use Rattle.std.specs.Prelude.{Some};
+ghost use Rattle.std.specs.Prelude.{None, Some};
 
 use crate::WriteFault;
 use crate::lines::put_member_line;
@@ -79,22 +79,78 @@ fn stops_after_each_byte(rt: HostRuntime) -> Result<(), Fail> {
     Ok(())
 }
 
+fn long_text(alloc: Global) -> Result<String, Fail> {
+    let mut long = String::new(alloc);
+    for _ in 0..100_000 {
+        long.push_str("x")?;
+    }
+    Ok(long)
+}
+
 #[test]
 fn writes_more_than_a_page(rt: HostRuntime) -> Result<(), Fail> {
     let mut out = limited(rt.alloc(), 1_000_000, 5000, true);
     let mut page = Page::new();
-    let mut long = String::new(rt.alloc());
-    for _ in 0..10_000 {
-        long.push_str("x")?;
-    }
-    for _ in 0..1000 {
+    for _ in 0..20_000 {
         put_quoted(&mut page, &mut out, "abc");
     }
-    put_quoted(&mut page, &mut out, long.as_str());
+    put_quoted(&mut page, &mut out, long_text(rt.alloc())?.as_str());
     assert_eq!(rt; finish(&mut page, &mut out), Ok(()));
     let taken = out.into_inner().taken;
-    assert_eq!(rt; taken.len(), 15_002);
+    assert_eq!(rt; taken.len(), 200_002);
     assert_eq!(rt; &taken[..10], b"\"abc\"\"abc\"".as_slice());
-    assert_eq!(rt; &taken[14_998..], b"xxx\"".as_slice());
+    assert_eq!(rt; &taken[199_998..], b"xxx\"".as_slice());
+    Ok(())
+}
+
+/// A writer that keeps how many bytes each call brought.
+#[derive(Drop)]
+struct Calls {
+    lens: Vec<usize>,
+}
+
+impl Write for Calls {
+    ghost contents = { λ _. None };
+
+    fn write(&mut self, buf: &[u8]) -> io::Result<usize> {
+        self.lens.push(buf.len())?;
+        Ok(buf.len())
+    }
+
+    fn flush(&mut self) -> io::Result<()> {
+        Ok(())
+    }
+}
+
+#[test]
+fn small_pieces_are_written_together(rt: HostRuntime) -> Result<(), Fail> {
+    let mut out = Noted::over(Calls {
+        lens: Vec::new(rt.alloc()),
+    });
+    let mut page = Page::new();
+    for _ in 0..30_000 {
+        put_quoted(&mut page, &mut out, "abc");
+    }
+    assert_eq!(rt; finish(&mut page, &mut out), Ok(()));
+    assert_eq!(rt;
+        out.into_inner().lens.as_slice(),
+        [65_536, 65_535, 18_929].as_slice()
+    );
+    Ok(())
+}
+
+#[test]
+fn a_long_piece_is_written_alone(rt: HostRuntime) -> Result<(), Fail> {
+    let mut out = Noted::over(Calls {
+        lens: Vec::new(rt.alloc()),
+    });
+    let mut page = Page::new();
+    put_quoted(&mut page, &mut out, "abc");
+    put_quoted(&mut page, &mut out, long_text(rt.alloc())?.as_str());
+    assert_eq!(rt; finish(&mut page, &mut out), Ok(()));
+    assert_eq!(rt;
+        out.into_inner().lens.as_slice(),
+        [6, 100_000, 1].as_slice()
+    );
     Ok(())
 }

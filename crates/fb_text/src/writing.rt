@@ -1,5 +1,6 @@
 //! Pieces of a text, written by way of a page.
-ghost use Rattle.std.specs.Prelude.{◌≡◌, ◌<◌, ◌+◌, ◌++◌, [], ℕ, length, take, false, true, ◌↔◌, List, Option, IsErr, IsTrue};
+ghost use Rattle.std.specs.Prelude.{◌≡◌, ◌<◌, ◌+◌, ◌++◌, ◌↔◌};
+ghost use Rattle.std.specs.Prelude.{ℕ, [], List, length, take, false, true, Option, IsErr, IsTrue};
 ghost use Rattle.std.specs.Io.KnownBytes.{Appends};
 ghost use Rattle.fb_text.specs.Noted.{write_failed, writer_of};
 ghost use Rattle.fb_text.specs.Pages.{pending};
