@@ -2,18 +2,16 @@
 use Rattle.std.specs.Prelude.{ℕ, ◌+◌, ◌-◌, ◌≡◌, ◌<◌, ◌≤◌, max, IsTrue, ◌==◌, ◌&&◌, ◌||◌, not, List, [], ◌∷◌, Bool, true, false, nat_lt, nat_le, if◌then◌else◌, Option, None, Some, ℤ, pos, slice_get, slice_index, map, option_map, length}
 use Rattle.std.specs.Ordering.{int_eq}
 use Rattle.fb_schema.specs.declared.kinds.Base.{Base}
-use Rattle.fb_schema.specs.declared.kinds.Kind.{Kind}
 use Rattle.fb_schema.specs.declared.kinds.Kind.TheVariants.{Code}
 use Rattle.fb_schema.specs.declared.kinds.Shape.{Shape}
 use Rattle.fb_schema.specs.declared.kinds.Shape.TheVariants.{One}
 use Rattle.fb_schema.specs.declared.types.FieldInfo.{FieldInfo}
-use Rattle.fb_schema.specs.Seen.{field_seen}
 use Rattle.fb_schema.specs.declared.kinds.Base.TheVariants.{U8}
 use Rattle.fb_schema.specs.WellDeclared.{InRange}
 use Rattle.fb_schema.specs.Schema.{body_at, is_struct}
 use Rattle.fb_layout.specs.Sizes.{IsAlignment}
 pub use Rattle.fb_layout.specs.Seen.{shape_seen, kind_seen, slot_seen, slots_seen}
-use Rattle.fb_layout.specs.Laid.{slot_of, stored_shape, stored_kind, kind_in, struct_at, align_of, LaidSchema, Slot, StoredKind, scalar_kind, struct_kind, table_kind, union_kind, code_kind, text_kind, StoredShape, one_of, vector_of}
+use Rattle.fb_layout.specs.Laid.{stored_shape, kind_in, struct_at, align_of, LaidSchema, Slot, StoredKind, scalar_kind, struct_kind, table_kind, union_kind, code_kind, text_kind, StoredShape, one_of, vector_of}
 use Rattle.fb_layout.specs.Widths.{inline_size, inline_align, greatest}
 use Rattle.fb_value.specs.Datum.{Datum, a_number, a_table, a_member, an_unknown}
 use Rattle.fb_value.specs.declared.values.Value.{Value}

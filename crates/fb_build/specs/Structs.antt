@@ -1,9 +1,7 @@
 -- The fields of a struct while it is laid.
-use Rattle.std.specs.Prelude.{ℕ, ◌-◌, ◌≤◌, List, [], ◌∷◌, map, IsTrue}
-use Rattle.fb_schema.specs.declared.types.FieldInfo.{FieldInfo}
+use Rattle.std.specs.Prelude.{ℕ, ◌-◌, ◌≤◌, List, [], ◌∷◌, IsTrue}
 use Rattle.fb_schema.specs.Schema.{body_at, is_struct}
-use Rattle.fb_schema.specs.Seen.{field_seen}
-use Rattle.fb_layout.specs.Laid.{LaidSchema, StoredKind, scalar_kind, struct_kind, kind_in, stored_shape}
+use Rattle.fb_layout.specs.Laid.{LaidSchema, StoredKind, scalar_kind, struct_kind}
 pub use Rattle.fb_layout.specs.Seen.{kinds_seen}
 use Rattle.fb_value.specs.Datum.{Parts, no_parts, more_parts}
 use Rattle.fb_value.specs.Num.{Bytes}

@@ -1,6 +1,6 @@
 //! The greatest alignment in a schema.
-ghost use Rattle.std.specs.Prelude.{◌≡◌, ℕ, map};
-ghost use Rattle.std.specs.Option.{option_map_or, unwrap_or};
+ghost use Rattle.std.specs.Prelude.{◌≡◌, map};
+ghost use Rattle.std.specs.Option.{unwrap_or};
 ghost use Rattle.fb_schema.specs.Alignments.{greatest_in};
 ghost use Rattle.fb_schema.specs.Seen.{field_seen, type_seen};
 ghost use Rattle.fb_layout.specs.Laid.{align_of, no_struct, kind_in, stored_shape, stored_kind};

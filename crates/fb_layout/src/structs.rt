@@ -1,6 +1,6 @@
 //! Sizes of structs, from one type to the next.
 ghost use Rattle.std.specs.Prelude.{◌≡◌, [], map, option_map, IfOk};
-ghost use Rattle.fb_schema.specs.Seen.{field_seen, body_seen, type_seen};
+ghost use Rattle.fb_schema.specs.Seen.{field_seen, body_seen};
 ghost use Rattle.fb_layout.specs.Known.{sizes_seen, structs_seen, place_behind, each_added, field_placed, no_fields};
 ghost use Rattle.fb_layout.specs.Known.{whole_struct, known_struct, known_from};
 
