@@ -1,8 +1,9 @@
 -- Where a list's first element that passes a test stands.
-use Rattle.std.proofs.Common.{◌≡◌, ℕ, ◌+◌, Bool, true, false, cond, ◌||◌, List, [], ◌∷◌, map, length, position, find, slice_get, None, Some, is_some, refl, ap, sym, ◌∙◌, arith, nat_lt}
+use Rattle.std.proofs.Common.{◌≡◌, ℕ, ◌+◌, Bool, true, false, cond, ◌||◌, List, [], ◌∷◌, map, length, position, find, slice_get, None, Some, is_some, refl, ap, sym, ◌∙◌, arith, nat_lt, get_or, drop, drop-cons, ◌<◌, ◌≤◌}
 use Rattle.std.specs.List.{list_any, position_from, position_or_len}
 use Rattle.std.specs.Option.{option_and_then}
 use Rattle.std.proofs.lemmas.Iterator.Adapters.{position_from-zero}
+use Rattle.std.proofs.lemmas.List.{drop_all}
 use Rattle.std.proofs.lemmas.List.Folds.{find_at}
 use Rattle.std.proofs.lemmas.Option.{slice_get_past}
 use Rattle.std.proofs.lemmas.Bool.Decides.{nat_tests}
@@ -39,3 +40,11 @@ find-position {X} p xs = by (nat_lt first (length xs)) refl
     by : (b : Bool) → nat_lt first (length xs) ≡ b → option_and_then (slice_get xs) (cond b (Some first) None) ≡ find p xs
     by true e = sym (find_at p xs)
     by false e = sym (find_at p xs ∙ slice_get_past xs first (grind (arith, nat_tests)))
+
+-- a search that has come to a place without finding one
+module _ {X : Type 0} (p : X → Bool) (xs : List X) (i : ℕ) (so_far : position_from p 0 xs ≡ position_from p i (drop i xs)) where
+  pub found_here : (x : X) → i < length xs → p (get_or xs i x) ≡ true → position p xs ≡ Some i
+  found_here x within passes = position_from-zero p xs ∙ (so_far ∙ rw (drop-cons xs i x, passes) refl)
+
+  pub found_nowhere : length xs ≤ i → position p xs ≡ None
+  found_nowhere past = position_from-zero p xs ∙ (so_far ∙ rw (drop_all i xs past) refl)

@@ -1,12 +1,35 @@
 //! Names that are found in one step.
-ghost use Rattle.std.specs.Prelude.{◌≡◌, ◌≢◌, [], ◌∷◌, ◌++◌, map, AllPairs, IfOk, OnErr};
-ghost use Rattle.std.specs.Prelude.{is_some, not, if◌then◌else◌};
+ghost use Rattle.std.specs.Prelude.{◌≡◌, ◌≢◌, ◌∷◌, ◌++◌, if◌then◌else◌};
+ghost use Rattle.std.specs.Prelude.{[], map, bytes_eq, string_bytes, AllPairs, IfOk, OnErr, is_some, not};
 ghost use Rattle.fb_schema.specs.Found.{index_of};
 
 use crate::named::Named;
 use indexmap::IndexSet;
 use std::alloc::{AllocError, Global};
 use std::marker::Model;
+
+/// How many names are looked through; among more a name is found by its hash.
+const FEW: usize = 8;
+
+/// Whether two texts are one. Most that aren't differ in their length or their first byte.
+fn is_same(one: &str, other: &str) -> bool
+    ensures { result ≡ bytes_eq one.now other.now }
+{
+    let (one, other) = (one.as_bytes(), other.as_bytes());
+    one.len() == other.len() && one.first() == other.first() && one == other
+}
+
+/// The number of a name among few, from 0, where it is there.
+fn position_among(names: &[String], name: &str) -> Option<usize>
+    ensures { result ≡ index_of (map string_bytes names.now) name.now }
+{
+    for (place, known) in names.iter().enumerate() {
+        if is_same(name, known.as_str()) {
+            return Some(place);
+        }
+    }
+    None
+}
 
 /// Names in order, all different, each found by its text in one step.
 #[derive(Drop)]
@@ -64,6 +87,9 @@ impl NameIndex {
     pub(crate) fn position(&self, name: &str) -> Option<usize>
         ensures { result ≡ index_of self.now name.now }
     {
+        if self.names.len() <= FEW {
+            return position_among(self.names.as_slice(), name);
+        }
         self.names.get_index_of(name)
     }
 }
