@@ -23,3 +23,7 @@ pub mod StructSteps
 pub mod Multiples
 pub mod Simple
 pub mod PlaceSteps
+pub mod Covering
+pub mod ZerosComputed
+pub mod ExampleCovered
+pub mod ExampleUncovered

@@ -6,6 +6,7 @@ mod buffers;
 mod faults;
 mod fields;
 mod keys;
+mod laws;
 mod needs;
 mod numbers;
 mod places;
@@ -20,4 +21,5 @@ mod vtables;
 
 pub use buffers::{build, plan};
 pub use faults::BuildFault;
+pub use laws::{covered_by_its_value, few_outside, zero_is_computed, zero_outside};
 pub use plans::Plan;

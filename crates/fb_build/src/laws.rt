@@ -1,0 +1,23 @@
+//! Laws of buffers that are covered.
+ghost use Rattle.fb_build.specs.CoveredLaws.{CoveredByItsValue, ZeroOutside, FewOutside};
+ghost use Rattle.fb_build.specs.Taken.{ZeroIsComputed};
+
+/// A buffer is covered by the value that lies in it.
+pub fn covered_by_its_value()
+    ensures { CoveredByItsValue }
+{}
+
+/// A byte in no piece of a covered buffer is 0.
+pub fn zero_outside()
+    ensures { ZeroOutside }
+{}
+
+/// Bytes in no piece are fewer, one behind the other, than the greatest alignment.
+pub fn few_outside()
+    ensures { FewOutside }
+{}
+
+/// Whether bytes that nothing takes are 0 can be computed.
+pub fn zero_is_computed()
+    ensures { ZeroIsComputed }
+{}
