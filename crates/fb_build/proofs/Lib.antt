@@ -27,3 +27,4 @@ pub mod Covering
 pub mod ZerosComputed
 pub mod ExampleCovered
 pub mod ExampleUncovered
+pub mod TightMoved

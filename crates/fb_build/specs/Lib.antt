@@ -15,4 +15,5 @@ pub mod StructBytes
 pub mod Pieces
 pub mod Covered
 pub mod CoveredLaws
+pub mod CoveredTails
 pub mod FaultNumbers

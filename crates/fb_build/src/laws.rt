@@ -1,5 +1,6 @@
 //! Laws of buffers that are covered.
 ghost use Rattle.fb_build.specs.CoveredLaws.{CoveredByItsValue, ZeroOutside, FewOutside};
+ghost use Rattle.fb_build.specs.CoveredTails.{TightKeptInFront};
 ghost use Rattle.fb_build.specs.Taken.{ZeroIsComputed};
 
 /// A buffer is covered by the value that lies in it.
@@ -20,4 +21,9 @@ pub fn few_outside()
 /// Whether bytes that nothing takes are 0 can be computed.
 pub fn zero_is_computed()
     ensures { ZeroIsComputed }
+{}
+
+/// Bytes laid in front keep that tables have nothing to spare.
+pub fn tight_kept_in_front()
+    ensures { TightKeptInFront }
 {}

@@ -21,5 +21,7 @@ mod vtables;
 
 pub use buffers::{build, plan};
 pub use faults::BuildFault;
-pub use laws::{covered_by_its_value, few_outside, zero_is_computed, zero_outside};
+pub use laws::{
+    covered_by_its_value, few_outside, tight_kept_in_front, zero_is_computed, zero_outside,
+};
 pub use plans::Plan;
