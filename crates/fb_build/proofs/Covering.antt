@@ -1,18 +1,17 @@
 -- What follows of bytes that are covered.
-use Rattle.std.proofs.Common.{◌≡◌, ℕ, zero, suc, ◌+◌, ◌-◌, ◌≤◌, ◌<◌, ◌⊎◌, inl, inr, ◌++◌, Bool, true, false, not, nat_lt, nat_le, List, [], ◌∷◌, replicate, length, get_or, slice_index, max, refl, ap, sym, ◌∙◌, subst, arith, length-append}
-use Rattle.std.specs.Prelude.{flat_map, IsPermutation}
+use Rattle.std.proofs.Common.{◌≡◌, ℕ, zero, suc, ◌+◌, ◌-◌, ◌≤◌, ◌<◌, ◌⊎◌, inl, inr, ◌++◌, Bool, true, false, not, nat_lt, nat_le, List, [], ◌∷◌, replicate, length, get_or, slice_index, refl, ap, sym, ◌∙◌, subst, arith, length-append}
+use Rattle.std.specs.Prelude.{flat_map}
 use Rattle.std.specs.List.{AllPass}
 use Rattle.std.proofs.lemmas.Bool.{true≢false, ltb-true, ltb-false, leb-false, not-true, and_cases, cases_lt}
 use Rattle.std.proofs.lemmas.List.{get_or_append_left, get_or-append_right, get_or-replicate, length-replicate}
 use Rattle.std.proofs.lemmas.List.Sorted.{All-permutation, IsPermutation-sym}
-use Rattle.fb_layout.specs.Laid.{LaidSchema}
 use Rattle.fb_value.specs.Datum.{Datum}
 use Rattle.fb_value.specs.Num.{Bytes}
 use Rattle.fb_value.specs.Holds.{root_place}
 use Rattle.fb_value.proofs.Complete.{one_value}
-use Rattle.fb_build.specs.Taken.{is_within, ZeroUnless}
-use Rattle.fb_build.specs.Pieces.{Piece, PieceKind, reached_parts, greatest_align, pieces_of}
-use Rattle.fb_build.specs.Covered.{Chunk, piece_chunk, zeros_chunk, chunk_bytes, pieces_among, begins_with_zeros, RunsAreShort, IsCoveredBy, Covered}
+use Rattle.fb_build.specs.Taken.{is_within}
+use Rattle.fb_build.specs.Pieces.{Piece, PieceKind, reached_parts, greatest_align}
+use Rattle.fb_build.specs.Covered.{Chunk, piece_chunk, zeros_chunk, chunk_bytes, pieces_among, begins_with_zeros, RunsAreShort, IsCoveredBy}
 use Rattle.fb_build.specs.CoveredLaws.{is_outside, CoveredByItsValue, ZeroOutside, FewOutside}
 
 pub by_its_value_shown : CoveredByItsValue

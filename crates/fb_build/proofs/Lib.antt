@@ -28,3 +28,7 @@ pub mod ZerosComputed
 pub mod ExampleCovered
 pub mod ExampleUncovered
 pub mod TightMoved
+pub mod Further
+pub mod PiecesMoved
+pub mod PartsInside
+pub mod StructsMoved

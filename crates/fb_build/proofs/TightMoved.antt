@@ -1,38 +1,19 @@
 -- A table that has nothing to spare has nothing to spare where the same bytes stand further on.
-use Rattle.std.proofs.Common.{◌≡◌, ℕ, zero, suc, ◌+◌, ◌-◌, ◌*◌, ◌^◌, ◌≤◌, ◌<◌, ◌⊎◌, ◌++◌, Bool, true, false, cond, ◌&&◌, ◌||◌, nat_lt, nat_le, List, [], ◌∷◌, length, slice_index, refl, ap, sym, ◌∙◌, subst, arith, length-append}
-use Rattle.std.specs.Prelude.{ℤ, pos}
-use Rattle.std.proofs.lemmas.Bool.{ltb-false, le-ltb}
+use Rattle.std.proofs.Common.{◌≡◌, ℕ, suc, ◌+◌, ◌-◌, ◌^◌, ◌++◌, true, nat_lt, List, [], ◌∷◌, length, slice_index, refl, ap, sym, ◌∙◌, subst, arith, length-append}
+use Rattle.std.specs.Prelude.{pos}
 use Rattle.std.proofs.lemmas.List.{get_or-append-add}
 use Rattle.fb_schema.specs.Alignments.{base_size}
 use Rattle.fb_layout.specs.Laid.{LaidSchema, Slot, scalar_kind, struct_kind, table_kind, union_kind, code_kind, text_kind, StoredShape, one_of, vector_of, slots_of}
-use Rattle.fb_value.specs.Datum.{Datum}
 use Rattle.fb_value.specs.Num.{Bytes, num, scalar_of}
-use Rattle.fb_value.specs.Places.{Sort, vtable, slot_number, is_present}
+use Rattle.fb_value.specs.Places.{vtable, slot_number}
 use Rattle.fb_value.specs.EachTable.{EachTableAt}
-use Rattle.fb_value.specs.Tails.{from_end, LiesInTail}
+use Rattle.fb_value.specs.Tails.{from_end}
 use Rattle.fb_value.proofs.Moved.{each_at_moved}
-use Rattle.fb_build.specs.Stored.{StoredSlot, stored_from, stored_of, stored_number, absent_number, NoneIsDefault, IsTightTable}
+use Rattle.fb_build.specs.Stored.{StoredSlot, stored_from, stored_of, stored_number, NoneIsDefault, IsTightTable}
+use Rattle.fb_build.proofs.Further.{still_inside, number_moved, number_from, vtable_moved}
 use Rattle.fb_build.specs.CoveredTails.{IsTightInTail, TightKeptInFront}
 
-way_moved : (t : Bool) (s p k n : ℕ) → (t && nat_lt p s) ≡ false → cond t ((k + p) - s) ((k + p) + (n - s)) ≡ k + cond t (p - s) (p + (n - s))
-way_moved true s p k n e = omega (arith, ltb-false p s e)
-way_moved false s p k n e = omega arith
-
-still_inside : (t : Bool) (s p k : ℕ) → (t && nat_lt p s) ≡ false → (t && nat_lt (k + p) s) ≡ false
-still_inside true s p k e = le-ltb (k + p) s (omega (arith, ltb-false p s e))
-still_inside false s p k e = refl
-
 module _ (L : LaidSchema) (b c : Bytes) (k : ℕ) (bytes : (i : ℕ) → slice_index c (k + i) ≡ slice_index b i) where
-  number_moved : (p n : ℕ) → num c (k + p) n ≡ num b p n
-  unfolding num
-  number_moved p zero = refl
-  number_moved p (suc n) =
-      let at : slice_index c ((k + p) + n) ≡ slice_index b (p + n) = ap (λ i. slice_index c i) (omega arith) ∙ bytes (p + n) in
-      rw (number_moved p n, at) refl
-
-  number_from : (q p n : ℕ) → q ≡ k + p → num c q n ≡ num b p n
-  number_from q p n e = rw e (number_moved p n)
-
   module _ (p : ℕ) (slots : (j : ℕ) → slot_number c (k + p) j ≡ slot_number b p j) where
     stored_moved : (j : ℕ) (fs : List Slot) → stored_from c (k + p) j fs ≡ stored_from b p j fs
     unfolding stored_from
@@ -40,8 +21,8 @@ module _ (L : LaidSchema) (b c : Bytes) (k : ℕ) (bytes : (i : ℕ) → slice_i
     stored_moved j (f ∷ fs) = rw (slots j, stored_moved (suc j) fs) refl
 
     shape_moved : (at : ℕ) (shape : StoredShape) → stored_number c ((k + p) + at) shape ≡ stored_number b (p + at) shape
-    shape_moved at (one_of (scalar_kind base)) = ap (scalar_of base) (number_from ((k + p) + at) (p + at) (base_size base) (omega arith))
-    shape_moved at (one_of (code_kind u)) = ap pos (number_from ((k + p) + at) (p + at) 1 (omega arith))
+    shape_moved at (one_of (scalar_kind base)) = ap (scalar_of base) (number_from b c k bytes ((k + p) + at) (p + at) (base_size base) (omega arith))
+    shape_moved at (one_of (code_kind u)) = ap pos (number_from b c k bytes ((k + p) + at) (p + at) 1 (omega arith))
     shape_moved at (one_of (struct_kind s)) = refl
     shape_moved at (one_of (table_kind t)) = refl
     shape_moved at (one_of (union_kind u)) = refl
@@ -56,9 +37,9 @@ module _ (L : LaidSchema) (b c : Bytes) (k : ℕ) (bytes : (i : ℕ) → slice_i
     tight_moved t at h =
         let q = vtable b p in
         let stored : stored_of L c t (k + p) ≡ stored_of L b t p = stored_moved 0 (slots_of L t) in
-        let first : num c (vtable c (k + p)) 2 ≡ num b q 2 = number_from (vtable c (k + p)) q 2 at in
-        let second : num c (vtable c (k + p) + 2) 2 ≡ num b (q + 2) 2 = number_from (vtable c (k + p) + 2) (q + 2) 2 (omega (arith, at)) in
-        let last : num c (vtable c (k + p) + (num b q 2 - 2)) 2 ≡ num b (q + (num b q 2 - 2)) 2 = number_from (vtable c (k + p) + (num b q 2 - 2)) (q + (num b q 2 - 2)) 2 (omega (arith, at)) in
+        let first : num c (vtable c (k + p)) 2 ≡ num b q 2 = number_from b c k bytes (vtable c (k + p)) q 2 at in
+        let second : num c (vtable c (k + p) + 2) 2 ≡ num b (q + 2) 2 = number_from b c k bytes (vtable c (k + p) + 2) (q + 2) 2 (omega (arith, at)) in
+        let last : num c (vtable c (k + p) + (num b q 2 - 2)) 2 ≡ num b (q + (num b q 2 - 2)) 2 = number_from b c k bytes (vtable c (k + p) + (num b q 2 - 2)) (q + (num b q 2 - 2)) 2 (omega (arith, at)) in
         record {
           size = rw (second, stored) h.size;
           trimmed = rw (first, last) h.trimmed;
@@ -69,8 +50,8 @@ module _ (L : LaidSchema) (b c : Bytes) (k : ℕ) (bytes : (i : ℕ) → slice_i
   pub tight_further_on : (t p : ℕ) → ((j : ℕ) → slot_number c (k + p) j ≡ slot_number b p j) → IsTightInTail L b t p → IsTightInTail L c t (k + p)
   tight_further_on t p slots h =
       let s = num b p 4 in
-      let same : num c (k + p) 4 ≡ s = number_moved p 4 in
-      let at : vtable c (k + p) ≡ k + vtable b p = rw same (way_moved (nat_lt s (2 ^ 31)) s p k (2 ^ 32) h.inside) in
+      let same : num c (k + p) 4 ≡ s = number_moved b c k bytes p 4 in
+      let at : vtable c (k + p) ≡ k + vtable b p = vtable_moved b c k bytes p h.inside in
       record { tight = tight_moved p slots t at h.tight; inside = rw same (still_inside (nat_lt s (2 ^ 31)) s p k h.inside) }
 
 pub tight_front_shown : TightKeptInFront

@@ -1,5 +1,5 @@
 -- Whether bytes that nothing takes are 0, computed.
-use Rattle.std.proofs.Common.{◌≡◌, ℕ, zero, suc, ◌+◌, ◌<◌, ◌⊎◌, inl, inr, Bool, true, false, ◌&&◌, ◌||◌, ◌==◌, slice_index, refl, sym, ◌∙◌, subst, arith}
+use Rattle.std.proofs.Common.{◌≡◌, ℕ, zero, suc, ◌+◌, ◌<◌, ◌⊎◌, inl, inr, Bool, true, false, ◌||◌, ◌==◌, slice_index, refl, sym, ◌∙◌, subst, arith}
 use Rattle.std.proofs.lemmas.Bool.{false≢true, and_from, and_parts, or_left, or_right, or_cases, eqb-true, eq-eqb, cases_eq, cases_Bool}
 use Rattle.fb_value.specs.Num.{Bytes}
 use Rattle.fb_build.specs.Taken.{ZeroUnless, are_zero_unless, ZeroIsComputed}

@@ -83,9 +83,13 @@ unfoldable pub each_once : List ℕ → List ℕ
 each_once [] = []
 each_once (n ∷ ns) = if is_among n ns then each_once ns else n ∷ each_once ns
 
+-- where each table's vtable stands, a table after the other
+abbrev pub tables_vtables : Bytes → List PartAt → List ℕ
+tables_vtables b xs = filter_map (λ x. vtable_of b x.target x.at) xs
+
 -- Where the vtables of some parts stand: one may serve several tables.
 abbrev pub vtables_of : Bytes → List PartAt → List ℕ
-vtables_of b xs = each_once (filter_map (λ x. vtable_of b x.target x.at) xs)
+vtables_of b xs = each_once (tables_vtables b xs)
 
 -- what a stretch of bytes is
 pub data PieceKind : Type 0 where

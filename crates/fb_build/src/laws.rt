@@ -1,6 +1,6 @@
 //! Laws of buffers that are covered.
 ghost use Rattle.fb_build.specs.CoveredLaws.{CoveredByItsValue, ZeroOutside, FewOutside};
-ghost use Rattle.fb_build.specs.CoveredTails.{TightKeptInFront};
+ghost use Rattle.fb_build.specs.CoveredTails.{TightKeptInFront, ReachedKeptInFront, PaddedKeptInFront};
 ghost use Rattle.fb_build.specs.Taken.{ZeroIsComputed};
 
 /// A buffer is covered by the value that lies in it.
@@ -26,4 +26,14 @@ pub fn zero_is_computed()
 /// Bytes laid in front keep that tables have nothing to spare.
 pub fn tight_kept_in_front()
     ensures { TightKeptInFront }
+{}
+
+/// What is reached in a tail is reached in the same places once bytes are laid in front.
+pub fn reached_kept_in_front()
+    ensures { ReachedKeptInFront }
+{}
+
+/// Bytes laid in front keep that structs have nothing to spare.
+pub fn padded_kept_in_front()
+    ensures { PaddedKeptInFront }
 {}
