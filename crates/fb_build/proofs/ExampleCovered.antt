@@ -17,7 +17,7 @@ use Rattle.fb_build.specs.Stored.{stored_from, stored_of, is_in_field, PadsTable
 use Rattle.fb_build.specs.StructBytes.{is_in_part, PadsStructWithZeros}
 use Rattle.fb_build.specs.Taken.{are_zero_unless}
 use Rattle.fb_build.specs.Pieces.{whole_header, whole_part, whole_vtable, each_once}
-use Rattle.fb_build.specs.Covered.{piece_chunk, zeros_chunk, VtablesDiffer, Covered}
+use Rattle.fb_build.specs.Covered.{piece_chunk, zeros_chunk, VtablesDiffer, Covered, EndsAligned}
 use Rattle.fb_build.proofs.ZerosComputed.{zero_by_test}
 
 -- one vtable differs from all others
@@ -221,3 +221,18 @@ wide_covered = (
     structs = (tt, (((struct_padded wide_structs wide_bytes 0 48 refl, (tt, tt)), ((struct_padded wide_structs wide_bytes 0 64 refl, (tt, tt)), tt)), (tt, tt)));
   },
 )
+
+-- A table of one `int` ends at a multiple of 4.
+pub seven_aligned : EndsAligned one_int seven_bytes
+unfolding num slot_number named_slots stored_from
+seven_aligned = (one_number 7, seven_held.lies, refl)
+
+-- A struct aligned to 8 makes the length a multiple of 8.
+pub struct_aligned : EndsAligned one_struct struct_bytes
+unfolding num slot_number named_slots stored_from
+struct_aligned = (struct_inline, struct_held.lies, refl)
+
+-- Elements aligned to 16 make it a multiple of 16.
+pub wide_aligned : EndsAligned wide_structs wide_bytes
+unfolding num slot_number named_slots stored_from
+wide_aligned = (wide, wide_held.lies, refl)

@@ -32,3 +32,4 @@ pub mod Further
 pub mod PiecesMoved
 pub mod PartsInside
 pub mod StructsMoved
+pub mod ChunksJoined

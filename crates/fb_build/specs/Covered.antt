@@ -3,7 +3,7 @@
 use Rattle.std.specs.Prelude.{ℕ, ◌+◌, ◌≡◌, ◌≢◌, ◌<◌, Bool, true, false, List, [], ◌∷◌, length, replicate, flat_map, AllPairs, IsPermutation}
 use Rattle.fb_layout.specs.Laid.{LaidSchema}
 use Rattle.fb_value.specs.Datum.{Datum}
-use Rattle.fb_value.specs.Num.{Bytes, num, part_of}
+use Rattle.fb_value.specs.Num.{Bytes, num, part_of, divides}
 use Rattle.fb_value.specs.Lies.{LiesAt}
 use Rattle.fb_value.specs.EachTable.{EachTableAt}
 use Rattle.fb_value.specs.Holds.{root_place}
@@ -57,3 +57,7 @@ pub record IsCoveredBy (L : LaidSchema) (b : Bytes) (v : Datum) : Type 0 where
 -- Covered: the value that lies at the root takes all bytes.
 abbrev pub Covered : LaidSchema → Bytes → Type 0
 Covered L b = (v : Datum) × LiesAt L b (root_place L).sort 0 v × IsCoveredBy L b v
+
+-- The length of a buffer is a multiple of the greatest alignment of a part in which its value lies.
+abbrev pub EndsAligned : LaidSchema → Bytes → Type 0
+EndsAligned L b = (v : Datum) × LiesAt L b (root_place L).sort 0 v × (divides (greatest_align L b (reached_parts L b v)) (length b) ≡ true)

@@ -16,4 +16,5 @@ pub mod Pieces
 pub mod Covered
 pub mod CoveredLaws
 pub mod CoveredTails
+pub mod CoveredSteps
 pub mod FaultNumbers

@@ -1,6 +1,7 @@
 //! Laws of buffers that are covered.
 ghost use Rattle.fb_build.specs.CoveredLaws.{CoveredByItsValue, ZeroOutside, FewOutside};
 ghost use Rattle.fb_build.specs.CoveredTails.{TightKeptInFront, ReachedKeptInFront, PaddedKeptInFront};
+ghost use Rattle.fb_build.specs.CoveredSteps.{RunsKeptByMore, ChunksJoin, MadeInFront};
 ghost use Rattle.fb_build.specs.Taken.{ZeroIsComputed};
 
 /// A buffer is covered by the value that lies in it.
@@ -36,4 +37,19 @@ pub fn reached_kept_in_front()
 /// Bytes laid in front keep that structs have nothing to spare.
 pub fn padded_kept_in_front()
     ensures { PaddedKeptInFront }
+{}
+
+/// A greater number bounds runs of zeros too.
+pub fn runs_kept_by_more()
+    ensures { RunsKeptByMore }
+{}
+
+/// Chunks in front of chunks are chunks.
+pub fn chunks_join()
+    ensures { ChunksJoin }
+{}
+
+/// A tail that is made of parts and vtables is so once others are laid in front.
+pub fn made_in_front()
+    ensures { MadeInFront }
 {}
