@@ -1,18 +1,18 @@
 -- Chunks in front of chunks.
-use Rattle.std.proofs.Common.{◌≡◌, ℕ, ◌+◌, ◌≤◌, ◌<◌, ◌++◌, Bool, true, false, List, [], ◌∷◌, replicate, length, map, slice_index, refl, ap, sym, ◌∙◌, subst, arith, append_assoc, length-append}
+use Rattle.std.proofs.Common.{◌≡◌, ℕ, ◌+◌, ◌≤◌, ◌++◌, false, List, [], ◌∷◌, replicate, length, map, refl, ap, sym, ◌∙◌, subst, arith, append_assoc, length-append}
 use Rattle.std.specs.Prelude.{flat_map, IsPermutation}
 use Rattle.std.proofs.lemmas.List.{get_or-append-add, map-append, length-replicate}
 use Rattle.std.proofs.lemmas.List.Sorted.{IsPermutation-trans, IsPermutation-append, IsPermutation-append_left, IsPermutation-append_right, IsPermutation-append_comm, IsPermutation-map}
 use Rattle.std.proofs.lemmas.Grind.{flat_map-append}
 use Rattle.fb_layout.specs.Laid.{LaidSchema}
 use Rattle.fb_value.specs.Num.{Bytes}
-use Rattle.fb_build.specs.Pieces.{PartAt, Piece, part_piece, vtable_piece, whole_vtable}
+use Rattle.fb_build.specs.Pieces.{PartAt, Piece, part_piece, vtable_piece}
 use Rattle.fb_build.specs.Covered.{Chunk, piece_chunk, zeros_chunk, chunk_bytes, pieces_among, begins_with_zeros, RunsAreShort}
 use Rattle.fb_build.specs.CoveredTails.{part_further, piece_further}
-use Rattle.fb_build.specs.CoveredSteps.{ChunksOfTail, RunsKeptByMore, ChunksJoin, MadeInTail, MadeInFront}
+use Rattle.fb_build.specs.CoveredSteps.{RunsKeptByMore, ChunksJoin, MadeInFront}
 use Rattle.fb_build.proofs.Further.{number_moved}
 
-runs_under : (most more : ℕ) (cs : List Chunk) → most ≤ more → RunsAreShort most cs → RunsAreShort more cs
+pub runs_under : (most more : ℕ) (cs : List Chunk) → most ≤ more → RunsAreShort most cs → RunsAreShort more cs
 runs_under most more [] low h = tt
 runs_under most more (piece_chunk kind bytes ∷ cs) low h = runs_under most more cs low h
 runs_under most more (zeros_chunk n ∷ cs) low h = (omega (arith, low, h.0), h.1, runs_under most more cs low h.2)
@@ -77,6 +77,19 @@ vtables_shifted : (front s : Bytes) (qs : List ℕ) → map (vtable_piece (front
 vtables_shifted front s [] = refl
 vtables_shifted front s (q ∷ qs) = rw (number_moved s (front ++ s) (length front) (λ i. get_or-append-add front s i 0) q 2, vtables_shifted front s qs) refl
 
+-- the pieces of a tail, as they stand in the whole
+pub later_pieces : (L : LaidSchema) (front s : Bytes) (xs : List PartAt) (qs : List ℕ) (cs : List Chunk)
+    → map (part_piece L (front ++ s)) (map (part_further (length front)) xs) ≡ map (piece_further (length front)) (map (part_piece L s) xs)
+    → IsPermutation (pieces_among 0 cs) (map (part_piece L s) xs ++ map (vtable_piece s) qs)
+    → IsPermutation (map (piece_further (length front)) (pieces_among 0 cs)) (map (part_piece L (front ++ s)) (map (part_further (length front)) xs) ++ map (vtable_piece (front ++ s)) (map (λ q. length front + q) qs))
+later_pieces L front s xs qs cs same made =
+    let k = length front in
+    let part = part_piece L (front ++ s) in
+    let vt = vtable_piece (front ++ s) in
+    let old : map (piece_further k) (map (part_piece L s) xs ++ map (vtable_piece s) qs) ≡ map part (map (part_further k) xs) ++ map vt (map (λ q. k + q) qs) =
+    map-append (piece_further k) _ _ ∙ ap (λ z. z ++ map (piece_further k) (map (vtable_piece s) qs)) (sym same) ∙ ap (λ z. map part (map (part_further k) xs) ++ z) (sym (vtables_shifted front s qs)) in
+    subst (λ (z : List Piece). IsPermutation (map (piece_further k) (pieces_among 0 cs)) z) old (IsPermutation-map (piece_further k) _ _ made)
+
 pub made_shown : MadeInFront
 made_shown L most front s fs xs ys qs rs h made same own =
     let b = front ++ s in
@@ -86,10 +99,7 @@ made_shown L most front s fs xs ys qs rs h made same own =
     let vt = vtable_piece b in
     let xs2 = map (part_further k) xs in
     let qs2 = map (λ q. k + q) qs in
-    let old : map (piece_further k) (map (part_piece L s) xs ++ map (vtable_piece s) qs) ≡ map part xs2 ++ map vt qs2 =
-    map-append (piece_further k) _ _ ∙ ap (λ z. z ++ map (piece_further k) (map (vtable_piece s) qs)) (sym same) ∙ ap (λ z. map part xs2 ++ z) (sym (vtables_shifted front s qs)) in
-    let later : IsPermutation (map (piece_further k) (pieces_among 0 made.chunks)) (map part xs2 ++ map vt qs2) =
-    subst (λ (z : List Piece). IsPermutation (map (piece_further k) (pieces_among 0 made.chunks)) z) old (IsPermutation-map (piece_further k) _ _ made.pieces) in
+    let later : IsPermutation (map (piece_further k) (pieces_among 0 made.chunks)) (map part xs2 ++ map vt qs2) = later_pieces L front s xs qs made.chunks same made.pieces in
     let all = IsPermutation-trans _ _ _ (IsPermutation-append _ _ _ _ own later) (middle_swapped (map part ys) (map vt rs) (map part xs2) (map vt qs2)) in
     let end : (map part ys ++ map part xs2) ++ (map vt rs ++ map vt qs2) ≡ map part (ys ++ xs2) ++ map vt (rs ++ qs2) =
     ap (λ z. z ++ (map vt rs ++ map vt qs2)) (sym (map-append part ys xs2)) ∙ ap (λ z. map part (ys ++ xs2) ++ z) (sym (map-append vt rs qs2)) in

@@ -33,3 +33,5 @@ pub mod PiecesMoved
 pub mod PartsInside
 pub mod StructsMoved
 pub mod ChunksJoined
+pub mod Once
+pub mod MadeWhole

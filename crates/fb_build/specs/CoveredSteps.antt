@@ -1,10 +1,13 @@
 -- How the chunks of a tail grow while pieces are laid in front.
-use Rattle.std.specs.Prelude.{ℕ, ◌+◌, ◌≡◌, ◌≤◌, ◌++◌, false, List, length, map, flat_map, IsPermutation}
+use Rattle.std.specs.Prelude.{ℕ, ◌+◌, ◌-◌, ◌≡◌, ◌≤◌, ◌++◌, false, List, [], ◌∷◌, length, map, flat_map, IsPermutation}
 use Rattle.fb_layout.specs.Laid.{LaidSchema}
-use Rattle.fb_value.specs.Num.{Bytes}
-use Rattle.fb_build.specs.Pieces.{PartAt, part_piece, vtable_piece}
-use Rattle.fb_build.specs.Covered.{Chunk, chunk_bytes, pieces_among, begins_with_zeros, RunsAreShort}
-use Rattle.fb_build.specs.CoveredTails.{part_further, piece_further}
+use Rattle.fb_value.specs.Datum.{Datum}
+use Rattle.fb_value.specs.Num.{Bytes, num}
+use Rattle.fb_value.specs.Places.{table_part, part_place}
+use Rattle.fb_value.specs.Tails.{LiesInTail}
+use Rattle.fb_build.specs.Pieces.{PartAt, reached_parts, greatest_align, is_among, each_once, tables_vtables, header_piece, part_piece, vtable_piece}
+use Rattle.fb_build.specs.Covered.{Chunk, chunk_bytes, pieces_among, begins_with_zeros, RunsAreShort, IsMadeOf}
+use Rattle.fb_build.specs.CoveredTails.{part_further, piece_further, parts_in_tail}
 
 -- The bytes are these chunks, of which the first isn't a run of zeros, so that one may be laid in front.
 pub record ChunksOfTail (s : Bytes) (most : ℕ) (cs : List Chunk) : Type 0 where
@@ -35,3 +38,22 @@ MadeInFront =
     → map (part_piece L (front ++ s)) (map (part_further (length front)) xs) ≡ map (piece_further (length front)) (map (part_piece L s) xs)
     → IsPermutation (pieces_among 0 fs) (map (part_piece L (front ++ s)) ys ++ map (vtable_piece (front ++ s)) rs)
     → MadeInTail L (front ++ s) most (ys ++ map (part_further (length front)) xs) (rs ++ map (λ q. length front + q) qs)
+
+-- no number stands twice
+abbrev pub AreDistinct : List ℕ → Type 0
+AreDistinct [] = Unit {0}
+AreDistinct (n ∷ ns) = (is_among n ns ≡ false) × AreDistinct ns
+
+-- Numbers of which none stands twice, and that are those of a list, are each of that list once.
+abbrev pub OnceWhereDistinct : Type 0
+OnceWhereDistinct = (ns ms : List ℕ) → AreDistinct ns → ((n : ℕ) → is_among n ns ≡ is_among n ms) → IsPermutation ns (each_once ms)
+
+-- Once the header is laid in front of a tail that is made of a value's parts and vtables, the buffer is made of them.
+abbrev pub MadeWhole : Type 0
+MadeWhole =
+    (L : LaidSchema) (m most : ℕ) (front s : Bytes) (fs : List Chunk) (e : ℕ) (v : Datum) (qs : List ℕ) → LiesInTail L m s (part_place (table_part L.schema.root)) e v
+    → MadeInTail L s most (parts_in_tail L s (table_part L.schema.root) e v) qs → AreDistinct qs
+    → ((q : ℕ) → is_among q qs ≡ is_among q (tables_vtables s (parts_in_tail L s (table_part L.schema.root) e v)))
+    → ChunksOfTail front most fs → pieces_among 0 fs ≡ header_piece L ∷ []
+    → num (front ++ s) 0 4 ≡ length (front ++ s) - e → most ≤ greatest_align L (front ++ s) (reached_parts L (front ++ s) v)
+    → IsMadeOf L (front ++ s) v

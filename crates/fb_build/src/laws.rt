@@ -1,7 +1,7 @@
 //! Laws of buffers that are covered.
 ghost use Rattle.fb_build.specs.CoveredLaws.{CoveredByItsValue, ZeroOutside, FewOutside};
 ghost use Rattle.fb_build.specs.CoveredTails.{TightKeptInFront, ReachedKeptInFront, PaddedKeptInFront};
-ghost use Rattle.fb_build.specs.CoveredSteps.{RunsKeptByMore, ChunksJoin, MadeInFront};
+ghost use Rattle.fb_build.specs.CoveredSteps.{RunsKeptByMore, ChunksJoin, MadeInFront, OnceWhereDistinct, MadeWhole};
 ghost use Rattle.fb_build.specs.Taken.{ZeroIsComputed};
 
 /// A buffer is covered by the value that lies in it.
@@ -52,4 +52,14 @@ pub fn chunks_join()
 /// A tail that is made of parts and vtables is so once others are laid in front.
 pub fn made_in_front()
     ensures { MadeInFront }
+{}
+
+/// Numbers that stand once each are a list's numbers, each once.
+pub fn once_where_distinct()
+    ensures { OnceWhereDistinct }
+{}
+
+/// A buffer is made of a value's pieces once its header is laid.
+pub fn made_whole()
+    ensures { MadeWhole }
 {}
