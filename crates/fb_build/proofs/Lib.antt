@@ -35,3 +35,4 @@ pub mod StructsMoved
 pub mod ChunksJoined
 pub mod Once
 pub mod MadeWhole
+pub mod PartsListed

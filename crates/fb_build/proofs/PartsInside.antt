@@ -35,7 +35,7 @@ module _ (L : LaidSchema) (al : Aligned) (b : Bytes) where
   behind_inside : (s : Sort) (p : ℕ) (d : Datum) → Known d → BehindBy al L b s p (λ s q. LiesBy al L b s q d) → AreInside b (reached_behind b s p (λ X q. reached L b X q d))
   unfolding Known AreInside
   behind_inside (ref_place X) p d known lies = known X (p + num b p 4) lies.1
-  behind_inside (part_place X) p d known lies = tt
+  behind_inside (part_place X) p d known lies = known X p lies
   behind_inside (inline_place kind) p d known lies = tt
   behind_inside (code_place u j required here) p d known lies = tt
   behind_inside (unknown_place e) p d known lies = tt
@@ -43,7 +43,7 @@ module _ (L : LaidSchema) (al : Aligned) (b : Bytes) where
   entry_inside : (s : Sort) (p : ℕ) (d : Datum) → Known d → EntryBy al L b s p d (λ s q. LiesBy al L b s q d) → AreInside b (reached_behind b s p (λ X q. reached L b X q d))
   unfolding AreInside
   entry_inside (ref_place X) p d known lies = behind_inside (ref_place X) p d known lies
-  entry_inside (part_place X) p d known lies = tt
+  entry_inside (part_place X) p d known lies = behind_inside (part_place X) p d known lies
   entry_inside (inline_place kind) p d known lies = tt
   entry_inside (code_place u j required here) p d known lies = tt
   entry_inside (unknown_place e) p d known lies = tt

@@ -33,14 +33,14 @@ module _ (L : LaidSchema) (al : Aligned) (b c : Bytes) (k : ℕ) (bytes : (i : �
   behind_further (ref_place X) p d known lies =
       let at : (k + p) + num c (k + p) 4 ≡ k + (p + num b p 4) = omega (arith, number_moved b c k bytes p 4) in
       ap (λ q. reached L c X q d) at ∙ known X (p + num b p 4) lies.1
-  behind_further (part_place X) p d known lies = refl
+  behind_further (part_place X) p d known lies = known X p lies
   behind_further (inline_place kind) p d known lies = refl
   behind_further (code_place u j required here) p d known lies = refl
   behind_further (unknown_place e) p d known lies = refl
 
   entry_further : (s : Sort) (p : ℕ) (d : Datum) → Known d → EntryBy al L b s p d (λ s q. LiesBy al L b s q d) → reached_behind c s (k + p) (λ X q. reached L c X q d) ≡ map (part_further k) (reached_behind b s p (λ X q. reached L b X q d))
   entry_further (ref_place X) p d known lies = behind_further (ref_place X) p d known lies
-  entry_further (part_place X) p d known lies = refl
+  entry_further (part_place X) p d known lies = behind_further (part_place X) p d known lies
   entry_further (inline_place kind) p d known lies = refl
   entry_further (code_place u j required here) p d known lies = refl
   entry_further (unknown_place e) p d known lies = refl

@@ -38,14 +38,14 @@ module _ (L : LaidSchema) (al : Aligned) (b c : Bytes) (k : ℕ) (bytes : (i : �
       let at : k + (p + num b p 4) ≡ (k + p) + num c (k + p) 4 = omega (arith, number_moved b c k bytes p 4) in
       subst (λ (q : ℕ). EachStruct L c (PadsStructWithZeros L c) X q d) at (known X (p + num b p 4) lies.1 h)
   behind_padded (inline_place kind) p d known lies h = struct_padded kind p d h
-  behind_padded (part_place X) p d known lies h = tt
+  behind_padded (part_place X) p d known lies h = known X p lies h
   behind_padded (code_place u j required here) p d known lies h = tt
   behind_padded (unknown_place e) p d known lies h = tt
 
   entry_padded : (s : Sort) (p : ℕ) (d : Datum) → Known d → EntryBy al L b s p d (λ s q. LiesBy al L b s q d) → EachStructAt L b (PadsStructWithZeros L b) s p d → EachStructAt L c (PadsStructWithZeros L c) s (k + p) d
   entry_padded (ref_place X) p d known lies h = behind_padded (ref_place X) p d known lies h
   entry_padded (inline_place kind) p d known lies h = struct_padded kind p d h
-  entry_padded (part_place X) p d known lies h = tt
+  entry_padded (part_place X) p d known lies h = behind_padded (part_place X) p d known lies h
   entry_padded (code_place u j required here) p d known lies h = tt
   entry_padded (unknown_place e) p d known lies h = tt
 

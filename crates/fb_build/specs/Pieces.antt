@@ -6,7 +6,7 @@ use Rattle.fb_layout.specs.Laid.{LaidSchema, StoredKind, slots_of, size_of, alig
 use Rattle.fb_layout.specs.Widths.{inline_align}
 use Rattle.fb_value.specs.Datum.{Datum, a_text, a_vector, a_table, a_member, Parts, no_parts, more_parts, SlotEntries, absent_entry, present_entry}
 use Rattle.fb_value.specs.Num.{Bytes, num}
-use Rattle.fb_value.specs.Places.{Target, table_part, member_part, text_part, vector_part, Sort, ref_place, Place, vtable, named_slots, target_of}
+use Rattle.fb_value.specs.Places.{Target, table_part, member_part, text_part, vector_part, Sort, ref_place, part_place, Place, vtable, named_slots, target_of}
 use Rattle.fb_value.specs.Holds.{root_place}
 use Rattle.fb_build.specs.Stored.{stored_of}
 
@@ -18,6 +18,7 @@ pub record PartAt : Type 0 where
 -- behind a reference; what stands in its place is no part of its own
 abbrev pub reached_behind : Bytes → Sort → ℕ → (Target → ℕ → List PartAt) → List PartAt
 reached_behind b (ref_place X) p more = more X (p + num b p 4)
+reached_behind b (part_place X) p more = more X p
 reached_behind b _ p more = []
 
 abbrev pub reached_named : Bytes → Option Place → (Target → ℕ → List PartAt) → List PartAt

@@ -4,7 +4,7 @@ use Rattle.std.specs.Prelude.{ℕ, ◌+◌, Bool, false, ◌||◌, List, ◌∷�
 use Rattle.fb_layout.specs.Laid.{LaidSchema, StoredKind, struct_kind, slots_of, parts_of, struct_at, size_of}
 use Rattle.fb_value.specs.Datum.{Datum, a_vector, a_struct, a_table, a_member, Parts, no_parts, more_parts, SlotEntries, absent_entry, present_entry}
 use Rattle.fb_value.specs.Num.{Bytes, num}
-use Rattle.fb_value.specs.Places.{Target, table_part, member_part, vector_part, Sort, ref_place, inline_place, Place, named_slots, target_of}
+use Rattle.fb_value.specs.Places.{Target, table_part, member_part, vector_part, Sort, ref_place, part_place, inline_place, Place, named_slots, target_of}
 use Rattle.fb_build.specs.Taken.{is_within, ZeroUnless}
 
 -- whether a struct's byte i is one of a field
@@ -29,6 +29,7 @@ abbrev mutual
 -- in its place, or behind a reference
 abbrev pub EachStructBehind : LaidSchema → Bytes → (ℕ → ℕ → Type 0) → Sort → ℕ → Datum → (Target → ℕ → Type 0) → Type 0
 EachStructBehind L b P (ref_place X) p d each = each X (p + num b p 4)
+EachStructBehind L b P (part_place X) p d each = each X p
 EachStructBehind L b P (inline_place kind) p d each = EachStructIn L P kind p d
 EachStructBehind L b P _ p d each = Unit {0}
 

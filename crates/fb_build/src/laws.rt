@@ -1,5 +1,5 @@
 //! Laws of buffers that are covered.
-ghost use Rattle.fb_build.specs.CoveredLaws.{CoveredByItsValue, ZeroOutside, FewOutside};
+ghost use Rattle.fb_build.specs.CoveredLaws.{CoveredByItsValue, ZeroOutside, FewOutside, ReachedIsListed};
 ghost use Rattle.fb_build.specs.CoveredTails.{TightKeptInFront, ReachedKeptInFront, PaddedKeptInFront};
 ghost use Rattle.fb_build.specs.CoveredSteps.{RunsKeptByMore, ChunksJoin, MadeInFront, OnceWhereDistinct, MadeWhole};
 ghost use Rattle.fb_build.specs.Taken.{ZeroIsComputed};
@@ -62,4 +62,9 @@ pub fn once_where_distinct()
 /// A buffer is made of a value's pieces once its header is laid.
 pub fn made_whole()
     ensures { MadeWhole }
+{}
+
+/// What a path leads to is among a value's parts.
+pub fn reached_is_listed()
+    ensures { ReachedIsListed }
 {}
