@@ -1,6 +1,7 @@
 -- Worked buffers that are covered.
-use Rattle.std.specs.Prelude.{ℕ, ◌≡◌, ◌+◌, ◌++◌, ◌||◌, [], ◌∷◌, nat_lt, replicate, true, pos, refl}
-use Rattle.std.proofs.Common.{lit≤, arith, zero, suc, inl, inr}
+use Rattle.std.specs.Prelude.{ℕ, ◌≡◌, ◌+◌, ◌++◌, ◌||◌, ◌==◌, List, [], ◌∷◌, nat_lt, replicate, true, false, pos, refl}
+use Rattle.std.proofs.Common.{lit≤, ◌⊎◌, inl, inr, ap, sym, ◌∙◌}
+use Rattle.std.proofs.lemmas.Bool.{false≢true, or_cases, eqb-true}
 use Rattle.fb_layout.specs.Laid.{LaidSchema, parts_of, struct_at}
 use Rattle.fb_value.specs.Num.{Bytes, num, part_of}
 use Rattle.fb_value.specs.Places.{vtable, slot_number, named_slots}
@@ -16,20 +17,35 @@ use Rattle.fb_value.specs.ExampleStructs.{struct_bytes, struct_inline, struct_he
 use Rattle.fb_build.specs.Stored.{stored_from, stored_of, is_in_field, PadsTableWithZeros}
 use Rattle.fb_build.specs.StructBytes.{is_in_part, PadsStructWithZeros}
 use Rattle.fb_build.specs.Taken.{are_zero_unless}
-use Rattle.fb_build.specs.Pieces.{whole_header, whole_part, whole_vtable, each_once}
-use Rattle.fb_build.specs.Covered.{piece_chunk, zeros_chunk, VtablesDiffer, Covered, EndsAligned}
+use Rattle.fb_build.specs.Pieces.{whole_header, whole_part, whole_vtable, is_among, each_once}
+use Rattle.fb_build.specs.Covered.{piece_chunk, zeros_chunk, vtable_at, EqualVtablesAreOne, Covered, EndsAligned}
 use Rattle.fb_build.proofs.ZerosComputed.{zero_by_test}
 
--- one vtable differs from all others
-one_vtable : (b : Bytes) (q : ℕ) → VtablesDiffer b (q ∷ [])
-one_vtable b q i j d low within = absurd (omega (arith, low, within))
+either : (b : Bytes) (n m : ℕ) (ms : List ℕ) → is_among n (m ∷ ms) ≡ true → (n ≡ m) ⊎ (is_among n ms ≡ true)
+either b n m ms h = elim (or_cases (n == m) (is_among n ms) h) [ inl e ↦ inl (eqb-true n m e) | inr more ↦ inr more ]
+
+only : (n m : ℕ) → is_among n (m ∷ []) ≡ true → n ≡ m
+only n m h = elim (or_cases (n == m) false h) [ inl e ↦ eqb-true n m e | inr no_more ↦ absurd (false≢true no_more) ]
+
+-- there is one vtable, though several tables may have it
+one_vtable : (b : Bytes) (q : ℕ) → EqualVtablesAreOne b (q ∷ [])
+one_vtable b q n m here there same = only n q here ∙ sym (only m q there)
+
+three_tables : (b : Bytes) (q : ℕ) → EqualVtablesAreOne b (q ∷ q ∷ q ∷ [])
+three_tables b q n m here there same = all n here ∙ sym (all m there)
+  where
+    all : (k : ℕ) → is_among k (q ∷ q ∷ q ∷ []) ≡ true → k ≡ q
+    all k h = elim (either b k q (q ∷ q ∷ []) h) [ inl e ↦ e | inr more ↦ elim (either b k q (q ∷ []) more) [ inl e ↦ e | inr last ↦ only k q last ] ]
 
 -- two vtables that differ
-two_vtables : (b : Bytes) (q r : ℕ) → (part_of b q (num b q 2) ≡ part_of b r (num b r 2) → ⊥) → VtablesDiffer b (q ∷ r ∷ [])
-two_vtables b q r h zero (suc zero) d low within = h
-two_vtables b q r h zero zero d low within = absurd (omega (arith, low))
-two_vtables b q r h zero (suc (suc j)) d low within = absurd (omega (arith, within))
-two_vtables b q r h (suc i) j d low within = absurd (omega (arith, low, within))
+two_vtables : (b : Bytes) (q r : ℕ) → (vtable_at b q ≡ vtable_at b r → ⊥) → EqualVtablesAreOne b (q ∷ r ∷ [])
+two_vtables b q r differ n m here there same = by_cases (either b n q (r ∷ []) here) (either b m q (r ∷ []) there)
+  where
+    by_cases : (n ≡ q) ⊎ (is_among n (r ∷ []) ≡ true) → (m ≡ q) ⊎ (is_among m (r ∷ []) ≡ true) → n ≡ m
+    by_cases (inl e) (inl h) = e ∙ sym h
+    by_cases (inr e) (inr h) = only n r e ∙ sym (only m r h)
+    by_cases (inl e) (inr h) = absurd (differ (ap (vtable_at b) (sym e) ∙ same ∙ ap (vtable_at b) (only m r h)))
+    by_cases (inr e) (inl h) = absurd (differ (ap (vtable_at b) (sym h) ∙ sym same ∙ ap (vtable_at b) (only n r e)))
 
 -- a table's rest, computed
 table_padded : (L : LaidSchema) (b : Bytes) (t p : ℕ) → are_zero_unless (λ i. nat_lt i 4 || is_in_field L (stored_of L b t p) i) b p (num b (vtable b p + 2) 2) ≡ true → PadsTableWithZeros L b t p
@@ -130,7 +146,7 @@ pair_covered = (
       pieces = record { moves = (4, 5) ∷ (3, 5) ∷ []; below = (lit≤ tt, lit≤ tt, (lit≤ tt, lit≤ tt, tt)); is = refl };
       runs = (lit≤ tt, refl, tt);
     };
-    shared = one_vtable pair_bytes 34;
+    shared = three_tables pair_bytes 34;
     tables = (
       record { size = refl; trimmed = inr (lit≤ tt); padded = table_padded table_vector pair_bytes 1 4 refl; defaults = (λ n is e. cc, tt) },
       (

@@ -118,7 +118,8 @@ pub vtable_twice : ¬ (Covered table_vector twice_bytes)
 unfolding num slot_number named_slots each_once
 vtable_twice h =
     let covered = by_its_value_shown table_vector twice_bytes single twice_lies h in
-    covered.shared 0 1 0 (lit≤ tt) (lit≤ tt) refl
+    let is : 6 ≡ 30 = covered.shared 6 30 refl refl refl in
+    omega (arith, is)
 
 -- a vtable at 4 that no table has, before the one at 10
 abbrev pub discarded_bytes : Bytes

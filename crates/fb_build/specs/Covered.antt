@@ -1,13 +1,13 @@
 -- That every byte of a buffer belongs to its value, or is one of few zeros between what does.
 -- From the FlatBuffers documentation, "FlatBuffer Internals": what a buffer is made of. That nothing else is in it is this project's own.
-use Rattle.std.specs.Prelude.{ℕ, ◌+◌, ◌≡◌, ◌≢◌, ◌<◌, Bool, true, false, List, [], ◌∷◌, length, replicate, flat_map, AllPairs, IsPermutation}
+use Rattle.std.specs.Prelude.{ℕ, ◌+◌, ◌≡◌, ◌<◌, Bool, true, false, List, [], ◌∷◌, length, replicate, flat_map, IsPermutation}
 use Rattle.fb_layout.specs.Laid.{LaidSchema}
 use Rattle.fb_value.specs.Datum.{Datum}
 use Rattle.fb_value.specs.Num.{Bytes, num, part_of, divides}
 use Rattle.fb_value.specs.Lies.{LiesAt}
 use Rattle.fb_value.specs.EachTable.{EachTableAt}
 use Rattle.fb_value.specs.Holds.{root_place}
-use Rattle.fb_build.specs.Pieces.{PieceKind, Piece, reached_parts, greatest_align, vtables_of, pieces_of}
+use Rattle.fb_build.specs.Pieces.{PieceKind, Piece, reached_parts, greatest_align, is_among, tables_vtables, pieces_of}
 use Rattle.fb_build.specs.Stored.{IsTightTable}
 use Rattle.fb_build.specs.StructBytes.{PadsStructWithZeros, EachStructAt}
 
@@ -36,9 +36,13 @@ RunsAreShort most [] = Unit {0}
 RunsAreShort most (piece_chunk kind bytes ∷ cs) = RunsAreShort most cs
 RunsAreShort most (zeros_chunk n ∷ cs) = (n < most) × (begins_with_zeros cs ≡ false) × RunsAreShort most cs
 
--- Vtables that stand at different places differ.
-abbrev pub VtablesDiffer : Bytes → List ℕ → Type 0
-VtablesDiffer b qs = AllPairs (λ q r. part_of b q (num b q 2) ≢ part_of b r (num b r 2)) qs
+-- the bytes of the vtable at a place
+abbrev pub vtable_at : Bytes → ℕ → Bytes
+vtable_at b q = part_of b q (num b q 2)
+
+-- Of the vtables at some places, equal ones stand at one place.
+abbrev pub EqualVtablesAreOne : Bytes → List ℕ → Type 0
+EqualVtablesAreOne b qs = (q r : ℕ) → is_among q qs ≡ true → is_among r qs ≡ true → vtable_at b q ≡ vtable_at b r → q ≡ r
 
 -- The bytes are chunks, one behind the other: the pieces in which the value lies, each once, and short runs of zeros.
 pub record IsMadeOf (L : LaidSchema) (b : Bytes) (v : Datum) : Type 0 where
@@ -50,7 +54,7 @@ pub record IsMadeOf (L : LaidSchema) (b : Bytes) (v : Datum) : Type 0 where
 -- Each byte belongs to a value, or is one of few zeros: equal vtables are one, and no table or struct has anything to spare.
 pub record IsCoveredBy (L : LaidSchema) (b : Bytes) (v : Datum) : Type 0 where
   pub made : IsMadeOf L b v
-  pub shared : VtablesDiffer b (vtables_of b (reached_parts L b v))
+  pub shared : EqualVtablesAreOne b (tables_vtables b (reached_parts L b v))
   pub tables : EachTableAt L b (IsTightTable L b) (root_place L).sort 0 v
   pub structs : EachStructAt L b (PadsStructWithZeros L b) (root_place L).sort 0 v
 
