@@ -3,7 +3,7 @@ use Rattle.std.specs.Prelude.{ℕ, ◌≡◌, ◌+◌, ◌++◌, ◌||◌, ◌==
 use Rattle.std.proofs.Common.{lit≤, ◌⊎◌, inl, inr, ap, sym, ◌∙◌}
 use Rattle.std.proofs.lemmas.Bool.{false≢true, or_cases, eqb-true}
 use Rattle.fb_layout.specs.Laid.{LaidSchema, parts_of, struct_at}
-use Rattle.fb_value.specs.Num.{Bytes, num, part_of}
+use Rattle.fb_value.specs.Num.{Bytes, num}
 use Rattle.fb_value.specs.Places.{vtable, slot_number, named_slots}
 use Rattle.fb_value.specs.Rules.{first_failing, fault_by}
 use Rattle.fb_value.specs.Lies.{LiesAt}

@@ -36,3 +36,4 @@ pub mod ChunksJoined
 pub mod Once
 pub mod MadeWhole
 pub mod PartsListed
+pub mod CoveredWhole

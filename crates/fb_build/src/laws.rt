@@ -1,7 +1,7 @@
 //! Laws of buffers that are covered.
 ghost use Rattle.fb_build.specs.CoveredLaws.{CoveredByItsValue, ZeroOutside, FewOutside, ReachedIsListed};
 ghost use Rattle.fb_build.specs.CoveredTails.{TightKeptInFront, ReachedKeptInFront, PaddedKeptInFront};
-ghost use Rattle.fb_build.specs.CoveredSteps.{RunsKeptByMore, ChunksJoin, MadeInFront, OnceWhereDistinct, MadeWhole};
+ghost use Rattle.fb_build.specs.CoveredSteps.{RunsKeptByMore, ChunksJoin, MadeInFront, OnceWhereDistinct, MadeWhole, CoveredWhole};
 ghost use Rattle.fb_build.specs.Taken.{ZeroIsComputed};
 
 /// A buffer is covered by the value that lies in it.
@@ -67,4 +67,9 @@ pub fn made_whole()
 /// What a path leads to is among a value's parts.
 pub fn reached_is_listed()
     ensures { ReachedIsListed }
+{}
+
+/// A buffer is covered once its header is laid in front of a tail that has nothing to spare.
+pub fn covered_whole()
+    ensures { CoveredWhole }
 {}
