@@ -23,3 +23,17 @@ pub mod StructSteps
 pub mod Multiples
 pub mod Simple
 pub mod PlaceSteps
+pub mod Covering
+pub mod ZerosComputed
+pub mod ExampleCovered
+pub mod ExampleUncovered
+pub mod TightMoved
+pub mod Further
+pub mod PiecesMoved
+pub mod PartsInside
+pub mod StructsMoved
+pub mod ChunksJoined
+pub mod Once
+pub mod MadeWhole
+pub mod PartsListed
+pub mod CoveredWhole

@@ -9,4 +9,12 @@ pub mod Items
 pub mod Planned
 pub mod Ready
 pub mod Structs
+pub mod Taken
+pub mod Stored
+pub mod StructBytes
+pub mod Pieces
+pub mod Covered
+pub mod CoveredLaws
+pub mod CoveredTails
+pub mod CoveredSteps
 pub mod FaultNumbers

@@ -1,0 +1,5 @@
+use Rattle.fb_build.proofs.ChunksJoined.{join_shown}
+use Rattle.fb_build.proofs.laws.chunks_join.Goals as goal
+
+pub returns : goal.returns
+returns c = join_shown

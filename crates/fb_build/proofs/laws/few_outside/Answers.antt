@@ -1,0 +1,5 @@
+use Rattle.fb_build.proofs.Covering.{few_outside_shown}
+use Rattle.fb_build.proofs.laws.few_outside.Goals as goal
+
+pub returns : goal.returns
+returns c = few_outside_shown

@@ -1,0 +1,5 @@
+use Rattle.fb_build.proofs.Once.{once_shown}
+use Rattle.fb_build.proofs.laws.once_where_distinct.Goals as goal
+
+pub returns : goal.returns
+returns c = once_shown

@@ -1,0 +1,5 @@
+use Rattle.fb_build.proofs.ZerosComputed.{zero_is_computed_shown}
+use Rattle.fb_build.proofs.laws.zero_is_computed.Goals as goal
+
+pub returns : goal.returns
+returns c = zero_is_computed_shown

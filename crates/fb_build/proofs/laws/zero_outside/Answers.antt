@@ -1,0 +1,5 @@
+use Rattle.fb_build.proofs.Covering.{zero_outside_shown}
+use Rattle.fb_build.proofs.laws.zero_outside.Goals as goal
+
+pub returns : goal.returns
+returns c = zero_outside_shown

@@ -1,0 +1,66 @@
+-- The fields that a table stores, told by its vtable.
+-- From the FlatBuffers documentation, "FlatBuffer Internals": Tables (a vtable's first numbers are its own size and the table's, and a field that isn't stored has 0).
+use Rattle.std.specs.Prelude.{ℕ, suc, ◌+◌, ◌-◌, ◌≡◌, ◌≢◌, ◌<◌, ◌⊎◌, Bool, false, ◌||◌, nat_lt, List, [], ◌∷◌, sum_by, if◌then◌else◌, Option, None, Some, ℤ, pos}
+use Rattle.fb_schema.specs.Alignments.{base_size}
+use Rattle.fb_layout.specs.Laid.{LaidSchema, Slot, scalar_kind, code_kind, StoredShape, one_of, slots_of}
+use Rattle.fb_layout.specs.Sizes.{ceil4}
+use Rattle.fb_layout.specs.Widths.{inline_size}
+use Rattle.fb_value.specs.Num.{Bytes, num, scalar_of}
+use Rattle.fb_value.specs.Places.{vtable, slot_number, is_present}
+use Rattle.fb_build.specs.Taken.{is_within, ZeroUnless}
+
+-- a slot whose number isn't 0, deprecated ones too, and that number: where the field stands in its table
+pub record StoredSlot : Type 0 where
+  pub slot : Slot
+  pub at : ℕ
+
+-- those of the table at p, from slot k on
+unfoldable pub stored_from : Bytes → ℕ → ℕ → List Slot → List StoredSlot
+stored_from b p k [] = []
+stored_from b p k (f ∷ fs) = if is_present b p k then record { slot = f; at = slot_number b p k } ∷ stored_from b p (suc k) fs else stored_from b p (suc k) fs
+
+abbrev pub stored_of : LaidSchema → Bytes → ℕ → ℕ → List StoredSlot
+stored_of L b t p = stored_from b p 0 (slots_of L t)
+
+-- A vtable's second number is the first number of its table and the sizes of what that stores, up to a multiple of 4.
+abbrev pub TellsItsSize : LaidSchema → Bytes → ℕ → ℕ → Type 0
+TellsItsSize L b t p = num b (vtable b p + 2) 2 ≡ 4 + ceil4 (sum_by (λ x. inline_size L x.slot.shape) (stored_of L b t p))
+
+-- A vtable that has slots ends with one that isn't 0.
+abbrev pub EndsWithAField : Bytes → ℕ → Type 0
+EndsWithAField b p = let q = vtable b p in let z = num b q 2 in (z ≡ 4) ⊎ (0 < num b (q + (z - 2)) 2)
+
+-- whether a table's byte i is one of a stored field
+abbrev pub is_in_field : LaidSchema → List StoredSlot → ℕ → Bool
+is_in_field L [] i = false
+is_in_field L (x ∷ xs) i = is_within x.at (inline_size L x.slot.shape) i || is_in_field L xs i
+
+-- The bytes of a table that neither its first number nor a stored field takes are 0.
+abbrev pub PadsTableWithZeros : LaidSchema → Bytes → ℕ → ℕ → Type 0
+PadsTableWithZeros L b t p = ZeroUnless (λ i. nat_lt i 4 || is_in_field L (stored_of L b t p) i) b p (num b (vtable b p + 2) 2)
+
+-- the number that an absent slot stands for, if it stands for one: without its code a union has none of its members
+abbrev pub absent_number : Slot → StoredShape → Option ℤ
+absent_number f (one_of (code_kind u)) = if f.deprecated then None else Some (pos 0)
+absent_number f _ = f.if_absent
+
+-- the number that a field of a shape holds; 0 of one that holds none
+abbrev pub stored_number : Bytes → ℕ → StoredShape → ℤ
+stored_number b q (one_of (scalar_kind base)) = scalar_of base (num b q (base_size base))
+stored_number b q (one_of (code_kind u)) = pos (num b q 1)
+stored_number b q _ = pos 0
+
+abbrev pub NoneIsDefault : Bytes → ℕ → List StoredSlot → Type 0
+NoneIsDefault b p [] = Unit {0}
+NoneIsDefault b p (x ∷ xs) = ((n : ℤ) → absent_number x.slot x.slot.shape ≡ Some n → stored_number b (p + x.at) x.slot.shape ≢ n) × NoneIsDefault b p xs
+
+-- No stored field holds the number that an absent one would have.
+abbrev pub StoresNoDefault : LaidSchema → Bytes → ℕ → ℕ → Type 0
+StoresNoDefault L b t p = NoneIsDefault b p (stored_of L b t p)
+
+-- A table and its vtable have nothing to spare.
+pub record IsTightTable (L : LaidSchema) (b : Bytes) (t p : ℕ) : Type 0 where
+  pub size : TellsItsSize L b t p
+  pub trimmed : EndsWithAField b p
+  pub padded : PadsTableWithZeros L b t p
+  pub defaults : StoresNoDefault L b t p

@@ -1,0 +1,76 @@
+//! Laws of buffers that are covered.
+ghost use Rattle.fb_build.specs.CoveredLaws.{CoveredByItsValue, ZeroOutside, FewOutside, ReachedIsListed};
+ghost use Rattle.fb_build.specs.CoveredTails.{TightKeptInFront, ReachedKeptInFront, PaddedKeptInFront};
+ghost use Rattle.fb_build.specs.CoveredSteps.{RunsKeptByMore, ChunksJoin, MadeInFront, OnceWhereDistinct};
+ghost use Rattle.fb_build.specs.CoveredSteps.{MadeWhole, CoveredWhole};
+ghost use Rattle.fb_build.specs.Taken.{ZeroIsComputed};
+
+/// A buffer is covered by the value that lies in it.
+pub fn covered_by_its_value()
+    ensures { CoveredByItsValue }
+{}
+
+/// A byte in no piece of a covered buffer is 0.
+pub fn zero_outside()
+    ensures { ZeroOutside }
+{}
+
+/// Bytes in no piece are fewer, one behind the other, than the greatest alignment.
+pub fn few_outside()
+    ensures { FewOutside }
+{}
+
+/// Whether bytes that nothing takes are 0 can be computed.
+pub fn zero_is_computed()
+    ensures { ZeroIsComputed }
+{}
+
+/// Bytes laid in front keep that tables have nothing to spare.
+pub fn tight_kept_in_front()
+    ensures { TightKeptInFront }
+{}
+
+/// What is reached in a tail is reached in the same places once bytes are laid in front.
+pub fn reached_kept_in_front()
+    ensures { ReachedKeptInFront }
+{}
+
+/// Bytes laid in front keep that structs have nothing to spare.
+pub fn padded_kept_in_front()
+    ensures { PaddedKeptInFront }
+{}
+
+/// A greater number bounds runs of zeros too.
+pub fn runs_kept_by_more()
+    ensures { RunsKeptByMore }
+{}
+
+/// Chunks in front of chunks are chunks.
+pub fn chunks_join()
+    ensures { ChunksJoin }
+{}
+
+/// A tail that is made of parts and vtables is so once others are laid in front.
+pub fn made_in_front()
+    ensures { MadeInFront }
+{}
+
+/// Numbers that stand once each are a list's numbers, each once.
+pub fn once_where_distinct()
+    ensures { OnceWhereDistinct }
+{}
+
+/// A buffer is made of a value's pieces once its header is laid.
+pub fn made_whole()
+    ensures { MadeWhole }
+{}
+
+/// What a path leads to is among a value's parts.
+pub fn reached_is_listed()
+    ensures { ReachedIsListed }
+{}
+
+/// A buffer is covered once its header is laid in front of a tail that has nothing to spare.
+pub fn covered_whole()
+    ensures { CoveredWhole }
+{}
