@@ -24,7 +24,7 @@ same_vtable front s q =
     ap (λ n. take n (drop (length front + q) (front ++ s))) (number_moved s (front ++ s) (length front) (λ i. get_or-append-add front s i 0) q 2)
     ∙ ap (λ (xs : Bytes). take (num s q 2) xs) (drop-append-add front s q)
 
-before_moved : (k n : ℕ) (ms : List ℕ) → is_among n (map (λ q. k + q) ms) ≡ true → (m : ℕ) × (n ≡ k + m) × (is_among m ms ≡ true)
+pub before_moved : (k n : ℕ) (ms : List ℕ) → is_among n (map (λ q. k + q) ms) ≡ true → (m : ℕ) × (n ≡ k + m) × (is_among m ms ≡ true)
 before_moved k n [] h = absurd (false≢true h)
 before_moved k n (m ∷ ms) h =
     elim (or_cases (n == (k + m)) (is_among n (map (λ q. k + q) ms)) h) [

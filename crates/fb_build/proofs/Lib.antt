@@ -37,3 +37,6 @@ pub mod Once
 pub mod MadeWhole
 pub mod PartsListed
 pub mod CoveredWhole
+pub mod MadeSteps
+pub mod PartsStay
+pub mod PartsLaid

@@ -6,7 +6,7 @@ use Rattle.std.proofs.lemmas.List.Sorted.{IsPermutation-refl, IsPermutation-tran
 use Rattle.fb_build.specs.Pieces.{is_among, each_once}
 use Rattle.fb_build.specs.CoveredSteps.{AreDistinct, OnceWhereDistinct}
 
-same_bool : (x y : Bool) → (x ≡ true → y ≡ true) → (y ≡ true → x ≡ true) → x ≡ y
+pub same_bool : (x y : Bool) → (x ≡ true → y ≡ true) → (y ≡ true → x ≡ true) → x ≡ y
 same_bool true y h g = sym (h refl)
 same_bool false true h g = g refl
 same_bool false false h g = refl
@@ -124,7 +124,7 @@ same_test k n m =
     same_bool _ _ (λ is. eq-eqb n m (let e : k + n ≡ k + m = eqb-true (k + n) (k + m) is in omega (arith, e)))
     (λ is. eq-eqb (k + n) (k + m) (let e : n ≡ m = eqb-true n m is in omega (arith, e)))
 
-among_further : (k n : ℕ) (ms : List ℕ) → is_among (k + n) (map (λ q. k + q) ms) ≡ is_among n ms
+pub among_further : (k n : ℕ) (ms : List ℕ) → is_among (k + n) (map (λ q. k + q) ms) ≡ is_among n ms
 among_further k n [] = refl
 among_further k n (m ∷ ms) = rw (same_test k n m, among_further k n ms) refl
 

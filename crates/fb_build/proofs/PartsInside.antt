@@ -79,7 +79,7 @@ module _ (L : LaidSchema) (al : Aligned) (b : Bytes) where
     entries_inside _ _ _ lies = absurd lies
 
 module _ (L : LaidSchema) (b c : Bytes) (k : ℕ) (bytes : (i : ℕ) → slice_index c (k + i) ≡ slice_index b i) where
-  table_size : (p : ℕ) → (nat_lt (num b p 4) (2 ^ 31) && nat_lt p (num b p 4)) ≡ false → num c (vtable c (k + p) + 2) 2 ≡ num b (vtable b p + 2) 2
+  pub table_size : (p : ℕ) → (nat_lt (num b p 4) (2 ^ 31) && nat_lt p (num b p 4)) ≡ false → num c (vtable c (k + p) + 2) 2 ≡ num b (vtable b p + 2) 2
   table_size p inside = number_from b c k bytes (vtable c (k + p) + 2) (vtable b p + 2) 2 (omega (arith, vtable_moved b c k bytes p inside))
 
   size_further : (X : Target) (p : ℕ) → IsInside b X p → part_size L c X (k + p) ≡ part_size L b X p

@@ -22,7 +22,7 @@ table_inside al L b t p h =
     not-true _ (and_parts _ _ (and_parts _ _ (and_parts _ _ (and_parts _ _ (and_parts _ _ v).0).0).0).0).0
 
 module _ (L : LaidSchema) (al : Aligned) (b c : Bytes) (k : ℕ) (bytes : (i : ℕ) → slice_index c (k + i) ≡ slice_index b i) where
-  table_slots : (t p : ℕ) → KeepsBy al L b (part_place (table_part t)) p → (j : ℕ) → slot_number c (k + p) j ≡ slot_number b p j
+  pub table_slots : (t p : ℕ) → KeepsBy al L b (part_place (table_part t)) p → (j : ℕ) → slot_number c (k + p) j ≡ slot_number b p j
   table_slots t p h j = slot_moved b c k bytes p j (vtable_moved b c k bytes p (table_inside al L b t p h))
 
   Known : Datum → Type 0

@@ -15,7 +15,7 @@ use Rattle.fb_build.specs.CoveredTails.{IsTightInTail, TightKeptInFront}
 
 module _ (L : LaidSchema) (b c : Bytes) (k : ℕ) (bytes : (i : ℕ) → slice_index c (k + i) ≡ slice_index b i) where
   module _ (p : ℕ) (slots : (j : ℕ) → slot_number c (k + p) j ≡ slot_number b p j) where
-    stored_moved : (j : ℕ) (fs : List Slot) → stored_from c (k + p) j fs ≡ stored_from b p j fs
+    pub stored_moved : (j : ℕ) (fs : List Slot) → stored_from c (k + p) j fs ≡ stored_from b p j fs
     unfolding stored_from
     stored_moved j [] = refl
     stored_moved j (f ∷ fs) = rw (slots j, stored_moved (suc j) fs) refl

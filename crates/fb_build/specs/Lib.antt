@@ -18,3 +18,4 @@ pub mod CoveredLaws
 pub mod CoveredTails
 pub mod CoveredSteps
 pub mod FaultNumbers
+pub mod Made

@@ -1,0 +1,60 @@
+-- A part that is laid in front of what is made.
+use Rattle.std.proofs.Common.{◌≡◌, ℕ, zero, suc, ◌+◌, ◌-◌, ◌<◌, ◌≤◌, ◌++◌, true, max, List, [], ◌∷◌, length, replicate, map, slice_index, None, refl, ap, sym, ◌∙◌, subst, arith, append_assoc, length-append}
+use Rattle.std.specs.Prelude.{IsPermutation, flat_map}
+use Rattle.std.proofs.lemmas.List.Elements.{All-nil, All-cons}
+use Rattle.std.proofs.lemmas.List.Sorted.{IsPermutation-refl}
+use Rattle.fb_layout.specs.Laid.{LaidSchema}
+use Rattle.fb_value.specs.Num.{Bytes}
+use Rattle.fb_value.specs.Places.{Target}
+use Rattle.fb_build.specs.Pieces.{PartAt, part_size, part_align, vtable_of, is_among, tables_vtables, whole_part, Piece}
+use Rattle.fb_build.specs.Covered.{Chunk, piece_chunk, zeros_chunk, chunk_bytes}
+use Rattle.fb_build.specs.Tails.{TailSeen}
+use Rattle.fb_build.specs.Made.{StaysInFront, laid_at, IsMade, Adds}
+use Rattle.fb_build.proofs.Once.{same_bool, among_further}
+use Rattle.fb_build.proofs.CoveredWhole.{before_moved}
+use Rattle.fb_build.proofs.MadeSteps.{LaysInFront, made_laid}
+
+pub laid_further : (front s : Bytes) (places : List ℕ) → ((i : ℕ) → slice_index places i ≤ length s) → laid_at (front ++ s) places ≡ map (λ q. length front + q) (laid_at s places)
+laid_further front s [] within = refl
+laid_further front s (zero ∷ places) within = laid_further front s places (λ i. within (suc i))
+laid_further front s (suc e ∷ places) within =
+    let whole = length-append front s in
+    let first = within 0 in
+    let at : length (front ++ s) - suc e ≡ length front + (length s - suc e) = omega (arith, whole, first) in
+    rw (at, laid_further front s places (λ i. within (suc i))) refl
+
+one_further : (k q : ℕ) (ms ns : List ℕ) → ((n : ℕ) → is_among n ms ≡ is_among n ns) → is_among q (map (λ n. k + n) ms) ≡ true → is_among q (map (λ n. k + n) ns) ≡ true
+one_further k q ms ns same h =
+    let there = before_moved k q ms h in
+    ap (λ n. is_among n (map (λ m. k + m) ns)) there.1 ∙ among_further k there.0 ns ∙ sym (same there.0) ∙ there.2
+
+pub same_further : (k q : ℕ) (ms ns : List ℕ) → ((n : ℕ) → is_among n ms ≡ is_among n ns) → is_among q (map (λ n. k + n) ms) ≡ is_among q (map (λ n. k + n) ns)
+same_further k q ms ns same = same_bool _ _ (one_further k q ms ns same) (one_further k q ns ms (λ n. sym (same n)))
+
+pub front_joined : (bytes s : Bytes) (zeros : ℕ) → bytes ++ (replicate zeros 0 ++ s) ≡ (bytes ++ (replicate zeros 0 ++ [])) ++ s
+front_joined bytes s zeros = ap (λ z. bytes ++ z) (sym (append_assoc (replicate zeros 0) [] s)) ∙ sym (append_assoc bytes (replicate zeros 0 ++ []) s)
+
+-- a text or a vector, with zeros behind it
+pub part_laid : (L : LaidSchema) (a b : TailSeen) (X : Target) (bytes : Bytes) (zeros : ℕ) → b.bytes ≡ bytes ++ (replicate zeros 0 ++ a.bytes) → zeros < b.most → part_size L b.bytes X 0 ≡ length bytes
+    → vtable_of b.bytes X 0 ≡ None → StaysInFront L b.bytes (record { target = X; at = 0 }) → b.most ≡ max a.most (max 4 (part_align L b.bytes X 0)) → (places : List ℕ) → Adds L a places b places (record { target = X; at = 0 } ∷ [])
+part_laid L a b X bytes zeros is low size none stay most places xs made =
+    let front = bytes ++ (replicate zeros 0 ++ []) in
+    let grown : b.bytes ≡ front ++ a.bytes = is ∙ front_joined bytes a.bytes zeros in
+    let x : PartAt = record { target = X; at = 0 } in
+    let moved : laid_at b.bytes places ≡ map (λ q. length front + q) (laid_at a.bytes places) = ap (λ s. laid_at s places) grown ∙ laid_further front a.bytes places made.within in
+    let wide = made.widest in
+    let long = ap length grown in
+    let parts = length-append front a.bytes in
+    let own : Piece = record { kind = whole_part; at = 0; size = length bytes } in
+    let lays : LaysInFront L a b places places (x ∷ []) [] = record {
+      front = front;
+      grown = grown;
+      chunks = piece_chunk whole_part bytes ∷ zeros_chunk zeros ∷ [];
+      are = record { joined = refl; runs = (low, refl, tt); first = refl };
+      pieces = rw size (IsPermutation-refl (own ∷ []));
+      stay = All-cons (StaysInFront L b.bytes) x [] stay (All-nil (StaysInFront L b.bytes));
+      within = λ i. let under = made.within i in omega (arith, under, long, parts);
+      laid = rw moved (IsPermutation-refl _);
+      most = omega (arith, most, wide);
+    } in
+    made_laid L a b places places (x ∷ []) [] lays xs made (λ q. ap (is_among q) moved ∙ same_further (length front) q (laid_at a.bytes places) (tables_vtables a.bytes xs) made.served ∙ rw none refl)

@@ -1,0 +1,33 @@
+-- What is made so far while a buffer is laid from its end: parts and vtables, each once, and few zeros between them.
+use Rattle.std.specs.Prelude.{ℕ, zero, suc, ◌+◌, ◌-◌, ◌≡◌, ◌≤◌, ◌++◌, List, [], ◌∷◌, length, map, slice_index, option_map}
+use Rattle.std.specs.List.{All}
+use Rattle.fb_layout.specs.Laid.{LaidSchema}
+use Rattle.fb_value.specs.Num.{Bytes}
+use Rattle.fb_build.specs.Pieces.{PartAt, part_size, part_align, greatest_align, vtable_of, is_among, tables_vtables}
+use Rattle.fb_build.specs.CoveredTails.{part_further}
+use Rattle.fb_build.specs.CoveredSteps.{MadeInTail}
+use Rattle.fb_build.specs.Tails.{TailSeen}
+
+-- Whatever is laid in front of a tail, a part of it is as great, has its vtable and is aligned as before, further on.
+pub record StaysInFront (L : LaidSchema) (s : Bytes) (x : PartAt) : Type 0 where
+  pub size : (front : Bytes) → part_size L (front ++ s) x.target (length front + x.at) ≡ part_size L s x.target x.at
+  pub vtable : (front : Bytes) → vtable_of (front ++ s) x.target (length front + x.at) ≡ option_map (λ q. length front + q) (vtable_of s x.target x.at)
+  pub align : (front : Bytes) → part_align L (front ++ s) x.target (length front + x.at) ≡ part_align L s x.target x.at
+
+-- where vtables stand that were laid at these end-counts; 0 is for one that isn't laid
+abbrev pub laid_at : Bytes → List ℕ → List ℕ
+laid_at s [] = []
+laid_at s (zero ∷ ends) = laid_at s ends
+laid_at s (suc e ∷ ends) = (length s - suc e) ∷ laid_at s ends
+
+-- A tail is made of some parts and of the vtables that were laid at these end-counts: those of its tables and no others.
+pub record IsMade (L : LaidSchema) (o : TailSeen) (places : List ℕ) (xs : List PartAt) : Type 0 where
+  pub within : (i : ℕ) → slice_index places i ≤ length o.bytes
+  pub stay : All (StaysInFront L o.bytes) xs
+  pub made : MadeInTail L o.bytes o.most xs (laid_at o.bytes places)
+  pub served : (q : ℕ) → is_among q (laid_at o.bytes places) ≡ is_among q (tables_vtables o.bytes xs)
+  pub widest : o.most ≡ greatest_align L o.bytes xs
+
+-- From one tail to a later one these parts were laid in front, and the vtables that they are the first to have.
+abbrev pub Adds : LaidSchema → TailSeen → List ℕ → TailSeen → List ℕ → List PartAt → Type 0
+Adds L a before b after ys = (xs : List PartAt) → IsMade L a before xs → IsMade L b after (ys ++ map (part_further (length b.bytes - length a.bytes)) xs)
