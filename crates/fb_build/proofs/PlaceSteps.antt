@@ -1,10 +1,10 @@
 -- A struct that was laid in its place.
-use Rattle.std.proofs.Common.{◌≡◌, ℕ, ◌+◌, ◌-◌, ◌≤◌, true, Some, IsTrue, length, refl, arith}
+use Rattle.std.proofs.Common.{◌≡◌, ℕ, ◌+◌, ◌-◌, ◌≤◌, true, None, Some, IsTrue, length, refl, arith}
 use Rattle.std.proofs.lemmas.Bool.{le-leb, and_from}
 use Rattle.fb_schema.specs.Schema.{body_at, is_struct}
 use Rattle.fb_layout.specs.Laid.{LaidSchema, StoredShape, scalar_kind, struct_kind, table_kind, union_kind, code_kind, text_kind, one_of, vector_of, parts_of, struct_at}
 use Rattle.fb_layout.specs.Widths.{inline_size, inline_align}
-use Rattle.fb_value.specs.Datum.{a_struct, Parts}
+use Rattle.fb_value.specs.Datum.{Datum, a_struct, Parts}
 use Rattle.fb_value.specs.Fits.{PartsFit}
 use Rattle.fb_value.specs.Lies.{LiesParts}
 use Rattle.fb_value.specs.Num.{Bytes, divides}
@@ -14,7 +14,7 @@ use Rattle.fb_value.specs.Tails.{from_end}
 use Rattle.fb_value.specs.Wanted.{struct_wanted}
 use Rattle.fb_value.proofs.Moved.{hold, no_rules}
 use Rattle.fb_build.specs.Tails.{LaidInTail}
-use Rattle.fb_build.specs.Fields.{IsSimple, SlotFits, sort_for}
+use Rattle.fb_build.specs.Fields.{IsSimple, SlotFits, target_for, sort_for}
 
 -- what is known of a struct's slot
 pub record IsStructSlot (L : LaidSchema) (shape : StoredShape) (t : ℕ) (ds : Parts) : Type 0 where
@@ -49,3 +49,13 @@ struct_end L m s (one_of (union_kind u)) t ds e lies whole wide long = cc
 struct_end L m s (one_of (code_kind u)) t ds e lies whole wide long = cc
 struct_end L m s (one_of text_kind) t ds e lies whole wide long = cc
 struct_end L m s (vector_of kind) t ds e lies whole wide long = cc
+
+-- a struct has no reference
+pub struct_leads_nowhere : (shape : StoredShape) (t : ℕ) (d : Datum) → struct_wanted shape ≡ Some t → target_for shape d ≡ None
+struct_leads_nowhere (one_of (struct_kind u)) t d e = refl
+struct_leads_nowhere (one_of (scalar_kind u)) t d e = cc
+struct_leads_nowhere (one_of (table_kind u)) t d e = cc
+struct_leads_nowhere (one_of (union_kind u)) t d e = cc
+struct_leads_nowhere (one_of (code_kind u)) t d e = cc
+struct_leads_nowhere (one_of text_kind) t d e = cc
+struct_leads_nowhere (vector_of kind) t d e = cc

@@ -1,8 +1,9 @@
 -- What is made so far while a buffer is laid from its end: parts and vtables, each once, and few zeros between them.
-use Rattle.std.specs.Prelude.{ℕ, zero, suc, ◌+◌, ◌-◌, ◌≡◌, ◌≤◌, ◌++◌, List, [], ◌∷◌, length, map, slice_index, option_map}
+use Rattle.std.specs.Prelude.{ℕ, zero, suc, ◌+◌, ◌-◌, ◌≡◌, ◌≤◌, ◌++◌, List, [], ◌∷◌, length, map, slice_index, Option, None, Some, option_map}
 use Rattle.std.specs.List.{All}
 use Rattle.fb_layout.specs.Laid.{LaidSchema}
-use Rattle.fb_value.specs.Num.{Bytes}
+use Rattle.fb_value.specs.Num.{Bytes, num}
+use Rattle.fb_value.specs.Places.{Target}
 use Rattle.fb_build.specs.Pieces.{PartAt, part_size, part_align, greatest_align, vtable_of, is_among, tables_vtables}
 use Rattle.fb_build.specs.CoveredTails.{part_further}
 use Rattle.fb_build.specs.CoveredSteps.{MadeInTail}
@@ -31,3 +32,14 @@ pub record IsMade (L : LaidSchema) (o : TailSeen) (places : List ℕ) (xs : List
 -- From one tail to a later one these parts were laid in front, and the vtables that they are the first to have.
 abbrev pub Adds : LaidSchema → TailSeen → List ℕ → TailSeen → List ℕ → List PartAt → Type 0
 Adds L a before b after ys = (xs : List PartAt) → IsMade L a before xs → IsMade L b after (ys ++ map (part_further (length b.bytes - length a.bytes)) xs)
+
+-- The reference at an end-count leads to another.
+pub record LeadsEnd (s : Bytes) (e target : ℕ) : Type 0 where
+  pub from : e ≤ length s
+  pub to : target ≤ length s
+  pub way : (length s - e) + num s (length s - e) 4 ≡ length s - target
+
+-- where a reference stands
+abbrev pub LeadsTo : Bytes → Option Target → ℕ → ℕ → Type 0
+LeadsTo s None e target = Unit {0}
+LeadsTo s (Some X) e target = LeadsEnd s e target

@@ -6,6 +6,7 @@ ghost use Rattle.fb_value.specs.Datum.{Datum};
 ghost use Rattle.fb_value.specs.Num.{divides};
 ghost use Rattle.fb_value.specs.Places.{Target, part_place, ref_place};
 ghost use Rattle.fb_value.specs.View.{view};
+ghost use Rattle.fb_build.specs.Made.{LeadsEnd};
 ghost use Rattle.fb_build.specs.Tails.{Grows, LaidInTail};
 ghost use Rattle.fb_build.specs.Fields.{IsSimple, StoredFits, stored_seen, next_code, is_coded};
 ghost use Rattle.fb_build.specs.Fields.{scalar_in, number_in, number_of_datum, is_stored, above, from};
@@ -29,6 +30,7 @@ pub(crate) fn lay_reference(out: &mut Tail, target: u32)
     ensures lies { (L : LaidSchema) (X : Target) (d : Datum) → LaidInTail L out.old.most out.old.bytes
         (part_place X) target d
         → LaidInTail L out.new.most out.new.bytes (ref_place X) (length out.new.bytes) d }
+    ensures leads { LeadsEnd out.new.bytes (length out.new.bytes) target }
     ensures free { out.new.free + 4 ≡ out.old.free }
     ensures long { length out.new.bytes ≡ length out.old.bytes + 4 }
     ensures most { out.new.most ≡ out.old.most }

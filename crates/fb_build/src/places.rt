@@ -4,6 +4,7 @@ ghost use Rattle.fb_layout.specs.Widths.{inline_size, inline_align};
 ghost use Rattle.fb_value.specs.Num.{divides};
 ghost use Rattle.fb_value.specs.View.{view};
 ghost use Rattle.fb_value.specs.Wanted.{struct_wanted};
+ghost use Rattle.fb_build.specs.Made.{LeadsTo};
 ghost use Rattle.fb_build.specs.Tails.{Grows, LaidInTail};
 ghost use Rattle.fb_build.specs.Fields.{IsSimple, SlotFits, TargetEnd, target_for, sort_for, scalar_in};
 ghost use Rattle.fb_build.specs.Fields.{shape_seen};
@@ -47,6 +48,8 @@ pub(crate) fn lay_place(out: &mut Tail, layout: &Layout, shape: Shape, value: &V
     ensures lies { LaidInTail layout.now out.new.most out.new.bytes
         (sort_for (shape_seen layout.now shape) (view value.now)) (length out.new.bytes)
         (view value.now) }
+    ensures leads { LeadsTo out.new.bytes (target_for (shape_seen layout.now shape) (view value.now))
+        (length out.new.bytes) end }
     ensures free { out.new.free + inline_size layout.now (shape_seen layout.now shape) ≡ out.old.free }
     ensures long { length out.new.bytes ≡ length out.old.bytes
         + inline_size layout.now (shape_seen layout.now shape) }

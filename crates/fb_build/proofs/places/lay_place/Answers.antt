@@ -12,7 +12,7 @@ use Rattle.fb_build.proofs.FieldSteps.{reference_known}
 use Rattle.fb_build.proofs.Grown.{grown_long}
 use Rattle.fb_build.proofs.Multiples.{sum_divides}
 use Rattle.fb_build.proofs.Simple.{simple_multiple}
-use Rattle.fb_build.proofs.PlaceSteps.{struct_slot, struct_end}
+use Rattle.fb_build.proofs.PlaceSteps.{struct_slot, struct_end, struct_leads_nowhere}
 use Rattle.fb_build.proofs.places.lay_place.Goals as goal
 
 pub returns-in-Fixed-clause-lies : goal.returns-in-Fixed-clause-lies
@@ -35,3 +35,18 @@ returns-in-None-clause-lies c =
     let known = reference_known L shape (view c.args.value.now) wanted c.requires.other c.requires.fits in
     let target : LaidInTail L c.args.out.now.most c.args.out.now.bytes (part_place known.target) c.args.end (view c.args.value.now) = rw known.named at c.requires.target in
     rw known.sort (c.lay_reference.ensures.lies L known.target (view c.args.value.now) target)
+
+pub returns-in-Fixed-clause-leads : goal.returns-in-Fixed-clause-leads
+returns-in-Fixed-clause-leads c =
+    let L = c.args.layout.now in
+    let shape = stored_shape L.schema c.args.shape in
+    let wanted : struct_wanted shape ≡ Some c.in-Some.structure.0 = sym c.struct_in.ensures ∙ ap (option_map (λ (t : TypeId). t.0)) c.in-Some.is in
+    rw (struct_leads_nowhere shape c.in-Some.structure.0 (view c.args.value.now) wanted) tt
+
+pub returns-in-None-clause-leads : goal.returns-in-None-clause-leads
+returns-in-None-clause-leads c =
+    let L = c.args.layout.now in
+    let shape = stored_shape L.schema c.args.shape in
+    let wanted : struct_wanted shape ≡ None = sym c.struct_in.ensures ∙ ap (option_map (λ (t : TypeId). t.0)) c.in-None.is in
+    let known = reference_known L shape (view c.args.value.now) wanted c.requires.other c.requires.fits in
+    rw known.named c.lay_reference.ensures.leads
