@@ -40,3 +40,5 @@ pub mod CoveredWhole
 pub mod MadeSteps
 pub mod PartsStay
 pub mod PartsLaid
+pub mod Leads
+pub mod VectorLeads

@@ -1,12 +1,14 @@
 -- What is made so far while a buffer is laid from its end: parts and vtables, each once, and few zeros between them.
-use Rattle.std.specs.Prelude.{ℕ, zero, suc, ◌+◌, ◌-◌, ◌≡◌, ◌≤◌, ◌++◌, List, [], ◌∷◌, length, map, slice_index, Option, None, Some, option_map}
+use Rattle.std.specs.Prelude.{ℕ, zero, suc, ◌+◌, ◌-◌, ◌*◌, ◌≡◌, ◌≤◌, ◌++◌, List, [], ◌∷◌, length, map, slice_get, slice_index, Option, None, Some, option_map}
 use Rattle.std.specs.List.{All}
-use Rattle.fb_layout.specs.Laid.{LaidSchema}
+use Rattle.fb_layout.specs.Laid.{LaidSchema, StoredKind, one_of, size_of}
+use Rattle.fb_value.specs.Datum.{Datum}
 use Rattle.fb_value.specs.Num.{Bytes, num}
 use Rattle.fb_value.specs.Places.{Target}
 use Rattle.fb_build.specs.Pieces.{PartAt, part_size, part_align, greatest_align, vtable_of, is_among, tables_vtables}
 use Rattle.fb_build.specs.CoveredTails.{part_further}
 use Rattle.fb_build.specs.CoveredSteps.{MadeInTail}
+use Rattle.fb_build.specs.Fields.{target_for}
 use Rattle.fb_build.specs.Tails.{TailSeen}
 
 -- Whatever is laid in front of a tail, a part of it is as great, has its vtable and is aligned as before, further on.
@@ -43,3 +45,8 @@ pub record LeadsEnd (s : Bytes) (e target : ℕ) : Type 0 where
 abbrev pub LeadsTo : Bytes → Option Target → ℕ → ℕ → Type 0
 LeadsTo s None e target = Unit {0}
 LeadsTo s (Some X) e target = LeadsEnd s e target
+
+-- The references of a vector whose elements begin at an end-count lead where each element's part was laid.
+abbrev pub ItemsLead : LaidSchema → Bytes → ℕ → StoredKind → List Datum → List ℕ → Type 0
+ItemsLead L s behind kind ds targets =
+    (k : ℕ) (d : Datum) → slice_get ds k ≡ Some d → LeadsTo s (target_for (one_of kind) d) (behind + (length ds - k) * size_of L kind) (slice_index targets k)

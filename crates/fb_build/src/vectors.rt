@@ -8,6 +8,7 @@ ghost use Rattle.fb_value.specs.Num.{divides};
 ghost use Rattle.fb_value.specs.Places.{part_place, vector_part};
 ghost use Rattle.fb_value.specs.Room.{vector_room};
 ghost use Rattle.fb_value.specs.View.{view, parts_view};
+ghost use Rattle.fb_build.specs.Made.{LeadsTo, ItemsLead};
 ghost use Rattle.fb_build.specs.Tails.{Grows, LaidInTail};
 ghost use Rattle.fb_build.specs.Fields.{IsElement, SlotFits, TargetEnd, target_for, sort_for, scalar_in};
 ghost use Rattle.fb_build.specs.Fields.{kind_seen};
@@ -41,6 +42,8 @@ fn lay_element(
     ensures lies { LaidInTail layout.now out.new.most out.new.bytes
         (sort_for (one_of (kind_seen layout.now kind)) (view value.now)) (length out.new.bytes)
         (view value.now) }
+    ensures leads { LeadsTo out.new.bytes (target_for (one_of (kind_seen layout.now kind)) (view value.now))
+        (length out.new.bytes) end }
     ensures free { out.new.free + size_of layout.now (kind_seen layout.now kind) ≡ out.old.free }
     ensures long { length out.new.bytes ≡ length out.old.bytes
         + size_of layout.now (kind_seen layout.now kind) }
@@ -73,6 +76,8 @@ fn lay_elements(out: &mut Tail, layout: &Layout, kind: Kind, items: &[Value], en
     requires wide { divides (align_of layout.now (kind_seen layout.now kind)) out.old.most ≡ true }
     ensures lies { ItemsEnd layout.now out.new.most out.new.bytes (kind_seen layout.now kind)
         (parts_view items.now) }
+    ensures leads { ItemsLead layout.now out.new.bytes (length out.old.bytes) (kind_seen layout.now kind)
+        (map view items.now) ends.now }
     ensures free { out.new.free + length items.now * size_of layout.now (kind_seen layout.now kind)
         ≡ out.old.free }
     ensures most { out.new.most ≡ out.old.most }
