@@ -42,3 +42,4 @@ pub mod PartsStay
 pub mod PartsLaid
 pub mod Leads
 pub mod VectorLeads
+pub mod EndsParts

@@ -28,3 +28,9 @@ lead_one L a b behind i kind ds targets d g is long now before k e low at = by_c
         let own : e ≡ d = same_some (slice_get ds i) e d (rw same at at) is in
         rw (same, own, ← long) now
     by_case (inr ne) = leads_grown a b (target_for (one_of kind) e) (behind + (length ds - k) * size_of L kind) (slice_index targets k) g (before k e (omega (arith, low, ne)) at)
+
+pub times_split : (k n z : ℕ) → k ≤ n → (n - k) * z + k * z ≡ n * z
+times_split k n z h =
+    let split : n ≡ (n - k) + k = omega (arith, h) in
+    let more : ((n - k) + k) * z ≡ (n - k) * z + k * z = omega arith in
+    sym more ∙ sym (ap (λ i. i * z) split)

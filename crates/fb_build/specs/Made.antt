@@ -1,12 +1,12 @@
 -- What is made so far while a buffer is laid from its end: parts and vtables, each once, and few zeros between them.
-use Rattle.std.specs.Prelude.{ℕ, zero, suc, ◌+◌, ◌-◌, ◌*◌, ◌≡◌, ◌≤◌, ◌++◌, List, [], ◌∷◌, length, map, slice_get, slice_index, Option, None, Some, option_map}
+use Rattle.std.specs.Prelude.{ℕ, zero, suc, ◌+◌, ◌-◌, ◌*◌, ◌≡◌, ◌≤◌, ◌++◌, List, [], ◌∷◌, length, map, drop, slice_get, slice_index, Option, None, Some, option_map}
 use Rattle.std.specs.List.{All}
-use Rattle.fb_layout.specs.Laid.{LaidSchema, StoredKind, one_of, size_of}
+use Rattle.fb_layout.specs.Laid.{LaidSchema, StoredKind, StoredShape, one_of, size_of}
 use Rattle.fb_value.specs.Datum.{Datum}
 use Rattle.fb_value.specs.Num.{Bytes, num}
 use Rattle.fb_value.specs.Places.{Target}
 use Rattle.fb_build.specs.Pieces.{PartAt, part_size, part_align, greatest_align, vtable_of, is_among, tables_vtables}
-use Rattle.fb_build.specs.CoveredTails.{part_further}
+use Rattle.fb_build.specs.CoveredTails.{part_further, parts_in_tail}
 use Rattle.fb_build.specs.CoveredSteps.{MadeInTail}
 use Rattle.fb_build.specs.Fields.{target_for}
 use Rattle.fb_build.specs.Tails.{TailSeen}
@@ -50,3 +50,23 @@ LeadsTo s (Some X) e target = LeadsEnd s e target
 abbrev pub ItemsLead : LaidSchema → Bytes → ℕ → StoredKind → List Datum → List ℕ → Type 0
 ItemsLead L s behind kind ds targets =
     (k : ℕ) (d : Datum) → slice_get ds k ≡ Some d → LeadsTo s (target_for (one_of kind) d) (behind + (length ds - k) * size_of L kind) (slice_index targets k)
+
+-- what is laid outside of a table for a slot, or of a vector for an element: a value, and what it is
+pub record NamedPart : Type 0 where
+  pub target : Target
+  pub value : Datum
+
+abbrev pub named_of : StoredShape → Datum → Option NamedPart
+named_of shape d = option_map (λ X. record { target = X; value = d }) (target_for shape d)
+
+abbrev pub named_items : StoredKind → List Datum → List (Option NamedPart)
+named_items kind ds = map (named_of (one_of kind)) ds
+
+abbrev pub parts_at : LaidSchema → Bytes → Option NamedPart → ℕ → List PartAt
+parts_at L s None e = []
+parts_at L s (Some x) e = parts_in_tail L s x.target e x.value
+
+-- the parts of all that lie at some end-counts
+abbrev pub ends_parts : LaidSchema → Bytes → List (Option NamedPart) → List ℕ → List PartAt
+ends_parts L s [] ends = []
+ends_parts L s (x ∷ xs) ends = parts_at L s x (slice_index ends 0) ++ ends_parts L s xs (drop 1 ends)

@@ -1,5 +1,5 @@
 //! Lays the elements of vectors.
-ghost use Rattle.std.specs.Prelude.{◌≡◌, ◌≤◌, ◌<◌, ◌+◌, ◌*◌};
+ghost use Rattle.std.specs.Prelude.{ℕ, List, [], ◌∷◌, ◌≡◌, ◌≤◌, ◌<◌, ◌+◌, ◌-◌, ◌*◌};
 ghost use Rattle.std.specs.Prelude.{length, true, map, max, slice_index};
 ghost use Rattle.fb_layout.specs.Laid.{one_of, size_of, align_of};
 ghost use Rattle.fb_layout.specs.Widths.{greatest};
@@ -8,7 +8,8 @@ ghost use Rattle.fb_value.specs.Num.{divides};
 ghost use Rattle.fb_value.specs.Places.{part_place, vector_part};
 ghost use Rattle.fb_value.specs.Room.{vector_room};
 ghost use Rattle.fb_value.specs.View.{view, parts_view};
-ghost use Rattle.fb_build.specs.Made.{LeadsTo, ItemsLead};
+ghost use Rattle.fb_build.specs.Made.{Adds, LeadsTo, ItemsLead, named_items, ends_parts};
+ghost use Rattle.fb_build.specs.CoveredTails.{parts_in_tail};
 ghost use Rattle.fb_build.specs.Tails.{Grows, LaidInTail};
 ghost use Rattle.fb_build.specs.Fields.{IsElement, SlotFits, TargetEnd, target_for, sort_for, scalar_in};
 ghost use Rattle.fb_build.specs.Fields.{kind_seen};
@@ -112,6 +113,13 @@ pub(crate) fn close_vector(
     requires room { vector_room layout.now (kind_seen layout.now kind) (length items.now) ≤ out.old.free }
     ensures lies { LaidInTail layout.now out.new.most out.new.bytes
         (part_place (vector_part (kind_seen layout.now kind))) result (a_vector (parts_view items.now)) }
+    ensures adds { (places : List ℕ) → Adds layout.now out.old places out.new places
+        (record { target = vector_part (kind_seen layout.now kind); at = length out.new.bytes - result } ∷ []) }
+    ensures leads { parts_in_tail layout.now out.new.bytes (vector_part (kind_seen layout.now kind)) result
+        (a_vector (parts_view items.now))
+        ≡ record { target = vector_part (kind_seen layout.now kind); at = length out.new.bytes - result }
+        ∷ ends_parts layout.now out.new.bytes
+        (named_items (kind_seen layout.now kind) (map view items.now)) ends.now }
     ensures bound { out.new.most ≤ max out.old.most (greatest layout.now) }
     ensures grows { Grows out.old out.new }
     ensures spent { out.old.free ≤ out.new.free + vector_room layout.now (kind_seen layout.now kind)
