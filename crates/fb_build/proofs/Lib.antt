@@ -20,6 +20,7 @@ pub mod NeedsRoom
 pub mod Placed
 pub mod Reserved
 pub mod StructSteps
+pub mod StructPads
 pub mod Multiples
 pub mod Simple
 pub mod PlaceSteps

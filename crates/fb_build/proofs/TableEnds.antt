@@ -110,4 +110,4 @@ module _ (L : LaidSchema) (low c size u : ℕ) (o n : TailSeen) (ends : List ℕ
       let good = vtable_good (from_end s n.most) s (length s - c) (length s - v.at) u low_place low_vtable v.way size_reads even room in
       let inside : (length s - c) + 4 ≤ length s = omega (arith, within, behind, eqb-true _ _ four) in
       let old : IsOldTable L s t (length s - c) = λ k out. slots_read k ∙ ap (offset_from c) (unused_end L low o.most o.bytes (slots_of L t) (stored_in (slots_of L t) xs) ends known each state k out) in
-      record { lies = record { within = within; lies = table_lies L (from_end s n.most) s t (length s - c) (entries_in xs) aligned inside good entries.kept entries.lie }; old = (old, entries.old) }
+      record { lies = record { within = within; lies = table_lies L (from_end s n.most) s t (length s - c) (entries_in xs) aligned inside good entries.kept entries.lie }; old = (old, entries.old); padded = entries.padded }
