@@ -28,6 +28,10 @@ use Rattle.fb_build.specs.Fields.{SlotFits, StoredFits, member_target, scalar_in
 use Rattle.fb_value.proofs.Moved.{hold, no_rules}
 use Rattle.fb_build.proofs.Standing.{num_first}
 use Rattle.fb_value.proofs.TailsKept.{front_shown, old_shown}
+use Rattle.fb_build.specs.CoveredTails.{IsTightInTail, TightInTail, PaddedInTail}
+use Rattle.fb_build.specs.StructBytes.{PadsStructWithZeros, EachStruct, EachStructAt}
+use Rattle.fb_build.proofs.StructsMoved.{padded_front_shown}
+use Rattle.fb_build.proofs.TightMoved.{tight_front_shown}
 use Rattle.fb_build.proofs.Grown.{laid_grown}
 
 -- a number that was laid last
@@ -41,7 +45,7 @@ scalar_end L m base n s rest long is whole most =
     let aligned : from_end s m size 0 ≡ true = and_from _ _ (rw all whole) most in
     let inside : 0 + size ≤ length s = omega (arith, long) in
     let keeps : KeepsBy (from_end s m) L s (inline_place (scalar_kind base)) 0 = hold _ _ _ aligned (hold _ _ _ (le-leb _ _ inside) no_rules) in
-    record { lies = record { within = omega arith; lies = rw first (keeps, is) }; old = tt }
+    record { lies = record { within = omega arith; lies = rw first (keeps, is) }; old = tt; tight = tt; padded = tt }
 
 -- a reference that was laid last
 pub reference_end : (L : LaidSchema) (m : ℕ) (X : Target) (e : ℕ) (d : Datum) (s rest : Bytes) → s ≡ little_bytes 4 ((length rest + 4) - e) ++ rest → length s ≡ 4 + length rest → length rest + 4 < 256 ^ 4
@@ -58,10 +62,14 @@ reference_end L m X e d s rest is long short whole most h =
     let keeps : KeepsBy (from_end s m) L s (ref_place X) 0 = hold _ _ _ aligned (hold _ _ _ (le-leb _ _ inside) (hold _ _ _ (lt-ltb _ _ some) no_rules)) in
     let now : LiesInTail L m s (part_place X) e d = rw is (front_shown L m (little_bytes 4 x) rest (part_place X) e d h.lies) in
     let old = subst (λ (b : Bytes). OldInTail L b (part_place X) e d) (sym is) (old_shown L m (little_bytes 4 x) rest (part_place X) e d h.lies h.old) in
+    let tight = subst (λ (b : Bytes). TightInTail L b (part_place X) e d) (sym is) (tight_front_shown L m (little_bytes 4 x) rest (part_place X) e d h.lies h.tight) in
+    let padded = subst (λ (b : Bytes). PaddedInTail L b (part_place X) e d) (sym is) (padded_front_shown L m (little_bytes 4 x) rest (part_place X) e d h.lies h.padded) in
     let place : length s - e ≡ 0 + num s 0 4 = omega (arith, number, long, h.lies.within) in
     record {
       lies = record { within = omega arith; lies = rw first (keeps, subst (λ (q : ℕ). LiesBy (from_end s m) L s (part_place X) q d) place now.lies) };
       old = subst (λ (q : ℕ). EachTableAt L s (λ t p. IsOldTable L s t p) (ref_place X) q d) (sym first) (subst (λ (q : ℕ). EachTable L s (λ t p. IsOldTable L s t p) (part_place X) q d) place old);
+      tight = subst (λ (q : ℕ). EachTableAt L s (λ t p. IsTightInTail L s t p) (ref_place X) q d) (sym first) (subst (λ (q : ℕ). EachTable L s (λ t p. IsTightInTail L s t p) (part_place X) q d) place tight);
+      padded = subst (λ (q : ℕ). EachStructAt L s (PadsStructWithZeros L s) (ref_place X) q d) (sym first) (subst (λ (q : ℕ). EachStruct L s (PadsStructWithZeros L s) X q d) place padded);
     }
 
 -- what isn't stored is a default
@@ -120,7 +128,7 @@ number_fits L (one_of (scalar_kind b)) base (an_unknown c) e h = absurd h
 number_fits L (one_of (struct_kind s)) base d e h = cc
 number_fits L (one_of (table_kind t)) base d e h = cc
 number_fits L (one_of (union_kind u)) base d e h = cc
-number_fits L (one_of (code_kind u)) base (a_number n) e h = let same : the_base.U8 ≡ base = cc in record { sort = ap (λ x. inline_place (scalar_kind x)) same; align = ap base_size same; is = refl; range = rw (← same) h }
+number_fits L (one_of (code_kind u)) base (a_number n) e h = let same : the_base.U8 ≡ base = cc in record { sort = ap (λ x. inline_place (scalar_kind x)) same; align = ap base_size same; is = refl; range = rw (← same) h.0 }
 number_fits L (one_of (code_kind u)) base (a_text bytes) e h = absurd h
 number_fits L (one_of (code_kind u)) base (a_vector ds) e h = absurd h
 number_fits L (one_of (code_kind u)) base (a_struct ds) e h = absurd h

@@ -6,7 +6,10 @@ pub mod TextLies
 pub mod VtableSteps
 pub mod FieldSteps
 pub mod TableLies
+pub mod StoredRead
 pub mod PassSteps
+pub mod FilledSteps
+pub mod TableTight
 pub mod TableEnds
 pub mod Found
 pub mod VtableEnds
@@ -15,11 +18,13 @@ pub mod TableRoom
 pub mod CycleSteps
 pub mod WholeBuffers
 pub mod Pairs
+pub mod Defaults
 pub mod VectorEnds
 pub mod NeedsRoom
 pub mod Placed
 pub mod Reserved
 pub mod StructSteps
+pub mod StructPads
 pub mod Multiples
 pub mod Simple
 pub mod PlaceSteps

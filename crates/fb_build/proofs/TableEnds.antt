@@ -6,17 +6,21 @@ use Rattle.fb_layout.specs.Laid.{LaidSchema, Slot, slots_of}
 use Rattle.fb_value.specs.Datum.{Datum, a_table}
 use Rattle.fb_value.specs.View.{entries_in}
 use Rattle.fb_value.specs.Num.{Bytes, num, divides}
-use Rattle.fb_value.specs.Places.{part_place, table_part, slot_number}
+use Rattle.fb_value.specs.Places.{part_place, table_part, vtable, slot_number}
 use Rattle.fb_value.specs.EachTable.{IsOldTable}
 use Rattle.fb_value.specs.Tails.{from_end}
 use Rattle.fb_build.specs.Tails.{TailSeen, Grows, LaidInTail}
-use Rattle.fb_build.specs.Fields.{EntriesEnd, AreKnown, stored_in}
+use Rattle.fb_layout.specs.Sizes.{ceil4}
+use Rattle.fb_build.specs.Fields.{EntriesEnd, AreKnown, stored_in, fields_size}
+use Rattle.fb_build.specs.Filled.{AreFilled}
 use Rattle.fb_build.specs.TableBytes.{offset_from, offset_bytes, vtable_bytes, VtableEnd}
 use Rattle.fb_build.proofs.Standing.{num_behind, num_first, num_standing}
-use Rattle.fb_build.proofs.VtableSteps.{vtable_good, slot_there, slot_past, table_lies}
+use Rattle.fb_build.proofs.VtableSteps.{vtable_is, vtable_good, slot_there, slot_past, table_lies}
 use Rattle.fb_build.proofs.FieldSteps.{entries_grown, entry_under}
 use Rattle.fb_build.proofs.TableLies.{SlotKnown, all_lie, p}
-use Rattle.fb_build.proofs.TableSpent.{unused_end}
+use Rattle.fb_build.proofs.TableSpent.{ends_under, unused_end}
+use Rattle.fb_build.proofs.PiecesMoved.{table_inside}
+use Rattle.fb_build.proofs.TableTight.{TableRead, table_tight}
 use Rattle.fb_value.specs.Entries.{EntryFits}
 use Rattle.fb_build.specs.Paired.{ArePaired}
 
@@ -73,6 +77,17 @@ module _ (L : LaidSchema) (low c size u : ℕ) (o n : TailSeen) (ends : List ℕ
       let read = num_standing s v.at (vtable_bytes c size u ends) v.stands 0 2 in
       rw at at (read ∙ num_first 2 (4 + 2 * u) _ (omega (arith, few)))
 
+  second_reads : size < 256 ^ 2 → num s ((length s - v.at) + 2) 2 ≡ size
+  unfolding s
+  second_reads low_size =
+      num_standing s v.at (vtable_bytes c size u ends) v.stands 2 2
+      ∙ num_behind (little_bytes 2 (4 + 2 * u)) (little_bytes 2 size ++ (offset_bytes c u ends ++ v.stands.behind)) 0 2
+      ∙ num_first 2 size (offset_bytes c u ends ++ v.stands.behind) low_size
+
+  vtable_at : vtable s (length s - c) ≡ length s - v.at
+  unfolding s
+  vtable_at = vtable_is (from_end s n.most) s (length s - c) (length s - v.at) u low_place low_vtable v.way size_reads
+
   offset_reads : (k : ℕ) → k < u → num s ((length s - v.at) + (4 + 2 * k)) 2 ≡ offset_from c (slice_index ends k)
   unfolding s
   offset_reads k under =
@@ -89,9 +104,12 @@ module _ (L : LaidSchema) (low c size u : ℕ) (o n : TailSeen) (ends : List ℕ
       by_case (inr past) = slot_past (from_end s n.most) s (length s - c) (length s - v.at) u low_place low_vtable v.way size_reads k past ∙ sym (ap (offset_from c) (rest k past))
 
   pub table_end : (t : ℕ) (xs : List (Option Datum)) → length ends ≡ length (slots_of L t) → length (slots_of L t) ≡ length xs → ArePaired (slots_of L t) → ((k : ℕ) (f : Slot) (x : Option Datum) → slice_get (slots_of L t) k ≡ Some f → slice_get xs k ≡ Some x → EntryFits L f x)
-      → AreKnown L (slots_of L t) (stored_in (slots_of L t) xs) → EntriesEnd L low o.most o.bytes (λ k f. true) (slots_of L t) (stored_in (slots_of L t) xs) ends → LaidInTail L n.most n.bytes (part_place (table_part t)) c (a_table t (entries_in xs))
+      → AreKnown L (slots_of L t) (stored_in (slots_of L t) xs) → EntriesEnd L low o.most o.bytes (λ k f. true) (slots_of L t) (stored_in (slots_of L t) xs) ends
+      → size < 256 ^ 2 → ((k : ℕ) → k + 1 ≡ u → 0 < slice_index ends k) → size ≡ 4 + ceil4 (fields_size L (slots_of L t) (stored_in (slots_of L t) xs)) → size + low ≡ c
+      → AreFilled L low (length o.bytes) (λ k f. true) (slots_of L t) (stored_in (slots_of L t) xs) ends → ((e : ℕ) → length o.bytes < e → e + 4 ≤ c → slice_index n.bytes (length n.bytes - e) ≡ 0)
+      → LaidInTail L n.most n.bytes (part_place (table_part t)) c (a_table t (entries_in xs))
   unfolding s p
-  table_end t xs each long paired fit known state =
+  table_end t xs each long paired fit known state low_size last sized whole filled zeros =
       let now = entries_grown L low o n (λ k f. true) (slots_of L t) (stored_in (slots_of L t) xs) ends g state in
       let slot : (k : ℕ) (f : Slot) (x : Option Datum) → slice_get (slots_of L t) k ≡ Some f → slice_get (stored_in (slots_of L t) xs) k ≡ Some x → SlotKnown L low n.most s c within k f x (slice_index ends k) =
       λ k f x fk xk. record {
@@ -110,4 +128,14 @@ module _ (L : LaidSchema) (low c size u : ℕ) (o n : TailSeen) (ends : List ℕ
       let good = vtable_good (from_end s n.most) s (length s - c) (length s - v.at) u low_place low_vtable v.way size_reads even room in
       let inside : (length s - c) + 4 ≤ length s = omega (arith, within, behind, eqb-true _ _ four) in
       let old : IsOldTable L s t (length s - c) = λ k out. slots_read k ∙ ap (offset_from c) (unused_end L low o.most o.bytes (slots_of L t) (stored_in (slots_of L t) xs) ends known each state k out) in
-      record { lies = record { within = within; lies = table_lies L (from_end s n.most) s t (length s - c) (entries_in xs) aligned inside good entries.kept entries.lie }; old = (old, entries.old) }
+      let lies = table_lies L (from_end s n.most) s t (length s - c) (entries_in xs) aligned inside good entries.kept entries.lie in
+      let read : TableRead s (length s - c) c size u ends = record {
+        inside = table_inside (from_end s n.most) L s t (length s - c) lies.0;
+        first = rw vtable_at size_reads;
+        second = rw vtable_at (second_reads low_size);
+        each = λ k under. rw vtable_at (offset_reads k under);
+        slots = slots_read;
+      } in
+      let below : (k : ℕ) → slice_index ends k < c = λ k. omega (arith, behind, ends_under L low o.most o.bytes (slots_of L t) (stored_in (slots_of L t) xs) ends known each state k) in
+      let tight = table_tight L t low n.most c size u (length o.bytes) s (stored_in (slots_of L t) xs) ends within read known now below last sized whole filled zeros in
+      record { lies = record { within = within; lies = lies }; old = (old, entries.old); tight = (tight, entries.tight); padded = entries.padded }

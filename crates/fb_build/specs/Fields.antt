@@ -1,5 +1,5 @@
 -- The fields of a table while it is laid: what each slot's end-count says.
-use Rattle.std.specs.Prelude.{ℕ, ◌+◌, ◌-◌, ◌≡◌, ◌<◌, ◌≤◌, max, IsTrue, ◌==◌, ◌&&◌, ◌||◌, not, List, [], ◌∷◌, Bool, true, false, nat_lt, nat_le, if◌then◌else◌, Option, None, Some, ℤ, pos, slice_get, slice_index, map, option_map, length}
+use Rattle.std.specs.Prelude.{ℕ, ◌+◌, ◌-◌, ◌≡◌, ◌≢◌, ◌<◌, ◌≤◌, max, IsTrue, ◌==◌, ◌&&◌, ◌||◌, not, List, [], ◌∷◌, Bool, true, false, nat_lt, nat_le, if◌then◌else◌, Option, None, Some, ℤ, pos, slice_get, slice_index, map, option_map, length}
 use Rattle.std.specs.Ordering.{int_eq}
 use Rattle.fb_schema.specs.declared.kinds.Base.{Base}
 use Rattle.fb_schema.specs.declared.kinds.Kind.TheVariants.{Code}
@@ -189,9 +189,9 @@ entries_seen es = map (option_map view) es
 abbrev pub stored_seen : LaidSchema → List FieldInfo → List (Option Value) → List (Option Datum)
 stored_seen L fs es = stored_in (slots_seen L fs) (entries_seen es)
 
--- a number in range, a text, a table, a vector, or a member whose code the union has
+-- a number in range, a code that isn't 0, a text, a table, a vector, or a member whose code the union has
 abbrev pub SlotFits : LaidSchema → StoredShape → Datum → Type 0
-SlotFits L (one_of (code_kind u)) (a_number n) = InRange U8 n
+SlotFits L (one_of (code_kind u)) (a_number n) = InRange U8 n × (n ≢ pos 0)
 SlotFits L (one_of (union_kind u)) (an_unknown c) = ⊥
 SlotFits L shape d = Fits L shape d
 
@@ -199,11 +199,18 @@ abbrev pub StoredFits : LaidSchema → Slot → Option Datum → Type 0
 StoredFits L f None = Unit {0}
 StoredFits L f (Some d) = (f.deprecated ≡ false) × SlotFits L f.shape d
 
+-- A slot that stands for a number where nothing is stored is a number's, and isn't required.
+pub record HasDefault (f : Slot) : Type 0 where
+  pub free : f.required ≡ false
+  pub base : Base
+  pub scalar : f.shape ≡ one_of (scalar_kind base)
+
 -- What each slot stores fits, and is aligned to the greatest alignment at most.
 pub record AreKnown (L : LaidSchema) (fs : List Slot) (xs : List (Option Datum)) : Type 0 where
   pub long : length fs ≡ length xs
   pub each : (k : ℕ) (f : Slot) (x : Option Datum) → slice_get fs k ≡ Some f → slice_get xs k ≡ Some x → IsSimple L f.shape × StoredFits L f x
   pub low : (k : ℕ) (f : Slot) → slice_get fs k ≡ Some f → align_of L (kind_in f.shape) ≤ greatest L
+  pub defaults : (k : ℕ) (f : Slot) (n : ℤ) → slice_get fs k ≡ Some f → f.if_absent ≡ Some n → HasDefault f
 
 -- the bytes of all stored fields
 abbrev pub fields_size : LaidSchema → List Slot → List (Option Datum) → ℕ

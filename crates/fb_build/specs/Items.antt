@@ -7,11 +7,15 @@ use Rattle.fb_value.specs.EachTable.{EachItem, IsOldTable}
 use Rattle.fb_value.specs.Lies.{LiesItemsBy}
 use Rattle.fb_value.specs.Tails.{from_end}
 use Rattle.fb_build.specs.Fields.{IsElement, SlotFits, TargetEnd, target_for}
+use Rattle.fb_build.specs.CoveredTails.{IsTightInTail}
+use Rattle.fb_build.specs.StructBytes.{PadsStructWithZeros, EachStructItem}
 
--- Elements lie one behind the other, from the first byte of a tail on, and their tables have nothing in slots that aren't in use.
+-- Elements lie one behind the other, from the first byte of a tail on, their tables have nothing in slots that aren't in use and nothing to spare, and their structs are padded with zeros.
 pub record ItemsEnd (L : LaidSchema) (m : ℕ) (s : Bytes) (kind : StoredKind) (ds : Parts) : Type 0 where
   pub lie : LiesItemsBy (from_end s m) L s kind 0 ds
   pub old : EachItem L s (λ t p. IsOldTable L s t p) kind 0 ds
+  pub tight : EachItem L s (λ t p. IsTightInTail L s t p) kind 0 ds
+  pub padded : EachStructItem L s (PadsStructWithZeros L s) kind 0 ds
 
 -- what each element's reference names lies at its end-count
 abbrev pub TargetsEnd : LaidSchema → ℕ → Bytes → StoredKind → List Datum → List ℕ → Type 0

@@ -11,6 +11,7 @@ pub mod Ready
 pub mod Structs
 pub mod Taken
 pub mod Stored
+pub mod Filled
 pub mod StructBytes
 pub mod Pieces
 pub mod Covered

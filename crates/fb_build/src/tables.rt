@@ -15,10 +15,11 @@ ghost use Rattle.fb_value.specs.View.{view, parts_view, entries_view};
 ghost use Rattle.fb_build.specs.Tails.{Grows, LaidInTail};
 ghost use Rattle.fb_build.specs.Fields.{EntriesEnd, EntryEnd, IsSimple, IsElement, stored_in};
 ghost use Rattle.fb_build.specs.Fields.{stored_seen, slots_seen, entries_seen, slot_seen, entry_stored};
-ghost use Rattle.fb_build.specs.Fields.{shape_seen, kind_seen};
+ghost use Rattle.fb_build.specs.Fields.{shape_seen, kind_seen, fields_size};
 ghost use Rattle.fb_build.specs.Needs.{entries_count, entries_need, entry_need, need, parts_need, IsSliced};
 ghost use Rattle.fb_build.specs.Parts.{PartFits, PartEnd, EntryWhole, TableKnown};
 ghost use Rattle.fb_build.specs.Items.{TargetsEnd};
+ghost use Rattle.fb_build.specs.Filled.{AreFilled};
 ghost use Rattle.fb_build.specs.TableBytes.{AreLaid};
 
 use crate::fields::lay_fields;
@@ -56,6 +57,11 @@ fn close_table(
     requires start { start ≤ length out.old.bytes }
     requires whole { start % 4 ≡ 0 }
     requires narrow { length out.old.bytes ≤ start + 65528 }
+    requires size { length out.old.bytes ≡ start + fields_size layout.now (slots_of layout.now table.0)
+        (stored_in (slots_of layout.now table.0) (entries_seen entries.now)) }
+    requires filled { AreFilled layout.now start (length out.old.bytes) (λ k f. true)
+        (slots_of layout.now table.0) (stored_in (slots_of layout.now table.0) (entries_seen entries.now))
+        ends.now }
     requires room { ceil4 (length out.old.bytes - start) + (8 + 2 * length ends.now) ≤ out.old.free
         + (length out.old.bytes - start) }
     requires shared { AreLaid (map (λ k. k.items) known.now.keys) places.old out.old.bytes }

@@ -136,6 +136,7 @@ impl Tail {
     /// Takes zeros that already stand there.
     pub(crate) fn take_zeros(&mut self, zeros: usize)
         requires room { zeros ≤ self.old.free }
+        ensures bytes { self.new.bytes ≡ replicate zeros 0 ++ self.old.bytes }
         ensures free { self.new.free + zeros ≡ self.old.free }
         ensures most { self.new.most ≡ self.old.most }
         ensures grows { Grows self.old self.new }

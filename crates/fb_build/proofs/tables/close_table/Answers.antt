@@ -9,6 +9,7 @@ use Rattle.fb_value.proofs.TailsKept.{through}
 use Rattle.fb_build.proofs.VtableEnds.{shared_grown}
 use Rattle.fb_build.proofs.TableSpent.{ends_under, ends_high, offset_small}
 use Rattle.fb_build.proofs.TableEnds.{table_end}
+use Rattle.fb_build.proofs.TableTight.{zeros_stay, last_used}
 use Rattle.fb_build.proofs.tables.close_table.Goals as goal
 
 pub pad-requires-clause-power : goal.pad-requires-clause-power
@@ -60,4 +61,8 @@ returns-clause-lies c =
     (omega (arith, long, c.count.ensures))
     stands c.put_vtable-slots.ensures.within (omega (arith, c.put_vtable-slots.ensures.within, c.requires.few)) c.put_vtable-slots.ensures.rest
     (λ k. offset_small place (slice_index ends k) c.args.start (high k) (omega (arith, padded, c.pad.ensures.free, c.pad.ensures.under, c.count.ensures.exact, c.requires.narrow)))
-    c.args.table.0 xs c.requires.each c.requires.fits.long c.requires.fits.paired c.requires.fits.fits c.requires.fits.known c.requires.state)
+    c.args.table.0 xs c.requires.each c.requires.fits.long c.requires.fits.paired c.requires.fits.fits c.requires.fits.known c.requires.state
+    (omega (arith, padded, c.pad.ensures.free, c.pad.ensures.under, c.count.ensures.exact, c.requires.narrow)) (last_used u ends c.put_vtable-slots.ensures.last)
+    (omega (arith, padded, c.pad.ensures.free, c.pad.ensures.under, c.pad.ensures.multiple, c.requires.whole, c.requires.size, c.count.ensures.exact))
+    (omega (arith, padded, c.pad.ensures.free, c.requires.start, c.count.ensures.exact)) c.requires.filled
+    (λ e over low. zeros_stay c.pad.new.self n o.bytes c.pad.result e c.pad.ensures.bytes c.lay_vtable.ensures.grows over (omega (arith, low, c.count.ensures.exact))))
