@@ -48,3 +48,4 @@ pub mod PartsLaid
 pub mod Leads
 pub mod VectorLeads
 pub mod EndsParts
+pub mod MadeLoops
