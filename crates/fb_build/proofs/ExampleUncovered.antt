@@ -1,5 +1,5 @@
 -- Buffers that hold their value, and yet have something to spare.
-use Rattle.std.specs.Prelude.{ℕ, ◌≡◌, ◌+◌, ◌<◌, [], ◌∷◌, List, pos, refl, set, nat_lt}
+use Rattle.std.specs.Prelude.{ℕ, ◌≡◌, ◌+◌, ◌<◌, ◌≤◌, [], ◌∷◌, List, pos, refl, set, nat_lt}
 use Rattle.std.specs.List.{AllPass}
 use Rattle.std.proofs.Common.{lit≤, arith, zero, suc, ◌⊎◌, inl, inr}
 use Rattle.std.proofs.lemmas.List.Sums.{AllPass-from_list_all}
@@ -63,6 +63,26 @@ wrong_size h =
     let covered = by_its_value_shown one_int wide_table_bytes (one_number 7) wide_table_lies h in
     let is : 12 ≡ 8 = covered.tables.0.size in
     omega (arith, is)
+
+-- two fields of a table in the same four bytes, and four zeros behind them
+abbrev pub one_place_bytes : Bytes
+one_place_bytes = 0x0c ∷ 0 ∷ 0 ∷ 0 ∷ 8 ∷ 0 ∷ 0x0c ∷ 0 ∷ 4 ∷ 0 ∷ 4 ∷ 0 ∷ 8 ∷ 0 ∷ 0 ∷ 0 ∷ 7 ∷ 0 ∷ 0 ∷ 0 ∷ 0 ∷ 0 ∷ 0 ∷ 0 ∷ []
+
+-- The value is there.
+one_place_lies : LiesAt two_ints one_place_bytes (root_place two_ints).sort 0 (two_numbers 7 7)
+unfolding num slot_number named_slots first_failing fault_by
+one_place_lies = (refl, (refl, refl, ((refl, refl), ((refl, refl), tt))))
+
+-- Two fields that share their bytes.
+pub one_place : ¬ (Covered two_ints one_place_bytes)
+unfolding num slot_number named_slots stored_from
+one_place h =
+    let covered = by_its_value_shown two_ints one_place_bytes (two_numbers 7 7) one_place_lies h in
+    no_side 8 4 (lit≤ tt) covered.tables.0.own.2.0
+  where
+    no_side : (m n : ℕ) → n < m → (m ≤ n) ⊎ (m ≤ n) → ⊥
+    no_side m n more (inl low) = omega (arith, more, low)
+    no_side m n more (inr low) = omega (arith, more, low)
 
 -- a byte other than 0 in front of a union's code
 abbrev pub rubbish_in_table_bytes : Bytes

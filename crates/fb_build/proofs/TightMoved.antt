@@ -44,6 +44,7 @@ module _ (L : LaidSchema) (b c : Bytes) (k : ℕ) (bytes : (i : ℕ) → slice_i
           size = rw (second, stored) h.size;
           trimmed = rw (first, last) h.trimmed;
           padded = rw (second, stored) (λ i low free. ap (λ j. slice_index c j) (omega arith) ∙ bytes (p + i) ∙ h.padded i low free);
+          own = rw (second, stored) h.own;
           defaults = rw stored (defaults_moved (stored_of L b t p) h.defaults);
         }
 
