@@ -9,8 +9,8 @@ use Rattle.fb_value.specs.Places.{slot_number, named_slots, named_elements}
 use Rattle.fb_value.specs.Rules.{first_failing, fault_by}
 use Rattle.fb_value.specs.Lies.{LiesAt}
 use Rattle.fb_value.specs.Holds.{root_place}
-use Rattle.fb_value.specs.ExampleLayouts.{one_int, two_ints, one_struct, table_vector, two_members}
-use Rattle.fb_value.specs.ExampleTables.{seven_bytes, one_number, two_numbers, zero_held}
+use Rattle.fb_value.specs.ExampleLayouts.{one_int, one_bool, two_ints, one_struct, table_vector, two_members}
+use Rattle.fb_value.specs.ExampleTables.{seven_bytes, one_number, two_numbers, zero_held, bool_bytes, bool_held}
 use Rattle.fb_value.specs.ExampleVectors.{element}
 use Rattle.fb_value.specs.ExampleUnions.{member_bytes, second_member}
 use Rattle.fb_value.specs.ExampleStructs.{struct_bytes, struct_inline}
@@ -63,6 +63,16 @@ wrong_size h =
     let covered = by_its_value_shown one_int wide_table_bytes (one_number 7) wide_table_lies h in
     let is : 12 ≡ 8 = covered.tables.0.size in
     omega (arith, is)
+
+-- A `bool` that is neither 0 nor 1.
+pub odd_bool : ¬ (Covered one_bool bool_bytes)
+unfolding num slot_number named_slots stored_from
+odd_bool h =
+    let covered = by_its_value_shown one_bool bool_bytes (one_number 1) bool_held.lies h in
+    no_less 2 covered.tables.0.bits.0
+  where
+    no_less : (n : ℕ) → n < n → ⊥
+    no_less n low = omega (arith, low)
 
 -- two fields of a table in the same four bytes, and four zeros behind them
 abbrev pub one_place_bytes : Bytes

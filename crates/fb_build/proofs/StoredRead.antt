@@ -10,7 +10,7 @@ use Rattle.fb_value.specs.Datum.{Datum}
 use Rattle.fb_value.specs.Num.{Bytes}
 use Rattle.fb_value.specs.Places.{slot_number, is_present}
 use Rattle.fb_build.specs.Fields.{is_stored, fields_size, stored_align, EntriesEnd, StoredEnd}
-use Rattle.fb_build.specs.Stored.{StoredSlot, stored_from, is_in_field, absent_number, stored_number, NoneIsDefault, StandApart, StandsApartFrom, AllStandApart}
+use Rattle.fb_build.specs.Stored.{StoredSlot, stored_from, is_in_field, absent_number, stored_number, NoneIsDefault, HoldsBit, AllHoldBits, StandApart, StandsApartFrom, AllStandApart}
 use Rattle.fb_build.specs.TableBytes.{offset_from}
 use Rattle.fb_build.specs.Taken.{is_within}
 
@@ -23,6 +23,12 @@ tells_first b p j f fs x xs h = let at : j + 0 ≡ j = omega arith in subst (λ 
 
 tells_rest : (b : Bytes) (p j : ℕ) (f : Slot) (fs : List Slot) (x : Option Datum) (xs : List (Option Datum)) → TellsStored b p j (f ∷ fs) (x ∷ xs) → TellsStored b p (suc j) fs xs
 tells_rest b p j f fs x xs h k g y gk yk = let at : j + suc k ≡ suc j + k = omega arith in subst (λ (i : ℕ). is_present b p i ≡ is_stored g y) at (h (suc k) g y gk yk)
+
+on_first : (P : ℕ → Type 0) (j : ℕ) → P (j + 0) → P j
+on_first P j h = let at : j + 0 ≡ j = omega arith in subst P at h
+
+on_rest : (P : ℕ → Type 0) (j k : ℕ) → P (j + suc k) → P (suc j + k)
+on_rest P j k h = let at : j + suc k ≡ suc j + k = omega arith in subst P at h
 
 -- a field that is told, or is not
 abbrev pub told_if : Bool → StoredSlot → List StoredSlot → List StoredSlot
@@ -98,16 +104,22 @@ none_default b p j (f ∷ fs) h =
     one_more rs e true h = (h refl, e)
     one_more rs e false h = e
 
+-- The same of bits.
+pub all_bits : (b : Bytes) (p j : ℕ) (fs : List Slot) → ((k : ℕ) (f : Slot) → slice_get fs k ≡ Some f → is_present b p (j + k) ≡ true → HoldsBit b (p + slot_number b p (j + k)) f.shape) → AllHoldBits b p (stored_from b p j fs)
+unfolding stored_from
+all_bits b p j [] h = tt
+all_bits b p j (f ∷ fs) h =
+    let rest = all_bits b p (suc j) fs (λ k g gk. on_rest (λ i. is_present b p i ≡ true → HoldsBit b (p + slot_number b p i) g.shape) j k (h (suc k) g gk)) in
+    one_more (stored_from b p (suc j) fs) rest (is_present b p j) (on_first (λ i. is_present b p i ≡ true → HoldsBit b (p + slot_number b p i) f.shape) j (h 0 f refl))
+  where
+    one_more : (rs : List StoredSlot) → AllHoldBits b p rs → (t : Bool) → (t ≡ true → HoldsBit b (p + slot_number b p j) f.shape) → AllHoldBits b p (told_if t (record { slot = f; at = slot_number b p j }) rs)
+    one_more rs e true h = (h refl, e)
+    one_more rs e false h = e
+
 -- ---- bytes of their own
 
 abbrev pub field_at : Bytes → ℕ → ℕ → Slot → StoredSlot
 field_at b p k f = record { slot = f; at = slot_number b p k }
-
-on_first : (P : ℕ → Type 0) (j : ℕ) → P (j + 0) → P j
-on_first P j h = let at : j + 0 ≡ j = omega arith in subst P at h
-
-on_rest : (P : ℕ → Type 0) (j k : ℕ) → P (j + suc k) → P (suc j + k)
-on_rest P j k h = let at : j + suc k ≡ suc j + k = omega arith in subst P at h
 
 -- a field inside of a table of a size, if it is told
 abbrev pub StandsInside : LaidSchema → Bytes → ℕ → ℕ → Slot → ℕ → Type 0

@@ -138,4 +138,4 @@ module _ (L : LaidSchema) (low c size u : ℕ) (o n : TailSeen) (ends : List ℕ
       } in
       let below : (k : ℕ) → slice_index ends k < c = λ k. omega (arith, behind, ends_under L low o.most o.bytes (slots_of L t) (stored_in (slots_of L t) xs) ends known each state k) in
       let tight = table_tight L t low n.most c size u (length o.bytes) s (stored_in (slots_of L t) xs) ends within read known now below last sized whole filled before_it zeros in
-      record { lies = record { within = within; lies = lies }; old = (old, entries.old); tight = (tight, entries.tight); padded = entries.padded }
+      record { lies = record { within = within; lies = lies }; old = (old, entries.old); tight = (tight, entries.tight); padded = entries.padded; bit = tt }

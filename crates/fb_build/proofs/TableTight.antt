@@ -16,16 +16,16 @@ use Rattle.fb_value.specs.Lies.{LiesInline, LiesAtBy}
 use Rattle.fb_value.specs.Num.{Bytes, num, scalar_of}
 use Rattle.fb_value.specs.Places.{vtable, slot_number, is_present}
 use Rattle.fb_value.specs.Tails.{from_end}
-use Rattle.fb_build.specs.CoveredTails.{IsTightInTail}
+use Rattle.fb_build.specs.CoveredTails.{IsTightInTail, BitInTail}
 use Rattle.fb_build.specs.Fields.{is_stored, fields_size, sort_for, SlotFits, StoredFits, StoredEnd, EntriesEnd, AreKnown, HasDefault}
 use Rattle.fb_build.specs.Filled.{IsLaidSlot, AreFilled}
-use Rattle.fb_build.specs.Stored.{stored_of, is_in_field, absent_number, stored_number, EndsWithAField, PadsTableWithZeros}
+use Rattle.fb_build.specs.Stored.{IsBit, HoldsBit, stored_of, is_in_field, absent_number, stored_number, EndsWithAField, PadsTableWithZeros}
 use Rattle.fb_build.specs.TableBytes.{offset_from}
 use Rattle.fb_build.specs.Tails.{TailSeen, Grows}
 use Rattle.fb_build.specs.Taken.{is_within}
 use Rattle.fb_build.proofs.Grown.{lower}
 use Rattle.fb_build.proofs.PassSteps.{in_mapped}
-use Rattle.fb_build.proofs.StoredRead.{TellsStored, stored_size, in_stored, IsNoDefault, none_default, StandsInside, TheyStandApart, all_apart, number_at, tells_stored}
+use Rattle.fb_build.proofs.StoredRead.{TellsStored, stored_size, in_stored, IsNoDefault, none_default, StandsInside, TheyStandApart, all_apart, all_bits, number_at, tells_stored}
 use Rattle.fb_build.proofs.StructPads.{zeros_read}
 use Rattle.fb_build.proofs.TableLies.{got}
 use Rattle.fb_build.proofs.Zeros.{zeros_long}
@@ -187,6 +187,26 @@ module _ (L : LaidSchema) (t low m c size u count : ℕ) (s : Bytes) (xs : List 
       by_shape (one_of text_kind) shape = by_number _ shape (λ n absent same. without _ shape (λ base e. cc) n absent)
       by_shape (vector_of kind) shape = by_number _ shape (λ n absent same. without _ shape (λ base e. cc) n absent)
 
+  told_bit : (k : ℕ) (f : Slot) → slice_get (slots_of L t) k ≡ Some f → is_present s (length s - c) k ≡ true → HoldsBit s ((length s - c) + slot_number s (length s - c) k) f.shape
+  told_bit k f fk there = by_entry (got xs k (omega (arith, in_mapped (slots_of L t) k f fk, known.long)))
+    where
+      by_shape : (shape : StoredShape) (d : Datum) → BitInTail s (sort_for shape d) (slice_index ends k) → length s - slice_index ends k ≡ (length s - c) + slot_number s (length s - c) k → HoldsBit s ((length s - c) + slot_number s (length s - c) k) shape
+      by_shape (one_of (scalar_kind base)) d h at = subst (λ (q : ℕ). IsBit base (num s q 1)) at h
+      by_shape (one_of (code_kind w)) d h at = tt
+      by_shape (one_of (struct_kind w)) d h at = tt
+      by_shape (one_of (table_kind w)) d h at = tt
+      by_shape (one_of (union_kind w)) d h at = tt
+      by_shape (one_of text_kind) d h at = tt
+      by_shape (vector_of kind) d h at = tt
+
+      by_entry : (x : Option Datum) × (slice_get xs k ≡ Some x) → HoldsBit s ((length s - c) + slot_number s (length s - c) k) f.shape
+      by_entry (None, xk) = absurd (false≢true (sym (there_at k f None fk xk) ∙ there))
+      by_entry (Some d, xk) =
+          let is : is_stored f (Some d) ≡ true = sym (there_at k f (Some d) fk xk) ∙ there in
+          let laid = (state k f (Some d) fk xk).stored is in
+          let number = read.slots k ∙ number_at c (slice_index ends k) (some_end k f (Some d) fk xk is) in
+          by_shape f.shape d laid.1.bit (omega (arith, number, under k, within))
+
   told_number : (k : ℕ) (f : Slot) → slice_get (slots_of L t) k ≡ Some f → is_present s (length s - c) k ≡ true → IsNoDefault s (length s - c) f (slot_number s (length s - c) k)
   told_number k f fk there = by_entry (got xs k (omega (arith, in_mapped (slots_of L t) k f fk, known.long)))
     where
@@ -231,6 +251,9 @@ module _ (L : LaidSchema) (t low m c size u count : ℕ) (s : Bytes) (xs : List 
       size = read.second ∙ sized ∙ ap (λ n. 4 + ceil4 n) (sym (stored_size L s (length s - c) 0 (slots_of L t) xs known.long tells));
       trimmed = trimmed;
       padded = padded;
+      bits = all_bits s (length s - c) 0 (slots_of L t)
+          (λ k f fk there. (let none : 0 + k ≡ k = omega arith in
+          subst (λ (i : ℕ). HoldsBit s ((length s - c) + slot_number s (length s - c) i) f.shape) (sym none) (told_bit k f fk (subst (λ (i : ℕ). is_present s (length s - c) i ≡ true) none there))));
       own = rw read.second (all_apart L s (length s - c) size 0 (slots_of L t) (λ k f fk. (let none : 0 + k ≡ k = omega arith in subst (StandsInside L s (length s - c) size f) (sym none) (stands_inside k f fk)))
           (λ j k f g low fj gk. (let none : (i : ℕ) → 0 + i ≡ i = λ i. omega arith in subst (λ (i : ℕ). TheyStandApart L s (length s - c) f g i (0 + k)) (sym (none j)) (subst (TheyStandApart L s (length s - c) f g j) (sym (none k)) (they_stand_apart j k f g low fj gk)))));
       defaults = none_default s (length s - c) 0 (slots_of L t)
