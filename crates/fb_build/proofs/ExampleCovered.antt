@@ -71,7 +71,7 @@ seven_covered = (
       runs = (lit≤ tt, refl, tt);
     };
     shared = one_vtable seven_bytes 6;
-    tables = (record { size = refl; trimmed = inr (lit≤ tt); padded = table_padded one_int seven_bytes 0 12 refl; defaults = (λ n is e. cc, tt) }, (tt, tt));
+    tables = (record { size = refl; trimmed = inr (lit≤ tt); padded = table_padded one_int seven_bytes 0 12 refl; defaults = (λ n is e. cc, tt); own = (lit≤ tt, lit≤ tt, tt, tt); bits = (tt, tt) }, (tt, tt));
     structs = (tt, tt);
   },
 )
@@ -99,7 +99,7 @@ empty_covered = (
       runs = tt;
     };
     shared = one_vtable empty_bytes 4;
-    tables = (record { size = refl; trimmed = inl refl; padded = table_padded one_int empty_bytes 0 8 refl; defaults = tt }, (tt, tt));
+    tables = (record { size = refl; trimmed = inl refl; padded = table_padded one_int empty_bytes 0 8 refl; defaults = tt; own = tt; bits = tt }, (tt, tt));
     structs = (tt, tt);
   },
 )
@@ -120,7 +120,7 @@ identified_covered = (
       runs = tt;
     };
     shared = one_vtable test_bytes 8;
-    tables = (record { size = refl; trimmed = inl refl; padded = table_padded identified_int test_bytes 0 12 refl; defaults = tt }, (tt, tt));
+    tables = (record { size = refl; trimmed = inl refl; padded = table_padded identified_int test_bytes 0 12 refl; defaults = tt; own = tt; bits = tt }, (tt, tt));
     structs = (tt, tt);
   },
 )
@@ -148,11 +148,11 @@ pair_covered = (
     };
     shared = three_tables pair_bytes 34;
     tables = (
-      record { size = refl; trimmed = inr (lit≤ tt); padded = table_padded table_vector pair_bytes 1 4 refl; defaults = (λ n is e. cc, tt) },
+      record { size = refl; trimmed = inr (lit≤ tt); padded = table_padded table_vector pair_bytes 1 4 refl; defaults = (λ n is e. cc, tt); own = (lit≤ tt, lit≤ tt, tt, tt); bits = (tt, tt) },
       (
         (
-          (record { size = refl; trimmed = inr (lit≤ tt); padded = table_padded table_vector pair_bytes 0 40 refl; defaults = (λ n is e. cc, tt) }, (tt, tt)),
-          ((record { size = refl; trimmed = inr (lit≤ tt); padded = table_padded table_vector pair_bytes 0 24 refl; defaults = (λ n is e. cc, tt) }, (tt, tt)), tt),
+          (record { size = refl; trimmed = inr (lit≤ tt); padded = table_padded table_vector pair_bytes 0 40 refl; defaults = (λ n is e. cc, tt); own = (lit≤ tt, lit≤ tt, tt, tt); bits = (tt, tt) }, (tt, tt)),
+          ((record { size = refl; trimmed = inr (lit≤ tt); padded = table_padded table_vector pair_bytes 0 24 refl; defaults = (λ n is e. cc, tt); own = (lit≤ tt, lit≤ tt, tt, tt); bits = (tt, tt) }, (tt, tt)), tt),
         ),
         tt,
       ),
@@ -179,8 +179,8 @@ member_covered = (
     };
     shared = two_vtables member_bytes 4 24 (λ e. cc);
     tables = (
-      record { size = refl; trimmed = inr (lit≤ tt); padded = table_padded two_members member_bytes 3 12 refl; defaults = (λ n is e. cc, (λ n is e. cc, tt)) },
-      ((record { size = refl; trimmed = inl refl; padded = table_padded two_members member_bytes 1 28 refl; defaults = tt }, tt), tt),
+      record { size = refl; trimmed = inr (lit≤ tt); padded = table_padded two_members member_bytes 3 12 refl; defaults = (λ n is e. cc, (λ n is e. cc, tt)); own = (lit≤ tt, lit≤ tt, (inl (lit≤ tt), tt), (lit≤ tt, lit≤ tt, tt, tt)); bits = (tt, (tt, tt)) },
+      ((record { size = refl; trimmed = inl refl; padded = table_padded two_members member_bytes 1 28 refl; defaults = tt; own = tt; bits = tt }, tt), tt),
     );
     structs = (tt, tt);
   },
@@ -202,7 +202,7 @@ struct_covered = (
       runs = (lit≤ tt, refl, tt);
     };
     shared = one_vtable struct_bytes 6;
-    tables = (record { size = refl; trimmed = inr (lit≤ tt); padded = table_padded one_struct struct_bytes 1 12 refl; defaults = (λ n is e. cc, tt) }, (tt, tt));
+    tables = (record { size = refl; trimmed = inr (lit≤ tt); padded = table_padded one_struct struct_bytes 1 12 refl; defaults = (λ n is e. cc, tt); own = (lit≤ tt, lit≤ tt, tt, tt); bits = (tt, tt) }, (tt, tt));
     structs = ((struct_padded one_struct struct_bytes 0 16 refl, (tt, (tt, (tt, tt)))), tt);
   },
 )
@@ -231,7 +231,7 @@ wide_covered = (
     };
     shared = one_vtable wide_bytes 18;
     tables = (
-      record { size = refl; trimmed = inr (lit≤ tt); padded = table_padded wide_structs wide_bytes 1 28 refl; defaults = (λ n is e. cc, (λ n is e. cc, (λ n is e. cc, tt))) },
+      record { size = refl; trimmed = inr (lit≤ tt); padded = table_padded wide_structs wide_bytes 1 28 refl; defaults = (λ n is e. cc, (λ n is e. cc, (λ n is e. cc, tt))); own = (lit≤ tt, lit≤ tt, (inr (lit≤ tt), (inr (lit≤ tt), tt)), (lit≤ tt, lit≤ tt, (inr (lit≤ tt), tt), (lit≤ tt, lit≤ tt, tt, tt))); bits = (tt, (tt, (tt, tt))) },
       (tt, ((tt, (tt, tt)), (tt, tt))),
     );
     structs = (tt, (((struct_padded wide_structs wide_bytes 0 48 refl, (tt, tt)), ((struct_padded wide_structs wide_bytes 0 64 refl, (tt, tt)), tt)), (tt, tt)));

@@ -1,5 +1,5 @@
 -- Buffers that hold their value, and yet have something to spare.
-use Rattle.std.specs.Prelude.{ℕ, ◌≡◌, ◌+◌, ◌<◌, [], ◌∷◌, List, pos, refl, set, nat_lt}
+use Rattle.std.specs.Prelude.{ℕ, ◌≡◌, ◌+◌, ◌<◌, ◌≤◌, [], ◌∷◌, List, pos, refl, set, nat_lt}
 use Rattle.std.specs.List.{AllPass}
 use Rattle.std.proofs.Common.{lit≤, arith, zero, suc, ◌⊎◌, inl, inr}
 use Rattle.std.proofs.lemmas.List.Sums.{AllPass-from_list_all}
@@ -9,8 +9,8 @@ use Rattle.fb_value.specs.Places.{slot_number, named_slots, named_elements}
 use Rattle.fb_value.specs.Rules.{first_failing, fault_by}
 use Rattle.fb_value.specs.Lies.{LiesAt}
 use Rattle.fb_value.specs.Holds.{root_place}
-use Rattle.fb_value.specs.ExampleLayouts.{one_int, two_ints, one_struct, table_vector, two_members}
-use Rattle.fb_value.specs.ExampleTables.{seven_bytes, one_number, two_numbers, zero_held}
+use Rattle.fb_value.specs.ExampleLayouts.{one_int, one_bool, two_ints, one_struct, table_vector, two_members}
+use Rattle.fb_value.specs.ExampleTables.{seven_bytes, one_number, two_numbers, zero_held, bool_bytes, bool_held}
 use Rattle.fb_value.specs.ExampleVectors.{element}
 use Rattle.fb_value.specs.ExampleUnions.{member_bytes, second_member}
 use Rattle.fb_value.specs.ExampleStructs.{struct_bytes, struct_inline}
@@ -63,6 +63,36 @@ wrong_size h =
     let covered = by_its_value_shown one_int wide_table_bytes (one_number 7) wide_table_lies h in
     let is : 12 ≡ 8 = covered.tables.0.size in
     omega (arith, is)
+
+-- A `bool` that is neither 0 nor 1.
+pub odd_bool : ¬ (Covered one_bool bool_bytes)
+unfolding num slot_number named_slots stored_from
+odd_bool h =
+    let covered = by_its_value_shown one_bool bool_bytes (one_number 1) bool_held.lies h in
+    no_less 2 covered.tables.0.bits.0
+  where
+    no_less : (n : ℕ) → n < n → ⊥
+    no_less n low = omega (arith, low)
+
+-- two fields of a table in the same four bytes, and four zeros behind them
+abbrev pub one_place_bytes : Bytes
+one_place_bytes = 0x0c ∷ 0 ∷ 0 ∷ 0 ∷ 8 ∷ 0 ∷ 0x0c ∷ 0 ∷ 4 ∷ 0 ∷ 4 ∷ 0 ∷ 8 ∷ 0 ∷ 0 ∷ 0 ∷ 7 ∷ 0 ∷ 0 ∷ 0 ∷ 0 ∷ 0 ∷ 0 ∷ 0 ∷ []
+
+-- The value is there.
+one_place_lies : LiesAt two_ints one_place_bytes (root_place two_ints).sort 0 (two_numbers 7 7)
+unfolding num slot_number named_slots first_failing fault_by
+one_place_lies = (refl, (refl, refl, ((refl, refl), ((refl, refl), tt))))
+
+-- Two fields that share their bytes.
+pub one_place : ¬ (Covered two_ints one_place_bytes)
+unfolding num slot_number named_slots stored_from
+one_place h =
+    let covered = by_its_value_shown two_ints one_place_bytes (two_numbers 7 7) one_place_lies h in
+    no_side 8 4 (lit≤ tt) covered.tables.0.own.2.0
+  where
+    no_side : (m n : ℕ) → n < m → (m ≤ n) ⊎ (m ≤ n) → ⊥
+    no_side m n more (inl low) = omega (arith, more, low)
+    no_side m n more (inr low) = omega (arith, more, low)
 
 -- a byte other than 0 in front of a union's code
 abbrev pub rubbish_in_table_bytes : Bytes

@@ -29,23 +29,24 @@ use Rattle.fb_value.proofs.Moved.{hold, no_rules}
 use Rattle.fb_build.proofs.Standing.{num_first}
 use Rattle.fb_value.proofs.TailsKept.{front_shown, old_shown}
 use Rattle.fb_build.specs.CoveredTails.{IsTightInTail, TightInTail, PaddedInTail}
+use Rattle.fb_build.specs.Stored.{IsBit}
 use Rattle.fb_build.specs.StructBytes.{PadsStructWithZeros, EachStruct, EachStructAt}
 use Rattle.fb_build.proofs.StructsMoved.{padded_front_shown}
 use Rattle.fb_build.proofs.TightMoved.{tight_front_shown}
 use Rattle.fb_build.proofs.Grown.{laid_grown}
 
 -- a number that was laid last
-pub scalar_end : (L : LaidSchema) (m : ℕ) (base : Base) (n : ℤ) (s : Bytes) (rest : ℕ) → length s ≡ rest + base_size base → n ≡ scalar_of base (num s 0 (base_size base))
+pub scalar_end : (L : LaidSchema) (m : ℕ) (base : Base) (n : ℤ) (s : Bytes) (rest : ℕ) → length s ≡ rest + base_size base → n ≡ scalar_of base (num s 0 (base_size base)) → IsBit base (num s 0 1)
     → divides (base_size base) (length s) ≡ true → divides (base_size base) m ≡ true → LaidInTail L m s (inline_place (scalar_kind base)) (length s) (a_number n)
 unfolding fault_by
-scalar_end L m base n s rest long is whole most =
+scalar_end L m base n s rest long is bit whole most =
     let size = base_size base in
     let first : length s - length s ≡ 0 = omega arith in
     let all : length s - 0 ≡ length s = omega arith in
     let aligned : from_end s m size 0 ≡ true = and_from _ _ (rw all whole) most in
     let inside : 0 + size ≤ length s = omega (arith, long) in
     let keeps : KeepsBy (from_end s m) L s (inline_place (scalar_kind base)) 0 = hold _ _ _ aligned (hold _ _ _ (le-leb _ _ inside) no_rules) in
-    record { lies = record { within = omega arith; lies = rw first (keeps, is) }; old = tt; tight = tt; padded = tt }
+    record { lies = record { within = omega arith; lies = rw first (keeps, is) }; old = tt; tight = tt; padded = tt; bit = rw first bit }
 
 -- a reference that was laid last
 pub reference_end : (L : LaidSchema) (m : ℕ) (X : Target) (e : ℕ) (d : Datum) (s rest : Bytes) → s ≡ little_bytes 4 ((length rest + 4) - e) ++ rest → length s ≡ 4 + length rest → length rest + 4 < 256 ^ 4
@@ -70,6 +71,7 @@ reference_end L m X e d s rest is long short whole most h =
       old = subst (λ (q : ℕ). EachTableAt L s (λ t p. IsOldTable L s t p) (ref_place X) q d) (sym first) (subst (λ (q : ℕ). EachTable L s (λ t p. IsOldTable L s t p) (part_place X) q d) place old);
       tight = subst (λ (q : ℕ). EachTableAt L s (λ t p. IsTightInTail L s t p) (ref_place X) q d) (sym first) (subst (λ (q : ℕ). EachTable L s (λ t p. IsTightInTail L s t p) (part_place X) q d) place tight);
       padded = subst (λ (q : ℕ). EachStructAt L s (PadsStructWithZeros L s) (ref_place X) q d) (sym first) (subst (λ (q : ℕ). EachStruct L s (PadsStructWithZeros L s) X q d) place padded);
+      bit = tt;
     }
 
 -- what isn't stored is a default
@@ -227,6 +229,13 @@ number_laid L low m s f None base is scalar fits some lies = cc
 number_laid L low m s f (Some d) base is scalar fits some lies =
     let known = number_fits L f.shape base d scalar fits.1 in
     (some, rw known.sort (subst (λ (y : Datum). LaidInTail L m s (inline_place (scalar_kind base)) (length s) y) (sym known.is) lies))
+
+-- a number that was laid last, for a slot of its shape
+pub number_element : (L : LaidSchema) (m : ℕ) (s : Bytes) (shape : StoredShape) (base : Base) (d : Datum) → scalar_in shape ≡ Some base → SlotFits L shape d → LaidInTail L m s (inline_place (scalar_kind base)) (length s) (a_number (number_in (Some d)))
+    → LaidInTail L m s (sort_for shape d) (length s) d
+number_element L m s shape base d scalar fits lies =
+    let known = number_fits L shape base d scalar fits in
+    rw known.sort (subst (λ (y : Datum). LaidInTail L m s (inline_place (scalar_kind base)) (length s) y) (sym known.is) lies)
 
 pub place_laid : (L : LaidSchema) (low m : ℕ) (s : Bytes) (f : Slot) (x : Option Datum) (d : Datum) → x ≡ Some d → low < length s → LaidInTail L m s (sort_for f.shape d) (length s) d → StoredEnd L low m s true f x (length s)
 place_laid L low m s f x d e some lies = rw e (some, lies)

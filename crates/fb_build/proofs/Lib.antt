@@ -2,6 +2,7 @@ pub mod Grown
 pub mod Sums
 pub mod Zeros
 pub mod Standing
+pub mod Bits
 pub mod TextLies
 pub mod VtableSteps
 pub mod FieldSteps

@@ -44,7 +44,7 @@ struct_end L m s (one_of (struct_kind u)) t ds e lies padded whole wide long =
     let aligned : from_end s m (struct_at L u).align 0 ≡ true = and_from _ _ (rw all whole) wide in
     let inside : 0 + (struct_at L u).size ≤ length s = omega (arith, long) in
     let keeps : KeepsBy (from_end s m) L s (inline_place (struct_kind u)) 0 = hold _ _ _ aligned (hold _ _ _ (le-leb _ _ inside) no_rules) in
-    record { lies = record { within = omega arith; lies = rw first (keeps, own) }; old = tt; tight = tt; padded = rw first clean }
+    record { lies = record { within = omega arith; lies = rw first (keeps, own) }; old = tt; tight = tt; padded = rw first clean; bit = tt }
 struct_end L m s (one_of (scalar_kind u)) t ds e lies padded whole wide long = cc
 struct_end L m s (one_of (table_kind u)) t ds e lies padded whole wide long = cc
 struct_end L m s (one_of (union_kind u)) t ds e lies padded whole wide long = cc

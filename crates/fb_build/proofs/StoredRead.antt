@@ -1,5 +1,5 @@
 -- The fields that a table's vtable tells of are those whose entries are stored.
-use Rattle.std.proofs.Common.{◌≡◌, ◌≢◌, ℕ, zero, suc, ◌+◌, ◌-◌, ◌<◌, Bool, true, false, if◌then◌else◌, max, List, [], ◌∷◌, length, map, sum_by, slice_get, slice_index, Option, None, Some, refl, ap, sym, ◌∙◌, subst, arith}
+use Rattle.std.proofs.Common.{◌≡◌, ◌≢◌, ℕ, zero, suc, ◌+◌, ◌-◌, ◌<◌, ◌≤◌, Bool, true, false, if◌then◌else◌, max, List, [], ◌∷◌, length, map, sum_by, slice_get, slice_index, Option, None, Some, refl, ap, sym, ◌∙◌, subst, arith}
 use Rattle.std.proofs.lemmas.Bool.{lt-ltb, or_left, or_right}
 use Rattle.std.proofs.lemmas.List.Sums.{sum_by-cons}
 use Rattle.std.specs.Prelude.{ℤ}
@@ -10,7 +10,7 @@ use Rattle.fb_value.specs.Datum.{Datum}
 use Rattle.fb_value.specs.Num.{Bytes}
 use Rattle.fb_value.specs.Places.{slot_number, is_present}
 use Rattle.fb_build.specs.Fields.{is_stored, fields_size, stored_align, EntriesEnd, StoredEnd}
-use Rattle.fb_build.specs.Stored.{StoredSlot, stored_from, is_in_field, absent_number, stored_number, NoneIsDefault}
+use Rattle.fb_build.specs.Stored.{StoredSlot, stored_from, is_in_field, absent_number, stored_number, NoneIsDefault, HoldsBit, AllHoldBits, StandApart, StandsApartFrom, AllStandApart}
 use Rattle.fb_build.specs.TableBytes.{offset_from}
 use Rattle.fb_build.specs.Taken.{is_within}
 
@@ -23,6 +23,12 @@ tells_first b p j f fs x xs h = let at : j + 0 ≡ j = omega arith in subst (λ 
 
 tells_rest : (b : Bytes) (p j : ℕ) (f : Slot) (fs : List Slot) (x : Option Datum) (xs : List (Option Datum)) → TellsStored b p j (f ∷ fs) (x ∷ xs) → TellsStored b p (suc j) fs xs
 tells_rest b p j f fs x xs h k g y gk yk = let at : j + suc k ≡ suc j + k = omega arith in subst (λ (i : ℕ). is_present b p i ≡ is_stored g y) at (h (suc k) g y gk yk)
+
+on_first : (P : ℕ → Type 0) (j : ℕ) → P (j + 0) → P j
+on_first P j h = let at : j + 0 ≡ j = omega arith in subst P at h
+
+on_rest : (P : ℕ → Type 0) (j k : ℕ) → P (j + suc k) → P (suc j + k)
+on_rest P j k h = let at : j + suc k ≡ suc j + k = omega arith in subst P at h
 
 -- a field that is told, or is not
 abbrev pub told_if : Bool → StoredSlot → List StoredSlot → List StoredSlot
@@ -97,6 +103,57 @@ none_default b p j (f ∷ fs) h =
     one_more : (rs : List StoredSlot) → NoneIsDefault b p rs → (t : Bool) → (t ≡ true → IsNoDefault b p f (slot_number b p j)) → NoneIsDefault b p (told_if t (record { slot = f; at = slot_number b p j }) rs)
     one_more rs e true h = (h refl, e)
     one_more rs e false h = e
+
+-- The same of bits.
+pub all_bits : (b : Bytes) (p j : ℕ) (fs : List Slot) → ((k : ℕ) (f : Slot) → slice_get fs k ≡ Some f → is_present b p (j + k) ≡ true → HoldsBit b (p + slot_number b p (j + k)) f.shape) → AllHoldBits b p (stored_from b p j fs)
+unfolding stored_from
+all_bits b p j [] h = tt
+all_bits b p j (f ∷ fs) h =
+    let rest = all_bits b p (suc j) fs (λ k g gk. on_rest (λ i. is_present b p i ≡ true → HoldsBit b (p + slot_number b p i) g.shape) j k (h (suc k) g gk)) in
+    one_more (stored_from b p (suc j) fs) rest (is_present b p j) (on_first (λ i. is_present b p i ≡ true → HoldsBit b (p + slot_number b p i) f.shape) j (h 0 f refl))
+  where
+    one_more : (rs : List StoredSlot) → AllHoldBits b p rs → (t : Bool) → (t ≡ true → HoldsBit b (p + slot_number b p j) f.shape) → AllHoldBits b p (told_if t (record { slot = f; at = slot_number b p j }) rs)
+    one_more rs e true h = (h refl, e)
+    one_more rs e false h = e
+
+-- ---- bytes of their own
+
+abbrev pub field_at : Bytes → ℕ → ℕ → Slot → StoredSlot
+field_at b p k f = record { slot = f; at = slot_number b p k }
+
+-- a field inside of a table of a size, if it is told
+abbrev pub StandsInside : LaidSchema → Bytes → ℕ → ℕ → Slot → ℕ → Type 0
+StandsInside L b p size f k = is_present b p k ≡ true → (4 ≤ slot_number b p k) × (slot_number b p k + inline_size L f.shape ≤ size)
+
+-- two fields that share no byte, if they are told
+abbrev pub TheyStandApart : LaidSchema → Bytes → ℕ → Slot → Slot → ℕ → ℕ → Type 0
+TheyStandApart L b p f g j k = is_present b p j ≡ true → is_present b p k ≡ true → StandApart L (field_at b p j f) (field_at b p k g)
+
+apart_from : (L : LaidSchema) (b : Bytes) (p j : ℕ) (fs : List Slot) (r : StoredSlot) → ((k : ℕ) (g : Slot) → slice_get fs k ≡ Some g → is_present b p (j + k) ≡ true → StandApart L r (field_at b p (j + k) g)) → StandsApartFrom L r (stored_from b p j fs)
+unfolding stored_from
+apart_from L b p j [] r h = tt
+apart_from L b p j (f ∷ fs) r h =
+    let rest = apart_from L b p (suc j) fs r (λ k g gk. on_rest (λ i. is_present b p i ≡ true → StandApart L r (field_at b p i g)) j k (h (suc k) g gk)) in
+    one_more (stored_from b p (suc j) fs) rest (is_present b p j) (on_first (λ i. is_present b p i ≡ true → StandApart L r (field_at b p i f)) j (h 0 f refl))
+  where
+    one_more : (rs : List StoredSlot) → StandsApartFrom L r rs → (t : Bool) → (t ≡ true → StandApart L r (field_at b p j f)) → StandsApartFrom L r (told_if t (field_at b p j f) rs)
+    one_more rs e true h = (h refl, e)
+    one_more rs e false h = e
+
+-- Where fields that are told stand inside and apart, all do.
+pub all_apart : (L : LaidSchema) (b : Bytes) (p size j : ℕ) (fs : List Slot) → ((k : ℕ) (f : Slot) → slice_get fs k ≡ Some f → StandsInside L b p size f (j + k))
+    → ((k l : ℕ) (f g : Slot) → k < l → slice_get fs k ≡ Some f → slice_get fs l ≡ Some g → TheyStandApart L b p f g (j + k) (j + l)) → AllStandApart L size (stored_from b p j fs)
+unfolding stored_from
+all_apart L b p size j [] inside apart = tt
+all_apart L b p size j (f ∷ fs) inside apart =
+    let rest = all_apart L b p size (suc j) fs (λ k g gk. on_rest (StandsInside L b p size g) j k (inside (suc k) g gk))
+    (λ k l g d low gk dl. on_rest (λ i. TheyStandApart L b p g d (suc j + k) i) j l (on_rest (λ i. TheyStandApart L b p g d i (j + suc l)) j k (apart (suc k) (suc l) g d (omega (arith, low)) gk dl))) in
+    one_more (stored_from b p (suc j) fs) rest (is_present b p j) (on_first (StandsInside L b p size f) j (inside 0 f refl))
+    (λ there. apart_from L b p (suc j) fs (field_at b p j f) (λ l d dl. on_rest (λ i. is_present b p i ≡ true → StandApart L (field_at b p j f) (field_at b p i d)) j l (on_first (λ i. TheyStandApart L b p f d i (j + suc l)) j (apart 0 (suc l) f d (omega arith) refl dl) there)))
+  where
+    one_more : (rs : List StoredSlot) → AllStandApart L size rs → (t : Bool) → (t ≡ true → (4 ≤ slot_number b p j) × (slot_number b p j + inline_size L f.shape ≤ size)) → (t ≡ true → StandsApartFrom L (field_at b p j f) rs) → AllStandApart L size (told_if t (field_at b p j f) rs)
+    one_more rs e true h more = ((h refl).0, (h refl).1, more refl, e)
+    one_more rs e false h more = e
 
 -- ---- by end-counts
 

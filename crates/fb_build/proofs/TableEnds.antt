@@ -106,10 +106,10 @@ module _ (L : LaidSchema) (low c size u : ℕ) (o n : TailSeen) (ends : List ℕ
   pub table_end : (t : ℕ) (xs : List (Option Datum)) → length ends ≡ length (slots_of L t) → length (slots_of L t) ≡ length xs → ArePaired (slots_of L t) → ((k : ℕ) (f : Slot) (x : Option Datum) → slice_get (slots_of L t) k ≡ Some f → slice_get xs k ≡ Some x → EntryFits L f x)
       → AreKnown L (slots_of L t) (stored_in (slots_of L t) xs) → EntriesEnd L low o.most o.bytes (λ k f. true) (slots_of L t) (stored_in (slots_of L t) xs) ends
       → size < 256 ^ 2 → ((k : ℕ) → k + 1 ≡ u → 0 < slice_index ends k) → size ≡ 4 + ceil4 (fields_size L (slots_of L t) (stored_in (slots_of L t) xs)) → size + low ≡ c
-      → AreFilled L low (length o.bytes) (λ k f. true) (slots_of L t) (stored_in (slots_of L t) xs) ends → ((e : ℕ) → length o.bytes < e → e + 4 ≤ c → slice_index n.bytes (length n.bytes - e) ≡ 0)
+      → AreFilled L low (length o.bytes) (λ k f. true) (slots_of L t) (stored_in (slots_of L t) xs) ends → length o.bytes + 4 ≤ c → ((e : ℕ) → length o.bytes < e → e + 4 ≤ c → slice_index n.bytes (length n.bytes - e) ≡ 0)
       → LaidInTail L n.most n.bytes (part_place (table_part t)) c (a_table t (entries_in xs))
   unfolding s p
-  table_end t xs each long paired fit known state low_size last sized whole filled zeros =
+  table_end t xs each long paired fit known state low_size last sized whole filled before_it zeros =
       let now = entries_grown L low o n (λ k f. true) (slots_of L t) (stored_in (slots_of L t) xs) ends g state in
       let slot : (k : ℕ) (f : Slot) (x : Option Datum) → slice_get (slots_of L t) k ≡ Some f → slice_get (stored_in (slots_of L t) xs) k ≡ Some x → SlotKnown L low n.most s c within k f x (slice_index ends k) =
       λ k f x fk xk. record {
@@ -137,5 +137,5 @@ module _ (L : LaidSchema) (low c size u : ℕ) (o n : TailSeen) (ends : List ℕ
         slots = slots_read;
       } in
       let below : (k : ℕ) → slice_index ends k < c = λ k. omega (arith, behind, ends_under L low o.most o.bytes (slots_of L t) (stored_in (slots_of L t) xs) ends known each state k) in
-      let tight = table_tight L t low n.most c size u (length o.bytes) s (stored_in (slots_of L t) xs) ends within read known now below last sized whole filled zeros in
-      record { lies = record { within = within; lies = lies }; old = (old, entries.old); tight = (tight, entries.tight); padded = entries.padded }
+      let tight = table_tight L t low n.most c size u (length o.bytes) s (stored_in (slots_of L t) xs) ends within read known now below last sized whole filled before_it zeros in
+      record { lies = record { within = within; lies = lies }; old = (old, entries.old); tight = (tight, entries.tight); padded = entries.padded; bit = tt }

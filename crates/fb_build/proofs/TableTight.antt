@@ -16,16 +16,16 @@ use Rattle.fb_value.specs.Lies.{LiesInline, LiesAtBy}
 use Rattle.fb_value.specs.Num.{Bytes, num, scalar_of}
 use Rattle.fb_value.specs.Places.{vtable, slot_number, is_present}
 use Rattle.fb_value.specs.Tails.{from_end}
-use Rattle.fb_build.specs.CoveredTails.{IsTightInTail}
+use Rattle.fb_build.specs.CoveredTails.{IsTightInTail, BitInTail}
 use Rattle.fb_build.specs.Fields.{is_stored, fields_size, sort_for, SlotFits, StoredFits, StoredEnd, EntriesEnd, AreKnown, HasDefault}
-use Rattle.fb_build.specs.Filled.{AreFilled}
-use Rattle.fb_build.specs.Stored.{stored_of, is_in_field, absent_number, stored_number, EndsWithAField, PadsTableWithZeros}
+use Rattle.fb_build.specs.Filled.{IsLaidSlot, AreFilled}
+use Rattle.fb_build.specs.Stored.{IsBit, HoldsBit, stored_of, is_in_field, absent_number, stored_number, EndsWithAField, PadsTableWithZeros}
 use Rattle.fb_build.specs.TableBytes.{offset_from}
 use Rattle.fb_build.specs.Tails.{TailSeen, Grows}
 use Rattle.fb_build.specs.Taken.{is_within}
 use Rattle.fb_build.proofs.Grown.{lower}
 use Rattle.fb_build.proofs.PassSteps.{in_mapped}
-use Rattle.fb_build.proofs.StoredRead.{TellsStored, stored_size, in_stored, IsNoDefault, none_default, number_at, tells_stored}
+use Rattle.fb_build.proofs.StoredRead.{TellsStored, stored_size, in_stored, IsNoDefault, none_default, StandsInside, TheyStandApart, all_apart, all_bits, number_at, tells_stored}
 use Rattle.fb_build.proofs.StructPads.{zeros_read}
 use Rattle.fb_build.proofs.TableLies.{got}
 use Rattle.fb_build.proofs.Zeros.{zeros_long}
@@ -97,7 +97,7 @@ or_false false b e = (refl, e)
 
 module _ (L : LaidSchema) (t low m c size u count : ℕ) (s : Bytes) (xs : List (Option Datum)) (ends : List ℕ) (within : c ≤ length s) (read : TableRead s (length s - c) c size u ends) (known : AreKnown L (slots_of L t) xs)
     (state : EntriesEnd L low m s (λ k f. true) (slots_of L t) xs ends) (under : (k : ℕ) → slice_index ends k < c) (last : (k : ℕ) → k + 1 ≡ u → 0 < slice_index ends k) (sized : size ≡ 4 + ceil4 (fields_size L (slots_of L t) xs)) (whole : size + low ≡ c)
-    (filled : AreFilled L low count (λ k f. true) (slots_of L t) xs ends) (zeros : (e : ℕ) → count < e → e + 4 ≤ c → slice_index s (length s - e) ≡ 0) where
+    (filled : AreFilled L low count (λ k f. true) (slots_of L t) xs ends) (few : count + 4 ≤ c) (zeros : (e : ℕ) → count < e → e + 4 ≤ c → slice_index s (length s - e) ≡ 0) where
   tells : TellsStored s (length s - c) 0 (slots_of L t) xs
   tells = tells_stored L low m c s s (length s - c) (slots_of L t) xs ends state under read.slots
 
@@ -138,14 +138,14 @@ module _ (L : LaidSchema) (t low m c size u count : ℕ) (s : Bytes) (xs : List 
 
       by_case : (c - i ≤ count) ⊎ (count < c - i) → slice_index s ((length s - c) + i) ≡ 0
       by_case (inl old) =
-          let w = filled (c - i) (omega (arith, below, whole)) old in
-          let some = some_end w.slot w.field w.entry w.is w.has w.stored in
+          let w = filled.each (c - i) (omega (arith, below, whole)) old in
+          let some = some_end w.slot w.field w.entry w.there.is w.there.has w.there.stored in
           let number = read.slots w.slot ∙ number_at c (slice_index ends w.slot) some in
           let from : slot_number s (length s - c) w.slot ≤ i = omega (arith, number, w.before, under w.slot, below, whole) in
           let until : i < slot_number s (length s - c) w.slot + inline_size L w.field.shape = omega (arith, number, w.behind, under w.slot, below, whole) in
           let near : is_within (slot_number s (length s - c) w.slot) (inline_size L w.field.shape) i ≡ true = and_from _ _ (le-leb _ _ from) (lt-ltb _ _ until) in
           let none : 0 + w.slot ≡ w.slot = omega arith in
-          let taken = in_stored L s (length s - c) 0 (slots_of L t) w.slot w.field i w.is (rw none (there_at w.slot w.field w.entry w.is w.has ∙ w.stored)) (rw none near) in
+          let taken = in_stored L s (length s - c) 0 (slots_of L t) w.slot w.field i w.there.is (rw none (there_at w.slot w.field w.entry w.there.is w.there.has ∙ w.there.stored)) (rw none near) in
           absurd (false≢true (sym parts.1 ∙ taken))
       by_case (inr new) =
           let at : (length s - c) + i ≡ length s - (c - i) = omega (arith, within, below, whole) in
@@ -187,6 +187,26 @@ module _ (L : LaidSchema) (t low m c size u count : ℕ) (s : Bytes) (xs : List 
       by_shape (one_of text_kind) shape = by_number _ shape (λ n absent same. without _ shape (λ base e. cc) n absent)
       by_shape (vector_of kind) shape = by_number _ shape (λ n absent same. without _ shape (λ base e. cc) n absent)
 
+  told_bit : (k : ℕ) (f : Slot) → slice_get (slots_of L t) k ≡ Some f → is_present s (length s - c) k ≡ true → HoldsBit s ((length s - c) + slot_number s (length s - c) k) f.shape
+  told_bit k f fk there = by_entry (got xs k (omega (arith, in_mapped (slots_of L t) k f fk, known.long)))
+    where
+      by_shape : (shape : StoredShape) (d : Datum) → BitInTail s (sort_for shape d) (slice_index ends k) → length s - slice_index ends k ≡ (length s - c) + slot_number s (length s - c) k → HoldsBit s ((length s - c) + slot_number s (length s - c) k) shape
+      by_shape (one_of (scalar_kind base)) d h at = subst (λ (q : ℕ). IsBit base (num s q 1)) at h
+      by_shape (one_of (code_kind w)) d h at = tt
+      by_shape (one_of (struct_kind w)) d h at = tt
+      by_shape (one_of (table_kind w)) d h at = tt
+      by_shape (one_of (union_kind w)) d h at = tt
+      by_shape (one_of text_kind) d h at = tt
+      by_shape (vector_of kind) d h at = tt
+
+      by_entry : (x : Option Datum) × (slice_get xs k ≡ Some x) → HoldsBit s ((length s - c) + slot_number s (length s - c) k) f.shape
+      by_entry (None, xk) = absurd (false≢true (sym (there_at k f None fk xk) ∙ there))
+      by_entry (Some d, xk) =
+          let is : is_stored f (Some d) ≡ true = sym (there_at k f (Some d) fk xk) ∙ there in
+          let laid = (state k f (Some d) fk xk).stored is in
+          let number = read.slots k ∙ number_at c (slice_index ends k) (some_end k f (Some d) fk xk is) in
+          by_shape f.shape d laid.1.bit (omega (arith, number, under k, within))
+
   told_number : (k : ℕ) (f : Slot) → slice_get (slots_of L t) k ≡ Some f → is_present s (length s - c) k ≡ true → IsNoDefault s (length s - c) f (slot_number s (length s - c) k)
   told_number k f fk there = by_entry (got xs k (omega (arith, in_mapped (slots_of L t) k f fk, known.long)))
     where
@@ -194,12 +214,48 @@ module _ (L : LaidSchema) (t low m c size u count : ℕ) (s : Bytes) (xs : List 
       by_entry (None, xk) = absurd (false≢true (sym (there_at k f None fk xk) ∙ there))
       by_entry (Some d, xk) = own_number k f d fk xk (sym (there_at k f (Some d) fk xk) ∙ there)
 
+  -- ---- bytes of their own
+
+  -- a slot that is told is laid, and ends before the table
+  record TheLaid (k : ℕ) (f : Slot) : Type 0 where
+    entry : Option Datum
+    slot : IsLaidSlot (λ k f. true) (slots_of L t) xs k f entry
+    number : slot_number s (length s - c) k ≡ c - slice_index ends k
+
+  the_laid : (k : ℕ) (f : Slot) → slice_get (slots_of L t) k ≡ Some f → is_present s (length s - c) k ≡ true → TheLaid k f
+  the_laid k f fk there =
+      let x = got xs k (omega (arith, in_mapped (slots_of L t) k f fk, known.long)) in
+      let is = sym (there_at k f x.0 fk x.1) ∙ there in
+      record { entry = x.0; slot = record { is = fk; has = x.1; stored = is; laid = refl }; number = read.slots k ∙ number_at c (slice_index ends k) (some_end k f x.0 fk x.1 is) }
+
+  stands_inside : (k : ℕ) (f : Slot) → slice_get (slots_of L t) k ≡ Some f → StandsInside L s (length s - c) size f k
+  stands_inside k f fk there =
+      let w = the_laid k f fk there in
+      let own = filled.between k f w.entry w.slot in
+      (omega (arith, w.number, own.1, few), omega (arith, w.number, own.0, under k, whole))
+
+  they_stand_apart : (j k : ℕ) (f g : Slot) → j < k → slice_get (slots_of L t) j ≡ Some f → slice_get (slots_of L t) k ≡ Some g → TheyStandApart L s (length s - c) f g j k
+  they_stand_apart j k f g low fj gk there also =
+      let v = the_laid j f fj there in
+      let w = the_laid k g gk also in
+      by_side (filled.apart j k f g v.entry w.entry v.slot w.slot (λ same. omega (arith, low, same)))
+    where
+      by_side : (slice_index ends j + inline_size L g.shape ≤ slice_index ends k) ⊎ (slice_index ends k + inline_size L f.shape ≤ slice_index ends j)
+          → (slot_number s (length s - c) j + inline_size L f.shape ≤ slot_number s (length s - c) k) ⊎ (slot_number s (length s - c) k + inline_size L g.shape ≤ slot_number s (length s - c) j)
+      by_side (inl h) = let v = the_laid j f fj there in let w = the_laid k g gk also in inr (omega (arith, h, v.number, w.number, under j, under k))
+      by_side (inr h) = let v = the_laid j f fj there in let w = the_laid k g gk also in inl (omega (arith, h, v.number, w.number, under j, under k))
+
   pub table_tight : IsTightInTail L s t (length s - c)
   table_tight = record {
     tight = record {
       size = read.second ∙ sized ∙ ap (λ n. 4 + ceil4 n) (sym (stored_size L s (length s - c) 0 (slots_of L t) xs known.long tells));
       trimmed = trimmed;
       padded = padded;
+      bits = all_bits s (length s - c) 0 (slots_of L t)
+          (λ k f fk there. (let none : 0 + k ≡ k = omega arith in
+          subst (λ (i : ℕ). HoldsBit s ((length s - c) + slot_number s (length s - c) i) f.shape) (sym none) (told_bit k f fk (subst (λ (i : ℕ). is_present s (length s - c) i ≡ true) none there))));
+      own = rw read.second (all_apart L s (length s - c) size 0 (slots_of L t) (λ k f fk. (let none : 0 + k ≡ k = omega arith in subst (StandsInside L s (length s - c) size f) (sym none) (stands_inside k f fk)))
+          (λ j k f g low fj gk. (let none : (i : ℕ) → 0 + i ≡ i = λ i. omega arith in subst (λ (i : ℕ). TheyStandApart L s (length s - c) f g i (0 + k)) (sym (none j)) (subst (TheyStandApart L s (length s - c) f g j) (sym (none k)) (they_stand_apart j k f g low fj gk)))));
       defaults = none_default s (length s - c) 0 (slots_of L t)
           (λ k f fk there. (let none : 0 + k ≡ k = omega arith in
           subst (λ (i : ℕ). IsNoDefault s (length s - c) f (slot_number s (length s - c) i)) (sym none) (told_number k f fk (subst (λ (i : ℕ). is_present s (length s - c) i ≡ true) none there))));

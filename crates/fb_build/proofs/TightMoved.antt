@@ -9,7 +9,7 @@ use Rattle.fb_value.specs.Places.{vtable, slot_number}
 use Rattle.fb_value.specs.EachTable.{EachTableAt}
 use Rattle.fb_value.specs.Tails.{from_end}
 use Rattle.fb_value.proofs.Moved.{each_at_moved}
-use Rattle.fb_build.specs.Stored.{StoredSlot, stored_from, stored_of, stored_number, NoneIsDefault, IsTightTable}
+use Rattle.fb_build.specs.Stored.{StoredSlot, stored_from, stored_of, stored_number, NoneIsDefault, IsBit, HoldsBit, AllHoldBits, IsTightTable}
 use Rattle.fb_build.proofs.Further.{still_inside, number_moved, number_from, vtable_moved}
 use Rattle.fb_build.specs.CoveredTails.{IsTightInTail, TightKeptInFront}
 
@@ -33,6 +33,19 @@ module _ (L : LaidSchema) (b c : Bytes) (k : ℕ) (bytes : (i : ℕ) → slice_i
     defaults_moved [] h = tt
     defaults_moved (x ∷ xs) h = ((λ n is e. h.0 n is (sym (shape_moved x.at x.slot.shape) ∙ e)), defaults_moved xs h.1)
 
+    bit_moved : (at : ℕ) (shape : StoredShape) → HoldsBit b (p + at) shape → HoldsBit c ((k + p) + at) shape
+    bit_moved at (one_of (scalar_kind base)) h = subst (IsBit base) (sym (number_from b c k bytes ((k + p) + at) (p + at) 1 (omega arith))) h
+    bit_moved at (one_of (code_kind u)) h = tt
+    bit_moved at (one_of (struct_kind s)) h = tt
+    bit_moved at (one_of (table_kind t)) h = tt
+    bit_moved at (one_of (union_kind u)) h = tt
+    bit_moved at (one_of text_kind) h = tt
+    bit_moved at (vector_of kind) h = tt
+
+    bits_moved : (xs : List StoredSlot) → AllHoldBits b p xs → AllHoldBits c (k + p) xs
+    bits_moved [] h = tt
+    bits_moved (x ∷ xs) h = (bit_moved x.at x.slot.shape h.0, bits_moved xs h.1)
+
     tight_moved : (t : ℕ) → vtable c (k + p) ≡ k + vtable b p → IsTightTable L b t p → IsTightTable L c t (k + p)
     tight_moved t at h =
         let q = vtable b p in
@@ -44,6 +57,8 @@ module _ (L : LaidSchema) (b c : Bytes) (k : ℕ) (bytes : (i : ℕ) → slice_i
           size = rw (second, stored) h.size;
           trimmed = rw (first, last) h.trimmed;
           padded = rw (second, stored) (λ i low free. ap (λ j. slice_index c j) (omega arith) ∙ bytes (p + i) ∙ h.padded i low free);
+          own = rw (second, stored) h.own;
+          bits = rw stored (bits_moved (stored_of L b t p) h.bits);
           defaults = rw stored (defaults_moved (stored_of L b t p) h.defaults);
         }
 

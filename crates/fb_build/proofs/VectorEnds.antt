@@ -189,7 +189,7 @@ vector_end L m n a b kind ds el g e short counted whole wide own room items =
     let ends : (0 + 4) + num s 0 4 * size_of L kind ≤ length s = (let same : num s 0 4 * size_of L kind ≡ n * size_of L kind = ap (λ i. i * size_of L kind) number in omega (arith, same, room, long)) in
     let keeps : KeepsBy (from_end s b.most) L s (part_place (vector_part kind)) 0 = vector_keeps L (from_end s b.most) s kind 0 front within ends elements in
     let laid = items_grown L a b 4 kind ds g long items in
-    record { lies = record { within = omega arith; lies = rw first (keeps, counted ∙ sym number, laid.0) }; old = rw first laid.1; tight = rw first laid.2; padded = rw first laid.3 }
+    record { lies = record { within = omega arith; lies = rw first (keeps, counted ∙ sym number, laid.0) }; old = rw first laid.1; tight = rw first laid.2; padded = rw first laid.3; bit = tt }
 
 pub parts_back : (items : List Value) (k : ℕ) (v : Value) → k < length items → v ≡ get_or items (length items - 1 - k) v → parts_view (drop (length items - (k + 1)) items) ≡ more_parts (view v) (parts_view (drop (length items - k) items))
 parts_back items k v low is =

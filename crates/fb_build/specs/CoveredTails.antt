@@ -1,12 +1,12 @@
 -- What of a covered buffer is already so in its tail, while bytes are laid in front.
 use Rattle.std.specs.Prelude.{ℕ, ◌+◌, ◌-◌, ◌^◌, ◌≡◌, ◌++◌, false, ◌&&◌, nat_lt, List, length, map}
-use Rattle.fb_layout.specs.Laid.{LaidSchema}
+use Rattle.fb_layout.specs.Laid.{LaidSchema, scalar_kind}
 use Rattle.fb_value.specs.Datum.{Datum}
 use Rattle.fb_value.specs.Num.{Bytes, num}
-use Rattle.fb_value.specs.Places.{Target, Sort, part_place}
+use Rattle.fb_value.specs.Places.{Target, Sort, part_place, inline_place}
 use Rattle.fb_value.specs.EachTable.{EachTableAt}
 use Rattle.fb_value.specs.Tails.{LiesInTail}
-use Rattle.fb_build.specs.Stored.{IsTightTable}
+use Rattle.fb_build.specs.Stored.{IsBit, IsTightTable}
 use Rattle.fb_build.specs.StructBytes.{PadsStructWithZeros, EachStructAt}
 use Rattle.fb_build.specs.Pieces.{PartAt, reached, tables_vtables, Piece, part_piece}
 
@@ -42,6 +42,11 @@ pub record PartsKeptInFront (L : LaidSchema) (front s : Bytes) (X : Target) (e :
 
 abbrev pub ReachedKeptInFront : Type 0
 ReachedKeptInFront = (L : LaidSchema) (m : ℕ) (front s : Bytes) (X : Target) (e : ℕ) (d : Datum) → LiesInTail L m s (part_place X) e d → PartsKeptInFront L front s X e d
+
+-- What stands e bytes before the end is 0 or 1, if it is a `bool`.
+abbrev pub BitInTail : Bytes → Sort → ℕ → Type 0
+BitInTail s (inline_place (scalar_kind base)) e = IsBit base (num s (length s - e) 1)
+BitInTail s _ e = Unit {0}
 
 -- The structs of the value that lies e bytes before the end have nothing to spare.
 abbrev pub PaddedInTail : LaidSchema → Bytes → Sort → ℕ → Datum → Type 0

@@ -1,6 +1,8 @@
 -- The fields that a table stores, told by its vtable.
 -- From the FlatBuffers documentation, "FlatBuffer Internals": Tables (a vtable's first numbers are its own size and the table's, and a field that isn't stored has 0).
-use Rattle.std.specs.Prelude.{ℕ, suc, ◌+◌, ◌-◌, ◌≡◌, ◌≢◌, ◌<◌, ◌⊎◌, Bool, false, ◌||◌, nat_lt, List, [], ◌∷◌, sum_by, if◌then◌else◌, Option, None, Some, ℤ, pos}
+use Rattle.std.specs.Prelude.{ℕ, suc, ◌+◌, ◌-◌, ◌≡◌, ◌≢◌, ◌<◌, ◌≤◌, ◌⊎◌, Bool, false, ◌||◌, nat_lt, List, [], ◌∷◌, sum_by, if◌then◌else◌, Option, None, Some, ℤ, pos}
+use Rattle.fb_schema.specs.declared.kinds.Base.{Base}
+use Rattle.fb_schema.specs.declared.kinds.Base.TheVariants.{Bool as Boolean}
 use Rattle.fb_schema.specs.Alignments.{base_size}
 use Rattle.fb_layout.specs.Laid.{LaidSchema, Slot, scalar_kind, code_kind, StoredShape, one_of, slots_of}
 use Rattle.fb_layout.specs.Sizes.{ceil4}
@@ -58,9 +60,45 @@ NoneIsDefault b p (x ∷ xs) = ((n : ℤ) → absent_number x.slot x.slot.shape 
 abbrev pub StoresNoDefault : LaidSchema → Bytes → ℕ → ℕ → Type 0
 StoresNoDefault L b t p = NoneIsDefault b p (stored_of L b t p)
 
+-- Two fields share no byte.
+abbrev pub StandApart : LaidSchema → StoredSlot → StoredSlot → Type 0
+StandApart L x y = (x.at + inline_size L x.slot.shape ≤ y.at) ⊎ (y.at + inline_size L y.slot.shape ≤ x.at)
+
+abbrev pub StandsApartFrom : LaidSchema → StoredSlot → List StoredSlot → Type 0
+StandsApartFrom L x [] = Unit {0}
+StandsApartFrom L x (y ∷ ys) = StandApart L x y × StandsApartFrom L x ys
+
+-- Fields stand behind the first number of a table of a size and inside of it, and no two share a byte.
+abbrev pub AllStandApart : LaidSchema → ℕ → List StoredSlot → Type 0
+AllStandApart L size [] = Unit {0}
+AllStandApart L size (x ∷ xs) = (4 ≤ x.at) × (x.at + inline_size L x.slot.shape ≤ size) × StandsApartFrom L x xs × AllStandApart L size xs
+
+-- Each stored field has bytes of its own in the table.
+abbrev pub HasItsOwnBytes : LaidSchema → Bytes → ℕ → ℕ → Type 0
+HasItsOwnBytes L b t p = AllStandApart L (num b (vtable b p + 2) 2) (stored_of L b t p)
+
+-- A `bool` is 0 or 1.
+abbrev pub IsBit : Base → ℕ → Type 0
+IsBit Boolean x = x < 2
+IsBit _ x = Unit {0}
+
+abbrev pub HoldsBit : Bytes → ℕ → StoredShape → Type 0
+HoldsBit b q (one_of (scalar_kind base)) = IsBit base (num b q 1)
+HoldsBit b q _ = Unit {0}
+
+abbrev pub AllHoldBits : Bytes → ℕ → List StoredSlot → Type 0
+AllHoldBits b p [] = Unit {0}
+AllHoldBits b p (x ∷ xs) = HoldsBit b (p + x.at) x.slot.shape × AllHoldBits b p xs
+
+-- Each stored `bool` is 0 or 1.
+abbrev pub HoldsBits : LaidSchema → Bytes → ℕ → ℕ → Type 0
+HoldsBits L b t p = AllHoldBits b p (stored_of L b t p)
+
 -- A table and its vtable have nothing to spare.
 pub record IsTightTable (L : LaidSchema) (b : Bytes) (t p : ℕ) : Type 0 where
   pub size : TellsItsSize L b t p
   pub trimmed : EndsWithAField b p
   pub padded : PadsTableWithZeros L b t p
   pub defaults : StoresNoDefault L b t p
+  pub own : HasItsOwnBytes L b t p
+  pub bits : HoldsBits L b t p

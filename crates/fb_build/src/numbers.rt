@@ -7,6 +7,7 @@ ghost use Rattle.fb_value.specs.Datum.{a_number};
 ghost use Rattle.fb_value.specs.Num.{num, scalar_of, divides};
 ghost use Rattle.fb_value.specs.Places.{inline_place};
 ghost use Rattle.fb_build.specs.Tails.{Grows, LaidInTail};
+ghost use Rattle.fb_build.specs.Stored.{IsBit};
 
 use crate::tail::Tail;
 use fb_schema::Base;
@@ -16,6 +17,7 @@ fn bits_of(base: Base, number: i128) -> u64
     requires { InRange base number }
     ensures fits { result < 256 ^ base_size base }
     ensures means { number ≡ scalar_of base result }
+    ensures bit { IsBit base result }
 {
     match base {
         Base::Bool | Base::U8 | Base::U16 | Base::U32 | Base::U64 => number as u64,
@@ -31,6 +33,7 @@ pub(crate) fn put_number(out: &mut Tail, base: Base, number: i128)
     requires range { InRange base number }
     requires room { base_size base ≤ out.old.free }
     ensures reads { number ≡ scalar_of base (num out.new.bytes 0 (base_size base)) }
+    ensures bit { IsBit base (num out.new.bytes 0 1) }
     ensures free { out.new.free + base_size base ≡ out.old.free }
     ensures long { length out.new.bytes ≡ length out.old.bytes + base_size base }
     ensures most { out.new.most ≡ out.old.most }

@@ -64,5 +64,5 @@ returns-clause-lies c =
     c.args.table.0 xs c.requires.each c.requires.fits.long c.requires.fits.paired c.requires.fits.fits c.requires.fits.known c.requires.state
     (omega (arith, padded, c.pad.ensures.free, c.pad.ensures.under, c.count.ensures.exact, c.requires.narrow)) (last_used u ends c.put_vtable-slots.ensures.last)
     (omega (arith, padded, c.pad.ensures.free, c.pad.ensures.under, c.pad.ensures.multiple, c.requires.whole, c.requires.size, c.count.ensures.exact))
-    (omega (arith, padded, c.pad.ensures.free, c.requires.start, c.count.ensures.exact)) c.requires.filled
+    (omega (arith, padded, c.pad.ensures.free, c.requires.start, c.count.ensures.exact)) c.requires.filled (omega (arith, padded, c.pad.ensures.free, c.count.ensures.exact))
     (λ e over low. zeros_stay c.pad.new.self n o.bytes c.pad.result e c.pad.ensures.bytes c.lay_vtable.ensures.grows over (omega (arith, low, c.count.ensures.exact))))
