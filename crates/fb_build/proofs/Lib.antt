@@ -50,3 +50,4 @@ pub mod Leads
 pub mod VectorLeads
 pub mod EndsParts
 pub mod MadeLoops
+pub mod FieldLeadSteps

@@ -1,5 +1,5 @@
 -- What is made so far while a buffer is laid from its end: parts and vtables, each once, and few zeros between them.
-use Rattle.std.specs.Prelude.{ℕ, zero, suc, ◌+◌, ◌-◌, ◌*◌, ◌≡◌, ◌≤◌, ◌++◌, List, [], ◌∷◌, length, map, drop, slice_get, slice_index, Option, None, Some, option_map}
+use Rattle.std.specs.Prelude.{ℕ, zero, suc, ◌+◌, ◌-◌, ◌*◌, ◌≡◌, ◌≤◌, ◌<◌, ◌++◌, Bool, true, false, max, List, [], ◌∷◌, length, replicate, map, drop, slice_get, slice_index, Option, None, Some, option_map}
 use Rattle.std.specs.List.{All}
 use Rattle.fb_layout.specs.Laid.{LaidSchema, Slot, StoredKind, StoredShape, one_of, vector_of, size_of}
 use Rattle.fb_value.specs.Datum.{Datum, a_text, a_vector, a_table, a_member}
@@ -8,7 +8,7 @@ use Rattle.fb_value.specs.Places.{Target, table_part, member_part, text_part, ve
 use Rattle.fb_build.specs.Pieces.{PartAt, part_size, part_align, greatest_align, vtable_of, is_among, tables_vtables}
 use Rattle.fb_build.specs.CoveredTails.{part_further, parts_in_tail}
 use Rattle.fb_build.specs.CoveredSteps.{MadeInTail}
-use Rattle.fb_build.specs.Fields.{target_for}
+use Rattle.fb_build.specs.Fields.{is_stored, target_for}
 use Rattle.fb_build.specs.Tails.{TailSeen}
 
 -- Whatever is laid in front of a tail, a part of it is as great, has its vtable and is aligned as before, further on.
@@ -87,3 +87,22 @@ named_stored f (Some d) = named_of f.shape d
 abbrev pub named_fields : List Slot → List (Option Datum) → List (Option NamedPart)
 named_fields (f ∷ fs) (x ∷ xs) = named_stored f x ∷ named_fields fs xs
 named_fields _ _ = []
+
+-- The end-count of a slot: once its field is laid, its reference leads where its part was laid; before, it is that part's.
+abbrev pub FieldLeads : Bytes → Bool → Slot → Option Datum → ℕ → ℕ → Type 0
+FieldLeads s false f x target e = e ≡ target
+FieldLeads s true f None target e = Unit {0}
+FieldLeads s true f (Some d) target e = is_stored f (Some d) ≡ true → LeadsTo s (target_for f.shape d) e target
+
+abbrev pub FieldsLead : Bytes → (ℕ → Slot → Bool) → List Slot → List (Option Datum) → List ℕ → List ℕ → Type 0
+FieldsLead s laid fs xs targets ends =
+    (k : ℕ) (f : Slot) (x : Option Datum) → slice_get fs k ≡ Some f → slice_get xs k ≡ Some x → FieldLeads s (laid k f) f x (slice_index targets k) (slice_index ends k)
+
+-- From one tail to a later one, zeros up to a multiple and a table's fields were laid.
+pub record FieldsFront (a b : TailSeen) (start align : ℕ) : Type 0 where
+  pub fields : Bytes
+  pub zeros : ℕ
+  pub laid : b.bytes ≡ fields ++ (replicate zeros 0 ++ a.bytes)
+  pub begin : start ≡ zeros + length a.bytes
+  pub under : zeros < align
+  pub most : b.most ≡ max a.most align

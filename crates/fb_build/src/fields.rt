@@ -1,12 +1,12 @@
 //! Lays the fields of tables.
-ghost use Rattle.std.specs.Prelude.{ℕ, drop, ◌≡◌, ◌≤◌, ◌+◌, ◌%◌, length, true, false, max};
+ghost use Rattle.std.specs.Prelude.{ℕ, List, drop, ◌≡◌, ◌≤◌, ◌+◌, ◌%◌, length, true, false, max};
 ghost use Rattle.fb_layout.specs.Laid.{LaidSchema};
 ghost use Rattle.fb_layout.specs.Widths.{inline_size, inline_align, greatest};
 ghost use Rattle.fb_value.specs.Datum.{Datum};
 ghost use Rattle.fb_value.specs.Num.{divides};
 ghost use Rattle.fb_value.specs.Places.{Target, part_place, ref_place};
 ghost use Rattle.fb_value.specs.View.{view};
-ghost use Rattle.fb_build.specs.Made.{LeadsEnd};
+ghost use Rattle.fb_build.specs.Made.{LeadsEnd, FieldLeads, FieldsLead, FieldsFront};
 ghost use Rattle.fb_build.specs.Tails.{Grows, LaidInTail};
 ghost use Rattle.fb_build.specs.Fields.{IsSimple, StoredFits, stored_seen, next_code, is_coded};
 ghost use Rattle.fb_build.specs.Fields.{scalar_in, number_in, number_of_datum, is_stored, above, from};
@@ -188,6 +188,8 @@ fn lay_field(
         → StoredEnd layout.now low out.new.most out.new.bytes true (slot_seen layout.now slot.now)
         (entry_stored layout.now slot.now code entry.now) result }
     ensures exact { result ≡ length out.new.bytes }
+    ensures leads { FieldLeads out.new.bytes true (slot_seen layout.now slot.now)
+        (entry_stored layout.now slot.now code entry.now) end result }
     ensures free { out.new.free + inline_size layout.now (shape_seen layout.now slot.now.shape)
         ≡ out.old.free }
     ensures most { out.new.most ≡ out.old.most }
@@ -235,6 +237,10 @@ fn lay_pass(
         (slots_seen layout.now slots.now) (stored_seen layout.now slots.now entries.now) ends.new }
     ensures filled { AreFilled layout.now start (length out.new.bytes) (λ k. from layout.now align)
         (slots_seen layout.now slots.now) (stored_seen layout.now slots.now entries.now) ends.new }
+    ensures leads { (targets : List ℕ) → FieldsLead out.old.bytes (λ k. above layout.now align)
+        (slots_seen layout.now slots.now) (stored_seen layout.now slots.now entries.now) targets ends.old
+        → FieldsLead out.new.bytes (λ k. from layout.now align) (slots_seen layout.now slots.now)
+        (stored_seen layout.now slots.now entries.now) targets ends.new }
     ensures whole { divides align (length out.new.bytes) ≡ true }
     ensures free { out.new.free + size_at layout.now align (slots_seen layout.now slots.now)
         (stored_seen layout.now slots.now entries.now) ≡ out.old.free }
@@ -313,6 +319,10 @@ pub(crate) fn lay_fields(
         (slots_seen layout.now slots.now) (stored_seen layout.now slots.now entries.now) ends.new }
     ensures filled { AreFilled layout.now result (length out.new.bytes) (λ k f. true)
         (slots_seen layout.now slots.now) (stored_seen layout.now slots.now entries.now) ends.new }
+    ensures leads { FieldsLead out.new.bytes (λ k f. true) (slots_seen layout.now slots.now)
+        (stored_seen layout.now slots.now entries.now) ends.old ends.new }
+    ensures front { FieldsFront out.old out.new result (max 4 (stored_align layout.now
+        (slots_seen layout.now slots.now) (stored_seen layout.now slots.now entries.now))) }
     ensures bound { out.new.most ≤ max out.old.most (greatest layout.now) }
     ensures grows { Grows out.old out.new }
     ensures wide { divides 4 out.new.most ≡ true }
