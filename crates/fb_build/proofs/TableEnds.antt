@@ -15,11 +15,10 @@ use Rattle.fb_build.specs.Fields.{EntriesEnd, AreKnown, stored_in, fields_size}
 use Rattle.fb_build.specs.Filled.{AreFilled}
 use Rattle.fb_build.specs.TableBytes.{offset_from, offset_bytes, vtable_bytes, VtableEnd}
 use Rattle.fb_build.proofs.Standing.{num_behind, num_first, num_standing}
-use Rattle.fb_build.proofs.VtableSteps.{vtable_is, vtable_good, slot_there, slot_past, table_lies}
+use Rattle.fb_build.proofs.VtableSteps.{vtable_is, vtable_inside, vtable_good, slot_there, slot_past, table_lies}
 use Rattle.fb_build.proofs.FieldSteps.{entries_grown, entry_under}
 use Rattle.fb_build.proofs.TableLies.{SlotKnown, all_lie, p}
 use Rattle.fb_build.proofs.TableSpent.{ends_under, unused_end}
-use Rattle.fb_build.proofs.PiecesMoved.{table_inside}
 use Rattle.fb_build.proofs.TableTight.{TableRead, table_tight}
 use Rattle.fb_value.specs.Entries.{EntryFits}
 use Rattle.fb_build.specs.Paired.{ArePaired}
@@ -103,6 +102,17 @@ module _ (L : LaidSchema) (low c size u : ℕ) (o n : TailSeen) (ends : List ℕ
       by_case (inl under) = slot_there (from_end s n.most) s (length s - c) (length s - v.at) u low_place low_vtable v.way size_reads k under ∙ offset_reads k under
       by_case (inr past) = slot_past (from_end s n.most) s (length s - c) (length s - v.at) u low_place low_vtable v.way size_reads k past ∙ sym (ap (offset_from c) (rest k past))
 
+  -- what the table and its vtable read
+  pub table_read : size < 256 ^ 2 → TableRead n.bytes (length n.bytes - c) c size u ends
+  unfolding s
+  table_read low_size = record {
+    inside = vtable_inside (from_end s n.most) s (length s - c) (length s - v.at) u low_place low_vtable v.way size_reads;
+    first = rw vtable_at size_reads;
+    second = rw vtable_at (second_reads low_size);
+    each = λ k under. rw vtable_at (offset_reads k under);
+    slots = slots_read;
+  }
+
   pub table_end : (t : ℕ) (xs : List (Option Datum)) → length ends ≡ length (slots_of L t) → length (slots_of L t) ≡ length xs → ArePaired (slots_of L t) → ((k : ℕ) (f : Slot) (x : Option Datum) → slice_get (slots_of L t) k ≡ Some f → slice_get xs k ≡ Some x → EntryFits L f x)
       → AreKnown L (slots_of L t) (stored_in (slots_of L t) xs) → EntriesEnd L low o.most o.bytes (λ k f. true) (slots_of L t) (stored_in (slots_of L t) xs) ends
       → size < 256 ^ 2 → ((k : ℕ) → k + 1 ≡ u → 0 < slice_index ends k) → size ≡ 4 + ceil4 (fields_size L (slots_of L t) (stored_in (slots_of L t) xs)) → size + low ≡ c
@@ -129,13 +139,6 @@ module _ (L : LaidSchema) (low c size u : ℕ) (o n : TailSeen) (ends : List ℕ
       let inside : (length s - c) + 4 ≤ length s = omega (arith, within, behind, eqb-true _ _ four) in
       let old : IsOldTable L s t (length s - c) = λ k out. slots_read k ∙ ap (offset_from c) (unused_end L low o.most o.bytes (slots_of L t) (stored_in (slots_of L t) xs) ends known each state k out) in
       let lies = table_lies L (from_end s n.most) s t (length s - c) (entries_in xs) aligned inside good entries.kept entries.lie in
-      let read : TableRead s (length s - c) c size u ends = record {
-        inside = table_inside (from_end s n.most) L s t (length s - c) lies.0;
-        first = rw vtable_at size_reads;
-        second = rw vtable_at (second_reads low_size);
-        each = λ k under. rw vtable_at (offset_reads k under);
-        slots = slots_read;
-      } in
       let below : (k : ℕ) → slice_index ends k < c = λ k. omega (arith, behind, ends_under L low o.most o.bytes (slots_of L t) (stored_in (slots_of L t) xs) ends known each state k) in
-      let tight = table_tight L t low n.most c size u (length o.bytes) s (stored_in (slots_of L t) xs) ends within read known now below last sized whole filled before_it zeros in
+      let tight = table_tight L t low n.most c size u (length o.bytes) s (stored_in (slots_of L t) xs) ends within (table_read low_size) known now below last sized whole filled before_it zeros in
       record { lies = record { within = within; lies = lies }; old = (old, entries.old); tight = (tight, entries.tight); padded = entries.padded; bit = tt }

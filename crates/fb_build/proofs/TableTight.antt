@@ -14,10 +14,11 @@ use Rattle.fb_layout.specs.Widths.{inline_size}
 use Rattle.fb_value.specs.Datum.{Datum, a_number, a_text, a_vector, a_struct, a_table, a_member, an_unknown}
 use Rattle.fb_value.specs.Lies.{LiesInline, LiesAtBy}
 use Rattle.fb_value.specs.Num.{Bytes, num, scalar_of}
-use Rattle.fb_value.specs.Places.{vtable, slot_number, is_present}
+use Rattle.fb_value.specs.Places.{table_part, vtable, slot_number, is_present}
 use Rattle.fb_value.specs.Tails.{from_end}
 use Rattle.fb_build.specs.CoveredTails.{IsTightInTail, BitInTail}
-use Rattle.fb_build.specs.Fields.{is_stored, fields_size, sort_for, SlotFits, StoredFits, StoredEnd, EntriesEnd, AreKnown, HasDefault}
+use Rattle.fb_build.specs.Fields.{is_stored, fields_size, stored_align, sort_for, SlotFits, StoredFits, StoredEnd, EntriesEnd, AreKnown, HasDefault}
+use Rattle.fb_build.specs.Pieces.{part_size, part_align}
 use Rattle.fb_build.specs.Filled.{IsLaidSlot, AreFilled}
 use Rattle.fb_build.specs.Stored.{IsBit, HoldsBit, stored_of, is_in_field, absent_number, stored_number, EndsWithAField, PadsTableWithZeros}
 use Rattle.fb_build.specs.TableBytes.{offset_from}
@@ -25,7 +26,7 @@ use Rattle.fb_build.specs.Tails.{TailSeen, Grows}
 use Rattle.fb_build.specs.Taken.{is_within}
 use Rattle.fb_build.proofs.Grown.{lower}
 use Rattle.fb_build.proofs.PassSteps.{in_mapped}
-use Rattle.fb_build.proofs.StoredRead.{TellsStored, stored_size, in_stored, IsNoDefault, none_default, StandsInside, TheyStandApart, all_apart, all_bits, number_at, tells_stored}
+use Rattle.fb_build.proofs.StoredRead.{TellsStored, stored_size, stored_greatest, in_stored, IsNoDefault, none_default, StandsInside, TheyStandApart, all_apart, all_bits, number_at, tells_stored}
 use Rattle.fb_build.proofs.StructPads.{zeros_read}
 use Rattle.fb_build.proofs.TableLies.{got}
 use Rattle.fb_build.proofs.Zeros.{zeros_long}
@@ -37,6 +38,14 @@ pub record TableRead (b : Bytes) (p c size u : ℕ) (ends : List ℕ) : Type 0 w
   pub second : num b (vtable b p + 2) 2 ≡ size
   pub each : (k : ℕ) → k < u → num b (vtable b p + (4 + 2 * k)) 2 ≡ offset_from c (slice_index ends k)
   pub slots : (k : ℕ) → slot_number b p k ≡ offset_from c (slice_index ends k)
+
+-- how many bytes the table takes, and what it is aligned to
+pub laid_size : (L : LaidSchema) (b : Bytes) (t p c size u : ℕ) (ends : List ℕ) → TableRead b p c size u ends → part_size L b (table_part t) p ≡ size
+laid_size L b t p c size u ends read = read.second
+
+pub laid_align : (L : LaidSchema) (low m c : ℕ) (s b : Bytes) (t p size u : ℕ) (xs : List (Option Datum)) (ends : List ℕ) → length (slots_of L t) ≡ length xs → EntriesEnd L low m s (λ k f. true) (slots_of L t) xs ends → ((k : ℕ) → slice_index ends k < c)
+    → TableRead b p c size u ends → part_align L b (table_part t) p ≡ stored_align L (slots_of L t) xs
+laid_align L low m c s b t p size u xs ends long state under read = stored_greatest L b p 0 (slots_of L t) xs long (tells_stored L low m c s b p (slots_of L t) xs ends state under read.slots)
 
 -- zeros that were laid, in bytes that have grown
 pub zeros_stay : (a b : TailSeen) (o : Bytes) (r e : ℕ) → a.bytes ≡ replicate r 0 ++ o → Grows a b → length o < e → e ≤ length a.bytes → slice_index b.bytes (length b.bytes - e) ≡ 0

@@ -23,6 +23,10 @@ module _ (al : Aligned) (b : Bytes) (p q n : ℕ) (low : p < 2 ^ 31) (high : q <
   pub vtable_is : vtable b p ≡ q
   vtable_is = rw facts.0 facts.1
 
+  -- the vtable isn't before the bytes
+  pub vtable_inside : (nat_lt (num b p 4) (2 ^ 31) && nat_lt p (num b p 4)) ≡ false
+  vtable_inside = rw facts.0 facts.2
+
   pub vtable_good : al 2 q ≡ true → q + (4 + 2 * n) ≤ length b → has_vtable_by al b p ≡ true
   vtable_good even room =
       let first : not (nat_lt (num b p 4) (2 ^ 31) && nat_lt p (num b p 4)) ≡ true = not_from_false _ (rw facts.0 facts.2) in

@@ -187,9 +187,13 @@ fn lay_field(
     ensures lies { (low : ℕ) → low ≤ length out.old.bytes
         → StoredEnd layout.now low out.new.most out.new.bytes true (slot_seen layout.now slot.now)
         (entry_stored layout.now slot.now code entry.now) result }
+<<<<<<< HEAD
     ensures exact { result ≡ length out.new.bytes }
     ensures leads { FieldLeads out.new.bytes true (slot_seen layout.now slot.now)
         (entry_stored layout.now slot.now code entry.now) end result }
+=======
+    ensures end { result ≡ length out.new.bytes }
+>>>>>>> h1
     ensures free { out.new.free + inline_size layout.now (shape_seen layout.now slot.now.shape)
         ≡ out.old.free }
     ensures most { out.new.most ≡ out.old.most }
