@@ -7,7 +7,10 @@ pub mod VtableSteps
 pub mod FieldSteps
 pub mod TableLies
 pub mod PassSteps
+pub mod EndSteps
 pub mod TableEnds
+pub mod VtableOf
+pub mod VtableKeys
 pub mod Found
 pub mod VtableEnds
 pub mod TableSpent

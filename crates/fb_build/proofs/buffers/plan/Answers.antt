@@ -19,6 +19,16 @@ add_table-requires-clause-small c =
     let within = need_within L (view c.args.value.now) (all_known c.args.layout.now c.schema-schema.ensures.made) fits c.in-Some.ensures.0 in
     rw (c.in-Fields.is, view-Fields c.in-Fields.table c.in-Fields.entries) at within
 
+pub add_table-requires-clause-fits : goal.add_table-requires-clause-fits
+add_table-requires-clause-fits c =
+    let L = c.args.layout.now in
+    let fits = (root_fits L _ c.schema-schema.ensures.made).0 c.requires.fits in
+    let own = rw (c.in-Fields.is, view-Fields c.in-Fields.table c.in-Fields.entries) at fits in
+    rw own.0 own.1
+
+pub add_table-requires-clause-whole : goal.add_table-requires-clause-whole
+add_table-requires-clause-whole c = rw (c.in-Fields.is, view-Fields c.in-Fields.table c.in-Fields.entries) at c.requires.whole
+
 pub invariant_of-result : goal.invariant_of-result
 invariant_of-result c =
     let L = c.args.layout.now in
