@@ -1,8 +1,8 @@
-use Rattle.std.proofs.Common.{◌≡◌, ◌≤◌, ◌∙◌, true, sym, ap, subst, if◌then◌else◌, ◌&&◌, ℕ, Bool, length, slice_index, arith, rules}
+use Rattle.std.proofs.Common.{◌≡◌, ◌≤◌, ◌∙◌, true, sym, ap, if◌then◌else◌, Bool, length, arith, rules}
 use Rattle.std.proofs.lemmas.Bool.{lt-ltb}
 use Rattle.fb_layout.specs.Widths.{inline_align}
 use Rattle.fb_build.specs.Fields.{is_stored, slots_seen, stored_seen, stored_align, stored_below, above, from}
-use Rattle.fb_build.specs.FieldEnds.{stored_end, field_end}
+use Rattle.fb_build.specs.FieldEnds.{stored_end}
 use Rattle.fb_build.proofs.TableRoom.{above_none, above_all, above_next, below_least, below_less, from_next}
 use Rattle.fb_build.proofs.PassSteps.{slots_long}
 use Rattle.fb_build.proofs.Simple.{simple_aligned, aligned_some}
