@@ -1,10 +1,13 @@
-use Rattle.std.proofs.Common.{◌≡◌, ◌≤◌, ◌∙◌, sym, length, arith}
+use Rattle.std.proofs.Common.{◌≡◌, ◌≤◌, ◌∙◌, sym, length, map, arith}
+use Rattle.std.proofs.lemmas.List.{length-map}
 use Rattle.std.specs.Vec.{with_items}
 use Rattle.fb_value.specs.Room.{room_of}
 use Rattle.fb_value.specs.View.{view}
 use Rattle.fb_value.proofs.Views.{view-Fields}
 use Rattle.fb_value.proofs.Nested.{nesting_of_depth_shown, root_fits}
 use Rattle.fb_build.specs.Needs.{need}
+use Rattle.fb_build.specs.Vtables.{VtablesKnown}
+use Rattle.fb_build.proofs.Found.{different}
 use Rattle.fb_build.proofs.Simple.{all_known}
 use Rattle.fb_build.proofs.Reserved.{long_in, zeros_in, zero_in, need_within}
 use Rattle.fb_build.proofs.buffers.plan.Goals as goal
@@ -41,6 +44,7 @@ invariant_of-result c =
     let wide : 65534 ≤ length scratch.items = omega (arith, bytes) in
     let long : length c.in_ok-block.block.items ≡ room_of L (view c.args.value.now) = long_in _ _ block ∙ c.in-Some.ensures.1 in
     let short : length c.in_ok-block.block.items ≤ 2147483647 = omega (arith, long, c.in-Some.ensures.0) in
+    let known : VtablesKnown L (map (λ k. k.items) c.add_table.new.known.keys) (view c.args.value.now) = rw (c.in-Fields.is, view-Fields c.in-Fields.table c.in-Fields.entries) c.in_ok-waiting.ensures.known in
     record {
       sliced = (all_known c.args.layout.now c.schema-schema.ensures.made);
       fits = (root_fits L _ c.schema-schema.ensures.made).0 c.requires.fits;
@@ -51,4 +55,7 @@ invariant_of-result c =
       pending = enough;
       scratch = wide;
       none_laid = zero_in _ _ places;
+      known = known;
+      different = different (λ k. k.items) c.add_table.new.known.keys c.len.ensures.unique;
+      places = omega (arith, long_in _ _ places, c.len.ensures.len, length-map c.add_table.new.known.keys (λ k. k.items));
     }
