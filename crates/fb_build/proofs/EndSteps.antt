@@ -8,8 +8,8 @@ use Rattle.fb_layout.specs.Widths.{inline_size, inline_align}
 use Rattle.fb_value.specs.Datum.{Datum}
 use Rattle.fb_build.specs.Fields.{is_stored, is_at, size_if_at, size_at, size_above, fields_size, stored_below, stored_align, above, from}
 use Rattle.fb_build.specs.FieldEnds.{stored_end, AreCounted, ArePlaced}
-use Rattle.fb_build.proofs.PassSteps.{by_index, same_some, ltb_yes, ltb_out, in_mapped}
-use Rattle.fb_build.proofs.TableRoom.{NoneBetween, from_next, above_next, above_part, below_less, below_least, none_above}
+use Rattle.fb_build.proofs.PassSteps.{by_index, same_some, ltb_yes, ltb_out}
+use Rattle.fb_build.proofs.TableRoom.{above_next, above_part, below_less, below_least, none_above}
 
 -- ---- the sizes of the slots before one
 

@@ -1,13 +1,13 @@
 -- The vtables of a value's tables, while keys are added.
-use Rattle.std.proofs.Common.{◌≡◌, ℕ, zero, suc, ◌+◌, ◌<◌, ◌⊎◌, inl, inr, true, false, List, [], ◌∷◌, length, map, max, drop, get_or, slice_get, Option, None, Some, option_map, refl, ap, sym, ◌∙◌, subst, arith}
+use Rattle.std.proofs.Common.{◌≡◌, ℕ, zero, suc, ◌+◌, ◌<◌, ◌⊎◌, inl, inr, false, List, [], ◌∷◌, length, max, drop, get_or, slice_get, Option, None, Some, option_map, refl, ap, sym, ◌∙◌, subst, arith}
 use Rattle.fb_schema.specs.declared.kinds.Base.{Base}
 use Rattle.fb_layout.specs.Laid.{LaidSchema, Slot, StoredKind, scalar_kind, struct_kind, table_kind, union_kind, code_kind, text_kind, StoredShape, one_of, vector_of, slots_of}
 use Rattle.fb_value.specs.Datum.{Datum, a_number, a_text, a_vector, a_struct, a_table, a_member, an_unknown, Parts, no_parts, more_parts, SlotEntries, no_entries, absent_entry, present_entry}
 use Rattle.fb_value.specs.Fits.{Fits, EntriesFit, EachFits}
 use Rattle.fb_value.specs.Num.{Bytes}
-use Rattle.fb_value.specs.View.{view, parts_in, parts_view, entries_in, entries_view}
+use Rattle.fb_value.specs.View.{view, parts_view, entries_in, entries_view}
 use Rattle.fb_value.specs.declared.values.Value.{Value}
-use Rattle.fb_build.specs.Fields.{IsSimple, IsElement, entries_seen}
+use Rattle.fb_build.specs.Fields.{IsSimple, IsElement}
 use Rattle.fb_build.specs.Needs.{first_waits, need, parts_need, entries_need, entry_need}
 use Rattle.fb_build.proofs.PassSteps.{by_index}
 use Rattle.fb_build.specs.Vtables.{IsKey, AreKept, entries_listed, VtablesKnown, PartsVtablesKnown, EntriesVtablesKnown, EntryVtablesKnown, FitsSomewhere, EntryFitsSomewhere, EachFitsSomewhere}
