@@ -11,7 +11,10 @@ pub mod StoredRead
 pub mod PassSteps
 pub mod FilledSteps
 pub mod TableTight
+pub mod EndSteps
 pub mod TableEnds
+pub mod VtableOf
+pub mod VtableKeys
 pub mod Found
 pub mod VtableEnds
 pub mod TableSpent

@@ -2,6 +2,8 @@ pub mod Ends
 pub mod Tails
 pub mod Fields
 pub mod TableBytes
+pub mod FieldEnds
+pub mod Vtables
 pub mod Needs
 pub mod Paired
 pub mod Parts

@@ -1,5 +1,5 @@
 -- A plan as it is held: its memory is enough for its value.
-use Rattle.std.specs.Prelude.{ℕ, ◌≡◌, ◌≤◌, true, length, replicate, slice_index}
+use Rattle.std.specs.Prelude.{ℕ, ◌≡◌, ◌≤◌, true, length, map, replicate, slice_index}
 use Rattle.fb_layout.specs.Laid.{one_of, table_kind}
 use Rattle.fb_value.specs.Counts.{is_whole}
 use Rattle.fb_value.specs.Fits.{Fits}
@@ -8,6 +8,7 @@ use Rattle.fb_value.specs.View.{view}
 use Rattle.fb_build.specs.declared.plans.Plan.TheInside.{Inside}
 use Rattle.fb_build.specs.Needs.{need, IsSliced}
 use Rattle.fb_build.specs.Planned.{Planned}
+use Rattle.fb_build.specs.Vtables.{AreDifferent, VtablesKnown}
 
 abbrev pub planned_seen : Inside → Planned
 planned_seen p = record { layout = p.layout.now; value = p.value.now }
@@ -22,3 +23,6 @@ pub record IsReady (p : Inside) : Type 0 where
   pub pending : need (view p.value.now) ≤ length p.pending.items
   pub scratch : 65534 ≤ length p.scratch.items
   pub none_laid : (i : ℕ) → slice_index p.places.items i ≡ 0
+  pub known : VtablesKnown p.layout.now (map (λ k. k.items) p.known.keys) (view p.value.now)
+  pub different : AreDifferent (map (λ k. k.items) p.known.keys)
+  pub places : length p.places.items ≡ length (map (λ k. k.items) p.known.keys)

@@ -12,7 +12,8 @@ ghost use Rattle.fb_build.specs.Fields.{IsSimple, StoredFits, stored_seen, next_
 ghost use Rattle.fb_build.specs.Fields.{scalar_in, number_in, number_of_datum, is_stored, above, from};
 ghost use Rattle.fb_build.specs.Fields.{StoredEnd, EntriesEnd, AreKnown, size_at, stored_align};
 ghost use Rattle.fb_build.specs.Fields.{stored_below, slots_seen, entries_seen, stored_room};
-ghost use Rattle.fb_build.specs.Fields.{fields_size, slot_seen, entry_stored, shape_seen};
+ghost use Rattle.fb_build.specs.Fields.{fields_size, size_above, slot_seen, entry_stored, shape_seen};
+ghost use Rattle.fb_build.specs.FieldEnds.{AreCounted};
 ghost use Rattle.fb_build.specs.Filled.{AreFilled};
 
 use crate::numbers::lay_number;
@@ -187,13 +188,9 @@ fn lay_field(
     ensures lies { (low : ℕ) → low ≤ length out.old.bytes
         → StoredEnd layout.now low out.new.most out.new.bytes true (slot_seen layout.now slot.now)
         (entry_stored layout.now slot.now code entry.now) result }
-<<<<<<< HEAD
-    ensures exact { result ≡ length out.new.bytes }
+    ensures end { result ≡ length out.new.bytes }
     ensures leads { FieldLeads out.new.bytes true (slot_seen layout.now slot.now)
         (entry_stored layout.now slot.now code entry.now) end result }
-=======
-    ensures end { result ≡ length out.new.bytes }
->>>>>>> h1
     ensures free { out.new.free + inline_size layout.now (shape_seen layout.now slot.now.shape)
         ≡ out.old.free }
     ensures most { out.new.most ≡ out.old.most }
@@ -230,6 +227,10 @@ fn lay_pass(
         (slots_seen layout.now slots.now) (stored_seen layout.now slots.now entries.now) ends.old }
     requires filled { AreFilled layout.now start (length out.old.bytes) (λ k. above layout.now align)
         (slots_seen layout.now slots.now) (stored_seen layout.now slots.now entries.now) ends.old }
+    requires counted { AreCounted layout.now start (λ k. above layout.now align)
+        (slots_seen layout.now slots.now) (stored_seen layout.now slots.now entries.now) ends.old }
+    requires count { length out.old.bytes ≡ start + size_above layout.now align
+        (slots_seen layout.now slots.now) (stored_seen layout.now slots.now entries.now) }
     requires whole { divides align (length out.old.bytes) ≡ true }
     requires wide { divides align out.old.most ≡ true }
     requires room { size_at layout.now align (slots_seen layout.now slots.now)
@@ -245,6 +246,8 @@ fn lay_pass(
         (slots_seen layout.now slots.now) (stored_seen layout.now slots.now entries.now) targets ends.old
         → FieldsLead out.new.bytes (λ k. from layout.now align) (slots_seen layout.now slots.now)
         (stored_seen layout.now slots.now entries.now) targets ends.new }
+    ensures counted { AreCounted layout.now start (λ k. from layout.now align)
+        (slots_seen layout.now slots.now) (stored_seen layout.now slots.now entries.now) ends.new }
     ensures whole { divides align (length out.new.bytes) ≡ true }
     ensures free { out.new.free + size_at layout.now align (slots_seen layout.now slots.now)
         (stored_seen layout.now slots.now entries.now) ≡ out.old.free }
@@ -327,6 +330,8 @@ pub(crate) fn lay_fields(
         (stored_seen layout.now slots.now entries.now) ends.old ends.new }
     ensures front { FieldsFront out.old out.new result (max 4 (stored_align layout.now
         (slots_seen layout.now slots.now) (stored_seen layout.now slots.now entries.now))) }
+    ensures counted { AreCounted layout.now result (λ k f. true) (slots_seen layout.now slots.now)
+        (stored_seen layout.now slots.now entries.now) ends.new }
     ensures bound { out.new.most ≤ max out.old.most (greatest layout.now) }
     ensures grows { Grows out.old out.new }
     ensures wide { divides 4 out.new.most ≡ true }

@@ -1,8 +1,18 @@
 //! The distinct vtables of a value, as keys that aren't laid yet.
-ghost use Rattle.std.specs.Prelude.{ℕ, ◌≡◌, ◌≤◌, ◌<◌, ◌+◌, length, slice_index, IfOk, IfErr};
-ghost use Rattle.fb_value.specs.Datum.{count};
+ghost use Rattle.std.specs.Prelude.{◌≡◌, ◌≤◌, ◌<◌, ◌+◌, length, map, option_map, slice_set, true, IfOk, IfErr, OnOk};
+ghost use Rattle.fb_layout.specs.Laid.{slots_of};
+ghost use Rattle.fb_layout.specs.Widths.{inline_size};
+ghost use Rattle.fb_value.specs.Counts.{is_whole, parts_whole, entries_whole};
+ghost use Rattle.fb_value.specs.Datum.{a_table, count};
+ghost use Rattle.fb_value.specs.Fits.{EntriesFit};
 ghost use Rattle.fb_value.specs.View.{view, parts_view, entries_view};
-ghost use Rattle.fb_build.specs.Needs.{need, parts_need, entries_count, entries_need};
+ghost use Rattle.fb_build.specs.Fields.{AreKnown, above, from, fields_size, size_above, size_at};
+ghost use Rattle.fb_build.specs.Fields.{stored_align, stored_below, shape_seen, slots_seen, stored_seen};
+ghost use Rattle.fb_build.specs.FieldEnds.{ArePlaced, field_ends};
+ghost use Rattle.fb_build.specs.Needs.{need, parts_need, entries_count, entries_need, entry_need};
+ghost use Rattle.fb_build.specs.Parts.{EntryWhole};
+ghost use Rattle.fb_build.specs.Vtables.{AreKept, FitsSomewhere, IsKey, VtablesKnown, vtable_of};
+ghost use Rattle.fb_build.specs.Vtables.{EachFitsSomewhere, EntryFitsSomewhere, EntryVtablesKnown, PartsVtablesKnown};
 ghost use Rattle.fb_build.specs.declared.faults.BuildFault.TheVariants.{Memory};
 
 use crate::faults::BuildFault;
@@ -15,17 +25,14 @@ use fb_value::Value;
 use indexmap::IndexSet;
 use std::alloc::Global;
 
-// The greatest inline size of a table, without its first number.
-const WIDEST: u32 = 65_528;
-
 /// Places the field of slot k behind those before, and returns where it ends.
 fn place_field(layout: &Layout, slot: &FieldInfo, k: usize, end: u32, ends: &mut [u32]) -> u32
     requires within { k < length ends.old }
-    requires under { (j : ℕ) → slice_index ends.old j ≤ end }
-    ensures under { (j : ℕ) → slice_index ends.new j ≤ result }
-    ensures each { length ends.new ≡ length ends.old }
+    requires short { end + inline_size layout.now (shape_seen layout.now slot.now.shape) ≤ 65528 }
+    ensures end { result ≡ end + inline_size layout.now (shape_seen layout.now slot.now.shape) }
+    ensures placed { ends.new ≡ slice_set ends.old k result }
 {
-    let next = end.saturating_add(slot_size(layout, slot.shape));
+    let next = end + slot_size(layout, slot.shape);
     ends[k] = next;
     next
 }
@@ -43,23 +50,35 @@ fn place_pass(
     slots: &[FieldInfo],
     entries: &[Option<Value>],
     align: u32,
-    from: u32,
+    before: u32,
     ends: &mut [u32],
 ) -> Placed
     requires long { length entries.now ≡ length slots.now }
     requires each { length ends.old ≡ length slots.now }
-    requires under { (j : ℕ) → slice_index ends.old j ≤ from }
-    ensures next { 0 < align → result.next < align }
-    ensures under { (j : ℕ) → slice_index ends.new j ≤ result.end }
-    ensures each { length ends.new ≡ length ends.old }
+    requires some { 0 < align }
+    requires narrow { fields_size layout.now (slots_seen layout.now slots.now)
+        (stored_seen layout.now slots.now entries.now) ≤ 65528 }
+    requires before { before ≡ size_above layout.now align (slots_seen layout.now slots.now)
+        (stored_seen layout.now slots.now entries.now) }
+    requires placed { ArePlaced layout.now (λ k. above layout.now align) (slots_seen layout.now slots.now)
+        (stored_seen layout.now slots.now entries.now) ends.old }
+    ensures next { result.next ≡ stored_below layout.now align (slots_seen layout.now slots.now)
+        (stored_seen layout.now slots.now entries.now) }
+    ensures end { result.end ≡ before + size_at layout.now align (slots_seen layout.now slots.now)
+        (stored_seen layout.now slots.now entries.now) }
+    ensures placed { ArePlaced layout.now (λ k. from layout.now align) (slots_seen layout.now slots.now)
+        (stored_seen layout.now slots.now entries.now) ends.new }
+    ensures each { length ends.new ≡ length slots.now }
 {
-    let mut end = from;
+    let mut end = before;
     let mut next = 0;
     for k in 0..slots.len() {
         let slot = &slots[k];
+        let entry = &entries[k];
+        let code = code_at(entries, k + 1);
         let own = slot_align(layout, slot.shape);
         // What is aligned above is placed already, and takes no further look.
-        if own <= align && is_stored(layout, slot, code_at(entries, k + 1), &entries[k]) {
+        if own <= align && is_stored(layout, slot, code, entry) {
             if own == align {
                 end = place_field(layout, slot, k, end, ends);
             } else {
@@ -81,8 +100,16 @@ fn place_fields(
 ) -> u32
     requires long { length entries.now ≡ length slots.now }
     requires each { length ends.old ≡ length slots.now }
-    ensures under { (k : ℕ) → slice_index ends.new k ≤ result }
-    ensures each { length ends.new ≡ length ends.old }
+    requires low { stored_align layout.now (slots_seen layout.now slots.now)
+        (stored_seen layout.now slots.now entries.now) ≤ most }
+    requires known { AreKnown layout.now (slots_seen layout.now slots.now)
+        (stored_seen layout.now slots.now entries.now) }
+    requires narrow { fields_size layout.now (slots_seen layout.now slots.now)
+        (stored_seen layout.now slots.now entries.now) ≤ 65528 }
+    ensures size { result ≡ fields_size layout.now (slots_seen layout.now slots.now)
+        (stored_seen layout.now slots.now entries.now) }
+    ensures ends { ends.new ≡ field_ends layout.now (slots_seen layout.now slots.now)
+        (stored_seen layout.now slots.now entries.now) }
 {
     ends.fill(0);
     let mut align = start_align(layout, slots, entries, most);
@@ -105,19 +132,22 @@ fn add_vtable(
     ends: &mut [u32],
     scratch: &mut [u8],
 ) -> Result<(), BuildFault>
+    requires fits { EntriesFit layout.now (slots_of layout.now table.0) (entries_view entries.now) }
+    requires whole { entries_whole (entries_view entries.now) ≡ true }
+    requires many { 32765 ≤ length ends.old }
     requires long { 65534 ≤ length scratch.old }
+    ensures key { OnOk result (IsKey (map (λ k. k.items) known.new.keys)
+        (vtable_of layout.now table.0 (entries_view entries.now))) }
+    ensures kept { OnOk result (AreKept (map (λ k. k.items) known.old.keys) (map (λ k. k.items) known.new.keys)) }
     ensures long { length scratch.new ≡ length scratch.old }
     ensures each { length ends.new ≡ length ends.old }
     ensures fault { IfErr result (λ e. e ≡ Memory) }
 {
+    let _schema = layout.schema(); // tells that the layout is well made
     let slots = layout.slots_of(table);
-    let count = slots.len().min(entries.len()).min(ends.len());
-    let ends = &mut ends[..count];
+    let ends = &mut ends[..slots.len()];
     let most = layout.table_align(table);
-    let end = place_fields(layout, &slots[..count], &entries[..count], most, ends);
-    if end > WIDEST {
-        return Ok(());
-    }
+    let end = place_fields(layout, slots, entries, most, ends);
     let place = end.next_multiple_of(4) + 4;
     let used = put_vtable(scratch, ends, place, place as u16);
     let vtable = &scratch[..4 + 2 * used];
@@ -125,6 +155,75 @@ fn add_vtable(
         known.insert(vtable.to_vec(alloc)?)?;
     }
     Ok(())
+}
+
+/// Adds the vtables of a table and of the tables in it, and returns how many end-counts wait while
+/// the table is laid.
+#[cycle(keys)]
+pub(crate) fn add_table(
+    alloc: Global,
+    known: &mut IndexSet<Vec<u8>>,
+    layout: &Layout,
+    table: TypeId,
+    entries: &Vec<Option<Value>>,
+    ends: &mut [u32],
+    scratch: &mut [u8],
+) -> Result<usize, BuildFault>
+    requires small { entries_count (entries_view entries.now.items)
+        + entries_need (entries_view entries.now.items) ≤ 2147483647 }
+    requires fits { EntriesFit layout.now (slots_of layout.now table.0) (entries_view entries.now.items) }
+    requires whole { entries_whole (entries_view entries.now.items) ≡ true }
+    requires many { 32765 ≤ length ends.old }
+    requires long { 65534 ≤ length scratch.old }
+    ensures need { IfOk result (λ n. n ≡ entries_count (entries_view entries.now.items)
+        + entries_need (entries_view entries.now.items)) }
+    ensures known { OnOk result (VtablesKnown layout.now (map (λ k. k.items) known.new.keys)
+        (a_table table.0 (entries_view entries.now.items))) }
+    ensures kept { OnOk result (AreKept (map (λ k. k.items) known.old.keys) (map (λ k. k.items) known.new.keys)) }
+    ensures long { length scratch.new ≡ length scratch.old }
+    ensures each { length ends.new ≡ length ends.old }
+    ensures fault { IfErr result (λ e. e ≡ Memory) }
+{
+    let _schema = layout.schema(); // tells that the layout is well made
+    let slots = entries.as_slice();
+    add_vtable(alloc, known, layout, table, slots, ends, scratch)?;
+    let mut most = 0;
+    for k in 0..entries.len() {
+        let own = add_entry(alloc, known, layout, &entries[k], ends, scratch)?;
+        most = own.max(most);
+    }
+    Ok(entries.len() + most)
+}
+
+/// Adds the vtables of the tables in an entry of a table, and returns how many end-counts wait while
+/// it is laid.
+#[cycle(keys)]
+fn add_entry(
+    alloc: Global,
+    known: &mut IndexSet<Vec<u8>>,
+    layout: &Layout,
+    entry: &Option<Value>,
+    ends: &mut [u32],
+    scratch: &mut [u8],
+) -> Result<usize, BuildFault>
+    requires small { entry_need (option_map view entry.now) ≤ 2147483647 }
+    requires fits { EntryFitsSomewhere layout.now (option_map view entry.now) }
+    requires whole { EntryWhole (option_map view entry.now) }
+    requires many { 32765 ≤ length ends.old }
+    requires long { 65534 ≤ length scratch.old }
+    ensures need { IfOk result (λ n. n ≡ entry_need (option_map view entry.now)) }
+    ensures known { OnOk result (EntryVtablesKnown layout.now (map (λ k. k.items) known.new.keys)
+        (option_map view entry.now)) }
+    ensures kept { OnOk result (AreKept (map (λ k. k.items) known.old.keys) (map (λ k. k.items) known.new.keys)) }
+    ensures long { length scratch.new ≡ length scratch.old }
+    ensures each { length ends.new ≡ length ends.old }
+    ensures fault { IfErr result (λ e. e ≡ Memory) }
+{
+    match entry {
+        None => Ok(0),
+        Some(Value::Number(_)) => Ok(0),
+        Some(value) => add_tables(alloc, known, layout, value, ends, scratch),
+    }
 }
 
 /// Adds the vtables of the tables of a value, and returns how many end-counts wait while it is laid.
@@ -138,8 +237,13 @@ fn add_tables(
     scratch: &mut [u8],
 ) -> Result<usize, BuildFault>
     requires small { need (view value.now) ≤ 2147483647 }
+    requires fits { FitsSomewhere layout.now (view value.now) }
+    requires whole { is_whole (view value.now) ≡ true }
+    requires many { 32765 ≤ length ends.old }
     requires long { 65534 ≤ length scratch.old }
     ensures need { IfOk result (λ n. n ≡ need (view value.now)) }
+    ensures known { OnOk result (VtablesKnown layout.now (map (λ k. k.items) known.new.keys) (view value.now)) }
+    ensures kept { OnOk result (AreKept (map (λ k. k.items) known.old.keys) (map (λ k. k.items) known.new.keys)) }
     ensures long { length scratch.new ≡ length scratch.old }
     ensures each { length ends.new ≡ length ends.old }
     ensures fault { IfErr result (λ e. e ≡ Memory) }
@@ -173,9 +277,15 @@ fn add_items(
 ) -> Result<usize, BuildFault>
     requires small { count (parts_view items.now.items) + parts_need (parts_view items.now.items)
         ≤ 2147483647 }
+    requires fits { EachFitsSomewhere layout.now (parts_view items.now.items) }
+    requires whole { parts_whole (parts_view items.now.items) ≡ true }
+    requires many { 32765 ≤ length ends.old }
     requires long { 65534 ≤ length scratch.old }
     ensures need { IfOk result (λ n. n ≡ count (parts_view items.now.items)
         + parts_need (parts_view items.now.items)) }
+    ensures known { OnOk result (PartsVtablesKnown layout.now (map (λ k. k.items) known.new.keys)
+        (parts_view items.now.items)) }
+    ensures kept { OnOk result (AreKept (map (λ k. k.items) known.old.keys) (map (λ k. k.items) known.new.keys)) }
     ensures long { length scratch.new ≡ length scratch.old }
     ensures each { length ends.new ≡ length ends.old }
     ensures fault { IfErr result (λ e. e ≡ Memory) }
@@ -186,40 +296,4 @@ fn add_items(
         most = own.max(most);
     }
     Ok(items.len() + most)
-}
-
-/// Adds the vtables of a table and of the tables in it, and returns how many end-counts wait while
-/// the table is laid.
-#[cycle(keys)]
-pub(crate) fn add_table(
-    alloc: Global,
-    known: &mut IndexSet<Vec<u8>>,
-    layout: &Layout,
-    table: TypeId,
-    entries: &Vec<Option<Value>>,
-    ends: &mut [u32],
-    scratch: &mut [u8],
-) -> Result<usize, BuildFault>
-    requires small { entries_count (entries_view entries.now.items)
-        + entries_need (entries_view entries.now.items) ≤ 2147483647 }
-    requires long { 65534 ≤ length scratch.old }
-    ensures need { IfOk result (λ n. n ≡ entries_count (entries_view entries.now.items)
-        + entries_need (entries_view entries.now.items)) }
-    ensures long { length scratch.new ≡ length scratch.old }
-    ensures each { length ends.new ≡ length ends.old }
-    ensures fault { IfErr result (λ e. e ≡ Memory) }
-{
-    let slots = entries.as_slice();
-    add_vtable(alloc, known, layout, table, slots, ends, scratch)?;
-    let mut most = 0;
-    for entry in entries {
-        match entry {
-            None | Some(Value::Number(_)) => {}
-            Some(value) => {
-                let own = add_tables(alloc, known, layout, value, ends, scratch)?;
-                most = own.max(most);
-            }
-        }
-    }
-    Ok(entries.len() + most)
 }

@@ -24,6 +24,10 @@ ghost use Rattle.fb_build.specs.Parts.{PartFits, PartEnd, EntryWhole, TableKnown
 ghost use Rattle.fb_build.specs.Items.{TargetsEnd};
 ghost use Rattle.fb_build.specs.Filled.{AreFilled};
 ghost use Rattle.fb_build.specs.TableBytes.{AreLaid};
+ghost use Rattle.fb_build.specs.Fields.{fields_size};
+ghost use Rattle.fb_build.specs.FieldEnds.{AreCounted};
+ghost use Rattle.fb_build.specs.Vtables.{EntriesVtablesKnown, EntryVtablesKnown, IsKey, PartsVtablesKnown};
+ghost use Rattle.fb_build.specs.Vtables.{VtablesKnown, vtable_of};
 
 use crate::fields::lay_fields;
 use crate::needs::waits;
@@ -67,6 +71,9 @@ fn close_table(
         ends.now }
     requires room { ceil4 (length out.old.bytes - start) + (8 + 2 * length ends.now) ≤ out.old.free
         + (length out.old.bytes - start) }
+    requires counted { AreCounted layout.now start (λ k f. true) (slots_of layout.now table.0)
+        (stored_in (slots_of layout.now table.0) (entries_seen entries.now)) ends.now }
+    requires key { IsKey (map (λ k. k.items) known.now.keys) (vtable_of layout.now table.0 (entries_view entries.now)) }
     requires shared { AreLaid (map (λ k. k.items) known.now.keys) places.old out.old.bytes }
     ensures lies { LaidInTail layout.now out.new.most out.new.bytes (part_place (table_part table.0))
         result (a_table table.0 (entries_view entries.now)) }
@@ -103,6 +110,8 @@ pub(crate) fn lay_table(
     requires pending { entries_count (entries_view entries.now.items)
         + entries_need (entries_view entries.now.items) ≤ length pending.old }
     requires long { 65534 ≤ length scratch.old }
+    requires vtables { VtablesKnown layout.now (map (λ k. k.items) known.now.keys)
+        (a_table table.0 (entries_view entries.now.items)) }
     requires shared { AreLaid (map (λ k. k.items) known.now.keys) places.old out.old.bytes }
     ensures lies { LaidInTail layout.now out.new.most out.new.bytes (part_place (table_part table.0))
         result (a_table table.0 (entries_view entries.now.items)) }
@@ -157,6 +166,8 @@ fn lay_targets(
         (entries_view entries.now.items) ≤ out.old.free }
     requires pending { entries_need (entries_view entries.now.items) ≤ length pending.old }
     requires long { 65534 ≤ length scratch.old }
+    requires vtables { EntriesVtablesKnown layout.now (map (λ k. k.items) known.now.keys)
+        (entries_view entries.now.items) }
     requires shared { AreLaid (map (λ k. k.items) known.now.keys) places.old out.old.bytes }
     ensures each { length ends.new ≡ length slots.now }
     ensures state { EntriesEnd layout.now 0 out.new.most out.new.bytes (λ k f. false)
@@ -207,6 +218,7 @@ fn lay_target(
         ≤ out.old.free }
     requires pending { entry_need (option_map view entry.now) ≤ length pending.old }
     requires long { 65534 ≤ length scratch.old }
+    requires vtables { EntryVtablesKnown layout.now (map (λ k. k.items) known.now.keys) (option_map view entry.now) }
     requires shared { AreLaid (map (λ k. k.items) known.now.keys) places.old out.old.bytes }
     ensures state { (code : Option ℕ) → EntryEnd layout.now 0 out.new.most out.new.bytes false
         (slot_seen layout.now slot.now) (entry_stored layout.now slot.now code entry.now) result }
@@ -248,6 +260,7 @@ fn lay_part(
     requires room { room layout.now (shape_seen layout.now shape) (view value.now) ≤ out.old.free }
     requires pending { need (view value.now) ≤ length pending.old }
     requires long { 65534 ≤ length scratch.old }
+    requires vtables { VtablesKnown layout.now (map (λ k. k.items) known.now.keys) (view value.now) }
     requires shared { AreLaid (map (λ k. k.items) known.now.keys) places.old out.old.bytes }
     ensures state { PartEnd layout.now out.new.most out.new.bytes (shape_seen layout.now shape)
         (view value.now) result }
@@ -305,6 +318,8 @@ fn lay_items(
         (parts_view items.now.items) ≤ out.old.free }
     requires pending { need (a_vector (parts_view items.now.items)) ≤ length pending.old }
     requires long { 65534 ≤ length scratch.old }
+    requires vtables { PartsVtablesKnown layout.now (map (λ k. k.items) known.now.keys)
+        (parts_view items.now.items) }
     requires shared { AreLaid (map (λ k. k.items) known.now.keys) places.old out.old.bytes }
     ensures lies { LaidInTail layout.now out.new.most out.new.bytes
         (part_place (vector_part (kind_seen layout.now kind))) result
@@ -350,6 +365,8 @@ fn lay_item_targets(
         ≤ out.old.free }
     requires pending { parts_need (parts_view items.now.items) ≤ length pending.old }
     requires long { 65534 ≤ length scratch.old }
+    requires vtables { PartsVtablesKnown layout.now (map (λ k. k.items) known.now.keys)
+        (parts_view items.now.items) }
     requires shared { AreLaid (map (λ k. k.items) known.now.keys) places.old out.old.bytes }
     ensures each { length ends.new ≡ length items.now.items }
     ensures state { TargetsEnd layout.now out.new.most out.new.bytes (kind_seen layout.now kind)

@@ -1,10 +1,13 @@
-use Rattle.std.proofs.Common.{◌≡◌, ◌≤◌, ◌∙◌, sym, length, arith}
+use Rattle.std.proofs.Common.{◌≡◌, ◌≤◌, ◌∙◌, sym, length, map, arith}
+use Rattle.std.proofs.lemmas.List.{length-map}
 use Rattle.std.specs.Vec.{with_items}
 use Rattle.fb_value.specs.Room.{room_of}
 use Rattle.fb_value.specs.View.{view}
 use Rattle.fb_value.proofs.Views.{view-Fields}
 use Rattle.fb_value.proofs.Nested.{nesting_of_depth_shown, root_fits}
 use Rattle.fb_build.specs.Needs.{need}
+use Rattle.fb_build.specs.Vtables.{VtablesKnown}
+use Rattle.fb_build.proofs.Found.{different}
 use Rattle.fb_build.proofs.Simple.{all_known}
 use Rattle.fb_build.proofs.Reserved.{long_in, zeros_in, zero_in, need_within}
 use Rattle.fb_build.proofs.buffers.plan.Goals as goal
@@ -19,6 +22,16 @@ add_table-requires-clause-small c =
     let within = need_within L (view c.args.value.now) (all_known c.args.layout.now c.schema-schema.ensures.made) fits c.in-Some.ensures.0 in
     rw (c.in-Fields.is, view-Fields c.in-Fields.table c.in-Fields.entries) at within
 
+pub add_table-requires-clause-fits : goal.add_table-requires-clause-fits
+add_table-requires-clause-fits c =
+    let L = c.args.layout.now in
+    let fits = (root_fits L _ c.schema-schema.ensures.made).0 c.requires.fits in
+    let own = rw (c.in-Fields.is, view-Fields c.in-Fields.table c.in-Fields.entries) at fits in
+    rw own.0 own.1
+
+pub add_table-requires-clause-whole : goal.add_table-requires-clause-whole
+add_table-requires-clause-whole c = rw (c.in-Fields.is, view-Fields c.in-Fields.table c.in-Fields.entries) at c.requires.whole
+
 pub invariant_of-result : goal.invariant_of-result
 invariant_of-result c =
     let L = c.args.layout.now in
@@ -31,6 +44,7 @@ invariant_of-result c =
     let wide : 65534 ≤ length scratch.items = omega (arith, bytes) in
     let long : length c.in_ok-block.block.items ≡ room_of L (view c.args.value.now) = long_in _ _ block ∙ c.in-Some.ensures.1 in
     let short : length c.in_ok-block.block.items ≤ 2147483647 = omega (arith, long, c.in-Some.ensures.0) in
+    let known : VtablesKnown L (map (λ k. k.items) c.add_table.new.known.keys) (view c.args.value.now) = rw (c.in-Fields.is, view-Fields c.in-Fields.table c.in-Fields.entries) c.in_ok-waiting.ensures.known in
     record {
       sliced = (all_known c.args.layout.now c.schema-schema.ensures.made);
       fits = (root_fits L _ c.schema-schema.ensures.made).0 c.requires.fits;
@@ -41,4 +55,7 @@ invariant_of-result c =
       pending = enough;
       scratch = wide;
       none_laid = zero_in _ _ places;
+      known = known;
+      different = different (λ k. k.items) c.add_table.new.known.keys c.len.ensures.unique;
+      places = omega (arith, long_in _ _ places, c.len.ensures.len, length-map c.add_table.new.known.keys (λ k. k.items));
     }

@@ -5,6 +5,7 @@ use Rattle.fb_build.specs.Tails.{Grows}
 use Rattle.fb_build.specs.Fields.{above, EntriesEnd, size_above, slots_seen, stored_seen}
 use Rattle.fb_build.specs.Filled.{AreFilled}
 use Rattle.fb_build.specs.Made.{FieldsLead}
+use Rattle.fb_build.specs.FieldEnds.{AreCounted}
 use Rattle.fb_build.proofs.fields.lay_fields.Given as goal
 
 abbrev pub invariant-loop-align : goal.invariant-loop-align
@@ -14,6 +15,8 @@ invariant-loop-align l = record {
   align : (l.align ≡ 0) ⊎ IsAlignment l.align;
   state : EntriesEnd l.layout l.start l.out.most l.out.bytes (λ k. above l.layout l.align) (slots_seen l.layout l.slots) (stored_seen l.layout l.slots l.entries) l.ends;
   filled : AreFilled l.layout l.start (length l.out.bytes) (λ k. above l.layout l.align) (slots_seen l.layout l.slots) (stored_seen l.layout l.slots l.entries) l.ends;
+  counted : AreCounted l.layout l.start (λ k. above l.layout l.align) (slots_seen l.layout l.slots) (stored_seen l.layout l.slots l.entries) l.ends;
+  count : length l.out.bytes ≡ l.start + size_above l.layout l.align (slots_seen l.layout l.slots) (stored_seen l.layout l.slots l.entries);
   whole : 0 < l.align → divides l.align (length l.out.bytes) ≡ true;
   wide : 0 < l.align → divides l.align l.out.most ≡ true;
   leads : FieldsLead l.out.bytes (λ k. above l.layout l.align) (slots_seen l.layout l.slots) (stored_seen l.layout l.slots l.entries) l.fn.ends l.ends;

@@ -1,10 +1,13 @@
-use Rattle.std.proofs.Common.{ℕ, ◌≡◌, ◌≤◌, length, slice_index}
+use Rattle.std.proofs.Common.{◌≡◌, length}
+use Rattle.fb_build.specs.Fields.{above, size_above, slots_seen, stored_seen}
+use Rattle.fb_build.specs.FieldEnds.{ArePlaced}
 use Rattle.fb_build.proofs.keys.place_fields.Given as goal
 
 abbrev pub invariant-loop-align : goal.invariant-loop-align
 invariant-loop-align l = record {
-  under : (j : ℕ) → slice_index l.ends j ≤ l.end;
-  each : length l.ends ≡ length l.fn.ends;
+  each : length l.ends ≡ length l.slots;
+  end : l.end ≡ size_above l.layout l.align (slots_seen l.layout l.slots) (stored_seen l.layout l.slots l.entries);
+  placed : ArePlaced l.layout (λ k. above l.layout l.align) (slots_seen l.layout l.slots) (stored_seen l.layout l.slots l.entries) l.ends;
 }
 
 abbrev pub decreases-loop-align : goal.decreases-loop-align

@@ -42,3 +42,6 @@ returns-clause-old_slots c =
     let whole : divides end.most (length end.bytes) ≡ true = rw same (eq-eqb _ _ (ap (λ n. n % table.most) c.lay_reference.ensures.long ∙ c.lay_identifier.ensures.multiple)) in
     let rooted = root_laid L table tail end c.args.table.0 c.lay_table-place.result d c.requires.root c.lay_identifier.ensures.grows c.lay_table-place.ensures.lies (λ X. c.lay_reference.ensures.lies L X d) in
     rw c.into_bytes.ensures (whole_old L end.most end.bytes d whole rooted)
+
+pub lay_table-place-requires-clause-shared : goal.lay_table-place-requires-clause-shared
+lay_table-place-requires-clause-shared c = record { each = c.requires.each; stand = λ i vt is some. absurd (omega (arith, c.requires.none_laid i, some)) }

@@ -10,6 +10,13 @@ use Rattle.fb_build.proofs.VtableEnds.{shared_grown}
 use Rattle.fb_build.proofs.TableSpent.{ends_under, ends_high, offset_small}
 use Rattle.fb_build.proofs.TableEnds.{table_end}
 use Rattle.fb_build.proofs.TableTight.{zeros_stay, last_used}
+use Rattle.std.proofs.Common.{List, Option, Some}
+use Rattle.fb_value.specs.Datum.{Datum}
+use Rattle.fb_value.specs.View.{entries_view}
+use Rattle.fb_build.specs.FieldEnds.{table_size, table_vtable}
+use Rattle.fb_build.specs.Vtables.{vtable_of}
+use Rattle.fb_build.proofs.VtableOf.{vtable_is_of}
+use Rattle.fb_build.proofs.VtableKeys.{listed}
 use Rattle.fb_build.proofs.tables.close_table.Goals as goal
 
 pub pad-requires-clause-power : goal.pad-requires-clause-power
@@ -66,3 +73,16 @@ returns-clause-lies c =
     (omega (arith, padded, c.pad.ensures.free, c.pad.ensures.under, c.pad.ensures.multiple, c.requires.whole, c.requires.size, c.count.ensures.exact))
     (omega (arith, padded, c.pad.ensures.free, c.requires.start, c.count.ensures.exact)) c.requires.filled (omega (arith, padded, c.pad.ensures.free, c.count.ensures.exact))
     (λ e over low. zeros_stay c.pad.new.self n o.bytes c.pad.result e c.pad.ensures.bytes c.lay_vtable.ensures.grows over (omega (arith, low, c.count.ensures.exact))))
+
+pub lay_vtable-requires-clause-key : goal.lay_vtable-requires-clause-key
+lay_vtable-requires-clause-key c =
+    let L = c.args.layout.now in
+    let fs = slots_of L c.args.table.0 in
+    let ys = entries_seen c.args.entries.now in
+    let xs = stored_in fs ys in
+    let put = c.put_vtable-slots.ensures in
+    let long = grown_long c.args.out.now c.pad.new.self c.pad.ensures.grows in
+    let place : c.count.result + 4 ≡ c.args.start + table_size L fs xs = omega (arith, long, c.pad.ensures.free, c.pad.ensures.under, c.pad.ensures.multiple, c.count.ensures.exact, c.requires.size, c.requires.whole) in
+    let is = put.there ∙ vtable_is_of L c.args.start fs xs c.args.ends.now c.requires.fits.known c.requires.each c.requires.counted (λ k f x fk xk out. (c.requires.state k f x fk xk).absent out) (c.count.result + 4) c.put_vtable-slots.result place put.within put.rest put.last in
+    let whole : vtable_of L c.args.table.0 (entries_view c.args.entries.now) ≡ table_vtable L fs xs = ap (λ (zs : List (Option Datum)). table_vtable L fs (stored_in fs zs)) (listed ys) in
+    (c.requires.key.0, c.requires.key.1 ∙ ap (λ (b : List ℕ). Some b) (whole ∙ sym is))

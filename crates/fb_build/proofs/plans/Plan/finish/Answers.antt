@@ -25,3 +25,6 @@ returns-clause-holds c most raw deep small =
 
 pub returns-clause-old_slots : goal.returns-clause-old_slots
 returns-clause-old_slots c = subst (λ (L : LaidSchema). OnlyOld L c.fill.result.items) (ap (λ p. p.layout) c.self.view_is) c.fill.ensures.old_slots
+
+pub fill-requires-clause-known : goal.fill-requires-clause-known
+fill-requires-clause-known c = rw (c.in-Fields.is, view-Fields c.in-Fields.table c.in-Fields.entries) at c.self.invariant.known
