@@ -22,7 +22,7 @@ AreThere L m s xs ends = (k : ℕ) (x : NamedPart) → slice_get xs k ≡ Some (
 pub long_front : (a b : TailSeen) (g : Grows a b) → length b.bytes - length a.bytes ≡ length g.front
 long_front a b g = let e = ap length g.grown in let parts = length-append g.front a.bytes in omega (arith, e, parts)
 
-first_dropped : (ends : List ℕ) (k : ℕ) → slice_index (drop 1 ends) k ≡ slice_index ends (suc k)
+pub first_dropped : (ends : List ℕ) (k : ℕ) → slice_index (drop 1 ends) k ≡ slice_index ends (suc k)
 first_dropped [] k = refl
 first_dropped (e ∷ ends) k = refl
 

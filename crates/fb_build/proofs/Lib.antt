@@ -54,3 +54,5 @@ pub mod VectorLeads
 pub mod EndsParts
 pub mod MadeLoops
 pub mod FieldLeadSteps
+pub mod TableLaid
+pub mod TableReached

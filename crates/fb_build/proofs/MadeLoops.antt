@@ -179,7 +179,7 @@ same_named L (vector_of kind) (an_unknown c) simple fits = absurd fits
 same_named L (vector_of kind) (a_member c d) simple fits = absurd fits
 same_named L (one_of (code_kind u)) d simple fits = absurd (no_code_entry L u d fits)
 
-coded_names_nothing : (L : LaidSchema) (s : Bytes) (f : Slot) (u : ℕ) (code : Option ℕ) (e : ℕ) → f.shape ≡ one_of (code_kind u) → parts_at L s (named_stored f (coded code)) e ≡ []
+pub coded_names_nothing : (L : LaidSchema) (s : Bytes) (f : Slot) (u : ℕ) (code : Option ℕ) (e : ℕ) → f.shape ≡ one_of (code_kind u) → parts_at L s (named_stored f (coded code)) e ≡ []
 coded_names_nothing L s f u None e is = refl
 coded_names_nothing L s f u (Some c) e is = rw is refl
 

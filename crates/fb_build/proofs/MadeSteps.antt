@@ -63,7 +63,7 @@ unfolding weight
 counted f q [] = refl
 counted f q (x ∷ xs) = rw (sum_by-cons (λ y. weight q (f y)) x xs) (one_counted (f x) q (filter_map f xs) (sum_by (λ y. weight q (f y)) xs) (counted f q xs))
 
-same_among : {X : Type 0} (f : X → Option ℕ) (q : ℕ) (xs ys : List X) → IsPermutation xs ys → is_among q (filter_map f xs) ≡ is_among q (filter_map f ys)
+pub same_among : {X : Type 0} (f : X → Option ℕ) (q : ℕ) (xs ys : List X) → IsPermutation xs ys → is_among q (filter_map f xs) ≡ is_among q (filter_map f ys)
 same_among f q xs ys h = counted f q xs ∙ ap (λ n. nat_lt 0 n) (sym (sum_by-IsPermutation (λ x. weight q (f x)) xs ys h)) ∙ sym (counted f q ys)
 
 pub made_permuted : (L : LaidSchema) (o : TailSeen) (places : List ℕ) (xs ys : List PartAt) → IsPermutation xs ys → IsMade L o places xs → IsMade L o places ys

@@ -36,7 +36,7 @@ EntryLies al L b f place None = AbsentEntryBy al L b f place
 EntryLies al L b f place (Some d) = PresentEntryBy al L b f place d (λ sort q. LiesBy al L b sort q d) × EachNamed b place (λ sort q. EachTable L b (λ t r. IsOldTable L b t r) sort q d)
     × EachNamed b place (λ sort q. EachTable L b (λ t r. IsTightInTail L b t r) sort q d) × EachStructNamed L b (PadsStructWithZeros L b) place d (λ X q. EachStruct L b (PadsStructWithZeros L b) X q d)
 
-no_place : (t : Bool) (x : Option Place) → x ≡ None → cond t None x ≡ None
+pub no_place : (t : Bool) (x : Option Place) → x ≡ None → cond t None x ≡ None
 no_place true x e = refl
 no_place false x e = e
 
@@ -71,12 +71,12 @@ module _ (L : LaidSchema) (low m : ℕ) (s : Bytes) (c : ℕ) (within : c ≤ le
   p = length s - c
 
   -- a slot of its own: no union's code, nor its value
-  IsOwn : StoredShape → Type 0
+  unfoldable pub IsOwn : StoredShape → Type 0
   IsOwn (one_of (code_kind u)) = ⊥
   IsOwn (one_of (union_kind u)) = ⊥
   IsOwn shape = Unit {0}
 
-  nothing_there : (k : ℕ) (fs : List Slot) (shape : StoredShape) → IsOwn shape → slot_number s p k ≡ 0 → named_slot L s p k fs shape ≡ None
+  pub nothing_there : (k : ℕ) (fs : List Slot) (shape : StoredShape) → IsOwn shape → slot_number s p k ≡ 0 → named_slot L s p k fs shape ≡ None
   unfolding IsOwn
   nothing_there k fs (one_of (scalar_kind b)) h e = rw e refl
   nothing_there k fs (one_of (struct_kind t)) h e = rw e refl
@@ -86,7 +86,7 @@ module _ (L : LaidSchema) (low m : ℕ) (s : Bytes) (c : ℕ) (within : c ≤ le
   nothing_there k fs (one_of text_kind) h e = rw e refl
   nothing_there k fs (vector_of kind) h e = rw e refl
 
-  something_there : (k : ℕ) (fs : List Slot) (shape : StoredShape) (d : Datum) → IsOwn shape → is_present s p k ≡ true → named_slot L s p k fs shape ≡ Some (record { sort = sort_for shape d; at = p + slot_number s p k })
+  pub something_there : (k : ℕ) (fs : List Slot) (shape : StoredShape) (d : Datum) → IsOwn shape → is_present s p k ≡ true → named_slot L s p k fs shape ≡ Some (record { sort = sort_for shape d; at = p + slot_number s p k })
   unfolding IsOwn
   something_there k fs (one_of (scalar_kind b)) d h e = rw e refl
   something_there k fs (one_of (struct_kind t)) d h e = rw e refl
@@ -114,27 +114,27 @@ module _ (L : LaidSchema) (low m : ℕ) (s : Bytes) (c : ℕ) (within : c ≤ le
     pub under : e < c
     pub number : slot_number s p k ≡ offset_from c e
 
-  pub place_of : (k : ℕ) (f : Slot) (fs : List Slot) → Option Place
+  unfoldable pub place_of : (k : ℕ) (f : Slot) (fs : List Slot) → Option Place
   place_of k f fs = cond f.deprecated None (named_slot L s p k fs f.shape)
 
   -- what isn't stored has no number
-  empty : (k : ℕ) (f : Slot) (x : Option Datum) (e : ℕ) → SlotKnown k f x e → is_stored f x ≡ false → slot_number s p k ≡ 0
+  pub empty : (k : ℕ) (f : Slot) (x : Option Datum) (e : ℕ) → SlotKnown k f x e → is_stored f x ≡ false → slot_number s p k ≡ 0
   empty k f x e h out = h.number ∙ ap (λ i. offset_from c i) (h.state.absent out)
 
   -- what is stored lies where the number leads
-  record IsThere (k : ℕ) (f : Slot) (d : Datum) : Type 0 where
-    present : is_present s p k ≡ true
+  pub record IsThere (k : ℕ) (f : Slot) (d : Datum) : Type 0 where
+    pub present : is_present s p k ≡ true
     inside : (p + slot_number s p k) + 1 ≤ length s
     lies : LiesAtBy (from_end s m) L s (sort_for f.shape d) (p + slot_number s p k) d
     old : EachTableAt L s (λ t r. IsOldTable L s t r) (sort_for f.shape d) (p + slot_number s p k) d
     tight : EachTableAt L s (λ t r. IsTightInTail L s t r) (sort_for f.shape d) (p + slot_number s p k) d
     padded : EachStructAt L s (PadsStructWithZeros L s) (sort_for f.shape d) (p + slot_number s p k) d
 
-  stored_number : (k : ℕ) (f : Slot) (d : Datum) (e : ℕ) → SlotKnown k f (Some d) e → 0 < e → slot_number s p k ≡ c - e
+  pub stored_number : (k : ℕ) (f : Slot) (d : Datum) (e : ℕ) → SlotKnown k f (Some d) e → 0 < e → slot_number s p k ≡ c - e
   stored_number k f d zero h some = absurd (omega (arith, some))
   stored_number k f d (suc e) h some = h.number
 
-  there : (k : ℕ) (f : Slot) (d : Datum) (e : ℕ) → SlotKnown k f (Some d) e → is_stored f (Some d) ≡ true → IsThere k f d
+  pub there : (k : ℕ) (f : Slot) (d : Datum) (e : ℕ) → SlotKnown k f (Some d) e → is_stored f (Some d) ≡ true → IsThere k f d
   unfolding p
   there k f d e h is =
       let state = h.state.stored is in
@@ -189,12 +189,12 @@ module _ (L : LaidSchema) (low m : ℕ) (s : Bytes) (c : ℕ) (within : c ≤ le
   code_stored f n e = rw e (or_true f.required)
 
   -- the code that stands in a stored code slot
-  record CodeThere (j n : ℕ) : Type 0 where
-    present : is_present s p j ≡ true
+  pub record CodeThere (j n : ℕ) : Type 0 where
+    pub present : is_present s p j ≡ true
     inside : (p + slot_number s p j) + 1 ≤ length s
-    reads : num s (p + slot_number s p j) 1 ≡ n
+    pub reads : num s (p + slot_number s p j) 1 ≡ n
 
-  code_there : (j : ℕ) (f : Slot) (u n e : ℕ) → f.shape ≡ one_of (code_kind u) → f.if_absent ≡ None → SlotKnown j f (Some (a_number (pos n))) e → CodeThere j n
+  pub code_there : (j : ℕ) (f : Slot) (u n e : ℕ) → f.shape ≡ one_of (code_kind u) → f.if_absent ≡ None → SlotKnown j f (Some (a_number (pos n))) e → CodeThere j n
   code_there j f u n e shape none h =
       let now = there j f (a_number (pos n)) e h (code_stored f n none) in
       let lies : LiesAtBy (from_end s m) L s (inline_place (scalar_kind U8)) (p + slot_number s p j) (a_number (pos n)) = rw shape at now.lies in
@@ -339,13 +339,13 @@ module _ (L : LaidSchema) (low m : ℕ) (s : Bytes) (c : ℕ) (within : c ≤ le
 
   module _ (fs : List Slot) (xs : List (Option Datum)) (ends : List ℕ) (long : length fs ≡ length xs) (paired : ArePaired fs) (fits : (k : ℕ) (f : Slot) (x : Option Datum) → slice_get fs k ≡ Some f → slice_get xs k ≡ Some x → EntryFits L f x)
       (known : (k : ℕ) (f : Slot) (y : Option Datum) → slice_get fs k ≡ Some f → slice_get (stored_in fs xs) k ≡ Some y → SlotKnown k f y (slice_index ends k)) where
-    known_here : (k : ℕ) (f : Slot) (x : Option Datum) → slice_get fs k ≡ Some f → slice_get xs k ≡ Some x → SlotKnown k f (stored_here f.shape (next_code (drop (suc k) xs)) x) (slice_index ends k)
+    pub known_here : (k : ℕ) (f : Slot) (x : Option Datum) → slice_get fs k ≡ Some f → slice_get xs k ≡ Some x → SlotKnown k f (stored_here f.shape (next_code (drop (suc k) xs)) x) (slice_index ends k)
     known_here k f x fk xk = known k f _ fk (stored_get fs xs k f x fk xk)
 
-    value_known : (k : ℕ) (g : Slot) (x : Option Datum) (u : ℕ) → g.shape ≡ one_of (union_kind u) → slice_get fs k ≡ Some g → slice_get xs k ≡ Some x → SlotKnown k g x (slice_index ends k)
+    pub value_known : (k : ℕ) (g : Slot) (x : Option Datum) (u : ℕ) → g.shape ≡ one_of (union_kind u) → slice_get fs k ≡ Some g → slice_get xs k ≡ Some x → SlotKnown k g x (slice_index ends k)
     value_known k g x u is fk xk = subst (λ (z : StoredShape). SlotKnown k g (stored_here z (next_code (drop (suc k) xs)) x) (slice_index ends k)) is (known_here k g x fk xk)
 
-    code_known : (j : ℕ) (f : Slot) (x y : Option Datum) (u : ℕ) → f.shape ≡ one_of (code_kind u) → slice_get fs j ≡ Some f → slice_get xs j ≡ Some x → slice_get xs (suc j) ≡ Some y → SlotKnown j f (coded (code_in y)) (slice_index ends j)
+    pub code_known : (j : ℕ) (f : Slot) (x y : Option Datum) (u : ℕ) → f.shape ≡ one_of (code_kind u) → slice_get fs j ≡ Some f → slice_get xs j ≡ Some x → slice_get xs (suc j) ≡ Some y → SlotKnown j f (coded (code_in y)) (slice_index ends j)
     code_known j f x y u is fk xk yk =
         let h : SlotKnown j f (coded (next_code (drop (suc j) xs))) (slice_index ends j) = subst (λ (z : StoredShape). SlotKnown j f (stored_here z (next_code (drop (suc j) xs)) x) (slice_index ends j)) is (known_here j f x fk xk) in
         subst (λ (n : Option ℕ). SlotKnown j f (coded n) (slice_index ends j)) (next_is xs (suc j) y yk) h

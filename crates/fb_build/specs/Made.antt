@@ -1,6 +1,7 @@
 -- What is made so far while a buffer is laid from its end: parts and vtables, each once, and few zeros between them.
-use Rattle.std.specs.Prelude.{ℕ, zero, suc, ◌+◌, ◌-◌, ◌*◌, ◌≡◌, ◌≤◌, ◌<◌, ◌++◌, Bool, true, false, max, List, [], ◌∷◌, length, replicate, map, drop, slice_get, slice_index, Option, None, Some, option_map}
+use Rattle.std.specs.Prelude.{ℕ, zero, suc, ◌+◌, ◌-◌, ◌*◌, ◌≡◌, ◌≤◌, ◌<◌, ◌++◌, Bool, true, false, max, List, [], ◌∷◌, length, replicate, map, drop, slice_get, slice_index, slice_set, Option, None, Some, option_map}
 use Rattle.std.specs.List.{All}
+use Rattle.byteorder.specs.Endian.{little_bytes}
 use Rattle.fb_layout.specs.Laid.{LaidSchema, Slot, StoredKind, StoredShape, one_of, vector_of, size_of}
 use Rattle.fb_value.specs.Datum.{Datum, a_text, a_vector, a_table, a_member}
 use Rattle.fb_value.specs.Num.{Bytes, num}
@@ -106,3 +107,22 @@ pub record FieldsFront (a b : TailSeen) (start align : ℕ) : Type 0 where
   pub begin : start ≡ zeros + length a.bytes
   pub under : zeros < align
   pub most : b.most ≡ max a.most align
+
+-- The first number of a table was laid, for a vtable that was laid before.
+pub record OldVtable (known : List Bytes) (before after : List ℕ) (old new vtable : Bytes) : Type 0 where
+  pub key : ℕ
+  pub number : ℕ
+  pub is : slice_get known key ≡ Some vtable
+  pub some : 0 < slice_index before key
+  pub under : key < length before
+  pub places : after ≡ before
+  pub bytes : new ≡ little_bytes 4 number ++ old
+
+-- It was laid, and its vtable in front, whose place was noted.
+pub record NewVtable (known : List Bytes) (before after : List ℕ) (old new vtable : Bytes) : Type 0 where
+  pub key : ℕ
+  pub is : slice_get known key ≡ Some vtable
+  pub none : slice_index before key ≡ 0
+  pub under : key < length before
+  pub places : after ≡ slice_set before key (length new)
+  pub bytes : new ≡ vtable ++ (little_bytes 4 (length vtable) ++ old)

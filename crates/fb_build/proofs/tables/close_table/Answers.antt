@@ -17,6 +17,8 @@ use Rattle.fb_build.specs.FieldEnds.{table_size, table_vtable}
 use Rattle.fb_build.specs.Vtables.{vtable_of}
 use Rattle.fb_build.proofs.VtableOf.{vtable_is_of}
 use Rattle.fb_build.proofs.VtableKeys.{listed}
+use Rattle.fb_build.proofs.TableReached.{table_reached}
+use Rattle.fb_build.proofs.TableLaid.{old_laid, new_laid}
 use Rattle.fb_build.proofs.tables.close_table.Goals as goal
 
 pub pad-requires-clause-power : goal.pad-requires-clause-power
