@@ -1,5 +1,5 @@
 //! How far lines are indented.
-ghost use Rattle.std.specs.Prelude.{◌≡◌, ◌++◌, IfOk, string_bytes};
+ghost use Rattle.std.specs.Prelude.{◌≡◌, ◌++◌, IfOk, string_bytes, codes};
 ghost use Rattle.fb_json.specs.Indents.{blanks};
 ghost use Rattle.fb_json.specs.Texts.{line};
 
@@ -48,6 +48,34 @@ pub(crate) fn push_line(text: &mut String, indent: &Indent, some: bool) -> Resul
     let Indent::Inside(three) = two else {
         return text.push_str(if some { ",\n    " } else { "\n    " });
     };
-    push_line(text, three, some)?;
-    text.push_str("      ")
+    let Indent::Inside(four) = three else {
+        return text.push_str(if some { ",\n      " } else { "\n      " });
+    };
+    push_line(text, four, some)?;
+    text.push_str("        ")
+}
+
+/// Adds what stands in front of a member's name, its quote included: few levels in one piece.
+pub(crate) fn push_line_to_name(
+    text: &mut String,
+    indent: &Indent,
+    some: bool,
+) -> Result<(), AllocError>
+    ensures { IfOk result (λ _. string_bytes text.new
+        ≡ string_bytes text.old ++ (line (blanks indent.now) some ++ codes "\"")) }
+{
+    let Indent::Inside(one) = indent else {
+        return text.push_str(if some { ",\n\"" } else { "\n\"" });
+    };
+    let Indent::Inside(two) = one else {
+        return text.push_str(if some { ",\n  \"" } else { "\n  \"" });
+    };
+    let Indent::Inside(three) = two else {
+        return text.push_str(if some { ",\n    \"" } else { "\n    \"" });
+    };
+    let Indent::Inside(four) = three else {
+        return text.push_str(if some { ",\n      \"" } else { "\n      \"" });
+    };
+    push_line(text, four, some)?;
+    text.push_str("        \"")
 }

@@ -1,11 +1,11 @@
 //! The lines of a JSON text.
-ghost use Rattle.std.specs.Prelude.{◌≡◌, ◌++◌, map, IfOk, string_bytes};
+ghost use Rattle.std.specs.Prelude.{◌≡◌, ◌++◌, [], map, codes, IfOk, string_bytes, if◌then◌else◌};
 ghost use Rattle.fb_schema.specs.Schema.{body_at, members_in};
 ghost use Rattle.fb_value.specs.View.{view};
 ghost use Rattle.fb_json.specs.Indents.{blanks};
 ghost use Rattle.fb_json.specs.Texts.{closing, member_line, member_name, in_quotes, code_text, has_code};
 
-use crate::indents::{Indent, push_line};
+use crate::indents::{Indent, push_line, push_line_to_name};
 use fb_schema::{Kind, Schema, Shape, TypeId};
 use fb_value::Value;
 use std::alloc::AllocError;
@@ -21,22 +21,20 @@ pub(crate) fn push_closing(text: &mut String, indent: &Indent, some: bool) -> Re
     push_line(text, indent, false)
 }
 
-/// Adds a member's line up to its value. Its name is in two parts.
+/// Adds the line of a member up to its value. That of a union's code is called `x_type` where its member is `x`.
 pub(crate) fn push_member_line(
     text: &mut String,
     indent: &Indent,
     some: bool,
     name: &str,
-    behind: &str,
+    is_code: bool,
 ) -> Result<(), AllocError>
-    ensures { IfOk result (λ _. string_bytes text.new
-        ≡ string_bytes text.old ++ member_line (blanks indent.now) some name.now behind.now) }
+    ensures { IfOk result (λ _. string_bytes text.new ≡ string_bytes text.old
+        ++ member_line (blanks indent.now) some name.now (if is_code then codes "_type" else [])) }
 {
-    push_line(text, indent, some)?;
-    text.push_str("\"")?;
+    push_line_to_name(text, indent, some)?;
     text.push_str(name)?;
-    text.push_str(behind)?;
-    text.push_str("\": ")
+    text.push_str(if is_code { "_type\": " } else { "\": " })
 }
 
 /// Adds a name in quotes.
@@ -93,7 +91,7 @@ pub(crate) fn push_code(
     let Shape::One(Kind::Union(union)) = shape else {
         return Ok(false);
     };
-    push_member_line(text, indent, some, name, "_type")?;
+    push_member_line(text, indent, some, name, true)?;
     push_name(text, member_name(schema, union, *code))?;
     Ok(true)
 }

@@ -130,7 +130,7 @@ fn push_parts(
     let mut some = false;
     for k in 0..fields.len().min(parts.len()) {
         let field = &fields[k];
-        push_member_line(text, inner, some, field.name.as_str(), "")?;
+        push_member_line(text, inner, some, field.name.as_str(), false)?;
         push_value(text, style, inner, field.shape, &parts[k])?;
         some = true;
     }
@@ -212,7 +212,7 @@ fn push_entry(
         slot.shape,
         value,
     )?;
-    push_member_line(text, inner, some || coded, name, "")?;
+    push_member_line(text, inner, some || coded, name, false)?;
     push_value(text, style, inner, slot.shape, value)?;
     Ok(true)
 }

@@ -1,12 +1,23 @@
 //! Numbers that are found in one step.
-ghost use Rattle.std.specs.Prelude.{◌≡◌, ◌≢◌, map, position, AllPairs, IfOk};
+ghost use Rattle.std.specs.Prelude.{◌≡◌, ◌≢◌, map, position, slice_get, AllPairs, IfOk, Some, true};
 ghost use Rattle.std.specs.Ordering.{int_eq};
 
 use indexmap::IndexSet;
 use std::alloc::{AllocError, Global};
 use std::marker::Model;
 
-/// Numbers in order, all different, each found in one step.
+/// Whether a number stands at a place.
+fn stands_at(numbers: &[i128], place: usize, number: i128) -> bool
+    ensures { result ≡ true → slice_get numbers.now place ≡ Some number }
+{
+    match numbers.get(place) {
+        Some(known) => *known == number,
+        None => false,
+    }
+}
+
+/// Numbers in order, all different, each found in one step. Most count up from 0, or double from 1 as
+/// flags do, and are where their number or its bit says; the others are found by their hash.
 #[derive(Drop)]
 pub(crate) struct NumberIndex {
     numbers: IndexSet<i128>,
@@ -38,6 +49,15 @@ impl NumberIndex {
     pub(crate) fn position(&self, number: i128) -> Option<usize>
         ensures { result ≡ position (int_eq number) self.now }
     {
+        let numbers = self.numbers.as_slice();
+        let counted = usize::try_from(number).unwrap_or(0);
+        if stands_at(numbers, counted, number) {
+            return Some(counted);
+        }
+        let doubled = number.trailing_zeros() as usize;
+        if stands_at(numbers, doubled, number) {
+            return Some(doubled);
+        }
         self.numbers.get_index_of(&number)
     }
 }

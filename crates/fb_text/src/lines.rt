@@ -1,4 +1,5 @@
 //! The lines of a JSON text, written.
+ghost use Rattle.std.specs.Prelude.{◌++◌, [], codes, if◌then◌else◌};
 ghost use Rattle.fb_json.specs.Indents.{blanks};
 ghost use Rattle.fb_json.specs.Texts.{line, closing, member_line, in_quotes};
 ghost use Rattle.fb_text.specs.Writes.{state_of, Adds};
@@ -29,8 +30,36 @@ pub(crate) fn put_line<W: Write>(page: &mut Page, out: &mut Noted<W>, indent: &I
     let Indent::Inside(two) = one else {
         return put_str(page, out, if some { ",\n  " } else { "\n  " });
     };
-    put_line(page, out, two, some);
-    put_str(page, out, "    ");
+    let Indent::Inside(three) = two else {
+        return put_str(page, out, if some { ",\n    " } else { "\n    " });
+    };
+    let Indent::Inside(four) = three else {
+        return put_str(page, out, if some { ",\n      " } else { "\n      " });
+    };
+    put_line(page, out, four, some);
+    put_str(page, out, "        ");
+}
+
+/// Adds what stands in front of a member's name, its quote included: few levels in one piece.
+#[tactic(auto, using(crate::proofs::Added::added_then))]
+fn put_line_to_name<W: Write>(page: &mut Page, out: &mut Noted<W>, indent: &Indent, some: bool)
+    ensures { Adds (state_of W.contents page.old out.old) (state_of W.contents page.new out.new)
+        (line (blanks indent.now) some ++ codes "\"") }
+{
+    let Indent::Inside(one) = indent else {
+        return put_str(page, out, if some { ",\n\"" } else { "\n\"" });
+    };
+    let Indent::Inside(two) = one else {
+        return put_str(page, out, if some { ",\n  \"" } else { "\n  \"" });
+    };
+    let Indent::Inside(three) = two else {
+        return put_str(page, out, if some { ",\n    \"" } else { "\n    \"" });
+    };
+    let Indent::Inside(four) = three else {
+        return put_str(page, out, if some { ",\n      \"" } else { "\n      \"" });
+    };
+    put_line(page, out, four, some);
+    put_str(page, out, "        \"");
 }
 
 /// Adds what stands in front of a closing bracket.
@@ -48,7 +77,7 @@ pub(crate) fn put_closing<W: Write>(
     }
 }
 
-/// Adds a member's line up to its value. Its name is in two parts.
+/// Adds the line of a member up to its value. That of a union's code is called `x_type` where its member is `x`.
 #[tactic(auto, using(crate::proofs::Added::added_then))]
 pub(crate) fn put_member_line<W: Write>(
     page: &mut Page,
@@ -56,16 +85,14 @@ pub(crate) fn put_member_line<W: Write>(
     indent: &Indent,
     some: bool,
     name: &str,
-    behind: &str,
+    is_code: bool,
 )
     ensures { Adds (state_of W.contents page.old out.old) (state_of W.contents page.new out.new)
-        (member_line (blanks indent.now) some name.now behind.now) }
+        (member_line (blanks indent.now) some name.now (if is_code then codes "_type" else [])) }
 {
-    put_line(page, out, indent, some);
-    put_str(page, out, "\"");
+    put_line_to_name(page, out, indent, some);
     put_str(page, out, name);
-    put_str(page, out, behind);
-    put_str(page, out, "\": ");
+    put_str(page, out, if is_code { "_type\": " } else { "\": " });
 }
 
 /// Adds a name in quotes.

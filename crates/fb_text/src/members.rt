@@ -68,7 +68,7 @@ pub(crate) fn put_code<W: Write>(
     let Shape::One(Kind::Union(union)) = shape else {
         return some;
     };
-    put_member_line(page, out, indent, some, name, "_type");
+    put_member_line(page, out, indent, some, name, true);
     put_name(page, out, member_name(schema, union, code));
     true
 }

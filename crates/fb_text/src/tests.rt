@@ -52,7 +52,7 @@ fn limited(alloc: Global, left: usize, step: usize, fails: bool) -> Noted<Short>
 fn member<W: Write>(out: &mut Noted<W>) -> Result<(), WriteFault> {
     let mut page = Page::new();
     let edge = Indent::edge();
-    put_member_line(&mut page, out, &edge.inner(), true, "s", "");
+    put_member_line(&mut page, out, &edge.inner(), true, "s", false);
     put_quoted(&mut page, out, "a\nb");
     finish(&mut page, out)
 }

@@ -169,7 +169,7 @@ fn put_named<W: Write>(
         (named_text style.entry.layout.now style.entry.defaults (blanks inner.now) some
         (field_seen field.now) d) }
 {
-    put_member_line(page, out, inner, some, field.name.as_str(), "");
+    put_member_line(page, out, inner, some, field.name.as_str(), false);
     put_value(page, out, style, inner, field.shape, found);
 }
 

@@ -1,6 +1,8 @@
 -- The rooms of vectors and tables by their parts.
-use Rattle.std.proofs.Common.{◌≡◌, ◌≤◌, ◌+◌, ℕ, zero, suc, min, List, [], ◌∷◌, length, map, drop, Option, Vec, Global, refl, sym, ◌∙◌, arith}
+use Rattle.std.proofs.Common.{◌≡◌, ◌≤◌, ◌+◌, ◌-◌, ◌*◌, ap, ℕ, zero, suc, min, List, [], ◌∷◌, length, map, drop, Option, Vec, Global, refl, sym, ◌∙◌, arith}
 use Rattle.std.proofs.Math.Seq.{drop-nil}
+use Rattle.std.proofs.lemmas.List.{length-map}
+use Rattle.fb_layout.specs.Widths.{widest, table_align}
 use Rattle.fb_schema.specs.declared.types.FieldInfo.{FieldInfo}
 use Rattle.fb_schema.specs.declared.kinds.TypeId.{TypeId}
 use Rattle.fb_schema.specs.declared.kinds.Kind.{Kind}
@@ -8,7 +10,7 @@ use Rattle.fb_schema.specs.declared.kinds.Shape.{Shape}
 use Rattle.fb_schema.specs.declared.kinds.Shape.TheVariants.{Many}
 use Rattle.fb_schema.specs.Schema.{slots_in, body_at}
 use Rattle.fb_schema.specs.Seen.{field_seen}
-use Rattle.fb_layout.specs.Laid.{LaidSchema, Slot, slot_of, StoredShape, stored_shape, stored_kind}
+use Rattle.fb_layout.specs.Laid.{LaidSchema, Slot, slot_of, slots_of, StoredShape, stored_shape, stored_kind}
 use Rattle.fb_value.specs.Datum.{no_entries, count}
 use Rattle.fb_value.specs.View.{view, parts_view, entries_view}
 use Rattle.fb_value.specs.Room.{table_room, vector_room, room, parts_room, entries_room}
@@ -42,9 +44,9 @@ pub table_known : (L : LaidSchema) (shape : StoredShape) (value : Value) (owner 
     → room L shape (view value) ≡ table_room L owner.0 + entries_room L (slots_seen L fs) (entries_view v.items)
 table_known L shape value owner v fs is_fields seen = rw (is_fields, view-Fields owner v, seen) refl
 
--- a sum is too great with either part
-pub over_first : (r a b : ℕ) → r ≡ a + b → (a ≤ 2147483647 → ⊥) → r ≤ 2147483647 → ⊥
-over_first r a b is over below = over (omega arith)
-
-pub over_second : (r a b : ℕ) → r ≡ a + b → (b ≤ 2147483647 → ⊥) → r ≤ 2147483647 → ⊥
-over_second r a b is over below = over (omega arith)
+-- a table's own room, by the count of its slots
+pub own_known : (L : LaidSchema) (owner : TypeId) (fs : List FieldInfo) (n : ℕ) → map field_seen fs ≡ slots_in (body_at L.schema owner.0) → n ≡ length fs
+    → (table_align L owner.0 - 1) + (widest L owner.0 + (4 + 2 * n)) ≡ table_room L owner.0
+own_known L owner fs n seen is =
+    let long : length (slots_of L owner.0) ≡ n = length-map (slots_in (body_at L.schema owner.0)) (slot_of L.schema) ∙ (ap length (sym seen) ∙ (length-map fs field_seen ∙ sym is)) in
+    rw long refl
