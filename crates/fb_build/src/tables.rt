@@ -12,6 +12,9 @@ ghost use Rattle.fb_value.specs.Datum.{a_table, a_vector, count};
 ghost use Rattle.fb_value.specs.Num.{divides};
 ghost use Rattle.fb_value.specs.Places.{part_place, table_part, vector_part};
 ghost use Rattle.fb_value.specs.View.{view, parts_view, entries_view};
+ghost use Rattle.fb_build.specs.CoveredTails.{parts_in_tail};
+ghost use Rattle.fb_build.specs.Made.{Adds, named_items, named_stored, named_fields, part_named};
+ghost use Rattle.fb_build.specs.Made.{parts_at, ends_parts};
 ghost use Rattle.fb_build.specs.Tails.{Grows, LaidInTail};
 ghost use Rattle.fb_build.specs.Fields.{EntriesEnd, EntryEnd, IsSimple, IsElement, stored_in};
 ghost use Rattle.fb_build.specs.Fields.{stored_seen, slots_seen, entries_seen, slot_seen, entry_stored};
@@ -112,6 +115,8 @@ pub(crate) fn lay_table(
     requires shared { AreLaid (map (λ k. k.items) known.now.keys) places.old out.old.bytes }
     ensures lies { LaidInTail layout.now out.new.most out.new.bytes (part_place (table_part table.0))
         result (a_table table.0 (entries_view entries.now.items)) }
+    ensures adds { Adds layout.now out.old places.old out.new places.new (parts_in_tail layout.now out.new.bytes
+        (table_part table.0) result (a_table table.0 (entries_view entries.now.items))) }
     ensures shared { AreLaid (map (λ k. k.items) known.now.keys) places.new out.new.bytes }
     ensures bound { out.new.most ≤ max out.old.most (greatest layout.now) }
     ensures grows { Grows out.old out.new }
@@ -167,6 +172,9 @@ fn lay_targets(
     ensures each { length ends.new ≡ length slots.now }
     ensures state { EntriesEnd layout.now 0 out.new.most out.new.bytes (λ k f. false)
         (slots_seen layout.now slots.now) (stored_seen layout.now slots.now entries.now.items) ends.new }
+    ensures adds { Adds layout.now out.old places.old out.new places.new (ends_parts layout.now out.new.bytes
+        (named_fields (slots_seen layout.now slots.now) (stored_seen layout.now slots.now entries.now.items))
+        ends.new) }
     ensures shared { AreLaid (map (λ k. k.items) known.now.keys) places.new out.new.bytes }
     ensures bound { out.new.most ≤ max out.old.most (greatest layout.now) }
     ensures grows { Grows out.old out.new }
@@ -214,6 +222,9 @@ fn lay_target(
     requires shared { AreLaid (map (λ k. k.items) known.now.keys) places.old out.old.bytes }
     ensures state { (code : Option ℕ) → EntryEnd layout.now 0 out.new.most out.new.bytes false
         (slot_seen layout.now slot.now) (entry_stored layout.now slot.now code entry.now) result }
+    ensures adds { (code : Option ℕ) → Adds layout.now out.old places.old out.new places.new
+        (parts_at layout.now out.new.bytes (named_stored (slot_seen layout.now slot.now)
+        (entry_stored layout.now slot.now code entry.now)) result) }
     ensures shared { AreLaid (map (λ k. k.items) known.now.keys) places.new out.new.bytes }
     ensures bound { out.new.most ≤ max out.old.most (greatest layout.now) }
     ensures grows { Grows out.old out.new }
@@ -253,6 +264,8 @@ fn lay_part(
     requires shared { AreLaid (map (λ k. k.items) known.now.keys) places.old out.old.bytes }
     ensures state { PartEnd layout.now out.new.most out.new.bytes (shape_seen layout.now shape)
         (view value.now) result }
+    ensures adds { Adds layout.now out.old places.old out.new places.new (parts_at layout.now out.new.bytes
+        (part_named (shape_seen layout.now shape) (view value.now)) result) }
     ensures shared { AreLaid (map (λ k. k.items) known.now.keys) places.new out.new.bytes }
     ensures bound { out.new.most ≤ max out.old.most (greatest layout.now) }
     ensures grows { Grows out.old out.new }
@@ -311,6 +324,8 @@ fn lay_items(
     ensures lies { LaidInTail layout.now out.new.most out.new.bytes
         (part_place (vector_part (kind_seen layout.now kind))) result
         (a_vector (parts_view items.now.items)) }
+    ensures adds { Adds layout.now out.old places.old out.new places.new (parts_in_tail layout.now out.new.bytes
+        (vector_part (kind_seen layout.now kind)) result (a_vector (parts_view items.now.items))) }
     ensures shared { AreLaid (map (λ k. k.items) known.now.keys) places.new out.new.bytes }
     ensures bound { out.new.most ≤ max out.old.most (greatest layout.now) }
     ensures grows { Grows out.old out.new }
@@ -356,6 +371,8 @@ fn lay_item_targets(
     ensures each { length ends.new ≡ length items.now.items }
     ensures state { TargetsEnd layout.now out.new.most out.new.bytes (kind_seen layout.now kind)
         (map view items.now.items) ends.new }
+    ensures adds { Adds layout.now out.old places.old out.new places.new (ends_parts layout.now out.new.bytes
+        (named_items (kind_seen layout.now kind) (map view items.now.items)) ends.new) }
     ensures shared { AreLaid (map (λ k. k.items) known.now.keys) places.new out.new.bytes }
     ensures bound { out.new.most ≤ max out.old.most (greatest layout.now) }
     ensures grows { Grows out.old out.new }
