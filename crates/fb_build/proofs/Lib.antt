@@ -56,3 +56,5 @@ pub mod MadeLoops
 pub mod FieldLeadSteps
 pub mod TableLaid
 pub mod TableReached
+pub mod ClosedTable
+pub mod TableLeads

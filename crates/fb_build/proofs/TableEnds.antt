@@ -83,7 +83,7 @@ module _ (L : LaidSchema) (low c size u : ℕ) (o n : TailSeen) (ends : List ℕ
       ∙ num_behind (little_bytes 2 (4 + 2 * u)) (little_bytes 2 size ++ (offset_bytes c u ends ++ v.stands.behind)) 0 2
       ∙ num_first 2 size (offset_bytes c u ends ++ v.stands.behind) low_size
 
-  vtable_at : vtable s (length s - c) ≡ length s - v.at
+  pub vtable_at : vtable n.bytes (length n.bytes - c) ≡ length n.bytes - v.at
   unfolding s
   vtable_at = vtable_is (from_end s n.most) s (length s - c) (length s - v.at) u low_place low_vtable v.way size_reads
 

@@ -1,6 +1,6 @@
 //! Lays tables.
 ghost use Rattle.std.specs.Prelude.{ℕ, ◌≡◌, ◌≤◌, ◌<◌, ◌+◌, ◌-◌, ◌*◌, ◌/◌, ◌%◌};
-ghost use Rattle.std.specs.Prelude.{Option, true, false, length, map, max, option_map};
+ghost use Rattle.std.specs.Prelude.{Option, List, [], ◌∷◌, true, false, length, map, max, option_map};
 ghost use Rattle.fb_layout.specs.Laid.{slots_of, kind_in, align_of};
 ghost use Rattle.fb_layout.specs.Widths.{greatest};
 ghost use Rattle.fb_value.specs.Entries.{EntryFits, entry_room};
@@ -14,9 +14,9 @@ ghost use Rattle.fb_value.specs.Places.{part_place, table_part, vector_part};
 ghost use Rattle.fb_value.specs.View.{view, parts_view, entries_view};
 ghost use Rattle.fb_build.specs.CoveredTails.{parts_in_tail};
 ghost use Rattle.fb_build.specs.Made.{Adds, named_items, named_stored, named_fields, part_named};
-ghost use Rattle.fb_build.specs.Made.{parts_at, ends_parts};
-ghost use Rattle.fb_build.specs.Tails.{Grows, LaidInTail};
-ghost use Rattle.fb_build.specs.Fields.{EntriesEnd, EntryEnd, IsSimple, IsElement, stored_in};
+ghost use Rattle.fb_build.specs.Made.{parts_at, ends_parts, FieldsFront, FieldsLead};
+ghost use Rattle.fb_build.specs.Tails.{TailSeen, Grows, LaidInTail};
+ghost use Rattle.fb_build.specs.Fields.{EntriesEnd, EntryEnd, IsSimple, IsElement, stored_in, stored_align};
 ghost use Rattle.fb_build.specs.Fields.{stored_seen, slots_seen, entries_seen, slot_seen, entry_stored};
 ghost use Rattle.fb_build.specs.Fields.{shape_seen, kind_seen, fields_size};
 ghost use Rattle.fb_build.specs.Needs.{entries_count, entries_need, entry_need, need, parts_need, IsSliced};
@@ -24,7 +24,6 @@ ghost use Rattle.fb_build.specs.Parts.{PartFits, PartEnd, EntryWhole, TableKnown
 ghost use Rattle.fb_build.specs.Items.{TargetsEnd};
 ghost use Rattle.fb_build.specs.Filled.{AreFilled};
 ghost use Rattle.fb_build.specs.TableBytes.{AreLaid};
-ghost use Rattle.fb_build.specs.Fields.{fields_size};
 ghost use Rattle.fb_build.specs.FieldEnds.{AreCounted};
 ghost use Rattle.fb_build.specs.Vtables.{EntriesVtablesKnown, EntryVtablesKnown, IsKey, PartsVtablesKnown};
 ghost use Rattle.fb_build.specs.Vtables.{VtablesKnown, vtable_of};
@@ -77,6 +76,17 @@ fn close_table(
     requires shared { AreLaid (map (λ k. k.items) known.now.keys) places.old out.old.bytes }
     ensures lies { LaidInTail layout.now out.new.most out.new.bytes (part_place (table_part table.0))
         result (a_table table.0 (entries_view entries.now)) }
+    ensures adds { (a : TailSeen) → FieldsFront a out.old start (max 4 (stored_align layout.now
+        (slots_of layout.now table.0) (stored_in (slots_of layout.now table.0) (entries_seen entries.now))))
+        → Adds layout.now a places.old out.new places.new
+        (record { target = table_part table.0; at = length out.new.bytes - result } ∷ []) }
+    ensures leads { (targets : List ℕ) → FieldsLead out.old.bytes (λ k f. true) (slots_of layout.now table.0)
+        (stored_in (slots_of layout.now table.0) (entries_seen entries.now)) targets ends.now
+        → parts_in_tail layout.now out.new.bytes (table_part table.0) result
+        (a_table table.0 (entries_view entries.now))
+        ≡ record { target = table_part table.0; at = length out.new.bytes - result }
+        ∷ ends_parts layout.now out.new.bytes (named_fields (slots_of layout.now table.0)
+        (stored_in (slots_of layout.now table.0) (entries_seen entries.now))) targets }
     ensures shared { AreLaid (map (λ k. k.items) known.now.keys) places.new out.new.bytes }
     ensures bound { out.new.most ≤ max out.old.most (greatest layout.now) }
     ensures grows { Grows out.old out.new }

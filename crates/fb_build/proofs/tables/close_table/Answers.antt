@@ -2,23 +2,30 @@ use Rattle.std.proofs.Common.{ℕ, ◌≡◌, ◌+◌, ◌-◌, ◌∙◌, true,
 use Rattle.std.proofs.lemmas.Bool.{eq-eqb}
 use Rattle.fb_layout.specs.Laid.{slots_of}
 use Rattle.fb_value.specs.Num.{Bytes, divides}
-use Rattle.fb_build.specs.Fields.{stored_in, entries_seen}
-use Rattle.fb_build.specs.TableBytes.{VtableEnd, vtable_bytes}
+use Rattle.fb_build.specs.Fields.{stored_in, stored_align, entries_seen}
+use Rattle.fb_build.specs.TableBytes.{VtableEnd, vtable_bytes, offset_from}
 use Rattle.fb_build.proofs.Grown.{four_power, then_grows, grown_long}
 use Rattle.fb_value.proofs.TailsKept.{through}
 use Rattle.fb_build.proofs.VtableEnds.{shared_grown}
 use Rattle.fb_build.proofs.TableSpent.{ends_under, ends_high, offset_small}
-use Rattle.fb_build.proofs.TableEnds.{table_end}
+use Rattle.fb_build.proofs.TableEnds.{vtable_long, vtable_at, table_read, table_end}
 use Rattle.fb_build.proofs.TableTight.{zeros_stay, last_used}
 use Rattle.std.proofs.Common.{List, Option, Some}
-use Rattle.fb_value.specs.Datum.{Datum}
+use Rattle.fb_value.specs.Datum.{Datum, a_table}
 use Rattle.fb_value.specs.View.{entries_view}
 use Rattle.fb_build.specs.FieldEnds.{table_size, table_vtable}
 use Rattle.fb_build.specs.Vtables.{vtable_of}
 use Rattle.fb_build.proofs.VtableOf.{vtable_is_of}
 use Rattle.fb_build.proofs.VtableKeys.{listed}
-use Rattle.fb_build.proofs.TableReached.{table_reached}
-use Rattle.fb_build.proofs.TableLaid.{old_laid, new_laid}
+use Rattle.fb_build.proofs.TableLeads.{table_leads}
+use Rattle.fb_build.proofs.PartsStay.{table_stays}
+use Rattle.fb_build.proofs.TableTight.{laid_size, laid_align}
+use Rattle.fb_build.specs.Made.{OldVtable, NewVtable}
+use Rattle.fb_build.specs.Tails.{LaidInTail}
+use Rattle.fb_value.specs.Places.{part_place, table_part, vtable}
+use Rattle.fb_value.specs.Tails.{from_end}
+use Rattle.std.proofs.Common.{◌<◌, ◌≤◌, ◌*◌, ◌^◌, ◌⊎◌, inl, inr, max, length, map, slice_get}
+use Rattle.fb_build.proofs.ClosedTable.{IsClosed, old_closed, new_closed}
 use Rattle.fb_build.proofs.tables.close_table.Goals as goal
 
 pub pad-requires-clause-power : goal.pad-requires-clause-power
@@ -88,3 +95,90 @@ lay_vtable-requires-clause-key c =
     let is = put.there ∙ vtable_is_of L c.args.start fs xs c.args.ends.now c.requires.fits.known c.requires.each c.requires.counted (λ k f x fk xk out. (c.requires.state k f x fk xk).absent out) (c.count.result + 4) c.put_vtable-slots.result place put.within put.rest put.last in
     let whole : vtable_of L c.args.table.0 (entries_view c.args.entries.now) ≡ table_vtable L fs xs = ap (λ (zs : List (Option Datum)). table_vtable L fs (stored_in fs zs)) (listed ys) in
     (c.requires.key.0, c.requires.key.1 ∙ ap (λ (b : List ℕ). Some b) (whole ∙ sym is))
+
+pub returns-clause-leads : goal.returns-clause-leads
+returns-clause-leads c targets leads =
+    let L = c.args.layout.now in
+    let o = c.args.out.now in
+    let n = c.lay_vtable.new.out in
+    let t = c.args.table.0 in
+    let fs = slots_of L t in
+    let xs = entries_seen c.args.entries.now in
+    let ends = c.args.ends.now in
+    let u = c.put_vtable-slots.result in
+    let start = c.args.start in
+    let place = c.count.result + 4 in
+    let size = place - start in
+    let same : c.lay_vtable.result ≡ place = c.lay_vtable.ensures.place ∙ sym (ap (λ i. i + 4) c.count.ensures.exact) in
+    let grows = then_grows _ _ _ c.pad.ensures.grows c.lay_vtable.ensures.grows in
+    let padded = grown_long o c.pad.new.self c.pad.ensures.grows in
+    let long = grown_long c.pad.new.self n c.lay_vtable.ensures.grows in
+    let high = ends_high L start o.most o.bytes fs (stored_in fs xs) ends c.requires.fits.known c.requires.each c.requires.state in
+    let most : divides 4 n.most ≡ true = rw c.lay_vtable.ensures.most c.pad.ensures.wide in
+    let behind : length o.bytes < place = omega (arith, padded, c.pad.ensures.free, c.count.ensures.exact) in
+    let within : place ≤ length n.bytes = omega (arith, same, c.lay_vtable.ensures.inside) in
+    let four : divides 4 place ≡ true = eq-eqb _ _ (omega (arith, c.pad.ensures.multiple, c.count.ensures.exact)) in
+    let short : length n.bytes < 2 ^ 31 = omega (arith, long, c.count.ensures) in
+    let few : u ≤ 32765 = omega (arith, c.put_vtable-slots.ensures.within, c.requires.few) in
+    let fits : (k : ℕ) → offset_from place (slice_index ends k) < 256 ^ 2 = λ k. offset_small place (slice_index ends k) start (high k) (omega (arith, padded, c.pad.ensures.free, c.pad.ensures.under, c.count.ensures.exact, c.requires.narrow)) in
+    let low_size : size < 256 ^ 2 = omega (arith, padded, c.pad.ensures.free, c.pad.ensures.under, c.count.ensures.exact, c.requires.narrow) in
+    let stands : VtableEnd n.bytes place (vtable_bytes place size u ends) = subst (λ (i : ℕ). VtableEnd n.bytes i (vtable_bytes place size u ends)) same (subst (λ (x : Bytes). VtableEnd n.bytes c.lay_vtable.result x) c.put_vtable-slots.ensures.there c.lay_vtable.ensures.stands) in
+    let read = table_read L start place size u o n ends grows behind within four most (through 2 4 n.most refl most) short stands c.put_vtable-slots.ensures.within few c.put_vtable-slots.ensures.rest fits low_size in
+    rw same (table_leads L start place size u o n ends grows behind within read t xs targets c.requires.fits.long c.requires.fits.paired c.requires.fits.fits c.requires.fits.known c.requires.state leads)
+
+pub returns-clause-adds : goal.returns-clause-adds
+returns-clause-adds c a front =
+    let L = c.args.layout.now in
+    let o = c.args.out.now in
+    let n = c.lay_vtable.new.out in
+    let t = c.args.table.0 in
+    let fs = slots_of L t in
+    let xs = entries_seen c.args.entries.now in
+    let ends = c.args.ends.now in
+    let u = c.put_vtable-slots.result in
+    let start = c.args.start in
+    let place = c.count.result + 4 in
+    let size = place - start in
+    let same : c.lay_vtable.result ≡ place = c.lay_vtable.ensures.place ∙ sym (ap (λ i. i + 4) c.count.ensures.exact) in
+    let grows = then_grows _ _ _ c.pad.ensures.grows c.lay_vtable.ensures.grows in
+    let padded = grown_long o c.pad.new.self c.pad.ensures.grows in
+    let long = grown_long c.pad.new.self n c.lay_vtable.ensures.grows in
+    let high = ends_high L start o.most o.bytes fs (stored_in fs xs) ends c.requires.fits.known c.requires.each c.requires.state in
+    let most : divides 4 n.most ≡ true = rw c.lay_vtable.ensures.most c.pad.ensures.wide in
+    let behind : length o.bytes < place = omega (arith, padded, c.pad.ensures.free, c.count.ensures.exact) in
+    let within : place ≤ length n.bytes = omega (arith, same, c.lay_vtable.ensures.inside) in
+    let four : divides 4 place ≡ true = eq-eqb _ _ (omega (arith, c.pad.ensures.multiple, c.count.ensures.exact)) in
+    let short : length n.bytes < 2 ^ 31 = omega (arith, long, c.count.ensures) in
+    let few : u ≤ 32765 = omega (arith, c.put_vtable-slots.ensures.within, c.requires.few) in
+    let fits : (k : ℕ) → offset_from place (slice_index ends k) < 256 ^ 2 = λ k. offset_small place (slice_index ends k) start (high k) (omega (arith, padded, c.pad.ensures.free, c.pad.ensures.under, c.count.ensures.exact, c.requires.narrow)) in
+    let low_size : size < 256 ^ 2 = omega (arith, padded, c.pad.ensures.free, c.pad.ensures.under, c.count.ensures.exact, c.requires.narrow) in
+    let stands : VtableEnd n.bytes place (vtable_bytes place size u ends) = subst (λ (i : ℕ). VtableEnd n.bytes i (vtable_bytes place size u ends)) same (subst (λ (x : Bytes). VtableEnd n.bytes c.lay_vtable.result x) c.put_vtable-slots.ensures.there c.lay_vtable.ensures.stands) in
+    let read = table_read L start place size u o n ends grows behind within four most (through 2 4 n.most refl most) short stands c.put_vtable-slots.ensures.within few c.put_vtable-slots.ensures.rest fits low_size in
+    let zs = stored_in fs xs in
+    let vt = vtable_bytes place size u ends in
+    let keys = map (λ k. k.items) c.args.known.now.keys in
+    let there = c.put_vtable-slots.ensures.there in
+    let laid = subst (λ (x : Bytes). OldVtable keys c.args.places.now c.lay_vtable.new.places c.pad.new.self.bytes n.bytes x ⊎ NewVtable keys c.args.places.now c.lay_vtable.new.places c.pad.new.self.bytes n.bytes x) there c.lay_vtable.ensures.laid in
+    let at : (key : ℕ) → slice_get keys key ≡ Some vt → 0 < slice_index c.lay_vtable.new.places key → vtable n.bytes (length n.bytes - place) ≡ length n.bytes - slice_index c.lay_vtable.new.places key =
+    λ key is some. (
+    let stood = c.lay_vtable.ensures.shared.stand key vt is some in
+    let way = c.lay_vtable.ensures.leads key (rw there is) in
+    let v : VtableEnd n.bytes place vt = record { at = slice_index c.lay_vtable.new.places key; stands = stood.0; even = stood.1; way = rw same at way } in
+    vtable_at L start place size u o n ends grows behind within four most (through 2 4 n.most refl most) short v c.put_vtable-slots.ensures.within few c.put_vtable-slots.ensures.rest fits) in
+    let below : (k : ℕ) → slice_index ends k < place = λ k. omega (arith, behind, ends_under L start o.most o.bytes fs zs ends c.requires.fits.known c.requires.each c.requires.state k) in
+    let lies : LaidInTail L n.most n.bytes (part_place (table_part t)) place (a_table t (entries_view c.args.entries.now)) = subst (λ (i : ℕ). LaidInTail L n.most n.bytes (part_place (table_part t)) i (a_table t (entries_view c.args.entries.now))) same (returns-clause-lies c) in
+    let closed : IsClosed L a o n t start (max 4 (stored_align L fs zs)) place c.pad.result c.pad.new.self.bytes = record {
+      front = front;
+      padded = c.pad.ensures.bytes;
+      most = c.lay_vtable.ensures.most ∙ c.pad.ensures.most;
+      least = omega arith;
+      here = ap (λ i. i + 4) c.count.ensures.exact;
+      size = laid_size L n.bytes t (length n.bytes - place) place size u ends read;
+      own = ap (λ i. max 4 i) (laid_align L start o.most place o.bytes n.bytes t (length n.bytes - place) size u zs ends c.requires.fits.known.long c.requires.state below read);
+      stay = table_stays (from_end n.bytes n.most) L n.bytes t (length n.bytes - place) lies.lies.lies.0;
+    } in
+    let vt_long = vtable_long place size u ends c.put_vtable-slots.ensures.within in
+    rw same (elim laid [
+      | inl old ↦ old_closed L a o n t start (max 4 (stored_align L fs zs)) place c.pad.result c.pad.new.self.bytes closed keys c.args.places.now c.lay_vtable.new.places vt old at
+      | inr new ↦ new_closed L a o n t start (max 4 (stored_align L fs zs)) place c.pad.result c.pad.new.self.bytes closed keys c.args.places.now c.lay_vtable.new.places vt new at (omega (arith, vt_long)) (read.first ∙ sym vt_long)
+    ])
