@@ -13,7 +13,7 @@ use Rattle.fb_value.specs.Num.{Bytes}
 use Rattle.fb_value.specs.Places.{Target, part_place}
 use Rattle.fb_value.specs.Tails.{LiesInTail}
 use Rattle.fb_build.specs.Tails.{TailSeen, Grows}
-use Rattle.fb_build.specs.Fields.{IsSimple, IsElement, SlotFits, StoredFits, is_stored, stored_here, coded, target_for, TargetEnd, EntryEnd, AreKnown}
+use Rattle.fb_build.specs.Fields.{IsSimple, IsElement, SlotFits, StoredFits, is_stored, stored_here, coded, target_for, TargetEnd, EntryEnd, EntriesEnd, AreKnown}
 use Rattle.fb_build.specs.Pieces.{PartAt}
 use Rattle.fb_build.specs.CoveredTails.{part_further}
 use Rattle.fb_build.specs.Made.{Adds, NamedPart, named_of, named_items, named_stored, named_fields, part_named, parts_at, ends_parts}
@@ -21,7 +21,7 @@ use Rattle.fb_build.proofs.Grown.{grown_long}
 use Rattle.fb_build.proofs.TableLies.{no_code_entry}
 use Rattle.fb_build.proofs.CycleSteps.{ItemsBefore, TargetsBefore}
 use Rattle.fb_build.proofs.MadeSteps.{adds_then, adds_permuted}
-use Rattle.fb_build.proofs.EndsParts.{AreThere, ends_moved, ends_more}
+use Rattle.fb_build.proofs.EndsParts.{AreThere, take_whole, ends_moved, ends_more}
 
 -- one slot or element more
 pub adds_step : (L : LaidSchema) (a o n : TailSeen) (before between after : List ℕ) (k e : ℕ) (xs : List (Option NamedPart)) (x : Option NamedPart) (ends : List ℕ) → Grows a o → Grows o n → slice_get xs k ≡ Some x → k < length ends
@@ -283,3 +283,10 @@ adds_with L a o n before between after x xs ends g h there first second =
     let more = grown_long o n h in
     let both = adds_then L a o n before between after (ends_parts L o.bytes xs ends) (x ∷ []) (omega (arith, up, g.spent)) (omega (arith, more, h.spent)) first second in
     subst (λ (zs : List PartAt). Adds L a before n after (x ∷ zs)) (sym (ends_moved L o n xs ends h there)) both
+
+-- the parts of all slots lie where they were laid
+pub slots_there : (L : LaidSchema) (o : TailSeen) (fs : List Slot) (xs : List (Option Datum)) (ends : List ℕ) → AreKnown L fs xs → EntriesEnd L 0 o.most o.bytes (λ k f. false) fs xs ends → AreThere L o.most o.bytes (named_fields fs xs) ends
+slots_there L o fs xs ends known state =
+    let ns = named_fields fs xs in
+    let all : take (length ns) ns ≡ ns = take_whole (length ns) ns (omega arith) in
+    subst (λ (zs : List (Option NamedPart)). AreThere L o.most o.bytes zs ends) all (fields_there L o (length ns) fs xs ends known (λ j f x low fj xj. state j f x fj xj))
