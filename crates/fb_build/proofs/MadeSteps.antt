@@ -16,7 +16,7 @@ use Rattle.fb_build.specs.Covered.{Chunk, pieces_among}
 use Rattle.fb_build.specs.CoveredTails.{part_further, piece_further}
 use Rattle.fb_build.specs.CoveredSteps.{ChunksOfTail, MadeInTail}
 use Rattle.fb_build.specs.Tails.{TailSeen}
-use Rattle.fb_build.specs.Made.{StaysInFront, laid_at, IsMade, Adds}
+use Rattle.fb_build.specs.Made.{StaysInFront, laid_at, times_among, IsMade, Adds}
 use Rattle.fb_build.proofs.ChunksJoined.{more_shown, made_shown}
 
 -- ---- in another order
@@ -75,6 +75,7 @@ made_permuted L o places xs ys h made = record {
     are = made.made.are;
     pieces = IsPermutation-trans _ _ _ made.made.pieces (IsPermutation-append_left (map (vtable_piece o.bytes) (laid_at o.bytes places)) _ _ (IsPermutation-map (part_piece L o.bytes) xs ys h));
   };
+  once = made.once;
   served = λ q. made.served q ∙ same_among (λ x. vtable_of o.bytes x.target x.at) q xs ys h;
   widest = made.widest ∙ ap (λ n. max 4 n) (same_greatest (λ x. part_align L o.bytes x.target x.at) xs ys h);
 }
@@ -153,8 +154,8 @@ pub record LaysInFront (L : LaidSchema) (a b : TailSeen) (before after : List �
 
 pub made_laid : (L : LaidSchema) (a b : TailSeen) (before after : List ℕ) (ys : List PartAt) (rs : List ℕ) (h : LaysInFront L a b before after ys rs) (xs : List PartAt) → IsMade L a before xs
     → ((q : ℕ) → is_among q (laid_at b.bytes after) ≡ is_among q (tables_vtables b.bytes ys ++ map (λ q. length h.front + q) (tables_vtables a.bytes xs)))
-    → IsMade L b after (ys ++ map (part_further (length b.bytes - length a.bytes)) xs)
-made_laid L a b before after ys rs h xs made served =
+    → ((q : ℕ) → times_among q (rs ++ map (λ n. length h.front + n) (laid_at a.bytes before)) ≤ 1) → IsMade L b after (ys ++ map (part_further (length b.bytes - length a.bytes)) xs)
+made_laid L a b before after ys rs h xs made served once =
     let k = length h.front in
     let s = a.bytes in
     let more : a.most ≤ b.most = omega (arith, h.most) in
@@ -181,6 +182,7 @@ made_laid L a b before after ys rs h xs made served =
       within = h.within;
       stay = All-append (StaysInFront L b.bytes) ys (map (part_further k) xs) h.stay later;
       made = whole;
+      once = λ q. (let same = sum_by-IsPermutation (λ n. cond (q == n) 1 0) _ _ h.laid in let own = once q in omega (arith, same, own));
       served = λ q. served q ∙ ap (is_among q) (sym both);
       widest = omega (arith, h.most, made.widest, joined, aligns);
     })

@@ -119,7 +119,7 @@ once_shown ns ms h same = same_members ns (each_once ms) h (once_distinct ms) (�
 
 -- ---- the same numbers further on
 
-same_test : (k n m : ℕ) → ((k + n) == (k + m)) ≡ (n == m)
+pub same_test : (k n m : ℕ) → ((k + n) == (k + m)) ≡ (n == m)
 same_test k n m =
     same_bool _ _ (λ is. eq-eqb n m (let e : k + n ≡ k + m = eqb-true (k + n) (k + m) is in omega (arith, e)))
     (λ is. eq-eqb (k + n) (k + m) (let e : n ≡ m = eqb-true n m is in omega (arith, e)))

@@ -1,5 +1,5 @@
 -- A part that is laid in front of what is made.
-use Rattle.std.proofs.Common.{◌≡◌, ℕ, zero, suc, ◌+◌, ◌-◌, ◌<◌, ◌≤◌, ◌++◌, true, max, List, [], ◌∷◌, length, replicate, map, slice_index, None, refl, ap, sym, ◌∙◌, subst, arith, append_assoc, length-append}
+use Rattle.std.proofs.Common.{◌≡◌, ℕ, zero, suc, ◌+◌, ◌-◌, ◌<◌, ◌≤◌, ◌⊎◌, inl, inr, ◌++◌, Bool, true, false, cond, ◌==◌, max, List, [], ◌∷◌, length, replicate, map, slice_index, None, refl, ap, sym, ◌∙◌, subst, arith, append_assoc, length-append}
 use Rattle.std.specs.Prelude.{IsPermutation, flat_map}
 use Rattle.std.proofs.lemmas.List.Elements.{All-nil, All-cons}
 use Rattle.std.proofs.lemmas.List.Sorted.{IsPermutation-refl}
@@ -9,8 +9,11 @@ use Rattle.fb_value.specs.Places.{Target}
 use Rattle.fb_build.specs.Pieces.{PartAt, part_size, part_align, vtable_of, is_among, tables_vtables, whole_part, Piece}
 use Rattle.fb_build.specs.Covered.{Chunk, piece_chunk, zeros_chunk, chunk_bytes}
 use Rattle.fb_build.specs.Tails.{TailSeen}
-use Rattle.fb_build.specs.Made.{StaysInFront, laid_at, IsMade, Adds}
-use Rattle.fb_build.proofs.Once.{same_bool, among_further}
+use Rattle.fb_build.specs.Made.{StaysInFront, laid_at, times_among, IsMade, Adds}
+use Rattle.std.proofs.lemmas.Bool.{ne_eqb}
+use Rattle.std.proofs.lemmas.List.Sums.{sum_by-cons}
+use Rattle.fb_build.proofs.Grown.{lower}
+use Rattle.fb_build.proofs.Once.{same_bool, same_test, among_further}
 use Rattle.fb_build.proofs.CoveredWhole.{before_moved}
 use Rattle.fb_build.proofs.MadeSteps.{LaysInFront, made_laid}
 
@@ -30,6 +33,54 @@ one_further k q ms ns same h =
 
 pub same_further : (k q : ℕ) (ms ns : List ℕ) → ((n : ℕ) → is_among n ms ≡ is_among n ns) → is_among q (map (λ n. k + n) ms) ≡ is_among q (map (λ n. k + n) ns)
 same_further k q ms ns same = same_bool _ _ (one_further k q ms ns same) (one_further k q ns ms (λ n. sym (same n)))
+
+-- ---- how often
+
+none_before : (k q : ℕ) (ms : List ℕ) → q < k → times_among q (map (λ n. k + n) ms) ≡ 0
+none_before k q [] low = refl
+none_before k q (m ∷ ms) low =
+    let other : (q == (k + m)) ≡ false = ne_eqb q (k + m) (λ same. omega (arith, same, low)) in
+    let e = sum_by-cons (λ n. cond (q == n) 1 0) (k + m) (map (λ n. k + n) ms) in
+    let one : ◌≡◌ {A = ℕ} (cond (q == (k + m)) 1 0) 0 = rw other refl in
+    omega (arith, e, one, none_before k q ms low)
+
+as_often : (k j : ℕ) (ms : List ℕ) → times_among (k + j) (map (λ n. k + n) ms) ≡ times_among j ms
+as_often k j [] = refl
+as_often k j (m ∷ ms) =
+    let e = sum_by-cons (λ n. cond ((k + j) == n) 1 0) (k + m) (map (λ n. k + n) ms) in
+    let d = sum_by-cons (λ n. cond (j == n) 1 0) m ms in
+    let one : ◌≡◌ {A = ℕ} (cond ((k + j) == (k + m)) 1 0) (cond (j == m) 1 0) = ap (λ (t : Bool). cond {A = ℕ} t 1 0) (same_test k j m) in
+    omega (arith, e, d, one, as_often k j ms)
+
+pub times_further : (k : ℕ) (ms : List ℕ) → ((n : ℕ) → times_among n ms ≤ 1) → (q : ℕ) → times_among q (map (λ n. k + n) ms) ≤ 1
+times_further k ms once q = by_case (lower k q)
+  where
+    by_case : (k ≤ q) ⊎ (q < k) → times_among q (map (λ n. k + n) ms) ≤ 1
+    by_case (inr low) = omega (arith, none_before k q ms low)
+    by_case (inl over) =
+        let split : k + (q - k) ≡ q = omega (arith, over) in
+        let same : times_among q (map (λ n. k + n) ms) ≡ times_among (q - k) ms = ap (λ i. times_among i (map (λ n. k + n) ms)) (sym split) ∙ as_often k (q - k) ms in
+        let own = once (q - k) in
+        omega (arith, same, own)
+
+pub times_with_first : (k : ℕ) (ms : List ℕ) → 0 < k → ((n : ℕ) → times_among n ms ≤ 1) → (q : ℕ) → times_among q (0 ∷ map (λ n. k + n) ms) ≤ 1
+times_with_first k ms some once q = by_case (lower 1 q)
+  where
+    further : List ℕ
+    further = map (λ n. k + n) ms
+
+    by_case : (1 ≤ q) ⊎ (q < 1) → times_among q (0 ∷ map (λ n. k + n) ms) ≤ 1
+    by_case (inr low) =
+        let first : q ≡ 0 = omega (arith, low) in
+        let e = sum_by-cons (λ n. cond (0 == n) 1 0) 0 (map (λ n. k + n) ms) in
+        let rest = none_before k 0 ms some in
+        rw first (omega (arith, e, rest))
+    by_case (inl over) =
+        let other : (q == 0) ≡ false = ne_eqb q 0 (λ same. omega (arith, same, over)) in
+        let e = sum_by-cons (λ n. cond (q == n) 1 0) 0 (map (λ n. k + n) ms) in
+        let one : ◌≡◌ {A = ℕ} (cond (q == 0) 1 0) 0 = rw other refl in
+        let rest = times_further k ms once q in
+        omega (arith, e, one, rest)
 
 pub front_joined : (bytes s : Bytes) (zeros : ℕ) → bytes ++ (replicate zeros 0 ++ s) ≡ (bytes ++ (replicate zeros 0 ++ [])) ++ s
 front_joined bytes s zeros = ap (λ z. bytes ++ z) (sym (append_assoc (replicate zeros 0) [] s)) ∙ sym (append_assoc bytes (replicate zeros 0 ++ []) s)
@@ -57,4 +108,4 @@ part_laid L a b X bytes zeros is low size none stay most places xs made =
       laid = rw moved (IsPermutation-refl _);
       most = omega (arith, most, wide);
     } in
-    made_laid L a b places places (x ∷ []) [] lays xs made (λ q. ap (is_among q) moved ∙ same_further (length front) q (laid_at a.bytes places) (tables_vtables a.bytes xs) made.served ∙ rw none refl)
+    made_laid L a b places places (x ∷ []) [] lays xs made (λ q. ap (is_among q) moved ∙ same_further (length front) q (laid_at a.bytes places) (tables_vtables a.bytes xs) made.served ∙ rw none refl) (times_further (length front) (laid_at a.bytes places) made.once)

@@ -1,5 +1,5 @@
 -- A table that was laid, with a vtable that stands in the tail.
-use Rattle.std.proofs.Common.{◌≡◌, ℕ, zero, suc, ◌+◌, ◌-◌, ◌*◌, ◌^◌, ◌<◌, ◌≤◌, ◌⊎◌, inl, inr, ◌++◌, true, List, [], ◌∷◌, length, slice_get, slice_index, Option, Some, refl, ap, sym, ◌∙◌, subst, arith, length-append}
+use Rattle.std.proofs.Common.{◌≡◌, ℕ, zero, suc, ◌+◌, ◌-◌, ◌*◌, ◌^◌, ◌<◌, ◌≤◌, ◌⊎◌, inl, inr, ◌++◌, true, List, [], ◌∷◌, length, slice_get, slice_index, Option, Some, refl, ap, sym, ◌∙◌, subst, arith, append_assoc, length-append}
 use Rattle.std.proofs.lemmas.Bool.{and_from, eqb-true}
 use Rattle.byteorder.specs.Endian.{little_bytes}
 use Rattle.fb_layout.specs.Laid.{LaidSchema, Slot, slots_of}
@@ -13,7 +13,7 @@ use Rattle.fb_build.specs.Tails.{TailSeen, Grows, LaidInTail}
 use Rattle.fb_layout.specs.Sizes.{ceil4}
 use Rattle.fb_build.specs.Fields.{EntriesEnd, AreKnown, stored_in, fields_size}
 use Rattle.fb_build.specs.Filled.{AreFilled}
-use Rattle.fb_build.specs.TableBytes.{offset_from, offset_bytes, vtable_bytes, VtableEnd}
+use Rattle.fb_build.specs.TableBytes.{offset_from, offset_bytes, vtable_bytes, TellsItsLength, VtableEnd}
 use Rattle.fb_build.proofs.Standing.{num_behind, num_first, num_standing}
 use Rattle.fb_build.proofs.VtableSteps.{vtable_is, vtable_inside, vtable_good, slot_there, slot_past, table_lies}
 use Rattle.fb_build.proofs.FieldSteps.{entries_grown, entry_under}
@@ -39,6 +39,11 @@ offsets_long c (suc u) (e ∷ ends) within = omega (arith, offsets_long c u ends
 
 pub vtable_long : (c size u : ℕ) (ends : List ℕ) → u ≤ length ends → length (vtable_bytes c size u ends) ≡ 4 + 2 * u
 vtable_long c size u ends within = omega (arith, offsets_long c u ends within)
+
+pub vtable_told : (c size u : ℕ) (ends : List ℕ) → u ≤ length ends → u ≤ 32765 → TellsItsLength (vtable_bytes c size u ends)
+vtable_told c size u ends within few rest =
+    let parts = append_assoc (little_bytes 2 (4 + 2 * u)) (little_bytes 2 size ++ offset_bytes c u ends) rest in
+    ap (λ b. num b 0 2) parts ∙ num_first 2 (4 + 2 * u) ((little_bytes 2 size ++ offset_bytes c u ends) ++ rest) (omega (arith, few)) ∙ sym (vtable_long c size u ends within)
 
 -- one more offset
 pub offsets_more : (c k : ℕ) (ends : List ℕ) → k < length ends → offset_bytes c (k + 1) ends ≡ offset_bytes c k ends ++ little_bytes 2 (offset_from c (slice_index ends k))

@@ -16,7 +16,7 @@ use Rattle.fb_build.specs.Made.{StaysInFront, laid_at, IsMade, Adds}
 use Rattle.fb_build.proofs.Once.{same_bool}
 use Rattle.fb_build.proofs.PassSteps.{by_index}
 use Rattle.fb_build.proofs.MadeSteps.{LaysInFront, made_laid, same_among}
-use Rattle.fb_build.proofs.PartsLaid.{laid_further, same_further, front_joined}
+use Rattle.fb_build.proofs.PartsLaid.{laid_further, same_further, times_further, times_with_first, front_joined}
 
 -- ---- the places of vtables
 
@@ -85,7 +85,7 @@ module _ (L : LaidSchema) (a b : TailSeen) (t zeros : ℕ) (inline : Bytes) (low
       (λ q. (let same : is_among q (laid_at b.bytes before) ≡ is_among q further = ap (is_among q) moved ∙ same_further (length front) q (laid_at a.bytes before) (tables_vtables a.bytes xs) made.served in
       let v = vtable b.bytes 0 in
       let there : is_among v (laid_at b.bytes before) ≡ true = rw at (laid_there b.bytes before key some) in
-      there_already v q (laid_at b.bytes before) there ∙ ap (λ r. (q == v) || r) same))
+      there_already v q (laid_at b.bytes before) there ∙ ap (λ r. (q == v) || r) same)) (times_further (length front) (laid_at a.bytes before) made.once)
 
   -- whose vtable is laid in front
   pub new_laid : (before : List ℕ) (key : ℕ) (vt : Bytes) → b.bytes ≡ vt ++ (inline ++ (replicate zeros 0 ++ a.bytes)) → 0 < length vt → num b.bytes 0 2 ≡ length vt → part_size L b.bytes (table_part t) (length vt) ≡ length inline
@@ -100,6 +100,7 @@ module _ (L : LaidSchema) (a b : TailSeen) (t zeros : ℕ) (inline : Bytes) (low
       let long = ap length grown in
       let parts = length-append front a.bytes in
       let some_bytes : 0 < length b.bytes = (let whole = ap length is in let two = length-append vt (inline ++ (replicate zeros 0 ++ a.bytes)) in omega (arith, whole, two, some)) in
+      let some_front : 0 < length front = (let two = length-append vt (inline ++ (replicate zeros 0 ++ [])) in omega (arith, two, some)) in
       let further = map (λ q. length front + q) (tables_vtables a.bytes xs) in
       let moved : laid_at b.bytes before ≡ map (λ q. length front + q) (laid_at a.bytes before) = ap (λ s. laid_at s before) grown ∙ laid_further front a.bytes before made.within in
       let begin : length b.bytes - length b.bytes ≡ 0 = omega arith in
@@ -121,7 +122,7 @@ module _ (L : LaidSchema) (a b : TailSeen) (t zeros : ℕ) (inline : Bytes) (low
       } in
       made_laid L a b before after (x ∷ []) (0 ∷ []) lays xs made
       (λ q. (let same : is_among q (map (λ n. length front + n) (laid_at a.bytes before)) ≡ is_among q further = same_further (length front) q (laid_at a.bytes before) (tables_vtables a.bytes xs) made.served in
-      sym (among_permuted q _ _ noted) ∙ ap (λ r. (q == 0) || r) same ∙ ap (λ v. (q == v) || is_among q further) (sym at)))
+      sym (among_permuted q _ _ noted) ∙ ap (λ r. (q == 0) || r) same ∙ ap (λ v. (q == v) || is_among q further) (sym at))) (times_with_first (length front) (laid_at a.bytes before) some_front made.once)
     where
       within_noted : (before : List ℕ) (key : ℕ) → ((i : ℕ) → slice_index before i ≤ length a.bytes) → length a.bytes ≤ length b.bytes → key < length before → (i : ℕ) → slice_index (slice_set before key (length b.bytes)) i ≤ length b.bytes
       within_noted before key within more under i = by_case (by_index i key)

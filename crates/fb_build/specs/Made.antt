@@ -1,6 +1,6 @@
 -- What is made so far while a buffer is laid from its end: parts and vtables, each once, and few zeros between them.
-use Rattle.std.specs.Prelude.{ℕ, zero, suc, ◌+◌, ◌-◌, ◌*◌, ◌≡◌, ◌≤◌, ◌<◌, ◌++◌, Bool, true, false, max, List, [], ◌∷◌, length, replicate, map, drop, slice_get, slice_index, slice_set, Option, None, Some, option_map}
-use Rattle.std.specs.List.{All}
+use Rattle.std.specs.Prelude.{ℕ, zero, suc, ◌+◌, ◌-◌, ◌*◌, ◌≡◌, ◌≤◌, ◌<◌, ◌++◌, Bool, true, false, cond, ◌==◌, max, List, [], ◌∷◌, length, replicate, map, drop, slice_get, slice_index, slice_set, Option, None, Some, option_map}
+use Rattle.std.specs.List.{All, sum_by}
 use Rattle.byteorder.specs.Endian.{little_bytes}
 use Rattle.fb_layout.specs.Laid.{LaidSchema, Slot, StoredKind, StoredShape, one_of, vector_of, size_of}
 use Rattle.fb_value.specs.Datum.{Datum, a_text, a_vector, a_table, a_member}
@@ -24,12 +24,17 @@ laid_at s [] = []
 laid_at s (zero ∷ ends) = laid_at s ends
 laid_at s (suc e ∷ ends) = (length s - suc e) ∷ laid_at s ends
 
+-- how often a number is among others
+abbrev pub times_among : ℕ → List ℕ → ℕ
+times_among q ns = sum_by (λ n. cond (q == n) 1 0) ns
+
 -- A tail is made of some parts and of the vtables that were laid at these end-counts: those of its tables and no others.
 pub record IsMade (L : LaidSchema) (o : TailSeen) (places : List ℕ) (xs : List PartAt) : Type 0 where
   pub within : (i : ℕ) → slice_index places i ≤ length o.bytes
   pub stay : All (StaysInFront L o.bytes) xs
   pub made : MadeInTail L o.bytes o.most xs (laid_at o.bytes places)
   pub served : (q : ℕ) → is_among q (laid_at o.bytes places) ≡ is_among q (tables_vtables o.bytes xs)
+  pub once : (q : ℕ) → times_among q (laid_at o.bytes places) ≤ 1
   pub widest : o.most ≡ greatest_align L o.bytes xs
 
 -- From one tail to a later one these parts were laid in front, and the vtables that they are the first to have.

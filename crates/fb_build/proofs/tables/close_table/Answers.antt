@@ -8,7 +8,7 @@ use Rattle.fb_build.proofs.Grown.{four_power, then_grows, grown_long}
 use Rattle.fb_value.proofs.TailsKept.{through}
 use Rattle.fb_build.proofs.VtableEnds.{shared_grown}
 use Rattle.fb_build.proofs.TableSpent.{ends_under, ends_high, offset_small}
-use Rattle.fb_build.proofs.TableEnds.{vtable_long, vtable_at, table_read, table_end}
+use Rattle.fb_build.proofs.TableEnds.{vtable_told, vtable_long, vtable_at, table_read, table_end}
 use Rattle.fb_build.proofs.TableTight.{zeros_stay, last_used}
 use Rattle.std.proofs.Common.{List, Option, Some}
 use Rattle.fb_value.specs.Datum.{Datum, a_table}
@@ -44,6 +44,13 @@ put_vtable-slots-requires-clause-fits c k =
     let high = ends_high L c.args.start c.args.out.now.most c.args.out.now.bytes (slots_of L c.args.table.0) (stored_in (slots_of L c.args.table.0) (entries_seen c.args.entries.now)) c.args.ends.now c.requires.fits.known c.requires.each c.requires.state k in
     let long = grown_long c.args.out.now c.pad.new.self c.pad.ensures.grows in
     offset_small (c.count.result + 4) (slice_index c.args.ends.now k) c.args.start high (omega (arith, long, c.pad.ensures.free, c.pad.ensures.under, c.count.ensures.exact, c.requires.narrow))
+
+pub lay_vtable-requires-clause-told : goal.lay_vtable-requires-clause-told
+lay_vtable-requires-clause-told c =
+    let place = c.count.result + 4 in
+    let u = c.put_vtable-slots.result in
+    let few : u ≤ 32765 = omega (arith, c.put_vtable-slots.ensures.within, c.requires.few) in
+    rw c.put_vtable-slots.ensures.there (vtable_told place (place - c.args.start) u c.args.ends.now c.put_vtable-slots.ensures.within few)
 
 pub lay_vtable-requires-clause-shared : goal.lay_vtable-requires-clause-shared
 lay_vtable-requires-clause-shared c = shared_grown _ _ _ _ c.pad.ensures.grows c.requires.shared
