@@ -58,3 +58,4 @@ pub mod TableLaid
 pub mod TableReached
 pub mod ClosedTable
 pub mod TableLeads
+pub mod CoveredBuffers

@@ -126,7 +126,7 @@ vtables_stay L front s (x ∷ xs) h =
     let first : StaysInFront L s x = All-head P x xs h in
     rw (first.vtable front) (one_stays (length front) (vtable_of s x.target x.at) _ _ (vtables_stay L front s xs (All-tail P x xs h)))
 
-greatest_stay : (L : LaidSchema) (front s : Bytes) (xs : List PartAt) → All (StaysInFront L s) xs
+pub greatest_stay : (L : LaidSchema) (front s : Bytes) (xs : List PartAt) → All (StaysInFront L s) xs
     → greatest_in (map (λ x. part_align L (front ++ s) x.target x.at) (map (part_further (length front)) xs)) ≡ greatest_in (map (λ x. part_align L s x.target x.at) xs)
 greatest_stay L front s [] h = refl
 greatest_stay L front s (x ∷ xs) h =

@@ -131,3 +131,14 @@ pub record NewVtable (known : List Bytes) (before after : List ℕ) (old new vta
   pub under : key < length before
   pub places : after ≡ slice_set before key (length new)
   pub bytes : new ≡ vtable ++ (little_bytes 4 (length vtable) ++ old)
+
+-- behind the root's reference
+abbrev pub identifier_bytes : Option (List ℕ) → Bytes
+identifier_bytes None = []
+identifier_bytes (Some id) = id
+
+-- From one tail to a later one the identifier was laid, if there is one, and few zeros behind it.
+pub record HeaderFront (identifier : Option (List ℕ)) (a b : TailSeen) : Type 0 where
+  pub zeros : ℕ
+  pub under : zeros < a.most
+  pub bytes : b.bytes ≡ identifier_bytes identifier ++ (replicate zeros 0 ++ a.bytes)
