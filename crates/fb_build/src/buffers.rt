@@ -7,6 +7,7 @@ ghost use Rattle.fb_value.specs.Holds.{Holds};
 ghost use Rattle.fb_value.specs.OldSlots.{OnlyOld};
 ghost use Rattle.fb_value.specs.Room.{room_of};
 ghost use Rattle.fb_value.specs.View.{view};
+ghost use Rattle.fb_build.specs.Covered.{Covered, EndsAligned};
 ghost use Rattle.fb_build.specs.declared.faults.BuildFault.TheVariants.{TooBig, Memory};
 
 use crate::faults::BuildFault;
@@ -75,6 +76,8 @@ pub fn build(alloc: Global, layout: &Layout, value: &Value) -> Result<Vec<u8>, B
     ensures holds { IfOk result (λ b. (most : Bounds) (raw : Bool) → depth (view value.now) ≤ most.depth
         → cells (view value.now) ≤ most.cells → Holds layout.now most raw b.items (view value.now)) }
     ensures old_slots { IfOk result (λ b. OnlyOld layout.now b.items) }
+    ensures covered { IfOk result (λ b. Covered layout.now b.items) }
+    ensures aligned { IfOk result (λ b. EndsAligned layout.now b.items) }
     ensures short { IfOk result (λ b. length b.items ≤ room_of layout.now (view value.now)) }
     ensures small { IfOk result (λ b. room_of layout.now (view value.now) ≤ 2147483647) }
     ensures too_big { IfErr result (λ e. e ≡ TooBig → 2147483647 < room_of layout.now (view value.now)) }

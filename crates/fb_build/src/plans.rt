@@ -6,6 +6,7 @@ ghost use Rattle.fb_value.specs.Holds.{Holds};
 ghost use Rattle.fb_value.specs.OldSlots.{OnlyOld};
 ghost use Rattle.fb_value.specs.Room.{room_of};
 ghost use Rattle.fb_value.specs.View.{view};
+ghost use Rattle.fb_build.specs.Covered.{Covered, EndsAligned};
 
 use crate::roots::fill;
 use fb_layout::Layout;
@@ -50,6 +51,8 @@ impl Plan<'_> {
             → cells (view self.entry.value) ≤ most.cells → Holds self.entry.layout most raw result.items
             (view self.entry.value) }
         ensures old_slots { OnlyOld self.entry.layout result.items }
+        ensures covered { Covered self.entry.layout result.items }
+        ensures aligned { EndsAligned self.entry.layout result.items }
         ensures short { length result.items ≤ room_of self.entry.layout (view self.entry.value) }
     {
         let Plan {

@@ -5,6 +5,7 @@ use Rattle.fb_value.specs.Counts.{cells, depth}
 use Rattle.fb_value.specs.Holds.{Holds}
 use Rattle.fb_value.specs.OldSlots.{OnlyOld}
 use Rattle.fb_value.specs.View.{view}
+use Rattle.fb_build.specs.Covered.{Covered, EndsAligned}
 use Rattle.fb_build.proofs.buffers.build.Goals as goal
 
 pub returns-clause-holds : goal.returns-clause-holds
@@ -17,3 +18,9 @@ returns-clause-holds c most raw deep small =
 
 pub returns-clause-old_slots : goal.returns-clause-old_slots
 returns-clause-old_slots c = subst (λ (L : LaidSchema). OnlyOld L c.finish.result.items) c.in_ok-plan.ensures.layout c.finish.ensures.old_slots
+
+pub returns-clause-covered : goal.returns-clause-covered
+returns-clause-covered c = subst (λ (L : LaidSchema). Covered L c.finish.result.items) c.in_ok-plan.ensures.layout c.finish.ensures.covered
+
+pub returns-clause-aligned : goal.returns-clause-aligned
+returns-clause-aligned c = subst (λ (L : LaidSchema). EndsAligned L c.finish.result.items) c.in_ok-plan.ensures.layout c.finish.ensures.aligned

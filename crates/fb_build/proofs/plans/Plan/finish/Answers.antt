@@ -6,6 +6,7 @@ use Rattle.fb_value.specs.Holds.{Holds}
 use Rattle.fb_value.specs.OldSlots.{OnlyOld}
 use Rattle.fb_value.specs.View.{view, entries_view}
 use Rattle.fb_value.proofs.Views.{view-Fields}
+use Rattle.fb_build.specs.Covered.{Covered, EndsAligned}
 use Rattle.fb_build.proofs.plans.Plan.finish.Goals as goal
 
 pub fill-requires-clause-pending : goal.fill-requires-clause-pending
@@ -28,3 +29,9 @@ returns-clause-old_slots c = subst (λ (L : LaidSchema). OnlyOld L c.fill.result
 
 pub fill-requires-clause-known : goal.fill-requires-clause-known
 fill-requires-clause-known c = rw (c.in-Fields.is, view-Fields c.in-Fields.table c.in-Fields.entries) at c.self.invariant.known
+
+pub returns-clause-covered : goal.returns-clause-covered
+returns-clause-covered c = subst (λ (L : LaidSchema). Covered L c.fill.result.items) (ap (λ p. p.layout) c.self.view_is) c.fill.ensures.covered
+
+pub returns-clause-aligned : goal.returns-clause-aligned
+returns-clause-aligned c = subst (λ (L : LaidSchema). EndsAligned L c.fill.result.items) (ap (λ p. p.layout) c.self.view_is) c.fill.ensures.aligned
