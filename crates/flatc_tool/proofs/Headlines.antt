@@ -1,5 +1,6 @@
 -- What holds of the tool's answers together.
 use Rattle.std.proofs.Common.{◌≡◌, ◌⊎◌, inl, inr, ℕ, List, Bool, true, false, Option, None, Some, refl, sym, ap, ◌∙◌, subst}
+use Rattle.fb_build.specs.Covered.{Covered}
 use Rattle.fb_layout.specs.Laid.{LaidSchema}
 use Rattle.fb_value.specs.declared.faults.ReadFault.{ReadFault}
 use Rattle.fb_value.specs.Bounds.{Bounds}
@@ -54,6 +55,7 @@ module _ (schema json : List ℕ) (most : Bounds) (unknown : Bool) (b : Bytes) (
     holds = held;
     only = λ raw w other. one_value_shown L most raw b w v other (held raw);
     old_slots = subst (λ (K : LaidSchema). OnlyOld K b) layout made.old_slots;
+    covered = subst (λ (K : LaidSchema). Covered K b) layout made.covered;
     printed = printed;
     evolved = evolved;
   }

@@ -22,6 +22,7 @@ use Rattle.fb_json.specs.Meant.{type_place, meant}
 use Rattle.fb_json.specs.Refuses as refused_trees
 use Rattle.fb_json.specs.Unnamed.{IsRefused as IsUnnamed}
 use Rattle.fb_json.proofs.Complete.{complete}
+use Rattle.fb_build.specs.Covered.{Covered, EndsAligned}
 use Rattle.fb_build.specs.declared.faults.BuildFault.{BuildFault}
 use Rattle.fb_build.specs.declared.faults.BuildFault.TheVariants as the_build
 use Rattle.flatc_tool.specs.SchemaTexts.{IsAccepted}
@@ -104,8 +105,8 @@ module _ (schema json : List ℕ) (most : Bounds) (unknown : Bool) (L : LaidSche
 
   -- the bytes that were built are those of the JSON text
   pub binary_made : (v : Datum) (b : Bytes) → JsonMeans L most unknown json v → room_of L v ≤ most_room
-      → ((bounds : Bounds) (raw : Bool) → depth v ≤ bounds.depth → cells v ≤ bounds.cells → Holds L bounds raw b v) → OnlyOld L b → length b ≤ room_of L v → IsBinary schema json most unknown b
-  binary_made v b means small holds old short =
+      → ((bounds : Bounds) (raw : Bool) → depth v ≤ bounds.depth → cells v ≤ bounds.cells → Holds L bounds raw b v) → OnlyOld L b → Covered L b → EndsAligned L b → length b ≤ room_of L v → IsBinary schema json most unknown b
+  binary_made v b means small holds old covered aligned short =
       let held : (raw : Bool) → Holds L most raw b v = λ raw. holds most raw means.2.1 means.2.2 in
       record {
         layout = L;
@@ -116,6 +117,8 @@ module _ (schema json : List ℕ) (most : Bounds) (unknown : Bool) (L : LaidSche
         holds = held;
         only = λ raw w other. one_value_shown L most raw b w v other (held raw);
         old_slots = old;
+        covered = covered;
+        aligned = aligned;
         short = short;
       }
 

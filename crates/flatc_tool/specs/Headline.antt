@@ -8,6 +8,7 @@ use Rattle.fb_value.specs.Num.{Bytes}
 use Rattle.fb_value.specs.Holds.{Holds, IsLeastFault}
 use Rattle.fb_value.specs.OldSlots.{OnlyOld}
 use Rattle.fb_json.specs.Texts.{json_text}
+use Rattle.fb_build.specs.Covered.{Covered}
 use Rattle.fb_conform.specs.Conforms.{Conforms}
 use Rattle.fb_conform.specs.Carry.{carry}
 use Rattle.flatc_tool.specs.SchemaTexts.{IsAccepted}
@@ -15,12 +16,13 @@ use Rattle.flatc_tool.specs.Jobs.{JsonMeans, IsBinary, IsText, TextRefused, IsNo
 use Rattle.flatc_tool.specs.declared.faults.ToolFault.{ToolFault}
 use Rattle.flatc_tool.specs.declared.faults.ToolFault.TheVariants.{Read}
 
--- What JSON means under a schema lies in its bytes, nothing else does, only slots in use have something, and the bytes print as that
--- value's text.
+-- What JSON means under a schema lies in its bytes, nothing else does, only slots in use have something, each byte belongs to the value
+-- or is one of few zeros, and the bytes print as that value's text.
 pub record CarriesValue (schema : List ℕ) (b : Bytes) (most : Bounds) (L : LaidSchema) (v : Datum) : Type 0 where
   pub holds : (raw : Bool) → Holds L most raw b v
   pub only : (raw : Bool) (w : Datum) → Holds L most raw b w → w ≡ v
   pub old_slots : OnlyOld L b
+  pub covered : Covered L b
   -- under any new schema that conforms, the bytes hold that value with new fields at defaults and deprecated ones gone
   pub evolved : (raw : Bool) (new : List ℕ) (K : LaidSchema) → IsAccepted new K → Conforms L K → Holds K most raw b (carry L K v)
   pub printed : (raw defaults : Bool) (text : List ℕ) → IsText schema b most raw defaults text → text ≡ json_text L defaults v

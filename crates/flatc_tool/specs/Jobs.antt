@@ -20,6 +20,7 @@ use Rattle.fb_json.specs.Meant.{type_place}
 use Rattle.fb_json.specs.Refuses as refused_trees
 use Rattle.fb_json.specs.Texts.{json_text}
 use Rattle.fb_json.specs.Unnamed.{IsRefused as IsUnnamed}
+use Rattle.fb_build.specs.Covered.{Covered, EndsAligned}
 use Rattle.fb_build.specs.declared.faults.BuildFault.TheVariants as the_build
 use Rattle.flatc_tool.specs.SchemaTexts.{IsAccepted, IsRefused, IsWant}
 use Rattle.flatc_tool.specs.JsonText.{IsTree}
@@ -36,7 +37,7 @@ JsonMeans L most unknown json v = (t : Data) × IsTree json t × Means L most un
 abbrev pub most_room : ℕ
 most_room = 2147483647
 
--- The bytes of a JSON text: exactly the value that it means lies in them, only slots in use have something, and they are no longer than its room.
+-- The bytes of a JSON text: exactly the value that it means lies in them, only slots in use have something, each byte belongs to the value or is one of few zeros, and they are no longer than its room.
 pub record IsBinary (schema json : List ℕ) (most : Bounds) (unknown : Bool) (b : Bytes) : Type 0 where
   pub layout : LaidSchema
   pub accepted : IsAccepted schema layout
@@ -46,6 +47,8 @@ pub record IsBinary (schema json : List ℕ) (most : Bounds) (unknown : Bool) (b
   pub holds : (raw : Bool) → Holds layout most raw b value
   pub only : (raw : Bool) (v : Datum) → Holds layout most raw b v → v ≡ value
   pub old_slots : OnlyOld layout b
+  pub covered : Covered layout b
+  pub aligned : EndsAligned layout b
   pub short : length b ≤ room_of layout value
 
 -- an accepted schema under which the JSON means a value that isn't too big

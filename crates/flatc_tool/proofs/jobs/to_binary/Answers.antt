@@ -19,7 +19,7 @@ returns-in-Err-value_of-clause-exact c =
 pub returns-in-Ok-build-clause-binary : goal.returns-in-Ok-build-clause-binary
 returns-in-Ok-build-clause-binary c =
     binary_made c.args.schema.now c.args.json.now c.args.limits c.args.unknown c.in-Ok.layout c.in-Ok.ensures.accepted (view c.in-Ok-value_of.value) c.in-Ok-build.bytes.items
-    (tree_view c.in-Ok-tree_of.tree, c.in-Ok-tree_of.ensures.tree, c.in-Ok-value_of.ensures.means) c.in-Ok-build.ensures.small c.in-Ok-build.ensures.holds c.in-Ok-build.ensures.old_slots c.in-Ok-build.ensures.short
+    (tree_view c.in-Ok-tree_of.tree, c.in-Ok-tree_of.ensures.tree, c.in-Ok-value_of.ensures.means) c.in-Ok-build.ensures.small c.in-Ok-build.ensures.holds c.in-Ok-build.ensures.old_slots c.in-Ok-build.ensures.covered c.in-Ok-build.ensures.aligned c.in-Ok-build.ensures.short
 
 pub returns-clause-refused : goal.returns-clause-refused
 returns-clause-refused c =
