@@ -1,14 +1,14 @@
 -- A table that is closed adds itself to what is made, and its vtable where it is the first to have it.
-use Rattle.std.proofs.Common.{◌≡◌, ℕ, ◌+◌, ◌-◌, ◌*◌, ◌<◌, ◌≤◌, ◌⊎◌, inl, inr, ◌++◌, max, List, [], ◌∷◌, length, replicate, slice_get, slice_index, slice_set, Some, refl, ap, sym, ◌∙◌, subst, arith, append_assoc, length-append}
+use Rattle.std.proofs.Common.{◌≡◌, ℕ, ◌+◌, ◌-◌, ◌<◌, ◌≤◌, ◌++◌, max, List, [], ◌∷◌, length, replicate, slice_get, slice_index, Some, ap, sym, ◌∙◌, arith, append_assoc, length-append}
 use Rattle.std.proofs.lemmas.List.{length-replicate, get_or-set_same}
 use Rattle.byteorder.specs.Endian.{little_bytes}
 use Rattle.byteorder.specs.Numbers.{length-bytes_low_first}
 use Rattle.fb_layout.specs.Laid.{LaidSchema}
 use Rattle.fb_value.specs.Num.{Bytes, num}
 use Rattle.fb_value.specs.Places.{table_part, vtable}
-use Rattle.fb_build.specs.Pieces.{PartAt, part_size, part_align}
+use Rattle.fb_build.specs.Pieces.{part_size, part_align}
 use Rattle.fb_build.specs.Tails.{TailSeen}
-use Rattle.fb_build.specs.Made.{StaysInFront, IsMade, Adds, FieldsFront, OldVtable, NewVtable}
+use Rattle.fb_build.specs.Made.{StaysInFront, Adds, FieldsFront, OldVtable, NewVtable}
 use Rattle.fb_build.proofs.TableLaid.{old_laid, new_laid}
 
 -- what is laid of a table, from the zeros before its fields to its first number

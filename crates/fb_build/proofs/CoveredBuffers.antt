@@ -1,6 +1,5 @@
 -- A buffer is covered once its header is laid in front of what was made of its value.
-use Rattle.std.proofs.Common.{◌≡◌, ℕ, zero, suc, ◌+◌, ◌-◌, ◌<◌, ◌≤◌, ◌++◌, inl, inr, Bool, true, false, cond, ◌==◌, ◌||◌, max, List, [], ◌∷◌, length, replicate, take, drop, map, slice_get, slice_index, Option, None, Some, refl, ap, sym, ◌∙◌, subst, arith, append_assoc, length-append}
-use Rattle.std.specs.List.{sum_by}
+use Rattle.std.proofs.Common.{◌≡◌, ℕ, zero, suc, ◌+◌, ◌-◌, ◌<◌, ◌≤◌, ◌++◌, inl, inr, Bool, true, false, cond, ◌==◌, ◌||◌, max, List, [], ◌∷◌, length, replicate, take, drop, map, slice_index, Option, None, Some, refl, ap, sym, ◌∙◌, subst, arith, append_assoc, length-append}
 use Rattle.std.proofs.lemmas.Bool.{false≢true, or_cases, eqb-true, eq-eqb}
 use Rattle.std.proofs.lemmas.List.Elements.{All-nil}
 use Rattle.std.proofs.lemmas.List.Sorted.{IsPermutation-refl}
@@ -16,7 +15,7 @@ use Rattle.fb_build.specs.Ends.{StandsEnd}
 use Rattle.fb_build.specs.Tails.{TailSeen, LaidInTail}
 use Rattle.fb_build.specs.TableBytes.{AreLaid, TellsItsLength}
 use Rattle.fb_build.specs.Vtables.{AreDifferent}
-use Rattle.fb_build.specs.Pieces.{PartAt, part_align, reached, reached_parts, greatest_align, is_among, tables_vtables, Piece, whole_header, header_piece, header_size}
+use Rattle.fb_build.specs.Pieces.{PartAt, reached, reached_parts, greatest_align, is_among, tables_vtables, whole_header, header_piece, header_size}
 use Rattle.fb_build.specs.Covered.{Chunk, piece_chunk, zeros_chunk, pieces_among, vtable_at, EqualVtablesAreOne, Covered, EndsAligned}
 use Rattle.fb_build.specs.CoveredTails.{part_further, parts_in_tail}
 use Rattle.fb_build.specs.CoveredSteps.{AreDistinct, ChunksOfTail}

@@ -1,18 +1,18 @@
 -- The parts of what was laid for slots or elements.
-use Rattle.std.proofs.Common.{◌≡◌, ℕ, zero, suc, ◌+◌, ◌-◌, ◌*◌, ◌<◌, ◌≤◌, ◌++◌, List, [], ◌∷◌, length, map, take, drop, slice_get, slice_index, slice_set, Option, None, Some, option_map, refl, ap, sym, ◌∙◌, subst, arith, append_assoc, length-append}
+use Rattle.std.proofs.Common.{◌≡◌, ℕ, zero, suc, ◌+◌, ◌-◌, ◌*◌, ◌<◌, ◌≤◌, ◌++◌, List, [], ◌∷◌, length, map, take, drop, slice_get, slice_index, slice_set, Option, None, Some, refl, ap, sym, ◌∙◌, subst, arith, append_assoc, length-append}
 use Rattle.std.proofs.lemmas.List.{map-append}
 use Rattle.fb_layout.specs.Laid.{LaidSchema, StoredKind, scalar_kind, struct_kind, table_kind, union_kind, code_kind, text_kind, one_of, size_of}
-use Rattle.fb_value.specs.Datum.{Datum, Parts, more_parts}
-use Rattle.fb_value.specs.Num.{Bytes, num}
-use Rattle.fb_value.specs.Places.{Target, text_part, table_part, part_place, target_of}
+use Rattle.fb_value.specs.Datum.{Datum}
+use Rattle.fb_value.specs.Num.{Bytes}
+use Rattle.fb_value.specs.Places.{text_part, table_part, part_place, target_of}
 use Rattle.fb_value.specs.Tails.{LiesInTail}
 use Rattle.fb_value.specs.View.{view, parts_view}
 use Rattle.fb_value.specs.declared.values.Value.{Value}
 use Rattle.fb_build.specs.Tails.{TailSeen, Grows}
 use Rattle.fb_build.specs.Fields.{IsElement, target_for}
 use Rattle.fb_build.specs.Pieces.{PartAt, reached, reached_element, reached_items}
-use Rattle.fb_build.specs.CoveredTails.{part_further, parts_in_tail}
-use Rattle.fb_build.specs.Made.{LeadsEnd, LeadsTo, NamedPart, named_of, named_items, parts_at, ends_parts}
+use Rattle.fb_build.specs.CoveredTails.{part_further}
+use Rattle.fb_build.specs.Made.{LeadsTo, NamedPart, named_of, named_items, parts_at, ends_parts}
 use Rattle.fb_build.proofs.PartsInside.{reached_front_shown}
 
 -- each part lies at its end-count

@@ -1,8 +1,8 @@
 -- Where references lead once more bytes are laid.
-use Rattle.std.proofs.Common.{◌≡◌, ℕ, suc, ◌+◌, ◌-◌, ◌*◌, ◌<◌, ◌≤◌, ◌++◌, ◌⊎◌, inl, inr, List, length, map, slice_get, slice_index, Option, None, Some, refl, ap, sym, ◌∙◌, subst, arith, length-append}
+use Rattle.std.proofs.Common.{◌≡◌, ℕ, ◌+◌, ◌-◌, ◌++◌, length, Option, None, Some, refl, arith, length-append}
 use Rattle.std.proofs.lemmas.List.{get_or-append-add}
 use Rattle.fb_schema.specs.declared.kinds.Base.{Base}
-use Rattle.fb_layout.specs.Laid.{LaidSchema, StoredKind, StoredShape, one_of, vector_of, scalar_kind, struct_kind, table_kind, union_kind, code_kind, text_kind, size_of}
+use Rattle.fb_layout.specs.Laid.{StoredShape, one_of, vector_of, scalar_kind, struct_kind, table_kind, union_kind, code_kind, text_kind}
 use Rattle.fb_value.specs.Datum.{Datum}
 use Rattle.fb_value.specs.Num.{Bytes, num}
 use Rattle.fb_value.specs.Places.{Target}

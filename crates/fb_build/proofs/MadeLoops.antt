@@ -1,5 +1,5 @@
 -- The parts that a loop over slots or elements adds.
-use Rattle.std.proofs.Common.{◌≡◌, ℕ, zero, suc, ◌+◌, ◌-◌, ◌<◌, ◌≤◌, ◌++◌, true, false, List, [], ◌∷◌, length, map, take, drop, slice_get, slice_index, slice_set, Option, None, Some, option_map, refl, ap, sym, ◌∙◌, subst, arith}
+use Rattle.std.proofs.Common.{◌≡◌, ℕ, zero, suc, ◌+◌, ◌-◌, ◌<◌, ◌≤◌, ◌++◌, true, false, List, [], ◌∷◌, length, map, take, drop, slice_get, slice_index, slice_set, Option, None, Some, option_map, refl, ap, sym, subst, arith}
 use Rattle.std.proofs.lemmas.List.Sorted.{IsPermutation-append_comm}
 use Rattle.fb_layout.specs.Laid.{LaidSchema, Slot, StoredKind, StoredShape, scalar_kind, struct_kind, table_kind, union_kind, code_kind, text_kind, one_of, vector_of}
 use Rattle.std.specs.Prelude.{ℤ}
@@ -13,7 +13,7 @@ use Rattle.fb_value.specs.Num.{Bytes}
 use Rattle.fb_value.specs.Places.{Target, part_place}
 use Rattle.fb_value.specs.Tails.{LiesInTail}
 use Rattle.fb_build.specs.Tails.{TailSeen, Grows}
-use Rattle.fb_build.specs.Fields.{IsSimple, IsElement, SlotFits, StoredFits, is_stored, stored_here, coded, target_for, TargetEnd, EntryEnd, EntriesEnd, AreKnown}
+use Rattle.fb_build.specs.Fields.{IsSimple, IsElement, SlotFits, is_stored, stored_here, coded, target_for, TargetEnd, EntriesEnd, AreKnown}
 use Rattle.fb_build.specs.Pieces.{PartAt}
 use Rattle.fb_build.specs.CoveredTails.{part_further}
 use Rattle.fb_build.specs.Made.{Adds, NamedPart, named_of, named_items, named_stored, named_fields, part_named, parts_at, ends_parts}

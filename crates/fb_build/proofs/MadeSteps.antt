@@ -1,5 +1,5 @@
 -- Steps of what is made: parts in another order, and parts that are laid in front.
-use Rattle.std.proofs.Common.{◌≡◌, ℕ, zero, suc, ◌+◌, ◌-◌, ◌≤◌, ◌++◌, Bool, true, false, ◌==◌, ◌||◌, max, nat_lt, cond, List, [], ◌∷◌, length, map, slice_index, Option, None, Some, option_map, refl, ap, sym, ◌∙◌, subst, arith, append_assoc, length-append}
+use Rattle.std.proofs.Common.{◌≡◌, ℕ, ◌+◌, ◌-◌, ◌≤◌, ◌++◌, Bool, true, false, ◌==◌, ◌||◌, max, nat_lt, cond, List, [], ◌∷◌, length, map, slice_index, Option, None, Some, option_map, refl, ap, sym, ◌∙◌, subst, arith, append_assoc, length-append}
 use Rattle.std.specs.Prelude.{IsPermutation}
 use Rattle.std.specs.List.{All, sum_by, filter_map, cons_option}
 use Rattle.std.proofs.lemmas.Bool.{lt-ltb}
@@ -10,8 +10,7 @@ use Rattle.std.proofs.lemmas.List.Sorted.{IsPermutation-trans, IsPermutation-app
 use Rattle.fb_schema.specs.Alignments.{greatest_in}
 use Rattle.fb_layout.specs.Laid.{LaidSchema}
 use Rattle.fb_value.specs.Num.{Bytes}
-use Rattle.fb_value.specs.Places.{Target, table_part, member_part, text_part, vector_part}
-use Rattle.fb_build.specs.Pieces.{PartAt, part_size, part_align, greatest_align, vtable_of, is_among, tables_vtables, Piece, part_piece, vtable_piece}
+use Rattle.fb_build.specs.Pieces.{PartAt, part_size, part_align, vtable_of, is_among, tables_vtables, part_piece, vtable_piece}
 use Rattle.fb_build.specs.Covered.{Chunk, pieces_among}
 use Rattle.fb_build.specs.CoveredTails.{part_further, piece_further}
 use Rattle.fb_build.specs.CoveredSteps.{ChunksOfTail, MadeInTail}

@@ -1,15 +1,14 @@
 -- A part that is laid in front of what is made.
-use Rattle.std.proofs.Common.{◌≡◌, ℕ, zero, suc, ◌+◌, ◌-◌, ◌<◌, ◌≤◌, ◌⊎◌, inl, inr, ◌++◌, Bool, true, false, cond, ◌==◌, max, List, [], ◌∷◌, length, replicate, map, slice_index, None, refl, ap, sym, ◌∙◌, subst, arith, append_assoc, length-append}
-use Rattle.std.specs.Prelude.{IsPermutation, flat_map}
+use Rattle.std.proofs.Common.{◌≡◌, ℕ, zero, suc, ◌+◌, ◌-◌, ◌<◌, ◌≤◌, ◌⊎◌, inl, inr, ◌++◌, Bool, true, false, cond, ◌==◌, max, List, [], ◌∷◌, length, replicate, map, slice_index, None, refl, ap, sym, ◌∙◌, arith, append_assoc, length-append}
 use Rattle.std.proofs.lemmas.List.Elements.{All-nil, All-cons}
 use Rattle.std.proofs.lemmas.List.Sorted.{IsPermutation-refl}
 use Rattle.fb_layout.specs.Laid.{LaidSchema}
 use Rattle.fb_value.specs.Num.{Bytes}
 use Rattle.fb_value.specs.Places.{Target}
 use Rattle.fb_build.specs.Pieces.{PartAt, part_size, part_align, vtable_of, is_among, tables_vtables, whole_part, Piece}
-use Rattle.fb_build.specs.Covered.{Chunk, piece_chunk, zeros_chunk, chunk_bytes}
+use Rattle.fb_build.specs.Covered.{piece_chunk, zeros_chunk}
 use Rattle.fb_build.specs.Tails.{TailSeen}
-use Rattle.fb_build.specs.Made.{StaysInFront, laid_at, times_among, IsMade, Adds}
+use Rattle.fb_build.specs.Made.{StaysInFront, laid_at, times_among, Adds}
 use Rattle.std.proofs.lemmas.Bool.{ne_eqb}
 use Rattle.std.proofs.lemmas.List.Sums.{sum_by-cons}
 use Rattle.fb_build.proofs.Grown.{lower}

@@ -1,14 +1,13 @@
 -- Parts are as great, have their vtables and are aligned as before once bytes are laid in front.
-use Rattle.std.proofs.Common.{◌≡◌, ℕ, ◌+◌, ◌*◌, ◌++◌, List, length, map, slice_index, Option, Some, refl, ap}
+use Rattle.std.proofs.Common.{◌≡◌, ℕ, ◌+◌, ◌*◌, ◌++◌, List, length, map, slice_index, Some, refl, ap}
 use Rattle.std.proofs.lemmas.List.{get_or-append-add}
 use Rattle.fb_schema.specs.Alignments.{greatest_in}
 use Rattle.fb_layout.specs.Laid.{LaidSchema, StoredKind, slots_of, size_of}
 use Rattle.fb_layout.specs.Widths.{inline_align}
 use Rattle.fb_value.specs.Num.{Bytes}
-use Rattle.fb_value.specs.Places.{Target, table_part, member_part, text_part, vector_part, part_place, vtable}
+use Rattle.fb_value.specs.Places.{table_part, text_part, vector_part, part_place}
 use Rattle.fb_value.specs.Rules.{Aligned, KeepsBy}
 use Rattle.fb_build.specs.Stored.{StoredSlot}
-use Rattle.fb_build.specs.Pieces.{PartAt}
 use Rattle.fb_build.specs.Made.{StaysInFront}
 use Rattle.fb_build.proofs.Further.{number_moved, vtable_moved}
 use Rattle.fb_build.proofs.PiecesMoved.{table_inside, table_slots}

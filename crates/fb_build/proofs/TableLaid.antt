@@ -1,5 +1,5 @@
 -- A table that is laid in front of what is made, and its vtable unless it was laid before.
-use Rattle.std.proofs.Common.{◌≡◌, ℕ, zero, suc, ◌+◌, ◌-◌, ◌<◌, ◌≤◌, ◌⊎◌, inl, inr, ◌++◌, Bool, true, false, ◌==◌, ◌||◌, max, List, [], ◌∷◌, length, replicate, map, slice_index, slice_set, Some, refl, ap, sym, ◌∙◌, subst, arith, append_assoc, length-append}
+use Rattle.std.proofs.Common.{◌≡◌, ℕ, zero, suc, ◌+◌, ◌-◌, ◌<◌, ◌≤◌, ◌⊎◌, inl, inr, ◌++◌, Bool, true, false, ◌==◌, ◌||◌, max, List, [], ◌∷◌, length, replicate, map, slice_index, slice_set, Some, refl, ap, sym, ◌∙◌, arith, append_assoc, length-append}
 use Rattle.std.specs.Prelude.{IsPermutation}
 use Rattle.std.specs.List.{filter_map}
 use Rattle.std.proofs.lemmas.Bool.{or_left, or_right, eq-eqb, eqb-true}
@@ -10,10 +10,9 @@ use Rattle.fb_layout.specs.Laid.{LaidSchema}
 use Rattle.fb_value.specs.Num.{Bytes, num}
 use Rattle.fb_value.specs.Places.{table_part, vtable}
 use Rattle.fb_build.specs.Pieces.{PartAt, part_size, part_align, is_among, tables_vtables, whole_part, whole_vtable, Piece}
-use Rattle.fb_build.specs.Covered.{Chunk, piece_chunk, zeros_chunk}
+use Rattle.fb_build.specs.Covered.{piece_chunk, zeros_chunk}
 use Rattle.fb_build.specs.Tails.{TailSeen}
-use Rattle.fb_build.specs.Made.{StaysInFront, laid_at, IsMade, Adds}
-use Rattle.fb_build.proofs.Once.{same_bool}
+use Rattle.fb_build.specs.Made.{StaysInFront, laid_at, Adds}
 use Rattle.fb_build.proofs.PassSteps.{by_index}
 use Rattle.fb_build.proofs.MadeSteps.{LaysInFront, made_laid, same_among}
 use Rattle.fb_build.proofs.PartsLaid.{laid_further, same_further, times_further, times_with_first, front_joined}

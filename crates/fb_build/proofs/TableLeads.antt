@@ -1,5 +1,5 @@
 -- What is reached from a table that was laid is what its references lead to.
-use Rattle.std.proofs.Common.{◌≡◌, ℕ, ◌+◌, ◌-◌, ◌<◌, ◌≤◌, true, List, ◌∷◌, length, slice_get, slice_index, Option, Some, ap, arith}
+use Rattle.std.proofs.Common.{◌≡◌, ℕ, ◌-◌, ◌<◌, ◌≤◌, true, List, ◌∷◌, length, slice_get, slice_index, Option, Some, ap, arith}
 use Rattle.fb_layout.specs.Laid.{LaidSchema, Slot, slots_of}
 use Rattle.fb_value.specs.Datum.{Datum, a_table}
 use Rattle.fb_value.specs.Entries.{EntryFits}

@@ -1,19 +1,19 @@
 -- What is reached from a table whose references lead to what was laid for its slots.
-use Rattle.std.proofs.Common.{◌≡◌, ℕ, suc, ◌+◌, ◌-◌, ◌<◌, ◌≤◌, ◌++◌, Bool, true, false, List, [], ◌∷◌, length, drop, slice_get, slice_index, Option, None, Some, option_map, refl, ap, sym, ◌∙◌, subst, arith}
+use Rattle.std.proofs.Common.{◌≡◌, ℕ, suc, ◌+◌, ◌-◌, ◌≤◌, ◌++◌, Bool, true, false, List, [], ◌∷◌, length, drop, slice_get, slice_index, Option, None, Some, option_map, refl, ap, sym, ◌∙◌, subst, arith}
 use Rattle.fb_layout.specs.Laid.{LaidSchema, Slot, StoredShape, scalar_kind, struct_kind, table_kind, union_kind, code_kind, text_kind, one_of, vector_of, member_by_code}
 use Rattle.fb_value.specs.Datum.{Datum, a_number, a_text, a_vector, a_struct, a_table, a_member, an_unknown}
 use Rattle.fb_value.specs.Entries.{EntryFits}
-use Rattle.fb_value.specs.Num.{Bytes, num}
-use Rattle.fb_value.specs.Places.{Target, member_part, Sort, ref_place, Place, slot_number, code_at, named_slot, named_slots}
+use Rattle.fb_value.specs.Num.{Bytes}
+use Rattle.fb_value.specs.Places.{Target, member_part, ref_place, Place, slot_number, code_at, named_slot, named_slots}
 use Rattle.fb_value.specs.View.{entries_in}
 use Rattle.fb_build.specs.Fields.{is_stored, stored_here, stored_in, next_code, code_in, coded, target_for, sort_for, ref_or}
 use Rattle.fb_build.specs.Paired.{ArePaired}
 use Rattle.fb_build.specs.Pieces.{PartAt, reached, reached_named, reached_entries}
-use Rattle.fb_build.specs.Made.{LeadsEnd, LeadsTo, FieldLeads, named_of, named_stored, named_fields, parts_at, ends_parts}
+use Rattle.fb_build.specs.Made.{LeadsTo, FieldLeads, named_of, named_stored, named_fields, parts_at, ends_parts}
 use Rattle.fb_build.proofs.PassSteps.{in_mapped}
-use Rattle.fb_build.proofs.TableLies.{no_place, no_code_entry, got, next_is, stored_get, p, IsOwn, SlotKnown, place_of, IsThere, CodeThere, something_there, nothing_there, empty, stored_number, there, code_there, known_here, value_known, code_known}
+use Rattle.fb_build.proofs.TableLies.{no_place, no_code_entry, got, stored_get, p, IsOwn, SlotKnown, place_of, something_there, nothing_there, empty, stored_number, there, code_there, value_known, code_known}
 use Rattle.fb_build.proofs.EndsParts.{first_dropped}
-use Rattle.fb_build.proofs.MadeLoops.{nothing_named, coded_names_nothing, target_is_stored}
+use Rattle.fb_build.proofs.MadeLoops.{nothing_named, target_is_stored}
 
 -- what an entry reaches at a place
 abbrev pub entry_reached : LaidSchema → Bytes → Option Place → Option Datum → List PartAt

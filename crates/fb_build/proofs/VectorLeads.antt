@@ -1,12 +1,11 @@
 -- Where the references of a vector lead while its elements are laid, from the last to the first.
-use Rattle.std.proofs.Common.{◌≡◌, ℕ, ◌+◌, ◌-◌, ◌*◌, ◌<◌, ◌≤◌, ◌⊎◌, inl, inr, List, length, map, slice_get, slice_index, Some, refl, ap, sym, ◌∙◌, subst, arith}
+use Rattle.std.proofs.Common.{◌≡◌, ℕ, ◌+◌, ◌-◌, ◌*◌, ◌<◌, ◌≤◌, ◌⊎◌, inl, inr, List, length, slice_get, slice_index, Some, ap, sym, ◌∙◌, arith}
 use Rattle.fb_layout.specs.Laid.{LaidSchema, StoredKind, one_of, size_of}
 use Rattle.fb_value.specs.Datum.{Datum}
 use Rattle.fb_value.specs.Num.{Bytes}
-use Rattle.fb_value.specs.Places.{Target}
 use Rattle.fb_build.specs.Tails.{TailSeen, Grows}
 use Rattle.fb_build.specs.Fields.{target_for}
-use Rattle.fb_build.specs.Made.{LeadsTo, ItemsLead}
+use Rattle.fb_build.specs.Made.{LeadsTo}
 use Rattle.fb_build.proofs.Leads.{leads_grown}
 use Rattle.fb_build.proofs.PassSteps.{by_index, same_some}
 
