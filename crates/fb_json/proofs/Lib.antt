@@ -22,3 +22,4 @@ pub mod Escaped
 pub mod WholeNamed
 pub mod MeantWhole
 pub mod NoBits
+pub mod FlagSteps

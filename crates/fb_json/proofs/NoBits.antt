@@ -24,3 +24,10 @@ module _ (name : ℤ → Option Name) (left bit m : ℕ) (some : Bool) where
 
   pub no_bits : m ≡ 0 → bits_text name left bit m some ≡ []
   no_bits e = rw e (none_written name left bit some)
+
+  pub no_places_named : left ≡ 0 → are_named name left bit m ≡ true
+  unfolding are_named
+  no_places_named e = rw e refl
+
+  pub no_bits_named : m ≡ 0 → are_named name left bit m ≡ true
+  no_bits_named e = rw e (none_named name left bit)

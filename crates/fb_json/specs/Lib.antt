@@ -8,6 +8,7 @@ pub mod Breaks
 pub mod TreeCounts
 pub mod Refuses
 pub mod Texts
+pub mod Flags
 pub mod Indents
 pub mod Escapes
 pub mod Unnamed

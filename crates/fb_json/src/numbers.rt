@@ -1,11 +1,12 @@
 //! Numbers in JSON texts.
 ghost use Rattle.std.specs.Prelude.{◌≡◌, ◌++◌, ◌||◌, ◌^◌, ◌<◌, ◌*◌, ◌≤◌};
-ghost use Rattle.std.specs.Prelude.{pos, IfOk, string_bytes};
+ghost use Rattle.std.specs.Prelude.{IfOk, string_bytes};
 ghost use Rattle.std.specs.Fmt.{signed_decimal};
 ghost use Rattle.fb_schema.specs.Schema.{body_at};
 ghost use Rattle.fb_schema.specs.Found.{name_numbered};
-ghost use Rattle.fb_json.specs.Texts.{bits_of, is_odd, are_flags, has_name, are_named, bit_text, bits_text};
+ghost use Rattle.fb_json.specs.Texts.{bits_of, is_odd, are_flags, has_name, are_named, bit_text};
 ghost use Rattle.fb_json.specs.Texts.{flags_text, enum_text, number_text};
+ghost use Rattle.fb_json.specs.Flags.{AddsNames};
 
 use crate::enums::has_flags;
 use crate::lines::push_name;
@@ -57,6 +58,8 @@ fn push_enum(
 }
 
 /// Adds the names of a number's bits, where it has bits and each has a name, or the number.
+///
+/// A bit without a name is rare, so what was written in front of it is dropped again.
 fn push_flags(
     text: &mut String,
     schema: &Schema,
@@ -67,12 +70,16 @@ fn push_flags(
         ≡ string_bytes text.old ++ flags_text (body_at schema.now enumeration.0) number) }
 {
     let bits = bits_of(number);
-    if !are_flags(schema, enumeration, bits) {
+    if bits == 0 {
         return push_digits(text, number);
     }
+    let start = text.len();
     text.push_str("\"")?;
-    push_bits(text, schema, enumeration, 64, 1, bits, false)?;
-    text.push_str("\"")
+    if push_bits(text, schema, enumeration, bits)? {
+        return text.push_str("\"");
+    }
+    text.truncate(start);
+    push_digits(text, number)
 }
 
 /// The bits of a number; a negative one has none here.
@@ -113,7 +120,7 @@ fn are_named(schema: &Schema, enumeration: TypeId, left: u32, bit: u128, bits: u
     are_named(schema, enumeration, left - 1, bit + bit, bits / 2)
 }
 
-/// Adds the name of a number's lowest bit, if it is set.
+/// Adds the name of a number's lowest bit, if it is set. Returns false where it has none.
 fn push_bit(
     text: &mut String,
     schema: &Schema,
@@ -121,17 +128,24 @@ fn push_bit(
     bit: u128,
     bits: u128,
     some: bool,
-) -> Result<(), AllocError>
+) -> Result<bool, AllocError>
     requires { bit < 2 ^ 127 }
-    ensures { IfOk result (λ _. string_bytes text.new ≡ string_bytes text.old
+    ensures named { IfOk result
+        (λ named. named ≡ has_name (name_numbered (body_at schema.now enumeration.0)) bit bits) }
+    ensures text { IfOk result (λ _. string_bytes text.new ≡ string_bytes text.old
         ++ bit_text (name_numbered (body_at schema.now enumeration.0)) bit bits some) }
 {
     if bits % 2 != 1 {
-        return Ok(());
+        return Ok(true);
     }
-    let name = schema.name_of_number(enumeration, bit as i128);
-    text.push_str(if some { " " } else { "" })?;
-    text.push_str(name.unwrap_or(""))
+    if some {
+        text.push_str(" ")?;
+    }
+    let Some(name) = schema.name_of_number(enumeration, bit as i128) else {
+        return Ok(false);
+    };
+    text.push_str(name)?;
+    Ok(true)
 }
 
 /// Whether a name stands before those behind the lowest bit.
@@ -141,33 +155,28 @@ fn is_more(some: bool, bits: u128) -> bool
     some || bits % 2 == 1
 }
 
-/// Adds the names of so many of a number's bits, with a blank between two.
-#[tactic(auto, unfolding(crate::specs::Texts::bits_text))]
+/// Adds the names of a number's bits, with a blank between two. Returns false at a bit without one.
 fn push_bits(
     text: &mut String,
     schema: &Schema,
     enumeration: TypeId,
-    left: u32,
-    bit: u128,
     bits: u128,
-    some: bool,
-) -> Result<(), AllocError>
-    requires { bit * 2 ^ left ≤ 2 ^ 64 }
-    ensures { IfOk result (λ _. string_bytes text.new ≡ string_bytes text.old
-        ++ bits_text (name_numbered (body_at schema.now enumeration.0)) left bit bits some) }
+) -> Result<bool, AllocError>
+    ensures { IfOk result (λ named. AddsNames (name_numbered (body_at schema.now enumeration.0))
+        bits named (string_bytes text.old) (string_bytes text.new)) }
 {
-    if left == 0 || bits == 0 {
-        return Ok(());
+    let mut places: u32 = 64;
+    let mut bit = 1;
+    let mut left = bits;
+    let mut some = false;
+    while places > 0 && left != 0 {
+        if !push_bit(text, schema, enumeration, bit, left, some)? {
+            return Ok(false);
+        }
+        some = is_more(some, left);
+        places -= 1;
+        bit += bit;
+        left /= 2;
     }
-    push_bit(text, schema, enumeration, bit, bits, some)?;
-    let some = is_more(some, bits);
-    push_bits(
-        text,
-        schema,
-        enumeration,
-        left - 1,
-        bit + bit,
-        bits / 2,
-        some,
-    )
+    Ok(true)
 }

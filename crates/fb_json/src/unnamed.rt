@@ -37,7 +37,10 @@ fn first_in_parts(place: Place, parts: &Vec<Value>) -> Option<Place>
     ensures { result ≡ first_in_parts place (parts_view parts.now.items) }
 {
     for part in parts {
-        let found = first_unnamed(place, part);
+        let found = match part {
+            Value::Number(_) => None,
+            _ => first_unnamed(place, part),
+        };
         if found.is_some() {
             return found;
         }
@@ -50,11 +53,12 @@ fn first_in_entries(owner: TypeId, entries: &Vec<Option<Value>>) -> Option<Place
     ensures { result ≡ first_in_entries owner.0 0 (entries_view entries.now.items) }
 {
     for k in 0..entries.len() {
-        if let Some(value) = &entries[k] {
-            let found = first_unnamed(entry_place(owner, k), value);
-            if found.is_some() {
-                return found;
-            }
+        let found = match &entries[k] {
+            None | Some(Value::Number(_)) => None,
+            Some(value) => first_unnamed(entry_place(owner, k), value),
+        };
+        if found.is_some() {
+            return found;
         }
     }
     None

@@ -49,7 +49,7 @@ fn slot_by_id(types: TypesRead<'_, '_, '_>, scope: Option<&str>, field: &Field) 
 }
 
 /// Adds the numbers of the slots that a field takes by its id; says whether it has one.
-#[tactic(auto, using(crate::proofs::IdsBelow::number_called_below), unfolding(crate::specs::SlotsRead::slot_by_id, crate::specs::SlotsRead::slots_of_field))]
+#[tactic(auto, unfolding(crate::specs::SlotsRead::slots_of_field))]
 fn push_numbers(
     types: TypesRead<'_, '_, '_>,
     scope: Option<&str>,
@@ -61,13 +61,11 @@ fn push_numbers(
     ensures numbers { result ≡ Ok true → numbers.new.items ≡ numbers.old.items
         ++ numbers_by_id types.entry.types.now (option_copied scope.entry) (field.now ∷ []) }
 {
-    let union = union_in(types, scope, field);
-    let id = number_called(Known::Id, field.attributes.as_slice());
-    let Some(first) = first_slot(union, id) else {
+    let Some(first) = slot_by_id(types, scope, field) else {
         return Ok(false);
     };
     numbers.push(first)?;
-    if union.is_some() {
+    if union_in(types, scope, field).is_some() {
         numbers.push(first + 1)?;
     }
     Ok(true)

@@ -352,3 +352,6 @@ no_target S kind (inr (inr (inr (inr e)))) = rw e.1 refl
 pub inline_within : (L : LaidSchema) (b : Bytes) (kind : StoredKind) (p : ℕ) → Keeps L b (inline_place kind) p → p + size_of L kind ≤ length b
 unfolding fault_by
 inline_within L b kind p keeps = leb-true _ _ (rule_held _ _ _ (rule_held _ _ _ keeps).1).0
+
+-- what a visit of a text gives
+pub ruleset text_visits = (visit_fault, visit_text, visit_text_over)

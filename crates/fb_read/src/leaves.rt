@@ -17,7 +17,7 @@ use fb_value::{ReadFault, Value};
 use std::alloc::Global;
 
 /// The text at a position.
-#[tactic(auto, using(crate::proofs::Visited::visit_fault, crate::proofs::Visited::visit_text, crate::proofs::Visited::visit_text_over))]
+#[tactic(auto, using(crate::proofs::Visited::text_visits))]
 pub fn read_text(
     alloc: Global,
     source: Source,

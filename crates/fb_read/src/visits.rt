@@ -19,7 +19,7 @@ use fb_value::ReadFault;
 
 /// Visits the text at a position.
 #[inline(always)]
-#[tactic(auto, using(crate::proofs::Visited::visit_fault, crate::proofs::Visited::visit_text, crate::proofs::Visited::visit_text_over))]
+#[tactic(auto, using(crate::proofs::Visited::text_visits))]
 pub fn visit_text(
     source: &Source,
     at: usize,
