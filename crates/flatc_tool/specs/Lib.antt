@@ -7,8 +7,6 @@ pub mod FaultNames
 pub mod FaultPlaces
 pub mod FaultLines
 pub mod Heard
-pub mod Commands
-pub mod Lines
 pub mod Checks
 pub mod Prints
 pub mod Evolution

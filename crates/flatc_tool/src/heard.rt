@@ -97,9 +97,9 @@ pub fn take_all<R: Read>(
         if n > limit - found.len() {
             return Err(ToolFault::FileTooLong);
         }
-        found
-            .extend_from_slice(&chunk[..n])
-            .map_err(|_| ToolFault::Memory)?;
+        if found.extend_from_slice(&chunk[..n]).is_err() {
+            return Err(ToolFault::Memory);
+        }
     }
     Err(ToolFault::FileTooLong)
 }

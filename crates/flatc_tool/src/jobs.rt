@@ -4,11 +4,13 @@ ghost use Rattle.serde_json.specs.Data.{Data};
 ghost use Rattle.serde_json.specs.View.{view as tree_view};
 ghost use Rattle.flatc_tool.specs.Jobs.{IsBinary, MayBeBinary, BinaryRefused, IsNotMemory};
 ghost use Rattle.flatc_tool.specs.JsonText.{IsTree};
+ghost use Rattle.flatc_tool.specs.SchemaTexts.{ForEachText};
 
 use crate::faults::ToolFault;
 use crate::schema_layouts::schema_of;
 use fb_build::build;
 use fb_json::value_of;
+use fb_layout::Layout;
 use fb_value::Limits;
 use serde_json::Value as Json;
 use std::alloc::Global;
@@ -24,6 +26,36 @@ fn tree_of(alloc: Global, json: &[u8]) -> Result<Json, ToolFault>
     } else {
         ToolFault::BadJson
     })
+}
+
+/// The buffer of a JSON text under a layout.
+fn binary_under(
+    alloc: Global,
+    layout: &Layout,
+    json: &[u8],
+    limits: Limits,
+    unknown: bool,
+) -> Result<Vec<u8>, ToolFault>
+    ensures binary { IfOk result (λ b. ForEachText layout.now (λ schema.
+        IsBinary schema json.now limits unknown b.items)) }
+    ensures refused { IfErr result (λ f. ForEachText layout.now (λ schema.
+        BinaryRefused schema json.now limits unknown f)) }
+    ensures exact { IfErr result (λ f. IsNotMemory f → ForEachText layout.now (λ schema.
+        ¬ MayBeBinary schema json.now limits unknown)) }
+{
+    let tree = match tree_of(alloc, json) {
+        Ok(tree) => tree,
+        Err(fault) => return Err(fault),
+    };
+    let _depth = limits.most_depth();
+    let value = match value_of(alloc, layout, &tree, limits, unknown) {
+        Ok(value) => value,
+        Err(fault) => return Err(ToolFault::Json(fault)),
+    };
+    match build(alloc, layout, &value) {
+        Ok(bytes) => Ok(bytes),
+        Err(fault) => Err(ToolFault::Build(fault)),
+    }
 }
 
 /// The buffer of a JSON text under a schema text.
@@ -47,19 +79,7 @@ pub fn to_binary(
         Ok(layout) => layout,
         Err(fault) => return Err(ToolFault::Schema(fault)),
     };
-    let tree = match tree_of(alloc, json) {
-        Ok(tree) => tree,
-        Err(fault) => return Err(fault),
-    };
-    let _depth = limits.most_depth();
-    let value = match value_of(alloc, &layout, &tree, limits, unknown) {
-        Ok(value) => value,
-        Err(fault) => return Err(ToolFault::Json(fault)),
-    };
-    match build(alloc, &layout, &value) {
-        Ok(bytes) => Ok(bytes),
-        Err(fault) => Err(ToolFault::Build(fault)),
-    }
+    binary_under(alloc, &layout, json, limits, unknown)
 }
 
 #[cfg(test)]

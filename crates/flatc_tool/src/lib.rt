@@ -2,12 +2,10 @@
 #![tactic(auto)]
 
 mod checks;
-mod commands;
 mod evolution;
 mod faults;
 mod headline;
 mod heard;
-mod job;
 mod jobs;
 mod lines;
 mod names;
@@ -16,7 +14,6 @@ mod reports;
 mod schema_layouts;
 
 pub use checks::check;
-pub use commands::VERSION;
 pub use evolution::conform_texts;
 pub use faults::ToolFault;
 pub use fb_build::BuildFault;
@@ -30,7 +27,6 @@ pub use fb_text::{Noted, WriteFault};
 pub use fb_value::{Limits, ReadFault};
 pub use headline::{json_is_carried, others_are_refused};
 pub use heard::{Heard, take_all};
-pub use job::{Job, job_of};
 pub use jobs::to_binary;
 pub use lines::fault_line;
 pub use prints::{print_to, to_json};

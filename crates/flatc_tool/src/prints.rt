@@ -2,16 +2,49 @@
 ghost use Rattle.std.specs.Prelude.{◌≡◌, IfOk, IfErr, OnOk, false, string_bytes};
 ghost use Rattle.fb_text.specs.Noted.{write_failed, writer_of};
 ghost use Rattle.flatc_tool.specs.Jobs.{IsText, MayBeText, TextRefused, IsNotMemory};
+ghost use Rattle.flatc_tool.specs.SchemaTexts.{ForEachText};
 ghost use Rattle.flatc_tool.specs.Prints.{IsSent, PrintRefused, TellsFailure, IfUnwritten, IsOfInput, text_fault};
 
 use crate::faults::ToolFault;
 use crate::schema_layouts::schema_of;
 use fb_json::TextFault;
+use fb_layout::Layout;
 use fb_read::{Entries, verify};
 use fb_text::{Noted, WriteFault, write_text};
 use fb_value::Limits;
 use std::alloc::Global;
 use std::io::Write;
+
+/// Writes the JSON text of the value that a buffer holds under a layout.
+fn print_under<W: Write>(
+    layout: &Layout,
+    bytes: &[u8],
+    limits: Limits,
+    raw: bool,
+    defaults: bool,
+    out: &mut Noted<W>,
+) -> Result<(), ToolFault>
+    requires fresh { write_failed out.old ≡ false }
+    ensures printed { OnOk result (ForEachText layout.now (λ schema. IsSent schema bytes.now limits raw defaults
+        (W.contents (writer_of out.old)) (W.contents (writer_of out.new)))) }
+    ensures refused { IfErr result (λ f. ForEachText layout.now (λ schema. PrintRefused schema bytes.now limits
+        raw defaults (W.contents (writer_of out.old)) (W.contents (writer_of out.new)) f)) }
+    ensures failed { TellsFailure (write_failed out.new) result }
+    ensures untouched { IfUnwritten result (out.new ≡ out.old) }
+    ensures exact { IfErr result (λ f. IsOfInput f → ForEachText layout.now (λ schema.
+        ¬ MayBeText schema bytes.now limits raw)) }
+{
+    let _names = layout.schema().types(); // tells that names are UTF-8
+    let mut entries = Entries::new();
+    let view = match verify(layout, bytes, limits, raw, &mut entries) {
+        Ok(view) => view,
+        Err(fault) => return Err(ToolFault::Read(fault)),
+    };
+    match write_text(&view, defaults, out) {
+        Ok(()) => Ok(()),
+        Err(fault) => Err(ToolFault::Write(fault)),
+    }
+}
 
 /// Writes the JSON text of the value that a buffer holds under a schema text.
 ///
@@ -41,16 +74,7 @@ pub fn print_to<W: Write>(
         Ok(layout) => layout,
         Err(fault) => return Err(ToolFault::Schema(fault)),
     };
-    let _names = layout.schema().types(); // tells that names are UTF-8
-    let mut entries = Entries::new();
-    let view = match verify(&layout, bytes, limits, raw, &mut entries) {
-        Ok(view) => view,
-        Err(fault) => return Err(ToolFault::Read(fault)),
-    };
-    match write_text(&view, defaults, out) {
-        Ok(()) => Ok(()),
-        Err(fault) => Err(ToolFault::Write(fault)),
-    }
+    print_under(&layout, bytes, limits, raw, defaults, out)
 }
 
 /// A refusal to print to memory: a write fails only where memory runs out.

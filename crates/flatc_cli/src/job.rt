@@ -1,8 +1,9 @@
 //! The job that a command line asks for.
 ghost use Rattle.std.specs.Prelude.{◌≡◌, IfOk, IfErr, true, map, option_map, string_bytes, codes};
-ghost use Rattle.clap.specs.Words.{first_of, found_of, kind_of, rows_of, subcommand_of, takes};
-ghost use Rattle.flatc_tool.specs.Commands.{flatc_app};
-ghost use Rattle.flatc_tool.specs.Lines.{IsJob, IsJobOf, IsPath, is_set};
+ghost use Rattle.clap.specs.Words.{first_of, found_of, kind_of, rows_of, subcommand_of};
+ghost use Rattle.clap.specs.Words.{subcommand_rows_of, takes};
+ghost use Rattle.flatc_cli.specs.Commands.{flatc_app};
+ghost use Rattle.flatc_cli.specs.Lines.{IsJob, IsJobOf, IsPath, is_set};
 
 use crate::commands::flatc_command;
 use clap::error::ErrorKind;
@@ -104,6 +105,20 @@ fn conform_job(alloc: Global, found: &ArgMatches<'_>) -> Result<Job, AllocError>
     })
 }
 
+/// The job that the matches of a command line are.
+fn matched_job(alloc: Global, matches: &ArgMatches<'_>) -> Result<Job, AllocError>
+    ensures { IfOk result (IsJobOf (subcommand_rows_of matches.now)) }
+{
+    let (name, found) = matches.subcommand().ok_or(AllocError)?;
+    match name {
+        "binary" => binary_job(alloc, found),
+        "json" => json_job(alloc, found),
+        "check" => check_job(alloc, found),
+        "conform" => conform_job(alloc, found),
+        _ => Err(AllocError),
+    }
+}
+
 /// The job that the words ask for, the program's name apart.
 ///
 /// The error is clap's: a usage fault, help or the version that was asked for, or memory that ran
@@ -117,15 +132,7 @@ pub fn job_of(alloc: Global, words: &[String]) -> Result<Job, Error>
         Ok(matches) => matches,
         Err(error) => return Err(error),
     };
-    let (name, found) = matches.subcommand().ok_or(AllocError)?;
-    let job = match name {
-        "binary" => binary_job(alloc, found)?,
-        "json" => json_job(alloc, found)?,
-        "check" => check_job(alloc, found)?,
-        "conform" => conform_job(alloc, found)?,
-        _ => return Err(Error::from(AllocError)),
-    };
-    Ok(job)
+    Ok(matched_job(alloc, &matches)?)
 }
 
 #[cfg(test)]

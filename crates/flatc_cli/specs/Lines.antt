@@ -4,8 +4,8 @@ use Rattle.std.specs.Option.{option_map_or}
 use Rattle.std.specs.Str.{bytes_eq}
 use Rattle.std.specs.declared.alloc.Global.{Global}
 use Rattle.clap.specs.Words.{Row, Text, first_of}
-use Rattle.flatc_tool.specs.declared.job.Job.{Job}
-use Rattle.flatc_tool.specs.declared.job.Job.TheVariants.{Binary, Json, Check, Conform}
+use Rattle.flatc_cli.specs.declared.job.Job.{Job}
+use Rattle.flatc_cli.specs.declared.job.Job.TheVariants.{Binary, Json, Check, Conform}
 
 -- the flag was written
 abbrev pub is_set : Text → List Row → Bool

@@ -1,0 +1,172 @@
+//! The command `flatc`, as clap builds it.
+ghost use Rattle.std.specs.Prelude.{◌≡◌, IfOk, true, false, codes};
+ghost use Rattle.clap.specs.Words.{App, rule_of, with_subcommand};
+ghost use Rattle.flatc_cli.specs.Commands.{path_rule, flag_rule, binary_app, json_app, check_app};
+ghost use Rattle.flatc_cli.specs.Commands.{conform_app, plain_app, flatc_app, HasApp};
+
+use clap::{Arg, ArgAction, Command};
+use std::alloc::{AllocError, Global};
+
+/// The program's version.
+pub const VERSION: &str = "0.1.0";
+
+fn path<'a>(alloc: Global, id: &'a str, required: bool, help: &'a str) -> Arg<'a>
+    ensures rule { rule_of result ≡ path_rule id.entry.now required }
+    ensures local { result.global ≡ false }
+{
+    Arg::new(alloc, id).required(required).help(help)
+}
+
+fn flag<'a>(alloc: Global, name: &'a str, help: &'a str) -> Arg<'a>
+    ensures rule { rule_of result ≡ flag_rule name.entry.now }
+    ensures local { result.global ≡ false }
+{
+    Arg::new(alloc, name)
+        .long(name)
+        .action(ArgAction::SetTrue)
+        .help(help)
+}
+
+fn schema_path<'a>(alloc: Global) -> Arg<'a>
+    ensures rule { rule_of result ≡ path_rule (codes "SCHEMA") true }
+    ensures local { result.global ≡ false }
+{
+    path(alloc, "SCHEMA", true, "The schema text (.fbs)")
+}
+
+fn json_path<'a>(alloc: Global) -> Arg<'a>
+    ensures rule { rule_of result ≡ path_rule (codes "JSON") true }
+    ensures local { result.global ≡ false }
+{
+    path(alloc, "JSON", true, "The JSON text")
+}
+
+fn out_path<'a>(alloc: Global) -> Arg<'a>
+    ensures rule { rule_of result ≡ path_rule (codes "OUT") true }
+    ensures local { result.global ≡ false }
+{
+    path(alloc, "OUT", true, "The file that the buffer is written to")
+}
+
+fn buffer_path<'a>(alloc: Global, required: bool) -> Arg<'a>
+    ensures rule { rule_of result ≡ path_rule (codes "BIN") required }
+    ensures local { result.global ≡ false }
+{
+    path(alloc, "BIN", required, "The buffer")
+}
+
+fn unknown_flag<'a>(alloc: Global) -> Arg<'a>
+    ensures rule { rule_of result ≡ flag_rule (codes "unknown-json") }
+    ensures local { result.global ≡ false }
+{
+    flag(
+        alloc,
+        "unknown-json",
+        "Skip members that the schema doesn't have",
+    )
+}
+
+fn raw_flag<'a>(alloc: Global) -> Arg<'a>
+    ensures rule { rule_of result ≡ flag_rule (codes "raw-binary") }
+    ensures local { result.global ≡ false }
+{
+    flag(alloc, "raw-binary", "Don't compare the file identifier")
+}
+
+fn defaults_flag<'a>(alloc: Global) -> Arg<'a>
+    ensures rule { rule_of result ≡ flag_rule (codes "defaults-json") }
+    ensures local { result.global ≡ false }
+{
+    flag(alloc, "defaults-json", "Print fields at their defaults too")
+}
+
+fn binary_command<'a>(alloc: Global) -> Result<Command<'a>, AllocError>
+    ensures { IfOk result (HasApp binary_app) }
+{
+    let args = vec![
+        in alloc;
+        unknown_flag(alloc),
+        schema_path(alloc),
+        json_path(alloc),
+        out_path(alloc),
+    ]?;
+    Command::new(alloc, "binary")
+        .about("Make a buffer of a JSON text")
+        .args(args)
+}
+
+fn json_command<'a>(alloc: Global) -> Result<Command<'a>, AllocError>
+    ensures { IfOk result (HasApp json_app) }
+{
+    let args = vec![
+        in alloc;
+        raw_flag(alloc),
+        defaults_flag(alloc),
+        schema_path(alloc),
+        buffer_path(alloc, true),
+    ]?;
+    Command::new(alloc, "json")
+        .about("Print a buffer as JSON")
+        .args(args)
+}
+
+fn check_command<'a>(alloc: Global) -> Result<Command<'a>, AllocError>
+    ensures { IfOk result (HasApp check_app) }
+{
+    let args = vec![
+        in alloc;
+        raw_flag(alloc),
+        schema_path(alloc),
+        buffer_path(alloc, false),
+    ]?;
+    Command::new(alloc, "check")
+        .about("Check a schema, or a buffer under it")
+        .args(args)
+}
+
+fn conform_command<'a>(alloc: Global) -> Result<Command<'a>, AllocError>
+    ensures { IfOk result (HasApp conform_app) }
+{
+    let args = vec![
+        in alloc;
+        path(alloc, "OLD", true, "The old schema text"),
+        path(alloc, "NEW", true, "The new schema text"),
+    ]?;
+    Command::new(alloc, "conform")
+        .about("Check that a new schema reads what an old one wrote")
+        .args(args)
+}
+
+/// The command before its jobs, whose words come without the program's name.
+fn plain_command<'a>(alloc: Global) -> Result<Command<'a>, AllocError>
+    ensures { IfOk result (HasApp plain_app) }
+{
+    Command::new(alloc, "flatc")
+        .about("Convert, check and compare FlatBuffers")
+        .version(VERSION)
+        .no_binary_name(true)
+        .subcommand_required(true)
+        .bin_name("flatc")
+}
+
+/// The command with one more job.
+fn with_job<'a>(
+    command: Command<'a>,
+    job: Result<Command<'a>, AllocError>,
+) -> Result<Command<'a>, AllocError>
+    ensures { (above : App) → HasApp above command.entry → (added : App) → IfOk job.entry (HasApp added)
+        → IfOk result (HasApp (with_subcommand above added.top)) }
+{
+    command.subcommand(job?)
+}
+
+/// The command with its four jobs.
+pub(crate) fn flatc_command<'a>(alloc: Global) -> Result<Command<'a>, AllocError>
+    ensures { IfOk result (HasApp flatc_app) }
+{
+    let command = plain_command(alloc)?;
+    let command = with_job(command, binary_command(alloc))?;
+    let command = with_job(command, json_command(alloc))?;
+    let command = with_job(command, check_command(alloc))?;
+    with_job(command, conform_command(alloc))
+}
