@@ -8,8 +8,10 @@ would be idle, the crate with the longest chain of crates above it gets them too
 changed isn't built again.
 """
 import argparse
+import contextlib
 import os
 import shutil
+import signal
 import subprocess
 import sys
 import tempfile
@@ -80,11 +82,33 @@ def linked(source, to):
 
 
 def run(words, folder, log):
-    child = subprocess.Popen(words, cwd=folder, stdin=subprocess.DEVNULL, stdout=log, stderr=subprocess.STDOUT)
+    how = {"stdin": subprocess.DEVNULL, "stdout": log, "stderr": subprocess.STDOUT, "start_new_session": True}
+    child = subprocess.Popen(words, cwd=folder, **how)
     children.add(child)
     status = child.wait()
     children.discard(child)
     return status
+
+
+@contextlib.contextmanager
+def ended_children():
+    """Ends what still runs when the block is left, after a failure or an interrupt too."""
+    try:
+        yield
+    finally:
+        for child in [*children]:
+            with contextlib.suppress(ProcessLookupError):
+                os.killpg(child.pid, signal.SIGTERM)
+
+
+def copy_below(crates, name, room):
+    """Copies what a crate stands on to a folder: the lines of crates.txt, and the crates below as they are built."""
+    with open(f"{room}/crates.txt", "w", encoding="utf-8") as it:
+        it.writelines(crates[other][0] for other in [*below(crates, name), name])
+    shutil.copy(f"{ROOT}/HANDLES", room)
+    for it in below(crates, name):
+        kept = shutil.ignore_patterns("incremental")
+        shutil.copytree(f"{ROOT}/crates/{it}", f"{room}/crates/{it}", ignore=kept, copy_function=linked)
 
 
 def build_library(crates, name, jobs, log):
@@ -93,12 +117,7 @@ def build_library(crates, name, jobs, log):
     rt locks a crate and all below it, so two libraries over one crate are never built side by side in one tree.
     """
     with tempfile.TemporaryDirectory(prefix=f"build-{name}-") as room:
-        with open(f"{room}/crates.txt", "w", encoding="utf-8") as it:
-            it.writelines(crates[other][0] for other in [*below(crates, name), name])
-        shutil.copy(f"{ROOT}/HANDLES", room)
-        for it in below(crates, name):
-            kept = shutil.ignore_patterns("incremental")
-            shutil.copytree(f"{ROOT}/crates/{it}", f"{room}/crates/{it}", ignore=kept, copy_function=linked)
+        copy_below(crates, name, room)
         own, there = f"{ROOT}/crates/{name}", f"{room}/crates/{name}"
         shutil.copytree(own, there, ignore=shutil.ignore_patterns("out"))
         if os.path.isdir(f"{own}/out"):
@@ -126,7 +145,7 @@ def build_all(crates, program, lanes):
     wanted = [*below(crates, program), program]
     longest = chains(crates, wanted)
     left, built, running = sorted(wanted, key=lambda it: -longest[it]), set(), {}
-    with ThreadPoolExecutor(lanes) as pool:
+    with ThreadPoolExecutor(lanes) as pool, ended_children():
         while left or running:
             ready = [it for it in left if built.issuperset(crates[it][1])]
             for at, name in enumerate(ready):
@@ -134,14 +153,12 @@ def build_all(crates, program, lanes):
                 if idle > 0:
                     jobs = max(min(idle - (len(ready) - at - 1), MOST_JOBS_OF_A_CRATE), 1)
                     left.remove(name)
-                    print(f"[{len(built)} of {len(wanted)}] {name}: begun, {jobs} job{'s' * (jobs > 1)}", flush=True)
+                    print(f"[{len(built)} of {len(wanted)}] {name}: proving, {jobs} job{'s' * (jobs > 1)}", flush=True)
                     running[pool.submit(build, crates, name, jobs, program)] = name, jobs
             for it in wait(running, return_when=FIRST_COMPLETED).done:
                 name, _ = running.pop(it)
                 status, said, seconds = it.result()
                 if status:
-                    for child in [*children]:
-                        child.terminate()
                     print(f"{said}\n{name}: NOT PROVED or not built, as the lines above say", flush=True)
                     return 1
                 built.add(name)
@@ -155,6 +172,7 @@ def main():
     parser.add_argument("program")
     parser.add_argument("--jobs", type=int, default=0)
     given = parser.parse_args()
+    signal.signal(signal.SIGTERM, lambda *_: sys.exit(143))
     return build_all(read_crates(), given.program, given.jobs or jobs_here())
 
 

@@ -18,7 +18,7 @@ import sys
 import tempfile
 from concurrent.futures import ThreadPoolExecutor
 
-from build import ROOT, below, jobs_here, linked, read_crates
+from build import ROOT, copy_below, jobs_here, read_crates
 
 
 def edited(edit, folder):
@@ -88,7 +88,9 @@ def judge(edit, folder):
     for path, text in were.items():
         with open(f"{folder}/{path}", "w", encoding="utf-8") as it:
             it.write(text)
-    reasons = [it for it in lines if re.match(r"(note: )?\S+:\d+:\d+:", it)]
+    errors = [it for it in lines if re.match(r"(note: )?\S+:\d+:\d+:", it) and (": error" in it or it.startswith("note: "))]
+    # a line that names the clause says more than one of a proof file that no longer fits
+    reasons = [it for it in errors if re.search("-clause-|is not proved", it)] or errors
     if status == 1 and any(it.startswith("logic=not-proved") for it in lines) and reasons:
         return True, f"{label(edit)}: refused: {reasons[0][:200]}"
     if status == 0:
@@ -99,12 +101,7 @@ def judge(edit, folder):
 def try_crate(crates, name, edits):
     """Tries edits of one crate in turn, in a copy of what it stands on."""
     with tempfile.TemporaryDirectory(prefix=f"mutations-{name}-") as room:
-        with open(f"{room}/crates.txt", "w", encoding="utf-8") as it:
-            it.writelines(crates[other][0] for other in [*below(crates, name), name])
-        shutil.copy(f"{ROOT}/HANDLES", room)
-        for it in below(crates, name):
-            kept = shutil.ignore_patterns("incremental")
-            shutil.copytree(f"{ROOT}/crates/{it}", f"{room}/crates/{it}", ignore=kept, copy_function=linked)
+        copy_below(crates, name, room)
         folder = f"{room}/crates/{name}"
         shutil.copytree(f"{ROOT}/crates/{name}", folder, ignore=shutil.ignore_patterns("must-fail", "mutations"))
         tried = [judge(it, folder) for it in edits]
