@@ -94,7 +94,7 @@ def judge(edit, folder):
     if status == 1 and any(it.startswith("logic=not-proved") for it in lines) and reasons:
         return True, f"{label(edit)}: refused: {reasons[0][:200]}"
     if status == 0:
-        return False, f"{label(edit)}: NOT REFUSED: the crate is still proved with it"
+        return False, f"{label(edit)}: the crate is still proved with it"
     return False, "\n".join([f"{label(edit)}: it didn't reach the prover:", *lines[-6:]])
 
 
@@ -104,11 +104,12 @@ def try_crate(crates, name, edits):
         copy_below(crates, name, room)
         folder = f"{room}/crates/{name}"
         shutil.copytree(f"{ROOT}/crates/{name}", folder, ignore=shutil.ignore_patterns("must-fail", "mutations"))
-        tried = [judge(it, folder) for it in edits]
+        tried = []
+        for edit in edits:
+            tried.append(judge(edit, folder))
+            print(tried[-1][1], flush=True)
         if check(folder)[0]:
-            return [(False, f"{name}: the crate itself isn't proved any more behind these edits")]
-        for _, said in tried:
-            print(said, flush=True)
+            return [(False, f"{name}: the crate itself isn't proved behind these edits")]
         return tried
 
 
@@ -140,7 +141,7 @@ def main():
     refused = sum(well for well, _ in tried)
     for well, said in tried:
         if not well:
-            print(said)
+            print(f"NOT REFUSED: {said}")
     print(f"{refused} refused, {len(tried) - refused} not refused")
     return 0 if refused == len(tried) else 1
 
