@@ -14,7 +14,7 @@ import tempfile
 ROOT = os.path.dirname(os.path.dirname(os.path.abspath(__file__)))
 LONGEST = 2_147_483_647
 # pairs.txt has as many pairs at least.
-PAIRS = 85
+PAIRS = 86
 NOBODY = 65534
 SECONDS = 120
 
@@ -47,6 +47,7 @@ FILES = {
     "union.json": b'{"u_type":"B","u":{"y":1}}',
     "-dash.fbs": ONE,
     "not_utf8.fbs": b"table T { a:int; } \xff",
+    "not_utf8.json": b'{"a":7} \xff',
     "long.json": b'{"a":' + b" " * 3_000_000 + b"7}",
 }
 
@@ -132,6 +133,7 @@ def refusals():
     refused("a schema that is no UTF-8", ["check", "not_utf8.fbs"], b"1 NotUtf8 at 19")
     refused("another identifier", ["check", "test.fbs", "other.bin"], b"52 WrongIdentifier at 4")
     refused("bad JSON", ["binary", "one.fbs", "bad.json", "kept.bin"], b"113 BadJson", kept)
+    refused("JSON that is no UTF-8", ["binary", "one.fbs", "not_utf8.json", "kept.bin"], b"113 BadJson", kept)
     refused("an empty JSON text", ["binary", "one.fbs", "empty", "kept.bin"], b"113 BadJson", kept)
     refused("a text for a number", ["binary", "one.fbs", "text.json", "kept.bin"], b"70 WrongShape in type 0 slot 0", kept)
     refused("a member that the schema lacks", ["binary", "one.fbs", "more.json", "kept.bin"], b"74 UnknownMember in type 0", kept)
@@ -156,6 +158,7 @@ def comparisons():
     refused("another default", ["conform", "one.fbs", "two.fbs"], b"97 DefaultChanged in type 0 slot 0")
     refused("an identifier more", ["conform", "one.fbs", "test.fbs"], b"91 IdentifierChanged")
     refused("the old schema is refused first", ["conform", "empty", "not_utf8.fbs"], b"old: 21 BadRoot at 0")
+    refused("an empty old schema", ["conform", "empty", "one.fbs"], b"old: 21 BadRoot at 0")
     refused("the new schema is refused", ["conform", "one.fbs", "not_utf8.fbs"], b"new: 1 NotUtf8 at 19")
     refused("a missing new schema", ["conform", "one.fbs", "missing"], b"110 FileRead")
 
