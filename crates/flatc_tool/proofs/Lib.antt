@@ -1,6 +1,7 @@
 pub mod OneText
 pub mod JobSteps
 pub mod Headlines
+pub mod Evolving
 pub mod Known
 pub mod Sound
 pub mod Utf8Names

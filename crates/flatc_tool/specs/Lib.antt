@@ -1,6 +1,9 @@
 pub mod JsonText
+pub mod LayerLaws
 pub mod Jobs
+pub mod Answers
 pub mod Headline
+pub mod Chains
 pub mod SchemaTexts
 pub mod FaultNumbers
 pub mod FaultNames

@@ -4,6 +4,7 @@ ghost use Rattle.flatc_tool.specs.Checks.{IsSound, CheckRefused};
 ghost use Rattle.flatc_tool.specs.Jobs.{IsNotMemory};
 
 use crate::faults::ToolFault;
+use crate::laws::layer_laws;
 use crate::schema_layouts::schema_of;
 use fb_read::{Entries, verify};
 use fb_value::Limits;
@@ -27,6 +28,7 @@ pub fn check(
     ensures exact { IfErr result (λ f. IsNotMemory f
         → ¬ IsSound schema.now (option_map (λ b. b.now) bytes.entry) limits raw) }
 {
+    layer_laws();
     let layout = match schema_of(alloc, schema) {
         Ok(layout) => layout,
         Err(fault) => return Err(ToolFault::Schema(fault)),

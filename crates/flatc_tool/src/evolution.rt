@@ -4,6 +4,7 @@ ghost use Rattle.flatc_tool.specs.Evolution.{TextsConform, ConformRefused};
 ghost use Rattle.flatc_tool.specs.Jobs.{IsNotMemory};
 
 use crate::faults::ToolFault;
+use crate::laws::layer_laws;
 use crate::schema_layouts::schema_of;
 use fb_conform::conform;
 use std::alloc::Global;
@@ -18,6 +19,7 @@ pub fn conform_texts(alloc: Global, old: &[u8], new: &[u8]) -> Result<(), ToolFa
     ensures refused { IfErr result (ConformRefused old.now new.now) }
     ensures exact { IfErr result (λ f. IsNotMemory f → ¬ TextsConform old.now new.now) }
 {
+    layer_laws();
     let was = match schema_of(alloc, old) {
         Ok(layout) => layout,
         Err(fault) => return Err(ToolFault::Older(fault)),

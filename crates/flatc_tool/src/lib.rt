@@ -9,6 +9,7 @@ mod headline;
 mod heard;
 mod job;
 mod jobs;
+mod laws;
 mod lines;
 mod names;
 mod prints;
@@ -28,7 +29,9 @@ pub use fb_schema::TypeId;
 pub use fb_syntax::SyntaxFault;
 pub use fb_text::{Noted, WriteFault};
 pub use fb_value::{Limits, ReadFault};
-pub use headline::{json_is_carried, others_are_refused};
+pub use headline::{
+    chains_carry, chains_conform, json_is_carried, old_programs_read, others_are_refused,
+};
 pub use heard::{Heard, take_all};
 pub use job::{Job, job_of};
 pub use jobs::to_binary;

@@ -5,6 +5,7 @@ ghost use Rattle.flatc_tool.specs.Jobs.{IsText, MayBeText, TextRefused, IsNotMem
 ghost use Rattle.flatc_tool.specs.Prints.{IsSent, PrintRefused, TellsFailure, IfUnwritten, IsOfInput, text_fault};
 
 use crate::faults::ToolFault;
+use crate::laws::layer_laws;
 use crate::schema_layouts::schema_of;
 use fb_json::TextFault;
 use fb_read::{Entries, verify};
@@ -37,6 +38,7 @@ pub fn print_to<W: Write>(
     ensures untouched { IfUnwritten result (out.new ≡ out.old) }
     ensures exact { IfErr result (λ f. IsOfInput f → ¬ MayBeText schema.now bytes.now limits raw) }
 {
+    layer_laws();
     let layout = match schema_of(alloc, schema) {
         Ok(layout) => layout,
         Err(fault) => return Err(ToolFault::Schema(fault)),

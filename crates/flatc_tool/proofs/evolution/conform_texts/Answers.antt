@@ -3,11 +3,11 @@ use Rattle.flatc_tool.proofs.OneText.{refused_excludes}
 use Rattle.flatc_tool.proofs.evolution.conform_texts.Goals as goal
 
 pub returns-in-Err-clause-exact : goal.returns-in-Err-clause-exact
-returns-in-Err-clause-exact c rule texts = refused_excludes c.args.old.now c.in-Err.fault c.in-Err.ensures.refused rule texts.0 texts.2
+returns-in-Err-clause-exact c rule texts = refused_excludes c.layer_laws.ensures.laws c.args.old.now c.in-Err.fault c.in-Err.ensures.refused rule texts.0 texts.2
 
 pub returns-in-Err-schema_of-clause-exact : goal.returns-in-Err-schema_of-clause-exact
-returns-in-Err-schema_of-clause-exact c rule texts = refused_excludes c.args.new.now c.in-Err-schema_of.fault c.in-Err-schema_of.ensures.refused rule texts.1 texts.3
+returns-in-Err-schema_of-clause-exact c rule texts = refused_excludes c.layer_laws.ensures.laws c.args.new.now c.in-Err-schema_of.fault c.in-Err-schema_of.ensures.refused rule texts.1 texts.3
 
 pub returns-clause-exact : goal.returns-clause-exact
 returns-clause-exact c rule =
-    breach_excludes c.args.old.now c.args.new.now c.in-Ok.layout c.in-Ok-schema_of.layout c.in-Err-conform.breach c.in-Ok.ensures.accepted c.in-Ok-schema_of.ensures.accepted c.in-Err-conform.ensures.first
+    breach_excludes c.layer_laws.ensures.laws c.args.old.now c.args.new.now c.in-Ok.layout c.in-Ok-schema_of.layout c.in-Err-conform.breach c.in-Ok.ensures.accepted c.in-Ok-schema_of.ensures.accepted c.in-Err-conform.ensures.first

@@ -5,28 +5,28 @@ use Rattle.flatc_tool.proofs.JobSteps.{value_refused, value_excludes, size_refus
 use Rattle.flatc_tool.proofs.jobs.to_binary.Goals as goal
 
 pub returns-in-Err-clause-exact : goal.returns-in-Err-clause-exact
-returns-in-Err-clause-exact c rule may = refused_excludes c.args.schema.now c.in-Err.fault c.in-Err.ensures.refused rule may.layout may.accepted
+returns-in-Err-clause-exact c rule may = refused_excludes c.layer_laws.ensures.laws c.args.schema.now c.in-Err.fault c.in-Err.ensures.refused rule may.layout may.accepted
 
 pub returns-in-Err-value_of-clause-refused : goal.returns-in-Err-value_of-clause-refused
 returns-in-Err-value_of-clause-refused c =
-    value_refused c.args.schema.now c.args.json.now c.args.limits c.args.unknown c.in-Ok.layout c.in-Ok.ensures.accepted (tree_view c.in-Ok-tree_of.tree) c.in-Err-value_of.fault c.in-Ok-tree_of.ensures.tree
+    value_refused c.layer_laws.ensures.laws c.args.schema.now c.args.json.now c.args.limits c.args.unknown c.in-Ok.layout c.in-Ok.ensures.accepted (tree_view c.in-Ok-tree_of.tree) c.in-Err-value_of.fault c.in-Ok-tree_of.ensures.tree
     c.in-Err-value_of.ensures.refuses c.in-Err-value_of.ensures.none c.in-Err-value_of.ensures.memory
 
 pub returns-in-Err-value_of-clause-exact : goal.returns-in-Err-value_of-clause-exact
 returns-in-Err-value_of-clause-exact c =
-    value_excludes c.args.schema.now c.args.json.now c.args.limits c.args.unknown c.in-Ok.layout c.in-Ok.ensures.accepted (tree_view c.in-Ok-tree_of.tree) c.in-Err-value_of.fault c.in-Ok-tree_of.ensures.tree c.in-Err-value_of.ensures.none
+    value_excludes c.layer_laws.ensures.laws c.args.schema.now c.args.json.now c.args.limits c.args.unknown c.in-Ok.layout c.in-Ok.ensures.accepted (tree_view c.in-Ok-tree_of.tree) c.in-Err-value_of.fault c.in-Ok-tree_of.ensures.tree c.in-Err-value_of.ensures.none
 
 pub returns-in-Ok-build-clause-binary : goal.returns-in-Ok-build-clause-binary
 returns-in-Ok-build-clause-binary c =
-    binary_made c.args.schema.now c.args.json.now c.args.limits c.args.unknown c.in-Ok.layout c.in-Ok.ensures.accepted (view c.in-Ok-value_of.value) c.in-Ok-build.bytes.items
-    (tree_view c.in-Ok-tree_of.tree, c.in-Ok-tree_of.ensures.tree, c.in-Ok-value_of.ensures.means) c.in-Ok-build.ensures.small c.in-Ok-build.ensures.holds c.in-Ok-build.ensures.old_slots c.in-Ok-build.ensures.covered c.in-Ok-build.ensures.aligned c.in-Ok-build.ensures.short
+    binary_made c.layer_laws.ensures.laws c.args.schema.now c.args.json.now c.args.limits c.args.unknown c.in-Ok.layout c.in-Ok.ensures.accepted (view c.in-Ok-value_of.value) c.in-Ok-build.bytes.items
+    (tree_view c.in-Ok-tree_of.tree, c.in-Ok-tree_of.ensures.tree, c.in-Ok-value_of.ensures.means) c.in-Ok-value_of.ensures.fits c.in-Ok-build.ensures.small c.in-Ok-build.ensures.holds c.in-Ok-build.ensures.old_slots c.in-Ok-build.ensures.covered c.in-Ok-build.ensures.aligned c.in-Ok-build.ensures.short
 
 pub returns-clause-refused : goal.returns-clause-refused
 returns-clause-refused c =
-    size_refused c.args.schema.now c.args.json.now c.args.limits c.args.unknown c.in-Ok.layout c.in-Ok.ensures.accepted (view c.in-Ok-value_of.value) c.in-Err-build.fault
+    size_refused c.layer_laws.ensures.laws c.args.schema.now c.args.json.now c.args.limits c.args.unknown c.in-Ok.layout c.in-Ok.ensures.accepted (view c.in-Ok-value_of.value) c.in-Err-build.fault
     (tree_view c.in-Ok-tree_of.tree, c.in-Ok-tree_of.ensures.tree, c.in-Ok-value_of.ensures.means) c.in-Err-build.ensures.memory c.in-Err-build.ensures.too_big
 
 pub returns-clause-exact : goal.returns-clause-exact
 returns-clause-exact c =
-    size_excludes c.args.schema.now c.args.json.now c.args.limits c.args.unknown c.in-Ok.layout c.in-Ok.ensures.accepted (view c.in-Ok-value_of.value) c.in-Err-build.fault
+    size_excludes c.layer_laws.ensures.laws c.args.schema.now c.args.json.now c.args.limits c.args.unknown c.in-Ok.layout c.in-Ok.ensures.accepted (view c.in-Ok-value_of.value) c.in-Err-build.fault
     (tree_view c.in-Ok-tree_of.tree, c.in-Ok-tree_of.ensures.tree, c.in-Ok-value_of.ensures.means) c.in-Err-build.ensures.too_big

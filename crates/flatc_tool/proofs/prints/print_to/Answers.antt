@@ -8,10 +8,10 @@ use Rattle.flatc_tool.proofs.PrintSteps.{at_layout, sent, unsent, unsent_exclude
 use Rattle.flatc_tool.proofs.prints.print_to.Goals as goal
 
 pub returns-in-Err-clause-exact : goal.returns-in-Err-clause-exact
-returns-in-Err-clause-exact g c rule may = refused_excludes c.args.schema.now c.in-Err.fault c.in-Err.ensures.refused rule may.layout may.accepted
+returns-in-Err-clause-exact g c rule may = refused_excludes c.layer_laws.ensures.laws c.args.schema.now c.in-Err.fault c.in-Err.ensures.refused rule may.layout may.accepted
 
 pub returns-in-Err-verify-clause-exact : goal.returns-in-Err-verify-clause-exact
-returns-in-Err-verify-clause-exact g c rule = bytes_exclude c.args.schema.now c.args.bytes.now c.args.limits c.args.raw c.in-Ok.layout c.in-Ok.ensures.accepted c.in-Err-verify.fault c.in-Err-verify.ensures.fault
+returns-in-Err-verify-clause-exact g c rule = bytes_exclude c.layer_laws.ensures.laws c.args.schema.now c.args.bytes.now c.args.limits c.args.raw c.in-Ok.layout c.in-Ok.ensures.accepted c.in-Err-verify.fault c.in-Err-verify.ensures.fault
 
 pub returns-in-Ok-write_text-clause-printed : goal.returns-in-Ok-write_text-clause-printed
 returns-in-Ok-write_text-clause-printed g c =
@@ -24,7 +24,7 @@ returns-in-Ok-write_text-clause-printed g c =
     let small : All (λ x. x < 256) c.args.bytes.now = All-from_get_or (λ x. x < 256) c.args.bytes.now 0 (λ i less. (let fits = c.type_inv.bytes i in omega arith)) in
     let root = at_layout L view.layout.now view.table.0 c.args.defaults held.0 start known (Ok tt) c.in-Ok-verify.ensures.root.0 c.in-Ok-verify.ensures.root.1 printed in
     let names = c.types-names.ensures.types ∙ ap (λ (s : DeclaredSchema). s.types) c.schema.ensures.schema in
-    sent c.args.schema.now c.args.bytes.now c.args.limits c.args.raw c.args.defaults L c.in-Ok.ensures.accepted held.0 held.1 start known tt c.types-names.result.now names small root
+    sent c.layer_laws.ensures.laws c.args.schema.now c.args.bytes.now c.args.limits c.args.raw c.args.defaults L c.in-Ok.ensures.accepted held.0 held.1 start known tt c.types-names.result.now names small root
 
 pub returns-clause-refused : goal.returns-clause-refused
 returns-clause-refused g c =
@@ -36,7 +36,7 @@ returns-clause-refused g c =
     let known = g.W.Write.contents (writer_of c.write_text.new.out) in
     let printed = c.in-Err-write_text.ensures.printed held.0 (c.in-Ok-verify.ensures.stands held.0 held.1) in
     let root = at_layout L view.layout.now view.table.0 c.args.defaults held.0 start known (Err fault) c.in-Ok-verify.ensures.root.0 c.in-Ok-verify.ensures.root.1 printed in
-    unsent c.args.schema.now c.args.bytes.now c.args.limits c.args.raw c.args.defaults L c.in-Ok.ensures.accepted held.0 held.1 start known fault root
+    unsent c.layer_laws.ensures.laws c.args.schema.now c.args.bytes.now c.args.limits c.args.raw c.args.defaults L c.in-Ok.ensures.accepted held.0 held.1 start known fault root
 
 pub returns-clause-exact : goal.returns-clause-exact
 returns-clause-exact g c =
@@ -48,4 +48,4 @@ returns-clause-exact g c =
     let known = g.W.Write.contents (writer_of c.write_text.new.out) in
     let printed = c.in-Err-write_text.ensures.printed held.0 (c.in-Ok-verify.ensures.stands held.0 held.1) in
     let root = at_layout L view.layout.now view.table.0 c.args.defaults held.0 start known (Err fault) c.in-Ok-verify.ensures.root.0 c.in-Ok-verify.ensures.root.1 printed in
-    unsent_excludes c.args.schema.now c.args.bytes.now c.args.limits c.args.raw c.args.defaults L c.in-Ok.ensures.accepted held.0 held.1 start known fault root
+    unsent_excludes c.layer_laws.ensures.laws c.args.schema.now c.args.bytes.now c.args.limits c.args.raw c.args.defaults L c.in-Ok.ensures.accepted held.0 held.1 start known fault root
