@@ -3,6 +3,7 @@ pub mod JobSteps
 pub mod Headlines
 pub mod Evolving
 pub mod Known
+pub mod LinesTold
 pub mod Sound
 pub mod Utf8Names
 pub mod Utf8Values

@@ -9,6 +9,7 @@ pub mod FaultNumbers
 pub mod FaultNames
 pub mod FaultPlaces
 pub mod FaultLines
+pub mod Reports
 pub mod Heard
 pub mod Commands
 pub mod Lines
