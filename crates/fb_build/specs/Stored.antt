@@ -90,7 +90,7 @@ abbrev pub AllHoldBits : Bytes → ℕ → List StoredSlot → Type 0
 AllHoldBits b p [] = Unit {0}
 AllHoldBits b p (x ∷ xs) = HoldsBit b (p + x.at) x.slot.shape × AllHoldBits b p xs
 
--- Each stored `bool` is 0 or 1.
+-- Each `bool` that a slot stores is 0 or 1, also where the slot is deprecated.
 abbrev pub HoldsBits : LaidSchema → Bytes → ℕ → ℕ → Type 0
 HoldsBits L b t p = AllHoldBits b p (stored_of L b t p)
 
