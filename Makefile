@@ -1,13 +1,14 @@
-# make run      proves and builds the program, and then shows it at work on examples/
-# make try      shows the same without proofs, in about a minute
-# make build    leaves the program at crates/flatc/out/flatc
-# make install  copies it to PREFIX/bin (default /usr/local)
-# make test     the gate: every proof from nothing, the must-fail edits, the tests, the program
+# make run        proves and builds the program, and then shows it at work on examples/
+# make try        shows the same without proofs, in about a minute
+# make build      leaves the program at crates/flatc/out/flatc; crates are proved side by side
+# make install    copies it to PREFIX/bin (default /usr/local)
+# make test       the gate: every proof from nothing, the must-fail edits, the tests, the program
+# make mutations  further edits that the prover has to refuse, outside the gate
 
 PREFIX = /usr/local
 PROGRAM = crates/flatc/out/flatc
 
-.PHONY: run try build install test
+.PHONY: run try build install test mutations
 
 run: build
 	@tests/example.sh $(PROGRAM)
@@ -18,7 +19,7 @@ try:
 		--data monster.json=../../examples/monster.json --data monster.bin=../../examples/monster.bin
 
 build:
-	@cd crates/flatc && rt run > /dev/null
+	@python3 tools/build.py flatc
 
 install: build
 	install -d $(DESTDIR)$(PREFIX)/bin
@@ -26,3 +27,6 @@ install: build
 
 test:
 	@tests/gate.sh
+
+mutations: build
+	@python3 tools/mutations.py

@@ -6,12 +6,16 @@ usage: tests/command.py PROGRAM
 The last line is 'N passed, M failed'. A row that takes over two minutes fails.
 """
 import os
+import shutil
 import subprocess
 import sys
 import tempfile
 
 ROOT = os.path.dirname(os.path.dirname(os.path.abspath(__file__)))
 LONGEST = 2_147_483_647
+# pairs.txt has as many pairs at least.
+PAIRS = 86
+NOBODY = 65534
 SECONDS = 120
 
 ONE = b"table T { a:int; } root_type T;"
@@ -43,6 +47,7 @@ FILES = {
     "union.json": b'{"u_type":"B","u":{"y":1}}',
     "-dash.fbs": ONE,
     "not_utf8.fbs": b"table T { a:int; } \xff",
+    "not_utf8.json": b'{"a":7} \xff',
     "long.json": b'{"a":' + b" " * 3_000_000 + b"7}",
 }
 
@@ -110,8 +115,8 @@ def jobs():
     row("json with defaults", ["json", "--defaults-json", "one.fbs", "default.bin"], 0, b'{\n  "a": 0\n}\n')
     row("check of a schema", ["check", "one.fbs"], 0, b"ok\n")
     row("check of a buffer", ["check", "one.fbs", "seven.bin"], 0, b"ok\n")
-    row("an unknown member", ["binary", "--unknown-json", "one.fbs", "more.json", "out.bin"], 0, files={"out.bin": SEVEN})
-    row("three megabytes of blanks", ["binary", "one.fbs", "long.json", "out.bin"], 0, files={"out.bin": SEVEN})
+    row("an unknown member", ["binary", "--unknown-json", "one.fbs", "more.json", "more.bin"], 0, files={"more.bin": SEVEN})
+    row("three megabytes of blanks", ["binary", "one.fbs", "long.json", "long.bin"], 0, files={"long.bin": SEVEN})
     row("the identifier unchecked", ["json", "--raw-binary", "test.fbs", "other.bin"], 0, b"{}\n")
     row("check with the identifier unchecked", ["check", "--raw-binary", "test.fbs", "other.bin"], 0, b"ok\n")
     row("two dashes before paths", ["check", "--", "one.fbs", "seven.bin"], 0, b"ok\n")
@@ -128,6 +133,7 @@ def refusals():
     refused("a schema that is no UTF-8", ["check", "not_utf8.fbs"], b"1 NotUtf8 at 19")
     refused("another identifier", ["check", "test.fbs", "other.bin"], b"52 WrongIdentifier at 4")
     refused("bad JSON", ["binary", "one.fbs", "bad.json", "kept.bin"], b"113 BadJson", kept)
+    refused("JSON that is no UTF-8", ["binary", "one.fbs", "not_utf8.json", "kept.bin"], b"113 BadJson", kept)
     refused("an empty JSON text", ["binary", "one.fbs", "empty", "kept.bin"], b"113 BadJson", kept)
     refused("a text for a number", ["binary", "one.fbs", "text.json", "kept.bin"], b"70 WrongShape in type 0 slot 0", kept)
     refused("a member that the schema lacks", ["binary", "one.fbs", "more.json", "kept.bin"], b"74 UnknownMember in type 0", kept)
@@ -152,11 +158,13 @@ def comparisons():
     refused("another default", ["conform", "one.fbs", "two.fbs"], b"97 DefaultChanged in type 0 slot 0")
     refused("an identifier more", ["conform", "one.fbs", "test.fbs"], b"91 IdentifierChanged")
     refused("the old schema is refused first", ["conform", "empty", "not_utf8.fbs"], b"old: 21 BadRoot at 0")
+    refused("an empty old schema", ["conform", "empty", "one.fbs"], b"old: 21 BadRoot at 0")
     refused("the new schema is refused", ["conform", "one.fbs", "not_utf8.fbs"], b"new: 1 NotUtf8 at 19")
     refused("a missing new schema", ["conform", "one.fbs", "missing"], b"110 FileRead")
 
 
 def pairs():
+    count = 0
     for line in open(os.path.join(ROOT, "tests", "pairs.txt"), encoding="ascii"):
         line = line.rstrip("\n")
         if not line or line.startswith("#"):
@@ -169,6 +177,8 @@ def pairs():
             row(name, ["conform", "old.fbs", "new.fbs"], 0, b"conforms\n")
         else:
             refused(name, ["conform", "old.fbs", "new.fbs"], want.encode())
+        count += 1
+    tell("the pairs of schemas", count >= PAIRS, f"{count} of at least {PAIRS}")
 
 
 def files():
@@ -179,11 +189,20 @@ def files():
     refused("OUT in a missing folder", ["binary", "one.fbs", "seven.json", "missing/out"], b"111 FileWrite")
     refused("OUT is a folder", ["binary", "one.fbs", "seven.json", "folder"], b"111 FileWrite")
     refused("OUT is full", ["binary", "one.fbs", "seven.json", "/dev/full"], b"111 FileWrite")
-    if os.geteuid() != 0:
-        os.chmod("secret", 0)
-        refused("an unreadable file", ["check", "secret"], b"110 FileRead")
+    unreadable()
     refused("a file over the limit", ["check", "one.fbs", "over"], b"112 FileTooLong")
     refused("a file of the greatest length", ["check", "one.fbs", "longest"], b"55 ZeroOffset at 0")
+
+
+def unreadable():
+    """A file that its reader may not open. Root may open any, so there another user tries."""
+    os.chmod("secret", 0)
+    os.chmod(".", 0o755)
+    shutil.copy(PROGRAM, "program")
+    other = {"user": NOBODY, "group": NOBODY, "extra_groups": []} if os.geteuid() == 0 else {}
+    done = subprocess.run(["./program", "check", "secret"], capture_output=True, check=False, timeout=SECONDS, **other)
+    got = (done.returncode, done.stdout, done.stderr)
+    tell("an unreadable file", got == (1, b"", b"110 FileRead\n"), f"{got}")
 
 
 def streams():
@@ -219,20 +238,25 @@ def examples():
     folder = os.path.join(ROOT, "examples")
     schema = os.path.join(folder, "monster.fbs")
     json = os.path.join(folder, "monster.json")
-    row("the example's buffer", ["binary", schema, json, "monster.bin"], 0)
+    # the bytes by the written rules of placement, the text as Google's flatc 2.0.8 prints it with --strict-json
+    bytes_wanted = bytes.fromhex(open(os.path.join(ROOT, "tests", "monster.hex"), encoding="ascii").read())
+    text_wanted = open(os.path.join(ROOT, "tests", "monster.printed.json"), "rb").read()
+    row("the example's buffer", ["binary", schema, json, "monster.bin"], 0, files={"monster.bin": bytes_wanted})
     row("the example's buffer is sound", ["check", schema, "monster.bin"], 0, b"ok\n")
-    done = run(["json", schema, "monster.bin"])
-    open("monster.json", "wb").write(done.stdout)
-    row("the printed example", ["binary", schema, "monster.json", "again.bin"], 0)
+    row("the example's text", ["json", schema, "monster.bin"], 0, text_wanted)
+    open("monster.json", "wb").write(text_wanted)
+    row("the printed example means the same buffer", ["binary", schema, "monster.json", "again.bin"], 0, files={"again.bin": bytes_wanted})
     newer = os.path.join(folder, "monster_v2.fbs")
     row("the example's next version conforms", ["conform", schema, newer], 0, b"conforms\n")
     refused("and not the other way round", ["conform", newer, schema], b"101 EnumChanged in type 1")
     row("the next version reads the old buffer", ["check", newer, "monster.bin"], 0, b"ok\n")
     row("flatc's own buffer is sound", ["check", schema, os.path.join(folder, "monster.bin")], 0, b"ok\n")
-    theirs = run(["json", schema, os.path.join(folder, "monster.bin")])
-    tell("flatc's own buffer prints the same", theirs.stdout == done.stdout, f"{theirs.stderr!r}")
-    same = open("again.bin", "rb").read() == open("monster.bin", "rb").read()
-    tell("the printed example means the same buffer", same and done.returncode == 0, f"{done.stderr!r}")
+    row("flatc's own buffer prints the same", ["json", schema, os.path.join(folder, "monster.bin")], 0, text_wanted)
+
+
+def shown():
+    done = subprocess.run([os.path.join(ROOT, "tests", "example.sh"), PROGRAM], capture_output=True, check=False, timeout=SECONDS)
+    tell("the example that make run shows", done.returncode == 0, f"{done}")
 
 
 def main():
@@ -247,7 +271,7 @@ def main():
         for name, length in (("over", LONGEST + 1), ("longest", LONGEST)):
             with open(name, "wb") as file:
                 file.truncate(length)
-        for part in (jobs, refusals, unions, comparisons, pairs, files, streams, usage, examples):
+        for part in (jobs, refusals, unions, comparisons, pairs, files, streams, usage, examples, shown):
             try:
                 part()
             except Exception as problem:

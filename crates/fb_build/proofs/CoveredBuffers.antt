@@ -175,7 +175,7 @@ module _ (L : LaidSchema) (o d : TailSeen) (b : Bytes) (e : ℕ) (v : Datum) (kn
       let made = whole_shown L o.most o.most front s fs e v (laid_at s places) h.laid.lies h.made.made (distinct_once (laid_at s places) h.made.once) h.made.served are header root (omega (arith, greatest)) in
       let one = one_place s known places (tables_vtables s xs) h.shared h.different h.made.served in
       let there : LiesAt L (front ++ s) (root_place L).sort 0 v = subst (λ (z : Bytes). LiesAt L z (root_place L).sort 0 v) joined h.there in
-      let all : Covered L (front ++ s) = covered_shown L o.most front s e v h.laid.lies h.laid.tight h.laid.padded one root made there in
+      let all : Covered L (front ++ s) = covered_shown L o.most front s e v h.laid.lies h.laid.tight h.laid.inline one root made there in
       subst (λ (z : Bytes). Covered L z) (sym joined) all
 
   pub aligned_buffer : divides o.most (length b) ≡ true → EndsAligned L b

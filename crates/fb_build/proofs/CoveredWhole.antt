@@ -9,14 +9,14 @@ use Rattle.fb_value.specs.EachTable.{EachTable}
 use Rattle.fb_value.specs.Tails.{from_end}
 use Rattle.fb_value.proofs.Moved.{each_at_moved}
 use Rattle.fb_build.specs.Stored.{IsTightTable}
-use Rattle.fb_build.specs.StructBytes.{PadsStructWithZeros, EachStruct}
+use Rattle.fb_build.specs.InlineBytes.{IsTightInline, EachInline}
 use Rattle.fb_build.specs.Pieces.{is_among, reached, reached_parts, tables_vtables}
 use Rattle.fb_build.specs.Covered.{vtable_at, EqualVtablesAreOne}
 use Rattle.fb_build.specs.CoveredTails.{parts_in_tail, IsTightInTail}
 use Rattle.fb_build.specs.CoveredSteps.{CoveredWhole}
 use Rattle.fb_build.proofs.Further.{number_moved}
 use Rattle.fb_build.proofs.TightMoved.{tight_further_on}
-use Rattle.fb_build.proofs.StructsMoved.{padded_front_shown}
+use Rattle.fb_build.proofs.InlineMoved.{inline_front_shown}
 use Rattle.fb_build.proofs.PartsInside.{reached_front_shown}
 
 same_vtable : (front s : Bytes) (q : ℕ) → vtable_at (front ++ s) (length front + q) ≡ vtable_at s q
@@ -41,7 +41,7 @@ equal_further front s qs h q r here there same =
     x.1 ∙ ap (λ n. length front + n) (h x.0 y.0 x.2 y.2 was) ∙ sym y.1
 
 pub covered_shown : CoveredWhole
-covered_shown L m front s e v lies tight padded one root made there =
+covered_shown L m front s e v lies tight inline one root made there =
     let b = front ++ s in
     let k = length front in
     let X = table_part L.schema.root in
@@ -59,6 +59,6 @@ covered_shown L m front s e v lies tight padded one root made there =
         tables = subst (λ (p : ℕ). EachTable L b (λ t q. IsTightTable L b t q) (part_place X) p v) behind
             (each_at_moved L (from_end s m) (λ a p. true) s b k (omega (arith, whole)) bytes (λ a p low is. refl)
             (λ t p. IsTightInTail L s t p) (λ t p. IsTightTable L b t p) (λ t p slots known. (tight_further_on L s b k bytes t p slots known).tight) (part_place X) (length s - e) v lies.lies tight);
-        structs = subst (λ (p : ℕ). EachStruct L b (PadsStructWithZeros L b) X p v) at (padded_front_shown L m front s (part_place X) e v lies padded);
+        inline = subst (λ (p : ℕ). EachInline L b (IsTightInline L b) X p v) at (inline_front_shown L m front s (part_place X) e v lies inline);
       },
     )

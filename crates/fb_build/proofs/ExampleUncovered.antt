@@ -9,11 +9,12 @@ use Rattle.fb_value.specs.Places.{slot_number, named_slots, named_elements}
 use Rattle.fb_value.specs.Rules.{first_failing, fault_by}
 use Rattle.fb_value.specs.Lies.{LiesAt}
 use Rattle.fb_value.specs.Holds.{root_place}
-use Rattle.fb_value.specs.ExampleLayouts.{one_int, one_bool, two_ints, one_struct, table_vector, two_members}
+use Rattle.fb_value.specs.ExampleLayouts.{one_int, one_bool, two_ints, one_struct, bools_everywhere, table_vector, two_members}
 use Rattle.fb_value.specs.ExampleTables.{seven_bytes, one_number, two_numbers, zero_held, bool_bytes, bool_held}
 use Rattle.fb_value.specs.ExampleVectors.{element}
-use Rattle.fb_value.specs.ExampleUnions.{member_bytes, second_member}
+use Rattle.fb_value.specs.ExampleUnions.{member_bytes, second_member, no_member}
 use Rattle.fb_value.specs.ExampleStructs.{struct_bytes, struct_inline}
+use Rattle.fb_value.specs.ExampleBools.{bools_bytes, bools, odd_in_struct, odd_in_vector, odd_in_element}
 use Rattle.fb_build.specs.Stored.{stored_from}
 use Rattle.fb_build.specs.Pieces.{Piece, reached_parts, pieces_of, each_once}
 use Rattle.fb_build.specs.Covered.{Covered}
@@ -64,15 +65,37 @@ wrong_size h =
     let is : 12 ≡ 8 = covered.tables.0.size in
     omega (arith, is)
 
+-- what is 2 or more isn't below 2
+no_bit : (n : ℕ) → 2 ≤ n → n < 2 → ⊥
+no_bit n high low = omega (arith, high, low)
+
 -- A `bool` that is neither 0 nor 1.
 pub odd_bool : ¬ (Covered one_bool bool_bytes)
 unfolding num slot_number named_slots stored_from
 odd_bool h =
     let covered = by_its_value_shown one_bool bool_bytes (one_number 1) bool_held.lies h in
-    no_less 2 covered.tables.0.bits.0
-  where
-    no_less : (n : ℕ) → n < n → ⊥
-    no_less n low = omega (arith, low)
+    no_bit 2 (lit≤ tt) covered.tables.0.bits.0
+
+-- A `bool` in a struct of a struct that is neither 0 nor 1,
+pub odd_bool_in_struct : ¬ (Covered bools_everywhere (set bools_bytes 22 0xff))
+unfolding num slot_number named_slots stored_from
+odd_bool_in_struct h =
+    let covered = by_its_value_shown bools_everywhere (set bools_bytes 22 0xff) bools odd_in_struct.lies h in
+    no_bit 0xff (lit≤ tt) covered.inline.0.1.1.0.1.0
+
+-- one in a vector,
+pub odd_bool_in_vector : ¬ (Covered bools_everywhere (set bools_bytes 38 0xff))
+unfolding num slot_number named_slots stored_from
+odd_bool_in_vector h =
+    let covered = by_its_value_shown bools_everywhere (set bools_bytes 38 0xff) bools odd_in_vector.lies h in
+    no_bit 0xff (lit≤ tt) covered.inline.1.1.0.1.1.0
+
+-- and one in a struct of a vector.
+pub odd_bool_in_element : ¬ (Covered bools_everywhere (set bools_bytes 46 0xff))
+unfolding num slot_number named_slots stored_from
+odd_bool_in_element h =
+    let covered = by_its_value_shown bools_everywhere (set bools_bytes 46 0xff) bools odd_in_element.lies h in
+    no_bit 0xff (lit≤ tt) covered.inline.1.0.0.1.1.0.1.0
 
 -- two fields of a table in the same four bytes, and four zeros behind them
 abbrev pub one_place_bytes : Bytes
@@ -93,6 +116,22 @@ one_place h =
     no_side : (m n : ℕ) → n < m → (m ≤ n) ⊎ (m ≤ n) → ⊥
     no_side m n more (inl low) = omega (arith, more, low)
     no_side m n more (inr low) = omega (arith, more, low)
+
+-- a union whose code isn't stored, and four bytes of rubbish where its value stands
+abbrev pub value_alone_bytes : Bytes
+value_alone_bytes = 0x0c ∷ 0 ∷ 0 ∷ 0 ∷ 8 ∷ 0 ∷ 8 ∷ 0 ∷ 0 ∷ 0 ∷ 4 ∷ 0 ∷ 8 ∷ 0 ∷ 0 ∷ 0 ∷ 0xde ∷ 0xad ∷ 0xbe ∷ 0xef ∷ []
+
+-- The value is there: no member, since the value's slot isn't looked at.
+value_alone_lies : LiesAt two_members value_alone_bytes (root_place two_members).sort 0 no_member
+unfolding num slot_number named_slots first_failing fault_by
+value_alone_lies = (refl, (refl, refl, (refl, (refl, tt))))
+
+-- A union's value without its code.
+pub value_alone : ¬ (Covered two_members value_alone_bytes)
+unfolding num slot_number named_slots
+value_alone h =
+    let covered = by_its_value_shown two_members value_alone_bytes no_member value_alone_lies h in
+    covered.tables.0.coded 1 _ 2 refl refl refl refl
 
 -- a byte other than 0 in front of a union's code
 abbrev pub rubbish_in_table_bytes : Bytes
@@ -125,7 +164,7 @@ pub rubbish_in_struct : ¬ (Covered one_struct rubbish_in_struct_bytes)
 unfolding num slot_number named_slots stored_from
 rubbish_in_struct h =
     let covered = by_its_value_shown one_struct rubbish_in_struct_bytes struct_inline rubbish_in_struct_lies h in
-    let is : 9 ≡ 0 = covered.structs.0.0 1 (lit≤ tt) refl in
+    let is : 9 ≡ 0 = covered.inline.0.0 1 (lit≤ tt) refl in
     omega (arith, is)
 
 -- a table in a vector, each of the two tables with a vtable of its own

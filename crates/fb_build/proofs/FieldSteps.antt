@@ -28,10 +28,10 @@ use Rattle.fb_build.specs.Fields.{SlotFits, StoredFits, member_target, scalar_in
 use Rattle.fb_value.proofs.Moved.{hold, no_rules}
 use Rattle.fb_build.proofs.Standing.{num_first}
 use Rattle.fb_value.proofs.TailsKept.{front_shown, old_shown}
-use Rattle.fb_build.specs.CoveredTails.{IsTightInTail, TightInTail, PaddedInTail}
+use Rattle.fb_build.specs.CoveredTails.{IsTightInTail, TightInTail, InlineInTail}
 use Rattle.fb_build.specs.Stored.{IsBit}
-use Rattle.fb_build.specs.StructBytes.{PadsStructWithZeros, EachStruct, EachStructAt}
-use Rattle.fb_build.proofs.StructsMoved.{padded_front_shown}
+use Rattle.fb_build.specs.InlineBytes.{IsTightInline, EachInline, EachInlineAt}
+use Rattle.fb_build.proofs.InlineMoved.{inline_front_shown}
 use Rattle.fb_build.proofs.TightMoved.{tight_front_shown}
 use Rattle.fb_build.proofs.Grown.{laid_grown}
 
@@ -46,7 +46,7 @@ scalar_end L m base n s rest long is bit whole most =
     let aligned : from_end s m size 0 ≡ true = and_from _ _ (rw all whole) most in
     let inside : 0 + size ≤ length s = omega (arith, long) in
     let keeps : KeepsBy (from_end s m) L s (inline_place (scalar_kind base)) 0 = hold _ _ _ aligned (hold _ _ _ (le-leb _ _ inside) no_rules) in
-    record { lies = record { within = omega arith; lies = rw first (keeps, is) }; old = tt; tight = tt; padded = tt; bit = rw first bit }
+    record { lies = record { within = omega arith; lies = rw first (keeps, is) }; old = tt; tight = tt; inline = rw first bit }
 
 -- a reference that was laid last
 pub reference_end : (L : LaidSchema) (m : ℕ) (X : Target) (e : ℕ) (d : Datum) (s rest : Bytes) → s ≡ little_bytes 4 ((length rest + 4) - e) ++ rest → length s ≡ 4 + length rest → length rest + 4 < 256 ^ 4
@@ -64,14 +64,13 @@ reference_end L m X e d s rest is long short whole most h =
     let now : LiesInTail L m s (part_place X) e d = rw is (front_shown L m (little_bytes 4 x) rest (part_place X) e d h.lies) in
     let old = subst (λ (b : Bytes). OldInTail L b (part_place X) e d) (sym is) (old_shown L m (little_bytes 4 x) rest (part_place X) e d h.lies h.old) in
     let tight = subst (λ (b : Bytes). TightInTail L b (part_place X) e d) (sym is) (tight_front_shown L m (little_bytes 4 x) rest (part_place X) e d h.lies h.tight) in
-    let padded = subst (λ (b : Bytes). PaddedInTail L b (part_place X) e d) (sym is) (padded_front_shown L m (little_bytes 4 x) rest (part_place X) e d h.lies h.padded) in
+    let inline = subst (λ (b : Bytes). InlineInTail L b (part_place X) e d) (sym is) (inline_front_shown L m (little_bytes 4 x) rest (part_place X) e d h.lies h.inline) in
     let place : length s - e ≡ 0 + num s 0 4 = omega (arith, number, long, h.lies.within) in
     record {
       lies = record { within = omega arith; lies = rw first (keeps, subst (λ (q : ℕ). LiesBy (from_end s m) L s (part_place X) q d) place now.lies) };
       old = subst (λ (q : ℕ). EachTableAt L s (λ t p. IsOldTable L s t p) (ref_place X) q d) (sym first) (subst (λ (q : ℕ). EachTable L s (λ t p. IsOldTable L s t p) (part_place X) q d) place old);
       tight = subst (λ (q : ℕ). EachTableAt L s (λ t p. IsTightInTail L s t p) (ref_place X) q d) (sym first) (subst (λ (q : ℕ). EachTable L s (λ t p. IsTightInTail L s t p) (part_place X) q d) place tight);
-      padded = subst (λ (q : ℕ). EachStructAt L s (PadsStructWithZeros L s) (ref_place X) q d) (sym first) (subst (λ (q : ℕ). EachStruct L s (PadsStructWithZeros L s) X q d) place padded);
-      bit = tt;
+      inline = subst (λ (q : ℕ). EachInlineAt L s (IsTightInline L s) (ref_place X) q d) (sym first) (subst (λ (q : ℕ). EachInline L s (IsTightInline L s) X q d) place inline);
     }
 
 -- what isn't stored is a default

@@ -14,9 +14,8 @@ use Rattle.fb_build.specs.Ends.{StandsEnd}
 use Rattle.fb_layout.specs.Sizes.{IsAlignment}
 use Rattle.fb_build.specs.Tails.{TailSeen, Grows, LaidInTail}
 use Rattle.fb_value.proofs.TailsKept.{front_shown, multiple_shown, old_shown, through}
-use Rattle.fb_build.proofs.StructsMoved.{padded_front_shown}
+use Rattle.fb_build.proofs.InlineMoved.{inline_front_shown}
 use Rattle.fb_build.proofs.TightMoved.{tight_front_shown}
-use Rattle.fb_build.proofs.Bits.{bit_behind}
 
 pub self_divides : (n : ℕ) → divides n n ≡ true
 self_divides n = eq-eqb _ _ (let e : n * 1 ≡ n = omega arith in subst (λ (x : ℕ). x % n ≡ 0) e (mul-mod_right n 1))
@@ -105,8 +104,7 @@ laid_grown L a b sort e d g h = record {
   lies = lies_grown L a b sort e d g h.lies;
   old = rw g.grown (old_shown L a.most g.front a.bytes sort e d h.lies h.old);
   tight = rw g.grown (tight_front_shown L a.most g.front a.bytes sort e d h.lies h.tight);
-  padded = rw g.grown (padded_front_shown L a.most g.front a.bytes sort e d h.lies h.padded);
-  bit = rw g.grown (bit_behind g.front a.bytes sort e h.lies.within h.bit);
+  inline = rw g.grown (inline_front_shown L a.most g.front a.bytes sort e d h.lies h.inline);
 }
 
 pub stands_grown : (a b : TailSeen) (e : ℕ) (xs : Bytes) → Grows a b → StandsEnd a.bytes e xs → StandsEnd b.bytes e xs

@@ -7,6 +7,7 @@ pub mod TextLies
 pub mod VtableSteps
 pub mod FieldSteps
 pub mod TableLies
+pub mod CodedMembers
 pub mod StoredRead
 pub mod PassSteps
 pub mod FilledSteps
@@ -40,7 +41,7 @@ pub mod TightMoved
 pub mod Further
 pub mod PiecesMoved
 pub mod PartsInside
-pub mod StructsMoved
+pub mod InlineMoved
 pub mod ChunksJoined
 pub mod Once
 pub mod MadeWhole

@@ -13,7 +13,7 @@ use Rattle.fb_value.specs.Rules.{fault_by, KeepsBy}
 use Rattle.fb_value.specs.Tails.{from_end}
 use Rattle.fb_value.specs.Wanted.{struct_wanted}
 use Rattle.fb_value.proofs.Moved.{hold, no_rules}
-use Rattle.fb_build.specs.StructBytes.{PadsStructWithZeros, EachStructIn}
+use Rattle.fb_build.specs.InlineBytes.{IsTightInline, EachInlineIn}
 use Rattle.fb_build.specs.Tails.{LaidInTail}
 use Rattle.fb_build.specs.Fields.{IsSimple, SlotFits, target_for, sort_for}
 
@@ -32,25 +32,25 @@ struct_slot L (one_of (code_kind u)) t ds e simple fits = cc
 struct_slot L (one_of text_kind) t ds e simple fits = cc
 struct_slot L (vector_of kind) t ds e simple fits = cc
 
-pub struct_end : (L : LaidSchema) (m : ℕ) (s : Bytes) (shape : StoredShape) (t : ℕ) (ds : Parts) → struct_wanted shape ≡ Some t → LiesParts L s (parts_of L t) (struct_at L t).offsets 0 ds → EachStructIn L (PadsStructWithZeros L s) (struct_kind t) 0 (a_struct ds)
+pub struct_end : (L : LaidSchema) (m : ℕ) (s : Bytes) (shape : StoredShape) (t : ℕ) (ds : Parts) → struct_wanted shape ≡ Some t → LiesParts L s (parts_of L t) (struct_at L t).offsets 0 ds → EachInlineIn L (IsTightInline L s) (struct_kind t) 0 (a_struct ds)
     → divides (inline_align L shape) (length s) ≡ true → divides (inline_align L shape) m ≡ true → inline_size L shape ≤ length s → LaidInTail L m s (sort_for shape (a_struct ds)) (length s) (a_struct ds)
 unfolding fault_by
-struct_end L m s (one_of (struct_kind u)) t ds e lies padded whole wide long =
+struct_end L m s (one_of (struct_kind u)) t ds e lies inline whole wide long =
     let same : u ≡ t = cc in
     let own : LiesParts L s (parts_of L u) (struct_at L u).offsets 0 ds = rw same lies in
-    let clean : EachStructIn L (PadsStructWithZeros L s) (struct_kind u) 0 (a_struct ds) = rw same padded in
+    let tight : EachInlineIn L (IsTightInline L s) (struct_kind u) 0 (a_struct ds) = rw same inline in
     let first : length s - length s ≡ 0 = omega arith in
     let all : length s - 0 ≡ length s = omega arith in
     let aligned : from_end s m (struct_at L u).align 0 ≡ true = and_from _ _ (rw all whole) wide in
     let inside : 0 + (struct_at L u).size ≤ length s = omega (arith, long) in
     let keeps : KeepsBy (from_end s m) L s (inline_place (struct_kind u)) 0 = hold _ _ _ aligned (hold _ _ _ (le-leb _ _ inside) no_rules) in
-    record { lies = record { within = omega arith; lies = rw first (keeps, own) }; old = tt; tight = tt; padded = rw first clean; bit = tt }
-struct_end L m s (one_of (scalar_kind u)) t ds e lies padded whole wide long = cc
-struct_end L m s (one_of (table_kind u)) t ds e lies padded whole wide long = cc
-struct_end L m s (one_of (union_kind u)) t ds e lies padded whole wide long = cc
-struct_end L m s (one_of (code_kind u)) t ds e lies padded whole wide long = cc
-struct_end L m s (one_of text_kind) t ds e lies padded whole wide long = cc
-struct_end L m s (vector_of kind) t ds e lies padded whole wide long = cc
+    record { lies = record { within = omega arith; lies = rw first (keeps, own) }; old = tt; tight = tt; inline = rw first tight }
+struct_end L m s (one_of (scalar_kind u)) t ds e lies inline whole wide long = cc
+struct_end L m s (one_of (table_kind u)) t ds e lies inline whole wide long = cc
+struct_end L m s (one_of (union_kind u)) t ds e lies inline whole wide long = cc
+struct_end L m s (one_of (code_kind u)) t ds e lies inline whole wide long = cc
+struct_end L m s (one_of text_kind) t ds e lies inline whole wide long = cc
+struct_end L m s (vector_of kind) t ds e lies inline whole wide long = cc
 
 -- a struct has no reference
 pub struct_leads_nowhere : (shape : StoredShape) (t : ℕ) (d : Datum) → struct_wanted shape ≡ Some t → target_for shape d ≡ None

@@ -18,9 +18,9 @@ use Rattle.fb_value.specs.Num.{Bytes}
 use Rattle.fb_value.specs.View.{view, parts_view}
 use Rattle.fb_value.specs.declared.values.Value.{Value}
 use Rattle.fb_value.proofs.Moved.{inline_lies}
-use Rattle.fb_build.specs.StructBytes.{PadsStructWithZeros, EachStructIn, EachFieldIn}
+use Rattle.fb_build.specs.InlineBytes.{IsTightInline, EachInlineIn, EachFieldIn}
 use Rattle.fb_build.specs.Tails.{TailSeen, Grows}
-use Rattle.fb_build.proofs.StructsMoved.{struct_padded}
+use Rattle.fb_build.proofs.InlineMoved.{inline_moved}
 use Rattle.fb_build.proofs.VectorEnds.{parts_next}
 use Rattle.fb_build.specs.Structs.{IsInline, kinds_seen, LieFrom}
 
@@ -30,9 +30,9 @@ inline_kept L front b kind p d h =
     let whole : length (front ++ b) ≡ length front + length b = length-append front b in
     inline_lies L (λ a q. true) (λ a q. true) b (front ++ b) (length front) (omega (arith, whole)) (λ i. get_or-append-add front b i 0) (λ a q low is. refl) kind p d h
 
--- the same of its structs
-structs_kept : (L : LaidSchema) (front b : Bytes) (kind : StoredKind) (p : ℕ) (d : Datum) → EachStructIn L (PadsStructWithZeros L b) kind p d → EachStructIn L (PadsStructWithZeros L (front ++ b)) kind (length front + p) d
-structs_kept L front b kind p d h = struct_padded L (λ a q. true) b (front ++ b) (length front) (λ i. get_or-append-add front b i 0) kind p d h
+-- and that it has nothing to spare
+tight_kept : (L : LaidSchema) (front b : Bytes) (kind : StoredKind) (p : ℕ) (d : Datum) → EachInlineIn L (IsTightInline L b) kind p d → EachInlineIn L (IsTightInline L (front ++ b)) kind (length front + p) d
+tight_kept L front b kind p d h = inline_moved L (λ a q. true) b (front ++ b) (length front) (λ i. get_or-append-add front b i 0) kind p d h
 
 from_kept : (L : LaidSchema) (front b : Bytes) (base lower : ℕ) → base ≡ lower + length front → (kinds : List StoredKind) (os : List ℕ) (ds : Parts) → LieFrom L b base kinds os ds → LieFrom L (front ++ b) lower kinds os ds
 from_kept L front b base lower e [] os no_parts h = tt
@@ -43,7 +43,7 @@ from_kept L front b base lower e (kind ∷ kinds) (o ∷ os) (more_parts d ds) h
     let at : length front + (o - base) ≡ o - lower = omega (arith, e, h.0) in (
       omega (arith, e, h.0),
       subst (λ (p : ℕ). LiesInline L (front ++ b) kind p d) at (inline_kept L front b kind (o - base) d h.1),
-      subst (λ (p : ℕ). EachStructIn L (PadsStructWithZeros L (front ++ b)) kind p d) at (structs_kept L front b kind (o - base) d h.2),
+      subst (λ (p : ℕ). EachInlineIn L (IsTightInline L (front ++ b)) kind p d) at (tight_kept L front b kind (o - base) d h.2),
       from_kept L front b base lower e kinds os ds h.3,
     )
 
@@ -60,14 +60,14 @@ all_from L b (kind ∷ kinds) (o ∷ os) (more_parts d ds) h =
     let at : o - 0 ≡ 0 + o = omega arith in
     (subst (λ (p : ℕ). LiesInline L b kind p d) at h.1, all_from L b kinds os ds h.3)
 
-pub all_padded : (L : LaidSchema) (b : Bytes) (kinds : List StoredKind) (os : List ℕ) (ds : Parts) → LieFrom L b 0 kinds os ds → EachFieldIn L (PadsStructWithZeros L b) kinds os 0 ds
-all_padded L b [] os no_parts h = tt
-all_padded L b [] os (more_parts d ds) h = absurd h
-all_padded L b (kind ∷ kinds) [] ds h = absurd h
-all_padded L b (kind ∷ kinds) (o ∷ os) no_parts h = absurd h
-all_padded L b (kind ∷ kinds) (o ∷ os) (more_parts d ds) h =
+pub all_tight : (L : LaidSchema) (b : Bytes) (kinds : List StoredKind) (os : List ℕ) (ds : Parts) → LieFrom L b 0 kinds os ds → EachFieldIn L (IsTightInline L b) kinds os 0 ds
+all_tight L b [] os no_parts h = tt
+all_tight L b [] os (more_parts d ds) h = absurd h
+all_tight L b (kind ∷ kinds) [] ds h = absurd h
+all_tight L b (kind ∷ kinds) (o ∷ os) no_parts h = absurd h
+all_tight L b (kind ∷ kinds) (o ∷ os) (more_parts d ds) h =
     let at : o - 0 ≡ 0 + o = omega arith in
-    (subst (λ (p : ℕ). EachStructIn L (PadsStructWithZeros L b) kind p d) at h.2, all_padded L b kinds os ds h.3)
+    (subst (λ (p : ℕ). EachInlineIn L (IsTightInline L b) kind p d) at h.2, all_tight L b kinds os ds h.3)
 
 -- ---- offsets
 
@@ -149,12 +149,12 @@ index_at (x ∷ xs) (suc i) low = index_at xs i (omega (arith, low))
 
 -- field i in front of those behind it
 pub one_from : (L : LaidSchema) (a b : TailSeen) (base i : ℕ) (kinds : List StoredKind) (os : List ℕ) (items : List Value) (kind : StoredKind) (v : Value) → slice_get kinds i ≡ Some kind → i < length os → i < length items → v ≡ get_or items i v
-    → Grows a b → b.free + base ≡ a.free + slice_index os i → slice_index os i ≤ base → LiesInline L b.bytes kind 0 (view v) → EachStructIn L (PadsStructWithZeros L b.bytes) kind 0 (view v) → LieFrom L a.bytes base (drop (suc i) kinds) (drop (suc i) os) (parts_view (drop (suc i) items))
+    → Grows a b → b.free + base ≡ a.free + slice_index os i → slice_index os i ≤ base → LiesInline L b.bytes kind 0 (view v) → EachInlineIn L (IsTightInline L b.bytes) kind 0 (view v) → LieFrom L a.bytes base (drop (suc i) kinds) (drop (suc i) os) (parts_view (drop (suc i) items))
     → LieFrom L b.bytes (slice_index os i) (drop i kinds) (drop i os) (parts_view (drop i items))
-one_from L a b base i kinds os items kind v at low1 low2 is g e low own clean h =
+one_from L a b base i kinds os items kind v at low1 low2 is g e low own tight h =
     let zero_off : slice_index os i - slice_index os i ≡ 0 = omega arith in
     rw (drop_at kinds i kind at, drop_at os i (slice_index os i) (index_at os i low1), parts_next items i v low2 is)
-    (omega arith, rw zero_off own, subst (λ (p : ℕ). EachStructIn L (PadsStructWithZeros L b.bytes) kind p (view v)) (sym zero_off) clean, from_grown L a b base (slice_index os i) (drop (suc i) kinds) (drop (suc i) os) (parts_view (drop (suc i) items)) g e low h)
+    (omega arith, rw zero_off own, subst (λ (p : ℕ). EachInlineIn L (IsTightInline L b.bytes) kind p (view v)) (sym zero_off) tight, from_grown L a b base (slice_index os i) (drop (suc i) kinds) (drop (suc i) os) (parts_view (drop (suc i) items)) g e low h)
 
 -- ---- a struct and its values
 
@@ -226,9 +226,9 @@ pub whole_from : (L : LaidSchema) (a b : TailSeen) (base s n k : ℕ) (items : L
     → LieFrom L a.bytes base (drop (n - k) (parts_of L s)) (drop (n - k) (struct_at L s).offsets) (parts_view (drop (n - k) items)) → LiesParts L b.bytes (parts_of L s) (struct_at L s).offsets 0 (parts_view items)
 whole_from L a b base s n k items past g e h = all_from L b.bytes (parts_of L s) (struct_at L s).offsets (parts_view items) (all_grown L a b base s n k items past g e h)
 
-pub whole_padded : (L : LaidSchema) (a b : TailSeen) (base s n k : ℕ) (items : List Value) → n ≤ k → Grows a b → b.free + base ≡ a.free
-    → LieFrom L a.bytes base (drop (n - k) (parts_of L s)) (drop (n - k) (struct_at L s).offsets) (parts_view (drop (n - k) items)) → EachFieldIn L (PadsStructWithZeros L b.bytes) (parts_of L s) (struct_at L s).offsets 0 (parts_view items)
-whole_padded L a b base s n k items past g e h = all_padded L b.bytes (parts_of L s) (struct_at L s).offsets (parts_view items) (all_grown L a b base s n k items past g e h)
+pub whole_tight : (L : LaidSchema) (a b : TailSeen) (base s n k : ℕ) (items : List Value) → n ≤ k → Grows a b → b.free + base ≡ a.free
+    → LieFrom L a.bytes base (drop (n - k) (parts_of L s)) (drop (n - k) (struct_at L s).offsets) (parts_view (drop (n - k) items)) → EachFieldIn L (IsTightInline L b.bytes) (parts_of L s) (struct_at L s).offsets 0 (parts_view items)
+whole_tight L a b base s n k items past g e h = all_tight L b.bytes (parts_of L s) (struct_at L s).offsets (parts_view items) (all_grown L a b base s n k items past g e h)
 
 module _ (L : LaidSchema) (s n k : ℕ) (items : List Value) (known : StructKnown L s n items) (low : k < n) (kind : StoredKind) (at : slice_get (parts_of L s) (n - 1 - k) ≡ Some kind) where
   next : suc (n - 1 - k) ≡ n - k
@@ -244,8 +244,8 @@ module _ (L : LaidSchema) (s n k : ℕ) (items : List Value) (known : StructKnow
       rw same (sym (index_or (struct_at L s).offsets (n - 1 - k) (struct_at L s).size (omega (arith, known.offsets, low))))
 
   pub one_laid : (a b : TailSeen) (base : ℕ) (v : Value) → v ≡ get_or items (n - 1 - k) v → Grows a b → b.free + base ≡ a.free + slice_index (struct_at L s).offsets (n - 1 - k) → slice_index (struct_at L s).offsets (n - 1 - k) ≤ base
-      → LiesInline L b.bytes kind 0 (view v) → EachStructIn L (PadsStructWithZeros L b.bytes) kind 0 (view v) → LieFrom L a.bytes base (drop (n - k) (parts_of L s)) (drop (n - k) (struct_at L s).offsets) (parts_view (drop (n - k) items))
+      → LiesInline L b.bytes kind 0 (view v) → EachInlineIn L (IsTightInline L b.bytes) kind 0 (view v) → LieFrom L a.bytes base (drop (n - k) (parts_of L s)) (drop (n - k) (struct_at L s).offsets) (parts_view (drop (n - k) items))
       → LieFrom L b.bytes (slice_index (struct_at L s).offsets (n - 1 - k)) (drop (n - (k + 1)) (parts_of L s)) (drop (n - (k + 1)) (struct_at L s).offsets) (parts_view (drop (n - (k + 1)) items))
-  one_laid a b base v is g e under own clean h =
+  one_laid a b base v is g e under own tight h =
       let same : n - (k + 1) ≡ n - 1 - k = omega arith in
-      rw same (one_from L a b base (n - 1 - k) (parts_of L s) (struct_at L s).offsets items kind v at (omega (arith, known.offsets, low)) (omega (arith, known.long, low)) is g e under own clean (rw (← next) at h))
+      rw same (one_from L a b base (n - 1 - k) (parts_of L s) (struct_at L s).offsets items kind v at (omega (arith, known.offsets, low)) (omega (arith, known.long, low)) is g e under own tight (rw (← next) at h))

@@ -17,6 +17,7 @@ use Rattle.fb_build.specs.TableBytes.{offset_from, offset_bytes, vtable_bytes, T
 use Rattle.fb_build.proofs.Standing.{num_behind, num_first, num_standing}
 use Rattle.fb_build.proofs.VtableSteps.{vtable_is, vtable_inside, vtable_good, slot_there, slot_past, table_lies}
 use Rattle.fb_build.proofs.FieldSteps.{entries_grown, entry_under}
+use Rattle.fb_build.proofs.CodedMembers.{members_coded}
 use Rattle.fb_build.proofs.TableLies.{SlotKnown, all_lie, p}
 use Rattle.fb_build.proofs.TableSpent.{ends_under, unused_end}
 use Rattle.fb_build.proofs.TableTight.{TableRead, table_tight}
@@ -145,5 +146,6 @@ module _ (L : LaidSchema) (low c size u : ℕ) (o n : TailSeen) (ends : List ℕ
       let old : IsOldTable L s t (length s - c) = λ k out. slots_read k ∙ ap (offset_from c) (unused_end L low o.most o.bytes (slots_of L t) (stored_in (slots_of L t) xs) ends known each state k out) in
       let lies = table_lies L (from_end s n.most) s t (length s - c) (entries_in xs) aligned inside good entries.kept entries.lie in
       let below : (k : ℕ) → slice_index ends k < c = λ k. omega (arith, behind, ends_under L low o.most o.bytes (slots_of L t) (stored_in (slots_of L t) xs) ends known each state k) in
-      let tight = table_tight L t low n.most c size u (length o.bytes) s (stored_in (slots_of L t) xs) ends within (table_read low_size) known now below last sized whole filled before_it zeros in
-      record { lies = record { within = within; lies = lies }; old = (old, entries.old); tight = (tight, entries.tight); padded = entries.padded; bit = tt }
+      let members = members_coded L low n.most s c within (slots_of L t) xs ends long paired fit slot in
+      let tight = table_tight L t low n.most c size u (length o.bytes) s (stored_in (slots_of L t) xs) ends within (table_read low_size) known now below last sized whole filled before_it zeros members in
+      record { lies = record { within = within; lies = lies }; old = (old, entries.old); tight = (tight, entries.tight); inline = entries.inline }

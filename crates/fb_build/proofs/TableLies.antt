@@ -16,7 +16,7 @@ use Rattle.fb_value.specs.EachTable.{EachTable, EachTableAt, EachNamed, EachEntr
 use Rattle.fb_value.specs.Tails.{from_end}
 use Rattle.fb_build.specs.Fields.{IsSimple, StoredFits, stored_here, stored_in, coded, code_in, next_code, sort_for, is_stored, EntryEnd}
 use Rattle.fb_build.specs.CoveredTails.{IsTightInTail}
-use Rattle.fb_build.specs.StructBytes.{PadsStructWithZeros, EachStruct, EachStructAt, EachStructNamed, EachStructEntry}
+use Rattle.fb_build.specs.InlineBytes.{IsTightInline, EachInline, EachInlineAt, EachInlineNamed, EachInlineEntry}
 use Rattle.fb_build.specs.TableBytes.{offset_from}
 use Rattle.fb_build.proofs.FieldSteps.{default_known}
 use Rattle.fb_value.proofs.Moved.{hold, no_rules}
@@ -30,11 +30,11 @@ entry_from al L b (inline_place kind) p d lies h = h
 entry_from al L b (code_place u k required here) p d lies h = absurd h
 entry_from al L b (unknown_place c) p d lies h = absurd h
 
--- what a slot has, whose tables have nothing in slots that aren't in use and nothing to spare, and whose structs are padded with zeros
+-- what a slot has, whose tables have nothing in slots that aren't in use, and they, its structs and its numbers have nothing to spare
 pub EntryLies : Aligned → LaidSchema → Bytes → Slot → Option Place → Option Datum → Type 0
 EntryLies al L b f place None = AbsentEntryBy al L b f place
 EntryLies al L b f place (Some d) = PresentEntryBy al L b f place d (λ sort q. LiesBy al L b sort q d) × EachNamed b place (λ sort q. EachTable L b (λ t r. IsOldTable L b t r) sort q d)
-    × EachNamed b place (λ sort q. EachTable L b (λ t r. IsTightInTail L b t r) sort q d) × EachStructNamed L b (PadsStructWithZeros L b) place d (λ X q. EachStruct L b (PadsStructWithZeros L b) X q d)
+    × EachNamed b place (λ sort q. EachTable L b (λ t r. IsTightInTail L b t r) sort q d) × EachInlineNamed L b (IsTightInline L b) place d (λ X q. EachInline L b (IsTightInline L b) X q d)
 
 pub no_place : (t : Bool) (x : Option Place) → x ≡ None → cond t None x ≡ None
 no_place true x e = refl
@@ -128,7 +128,7 @@ module _ (L : LaidSchema) (low m : ℕ) (s : Bytes) (c : ℕ) (within : c ≤ le
     lies : LiesAtBy (from_end s m) L s (sort_for f.shape d) (p + slot_number s p k) d
     old : EachTableAt L s (λ t r. IsOldTable L s t r) (sort_for f.shape d) (p + slot_number s p k) d
     tight : EachTableAt L s (λ t r. IsTightInTail L s t r) (sort_for f.shape d) (p + slot_number s p k) d
-    padded : EachStructAt L s (PadsStructWithZeros L s) (sort_for f.shape d) (p + slot_number s p k) d
+    inline : EachInlineAt L s (IsTightInline L s) (sort_for f.shape d) (p + slot_number s p k) d
 
   pub stored_number : (k : ℕ) (f : Slot) (d : Datum) (e : ℕ) → SlotKnown k f (Some d) e → 0 < e → slot_number s p k ≡ c - e
   stored_number k f d zero h some = absurd (omega (arith, some))
@@ -147,7 +147,7 @@ module _ (L : LaidSchema) (low m : ℕ) (s : Bytes) (c : ℕ) (within : c ≤ le
         lies = subst (λ (q : ℕ). LiesAtBy (from_end s m) L s (sort_for f.shape d) q d) at state.1.lies.lies;
         old = subst (λ (q : ℕ). EachTableAt L s (λ t r. IsOldTable L s t r) (sort_for f.shape d) q d) at state.1.old;
         tight = subst (λ (q : ℕ). EachTableAt L s (λ t r. IsTightInTail L s t r) (sort_for f.shape d) q d) at state.1.tight;
-        padded = subst (λ (q : ℕ). EachStructAt L s (PadsStructWithZeros L s) (sort_for f.shape d) q d) at state.1.padded;
+        inline = subst (λ (q : ℕ). EachInlineAt L s (IsTightInline L s) (sort_for f.shape d) q d) at state.1.inline;
       }
 
   -- ---- a slot of its own
@@ -165,7 +165,7 @@ module _ (L : LaidSchema) (low m : ℕ) (s : Bytes) (c : ℕ) (within : c ≤ le
           let now = there k f d e h is in
           let named = something_there k fs f.shape d own now.present in
           let place : place_of k f fs ≡ Some (record { sort = sort_for f.shape d; at = p + slot_number s p k }) = rw fits.0 named in
-          rw place (entry_from (from_end s m) L s (sort_for f.shape d) (p + slot_number s p k) d (λ sort q. LiesBy (from_end s m) L s sort q d) now.lies, now.old, now.tight, now.padded)
+          rw place (entry_from (from_end s m) L s (sort_for f.shape d) (p + slot_number s p k) d (λ sort q. LiesBy (from_end s m) L s sort q d) now.lies, now.old, now.tight, now.inline)
 
   not_missing : (k : ℕ) (f : Slot) (x : Option Datum) (e : ℕ) → IsOwn f.shape → EntryFits L f x → SlotKnown k f x e → is_missing s p k f ≡ false
   not_missing k f None e own fits h = rw fits.0 refl
@@ -283,9 +283,9 @@ module _ (L : LaidSchema) (low m : ℕ) (s : Bytes) (c : ℕ) (within : c ≤ le
       let place : place_of (suc j) g fs ≡ Some (record { sort = ref_place (member_part n t); at = p + slot_number s p (suc j) }) = rw fits.0 named in
       let lies : LiesAtBy (from_end s m) L s (ref_place (member_part n t)) (p + slot_number s p (suc j)) (a_member n (a_table t es)) = rw value at now.lies in
       let old : EachTableAt L s (λ t r. IsOldTable L s t r) (ref_place (member_part n t)) (p + slot_number s p (suc j)) (a_member n (a_table t es)) = rw value at now.old in
-      let padded : EachStructAt L s (PadsStructWithZeros L s) (ref_place (member_part n t)) (p + slot_number s p (suc j)) (a_member n (a_table t es)) = rw value at now.padded in
+      let inline : EachInlineAt L s (IsTightInline L s) (ref_place (member_part n t)) (p + slot_number s p (suc j)) (a_member n (a_table t es)) = rw value at now.inline in
       let tight : EachTableAt L s (λ t r. IsTightInTail L s t r) (ref_place (member_part n t)) (p + slot_number s p (suc j)) (a_member n (a_table t es)) = rw value at now.tight in
-      rw place (lies, old, tight, padded)
+      rw place (lies, old, tight, inline)
 
   value_kept : (j : ℕ) (f g : Slot) (u : ℕ) (x : Option Datum) (e e2 : ℕ) → f.shape ≡ one_of (code_kind u) → g.shape ≡ one_of (union_kind u) → MayBeAbsent f → EntryFits L g x
       → SlotKnown j f (coded (code_in x)) e → SlotKnown (suc j) g x e2 → is_missing s p (suc j) g ≡ false
@@ -316,14 +316,14 @@ module _ (L : LaidSchema) (low m : ℕ) (s : Bytes) (c : ℕ) (within : c ≤ le
     pub lie : LiesSlotsBy (from_end s m) L s fs (named_slots L s p j fs) (entries_in xs)
     pub old : EachEntry L s (λ t r. IsOldTable L s t r) (named_slots L s p j fs) (entries_in xs)
     pub tight : EachEntry L s (λ t r. IsTightInTail L s t r) (named_slots L s p j fs) (entries_in xs)
-    pub padded : EachStructEntry L s (PadsStructWithZeros L s) (named_slots L s p j fs) (entries_in xs)
+    pub inline : EachInlineEntry L s (IsTightInline L s) (named_slots L s p j fs) (entries_in xs)
     pub kept : first_missing s p j fs ≡ None
 
   entries_lie : (j : ℕ) (fs : List Slot) (xs : List (Option Datum)) → length fs ≡ length xs
       → ((k : ℕ) (f : Slot) (x : Option Datum) → slice_get fs k ≡ Some f → slice_get xs k ≡ Some x → SlotLies (j + k) f (drop (suc k) fs) x)
       → EntriesLie j fs xs
   unfolding named_slots EntryLies place_of
-  entries_lie j [] [] long known = record { lie = tt; old = tt; tight = tt; padded = tt; kept = refl }
+  entries_lie j [] [] long known = record { lie = tt; old = tt; tight = tt; inline = tt; kept = refl }
   entries_lie j [] (x ∷ xs) long known = absurd (omega (arith, long))
   entries_lie j (f ∷ fs) [] long known = absurd (omega (arith, long))
   entries_lie j (f ∷ fs) (x ∷ xs) long known =
@@ -334,8 +334,8 @@ module _ (L : LaidSchema) (low m : ℕ) (s : Bytes) (c : ℕ) (within : c ≤ le
       with_entry x here.lies here.kept rest
     where
       with_entry : (x : Option Datum) → EntryLies (from_end s m) L s f (place_of j f fs) x → is_missing s p j f ≡ false → EntriesLie (suc j) fs xs → EntriesLie j (f ∷ fs) (x ∷ xs)
-      with_entry None h kept rest = record { lie = (h, rest.lie); old = rest.old; tight = rest.tight; padded = rest.padded; kept = rw kept rest.kept }
-      with_entry (Some d) h kept rest = record { lie = (h.0, rest.lie); old = (h.1, rest.old); tight = (h.2, rest.tight); padded = (h.3, rest.padded); kept = rw kept rest.kept }
+      with_entry None h kept rest = record { lie = (h, rest.lie); old = rest.old; tight = rest.tight; inline = rest.inline; kept = rw kept rest.kept }
+      with_entry (Some d) h kept rest = record { lie = (h.0, rest.lie); old = (h.1, rest.old); tight = (h.2, rest.tight); inline = (h.3, rest.inline); kept = rw kept rest.kept }
 
   module _ (fs : List Slot) (xs : List (Option Datum)) (ends : List ℕ) (long : length fs ≡ length xs) (paired : ArePaired fs) (fits : (k : ℕ) (f : Slot) (x : Option Datum) → slice_get fs k ≡ Some f → slice_get xs k ≡ Some x → EntryFits L f x)
       (known : (k : ℕ) (f : Slot) (y : Option Datum) → slice_get fs k ≡ Some f → slice_get (stored_in fs xs) k ≡ Some y → SlotKnown k f y (slice_index ends k)) where

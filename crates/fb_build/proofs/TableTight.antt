@@ -16,11 +16,12 @@ use Rattle.fb_value.specs.Lies.{LiesInline, LiesAtBy}
 use Rattle.fb_value.specs.Num.{Bytes, num, scalar_of}
 use Rattle.fb_value.specs.Places.{table_part, vtable, slot_number, is_present}
 use Rattle.fb_value.specs.Tails.{from_end}
-use Rattle.fb_build.specs.CoveredTails.{IsTightInTail, BitInTail}
+use Rattle.fb_build.specs.CoveredTails.{IsTightInTail}
 use Rattle.fb_build.specs.Fields.{is_stored, fields_size, stored_align, sort_for, SlotFits, StoredFits, StoredEnd, EntriesEnd, AreKnown, HasDefault}
 use Rattle.fb_build.specs.Pieces.{part_size, part_align}
 use Rattle.fb_build.specs.Filled.{IsLaidSlot, AreFilled}
-use Rattle.fb_build.specs.Stored.{IsBit, HoldsBit, stored_of, is_in_field, absent_number, stored_number, EndsWithAField, PadsTableWithZeros}
+use Rattle.fb_build.specs.InlineBytes.{IsTightInline, EachInlineAt}
+use Rattle.fb_build.specs.Stored.{IsBit, HoldsBit, CodesItsMembers, stored_of, is_in_field, absent_number, stored_number, EndsWithAField, PadsTableWithZeros}
 use Rattle.fb_build.specs.TableBytes.{offset_from}
 use Rattle.fb_build.specs.Tails.{TailSeen, Grows}
 use Rattle.fb_build.specs.Taken.{is_within}
@@ -199,7 +200,7 @@ module _ (L : LaidSchema) (t low m c size u count : ℕ) (s : Bytes) (xs : List 
   told_bit : (k : ℕ) (f : Slot) → slice_get (slots_of L t) k ≡ Some f → is_present s (length s - c) k ≡ true → HoldsBit s ((length s - c) + slot_number s (length s - c) k) f.shape
   told_bit k f fk there = by_entry (got xs k (omega (arith, in_mapped (slots_of L t) k f fk, known.long)))
     where
-      by_shape : (shape : StoredShape) (d : Datum) → BitInTail s (sort_for shape d) (slice_index ends k) → length s - slice_index ends k ≡ (length s - c) + slot_number s (length s - c) k → HoldsBit s ((length s - c) + slot_number s (length s - c) k) shape
+      by_shape : (shape : StoredShape) (d : Datum) → EachInlineAt L s (IsTightInline L s) (sort_for shape d) (length s - slice_index ends k) d → length s - slice_index ends k ≡ (length s - c) + slot_number s (length s - c) k → HoldsBit s ((length s - c) + slot_number s (length s - c) k) shape
       by_shape (one_of (scalar_kind base)) d h at = subst (λ (q : ℕ). IsBit base (num s q 1)) at h
       by_shape (one_of (code_kind w)) d h at = tt
       by_shape (one_of (struct_kind w)) d h at = tt
@@ -214,7 +215,7 @@ module _ (L : LaidSchema) (t low m c size u count : ℕ) (s : Bytes) (xs : List 
           let is : is_stored f (Some d) ≡ true = sym (there_at k f (Some d) fk xk) ∙ there in
           let laid = (state k f (Some d) fk xk).stored is in
           let number = read.slots k ∙ number_at c (slice_index ends k) (some_end k f (Some d) fk xk is) in
-          by_shape f.shape d laid.1.bit (omega (arith, number, under k, within))
+          by_shape f.shape d laid.1.inline (omega (arith, number, under k, within))
 
   told_number : (k : ℕ) (f : Slot) → slice_get (slots_of L t) k ≡ Some f → is_present s (length s - c) k ≡ true → IsNoDefault s (length s - c) f (slot_number s (length s - c) k)
   told_number k f fk there = by_entry (got xs k (omega (arith, in_mapped (slots_of L t) k f fk, known.long)))
@@ -254,12 +255,13 @@ module _ (L : LaidSchema) (t low m c size u count : ℕ) (s : Bytes) (xs : List 
       by_side (inl h) = let v = the_laid j f fj there in let w = the_laid k g gk also in inr (omega (arith, h, v.number, w.number, under j, under k))
       by_side (inr h) = let v = the_laid j f fj there in let w = the_laid k g gk also in inl (omega (arith, h, v.number, w.number, under j, under k))
 
-  pub table_tight : IsTightInTail L s t (length s - c)
-  table_tight = record {
+  pub table_tight : CodesItsMembers L s t (length s - c) → IsTightInTail L s t (length s - c)
+  table_tight coded = record {
     tight = record {
       size = read.second ∙ sized ∙ ap (λ n. 4 + ceil4 n) (sym (stored_size L s (length s - c) 0 (slots_of L t) xs known.long tells));
       trimmed = trimmed;
       padded = padded;
+      coded = coded;
       bits = all_bits s (length s - c) 0 (slots_of L t)
           (λ k f fk there. (let none : 0 + k ≡ k = omega arith in
           subst (λ (i : ℕ). HoldsBit s ((length s - c) + slot_number s (length s - c) i) f.shape) (sym none) (told_bit k f fk (subst (λ (i : ℕ). is_present s (length s - c) i ≡ true) none there))));

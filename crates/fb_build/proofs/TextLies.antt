@@ -61,4 +61,4 @@ text_end L m s t d e short utf8 four most =
     let whole : length s - 0 ≡ length s = omega arith in
     let is : IsTextAt s 0 t = subst (λ (x : Bytes). IsTextAt x 0 t) (sym e) (text_tail t d short) in
     let aligned : from_end s m 4 0 ≡ true = and_from _ _ (rw whole four) most in
-    record { lies = record { within = omega arith; lies = rw first (text_lies L (from_end s m) s 0 t is utf8 aligned) }; old = tt; tight = tt; padded = tt; bit = tt }
+    record { lies = record { within = omega arith; lies = rw first (text_lies L (from_end s m) s 0 t is utf8 aligned) }; old = tt; tight = tt; inline = tt }

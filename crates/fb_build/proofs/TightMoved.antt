@@ -5,11 +5,11 @@ use Rattle.std.proofs.lemmas.List.{get_or-append-add}
 use Rattle.fb_schema.specs.Alignments.{base_size}
 use Rattle.fb_layout.specs.Laid.{LaidSchema, Slot, scalar_kind, struct_kind, table_kind, union_kind, code_kind, text_kind, StoredShape, one_of, vector_of, slots_of}
 use Rattle.fb_value.specs.Num.{Bytes, num, scalar_of}
-use Rattle.fb_value.specs.Places.{vtable, slot_number}
+use Rattle.fb_value.specs.Places.{vtable, slot_number, code_at}
 use Rattle.fb_value.specs.EachTable.{EachTableAt}
 use Rattle.fb_value.specs.Tails.{from_end}
 use Rattle.fb_value.proofs.Moved.{each_at_moved}
-use Rattle.fb_build.specs.Stored.{StoredSlot, stored_from, stored_of, stored_number, NoneIsDefault, IsBit, HoldsBit, AllHoldBits, IsTightTable}
+use Rattle.fb_build.specs.Stored.{StoredSlot, stored_from, stored_of, stored_number, NoneIsDefault, IsBit, HoldsBit, AllHoldBits, CodesItsMembers, IsTightTable}
 use Rattle.fb_build.proofs.Further.{still_inside, number_moved, number_from, vtable_moved}
 use Rattle.fb_build.specs.CoveredTails.{IsTightInTail, TightKeptInFront}
 
@@ -46,6 +46,12 @@ module _ (L : LaidSchema) (b c : Bytes) (k : ℕ) (bytes : (i : ℕ) → slice_i
     bits_moved [] h = tt
     bits_moved (x ∷ xs) h = (bit_moved x.at x.slot.shape h.0, bits_moved xs h.1)
 
+    code_moved : (j : ℕ) → code_at c (k + p) j ≡ code_at b p j
+    code_moved j = rw (slots j, number_from b c k bytes ((k + p) + slot_number b p j) (p + slot_number b p j) 1 (omega arith)) refl
+
+    coded_moved : (t : ℕ) → CodesItsMembers L b t p → CodesItsMembers L c t (k + p)
+    coded_moved t h j f u fj is there none = h j f u fj is (rw (slots j) at there) (sym (code_moved (j - 1)) ∙ none)
+
     tight_moved : (t : ℕ) → vtable c (k + p) ≡ k + vtable b p → IsTightTable L b t p → IsTightTable L c t (k + p)
     tight_moved t at h =
         let q = vtable b p in
@@ -59,6 +65,7 @@ module _ (L : LaidSchema) (b c : Bytes) (k : ℕ) (bytes : (i : ℕ) → slice_i
           padded = rw (second, stored) (λ i low free. ap (λ j. slice_index c j) (omega arith) ∙ bytes (p + i) ∙ h.padded i low free);
           own = rw (second, stored) h.own;
           bits = rw stored (bits_moved (stored_of L b t p) h.bits);
+          coded = coded_moved t h.coded;
           defaults = rw stored (defaults_moved (stored_of L b t p) h.defaults);
         }
 

@@ -18,9 +18,9 @@ use Rattle.fb_layout.specs.Sizes.{IsAlignment}
 use Rattle.fb_build.specs.Tails.{TailSeen, Grows, LaidInTail}
 use Rattle.fb_build.specs.Fields.{IsElement, sort_for}
 use Rattle.fb_build.specs.Items.{ItemsEnd}
-use Rattle.fb_build.specs.StructBytes.{PadsStructWithZeros, EachStructIn, EachStructElement, EachStruct, EachStructItem, EachStructAt}
+use Rattle.fb_build.specs.InlineBytes.{IsTightInline, EachInlineIn, EachInlineElement, EachInline, EachInlineItem, EachInlineAt}
 use Rattle.fb_build.specs.CoveredTails.{IsTightInTail}
-use Rattle.fb_build.proofs.StructsMoved.{items_padded}
+use Rattle.fb_build.proofs.InlineMoved.{items_moved as inline_moved}
 use Rattle.fb_build.proofs.TightMoved.{tight_further_on}
 use Rattle.fb_value.proofs.Moved.{hold, no_rules, items_lie, each_items}
 use Rattle.fb_value.proofs.TailsKept.{through, from_other_end}
@@ -78,22 +78,22 @@ tight_items_moved L m front s kind ds h =
     each_items L (from_end s m) (λ a p. true) s (front ++ s) (length front) (omega (arith, whole)) same (λ a p low is. refl)
     (λ t p. IsTightInTail L s t p) (λ t p. IsTightInTail L (front ++ s) t p) (λ t p slots known. tight_further_on L s (front ++ s) (length front) same t p slots known) kind 0 ds h.lie h.tight
 
-padded_items_moved : (L : LaidSchema) (m : ℕ) (front s : Bytes) (kind : StoredKind) (ds : Parts) → ItemsEnd L m s kind ds → EachStructItem L (front ++ s) (PadsStructWithZeros L (front ++ s)) kind (length front + 0) ds
-padded_items_moved L m front s kind ds h = items_padded L (from_end s m) s (front ++ s) (length front) (λ i. get_or-append-add front s i 0) kind 0 ds h.lie h.padded
+inline_items_moved : (L : LaidSchema) (m : ℕ) (front s : Bytes) (kind : StoredKind) (ds : Parts) → ItemsEnd L m s kind ds → EachInlineItem L (front ++ s) (IsTightInline L (front ++ s)) kind (length front + 0) ds
+inline_items_moved L m front s kind ds h = inline_moved L (from_end s m) s (front ++ s) (length front) (λ i. get_or-append-add front s i 0) kind 0 ds h.lie h.inline
 
 -- behind what was laid in front of them
 pub items_grown : (L : LaidSchema) (a b : TailSeen) (k : ℕ) (kind : StoredKind) (ds : Parts) → Grows a b → length b.bytes ≡ length a.bytes + k → ItemsEnd L a.most a.bytes kind ds
     → LiesItemsBy (from_end b.bytes b.most) L b.bytes kind (0 + k) ds × EachItem L b.bytes (λ t p. IsOldTable L b.bytes t p) kind (0 + k) ds
-    × EachItem L b.bytes (λ t p. IsTightInTail L b.bytes t p) kind (0 + k) ds × EachStructItem L b.bytes (PadsStructWithZeros L b.bytes) kind (0 + k) ds
+    × EachItem L b.bytes (λ t p. IsTightInTail L b.bytes t p) kind (0 + k) ds × EachInlineItem L b.bytes (IsTightInline L b.bytes) kind (0 + k) ds
 items_grown L a b k kind ds g long h =
     let parts = length-append g.front a.bytes in
     let whole = ap length g.grown in
     let at : length g.front + 0 ≡ 0 + k = omega (arith, parts, whole, long) in
     let lie = subst (λ (p : ℕ). LiesItemsBy (from_end (g.front ++ a.bytes) b.most) L (g.front ++ a.bytes) kind p ds) at (items_moved L a.most b.most g.front a.bytes kind ds g.multiple h.lie) in
     let old = subst (λ (p : ℕ). EachItem L (g.front ++ a.bytes) (λ t q. IsOldTable L (g.front ++ a.bytes) t q) kind p ds) at (old_items_moved L a.most g.front a.bytes kind ds h) in
-    let padded = subst (λ (p : ℕ). EachStructItem L (g.front ++ a.bytes) (PadsStructWithZeros L (g.front ++ a.bytes)) kind p ds) at (padded_items_moved L a.most g.front a.bytes kind ds h) in
+    let inline = subst (λ (p : ℕ). EachInlineItem L (g.front ++ a.bytes) (IsTightInline L (g.front ++ a.bytes)) kind p ds) at (inline_items_moved L a.most g.front a.bytes kind ds h) in
     let tight = subst (λ (p : ℕ). EachItem L (g.front ++ a.bytes) (λ t q. IsTightInTail L (g.front ++ a.bytes) t q) kind p ds) at (tight_items_moved L a.most g.front a.bytes kind ds h) in
-    (rw g.grown lie, rw g.grown old, rw g.grown tight, rw g.grown padded)
+    (rw g.grown lie, rw g.grown old, rw g.grown tight, rw g.grown inline)
 
 element_by : (L : LaidSchema) (m : ℕ) (s : Bytes) (kind : StoredKind) (d : Datum) → IsElement L kind → LaidInTail L m s (sort_for (one_of kind) d) (length s) d → ElementBy (from_end s m) L s kind 0 (target_of kind) d (λ sort q. LiesBy (from_end s m) L s sort q d)
 element_by L m s (scalar_kind b) d el h = let first : length s - length s ≡ 0 = omega arith in (rw first at h.lies.lies).1
@@ -119,20 +119,20 @@ element_tight L m s (struct_kind t) d el h = tt
 element_tight L m s (union_kind t) d el h = absurd el
 element_tight L m s (code_kind t) d el h = absurd el
 
-element_structs : (L : LaidSchema) (m : ℕ) (s : Bytes) (kind : StoredKind) (d : Datum) → IsElement L kind → LaidInTail L m s (sort_for (one_of kind) d) (length s) d
-    → EachStructElement L s (PadsStructWithZeros L s) kind (target_of kind) 0 d (λ X q. EachStruct L s (PadsStructWithZeros L s) X q d)
-element_structs L m s (scalar_kind b) d el h = tt
-element_structs L m s text_kind d el h = let first : length s - length s ≡ 0 = omega arith in subst (λ (q : ℕ). EachStructAt L s (PadsStructWithZeros L s) (ref_place text_part) q d) first h.padded
-element_structs L m s (table_kind t) d el h = let first : length s - length s ≡ 0 = omega arith in subst (λ (q : ℕ). EachStructAt L s (PadsStructWithZeros L s) (ref_place (table_part t)) q d) first h.padded
-element_structs L m s (struct_kind t) d el h = let first : length s - length s ≡ 0 = omega arith in subst (λ (q : ℕ). EachStructIn L (PadsStructWithZeros L s) (struct_kind t) q d) first h.padded
-element_structs L m s (union_kind t) d el h = absurd el
-element_structs L m s (code_kind t) d el h = absurd el
+element_inline : (L : LaidSchema) (m : ℕ) (s : Bytes) (kind : StoredKind) (d : Datum) → IsElement L kind → LaidInTail L m s (sort_for (one_of kind) d) (length s) d
+    → EachInlineElement L s (IsTightInline L s) kind (target_of kind) 0 d (λ X q. EachInline L s (IsTightInline L s) X q d)
+element_inline L m s (scalar_kind b) d el h = let first : length s - length s ≡ 0 = omega arith in subst (λ (q : ℕ). EachInlineIn L (IsTightInline L s) (scalar_kind b) q d) first h.inline
+element_inline L m s text_kind d el h = let first : length s - length s ≡ 0 = omega arith in subst (λ (q : ℕ). EachInlineAt L s (IsTightInline L s) (ref_place text_part) q d) first h.inline
+element_inline L m s (table_kind t) d el h = let first : length s - length s ≡ 0 = omega arith in subst (λ (q : ℕ). EachInlineAt L s (IsTightInline L s) (ref_place (table_part t)) q d) first h.inline
+element_inline L m s (struct_kind t) d el h = let first : length s - length s ≡ 0 = omega arith in subst (λ (q : ℕ). EachInlineIn L (IsTightInline L s) (struct_kind t) q d) first h.inline
+element_inline L m s (union_kind t) d el h = absurd el
+element_inline L m s (code_kind t) d el h = absurd el
 
 pub one_more : (L : LaidSchema) (a b : TailSeen) (kind : StoredKind) (d : Datum) (ds : Parts) → IsElement L kind → Grows a b → length b.bytes ≡ length a.bytes + size_of L kind → LaidInTail L b.most b.bytes (sort_for (one_of kind) d) (length b.bytes) d
     → ItemsEnd L a.most a.bytes kind ds → ItemsEnd L b.most b.bytes kind (more_parts d ds)
 one_more L a b kind d ds el g long lies h =
     let rest = items_grown L a b (size_of L kind) kind ds g long h in
-    record { lie = (element_by L b.most b.bytes kind d el lies, rest.0); old = (element_old L b.most b.bytes kind d el lies, rest.1); tight = (element_tight L b.most b.bytes kind d el lies, rest.2); padded = (element_structs L b.most b.bytes kind d el lies, rest.3) }
+    record { lie = (element_by L b.most b.bytes kind d el lies, rest.0); old = (element_old L b.most b.bytes kind d el lies, rest.1); tight = (element_tight L b.most b.bytes kind d el lies, rest.2); inline = (element_inline L b.most b.bytes kind d el lies, rest.3) }
 
 pub parts_next : (items : List Value) (i : ℕ) (v : Value) → i < length items → v ≡ get_or items i v → parts_view (drop i items) ≡ more_parts (view v) (parts_view (drop (suc i) items))
 parts_next [] i v low is = absurd (omega (arith, low))
@@ -189,7 +189,7 @@ vector_end L m n a b kind ds el g e short counted whole wide own room items =
     let ends : (0 + 4) + num s 0 4 * size_of L kind ≤ length s = (let same : num s 0 4 * size_of L kind ≡ n * size_of L kind = ap (λ i. i * size_of L kind) number in omega (arith, same, room, long)) in
     let keeps : KeepsBy (from_end s b.most) L s (part_place (vector_part kind)) 0 = vector_keeps L (from_end s b.most) s kind 0 front within ends elements in
     let laid = items_grown L a b 4 kind ds g long items in
-    record { lies = record { within = omega arith; lies = rw first (keeps, counted ∙ sym number, laid.0) }; old = rw first laid.1; tight = rw first laid.2; padded = rw first laid.3; bit = tt }
+    record { lies = record { within = omega arith; lies = rw first (keeps, counted ∙ sym number, laid.0) }; old = rw first laid.1; tight = rw first laid.2; inline = rw first laid.3 }
 
 pub parts_back : (items : List Value) (k : ℕ) (v : Value) → k < length items → v ≡ get_or items (length items - 1 - k) v → parts_view (drop (length items - (k + 1)) items) ≡ more_parts (view v) (parts_view (drop (length items - k) items))
 parts_back items k v low is =

@@ -9,7 +9,7 @@ use Rattle.fb_value.specs.EachTable.{EachTableAt}
 use Rattle.fb_value.specs.Holds.{root_place}
 use Rattle.fb_build.specs.Pieces.{PieceKind, Piece, reached_parts, greatest_align, is_among, tables_vtables, pieces_of}
 use Rattle.fb_build.specs.Stored.{IsTightTable}
-use Rattle.fb_build.specs.StructBytes.{PadsStructWithZeros, EachStructAt}
+use Rattle.fb_build.specs.InlineBytes.{IsTightInline, EachInlineAt}
 
 -- the bytes of a piece, or a run of zeros
 pub data Chunk : Type 0 where
@@ -51,12 +51,12 @@ pub record IsMadeOf (L : LaidSchema) (b : Bytes) (v : Datum) : Type 0 where
   pub pieces : IsPermutation (pieces_among 0 chunks) (pieces_of L b (reached_parts L b v))
   pub runs : RunsAreShort (greatest_align L b (reached_parts L b v)) chunks
 
--- Each byte belongs to a value, or is one of few zeros: equal vtables are one, and no table or struct has anything to spare.
+-- Each byte belongs to a value, or is one of few zeros: equal vtables are one, and no table, struct or number has anything to spare.
 pub record IsCoveredBy (L : LaidSchema) (b : Bytes) (v : Datum) : Type 0 where
   pub made : IsMadeOf L b v
   pub shared : EqualVtablesAreOne b (tables_vtables b (reached_parts L b v))
   pub tables : EachTableAt L b (IsTightTable L b) (root_place L).sort 0 v
-  pub structs : EachStructAt L b (PadsStructWithZeros L b) (root_place L).sort 0 v
+  pub inline : EachInlineAt L b (IsTightInline L b) (root_place L).sort 0 v
 
 -- Covered: the value that lies at the root takes all bytes.
 abbrev pub Covered : LaidSchema → Bytes → Type 0

@@ -9,7 +9,7 @@ use Rattle.fb_value.specs.Holds.{root_place}
 use Rattle.fb_value.specs.Tails.{LiesInTail}
 use Rattle.fb_build.specs.Pieces.{PartAt, reached_parts, greatest_align, is_among, each_once, tables_vtables, header_piece, part_piece, vtable_piece}
 use Rattle.fb_build.specs.Covered.{Chunk, chunk_bytes, pieces_among, begins_with_zeros, RunsAreShort, EqualVtablesAreOne, IsMadeOf, Covered}
-use Rattle.fb_build.specs.CoveredTails.{part_further, piece_further, parts_in_tail, TightInTail, PaddedInTail}
+use Rattle.fb_build.specs.CoveredTails.{part_further, piece_further, parts_in_tail, TightInTail, InlineInTail}
 
 -- The bytes are these chunks, of which the first isn't a run of zeros, so that one may be laid in front.
 pub record ChunksOfTail (s : Bytes) (most : ℕ) (cs : List Chunk) : Type 0 where
@@ -64,7 +64,7 @@ MadeWhole =
 abbrev pub CoveredWhole : Type 0
 CoveredWhole =
     (L : LaidSchema) (m : ℕ) (front s : Bytes) (e : ℕ) (v : Datum) → LiesInTail L m s (part_place (table_part L.schema.root)) e v
-    → TightInTail L s (part_place (table_part L.schema.root)) e v → PaddedInTail L s (part_place (table_part L.schema.root)) e v
+    → TightInTail L s (part_place (table_part L.schema.root)) e v → InlineInTail L s (part_place (table_part L.schema.root)) e v
     → EqualVtablesAreOne s (tables_vtables s (parts_in_tail L s (table_part L.schema.root) e v))
     → num (front ++ s) 0 4 ≡ length (front ++ s) - e → IsMadeOf L (front ++ s) v → LiesAt L (front ++ s) (root_place L).sort 0 v
     → Covered L (front ++ s)

@@ -1,13 +1,13 @@
 -- What of a covered buffer is already so in its tail, while bytes are laid in front.
 use Rattle.std.specs.Prelude.{ℕ, ◌+◌, ◌-◌, ◌^◌, ◌≡◌, ◌++◌, false, ◌&&◌, nat_lt, List, length, map}
-use Rattle.fb_layout.specs.Laid.{LaidSchema, scalar_kind}
+use Rattle.fb_layout.specs.Laid.{LaidSchema}
 use Rattle.fb_value.specs.Datum.{Datum}
 use Rattle.fb_value.specs.Num.{Bytes, num}
-use Rattle.fb_value.specs.Places.{Target, Sort, part_place, inline_place}
+use Rattle.fb_value.specs.Places.{Target, Sort, part_place}
 use Rattle.fb_value.specs.EachTable.{EachTableAt}
 use Rattle.fb_value.specs.Tails.{LiesInTail}
-use Rattle.fb_build.specs.Stored.{IsBit, IsTightTable}
-use Rattle.fb_build.specs.StructBytes.{PadsStructWithZeros, EachStructAt}
+use Rattle.fb_build.specs.Stored.{IsTightTable}
+use Rattle.fb_build.specs.InlineBytes.{IsTightInline, EachInlineAt}
 use Rattle.fb_build.specs.Pieces.{PartAt, reached, tables_vtables, Piece, part_piece}
 
 -- A table has nothing to spare, and its vtable is in the tail too.
@@ -43,15 +43,10 @@ pub record PartsKeptInFront (L : LaidSchema) (front s : Bytes) (X : Target) (e :
 abbrev pub ReachedKeptInFront : Type 0
 ReachedKeptInFront = (L : LaidSchema) (m : ℕ) (front s : Bytes) (X : Target) (e : ℕ) (d : Datum) → LiesInTail L m s (part_place X) e d → PartsKeptInFront L front s X e d
 
--- What stands e bytes before the end is 0 or 1, if it is a `bool`.
-abbrev pub BitInTail : Bytes → Sort → ℕ → Type 0
-BitInTail s (inline_place (scalar_kind base)) e = IsBit base (num s (length s - e) 1)
-BitInTail s _ e = Unit {0}
+-- The numbers and structs of the value that lies e bytes before the end have nothing to spare.
+abbrev pub InlineInTail : LaidSchema → Bytes → Sort → ℕ → Datum → Type 0
+InlineInTail L s sort e d = EachInlineAt L s (IsTightInline L s) sort (length s - e) d
 
--- The structs of the value that lies e bytes before the end have nothing to spare.
-abbrev pub PaddedInTail : LaidSchema → Bytes → Sort → ℕ → Datum → Type 0
-PaddedInTail L s sort e d = EachStructAt L s (PadsStructWithZeros L s) sort (length s - e) d
-
--- Bytes laid in front keep that structs have nothing to spare.
-abbrev pub PaddedKeptInFront : Type 0
-PaddedKeptInFront = (L : LaidSchema) (m : ℕ) (front s : Bytes) (sort : Sort) (e : ℕ) (d : Datum) → LiesInTail L m s sort e d → PaddedInTail L s sort e d → PaddedInTail L (front ++ s) sort e d
+-- Bytes laid in front keep that numbers and structs have nothing to spare.
+abbrev pub InlineKeptInFront : Type 0
+InlineKeptInFront = (L : LaidSchema) (m : ℕ) (front s : Bytes) (sort : Sort) (e : ℕ) (d : Datum) → LiesInTail L m s sort e d → InlineInTail L s sort e d → InlineInTail L (front ++ s) sort e d

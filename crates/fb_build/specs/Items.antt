@@ -8,14 +8,14 @@ use Rattle.fb_value.specs.Lies.{LiesItemsBy}
 use Rattle.fb_value.specs.Tails.{from_end}
 use Rattle.fb_build.specs.Fields.{IsElement, SlotFits, TargetEnd, target_for}
 use Rattle.fb_build.specs.CoveredTails.{IsTightInTail}
-use Rattle.fb_build.specs.StructBytes.{PadsStructWithZeros, EachStructItem}
+use Rattle.fb_build.specs.InlineBytes.{IsTightInline, EachInlineItem}
 
--- Elements lie one behind the other, from the first byte of a tail on, their tables have nothing in slots that aren't in use and nothing to spare, and their structs are padded with zeros.
+-- Elements lie one behind the other, from the first byte of a tail on, their tables have nothing in slots that aren't in use, and they, their structs and their numbers have nothing to spare.
 pub record ItemsEnd (L : LaidSchema) (m : ℕ) (s : Bytes) (kind : StoredKind) (ds : Parts) : Type 0 where
   pub lie : LiesItemsBy (from_end s m) L s kind 0 ds
   pub old : EachItem L s (λ t p. IsOldTable L s t p) kind 0 ds
   pub tight : EachItem L s (λ t p. IsTightInTail L s t p) kind 0 ds
-  pub padded : EachStructItem L s (PadsStructWithZeros L s) kind 0 ds
+  pub inline : EachInlineItem L s (IsTightInline L s) kind 0 ds
 
 -- what each element's reference names lies at its end-count
 abbrev pub TargetsEnd : LaidSchema → ℕ → Bytes → StoredKind → List Datum → List ℕ → Type 0

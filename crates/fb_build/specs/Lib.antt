@@ -14,7 +14,7 @@ pub mod Structs
 pub mod Taken
 pub mod Stored
 pub mod Filled
-pub mod StructBytes
+pub mod InlineBytes
 pub mod Pieces
 pub mod Covered
 pub mod CoveredLaws

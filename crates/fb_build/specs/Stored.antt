@@ -1,14 +1,14 @@
 -- The fields that a table stores, told by its vtable.
--- From the FlatBuffers documentation, "FlatBuffer Internals": Tables (a vtable's first numbers are its own size and the table's, and a field that isn't stored has 0).
-use Rattle.std.specs.Prelude.{ℕ, suc, ◌+◌, ◌-◌, ◌≡◌, ◌≢◌, ◌<◌, ◌≤◌, ◌⊎◌, Bool, false, ◌||◌, nat_lt, List, [], ◌∷◌, sum_by, if◌then◌else◌, Option, None, Some, ℤ, pos}
+-- From the FlatBuffers documentation, "FlatBuffer Internals": Tables (a vtable's first numbers are its own size and the table's, and a field that isn't stored has 0), Unions (a code, 0 for no member, and the member behind it).
+use Rattle.std.specs.Prelude.{ℕ, suc, ◌+◌, ◌-◌, ◌≡◌, ◌≢◌, ◌<◌, ◌≤◌, ◌⊎◌, Bool, true, false, ◌||◌, nat_lt, List, [], ◌∷◌, slice_get, sum_by, if◌then◌else◌, Option, None, Some, ℤ, pos}
 use Rattle.fb_schema.specs.declared.kinds.Base.{Base}
 use Rattle.fb_schema.specs.declared.kinds.Base.TheVariants.{Bool as Boolean}
 use Rattle.fb_schema.specs.Alignments.{base_size}
-use Rattle.fb_layout.specs.Laid.{LaidSchema, Slot, scalar_kind, code_kind, StoredShape, one_of, slots_of}
+use Rattle.fb_layout.specs.Laid.{LaidSchema, Slot, scalar_kind, union_kind, code_kind, StoredShape, one_of, slots_of}
 use Rattle.fb_layout.specs.Sizes.{ceil4}
 use Rattle.fb_layout.specs.Widths.{inline_size}
 use Rattle.fb_value.specs.Num.{Bytes, num, scalar_of}
-use Rattle.fb_value.specs.Places.{vtable, slot_number, is_present}
+use Rattle.fb_value.specs.Places.{vtable, slot_number, is_present, code_at}
 use Rattle.fb_build.specs.Taken.{is_within, ZeroUnless}
 
 -- a slot whose number isn't 0, deprecated ones too, and that number: where the field stands in its table
@@ -90,9 +90,13 @@ abbrev pub AllHoldBits : Bytes → ℕ → List StoredSlot → Type 0
 AllHoldBits b p [] = Unit {0}
 AllHoldBits b p (x ∷ xs) = HoldsBit b (p + x.at) x.slot.shape × AllHoldBits b p xs
 
--- Each stored `bool` is 0 or 1.
+-- Each `bool` that a slot stores is 0 or 1, also where the slot is deprecated.
 abbrev pub HoldsBits : LaidSchema → Bytes → ℕ → ℕ → Type 0
 HoldsBits L b t p = AllHoldBits b p (stored_of L b t p)
+
+-- A union's value is stored only behind a stored code other than 0.
+abbrev pub CodesItsMembers : LaidSchema → Bytes → ℕ → ℕ → Type 0
+CodesItsMembers L b t p = (k : ℕ) (f : Slot) (u : ℕ) → slice_get (slots_of L t) k ≡ Some f → f.shape ≡ one_of (union_kind u) → is_present b p k ≡ true → code_at b p (k - 1) ≢ 0
 
 -- A table and its vtable have nothing to spare.
 pub record IsTightTable (L : LaidSchema) (b : Bytes) (t p : ℕ) : Type 0 where
@@ -102,3 +106,4 @@ pub record IsTightTable (L : LaidSchema) (b : Bytes) (t p : ℕ) : Type 0 where
   pub defaults : StoresNoDefault L b t p
   pub own : HasItsOwnBytes L b t p
   pub bits : HoldsBits L b t p
+  pub coded : CodesItsMembers L b t p

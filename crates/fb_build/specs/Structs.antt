@@ -6,7 +6,7 @@ pub use Rattle.fb_layout.specs.Seen.{kinds_seen}
 use Rattle.fb_value.specs.Datum.{Parts, no_parts, more_parts}
 use Rattle.fb_value.specs.Num.{Bytes}
 use Rattle.fb_value.specs.Lies.{LiesInline}
-use Rattle.fb_build.specs.StructBytes.{PadsStructWithZeros, EachStructIn, is_in_part}
+use Rattle.fb_build.specs.InlineBytes.{IsTightInline, EachInlineIn, is_in_part}
 
 -- what stands in its place: a number, or a struct that is declared
 abbrev pub IsInline : LaidSchema → StoredKind → Type 0
@@ -14,9 +14,9 @@ IsInline L (scalar_kind base) = Unit {0}
 IsInline L (struct_kind s) = IsTrue (is_struct (body_at L.schema s))
 IsInline L _ = ⊥
 
--- The fields of these offsets lie in a tail that begins at the offset `base`, and the structs among them are padded with zeros.
+-- The fields of these offsets lie in a tail that begins at the offset `base`, and have nothing to spare.
 abbrev pub LieFrom : LaidSchema → Bytes → ℕ → List StoredKind → List ℕ → Parts → Type 0
-LieFrom L b base (kind ∷ kinds) (o ∷ os) (more_parts d ds) = (base ≤ o) × LiesInline L b kind (o - base) d × EachStructIn L (PadsStructWithZeros L b) kind (o - base) d × LieFrom L b base kinds os ds
+LieFrom L b base (kind ∷ kinds) (o ∷ os) (more_parts d ds) = (base ≤ o) × LiesInline L b kind (o - base) d × EachInlineIn L (IsTightInline L b) kind (o - base) d × LieFrom L b base kinds os ds
 LieFrom L b base [] _ no_parts = Unit {0}
 LieFrom L b base _ _ _ = ⊥
 

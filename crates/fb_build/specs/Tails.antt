@@ -5,7 +5,7 @@ use Rattle.fb_value.specs.Datum.{Datum}
 use Rattle.fb_value.specs.Num.{Bytes, divides}
 use Rattle.fb_value.specs.Places.{Sort}
 use Rattle.fb_value.specs.Tails.{LiesInTail, OldInTail}
-use Rattle.fb_build.specs.CoveredTails.{TightInTail, PaddedInTail, BitInTail}
+use Rattle.fb_build.specs.CoveredTails.{TightInTail, InlineInTail}
 
 -- the zeros that are left in front, what is laid, and the greatest multiple that was padded to
 pub record TailSeen : Type 0 where
@@ -20,10 +20,9 @@ pub record Grows (a b : TailSeen) : Type 0 where
   pub spent : b.free + length front ≡ a.free
   pub multiple : divides a.most b.most ≡ true
 
--- A value lies e bytes before the end, its tables have nothing in slots that aren't in use and nothing to spare, its structs are padded with zeros, and a `bool` is 0 or 1.
+-- A value lies e bytes before the end, its tables have nothing in slots that aren't in use, and they, its structs and its numbers have nothing to spare.
 pub record LaidInTail (L : LaidSchema) (m : ℕ) (s : Bytes) (sort : Sort) (e : ℕ) (d : Datum) : Type 0 where
   pub lies : LiesInTail L m s sort e d
   pub old : OldInTail L s sort e d
   pub tight : TightInTail L s sort e d
-  pub padded : PaddedInTail L s sort e d
-  pub bit : BitInTail s sort e
+  pub inline : InlineInTail L s sort e d

@@ -1,6 +1,6 @@
 //! Laws of buffers that are covered.
 ghost use Rattle.fb_build.specs.CoveredLaws.{CoveredByItsValue, ZeroOutside, FewOutside, ReachedIsListed};
-ghost use Rattle.fb_build.specs.CoveredTails.{TightKeptInFront, ReachedKeptInFront, PaddedKeptInFront};
+ghost use Rattle.fb_build.specs.CoveredTails.{TightKeptInFront, ReachedKeptInFront, InlineKeptInFront};
 ghost use Rattle.fb_build.specs.CoveredSteps.{RunsKeptByMore, ChunksJoin, MadeInFront, OnceWhereDistinct};
 ghost use Rattle.fb_build.specs.CoveredSteps.{MadeWhole, CoveredWhole};
 ghost use Rattle.fb_build.specs.Taken.{ZeroIsComputed};
@@ -35,9 +35,9 @@ pub fn reached_kept_in_front()
     ensures { ReachedKeptInFront }
 {}
 
-/// Bytes laid in front keep that structs have nothing to spare.
-pub fn padded_kept_in_front()
-    ensures { PaddedKeptInFront }
+/// Bytes laid in front keep that numbers and structs have nothing to spare.
+pub fn inline_kept_in_front()
+    ensures { InlineKeptInFront }
 {}
 
 /// A greater number bounds runs of zeros too.

@@ -8,7 +8,7 @@ ghost use Rattle.fb_value.specs.Lies.{LiesInline, LiesParts};
 ghost use Rattle.fb_value.specs.View.{view, parts_view};
 ghost use Rattle.fb_build.specs.Tails.{Grows};
 ghost use Rattle.fb_build.specs.Structs.{IsInline};
-ghost use Rattle.fb_build.specs.StructBytes.{EachStructIn, PadsStructWithZeros};
+ghost use Rattle.fb_build.specs.InlineBytes.{EachInlineIn, IsTightInline};
 ghost use Rattle.fb_build.specs.Fields.{kind_seen};
 
 use crate::fields::{number_in, scalar_base};
@@ -26,7 +26,7 @@ pub(crate) fn lay_struct(out: &mut Tail, layout: &Layout, structure: TypeId, par
     requires room { (struct_at layout.now structure.0).size ≤ out.old.free }
     ensures lies { LiesParts layout.now out.new.bytes (parts_of layout.now structure.0)
         (struct_at layout.now structure.0).offsets 0 (parts_view parts.now.items) }
-    ensures padded { EachStructIn layout.now (PadsStructWithZeros layout.now out.new.bytes)
+    ensures inline { EachInlineIn layout.now (IsTightInline layout.now out.new.bytes)
         (struct_kind structure.0) 0 (a_struct (parts_view parts.now.items)) }
     ensures free { out.new.free + (struct_at layout.now structure.0).size ≡ out.old.free }
     ensures most { out.new.most ≡ out.old.most }
@@ -54,7 +54,7 @@ fn lay_inline(out: &mut Tail, layout: &Layout, kind: Kind, value: &Value)
     requires fits { Fits layout.now (one_of (kind_seen layout.now kind)) (view value.now) }
     requires room { size_of layout.now (kind_seen layout.now kind) ≤ out.old.free }
     ensures lies { LiesInline layout.now out.new.bytes (kind_seen layout.now kind) 0 (view value.now) }
-    ensures padded { EachStructIn layout.now (PadsStructWithZeros layout.now out.new.bytes)
+    ensures inline { EachInlineIn layout.now (IsTightInline layout.now out.new.bytes)
         (kind_seen layout.now kind) 0 (view value.now) }
     ensures free { out.new.free + size_of layout.now (kind_seen layout.now kind) ≡ out.old.free }
     ensures most { out.new.most ≡ out.old.most }

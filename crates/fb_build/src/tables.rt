@@ -1,104 +1,37 @@
 //! Lays tables.
-ghost use Rattle.std.specs.Prelude.{ℕ, ◌≡◌, ◌≤◌, ◌<◌, ◌+◌, ◌-◌, ◌*◌, ◌/◌, ◌%◌};
-ghost use Rattle.std.specs.Prelude.{Option, List, [], ◌∷◌, true, false, length, map, max, option_map};
+ghost use Rattle.std.specs.Prelude.{ℕ, ◌≡◌, ◌≤◌, ◌+◌, Option, true, false, length, map, max, option_map};
 ghost use Rattle.fb_layout.specs.Laid.{slots_of, kind_in, align_of};
 ghost use Rattle.fb_layout.specs.Widths.{greatest};
 ghost use Rattle.fb_value.specs.Entries.{EntryFits, entry_room};
 ghost use Rattle.fb_value.specs.Fits.{EntriesFit, EachFits};
 ghost use Rattle.fb_value.specs.Room.{room, table_room, vector_room, parts_room, entries_room};
 ghost use Rattle.fb_value.specs.Counts.{is_whole, parts_whole, entries_whole};
-ghost use Rattle.fb_layout.specs.Sizes.{ceil4};
 ghost use Rattle.fb_value.specs.Datum.{a_table, a_vector, count};
-ghost use Rattle.fb_value.specs.Num.{divides};
 ghost use Rattle.fb_value.specs.Places.{part_place, table_part, vector_part};
 ghost use Rattle.fb_value.specs.View.{view, parts_view, entries_view};
 ghost use Rattle.fb_build.specs.CoveredTails.{parts_in_tail};
-ghost use Rattle.fb_build.specs.Made.{Adds, named_items, named_stored, named_fields, part_named};
-ghost use Rattle.fb_build.specs.Made.{parts_at, ends_parts, FieldsFront, FieldsLead};
-ghost use Rattle.fb_build.specs.Tails.{TailSeen, Grows, LaidInTail};
-ghost use Rattle.fb_build.specs.Fields.{EntriesEnd, EntryEnd, IsSimple, IsElement, stored_in, stored_align};
-ghost use Rattle.fb_build.specs.Fields.{stored_seen, slots_seen, entries_seen, slot_seen, entry_stored};
-ghost use Rattle.fb_build.specs.Fields.{shape_seen, kind_seen, fields_size};
+ghost use Rattle.fb_build.specs.Made.{Adds, named_items, named_stored, named_fields, part_named, parts_at};
+ghost use Rattle.fb_build.specs.Made.{ends_parts};
+ghost use Rattle.fb_build.specs.Tails.{Grows, LaidInTail};
+ghost use Rattle.fb_build.specs.Fields.{EntriesEnd, EntryEnd, IsSimple, IsElement, stored_seen, slots_seen};
+ghost use Rattle.fb_build.specs.Fields.{entries_seen, slot_seen, entry_stored, shape_seen, kind_seen};
 ghost use Rattle.fb_build.specs.Needs.{entries_count, entries_need, entry_need, need, parts_need, IsSliced};
 ghost use Rattle.fb_build.specs.Parts.{PartFits, PartEnd, EntryWhole, TableKnown};
 ghost use Rattle.fb_build.specs.Items.{TargetsEnd};
-ghost use Rattle.fb_build.specs.Filled.{AreFilled};
 ghost use Rattle.fb_build.specs.TableBytes.{AreLaid};
-ghost use Rattle.fb_build.specs.FieldEnds.{AreCounted};
-ghost use Rattle.fb_build.specs.Vtables.{EntriesVtablesKnown, EntryVtablesKnown, IsKey, PartsVtablesKnown};
-ghost use Rattle.fb_build.specs.Vtables.{VtablesKnown, vtable_of};
+ghost use Rattle.fb_build.specs.Vtables.{EntriesVtablesKnown, EntryVtablesKnown, PartsVtablesKnown};
+ghost use Rattle.fb_build.specs.Vtables.{VtablesKnown};
 
 use crate::fields::lay_fields;
 use crate::needs::waits;
 use crate::tail::Tail;
 use crate::texts::lay_text;
 use crate::vectors::close_vector;
-use crate::vtables::{lay_vtable, put_vtable};
+use crate::vtables::close_table;
 use fb_layout::Layout;
 use fb_schema::{FieldInfo, Kind, Shape, TypeId};
 use fb_value::Value;
 use indexmap::IndexSet;
-
-/// Lays what stands before the fields of a table, and its vtable unless an equal one is laid, and
-/// returns how many bytes are laid up to the table.
-fn close_table(
-    out: &mut Tail,
-    known: &IndexSet<Vec<u8>>,
-    places: &mut [u32],
-    layout: &Layout,
-    table: TypeId,
-    entries: &[Option<Value>],
-    start: u32,
-    ends: &[u32],
-    scratch: &mut [u8],
-) -> u32
-    requires few { length ends.now ≤ 32765 }
-    requires long { 65534 ≤ length scratch.old }
-    requires fits { TableKnown layout.now (slots_of layout.now table.0) (entries_seen entries.now) }
-    requires each { length ends.now ≡ length (slots_of layout.now table.0) }
-    requires state { EntriesEnd layout.now start out.old.most out.old.bytes (λ k f. true)
-        (slots_of layout.now table.0) (stored_in (slots_of layout.now table.0) (entries_seen entries.now))
-        ends.now }
-    requires wide { divides 4 out.old.most ≡ true }
-    requires start { start ≤ length out.old.bytes }
-    requires whole { start % 4 ≡ 0 }
-    requires narrow { length out.old.bytes ≤ start + 65528 }
-    requires size { length out.old.bytes ≡ start + fields_size layout.now (slots_of layout.now table.0)
-        (stored_in (slots_of layout.now table.0) (entries_seen entries.now)) }
-    requires filled { AreFilled layout.now start (length out.old.bytes) (λ k f. true)
-        (slots_of layout.now table.0) (stored_in (slots_of layout.now table.0) (entries_seen entries.now))
-        ends.now }
-    requires room { ceil4 (length out.old.bytes - start) + (8 + 2 * length ends.now) ≤ out.old.free
-        + (length out.old.bytes - start) }
-    requires counted { AreCounted layout.now start (λ k f. true) (slots_of layout.now table.0)
-        (stored_in (slots_of layout.now table.0) (entries_seen entries.now)) ends.now }
-    requires key { IsKey (map (λ k. k.items) known.now.keys) (vtable_of layout.now table.0 (entries_view entries.now)) }
-    requires shared { AreLaid (map (λ k. k.items) known.now.keys) places.old out.old.bytes }
-    ensures lies { LaidInTail layout.now out.new.most out.new.bytes (part_place (table_part table.0))
-        result (a_table table.0 (entries_view entries.now)) }
-    ensures adds { (a : TailSeen) → FieldsFront a out.old start (max 4 (stored_align layout.now
-        (slots_of layout.now table.0) (stored_in (slots_of layout.now table.0) (entries_seen entries.now))))
-        → Adds layout.now a places.old out.new places.new
-        (record { target = table_part table.0; at = length out.new.bytes - result } ∷ []) }
-    ensures leads { (targets : List ℕ) → FieldsLead out.old.bytes (λ k f. true) (slots_of layout.now table.0)
-        (stored_in (slots_of layout.now table.0) (entries_seen entries.now)) targets ends.now
-        → parts_in_tail layout.now out.new.bytes (table_part table.0) result
-        (a_table table.0 (entries_view entries.now))
-        ≡ record { target = table_part table.0; at = length out.new.bytes - result }
-        ∷ ends_parts layout.now out.new.bytes (named_fields (slots_of layout.now table.0)
-        (stored_in (slots_of layout.now table.0) (entries_seen entries.now))) targets }
-    ensures shared { AreLaid (map (λ k. k.items) known.now.keys) places.new out.new.bytes }
-    ensures bound { out.new.most ≤ max out.old.most (greatest layout.now) }
-    ensures grows { Grows out.old out.new }
-    ensures long { length scratch.new ≡ length scratch.old }
-    ensures spent { out.old.free + (length out.old.bytes - start) ≤ out.new.free
-        + (ceil4 (length out.old.bytes - start) + (8 + 2 * length ends.now)) }
-{
-    out.pad(4, 0);
-    let place = out.count() as u32 + 4;
-    let slots = put_vtable(scratch, ends, place, (place - start) as u16);
-    lay_vtable(out, known, places, &scratch[..4 + 2 * slots])
-}
 
 /// Lays a table and what its references name, and returns how many bytes are laid up to the table.
 #[cycle(tables)]

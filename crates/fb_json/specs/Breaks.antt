@@ -82,9 +82,14 @@ ToldBehind S ms before [] k c = ⊥
 ToldBehind S ms before (f ∷ fs) zero c = CodeAt S ms f f.deprecated f.shape before c
 ToldBehind S ms before (f ∷ fs) (suc k) c = (b : ℕ) × CodeAt S ms f f.deprecated f.shape before b × ToldBehind S ms b fs k c
 
+-- a union's member is missing only where no code is told: another code without a member is a mismatch
+abbrev pub HasNoCode : Shape → ℕ → Type 0
+HasNoCode (One (Union u)) c = c ≡ 0
+HasNoCode _ c = Unit {0}
+
 -- the rule that a slot breaks by its member's being there or not
 abbrev pub EntryBreaks : LaidSchema → DeclaredField → ℕ → Option Data → Place → JsonFault → Type 0
-EntryBreaks L f c o at (MissingRequired p) = (p ≡ at) × (o ≡ None) × ((slot_of L.schema f).required ≡ true)
+EntryBreaks L f c o at (MissingRequired p) = (p ≡ at) × (o ≡ None) × ((slot_of L.schema f).required ≡ true) × HasNoCode f.shape c
 EntryBreaks L f c None at (UnionMismatch p) = (p ≡ at) × ((u : TypeId) × (f.shape ≡ One (Union u)) × (c ≢ 0))
 EntryBreaks L f c (Some t) at (UnionMismatch p) = (p ≡ at) × ((u : TypeId) × (f.shape ≡ One (Union u)) × (member_by_code L u.0 c ≡ None))
 EntryBreaks L f c o at _ = ⊥

@@ -6,7 +6,7 @@ ghost use Rattle.fb_value.specs.Datum.{Datum};
 ghost use Rattle.fb_value.specs.Fits.{FitsRoot};
 ghost use Rattle.fb_value.specs.View.{view};
 ghost use Rattle.fb_json.specs.Means.{Means};
-ghost use Rattle.fb_json.specs.Refuses.{MayLackMemory, Refuses};
+ghost use Rattle.fb_json.specs.Refuses.{IsFirst, MayLackMemory, Refuses};
 
 use crate::faults::{JsonFault, Place};
 use crate::source::Source;
@@ -29,6 +29,8 @@ pub fn value_of(
     ensures whole { IfOk result (λ v. is_whole (view v) ≡ true) }
     ensures refuses { IfErr result (λ f. (f ≡ JsonFault.Memory)
         ⊎ Refuses layout.now limits unknown (tree_view tree.now) f) }
+    ensures first { IfErr result (λ f. (f ≡ JsonFault.Memory)
+        ⊎ IsFirst layout.now limits unknown (tree_view tree.now) f) }
     ensures none { IfErr result (λ f. (f ≡ JsonFault.Memory)
         ⊎ ((d : Datum) → ¬ Means layout.now limits unknown (tree_view tree.now) d)) }
     ensures memory { IfErr result (MayLackMemory limits (tree_view tree.now)) }

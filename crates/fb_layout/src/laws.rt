@@ -1,6 +1,6 @@
 //! Laws of layouts.
 ghost use Rattle.std.specs.Prelude.{ℕ};
-ghost use Rattle.fb_layout.specs.OneLayout.{OneLayout};
+ghost use Rattle.fb_layout.specs.OneLayout.{NoLayoutWhereRefused, OneLayout};
 ghost use Rattle.fb_layout.specs.Sizes.{IsLeastMultiple, ceil4};
 ghost use Rattle.fb_layout.specs.Laws.{KindsAligned, TablesAligned, GreatestAligned, NoneAlignedToZero};
 ghost use Rattle.fb_layout.specs.Laws.{SizesAreMultiples, SizesFit, StructsHaveFewParts};
@@ -8,6 +8,11 @@ ghost use Rattle.fb_layout.specs.Laws.{SizesAreMultiples, SizesFit, StructsHaveF
 /// A declared schema has one list of sizes at most.
 pub fn one_layout()
     ensures { OneLayout }
+{}
+
+/// A schema that `lay` refuses has no layout.
+pub fn no_layout_where_refused()
+    ensures { NoLayoutWhereRefused }
 {}
 
 /// A width that is rounded to 4 is the least multiple of 4 that isn't below it.

@@ -1,5 +1,5 @@
 //! What the slots of a table have, read in place.
-ghost use Rattle.std.specs.Prelude.{◌≡◌, ◌+◌, ◌<◌, ◌≤◌, ◌^◌, length, option_copied};
+ghost use Rattle.std.specs.Prelude.{◌≡◌, ◌+◌, ◌<◌, ◌≤◌, ◌^◌, length, option_copied, IfSome};
 ghost use Rattle.fb_value.specs.Datum.{Datum};
 ghost use Rattle.fb_value.specs.Num.{num};
 ghost use Rattle.fb_value.specs.Places.{vtable};
@@ -110,7 +110,8 @@ impl<'a> View<'a> {
 
     /// The table in a slot.
     pub fn table(self, slot: u16) -> Option<View<'a>>
-        ensures { (d : Datum) → Shows self.entry d → ShowsTable result (entry_of d slot) }
+        ensures shows { (d : Datum) → Shows self.entry d → ShowsTable result (entry_of d slot) }
+        ensures layout { IfSome result (λ view. view.layout.now ≡ self.entry.layout.now) }
     {
         match self.stored(slot).table() {
             Some((table, at)) => Some(View {
@@ -125,7 +126,8 @@ impl<'a> View<'a> {
 
     /// The member in a union's slot, under its code.
     pub fn member(self, slot: u16) -> Option<(u8, View<'a>)>
-        ensures { (d : Datum) → Shows self.entry d → ShowsMember result (entry_of d slot) }
+        ensures shows { (d : Datum) → Shows self.entry d → ShowsMember result (entry_of d slot) }
+        ensures layout { IfSome result (λ member. member.1.layout.now ≡ self.entry.layout.now) }
     {
         match self.stored(slot).member() {
             Some((code, table, at)) => Some((
@@ -143,7 +145,8 @@ impl<'a> View<'a> {
 
     /// The struct in a slot.
     pub fn fixed(self, slot: u16) -> Option<FixedView<'a>>
-        ensures { (d : Datum) → Shows self.entry d → ShowsStruct result (entry_of d slot) }
+        ensures shows { (d : Datum) → Shows self.entry d → ShowsStruct result (entry_of d slot) }
+        ensures layout { IfSome result (λ view. view.layout.now ≡ self.entry.layout.now) }
     {
         match self.stored(slot).structure() {
             Some((structure, at)) => Some(FixedView {
@@ -158,7 +161,8 @@ impl<'a> View<'a> {
 
     /// The vector in a slot.
     pub fn items(self, slot: u16) -> Option<Items<'a>>
-        ensures { (d : Datum) → Shows self.entry d → ShowsVector result (entry_of d slot) }
+        ensures shows { (d : Datum) → Shows self.entry d → ShowsVector result (entry_of d slot) }
+        ensures layout { IfSome result (λ items. items.layout.now ≡ self.entry.layout.now) }
     {
         match self.stored(slot).vector() {
             Some((kind, at)) => {

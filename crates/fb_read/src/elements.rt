@@ -1,5 +1,5 @@
 //! What the elements of a vector are, read in place.
-ghost use Rattle.std.specs.Prelude.{◌≡◌, ◌<◌, option_copied};
+ghost use Rattle.std.specs.Prelude.{◌≡◌, ◌<◌, option_copied, IfSome};
 ghost use Rattle.fb_value.specs.Datum.{Parts};
 ghost use Rattle.fb_value.specs.Nth.{nth_part};
 ghost use Rattle.fb_read.specs.Views.{number_in, text_in};
@@ -60,7 +60,8 @@ impl<'a> Items<'a> {
     /// The struct that an element is.
     pub fn fixed(self, i: u32) -> Option<FixedView<'a>>
         requires { i < self.len }
-        ensures { (ds : Parts) → ShowsItems self.entry ds → ShowsStruct result (nth_part ds i) }
+        ensures shows { (ds : Parts) → ShowsItems self.entry ds → ShowsStruct result (nth_part ds i) }
+        ensures layout { IfSome result (λ view. view.layout.now ≡ self.entry.layout.now) }
     {
         match structure_of(self.kind) {
             Some(structure) => Some(FixedView {
@@ -76,7 +77,8 @@ impl<'a> Items<'a> {
     /// The table that an element is.
     pub fn table(self, i: u32) -> Option<View<'a>>
         requires { i < self.len }
-        ensures { (ds : Parts) → ShowsItems self.entry ds → ShowsTable result (nth_part ds i) }
+        ensures shows { (ds : Parts) → ShowsItems self.entry ds → ShowsTable result (nth_part ds i) }
+        ensures layout { IfSome result (λ view. view.layout.now ≡ self.entry.layout.now) }
     {
         match table_of(self.kind) {
             Some(table) => {

@@ -1,5 +1,5 @@
 //! What the fields of a struct have, read in place.
-ghost use Rattle.std.specs.Prelude.{◌≡◌};
+ghost use Rattle.std.specs.Prelude.{◌≡◌, IfSome};
 ghost use Rattle.fb_value.specs.Datum.{Parts};
 ghost use Rattle.fb_value.specs.Nth.{nth_part};
 ghost use Rattle.fb_read.specs.Views.{number_in};
@@ -46,7 +46,8 @@ impl<'a> FixedView<'a> {
 
     /// The struct in a field.
     pub fn fixed(self, field: u16) -> Option<FixedView<'a>>
-        ensures { (ds : Parts) → ShowsFields self.entry ds → ShowsStruct result (nth_part ds field) }
+        ensures shows { (ds : Parts) → ShowsFields self.entry ds → ShowsStruct result (nth_part ds field) }
+        ensures layout { IfSome result (λ view. view.layout.now ≡ self.entry.layout.now) }
     {
         let _schema = self.layout.schema();
         let fields = self.layout.parts_of(self.structure);

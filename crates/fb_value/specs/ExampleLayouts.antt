@@ -106,6 +106,19 @@ wide_structs = laid 1
     ∷ [])
     (record { size = 16; align = 16; offsets = 0 ∷ [] } ∷ no_struct ∷ [])
 
+-- struct I { b:bool; } struct S { n:ushort; i:I; } table T { s:S; ss:[S]; bs:[bool]; } root_type T;
+abbrev pub bools_everywhere : LaidSchema
+bools_everywhere = laid 2
+    (type_called 0x49 (struct_body (plain (letter 0x62) 0 (One (Scalar Boolean)) ∷ []) None)
+    ∷ type_called 0x53 (struct_body (plain (letter 0x6e) 0 (One (Scalar U16)) ∷ plain (letter 0x69) 1 (One (Struct (record { 0 = 0 }))) ∷ []) None)
+    ∷ type_called 0x54 (table_body (
+    plain (letter 0x73) 0 (One (Struct (record { 0 = 1 })))
+    ∷ plain (0x73 ∷ 0x73 ∷ []) 1 (Many (Struct (record { 0 = 1 })))
+    ∷ plain (0x62 ∷ 0x73 ∷ []) 2 (Many (Scalar Boolean))
+    ∷ []))
+    ∷ [])
+    (record { size = 1; align = 1; offsets = 0 ∷ [] } ∷ record { size = 4; align = 2; offsets = 0 ∷ 2 ∷ [] } ∷ no_struct ∷ [])
+
 -- `u` of the union of a number, with its code: slots 0 and 1
 abbrev pub u_union : ℕ → List DeclaredField
 u_union u = plain (0x75 ∷ 0x5f ∷ 0x74 ∷ 0x79 ∷ 0x70 ∷ 0x65 ∷ []) 0 (One (Code (record { 0 = u }))) ∷ plain (letter 0x75) 1 (One (Union (record { 0 = u }))) ∷ []

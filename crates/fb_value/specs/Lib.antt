@@ -28,6 +28,7 @@ pub mod ExampleIdentifier
 pub mod ExampleTexts
 pub mod ExampleVectors
 pub mod ExampleStructs
+pub mod ExampleBools
 pub mod ExampleUnions
 pub mod ExampleMarks
 pub mod ExampleRooms

@@ -3,9 +3,10 @@
 
 use clap::Error;
 use clap::error::ErrorKind;
+use flatc_cli::{Job, job_of};
 use flatc_tool::{
-    Heard, Job, Limits, Noted, ToolFault, check, conform_texts, job_of, print_to, report, take_all,
-    to_binary, to_json,
+    Heard, Limits, Noted, ToolFault, check, conform_texts, print_to, report, take_all, to_binary,
+    to_json,
 };
 use std::alloc::Global;
 use std::process::ExitCode;

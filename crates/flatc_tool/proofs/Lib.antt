@@ -1,7 +1,9 @@
 pub mod OneText
 pub mod JobSteps
 pub mod Headlines
+pub mod Evolving
 pub mod Known
+pub mod LinesTold
 pub mod Sound
 pub mod Utf8Names
 pub mod Utf8Values

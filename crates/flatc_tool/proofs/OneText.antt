@@ -10,38 +10,35 @@ use Rattle.fb_syntax.specs.Refusals.{IsToldOfUtf8, IsToldOfNoTokens, IsToldOfTok
 use Rattle.fb_syntax.specs.declared.faults.SyntaxFault.{SyntaxFault}
 use Rattle.fb_syntax.specs.declared.faults.SyntaxFault.TheVariants.{NotUtf8, BadByte, Unterminated, NumberTooBig, Unexpected, NestedVector, Memory}
 use Rattle.fb_syntax.specs.declared.tokens.Token.{Token}
-use Rattle.fb_syntax.proofs.ReadsAs.{one_reading_shown}
-use Rattle.fb_syntax.proofs.TextSpellings.{one_spelling_shown}
 use Rattle.fb_schema.specs.Schema.{DeclaredSchema}
 use Rattle.fb_declare.specs.declared.faults.SchemaFault.{SchemaFault}
 use Rattle.fb_declare.specs.Declares.{Declares}
 use Rattle.fb_declare.specs.TypeFaults.{faults_of}
 use Rattle.fb_declare.specs.Faults.{least_of}
-use Rattle.fb_declare.proofs.OneSchema.{one_declared}
 use Rattle.fb_layout.specs.Laid.{LaidSchema}
 use Rattle.fb_layout.specs.WellMade.{IsSized}
-use Rattle.fb_layout.proofs.OneSizing.{one_sizing, no_layout}
 use Rattle.flatc_tool.specs.declared.schema_layouts.SchemaTextFault.{SchemaTextFault}
 use Rattle.flatc_tool.specs.declared.schema_layouts.SchemaTextFault.TheVariants.{Syntax, Schema, Layout}
+use Rattle.flatc_tool.specs.LayerLaws.{LayerLaws}
 use Rattle.flatc_tool.specs.SchemaTexts.{IsAccepted, IsSyntaxRefused, IsRefused, IsWant}
 
 -- a text reads as one list of declarations
-pub one_parse : (text : List ℕ) (d e : DeclsRead) → Parses text d → Parses text e → d ≡ e
-one_parse text d e p q =
-    let same = one_spelling_shown text p.0 q.0 p.1 q.1 in
-    one_reading_shown text q.0 d e (subst (λ (tokens : List Token). Reads text tokens d) same p.2) q.2
+pub one_parse : (laws : LayerLaws) (text : List ℕ) (d e : DeclsRead) → Parses text d → Parses text e → d ≡ e
+one_parse laws text d e p q =
+    let same = laws.one_spelling text p.0 q.0 p.1 q.1 in
+    laws.one_reading text q.0 d e (subst (λ (tokens : List Token). Reads text tokens d) same p.2) q.2
 
 -- an accepted text declares one schema
-same_schema : (text : List ℕ) (L K : LaidSchema) → IsAccepted text L → IsAccepted text K → L.schema ≡ K.schema
-same_schema text L K a b =
-    one_declared b.decls L.schema K.schema (subst (λ (d : DeclsRead). Declares d L.schema) (one_parse text a.decls b.decls a.parsed b.parsed) a.declared) b.declared
+same_schema : (laws : LayerLaws) (text : List ℕ) (L K : LaidSchema) → IsAccepted text L → IsAccepted text K → L.schema ≡ K.schema
+same_schema laws text L K a b =
+    laws.one_schema b.decls L.schema K.schema (subst (λ (d : DeclsRead). Declares d L.schema) (one_parse laws text a.decls b.decls a.parsed b.parsed) a.declared) b.declared
 
 -- an accepted text has one layout
-pub same_accepted : (text : List ℕ) (L K : LaidSchema) → IsAccepted text L → IsAccepted text K → L ≡ K
-same_accepted text L K a b =
-    let schema = same_schema text L K a b in
+pub same_accepted : (laws : LayerLaws) (text : List ℕ) (L K : LaidSchema) → IsAccepted text L → IsAccepted text K → L ≡ K
+same_accepted laws text L K a b =
+    let schema = same_schema laws text L K a b in
     let sized : IsSized (record { schema = K.schema; structs = L.structs }) = subst (λ (S : DeclaredSchema). IsSized (record { schema = S; structs = L.structs })) schema a.made.sized in
-    let structs = one_sizing K.schema L.structs K.structs b.made.declared sized b.made.sized in
+    let structs = laws.one_layout K.schema L.structs K.structs b.made.declared sized b.made.sized in
     λ i. record { schema = schema i; structs = structs i }
 
 -- there is no least fault where declarations declare a schema
@@ -71,12 +68,12 @@ syntax_excludes text (Unexpected at) h rule d parses = h.4 d parses
 syntax_excludes text (NestedVector at) h rule d parses = h.4 d parses
 
 -- A text that a layer refuses isn't accepted.
-pub refused_excludes : (text : List ℕ) (f : SchemaTextFault) → IsRefused text f → ¬ (IsWant f) → (L : LaidSchema) → IsAccepted text L → ⊥
-refused_excludes text (Syntax f) refused rule L accepted = syntax_excludes text f refused rule accepted.decls accepted.parsed
-refused_excludes text (Schema f) refused rule L accepted =
-    let same = one_parse text refused.0 accepted.decls refused.1 accepted.parsed in
+pub refused_excludes : (laws : LayerLaws) (text : List ℕ) (f : SchemaTextFault) → IsRefused text f → ¬ (IsWant f) → (L : LaidSchema) → IsAccepted text L → ⊥
+refused_excludes laws text (Syntax f) refused rule L accepted = syntax_excludes text f refused rule accepted.decls accepted.parsed
+refused_excludes laws text (Schema f) refused rule L accepted =
+    let same = one_parse laws text refused.0 accepted.decls refused.1 accepted.parsed in
     none_least accepted.decls L.schema f accepted.declared (subst (λ (d : DeclsRead). least_of (faults_of d) ≡ Some f) same (refused.2 rule))
-refused_excludes text (Layout f) refused rule L accepted =
-    let same = one_parse text refused.0 accepted.decls refused.2 accepted.parsed in
-    let schema = one_declared accepted.decls L.schema refused.1 accepted.declared (subst (λ (d : DeclsRead). Declares d refused.1) same refused.3) in
-    no_layout refused.1 f (refused.4 rule) L schema accepted.made
+refused_excludes laws text (Layout f) refused rule L accepted =
+    let same = one_parse laws text refused.0 accepted.decls refused.2 accepted.parsed in
+    let schema = laws.one_schema accepted.decls L.schema refused.1 accepted.declared (subst (λ (d : DeclsRead). Declares d refused.1) same refused.3) in
+    laws.no_layout refused.1 f (refused.4 rule) L schema accepted.made

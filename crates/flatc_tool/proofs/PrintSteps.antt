@@ -9,8 +9,6 @@ use Rattle.fb_value.specs.Counts.{is_whole}
 use Rattle.fb_value.specs.Datum.{Datum}
 use Rattle.fb_value.specs.Num.{Bytes}
 use Rattle.fb_value.specs.Holds.{Holds, Refuses}
-use Rattle.fb_value.proofs.BytesFit.{fits_where_held_shown}
-use Rattle.fb_value.proofs.Shown.{one_value_shown}
 use Rattle.fb_json.specs.declared.faults.Place.{Place}
 use Rattle.fb_json.specs.declared.faults.TextFault.TheVariants as the_text
 use Rattle.fb_json.specs.Meant.{type_place}
@@ -19,6 +17,7 @@ use Rattle.fb_text.specs.declared.faults.WriteFault.{WriteFault}
 use Rattle.fb_text.specs.declared.faults.WriteFault.TheVariants.{NoMemberName, WriteFailed}
 use Rattle.fb_text.specs.Printed.{IsPrinted}
 use Rattle.fb_text.specs.Writes.{counted}
+use Rattle.flatc_tool.specs.LayerLaws.{LayerLaws}
 use Rattle.flatc_tool.specs.SchemaTexts.{IsAccepted, IsWant}
 use Rattle.flatc_tool.specs.Jobs.{IsText, MayBeText, TextRefused}
 use Rattle.flatc_tool.specs.Prints.{IsSent, PrintRefused, IsOfInput, text_fault}
@@ -37,14 +36,14 @@ at_layout L K table defaults v start known r layout root printed =
     let here = subst (λ (t : ℕ). IsPrinted (type_place t) v (json_text K defaults v) start known r) root printed in
     subst (λ (M : LaidSchema). IsPrinted (type_place L.schema.root) v (json_text M defaults v) start known r) layout here
 
-module _ (schema : List ℕ) (b : Bytes) (most : Bounds) (raw defaults : Bool) (L : LaidSchema) (accepted : IsAccepted schema L) (v : Datum) (holds : Holds L most raw b v) (start known : Option (List ℕ)) where
+module _ (laws : LayerLaws) (schema : List ℕ) (b : Bytes) (most : Bounds) (raw defaults : Bool) (L : LaidSchema) (accepted : IsAccepted schema L) (v : Datum) (holds : Holds L most raw b v) (start known : Option (List ℕ)) where
   text_is : is_whole v ≡ true → IsText schema b most raw defaults (json_text L defaults v)
   text_is whole = record { layout = L; accepted = accepted; value = v; holds = holds; whole = whole; spelled = refl }
 
   pub sent : (x : Unit {0}) (ts : List TypeInfo) → map type_seen ts ≡ L.schema.types → All (λ x. x < 256) b → IsPrinted (type_place L.schema.root) v (json_text L defaults v) start known (Ok x)
       → IsSent schema b most raw defaults start known
   sent x ts names small printed =
-      let fits = fits_where_held_shown L most raw b v accepted.made small holds in
+      let fits = laws.fits_where_held L most raw b v accepted.made small holds in
       (json_text L defaults v, text_is printed.0, text_utf8 L (schema_utf8 L.schema ts names) defaults v (root_spells L v fits), printed.1)
 
   pub unsent : (f : WriteFault) → IsPrinted {A = Unit {0}} (type_place L.schema.root) v (json_text L defaults v) start known (Err f) → PrintRefused schema b most raw defaults start known (Write f)
@@ -54,9 +53,9 @@ module _ (schema : List ℕ) (b : Bytes) (most : Bounds) (raw defaults : Bool) (
   pub unsent_excludes : (f : WriteFault) → IsPrinted {A = Unit {0}} (type_place L.schema.root) v (json_text L defaults v) start known (Err f) → IsOfInput (Write f) → MayBeText schema b most raw → ⊥
   unsent_excludes (WriteFailed n) printed rule may = rule
   unsent_excludes (NoMemberName at) printed rule may =
-      let layout = same_accepted schema may.layout L may.accepted accepted in
+      let layout = same_accepted laws schema may.layout L may.accepted accepted in
       let there = subst (λ (K : LaidSchema). Holds K most raw b may.value) layout may.holds in
-      let same = one_value_shown L most raw b may.value v there holds in
+      let same = laws.one_value L most raw b may.value v there holds in
       let whole = may.whole in
       let told = printed.0 in
       let is : is_whole may.value ≡ is_whole v = ap is_whole same in

@@ -1,42 +1,63 @@
 -- What holds of the tool's answers together, whichever they are.
-use Rattle.std.specs.Prelude.{ℕ, ◌≡◌, List, Bool}
+use Rattle.std.specs.Prelude.{ℕ, ◌≡◌, List, Bool, true, Option, Some, Result}
 use Rattle.fb_layout.specs.Laid.{LaidSchema}
 use Rattle.fb_value.specs.declared.faults.ReadFault.{ReadFault}
 use Rattle.fb_value.specs.Bounds.{Bounds}
+use Rattle.fb_value.specs.Counts.{is_whole}
 use Rattle.fb_value.specs.Datum.{Datum}
 use Rattle.fb_value.specs.Num.{Bytes}
 use Rattle.fb_value.specs.Holds.{Holds, IsLeastFault}
 use Rattle.fb_value.specs.OldSlots.{OnlyOld}
 use Rattle.fb_json.specs.Texts.{json_text}
 use Rattle.fb_build.specs.Covered.{Covered}
-use Rattle.fb_conform.specs.Conforms.{Conforms}
+use Rattle.fb_read.specs.declared.views.View.{View}
 use Rattle.fb_conform.specs.Carry.{carry}
 use Rattle.flatc_tool.specs.SchemaTexts.{IsAccepted}
 use Rattle.flatc_tool.specs.Jobs.{JsonMeans, IsBinary, IsText, TextRefused, IsNotMemory}
+use Rattle.flatc_tool.specs.Checks.{IsSound, CheckRefused}
+use Rattle.flatc_tool.specs.Prints.{IsSent, PrintRefused}
+use Rattle.flatc_tool.specs.Evolution.{TextsConform}
+use Rattle.flatc_tool.specs.Answers.{TextAnswer, CheckAnswer, ViewAnswer, ValueAnswer, IsTextOrMemory, IsOkOrMemory, IsViewOf, IsValueOrMemory}
 use Rattle.flatc_tool.specs.declared.faults.ToolFault.{ToolFault}
 use Rattle.flatc_tool.specs.declared.faults.ToolFault.TheVariants.{Read}
 
--- What JSON means under a schema lies in its bytes, nothing else does, only slots in use have something, each byte belongs to the value
--- or is one of few zeros, and the bytes print as that value's text.
+-- Under a schema text the bytes hold the value, and `to_json` returns its text or runs out of memory.
+pub record HoldsAndPrints (schema : List ℕ) (b : Bytes) (most : Bounds) (raw : Bool) (L : LaidSchema) (v : Datum) : Type 0 where
+  pub holds : Holds L most raw b v
+  pub printed : (defaults : Bool) (r : Result (List ℕ) ToolFault) → TextAnswer schema b most raw defaults r → IsTextOrMemory (json_text L defaults v) r
+
+-- The value that a JSON text means is whole, it is held by the bytes and no other is, only slots in use have something, each byte belongs
+-- to the value or is one of few zeros, and each call on these bytes returns what is the value's, or runs out of memory.
 pub record CarriesValue (schema : List ℕ) (b : Bytes) (most : Bounds) (L : LaidSchema) (v : Datum) : Type 0 where
-  pub holds : (raw : Bool) → Holds L most raw b v
+  pub whole : is_whole v ≡ true
+  pub here : (raw : Bool) → HoldsAndPrints schema b most raw L v
   pub only : (raw : Bool) (w : Datum) → Holds L most raw b w → w ≡ v
   pub old_slots : OnlyOld L b
   pub covered : Covered L b
-  -- under any new schema that conforms, the bytes hold that value with new fields at defaults and deprecated ones gone
-  pub evolved : (raw : Bool) (new : List ℕ) (K : LaidSchema) → IsAccepted new K → Conforms L K → Holds K most raw b (carry L K v)
-  pub printed : (raw defaults : Bool) (text : List ℕ) → IsText schema b most raw defaults text → text ≡ json_text L defaults v
+  pub checked : (raw : Bool) (r : Result (Unit {0}) ToolFault) → CheckAnswer schema (Some b) most raw r → IsOkOrMemory r
+  pub viewed : (raw : Bool) (r : Result View ReadFault) → ViewAnswer L b most raw r → IsViewOf v r
+  pub read : (raw : Bool) (r : Result Datum ReadFault) → ValueAnswer L b most raw r → IsValueOrMemory v r
+  -- under any new schema text that conforms, the bytes are those of that value with new fields at defaults and deprecated ones gone
+  pub evolved : (raw : Bool) (new : List ℕ) (K : LaidSchema) → TextsConform schema new → IsAccepted new K → HoldsAndPrints new b most raw K (carry L K v)
 
 -- JSON that means a value becomes bytes that carry exactly it.
 abbrev pub JsonIsCarried : Type 0
 JsonIsCarried = (schema json : List ℕ) (most : Bounds) (unknown : Bool) (b : Bytes) → IsBinary schema json most unknown b
     → (L : LaidSchema) → IsAccepted schema L → (v : Datum) → JsonMeans L most unknown json v → CarriesValue schema b most L v
 
--- where no value lies, the bytes have a least fault, and no other is answered
+-- Where no value lies, the bytes have a least fault; no call has anything to return for them, and none returns another fault.
 pub record NoneLies (schema : List ℕ) (b : Bytes) (most : Bounds) (raw : Bool) (L : LaidSchema) : Type 0 where
   pub fault : ReadFault
   pub least : IsLeastFault L most raw b fault
+  -- `to_json`
+  pub no_text : (defaults : Bool) (text : List ℕ) → ¬ IsText schema b most raw defaults text
   pub answered : (f : ToolFault) → TextRefused schema b most raw f → IsNotMemory f → f ≡ Read fault
+  -- `check`
+  pub unsound : ¬ IsSound schema (Some b) most raw
+  pub checked : (f : ToolFault) → CheckRefused schema (Some b) most raw f → IsNotMemory f → f ≡ Read fault
+  -- `print_to`
+  pub unsent : (defaults : Bool) (start known : Option (List ℕ)) → ¬ IsSent schema b most raw defaults start known
+  pub printed : (defaults : Bool) (start known : Option (List ℕ)) (f : ToolFault) → PrintRefused schema b most raw defaults start known f → IsNotMemory f → f ≡ Read fault
 
 -- Bytes in which no value lies are refused with their least fault.
 abbrev pub OthersAreRefused : Type 0

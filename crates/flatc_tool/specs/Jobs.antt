@@ -7,6 +7,7 @@ use Rattle.fb_value.specs.declared.faults.ReadFault.{ReadFault}
 use Rattle.fb_value.specs.Bounds.{Bounds}
 use Rattle.fb_value.specs.Counts.{is_whole}
 use Rattle.fb_value.specs.Datum.{Datum}
+use Rattle.fb_value.specs.Fits.{FitsRoot}
 use Rattle.fb_value.specs.Num.{Bytes}
 use Rattle.fb_value.specs.Room.{room_of}
 use Rattle.fb_value.specs.Holds.{Holds, Refuses}
@@ -43,6 +44,7 @@ pub record IsBinary (schema json : List ℕ) (most : Bounds) (unknown : Bool) (b
   pub accepted : IsAccepted schema layout
   pub value : Datum
   pub means : JsonMeans layout most unknown json value
+  pub fits : FitsRoot layout value
   pub small : room_of layout value ≤ most_room
   pub holds : (raw : Bool) → Holds layout most raw b value
   pub only : (raw : Bool) (v : Datum) → Holds layout most raw b v → v ≡ value

@@ -1,11 +1,15 @@
 pub mod JsonText
+pub mod LayerLaws
 pub mod Jobs
+pub mod Answers
 pub mod Headline
+pub mod Chains
 pub mod SchemaTexts
 pub mod FaultNumbers
 pub mod FaultNames
 pub mod FaultPlaces
 pub mod FaultLines
+pub mod Reports
 pub mod Heard
 pub mod Checks
 pub mod Prints

@@ -5,6 +5,7 @@ ghost use Rattle.flatc_tool.specs.Jobs.{IsNotMemory};
 ghost use Rattle.flatc_tool.specs.SchemaTexts.{ForEachText};
 
 use crate::faults::ToolFault;
+use crate::laws::layer_laws;
 use crate::schema_layouts::schema_of;
 use fb_layout::Layout;
 use fb_read::{Entries, verify};
@@ -20,6 +21,7 @@ fn check_bytes(layout: &Layout, bytes: &[u8], limits: Limits, raw: bool) -> Resu
     ensures exact { IfErr result (λ f. ForEachText layout.now (λ schema.
         ¬ IsSound schema (Some bytes.now) limits raw)) }
 {
+    layer_laws();
     let mut entries = Entries::new();
     match verify(layout, bytes, limits, raw, &mut entries) {
         Ok(_) => Ok(()),
@@ -45,6 +47,7 @@ pub fn check(
     ensures exact { IfErr result (λ f. IsNotMemory f
         → ¬ IsSound schema.now (option_map (λ b. b.now) bytes.entry) limits raw) }
 {
+    layer_laws();
     let layout = match schema_of(alloc, schema) {
         Ok(layout) => layout,
         Err(fault) => return Err(ToolFault::Schema(fault)),

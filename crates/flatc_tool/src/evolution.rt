@@ -5,6 +5,7 @@ ghost use Rattle.flatc_tool.specs.Jobs.{IsNotMemory};
 ghost use Rattle.flatc_tool.specs.SchemaTexts.{ForEachText};
 
 use crate::faults::ToolFault;
+use crate::laws::layer_laws;
 use crate::schema_layouts::schema_of;
 use fb_conform::conform;
 use fb_layout::Layout;
@@ -17,6 +18,7 @@ fn conform_to(alloc: Global, was: &Layout, new: &[u8]) -> Result<(), ToolFault>
     ensures exact { IfErr result (λ f. IsNotMemory f
         → ForEachText was.now (λ old. ¬ TextsConform old new.now)) }
 {
+    layer_laws();
     let is = match schema_of(alloc, new) {
         Ok(layout) => layout,
         Err(fault) => return Err(ToolFault::Newer(fault)),
@@ -37,6 +39,7 @@ pub fn conform_texts(alloc: Global, old: &[u8], new: &[u8]) -> Result<(), ToolFa
     ensures refused { IfErr result (ConformRefused old.now new.now) }
     ensures exact { IfErr result (λ f. IsNotMemory f → ¬ TextsConform old.now new.now) }
 {
+    layer_laws();
     let was = match schema_of(alloc, old) {
         Ok(layout) => layout,
         Err(fault) => return Err(ToolFault::Older(fault)),

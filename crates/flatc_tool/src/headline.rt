@@ -1,15 +1,46 @@
 //! What holds of the tool's answers together.
 ghost use Rattle.flatc_tool.specs.Headline.{JsonIsCarried, OthersAreRefused};
+ghost use Rattle.flatc_tool.specs.Chains.{OldProgramsRead, ChainsConform, ChainsCarry};
+
+use crate::laws::layer_laws;
 
 /// Whatever bytes `to_binary` returns for a schema and a JSON text hold the value that the JSON
-/// means and no other, with only slots in use, and whatever text `to_json` returns for them is that
-/// value's.
+/// means and no other, with only slots in use; `to_json`, `check`, `verify` and `read` return for
+/// them what is that value's, or run out of memory, and so does `to_json` under a new schema that
+/// conforms.
 pub fn json_is_carried()
     ensures { JsonIsCarried }
-{}
+{
+    layer_laws();
+}
 
 /// Bytes in which no value lies are refused with the least fault, whose rule fails at a place that
-/// is reached.
+/// is reached: by `to_json`, `check` and `print_to`.
 pub fn others_are_refused()
     ensures { OthersAreRefused }
-{}
+{
+    layer_laws();
+}
+
+/// Whatever bytes `to_binary` returns under a new schema hold, under an old one that it conforms to,
+/// the value without what the old one doesn't know.
+pub fn old_programs_read()
+    ensures { OldProgramsRead }
+{
+    layer_laws();
+}
+
+/// Schema texts that conform one by one conform from the first to the last.
+pub fn chains_conform()
+    ensures { ChainsConform }
+{
+    layer_laws();
+}
+
+/// Whatever bytes `to_binary` returns under the first of schema texts that conform one by one hold,
+/// under the last, the value carried from each to the next.
+pub fn chains_carry()
+    ensures { ChainsCarry }
+{
+    layer_laws();
+}

@@ -1,9 +1,9 @@
 //! A reader that remembers whether its last read failed, and all the bytes of one.
-ghost use Rattle.std.specs.Prelude.{◌≡◌, ◌↔◌, ◌<◌, ◌≤◌, length, false, IsTrue, IfOk, IfSome};
+ghost use Rattle.std.specs.Prelude.{◌≡◌, ◌↔◌, ◌<◌, ◌≤◌, length, false, IsTrue, IfOk, IfErr, IfSome};
 ghost use Rattle.std.specs.Prelude.{IsErr, IsErrOf};
 ghost use Rattle.std.specs.Io.{ReadsAtMost};
 ghost use Rattle.std.specs.Io.KnownBytes.{ReadConsumes};
-ghost use Rattle.flatc_tool.specs.Heard.{read_failed, reader_of};
+ghost use Rattle.flatc_tool.specs.Heard.{read_failed, reader_of, IsOfReading};
 ghost use Rattle.flatc_tool.specs.declared.faults.ToolFault.TheVariants.{FileRead, FileTooLong};
 
 use crate::faults::ToolFault;
@@ -83,6 +83,7 @@ pub fn take_all<R: Read>(
     ensures long { IsErrOf result FileTooLong
         → IfSome (R.remaining (reader_of from.old)) (λ xs. most < length xs) }
     ensures failed { IsErrOf result FileRead ↔ IsTrue (read_failed from.new) }
+    ensures faults { IfErr result IsOfReading }
 {
     let limit = most as usize;
     let mut found = Vec::new(alloc);
@@ -97,9 +98,9 @@ pub fn take_all<R: Read>(
         if n > limit - found.len() {
             return Err(ToolFault::FileTooLong);
         }
-        if found.extend_from_slice(&chunk[..n]).is_err() {
-            return Err(ToolFault::Memory);
-        }
+        found
+            .extend_from_slice(&chunk[..n])
+            .map_err(|_| ToolFault::Memory)?;
     }
     Err(ToolFault::FileTooLong)
 }

@@ -7,6 +7,7 @@ ghost use Rattle.flatc_tool.specs.JsonText.{IsTree};
 ghost use Rattle.flatc_tool.specs.SchemaTexts.{ForEachText};
 
 use crate::faults::ToolFault;
+use crate::laws::layer_laws;
 use crate::schema_layouts::schema_of;
 use fb_build::build;
 use fb_json::value_of;
@@ -43,6 +44,7 @@ fn binary_under(
     ensures exact { IfErr result (λ f. IsNotMemory f → ForEachText layout.now (λ schema.
         ¬ MayBeBinary schema json.now limits unknown)) }
 {
+    layer_laws();
     let tree = match tree_of(alloc, json) {
         Ok(tree) => tree,
         Err(fault) => return Err(fault),
@@ -75,6 +77,7 @@ pub fn to_binary(
     ensures exact { IfErr result
         (λ f. IsNotMemory f → ¬ MayBeBinary schema.now json.now limits unknown) }
 {
+    layer_laws();
     let layout = match schema_of(alloc, schema) {
         Ok(layout) => layout,
         Err(fault) => return Err(ToolFault::Schema(fault)),

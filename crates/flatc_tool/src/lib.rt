@@ -7,6 +7,7 @@ mod faults;
 mod headline;
 mod heard;
 mod jobs;
+mod laws;
 mod lines;
 mod names;
 mod prints;
@@ -25,7 +26,9 @@ pub use fb_schema::TypeId;
 pub use fb_syntax::SyntaxFault;
 pub use fb_text::{Noted, WriteFault};
 pub use fb_value::{Limits, ReadFault};
-pub use headline::{json_is_carried, others_are_refused};
+pub use headline::{
+    chains_carry, chains_conform, json_is_carried, old_programs_read, others_are_refused,
+};
 pub use heard::{Heard, take_all};
 pub use jobs::to_binary;
 pub use lines::fault_line;

@@ -6,6 +6,7 @@ ghost use Rattle.flatc_tool.specs.SchemaTexts.{ForEachText};
 ghost use Rattle.flatc_tool.specs.Prints.{IsSent, PrintRefused, TellsFailure, IfUnwritten, IsOfInput, text_fault};
 
 use crate::faults::ToolFault;
+use crate::laws::layer_laws;
 use crate::schema_layouts::schema_of;
 use fb_json::TextFault;
 use fb_layout::Layout;
@@ -34,6 +35,7 @@ fn print_under<W: Write>(
     ensures exact { IfErr result (λ f. IsOfInput f → ForEachText layout.now (λ schema.
         ¬ MayBeText schema bytes.now limits raw)) }
 {
+    layer_laws();
     let _names = layout.schema().types(); // tells that names are UTF-8
     let mut entries = Entries::new();
     let view = match verify(layout, bytes, limits, raw, &mut entries) {
@@ -70,6 +72,7 @@ pub fn print_to<W: Write>(
     ensures untouched { IfUnwritten result (out.new ≡ out.old) }
     ensures exact { IfErr result (λ f. IsOfInput f → ¬ MayBeText schema.now bytes.now limits raw) }
 {
+    layer_laws();
     let layout = match schema_of(alloc, schema) {
         Ok(layout) => layout,
         Err(fault) => return Err(ToolFault::Schema(fault)),

@@ -6,6 +6,7 @@ ghost use Rattle.fb_layout.specs.Laid.{LaidSchema};
 ghost use Rattle.flatc_tool.specs.declared.schema_layouts.SchemaTextFault.TheVariants.{Syntax};
 ghost use Rattle.flatc_tool.specs.SchemaTexts.{IsAccepted, IsRefused, IsWant};
 
+use crate::laws::layer_laws;
 use fb_declare::{SchemaFault, declare};
 use fb_layout::{Layout, LayoutFault, lay};
 use fb_schema::TypeId;
@@ -75,6 +76,7 @@ pub fn schema_of(alloc: Global, text: &[u8]) -> Result<Layout, SchemaTextFault>
         ↔ (¬ (IsUtf8 text.now) × (at ≡ utf8_valid_len text.now))) }
     ensures exact { IfErr result (λ f. ¬ (IsWant f) → (L : LaidSchema) → ¬ (IsAccepted text.now L)) }
 {
+    layer_laws();
     let decls = match parse(alloc, text) {
         Ok(decls) => decls,
         Err(fault) => return Err(SchemaTextFault::Syntax(fault)),

@@ -25,7 +25,7 @@ returns-in-Fixed-clause-lies c =
     let slot = struct_slot L shape c.in-Some.structure.0 (parts_view c.in-Fixed.parts.items) wanted c.requires.simple fits in
     let long : length n.bytes ≡ length c.args.out.now.bytes + inline_size L shape = (let grown = grown_long c.args.out.now n c.lay_struct.ensures.grows in omega (arith, grown, c.lay_struct.ensures.free, slot.size)) in
     let whole : divides (inline_align L shape) (length n.bytes) ≡ true = sum_divides _ _ _ _ c.requires.whole (simple_multiple L shape c.requires.simple) long in
-    rw (c.in-Fixed.is, view-Fixed c.in-Fixed.parts) (struct_end L n.most n.bytes shape c.in-Some.structure.0 (parts_view c.in-Fixed.parts.items) wanted c.lay_struct.ensures.lies c.lay_struct.ensures.padded whole (rw c.lay_struct.ensures.most c.requires.wide) (omega (arith, long)))
+    rw (c.in-Fixed.is, view-Fixed c.in-Fixed.parts) (struct_end L n.most n.bytes shape c.in-Some.structure.0 (parts_view c.in-Fixed.parts.items) wanted c.lay_struct.ensures.lies c.lay_struct.ensures.inline whole (rw c.lay_struct.ensures.most c.requires.wide) (omega (arith, long)))
 
 pub returns-in-None-clause-lies : goal.returns-in-None-clause-lies
 returns-in-None-clause-lies c =

@@ -2,7 +2,7 @@ use Rattle.std.proofs.Common.{◌≡◌, ◌≤◌, ◌+◌, ◌-◌, ◌∙◌,
 use Rattle.fb_layout.specs.Laid.{stored_kind, parts_of, struct_at}
 use Rattle.fb_value.specs.declared.values.Value.{the_lemmas}
 use Rattle.fb_build.proofs.Grown.{same_grows, then_grows}
-use Rattle.fb_build.proofs.StructSteps.{index_past, part_fits_at, struct_known, kind_found, none_from, whole_from, ends_before, begins_next, one_laid, whole_padded}
+use Rattle.fb_build.proofs.StructSteps.{index_past, part_fits_at, struct_known, kind_found, none_from, whole_from, ends_before, begins_next, one_laid, whole_tight}
 use Rattle.fb_build.proofs.StructPads.{pads_none, pads_more, pads_whole}
 use Rattle.fb_build.proofs.structs.+structs.Goals as goal
 
@@ -83,7 +83,7 @@ lay_struct-loop-k-preserved t c =
     let offset = c.offset_of-offset.ensures in
     let spent : c.lay_inline.new.out.free + c.loop-k.behind ≡ c.loop-k.out.free + slice_index (struct_at L s).offsets (n - 1 - k) = omega (arith, before, inv.begins, offset, c.size_of.ensures, c.take_zeros.ensures.free, now.free) in
     let under : slice_index (struct_at L s).offsets (n - 1 - k) ≤ c.loop-k.behind = omega (arith, before, inv.begins) in
-    let lies = one_laid L s n k items known c.loop-k-test.true kind at c.loop-k.out c.lay_inline.new.out c.loop-k.behind c.index.result.now c.index.ensures grows spent under now.lies now.padded inv.lies in
+    let lies = one_laid L s n k items known c.loop-k-test.true kind at c.loop-k.out c.lay_inline.new.out c.loop-k.behind c.index.result.now c.index.ensures grows spent under now.lies now.inline inv.lies in
     let pads = pads_more L s c.loop-k.out c.take_zeros.new.self c.lay_inline.new.out c.loop-k.behind (n - 1 - k) _ (slice_index (struct_at L s).offsets (n - 1 - k)) kind at (omega (arith, known.offsets, c.loop-k-test.true)) refl c.take_zeros.ensures.bytes (omega (arith, before, inv.begins, offset, c.size_of.ensures)) now.grows now.free inv.pads in
     record {
       begins = offset ∙ begins_next L s n k items known c.loop-k-test.true kind at;
@@ -99,13 +99,13 @@ lay_struct-returns-clause-lies t c =
     let fields = c.parts_of-fields.result.now in
     whole_from c.args.layout.now c.loop-k.out c.take_zeros-2.new.self c.loop-k.behind c.args.structure.0 (length fields) c.loop-k.k c.args.parts.now.items c.loop-k-test.false c.take_zeros-2.ensures.grows (omega (arith, c.take_zeros-2.ensures.free)) c.loop-k.invariant.lies
 
-pub lay_struct-returns-clause-padded : goal.lay_struct-returns-clause-padded
-lay_struct-returns-clause-padded t c =
+pub lay_struct-returns-clause-inline : goal.lay_struct-returns-clause-inline
+lay_struct-returns-clause-inline t c =
     let L = c.args.layout.now in
     let s = c.args.structure.0 in
     let fields = c.parts_of-fields.result.now in (
       pads_whole L s c.loop-k.out.bytes c.take_zeros-2.new.self.bytes c.loop-k.behind c.take_zeros-2.ensures.bytes c.loop-k.invariant.pads,
-      whole_padded L c.loop-k.out c.take_zeros-2.new.self c.loop-k.behind s (length fields) c.loop-k.k c.args.parts.now.items c.loop-k-test.false c.take_zeros-2.ensures.grows (omega (arith, c.take_zeros-2.ensures.free)) c.loop-k.invariant.lies,
+      whole_tight L c.loop-k.out c.take_zeros-2.new.self c.loop-k.behind s (length fields) c.loop-k.k c.args.parts.now.items c.loop-k-test.false c.take_zeros-2.ensures.grows (omega (arith, c.take_zeros-2.ensures.free)) c.loop-k.invariant.lies,
     )
 
 pub lay_struct-returns-clause-grows : goal.lay_struct-returns-clause-grows

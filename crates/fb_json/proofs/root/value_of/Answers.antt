@@ -8,7 +8,7 @@ use Rattle.fb_json.specs.declared.faults.JsonFault.TheVariants.{WrongShape}
 use Rattle.fb_json.specs.Means.{Means}
 use Rattle.fb_json.specs.Meant.{type_place}
 use Rattle.fb_json.specs.Outcome.{Fails}
-use Rattle.fb_json.proofs.Roots.{failed, means_root, none_root, refuses_root, root_object, root_other, may_lack}
+use Rattle.fb_json.proofs.Roots.{failed, means_root, none_root, refuses_root, first_root, root_object, root_other, may_lack}
 use Rattle.fb_json.proofs.Utf8Texts.{value_utf8}
 use Rattle.fb_json.proofs.Fitted.{root_fitted}
 use Rattle.fb_json.proofs.MeantWhole.{meant_whole}
@@ -81,4 +81,25 @@ returns-in-None-clause-refuses c =
     let deep = c.most_depth-depth.result in
     let many = c.most_cells-cells.result in
     refuses_root L c.args.limits c.args.unknown tree root (type_place root.0) deep many (c.root-root.ensures ∙ ap (λ (s : DeclaredSchema). s.root) c.schema.ensures.schema) c.most_depth-depth.ensures.exact c.most_cells-cells.ensures (WrongShape (type_place root.0))
+    (inr (root_other L c.args.unknown root (type_place root.0) deep many tree c.in-None.ensures))
+
+pub returns-in-Err-clause-first : goal.returns-in-Err-clause-first
+returns-in-Err-clause-first c =
+    let L = c.args.layout.now in
+    let tree = tree_view c.args.tree.now in
+    let root = c.root-root.result in
+    let deep = c.most_depth-depth.result in
+    let many = c.most_cells-cells.result in
+    let object = root_object L c.args.unknown root (type_place root.0) deep many tree (members_view c.in-Some.members.now.entries) c.in-Some.ensures in
+    let fails = subst (λ (r : Result (Datum × ℕ) JsonFault). Fails c.in-Err.fault r) object c.in-Err.ensures.gives in
+    first_root L c.args.limits c.args.unknown tree root (type_place root.0) deep many (c.root-root.ensures ∙ ap (λ (s : DeclaredSchema). s.root) c.schema.ensures.schema) c.most_depth-depth.ensures.exact c.most_cells-cells.ensures c.in-Err.fault (failed c.in-Err.fault _ fails)
+
+pub returns-in-None-clause-first : goal.returns-in-None-clause-first
+returns-in-None-clause-first c =
+    let L = c.args.layout.now in
+    let tree = tree_view c.args.tree.now in
+    let root = c.root-root.result in
+    let deep = c.most_depth-depth.result in
+    let many = c.most_cells-cells.result in
+    first_root L c.args.limits c.args.unknown tree root (type_place root.0) deep many (c.root-root.ensures ∙ ap (λ (s : DeclaredSchema). s.root) c.schema.ensures.schema) c.most_depth-depth.ensures.exact c.most_cells-cells.ensures (WrongShape (type_place root.0))
     (inr (root_other L c.args.unknown root (type_place root.0) deep many tree c.in-None.ensures))

@@ -2,4 +2,4 @@ use Rattle.flatc_tool.proofs.OneText.{refused_excludes}
 use Rattle.flatc_tool.proofs.evolution.conform_texts.Goals as goal
 
 pub returns-in-Err-clause-exact : goal.returns-in-Err-clause-exact
-returns-in-Err-clause-exact c rule texts = refused_excludes c.args.old.now c.in-Err.fault c.in-Err.ensures.refused rule texts.0 texts.2
+returns-in-Err-clause-exact c rule texts = refused_excludes c.layer_laws.ensures.laws c.args.old.now c.in-Err.fault c.in-Err.ensures.refused rule texts.0 texts.2

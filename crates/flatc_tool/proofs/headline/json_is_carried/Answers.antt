@@ -2,4 +2,4 @@ use Rattle.flatc_tool.proofs.Headlines.{json_is_carried_shown}
 use Rattle.flatc_tool.proofs.headline.json_is_carried.Goals as goal
 
 pub returns : goal.returns
-returns c = json_is_carried_shown
+returns c = json_is_carried_shown c.layer_laws.ensures.laws

@@ -15,9 +15,3 @@ returns-then-n-limit-clause-long g c = λ same.
     let (long, short, fine, given) = c.loop.invariant in
     let (taken, ended) = c.in-Ok.ensures.bytes in
     had_more _ _ _ c.loop.found.items _ c.in-Ok.n c.args.most given taken (search rules) (search rules)
-
-pub loop-preserved : goal.loop-preserved
-loop-preserved g c =
-    let (long, short, fine, given) = c.loop.invariant in
-    let (taken, ended) = c.in-Ok.ensures.bytes in
-    ?

@@ -7,7 +7,7 @@ use Rattle.flatc_tool.proofs.PrintSteps.{at_layout, sent, unsent, unsent_exclude
 use Rattle.flatc_tool.proofs.prints.print_under.Goals as goal
 
 pub returns-in-Err-clause-exact : goal.returns-in-Err-clause-exact
-returns-in-Err-clause-exact g c rule schema accepted = bytes_exclude schema c.args.bytes.now c.args.limits c.args.raw c.args.layout.now accepted c.in-Err.fault c.in-Err.ensures.fault
+returns-in-Err-clause-exact g c rule schema accepted = bytes_exclude c.layer_laws.ensures.laws schema c.args.bytes.now c.args.limits c.args.raw c.args.layout.now accepted c.in-Err.fault c.in-Err.ensures.fault
 
 pub returns-in-Ok-write_text-clause-printed : goal.returns-in-Ok-write_text-clause-printed
 returns-in-Ok-write_text-clause-printed g c schema accepted =
@@ -20,7 +20,7 @@ returns-in-Ok-write_text-clause-printed g c schema accepted =
     let small : All (λ x. x < 256) c.args.bytes.now = All-from_get_or (λ x. x < 256) c.args.bytes.now 0 (λ i less. (let fits = c.type_inv.bytes i in omega arith)) in
     let root = at_layout L view.layout.now view.table.0 c.args.defaults held.0 start known (Ok tt) c.in-Ok.ensures.root.0 c.in-Ok.ensures.root.1 printed in
     let names = c.types-names.ensures.types ∙ ap (λ (s : DeclaredSchema). s.types) c.schema.ensures.schema in
-    sent schema c.args.bytes.now c.args.limits c.args.raw c.args.defaults L accepted held.0 held.1 start known tt c.types-names.result.now names small root
+    sent c.layer_laws.ensures.laws schema c.args.bytes.now c.args.limits c.args.raw c.args.defaults L accepted held.0 held.1 start known tt c.types-names.result.now names small root
 
 pub returns-in-Err-write_text-clause-refused : goal.returns-in-Err-write_text-clause-refused
 returns-in-Err-write_text-clause-refused g c schema accepted =
@@ -32,7 +32,7 @@ returns-in-Err-write_text-clause-refused g c schema accepted =
     let known = g.W.Write.contents (writer_of c.write_text.new.out) in
     let printed = c.in-Err-write_text.ensures.printed held.0 (c.in-Ok.ensures.stands held.0 held.1) in
     let root = at_layout L view.layout.now view.table.0 c.args.defaults held.0 start known (Err fault) c.in-Ok.ensures.root.0 c.in-Ok.ensures.root.1 printed in
-    unsent schema c.args.bytes.now c.args.limits c.args.raw c.args.defaults L accepted held.0 held.1 start known fault root
+    unsent c.layer_laws.ensures.laws schema c.args.bytes.now c.args.limits c.args.raw c.args.defaults L accepted held.0 held.1 start known fault root
 
 pub returns-in-Err-write_text-clause-exact : goal.returns-in-Err-write_text-clause-exact
 returns-in-Err-write_text-clause-exact g c rule schema accepted =
@@ -44,4 +44,4 @@ returns-in-Err-write_text-clause-exact g c rule schema accepted =
     let known = g.W.Write.contents (writer_of c.write_text.new.out) in
     let printed = c.in-Err-write_text.ensures.printed held.0 (c.in-Ok.ensures.stands held.0 held.1) in
     let root = at_layout L view.layout.now view.table.0 c.args.defaults held.0 start known (Err fault) c.in-Ok.ensures.root.0 c.in-Ok.ensures.root.1 printed in
-    unsent_excludes schema c.args.bytes.now c.args.limits c.args.raw c.args.defaults L accepted held.0 held.1 start known fault root rule
+    unsent_excludes c.layer_laws.ensures.laws schema c.args.bytes.now c.args.limits c.args.raw c.args.defaults L accepted held.0 held.1 start known fault root rule

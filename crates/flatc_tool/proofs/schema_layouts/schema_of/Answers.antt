@@ -7,7 +7,6 @@ use Rattle.fb_syntax.specs.DeclsRead.{DeclsRead}
 use Rattle.fb_declare.specs.Declares.{Declares}
 use Rattle.fb_declare.specs.TypeFaults.{faults_of}
 use Rattle.fb_declare.specs.Faults.{least_of}
-use Rattle.fb_declare.proofs.OneSchema.{one_declared}
 use Rattle.flatc_tool.proofs.OneText.{none_least, syntax_refused}
 use Rattle.flatc_tool.proofs.schema_layouts.schema_of.Goals as goal
 
@@ -37,5 +36,5 @@ returns-in-Err-declare-clause-exact c no_want L accepted =
 pub returns-clause-exact : goal.returns-clause-exact
 returns-clause-exact c no_want L accepted =
     let same = c.in-Ok.ensures.exact accepted.decls accepted.parsed in
-    let schema = one_declared accepted.decls L.schema c.in-Ok-declare.schema accepted.declared (subst (λ (d : DeclsRead). Declares d c.in-Ok-declare.schema) same c.in-Ok-declare.ensures.declared) in
+    let schema = c.layer_laws.ensures.laws.one_schema accepted.decls L.schema c.in-Ok-declare.schema accepted.declared (subst (λ (d : DeclsRead). Declares d c.in-Ok-declare.schema) same c.in-Ok-declare.ensures.declared) in
     c.in-Err-lay.ensures.exact no_want L schema accepted.made

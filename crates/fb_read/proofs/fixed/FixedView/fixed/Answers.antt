@@ -6,8 +6,8 @@ use Rattle.fb_read.specs.Kinds.{structure_wanted}
 use Rattle.fb_read.proofs.Contained.{field_kind, field_within, field_struct, field_no_struct, field_past, structure_fits}
 use Rattle.fb_read.proofs.fixed.FixedView.fixed.Goals as goal
 
-pub returns-then-index-fields : goal.returns-then-index-fields
-returns-then-index-fields c ds lies =
+pub returns-then-index-fields-clause-shows : goal.returns-then-index-fields-clause-shows
+returns-then-index-fields-clause-shows c ds lies =
     let past : length c.parts_of-fields.result.now ≤ c.args.field = omega (arith, c.from-index.ensures, c.if-index-fields.true) in
     rw (field_past c.args.self.layout.now c.args.self.structure.0 c.parts_of-fields.result.now c.parts_of-fields.ensures.parts c.args.self.bytes.now c.args.self.at ds c.args.field past lies) refl
 
@@ -26,8 +26,8 @@ invariant_of-result c =
       within = rw (c.offset_of.ensures, structure_fits L (field_kind L x) c.in-Some.structure.0 wanted) (field_within L s xs c.parts_of-fields.ensures.parts c.schema-schema.ensures.made c.args.self.at _ c.args.field x less is c.args.self.within);
     }
 
-pub returns-in-Some : goal.returns-in-Some
-returns-in-Some c ds lies =
+pub returns-in-Some-clause-shows : goal.returns-in-Some-clause-shows
+returns-in-Some-clause-shows c ds lies =
     let L = c.args.self.layout.now in
     let xs = c.parts_of-fields.result.now in
     let x = c.index-fields-index.result in
@@ -38,8 +38,8 @@ returns-in-Some c ds lies =
     let wanted : structure_wanted (field_kind L x) ≡ Some c.in-Some.structure.0 = ap structure_wanted (sym kind) ∙ sym (c.structure_of.ensures L) ∙ ap (option_map (λ (t : TypeId). t.0)) c.in-Some.is in
     rw c.offset_of.ensures (field_struct L s xs c.parts_of-fields.ensures.parts c.schema-schema.ensures.made c.args.self.bytes.now c.args.self.at ds c.args.field x c.in-Some.structure.0 less is wanted lies)
 
-pub returns-in-None : goal.returns-in-None
-returns-in-None c ds lies =
+pub returns-in-None-clause-shows : goal.returns-in-None-clause-shows
+returns-in-None-clause-shows c ds lies =
     let L = c.args.self.layout.now in
     let xs = c.parts_of-fields.result.now in
     let x = c.index-fields-index.result in

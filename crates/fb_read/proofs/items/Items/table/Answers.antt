@@ -18,8 +18,8 @@ invariant_of-result c = record {
   lies = rw (c.u32_at.ensures, c.position-at.ensures) (item_table_lies c.args.self.layout.now c.args.self.bytes.now (stored_kind c.args.self.layout.now.schema c.args.self.kind) c.args.self.at c.args.self.len c.args.i c.requires c.args.self.lies c.in-Some.table.0 (sym (c.table_of.ensures c.args.self.layout.now) ∙ ap (option_map (λ (t : TypeId). t.0)) c.in-Some.is));
 }
 
-pub returns-in-Some : goal.returns-in-Some
-returns-in-Some c ds lies = rw (c.u32_at.ensures, c.position-at.ensures) (item_table c.args.self.layout.now c.args.self.bytes.now (stored_kind c.args.self.layout.now.schema c.args.self.kind) c.args.self.at c.args.self.len c.args.i c.requires ds c.in-Some.table.0 lies (sym (c.table_of.ensures c.args.self.layout.now) ∙ ap (option_map (λ (t : TypeId). t.0)) c.in-Some.is))
+pub returns-in-Some-clause-shows : goal.returns-in-Some-clause-shows
+returns-in-Some-clause-shows c ds lies = rw (c.u32_at.ensures, c.position-at.ensures) (item_table c.args.self.layout.now c.args.self.bytes.now (stored_kind c.args.self.layout.now.schema c.args.self.kind) c.args.self.at c.args.self.len c.args.i c.requires ds c.in-Some.table.0 lies (sym (c.table_of.ensures c.args.self.layout.now) ∙ ap (option_map (λ (t : TypeId). t.0)) c.in-Some.is))
 
-pub returns-in-None : goal.returns-in-None
-returns-in-None c ds lies = item_no_table c.args.self.layout.now c.args.self.bytes.now (stored_kind c.args.self.layout.now.schema c.args.self.kind) c.args.self.at c.args.self.len c.args.i c.requires ds lies (sym (c.table_of.ensures c.args.self.layout.now) ∙ ap (option_map (λ (t : TypeId). t.0)) c.in-None.is)
+pub returns-in-None-clause-shows : goal.returns-in-None-clause-shows
+returns-in-None-clause-shows c ds lies = item_no_table c.args.self.layout.now c.args.self.bytes.now (stored_kind c.args.self.layout.now.schema c.args.self.kind) c.args.self.at c.args.self.len c.args.i c.requires ds lies (sym (c.table_of.ensures c.args.self.layout.now) ∙ ap (option_map (λ (t : TypeId). t.0)) c.in-None.is)

@@ -22,10 +22,10 @@ invariant_of-result c = record {
   lies = rw (c.u32_at-in-Some.ensures, c.u32_at.ensures) (items_lie c.args.self.layout.now c.args.self.bytes.now c.args.self.table.0 c.args.self.at c.args.slot c.stored.result c.args.self.lies c.stored.ensures.stands c.in-Some.kind c.in-Some.at (sym c.vector.ensures ∙ c.in-Some.is));
 }
 
-pub returns-in-Some : goal.returns-in-Some
-returns-in-Some c d lies =
+pub returns-in-Some-clause-shows : goal.returns-in-Some-clause-shows
+returns-in-Some-clause-shows c d lies =
     let found = vector_found c.args.self.layout.now c.args.self.bytes.now c.stored.result c.in-Some.kind c.in-Some.at (entry_of d c.args.slot) (sym c.vector.ensures ∙ c.in-Some.is) (c.stored.ensures.stands d lies) in
     rw (c.u32_at-in-Some.ensures, c.u32_at.ensures) (found.0, found.1, (found.2, found.3))
 
-pub returns-in-None : goal.returns-in-None
-returns-in-None c d lies = vector_none c.args.self.layout.now c.args.self.bytes.now c.stored.result (entry_of d c.args.slot) (c.stored.ensures.stands d lies) (sym c.vector.ensures ∙ c.in-None.is)
+pub returns-in-None-clause-shows : goal.returns-in-None-clause-shows
+returns-in-None-clause-shows c d lies = vector_none c.args.self.layout.now c.args.self.bytes.now c.stored.result (entry_of d c.args.slot) (c.stored.ensures.stands d lies) (sym c.vector.ensures ∙ c.in-None.is)

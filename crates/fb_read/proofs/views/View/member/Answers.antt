@@ -17,8 +17,8 @@ invariant_of-result c = record {
   lies = rw c.u32_at.ensures (member_lies c.args.self.layout.now c.args.self.bytes.now c.args.self.table.0 c.args.self.at c.args.slot c.stored.result c.args.self.lies c.stored.ensures.stands c.in-Some.code c.in-Some.table c.in-Some.at (sym c.member.ensures ∙ c.in-Some.is));
 }
 
-pub returns-in-Some : goal.returns-in-Some
-returns-in-Some c d lies = rw c.u32_at.ensures (member_found c.args.self.layout.now c.args.self.bytes.now c.stored.result c.in-Some.code c.in-Some.table c.in-Some.at (entry_of d c.args.slot) (sym c.member.ensures ∙ c.in-Some.is) (c.stored.ensures.stands d lies))
+pub returns-in-Some-clause-shows : goal.returns-in-Some-clause-shows
+returns-in-Some-clause-shows c d lies = rw c.u32_at.ensures (member_found c.args.self.layout.now c.args.self.bytes.now c.stored.result c.in-Some.code c.in-Some.table c.in-Some.at (entry_of d c.args.slot) (sym c.member.ensures ∙ c.in-Some.is) (c.stored.ensures.stands d lies))
 
-pub returns-in-None : goal.returns-in-None
-returns-in-None c d lies = member_none c.args.self.layout.now c.args.self.bytes.now c.stored.result (entry_of d c.args.slot) (c.stored.ensures.stands d lies) (sym c.member.ensures ∙ c.in-None.is)
+pub returns-in-None-clause-shows : goal.returns-in-None-clause-shows
+returns-in-None-clause-shows c d lies = member_none c.args.self.layout.now c.args.self.bytes.now c.stored.result (entry_of d c.args.slot) (c.stored.ensures.stands d lies) (sym c.member.ensures ∙ c.in-None.is)

@@ -26,7 +26,7 @@ use Rattle.fb_value.specs.Places.{part_place, table_part, vtable}
 use Rattle.fb_value.specs.Tails.{from_end}
 use Rattle.std.proofs.Common.{◌<◌, ◌≤◌, ◌^◌, ◌⊎◌, inl, inr, max, length, map, slice_get}
 use Rattle.fb_build.proofs.ClosedTable.{IsClosed, old_closed, new_closed}
-use Rattle.fb_build.proofs.tables.close_table.Goals as goal
+use Rattle.fb_build.proofs.vtables.close_table.Goals as goal
 
 pub pad-requires-clause-power : goal.pad-requires-clause-power
 pad-requires-clause-power c = four_power

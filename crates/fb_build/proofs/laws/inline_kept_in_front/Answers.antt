@@ -1,0 +1,5 @@
+use Rattle.fb_build.proofs.InlineMoved.{inline_front_shown}
+use Rattle.fb_build.proofs.laws.inline_kept_in_front.Goals as goal
+
+pub returns : goal.returns
+returns c = inline_front_shown

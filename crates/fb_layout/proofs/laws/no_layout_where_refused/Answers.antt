@@ -1,0 +1,5 @@
+use Rattle.fb_layout.proofs.OneSizing.{no_layout}
+use Rattle.fb_layout.proofs.laws.no_layout_where_refused.Goals as goal
+
+pub returns : goal.returns
+returns c = no_layout

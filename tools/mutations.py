@@ -1,0 +1,150 @@
+#!/usr/bin/env python3
+"""Tries the edits of crates/*/mutations: each turns the meaning of a function, and the prover has to refuse it.
+
+usage: tools/mutations.py [CRATE..] [--jobs N]   proves the crates, and then tries the edits of all or of these
+       tools/mutations.py --applies              only checks that each edit can still be applied
+
+An edit has the form that rt gives those in must-fail/: lines 'file: src/lib.rt', and then pairs of lines 'old: TEXT'
+and 'new: TEXT', where the old text is in that file exactly once. It is tried in a copy of the tree, over the work that
+the build kept, so that only what changed is proved again. The last line is 'N refused, M not refused'.
+"""
+import argparse
+import glob
+import os
+import re
+import shutil
+import subprocess
+import sys
+import tempfile
+from concurrent.futures import ThreadPoolExecutor
+
+from build import ROOT, copy_below, jobs_here, read_crates
+
+
+def edited(edit, folder):
+    """The texts of the files that an edit changes, by their paths in the crate, or why it can't be applied."""
+    texts, path, old = {}, "", ""
+    with open(edit, encoding="utf-8") as it:
+        lines = it.read().split("\n")
+    for line in lines:
+        if line.startswith("file: "):
+            path = line[len("file: ") :].strip()
+        elif line.startswith("old: "):
+            old = line[len("old: ") :]
+        elif line.startswith("new: "):
+            if path not in texts:
+                try:
+                    with open(f"{folder}/{path}", encoding="utf-8") as it:
+                        texts[path] = it.read()
+                except OSError:
+                    return None, f"there is no file {path}"
+            found = texts[path].count(old) if old else 0
+            if found != 1:
+                return None, f"its old text is in {path} {found} times, and not once"
+            texts[path] = texts[path].replace(old, line[len("new: ") :])
+    return (texts, "") if texts else (None, "it changes nothing")
+
+
+def edits_of(name):
+    return sorted(glob.glob(f"{ROOT}/crates/{name}/mutations/*.edit"))
+
+
+def label(edit):
+    name, _, file = os.path.relpath(edit, f"{ROOT}/crates").partition("/mutations/")
+    return f"{name}/{file.removesuffix('.edit')}"
+
+
+def do_all_apply(crates):
+    failed = 0
+    edits = [(it, name) for name in crates for it in edits_of(name)]
+    for edit, name in edits:
+        _, why = edited(edit, f"{ROOT}/crates/{name}")
+        if why:
+            failed += 1
+            print(f"mutation {label(edit)}: can't be applied: {why}")
+    print("mutations that can be applied:")
+    print(f"{len(edits) - failed} passed, {failed} failed")
+    return failed
+
+
+def check(folder):
+    how = {"stdin": subprocess.DEVNULL, "stdout": subprocess.PIPE, "stderr": subprocess.STDOUT, "errors": "replace"}
+    ran = subprocess.run(["rt", "check", "--jobs", "1"], cwd=folder, check=False, **how)
+    return ran.returncode, ran.stdout.rstrip("\n").split("\n")
+
+
+def judge(edit, folder):
+    """Whether the prover refuses an edit in a copy of its crate, and a line about it. The copy is left as it was."""
+    texts, why = edited(edit, folder)
+    if texts is None:
+        return False, f"{label(edit)}: can't be applied: {why}"
+    were = {}
+    for path, text in texts.items():
+        with open(f"{folder}/{path}", encoding="utf-8") as it:
+            were[path] = it.read()
+        with open(f"{folder}/{path}", "w", encoding="utf-8") as it:
+            it.write(text)
+    status, lines = check(folder)
+    for path, text in were.items():
+        with open(f"{folder}/{path}", "w", encoding="utf-8") as it:
+            it.write(text)
+    errors = [it for it in lines if re.match(r"(note: )?\S+:\d+:\d+:", it) and (": error" in it or it.startswith("note: "))]
+    # a line that names the clause says more than one of a proof file that no longer fits
+    reasons = [it for it in errors if re.search("-clause-|is not proved", it)] or errors
+    if status == 1 and any(it.startswith("logic=not-proved") for it in lines) and reasons:
+        return True, f"{label(edit)}: refused: {reasons[0][:200]}"
+    if status == 0:
+        return False, f"{label(edit)}: the crate is still proved with it"
+    return False, "\n".join([f"{label(edit)}: it didn't reach the prover:", *lines[-6:]])
+
+
+def try_crate(crates, name, edits):
+    """Tries edits of one crate in turn, in a copy of what it stands on."""
+    with tempfile.TemporaryDirectory(prefix=f"mutations-{name}-") as room:
+        copy_below(crates, name, room)
+        folder = f"{room}/crates/{name}"
+        shutil.copytree(f"{ROOT}/crates/{name}", folder, ignore=shutil.ignore_patterns("must-fail", "mutations"))
+        tried = []
+        for edit in edits:
+            tried.append(judge(edit, folder))
+            print(tried[-1][1], flush=True)
+        if check(folder)[0]:
+            return [(False, f"{name}: the crate itself isn't proved behind these edits")]
+        return tried
+
+
+def parts_of(crates, names, lanes):
+    """The edits crate by crate, those of a crate in several parts where that keeps the lanes busy."""
+    total = sum(len(edits_of(it)) for it in names)
+    most = max(-(-total // (2 * lanes)), 1)
+    parts = []
+    for name in names:
+        edits = edits_of(name)
+        parts += [(name, edits[at : at + most]) for at in range(0, len(edits), most)]
+    return sorted(parts, key=lambda it: -len(it[1]))
+
+
+def main():
+    parser = argparse.ArgumentParser(description=__doc__.split("\n", 1)[0])
+    parser.add_argument("crates", nargs="*")
+    parser.add_argument("--applies", action="store_true")
+    parser.add_argument("--jobs", type=int, default=0)
+    given = parser.parse_args()
+    crates = read_crates()
+    if given.applies:
+        return 1 if do_all_apply(crates) else 0
+    names = [it for it in crates if it in given.crates or not given.crates]
+    lanes = given.jobs or jobs_here()
+    with ThreadPoolExecutor(lanes) as pool:
+        parts = parts_of(crates, names, lanes)
+        tried = [one for it in pool.map(lambda it: try_crate(crates, *it), parts) for one in it]
+    refused = sum(well for well, _ in tried)
+    for well, said in tried:
+        if not well:
+            print(f"NOT REFUSED: {said}")
+    print(f"{refused} refused, {len(tried) - refused} not refused")
+    return 0 if refused == len(tried) else 1
+
+
+if __name__ == "__main__":
+    sys.exit(main())
