@@ -91,6 +91,7 @@ def judge(edit, folder):
     errors = [it for it in lines if re.match(r"(note: )?\S+:\d+:\d+:", it) and (": error" in it or it.startswith("note: "))]
     # a line that names the clause says more than one of a proof file that no longer fits
     reasons = [it for it in errors if re.search("-clause-|is not proved", it)] or errors
+    reasons += [it for it in lines if re.match(r"fn \S+: (not proved|no proof)", it)]
     if status == 1 and any(it.startswith("logic=not-proved") for it in lines) and reasons:
         return True, f"{label(edit)}: refused: {reasons[0][:200]}"
     if status == 0:
