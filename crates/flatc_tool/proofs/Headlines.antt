@@ -1,5 +1,5 @@
 -- What holds of the tool's answers together.
-use Rattle.std.proofs.Common.{◌≡◌, ◌⊎◌, inl, inr, ℕ, List, Bool, true, false, Option, None, Some, Result, Ok, Err, refl, sym, ap, ◌∙◌, subst}
+use Rattle.std.proofs.Common.{◌≡◌, ℕ, List, Bool, true, Option, None, Some, Result, Ok, Err, ap, ◌∙◌, subst}
 use Rattle.fb_build.specs.Covered.{Covered}
 use Rattle.fb_layout.specs.Laid.{LaidSchema}
 use Rattle.fb_value.specs.declared.faults.ReadFault.{ReadFault}
@@ -19,7 +19,7 @@ use Rattle.fb_conform.specs.Carry.{carry}
 use Rattle.flatc_tool.specs.LayerLaws.{LayerLaws}
 use Rattle.flatc_tool.specs.SchemaTexts.{IsAccepted}
 use Rattle.flatc_tool.specs.Jobs.{JsonMeans, IsBinary, IsText, TextRefused, IsNotMemory}
-use Rattle.flatc_tool.specs.Checks.{IsSound, CheckRefused}
+use Rattle.flatc_tool.specs.Checks.{CheckRefused}
 use Rattle.flatc_tool.specs.Prints.{PrintRefused}
 use Rattle.flatc_tool.specs.Evolution.{TextsConform}
 use Rattle.flatc_tool.specs.Answers.{TextAnswer, CheckAnswer, ViewAnswer, ValueAnswer, IsTextOrMemory, IsOkOrMemory, IsViewOf, IsValueOrMemory}

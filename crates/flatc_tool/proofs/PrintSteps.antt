@@ -1,6 +1,5 @@
 -- What the layers of printing say together.
-use Rattle.std.proofs.Common.{◌≡◌, ℕ, ◌<◌, List, [], ◌++◌, length, take, map, Bool, true, false, Option, None, Some, Result, Ok, Err, IsUtf8, All, refl, sym, ap, ◌∙◌, subst}
-use Rattle.std.specs.Io.KnownBytes.{Appends}
+use Rattle.std.proofs.Common.{◌≡◌, ℕ, ◌<◌, List, map, Bool, true, Option, Result, Ok, Err, All, refl, ap, subst}
 use Rattle.fb_schema.specs.Seen.{type_seen}
 use Rattle.fb_schema.specs.declared.types.TypeInfo.{TypeInfo}
 use Rattle.fb_layout.specs.Laid.{LaidSchema}
@@ -8,20 +7,16 @@ use Rattle.fb_value.specs.Bounds.{Bounds}
 use Rattle.fb_value.specs.Counts.{is_whole}
 use Rattle.fb_value.specs.Datum.{Datum}
 use Rattle.fb_value.specs.Num.{Bytes}
-use Rattle.fb_value.specs.Holds.{Holds, Refuses}
-use Rattle.fb_json.specs.declared.faults.Place.{Place}
-use Rattle.fb_json.specs.declared.faults.TextFault.TheVariants as the_text
+use Rattle.fb_value.specs.Holds.{Holds}
 use Rattle.fb_json.specs.Meant.{type_place}
 use Rattle.fb_json.specs.Texts.{json_text}
 use Rattle.fb_text.specs.declared.faults.WriteFault.{WriteFault}
 use Rattle.fb_text.specs.declared.faults.WriteFault.TheVariants.{NoMemberName, WriteFailed}
 use Rattle.fb_text.specs.Printed.{IsPrinted}
-use Rattle.fb_text.specs.Writes.{counted}
 use Rattle.flatc_tool.specs.LayerLaws.{LayerLaws}
-use Rattle.flatc_tool.specs.SchemaTexts.{IsAccepted, IsWant}
+use Rattle.flatc_tool.specs.SchemaTexts.{IsAccepted}
 use Rattle.flatc_tool.specs.Jobs.{IsText, MayBeText, TextRefused}
 use Rattle.flatc_tool.specs.Prints.{IsSent, PrintRefused, IsOfInput, text_fault}
-use Rattle.flatc_tool.specs.declared.schema_layouts.SchemaTextFault.{SchemaTextFault}
 use Rattle.flatc_tool.specs.declared.faults.ToolFault.{ToolFault}
 use Rattle.flatc_tool.specs.declared.faults.ToolFault.TheVariants.{Schema, Json, Build, Read, Text, Write, Breach, Older, Newer, FileRead, FileWrite, FileTooLong, BadJson, Memory}
 use Rattle.flatc_tool.proofs.OneText.{same_accepted}

@@ -1,5 +1,5 @@
 -- What a refusal of a check excludes.
-use Rattle.std.proofs.Common.{List, ℕ, Bool, Option, None, Some, ap, subst}
+use Rattle.std.proofs.Common.{List, ℕ, Bool, Option, None, Some, subst}
 use Rattle.fb_layout.specs.Laid.{LaidSchema}
 use Rattle.fb_value.specs.declared.faults.ReadFault.{ReadFault}
 use Rattle.fb_value.specs.Bounds.{Bounds}

@@ -1,12 +1,11 @@
 -- The texts in a value that fits are UTF-8, and its numbers are short.
-use Rattle.std.proofs.Common.{◌≡◌, ℕ, ◌<◌, ◌^◌, ℤ, pos, negsuc, List, [], ◌∷◌, Option, None, Some, Bool, IsUtf8, slice_get, arith}
+use Rattle.std.proofs.Common.{◌<◌, ◌^◌, ℤ, pos, negsuc, List, [], ◌∷◌, Option, None, Some, IsUtf8, slice_get, arith}
 use Rattle.std.specs.Int.Signed.{mag}
 use Rattle.std.proofs.lemmas.Int.{ints}
 use Rattle.fb_schema.specs.declared.kinds.Base.{Base}
 use Rattle.fb_schema.specs.declared.kinds.Base.TheVariants.{Bool as Boolean, I8, U8, I16, U16, I32, U32, I64, U64}
-use Rattle.fb_schema.specs.Schema.{DeclaredType}
 use Rattle.fb_schema.specs.WellDeclared.{InRange}
-use Rattle.fb_layout.specs.Laid.{LaidSchema, Slot, StoredKind, scalar_kind, struct_kind, table_kind, union_kind, code_kind, text_kind, StoredShape, one_of, vector_of, slots_of, parts_of}
+use Rattle.fb_layout.specs.Laid.{LaidSchema, Slot, StoredKind, scalar_kind, struct_kind, table_kind, union_kind, text_kind, StoredShape, one_of, vector_of, slots_of, parts_of}
 use Rattle.fb_value.specs.Datum.{Datum, a_number, a_text, a_vector, a_struct, a_table, a_member, an_unknown, Parts, no_parts, more_parts, SlotEntries, no_entries, absent_entry, present_entry}
 use Rattle.fb_value.specs.Fits.{Fits, PartsFit, EachFits, EntriesFit, FitsKind, FitsRoot, kind_of_type}
 

@@ -1,7 +1,11 @@
 use Rattle.serde_json.specs.View.{view as tree_view}
 use Rattle.fb_value.specs.View.{view}
-use Rattle.flatc_tool.proofs.JobSteps.{value_refused, value_excludes, size_refused, size_excludes, binary_made}
+use Rattle.flatc_tool.proofs.JobSteps.{tree_excludes, value_refused, value_excludes, size_refused, size_excludes, binary_made}
 use Rattle.flatc_tool.proofs.jobs.binary_under.Goals as goal
+
+pub returns-in-Err-clause-exact : goal.returns-in-Err-clause-exact
+returns-in-Err-clause-exact c rule schema accepted =
+    tree_excludes c.layer_laws.ensures.laws schema c.args.json.now c.args.limits c.args.unknown c.args.layout.now accepted c.in-Err.fault c.in-Err.ensures.refused rule
 
 pub returns-in-Err-value_of-clause-refused : goal.returns-in-Err-value_of-clause-refused
 returns-in-Err-value_of-clause-refused c schema accepted =

@@ -1,4 +1,4 @@
-use Rattle.std.proofs.Common.{inl, inr, refl, string_bytes, codes}
+use Rattle.std.proofs.Common.{inr, refl, codes}
 use Rattle.flatc_tool.specs.Reports.{ended}
 use Rattle.flatc_tool.proofs.LinesTold.{told}
 use Rattle.flatc_tool.proofs.reports.write_line.Goals as goal
