@@ -83,8 +83,7 @@ fn defaults_flag<'a>(alloc: Global) -> Arg<'a>
 fn binary_command<'a>(alloc: Global) -> Result<Command<'a>, AllocError>
     ensures { IfOk result (HasApp binary_app) }
 {
-    let args = vec![
-        in alloc;
+    let args = vec![in alloc;
         unknown_flag(alloc),
         schema_path(alloc),
         json_path(alloc),
@@ -98,8 +97,7 @@ fn binary_command<'a>(alloc: Global) -> Result<Command<'a>, AllocError>
 fn json_command<'a>(alloc: Global) -> Result<Command<'a>, AllocError>
     ensures { IfOk result (HasApp json_app) }
 {
-    let args = vec![
-        in alloc;
+    let args = vec![in alloc;
         raw_flag(alloc),
         defaults_flag(alloc),
         schema_path(alloc),
@@ -113,8 +111,7 @@ fn json_command<'a>(alloc: Global) -> Result<Command<'a>, AllocError>
 fn check_command<'a>(alloc: Global) -> Result<Command<'a>, AllocError>
     ensures { IfOk result (HasApp check_app) }
 {
-    let args = vec![
-        in alloc;
+    let args = vec![in alloc;
         raw_flag(alloc),
         schema_path(alloc),
         buffer_path(alloc, false),
@@ -127,8 +124,7 @@ fn check_command<'a>(alloc: Global) -> Result<Command<'a>, AllocError>
 fn conform_command<'a>(alloc: Global) -> Result<Command<'a>, AllocError>
     ensures { IfOk result (HasApp conform_app) }
 {
-    let args = vec![
-        in alloc;
+    let args = vec![in alloc;
         path(alloc, "OLD", true, "The old schema text"),
         path(alloc, "NEW", true, "The new schema text"),
     ]?;

@@ -98,9 +98,9 @@ pub fn take_all<R: Read>(
         if n > limit - found.len() {
             return Err(ToolFault::FileTooLong);
         }
-        found
-            .extend_from_slice(&chunk[..n])
-            .map_err(|_| ToolFault::Memory)?;
+        let Ok(()) = found.extend_from_slice(&chunk[..n]) else {
+            return Err(ToolFault::Memory);
+        };
     }
     Err(ToolFault::FileTooLong)
 }
