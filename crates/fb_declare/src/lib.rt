@@ -24,6 +24,3 @@ mod value_faults;
 pub use declaring::declare;
 pub use faults::SchemaFault;
 pub use laws::one_schema;
-
-#[cfg(test)]
-mod tests;

@@ -112,6 +112,3 @@ pub fn integer_value(spelling: &str) -> Option<i128>
     let value = i128::from(magnitude(bytes)?);
     Some(if is_negative(bytes) { -value } else { value })
 }
-
-#[cfg(test)]
-mod tests;

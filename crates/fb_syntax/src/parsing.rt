@@ -31,6 +31,3 @@ pub fn parse(alloc: Global, text: &[u8]) -> Result<Decls, SyntaxFault>
     let tokens = tokens_in(alloc, readable)?;
     declarations_of(alloc, text, tokens.as_slice())
 }
-
-#[cfg(test)]
-mod tests;

@@ -198,6 +198,3 @@ pub(crate) fn tokens_in(alloc: Global, text: &str) -> Result<Vec<Token>, SyntaxF
 pub fn one_spelling()
     ensures { OneSpelling }
 {}
-
-#[cfg(test)]
-mod tests;

@@ -16,6 +16,3 @@ mod writing;
 pub use faults::WriteFault;
 pub use noted::Noted;
 pub use text::write_text;
-
-#[cfg(test)]
-mod tests;

@@ -19,6 +19,3 @@ pub enum Value {
     /// A union's code that no member has.
     Other(u8),
 }
-
-#[cfg(test)]
-mod tests;

@@ -134,6 +134,3 @@ pub fn job_of(alloc: Global, words: &[String]) -> Result<Job, Error>
     };
     Ok(matched_job(alloc, &matches)?)
 }
-
-#[cfg(test)]
-mod tests;

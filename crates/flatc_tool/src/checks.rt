@@ -57,6 +57,3 @@ pub fn check(
         Some(bytes) => check_bytes(&layout, bytes, limits, raw),
     }
 }
-
-#[cfg(test)]
-mod tests;

@@ -46,6 +46,3 @@ pub fn conform_texts(alloc: Global, old: &[u8], new: &[u8]) -> Result<(), ToolFa
     };
     conform_to(alloc, &was, new)
 }
-
-#[cfg(test)]
-mod tests;

@@ -104,6 +104,3 @@ pub fn take_all<R: Read>(
     }
     Err(ToolFault::FileTooLong)
 }
-
-#[cfg(test)]
-mod tests;

@@ -84,6 +84,3 @@ pub fn to_binary(
     };
     binary_under(alloc, &layout, json, limits, unknown)
 }
-
-#[cfg(test)]
-mod tests;

@@ -44,6 +44,3 @@ pub fn fault_line(alloc: Global, fault: &ToolFault) -> Result<String, AllocError
     push_noted(&mut line, " after ", fault.written())?;
     Ok(line)
 }
-
-#[cfg(test)]
-mod tests;

@@ -121,6 +121,3 @@ pub fn to_json(
         Err(_) => unreachable!(),
     }
 }
-
-#[cfg(test)]
-mod tests;

@@ -74,6 +74,3 @@ pub fn report<O: Write, E: Write>(
         }
     }
 }
-
-#[cfg(test)]
-mod tests;

@@ -90,6 +90,3 @@ pub fn schema_of(alloc: Global, text: &[u8]) -> Result<Layout, SchemaTextFault>
         Err((fault, _schema)) => Err(SchemaTextFault::Layout(fault)),
     }
 }
-
-#[cfg(test)]
-mod tests;

@@ -1,57 +1,72 @@
 //! What a layout is asked for.
 use fb_layout::Layout;
-use fb_schema::{Body, Kind, TypeId};
-use serde::Deserialize;
-use std::alloc::{AllocError, Global};
+use fb_schema::{Kind, TypeId};
+use rows::{RowFault, Value};
+use std::alloc::AllocError;
 
 /// One look into a layout: a type's number behind what it is looked into for.
-#[derive(Drop, Deserialize)]
-#[serde(rename_all = "snake_case")]
-pub(crate) enum LaidAsk {
+#[derive(Clone, Copy)]
+enum Ask {
     Greatest,
-    Struct(u64),
-    Table(u64),
+    Struct(TypeId),
+    Table(TypeId),
 }
 
-/// What a layout answers.
-pub(crate) fn laid_line(
-    alloc: Global,
-    layout: &Layout,
-    ask: &LaidAsk,
-) -> Result<String, AllocError> {
-    match ask {
-        LaidAsk::Greatest => {
-            let greatest = layout.greatest();
-            format!(in alloc; "greatest {greatest}")
-        }
-        LaidAsk::Struct(number) => struct_line(alloc, layout, TypeId(*number)),
-        LaidAsk::Table(number) => {
-            let widest = layout.widest(TypeId(*number));
-            let align = layout.table_align(TypeId(*number));
-            format!(in alloc; "widest {widest}, align {align}")
-        }
+/// What a word asks for of a type.
+fn ask_with(word: &str, sought: &Value) -> Option<Ask> {
+    let id = TypeId(sought.as_u64()?);
+    match word {
+        "struct" => Some(Ask::Struct(id)),
+        "table" => Some(Ask::Table(id)),
+        _ => None,
     }
 }
 
-/// A struct's size, its alignment and where its fields begin.
-fn struct_line(alloc: Global, layout: &Layout, number: TypeId) -> Result<String, AllocError> {
-    let size = layout.size_of(Kind::Struct(number));
-    let align = layout.align_of(Kind::Struct(number));
-    let mut line = format!(in alloc; "size {size}, align {align}, fields at")?;
-    for field in 0..fields_in(layout, number) {
-        let offset = layout.offset_of(number, field);
-        write!(&mut line, " {offset}")?;
-    }
-    Ok(line)
-}
-
-/// How many fields a struct has; 0 for another type.
-fn fields_in(layout: &Layout, number: TypeId) -> u16 {
-    match layout.schema().types().get(number.0 as usize) {
-        Some(info) => match &info.body {
-            Body::Struct(fields, _) => u16::try_from(fields.len()).unwrap_or(u16::MAX),
-            _ => 0,
+fn ask_of(value: &Value) -> Option<Ask> {
+    match value {
+        Value::String(word) if *word == "greatest" => Some(Ask::Greatest),
+        Value::Object(members) => match members.as_slice() {
+            [(word, sought)] => ask_with(word, sought),
+            _ => None,
         },
-        None => 0,
+        _ => None,
+    }
+}
+
+/// Writes where a struct's fields begin.
+fn write_offsets(layout: &Layout, id: TypeId, line: &mut String) -> Result<(), AllocError> {
+    for field in 0..layout.parts_of(id).len() {
+        let offset = layout.offset_of(id, field as u16);
+        write!(line, " {offset}")?;
+    }
+    Ok(())
+}
+
+/// Writes a struct's size, its alignment and where its fields begin.
+fn write_struct(layout: &Layout, id: TypeId, line: &mut String) -> Result<(), AllocError> {
+    let size = layout.size_of(Kind::Struct(id));
+    let align = layout.align_of(Kind::Struct(id));
+    write!(line, "size {size}, align {align}, fields at")?;
+    write_offsets(layout, id, line)
+}
+
+/// Writes a table's width and its alignment.
+fn write_table(layout: &Layout, id: TypeId, line: &mut String) -> Result<(), AllocError> {
+    let widest = layout.widest(id);
+    let align = layout.table_align(id);
+    write!(line, "widest {widest}, align {align}")
+}
+
+/// Writes what a layout answers where it is asked.
+pub(crate) fn write_laid(
+    layout: &Layout,
+    value: &Value,
+    line: &mut String,
+) -> Result<(), RowFault> {
+    match ask_of(value) {
+        Some(Ask::Greatest) => Ok(write!(line, "greatest {}", layout.greatest())?),
+        Some(Ask::Struct(id)) => Ok(write_struct(layout, id, line)?),
+        Some(Ask::Table(id)) => Ok(write_table(layout, id, line)?),
+        None => Err(RowFault::Invalid("laid")),
     }
 }

@@ -2,29 +2,17 @@
 //! compared with what the row wants.
 #![tactic(auto)]
 
-mod answers;
-mod asks;
+mod asked;
 mod laid;
-mod rows;
 mod shown;
-mod tally;
 mod texts;
+mod trials;
 
-use crate::rows::{Verdict, judge};
-use crate::tally::Tally;
-use std::io::{self, BufRead, BufReader};
+use crate::trials::SchemaRows;
+use rows::try_rows;
+use std::io;
 use std::process::ExitCode;
 
 fn main(rt: HostRuntime) -> io::Result<ExitCode> {
-    let mut tally = Tally::default();
-    let input = BufReader::new(rt.alloc(), rt.reader())?;
-    for line in input.lines(rt.alloc()) {
-        let verdict = judge(rt.alloc(), line?.as_str())?;
-        tally.count(&verdict);
-        if let Verdict::Wrong(wrong) = &verdict {
-            println!(rt; "{wrong}")?;
-        }
-    }
-    println!(rt; "{tally}")?;
-    Ok(tally.status())
+    try_rows(rt.alloc(), &SchemaRows, rt.reader(), &mut rt.stdout())
 }

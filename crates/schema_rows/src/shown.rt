@@ -1,6 +1,6 @@
 //! A schema in one line.
-use fb_schema::{Base, Body, FieldInfo, Kind, Schema, Shape, TypeInfo};
-use std::alloc::{AllocError, Global};
+use fb_schema::{Base, Body, FieldInfo, Kind, Schema, Shape, TypeId, TypeInfo};
+use std::alloc::AllocError;
 
 /// A basic type's name, by its size.
 fn base_word(base: Base) -> &'static str {
@@ -17,8 +17,8 @@ fn base_word(base: Base) -> &'static str {
     }
 }
 
-/// Adds a kind, with the number of its type.
-fn push_kind(line: &mut String, kind: Kind) -> Result<(), AllocError> {
+/// Writes a kind, with the number of its type.
+fn write_kind(kind: Kind, line: &mut String) -> Result<(), AllocError> {
     match kind {
         Kind::Scalar(base) => line.push_str(base_word(base)),
         Kind::Enum(id) => write!(line, "enum {}", id.0),
@@ -30,105 +30,112 @@ fn push_kind(line: &mut String, kind: Kind) -> Result<(), AllocError> {
     }
 }
 
-/// Adds a kind, in brackets where it is that of a vector.
-fn push_shape(line: &mut String, shape: Shape) -> Result<(), AllocError> {
+/// Writes a kind, in brackets where it is that of a vector.
+fn write_shape(shape: Shape, line: &mut String) -> Result<(), AllocError> {
     match shape {
-        Shape::One(kind) => push_kind(line, kind),
+        Shape::One(kind) => write_kind(kind, line),
         Shape::Many(kind) => {
             line.push_str("[")?;
-            push_kind(line, kind)?;
+            write_kind(kind, line)?;
             line.push_str("]")
         }
     }
 }
 
-/// A field's name, slot and shape, and its default where that is not 0.
-fn push_field(line: &mut String, field: &FieldInfo) -> Result<(), AllocError> {
-    write!(line, "{}@{}: ", field.name, field.slot)?;
-    push_shape(line, field.shape)?;
+/// Writes a field's default where that is not 0, and its marks.
+fn write_rules(field: &FieldInfo, line: &mut String) -> Result<(), AllocError> {
     if field.default != 0 {
         write!(line, " = {}", field.default)?;
     }
-    if field.optional {
-        line.push_str(" = null")?;
-    }
-    if field.required {
-        line.push_str(" required")?;
-    }
-    if field.deprecated {
-        line.push_str(" deprecated")?;
-    }
-    Ok(())
+    line.push_str(if field.optional { " = null" } else { "" })?;
+    line.push_str(if field.required { " required" } else { "" })?;
+    line.push_str(if field.deprecated { " deprecated" } else { "" })
 }
 
-/// Adds all fields of a table or struct.
-fn push_fields(line: &mut String, fields: &[FieldInfo]) -> Result<(), AllocError> {
+/// Writes a field's name, slot and shape, and its rules.
+pub(crate) fn write_field(field: &FieldInfo, line: &mut String) -> Result<(), AllocError> {
+    write!(line, "{}@{}: ", field.name, field.slot)?;
+    write_shape(field.shape, line)?;
+    write_rules(field, line)
+}
+
+/// Writes all fields of a table or struct.
+fn write_fields(fields: &[FieldInfo], line: &mut String) -> Result<(), AllocError> {
     for field in fields {
         line.push_str("; ")?;
-        push_field(line, field)?;
+        write_field(field, line)?;
     }
     Ok(())
 }
 
-/// Adds all values of an enum.
-fn push_values(line: &mut String, values: &[(String, i128)]) -> Result<(), AllocError> {
+fn write_struct(
+    name: &str,
+    fields: &[FieldInfo],
+    align: Option<u16>,
+    line: &mut String,
+) -> Result<(), AllocError> {
+    write!(line, "struct {name}")?;
+    if let Some(align) = align {
+        write!(line, " align {align}")?;
+    }
+    write_fields(fields, line)
+}
+
+/// Writes all values of an enum.
+fn write_values(values: &[(String, i128)], line: &mut String) -> Result<(), AllocError> {
     for (name, number) in values {
-        write!(line, "; {} = {}", name, *number)?;
+        write!(line, "; {name} = {number}")?;
     }
     Ok(())
 }
 
-/// Adds a type, with all that it has.
-fn push_type(line: &mut String, info: &TypeInfo) -> Result<(), AllocError> {
+/// Writes all members of a union.
+fn write_members(members: &[(String, TypeId)], line: &mut String) -> Result<(), AllocError> {
+    for (name, table) in members {
+        write!(line, "; {name}: {}", table.0)?;
+    }
+    Ok(())
+}
+
+/// Writes a type, with all that it has.
+fn write_type(info: &TypeInfo, line: &mut String) -> Result<(), AllocError> {
+    let name = info.name.as_str();
     match &info.body {
         Body::Table(fields) => {
-            write!(line, "table {}", info.name)?;
-            push_fields(line, fields.as_slice())
+            write!(line, "table {name}")?;
+            write_fields(fields.as_slice(), line)
         }
-        Body::Struct(fields, align) => {
-            write!(line, "struct {}", info.name)?;
-            if let Some(align) = align {
-                write!(line, " align {}", *align)?;
-            }
-            push_fields(line, fields.as_slice())
-        }
+        Body::Struct(fields, align) => write_struct(name, fields.as_slice(), *align, line),
         Body::Enum(underlying, flags, values) => {
-            write!(line, "enum {}: {}", info.name, base_word(*underlying))?;
-            if *flags {
-                line.push_str(" flags")?;
-            }
-            push_values(line, values.as_slice())
+            let base = base_word(*underlying);
+            let mark = if *flags { " flags" } else { "" };
+            write!(line, "enum {name}: {base}{mark}")?;
+            write_values(values.as_slice(), line)
         }
         Body::Union(members) => {
-            write!(line, "union {}", info.name)?;
-            for (name, table) in members {
-                write!(line, "; {}: {}", name, table.0)?;
-            }
-            Ok(())
+            write!(line, "union {name}")?;
+            write_members(members.as_slice(), line)
         }
     }
 }
 
-/// One field.
-pub(crate) fn field_line(alloc: Global, field: &FieldInfo) -> Result<String, AllocError> {
-    let mut line = String::new(alloc);
-    push_field(&mut line, field)?;
-    Ok(line)
-}
-
-/// The types, with a bar behind each, the root, and the identifier where there is one.
-pub(crate) fn schema_line(alloc: Global, schema: &Schema) -> Result<String, AllocError> {
-    let mut line = String::new(alloc);
-    for info in schema.types() {
-        push_type(&mut line, info)?;
-        line.push_str(" | ")?;
-    }
-    write!(&mut line, "root {}", schema.root().0)?;
+/// Writes the root, and the identifier where there is one.
+fn write_root(schema: &Schema, line: &mut String) -> Result<(), AllocError> {
+    write!(line, "root {}", schema.root().0)?;
     if let Some(identifier) = schema.identifier() {
         line.push_str(" | identifier ")?;
         for byte in identifier {
             line.push(byte as char)?;
         }
     }
-    Ok(line)
+    Ok(())
+}
+
+/// Writes the types, with a bar behind each, the root, and the identifier where there is one.
+pub(crate) fn write_schema(schema: &Schema, line: &mut String) -> Result<(), AllocError> {
+    for info in schema.types() {
+        write_type(info, line)?;
+        line.push_str(" | ")?;
+    }
+    write_root(schema, line)
 }

@@ -1,4 +1,5 @@
 //! Schema texts that are too long to stand in a row.
+use rows::RowFault;
 use std::alloc::{AllocError, Global};
 
 /// A text behind some tables, `Link0` and so on, each with nine integers, whose default is the
@@ -28,11 +29,13 @@ pub(crate) fn with_pieces(
     pieces: u64,
     piece: &str,
     text: &str,
-) -> Result<String, AllocError> {
+) -> Result<String, RowFault> {
     let Some((before, after)) = text.split_once('@') else {
-        return String::from_str(alloc, text);
+        return Err(RowFault::Invalid("text"));
     };
-    let (head, tail) = piece.split_once('#').unwrap_or((piece, ""));
+    let Some((head, tail)) = piece.split_once('#') else {
+        return Err(RowFault::Invalid("piece"));
+    };
     let mut all = String::from_str(alloc, before)?;
     for number in 0..pieces {
         write!(&mut all, "{head}{number}{tail}")?;

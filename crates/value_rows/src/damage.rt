@@ -1,10 +1,9 @@
 //! What both readers make of a buffer that is damaged: each of its fronts, and each other value of
 //! each of its bytes.
+use crate::cases::Case;
 use crate::readings::{Unread, value_in};
-use fb_layout::Layout;
-use fb_value::Limits;
-use std::alloc::{AllocError, Global};
-use std::fmt;
+use fb_value::ReadFault;
+use std::alloc::AllocError;
 
 /// The least number of a reader's fault.
 const FIRST_FAULT: u8 = 50;
@@ -12,7 +11,7 @@ const FIRST_FAULT: u8 = 50;
 /// How many damaged buffers still hold a value, how many each fault refuses, the sum of the
 /// offsets that the faults name, and how many are read in two ways.
 #[derive(Drop)]
-pub(crate) struct Damage {
+struct Damage {
     held: u64,
     refused: [u64; 15],
     offsets: u64,
@@ -30,101 +29,77 @@ impl Damage {
     }
 
     /// Counts what one damaged buffer is refused with.
-    fn refuse(&mut self, unread: Unread) {
-        let Unread::Fault(fault) = unread else {
-            self.apart = self.apart.saturating_add(1);
-            return;
-        };
+    fn refuse(&mut self, fault: ReadFault) {
         let place = usize::from(fault.number().saturating_sub(FIRST_FAULT));
-        if place < 15 {
-            self.refused[place] = self.refused[place].saturating_add(1);
+        if let Some(count) = self.refused.get_mut(place) {
+            *count = count.saturating_add(1);
         }
         let offset = fault.offset().unwrap_or(0);
         self.offsets = self.offsets.saturating_add(offset);
     }
 
     /// Reads one damaged buffer, and counts what comes of it.
-    fn count<'a>(
-        &mut self,
-        alloc: Global,
-        layout: &'a Layout,
-        bytes: &'a [u8],
-        limits: Limits,
-        raw: bool,
-    ) {
-        match value_in(alloc, layout, bytes, limits, raw) {
+    fn count(&mut self, case: &Case, bytes: &[u8], raw: bool) {
+        match value_in(case, bytes, raw) {
             Ok(_) => self.held = self.held.saturating_add(1),
-            Err(unread) => self.refuse(unread),
+            Err(Unread::Fault(fault)) => self.refuse(fault),
+            Err(Unread::Apart) => self.apart = self.apart.saturating_add(1),
         }
     }
-}
 
-impl fmt::Display for Damage {
-    fn fmt<W: fmt::Write>(&self, f: &mut fmt::Formatter<W>) -> fmt::Result {
-        write!(f, "{} held", self.held)?;
-        for place in 0..15usize {
-            let count = self.refused[place];
-            if count > 0 {
-                let number = place + usize::from(FIRST_FAULT);
-                write!(f, ", {count} of {number}")?;
+    /// Every front of a buffer but the whole.
+    fn cut(&mut self, case: &Case, bytes: &[u8], raw: bool) {
+        for end in 0..bytes.len() {
+            self.count(case, &bytes[..end], raw);
+        }
+    }
+
+    /// Each other value of one byte. Afterwards the byte is as it was.
+    fn change(&mut self, case: &Case, bytes: &mut [u8], place: usize, raw: bool) {
+        for by in 0..=255u8 {
+            let Some(byte) = bytes.get_mut(place) else {
+                return;
+            };
+            *byte = byte.wrapping_add(1);
+            if by < 255 {
+                self.count(case, bytes, raw);
             }
         }
-        write!(f, ", offsets {}", self.offsets)?;
+    }
+
+    fn write_refused(&self, line: &mut String) -> Result<(), AllocError> {
+        let mut number = u64::from(FIRST_FAULT);
+        for count in &self.refused {
+            if *count > 0 {
+                write!(line, ", {count} of {number}")?;
+            }
+            number = number.saturating_add(1);
+        }
+        Ok(())
+    }
+
+    fn write(&self, line: &mut String) -> Result<(), AllocError> {
+        write!(line, "{} held", self.held)?;
+        self.write_refused(line)?;
+        write!(line, ", offsets {}", self.offsets)?;
         if self.apart > 0 {
-            write!(f, ", {} that the readers differ on", self.apart)?;
+            write!(line, ", {} that the readers differ on", self.apart)?;
         }
         Ok(())
     }
 }
 
-/// Every front of a buffer but the whole.
-fn cuts(
-    alloc: Global,
-    layout: &Layout,
-    bytes: &[u8],
-    limits: Limits,
+/// Writes what comes of each damage of a buffer.
+pub(crate) fn try_damaged(
+    case: &Case,
+    bytes: &mut [u8],
     raw: bool,
-    damage: &mut Damage,
-) {
-    for cut in 0..bytes.len() {
-        damage.count(alloc, layout, &bytes[..cut], limits, raw);
-    }
-}
-
-/// Each other value of one byte. Afterwards the byte is as it was.
-fn changes(
-    alloc: Global,
-    layout: &Layout,
-    bytes: &mut Vec<u8>,
-    place: usize,
-    limits: Limits,
-    raw: bool,
-    damage: &mut Damage,
-) {
-    for by in 1..=255u8 {
-        let Some(byte) = bytes.get(place) else {
-            return;
-        };
-        let whole = *byte;
-        bytes[place] = whole.wrapping_add(by);
-        damage.count(alloc, layout, bytes.as_slice(), limits, raw);
-        bytes[place] = whole;
-    }
-}
-
-/// What comes of each damage of a buffer, in one line.
-pub(crate) fn damaged(
-    alloc: Global,
-    layout: &Layout,
-    bytes: &[u8],
-    limits: Limits,
-    raw: bool,
-) -> Result<String, AllocError> {
+    line: &mut String,
+) -> Result<(), AllocError> {
     let mut damage = Damage::none();
-    cuts(alloc, layout, bytes, limits, raw, &mut damage);
-    let mut changed = bytes.to_vec(alloc)?;
-    for place in 0..changed.len() {
-        changes(alloc, layout, &mut changed, place, limits, raw, &mut damage);
+    damage.cut(case, bytes, raw);
+    for place in 0..bytes.len() {
+        damage.change(case, bytes, place, raw);
     }
-    format!(in alloc; "{damage}")
+    damage.write(line)
 }

@@ -1,4 +1,5 @@
 //! Bytes as hexadecimal text.
+use rows::RowFault;
 use std::alloc::{AllocError, Global};
 
 /// The value of a digit in small letters.
@@ -10,30 +11,38 @@ fn digit_value(digit: u8) -> Option<u8> {
     }
 }
 
-/// The bytes of a text of pairs of digits, blanks apart; none where it has anything else.
-pub(crate) fn bytes_of(alloc: Global, hex: &str) -> Result<Option<Vec<u8>>, AllocError> {
-    let mut bytes = Vec::new(alloc);
-    let mut high = None;
-    for digit in hex.bytes().filter(|byte| *byte != b' ') {
-        let Some(value) = digit_value(digit) else {
-            return Ok(None);
-        };
-        match high {
-            None => high = Some(value),
-            Some(first) => {
-                bytes.push((first << 4) | value)?;
-                high = None;
-            }
-        }
-    }
-    Ok(Some(bytes))
+/// The byte of two digits.
+fn byte_of(pair: &[u8]) -> Option<u8> {
+    let [high, low] = pair else {
+        return None;
+    };
+    Some((digit_value(*high)? << 4) | digit_value(*low)?)
 }
 
-/// The text of some bytes.
-pub(crate) fn hex_of(alloc: Global, bytes: &[u8]) -> Result<String, AllocError> {
-    let mut hex = String::new(alloc);
-    for byte in bytes {
-        write!(&mut hex, "{byte:02x}")?;
+/// Adds the bytes of a word, pairs of digits.
+fn push_word(bytes: &mut Vec<u8>, word: &[u8]) -> Result<(), RowFault> {
+    for pair in word.chunks(2) {
+        match byte_of(pair) {
+            Some(byte) => bytes.push(byte)?,
+            None => return Err(RowFault::Invalid("bytes")),
+        }
     }
-    Ok(hex)
+    Ok(())
+}
+
+/// The bytes of a text of pairs of digits, with blanks between some.
+pub(crate) fn bytes_of(alloc: Global, hex: &str) -> Result<Vec<u8>, RowFault> {
+    let mut bytes = Vec::new(alloc);
+    for word in hex.split(' ') {
+        push_word(&mut bytes, word.as_bytes())?;
+    }
+    Ok(bytes)
+}
+
+/// Writes some bytes.
+pub(crate) fn write_hex(bytes: &[u8], line: &mut String) -> Result<(), AllocError> {
+    for byte in bytes {
+        write!(line, "{byte:02x}")?;
+    }
+    Ok(())
 }

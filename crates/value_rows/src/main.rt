@@ -3,29 +3,19 @@
 #![tactic(auto)]
 
 mod agree;
+mod buffers;
+mod cases;
 mod damage;
 mod hex;
-mod later;
-mod outcomes;
+mod meanings;
 mod readings;
-mod rows;
-mod tally;
+mod versions;
 
-use crate::rows::{Verdict, judge};
-use crate::tally::Tally;
-use std::io::{self, BufRead, BufReader};
+use crate::cases::ValueRows;
+use rows::try_rows;
+use std::io;
 use std::process::ExitCode;
 
 fn main(rt: HostRuntime) -> io::Result<ExitCode> {
-    let mut tally = Tally::default();
-    let input = BufReader::new(rt.alloc(), rt.reader())?;
-    for line in input.lines(rt.alloc()) {
-        let verdict = judge(rt.alloc(), line?.as_str())?;
-        tally.count(&verdict);
-        if let Verdict::Wrong(wrong) = &verdict {
-            println!(rt; "{wrong}")?;
-        }
-    }
-    println!(rt; "{tally}")?;
-    Ok(tally.status())
+    try_rows(rt.alloc(), &ValueRows, rt.reader(), &mut rt.stdout())
 }

@@ -1,0 +1,5 @@
+//! Tests of the crates' public calls.
+#![tactic(auto)]
+
+#[cfg(test)]
+mod tests;

@@ -1,0 +1,26 @@
+//! What the calls make of worked examples.
+use fb_value::Limits;
+
+mod check;
+mod conform;
+mod counts;
+mod declarations;
+mod fault_lines;
+mod integers;
+mod job_of;
+mod pages;
+mod parse;
+mod print_to;
+mod report;
+mod rooms;
+mod take_all;
+mod to_binary;
+mod values;
+mod writers;
+
+fn usual_limits() -> Limits {
+    let Some(limits) = Limits::new(64, 100_000_000) else {
+        unreachable!()
+    };
+    limits
+}

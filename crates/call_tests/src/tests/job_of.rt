@@ -1,0 +1,112 @@
+//! Lines of words that ask for jobs.
+use clap::Error;
+use clap::error::ErrorKind;
+use flatc_cli::{Job, job_of};
+use std::alloc::{AllocError, Global};
+use std::test::Fail;
+
+const REFUSED: &[&str] = &[
+    "json s",
+    "conform s",
+    "",
+    "what",
+    "check s b c",
+    "check --what s",
+];
+
+const HELP: &[&str] = &["--help", "-h", "json --help", "check -h", "help binary"];
+
+fn words(alloc: Global, line: &str) -> Result<Vec<String>, AllocError> {
+    line.split_whitespace()
+        .map(|word| word.to_string(alloc))
+        .try_collect(alloc)
+}
+
+/// What a line asks for.
+fn asked(alloc: Global, line: &str) -> Result<Job, Fail> {
+    let words = words(alloc, line)?;
+    Ok(job_of(alloc, words.as_slice())?)
+}
+
+/// Why a line asks for no job.
+fn refusal(alloc: Global, line: &str) -> Result<Error, Fail> {
+    let words = words(alloc, line)?;
+    match job_of(alloc, words.as_slice()) {
+        Ok(_) => Err("a refusal")?,
+        Err(error) => Ok(error),
+    }
+}
+
+#[test]
+fn a_line_that_asks_for_a_buffer(rt: HostRuntime) -> Result<(), Fail> {
+    let alloc = rt.alloc();
+    let want = Job::Binary {
+        schema: "s".to_string(alloc)?,
+        json: "j".to_string(alloc)?,
+        out: "o".to_string(alloc)?,
+        unknown: true,
+    };
+    assert!(rt; asked(alloc, "binary --unknown-json s j o")? == want);
+    Ok(())
+}
+
+#[test]
+fn a_line_that_asks_for_a_text(rt: HostRuntime) -> Result<(), Fail> {
+    let alloc = rt.alloc();
+    let want = Job::Json {
+        schema: "s".to_string(alloc)?,
+        bin: "-b".to_string(alloc)?,
+        raw: false,
+        defaults: true,
+    };
+    assert!(rt; asked(alloc, "json --defaults-json s -- -b")? == want);
+    Ok(())
+}
+
+#[test]
+fn a_line_that_asks_for_a_check(rt: HostRuntime) -> Result<(), Fail> {
+    let alloc = rt.alloc();
+    let want = Job::Check {
+        schema: "s".to_string(alloc)?,
+        bin: None,
+        raw: false,
+    };
+    assert!(rt; asked(alloc, "check s")? == want);
+    Ok(())
+}
+
+#[test]
+fn a_line_that_asks_for_a_comparison(rt: HostRuntime) -> Result<(), Fail> {
+    let alloc = rt.alloc();
+    let want = Job::Conform {
+        old: "o".to_string(alloc)?,
+        new: "n".to_string(alloc)?,
+    };
+    assert!(rt; asked(alloc, "conform o n")? == want);
+    Ok(())
+}
+
+#[test]
+fn lines_that_are_refused(rt: HostRuntime) -> Result<(), Fail> {
+    for line in REFUSED {
+        let error = refusal(rt.alloc(), line)?;
+        assert!(rt; error.exit_code() == 2, "at {line}");
+    }
+    Ok(())
+}
+
+#[test]
+fn lines_that_ask_for_help(rt: HostRuntime) -> Result<(), Fail> {
+    for line in HELP {
+        let error = refusal(rt.alloc(), line)?;
+        assert!(rt; error.kind() == ErrorKind::DisplayHelp, "at {line}");
+    }
+    Ok(())
+}
+
+#[test]
+fn a_line_that_asks_for_the_version(rt: HostRuntime) -> Result<(), Fail> {
+    let error = refusal(rt.alloc(), "--version")?;
+    assert!(rt; error.kind() == ErrorKind::DisplayVersion);
+    Ok(())
+}

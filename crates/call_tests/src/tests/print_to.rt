@@ -1,0 +1,121 @@
+//! Buffers that are printed to writers.
+use super::usual_limits;
+use super::writers::Short;
+use fb_json::{Place, TextFault};
+use fb_schema::TypeId;
+use fb_text::{Noted, WriteFault};
+use fb_value::ReadFault;
+use flatc_tool::{ToolFault, print_to, to_binary, to_json};
+use std::alloc::Global;
+use std::process::Abort;
+use std::test::Fail;
+
+const SCHEMA: &[u8] = b"table A { x:int; } union U { A } table T { u:U; s:string; } root_type T;";
+
+const TEXT: &str = "{
+  \"u_type\": \"A\",
+  \"u\": {
+    \"x\": 1
+  },
+  \"s\": \"a\\n\"
+}
+";
+
+const NEWER: &[u8] = b"table A { x:int; } table B { y:int; } union U { A, B } \
+    table T { u:U; s:string; } root_type T;";
+
+/// How many bytes a writer takes a call, and whether it fails once it takes no more.
+const WRITERS: &[(usize, bool)] = &[
+    (1, true),
+    (1, false),
+    (3, true),
+    (4096, true),
+    (4096, false),
+];
+
+/// Prints bytes to a writer that takes so many bytes, and then as `WRITERS` says.
+fn expect_front(
+    rt: &impl Abort,
+    alloc: Global,
+    bytes: &[u8],
+    left: usize,
+    (each, fails): (usize, bool),
+) {
+    let mut out = Noted::over(Short {
+        left,
+        each,
+        fails,
+        taken: Vec::new(alloc),
+    });
+    let printed = print_to(alloc, SCHEMA, bytes, usual_limits(), false, false, &mut out);
+    let is_short = left < TEXT.len();
+    let want = if is_short {
+        Err(ToolFault::Write(WriteFault::WriteFailed(left as u64)))
+    } else {
+        Ok(())
+    };
+    assert!(rt; printed == want, "after {left} bytes, {each} a call");
+    assert!(rt; out.failed() == is_short);
+    assert!(rt; out.into_inner().taken.as_slice() == &TEXT.as_bytes()[..left]);
+}
+
+#[test]
+fn a_text_of_which_each_front_is_written(rt: HostRuntime) -> Result<(), Fail> {
+    let alloc = rt.alloc();
+    let bytes = to_binary(alloc, SCHEMA, TEXT.as_bytes(), usual_limits(), false)?;
+    for left in 0..=TEXT.len() {
+        for writer in WRITERS {
+            expect_front(&rt, alloc, bytes.as_slice(), left, *writer);
+        }
+    }
+    Ok(())
+}
+
+#[test]
+fn a_code_without_a_name_is_told_before_the_first_byte(rt: HostRuntime) -> Result<(), Fail> {
+    let alloc = rt.alloc();
+    let json = b"{\"u_type\":\"B\",\"u\":{},\"s\":\"x\"}";
+    let bytes = to_binary(alloc, NEWER, json, usual_limits(), false)?;
+    let place = Place {
+        owner: TypeId(2),
+        slot: Some(1),
+    };
+    let mut out = Noted::over(Vec::new(alloc));
+    let printed = print_to(
+        alloc,
+        SCHEMA,
+        bytes.as_slice(),
+        usual_limits(),
+        false,
+        false,
+        &mut out,
+    );
+    assert!(rt; printed == Err(ToolFault::Write(WriteFault::NoMemberName(place))));
+    assert!(rt; out.into_inner().is_empty());
+    let text = to_json(
+        alloc,
+        SCHEMA,
+        bytes.as_slice(),
+        usual_limits(),
+        false,
+        false,
+    );
+    assert!(rt; matches!(text, Err(ToolFault::Text(TextFault::NoMemberName(_)))));
+    Ok(())
+}
+
+#[test]
+fn bytes_are_verified_before_the_first_byte(rt: HostRuntime) {
+    let mut out = Noted::over(Vec::new(rt.alloc()));
+    let printed = print_to(
+        rt.alloc(),
+        SCHEMA,
+        b"\x04\0\0\0",
+        usual_limits(),
+        false,
+        false,
+        &mut out,
+    );
+    assert!(rt; matches!(printed, Err(ToolFault::Read(ReadFault::OutOfBounds(_)))));
+    assert!(rt; out.into_inner().is_empty());
+}

@@ -1,0 +1,74 @@
+//! The fields of a row.
+use crate::faults::RowFault;
+use json::{Scratch, Value};
+use std::alloc::Global;
+
+/// The fields of a row that nothing has taken yet.
+#[derive(Drop)]
+pub struct Fields<'a> {
+    left: Vec<(&'a str, Value<'a>)>,
+}
+
+impl<'a> Fields<'a> {
+    /// The fields of a line, which is a JSON object without a key twice.
+    pub(crate) fn parse(
+        alloc: Global,
+        line: &'a str,
+        scratch: &'a mut Scratch,
+    ) -> Result<Fields<'a>, RowFault> {
+        match Value::parse_strict(alloc, line, scratch) {
+            Ok(Value::Object(left)) => Ok(Fields { left }),
+            Ok(_) => Err(RowFault::NotAnObject),
+            Err(error) => Err(RowFault::NotJson(error)),
+        }
+    }
+
+    /// Whether every field was taken.
+    pub(crate) fn is_empty(&self) -> bool {
+        self.left.is_empty()
+    }
+
+    /// Takes a field of any type.
+    pub fn value(&mut self, name: &'static str) -> Option<Value<'a>> {
+        let place = self.left.iter().position(|(key, _)| *key == name)?;
+        let (_, value) = self.left.remove(place);
+        Some(value)
+    }
+
+    /// Takes a text, if it is there.
+    pub fn optional_text(&mut self, name: &'static str) -> Result<Option<&'a str>, RowFault> {
+        match self.value(name) {
+            None => Ok(None),
+            Some(Value::String(text)) => Ok(Some(text)),
+            Some(_) => Err(RowFault::Invalid(name)),
+        }
+    }
+
+    /// Takes a text.
+    pub fn text(&mut self, name: &'static str) -> Result<&'a str, RowFault> {
+        match self.optional_text(name)? {
+            Some(text) => Ok(text),
+            None => Err(RowFault::Missing(name)),
+        }
+    }
+
+    /// Takes a number, if it is there.
+    pub fn number(&mut self, name: &'static str) -> Result<Option<u64>, RowFault> {
+        match self.value(name) {
+            None => Ok(None),
+            Some(value) => match value.as_u64() {
+                Some(number) => Ok(Some(number)),
+                None => Err(RowFault::Invalid(name)),
+            },
+        }
+    }
+
+    /// Takes a flag, which is false where it isn't there.
+    pub fn flag(&mut self, name: &'static str) -> Result<bool, RowFault> {
+        match self.value(name) {
+            None => Ok(false),
+            Some(Value::Bool(flag)) => Ok(flag),
+            Some(_) => Err(RowFault::Invalid(name)),
+        }
+    }
+}

@@ -1,0 +1,12 @@
+//! Rows of tests: read one a line, tried, and counted.
+#![tactic(auto)]
+
+mod faults;
+mod fields;
+mod tally;
+mod trial;
+
+pub use faults::RowFault;
+pub use fields::Fields;
+pub use json::Value;
+pub use trial::{Trial, try_rows};

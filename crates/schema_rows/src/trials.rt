@@ -1,0 +1,100 @@
+//! Rows with schema texts.
+use crate::asked::write_asked;
+use crate::laid::write_laid;
+use crate::shown::write_schema;
+use crate::texts::{with_pieces, with_tables};
+use flatc_tool::{Layout, SchemaTextFault, schema_of};
+use rows::{Fields, RowFault, Trial};
+use std::alloc::{AllocError, Global};
+
+/// Rows of schema texts, and what each has to give.
+///
+/// `tables` is a number of tables that stand before the text, and `pieces` a number of pieces like
+/// `piece` in it, as `texts` makes them. Where `ask` is there the schema is asked for it, where
+/// `laid` is its layout, and else the schema is shown as a whole. A text that is refused gives its
+/// fault.
+pub(crate) struct SchemaRows;
+
+impl Trial for SchemaRows {
+    fn kinds(&self) -> &[&'static str] {
+        &["refused", "declared", "asked"]
+    }
+
+    fn run(
+        &self,
+        alloc: Global,
+        row: &mut Fields<'_>,
+        line: &mut String,
+    ) -> Result<&'static str, RowFault> {
+        try_row(alloc, row, line)
+    }
+}
+
+fn try_row(
+    alloc: Global,
+    row: &mut Fields<'_>,
+    line: &mut String,
+) -> Result<&'static str, RowFault> {
+    let text = row.text("text")?;
+    if let Some(tables) = row.number("tables")? {
+        let text = with_tables(alloc, tables, text)?;
+        return try_text(alloc, text.as_str(), row, line);
+    }
+    if let Some(pieces) = row.number("pieces")? {
+        let piece = row.text("piece")?;
+        let text = with_pieces(alloc, pieces, piece, text)?;
+        return try_text(alloc, text.as_str(), row, line);
+    }
+    try_text(alloc, text, row, line)
+}
+
+fn try_text(
+    alloc: Global,
+    text: &str,
+    row: &mut Fields<'_>,
+    line: &mut String,
+) -> Result<&'static str, RowFault> {
+    match schema_of(alloc, text.as_bytes()) {
+        Ok(layout) => try_layout(&layout, row, line),
+        Err(fault) => try_fault(fault, row, line),
+    }
+}
+
+/// What a layout is asked for, or the whole schema.
+fn try_layout(
+    layout: &Layout,
+    row: &mut Fields<'_>,
+    line: &mut String,
+) -> Result<&'static str, RowFault> {
+    if let Some(ask) = row.value("ask") {
+        write_asked(layout.schema(), &ask, line)?;
+        return Ok("asked");
+    }
+    if let Some(ask) = row.value("laid") {
+        write_laid(layout, &ask, line)?;
+        return Ok("asked");
+    }
+    write_schema(layout.schema(), line)?;
+    Ok("declared")
+}
+
+/// The fault of a text, whatever it is asked for.
+fn try_fault(
+    fault: SchemaTextFault,
+    row: &mut Fields<'_>,
+    line: &mut String,
+) -> Result<&'static str, RowFault> {
+    let _ask = row.value("ask");
+    let _laid = row.value("laid");
+    write_fault(fault, line)?;
+    Ok("refused")
+}
+
+/// Writes the fault of the layer that refuses.
+fn write_fault(fault: SchemaTextFault, line: &mut String) -> Result<(), AllocError> {
+    match fault {
+        SchemaTextFault::Syntax(fault) => write!(line, "{fault:?}"),
+        SchemaTextFault::Schema(fault) => write!(line, "{fault:?}"),
+        SchemaTextFault::Layout(fault) => write!(line, "{fault:?}"),
+    }
+}

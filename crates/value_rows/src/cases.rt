@@ -1,0 +1,164 @@
+//! Rows with values.
+use crate::buffers::{try_both, try_printed};
+use crate::damage::try_damaged;
+use crate::hex::bytes_of;
+use crate::meanings::try_meaning;
+use crate::readings::try_bytes;
+use crate::versions::try_later;
+use fb_layout::Layout;
+use fb_value::Limits;
+use flatc_tool::schema_of;
+use rows::{Fields, RowFault, Trial};
+use std::alloc::Global;
+
+/// What a row is tried under: its schema text and the layout that it has, and limits.
+#[derive(Clone, Copy)]
+pub(crate) struct Case<'s, 'l> {
+    pub(crate) alloc: Global,
+    pub(crate) schema: &'s [u8],
+    pub(crate) layout: &'l Layout,
+    pub(crate) limits: Limits,
+}
+
+/// Rows of values: a schema text, with a JSON text, with bytes in hexadecimal or with both, and what
+/// has to come of them.
+///
+/// Of a JSON text the value that it means is wanted, of bytes the value that they hold or, where it
+/// is `printed`, its text, or the fault. Where both are there, the text becomes exactly these bytes,
+/// they hold the value that it means, and what is wanted is the text that they print as. Of bytes
+/// that are `damaged` what comes of each damage is counted. Of a JSON text beside a `later` schema
+/// the value that it means is wanted as it is under that schema, or the breach.
+pub(crate) struct ValueRows;
+
+impl Trial for ValueRows {
+    fn kinds(&self) -> &[&'static str] {
+        &["built", "meant", "read", "damaged", "carried"]
+    }
+
+    fn run(
+        &self,
+        alloc: Global,
+        row: &mut Fields<'_>,
+        line: &mut String,
+    ) -> Result<&'static str, RowFault> {
+        try_schema(alloc, row, line)
+    }
+}
+
+fn try_schema(
+    alloc: Global,
+    row: &mut Fields<'_>,
+    line: &mut String,
+) -> Result<&'static str, RowFault> {
+    let depth = row.number("depth")?;
+    let cells = row.number("cells")?;
+    let schema = row.text("schema")?.as_bytes();
+    let Some(limits) = limits_of(depth, cells) else {
+        return Err(RowFault::Invalid("depth"));
+    };
+    let Ok(layout) = schema_of(alloc, schema) else {
+        return Err(RowFault::Invalid("schema"));
+    };
+    let case = Case {
+        alloc,
+        schema,
+        layout: &layout,
+        limits,
+    };
+    try_case(&case, row, line)
+}
+
+/// Limits of so many levels and cells, or the usual ones.
+fn limits_of(depth: Option<u64>, cells: Option<u64>) -> Option<Limits> {
+    let depth = u8::try_from(depth.unwrap_or(64)).ok()?;
+    let cells = u32::try_from(cells.unwrap_or(100_000_000)).ok()?;
+    Limits::new(depth, cells)
+}
+
+fn try_case(
+    case: &Case,
+    row: &mut Fields<'_>,
+    line: &mut String,
+) -> Result<&'static str, RowFault> {
+    let json = row.optional_text("json")?;
+    let hex = row.optional_text("bytes")?;
+    match (json, hex) {
+        (Some(json), Some(hex)) => try_built(case, row, json, hex, line),
+        (Some(json), None) => try_json(case, row, json, line),
+        (None, Some(hex)) => try_hex(case, row, hex, line),
+        (None, None) => Err(RowFault::Missing("json")),
+    }
+}
+
+/// A row with a JSON text and bytes.
+fn try_built(
+    case: &Case,
+    row: &mut Fields<'_>,
+    json: &str,
+    hex: &str,
+    line: &mut String,
+) -> Result<&'static str, RowFault> {
+    let defaults = row.flag("defaults")?;
+    let bytes = bytes_of(case.alloc, hex)?;
+    try_both(case, json, bytes.as_slice(), defaults, line)?;
+    Ok("built")
+}
+
+/// A row with a JSON text.
+fn try_json(
+    case: &Case,
+    row: &mut Fields<'_>,
+    json: &str,
+    line: &mut String,
+) -> Result<&'static str, RowFault> {
+    if let Some(later) = row.optional_text("later")? {
+        return try_versions(case, later.as_bytes(), json, line);
+    }
+    let unknown = row.flag("unknown")?;
+    try_meaning(case, json, unknown, line)?;
+    Ok("meant")
+}
+
+/// A row with a JSON text and a later schema.
+fn try_versions(
+    case: &Case,
+    schema: &[u8],
+    json: &str,
+    line: &mut String,
+) -> Result<&'static str, RowFault> {
+    let Ok(layout) = schema_of(case.alloc, schema) else {
+        return Err(RowFault::Invalid("later"));
+    };
+    let later = Case {
+        alloc: case.alloc,
+        schema,
+        layout: &layout,
+        limits: case.limits,
+    };
+    try_later(case, &later, json, line)?;
+    Ok("carried")
+}
+
+/// A row with bytes.
+fn try_hex(
+    case: &Case,
+    row: &mut Fields<'_>,
+    hex: &str,
+    line: &mut String,
+) -> Result<&'static str, RowFault> {
+    let raw = row.flag("raw")?;
+    if row.flag("printed")? {
+        let defaults = row.flag("defaults")?;
+        let bytes = bytes_of(case.alloc, hex)?;
+        try_printed(case, bytes.as_slice(), raw, defaults, line)?;
+        return Ok("read");
+    }
+    let is_damaged = row.flag("damaged")?;
+    let mut bytes = bytes_of(case.alloc, hex)?;
+    if is_damaged {
+        try_damaged(case, bytes.as_mut_slice(), raw, line)?;
+        return Ok("damaged");
+    }
+    try_bytes(case, bytes.as_slice(), raw, line)?;
+    Ok("read")
+}
