@@ -1,11 +1,12 @@
 # make run        proves and builds the program, and then shows it at work on examples/
 # make try        shows the same without proofs, in about a minute
 # make build      leaves the program at crates/flatc/out/flatc; crates are proved side by side
-# make install    copies it to PREFIX/bin (default /usr/local)
+# make install    copies it to PREFIX/bin (default /usr/local) as NAME (default flatc)
 # make test       the gate: every proof from nothing, the must-fail edits, the tests, the program
 # make mutations  further edits that the prover has to refuse, outside the gate
 
 PREFIX = /usr/local
+NAME = flatc
 PROGRAM = crates/flatc/out/flatc
 
 .PHONY: run try build install test mutations
@@ -23,7 +24,7 @@ build:
 
 install: build
 	install -d $(DESTDIR)$(PREFIX)/bin
-	install $(PROGRAM) $(DESTDIR)$(PREFIX)/bin/flatc
+	install $(PROGRAM) $(DESTDIR)$(PREFIX)/bin/$(NAME)
 
 test:
 	@tests/gate.sh

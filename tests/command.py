@@ -6,6 +6,7 @@ usage: tests/command.py PROGRAM
 The last line is 'N passed, M failed'. A row that takes over two minutes fails.
 """
 import os
+import re
 import shutil
 import subprocess
 import sys
@@ -254,6 +255,23 @@ def examples():
     row("flatc's own buffer prints the same", ["json", schema, os.path.join(folder, "monster.bin")], 0, text_wanted)
 
 
+def readme():
+    """README's first example is the one in examples/, and its lines with a `$` print what it shows."""
+    text = open(os.path.join(ROOT, "README.md"), encoding="utf-8").read()
+    for kind, name in (("fbs", "orc.fbs"), ("json", "orc.json")):
+        block = re.search(f"```{kind}\n(.*?)```", text, re.S).group(1)
+        tell(f"README's {name}", block == open(os.path.join(ROOT, "examples", name), encoding="utf-8").read())
+    os.symlink(os.path.join(ROOT, "examples"), "examples")
+    lines = 0
+    for block in re.findall(r"```\n(\$ .*?)```", text, re.S):
+        for piece in block.split("$ flatc ")[1:]:
+            line, _, out = piece.partition("\n")
+            done = run(line.split())
+            tell(f"README: flatc {line}", (done.stdout + done.stderr).decode() == out, f"{done}")
+            lines += 1
+    tell("README's lines", lines == 5, f"{lines} of 5")
+
+
 def shown():
     done = subprocess.run([os.path.join(ROOT, "tests", "example.sh"), PROGRAM], capture_output=True, check=False, timeout=SECONDS)
     tell("the example that make run shows", done.returncode == 0, f"{done}")
@@ -271,7 +289,7 @@ def main():
         for name, length in (("over", LONGEST + 1), ("longest", LONGEST)):
             with open(name, "wb") as file:
                 file.truncate(length)
-        for part in (jobs, refusals, unions, comparisons, pairs, files, streams, usage, examples, shown):
+        for part in (jobs, refusals, unions, comparisons, pairs, files, streams, usage, examples, readme, shown):
             try:
                 part()
             except Exception as problem:

@@ -3,9 +3,9 @@
 
 usage: tools/build.py PROGRAM [--jobs N]
 
-Without --jobs there is one job for each processor and each 4 GB of free memory. A crate gets one job; where jobs
-would be idle, the crate with the longest chain of crates above it gets them too. What is built already and hasn't
-changed isn't built again.
+Without --jobs there is one job for each processor and each 4 GB of free memory. A crate gets one job, one on the
+longest chain of crates two; where jobs would be idle, the crate with the longest chain above it gets them too. What
+is built already and hasn't changed isn't built again.
 """
 import argparse
 import contextlib
@@ -22,6 +22,8 @@ ROOT = os.path.dirname(os.path.dirname(os.path.abspath(__file__)))
 MEMORY_OF_A_JOB = 4_000_000_000
 # More jobs in one crate read the same libraries again and again.
 MOST_JOBS_OF_A_CRATE = 3
+# A chain of crates that is about as long as the longest one decides how long all takes.
+LONG = 0.8
 
 children = set()
 
@@ -46,13 +48,12 @@ def below(crates, name):
 
 
 def size(name):
-    """The lines of a crate's sources and proofs: what its check costs, more or less."""
+    """The lines of a crate's sources: what its check costs, more or less. Its proofs cost little beside them."""
     lines = 0
-    for part in ("src", "specs", "proofs"):
-        for at, _, files in os.walk(f"{ROOT}/crates/{name}/{part}"):
-            for file in files:
-                with open(f"{at}/{file}", "rb") as it:
-                    lines += it.read().count(b"\n")
+    for at, _, files in os.walk(f"{ROOT}/crates/{name}/src"):
+        for file in files:
+            with open(f"{at}/{file}", "rb") as it:
+                lines += it.read().count(b"\n")
     return lines
 
 
@@ -148,10 +149,12 @@ def build_all(crates, program, lanes):
     with ThreadPoolExecutor(lanes) as pool, ended_children():
         while left or running:
             ready = [it for it in left if built.issuperset(crates[it][1])]
+            long = LONG * max(longest[it] for it in wanted if it not in built)
             for at, name in enumerate(ready):
                 idle = lanes - sum(jobs for _, jobs in running.values())
                 if idle > 0:
-                    jobs = max(min(idle - (len(ready) - at - 1), MOST_JOBS_OF_A_CRATE), 1)
+                    least = 2 if lanes > 2 and longest[name] > long else 1
+                    jobs = max(min(idle - (len(ready) - at - 1), MOST_JOBS_OF_A_CRATE), least)
                     left.remove(name)
                     print(f"[{len(built)} of {len(wanted)}] {name}: proving, {jobs} job{'s' * (jobs > 1)}", flush=True)
                     running[pool.submit(build, crates, name, jobs, program)] = name, jobs

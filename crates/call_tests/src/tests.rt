@@ -16,6 +16,7 @@ mod rooms;
 mod take_all;
 mod to_binary;
 mod values;
+mod views;
 mod writers;
 
 fn usual_limits() -> Limits {

@@ -38,4 +38,5 @@ pub mod ExampleRequiredUnions
 pub mod ExampleNested
 pub mod ExampleFits
 pub mod ExampleOldSlots
+pub mod ExampleShared
 pub mod FaultNumbers

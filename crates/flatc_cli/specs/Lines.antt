@@ -1,5 +1,5 @@
 -- Which job the matches of a command line are.
-use Rattle.std.specs.Prelude.{◌≡◌, Bool, true, false, List, Option, Some, None, codes, String, string_bytes, option_map}
+use Rattle.std.specs.Prelude.{◌≡◌, Bool, false, List, Option, Some, None, codes, String, string_bytes, option_map}
 use Rattle.std.specs.Option.{option_map_or}
 use Rattle.std.specs.Str.{bytes_eq}
 use Rattle.std.specs.declared.alloc.Global.{Global}

@@ -59,25 +59,21 @@ fn unknown_flag<'a>(alloc: Global) -> Arg<'a>
     ensures rule { rule_of result ≡ flag_rule (codes "unknown-json") }
     ensures local { result.global ≡ false }
 {
-    flag(
-        alloc,
-        "unknown-json",
-        "Skip members that the schema doesn't have",
-    )
+    flag(alloc, "unknown-json", "Ignore unknown JSON fields")
 }
 
 fn raw_flag<'a>(alloc: Global) -> Arg<'a>
     ensures rule { rule_of result ≡ flag_rule (codes "raw-binary") }
     ensures local { result.global ≡ false }
 {
-    flag(alloc, "raw-binary", "Don't compare the file identifier")
+    flag(alloc, "raw-binary", "Skip the file identifier check")
 }
 
 fn defaults_flag<'a>(alloc: Global) -> Arg<'a>
     ensures rule { rule_of result ≡ flag_rule (codes "defaults-json") }
     ensures local { result.global ≡ false }
 {
-    flag(alloc, "defaults-json", "Print fields at their defaults too")
+    flag(alloc, "defaults-json", "Include fields with default values")
 }
 
 fn binary_command<'a>(alloc: Global) -> Result<Command<'a>, AllocError>
@@ -90,7 +86,7 @@ fn binary_command<'a>(alloc: Global) -> Result<Command<'a>, AllocError>
         out_path(alloc),
     ]?;
     Command::new(alloc, "binary")
-        .about("Make a buffer of a JSON text")
+        .about("Convert JSON to a FlatBuffer")
         .args(args)
 }
 
@@ -104,7 +100,7 @@ fn json_command<'a>(alloc: Global) -> Result<Command<'a>, AllocError>
         buffer_path(alloc, true),
     ]?;
     Command::new(alloc, "json")
-        .about("Print a buffer as JSON")
+        .about("Convert a FlatBuffer to JSON")
         .args(args)
 }
 
@@ -129,7 +125,7 @@ fn conform_command<'a>(alloc: Global) -> Result<Command<'a>, AllocError>
         path(alloc, "NEW", true, "The new schema text"),
     ]?;
     Command::new(alloc, "conform")
-        .about("Check that a new schema reads what an old one wrote")
+        .about("Check that a new schema reads data of an old one")
         .args(args)
 }
 

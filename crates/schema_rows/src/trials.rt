@@ -4,7 +4,7 @@ use crate::laid::write_laid;
 use crate::shown::write_schema;
 use crate::texts::{with_pieces, with_tables};
 use flatc_tool::{Layout, SchemaTextFault, schema_of};
-use rows::{Fields, RowFault, Trial};
+use rows::{Fields, RowFault, Trial, are_cuts_settled};
 use std::alloc::{AllocError, Global};
 
 /// Rows of schema texts, and what each has to give.
@@ -12,7 +12,7 @@ use std::alloc::{AllocError, Global};
 /// `tables` is a number of tables that stand before the text, and `pieces` a number of pieces like
 /// `piece` in it, as `texts` makes them. Where `ask` is there the schema is asked for it, where
 /// `laid` is its layout, and else the schema is shown as a whole. A text that is refused gives its
-/// fault.
+/// fault. Each cut of a text that is written out gives a schema or a fault too.
 pub(crate) struct SchemaRows;
 
 impl Trial for SchemaRows {
@@ -44,6 +44,9 @@ fn try_row(
         let piece = row.text("piece")?;
         let text = with_pieces(alloc, pieces, piece, text)?;
         return try_text(alloc, text.as_str(), row, line);
+    }
+    if !are_cuts_settled(alloc, text) {
+        line.push_str("a cut of the text runs out of memory; ")?;
     }
     try_text(alloc, text, row, line)
 }

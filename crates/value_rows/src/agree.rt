@@ -45,7 +45,7 @@ fn entries_agree(view: View, entries: &Vec<Option<Value>>) -> bool {
             return false;
         }
     }
-    true
+    u16::try_from(entries.len()).is_ok_and(|behind| found_in(view, behind) == 0)
 }
 
 #[cycle(agree)]

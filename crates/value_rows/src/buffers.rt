@@ -3,6 +3,7 @@ use crate::cases::Case;
 use crate::hex::write_hex;
 use crate::meanings::{buffer_of, meaning, write_unmeant};
 use crate::readings::{value_in, write_unread};
+use crate::texts::is_printed_alike;
 use fb_value::Value;
 use flatc_tool::{ToolFault, to_json};
 use std::alloc::AllocError;
@@ -52,7 +53,10 @@ fn try_text(
     line: &mut String,
 ) -> Result<(), AllocError> {
     match text_of(case, bytes, false, defaults) {
-        Ok(text) => try_again(case, value, text.as_str(), line),
+        Ok(text) if is_printed_alike(case, bytes, false, defaults, value) => {
+            try_again(case, value, text.as_str(), line)
+        }
+        Ok(text) => write!(line, "another text than the value's: {text}"),
         Err(fault) => write_fault(fault, line),
     }
 }

@@ -8,7 +8,7 @@ use crate::versions::try_later;
 use fb_layout::Layout;
 use fb_value::Limits;
 use flatc_tool::schema_of;
-use rows::{Fields, RowFault, Trial};
+use rows::{Fields, RowFault, Trial, are_cuts_settled};
 use std::alloc::Global;
 
 /// What a row is tried under: its schema text and the layout that it has, and limits.
@@ -27,7 +27,9 @@ pub(crate) struct Case<'s, 'l> {
 /// is `printed`, its text, or the fault. Where both are there, the text becomes exactly these bytes,
 /// they hold the value that it means, and what is wanted is the text that they print as. Of bytes
 /// that are `damaged` what comes of each damage is counted. Of a JSON text beside a `later` schema
-/// the value that it means is wanted as it is under that schema, or the breach.
+/// the value that it means is wanted as it is under that schema, or the breach. Wherever bytes hold
+/// a value they print as that value's text, or both name the same union without a name; and each cut
+/// of a schema text gives a schema or a fault.
 pub(crate) struct ValueRows;
 
 impl Trial for ValueRows {
@@ -52,7 +54,11 @@ fn try_schema(
 ) -> Result<&'static str, RowFault> {
     let depth = row.number("depth")?;
     let cells = row.number("cells")?;
-    let schema = row.text("schema")?.as_bytes();
+    let text = row.text("schema")?;
+    let schema = text.as_bytes();
+    if !are_cuts_settled(alloc, text) {
+        line.push_str("a cut of the schema runs out of memory; ")?;
+    }
     let Some(limits) = limits_of(depth, cells) else {
         return Err(RowFault::Invalid("depth"));
     };

@@ -2,6 +2,7 @@
 //! each of its bytes.
 use crate::cases::Case;
 use crate::readings::{Unread, value_in};
+use crate::texts::is_printed_alike;
 use fb_value::ReadFault;
 use std::alloc::AllocError;
 
@@ -9,13 +10,15 @@ use std::alloc::AllocError;
 const FIRST_FAULT: u8 = 50;
 
 /// How many damaged buffers still hold a value, how many each fault refuses, the sum of the
-/// offsets that the faults name, and how many are read in two ways.
+/// offsets that the faults name, how many are read in two ways, and how many hold a value and print
+/// as something else than its text or the place of its union without a name.
 #[derive(Drop)]
 struct Damage {
     held: u64,
     refused: [u64; 15],
     offsets: u64,
     apart: u64,
+    odd: u64,
 }
 
 impl Damage {
@@ -25,6 +28,7 @@ impl Damage {
             refused: [0; 15],
             offsets: 0,
             apart: 0,
+            odd: 0,
         }
     }
 
@@ -41,7 +45,10 @@ impl Damage {
     /// Reads one damaged buffer, and counts what comes of it.
     fn count(&mut self, case: &Case, bytes: &[u8], raw: bool) {
         match value_in(case, bytes, raw) {
-            Ok(_) => self.held = self.held.saturating_add(1),
+            Ok(value) if is_printed_alike(case, bytes, raw, false, &value) => {
+                self.held = self.held.saturating_add(1);
+            }
+            Ok(_) => self.odd = self.odd.saturating_add(1),
             Err(Unread::Fault(fault)) => self.refuse(fault),
             Err(Unread::Apart) => self.apart = self.apart.saturating_add(1),
         }
@@ -84,6 +91,9 @@ impl Damage {
         write!(line, ", offsets {}", self.offsets)?;
         if self.apart > 0 {
             write!(line, ", {} that the readers differ on", self.apart)?;
+        }
+        if self.odd > 0 {
+            write!(line, ", {} that print otherwise than their value", self.odd)?;
         }
         Ok(())
     }

@@ -9,6 +9,7 @@ mod damage;
 mod hex;
 mod meanings;
 mod readings;
+mod texts;
 mod versions;
 
 use crate::cases::ValueRows;

@@ -5,6 +5,7 @@ ghost use Rattle.fb_value.specs.Counts.{nesting};
 ghost use Rattle.fb_value.specs.Fits.{FitsRoot};
 
 use crate::cases::Case;
+use crate::texts::try_alike;
 use fb_json::{JsonFault, value_of};
 use fb_value::Value;
 use flatc_tool::{ToolFault, to_binary};
@@ -62,7 +63,8 @@ fn is_same_refusal(fault: ToolFault, unmeant: Unmeant) -> bool {
     }
 }
 
-/// The value that a JSON text means, where the tool makes a buffer of it.
+/// Writes the value that a JSON text means, where the tool makes a buffer of it that prints as its
+/// text.
 fn try_meant(
     case: &Case,
     json: &str,
@@ -71,12 +73,12 @@ fn try_meant(
     line: &mut String,
 ) -> Result<(), AllocError> {
     match buffer_of(case, json, unknown) {
-        Ok(_) => write!(line, "{value:?}"),
+        Ok(bytes) => try_alike(case, bytes.as_slice(), false, value, line),
         Err(fault) => write!(line, "a meaning that is not built: {}", fault.number()),
     }
 }
 
-/// The fault of a JSON text that means no value, where it is the tool's.
+/// Writes the fault of a JSON text that means no value, where it is the tool's.
 fn try_unmeant(
     case: &Case,
     json: &str,

@@ -1,6 +1,7 @@
 //! What both readers make of bytes.
 use crate::agree::table_agrees;
 use crate::cases::Case;
+use crate::texts::try_alike;
 use fb_read::{Entries, read, verify};
 use fb_value::{ReadFault, Value};
 use std::alloc::AllocError;
@@ -52,7 +53,7 @@ pub(crate) fn write_unread(unread: Unread, line: &mut String) -> Result<(), Allo
     }
 }
 
-/// Writes the value that bytes hold, or the fault.
+/// Writes the value that bytes hold, where they print as its text, or the fault.
 pub(crate) fn try_bytes(
     case: &Case,
     bytes: &[u8],
@@ -60,7 +61,7 @@ pub(crate) fn try_bytes(
     line: &mut String,
 ) -> Result<(), AllocError> {
     match value_in(case, bytes, raw) {
-        Ok(value) => write!(line, "{value:?}"),
+        Ok(value) => try_alike(case, bytes, raw, &value, line),
         Err(unread) => write_unread(unread, line),
     }
 }

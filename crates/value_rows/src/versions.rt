@@ -8,6 +8,7 @@ ghost use Rattle.fb_conform.specs.Conforms.{Conforms};
 use crate::cases::Case;
 use crate::meanings::{buffer_of, meaning, write_unmeant};
 use crate::readings::{value_in, write_unread};
+use crate::texts::try_alike;
 use fb_conform::{carry, conform};
 use fb_value::Value;
 use std::alloc::AllocError;
@@ -20,7 +21,7 @@ fn try_found(
     line: &mut String,
 ) -> Result<(), AllocError> {
     match value_in(later, bytes, false) {
-        Ok(found) if found == *carried => write!(line, "{carried:?}"),
+        Ok(found) if found == *carried => try_alike(later, bytes, false, carried, line),
         Ok(found) => write!(line, "{carried:?} is carried, and {found:?} is read"),
         Err(unread) => write_unread(unread, line),
     }

@@ -19,6 +19,7 @@ const BREACHES: &[(&[u8], &[u8], &str)] = &[
         b"table S { a:int = 1; } root_type S;",
         "90 RootChanged",
     ),
+    (b"", OLD, "old: 21 BadRoot at 0"),
     (b"", b"", "old: 21 BadRoot at 0"),
     (OLD, b"", "new: 21 BadRoot at 0"),
 ];

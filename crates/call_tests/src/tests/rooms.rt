@@ -3,13 +3,15 @@ ghost use Rattle.std.specs.Prelude.{◌≤◌};
 ghost use Rattle.fb_value.specs.View.{view};
 ghost use Rattle.fb_value.specs.Counts.{nesting};
 
+use super::usual_limits;
 use super::values::{
     empty_member, table_of, table_with, text, two_structs, two_tables, wide_tables,
 };
+use fb_build::BuildFault;
 use fb_layout::Layout;
 use fb_value::{Value, fits, room};
-use flatc_tool::schema_of;
-use std::alloc::Global;
+use flatc_tool::{ToolFault, schema_of, to_binary};
+use std::alloc::{AllocError, Global};
 use std::process::Abort;
 use std::test::Fail;
 
@@ -88,6 +90,25 @@ fn room_just_under_the_greatest(rt: HostRuntime) -> Result<(), Fail> {
 fn no_room_with_one_table_more(rt: HostRuntime) -> Result<(), Fail> {
     let value = wide_tables(rt.alloc(), 65_482)?;
     expect_room(&rt, rt.alloc(), WIDE_TABLES, &value, None)
+}
+
+/// A table with a vector of so many tables that have nothing, as JSON.
+fn wide_tables_json(alloc: Global, count: usize) -> Result<String, AllocError> {
+    let mut json = String::from_str(alloc, "{\"v\":[{}")?;
+    for _i in 1..count {
+        json.push_str(",{}")?;
+    }
+    json.push_str("]}")?;
+    Ok(json)
+}
+
+#[test]
+fn a_value_without_room_is_too_big(rt: HostRuntime) -> Result<(), Fail> {
+    let json = wide_tables_json(rt.alloc(), 65_482)?;
+    let limits = usual_limits();
+    let built = to_binary(rt.alloc(), WIDE_TABLES, json.as_bytes(), limits, false);
+    assert!(rt; built.err() == Some(ToolFault::Build(BuildFault::TooBig)));
+    Ok(())
 }
 
 /// Whether a value fits the schema's root.
