@@ -1,7 +1,7 @@
 -- Bools in bytes: in a struct of a struct, in a vector of such structs, and in a vector.
-use Rattle.std.specs.Prelude.{◌≡◌, [], ◌∷◌, false, None, refl, pos, ℕ, set}
+use Rattle.std.specs.Prelude.{◌≡◌, [], ◌∷◌, false, None, refl, ℕ, set}
 use Rattle.std.proofs.Common.{lit≤}
-use Rattle.fb_value.specs.Datum.{Datum, a_number, a_vector, a_struct, a_table, no_parts, more_parts, no_entries, present_entry}
+use Rattle.fb_value.specs.Datum.{Datum, a_vector, a_struct, a_table, no_parts, more_parts, no_entries, present_entry}
 use Rattle.fb_value.specs.Num.{Bytes, num}
 use Rattle.fb_value.specs.Places.{slot_number, named_slots, named_elements}
 use Rattle.fb_value.specs.Rules.{first_failing, fault_by}

@@ -2,9 +2,9 @@
 use Rattle.std.specs.Prelude.{◌≡◌, true, false, refl}
 use Rattle.std.proofs.Common.{lit≤, arith}
 use Rattle.fb_value.specs.Counts.{is_whole}
-use Rattle.fb_value.specs.Datum.{a_table, a_member, an_unknown, no_entries, absent_entry, present_entry}
+use Rattle.fb_value.specs.Datum.{a_table, an_unknown, no_entries, absent_entry, present_entry}
 use Rattle.fb_value.specs.Fits.{FitsRoot}
-use Rattle.fb_value.specs.ExampleLayouts.{two_members, three_members, required_text, optional_int, deprecated_int}
+use Rattle.fb_value.specs.ExampleLayouts.{two_members, required_text, optional_int, deprecated_int}
 use Rattle.fb_value.specs.ExampleUnions.{second_member, no_member, third_code}
 use Rattle.fb_value.specs.ExampleMarks.{nothing, second_alone}
 use Rattle.fb_value.specs.ExampleRequiredUnions.{required_union}

@@ -1,5 +1,5 @@
 -- Numbers below 0, and defaults other than 0.
-use Rattle.std.specs.Prelude.{◌≡◌, [], ◌∷◌, set, false, None, refl, ℤ, pos, negsuc}
+use Rattle.std.specs.Prelude.{◌≡◌, [], ◌∷◌, false, None, refl, ℤ, pos, negsuc}
 use Rattle.std.proofs.Common.{lit≤}
 use Rattle.fb_schema.specs.declared.kinds.Base.TheVariants.{I8}
 use Rattle.fb_schema.specs.declared.kinds.Kind.TheVariants.{Scalar}
