@@ -1,5 +1,5 @@
 //! From declarations to a schema.
-ghost use Rattle.std.specs.Prelude.{◌≡◌, ◌≢◌, [], IfOk, IfErr, Some, length, map};
+ghost use Rattle.std.specs.Prelude.{◌≡◌, ◌≢◌, [], IfOk, IfErr, OnOk, Some, length, map};
 ghost use Rattle.std.specs.Option.{ForSome, option_copied, option_map};
 ghost use Rattle.fb_declare.specs.declared.faults.SchemaFault.TheVariants.{Memory};
 ghost use Rattle.fb_declare.specs.Faults.{least_of};
@@ -85,6 +85,73 @@ fn schema_found(alloc: Global, found: Found<'_, '_, '_>) -> Result<Schema, Alloc
     Schema::new(alloc, types, root, identifier_of(found.identifier))
 }
 
+/// The schema that an outline gives, or the least of its faults, where these are the full names of
+/// its types.
+fn schema_or_fault(
+    alloc: Global,
+    found: Found<'_, '_, '_>,
+    names: &[Text],
+) -> Result<Schema, SchemaFault>
+    requires names { names.now ≡ map located_name found.types.types.now }
+    requires types { DeclareTypes found.types.types.now }
+    ensures sound { OnOk result (faults_of_outline (outline_found found.entry) ≡ []) }
+    ensures given { IfOk result (Gives (outline_found found.entry)) }
+    ensures least { IfErr result (λ f. f ≢ Memory
+        → least_of (faults_of_outline (outline_found found.entry)) ≡ Some f) }
+{
+    if let Some(fault) = least_fault(alloc, found, names)? {
+        return Err(fault);
+    }
+    Ok(schema_found(alloc, found)?)
+}
+
+/// The schema that an outline gives, or the least of its faults, where its types are found by name.
+fn declare_types<'t, 'd, 'n>(
+    alloc: Global,
+    outline: &'t Outline<'d>,
+    types: TypesRead<'t, 'd, 'n>,
+    names: &[Text],
+) -> Result<Schema, SchemaFault>
+    requires same { types.types.now ≡ outline.now.types }
+    requires names { names.now ≡ map located_name outline.now.types }
+    requires types { DeclareTypes outline.now.types }
+    ensures sound { OnOk result (faults_of_outline outline.now ≡ []) }
+    ensures given { IfOk result (Gives outline.now) }
+    ensures least { IfErr result (λ f. f ≢ Memory → least_of (faults_of_outline outline.now) ≡ Some f) }
+{
+    let attributes = NamePlaces::of(alloc, outline.attributes.as_slice())?;
+    let found = Found {
+        types,
+        declared: DeclaredNames {
+            names: outline.attributes.as_slice(),
+            places: &attributes,
+        },
+        root: outline.root.as_ref(),
+        identifier: outline.identifier,
+        text_len: outline.text_len,
+    };
+    schema_or_fault(alloc, found, names)
+}
+
+/// The schema that an outline gives, or the least of its faults.
+fn declare_outline(alloc: Global, outline: &Outline<'_>) -> Result<Schema, SchemaFault>
+    requires types { DeclareTypes outline.now.types }
+    ensures sound { OnOk result (faults_of_outline outline.now ≡ []) }
+    ensures given { IfOk result (Gives outline.now) }
+    ensures least { IfErr result (λ f. f ≢ Memory → least_of (faults_of_outline outline.now) ≡ Some f) }
+{
+    let names = located_names(alloc, outline.types.as_slice())?;
+    let words = WordPlaces::of(alloc, names.as_slice())?;
+    let values = ValueNumbers::of(alloc, outline.types.as_slice())?;
+    let types = TypesRead {
+        types: outline.types.as_slice(),
+        names: names.as_slice(),
+        words: &words,
+        values: &values,
+    };
+    declare_types(alloc, outline, types, names.as_slice())
+}
+
 /// The schema that declarations give.
 ///
 /// A refusal tells the fault of least offset and, there, of the lowest number; `Memory` is a
@@ -95,27 +162,5 @@ pub fn declare(alloc: Global, decls: &Decls) -> Result<Schema, SchemaFault>
     ensures least { IfErr result (λ f. f ≢ Memory → least_of (faults_of decls.now) ≡ Some f) }
 {
     let outline = Outline::of(alloc, decls)?;
-    let names = located_names(alloc, outline.types.as_slice())?;
-    let words = WordPlaces::of(alloc, names.as_slice())?;
-    let values = ValueNumbers::of(alloc, outline.types.as_slice())?;
-    let attributes = NamePlaces::of(alloc, outline.attributes.as_slice())?;
-    let found = Found {
-        types: TypesRead {
-            types: outline.types.as_slice(),
-            names: names.as_slice(),
-            words: &words,
-            values: &values,
-        },
-        declared: DeclaredNames {
-            names: outline.attributes.as_slice(),
-            places: &attributes,
-        },
-        root: outline.root.as_ref(),
-        identifier: outline.identifier,
-        text_len: outline.text_len,
-    };
-    if let Some(fault) = least_fault(alloc, found, names.as_slice())? {
-        return Err(fault);
-    }
-    Ok(schema_found(alloc, found)?)
+    declare_outline(alloc, &outline)
 }
