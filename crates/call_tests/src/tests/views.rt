@@ -32,7 +32,13 @@ fn a_member_of_a_union(rt: HostRuntime) -> Result<(), Fail> {
     let json = b"{\"u_type\":\"B\",\"u\":{}}";
     let bytes = to_binary(rt.alloc(), UNION, json, usual_limits(), false)?;
     let mut entries = Entries::new();
-    let view = verify(&layout, bytes.as_slice(), usual_limits(), false, &mut entries)?;
+    let view = verify(
+        &layout,
+        bytes.as_slice(),
+        usual_limits(),
+        false,
+        &mut entries,
+    )?;
     expect_member(&rt, view);
     Ok(())
 }
@@ -42,7 +48,13 @@ fn an_absent_number_is_its_default(rt: HostRuntime) -> Result<(), Fail> {
     let layout = schema_of(rt.alloc(), NUMBER)?;
     let bytes = to_binary(rt.alloc(), NUMBER, b"{}", usual_limits(), false)?;
     let mut entries = Entries::new();
-    let view = verify(&layout, bytes.as_slice(), usual_limits(), false, &mut entries)?;
+    let view = verify(
+        &layout,
+        bytes.as_slice(),
+        usual_limits(),
+        false,
+        &mut entries,
+    )?;
     assert!(rt; view.number(0) == Some(0));
     Ok(())
 }
@@ -61,7 +73,13 @@ fn the_second_of_two_tables(rt: HostRuntime) -> Result<(), Fail> {
     let json = b"{\"ps\":[{\"x\":1},{\"x\":2}]}";
     let bytes = to_binary(rt.alloc(), TABLES, json, usual_limits(), false)?;
     let mut entries = Entries::new();
-    let view = verify(&layout, bytes.as_slice(), usual_limits(), false, &mut entries)?;
+    let view = verify(
+        &layout,
+        bytes.as_slice(),
+        usual_limits(),
+        false,
+        &mut entries,
+    )?;
     assert!(rt; view.items(0).and_then(second_number) == Some(2));
     Ok(())
 }
@@ -71,7 +89,13 @@ fn a_buffer_of_a_byte_too_much(rt: HostRuntime) -> Result<(), Fail> {
     let layout = schema_of(rt.alloc(), NUMBER)?;
     let bytes = vec![in rt.alloc(); 0u8; TOO_LONG]?;
     let mut entries = Entries::new();
-    let refused = verify(&layout, bytes.as_slice(), usual_limits(), false, &mut entries);
+    let refused = verify(
+        &layout,
+        bytes.as_slice(),
+        usual_limits(),
+        false,
+        &mut entries,
+    );
     assert!(rt; refused.err() == Some(ReadFault::TooLong(2_147_483_647)));
     Ok(())
 }
