@@ -4,8 +4,8 @@ use Rattle.fb_layout.specs.Laid.{parts_of, struct_at, stored_kind, size_of}
 use Rattle.fb_value.specs.Datum.{Datum, Parts, count}
 use Rattle.fb_value.specs.Places.{table_part, part_place}
 use Rattle.fb_value.specs.Lies.{Lies, LiesParts, LiesItems}
-use Rattle.fb_read.specs.declared.views.View.{View}
-use Rattle.fb_read.specs.declared.fixed.FixedView.{FixedView}
+use Rattle.fb_read.specs.declared.view.View.{View}
+use Rattle.fb_read.specs.declared.fixed_view.FixedView.{FixedView}
 use Rattle.fb_read.specs.declared.items.Items.{Items}
 use Rattle.fb_read.specs.Views.{table_in, member_in, vector_in, struct_in}
 

@@ -12,7 +12,7 @@ ghost use Rattle.fb_read.specs.Stored.{unknown_code_of};
 
 use crate::places::{is_stored, slot_of};
 use crate::rules::union_code;
-use crate::visits::is_first_required;
+use crate::visit_leaves::is_first_required;
 use fb_layout::Layout;
 use fb_schema::{Base, FieldInfo, Kind, Shape, TypeId};
 

@@ -1,7 +1,7 @@
 use Rattle.std.proofs.Common.{arith}
 use Rattle.fb_layout.specs.Laid.{stored_kind}
-use Rattle.fb_read.proofs.Grown.{parts_entered_more, parts_whole}
-use Rattle.fb_read.proofs.ValueSteps.{inline_grown, inline_missed}
+use Rattle.fb_read.proofs.read_tables.OneValueMore.{parts_entered_more, parts_whole}
+use Rattle.fb_read.proofs.read_tables.ValueIsWhatLies.{inline_grown, inline_missed}
 use Rattle.fb_read.proofs.inlines.read_inlines.Goals.{in-Some+in_ok-push, in_default}
 use Rattle.fb_read.proofs.inlines.read_inlines.Goals as goal
 

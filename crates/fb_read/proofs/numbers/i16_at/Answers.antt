@@ -3,7 +3,7 @@ use Rattle.std.proofs.Common.{◌∙◌, ap, rules}
 use Rattle.std.specs.Prelude.{FitsSigned}
 use Rattle.std.specs.Int.{w16, cast_signed}
 use Rattle.fb_value.specs.Num.{num}
-use Rattle.fb_read.proofs.Sums.{num_in_slice, signed_is_16}
+use Rattle.fb_read.proofs.numbers.SumIsWhatByteorderReads.{num_in_slice, signed_is_16}
 use Rattle.fb_read.proofs.numbers.i16_at.Goals as goal
 
 pub returns : goal.returns

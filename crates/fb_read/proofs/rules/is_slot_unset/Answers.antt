@@ -1,5 +1,5 @@
 use Rattle.std.proofs.Common.{sym, ◌∙◌}
-use Rattle.fb_read.proofs.Visited.{unset_here, unset_past}
+use Rattle.fb_read.proofs.places.FieldsAreTheirSlots.{unset_here, unset_past}
 use Rattle.fb_read.proofs.rules.is_slot_unset.Goals as goal
 
 pub returns-then-slot-slots : goal.returns-then-slot-slots
