@@ -1,5 +1,5 @@
 -- What a walk that makes values gives.
-use Rattle.std.specs.Prelude.{ℕ, ◌+◌, ◌≡◌, ◌≢◌, ◌<◌, ◌≤◌, List, [], Option, None, Some, Result, Ok, Err, MatchResult}
+use Rattle.std.specs.Prelude.{ℕ, ◌+◌, ◌≡◌, ◌≢◌, ◌<◌, List, [], Option, None, Some, Result, Ok, Err, MatchResult}
 use Rattle.fb_layout.specs.Laid.{LaidSchema, Slot, StoredKind}
 use Rattle.fb_value.specs.declared.faults.ReadFault.{ReadFault}
 use Rattle.fb_value.specs.declared.faults.ReadFault.TheVariants.{Memory}
@@ -26,10 +26,6 @@ elements_named (Some X) p n = named_elements X p n
 -- What a visit gives, as far as memory lasts.
 abbrev pub Gives : {T : Type 0} → Result T ReadFault → ℕ → Result ℕ ReadFault → Type 0
 Gives result after given = MatchResult result (λ _. given ≡ Ok after) (λ f. f ≢ Memory → given ≡ Err f)
-
--- The counter has risen by the cells that were spent at most, and by one more where nothing is answered.
-abbrev pub CountsWithin : {T : Type 0} → Source → ℕ → ℕ → ℕ → ℕ → Result T ReadFault → Type 0
-CountsWithin source old new before after result = MatchResult result (λ _. new + before ≤ old + after) (λ _. new + before ≤ old + (source.most_cells + 1))
 
 -- what lies at a place can only be this
 abbrev pub IsAt : Source → Place → Datum → Type 0

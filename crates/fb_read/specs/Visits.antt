@@ -38,9 +38,9 @@ slots_seen L fs = map (slot_of L.schema) (map field_seen fs)
 abbrev pub first_unset : LaidSchema → Bytes → ℕ → List FieldInfo → List ℕ → Option ℕ
 first_unset L b p fs required = find (λ k. is_missing_slot b p k (slice_get (slots_seen L fs) k)) required
 
--- what a visit returned is what it gives
-abbrev pub Visits : Result ℕ ReadFault → Result ℕ ReadFault → Type 0
-Visits result given = MatchResult result (λ n. given ≡ Ok n) (λ f. given ≡ Err f)
+-- what a visit returned is what it gives, with so many cells spent behind it
+abbrev pub Visits : {T : Type 0} → Result T ReadFault → ℕ → Result ℕ ReadFault → Type 0
+Visits result after given = MatchResult result (λ _. given ≡ Ok after) (λ f. given ≡ Err f)
 
 -- the place of a union's value that is present, by its code's member; a code of 0 has none
 abbrev pub union_place : ℕ → ℕ → Option ℕ → Option Place

@@ -20,6 +20,7 @@ mod stored;
 mod view;
 mod visit_leaves;
 mod visit_tables;
+mod walk;
 
 pub use entries::Entries;
 pub use entry::Entry;

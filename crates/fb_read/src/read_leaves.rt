@@ -4,14 +4,14 @@ ghost use Rattle.fb_layout.specs.Laid.{stored_kind};
 ghost use Rattle.fb_value.specs.View.{view};
 ghost use Rattle.fb_value.specs.Counts.{entered};
 ghost use Rattle.fb_value.specs.Places.{text_part, ref_place, part_place, inline_place};
-ghost use Rattle.fb_read.specs.Walks.{place, visit_in, entered_in};
-ghost use Rattle.fb_read.specs.Values.{Gives, CountsWithin, IsAt, IsInline};
+ghost use Rattle.fb_read.specs.Walks.{place, visit_in, entered_in, TicksWithin};
+ghost use Rattle.fb_read.specs.Values.{Gives, IsAt, IsInline};
 
 use crate::inlines::read_inline;
 use crate::places::follow;
 use crate::rules::{check_inline, open_text};
-use crate::reader::ticks::Ticks;
 use crate::source::Source;
+use crate::walk::Walk;
 use fb_schema::Kind;
 use fb_value::{ReadFault, Value};
 use std::alloc::Global;
@@ -21,26 +21,25 @@ use std::alloc::Global;
 pub fn read_text(
     alloc: Global,
     source: Source,
+    walk: &mut Walk,
     at: usize,
-    spent: &mut u64,
-    ticks: &mut Ticks,
 ) -> Result<Value, ReadFault>
     requires low { at < 2 ^ 33 }
-    requires few { spent.old ≤ source.most_cells }
-    ensures visit { (tables : ℕ) → Gives result spent.new
-        (visit_in source.entry (place (part_place text_part) at) tables spent.old) }
-    ensures few { OnOk result (spent.new ≤ source.entry.most_cells) }
+    requires few { walk.old.spent ≤ source.most_cells }
+    ensures visit { (tables : ℕ) → Gives result walk.new.spent
+        (visit_in source.entry (place (part_place text_part) at) tables walk.old.spent) }
+    ensures few { OnOk result (walk.new.spent ≤ source.entry.most_cells) }
     ensures value { IfOk result (λ v. IsAt source.entry (place (part_place text_part) at) (view v)) }
-    ensures ticks { CountsWithin source.entry ticks.old ticks.new spent.old spent.new result }
-    ensures each { IfOk result (λ v. ticks.new ≡ ticks.old + entered (view v)) }
+    ensures ticks { TicksWithin source.entry walk.old walk.new result }
+    ensures each { IfOk result (λ v. walk.new.ticks ≡ walk.old.ticks + entered (view v)) }
 {
-    ticks.tick();
+    walk.ticks.tick();
     let text = open_text(source.bytes, at)?;
-    let after = *spent + 1 + text.len() as u64;
+    let after = walk.spent + 1 + text.len() as u64;
     if after > u64::from(source.most_cells) {
         return Err(ReadFault::TooManyCells(at as u64));
     }
-    *spent = after;
+    walk.spent = after;
     let text = String::from_str(alloc, text)?;
     Ok(Value::Text(text))
 }
@@ -50,21 +49,20 @@ pub fn read_text(
 pub fn read_text_behind(
     alloc: Global,
     source: Source,
+    walk: &mut Walk,
     at: usize,
-    spent: &mut u64,
-    ticks: &mut Ticks,
 ) -> Result<Value, ReadFault>
     requires low { at < 2 ^ 33 }
-    requires few { spent.old ≤ source.most_cells }
-    ensures visit { (tables : ℕ) → Gives result spent.new
-        (visit_in source.entry (place (ref_place text_part) at) tables spent.old) }
-    ensures few { OnOk result (spent.new ≤ source.entry.most_cells) }
+    requires few { walk.old.spent ≤ source.most_cells }
+    ensures visit { (tables : ℕ) → Gives result walk.new.spent
+        (visit_in source.entry (place (ref_place text_part) at) tables walk.old.spent) }
+    ensures few { OnOk result (walk.new.spent ≤ source.entry.most_cells) }
     ensures value { IfOk result (λ v. IsAt source.entry (place (ref_place text_part) at) (view v)) }
-    ensures ticks { CountsWithin source.entry ticks.old ticks.new spent.old spent.new result }
-    ensures each { IfOk result (λ v. ticks.new ≡ ticks.old + entered (view v)) }
+    ensures ticks { TicksWithin source.entry walk.old walk.new result }
+    ensures each { IfOk result (λ v. walk.new.ticks ≡ walk.old.ticks + entered (view v)) }
 {
     let target = follow(source.bytes, at)?;
-    read_text(alloc, source, target, spent, ticks)
+    read_text(alloc, source, walk, target)
 }
 
 /// The number or struct at a position, where its rules hold.

@@ -2,25 +2,25 @@
 ghost use Rattle.std.specs.Prelude.{◌≡◌, ◌+◌, ◌*◌, ◌<◌, ◌≤◌, ◌^◌, length, option_map};
 ghost use Rattle.std.specs.Prelude.{OnOk, IfOk, None, Some, Err};
 ghost use Rattle.fb_layout.specs.Laid.{StoredKind, Slot, stored_kind, size_of};
-ghost use Rattle.fb_value.specs.Num.{num};
 ghost use Rattle.fb_value.specs.View.{view, parts_view, entries_view};
 ghost use Rattle.fb_value.specs.Counts.{entered, parts_entered, entries_entered};
-ghost use Rattle.fb_value.specs.Places.{table_part, member_part, vector_part, ref_place, part_place, vtable};
+ghost use Rattle.fb_value.specs.Places.{table_part, member_part, vector_part, ref_place, part_place};
 ghost use Rattle.fb_value.specs.Places.{named_slots, named_elements, target_of};
 ghost use Rattle.fb_read.specs.Stored.{stored_place, stored_at, default_in};
 ghost use Rattle.fb_read.specs.Visits.{slots_seen};
 ghost use Rattle.fb_read.specs.Walks.{place, visit_in, visit_each_in, visit_entry_in, entered_in};
-ghost use Rattle.fb_read.specs.Values.{led_to, elements_named, Gives, CountsWithin, IsAt, IsInSlot, AreInSlots};
+ghost use Rattle.fb_read.specs.Walks.{HasVtable, IsWithin, TicksWithin};
+ghost use Rattle.fb_read.specs.Values.{led_to, elements_named, Gives, IsAt, IsInSlot, AreInSlots};
 ghost use Rattle.fb_read.specs.Values.{AreItems, IsOpen, IsOpenBehind};
 
 use crate::inlines::read_inlines;
-use crate::read_leaves::{read_inline_at, read_text_behind};
 use crate::places::follow;
+use crate::read_leaves::{read_inline_at, read_text_behind};
 use crate::reference::Reference;
 use crate::rules::{check_code, enter_table, open_vector};
-use crate::reader::ticks::Ticks;
 use crate::source::Source;
 use crate::stored::{Stored, stored_in};
+use crate::walk::{TableAt, Walk};
 use fb_schema::{FieldInfo, Kind, TypeId};
 use fb_value::{ReadFault, Value};
 use std::alloc::Global;
@@ -31,27 +31,25 @@ use std::alloc::Global;
 pub fn read_table_behind(
     alloc: Global,
     source: Source,
+    walk: &mut Walk,
     table: TypeId,
     at: usize,
     tables: u8,
-    spent: &mut u64,
-    ticks: &mut Ticks,
 ) -> Result<Value, ReadFault>
     requires low { at < 2 ^ 33 }
-    requires few { spent.old ≤ source.most_cells }
-    requires flat { tables ≤ source.most_depth }
-    ensures visit { Gives result spent.new (visit_in source.entry (place (ref_place
-        (table_part table.0)) at) tables spent.old) }
-    ensures few { OnOk result (spent.new ≤ source.entry.most_cells) }
+    requires limits { IsWithin source tables walk.old }
+    ensures visit { Gives result walk.new.spent (visit_in source.entry (place (ref_place
+        (table_part table.0)) at) tables walk.old.spent) }
+    ensures few { OnOk result (walk.new.spent ≤ source.entry.most_cells) }
     ensures value { IfOk result (λ v. IsAt source.entry (place (ref_place
         (table_part table.0)) at) (view v)) }
-    ensures ticks { CountsWithin source.entry ticks.old ticks.new spent.old spent.new result }
-    ensures each { IfOk result (λ v. ticks.new ≡ ticks.old + entered (view v)) }
+    ensures ticks { TicksWithin source.entry walk.old walk.new result }
+    ensures each { IfOk result (λ v. walk.new.ticks ≡ walk.old.ticks + entered (view v)) }
     ensures memory { result ≡ Err ReadFault.Memory
-        → IsOpenBehind source.entry table.0 at tables spent.old }
+        → IsOpenBehind source.entry table.0 at tables walk.old.spent }
 {
     let target = follow(source.bytes, at)?;
-    read_table(alloc, source, table, target, tables, spent, ticks)
+    read_table(alloc, source, walk, table, target, tables)
 }
 
 #[cycle(read)]
@@ -59,36 +57,35 @@ pub fn read_table_behind(
 fn read_table(
     alloc: Global,
     source: Source,
+    walk: &mut Walk,
     table: TypeId,
     at: usize,
     tables: u8,
-    spent: &mut u64,
-    ticks: &mut Ticks,
 ) -> Result<Value, ReadFault>
     requires low { at < 2 ^ 33 }
-    requires few { spent.old ≤ source.most_cells }
-    requires flat { tables ≤ source.most_depth }
-    ensures visit { Gives result spent.new (visit_in source.entry (place (part_place
-        (table_part table.0)) at) tables spent.old) }
-    ensures few { OnOk result (spent.new ≤ source.entry.most_cells) }
+    requires limits { IsWithin source tables walk.old }
+    ensures visit { Gives result walk.new.spent (visit_in source.entry (place (part_place
+        (table_part table.0)) at) tables walk.old.spent) }
+    ensures few { OnOk result (walk.new.spent ≤ source.entry.most_cells) }
     ensures value { IfOk result (λ v. IsAt source.entry (place (part_place
         (table_part table.0)) at) (view v)) }
-    ensures ticks { CountsWithin source.entry ticks.old ticks.new spent.old spent.new result }
-    ensures each { IfOk result (λ v. ticks.new ≡ ticks.old + entered (view v)) }
+    ensures ticks { TicksWithin source.entry walk.old walk.new result }
+    ensures each { IfOk result (λ v. walk.new.ticks ≡ walk.old.ticks + entered (view v)) }
     ensures memory { result ≡ Err ReadFault.Memory
-        → IsOpen source.entry table.0 at tables spent.old }
+        → IsOpen source.entry table.0 at tables walk.old.spent }
 {
-    ticks.tick();
-    let place = enter_table(source.layout, table, source.bytes, at)?;
+    walk.ticks.tick();
+    let vtable_at = enter_table(source.layout, table, source.bytes, at)?;
     if tables >= source.most_depth {
         return Err(ReadFault::TooDeep(at as u64));
     }
-    if *spent >= u64::from(source.most_cells) {
+    if walk.spent >= u64::from(source.most_cells) {
         return Err(ReadFault::TooManyCells(at as u64));
     }
-    *spent += 1;
+    walk.spent += 1;
     let slots = source.layout.slots_of(table);
-    let fields = read_slots(alloc, source, slots, at, place, tables + 1, spent, ticks)?;
+    let table_at = TableAt { at, vtable_at };
+    let fields = read_slots(alloc, source, walk, slots, table_at, tables + 1)?;
     Ok(Value::Fields(table, fields))
 }
 
@@ -97,29 +94,23 @@ fn read_table(
 fn read_slots(
     alloc: Global,
     source: Source,
+    walk: &mut Walk,
     slots: &[FieldInfo],
-    at: usize,
-    place: usize,
+    table: TableAt,
     tables: u8,
-    spent: &mut u64,
-    ticks: &mut Ticks,
 ) -> Result<Vec<Option<Value>>, ReadFault>
-    requires vtable { place ≡ vtable source.bytes.now at }
-    requires whole { place + num source.bytes.now place 2 ≤ length source.bytes.now }
-    requires within { place + 2 ≤ length source.bytes.now }
-    requires low { at < 2 ^ 32 }
+    requires vtable { HasVtable source.bytes.now table }
     requires slots { length slots.now < 2 ^ 15 }
-    requires few { spent.old ≤ source.most_cells }
-    requires flat { tables ≤ source.most_depth }
-    ensures visit { Gives result spent.new (visit_each_in source.entry
-        (named_slots source.entry.layout.now source.entry.bytes.now at 0
-        (slots_seen source.entry.layout.now slots.now)) tables spent.old) }
-    ensures few { OnOk result (spent.new ≤ source.entry.most_cells) }
+    requires limits { IsWithin source tables walk.old }
+    ensures visit { Gives result walk.new.spent (visit_each_in source.entry
+        (named_slots source.entry.layout.now source.entry.bytes.now table.at 0
+        (slots_seen source.entry.layout.now slots.now)) tables walk.old.spent) }
+    ensures few { OnOk result (walk.new.spent ≤ source.entry.most_cells) }
     ensures value { IfOk result (λ es. AreInSlots source.entry (slots_seen source.entry.layout.now slots.now)
-        (named_slots source.entry.layout.now source.entry.bytes.now at 0
+        (named_slots source.entry.layout.now source.entry.bytes.now table.at 0
         (slots_seen source.entry.layout.now slots.now)) (entries_view es.items)) }
-    ensures ticks { CountsWithin source.entry ticks.old ticks.new spent.old spent.new result }
-    ensures each { IfOk result (λ es. ticks.new ≡ ticks.old + entries_entered
+    ensures ticks { TicksWithin source.entry walk.old walk.new result }
+    ensures each { IfOk result (λ es. walk.new.ticks ≡ walk.old.ticks + entries_entered
         (entries_view es.items)) }
 {
     let mut fields = Vec::with_capacity(alloc, slots.len())?;
@@ -130,11 +121,11 @@ fn read_slots(
             source.bytes,
             &slots[slot],
             later,
-            at,
-            place,
+            table.at,
+            table.vtable_at,
             slot,
         );
-        let field = read_stored(alloc, source, stored, tables, spent, ticks)?;
+        let field = read_stored(alloc, source, walk, stored, tables)?;
         fields.push(field)?;
     }
     Ok(fields)
@@ -145,22 +136,20 @@ fn read_slots(
 fn read_stored(
     alloc: Global,
     source: Source,
+    walk: &mut Walk,
     stored: Stored,
     tables: u8,
-    spent: &mut u64,
-    ticks: &mut Ticks,
 ) -> Result<Option<Value>, ReadFault>
     requires low { stored_at stored < 2 ^ 33 }
-    requires few { spent.old ≤ source.most_cells }
-    requires flat { tables ≤ source.most_depth }
-    ensures visit { Gives result spent.new (visit_entry_in source.entry
-        (stored_place source.entry.layout.now stored) tables spent.old) }
-    ensures few { OnOk result (spent.new ≤ source.entry.most_cells) }
+    requires limits { IsWithin source tables walk.old }
+    ensures visit { Gives result walk.new.spent (visit_entry_in source.entry
+        (stored_place source.entry.layout.now stored) tables walk.old.spent) }
+    ensures few { OnOk result (walk.new.spent ≤ source.entry.most_cells) }
     ensures value { IfOk result (λ e. (f : Slot)
         → (stored_place source.entry.layout.now stored ≡ None → default_in stored ≡ f.if_absent)
         → IsInSlot source.entry f (stored_place source.entry.layout.now stored) (option_map view e)) }
-    ensures ticks { CountsWithin source.entry ticks.old ticks.new spent.old spent.new result }
-    ensures each { IfOk result (λ e. ticks.new ≡ ticks.old + entered_in (option_map view e)) }
+    ensures ticks { TicksWithin source.entry walk.old walk.new result }
+    ensures each { IfOk result (λ e. walk.new.ticks ≡ walk.old.ticks + entered_in (option_map view e)) }
 {
     match stored {
         Stored::Absent(Some(default)) => Ok(Some(Value::Number(default))),
@@ -178,15 +167,15 @@ fn read_stored(
         }
         Stored::Number(base, at) => read_inline_at(alloc, source, Kind::Scalar(base), at),
         Stored::Fixed(structure, at) => read_inline_at(alloc, source, Kind::Struct(structure), at),
-        Stored::Text(at) => Ok(Some(read_text_behind(alloc, source, at, spent, ticks)?)),
+        Stored::Text(at) => Ok(Some(read_text_behind(alloc, source, walk, at)?)),
         Stored::Table(table, at) => Ok(Some(read_table_behind(
-            alloc, source, table, at, tables, spent, ticks,
+            alloc, source, walk, table, at, tables,
         )?)),
         Stored::Member(code, table, at) => Ok(Some(read_member(
-            alloc, source, code, table, at, tables, spent, ticks,
+            alloc, source, walk, code, table, at, tables,
         )?)),
         Stored::Vector(kind, at) => Ok(Some(read_vector_behind(
-            alloc, source, kind, at, tables, spent, ticks,
+            alloc, source, walk, kind, at, tables,
         )?)),
     }
 }
@@ -195,25 +184,23 @@ fn read_stored(
 fn read_member(
     alloc: Global,
     source: Source,
+    walk: &mut Walk,
     code: u8,
     table: TypeId,
     at: usize,
     tables: u8,
-    spent: &mut u64,
-    ticks: &mut Ticks,
 ) -> Result<Value, ReadFault>
     requires low { at < 2 ^ 33 }
-    requires few { spent.old ≤ source.most_cells }
-    requires flat { tables ≤ source.most_depth }
-    ensures visit { Gives result spent.new (visit_in source.entry (place (ref_place
-        (member_part code table.0)) at) tables spent.old) }
-    ensures few { OnOk result (spent.new ≤ source.entry.most_cells) }
+    requires limits { IsWithin source tables walk.old }
+    ensures visit { Gives result walk.new.spent (visit_in source.entry (place (ref_place
+        (member_part code table.0)) at) tables walk.old.spent) }
+    ensures few { OnOk result (walk.new.spent ≤ source.entry.most_cells) }
     ensures value { IfOk result (λ v. IsAt source.entry (place (ref_place
         (member_part code table.0)) at) (view v)) }
-    ensures ticks { CountsWithin source.entry ticks.old ticks.new spent.old spent.new result }
-    ensures each { IfOk result (λ v. ticks.new ≡ ticks.old + entered (view v)) }
+    ensures ticks { TicksWithin source.entry walk.old walk.new result }
+    ensures each { IfOk result (λ v. walk.new.ticks ≡ walk.old.ticks + entered (view v)) }
 {
-    let member = read_table_behind(alloc, source, table, at, tables, spent, ticks)?;
+    let member = read_table_behind(alloc, source, walk, table, at, tables)?;
     Ok(Value::Member(code, Box::new(alloc, member)?))
 }
 
@@ -222,25 +209,23 @@ fn read_member(
 fn read_vector_behind(
     alloc: Global,
     source: Source,
+    walk: &mut Walk,
     kind: Kind,
     at: usize,
     tables: u8,
-    spent: &mut u64,
-    ticks: &mut Ticks,
 ) -> Result<Value, ReadFault>
     requires low { at < 2 ^ 33 }
-    requires few { spent.old ≤ source.most_cells }
-    requires flat { tables ≤ source.most_depth }
-    ensures visit { Gives result spent.new (visit_in source.entry (place (ref_place (vector_part
-        (stored_kind source.entry.layout.now.schema kind))) at) tables spent.old) }
-    ensures few { OnOk result (spent.new ≤ source.entry.most_cells) }
+    requires limits { IsWithin source tables walk.old }
+    ensures visit { Gives result walk.new.spent (visit_in source.entry (place (ref_place (vector_part
+        (stored_kind source.entry.layout.now.schema kind))) at) tables walk.old.spent) }
+    ensures few { OnOk result (walk.new.spent ≤ source.entry.most_cells) }
     ensures value { IfOk result (λ v. IsAt source.entry (place (ref_place (vector_part
         (stored_kind source.entry.layout.now.schema kind))) at) (view v)) }
-    ensures ticks { CountsWithin source.entry ticks.old ticks.new spent.old spent.new result }
-    ensures each { IfOk result (λ v. ticks.new ≡ ticks.old + entered (view v)) }
+    ensures ticks { TicksWithin source.entry walk.old walk.new result }
+    ensures each { IfOk result (λ v. walk.new.ticks ≡ walk.old.ticks + entered (view v)) }
 {
     let target = follow(source.bytes, at)?;
-    read_vector(alloc, source, kind, target, tables, spent, ticks)
+    read_vector(alloc, source, walk, kind, target, tables)
 }
 
 #[cycle(read)]
@@ -248,32 +233,30 @@ fn read_vector_behind(
 fn read_vector(
     alloc: Global,
     source: Source,
+    walk: &mut Walk,
     kind: Kind,
     at: usize,
     tables: u8,
-    spent: &mut u64,
-    ticks: &mut Ticks,
 ) -> Result<Value, ReadFault>
     requires low { at < 2 ^ 33 }
-    requires few { spent.old ≤ source.most_cells }
-    requires flat { tables ≤ source.most_depth }
-    ensures visit { Gives result spent.new (visit_in source.entry (place (part_place (vector_part
-        (stored_kind source.entry.layout.now.schema kind))) at) tables spent.old) }
-    ensures few { OnOk result (spent.new ≤ source.entry.most_cells) }
+    requires limits { IsWithin source tables walk.old }
+    ensures visit { Gives result walk.new.spent (visit_in source.entry (place (part_place (vector_part
+        (stored_kind source.entry.layout.now.schema kind))) at) tables walk.old.spent) }
+    ensures few { OnOk result (walk.new.spent ≤ source.entry.most_cells) }
     ensures value { IfOk result (λ v. IsAt source.entry (place (part_place (vector_part
         (stored_kind source.entry.layout.now.schema kind))) at) (view v)) }
-    ensures ticks { CountsWithin source.entry ticks.old ticks.new spent.old spent.new result }
-    ensures each { IfOk result (λ v. ticks.new ≡ ticks.old + entered (view v)) }
+    ensures ticks { TicksWithin source.entry walk.old walk.new result }
+    ensures each { IfOk result (λ v. walk.new.ticks ≡ walk.old.ticks + entered (view v)) }
 {
-    ticks.tick();
+    walk.ticks.tick();
     let size = source.layout.size_of(kind);
     let count = open_vector(source.bytes, at, size, source.layout.align_of(kind))?;
-    let after = *spent + (1 + u64::from(count));
+    let after = walk.spent + (1 + u64::from(count));
     if after > u64::from(source.most_cells) {
         return Err(ReadFault::TooManyCells(at as u64));
     }
-    *spent = after;
-    let items = read_items(alloc, source, kind, at + 4, count, tables, spent, ticks)?;
+    walk.spent = after;
+    let items = read_items(alloc, source, walk, kind, at + 4, count, tables)?;
     Ok(Value::Items(items))
 }
 
@@ -282,46 +265,34 @@ fn read_vector(
 fn read_items(
     alloc: Global,
     source: Source,
+    walk: &mut Walk,
     kind: Kind,
     at: usize,
     count: u32,
     tables: u8,
-    spent: &mut u64,
-    ticks: &mut Ticks,
 ) -> Result<Vec<Value>, ReadFault>
     requires within { at + count * size_of source.layout.now
         (stored_kind source.layout.now.schema kind) ≤ length source.bytes.now }
-    requires few { spent.old ≤ source.most_cells }
-    requires flat { tables ≤ source.most_depth }
-    ensures visit { Gives result spent.new (visit_each_in source.entry (elements_named (target_of
-        (stored_kind source.entry.layout.now.schema kind)) at count) tables spent.old) }
-    ensures few { OnOk result (spent.new ≤ source.entry.most_cells) }
+    requires limits { IsWithin source tables walk.old }
+    ensures visit { Gives result walk.new.spent (visit_each_in source.entry (elements_named (target_of
+        (stored_kind source.entry.layout.now.schema kind)) at count) tables walk.old.spent) }
+    ensures few { OnOk result (walk.new.spent ≤ source.entry.most_cells) }
     ensures value { IfOk result (λ vs. AreItems source.entry.layout.now source.entry.bytes.now
         (stored_kind source.entry.layout.now.schema kind) at count (parts_view vs.items)) }
-    ensures ticks { CountsWithin source.entry ticks.old ticks.new spent.old spent.new result }
-    ensures each { IfOk result (λ vs. ticks.new ≡ ticks.old + parts_entered
+    ensures ticks { TicksWithin source.entry walk.old walk.new result }
+    ensures each { IfOk result (λ vs. walk.new.ticks ≡ walk.old.ticks + parts_entered
         (parts_view vs.items)) }
 {
     match kind {
-        Kind::Text => read_elements(
-            alloc,
-            source,
-            Reference::ToText,
-            at,
-            count,
-            tables,
-            spent,
-            ticks,
-        ),
+        Kind::Text => read_elements(alloc, source, walk, Reference::ToText, at, count, tables),
         Kind::Table(table) => read_elements(
             alloc,
             source,
+            walk,
             Reference::ToTable(table),
             at,
             count,
             tables,
-            spent,
-            ticks,
         ),
         Kind::Scalar(_) | Kind::Enum(_) | Kind::Struct(_) | Kind::Union(_) | Kind::Code(_) => Ok(
             read_inlines(alloc, source.layout, source.bytes, kind, at, count)?,
@@ -334,29 +305,27 @@ fn read_items(
 fn read_elements(
     alloc: Global,
     source: Source,
+    walk: &mut Walk,
     reference: Reference,
     at: usize,
     count: u32,
     tables: u8,
-    spent: &mut u64,
-    ticks: &mut Ticks,
 ) -> Result<Vec<Value>, ReadFault>
     requires within { at + count * 4 ≤ length source.bytes.now }
-    requires few { spent.old ≤ source.most_cells }
-    requires flat { tables ≤ source.most_depth }
-    ensures visit { Gives result spent.new (visit_each_in source.entry (named_elements
-        (led_to reference) at count) tables spent.old) }
-    ensures few { OnOk result (spent.new ≤ source.entry.most_cells) }
+    requires limits { IsWithin source tables walk.old }
+    ensures visit { Gives result walk.new.spent (visit_each_in source.entry (named_elements
+        (led_to reference) at count) tables walk.old.spent) }
+    ensures few { OnOk result (walk.new.spent ≤ source.entry.most_cells) }
     ensures value { IfOk result (λ vs. (kind : StoredKind) → target_of kind ≡ Some (led_to reference)
         → AreItems source.entry.layout.now source.entry.bytes.now kind at count (parts_view vs.items)) }
-    ensures ticks { CountsWithin source.entry ticks.old ticks.new spent.old spent.new result }
-    ensures each { IfOk result (λ vs. ticks.new ≡ ticks.old + parts_entered
+    ensures ticks { TicksWithin source.entry walk.old walk.new result }
+    ensures each { IfOk result (λ vs. walk.new.ticks ≡ walk.old.ticks + parts_entered
         (parts_view vs.items)) }
 {
     let mut items = Vec::with_capacity(alloc, count as usize)?;
     for i in 0..count {
         let place = at + 4 * i as usize;
-        let item = read_behind(alloc, source, reference, place, tables, spent, ticks)?;
+        let item = read_behind(alloc, source, walk, reference, place, tables)?;
         items.push(item)?;
     }
     Ok(items)
@@ -366,27 +335,23 @@ fn read_elements(
 fn read_behind(
     alloc: Global,
     source: Source,
+    walk: &mut Walk,
     reference: Reference,
     at: usize,
     tables: u8,
-    spent: &mut u64,
-    ticks: &mut Ticks,
 ) -> Result<Value, ReadFault>
     requires low { at < 2 ^ 33 }
-    requires few { spent.old ≤ source.most_cells }
-    requires flat { tables ≤ source.most_depth }
-    ensures visit { Gives result spent.new (visit_in source.entry (place
-        (ref_place (led_to reference)) at) tables spent.old) }
-    ensures few { OnOk result (spent.new ≤ source.entry.most_cells) }
+    requires limits { IsWithin source tables walk.old }
+    ensures visit { Gives result walk.new.spent (visit_in source.entry (place
+        (ref_place (led_to reference)) at) tables walk.old.spent) }
+    ensures few { OnOk result (walk.new.spent ≤ source.entry.most_cells) }
     ensures value { IfOk result (λ v. IsAt source.entry (place
         (ref_place (led_to reference)) at) (view v)) }
-    ensures ticks { CountsWithin source.entry ticks.old ticks.new spent.old spent.new result }
-    ensures each { IfOk result (λ v. ticks.new ≡ ticks.old + entered (view v)) }
+    ensures ticks { TicksWithin source.entry walk.old walk.new result }
+    ensures each { IfOk result (λ v. walk.new.ticks ≡ walk.old.ticks + entered (view v)) }
 {
     match reference {
-        Reference::ToText => read_text_behind(alloc, source, at, spent, ticks),
-        Reference::ToTable(table) => read_table_behind(
-            alloc, source, table, at, tables, spent, ticks,
-        ),
+        Reference::ToText => read_text_behind(alloc, source, walk, at),
+        Reference::ToTable(table) => read_table_behind(alloc, source, walk, table, at, tables),
     }
 }

@@ -17,6 +17,7 @@ use crate::read_tables::read_table_behind;
 use crate::source::Source;
 use crate::view::View;
 use crate::visit_tables::visit_table_behind;
+use crate::walk::Walk;
 use fb_layout::Layout;
 use fb_value::{Limits, ReadFault, Value};
 use std::alloc::Global;
@@ -61,10 +62,12 @@ pub fn read<'a>(
         most_depth,
         most_cells,
     };
-    let mut spent = 0;
-    let mut ticks = Ticks::new();
-    let value = read_table_behind(alloc, source, schema.root(), 0, 0, &mut spent, &mut ticks);
-    ticks.add_to(entries);
+    let mut walk = Walk {
+        spent: 0,
+        ticks: Ticks::new(),
+    };
+    let value = read_table_behind(alloc, source, &mut walk, schema.root(), 0, 0);
+    walk.ticks.add_to(entries);
     value
 }
 
@@ -101,10 +104,13 @@ pub fn verify<'a>(
         most_depth,
         most_cells,
     };
-    let mut ticks = Ticks::new();
-    let visited = visit_table_behind(&source, schema.root(), 0, 0, 0, &mut ticks);
-    ticks.add_to(entries);
-    let _spent = visited?;
+    let mut walk = Walk {
+        spent: 0,
+        ticks: Ticks::new(),
+    };
+    let visited = visit_table_behind(&source, &mut walk, schema.root(), 0, 0);
+    walk.ticks.add_to(entries);
+    visited?;
     let at = u32_at(bytes, 0) as usize;
     Ok(View {
         layout,

@@ -30,6 +30,6 @@ returns-else-offset-eq0-clause-visit c fine fs tables spent =
     let most : Bounds = record { depth = c.args.source.now.most_depth; cells = c.args.source.now.most_cells } in
     let keeps = of_ok c.check_number.result _ _ (c.check_number.ensures.rules L) (sym c.is_ok.ensures.value ∙ fine) in
     let number : stored_kind L.schema c.in-One.kind ≡ scalar_kind c.in-Some.base = number_kind _ _ (sym c.in-Some.ensures) in
-    let named : slot_place L b c.args.owner c.args.slot fs (slot_seen L c.args.field.now)
-    ≡ Some (record { sort = inline_place (scalar_kind c.in-Some.base); at = c.args.owner + c.held_slot-offset.result }) = search rules in
-    rw named (visit_inline L b most (scalar_kind c.in-Some.base) (c.args.owner + c.held_slot-offset.result) tables spent keeps)
+    let named : slot_place L b c.args.table.at c.args.slot fs (slot_seen L c.args.field.now)
+    ≡ Some (record { sort = inline_place (scalar_kind c.in-Some.base); at = c.args.table.at + c.held_slot-offset.result }) = search rules in
+    rw named (visit_inline L b most (scalar_kind c.in-Some.base) (c.args.table.at + c.held_slot-offset.result) tables spent keeps)
