@@ -1,7 +1,7 @@
 -- The slots of some fields, by position.
 use Rattle.std.proofs.Math.Seq.{drop-cons}
 use Rattle.fb_schema.specs.declared.types.FieldInfo.{FieldInfo}
-use Rattle.std.proofs.Common.{slice_index_or, slice_get, drop, length, ◌≡◌, ℕ, zero, suc, ◌-◌, ◌<◌, ◌≤◌, List, [], ◌∷◌, false, None, Some, refl, sym, ap, ◌∙◌, arith}
+use Rattle.std.proofs.Common.{slice_index_or, slice_get, drop, length, ◌≡◌, ℕ, zero, suc, ◌<◌, ◌≤◌, List, [], ◌∷◌, false, None, Some, refl, sym, ap, ◌∙◌, arith}
 use Rattle.fb_layout.specs.Laid.{LaidSchema}
 use Rattle.fb_value.specs.Num.{Bytes}
 use Rattle.fb_value.specs.Missing.{is_missing_slot}

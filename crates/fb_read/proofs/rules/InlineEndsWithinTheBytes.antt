@@ -1,5 +1,5 @@
 -- A number or struct that keeps its rules ends within the bytes.
-use Rattle.std.proofs.Common.{length, ℕ, ◌+◌, ◌-◌, ◌≤◌}
+use Rattle.std.proofs.Common.{length, ℕ, ◌+◌, ◌≤◌}
 use Rattle.std.proofs.lemmas.Bool.{leb-true}
 use Rattle.fb_layout.specs.Laid.{LaidSchema, StoredKind, size_of}
 use Rattle.fb_value.specs.Num.{Bytes}

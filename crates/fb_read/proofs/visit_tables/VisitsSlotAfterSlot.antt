@@ -1,6 +1,6 @@
 -- A visit of a table is one of each of its slots.
 use Rattle.fb_schema.specs.declared.types.FieldInfo.{FieldInfo}
-use Rattle.std.proofs.Common.{slice_index_or, drop, length, ◌≡◌, ℕ, suc, ◌+◌, ◌-◌, ◌<◌, ◌≤◌, List, [], ◌∷◌, Bool, true, false, Ok, Err, nat_le, refl, ◌∙◌, arith}
+use Rattle.std.proofs.Common.{slice_index_or, drop, length, ◌≡◌, ℕ, suc, ◌+◌, ◌<◌, ◌≤◌, List, [], ◌∷◌, Bool, true, false, Ok, Err, nat_le, refl, ◌∙◌, arith}
 use Rattle.std.proofs.lemmas.Bool.{leb-true}
 use Rattle.std.proofs.lemmas.Bool.Decides.{nat_tests}
 use Rattle.fb_layout.specs.Laid.{LaidSchema, Slot}
@@ -8,7 +8,6 @@ use Rattle.fb_value.specs.declared.faults.ReadFault.{ReadFault}
 use Rattle.fb_value.specs.Bounds.{Bounds}
 use Rattle.fb_value.specs.Num.{Bytes}
 use Rattle.fb_value.specs.Places.{named_slots, slot_number}
-use Rattle.fb_value.specs.Faults.{all}
 use Rattle.fb_value.specs.Nth.{slot_place}
 use Rattle.fb_read.specs.Visits.{visit_each, visit_entry, slot_seen, slots_seen}
 use Rattle.fb_read.proofs.places.AbsentSlotNamesNoPlace.{unset_place}
