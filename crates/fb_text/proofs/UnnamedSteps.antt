@@ -8,7 +8,7 @@ use Rattle.fb_value.specs.Num.{Bytes, num}
 use Rattle.fb_value.specs.Places.{Place as Spot, text_part, part_place, target_of}
 use Rattle.fb_value.specs.Lies.{LiesInline, LiesParts, Element, Lies, LiesItems, LiesSlots}
 use Rattle.fb_value.specs.Nth.{nth_entry, nth_part}
-use Rattle.fb_read.proofs.visit_tables.EnteredPartsAreCounted.{entries_from, parts_from}
+use Rattle.fb_read.specs.Tails.{entries_from, parts_from}
 use Rattle.fb_json.specs.declared.faults.Place.{Place}
 use Rattle.fb_read.specs.Stored.{number_entry}
 use Rattle.fb_text.specs.Printed.{first_in_entry}

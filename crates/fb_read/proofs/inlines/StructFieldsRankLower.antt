@@ -14,7 +14,7 @@ use Rattle.fb_value.proofs.Resolved.{LowerParts, resolved}
 use Rattle.fb_value.proofs.NthLies.{parts_long}
 use Rattle.fb_read.specs.Kinds.{rank}
 use Rattle.fb_read.proofs.items.PartsLieInTheirPlaces.{field_kind, kind_there, kinds_long}
-use Rattle.fb_read.proofs.visit_tables.EnteredPartsAreCounted.{parts_from}
+use Rattle.fb_read.specs.Tails.{parts_from}
 use Rattle.fb_read.proofs.read_tables.OneValueMore.{parts_before, parts_whole}
 
 -- a part of a struct ranks below it

@@ -6,7 +6,7 @@ use Rattle.fb_value.specs.Nth.{nth_entry, nth_part}
 use Rattle.fb_value.specs.View.{view, parts_view, entries_view}
 use Rattle.fb_value.specs.declared.values.Value.{Value}
 use Rattle.fb_read.specs.Walks.{entered_in}
-use Rattle.fb_read.proofs.visit_tables.EnteredPartsAreCounted.{entries_from, parts_from}
+use Rattle.fb_read.specs.Tails.{entries_from, parts_from}
 
 -- ---- parts
 

@@ -13,7 +13,8 @@ use Rattle.fb_value.specs.declared.values.Value.{Value}
 use Rattle.fb_value.proofs.NthLies.{entry_lies_shown, element_lies_shown}
 use Rattle.fb_read.specs.Values.{elements_named}
 use Rattle.fb_read.specs.Visits.{slot_seen, slots_seen}
-use Rattle.fb_read.proofs.visit_tables.EnteredPartsAreCounted.{entries_from, parts_from, target_size}
+use Rattle.fb_read.specs.Tails.{entries_from, parts_from}
+use Rattle.fb_read.proofs.visit_tables.EnteredPartsAreCounted.{target_size}
 use Rattle.fb_read.proofs.read_tables.OneValueMore.{parts_before, parts_grown, entries_before, entries_grown, entry_count}
 use Rattle.fb_read.proofs.inlines.StructFieldsRankLower.{found_same, found_none}
 use Rattle.fb_read.proofs.places.FieldsAreTheirSlots.{slot_there, seen_drop}

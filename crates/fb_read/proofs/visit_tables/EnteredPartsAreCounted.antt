@@ -11,6 +11,7 @@ use Rattle.fb_value.specs.Rules.{fault_by}
 use Rattle.fb_value.specs.Lies.{LiesInline, LiesParts, Element, Lies, LiesAt, LiesItems, LiesSlots}
 use Rattle.fb_value.specs.Nth.{nth_entry, nth_part, LiesInSlot, slot_place}
 use Rattle.fb_value.proofs.NthLies.{entry_lies_shown, element_lies_shown}
+use Rattle.fb_read.specs.Tails.{entries_from, parts_from}
 use Rattle.fb_read.specs.Walks.{entered_in}
 use Rattle.fb_read.specs.Visits.{slot_seen, slots_seen}
 use Rattle.fb_read.proofs.places.AbsentSlotNamesNoPlace.{unset_place}
@@ -101,13 +102,6 @@ member_slot_entered L b f c t q old new None known lies = absurd lies
 member_slot_entered L b f c t q old new (Some (a_member c2 d)) known lies = known d (lies.0, lies.1.1)
 member_slot_entered L b f c t q old new (Some d) known lies = absurd lies.1
 
--- the entries from slot k on
-abbrev pub entries_from : ℕ → SlotEntries → SlotEntries
-entries_from zero es = es
-entries_from (suc k) no_entries = no_entries
-entries_from (suc k) (absent_entry es) = entries_from k es
-entries_from (suc k) (present_entry d es) = entries_from k es
-
 -- one entry after another
 pub entries_step : (k : ℕ) (es : SlotEntries) → entries_entered (entries_from k es) ≡ entered_in (nth_entry es k) + entries_entered (entries_from (k + 1) es)
 entries_step zero no_entries = refl
@@ -157,12 +151,6 @@ rest_entered L b p k stored xs es is none lies = by_case (nat_le (length xs) k) 
     by_case false e =
         let less : k < length xs = grind (arith, nat_tests) in
         unset_entered L b p (0 + k) (drop k (slots_seen L xs)) (entries_from k es) (λ j h. none (omega (arith, is)) j (omega (arith, is))) (lies_from L b p 0 k (slots_seen L xs) es lies)
-
--- the elements from i on
-abbrev pub parts_from : ℕ → Parts → Parts
-parts_from zero ds = ds
-parts_from (suc i) no_parts = no_parts
-parts_from (suc i) (more_parts d ds) = parts_from i ds
 
 parts_step : (i : ℕ) (ds : Parts) (d : Datum) → nth_part ds i ≡ Some d → parts_entered (parts_from i ds) ≡ entered d + parts_entered (parts_from (i + 1) ds)
 parts_step i no_parts d e = cc

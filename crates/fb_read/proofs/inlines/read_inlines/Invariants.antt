@@ -4,7 +4,7 @@ use Rattle.fb_value.specs.Datum.{Parts, count}
 use Rattle.fb_value.specs.Counts.{parts_entered}
 use Rattle.fb_value.specs.Lies.{LiesItems}
 use Rattle.fb_value.specs.View.{parts_view}
-use Rattle.fb_read.proofs.visit_tables.EnteredPartsAreCounted.{parts_from}
+use Rattle.fb_read.specs.Tails.{parts_from}
 use Rattle.fb_read.proofs.read_tables.OneValueMore.{parts_before}
 use Rattle.fb_read.proofs.inlines.read_inlines.Given as goal
 

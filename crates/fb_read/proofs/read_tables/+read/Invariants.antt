@@ -7,7 +7,7 @@ use Rattle.fb_value.specs.Lies.{LiesItems, LiesSlots}
 use Rattle.fb_value.specs.View.{parts_view, entries_view}
 use Rattle.fb_read.specs.Values.{led_to}
 use Rattle.fb_read.specs.Visits.{visit_each, slots_seen}
-use Rattle.fb_read.proofs.visit_tables.EnteredPartsAreCounted.{entries_from, parts_from}
+use Rattle.fb_read.specs.Tails.{entries_from, parts_from}
 use Rattle.fb_read.proofs.read_tables.OneValueMore.{entries_before, parts_before}
 use Rattle.fb_read.proofs.read_tables.+read.Given as goal
 

@@ -4,7 +4,7 @@ use Rattle.fb_value.specs.Places.{target_of, named_slots, named_elements}
 use Rattle.fb_value.specs.Datum.{Parts, SlotEntries, count}
 use Rattle.fb_value.specs.Counts.{parts_entered, entries_entered}
 use Rattle.fb_value.specs.Lies.{LiesItems, LiesSlots}
-use Rattle.fb_read.proofs.visit_tables.EnteredPartsAreCounted.{entries_from, parts_from}
+use Rattle.fb_read.specs.Tails.{entries_from, parts_from}
 use Rattle.fb_read.specs.Values.{led_to}
 use Rattle.fb_read.specs.Visits.{visit_each, slots_seen}
 use Rattle.fb_read.proofs.visit_tables.+visit.Given as goal
