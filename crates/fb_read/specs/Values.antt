@@ -41,7 +41,8 @@ IsInSlot source f x e = (o : Option Datum) → LiesInSlot source.layout.now sour
 
 -- the same of a table's entries
 abbrev pub AreInSlots : Source → List Slot → List (Option Place) → SlotEntries → Type 0
-AreInSlots source fs xs es = (others : SlotEntries) → LiesSlots source.layout.now source.bytes.now fs xs others → es ≡ others
+AreInSlots source fs xs es = (others : SlotEntries) → LiesSlots source.layout.now source.bytes.now fs xs others
+    → es ≡ others
 
 -- the same of n elements from a position on
 abbrev pub AreItems : LaidSchema → List ℕ → StoredKind → ℕ → ℕ → Parts → Type 0
@@ -49,8 +50,10 @@ AreItems L b kind p n ds = (others : Parts) → count others ≡ n → LiesItems
 
 -- The table at a position keeps its rules and the limits.
 abbrev pub IsOpen : Source → ℕ → ℕ → ℕ → ℕ → Type 0
-IsOpen source t p tables spent = Keeps source.layout.now source.bytes.now (part_place (table_part t)) p × (tables < source.most_depth) × (spent < source.most_cells)
+IsOpen source t p tables spent = Keeps source.layout.now source.bytes.now (part_place (table_part t)) p
+    × (tables < source.most_depth) × (spent < source.most_cells)
 
 -- The same of a table behind a reference.
 abbrev pub IsOpenBehind : Source → ℕ → ℕ → ℕ → ℕ → Type 0
-IsOpenBehind source t p tables spent = Keeps source.layout.now source.bytes.now (ref_place (table_part t)) p × IsOpen source t (p + num source.bytes.now p 4) tables spent
+IsOpenBehind source t p tables spent = Keeps source.layout.now source.bytes.now (ref_place (table_part t)) p
+    × IsOpen source t (p + num source.bytes.now p 4) tables spent

@@ -43,7 +43,8 @@ pub record HasVtable (b : Bytes) (table : TableAt) : Type 0 where
 
 -- The counter has risen by the cells that were spent at most, and by one more where there is no result.
 abbrev pub TicksWithin : {T : Type 0} → Source → Walk → Walk → Result T ReadFault → Type 0
-TicksWithin source old new result = MatchResult result (λ _. new.ticks + old.spent ≤ old.ticks + new.spent) (λ _. new.ticks + old.spent ≤ old.ticks + (source.most_cells + 1))
+TicksWithin source old new result = MatchResult result (λ _. new.ticks + old.spent ≤ old.ticks + new.spent)
+    (λ _. new.ticks + old.spent ≤ old.ticks + (source.most_cells + 1))
 
 -- the tables, vectors and texts of an entry
 abbrev pub entered_in : Option Datum → ℕ
@@ -52,16 +53,20 @@ entered_in (Some d) = entered d
 
 -- The counter has risen by the tables, vectors and texts of what lies at a place.
 abbrev pub EntersAt : Source → Place → ℕ → ℕ → Type 0
-EntersAt source x old new = (d : Datum) → LiesAt source.layout.now source.bytes.now x.sort x.at d → new ≡ old + entered d
+EntersAt source x old new = (d : Datum) → LiesAt source.layout.now source.bytes.now x.sort x.at d
+    → new ≡ old + entered d
 
 -- The same of what lies in a slot that names a place, or none.
 abbrev pub EntersSlot : Source → Option Place → ℕ → ℕ → Type 0
-EntersSlot source x old new = (f : Slot) (o : Option Datum) → LiesInSlot source.layout.now source.bytes.now f x o → new ≡ old + entered_in o
+EntersSlot source x old new = (f : Slot) (o : Option Datum) → LiesInSlot source.layout.now source.bytes.now f x o
+    → new ≡ old + entered_in o
 
 -- The same of a table's entries.
 abbrev pub EntersSlots : Source → List Slot → List (Option Place) → ℕ → ℕ → Type 0
-EntersSlots source fs xs old new = (es : SlotEntries) → LiesSlots source.layout.now source.bytes.now fs xs es → new ≡ old + entries_entered es
+EntersSlots source fs xs old new = (es : SlotEntries) → LiesSlots source.layout.now source.bytes.now fs xs es
+    → new ≡ old + entries_entered es
 
 -- The same of n elements from a position on.
 abbrev pub EntersItems : Source → StoredKind → ℕ → ℕ → ℕ → ℕ → Type 0
-EntersItems source kind p n old new = (ds : Parts) → count ds ≡ n → LiesItems source.layout.now source.bytes.now kind p ds → new ≡ old + parts_entered ds
+EntersItems source kind p n old new = (ds : Parts) → count ds ≡ n
+    → LiesItems source.layout.now source.bytes.now kind p ds → new ≡ old + parts_entered ds

@@ -8,7 +8,11 @@ use Rattle.fb_read.specs.declared.view.View.{View}
 use Rattle.fb_read.specs.declared.fixed_view.FixedView.{FixedView}
 use Rattle.fb_read.specs.declared.items.Items.{Items}
 use Rattle.fb_read.specs.declared.stored.Stored.{Stored}
-use Rattle.fb_read.specs.declared.stored.Stored.TheVariants.{Absent as Unstored, Code as StoredCode, Unknown as StoredUnknown, Number as StoredNumber, Fixed as StoredFixed, Text as StoredText, Table as StoredTable, Member as StoredMember, Vector as StoredVector}
+use Rattle.fb_read.specs.declared.stored.Stored.TheVariants.{Absent as Unstored, Code as StoredCode}
+use Rattle.fb_read.specs.declared.stored.Stored.TheVariants.{Unknown as StoredUnknown, Number as StoredNumber}
+use Rattle.fb_read.specs.declared.stored.Stored.TheVariants.{Fixed as StoredFixed, Text as StoredText}
+use Rattle.fb_read.specs.declared.stored.Stored.TheVariants.{Table as StoredTable, Member as StoredMember}
+use Rattle.fb_read.specs.declared.stored.Stored.TheVariants.{Vector as StoredVector}
 use Rattle.fb_read.specs.Shows.{Shows, ShowsFields, ShowsItems}
 
 -- the entry is what was found, read by the same layout

@@ -45,7 +45,7 @@ pub fn read_text(
 }
 
 /// The text behind a reference.
-#[tactic(auto, using(crate::proofs::visit_tables::VisitsOnePlaceAfterAnother::visit_fault, crate::proofs::visit_tables::VisitsOnePlaceAfterAnother::visit_ref))]
+#[tactic(auto, using(crate::proofs::visit_tables::VisitsOnePlaceAfterAnother::text_references))]
 pub fn read_text_behind(
     alloc: Global,
     source: Source,

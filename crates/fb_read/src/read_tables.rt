@@ -53,7 +53,7 @@ pub fn read_table_behind(
 }
 
 #[cycle(read)]
-#[tactic(auto, using(crate::proofs::visit_tables::VisitsOnePlaceAfterAnother::visit_table_deep, crate::proofs::visit_tables::VisitsOnePlaceAfterAnother::visit_table_over))]
+#[tactic(auto, using(crate::proofs::visit_tables::VisitsOnePlaceAfterAnother::table_limits))]
 fn read_table(
     alloc: Global,
     source: Source,

@@ -31,7 +31,7 @@ use ticks::Ticks;
 ///
 /// `Memory` is returned only where a table, vector or text is reached that keeps its rules and is within
 /// the limits, with no fault at or before it: it may stand in place of a fault that comes later.
-#[tactic(auto, using(crate::proofs::source::AlignmentsArePositive::aligned_known, crate::proofs::source::AlignmentsArePositive::small_known))]
+#[tactic(auto, using(crate::proofs::source::AlignmentsArePositive::layout_sizes))]
 pub fn read<'a>(
     alloc: Global,
     layout: &'a Layout,
@@ -75,7 +75,7 @@ pub fn read<'a>(
 ///
 /// `raw` leaves out the check of the file identifier. `entries` rises by one for each table, vector
 /// and text that is entered. No memory is taken.
-#[tactic(auto, using(crate::proofs::source::AlignmentsArePositive::aligned_known, crate::proofs::source::AlignmentsArePositive::small_known))]
+#[tactic(auto, using(crate::proofs::source::AlignmentsArePositive::layout_sizes))]
 pub fn verify<'a>(
     layout: &'a Layout,
     bytes: &'a [u8],

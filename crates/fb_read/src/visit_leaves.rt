@@ -42,7 +42,7 @@ pub fn visit_text(source: &Source, walk: &mut Walk, at: usize) -> Result<(), Rea
 
 /// Visits the text behind a reference.
 #[inline(always)]
-#[tactic(auto, using(crate::proofs::visit_tables::VisitsOnePlaceAfterAnother::visit_fault, crate::proofs::visit_tables::VisitsOnePlaceAfterAnother::visit_ref))]
+#[tactic(auto, using(crate::proofs::visit_tables::VisitsOnePlaceAfterAnother::text_references))]
 pub fn visit_text_behind(source: &Source, walk: &mut Walk, at: usize) -> Result<(), ReadFault>
     requires low { at < 2 ^ 33 }
     requires few { walk.old.spent ≤ source.now.most_cells }
@@ -59,7 +59,7 @@ pub fn visit_text_behind(source: &Source, walk: &mut Walk, at: usize) -> Result<
 
 /// Visits a number or struct.
 #[inline(always)]
-#[tactic(auto, using(crate::proofs::visit_tables::VisitsOnePlaceAfterAnother::visit_fault, crate::proofs::visit_tables::VisitsOnePlaceAfterAnother::visit_inline))]
+#[tactic(auto, using(crate::proofs::visit_tables::VisitsOnePlaceAfterAnother::inline_visits))]
 pub fn visit_inline(source: &Source, kind: Kind, at: usize) -> Result<(), ReadFault>
     requires low { at < 2 ^ 33 }
     ensures { (tables spent : ℕ) → Visits result spent (visit_in source.now (place (inline_place
@@ -76,7 +76,7 @@ pub fn visit_inline(source: &Source, kind: Kind, at: usize) -> Result<(), ReadFa
 
 /// Visits the code of a union, at a position, in a slot of a table.
 #[inline(always)]
-#[tactic(auto, using(crate::proofs::visit_tables::VisitsOnePlaceAfterAnother::visit_fault, crate::proofs::visit_tables::VisitsOnePlaceAfterAnother::visit_code))]
+#[tactic(auto, using(crate::proofs::visit_tables::VisitsOnePlaceAfterAnother::code_visits))]
 pub fn visit_code(
     source: &Source,
     later: &[FieldInfo],

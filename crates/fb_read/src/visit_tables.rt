@@ -47,7 +47,7 @@ pub fn visit_table_behind(
 }
 
 #[cycle(visit)]
-#[tactic(auto, using(crate::proofs::visit_tables::VisitsOnePlaceAfterAnother::visit_table_deep, crate::proofs::visit_tables::VisitsOnePlaceAfterAnother::visit_table_over))]
+#[tactic(auto, using(crate::proofs::visit_tables::VisitsOnePlaceAfterAnother::table_limits))]
 fn visit_table(
     source: &Source,
     walk: &mut Walk,

@@ -1,11 +1,13 @@
 -- What an entry is, by what was found of it.
-use Rattle.std.proofs.Common.{◌≡◌, ◌≤◌, ◌∷◌, [], ℕ, zero, suc, ◌+◌, ◌*◌, ◌<◌, length, map, drop, slice_get, Bool, true, false, nat_le, List, Option, None, Some, ℤ, refl, ap, arith}
+use Rattle.std.proofs.Common.{◌≡◌, ◌≤◌, ◌∷◌, [], ℕ, zero, suc, ◌+◌, ◌*◌, ◌<◌, length, map, drop, slice_get, Bool, true}
+use Rattle.std.proofs.Common.{false, nat_le, List, Option, None, Some, ℤ, refl, ap, arith}
 use Rattle.std.proofs.lemmas.Bool.{leb-true}
 use Rattle.std.proofs.lemmas.Bool.Decides.{nat_tests}
 use Rattle.fb_schema.specs.Seen.{field_seen}
 use Rattle.fb_schema.specs.declared.types.FieldInfo.{FieldInfo}
 use Rattle.fb_schema.specs.Schema.{DeclaredSchema, body_at, slots_in}
-use Rattle.fb_layout.specs.Laid.{LaidSchema, Slot, slot_of, slots_of, StoredKind, scalar_kind, struct_kind, union_kind, code_kind, size_of}
+use Rattle.fb_layout.specs.Laid.{LaidSchema, Slot, slot_of, slots_of, StoredKind, scalar_kind, struct_kind, union_kind}
+use Rattle.fb_layout.specs.Laid.{code_kind, size_of}
 use Rattle.fb_value.specs.Datum.{Datum, a_number, a_text, a_vector, a_struct, a_table, a_member, Parts, count}
 use Rattle.fb_value.specs.Num.{Bytes}
 use Rattle.fb_value.specs.Places.{slot_number, part_place, table_part}
@@ -45,12 +47,14 @@ vector_told None ds e = cc
 vector_told (Some _) ds e = cc
 
 pub member_told : (o : Option Datum) (c : ℕ) (d : Datum) → member_in o ≡ Some (c, d) → o ≡ Some (a_member c d)
-member_told (Some (a_member k x)) c d e = let same : (k, x) ≡ (c, d) = cc in ap (λ (y : ℕ × Datum). Some (a_member y.0 y.1)) same
+member_told (Some (a_member k x)) c d e = let same : (k, x) ≡ (c, d) = cc in
+    ap (λ (y : ℕ × Datum). Some (a_member y.0 y.1)) same
 member_told None c d e = cc
 member_told (Some _) c d e = cc
 
 -- Numbers and structs alone stand in their place.
-pub nothing_inline : (L : LaidSchema) (b : Bytes) (kind : StoredKind) (q : ℕ) (d : Datum) → base_wanted kind ≡ None → structure_wanted kind ≡ None → LiesInline L b kind q d → ⊥
+pub nothing_inline : (L : LaidSchema) (b : Bytes) (kind : StoredKind) (q : ℕ) (d : Datum) → base_wanted kind ≡ None
+    → structure_wanted kind ≡ None → LiesInline L b kind q d → ⊥
 nothing_inline L b (scalar_kind x) q d none e lies = cc
 nothing_inline L b (struct_kind s) q d none e lies = cc
 nothing_inline L b _ q _ none e lies = lies
@@ -63,10 +67,12 @@ rank_told _ s t e low = cc
 -- No vector has elements that are unions or codes.
 module _ (L : LaidSchema) (b : Bytes) (u p n i : ℕ) (less : i < n) where
   pub no_union_item : (ds : Parts) → (count ds ≡ n) × LiesItems L b (union_kind u) p ds → ⊥
-  no_union_item ds shows = let found = item_there L b (union_kind u) p n i less ds shows in no_union L b u (p + i * size_of L (union_kind u)) found.0 found.2
+  no_union_item ds shows = let found = item_there L b (union_kind u) p n i less ds shows in
+      no_union L b u (p + i * size_of L (union_kind u)) found.0 found.2
 
   pub no_code_item : (ds : Parts) → (count ds ≡ n) × LiesItems L b (code_kind u) p ds → ⊥
-  no_code_item ds shows = let found = item_there L b (code_kind u) p n i less ds shows in no_code L b u (p + i * size_of L (code_kind u)) found.0 found.2
+  no_code_item ds shows = let found = item_there L b (code_kind u) p n i less ds shows in
+      no_code L b u (p + i * size_of L (code_kind u)) found.0 found.2
 
 -- ---- slots that the vtable has no number for
 
@@ -75,22 +81,32 @@ past_none [] k past = refl
 past_none (x ∷ xs) zero past = absurd (omega arith)
 past_none (x ∷ xs) (suc k) past = past_none xs k (omega arith)
 
-pub entry_unset : (L : LaidSchema) (b : Bytes) (t p : ℕ) (d : Datum) (k : ℕ) (s : Slot) → Lies L b (part_place (table_part t)) p d → slice_get (slots_of L t) k ≡ Some s → slot_number b p k ≡ 0 → entry_of d k ≡ number_entry s.if_absent
+pub entry_unset : (L : LaidSchema) (b : Bytes) (t p : ℕ) (d : Datum) (k : ℕ) (s : Slot)
+    → Lies L b (part_place (table_part t)) p d → slice_get (slots_of L t) k ≡ Some s → slot_number b p k ≡ 0
+    → entry_of d k ≡ number_entry s.if_absent
 entry_unset L b t p (a_table type es) k s lies there none =
-    absent_stored L b s s.if_absent (nth_entry es k) refl (rw (unset_place L b p k (drop (suc k) (slots_of L t)) s none) at (entry_lies_shown L b p (slots_of L t) es k s lies.2 there))
+    absent_stored L b s s.if_absent (nth_entry es k) refl
+    (rw (unset_place L b p k (drop (suc k) (slots_of L t)) s none) at
+    (entry_lies_shown L b p (slots_of L t) es k s lies.2 there))
 entry_unset L b t p _ k s lies there none = absurd lies
 
 slots_mapped : (S : DeclaredSchema) (xs : List FieldInfo) → length (map (slot_of S) (map field_seen xs)) ≡ length xs
 slots_mapped S [] = refl
 slots_mapped S (x ∷ xs) = rw (slots_mapped S xs) refl
 
-pub slots_long : (L : LaidSchema) (t : ℕ) (xs : List FieldInfo) → map field_seen xs ≡ slots_in (body_at L.schema t) → length (slots_of L t) ≡ length xs
+pub slots_long : (L : LaidSchema) (t : ℕ) (xs : List FieldInfo) → map field_seen xs ≡ slots_in (body_at L.schema t)
+    → length (slots_of L t) ≡ length xs
 slots_long L t xs seen = rw (← seen) (slots_mapped L.schema xs)
 
 -- a slot behind those that the vtable has numbers for
-pub entry_behind : (L : LaidSchema) (b : Bytes) (t p n m k : ℕ) (d : Datum) (s : Slot) → (n < m → (j : ℕ) → n ≤ j → slot_number b p j ≡ 0) → length (slots_of L t) ≡ m → n ≤ k → Lies L b (part_place (table_part t)) p d → slice_get (slots_of L t) k ≡ Some s → entry_of d k ≡ number_entry s.if_absent
+pub entry_behind : (L : LaidSchema) (b : Bytes) (t p n m k : ℕ) (d : Datum) (s : Slot)
+    → (n < m → (j : ℕ) → n ≤ j → slot_number b p j ≡ 0) → length (slots_of L t) ≡ m → n ≤ k
+    → Lies L b (part_place (table_part t)) p d → slice_get (slots_of L t) k ≡ Some s
+    → entry_of d k ≡ number_entry s.if_absent
 entry_behind L b t p n m k d s unset long past lies there = by_case (nat_le m k) refl
   where
     by_case : (c : Bool) → nat_le m k ≡ c → entry_of d k ≡ number_entry s.if_absent
-    by_case true e = let behind : m ≤ k = leb-true _ _ e in let none = past_none (slots_of L t) k (omega (arith, long, behind)) in cc
-    by_case false e = let before : k < m = grind (arith, nat_tests) in entry_unset L b t p d k s lies there (unset (omega (arith, before, past)) k past)
+    by_case true e = let behind : m ≤ k = leb-true _ _ e in let none =
+        past_none (slots_of L t) k (omega (arith, long, behind)) in cc
+    by_case false e = let before : k < m = grind (arith, nat_tests) in
+        entry_unset L b t p d k s lies there (unset (omega (arith, before, past)) k past)

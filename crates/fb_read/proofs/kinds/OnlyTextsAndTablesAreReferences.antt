@@ -8,7 +8,9 @@ use Rattle.std.proofs.Common.{◌⊎◌, inl, inr, ◌≡◌, None, refl}
 use Rattle.fb_layout.specs.Laid.{stored_kind}
 use Rattle.fb_value.specs.Places.{target_of}
 
-pub no_target : (S : DeclaredSchema) (kind : Kind) → ((x : Base) × (kind ≡ Scalar x)) ⊎ (((x : TypeId) × (kind ≡ Enum x)) ⊎ (((x : TypeId) × (kind ≡ Struct x)) ⊎ (((x : TypeId) × (kind ≡ Union x)) ⊎ ((x : TypeId) × (kind ≡ Code x)))))
+pub no_target : (S : DeclaredSchema) (kind : Kind) → ((x : Base) × (kind ≡ Scalar x))
+    ⊎ (((x : TypeId) × (kind ≡ Enum x)) ⊎ (((x : TypeId) × (kind ≡ Struct x))
+    ⊎ (((x : TypeId) × (kind ≡ Union x)) ⊎ ((x : TypeId) × (kind ≡ Code x)))))
     → target_of (stored_kind S kind) ≡ None
 no_target S kind (inl e) = rw e.1 refl
 no_target S kind (inr (inl e)) = rw e.1 refl

@@ -1,5 +1,6 @@
 -- A sum of bytes is what byteorder reads.
-use Rattle.std.proofs.Common.{◌≡◌, ℕ, zero, suc, ◌+◌, ◌-◌, ◌*◌, length, slice_index, take, drop, refl, ap, ◌∙◌, arith, add-zero, pow-suc, length-drop}
+use Rattle.std.proofs.Common.{◌≡◌, ℕ, zero, suc, ◌+◌, ◌-◌, ◌*◌, length, slice_index, take, drop, refl, ap, ◌∙◌, arith}
+use Rattle.std.proofs.Common.{add-zero, pow-suc, length-drop}
 use Rattle.std.proofs.lemmas.List.{get_or-drop, take_all}
 use Rattle.byteorder.specs.Endian.{little_from, little_number}
 use Rattle.std.proofs.lemmas.Bool.Decides.{nat_tests}
@@ -18,7 +19,8 @@ lowest b p (suc n) =
 from : (b : Bytes) (p i n : ℕ) → little_from i n (drop p b) ≡ num b (p + i) n
 unfolding num
 from b p i zero = refl
-from b p i (suc n) = rw (lowest b (p + i) n, get_or-drop p b i 0, from b p (suc i) n) (ap (λ q. slice_index b (p + i) + 256 * num b q n) (omega arith))
+from b p i (suc n) = rw (lowest b (p + i) n, get_or-drop p b i 0, from b p (suc i) n)
+    (ap (λ q. slice_index b (p + i) + 256 * num b q n) (omega arith))
 
 -- in the bytes from p on
 pub num_is : (b : Bytes) (p n : ℕ) → little_number n (drop p b) ≡ num b p n
@@ -27,7 +29,8 @@ num_is b p n = from b p 0 n ∙ ap (λ q. num b q n) (omega arith)
 -- in the slice of the bytes from p on
 pub num_in_slice : (b : Bytes) (p n : ℕ) → little_number n (take (length b - p) (drop p b)) ≡ num b p n
 num_in_slice b p n =
-    let whole : take (length b - p) (drop p b) ≡ drop p b = take_all (length b - p) (drop p b) (omega (arith, length-drop p b)) in
+    let whole : take (length b - p) (drop p b) ≡ drop p b =
+    take_all (length b - p) (drop p b) (omega (arith, length-drop p b)) in
     ap (λ xs. little_number n xs) whole ∙ num_is b p n
 
 -- two's complement, as this project and as std write it

@@ -27,17 +27,23 @@ module _ (L : LaidSchema) (most : Bounds) (raw : Bool) (b : Bytes) (made : IsWel
   refused_front f fails = outcome_shown L most raw b (Some f) made (rw fails refl)
 
   -- refused behind a header that keeps its rules
-  pub refused_root : (f : ReadFault) → header_fault b (checked_identifier L raw) ≡ None → visit L b most (root_place L) 0 0 ≡ Err f → Refuses L most raw b f
+  pub refused_root : (f : ReadFault) → header_fault b (checked_identifier L raw) ≡ None
+      → visit L b most (root_place L) 0 0 ≡ Err f → Refuses L most raw b f
   unfolding visit
-  refused_root f header fails = outcome_shown L most raw b (Some f) made (rw header (err_told (fault_from L b most (root_place L) 0 0) _ f fails))
+  refused_root f header fails = outcome_shown L most raw b (Some f) made
+      (rw header (err_told (fault_from L b most (root_place L) 0 0) _ f fails))
 
   -- A value is held.
-  pub held_root : (n : ℕ) → header_fault b (checked_identifier L raw) ≡ None → visit L b most (root_place L) 0 0 ≡ Ok n → (v : Datum) × Holds L most raw b v
+  pub held_root : (n : ℕ) → header_fault b (checked_identifier L raw) ≡ None → visit L b most (root_place L) 0 0 ≡ Ok n
+      → (v : Datum) × Holds L most raw b v
   unfolding visit
-  held_root n header fine = (outcome_shown L most raw b None made (rw header (ok_told (fault_from L b most (root_place L) 0 0) _ n fine))).1
+  held_root n header fine =
+      (outcome_shown L most raw b None made (rw header (ok_told (fault_from L b most (root_place L) 0 0) _ n fine))).1
 
   -- What lies in the root table.
-  pub view_lies : (n t at : ℕ) → header_fault b (checked_identifier L raw) ≡ None → visit L b most (root_place L) 0 0 ≡ Ok n → t ≡ L.schema.root → at ≡ num b 0 4 → (d : Datum) × Lies L b (part_place (table_part t)) at d
+  pub view_lies : (n t at : ℕ) → header_fault b (checked_identifier L raw) ≡ None
+      → visit L b most (root_place L) 0 0 ≡ Ok n → t ≡ L.schema.root → at ≡ num b 0 4
+      → (d : Datum) × Lies L b (part_place (table_part t)) at d
   view_lies n t at header fine root place =
       let held = held_root n header fine in
       let here : 0 + num b 0 4 ≡ num b 0 4 = omega arith in

@@ -7,6 +7,7 @@ use Rattle.fb_value.specs.Places.{inline_place}
 use Rattle.fb_value.specs.Rules.{Keeps, fault_by}
 use Rattle.fb_value.proofs.Steps.{rule_held}
 
-pub inline_within : (L : LaidSchema) (b : Bytes) (kind : StoredKind) (p : ℕ) → Keeps L b (inline_place kind) p → p + size_of L kind ≤ length b
+pub inline_within : (L : LaidSchema) (b : Bytes) (kind : StoredKind) (p : ℕ) → Keeps L b (inline_place kind) p
+    → p + size_of L kind ≤ length b
 unfolding fault_by
 inline_within L b kind p keeps = leb-true _ _ (rule_held _ _ _ (rule_held _ _ _ keeps).1).0

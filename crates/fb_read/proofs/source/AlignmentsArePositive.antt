@@ -9,3 +9,5 @@ aligned_known L made kind = let positive = positive_shown L kind made in omega (
 
 pub small_known : (L : LaidSchema) → IsWellMade L → (kind : StoredKind) → size_of L kind < 2 ^ 16
 small_known L made kind = let small = sizes_shown L kind made in omega (arith, small)
+
+pub ruleset layout_sizes = (aligned_known, small_known)

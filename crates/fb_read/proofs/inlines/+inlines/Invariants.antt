@@ -17,6 +17,7 @@ decreases-read_struct l = 2 * l.structure.0 + 1
 
 abbrev pub invariant-read_struct-loop-index : goal.invariant-read_struct-loop-index
 invariant-read_struct-loop-index l = record {
-  parts : (ds : Parts) → LiesParts l.layout l.bytes (parts_of l.layout l.structure.0) (struct_at l.layout l.structure.0).offsets l.at ds → parts_before l.parts.items (parts_from l.index ds) ≡ ds;
+  parts : (ds : Parts) → LiesParts l.layout l.bytes (parts_of l.layout l.structure.0)
+      (struct_at l.layout l.structure.0).offsets l.at ds → parts_before l.parts.items (parts_from l.index ds) ≡ ds;
   flat : parts_entered (parts_view l.parts.items) ≡ 0;
 }

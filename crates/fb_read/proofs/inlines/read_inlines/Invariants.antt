@@ -10,6 +10,7 @@ use Rattle.fb_read.proofs.inlines.read_inlines.Given as goal
 
 abbrev pub invariant-loop-i : goal.invariant-loop-i
 invariant-loop-i l = record {
-  made : (ds : Parts) → count ds ≡ l.count → LiesItems l.layout l.bytes (stored_kind l.layout.schema l.kind) l.at ds → parts_before l.items.items (parts_from l.i ds) ≡ ds;
+  made : (ds : Parts) → count ds ≡ l.count → LiesItems l.layout l.bytes (stored_kind l.layout.schema l.kind) l.at ds
+      → parts_before l.items.items (parts_from l.i ds) ≡ ds;
   flat : parts_entered (parts_view l.items.items) ≡ 0;
 }

@@ -8,6 +8,7 @@ use Rattle.fb_read.proofs.numbers.i64_at.Goals as goal
 
 pub returns : goal.returns
 returns c =
-    let read = c.read_i64.ensures ∙ ap (λ x. cast_signed w64 x) (num_in_slice c.args.bytes.now c.args.at 8) ∙ signed_is_64 (num c.args.bytes.now c.args.at 8) in
+    let read = c.read_i64.ensures ∙ ap (λ x. cast_signed w64 x) (num_in_slice c.args.bytes.now c.args.at 8)
+    ∙ signed_is_64 (num c.args.bytes.now c.args.at 8) in
     let fits : FitsSigned w64 c.read_i64.result = search (rules, c.read_i64.type_inv) in
     to_z-of_z {w = w64} {z = c.read_i64.result} fits ∙ read

@@ -7,4 +7,5 @@ pub returns-in_err-target-clause-visit : goal.returns-in_err-target-clause-visit
 returns-in_err-target-clause-visit c tables =
     let p = err_from_is_err_and c.from_residual.result c.from_residual.ensures.1 in
     let L = c.args.source.layout.now in
-    rw (p.1, p.2) (λ other. visit_fault L c.args.source.bytes.now _ _ tables c.args.walk.now.spent _ (c.in_err-target.ensures.rules L text_part))
+    rw (p.1, p.2) (λ other. visit_fault L c.args.source.bytes.now _ _ tables c.args.walk.now.spent _
+    (c.in_err-target.ensures.rules L text_part))

@@ -44,21 +44,43 @@ decreases-read_table l = 16 * (l.source.most_depth - l.tables) + 1
 
 abbrev pub invariant-read_slots-loop-slot : goal.invariant-read_slots-loop-slot
 invariant-read_slots-loop-slot l = record {
-  visited : visit_each l.source.layout.now l.source.bytes.now (record { depth = l.source.most_depth; cells = l.source.most_cells }) (named_slots l.source.layout.now l.source.bytes.now l.table.at l.slot (slots_seen l.source.layout.now (drop l.slot l.slots))) l.tables l.walk.spent
-      ≡ visit_each l.source.layout.now l.source.bytes.now (record { depth = l.source.most_depth; cells = l.source.most_cells }) (named_slots l.source.layout.now l.source.bytes.now l.table.at 0 (slots_seen l.source.layout.now l.slots)) l.tables l.fn.walk.spent;
+  visited : visit_each l.source.layout.now l.source.bytes.now (record {
+    depth = l.source.most_depth;
+    cells =
+        l.source.most_cells;
+  }) (named_slots l.source.layout.now l.source.bytes.now l.table.at l.slot
+      (slots_seen l.source.layout.now (drop l.slot l.slots))) l.tables l.walk.spent
+      ≡ visit_each l.source.layout.now l.source.bytes.now (record {
+        depth = l.source.most_depth;
+        cells =
+            l.source.most_cells;
+      }) (named_slots l.source.layout.now l.source.bytes.now l.table.at 0
+      (slots_seen l.source.layout.now l.slots)) l.tables l.fn.walk.spent;
   few : l.walk.spent ≤ l.source.most_cells;
   ticked : l.walk.ticks + l.fn.walk.spent ≤ l.fn.walk.ticks + l.walk.spent;
-  made : (es : SlotEntries) → LiesSlots l.source.layout.now l.source.bytes.now (slots_seen l.source.layout.now l.slots) (named_slots l.source.layout.now l.source.bytes.now l.table.at 0 (slots_seen l.source.layout.now l.slots)) es
+  made : (es : SlotEntries) → LiesSlots l.source.layout.now l.source.bytes.now (slots_seen l.source.layout.now l.slots)
+      (named_slots l.source.layout.now l.source.bytes.now l.table.at 0 (slots_seen l.source.layout.now l.slots)) es
       → entries_before l.fields.items (entries_from l.slot es) ≡ es;
   entered : l.walk.ticks ≡ l.fn.walk.ticks + entries_entered (entries_view l.fields.items);
 }
 
 abbrev pub invariant-read_elements-loop-i : goal.invariant-read_elements-loop-i
 invariant-read_elements-loop-i l = record {
-  visited : visit_each l.source.layout.now l.source.bytes.now (record { depth = l.source.most_depth; cells = l.source.most_cells }) (named_elements (led_to l.reference) (l.at + 4 * l.i) (l.count - l.i)) l.tables l.walk.spent
-      ≡ visit_each l.source.layout.now l.source.bytes.now (record { depth = l.source.most_depth; cells = l.source.most_cells }) (named_elements (led_to l.reference) l.at l.count) l.tables l.fn.walk.spent;
+  visited : visit_each l.source.layout.now l.source.bytes.now (record {
+    depth = l.source.most_depth;
+    cells =
+        l.source.most_cells;
+  }) (named_elements (led_to l.reference) (l.at + 4 * l.i) (l.count - l.i)) l.tables
+      l.walk.spent
+      ≡ visit_each l.source.layout.now l.source.bytes.now (record {
+        depth = l.source.most_depth;
+        cells =
+            l.source.most_cells;
+      }) (named_elements (led_to l.reference) l.at l.count) l.tables l.fn.walk.spent;
   few : l.walk.spent ≤ l.source.most_cells;
   ticked : l.walk.ticks + l.fn.walk.spent ≤ l.fn.walk.ticks + l.walk.spent;
-  made : (kind : StoredKind) → target_of kind ≡ Some (led_to l.reference) → (ds : Parts) → count ds ≡ l.count → LiesItems l.source.layout.now l.source.bytes.now kind l.at ds → parts_before l.items.items (parts_from l.i ds) ≡ ds;
+  made : (kind : StoredKind) → target_of kind ≡ Some (led_to l.reference) → (ds : Parts) → count ds ≡ l.count
+      → LiesItems l.source.layout.now l.source.bytes.now kind l.at ds
+      → parts_before l.items.items (parts_from l.i ds) ≡ ds;
   entered : l.walk.ticks ≡ l.fn.walk.ticks + parts_entered (parts_view l.items.items);
 }

@@ -1,6 +1,7 @@
 use Rattle.std.proofs.Common.{◌≡◌, ◌+◌, true, Some, Result, Ok, Err, MatchResult, is_ok, sym, ◌∙◌, rules}
 use Rattle.fb_schema.specs.declared.kinds.Base.{Base}
-use Rattle.fb_layout.specs.Laid.{StoredKind, scalar_kind, struct_kind, table_kind, union_kind, code_kind, text_kind, stored_kind}
+use Rattle.fb_layout.specs.Laid.{StoredKind, scalar_kind, struct_kind, table_kind, union_kind, code_kind, text_kind}
+use Rattle.fb_layout.specs.Laid.{stored_kind}
 use Rattle.fb_value.specs.Bounds.{Bounds}
 use Rattle.fb_value.specs.Places.{inline_place}
 use Rattle.fb_value.specs.Nth.{slot_place}
@@ -29,7 +30,13 @@ returns-else-offset-eq0-clause-visit c fine fs tables spent =
     let b = c.args.source.now.bytes.now in
     let most : Bounds = record { depth = c.args.source.now.most_depth; cells = c.args.source.now.most_cells } in
     let keeps = of_ok c.check_number.result _ _ (c.check_number.ensures.rules L) (sym c.is_ok.ensures.value ∙ fine) in
-    let number : stored_kind L.schema c.in-One.kind ≡ scalar_kind c.in-Some.base = number_kind _ _ (sym c.in-Some.ensures) in
+    let number : stored_kind L.schema c.in-One.kind ≡ scalar_kind c.in-Some.base =
+    number_kind _ _ (sym c.in-Some.ensures) in
     let named : slot_place L b c.args.table.at c.args.slot fs (slot_seen L c.args.field.now)
-    ≡ Some (record { sort = inline_place (scalar_kind c.in-Some.base); at = c.args.table.at + c.held_slot-offset.result }) = search rules in
-    rw named (visit_inline L b most (scalar_kind c.in-Some.base) (c.args.table.at + c.held_slot-offset.result) tables spent keeps)
+    ≡ Some (record {
+      sort = inline_place (scalar_kind c.in-Some.base);
+      at =
+          c.args.table.at + c.held_slot-offset.result;
+    }) = search rules in
+    rw named (visit_inline L b most (scalar_kind c.in-Some.base) (c.args.table.at + c.held_slot-offset.result) tables
+    spent keeps)

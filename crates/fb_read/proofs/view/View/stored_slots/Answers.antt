@@ -8,5 +8,6 @@ returns c =
     let long = slots_long L t c.slots_of-slots.result.now c.slots_of-slots.ensures.slots in
     record {
       few = rw long c.stored_slots.ensures.few;
-      behind = λ d k s lies past there. entry_behind L c.args.self.bytes.now t c.args.self.at c.stored_slots.result _ k d s c.stored_slots.ensures.past long past lies there;
+      behind = λ d k s lies past there. entry_behind L c.args.self.bytes.now t c.args.self.at c.stored_slots.result _ k
+          d s c.stored_slots.ensures.past long past lies there;
     }
