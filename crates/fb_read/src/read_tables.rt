@@ -121,8 +121,7 @@ fn read_slots(
             source.bytes,
             &slots[slot],
             later,
-            table.at,
-            table.vtable_at,
+            table,
             slot,
         );
         let field = read_stored(alloc, source, walk, stored, tables)?;

@@ -14,6 +14,7 @@ use crate::items::Items;
 use crate::numbers::{number_at, u32_at};
 use crate::places::{stored_slots, text_behind, vtable_of};
 use crate::stored::{Stored, stored_in};
+use crate::walk::TableAt;
 use fb_layout::Layout;
 use fb_schema::TypeId;
 
@@ -69,16 +70,11 @@ impl<'a> View<'a> {
             return Stored::Absent(None);
         }
         let (_before, later) = slots.split_at(slot + 1);
-        let place = self.vtable();
-        stored_in(
-            self.layout,
-            self.bytes,
-            &slots[slot],
-            later,
-            self.at,
-            place,
-            slot,
-        )
+        let table_at = TableAt {
+            at: self.at,
+            vtable_at: self.vtable(),
+        };
+        stored_in(self.layout, self.bytes, &slots[slot], later, table_at, slot)
     }
 
     /// The number in a slot; an absent scalar's is its default.
