@@ -10,7 +10,8 @@ use Rattle.fb_value.specs.Reached.{Path, Leads, ComesBefore}
 use Rattle.fb_value.specs.Faults.{FaultFrom}
 use Rattle.fb_value.specs.Holds.{header_fault, checked_identifier, root_place}
 
--- A table, vector or text is reached that keeps its rules, and no fault stands at or before its path: so it is within the limits too.
+-- A table, vector or text is reached that keeps its rules, and no fault stands at or before its path: so it is within
+-- the limits too.
 pub record PartIsReached (L : LaidSchema) (most : Bounds) (raw : Bool) (b : Bytes) : Type 0 where
   pub header : header_fault b (checked_identifier L raw) ≡ None
   pub path : Path
@@ -19,4 +20,5 @@ pub record PartIsReached (L : LaidSchema) (most : Bounds) (raw : Bool) (b : Byte
   pub leads : Leads L b (root_place L) path (record { sort = part_place part; at = at })
   pub keeps : Keeps L b (part_place part) at
   pub here : (f : ReadFault) → FaultFrom L b most (root_place L) 0 0 path f → ⊥
-  pub before : (other : Path) (f : ReadFault) → ComesBefore other path → FaultFrom L b most (root_place L) 0 0 other f → ⊥
+  pub before : (other : Path) (f : ReadFault) → ComesBefore other path → FaultFrom L b most (root_place L) 0 0 other f
+      → ⊥

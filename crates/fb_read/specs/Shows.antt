@@ -4,8 +4,8 @@ use Rattle.fb_layout.specs.Laid.{parts_of, struct_at, stored_kind, size_of}
 use Rattle.fb_value.specs.Datum.{Datum, Parts, count}
 use Rattle.fb_value.specs.Places.{table_part, part_place}
 use Rattle.fb_value.specs.Lies.{Lies, LiesParts, LiesItems}
-use Rattle.fb_read.specs.declared.views.View.{View}
-use Rattle.fb_read.specs.declared.fixed.FixedView.{FixedView}
+use Rattle.fb_read.specs.declared.view.View.{View}
+use Rattle.fb_read.specs.declared.fixed_view.FixedView.{FixedView}
 use Rattle.fb_read.specs.declared.items.Items.{Items}
 use Rattle.fb_read.specs.Views.{table_in, member_in, vector_in, struct_in}
 
@@ -25,11 +25,13 @@ ShowsMember (Some (code, view)) o = (d : Datum) × (member_in o ≡ Some (code, 
 
 -- the fields of the struct that lies where the view is
 abbrev pub ShowsFields : FixedView → Parts → Type 0
-ShowsFields view ds = LiesParts view.layout.now view.bytes.now (parts_of view.layout.now view.structure.0) (struct_at view.layout.now view.structure.0).offsets view.at ds
+ShowsFields view ds = LiesParts view.layout.now view.bytes.now (parts_of view.layout.now view.structure.0)
+    (struct_at view.layout.now view.structure.0).offsets view.at ds
 
 -- the elements of the vector that lies where the view is
 abbrev pub ShowsItems : Items → Parts → Type 0
-ShowsItems items ds = (count ds ≡ items.len) × LiesItems items.layout.now items.bytes.now (stored_kind items.layout.now.schema items.kind) items.at ds
+ShowsItems items ds = (count ds ≡ items.len) × LiesItems items.layout.now items.bytes.now
+    (stored_kind items.layout.now.schema items.kind) items.at ds
 
 -- where element i stands
 abbrev pub item_at : Items → ℕ → ℕ

@@ -8,15 +8,21 @@ use Rattle.fb_schema.specs.declared.kinds.Base.{Base}
 use Rattle.fb_layout.specs.Laid.{LaidSchema, scalar_kind, struct_kind, stored_kind}
 use Rattle.fb_value.specs.Datum.{Datum, a_number, an_unknown}
 use Rattle.fb_value.specs.Num.{Bytes, num, part_of}
-use Rattle.fb_value.specs.Places.{Sort, table_part, member_part, text_part, vector_part, ref_place, inline_place, code_place, unknown_place, Place}
+use Rattle.fb_value.specs.Places.{Sort, table_part, member_part, text_part, vector_part, ref_place, inline_place}
+use Rattle.fb_value.specs.Places.{code_place, unknown_place, Place}
 use Rattle.fb_value.specs.Lies.{LiesAt}
 use Rattle.fb_read.specs.declared.stored.Stored.{Stored}
-use Rattle.fb_read.specs.declared.stored.Stored.TheVariants.{Absent, Code, Unknown, Number, Fixed, Text, Table, Member, Vector}
+use Rattle.fb_read.specs.declared.stored.Stored.TheVariants.{Absent, Code, Unknown, Number, Fixed, Text, Table, Member}
+use Rattle.fb_read.specs.declared.stored.Stored.TheVariants.{Vector}
 
 -- the place that a slot names
 abbrev pub stored_place : LaidSchema → Stored → Option Place
 stored_place L (Absent default) = None
-stored_place L (Code code p) = Some (record { sort = code_place code.union.0 code.value_slot code.required code.present; at = p })
+stored_place L (Code code p) = Some (record {
+  sort =
+      code_place code.union.0 code.value_slot code.required code.present;
+  at = p;
+})
 stored_place L (Unknown code p) = Some (record { sort = unknown_place code; at = p })
 stored_place L (Number base p) = Some (record { sort = inline_place (scalar_kind base); at = p })
 stored_place L (Fixed s p) = Some (record { sort = inline_place (struct_kind s.0); at = p })

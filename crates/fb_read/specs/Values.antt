@@ -1,5 +1,5 @@
 -- What a walk that makes values gives.
-use Rattle.std.specs.Prelude.{ℕ, ◌+◌, ◌≡◌, ◌≢◌, ◌<◌, ◌≤◌, List, [], Option, None, Some, Result, Ok, Err, MatchResult}
+use Rattle.std.specs.Prelude.{ℕ, ◌+◌, ◌≡◌, ◌≢◌, ◌<◌, List, [], Option, None, Some, Result, Ok, Err, MatchResult}
 use Rattle.fb_layout.specs.Laid.{LaidSchema, Slot, StoredKind}
 use Rattle.fb_value.specs.declared.faults.ReadFault.{ReadFault}
 use Rattle.fb_value.specs.declared.faults.ReadFault.TheVariants.{Memory}
@@ -27,10 +27,6 @@ elements_named (Some X) p n = named_elements X p n
 abbrev pub Gives : {T : Type 0} → Result T ReadFault → ℕ → Result ℕ ReadFault → Type 0
 Gives result after given = MatchResult result (λ _. given ≡ Ok after) (λ f. f ≢ Memory → given ≡ Err f)
 
--- The counter has risen by the cells that were spent at most, and by one more where nothing is answered.
-abbrev pub CountsWithin : {T : Type 0} → Source → ℕ → ℕ → ℕ → ℕ → Result T ReadFault → Type 0
-CountsWithin source old new before after result = MatchResult result (λ _. new + before ≤ old + after) (λ _. new + before ≤ old + (source.most_cells + 1))
-
 -- what lies at a place can only be this
 abbrev pub IsAt : Source → Place → Datum → Type 0
 IsAt source x v = (d : Datum) → LiesAt source.layout.now source.bytes.now x.sort x.at d → v ≡ d
@@ -45,7 +41,8 @@ IsInSlot source f x e = (o : Option Datum) → LiesInSlot source.layout.now sour
 
 -- the same of a table's entries
 abbrev pub AreInSlots : Source → List Slot → List (Option Place) → SlotEntries → Type 0
-AreInSlots source fs xs es = (others : SlotEntries) → LiesSlots source.layout.now source.bytes.now fs xs others → es ≡ others
+AreInSlots source fs xs es = (others : SlotEntries) → LiesSlots source.layout.now source.bytes.now fs xs others
+    → es ≡ others
 
 -- the same of n elements from a position on
 abbrev pub AreItems : LaidSchema → List ℕ → StoredKind → ℕ → ℕ → Parts → Type 0
@@ -53,8 +50,10 @@ AreItems L b kind p n ds = (others : Parts) → count others ≡ n → LiesItems
 
 -- The table at a position keeps its rules and the limits.
 abbrev pub IsOpen : Source → ℕ → ℕ → ℕ → ℕ → Type 0
-IsOpen source t p tables spent = Keeps source.layout.now source.bytes.now (part_place (table_part t)) p × (tables < source.most_depth) × (spent < source.most_cells)
+IsOpen source t p tables spent = Keeps source.layout.now source.bytes.now (part_place (table_part t)) p
+    × (tables < source.most_depth) × (spent < source.most_cells)
 
 -- The same of a table behind a reference.
 abbrev pub IsOpenBehind : Source → ℕ → ℕ → ℕ → ℕ → Type 0
-IsOpenBehind source t p tables spent = Keeps source.layout.now source.bytes.now (ref_place (table_part t)) p × IsOpen source t (p + num source.bytes.now p 4) tables spent
+IsOpenBehind source t p tables spent = Keeps source.layout.now source.bytes.now (ref_place (table_part t)) p
+    × IsOpen source t (p + num source.bytes.now p 4) tables spent

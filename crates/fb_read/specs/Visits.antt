@@ -1,5 +1,6 @@
 -- What a visit of a place gives: the cells that are spent behind it, or its first fault.
-use Rattle.std.specs.Prelude.{ℕ, ◌+◌, ◌≡◌, List, map, find, slice_get, Option, None, Some, Result, Ok, Err, MatchResult, ◌==◌, if◌then◌else◌}
+use Rattle.std.specs.Prelude.{ℕ, ◌+◌, ◌≡◌, List, map, find, slice_get, Option, None, Some, Result, Ok, Err, MatchResult}
+use Rattle.std.specs.Prelude.{◌==◌, if◌then◌else◌}
 use Rattle.fb_schema.specs.declared.types.FieldInfo.{FieldInfo}
 use Rattle.fb_schema.specs.Seen.{field_seen}
 use Rattle.fb_layout.specs.Laid.{LaidSchema, Slot, slot_of}
@@ -20,7 +21,9 @@ visit L b most x tables spent = outcome (fault_from L b most x tables spent) (sp
 
 -- at several places, one after another
 unfoldable pub visit_each : LaidSchema → Bytes → Bounds → List (Option Place) → ℕ → ℕ → Result ℕ ReadFault
-visit_each L b most xs tables spent = outcome (first_among (λ y before. fault_from L b most y tables before) (all L b) spent xs) (spent + sum_over (all L b) xs)
+visit_each L b most xs tables spent =
+    outcome (first_among (λ y before. fault_from L b most y tables before) (all L b) spent xs) (spent
+    + sum_over (all L b) xs)
 
 -- at a slot's place, if it names one
 abbrev pub visit_entry : LaidSchema → Bytes → Bounds → Option Place → ℕ → ℕ → Result ℕ ReadFault
@@ -38,9 +41,9 @@ slots_seen L fs = map (slot_of L.schema) (map field_seen fs)
 abbrev pub first_unset : LaidSchema → Bytes → ℕ → List FieldInfo → List ℕ → Option ℕ
 first_unset L b p fs required = find (λ k. is_missing_slot b p k (slice_get (slots_seen L fs) k)) required
 
--- what a visit returned is what it gives
-abbrev pub Visits : Result ℕ ReadFault → Result ℕ ReadFault → Type 0
-Visits result given = MatchResult result (λ n. given ≡ Ok n) (λ f. given ≡ Err f)
+-- what a visit returned is what it gives, with so many cells spent behind it
+abbrev pub Visits : {T : Type 0} → Result T ReadFault → ℕ → Result ℕ ReadFault → Type 0
+Visits result after given = MatchResult result (λ _. given ≡ Ok after) (λ f. given ≡ Err f)
 
 -- the place of a union's value that is present, by its code's member; a code of 0 has none
 abbrev pub union_place : ℕ → ℕ → Option ℕ → Option Place

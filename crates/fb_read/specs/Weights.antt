@@ -2,13 +2,17 @@
 use Rattle.std.specs.Prelude.{ℕ, ◌+◌, ◌-◌, ◌^◌, ◌<◌, ◌≡◌, length, Option, None, Some}
 use Rattle.fb_layout.specs.Laid.{LaidSchema}
 use Rattle.fb_value.specs.Datum.{Datum, a_number, a_text, a_vector, a_struct, a_member, an_unknown, Parts}
-use Rattle.fb_read.specs.declared.entries.Entry.{Entry}
-use Rattle.fb_read.specs.declared.entries.Entry.TheVariants.{Absent, Number, Text, Fixed, Table, Member, Unknown, Vector}
-use Rattle.fb_read.specs.declared.views.View.{View}
-use Rattle.fb_read.specs.declared.fixed.FixedView.{FixedView}
+use Rattle.fb_read.specs.declared.entry.Entry.{Entry}
+use Rattle.fb_read.specs.declared.entry.Entry.TheVariants.{Absent, Number, Text, Fixed, Table, Member, Unknown, Vector}
+use Rattle.fb_read.specs.declared.view.View.{View}
+use Rattle.fb_read.specs.declared.fixed_view.FixedView.{FixedView}
 use Rattle.fb_read.specs.declared.items.Items.{Items}
 use Rattle.fb_read.specs.declared.stored.Stored.{Stored}
-use Rattle.fb_read.specs.declared.stored.Stored.TheVariants.{Absent as Unstored, Code as StoredCode, Unknown as StoredUnknown, Number as StoredNumber, Fixed as StoredFixed, Text as StoredText, Table as StoredTable, Member as StoredMember, Vector as StoredVector}
+use Rattle.fb_read.specs.declared.stored.Stored.TheVariants.{Absent as Unstored, Code as StoredCode}
+use Rattle.fb_read.specs.declared.stored.Stored.TheVariants.{Unknown as StoredUnknown, Number as StoredNumber}
+use Rattle.fb_read.specs.declared.stored.Stored.TheVariants.{Fixed as StoredFixed, Text as StoredText}
+use Rattle.fb_read.specs.declared.stored.Stored.TheVariants.{Table as StoredTable, Member as StoredMember}
+use Rattle.fb_read.specs.declared.stored.Stored.TheVariants.{Vector as StoredVector}
 use Rattle.fb_read.specs.Shows.{Shows, ShowsFields, ShowsItems}
 
 -- the entry is what was found, read by the same layout

@@ -1,34 +1,31 @@
 //! Reading typed values from bytes.
 #![tactic(auto)]
 
-mod accessors;
-mod counting;
-mod elements;
 mod entries;
-mod fields;
-mod fixed;
+mod entry;
+mod fixed_view;
+mod header;
 mod inlines;
 mod items;
 mod kinds;
-mod leaves;
 mod numbers;
 mod places;
+mod read_leaves;
+mod read_tables;
 mod reader;
 mod reference;
 mod rules;
 mod source;
 mod stored;
-mod trees;
-mod verification;
-mod views;
-mod visits;
+mod view;
+mod visit_leaves;
+mod visit_tables;
 mod walk;
 
-pub use counting::Entries;
-pub use entries::Entry;
+pub use entries::Entries;
+pub use entry::Entry;
 pub use fb_value::ReadFault;
-pub use fixed::FixedView;
+pub use fixed_view::FixedView;
 pub use items::Items;
-pub use reader::read;
-pub use verification::verify;
-pub use views::View;
+pub use reader::{read, verify};
+pub use view::View;

@@ -1,18 +1,27 @@
-//! Reading a buffer.
-ghost use Rattle.std.specs.Prelude.{◌≡◌, ◌≢◌, ◌+◌, ◌≤◌, IfOk, IfErr, Err};
+//! The two calls that read a buffer.
+ghost use Rattle.std.specs.Prelude.{◌≡◌, ◌≢◌, ◌+◌, ◌≤◌, OnOk, IfOk, IfErr, Err};
+ghost use Rattle.fb_value.specs.Datum.{Datum};
 ghost use Rattle.fb_value.specs.View.{view};
 ghost use Rattle.fb_value.specs.Counts.{entered};
 ghost use Rattle.fb_value.specs.Fits.{FitsRoot};
 ghost use Rattle.fb_value.specs.Holds.{Holds, RootKeeps, Refuses};
 ghost use Rattle.fb_read.specs.Memory.{PartIsReached};
+ghost use Rattle.fb_read.specs.Shows.{Shows};
 
-use crate::counting::Entries;
+pub(crate) mod ticks;
+
+use crate::entries::Entries;
+use crate::header::{check_front, identifier_of};
+use crate::numbers::u32_at;
+use crate::read_tables::read_table_behind;
 use crate::source::Source;
-use crate::trees::read_table_behind;
-use crate::verification::{check_front, identifier_of};
+use crate::view::View;
+use crate::visit_tables::visit_table_behind;
+use crate::walk::Walk;
 use fb_layout::Layout;
 use fb_value::{Limits, ReadFault, Value};
 use std::alloc::Global;
+use ticks::Ticks;
 
 /// The value that the bytes hold, or the least of their faults.
 ///
@@ -22,7 +31,7 @@ use std::alloc::Global;
 ///
 /// `Memory` is returned only where a table, vector or text is reached that keeps its rules and is within
 /// the limits, with no fault at or before it: it may stand in place of a fault that comes later.
-#[tactic(auto, using(crate::proofs::Verified::aligned_known, crate::proofs::Verified::small_known))]
+#[tactic(auto, using(crate::proofs::source::AlignmentsArePositive::layout_sizes))]
 pub fn read<'a>(
     alloc: Global,
     layout: &'a Layout,
@@ -53,6 +62,60 @@ pub fn read<'a>(
         most_depth,
         most_cells,
     };
-    let mut spent = 0;
-    read_table_behind(alloc, source, schema.root(), 0, 0, &mut spent, entries)
+    let mut walk = Walk {
+        spent: 0,
+        ticks: Ticks::new(),
+    };
+    let value = read_table_behind(alloc, source, &mut walk, schema.root(), 0, 0);
+    walk.ticks.add_to(entries);
+    value
+}
+
+/// Whether the bytes hold a value; else the least of their faults.
+///
+/// `raw` leaves out the check of the file identifier. `entries` rises by one for each table, vector
+/// and text that is entered. No memory is taken.
+#[tactic(auto, using(crate::proofs::source::AlignmentsArePositive::layout_sizes))]
+pub fn verify<'a>(
+    layout: &'a Layout,
+    bytes: &'a [u8],
+    limits: Limits,
+    raw: bool,
+    entries: &mut Entries,
+) -> Result<View<'a>, ReadFault>
+    ensures held { OnOk result ((v : Datum) × Holds layout.now limits raw bytes.now v) }
+    ensures root { IfOk result (λ view. (view.layout.now ≡ layout.now)
+        × (view.table.0 ≡ layout.now.schema.root)) }
+    ensures stands { IfOk result (λ view. (v : Datum) → Holds layout.now limits raw bytes.now v
+        → Shows view v) }
+    ensures fault { IfErr result (Refuses layout.now limits raw bytes.now) }
+    ensures rises { entries.old.count ≤ entries.new.count }
+    ensures counted { entries.new.count ≤ entries.old.count + (limits.cells + 1) }
+    ensures each { OnOk result ((v : Datum) → Holds layout.now limits raw bytes.now v
+        → entries.new.count ≡ entries.old.count + entered v) }
+{
+    let schema = layout.schema();
+    check_front(bytes, identifier_of(layout, raw))?;
+    let most_depth = limits.most_depth();
+    let most_cells = limits.most_cells();
+    let source = Source {
+        layout,
+        bytes,
+        most_depth,
+        most_cells,
+    };
+    let mut walk = Walk {
+        spent: 0,
+        ticks: Ticks::new(),
+    };
+    let visited = visit_table_behind(&source, &mut walk, schema.root(), 0, 0);
+    walk.ticks.add_to(entries);
+    visited?;
+    let at = u32_at(bytes, 0) as usize;
+    Ok(View {
+        layout,
+        bytes,
+        table: schema.root(),
+        at,
+    })
 }

@@ -1,10 +1,9 @@
 //! What the slots of a table have.
 ghost use Rattle.std.specs.Prelude.{◌≡◌, ℕ, ◌+◌, ◌<◌, ◌≤◌, ◌^◌, length, None, false};
 ghost use Rattle.fb_layout.specs.Laid.{member_by_code};
-ghost use Rattle.fb_value.specs.Num.{num};
-ghost use Rattle.fb_value.specs.Places.{vtable};
 ghost use Rattle.fb_value.specs.Nth.{slot_place};
 ghost use Rattle.fb_read.specs.Visits.{slot_seen, slots_seen, union_place};
+ghost use Rattle.fb_read.specs.Walks.{HasVtable};
 ghost use Rattle.fb_read.specs.Weights.{StandsBehind};
 ghost use Rattle.fb_read.specs.Stored.{stored_place, stored_at, text_place_of, table_place_of, member_place_of};
 ghost use Rattle.fb_read.specs.Stored.{vector_place_of, struct_place_of, number_place_of, default_in};
@@ -12,7 +11,8 @@ ghost use Rattle.fb_read.specs.Stored.{unknown_code_of};
 
 use crate::places::{is_stored, slot_of};
 use crate::rules::union_code;
-use crate::visits::is_first_required;
+use crate::visit_leaves::is_first_required;
+use crate::walk::TableAt;
 use fb_layout::Layout;
 use fb_schema::{Base, FieldInfo, Kind, Shape, TypeId};
 
@@ -162,34 +162,31 @@ fn stored_member(layout: &Layout, union: TypeId, code: u8, at: usize) -> Stored
     }
 }
 
-/// What a slot of the table at a position has, its vtable standing at a place.
+/// What a slot of a table has.
 #[inline(always)]
 pub fn stored_in(
     layout: &Layout,
     bytes: &[u8],
     field: &FieldInfo,
     later: &[FieldInfo],
-    at: usize,
-    place: usize,
+    table: TableAt,
     slot: usize,
 ) -> Stored
-    requires vtable { place ≡ vtable bytes.now at }
-    requires whole { place + num bytes.now place 2 ≤ length bytes.now }
-    requires within { place + 2 ≤ length bytes.now }
+    requires vtable { HasVtable bytes.now table }
     requires short { length bytes.now < 2 ^ 31 }
-    requires low { at < 2 ^ 32 }
     requires few { slot < 2 ^ 15 }
-    ensures place { stored_place layout.now result ≡ slot_place layout.now bytes.now at slot
+    ensures place { stored_place layout.now result ≡ slot_place layout.now bytes.now table.at slot
         (slots_seen layout.now later.now) (slot_seen layout.now field.now) }
     ensures default { stored_place layout.now result ≡ None
         → default_in result ≡ (slot_seen layout.now field.now).if_absent }
     ensures low { stored_at result < 2 ^ 33 }
-    ensures behind { StandsBehind at result }
+    ensures behind { StandsBehind table.at result }
 {
     if field.deprecated {
         return Stored::Absent(None);
     }
-    let offset = slot_of(bytes, at, place, slot);
+    let TableAt { at, vtable_at } = table;
+    let offset = slot_of(bytes, at, vtable_at, slot);
     if offset == 0 {
         return Stored::Absent(default_of(layout, field));
     }
@@ -198,7 +195,7 @@ pub fn stored_in(
         Shape::One(Kind::Text) => Stored::Text(at + offset),
         Shape::One(Kind::Table(table)) => Stored::Table(table, at + offset),
         Shape::One(Kind::Union(union)) => {
-            let code = union_code(bytes, at, place, slot);
+            let code = union_code(bytes, at, vtable_at, slot);
             stored_member(layout, union, code, at + offset)
         }
         Shape::One(Kind::Code(union)) => {
@@ -206,7 +203,7 @@ pub fn stored_in(
                 union,
                 value_slot: slot as u16 + 1,
                 required: is_first_required(later),
-                present: is_stored(bytes, at, place, slot + 1),
+                present: is_stored(bytes, at, vtable_at, slot + 1),
             };
             Stored::Code(code, at + offset)
         }

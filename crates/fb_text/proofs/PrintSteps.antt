@@ -6,7 +6,7 @@ use Rattle.fb_schema.specs.Seen.{field_seen}
 use Rattle.fb_layout.specs.Laid.{LaidSchema}
 use Rattle.fb_value.specs.Datum.{Datum, a_table, Parts, no_parts, more_parts, SlotEntries, count}
 use Rattle.fb_value.specs.Nth.{nth_part}
-use Rattle.fb_read.specs.declared.views.View.{View}
+use Rattle.fb_read.specs.declared.view.View.{View}
 use Rattle.fb_read.specs.Shows.{Shows}
 use Rattle.fb_json.specs.Texts.{has_code, code_text}
 use Rattle.fb_text.specs.declared.faults.WriteFault.{WriteFault}

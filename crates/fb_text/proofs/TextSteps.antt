@@ -8,7 +8,7 @@ use Rattle.fb_schema.specs.Schema.{DeclaredField, body_at, slots_in}
 use Rattle.fb_layout.specs.Laid.{LaidSchema}
 use Rattle.fb_value.specs.Datum.{Datum, a_table, Parts, no_parts, more_parts, SlotEntries, no_entries, absent_entry, present_entry, count}
 use Rattle.fb_value.specs.Nth.{nth_entry, nth_part}
-use Rattle.fb_read.proofs.EnteredCounts.{entries_from, parts_from}
+use Rattle.fb_read.specs.Tails.{entries_from, parts_from}
 use Rattle.fb_json.specs.Texts.{inside, closing, value_text, items_text, parts_text, members_text, line, member_line, entry_text}
 use Rattle.fb_text.specs.Printed.{is_entry_printed, slot_text, part_text}
 

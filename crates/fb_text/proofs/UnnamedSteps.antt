@@ -8,7 +8,7 @@ use Rattle.fb_value.specs.Num.{Bytes, num}
 use Rattle.fb_value.specs.Places.{Place as Spot, text_part, part_place, target_of}
 use Rattle.fb_value.specs.Lies.{LiesInline, LiesParts, Element, Lies, LiesItems, LiesSlots}
 use Rattle.fb_value.specs.Nth.{nth_entry, nth_part}
-use Rattle.fb_read.proofs.EnteredCounts.{entries_from, parts_from}
+use Rattle.fb_read.specs.Tails.{entries_from, parts_from}
 use Rattle.fb_json.specs.declared.faults.Place.{Place}
 use Rattle.fb_read.specs.Stored.{number_entry}
 use Rattle.fb_text.specs.Printed.{first_in_entry}
@@ -17,7 +17,7 @@ use Rattle.fb_schema.specs.declared.kinds.Kind.{Kind}
 use Rattle.fb_schema.specs.declared.kinds.Kind.TheVariants.{Scalar, Enum, Struct, Table, Union, Code, Text}
 use Rattle.fb_schema.specs.Schema.{DeclaredSchema}
 use Rattle.fb_layout.specs.Laid.{stored_kind}
-use Rattle.fb_read.specs.declared.views.View.{View}
+use Rattle.fb_read.specs.declared.view.View.{View}
 use Rattle.fb_read.specs.Shows.{Shows}
 use Rattle.fb_json.specs.Unnamed.{entry_place, first_unnamed, first_in_parts, first_in_entries}
 

@@ -7,7 +7,7 @@ use Rattle.fb_value.specs.Bounds.{Bounds}
 use Rattle.fb_value.specs.Datum.{Datum}
 use Rattle.fb_value.specs.Num.{Bytes}
 use Rattle.fb_value.specs.Holds.{Holds, Refuses}
-use Rattle.fb_read.specs.declared.views.View.{View}
+use Rattle.fb_read.specs.declared.view.View.{View}
 use Rattle.fb_read.specs.Shows.{Shows}
 use Rattle.flatc_tool.specs.Checks.{IsSound, CheckRefused}
 use Rattle.flatc_tool.specs.Jobs.{IsText, MayBeText, TextRefused, IsNotMemory}

@@ -10,7 +10,7 @@ use Rattle.fb_value.specs.Holds.{Holds, IsLeastFault}
 use Rattle.fb_value.specs.OldSlots.{OnlyOld}
 use Rattle.fb_json.specs.Texts.{json_text}
 use Rattle.fb_build.specs.Covered.{Covered}
-use Rattle.fb_read.specs.declared.views.View.{View}
+use Rattle.fb_read.specs.declared.view.View.{View}
 use Rattle.fb_conform.specs.Carry.{carry}
 use Rattle.flatc_tool.specs.SchemaTexts.{IsAccepted}
 use Rattle.flatc_tool.specs.Jobs.{JsonMeans, IsBinary, IsText, TextRefused, IsNotMemory}

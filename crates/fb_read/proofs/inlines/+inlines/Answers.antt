@@ -3,9 +3,9 @@ use Rattle.fb_schema.specs.declared.types.FieldInfo.{FieldInfo}
 use Rattle.fb_layout.specs.Laid.{stored_kind}
 use Rattle.fb_value.proofs.Views.{view-Fixed}
 use Rattle.fb_read.specs.Kinds.{rank}
-use Rattle.fb_read.proofs.Contained.{field_kind, field_within, field_there}
-use Rattle.fb_read.proofs.Grown.{parts_grown, parts_entered_more}
-use Rattle.fb_read.proofs.StructRanks.{field_rank, fields_whole, found_same, found_none}
+use Rattle.fb_read.proofs.items.PartsLieInTheirPlaces.{field_kind, field_within, field_there}
+use Rattle.fb_read.proofs.read_tables.OneValueMore.{parts_grown, parts_entered_more}
+use Rattle.fb_read.proofs.inlines.StructFieldsRankLower.{field_rank, fields_whole, found_same, found_none}
 use Rattle.fb_read.proofs.inlines.+inlines.Goals.{read_struct-in-Some+in_ok-push, read_struct-in_default}
 use Rattle.fb_read.proofs.inlines.+inlines.Goals as goal
 
@@ -16,9 +16,13 @@ read_struct-read_inline-requires t c =
     let xs = c.parts_of-fields.result.now in
     let x = c.index-fields-index.result in
     let less : c.loop-index.index < length xs = omega arith in
-    let kind : stored_kind L.schema c.kind_in-kind.result ≡ field_kind L x = c.kind_in-kind.ensures L.schema ∙ ap (λ (f : FieldInfo). field_kind L f) (sym c.index-fields-index.is) in
-    let ranked : rank (stored_kind L.schema c.kind_in-kind.result) ≤ s = rw kind (field_rank L c.schema-schema.ensures.made s xs c.parts_of-fields.ensures.parts c.loop-index.index x less c.index-fields-index.is) in
-    let within = field_within L s xs c.parts_of-fields.ensures.parts c.schema-schema.ensures.made c.args.at _ c.loop-index.index x less c.index-fields-index.is c.requires.within in
+    let kind : stored_kind L.schema c.kind_in-kind.result ≡ field_kind L x =
+    c.kind_in-kind.ensures L.schema ∙ ap (λ (f : FieldInfo). field_kind L f) (sym c.index-fields-index.is) in
+    let ranked : rank (stored_kind L.schema c.kind_in-kind.result) ≤ s =
+    rw kind (field_rank L c.schema-schema.ensures.made s xs c.parts_of-fields.ensures.parts c.loop-index.index x
+    less c.index-fields-index.is) in
+    let within = field_within L s xs c.parts_of-fields.ensures.parts c.schema-schema.ensures.made c.args.at _
+    c.loop-index.index x less c.index-fields-index.is c.requires.within in
     (omega (arith, ranked, c.decreases), (rw (c.offset_of-offset.ensures, kind) within, c.requires.short))
 
 pub read_struct-loop-index-preserved : goal.read_struct-loop-index-preserved
@@ -29,18 +33,24 @@ read_struct-loop-index-preserved t c =
     let xs = c.parts_of-fields.result.now in
     let x = c.index-fields-index.result in
     let less : c.loop-index.index < length xs = omega arith in
-    let kind : stored_kind L.schema c.kind_in-kind.result ≡ field_kind L x = c.kind_in-kind.ensures L.schema ∙ ap (λ (f : FieldInfo). field_kind L f) (sym c.index-fields-index.is) in
+    let kind : stored_kind L.schema c.kind_in-kind.result ≡ field_kind L x =
+    c.kind_in-kind.ensures L.schema ∙ ap (λ (f : FieldInfo). field_kind L f) (sym c.index-fields-index.is) in
     elim c.match-branch-3.branch [
       | read_struct-in-Some+in_ok-push w ↦ record {
         parts = λ ds lies.
-            (let found = field_there L s xs c.parts_of-fields.ensures.parts c.schema-schema.ensures.made b c.args.at ds c.loop-index.index x less c.index-fields-index.is lies in
+            (let found = field_there L s xs c.parts_of-fields.ensures.parts c.schema-schema.ensures.made b c.args.at ds
+            c.loop-index.index x less c.index-fields-index.is lies in
             let same = c.in_ok-part.ensures.value found.0 (rw (kind, c.offset_of-offset.ensures) found.2) in
-            rw (w.parts-is, w.in_ok-push.ensures.items) (parts_grown c.loop-index.parts.items w.in-Some.part c.loop-index.index ds found.0 (c.loop-index.invariant.parts ds lies) found.1 (found_same _ w.in-Some.part found.0 w.in-Some.is same)));
-        flat = rw (w.parts-is, w.in_ok-push.ensures.items, parts_entered_more c.loop-index.parts.items w.in-Some.part) (let one = rw w.in-Some.is at c.in_ok-part.ensures.flat in omega (arith, one, c.loop-index.invariant.flat));
+            rw (w.parts-is, w.in_ok-push.ensures.items) (parts_grown c.loop-index.parts.items w.in-Some.part
+            c.loop-index.index ds found.0 (c.loop-index.invariant.parts ds lies) found.1
+            (found_same _ w.in-Some.part found.0 w.in-Some.is same)));
+        flat = rw (w.parts-is, w.in_ok-push.ensures.items, parts_entered_more c.loop-index.parts.items w.in-Some.part)
+            (let one = rw w.in-Some.is at c.in_ok-part.ensures.flat in omega (arith, one, c.loop-index.invariant.flat));
       }
       | read_struct-in_default w ↦ record {
         parts = λ ds lies.
-            (let found = field_there L s xs c.parts_of-fields.ensures.parts c.schema-schema.ensures.made b c.args.at ds c.loop-index.index x less c.index-fields-index.is lies in
+            (let found = field_there L s xs c.parts_of-fields.ensures.parts c.schema-schema.ensures.made b c.args.at ds
+            c.loop-index.index x less c.index-fields-index.is lies in
             let same = c.in_ok-part.ensures.value found.0 (rw (kind, c.offset_of-offset.ensures) found.2) in
             absurd (found_none _ found.0 w.in_default.is same));
         flat = rw w.parts-is c.loop-index.invariant.flat;
@@ -51,4 +61,6 @@ pub read_struct-returns-clause-value : goal.read_struct-returns-clause-value
 read_struct-returns-clause-value t c d lies =
     let L = c.args.layout.now in
     let end : c.loop-index.index ≡ length c.parts_of-fields.result.now = omega arith in
-    rw (view-Fixed c.loop-index.parts) (ap Some (fields_whole L c.schema-schema.ensures.made c.args.structure.0 c.parts_of-fields.result.now c.parts_of-fields.ensures.parts c.args.bytes.now c.args.at c.loop-index.index c.loop-index.parts.items d c.loop-index.invariant.parts end lies))
+    rw (view-Fixed c.loop-index.parts) (ap Some (fields_whole L c.schema-schema.ensures.made c.args.structure.0
+    c.parts_of-fields.result.now c.parts_of-fields.ensures.parts c.args.bytes.now c.args.at c.loop-index.index
+    c.loop-index.parts.items d c.loop-index.invariant.parts end lies))

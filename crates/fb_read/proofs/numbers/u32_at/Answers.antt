@@ -1,5 +1,5 @@
 use Rattle.std.proofs.Common.{◌∙◌}
-use Rattle.fb_read.proofs.Sums.{num_in_slice}
+use Rattle.fb_read.proofs.numbers.SumIsWhatByteorderReads.{num_in_slice}
 use Rattle.fb_read.proofs.numbers.u32_at.Goals as goal
 
 pub returns : goal.returns

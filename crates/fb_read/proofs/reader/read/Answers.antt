@@ -1,35 +1,53 @@
 use Rattle.std.proofs.Common.{◌≡◌, ◌<◌, All, None, arith}
 use Rattle.std.proofs.lemmas.List.Elements.{All-from_get_or}
 use Rattle.fb_value.specs.Holds.{header_fault, checked_identifier}
-use Rattle.fb_read.proofs.Told.{answer_held, answer_fits, answer_refused, root_reached}
+use Rattle.fb_read.proofs.reader.RootValueIsHeld.{answer_held, answer_fits, answer_refused, root_reached}
 use Rattle.fb_read.proofs.reader.read.Goals as goal
 
 pub returns-clause-value : goal.returns-clause-value
 returns-clause-value c =
     let L = c.args.layout.now in
-    let header : header_fault c.args.bytes.now (checked_identifier L c.args.raw) ≡ None = rw c.identifier_of.ensures at c.in_ok-check_front.ensures.rules in
-    let given = rw (c.most_depth-most_depth.ensures.exact, c.most_cells-most_cells.ensures, c.root.ensures, c.schema-schema.ensures.schema) at c.read_table_behind.ensures.visit in
-    let known = rw (c.root.ensures, c.schema-schema.ensures.schema) at c.read_table_behind.ensures.value in
-    answer_held L c.args.limits c.args.raw c.args.bytes.now c.schema-schema.ensures.made c.read_table_behind.result _ header given known
+    let header : header_fault c.args.bytes.now (checked_identifier L c.args.raw) ≡ None =
+    rw c.identifier_of.ensures at c.in_ok-check_front.ensures.rules in
+    let given = rw (
+      c.most_depth-most_depth.ensures.exact,
+      c.most_cells-most_cells.ensures,
+      c.root.ensures,
+      c.schema-schema.ensures.schema,
+    ) at c.read_table_behind-value.ensures.visit in
+    let known = rw (c.root.ensures, c.schema-schema.ensures.schema) at c.read_table_behind-value.ensures.value in
+    answer_held L c.args.limits c.args.raw c.args.bytes.now c.schema-schema.ensures.made
+    c.read_table_behind-value.result _ header given known
 
 pub returns-clause-fits : goal.returns-clause-fits
 returns-clause-fits c =
-    let small : All (λ x. x < 256) c.args.bytes.now = All-from_get_or (λ x. x < 256) c.args.bytes.now 0 (λ i less. (let fits = c.type_inv.bytes i in omega arith)) in
-    answer_fits c.args.layout.now c.args.limits c.args.raw c.args.bytes.now c.schema-schema.ensures.made small c.read_table_behind.result (returns-clause-value c)
+    let small : All (λ x. x < 256) c.args.bytes.now = All-from_get_or (λ x. x < 256) c.args.bytes.now 0
+    (λ i less. (let fits = c.type_inv.bytes i in omega arith)) in
+    answer_fits c.args.layout.now c.args.limits c.args.raw c.args.bytes.now c.schema-schema.ensures.made small
+    c.read_table_behind-value.result (returns-clause-value c)
 
 pub returns-clause-fault : goal.returns-clause-fault
 returns-clause-fault c =
     let L = c.args.layout.now in
-    let header : header_fault c.args.bytes.now (checked_identifier L c.args.raw) ≡ None = rw c.identifier_of.ensures at c.in_ok-check_front.ensures.rules in
-    let given = rw (c.most_depth-most_depth.ensures.exact, c.most_cells-most_cells.ensures, c.root.ensures, c.schema-schema.ensures.schema) at c.read_table_behind.ensures.visit in
-    answer_refused L c.args.limits c.args.raw c.args.bytes.now c.schema-schema.ensures.made c.read_table_behind.result _ header given
+    let header : header_fault c.args.bytes.now (checked_identifier L c.args.raw) ≡ None =
+    rw c.identifier_of.ensures at c.in_ok-check_front.ensures.rules in
+    let given = rw (
+      c.most_depth-most_depth.ensures.exact,
+      c.most_cells-most_cells.ensures,
+      c.root.ensures,
+      c.schema-schema.ensures.schema,
+    ) at c.read_table_behind-value.ensures.visit in
+    answer_refused L c.args.limits c.args.raw c.args.bytes.now c.schema-schema.ensures.made
+    c.read_table_behind-value.result _ header given
 
 pub returns-clause-reached : goal.returns-clause-reached
 returns-clause-reached c memory =
     let L = c.args.layout.now in
     let b = c.args.bytes.now in
-    let header : header_fault b (checked_identifier L c.args.raw) ≡ None = rw c.identifier_of.ensures at c.in_ok-check_front.ensures.rules in
-    let opened = rw (c.root.ensures, c.schema-schema.ensures.schema) at (c.read_table_behind.ensures.memory memory) in
+    let header : header_fault b (checked_identifier L c.args.raw) ≡ None =
+    rw c.identifier_of.ensures at c.in_ok-check_front.ensures.rules in
+    let opened = rw (c.root.ensures, c.schema-schema.ensures.schema) at
+    (c.read_table_behind-value.ensures.memory memory) in
     root_reached L c.args.limits c.args.raw b (record {
       header = header;
       reference = opened.0;

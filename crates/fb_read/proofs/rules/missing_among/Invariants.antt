@@ -4,4 +4,5 @@ use Rattle.fb_read.specs.Visits.{first_unset}
 use Rattle.fb_read.proofs.rules.missing_among.Given as goal
 
 abbrev pub invariant-loop-slot : goal.invariant-loop-slot
-invariant-loop-slot l = (L : LaidSchema) → first_unset L l.bytes l.at l.slots (drop l.slot-index l.required) ≡ first_unset L l.bytes l.at l.slots l.required
+invariant-loop-slot l = (L : LaidSchema) → first_unset L l.bytes l.at l.slots (drop l.slot-index l.required)
+    ≡ first_unset L l.bytes l.at l.slots l.required

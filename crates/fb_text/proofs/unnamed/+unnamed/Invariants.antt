@@ -3,7 +3,7 @@ use Rattle.fb_value.specs.Datum.{Parts, SlotEntries, a_table}
 use Rattle.fb_json.specs.Unnamed.{first_in_parts, first_in_entries}
 use Rattle.fb_read.specs.Shows.{Shows, ShowsItems}
 use Rattle.fb_read.specs.Weights.{weight_of, table_weight, items_weight}
-use Rattle.fb_read.proofs.EnteredCounts.{entries_from, parts_from}
+use Rattle.fb_read.specs.Tails.{entries_from, parts_from}
 use Rattle.fb_text.proofs.unnamed.+unnamed.Given as goal
 
 -- An entry weighs more than all that stands in it.

@@ -3,7 +3,7 @@ use Rattle.fb_schema.specs.Seen.{field_seen}
 use Rattle.fb_value.specs.Datum.{Parts, SlotEntries, a_table}
 use Rattle.fb_read.specs.Shows.{Shows, ShowsFields, ShowsItems}
 use Rattle.fb_read.specs.Weights.{weight_of, table_weight, items_weight, struct_weight}
-use Rattle.fb_read.proofs.EnteredCounts.{entries_from, parts_from}
+use Rattle.fb_read.specs.Tails.{entries_from, parts_from}
 use Rattle.fb_json.specs.Indents.{blanks}
 use Rattle.fb_json.specs.Texts.{items_text, parts_text, members_text}
 use Rattle.fb_text.specs.Writes.{State, state_of, Adds}

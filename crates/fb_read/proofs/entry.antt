@@ -1,0 +1,2 @@
+-- What the proofs of src/entry.rt use.
+pub mod EntryIsWhatWasFound

@@ -1,0 +1,2 @@
+-- What the proofs of src/inlines.rt use.
+pub mod StructFieldsRankLower

@@ -1,0 +1,2 @@
+-- What the proofs of src/items.rt use.
+pub mod PartsLieInTheirPlaces

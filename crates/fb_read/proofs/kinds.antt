@@ -1,0 +1,2 @@
+-- What the proofs of src/kinds.rt use.
+pub mod OnlyTextsAndTablesAreReferences

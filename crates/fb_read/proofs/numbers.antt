@@ -1,0 +1,2 @@
+-- What the proofs of src/numbers.rt use.
+pub mod SumIsWhatByteorderReads

@@ -1,0 +1,3 @@
+-- What the proofs of src/places.rt use.
+pub mod AbsentSlotNamesNoPlace
+pub mod FieldsAreTheirSlots

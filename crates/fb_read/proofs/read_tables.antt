@@ -1,0 +1,3 @@
+-- What the proofs of src/read_tables.rt use.
+pub mod OneValueMore
+pub mod ValueIsWhatLies

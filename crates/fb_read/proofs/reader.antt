@@ -1,0 +1,3 @@
+-- What the proofs of src/reader.rt use.
+pub mod RootValueIsHeld
+pub mod RootVisitDecides

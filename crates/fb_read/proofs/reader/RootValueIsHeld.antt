@@ -1,0 +1,102 @@
+-- What a reading of the root table says of the whole buffer.
+use Rattle.std.proofs.Common.{◌≡◌, ℕ, ◌≢◌, ◌+◌, ◌<◌, ◌≤◌, [], ◌∷◌, Bool, true, nat_le, All, None, Some, Result, Ok, Err}
+use Rattle.std.proofs.Common.{IfOk, IfErr, refl, arith, inl, inr}
+use Rattle.std.proofs.lemmas.Bool.{le-leb}
+use Rattle.fb_layout.specs.Laid.{LaidSchema}
+use Rattle.fb_layout.specs.WellMade.{IsWellMade}
+use Rattle.fb_value.specs.declared.faults.ReadFault.{ReadFault}
+use Rattle.fb_value.specs.Bounds.{Bounds}
+use Rattle.fb_value.specs.Datum.{Datum}
+use Rattle.fb_value.specs.Num.{Bytes, num}
+use Rattle.fb_value.specs.Places.{table_part, ref_place, part_place}
+use Rattle.fb_value.specs.Rules.{Keeps, first_failing}
+use Rattle.fb_value.specs.Lies.{LiesAt}
+use Rattle.fb_value.specs.Reached.{Path, ComesBefore}
+use Rattle.fb_value.specs.Faults.{limited_fault, FaultFrom}
+use Rattle.fb_value.specs.Holds.{Holds, RootKeeps, Refuses, header_fault, checked_identifier, root_place}
+use Rattle.fb_value.specs.declared.faults.ReadFault.TheVariants.{Memory}
+use Rattle.fb_value.specs.declared.values.Value.{Value}
+use Rattle.fb_value.specs.View.{view}
+use Rattle.fb_value.specs.Fits.{FitsRoot}
+use Rattle.fb_value.proofs.BytesFit.{fits_where_held_shown}
+use Rattle.fb_read.specs.Memory.{PartIsReached}
+use Rattle.fb_read.specs.Values.{Gives}
+use Rattle.fb_read.specs.Visits.{visit}
+use Rattle.fb_read.proofs.reader.RootVisitDecides.{held_root, refused_root}
+
+module _ (L : LaidSchema) (most : Bounds) (raw : Bool) (b : Bytes) where
+  -- What can only be the root's value is held, where a visit finds no fault.
+  pub value_held : IsWellMade L → (n : ℕ) (v : Datum) → header_fault b (checked_identifier L raw) ≡ None
+      → visit L b most (root_place L) 0 0 ≡ Ok n
+      → ((d : Datum) → LiesAt L b (ref_place (table_part L.schema.root)) 0 d → v ≡ d) → Holds L most raw b v
+  value_held made n v header fine known =
+      let held = held_root L most raw b made n header fine in
+      rw (known held.0 held.1.lies) held.1
+
+  -- the same of an answer
+  pub answer_held : IsWellMade L → (r : Result Value ReadFault) (n : ℕ)
+      → header_fault b (checked_identifier L raw) ≡ None → Gives r n (visit L b most (root_place L) 0 0)
+      → IfOk r (λ v. (d : Datum) → LiesAt L b (ref_place (table_part L.schema.root)) 0 d → view v ≡ d)
+      → IfOk r (λ v. Holds L most raw b (view v))
+  answer_held made (Ok v) n header fine known = value_held made n (view v) header fine known
+  answer_held made (Err f) n header fine known = tt
+
+  -- What is held fits the root.
+  pub answer_fits : IsWellMade L → All (λ x. x < 256) b → (r : Result Value ReadFault)
+      → IfOk r (λ v. Holds L most raw b (view v)) → IfOk r (λ v. FitsRoot L (view v))
+  answer_fits made small (Ok v) held = fits_where_held_shown L most raw b (view v) made small held
+  answer_fits made small (Err f) held = tt
+
+  -- A refusal is the least fault, unless memory ran out.
+  pub answer_refused : IsWellMade L → (r : Result Value ReadFault) (n : ℕ)
+      → header_fault b (checked_identifier L raw) ≡ None → Gives r n (visit L b most (root_place L) 0 0)
+      → IfErr r (λ f. f ≢ Memory → Refuses L most raw b f)
+  answer_refused made (Ok v) n header given = tt
+  answer_refused made (Err f) n header given = λ other. refused_root L most raw b made f header (given other)
+
+  ref_passes : Keeps L b (root_place L).sort 0 → (tables cells : ℕ)
+      → limited_fault L b most (root_place L) tables cells ≡ None
+  unfolding limited_fault first_failing
+  ref_passes keeps tables cells = rw keeps refl
+
+  table_passes : (t p tables cells : ℕ) → Keeps L b (part_place (table_part t)) p → tables ≤ most.depth
+      → cells ≤ most.cells → limited_fault L b most (record { sort = part_place (table_part t); at = p }) tables cells
+      ≡ None
+  unfolding limited_fault first_failing
+  table_passes t p tables cells keeps deep small =
+      let yes : nat_le tables most.depth ≡ true = le-leb _ _ deep in
+      let also : nat_le cells most.cells ≡ true = le-leb _ _ small in
+      rw (keeps, yes, also) refl
+
+  -- The root table is the first that is reached.
+  pub root_reached : RootKeeps L most raw b → PartIsReached L most raw b
+  root_reached root = record {
+    header = root.header;
+    path = 0 ∷ [];
+    part = table_part L.schema.root;
+    at = 0 + num b 0 4;
+    leads = (root.reference, record { sort = part_place (table_part L.schema.root); at = 0 + num b 0 4 }, refl, refl);
+    keeps = root.table;
+    here = here;
+    before = before;
+  }
+    where
+      at_root : (f : ReadFault) → limited_fault L b most (record {
+        sort = part_place (table_part L.schema.root);
+        at =
+            0 + num b 0 4;
+      }) 1 1 ≡ Some f → ⊥
+      at_root f fails = let passes = table_passes L.schema.root (0 + num b 0 4) 1 1 root.table root.deep root.small in
+          cc
+
+      here : (f : ReadFault) → FaultFrom L b most (root_place L) 0 0 (0 ∷ []) f → ⊥
+      here f (keeps, next, names, fails) =
+          let is : record { sort = part_place (table_part L.schema.root); at = 0 + num b 0 4 } ≡ next = cc in
+          at_root f (rw (← is) at fails)
+
+      before : (other : Path) (f : ReadFault) → ComesBefore other (0 ∷ [])
+          → FaultFrom L b most (root_place L) 0 0 other f → ⊥
+      before [] f first fails = let passes = ref_passes root.reference (0 + 0) (0 + 0) in cc
+      before (j ∷ js) f (inl less) fails = absurd (omega arith)
+      before (j ∷ []) f (inr both) fails = absurd both.1
+      before (j ∷ k ∷ js) f (inr both) fails = absurd both.1

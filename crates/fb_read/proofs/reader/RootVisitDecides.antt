@@ -1,0 +1,50 @@
+-- A visit from the root decides whether the buffer holds a value.
+use Rattle.std.proofs.Common.{◌≡◌, ℕ, ◌+◌, Bool, Option, None, Some, Ok, Err, refl, arith}
+use Rattle.fb_layout.specs.Laid.{LaidSchema}
+use Rattle.fb_layout.specs.WellMade.{IsWellMade}
+use Rattle.fb_value.specs.declared.faults.ReadFault.{ReadFault}
+use Rattle.fb_value.specs.Bounds.{Bounds}
+use Rattle.fb_value.specs.Datum.{Datum}
+use Rattle.fb_value.specs.Num.{Bytes, num}
+use Rattle.fb_value.specs.Lies.{Lies}
+use Rattle.fb_value.specs.Places.{part_place, table_part}
+use Rattle.fb_value.specs.Faults.{fault_from}
+use Rattle.fb_value.specs.Holds.{Holds, Refuses, header_fault, checked_identifier, root_place}
+use Rattle.fb_value.proofs.Outcomes.{outcome_shown}
+use Rattle.fb_read.specs.Visits.{outcome, visit}
+
+err_told : (o : Option ReadFault) (n : ℕ) (f : ReadFault) → outcome o n ≡ Err f → o ≡ Some f
+err_told None n f e = cc
+err_told (Some g) n f e = let is : g ≡ f = cc in rw is refl
+
+ok_told : (o : Option ReadFault) (n m : ℕ) → outcome o n ≡ Ok m → o ≡ None
+ok_told None n m e = refl
+ok_told (Some g) n m e = cc
+
+module _ (L : LaidSchema) (most : Bounds) (raw : Bool) (b : Bytes) (made : IsWellMade L) where
+  -- refused by the header
+  pub refused_front : (f : ReadFault) → header_fault b (checked_identifier L raw) ≡ Some f → Refuses L most raw b f
+  refused_front f fails = outcome_shown L most raw b (Some f) made (rw fails refl)
+
+  -- refused behind a header that keeps its rules
+  pub refused_root : (f : ReadFault) → header_fault b (checked_identifier L raw) ≡ None
+      → visit L b most (root_place L) 0 0 ≡ Err f → Refuses L most raw b f
+  unfolding visit
+  refused_root f header fails = outcome_shown L most raw b (Some f) made
+      (rw header (err_told (fault_from L b most (root_place L) 0 0) _ f fails))
+
+  -- A value is held.
+  pub held_root : (n : ℕ) → header_fault b (checked_identifier L raw) ≡ None → visit L b most (root_place L) 0 0 ≡ Ok n
+      → (v : Datum) × Holds L most raw b v
+  unfolding visit
+  held_root n header fine =
+      (outcome_shown L most raw b None made (rw header (ok_told (fault_from L b most (root_place L) 0 0) _ n fine))).1
+
+  -- What lies in the root table.
+  pub view_lies : (n t at : ℕ) → header_fault b (checked_identifier L raw) ≡ None
+      → visit L b most (root_place L) 0 0 ≡ Ok n → t ≡ L.schema.root → at ≡ num b 0 4
+      → (d : Datum) × Lies L b (part_place (table_part t)) at d
+  view_lies n t at header fine root place =
+      let held = held_root n header fine in
+      let here : 0 + num b 0 4 ≡ num b 0 4 = omega arith in
+      (held.0, rw (root, place) (rw here at held.1.lies.1))

@@ -1,0 +1,2 @@
+-- What the proofs of src/rules.rt use.
+pub mod InlineEndsWithinTheBytes

@@ -1,0 +1,2 @@
+-- What the proofs of src/source.rt use.
+pub mod AlignmentsArePositive

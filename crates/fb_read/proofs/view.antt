@@ -1,0 +1,3 @@
+-- What the proofs of src/view.rt use.
+pub mod AccessorsReadTheEntry
+pub mod ViewHasAVtable

@@ -1,7 +1,0 @@
-use Rattle.std.proofs.Common.{◌∙◌}
-use Rattle.fb_read.specs.Views.{entry_of}
-use Rattle.fb_read.proofs.Accessed.{unknown_found}
-use Rattle.fb_read.proofs.views.View.other.Goals as goal
-
-pub returns : goal.returns
-returns c d lies = c.unknown.ensures ∙ unknown_found c.args.self.layout.now c.args.self.bytes.now c.stored.result (entry_of d c.args.slot) (c.stored.ensures.stands d lies)
