@@ -18,20 +18,26 @@ pub returns-clause-holds : goal.returns-clause-holds
 returns-clause-holds c most raw deep small =
     let layout = ap (λ p. p.layout) c.self.view_is in
     let value : a_table c.in-Fields.table.0 (entries_view c.in-Fields.entries.items) ≡ view c.args.self.value =
-    sym (view-Fields c.in-Fields.table c.in-Fields.entries) ∙ ap view (sym c.in-Fields.is) ∙ ap (λ p. view p.value) c.self.view_is in
+    sym (view-Fields c.in-Fields.table c.in-Fields.entries) ∙ ap view (sym c.in-Fields.is)
+    ∙ ap (λ p. view p.value) c.self.view_is in
     let deep2 = subst (λ (d : Datum). depth d ≤ most.depth) (sym value) deep in
     let small2 = subst (λ (d : Datum). cells d ≤ most.cells) (sym value) small in
-    let holds = subst (λ (d : Datum). Holds c.self.inside.layout.now most raw c.fill.result.items d) value (c.fill.ensures.holds most raw deep2 small2) in
+    let holds = subst (λ (d : Datum). Holds c.self.inside.layout.now most raw c.fill.result.items d) value
+    (c.fill.ensures.holds most raw deep2 small2) in
     subst (λ (L : LaidSchema). Holds L most raw c.fill.result.items (view c.args.self.value)) layout holds
 
 pub returns-clause-old_slots : goal.returns-clause-old_slots
-returns-clause-old_slots c = subst (λ (L : LaidSchema). OnlyOld L c.fill.result.items) (ap (λ p. p.layout) c.self.view_is) c.fill.ensures.old_slots
+returns-clause-old_slots c = subst (λ (L : LaidSchema). OnlyOld L c.fill.result.items)
+    (ap (λ p. p.layout) c.self.view_is) c.fill.ensures.old_slots
 
 pub fill-requires-clause-known : goal.fill-requires-clause-known
-fill-requires-clause-known c = rw (c.in-Fields.is, view-Fields c.in-Fields.table c.in-Fields.entries) at c.self.invariant.known
+fill-requires-clause-known c =
+    rw (c.in-Fields.is, view-Fields c.in-Fields.table c.in-Fields.entries) at c.self.invariant.known
 
 pub returns-clause-covered : goal.returns-clause-covered
-returns-clause-covered c = subst (λ (L : LaidSchema). Covered L c.fill.result.items) (ap (λ p. p.layout) c.self.view_is) c.fill.ensures.covered
+returns-clause-covered c = subst (λ (L : LaidSchema). Covered L c.fill.result.items) (ap (λ p. p.layout) c.self.view_is)
+    c.fill.ensures.covered
 
 pub returns-clause-aligned : goal.returns-clause-aligned
-returns-clause-aligned c = subst (λ (L : LaidSchema). EndsAligned L c.fill.result.items) (ap (λ p. p.layout) c.self.view_is) c.fill.ensures.aligned
+returns-clause-aligned c = subst (λ (L : LaidSchema). EndsAligned L c.fill.result.items)
+    (ap (λ p. p.layout) c.self.view_is) c.fill.ensures.aligned

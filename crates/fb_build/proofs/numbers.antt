@@ -1,0 +1,3 @@
+pub mod BoolIsZeroOrOne
+pub mod BytesSumToTheirNumber
+pub mod NumberReadsBack
