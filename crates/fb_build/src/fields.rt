@@ -15,6 +15,7 @@ ghost use Rattle.fb_build.specs.Fields.{stored_below, slots_seen, entries_seen, 
 ghost use Rattle.fb_build.specs.Fields.{fields_size, size_above, slot_seen, entry_stored, shape_seen};
 ghost use Rattle.fb_build.specs.FieldEnds.{AreCounted};
 ghost use Rattle.fb_build.specs.Filled.{AreFilled};
+ghost use Rattle.fb_build.specs.FieldsLaid.{AreFieldsLaid};
 
 use crate::numbers::lay_number;
 use crate::places::lay_place;
@@ -321,25 +322,14 @@ pub(crate) fn lay_fields(
         (slots_seen layout.now slots.now) (stored_seen layout.now slots.now entries.now) ends.old }
     requires room { stored_room layout.now (slots_seen layout.now slots.now)
         (stored_seen layout.now slots.now entries.now) ≤ out.old.free }
-    ensures each { length ends.new ≡ length slots.now }
-    ensures state { EntriesEnd layout.now result out.new.most out.new.bytes (λ k f. true)
-        (slots_seen layout.now slots.now) (stored_seen layout.now slots.now entries.now) ends.new }
-    ensures filled { AreFilled layout.now result (length out.new.bytes) (λ k f. true)
-        (slots_seen layout.now slots.now) (stored_seen layout.now slots.now entries.now) ends.new }
+    ensures laid { AreFieldsLaid layout.now out.new (slots_seen layout.now slots.now)
+        (stored_seen layout.now slots.now entries.now) result ends.new }
     ensures leads { FieldsLead out.new.bytes (λ k f. true) (slots_seen layout.now slots.now)
         (stored_seen layout.now slots.now entries.now) ends.old ends.new }
     ensures front { FieldsFront out.old out.new result (max 4 (stored_align layout.now
         (slots_seen layout.now slots.now) (stored_seen layout.now slots.now entries.now))) }
-    ensures counted { AreCounted layout.now result (λ k f. true) (slots_seen layout.now slots.now)
-        (stored_seen layout.now slots.now entries.now) ends.new }
     ensures bound { out.new.most ≤ max out.old.most (greatest layout.now) }
     ensures grows { Grows out.old out.new }
-    ensures wide { divides 4 out.new.most ≡ true }
-    ensures start { result ≤ length out.new.bytes }
-    ensures whole { result % 4 ≡ 0 }
-    ensures size { length out.new.bytes ≡ result
-        + fields_size layout.now (slots_seen layout.now slots.now)
-        (stored_seen layout.now slots.now entries.now) }
     ensures spent { out.old.free ≤ out.new.free + stored_room layout.now (slots_seen layout.now slots.now)
         (stored_seen layout.now slots.now entries.now) }
 {

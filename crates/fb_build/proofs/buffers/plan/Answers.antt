@@ -53,7 +53,6 @@ invariant_of-result c =
     let known : VtablesKnown L (map (λ k. k.items) c.add_table.new.known.keys) (view c.args.value.now) =
     rw (c.in-Fields.is, view-Fields c.in-Fields.table c.in-Fields.entries) c.in_ok-waiting.ensures.known in
     record {
-      sliced = (all_known c.args.layout.now c.schema-schema.ensures.made);
       fits = (root_fits L _ c.schema-schema.ensures.made).0 c.requires.fits;
       whole = c.requires.whole;
       zeros = zeros_in _ _ block;

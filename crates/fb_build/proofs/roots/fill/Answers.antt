@@ -10,6 +10,7 @@ use Rattle.std.proofs.Common.{ℕ, ◌-◌, [], map, subst, append-nil}
 use Rattle.fb_value.specs.Lies.{LiesAt}
 use Rattle.fb_value.specs.Places.{part_place, ref_place, table_part}
 use Rattle.fb_value.proofs.TailsKept.{whole_shown}
+use Rattle.fb_build.specs.Builders.{vtables_in}
 use Rattle.fb_build.specs.CoveredTails.{parts_in_tail}
 use Rattle.fb_build.specs.Made.{IsMade}
 use Rattle.fb_build.specs.Tails.{LaidInTail}
@@ -18,8 +19,9 @@ use Rattle.fb_build.proofs.roots.fill.Goals as goal
 
 pub lay_reference-requires-clause-whole : goal.lay_reference-requires-clause-whole
 lay_reference-requires-clause-whole c =
-    let table = c.lay_table-place.new.out in
-    let four : divides 4 table.most ≡ true = rw c.new-out.ensures.most at c.lay_table-place.ensures.grows.multiple in
+    let table = c.lay_table-place.new.builder.tail in
+    let four : divides 4 table.most ≡ true =
+    rw c.requires.fresh.most at c.lay_table-place.ensures.builds.grows.multiple in
     let all : divides table.most (length c.lay_identifier.new.out.bytes + 4) ≡ true =
     eq-eqb _ _ c.lay_identifier.ensures.multiple in
     let rest = eqb-true _ _ (through 4 table.most (length c.lay_identifier.new.out.bytes + 4) four all) in
@@ -29,7 +31,7 @@ pub returns-clause-holds : goal.returns-clause-holds
 returns-clause-holds c most raw deep small =
     let L = c.args.layout.now in
     let d = a_table c.args.table.0 (entries_view c.args.entries.now.items) in
-    let table = c.lay_table-place.new.out in
+    let table = c.lay_table-place.new.builder.tail in
     let tail = c.lay_identifier.new.out in
     let end = c.lay_reference.new.out in
     let same : end.most ≡ table.most = c.lay_reference.ensures.most ∙ c.lay_identifier.ensures.most in
@@ -51,7 +53,7 @@ pub returns-clause-old_slots : goal.returns-clause-old_slots
 returns-clause-old_slots c =
     let L = c.args.layout.now in
     let d = a_table c.args.table.0 (entries_view c.args.entries.now.items) in
-    let table = c.lay_table-place.new.out in
+    let table = c.lay_table-place.new.builder.tail in
     let tail = c.lay_identifier.new.out in
     let end = c.lay_reference.new.out in
     let same : end.most ≡ table.most = c.lay_reference.ensures.most ∙ c.lay_identifier.ensures.most in
@@ -62,21 +64,17 @@ returns-clause-old_slots c =
     c.lay_identifier.ensures.grows c.lay_table-place.ensures.lies (λ X. c.lay_reference.ensures.lies L X d) in
     rw c.into_bytes.ensures (whole_old L end.most end.bytes d whole rooted)
 
-pub lay_table-place-requires-clause-shared : goal.lay_table-place-requires-clause-shared
-lay_table-place-requires-clause-shared c =
-    record { each = c.requires.each; stand = λ i vt is some. absurd (omega (arith, c.requires.none_laid i, some)) }
-
 pub returns-clause-covered : goal.returns-clause-covered
 returns-clause-covered c =
     let L = c.args.layout.now in
     let t = c.args.table.0 in
     let d = a_table t (entries_view c.args.entries.now.items) in
-    let table = c.lay_table-place.new.out in
+    let table = c.lay_table-place.new.builder.tail in
     let tail = c.lay_identifier.new.out in
     let end = c.lay_reference.new.out in
     let e = c.lay_table-place.result in
-    let places = c.lay_table-place.new.places in
-    let keys = map (λ k. k.items) c.args.known.now.keys in
+    let places = c.lay_table-place.new.builder.places.items in
+    let keys = vtables_in c.args.builder in
     let same : end.most ≡ table.most = c.lay_reference.ensures.most ∙ c.lay_identifier.ensures.most in
     let all : divides end.most (length end.bytes) ≡ true =
     rw same (eq-eqb _ _ (ap (λ n. n % table.most) c.lay_reference.ensures.long
@@ -89,8 +87,8 @@ returns-clause-covered c =
     (whole_shown L end.most end.bytes (ref_place (table_part L.schema.root)) (length end.bytes) d all
     rooted.lies) in
     let made = c.lay_table-place.ensures.adds []
-    (made_of_nothing L c.new-out.result c.args.places.now c.new-out.ensures.bytes c.new-out.ensures.most
-    c.requires.none_laid) in
+    (made_of_nothing L c.args.builder.tail c.args.builder.places.items c.requires.fresh.bytes
+    c.requires.fresh.most c.requires.fresh.none_laid) in
     let own : IsMade L table places (parts_in_tail L table.bytes (table_part t) e d) =
     rw (append-nil (parts_in_tail L table.bytes (table_part t) e d)) at made in
     let whole : IsWhole L table tail end.bytes e d keys places = record {
@@ -98,7 +96,7 @@ returns-clause-covered c =
           c.lay_table-place.ensures.lies;
       made = subst (λ (n : ℕ). IsMade L table places (parts_in_tail L table.bytes (table_part n) e d)) c.requires.root
           own;
-      shared = c.lay_table-place.ensures.shared;
+      shared = rw (← c.lay_table-place.ensures.builds.same) c.lay_table-place.ensures.builds.ready.laid;
       different = c.requires.different;
       header = c.lay_identifier.ensures.header;
       identified = c.schema-schema.ensures.made.declared.identifier;
@@ -115,12 +113,12 @@ returns-clause-aligned c =
     let L = c.args.layout.now in
     let t = c.args.table.0 in
     let d = a_table t (entries_view c.args.entries.now.items) in
-    let table = c.lay_table-place.new.out in
+    let table = c.lay_table-place.new.builder.tail in
     let tail = c.lay_identifier.new.out in
     let end = c.lay_reference.new.out in
     let e = c.lay_table-place.result in
-    let places = c.lay_table-place.new.places in
-    let keys = map (λ k. k.items) c.args.known.now.keys in
+    let places = c.lay_table-place.new.builder.places.items in
+    let keys = vtables_in c.args.builder in
     let same : end.most ≡ table.most = c.lay_reference.ensures.most ∙ c.lay_identifier.ensures.most in
     let all : divides end.most (length end.bytes) ≡ true =
     rw same (eq-eqb _ _ (ap (λ n. n % table.most) c.lay_reference.ensures.long
@@ -133,8 +131,8 @@ returns-clause-aligned c =
     (whole_shown L end.most end.bytes (ref_place (table_part L.schema.root)) (length end.bytes) d all
     rooted.lies) in
     let made = c.lay_table-place.ensures.adds []
-    (made_of_nothing L c.new-out.result c.args.places.now c.new-out.ensures.bytes c.new-out.ensures.most
-    c.requires.none_laid) in
+    (made_of_nothing L c.args.builder.tail c.args.builder.places.items c.requires.fresh.bytes
+    c.requires.fresh.most c.requires.fresh.none_laid) in
     let own : IsMade L table places (parts_in_tail L table.bytes (table_part t) e d) =
     rw (append-nil (parts_in_tail L table.bytes (table_part t) e d)) at made in
     let whole : IsWhole L table tail end.bytes e d keys places = record {
@@ -142,7 +140,7 @@ returns-clause-aligned c =
           c.lay_table-place.ensures.lies;
       made = subst (λ (n : ℕ). IsMade L table places (parts_in_tail L table.bytes (table_part n) e d)) c.requires.root
           own;
-      shared = c.lay_table-place.ensures.shared;
+      shared = rw (← c.lay_table-place.ensures.builds.same) c.lay_table-place.ensures.builds.ready.laid;
       different = c.requires.different;
       header = c.lay_identifier.ensures.header;
       identified = c.schema-schema.ensures.made.declared.identifier;

@@ -12,7 +12,7 @@ use Rattle.fb_build.proofs.plans.Plan.finish.Goals as goal
 pub fill-requires-clause-pending : goal.fill-requires-clause-pending
 fill-requires-clause-pending c =
     let pending = rw (c.in-Fields.is, view-Fields c.in-Fields.table c.in-Fields.entries) at c.self.invariant.pending in
-    omega (arith, pending, c.as_mut_slice-2.ensures.len)
+    omega (arith, pending, c.as_mut_slice.ensures.len)
 
 pub returns-clause-holds : goal.returns-clause-holds
 returns-clause-holds c most raw deep small =
@@ -30,8 +30,8 @@ pub returns-clause-old_slots : goal.returns-clause-old_slots
 returns-clause-old_slots c = subst (λ (L : LaidSchema). OnlyOld L c.fill.result.items)
     (ap (λ p. p.layout) c.self.view_is) c.fill.ensures.old_slots
 
-pub fill-requires-clause-known : goal.fill-requires-clause-known
-fill-requires-clause-known c =
+pub fill-requires-clause-vtables : goal.fill-requires-clause-vtables
+fill-requires-clause-vtables c =
     rw (c.in-Fields.is, view-Fields c.in-Fields.table c.in-Fields.entries) at c.self.invariant.known
 
 pub returns-clause-covered : goal.returns-clause-covered
@@ -41,3 +41,16 @@ returns-clause-covered c = subst (λ (L : LaidSchema). Covered L c.fill.result.i
 pub returns-clause-aligned : goal.returns-clause-aligned
 returns-clause-aligned c = subst (λ (L : LaidSchema). EndsAligned L c.fill.result.items)
     (ap (λ p. p.layout) c.self.view_is) c.fill.ensures.aligned
+
+pub fill-requires-clause-ready : goal.fill-requires-clause-ready
+fill-requires-clause-ready c = record {
+  laid = record {
+    each = sym c.self.invariant.places;
+    stand = λ i vt is some. absurd (omega (arith, c.self.invariant.none_laid i, some));
+  };
+  long = c.self.invariant.scratch;
+}
+
+pub fill-requires-clause-fresh : goal.fill-requires-clause-fresh
+fill-requires-clause-fresh c =
+    record { bytes = c.new.ensures.bytes; most = c.new.ensures.most; none_laid = c.self.invariant.none_laid }
