@@ -45,7 +45,7 @@ put_vtable-slots-requires-clause-under c k =
     let under = ends_under L c.args.start c.args.builder.now.tail.most c.args.builder.now.tail.bytes
     (slots_of L c.args.table.0)
     (stored_in (slots_of L c.args.table.0) (entries_seen c.args.entries.now)) c.args.ends.now c.requires.fits.known
-    c.requires.laid.each c.requires.laid.state k in
+    c.requires.laid.slots.each c.requires.laid.slots.state k in
     let long = grown_long c.args.builder.now.tail c.pad.new.self c.pad.ensures.grows in
     omega (arith, under, long, c.pad.ensures.free, c.count.ensures.exact)
 
@@ -55,7 +55,7 @@ put_vtable-slots-requires-clause-fits c k =
     let high = ends_high L c.args.start c.args.builder.now.tail.most c.args.builder.now.tail.bytes
     (slots_of L c.args.table.0)
     (stored_in (slots_of L c.args.table.0) (entries_seen c.args.entries.now)) c.args.ends.now c.requires.fits.known
-    c.requires.laid.each c.requires.laid.state k in
+    c.requires.laid.slots.each c.requires.laid.slots.state k in
     let long = grown_long c.args.builder.now.tail c.pad.new.self c.pad.ensures.grows in
     offset_small (c.count.result + 4) (slice_index c.args.ends.now k) c.args.start high
     (omega (arith, long, c.pad.ensures.free, c.pad.ensures.under, c.count.ensures.exact, c.requires.narrow))
@@ -90,8 +90,8 @@ returns-clause-lies c =
     let padded = grown_long o c.pad.new.self c.pad.ensures.grows in
     let long = grown_long c.pad.new.self n c.lay_vtable.ensures.grows in
     let high = ends_high L c.args.start o.most o.bytes fs (stored_in fs xs) ends c.requires.fits.known
-    c.requires.laid.each
-    c.requires.laid.state in
+    c.requires.laid.slots.each
+    c.requires.laid.slots.state in
     let most : divides 4 n.most ≡ true = rw c.lay_vtable.ensures.most c.pad.ensures.wide in
     let stands : VtableEnd n.bytes place (vtable_bytes place size u ends) =
     subst (λ (i : ℕ). VtableEnd n.bytes i (vtable_bytes place size u ends)) same
@@ -110,8 +110,8 @@ returns-clause-lies c =
     c.put_vtable-slots.ensures.rest
     (λ k. offset_small place (slice_index ends k) c.args.start (high k)
     (omega (arith, padded, c.pad.ensures.free, c.pad.ensures.under, c.count.ensures.exact, c.requires.narrow)))
-    c.args.table.0 xs c.requires.laid.each c.requires.fits.long c.requires.fits.paired c.requires.fits.fits
-    c.requires.fits.known c.requires.laid.state
+    c.args.table.0 xs c.requires.laid.slots.each c.requires.fits.long c.requires.fits.paired c.requires.fits.fits
+    c.requires.fits.known c.requires.laid.slots.state
     (omega (arith, padded, c.pad.ensures.free, c.pad.ensures.under, c.count.ensures.exact, c.requires.narrow))
     (last_used u ends c.put_vtable-slots.ensures.last)
     (omega (
@@ -124,7 +124,8 @@ returns-clause-lies c =
       c.requires.laid.size,
       c.count.ensures.exact,
     ))
-    (omega (arith, padded, c.pad.ensures.free, c.requires.laid.within, c.count.ensures.exact)) c.requires.laid.filled
+    (omega (arith, padded, c.pad.ensures.free, c.requires.laid.within, c.count.ensures.exact))
+    c.requires.laid.slots.filled
     (omega (arith, padded, c.pad.ensures.free, c.count.ensures.exact))
     (λ e over low. zeros_stay c.pad.new.self n o.bytes c.pad.result e c.pad.ensures.bytes c.lay_vtable.ensures.grows
     over (omega (arith, low, c.count.ensures.exact))))
@@ -151,8 +152,9 @@ lay_vtable-requires-clause-key c =
     let is = (read_back c.args.builder.now.scratch c.put_vtable-slots.new.scratch c.deref.result.now _
     (4 + 2 * c.put_vtable-slots.result) c.deref.ensures.value
     (c.put_vtable-slots.ensures.long ∙ ap length c.as_mut_slice-scratch.ensures.value) c.put_vtable-slots.ensures.there)
-    ∙ vtable_is_of L c.args.start fs xs c.args.ends.now c.requires.fits.known c.requires.laid.each
-    c.requires.laid.counted (λ k f x fk xk out. (c.requires.laid.state k f x fk xk).absent out) (c.count.result + 4)
+    ∙ vtable_is_of L c.args.start fs xs c.args.ends.now c.requires.fits.known c.requires.laid.slots.each
+    c.requires.laid.slots.counted (λ k f x fk xk out. (c.requires.laid.slots.state k f x fk xk).absent out)
+    (c.count.result + 4)
     c.put_vtable-slots.result place put.within put.rest put.last in
     let whole : vtable_of L c.args.table.0 (entries_view c.args.entries.now) ≡ table_vtable L fs xs =
     ap (λ (zs : List (Option Datum)). table_vtable L fs (stored_in fs zs)) (listed ys) in
@@ -175,8 +177,9 @@ returns-clause-leads c targets leads =
     let grows = then_grows _ _ _ c.pad.ensures.grows c.lay_vtable.ensures.grows in
     let padded = grown_long o c.pad.new.self c.pad.ensures.grows in
     let long = grown_long c.pad.new.self n c.lay_vtable.ensures.grows in
-    let high = ends_high L start o.most o.bytes fs (stored_in fs xs) ends c.requires.fits.known c.requires.laid.each
-    c.requires.laid.state in
+    let high = ends_high L start o.most o.bytes fs (stored_in fs xs) ends c.requires.fits.known
+    c.requires.laid.slots.each
+    c.requires.laid.slots.state in
     let most : divides 4 n.most ≡ true = rw c.lay_vtable.ensures.most c.pad.ensures.wide in
     let behind : length o.bytes < place = omega (arith, padded, c.pad.ensures.free, c.count.ensures.exact) in
     let within : place ≤ length n.bytes = omega (arith, same, c.lay_vtable.ensures.inside) in
@@ -198,7 +201,7 @@ returns-clause-leads c targets leads =
     let read = table_read L start place size u o n ends grows behind within four most (through 2 4 n.most refl most)
     short stands c.put_vtable-slots.ensures.within few c.put_vtable-slots.ensures.rest fits low_size in
     rw same (table_leads L start place size u o n ends grows behind within read t xs targets c.requires.fits.long
-    c.requires.fits.paired c.requires.fits.fits c.requires.fits.known c.requires.laid.state leads)
+    c.requires.fits.paired c.requires.fits.fits c.requires.fits.known c.requires.laid.slots.state leads)
 
 pub returns-clause-adds : goal.returns-clause-adds
 returns-clause-adds c a front =
@@ -217,8 +220,9 @@ returns-clause-adds c a front =
     let grows = then_grows _ _ _ c.pad.ensures.grows c.lay_vtable.ensures.grows in
     let padded = grown_long o c.pad.new.self c.pad.ensures.grows in
     let long = grown_long c.pad.new.self n c.lay_vtable.ensures.grows in
-    let high = ends_high L start o.most o.bytes fs (stored_in fs xs) ends c.requires.fits.known c.requires.laid.each
-    c.requires.laid.state in
+    let high = ends_high L start o.most o.bytes fs (stored_in fs xs) ends c.requires.fits.known
+    c.requires.laid.slots.each
+    c.requires.laid.slots.state in
     let most : divides 4 n.most ≡ true = rw c.lay_vtable.ensures.most c.pad.ensures.wide in
     let behind : length o.bytes < place = omega (arith, padded, c.pad.ensures.free, c.count.ensures.exact) in
     let within : place ≤ length n.bytes = omega (arith, same, c.lay_vtable.ensures.inside) in
@@ -271,8 +275,8 @@ returns-clause-adds c a front =
       arith,
       behind,
       ends_under L start o.most o.bytes fs zs ends c.requires.fits.known
-          c.requires.laid.each
-          c.requires.laid.state k,
+          c.requires.laid.slots.each
+          c.requires.laid.slots.state k,
     ) in
     let lies : LaidInTail L n.most n.bytes (part_place (table_part t)) place
     (a_table t (entries_view c.args.entries.now)) =
@@ -287,7 +291,7 @@ returns-clause-adds c a front =
       here = ap (λ i. i + 4) c.count.ensures.exact;
       size = laid_size L n.bytes t (length n.bytes - place) place size u ends read;
       own = ap (λ i. max 4 i) (laid_align L start o.most place o.bytes n.bytes t (length n.bytes - place) size u zs ends
-          c.requires.fits.known.long c.requires.laid.state below read);
+          c.requires.fits.known.long c.requires.laid.slots.state below read);
       stay = table_stays (from_end n.bytes n.most) L n.bytes t (length n.bytes - place) lies.lies.lies.0;
     } in
     let vt_long = vtable_long place size u ends c.put_vtable-slots.ensures.within in
