@@ -106,48 +106,7 @@ returns-clause-covered c =
       leads = c.lay_reference.ensures.leads;
       there = there;
     } in
-    rw c.into_bytes.ensures (covered_buffer L table tail end.bytes e d keys places whole)
-
-pub returns-clause-aligned : goal.returns-clause-aligned
-returns-clause-aligned c =
-    let L = c.args.layout.now in
-    let t = c.args.table.0 in
-    let d = a_table t (entries_view c.args.entries.now.items) in
-    let table = c.lay_table-place.new.builder.tail in
-    let tail = c.lay_identifier.new.out in
-    let end = c.lay_reference.new.out in
-    let e = c.lay_table-place.result in
-    let places = c.lay_table-place.new.builder.places.items in
-    let keys = vtables_in c.args.builder in
-    let same : end.most ≡ table.most = c.lay_reference.ensures.most ∙ c.lay_identifier.ensures.most in
-    let all : divides end.most (length end.bytes) ≡ true =
-    rw same (eq-eqb _ _ (ap (λ n. n % table.most) c.lay_reference.ensures.long
-    ∙ c.lay_identifier.ensures.multiple)) in
-    let rooted = root_laid L table tail end t e d c.requires.root c.lay_identifier.ensures.grows
-    c.lay_table-place.ensures.lies (λ X. c.lay_reference.ensures.lies L X d) in
-    let zero : length end.bytes - length end.bytes ≡ 0 = omega arith in
-    let there : LiesAt L end.bytes (ref_place (table_part L.schema.root)) 0 d =
-    subst (λ (p : ℕ). LiesAt L end.bytes (ref_place (table_part L.schema.root)) p d) zero
-    (whole_shown L end.most end.bytes (ref_place (table_part L.schema.root)) (length end.bytes) d all
-    rooted.lies) in
-    let made = c.lay_table-place.ensures.adds []
-    (made_of_nothing L c.args.builder.tail c.args.builder.places.items c.requires.fresh.bytes
-    c.requires.fresh.most c.requires.fresh.none_laid) in
-    let own : IsMade L table places (parts_in_tail L table.bytes (table_part t) e d) =
-    rw (append-nil (parts_in_tail L table.bytes (table_part t) e d)) at made in
-    let whole : IsWhole L table tail end.bytes e d keys places = record {
-      laid = subst (λ (n : ℕ). LaidInTail L table.most table.bytes (part_place (table_part n)) e d) c.requires.root
-          c.lay_table-place.ensures.lies;
-      made = subst (λ (n : ℕ). IsMade L table places (parts_in_tail L table.bytes (table_part n) e d)) c.requires.root
-          own;
-      shared = rw (← c.lay_table-place.ensures.builds.same) c.lay_table-place.ensures.builds.ready.laid;
-      different = c.requires.different;
-      header = c.lay_identifier.ensures.header;
-      identified = c.schema-schema.ensures.made.declared.identifier;
-      four = c.lay_reference.ensures.grows.front;
-      four_long = omega (arith, c.lay_reference.ensures.grows.spent, c.lay_reference.ensures.free);
-      bytes = c.lay_reference.ensures.grows.grown;
-      leads = c.lay_reference.ensures.leads;
-      there = there;
-    } in
-    rw c.into_bytes.ensures (aligned_buffer L table tail end.bytes e d keys places whole (rw same at all))
+    rw c.into_bytes.ensures (
+      covered_buffer L table tail end.bytes e d keys places whole,
+      aligned_buffer L table tail end.bytes e d keys places whole (rw same at all),
+    )

@@ -36,11 +36,11 @@ fill-requires-clause-vtables c =
 
 pub returns-clause-covered : goal.returns-clause-covered
 returns-clause-covered c = subst (λ (L : LaidSchema). Covered L c.fill.result.items) (ap (λ p. p.layout) c.self.view_is)
-    c.fill.ensures.covered
+    c.fill.ensures.covered.0
 
 pub returns-clause-aligned : goal.returns-clause-aligned
 returns-clause-aligned c = subst (λ (L : LaidSchema). EndsAligned L c.fill.result.items)
-    (ap (λ p. p.layout) c.self.view_is) c.fill.ensures.aligned
+    (ap (λ p. p.layout) c.self.view_is) c.fill.ensures.covered.1
 
 pub fill-requires-clause-ready : goal.fill-requires-clause-ready
 fill-requires-clause-ready c = record {
