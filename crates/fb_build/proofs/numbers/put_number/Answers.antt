@@ -5,7 +5,7 @@ use Rattle.fb_schema.specs.Alignments.{base_size}
 use Rattle.fb_value.specs.Num.{num}
 use Rattle.fb_build.specs.Stored.{IsBit}
 use Rattle.fb_build.proofs.numbers.BoolIsZeroOrOne.{no_bit}
-use Rattle.fb_build.proofs.fields.FieldHasItsValue.{number_reads, byte_reads, eight_left}
+use Rattle.fb_build.proofs.numbers.NumberFitsItsSize.{number_reads, byte_reads, eight_left}
 use Rattle.fb_build.proofs.numbers.put_number.Goals as goal
 
 pub returns-in-1-clause-reads : goal.returns-in-1-clause-reads

@@ -6,7 +6,7 @@ use Rattle.fb_value.specs.Num.{Bytes, divides}
 use Rattle.fb_value.specs.View.{entries_view}
 use Rattle.fb_build.proofs.roots.TailWithItsRootIsABuffer.{IsIdentified, identified_behind, root_laid, whole_holds}
 use Rattle.fb_build.proofs.roots.TailWithItsRootIsABuffer.{whole_old}
-use Rattle.std.proofs.Common.{ℕ, ◌-◌, [], map, subst, append-nil}
+use Rattle.std.proofs.Common.{ℕ, ◌-◌, [], subst, append-nil}
 use Rattle.fb_value.specs.Lies.{LiesAt}
 use Rattle.fb_value.specs.Places.{part_place, ref_place, table_part}
 use Rattle.fb_value.proofs.TailsKept.{whole_shown}

@@ -7,7 +7,8 @@ use Rattle.fb_value.specs.Places.{inline_place}
 use Rattle.fb_value.specs.View.{view}
 use Rattle.fb_build.specs.Fields.{scalar_in, number_in}
 use Rattle.fb_build.specs.Tails.{LaidInTail}
-use Rattle.fb_build.proofs.fields.FieldHasItsValue.{number_fits, number_element, same_wide}
+use Rattle.fb_build.proofs.fields.FieldHasItsValue.{number_fits, number_element}
+use Rattle.fb_build.proofs.numbers.NumberFitsItsSize.{same_wide}
 use Rattle.fb_build.proofs.covered.ReferenceLeadsThereFurtherOn.{number_leads_nowhere}
 use Rattle.fb_build.proofs.vectors.lay_element.Goals as goal
 
