@@ -14,8 +14,8 @@ pub record IsLaidSlot (done : ℕ → Slot → Bool) (fs : List Slot) (xs : List
   pub laid : done k f ≡ true
 
 -- The byte e before the end is one of a stored field that is laid.
-pub record IsFilled (L : LaidSchema) (done : ℕ → Slot
-    → Bool) (fs : List Slot) (xs : List (Option Datum)) (ends : List ℕ) (e : ℕ) : Type 0 where
+pub record IsFilled (L : LaidSchema)
+    (done : ℕ → Slot → Bool) (fs : List Slot) (xs : List (Option Datum)) (ends : List ℕ) (e : ℕ) : Type 0 where
   pub slot : ℕ
   pub field : Slot
   pub entry : Option Datum
@@ -25,8 +25,8 @@ pub record IsFilled (L : LaidSchema) (done : ℕ → Slot
 
 -- The fields that are laid fill what stands in front of the last `start` of `count` bytes: each byte is one of a field,
 -- and no two fields share one.
-pub record AreFilled (L : LaidSchema) (start count : ℕ) (done : ℕ → Slot
-    → Bool) (fs : List Slot) (xs : List (Option Datum)) (ends : List ℕ) : Type 0 where
+pub record AreFilled (L : LaidSchema) (start count : ℕ)
+    (done : ℕ → Slot → Bool) (fs : List Slot) (xs : List (Option Datum)) (ends : List ℕ) : Type 0 where
   pub each : (e : ℕ) → start < e → e ≤ count → IsFilled L done fs xs ends e
   pub between : (k : ℕ) (f : Slot) (x : Option Datum) → IsLaidSlot done fs xs k f x
       → (start + inline_size L f.shape ≤ slice_index ends k) × (slice_index ends k ≤ count)

@@ -66,8 +66,9 @@ EachEnd P test fs xs ends = (k : ℕ) (f : Slot) (x : Option Datum) → slice_ge
     → P k f x (is_stored f x && test k f) (slice_index ends k)
 
 -- once slot k is passed, whose end-count alone may be another
-pub end_passed : (P : ℕ → Slot → Option Datum → Bool → ℕ
-    → Type 0) (L : LaidSchema) (a k e : ℕ) (fs : List Slot) (xs : List (Option Datum)) (ends others : List ℕ)
+pub end_passed :
+    (P : ℕ → Slot → Option Datum → Bool → ℕ → Type 0) (L : LaidSchema) (a k e : ℕ) (fs : List Slot)
+    (xs : List (Option Datum)) (ends others : List ℕ)
     (f0 : Slot) (x0 : Option Datum)
     → slice_index others k ≡ e → ((j : ℕ) → (j ≡ k → ⊥) → slice_index others j ≡ slice_index ends j)
     → slice_get fs k ≡ Some f0 → slice_get xs k ≡ Some x0 → P k f0 x0 (is_stored f0 x0 && from L a f0) e
@@ -96,8 +97,9 @@ end_passed P L a k e fs xs ends others f0 x0 own rest fk xk now before j f x fj 
     by_case (inr ne) = rw (test_other ne, rest j ne) (before j f x fj xj)
 
 -- where it isn't at this alignment
-pub end_skipped : (P : ℕ → Slot → Option Datum → Bool → ℕ
-    → Type 0) (L : LaidSchema) (a k : ℕ) (fs : List Slot) (xs : List (Option Datum)) (ends : List ℕ) (f : Slot)
+pub end_skipped :
+    (P : ℕ → Slot → Option Datum → Bool → ℕ → Type 0) (L : LaidSchema) (a k : ℕ) (fs : List Slot)
+    (xs : List (Option Datum)) (ends : List ℕ) (f : Slot)
     (x : Option Datum) → slice_get fs k ≡ Some f → slice_get xs k ≡ Some x → is_at L a f x ≡ false
     → EachEnd P (λ j f. cond (nat_lt j k) (from L a f) (above L a f)) fs xs ends
     → EachEnd P (λ j f. cond (nat_lt j (k + 1)) (from L a f) (above L a f)) fs xs ends
@@ -114,8 +116,9 @@ end_skipped P L a k fs xs ends f x fk xk out before =
     test_now = let test : nat_lt k k ≡ false = grind (arith, nat_tests) in rw test at (before k f x fk xk)
 
 -- where it is, and its end-count is put there
-pub end_put : (P : ℕ → Slot → Option Datum → Bool → ℕ
-    → Type 0) (L : LaidSchema) (a k e : ℕ) (fs : List Slot) (xs : List (Option Datum)) (ends : List ℕ) (f : Slot)
+pub end_put :
+    (P : ℕ → Slot → Option Datum → Bool → ℕ → Type 0) (L : LaidSchema) (a k e : ℕ) (fs : List Slot)
+    (xs : List (Option Datum)) (ends : List ℕ) (f : Slot)
     (x : Option Datum) → k < length ends → slice_get fs k ≡ Some f → slice_get xs k ≡ Some x
     → is_stored f x ≡ true → inline_align L f.shape ≡ a → P k f x true e
     → EachEnd P (λ j f. cond (nat_lt j k) (from L a f) (above L a f)) fs xs ends
@@ -127,8 +130,8 @@ end_put P L a k e fs xs ends f x under fk xk is at now before =
     (λ j ne. get_or-set_other ends k j e 0 ne) fk xk (subst (λ (t : Bool). P k f x t e) (sym test) now) before
 
 -- the same under another test that says the same of what is stored
-pub end_retested : (P : ℕ → Slot → Option Datum → Bool → ℕ → Type 0) (t u : ℕ → Slot
-    → Bool) (fs : List Slot) (xs : List (Option Datum)) (ends : List ℕ)
+pub end_retested : (P : ℕ → Slot → Option Datum → Bool → ℕ → Type 0)
+    (t u : ℕ → Slot → Bool) (fs : List Slot) (xs : List (Option Datum)) (ends : List ℕ)
     → ((k : ℕ) (f : Slot) (x : Option Datum) → slice_get fs k ≡ Some f → slice_get xs k ≡ Some x → is_stored f x ≡ true
     → t k f ≡ u k f)
     → EachEnd P t fs xs ends → EachEnd P u fs xs ends

@@ -319,15 +319,15 @@ more_divides a n k h e =
     eq-eqb _ _ (ap (λ x. x % a) (e ∙ one) ∙ add-mul-mod_self_left n a 1 ∙ eqb-true _ _ h)
 
 -- under tests that say the same
-pub entries_tested : (L : LaidSchema) (low : ℕ) (m : ℕ) (s : Bytes) (t u : ℕ → Slot
-    → Bool) (fs : List Slot) (xs : List (Option Datum)) (ends : List ℕ)
+pub entries_tested : (L : LaidSchema) (low : ℕ) (m : ℕ) (s : Bytes)
+    (t u : ℕ → Slot → Bool) (fs : List Slot) (xs : List (Option Datum)) (ends : List ℕ)
     → ((k : ℕ) (f : Slot) → slice_get fs k ≡ Some f → t k f ≡ u k f)
     → EntriesEnd L low m s t fs xs ends → EntriesEnd L low m s u fs xs ends
 entries_tested L low m s t u fs xs ends same h k f x at there =
     subst (λ (b : Bool). EntryEnd L low m s b f x (slice_index ends k)) (same k f at) (h k f x at there)
 
-pub entries_grown : (L : LaidSchema) (low : ℕ) (a b : TailSeen) (t : ℕ → Slot
-    → Bool) (fs : List Slot) (xs : List (Option Datum)) (ends : List ℕ) → Grows a b
+pub entries_grown : (L : LaidSchema) (low : ℕ) (a b : TailSeen)
+    (t : ℕ → Slot → Bool) (fs : List Slot) (xs : List (Option Datum)) (ends : List ℕ) → Grows a b
     → EntriesEnd L low a.most a.bytes t fs xs ends → EntriesEnd L low b.most b.bytes t fs xs ends
 entries_grown L low a b t fs xs ends g h k f x at there =
     entry_grown L low a b (t k f) f x (slice_index ends k) g (h k f x at there)
@@ -370,8 +370,8 @@ entry_high L low m s f x e h some = by_stored (is_stored f x) refl
     by_stored true is = by_entry x (h.stored is)
     by_stored false out = absurd (omega (arith, h.absent out, some))
 
-pub entries_retested : (L : LaidSchema) (low m : ℕ) (s : Bytes) (t u : ℕ → Slot
-    → Bool) (fs : List Slot) (xs : List (Option Datum)) (ends : List ℕ)
+pub entries_retested : (L : LaidSchema) (low m : ℕ) (s : Bytes)
+    (t u : ℕ → Slot → Bool) (fs : List Slot) (xs : List (Option Datum)) (ends : List ℕ)
     → ((k : ℕ) (f : Slot) (x : Option Datum) → slice_get fs k ≡ Some f → slice_get xs k ≡ Some x → is_stored f x ≡ true
     → t k f ≡ u k f)
     → EntriesEnd L low m s t fs xs ends → EntriesEnd L low m s u fs xs ends

@@ -22,8 +22,8 @@ field_kept a b false f x target e g h = h
 field_kept a b true f None target e g h = tt
 field_kept a b true f (Some d) target e g h = λ is. leads_grown a b (target_for f.shape d) e target g (h is)
 
-pub fields_kept : (a b : TailSeen) (t : ℕ → Slot
-    → Bool) (fs : List Slot) (xs : List (Option Datum)) (targets ends : List ℕ) → Grows a b
+pub fields_kept : (a b : TailSeen)
+    (t : ℕ → Slot → Bool) (fs : List Slot) (xs : List (Option Datum)) (targets ends : List ℕ) → Grows a b
     → FieldsLead a.bytes t fs xs targets ends → FieldsLead b.bytes t fs xs targets ends
 fields_kept a b t fs xs targets ends g h k f x fk xk =
     field_kept a b (t k f) f x (slice_index targets k) (slice_index ends k) g (h k f x fk xk)

@@ -17,8 +17,9 @@ abbrev pub SameLaid : (ℕ → Slot → Bool) → (ℕ → Slot → Bool) → Li
 SameLaid t u fs xs ends others = (k : ℕ) (f : Slot) (x : Option Datum) → slice_get fs k ≡ Some f
     → slice_get xs k ≡ Some x → is_stored f x ≡ true → (t k f ≡ u k f) × (slice_index others k ≡ slice_index ends k)
 
-pub all_still : (L : LaidSchema) (start count : ℕ) (t u : ℕ → Slot
-    → Bool) (fs : List Slot) (xs : List (Option Datum)) (ends others : List ℕ) → SameLaid t u fs xs ends others
+pub all_still : (L : LaidSchema) (start count : ℕ)
+    (t u : ℕ → Slot → Bool) (fs : List Slot) (xs : List (Option Datum)) (ends others : List ℕ)
+    → SameLaid t u fs xs ends others
     → AreFilled L start count t fs xs ends → AreFilled L start count u fs xs others
 all_still L start count t u fs xs ends others same h = record {
   each = λ e over within. still e (h.each e over within);
@@ -54,8 +55,8 @@ all_still L start count t u fs xs ends others same h = record {
         }
 
 -- before any field is laid
-pub none_filled : (L : LaidSchema) (start count : ℕ) (done : ℕ → Slot
-    → Bool) (fs : List Slot) (xs : List (Option Datum)) (ends : List ℕ) → count ≤ start
+pub none_filled : (L : LaidSchema) (start count : ℕ)
+    (done : ℕ → Slot → Bool) (fs : List Slot) (xs : List (Option Datum)) (ends : List ℕ) → count ≤ start
     → ((k : ℕ) (f : Slot) (x : Option Datum) → slice_get fs k ≡ Some f → slice_get xs k ≡ Some x → is_stored f x ≡ true
     → done k f ≡ false) → AreFilled L start count done fs xs ends
 none_filled L start count done fs xs ends none out = record {
