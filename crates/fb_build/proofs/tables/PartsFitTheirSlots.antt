@@ -20,12 +20,14 @@ use Rattle.fb_build.specs.Tails.{TailSeen, Grows}
 use Rattle.fb_build.specs.Fields.{IsSimple, IsElement, SlotFits, is_stored, stored_here, coded, TargetEnd, target_for}
 use Rattle.fb_build.specs.Fields.{EntryEnd, slots_seen, entries_seen}
 use Rattle.fb_build.specs.Parts.{PartFits, PartEnd, MemberEnd, TableKnown}
-use Rattle.fb_schema.specs.WellDeclared.{IsDeclared}
+use Rattle.fb_schema.specs.Schema.{body_at, slots_in}
+use Rattle.fb_layout.specs.WellMade.{IsWellMade}
+use Rattle.fb_build.proofs.fields.AlignmentDividesTheSize.{all_known}
 use Rattle.fb_value.specs.Counts.{is_whole, parts_whole, entries_whole}
 use Rattle.fb_build.proofs.fields.NumbersHaveDefaults.{slots_default}
 use Rattle.fb_build.proofs.fields.CodeIsBeforeItsUnion.{slots_paired, stored_known, entry_whole}
 use Rattle.fb_build.proofs.tables.TableHasItsFields.{no_code_entry}
-use Rattle.fb_build.specs.Needs.{IsSliced, first_waits, need, parts_need, entries_count, entries_need, entry_need}
+use Rattle.fb_build.specs.Needs.{first_waits, need, parts_need, entries_count, entries_need, entry_need}
 use Rattle.std.proofs.lemmas.Bool.{and_parts}
 use Rattle.fb_build.proofs.fields.FieldHasItsValue.{entry_grown, target_grown}
 use Rattle.fb_build.proofs.vectors.VectorHasItsElements.{parts_next}
@@ -33,7 +35,7 @@ use Rattle.fb_build.specs.Items.{ItemsKnown}
 use Rattle.fb_layout.specs.Laid.{StoredKind, kind_in, align_of}
 use Rattle.fb_layout.specs.Widths.{greatest}
 use Rattle.fb_layout.proofs.Alignments.{slot_below}
-use Rattle.fb_build.proofs.fields.PassTakesOneSlot.{by_index, same_some, entries_long}
+use Rattle.fb_build.proofs.fields.PassTakesOneSlot.{by_index, same_some, slots_long, entries_long}
 
 entry_fits : (L : LaidSchema) (fs : List Slot) (es : List (Option Value)) → EntriesFit L fs (entries_view es)
     → (k : ℕ) (f : Slot) (x : Option Datum) → slice_get fs k ≡ Some f → slice_get (entries_seen es) k ≡ Some x
@@ -51,23 +53,34 @@ entry_fits L (g ∷ fs) (Some v ∷ es) h zero f x a b =
 entry_fits L (g ∷ fs) (None ∷ es) h (suc k) f x a b = entry_fits L fs es h.1 k f x a b
 entry_fits L (g ∷ fs) (Some v ∷ es) h (suc k) f x a b = entry_fits L fs es h.2 k f x a b
 
-pub known_of : (L : LaidSchema) (t : ℕ) (es : List (Option Value)) → IsDeclared L.schema → IsSliced L
+pub known_of : (L : LaidSchema) (t : ℕ) (es : List (Option Value)) → IsWellMade L
     → EntriesFit L (slots_of L t) (entries_view es) → entries_whole (entries_view es) ≡ true
     → TableKnown L (slots_of L t) (entries_seen es)
-known_of L t es declared sliced fits whole =
+known_of L t es made fits whole =
     let long : length (slots_of L t) ≡ length (entries_seen es) =
     fits_long L (slots_of L t) es fits ∙ sym (entries_long es) in
     let each = entry_fits L (slots_of L t) es fits in
-    let paired = slots_paired L declared t in
+    let paired = slots_paired L made.declared t in
     let all = entry_whole es whole in
     record {
       long = long;
       paired = paired;
       fits = each;
       whole = all;
-      known = stored_known L declared (slots_of L t) (entries_seen es) long paired each all (sliced t)
-          (λ k f at. slot_below L t k f at) (λ k f n at is. slots_default L declared t k f n at is);
+      known = stored_known L made.declared (slots_of L t) (entries_seen es) long paired each all (all_known L made t)
+          (λ k f at. slot_below L t k f at) (λ k f n at is. slots_default L made.declared t k f n at is);
     }
+
+-- the slots that a layout has for a table
+pub slots_are : (L : LaidSchema) (t : ℕ) (slots : List FieldInfo)
+    → map field_seen slots ≡ slots_in (body_at L.schema t) → slots_seen L slots ≡ slots_of L t
+slots_are L t slots same = ap (map (slot_of L.schema)) same
+
+-- one for each entry
+pub slots_many : (L : LaidSchema) (t : ℕ) (slots : List FieldInfo) (es : List (Option Value))
+    → slots_seen L slots ≡ slots_of L t → TableKnown L (slots_of L t) (entries_seen es) → length slots ≡ length es
+slots_many L t slots es seen known =
+    omega (arith, ap length seen, slots_long L slots, known.long, entries_long es)
 
 pub count_is : (es : List (Option Value)) → entries_count (entries_view es) ≡ length es
 count_is [] = refl

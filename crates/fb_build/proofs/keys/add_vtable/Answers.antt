@@ -4,7 +4,7 @@ use Rattle.std.proofs.Common.{sym, ap, arith}
 use Rattle.std.specs.List.{list_any}
 use Rattle.std.specs.Option.{is_some}
 use Rattle.std.proofs.lemmas.List.{map-append}
-use Rattle.fb_layout.specs.Laid.{Slot, slot_of, slots_of}
+use Rattle.fb_layout.specs.Laid.{Slot, slots_of}
 use Rattle.fb_value.specs.Datum.{Datum}
 use Rattle.fb_value.specs.View.{entries_view}
 use Rattle.fb_build.specs.FieldEnds.{field_ends, table_size, table_vtable}
@@ -13,10 +13,9 @@ use Rattle.fb_build.proofs.vtables.KeyHasTheBytes.{key_more, kept_more, none_amo
 use Rattle.fb_build.proofs.vtables.VtableHasTheDefinedBytes.{planned_is_of, ends_small, offset_low}
 use Rattle.fb_build.proofs.vtables.EachVtableIsAKey.{listed}
 use Rattle.fb_layout.proofs.Wide.{ceil-is}
-use Rattle.fb_build.specs.Fields.{stored_in, slots_seen, entries_seen, fields_size}
+use Rattle.fb_build.specs.Fields.{stored_in, entries_seen, fields_size}
 use Rattle.fb_build.proofs.fields.PassTakesOneSlot.{slots_long, entries_long}
-use Rattle.fb_build.proofs.tables.PartsFitTheirSlots.{known_of}
-use Rattle.fb_build.proofs.fields.AlignmentDividesTheSize.{all_known}
+use Rattle.fb_build.proofs.tables.PartsFitTheirSlots.{known_of, slots_are}
 use Rattle.fb_build.proofs.tables.TableFitsItsRoom.{fields_narrow, stored_within}
 use Rattle.fb_build.proofs.keys.add_vtable.Goals as goal
 
@@ -25,9 +24,8 @@ place_fields-end-requires-clause-known c =
     let L = c.args.layout.now in
     let es = c.args.entries.now in
     let made = c.schema-schema.ensures.made in
-    let known = known_of L c.args.table.0 es made.declared (all_known L made) c.requires.fits c.requires.whole in
-    let seen : slots_seen L c.slots_of-slots.result.now ≡ slots_of L c.args.table.0 =
-    ap (map (slot_of L.schema)) c.slots_of-slots.ensures.slots in
+    let known = known_of L c.args.table.0 es made c.requires.fits c.requires.whole in
+    let seen = slots_are L c.args.table.0 c.slots_of-slots.result.now c.slots_of-slots.ensures.slots in
     rw seen known.known
 
 pub place_fields-end-requires-clause-low : goal.place_fields-end-requires-clause-low
@@ -35,9 +33,8 @@ place_fields-end-requires-clause-low c =
     let L = c.args.layout.now in
     let es = c.args.entries.now in
     let made = c.schema-schema.ensures.made in
-    let known = known_of L c.args.table.0 es made.declared (all_known L made) c.requires.fits c.requires.whole in
-    let seen : slots_seen L c.slots_of-slots.result.now ≡ slots_of L c.args.table.0 =
-    ap (map (slot_of L.schema)) c.slots_of-slots.ensures.slots in
+    let known = known_of L c.args.table.0 es made c.requires.fits c.requires.whole in
+    let seen = slots_are L c.args.table.0 c.slots_of-slots.result.now c.slots_of-slots.ensures.slots in
     rw (seen, c.table_align-most.ensures)
     (stored_within L c.args.table.0 (stored_in (slots_of L c.args.table.0) (entries_seen es)) known.known)
 
@@ -46,9 +43,8 @@ place_fields-end-requires-clause-narrow c =
     let L = c.args.layout.now in
     let es = c.args.entries.now in
     let made = c.schema-schema.ensures.made in
-    let known = known_of L c.args.table.0 es made.declared (all_known L made) c.requires.fits c.requires.whole in
-    let seen : slots_seen L c.slots_of-slots.result.now ≡ slots_of L c.args.table.0 =
-    ap (map (slot_of L.schema)) c.slots_of-slots.ensures.slots in
+    let known = known_of L c.args.table.0 es made c.requires.fits c.requires.whole in
+    let seen = slots_are L c.args.table.0 c.slots_of-slots.result.now c.slots_of-slots.ensures.slots in
     rw seen (fields_narrow L c.args.table.0 (stored_in (slots_of L c.args.table.0) (entries_seen es)) known.known
     (made.tables c.args.table.0).wide)
 
@@ -57,9 +53,8 @@ place_fields-end-requires-clause-long c =
     let L = c.args.layout.now in
     let es = c.args.entries.now in
     let made = c.schema-schema.ensures.made in
-    let known = known_of L c.args.table.0 es made.declared (all_known L made) c.requires.fits c.requires.whole in
-    let seen : slots_seen L c.slots_of-slots.result.now ≡ slots_of L c.args.table.0 =
-    ap (map (slot_of L.schema)) c.slots_of-slots.ensures.slots in
+    let known = known_of L c.args.table.0 es made c.requires.fits c.requires.whole in
+    let seen = slots_are L c.args.table.0 c.slots_of-slots.result.now c.slots_of-slots.ensures.slots in
     omega (arith, ap length seen, slots_long L c.slots_of-slots.result.now, known.long, entries_long es)
 
 pub next_multiple_of-place-requires-clause-fits : goal.next_multiple_of-place-requires-clause-fits
@@ -67,9 +62,8 @@ next_multiple_of-place-requires-clause-fits c =
     let L = c.args.layout.now in
     let es = c.args.entries.now in
     let made = c.schema-schema.ensures.made in
-    let known = known_of L c.args.table.0 es made.declared (all_known L made) c.requires.fits c.requires.whole in
-    let seen : slots_seen L c.slots_of-slots.result.now ≡ slots_of L c.args.table.0 =
-    ap (map (slot_of L.schema)) c.slots_of-slots.ensures.slots in
+    let known = known_of L c.args.table.0 es made c.requires.fits c.requires.whole in
+    let seen = slots_are L c.args.table.0 c.slots_of-slots.result.now c.slots_of-slots.ensures.slots in
     let fs = slots_of L c.args.table.0 in
     let xs = stored_in fs (entries_seen es) in
     let ends : c.place_fields-end.new.ends ≡ field_ends L fs xs =
@@ -87,9 +81,8 @@ overflow_add-place c =
     let L = c.args.layout.now in
     let es = c.args.entries.now in
     let made = c.schema-schema.ensures.made in
-    let known = known_of L c.args.table.0 es made.declared (all_known L made) c.requires.fits c.requires.whole in
-    let seen : slots_seen L c.slots_of-slots.result.now ≡ slots_of L c.args.table.0 =
-    ap (map (slot_of L.schema)) c.slots_of-slots.ensures.slots in
+    let known = known_of L c.args.table.0 es made c.requires.fits c.requires.whole in
+    let seen = slots_are L c.args.table.0 c.slots_of-slots.result.now c.slots_of-slots.ensures.slots in
     let fs = slots_of L c.args.table.0 in
     let xs = stored_in fs (entries_seen es) in
     let ends : c.place_fields-end.new.ends ≡ field_ends L fs xs =
@@ -115,9 +108,8 @@ overflow_cast-place c =
     let L = c.args.layout.now in
     let es = c.args.entries.now in
     let made = c.schema-schema.ensures.made in
-    let known = known_of L c.args.table.0 es made.declared (all_known L made) c.requires.fits c.requires.whole in
-    let seen : slots_seen L c.slots_of-slots.result.now ≡ slots_of L c.args.table.0 =
-    ap (map (slot_of L.schema)) c.slots_of-slots.ensures.slots in
+    let known = known_of L c.args.table.0 es made c.requires.fits c.requires.whole in
+    let seen = slots_are L c.args.table.0 c.slots_of-slots.result.now c.slots_of-slots.ensures.slots in
     let fs = slots_of L c.args.table.0 in
     let xs = stored_in fs (entries_seen es) in
     let ends : c.place_fields-end.new.ends ≡ field_ends L fs xs =
@@ -143,9 +135,8 @@ put_vtable-used-requires-clause-under c k =
     let L = c.args.layout.now in
     let es = c.args.entries.now in
     let made = c.schema-schema.ensures.made in
-    let known = known_of L c.args.table.0 es made.declared (all_known L made) c.requires.fits c.requires.whole in
-    let seen : slots_seen L c.slots_of-slots.result.now ≡ slots_of L c.args.table.0 =
-    ap (map (slot_of L.schema)) c.slots_of-slots.ensures.slots in
+    let known = known_of L c.args.table.0 es made c.requires.fits c.requires.whole in
+    let seen = slots_are L c.args.table.0 c.slots_of-slots.result.now c.slots_of-slots.ensures.slots in
     let fs = slots_of L c.args.table.0 in
     let xs = stored_in fs (entries_seen es) in
     let ends : c.place_fields-end.new.ends ≡ field_ends L fs xs =
@@ -171,9 +162,8 @@ put_vtable-used-requires-clause-fits c k =
     let L = c.args.layout.now in
     let es = c.args.entries.now in
     let made = c.schema-schema.ensures.made in
-    let known = known_of L c.args.table.0 es made.declared (all_known L made) c.requires.fits c.requires.whole in
-    let seen : slots_seen L c.slots_of-slots.result.now ≡ slots_of L c.args.table.0 =
-    ap (map (slot_of L.schema)) c.slots_of-slots.ensures.slots in
+    let known = known_of L c.args.table.0 es made c.requires.fits c.requires.whole in
+    let seen = slots_are L c.args.table.0 c.slots_of-slots.result.now c.slots_of-slots.ensures.slots in
     let fs = slots_of L c.args.table.0 in
     let xs = stored_in fs (entries_seen es) in
     let ends : c.place_fields-end.new.ends ≡ field_ends L fs xs =
@@ -201,9 +191,8 @@ returns-in_ok-insert-clause-key c =
     let L = c.args.layout.now in
     let es = c.args.entries.now in
     let made = c.schema-schema.ensures.made in
-    let known = known_of L c.args.table.0 es made.declared (all_known L made) c.requires.fits c.requires.whole in
-    let seen : slots_seen L c.slots_of-slots.result.now ≡ slots_of L c.args.table.0 =
-    ap (map (slot_of L.schema)) c.slots_of-slots.ensures.slots in
+    let known = known_of L c.args.table.0 es made c.requires.fits c.requires.whole in
+    let seen = slots_are L c.args.table.0 c.slots_of-slots.result.now c.slots_of-slots.ensures.slots in
     let fs = slots_of L c.args.table.0 in
     let xs = stored_in fs (entries_seen es) in
     let ends : c.place_fields-end.new.ends ≡ field_ends L fs xs =
@@ -244,9 +233,8 @@ returns-in_ok-insert-clause-kept c =
     let L = c.args.layout.now in
     let es = c.args.entries.now in
     let made = c.schema-schema.ensures.made in
-    let known = known_of L c.args.table.0 es made.declared (all_known L made) c.requires.fits c.requires.whole in
-    let seen : slots_seen L c.slots_of-slots.result.now ≡ slots_of L c.args.table.0 =
-    ap (map (slot_of L.schema)) c.slots_of-slots.ensures.slots in
+    let known = known_of L c.args.table.0 es made c.requires.fits c.requires.whole in
+    let seen = slots_are L c.args.table.0 c.slots_of-slots.result.now c.slots_of-slots.ensures.slots in
     let fs = slots_of L c.args.table.0 in
     let xs = stored_in fs (entries_seen es) in
     let ends : c.place_fields-end.new.ends ≡ field_ends L fs xs =
@@ -287,9 +275,8 @@ returns-else-is_none-clause-key c =
     let L = c.args.layout.now in
     let es = c.args.entries.now in
     let made = c.schema-schema.ensures.made in
-    let known = known_of L c.args.table.0 es made.declared (all_known L made) c.requires.fits c.requires.whole in
-    let seen : slots_seen L c.slots_of-slots.result.now ≡ slots_of L c.args.table.0 =
-    ap (map (slot_of L.schema)) c.slots_of-slots.ensures.slots in
+    let known = known_of L c.args.table.0 es made c.requires.fits c.requires.whole in
+    let seen = slots_are L c.args.table.0 c.slots_of-slots.result.now c.slots_of-slots.ensures.slots in
     let fs = slots_of L c.args.table.0 in
     let xs = stored_in fs (entries_seen es) in
     let ends : c.place_fields-end.new.ends ≡ field_ends L fs xs =
