@@ -1,6 +1,8 @@
 -- That every byte of a buffer belongs to its value, or is one of few zeros between what does.
--- From the FlatBuffers documentation, "FlatBuffer Internals": what a buffer is made of. That nothing else is in it is this project's own.
-use Rattle.std.specs.Prelude.{ℕ, ◌+◌, ◌≡◌, ◌<◌, Bool, true, false, List, [], ◌∷◌, length, replicate, flat_map, IsPermutation}
+-- From the FlatBuffers documentation, "FlatBuffer Internals": what a buffer is made of. That nothing else is in it is
+-- this project's own.
+use Rattle.std.specs.Prelude.{ℕ, ◌+◌, ◌≡◌, ◌<◌, Bool, true, false, List, [], ◌∷◌, length, replicate, flat_map}
+use Rattle.std.specs.Prelude.{IsPermutation}
 use Rattle.fb_layout.specs.Laid.{LaidSchema}
 use Rattle.fb_value.specs.Datum.{Datum}
 use Rattle.fb_value.specs.Num.{Bytes, num, part_of, divides}
@@ -23,7 +25,8 @@ chunk_bytes (zeros_chunk n) = replicate n 0
 -- the pieces among chunks that stand one behind the other from a position on
 abbrev pub pieces_among : ℕ → List Chunk → List Piece
 pieces_among p [] = []
-pieces_among p (piece_chunk kind bytes ∷ cs) = record { kind = kind; at = p; size = length bytes } ∷ pieces_among (p + length bytes) cs
+pieces_among p (piece_chunk kind bytes ∷ cs) =
+    record { kind = kind; at = p; size = length bytes } ∷ pieces_among (p + length bytes) cs
 pieces_among p (zeros_chunk n ∷ cs) = pieces_among (p + n) cs
 
 abbrev pub begins_with_zeros : List Chunk → Bool
@@ -42,7 +45,8 @@ vtable_at b q = part_of b q (num b q 2)
 
 -- Of the vtables at some places, equal ones stand at one place.
 abbrev pub EqualVtablesAreOne : Bytes → List ℕ → Type 0
-EqualVtablesAreOne b qs = (q r : ℕ) → is_among q qs ≡ true → is_among r qs ≡ true → vtable_at b q ≡ vtable_at b r → q ≡ r
+EqualVtablesAreOne b qs = (q r : ℕ) → is_among q qs ≡ true → is_among r qs ≡ true → vtable_at b q ≡ vtable_at b r
+    → q ≡ r
 
 -- The bytes are chunks, one behind the other: the pieces in which the value lies, each once, and short runs of zeros.
 pub record IsMadeOf (L : LaidSchema) (b : Bytes) (v : Datum) : Type 0 where
@@ -51,7 +55,8 @@ pub record IsMadeOf (L : LaidSchema) (b : Bytes) (v : Datum) : Type 0 where
   pub pieces : IsPermutation (pieces_among 0 chunks) (pieces_of L b (reached_parts L b v))
   pub runs : RunsAreShort (greatest_align L b (reached_parts L b v)) chunks
 
--- Each byte belongs to a value, or is one of few zeros: equal vtables are one, and no table, struct or number has anything to spare.
+-- Each byte belongs to a value, or is one of few zeros: equal vtables are one, and no table, struct or number has
+-- anything to spare.
 pub record IsCoveredBy (L : LaidSchema) (b : Bytes) (v : Datum) : Type 0 where
   pub made : IsMadeOf L b v
   pub shared : EqualVtablesAreOne b (tables_vtables b (reached_parts L b v))
@@ -64,4 +69,5 @@ Covered L b = (v : Datum) × LiesAt L b (root_place L).sort 0 v × IsCoveredBy L
 
 -- The length of a buffer is a multiple of the greatest alignment of a part in which its value lies.
 abbrev pub EndsAligned : LaidSchema → Bytes → Type 0
-EndsAligned L b = (v : Datum) × LiesAt L b (root_place L).sort 0 v × (divides (greatest_align L b (reached_parts L b v)) (length b) ≡ true)
+EndsAligned L b = (v : Datum) × LiesAt L b (root_place L).sort 0 v
+    × (divides (greatest_align L b (reached_parts L b v)) (length b) ≡ true)

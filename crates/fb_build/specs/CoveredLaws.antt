@@ -18,18 +18,22 @@ is_outside i x = not (is_within x.at x.size i)
 
 -- A buffer is covered by each value that lies in it: there is one at most.
 abbrev pub CoveredByItsValue : Type 0
-CoveredByItsValue = (L : LaidSchema) (b : Bytes) (v : Datum) → LiesAt L b (root_place L).sort 0 v → Covered L b → IsCoveredBy L b v
+CoveredByItsValue = (L : LaidSchema) (b : Bytes) (v : Datum) → LiesAt L b (root_place L).sort 0 v → Covered L b
+    → IsCoveredBy L b v
 
 -- A byte in no piece of the value is 0.
 abbrev pub ZeroOutside : Type 0
-ZeroOutside = (L : LaidSchema) (b : Bytes) (v : Datum) → IsCoveredBy L b v → (i : ℕ) → AllPass (is_outside i) (pieces_of L b (reached_parts L b v)) → slice_index b i ≡ 0
+ZeroOutside = (L : LaidSchema) (b : Bytes) (v : Datum) → IsCoveredBy L b v → (i : ℕ)
+    → AllPass (is_outside i) (pieces_of L b (reached_parts L b v)) → slice_index b i ≡ 0
 
 -- Of as many bytes one behind the other as the greatest alignment, one is in a piece, where no piece is empty.
 abbrev pub FewOutside : Type 0
 FewOutside =
-    (L : LaidSchema) (b : Bytes) (v : Datum) → IsCoveredBy L b v → AllPass (λ x. nat_lt 0 x.size) (pieces_of L b (reached_parts L b v))
+    (L : LaidSchema) (b : Bytes) (v : Datum) → IsCoveredBy L b v
+    → AllPass (λ x. nat_lt 0 x.size) (pieces_of L b (reached_parts L b v))
     → (i : ℕ) → i + greatest_align L b (reached_parts L b v) ≤ length b
-    → ((j : ℕ) → j < greatest_align L b (reached_parts L b v) → AllPass (is_outside (i + j)) (pieces_of L b (reached_parts L b v))) → ⊥
+    → ((j : ℕ) → j < greatest_align L b (reached_parts L b v)
+    → AllPass (is_outside (i + j)) (pieces_of L b (reached_parts L b v))) → ⊥
 
 -- a union's member is listed as its table
 abbrev pub listed_as : Target → Target
@@ -39,5 +43,6 @@ listed_as X = X
 -- Each table, text and vector to which a path leads is among the parts.
 abbrev pub ReachedIsListed : Type 0
 ReachedIsListed =
-    (L : LaidSchema) (b : Bytes) (v : Datum) → LiesAt L b (root_place L).sort 0 v → (path : Path) (X : Target) (p : ℕ) → Leads L b (root_place L) path (record { sort = part_place X; at = p })
+    (L : LaidSchema) (b : Bytes) (v : Datum) → LiesAt L b (root_place L).sort 0 v → (path : Path) (X : Target) (p : ℕ)
+    → Leads L b (root_place L) path (record { sort = part_place X; at = p })
     → Contains (reached_parts L b v) (record { target = listed_as X; at = p })

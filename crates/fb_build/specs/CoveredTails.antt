@@ -21,7 +21,8 @@ TightInTail L s sort e d = EachTableAt L s (λ t p. IsTightInTail L s t p) sort 
 
 -- Bytes laid in front keep that tables have nothing to spare.
 abbrev pub TightKeptInFront : Type 0
-TightKeptInFront = (L : LaidSchema) (m : ℕ) (front s : Bytes) (sort : Sort) (e : ℕ) (d : Datum) → LiesInTail L m s sort e d → TightInTail L s sort e d → TightInTail L (front ++ s) sort e d
+TightKeptInFront = (L : LaidSchema) (m : ℕ) (front s : Bytes) (sort : Sort) (e : ℕ) (d : Datum)
+    → LiesInTail L m s sort e d → TightInTail L s sort e d → TightInTail L (front ++ s) sort e d
 
 -- so many bytes further on
 abbrev pub part_further : ℕ → PartAt → PartAt
@@ -34,14 +35,18 @@ piece_further k x = record { kind = x.kind; at = k + x.at; size = x.size }
 abbrev pub parts_in_tail : LaidSchema → Bytes → Target → ℕ → Datum → List PartAt
 parts_in_tail L s X e d = reached L s X (length s - e) d
 
--- What is reached in a tail is reached in the same places once bytes are laid in front: further on by so many, and as great as before.
+-- What is reached in a tail is reached in the same places once bytes are laid in front: further on by so many, and as
+-- great as before.
 pub record PartsKeptInFront (L : LaidSchema) (front s : Bytes) (X : Target) (e : ℕ) (d : Datum) : Type 0 where
   pub parts : parts_in_tail L (front ++ s) X e d ≡ map (part_further (length front)) (parts_in_tail L s X e d)
-  pub pieces : map (part_piece L (front ++ s)) (parts_in_tail L (front ++ s) X e d) ≡ map (piece_further (length front)) (map (part_piece L s) (parts_in_tail L s X e d))
-  pub vtables : tables_vtables (front ++ s) (parts_in_tail L (front ++ s) X e d) ≡ map (λ q. length front + q) (tables_vtables s (parts_in_tail L s X e d))
+  pub pieces : map (part_piece L (front ++ s)) (parts_in_tail L (front ++ s) X e d)
+      ≡ map (piece_further (length front)) (map (part_piece L s) (parts_in_tail L s X e d))
+  pub vtables : tables_vtables (front ++ s) (parts_in_tail L (front ++ s) X e d)
+      ≡ map (λ q. length front + q) (tables_vtables s (parts_in_tail L s X e d))
 
 abbrev pub ReachedKeptInFront : Type 0
-ReachedKeptInFront = (L : LaidSchema) (m : ℕ) (front s : Bytes) (X : Target) (e : ℕ) (d : Datum) → LiesInTail L m s (part_place X) e d → PartsKeptInFront L front s X e d
+ReachedKeptInFront = (L : LaidSchema) (m : ℕ) (front s : Bytes) (X : Target) (e : ℕ) (d : Datum)
+    → LiesInTail L m s (part_place X) e d → PartsKeptInFront L front s X e d
 
 -- The numbers and structs of the value that lies e bytes before the end have nothing to spare.
 abbrev pub InlineInTail : LaidSchema → Bytes → Sort → ℕ → Datum → Type 0
@@ -49,4 +54,5 @@ InlineInTail L s sort e d = EachInlineAt L s (IsTightInline L s) sort (length s 
 
 -- Bytes laid in front keep that numbers and structs have nothing to spare.
 abbrev pub InlineKeptInFront : Type 0
-InlineKeptInFront = (L : LaidSchema) (m : ℕ) (front s : Bytes) (sort : Sort) (e : ℕ) (d : Datum) → LiesInTail L m s sort e d → InlineInTail L s sort e d → InlineInTail L (front ++ s) sort e d
+InlineKeptInFront = (L : LaidSchema) (m : ℕ) (front s : Bytes) (sort : Sort) (e : ℕ) (d : Datum)
+    → LiesInTail L m s sort e d → InlineInTail L s sort e d → InlineInTail L (front ++ s) sort e d

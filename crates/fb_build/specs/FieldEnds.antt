@@ -1,6 +1,8 @@
 -- Where each stored field of a table stands, and the vtable that tells it.
--- From the FlatBuffers documentation, "FlatBuffer Internals": Tables. In which order fields stand is this project's own: from the table's end on by falling alignment, those of one alignment in the order of their slots.
-use Rattle.std.specs.Prelude.{ℕ, suc, ◌+◌, ◌≡◌, ◌==◌, ◌&&◌, Bool, true, if◌then◌else◌, List, [], ◌∷◌, take, Option, Some, slice_get, slice_index}
+-- From the FlatBuffers documentation, "FlatBuffer Internals": Tables. In which order fields stand is this project's
+-- own: from the table's end on by falling alignment, those of one alignment in the order of their slots.
+use Rattle.std.specs.Prelude.{ℕ, suc, ◌+◌, ◌≡◌, ◌==◌, ◌&&◌, Bool, true, if◌then◌else◌, List, [], ◌∷◌, take, Option}
+use Rattle.std.specs.Prelude.{Some, slice_get, slice_index}
 use Rattle.fb_layout.specs.Laid.{LaidSchema, Slot}
 use Rattle.fb_layout.specs.Sizes.{ceil4}
 use Rattle.fb_layout.specs.Widths.{inline_align}
@@ -9,9 +11,11 @@ use Rattle.fb_value.specs.Num.{Bytes}
 use Rattle.fb_build.specs.Fields.{is_stored, size_at, size_above, fields_size}
 use Rattle.fb_build.specs.TableBytes.{vtable_bytes}
 
--- The end-count of slot k, counted from the start of its table's fields: the sizes of what is stored that is aligned above it, and of what is stored at its own alignment, up to and with itself.
+-- The end-count of slot k, counted from the start of its table's fields: the sizes of what is stored that is aligned
+-- above it, and of what is stored at its own alignment, up to and with itself.
 abbrev pub stored_end : LaidSchema → List Slot → List (Option Datum) → ℕ → Slot → ℕ
-stored_end L fs xs k f = size_above L (inline_align L f.shape) fs xs + size_at L (inline_align L f.shape) (take (suc k) fs) (take (suc k) xs)
+stored_end L fs xs k f = size_above L (inline_align L f.shape) fs xs
+    + size_at L (inline_align L f.shape) (take (suc k) fs) (take (suc k) xs)
 
 -- 0 for a slot that isn't stored
 abbrev pub field_end : LaidSchema → List Slot → List (Option Datum) → ℕ → Slot → Option Datum → ℕ
@@ -36,12 +40,15 @@ table_size L fs xs = ceil4 (fields_size L fs xs) + 4
 
 -- the vtable of a table whose slots store this
 unfoldable pub table_vtable : LaidSchema → List Slot → List (Option Datum) → Bytes
-table_vtable L fs xs = vtable_bytes (table_size L fs xs) (table_size L fs xs) (used_slots (field_ends L fs xs)) (field_ends L fs xs)
+table_vtable L fs xs = vtable_bytes (table_size L fs xs) (table_size L fs xs) (used_slots (field_ends L fs xs))
+    (field_ends L fs xs)
 
 -- Slots that are stored and pass a test have their end-counts, from `base` on.
 abbrev pub AreCounted : LaidSchema → ℕ → (ℕ → Slot → Bool) → List Slot → List (Option Datum) → List ℕ → Type 0
-AreCounted L base laid fs xs ends = (k : ℕ) (f : Slot) (x : Option Datum) → slice_get fs k ≡ Some f → slice_get xs k ≡ Some x → (is_stored f x && laid k f) ≡ true → slice_index ends k ≡ base + stored_end L fs xs k f
+AreCounted L base laid fs xs ends = (k : ℕ) (f : Slot) (x : Option Datum) → slice_get fs k ≡ Some f
+    → slice_get xs k ≡ Some x → (is_stored f x && laid k f) ≡ true → slice_index ends k ≡ base + stored_end L fs xs k f
 
 -- the same from 0 on, and all others have 0
 abbrev pub ArePlaced : LaidSchema → (ℕ → Slot → Bool) → List Slot → List (Option Datum) → List ℕ → Type 0
-ArePlaced L placed fs xs ends = (k : ℕ) (f : Slot) (x : Option Datum) → slice_get fs k ≡ Some f → slice_get xs k ≡ Some x → slice_index ends k ≡ (if is_stored f x && placed k f then stored_end L fs xs k f else 0)
+ArePlaced L placed fs xs ends = (k : ℕ) (f : Slot) (x : Option Datum) → slice_get fs k ≡ Some f
+    → slice_get xs k ≡ Some x → slice_index ends k ≡ (if is_stored f x && placed k f then stored_end L fs xs k f else 0)

@@ -1,5 +1,7 @@
 -- The fields of a table while it is laid: what each slot's end-count says.
-use Rattle.std.specs.Prelude.{ℕ, ◌+◌, ◌-◌, ◌≡◌, ◌≢◌, ◌<◌, ◌≤◌, max, IsTrue, ◌==◌, ◌&&◌, ◌||◌, not, List, [], ◌∷◌, Bool, true, false, nat_lt, nat_le, if◌then◌else◌, Option, None, Some, ℤ, pos, slice_get, slice_index, map, option_map, length}
+use Rattle.std.specs.Prelude.{ℕ, ◌+◌, ◌-◌, ◌≡◌, ◌≢◌, ◌<◌, ◌≤◌, max, IsTrue, ◌==◌, ◌&&◌, ◌||◌, not, List, [], ◌∷◌, Bool}
+use Rattle.std.specs.Prelude.{true, false, nat_lt, nat_le, if◌then◌else◌, Option, None, Some, ℤ, pos, slice_get}
+use Rattle.std.specs.Prelude.{slice_index, map, option_map, length}
 use Rattle.std.specs.Ordering.{int_eq}
 use Rattle.fb_schema.specs.declared.kinds.Base.{Base}
 use Rattle.fb_schema.specs.declared.kinds.Kind.TheVariants.{Code}
@@ -11,14 +13,17 @@ use Rattle.fb_schema.specs.WellDeclared.{InRange}
 use Rattle.fb_schema.specs.Schema.{body_at, is_struct}
 use Rattle.fb_layout.specs.Sizes.{IsAlignment}
 pub use Rattle.fb_layout.specs.Seen.{shape_seen, kind_seen, slot_seen, slots_seen}
-use Rattle.fb_layout.specs.Laid.{stored_shape, kind_in, struct_at, align_of, LaidSchema, Slot, StoredKind, scalar_kind, struct_kind, table_kind, union_kind, code_kind, text_kind, StoredShape, one_of, vector_of}
+use Rattle.fb_layout.specs.Laid.{stored_shape, kind_in, struct_at, align_of, LaidSchema, Slot, StoredKind, scalar_kind}
+use Rattle.fb_layout.specs.Laid.{struct_kind, table_kind, union_kind, code_kind, text_kind, StoredShape, one_of}
+use Rattle.fb_layout.specs.Laid.{vector_of}
 use Rattle.fb_layout.specs.Widths.{inline_size, inline_align, greatest}
 use Rattle.fb_value.specs.Datum.{Datum, a_number, a_table, a_member, an_unknown}
 use Rattle.fb_value.specs.declared.values.Value.{Value}
 use Rattle.fb_value.specs.View.{view}
 use Rattle.fb_value.specs.Fits.{Fits}
 use Rattle.fb_value.specs.Num.{Bytes, divides}
-use Rattle.fb_value.specs.Places.{Target, table_part, member_part, text_part, vector_part, Sort, ref_place, part_place, inline_place}
+use Rattle.fb_value.specs.Places.{Target, table_part, member_part, text_part, vector_part, Sort, ref_place, part_place}
+use Rattle.fb_value.specs.Places.{inline_place}
 use Rattle.fb_build.specs.Tails.{LaidInTail}
 
 -- a declared struct, with what is known of its alignment
@@ -130,7 +135,8 @@ StoredEnd L low m s true f (Some d) e = (low < e) × LaidInTail L m s (sort_for 
 StoredEnd L low m s false f (Some d) e = TargetEnd L m s (target_for f.shape d) e d
 
 -- 0 for a slot that isn't stored
-pub record EntryEnd (L : LaidSchema) (low m : ℕ) (s : Bytes) (laid : Bool) (f : Slot) (x : Option Datum) (e : ℕ) : Type 0 where
+pub record EntryEnd (L : LaidSchema) (low m : ℕ) (s : Bytes) (laid : Bool) (f : Slot) (x : Option Datum)
+    (e : ℕ) : Type 0 where
   pub stored : is_stored f x ≡ true → StoredEnd L low m s laid f x e
   pub absent : is_stored f x ≡ false → e ≡ 0
 
@@ -164,13 +170,16 @@ size_at L a _ _ = 0
 
 -- or above it
 abbrev pub size_above : LaidSchema → ℕ → List Slot → List (Option Datum) → ℕ
-size_above L a (f ∷ fs) (x ∷ xs) = (if is_stored f x && nat_lt a (inline_align L f.shape) then inline_size L f.shape else 0) + size_above L a fs xs
+size_above L a (f ∷ fs) (x ∷ xs) =
+    (if is_stored f x && nat_lt a (inline_align L f.shape) then inline_size L f.shape else 0) + size_above L a fs xs
 size_above L a _ _ = 0
 
 -- the end-counts of all slots of a table; before slot `done` by the one test, from there on by the other
-abbrev pub EntriesEnd : LaidSchema → ℕ → ℕ → Bytes → (ℕ → Slot → Bool) → List Slot → List (Option Datum) → List ℕ → Type 0
+abbrev pub EntriesEnd : LaidSchema → ℕ → ℕ → Bytes → (ℕ → Slot → Bool) → List Slot → List (Option Datum) → List ℕ
+    → Type 0
 EntriesEnd L low m s laid fs xs ends =
-    (k : ℕ) (f : Slot) (x : Option Datum) → slice_get fs k ≡ Some f → slice_get xs k ≡ Some x → EntryEnd L low m s (laid k f) f x (slice_index ends k)
+    (k : ℕ) (f : Slot) (x : Option Datum) → slice_get fs k ≡ Some f → slice_get xs k ≡ Some x
+    → EntryEnd L low m s (laid k f) f x (slice_index ends k)
 
 -- what a slot stores whose entry is some value, where the entry behind it has this code
 abbrev pub entry_stored : LaidSchema → FieldInfo → Option ℕ → Option Value → Option Datum
@@ -208,7 +217,8 @@ pub record HasDefault (f : Slot) : Type 0 where
 -- What each slot stores fits, and is aligned to the greatest alignment at most.
 pub record AreKnown (L : LaidSchema) (fs : List Slot) (xs : List (Option Datum)) : Type 0 where
   pub long : length fs ≡ length xs
-  pub each : (k : ℕ) (f : Slot) (x : Option Datum) → slice_get fs k ≡ Some f → slice_get xs k ≡ Some x → IsSimple L f.shape × StoredFits L f x
+  pub each : (k : ℕ) (f : Slot) (x : Option Datum) → slice_get fs k ≡ Some f → slice_get xs k ≡ Some x
+      → IsSimple L f.shape × StoredFits L f x
   pub low : (k : ℕ) (f : Slot) → slice_get fs k ≡ Some f → align_of L (kind_in f.shape) ≤ greatest L
   pub defaults : (k : ℕ) (f : Slot) (n : ℤ) → slice_get fs k ≡ Some f → f.if_absent ≡ Some n → HasDefault f
 

@@ -1,10 +1,14 @@
 -- The numbers and structs of a value: where each stands, and that nothing is spare in it.
--- From the FlatBuffers documentation, "FlatBuffer Internals": Structs (fields stand at fixed offsets, with padding between them), Strings and vectors (numbers and structs stand in the vector).
+-- From the FlatBuffers documentation, "FlatBuffer Internals": Structs (fields stand at fixed offsets, with padding
+-- between them), Strings and vectors (numbers and structs stand in the vector).
 use Rattle.std.specs.Prelude.{ℕ, ◌+◌, Bool, false, ◌||◌, List, ◌∷◌, Option, None, Some}
-use Rattle.fb_layout.specs.Laid.{LaidSchema, StoredKind, scalar_kind, struct_kind, slots_of, parts_of, struct_at, size_of}
-use Rattle.fb_value.specs.Datum.{Datum, a_vector, a_struct, a_table, a_member, Parts, no_parts, more_parts, SlotEntries, absent_entry, present_entry}
+use Rattle.fb_layout.specs.Laid.{LaidSchema, StoredKind, scalar_kind, struct_kind, slots_of, parts_of, struct_at}
+use Rattle.fb_layout.specs.Laid.{size_of}
+use Rattle.fb_value.specs.Datum.{Datum, a_vector, a_struct, a_table, a_member, Parts, no_parts, more_parts, SlotEntries}
+use Rattle.fb_value.specs.Datum.{absent_entry, present_entry}
 use Rattle.fb_value.specs.Num.{Bytes, num}
-use Rattle.fb_value.specs.Places.{Target, table_part, member_part, vector_part, Sort, ref_place, part_place, inline_place, Place, named_slots, target_of}
+use Rattle.fb_value.specs.Places.{Target, table_part, member_part, vector_part, Sort, ref_place, part_place}
+use Rattle.fb_value.specs.Places.{inline_place, Place, named_slots, target_of}
 use Rattle.fb_build.specs.Stored.{IsBit}
 use Rattle.fb_build.specs.Taken.{is_within, ZeroUnless}
 
@@ -27,25 +31,30 @@ IsTightInline L b _ p = Unit {0}
 abbrev mutual
   pub EachInlineIn : LaidSchema → (StoredKind → ℕ → Type 0) → StoredKind → ℕ → Datum → Type 0
   EachInlineIn L P (scalar_kind base) p d = P (scalar_kind base) p
-  EachInlineIn L P (struct_kind s) p (a_struct ds) = P (struct_kind s) p × EachFieldIn L P (parts_of L s) (struct_at L s).offsets p ds
+  EachInlineIn L P (struct_kind s) p (a_struct ds) =
+      P (struct_kind s) p × EachFieldIn L P (parts_of L s) (struct_at L s).offsets p ds
   EachInlineIn L P _ p _ = Unit {0}
 
   pub EachFieldIn : LaidSchema → (StoredKind → ℕ → Type 0) → List StoredKind → List ℕ → ℕ → Parts → Type 0
-  EachFieldIn L P (kind ∷ kinds) (o ∷ os) p (more_parts d ds) = EachInlineIn L P kind (p + o) d × EachFieldIn L P kinds os p ds
+  EachFieldIn L P (kind ∷ kinds) (o ∷ os) p (more_parts d ds) =
+      EachInlineIn L P kind (p + o) d × EachFieldIn L P kinds os p ds
   EachFieldIn L P _ _ p _ = Unit {0}
 
 -- in its place, or behind a reference
-abbrev pub EachInlineBehind : LaidSchema → Bytes → (StoredKind → ℕ → Type 0) → Sort → ℕ → Datum → (Target → ℕ → Type 0) → Type 0
+abbrev pub EachInlineBehind : LaidSchema → Bytes → (StoredKind → ℕ → Type 0) → Sort → ℕ → Datum → (Target → ℕ → Type 0)
+    → Type 0
 EachInlineBehind L b P (ref_place X) p d each = each X (p + num b p 4)
 EachInlineBehind L b P (part_place X) p d each = each X p
 EachInlineBehind L b P (inline_place kind) p d each = EachInlineIn L P kind p d
 EachInlineBehind L b P _ p d each = Unit {0}
 
-abbrev pub EachInlineNamed : LaidSchema → Bytes → (StoredKind → ℕ → Type 0) → Option Place → Datum → (Target → ℕ → Type 0) → Type 0
+abbrev pub EachInlineNamed : LaidSchema → Bytes → (StoredKind → ℕ → Type 0) → Option Place → Datum
+    → (Target → ℕ → Type 0) → Type 0
 EachInlineNamed L b P None d each = Unit {0}
 EachInlineNamed L b P (Some x) d each = EachInlineBehind L b P x.sort x.at d each
 
-abbrev pub EachInlineElement : LaidSchema → Bytes → (StoredKind → ℕ → Type 0) → StoredKind → Option Target → ℕ → Datum → (Target → ℕ → Type 0) → Type 0
+abbrev pub EachInlineElement : LaidSchema → Bytes → (StoredKind → ℕ → Type 0) → StoredKind → Option Target → ℕ → Datum
+    → (Target → ℕ → Type 0) → Type 0
 EachInlineElement L b P kind None p d each = EachInlineIn L P kind p d
 EachInlineElement L b P kind (Some X) p d each = EachInlineBehind L b P (ref_place X) p d each
 
@@ -59,11 +68,14 @@ abbrev mutual
 
   pub EachInlineItem : LaidSchema → Bytes → (StoredKind → ℕ → Type 0) → StoredKind → ℕ → Parts → Type 0
   EachInlineItem L b P kind p no_parts = Unit {0}
-  EachInlineItem L b P kind p (more_parts d ds) = EachInlineElement L b P kind (target_of kind) p d (λ X q. EachInline L b P X q d) × EachInlineItem L b P kind (p + size_of L kind) ds
+  EachInlineItem L b P kind p (more_parts d ds) =
+      EachInlineElement L b P kind (target_of kind) p d (λ X q. EachInline L b P X q d)
+      × EachInlineItem L b P kind (p + size_of L kind) ds
 
   pub EachInlineEntry : LaidSchema → Bytes → (StoredKind → ℕ → Type 0) → List (Option Place) → SlotEntries → Type 0
   EachInlineEntry L b P (x ∷ xs) (absent_entry es) = EachInlineEntry L b P xs es
-  EachInlineEntry L b P (x ∷ xs) (present_entry d es) = EachInlineNamed L b P x d (λ X q. EachInline L b P X q d) × EachInlineEntry L b P xs es
+  EachInlineEntry L b P (x ∷ xs) (present_entry d es) =
+      EachInlineNamed L b P x d (λ X q. EachInline L b P X q d) × EachInlineEntry L b P xs es
   EachInlineEntry L b P _ _ = Unit {0}
 
 -- the same of what lies at a place

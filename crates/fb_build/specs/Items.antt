@@ -10,7 +10,8 @@ use Rattle.fb_build.specs.Fields.{IsElement, SlotFits, TargetEnd, target_for}
 use Rattle.fb_build.specs.CoveredTails.{IsTightInTail}
 use Rattle.fb_build.specs.InlineBytes.{IsTightInline, EachInlineItem}
 
--- Elements lie one behind the other, from the first byte of a tail on, their tables have nothing in slots that aren't in use, and they, their structs and their numbers have nothing to spare.
+-- Elements lie one behind the other, from the first byte of a tail on, their tables have nothing in slots that aren't
+-- in use, and they, their structs and their numbers have nothing to spare.
 pub record ItemsEnd (L : LaidSchema) (m : ℕ) (s : Bytes) (kind : StoredKind) (ds : Parts) : Type 0 where
   pub lie : LiesItemsBy (from_end s m) L s kind 0 ds
   pub old : EachItem L s (λ t p. IsOldTable L s t p) kind 0 ds
@@ -19,7 +20,8 @@ pub record ItemsEnd (L : LaidSchema) (m : ℕ) (s : Bytes) (kind : StoredKind) (
 
 -- what each element's reference names lies at its end-count
 abbrev pub TargetsEnd : LaidSchema → ℕ → Bytes → StoredKind → List Datum → List ℕ → Type 0
-TargetsEnd L m s kind ds ends = (k : ℕ) (d : Datum) → slice_get ds k ≡ Some d → TargetEnd L m s (target_for (one_of kind) d) (slice_index ends k) d
+TargetsEnd L m s kind ds ends = (k : ℕ) (d : Datum) → slice_get ds k ≡ Some d
+    → TargetEnd L m s (target_for (one_of kind) d) (slice_index ends k) d
 
 pub record ItemsKnown (L : LaidSchema) (kind : StoredKind) (ds : List Datum) : Type 0 where
   pub element : IsElement L kind

@@ -22,3 +22,5 @@ pub mod CoveredTails
 pub mod CoveredSteps
 pub mod FaultNumbers
 pub mod Made
+pub mod Builders
+pub mod FieldsLaid

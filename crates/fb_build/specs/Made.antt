@@ -1,5 +1,7 @@
 -- What is made so far while a buffer is laid from its end: parts and vtables, each once, and few zeros between them.
-use Rattle.std.specs.Prelude.{ℕ, zero, suc, ◌+◌, ◌-◌, ◌*◌, ◌≡◌, ◌≤◌, ◌<◌, ◌++◌, Bool, true, false, cond, ◌==◌, max, List, [], ◌∷◌, length, replicate, map, drop, slice_get, slice_index, slice_set, Option, None, Some, option_map}
+use Rattle.std.specs.Prelude.{ℕ, zero, suc, ◌+◌, ◌-◌, ◌*◌, ◌≡◌, ◌≤◌, ◌<◌, ◌++◌, Bool, true, false, cond, ◌==◌, max}
+use Rattle.std.specs.Prelude.{List, [], ◌∷◌, length, replicate, map, drop, slice_get, slice_index, slice_set, Option}
+use Rattle.std.specs.Prelude.{None, Some, option_map}
 use Rattle.std.specs.List.{All, sum_by}
 use Rattle.byteorder.specs.Endian.{little_bytes}
 use Rattle.fb_layout.specs.Laid.{LaidSchema, Slot, StoredKind, StoredShape, one_of, vector_of, size_of}
@@ -15,7 +17,8 @@ use Rattle.fb_build.specs.Tails.{TailSeen}
 -- Whatever is laid in front of a tail, a part of it is as great, has its vtable and is aligned as before, further on.
 pub record StaysInFront (L : LaidSchema) (s : Bytes) (x : PartAt) : Type 0 where
   pub size : (front : Bytes) → part_size L (front ++ s) x.target (length front + x.at) ≡ part_size L s x.target x.at
-  pub vtable : (front : Bytes) → vtable_of (front ++ s) x.target (length front + x.at) ≡ option_map (λ q. length front + q) (vtable_of s x.target x.at)
+  pub vtable : (front : Bytes) → vtable_of (front ++ s) x.target (length front + x.at)
+      ≡ option_map (λ q. length front + q) (vtable_of s x.target x.at)
   pub align : (front : Bytes) → part_align L (front ++ s) x.target (length front + x.at) ≡ part_align L s x.target x.at
 
 -- where vtables stand that were laid at these end-counts; 0 is for one that isn't laid
@@ -28,7 +31,8 @@ laid_at s (suc e ∷ ends) = (length s - suc e) ∷ laid_at s ends
 abbrev pub times_among : ℕ → List ℕ → ℕ
 times_among q ns = sum_by (λ n. cond (q == n) 1 0) ns
 
--- A tail is made of some parts and of the vtables that were laid at these end-counts: those of its tables and no others.
+-- A tail is made of some parts and of the vtables that were laid at these end-counts: those of its tables and no
+-- others.
 pub record IsMade (L : LaidSchema) (o : TailSeen) (places : List ℕ) (xs : List PartAt) : Type 0 where
   pub within : (i : ℕ) → slice_index places i ≤ length o.bytes
   pub stay : All (StaysInFront L o.bytes) xs
@@ -39,7 +43,8 @@ pub record IsMade (L : LaidSchema) (o : TailSeen) (places : List ℕ) (xs : List
 
 -- From one tail to a later one these parts were laid in front, and the vtables that they are the first to have.
 abbrev pub Adds : LaidSchema → TailSeen → List ℕ → TailSeen → List ℕ → List PartAt → Type 0
-Adds L a before b after ys = (xs : List PartAt) → IsMade L a before xs → IsMade L b after (ys ++ map (part_further (length b.bytes - length a.bytes)) xs)
+Adds L a before b after ys = (xs : List PartAt) → IsMade L a before xs
+    → IsMade L b after (ys ++ map (part_further (length b.bytes - length a.bytes)) xs)
 
 -- The reference at an end-count leads to another.
 pub record LeadsEnd (s : Bytes) (e target : ℕ) : Type 0 where
@@ -55,7 +60,8 @@ LeadsTo s (Some X) e target = LeadsEnd s e target
 -- The references of a vector whose elements begin at an end-count lead where each element's part was laid.
 abbrev pub ItemsLead : LaidSchema → Bytes → ℕ → StoredKind → List Datum → List ℕ → Type 0
 ItemsLead L s behind kind ds targets =
-    (k : ℕ) (d : Datum) → slice_get ds k ≡ Some d → LeadsTo s (target_for (one_of kind) d) (behind + (length ds - k) * size_of L kind) (slice_index targets k)
+    (k : ℕ) (d : Datum) → slice_get ds k ≡ Some d
+    → LeadsTo s (target_for (one_of kind) d) (behind + (length ds - k) * size_of L kind) (slice_index targets k)
 
 -- what is laid outside of a table for a slot, or of a vector for an element: a value, and what it is
 pub record NamedPart : Type 0 where
@@ -81,7 +87,8 @@ ends_parts L s (x ∷ xs) ends = parts_at L s x (slice_index ends 0) ++ ends_par
 abbrev pub part_named : StoredShape → Datum → Option NamedPart
 part_named shape (a_text bytes) = Some (record { target = text_part; value = a_text bytes })
 part_named shape (a_table t es) = Some (record { target = table_part t; value = a_table t es })
-part_named shape (a_member c (a_table t es)) = Some (record { target = member_part c t; value = a_member c (a_table t es) })
+part_named shape (a_member c (a_table t es)) =
+    Some (record { target = member_part c t; value = a_member c (a_table t es) })
 part_named shape (a_member c d) = part_named shape d
 part_named (vector_of kind) (a_vector ds) = Some (record { target = vector_part kind; value = a_vector ds })
 part_named shape _ = None
@@ -94,7 +101,8 @@ abbrev pub named_fields : List Slot → List (Option Datum) → List (Option Nam
 named_fields (f ∷ fs) (x ∷ xs) = named_stored f x ∷ named_fields fs xs
 named_fields _ _ = []
 
--- The end-count of a slot: once its field is laid, its reference leads where its part was laid; before, it is that part's.
+-- The end-count of a slot: once its field is laid, its reference leads where its part was laid; before, it is that
+-- part's.
 abbrev pub FieldLeads : Bytes → Bool → Slot → Option Datum → ℕ → ℕ → Type 0
 FieldLeads s false f x target e = e ≡ target
 FieldLeads s true f None target e = Unit {0}
@@ -102,7 +110,8 @@ FieldLeads s true f (Some d) target e = is_stored f (Some d) ≡ true → LeadsT
 
 abbrev pub FieldsLead : Bytes → (ℕ → Slot → Bool) → List Slot → List (Option Datum) → List ℕ → List ℕ → Type 0
 FieldsLead s laid fs xs targets ends =
-    (k : ℕ) (f : Slot) (x : Option Datum) → slice_get fs k ≡ Some f → slice_get xs k ≡ Some x → FieldLeads s (laid k f) f x (slice_index targets k) (slice_index ends k)
+    (k : ℕ) (f : Slot) (x : Option Datum) → slice_get fs k ≡ Some f → slice_get xs k ≡ Some x
+    → FieldLeads s (laid k f) f x (slice_index targets k) (slice_index ends k)
 
 -- From one tail to a later one, zeros up to a multiple and a table's fields were laid.
 pub record FieldsFront (a b : TailSeen) (start align : ℕ) : Type 0 where

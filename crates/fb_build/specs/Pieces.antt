@@ -1,12 +1,16 @@
 -- The pieces of a buffer: what is reached in it, and how many bytes each takes.
--- From the FlatBuffers documentation, "FlatBuffer Internals": Tables, Unions, Strings and vectors; "File identification".
-use Rattle.std.specs.Prelude.{ℕ, ◌+◌, ◌*◌, ◌++◌, ◌==◌, ◌||◌, Bool, false, max, List, [], ◌∷◌, map, filter_map, if◌then◌else◌, Option, None, Some}
+-- From the FlatBuffers documentation, "FlatBuffer Internals": Tables, Unions, Strings and vectors; "File
+-- identification".
+use Rattle.std.specs.Prelude.{ℕ, ◌+◌, ◌*◌, ◌++◌, ◌==◌, ◌||◌, Bool, false, max, List, [], ◌∷◌, map, filter_map}
+use Rattle.std.specs.Prelude.{if◌then◌else◌, Option, None, Some}
 use Rattle.fb_schema.specs.Alignments.{greatest_in}
 use Rattle.fb_layout.specs.Laid.{LaidSchema, StoredKind, slots_of, size_of, align_of}
 use Rattle.fb_layout.specs.Widths.{inline_align}
-use Rattle.fb_value.specs.Datum.{Datum, a_text, a_vector, a_table, a_member, Parts, no_parts, more_parts, SlotEntries, absent_entry, present_entry}
+use Rattle.fb_value.specs.Datum.{Datum, a_text, a_vector, a_table, a_member, Parts, no_parts, more_parts, SlotEntries}
+use Rattle.fb_value.specs.Datum.{absent_entry, present_entry}
 use Rattle.fb_value.specs.Num.{Bytes, num}
-use Rattle.fb_value.specs.Places.{Target, table_part, member_part, text_part, vector_part, Sort, ref_place, part_place, Place, vtable, named_slots, target_of}
+use Rattle.fb_value.specs.Places.{Target, table_part, member_part, text_part, vector_part, Sort, ref_place, part_place}
+use Rattle.fb_value.specs.Places.{Place, vtable, named_slots, target_of}
 use Rattle.fb_value.specs.Holds.{root_place}
 use Rattle.fb_build.specs.Stored.{stored_of}
 
@@ -33,25 +37,30 @@ reached_element b (Some X) p more = reached_behind b (ref_place X) p more
 abbrev mutual
   pub reached : LaidSchema → Bytes → Target → ℕ → Datum → List PartAt
   reached L b text_part p (a_text bytes) = record { target = text_part; at = p } ∷ []
-  reached L b (vector_part kind) p (a_vector ds) = record { target = vector_part kind; at = p } ∷ reached_items L b kind (p + 4) ds
-  reached L b (table_part t) p (a_table type es) = record { target = table_part t; at = p } ∷ reached_entries L b (named_slots L b p 0 (slots_of L t)) es
+  reached L b (vector_part kind) p (a_vector ds) =
+      record { target = vector_part kind; at = p } ∷ reached_items L b kind (p + 4) ds
+  reached L b (table_part t) p (a_table type es) =
+      record { target = table_part t; at = p } ∷ reached_entries L b (named_slots L b p 0 (slots_of L t)) es
   reached L b (member_part c t) p (a_member c2 d) = reached L b (table_part t) p d
   reached L b _ p _ = []
 
   pub reached_items : LaidSchema → Bytes → StoredKind → ℕ → Parts → List PartAt
   reached_items L b kind p no_parts = []
-  reached_items L b kind p (more_parts d ds) = reached_element b (target_of kind) p (λ X q. reached L b X q d) ++ reached_items L b kind (p + size_of L kind) ds
+  reached_items L b kind p (more_parts d ds) =
+      reached_element b (target_of kind) p (λ X q. reached L b X q d) ++ reached_items L b kind (p + size_of L kind) ds
 
   pub reached_entries : LaidSchema → Bytes → List (Option Place) → SlotEntries → List PartAt
   reached_entries L b (x ∷ xs) (absent_entry es) = reached_entries L b xs es
-  reached_entries L b (x ∷ xs) (present_entry d es) = reached_named b x (λ X q. reached L b X q d) ++ reached_entries L b xs es
+  reached_entries L b (x ∷ xs) (present_entry d es) =
+      reached_named b x (λ X q. reached L b X q d) ++ reached_entries L b xs es
   reached_entries L b _ _ = []
 
 -- those of a whole buffer, at whose root a value lies
 abbrev pub reached_parts : LaidSchema → Bytes → Datum → List PartAt
 reached_parts L b v = reached_behind b (root_place L).sort 0 (λ X q. reached L b X q v)
 
--- How many bytes a part has: a table those that its vtable tells, a vector its count and elements, a text its count, bytes and zero byte.
+-- How many bytes a part has: a table those that its vtable tells, a vector its count and elements, a text its count,
+-- bytes and zero byte.
 abbrev pub part_size : LaidSchema → Bytes → Target → ℕ → ℕ
 part_size L b (table_part t) p = num b (vtable b p + 2) 2
 part_size L b (member_part c t) p = num b (vtable b p + 2) 2

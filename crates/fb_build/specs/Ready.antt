@@ -6,7 +6,7 @@ use Rattle.fb_value.specs.Fits.{Fits}
 use Rattle.fb_value.specs.Room.{room_of}
 use Rattle.fb_value.specs.View.{view}
 use Rattle.fb_build.specs.declared.plans.Plan.TheInside.{Inside}
-use Rattle.fb_build.specs.Needs.{need, IsSliced}
+use Rattle.fb_build.specs.Needs.{need}
 use Rattle.fb_build.specs.Planned.{Planned}
 use Rattle.fb_build.specs.Vtables.{AreDifferent, VtablesKnown}
 
@@ -14,7 +14,6 @@ abbrev pub planned_seen : Inside → Planned
 planned_seen p = record { layout = p.layout.now; value = p.value.now }
 
 pub record IsReady (p : Inside) : Type 0 where
-  pub sliced : IsSliced p.layout.now
   pub fits : Fits p.layout.now (one_of (table_kind p.layout.now.schema.root)) (view p.value.now)
   pub whole : is_whole (view p.value.now) ≡ true
   pub zeros : p.block.items ≡ replicate (length p.block.items) 0

@@ -1,6 +1,8 @@
 -- The fields that a table stores, told by its vtable.
--- From the FlatBuffers documentation, "FlatBuffer Internals": Tables (a vtable's first numbers are its own size and the table's, and a field that isn't stored has 0), Unions (a code, 0 for no member, and the member behind it).
-use Rattle.std.specs.Prelude.{ℕ, suc, ◌+◌, ◌-◌, ◌≡◌, ◌≢◌, ◌<◌, ◌≤◌, ◌⊎◌, Bool, true, false, ◌||◌, nat_lt, List, [], ◌∷◌, slice_get, sum_by, if◌then◌else◌, Option, None, Some, ℤ, pos}
+-- From the FlatBuffers documentation, "FlatBuffer Internals": Tables (a vtable's first numbers are its own size and the
+-- table's, and a field that isn't stored has 0), Unions (a code, 0 for no member, and the member behind it).
+use Rattle.std.specs.Prelude.{ℕ, suc, ◌+◌, ◌-◌, ◌≡◌, ◌≢◌, ◌<◌, ◌≤◌, ◌⊎◌, Bool, true, false, ◌||◌, nat_lt, List, [], ◌∷◌}
+use Rattle.std.specs.Prelude.{slice_get, sum_by, if◌then◌else◌, Option, None, Some, ℤ, pos}
 use Rattle.fb_schema.specs.declared.kinds.Base.{Base}
 use Rattle.fb_schema.specs.declared.kinds.Base.TheVariants.{Bool as Boolean}
 use Rattle.fb_schema.specs.Alignments.{base_size}
@@ -19,14 +21,18 @@ pub record StoredSlot : Type 0 where
 -- those of the table at p, from slot k on
 unfoldable pub stored_from : Bytes → ℕ → ℕ → List Slot → List StoredSlot
 stored_from b p k [] = []
-stored_from b p k (f ∷ fs) = if is_present b p k then record { slot = f; at = slot_number b p k } ∷ stored_from b p (suc k) fs else stored_from b p (suc k) fs
+stored_from b p k (f ∷ fs) = if is_present b p k then record {
+  slot = f;
+  at = slot_number b p k;
+} ∷ stored_from b p (suc k) fs else stored_from b p (suc k) fs
 
 abbrev pub stored_of : LaidSchema → Bytes → ℕ → ℕ → List StoredSlot
 stored_of L b t p = stored_from b p 0 (slots_of L t)
 
 -- A vtable's second number is the first number of its table and the sizes of what that stores, up to a multiple of 4.
 abbrev pub TellsItsSize : LaidSchema → Bytes → ℕ → ℕ → Type 0
-TellsItsSize L b t p = num b (vtable b p + 2) 2 ≡ 4 + ceil4 (sum_by (λ x. inline_size L x.slot.shape) (stored_of L b t p))
+TellsItsSize L b t p = num b (vtable b p + 2) 2
+    ≡ 4 + ceil4 (sum_by (λ x. inline_size L x.slot.shape) (stored_of L b t p))
 
 -- A vtable that has slots ends with one that isn't 0.
 abbrev pub EndsWithAField : Bytes → ℕ → Type 0
@@ -39,7 +45,8 @@ is_in_field L (x ∷ xs) i = is_within x.at (inline_size L x.slot.shape) i || is
 
 -- The bytes of a table that neither its first number nor a stored field takes are 0.
 abbrev pub PadsTableWithZeros : LaidSchema → Bytes → ℕ → ℕ → Type 0
-PadsTableWithZeros L b t p = ZeroUnless (λ i. nat_lt i 4 || is_in_field L (stored_of L b t p) i) b p (num b (vtable b p + 2) 2)
+PadsTableWithZeros L b t p = ZeroUnless (λ i. nat_lt i 4 || is_in_field L (stored_of L b t p) i) b p
+    (num b (vtable b p + 2) 2)
 
 -- the number that an absent slot stands for, if it stands for one: without its code a union has none of its members
 abbrev pub absent_number : Slot → StoredShape → Option ℤ
@@ -54,7 +61,8 @@ stored_number b q _ = pos 0
 
 abbrev pub NoneIsDefault : Bytes → ℕ → List StoredSlot → Type 0
 NoneIsDefault b p [] = Unit {0}
-NoneIsDefault b p (x ∷ xs) = ((n : ℤ) → absent_number x.slot x.slot.shape ≡ Some n → stored_number b (p + x.at) x.slot.shape ≢ n) × NoneIsDefault b p xs
+NoneIsDefault b p (x ∷ xs) = ((n : ℤ) → absent_number x.slot x.slot.shape ≡ Some n
+    → stored_number b (p + x.at) x.slot.shape ≢ n) × NoneIsDefault b p xs
 
 -- No stored field holds the number that an absent one would have.
 abbrev pub StoresNoDefault : LaidSchema → Bytes → ℕ → ℕ → Type 0
@@ -71,7 +79,8 @@ StandsApartFrom L x (y ∷ ys) = StandApart L x y × StandsApartFrom L x ys
 -- Fields stand behind the first number of a table of a size and inside of it, and no two share a byte.
 abbrev pub AllStandApart : LaidSchema → ℕ → List StoredSlot → Type 0
 AllStandApart L size [] = Unit {0}
-AllStandApart L size (x ∷ xs) = (4 ≤ x.at) × (x.at + inline_size L x.slot.shape ≤ size) × StandsApartFrom L x xs × AllStandApart L size xs
+AllStandApart L size (x ∷ xs) = (4 ≤ x.at) × (x.at + inline_size L x.slot.shape ≤ size) × StandsApartFrom L x xs
+    × AllStandApart L size xs
 
 -- Each stored field has bytes of its own in the table.
 abbrev pub HasItsOwnBytes : LaidSchema → Bytes → ℕ → ℕ → Type 0
@@ -96,7 +105,8 @@ HoldsBits L b t p = AllHoldBits b p (stored_of L b t p)
 
 -- A union's value is stored only behind a stored code other than 0.
 abbrev pub CodesItsMembers : LaidSchema → Bytes → ℕ → ℕ → Type 0
-CodesItsMembers L b t p = (k : ℕ) (f : Slot) (u : ℕ) → slice_get (slots_of L t) k ≡ Some f → f.shape ≡ one_of (union_kind u) → is_present b p k ≡ true → code_at b p (k - 1) ≢ 0
+CodesItsMembers L b t p = (k : ℕ) (f : Slot) (u : ℕ) → slice_get (slots_of L t) k ≡ Some f
+    → f.shape ≡ one_of (union_kind u) → is_present b p k ≡ true → code_at b p (k - 1) ≢ 0
 
 -- A table and its vtable have nothing to spare.
 pub record IsTightTable (L : LaidSchema) (b : Bytes) (t p : ℕ) : Type 0 where

@@ -16,10 +16,13 @@ IsInline L _ = ⊥
 
 -- The fields of these offsets lie in a tail that begins at the offset `base`, and have nothing to spare.
 abbrev pub LieFrom : LaidSchema → Bytes → ℕ → List StoredKind → List ℕ → Parts → Type 0
-LieFrom L b base (kind ∷ kinds) (o ∷ os) (more_parts d ds) = (base ≤ o) × LiesInline L b kind (o - base) d × EachInlineIn L (IsTightInline L b) kind (o - base) d × LieFrom L b base kinds os ds
+LieFrom L b base (kind ∷ kinds) (o ∷ os) (more_parts d ds) =
+    (base ≤ o) × LiesInline L b kind (o - base) d × EachInlineIn L (IsTightInline L b) kind (o - base) d
+    × LieFrom L b base kinds os ds
 LieFrom L b base [] _ no_parts = Unit {0}
 LieFrom L b base _ _ _ = ⊥
 
 -- In a tail that begins at the offset `base` of a struct, the bytes that no field takes are 0.
 abbrev pub PadsFrom : LaidSchema → Bytes → ℕ → ℕ → Type 0
-PadsFrom L b s base = (i : ℕ) → base ≤ i → i < (struct_at L s).size → is_in_part L (parts_of L s) (struct_at L s).offsets i ≡ false → slice_index b (i - base) ≡ 0
+PadsFrom L b s base = (i : ℕ) → base ≤ i → i < (struct_at L s).size
+    → is_in_part L (parts_of L s) (struct_at L s).offsets i ≡ false → slice_index b (i - base) ≡ 0

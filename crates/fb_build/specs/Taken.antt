@@ -1,5 +1,6 @@
 -- Bytes that nothing takes.
-use Rattle.std.specs.Prelude.{ℕ, zero, suc, ◌+◌, ◌≡◌, ◌<◌, ◌↔◌, Bool, true, false, ◌&&◌, ◌||◌, ◌==◌, nat_lt, nat_le, slice_index}
+use Rattle.std.specs.Prelude.{ℕ, zero, suc, ◌+◌, ◌≡◌, ◌<◌, ◌↔◌, Bool, true, false, ◌&&◌, ◌||◌, ◌==◌, nat_lt, nat_le}
+use Rattle.std.specs.Prelude.{slice_index}
 use Rattle.fb_value.specs.Num.{Bytes}
 
 -- whether byte i is one of so many from a position on
@@ -17,4 +18,5 @@ are_zero_unless taken b p (suc n) = (taken n || (slice_index b (p + n) == 0)) &&
 
 -- What is computed is whether those bytes are 0.
 abbrev pub ZeroIsComputed : Type 0
-ZeroIsComputed = (taken : ℕ → Bool) (b : Bytes) (p n : ℕ) → (are_zero_unless taken b p n ≡ true) ↔ ZeroUnless taken b p n
+ZeroIsComputed = (taken : ℕ → Bool) (b : Bytes) (p n : ℕ)
+    → (are_zero_unless taken b p n ≡ true) ↔ ZeroUnless taken b p n

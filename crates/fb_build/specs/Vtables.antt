@@ -1,7 +1,8 @@
 -- The vtables of a value's tables, among known ones.
 use Rattle.std.specs.Prelude.{ℕ, ◌≡◌, List, [], ◌∷◌, Option, None, Some, slice_get}
 use Rattle.fb_layout.specs.Laid.{LaidSchema, StoredKind, StoredShape, slots_of}
-use Rattle.fb_value.specs.Datum.{Datum, a_vector, a_table, a_member, Parts, no_parts, more_parts, SlotEntries, no_entries, absent_entry, present_entry}
+use Rattle.fb_value.specs.Datum.{Datum, a_vector, a_table, a_member, Parts, no_parts, more_parts, SlotEntries}
+use Rattle.fb_value.specs.Datum.{no_entries, absent_entry, present_entry}
 use Rattle.fb_value.specs.Fits.{Fits, EachFits}
 use Rattle.fb_value.specs.Num.{Bytes}
 use Rattle.fb_build.specs.Fields.{IsElement, IsSimple, stored_in}
@@ -16,7 +17,8 @@ AreKept old new = (i : ℕ) (vtable : Bytes) → slice_get old i ≡ Some vtable
 
 -- No vtable is known at two indices.
 abbrev pub AreDifferent : List Bytes → Type 0
-AreDifferent known = (i j : ℕ) (vtable : Bytes) → slice_get known i ≡ Some vtable → slice_get known j ≡ Some vtable → i ≡ j
+AreDifferent known = (i j : ℕ) (vtable : Bytes) → slice_get known i ≡ Some vtable → slice_get known j ≡ Some vtable
+    → i ≡ j
 
 abbrev pub entries_listed : SlotEntries → List (Option Datum)
 entries_listed no_entries = []

@@ -35,7 +35,7 @@ pub fn plan<'v>(alloc: Global, layout: &'v Layout, value: &'v Value) -> Result<P
     ensures too_big { IfErr result (λ e. e ≡ TooBig → 2147483647 < room_of layout.now (view value.now)) }
     ensures memory { IfErr result (λ e. e ≡ Memory → room_of layout.now (view value.now) ≤ 2147483647) }
 {
-    let _schema = layout.schema(); // tells that the layout is well made
+    let _schema = layout.schema(); // its contract: the layout is well made
     let Some(room) = room(layout, value) else {
         return Err(BuildFault::TooBig);
     };

@@ -13,8 +13,7 @@ ghost use Rattle.fb_build.specs.Fields.{scalar_in, number_in, number_of_datum, i
 ghost use Rattle.fb_build.specs.Fields.{StoredEnd, EntriesEnd, AreKnown, size_at, stored_align};
 ghost use Rattle.fb_build.specs.Fields.{stored_below, slots_seen, entries_seen, stored_room};
 ghost use Rattle.fb_build.specs.Fields.{fields_size, size_above, slot_seen, entry_stored, shape_seen};
-ghost use Rattle.fb_build.specs.FieldEnds.{AreCounted};
-ghost use Rattle.fb_build.specs.Filled.{AreFilled};
+ghost use Rattle.fb_build.specs.FieldsLaid.{AreFieldsLaid, AreSlotsLaid};
 
 use crate::numbers::lay_number;
 use crate::places::lay_place;
@@ -219,16 +218,11 @@ fn lay_pass(
     ends: &mut [u32],
 ) -> u32
     requires long { length entries.now ≡ length slots.now }
-    requires each { length ends.old ≡ length slots.now }
     requires low { start ≤ length out.old.bytes }
     requires known { AreKnown layout.now (slots_seen layout.now slots.now)
         (stored_seen layout.now slots.now entries.now) }
-    requires state { EntriesEnd layout.now start out.old.most out.old.bytes (λ k. above layout.now align)
-        (slots_seen layout.now slots.now) (stored_seen layout.now slots.now entries.now) ends.old }
-    requires filled { AreFilled layout.now start (length out.old.bytes) (λ k. above layout.now align)
-        (slots_seen layout.now slots.now) (stored_seen layout.now slots.now entries.now) ends.old }
-    requires counted { AreCounted layout.now start (λ k. above layout.now align)
-        (slots_seen layout.now slots.now) (stored_seen layout.now slots.now entries.now) ends.old }
+    requires laid { AreSlotsLaid layout.now out.old (λ k. above layout.now align)
+        (slots_seen layout.now slots.now) (stored_seen layout.now slots.now entries.now) start ends.old }
     requires count { length out.old.bytes ≡ start + size_above layout.now align
         (slots_seen layout.now slots.now) (stored_seen layout.now slots.now entries.now) }
     requires whole { divides align (length out.old.bytes) ≡ true }
@@ -237,17 +231,12 @@ fn lay_pass(
         (stored_seen layout.now slots.now entries.now) ≤ out.old.free }
     ensures next { result ≡ stored_below layout.now align (slots_seen layout.now slots.now)
         (stored_seen layout.now slots.now entries.now) }
-    ensures each { length ends.new ≡ length slots.now }
-    ensures state { EntriesEnd layout.now start out.new.most out.new.bytes (λ k. from layout.now align)
-        (slots_seen layout.now slots.now) (stored_seen layout.now slots.now entries.now) ends.new }
-    ensures filled { AreFilled layout.now start (length out.new.bytes) (λ k. from layout.now align)
-        (slots_seen layout.now slots.now) (stored_seen layout.now slots.now entries.now) ends.new }
+    ensures laid { AreSlotsLaid layout.now out.new (λ k. from layout.now align)
+        (slots_seen layout.now slots.now) (stored_seen layout.now slots.now entries.now) start ends.new }
     ensures leads { (targets : List ℕ) → FieldsLead out.old.bytes (λ k. above layout.now align)
         (slots_seen layout.now slots.now) (stored_seen layout.now slots.now entries.now) targets ends.old
         → FieldsLead out.new.bytes (λ k. from layout.now align) (slots_seen layout.now slots.now)
         (stored_seen layout.now slots.now entries.now) targets ends.new }
-    ensures counted { AreCounted layout.now start (λ k. from layout.now align)
-        (slots_seen layout.now slots.now) (stored_seen layout.now slots.now entries.now) ends.new }
     ensures whole { divides align (length out.new.bytes) ≡ true }
     ensures free { out.new.free + size_at layout.now align (slots_seen layout.now slots.now)
         (stored_seen layout.now slots.now entries.now) ≡ out.old.free }
@@ -321,25 +310,14 @@ pub(crate) fn lay_fields(
         (slots_seen layout.now slots.now) (stored_seen layout.now slots.now entries.now) ends.old }
     requires room { stored_room layout.now (slots_seen layout.now slots.now)
         (stored_seen layout.now slots.now entries.now) ≤ out.old.free }
-    ensures each { length ends.new ≡ length slots.now }
-    ensures state { EntriesEnd layout.now result out.new.most out.new.bytes (λ k f. true)
-        (slots_seen layout.now slots.now) (stored_seen layout.now slots.now entries.now) ends.new }
-    ensures filled { AreFilled layout.now result (length out.new.bytes) (λ k f. true)
-        (slots_seen layout.now slots.now) (stored_seen layout.now slots.now entries.now) ends.new }
+    ensures laid { AreFieldsLaid layout.now out.new (slots_seen layout.now slots.now)
+        (stored_seen layout.now slots.now entries.now) result ends.new }
     ensures leads { FieldsLead out.new.bytes (λ k f. true) (slots_seen layout.now slots.now)
         (stored_seen layout.now slots.now entries.now) ends.old ends.new }
     ensures front { FieldsFront out.old out.new result (max 4 (stored_align layout.now
         (slots_seen layout.now slots.now) (stored_seen layout.now slots.now entries.now))) }
-    ensures counted { AreCounted layout.now result (λ k f. true) (slots_seen layout.now slots.now)
-        (stored_seen layout.now slots.now entries.now) ends.new }
     ensures bound { out.new.most ≤ max out.old.most (greatest layout.now) }
     ensures grows { Grows out.old out.new }
-    ensures wide { divides 4 out.new.most ≡ true }
-    ensures start { result ≤ length out.new.bytes }
-    ensures whole { result % 4 ≡ 0 }
-    ensures size { length out.new.bytes ≡ result
-        + fields_size layout.now (slots_seen layout.now slots.now)
-        (stored_seen layout.now slots.now entries.now) }
     ensures spent { out.old.free ≤ out.new.free + stored_room layout.now (slots_seen layout.now slots.now)
         (stored_seen layout.now slots.now entries.now) }
 {

@@ -143,7 +143,7 @@ fn add_vtable(
     ensures each { length ends.new ≡ length ends.old }
     ensures fault { IfErr result (λ e. e ≡ Memory) }
 {
-    let _schema = layout.schema(); // tells that the layout is well made
+    let _schema = layout.schema(); // its contract: the layout is well made
     let slots = layout.slots_of(table);
     let ends = &mut ends[..slots.len()];
     let most = layout.table_align(table);
@@ -184,7 +184,7 @@ pub(crate) fn add_table(
     ensures each { length ends.new ≡ length ends.old }
     ensures fault { IfErr result (λ e. e ≡ Memory) }
 {
-    let _schema = layout.schema(); // tells that the layout is well made
+    let _schema = layout.schema(); // its contract: the layout is well made
     let slots = entries.as_slice();
     add_vtable(alloc, known, layout, table, slots, ends, scratch)?;
     let mut most = 0;

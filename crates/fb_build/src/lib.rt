@@ -3,6 +3,7 @@
 
 mod blocks;
 mod buffers;
+mod builder;
 mod faults;
 mod fields;
 mod keys;

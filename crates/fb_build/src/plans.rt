@@ -8,7 +8,9 @@ ghost use Rattle.fb_value.specs.Room.{room_of};
 ghost use Rattle.fb_value.specs.View.{view};
 ghost use Rattle.fb_build.specs.Covered.{Covered, EndsAligned};
 
+use crate::builder::Builder;
 use crate::roots::fill;
+use crate::tail::Tail;
 use fb_layout::Layout;
 use fb_value::Value;
 use indexmap::IndexSet;
@@ -60,22 +62,19 @@ impl Plan<'_> {
             value,
             block,
             known,
-            mut places,
+            places,
             mut pending,
-            mut scratch,
+            scratch,
         } = self;
         let Value::Fields(table, entries) = value else {
             unreachable!();
         };
-        fill(
-            layout,
-            *table,
-            entries,
-            block,
-            &known,
-            places.as_mut_slice(),
-            pending.as_mut_slice(),
-            scratch.as_mut_slice(),
-        )
+        let builder = Builder {
+            tail: Tail::new(block),
+            vtables: known,
+            places,
+            scratch,
+        };
+        fill(layout, *table, entries, builder, pending.as_mut_slice())
     }
 }

@@ -32,7 +32,7 @@ pub(crate) fn lay_struct(out: &mut Tail, layout: &Layout, structure: TypeId, par
     ensures most { out.new.most ≡ out.old.most }
     ensures grows { Grows out.old out.new }
 {
-    let _schema = layout.schema(); // tells that the layout is well made
+    let _schema = layout.schema(); // its contract: the layout is well made
     let fields = layout.parts_of(structure);
     let mut behind = layout.size_of(Kind::Struct(structure)) as usize;
     for k in 0..fields.len() {

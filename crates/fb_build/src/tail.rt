@@ -74,7 +74,7 @@ impl Tail {
     }
 
     /// Lays bytes.
-    #[tactic(auto, using(crate::proofs::Grown::grows_by))]
+    #[tactic(auto, using(crate::proofs::tail::WhatIsLaidStaysLaid::grows_by))]
     pub(crate) fn lay(&mut self, bytes: &[u8])
         requires room { length bytes.now ≤ self.old.free }
         ensures bytes { self.new.bytes ≡ bytes.now ++ self.old.bytes }

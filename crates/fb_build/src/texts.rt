@@ -22,7 +22,7 @@ pub(crate) fn lay_text(out: &mut Tail, text: &str) -> usize
     ensures spent { out.old.free ≤ out.new.free + (length text.now + 8) }
 {
     let count = text.len();
-    let _laid = out.count();
+    let _laid = out.count(); // its contract: what is laid and what is free are short
     out.pad(4, count + 1);
     out.lay(&[0]);
     out.lay(text.as_bytes());

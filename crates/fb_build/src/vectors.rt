@@ -125,7 +125,7 @@ pub(crate) fn close_vector(
     ensures spent { out.old.free ≤ out.new.free + vector_room layout.now (kind_seen layout.now kind)
         (length items.now) }
 {
-    let _laid = out.count();
+    let _laid = out.count(); // its contract: what is laid and what is free are short
     let size = layout.size_of(kind) as usize;
     let align = items_align(layout, kind);
     out.pad(align, items.len() * size);

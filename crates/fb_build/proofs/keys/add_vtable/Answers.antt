@@ -1,21 +1,22 @@
-use Rattle.std.proofs.Common.{ℕ, ◌≡◌, ◌≤◌, ◌+◌, ◌*◌, ◌++◌, ◌∙◌, Bool, true, false, not, if◌then◌else◌, List, [], ◌∷◌, Option, None, Some, IfSome, length, map, take, slice_get, slice_index, bytes_eq, refl, sym, ap, arith}
+use Rattle.std.proofs.Common.{ℕ, ◌≡◌, ◌≤◌, ◌+◌, ◌*◌, ◌++◌, ◌∙◌, Bool, true, false, not, if◌then◌else◌, List, [], ◌∷◌}
+use Rattle.std.proofs.Common.{Option, None, Some, IfSome, length, map, take, slice_get, slice_index, bytes_eq, refl}
+use Rattle.std.proofs.Common.{sym, ap, arith}
 use Rattle.std.specs.List.{list_any}
 use Rattle.std.specs.Option.{is_some}
 use Rattle.std.proofs.lemmas.List.{map-append}
-use Rattle.fb_layout.specs.Laid.{Slot, slot_of, slots_of}
+use Rattle.fb_layout.specs.Laid.{Slot, slots_of}
 use Rattle.fb_value.specs.Datum.{Datum}
 use Rattle.fb_value.specs.View.{entries_view}
 use Rattle.fb_build.specs.FieldEnds.{field_ends, table_size, table_vtable}
 use Rattle.fb_build.specs.Vtables.{IsKey, vtable_of}
-use Rattle.fb_build.proofs.Found.{key_more, kept_more, none_among}
-use Rattle.fb_build.proofs.VtableOf.{planned_is_of, ends_small, offset_low}
-use Rattle.fb_build.proofs.VtableKeys.{listed}
+use Rattle.fb_build.proofs.vtables.KeyHasTheBytes.{key_more, kept_more, none_among}
+use Rattle.fb_build.proofs.vtables.VtableHasTheDefinedBytes.{planned_is_of, ends_small, offset_low}
+use Rattle.fb_build.proofs.vtables.EachVtableIsAKey.{listed}
 use Rattle.fb_layout.proofs.Wide.{ceil-is}
-use Rattle.fb_build.specs.Fields.{stored_in, slots_seen, entries_seen, fields_size}
-use Rattle.fb_build.proofs.PassSteps.{slots_long, entries_long}
-use Rattle.fb_build.proofs.CycleSteps.{known_of}
-use Rattle.fb_build.proofs.Simple.{all_known}
-use Rattle.fb_build.proofs.TableRoom.{fields_narrow, stored_within}
+use Rattle.fb_build.specs.Fields.{stored_in, entries_seen, fields_size}
+use Rattle.fb_build.proofs.fields.PassTakesOneSlot.{slots_long, entries_long}
+use Rattle.fb_build.proofs.tables.PartsFitTheirSlots.{known_of, slots_are}
+use Rattle.fb_build.proofs.tables.TableFitsItsRoom.{fields_narrow, stored_within}
 use Rattle.fb_build.proofs.keys.add_vtable.Goals as goal
 
 pub place_fields-end-requires-clause-known : goal.place_fields-end-requires-clause-known
@@ -23,8 +24,8 @@ place_fields-end-requires-clause-known c =
     let L = c.args.layout.now in
     let es = c.args.entries.now in
     let made = c.schema-schema.ensures.made in
-    let known = known_of L c.args.table.0 es made.declared (all_known L made) c.requires.fits c.requires.whole in
-    let seen : slots_seen L c.slots_of-slots.result.now ≡ slots_of L c.args.table.0 = ap (map (slot_of L.schema)) c.slots_of-slots.ensures.slots in
+    let known = known_of L c.args.table.0 es made c.requires.fits c.requires.whole in
+    let seen = slots_are L c.args.table.0 c.slots_of-slots.result.now c.slots_of-slots.ensures.slots in
     rw seen known.known
 
 pub place_fields-end-requires-clause-low : goal.place_fields-end-requires-clause-low
@@ -32,26 +33,28 @@ place_fields-end-requires-clause-low c =
     let L = c.args.layout.now in
     let es = c.args.entries.now in
     let made = c.schema-schema.ensures.made in
-    let known = known_of L c.args.table.0 es made.declared (all_known L made) c.requires.fits c.requires.whole in
-    let seen : slots_seen L c.slots_of-slots.result.now ≡ slots_of L c.args.table.0 = ap (map (slot_of L.schema)) c.slots_of-slots.ensures.slots in
-    rw (seen, c.table_align-most.ensures) (stored_within L c.args.table.0 (stored_in (slots_of L c.args.table.0) (entries_seen es)) known.known)
+    let known = known_of L c.args.table.0 es made c.requires.fits c.requires.whole in
+    let seen = slots_are L c.args.table.0 c.slots_of-slots.result.now c.slots_of-slots.ensures.slots in
+    rw (seen, c.table_align-most.ensures)
+    (stored_within L c.args.table.0 (stored_in (slots_of L c.args.table.0) (entries_seen es)) known.known)
 
 pub place_fields-end-requires-clause-narrow : goal.place_fields-end-requires-clause-narrow
 place_fields-end-requires-clause-narrow c =
     let L = c.args.layout.now in
     let es = c.args.entries.now in
     let made = c.schema-schema.ensures.made in
-    let known = known_of L c.args.table.0 es made.declared (all_known L made) c.requires.fits c.requires.whole in
-    let seen : slots_seen L c.slots_of-slots.result.now ≡ slots_of L c.args.table.0 = ap (map (slot_of L.schema)) c.slots_of-slots.ensures.slots in
-    rw seen (fields_narrow L c.args.table.0 (stored_in (slots_of L c.args.table.0) (entries_seen es)) known.known (made.tables c.args.table.0).wide)
+    let known = known_of L c.args.table.0 es made c.requires.fits c.requires.whole in
+    let seen = slots_are L c.args.table.0 c.slots_of-slots.result.now c.slots_of-slots.ensures.slots in
+    rw seen (fields_narrow L c.args.table.0 (stored_in (slots_of L c.args.table.0) (entries_seen es)) known.known
+    (made.tables c.args.table.0).wide)
 
 pub place_fields-end-requires-clause-long : goal.place_fields-end-requires-clause-long
 place_fields-end-requires-clause-long c =
     let L = c.args.layout.now in
     let es = c.args.entries.now in
     let made = c.schema-schema.ensures.made in
-    let known = known_of L c.args.table.0 es made.declared (all_known L made) c.requires.fits c.requires.whole in
-    let seen : slots_seen L c.slots_of-slots.result.now ≡ slots_of L c.args.table.0 = ap (map (slot_of L.schema)) c.slots_of-slots.ensures.slots in
+    let known = known_of L c.args.table.0 es made c.requires.fits c.requires.whole in
+    let seen = slots_are L c.args.table.0 c.slots_of-slots.result.now c.slots_of-slots.ensures.slots in
     omega (arith, ap length seen, slots_long L c.slots_of-slots.result.now, known.long, entries_long es)
 
 pub next_multiple_of-place-requires-clause-fits : goal.next_multiple_of-place-requires-clause-fits
@@ -59,13 +62,18 @@ next_multiple_of-place-requires-clause-fits c =
     let L = c.args.layout.now in
     let es = c.args.entries.now in
     let made = c.schema-schema.ensures.made in
-    let known = known_of L c.args.table.0 es made.declared (all_known L made) c.requires.fits c.requires.whole in
-    let seen : slots_seen L c.slots_of-slots.result.now ≡ slots_of L c.args.table.0 = ap (map (slot_of L.schema)) c.slots_of-slots.ensures.slots in
+    let known = known_of L c.args.table.0 es made c.requires.fits c.requires.whole in
+    let seen = slots_are L c.args.table.0 c.slots_of-slots.result.now c.slots_of-slots.ensures.slots in
     let fs = slots_of L c.args.table.0 in
     let xs = stored_in fs (entries_seen es) in
-    let ends : c.place_fields-end.new.ends ≡ field_ends L fs xs = c.place_fields-end.ensures.ends ∙ ap (λ (gs : List Slot). field_ends L gs (stored_in gs (entries_seen es))) seen in
-    let size : c.place_fields-end.result ≡ fields_size L fs xs = c.place_fields-end.ensures.size ∙ ap (λ (gs : List Slot). fields_size L gs (stored_in gs (entries_seen es))) seen in
-    let small : fields_size L fs xs ≤ 65528 = fields_narrow L c.args.table.0 xs known.known (made.tables c.args.table.0).wide in
+    let ends : c.place_fields-end.new.ends ≡ field_ends L fs xs =
+    c.place_fields-end.ensures.ends ∙ ap (λ (gs : List Slot). field_ends L gs (stored_in gs (entries_seen es)))
+    seen in
+    let size : c.place_fields-end.result ≡ fields_size L fs xs =
+    c.place_fields-end.ensures.size ∙ ap (λ (gs : List Slot). fields_size L gs (stored_in gs (entries_seen es)))
+    seen in
+    let small : fields_size L fs xs ≤ 65528 =
+    fields_narrow L c.args.table.0 xs known.known (made.tables c.args.table.0).wide in
     omega (arith, ceil-is c.place_fields-end.result, size, small)
 
 pub overflow_add-place : goal.overflow_add-place
@@ -73,63 +81,108 @@ overflow_add-place c =
     let L = c.args.layout.now in
     let es = c.args.entries.now in
     let made = c.schema-schema.ensures.made in
-    let known = known_of L c.args.table.0 es made.declared (all_known L made) c.requires.fits c.requires.whole in
-    let seen : slots_seen L c.slots_of-slots.result.now ≡ slots_of L c.args.table.0 = ap (map (slot_of L.schema)) c.slots_of-slots.ensures.slots in
+    let known = known_of L c.args.table.0 es made c.requires.fits c.requires.whole in
+    let seen = slots_are L c.args.table.0 c.slots_of-slots.result.now c.slots_of-slots.ensures.slots in
     let fs = slots_of L c.args.table.0 in
     let xs = stored_in fs (entries_seen es) in
-    let ends : c.place_fields-end.new.ends ≡ field_ends L fs xs = c.place_fields-end.ensures.ends ∙ ap (λ (gs : List Slot). field_ends L gs (stored_in gs (entries_seen es))) seen in
-    let size : c.place_fields-end.result ≡ fields_size L fs xs = c.place_fields-end.ensures.size ∙ ap (λ (gs : List Slot). fields_size L gs (stored_in gs (entries_seen es))) seen in
-    let small : fields_size L fs xs ≤ 65528 = fields_narrow L c.args.table.0 xs known.known (made.tables c.args.table.0).wide in
-    record { fits = omega (arith, c.next_multiple_of-place.ensures.value, ceil-is c.place_fields-end.result, size, small) }
+    let ends : c.place_fields-end.new.ends ≡ field_ends L fs xs =
+    c.place_fields-end.ensures.ends ∙ ap (λ (gs : List Slot). field_ends L gs (stored_in gs (entries_seen es)))
+    seen in
+    let size : c.place_fields-end.result ≡ fields_size L fs xs =
+    c.place_fields-end.ensures.size ∙ ap (λ (gs : List Slot). fields_size L gs (stored_in gs (entries_seen es)))
+    seen in
+    let small : fields_size L fs xs ≤ 65528 =
+    fields_narrow L c.args.table.0 xs known.known (made.tables c.args.table.0).wide in
+    record {
+      fits = omega (
+        arith,
+        c.next_multiple_of-place.ensures.value,
+        ceil-is c.place_fields-end.result,
+        size,
+        small,
+      );
+    }
 
 pub overflow_cast-place : goal.overflow_cast-place
 overflow_cast-place c =
     let L = c.args.layout.now in
     let es = c.args.entries.now in
     let made = c.schema-schema.ensures.made in
-    let known = known_of L c.args.table.0 es made.declared (all_known L made) c.requires.fits c.requires.whole in
-    let seen : slots_seen L c.slots_of-slots.result.now ≡ slots_of L c.args.table.0 = ap (map (slot_of L.schema)) c.slots_of-slots.ensures.slots in
+    let known = known_of L c.args.table.0 es made c.requires.fits c.requires.whole in
+    let seen = slots_are L c.args.table.0 c.slots_of-slots.result.now c.slots_of-slots.ensures.slots in
     let fs = slots_of L c.args.table.0 in
     let xs = stored_in fs (entries_seen es) in
-    let ends : c.place_fields-end.new.ends ≡ field_ends L fs xs = c.place_fields-end.ensures.ends ∙ ap (λ (gs : List Slot). field_ends L gs (stored_in gs (entries_seen es))) seen in
-    let size : c.place_fields-end.result ≡ fields_size L fs xs = c.place_fields-end.ensures.size ∙ ap (λ (gs : List Slot). fields_size L gs (stored_in gs (entries_seen es))) seen in
-    let small : fields_size L fs xs ≤ 65528 = fields_narrow L c.args.table.0 xs known.known (made.tables c.args.table.0).wide in
-    record { fits = omega (arith, c.next_multiple_of-place.ensures.value, ceil-is c.place_fields-end.result, size, small) }
+    let ends : c.place_fields-end.new.ends ≡ field_ends L fs xs =
+    c.place_fields-end.ensures.ends ∙ ap (λ (gs : List Slot). field_ends L gs (stored_in gs (entries_seen es)))
+    seen in
+    let size : c.place_fields-end.result ≡ fields_size L fs xs =
+    c.place_fields-end.ensures.size ∙ ap (λ (gs : List Slot). fields_size L gs (stored_in gs (entries_seen es)))
+    seen in
+    let small : fields_size L fs xs ≤ 65528 =
+    fields_narrow L c.args.table.0 xs known.known (made.tables c.args.table.0).wide in
+    record {
+      fits = omega (
+        arith,
+        c.next_multiple_of-place.ensures.value,
+        ceil-is c.place_fields-end.result,
+        size,
+        small,
+      );
+    }
 
 pub put_vtable-used-requires-clause-under : goal.put_vtable-used-requires-clause-under
 put_vtable-used-requires-clause-under c k =
     let L = c.args.layout.now in
     let es = c.args.entries.now in
     let made = c.schema-schema.ensures.made in
-    let known = known_of L c.args.table.0 es made.declared (all_known L made) c.requires.fits c.requires.whole in
-    let seen : slots_seen L c.slots_of-slots.result.now ≡ slots_of L c.args.table.0 = ap (map (slot_of L.schema)) c.slots_of-slots.ensures.slots in
+    let known = known_of L c.args.table.0 es made c.requires.fits c.requires.whole in
+    let seen = slots_are L c.args.table.0 c.slots_of-slots.result.now c.slots_of-slots.ensures.slots in
     let fs = slots_of L c.args.table.0 in
     let xs = stored_in fs (entries_seen es) in
-    let ends : c.place_fields-end.new.ends ≡ field_ends L fs xs = c.place_fields-end.ensures.ends ∙ ap (λ (gs : List Slot). field_ends L gs (stored_in gs (entries_seen es))) seen in
-    let size : c.place_fields-end.result ≡ fields_size L fs xs = c.place_fields-end.ensures.size ∙ ap (λ (gs : List Slot). fields_size L gs (stored_in gs (entries_seen es))) seen in
-    let small : fields_size L fs xs ≤ 65528 = fields_narrow L c.args.table.0 xs known.known (made.tables c.args.table.0).wide in
+    let ends : c.place_fields-end.new.ends ≡ field_ends L fs xs =
+    c.place_fields-end.ensures.ends ∙ ap (λ (gs : List Slot). field_ends L gs (stored_in gs (entries_seen es)))
+    seen in
+    let size : c.place_fields-end.result ≡ fields_size L fs xs =
+    c.place_fields-end.ensures.size ∙ ap (λ (gs : List Slot). fields_size L gs (stored_in gs (entries_seen es)))
+    seen in
+    let small : fields_size L fs xs ≤ 65528 =
+    fields_narrow L c.args.table.0 xs known.known (made.tables c.args.table.0).wide in
     let own = ap (λ (ns : List ℕ). slice_index ns k) ends in
-    omega (arith, own, ends_small L fs xs known.known k, c.next_multiple_of-place.ensures.value, ceil-is c.place_fields-end.result, size)
+    omega (
+      arith,
+      own,
+      ends_small L fs xs known.known k,
+      c.next_multiple_of-place.ensures.value,
+      ceil-is c.place_fields-end.result,
+      size,
+    )
 
 pub put_vtable-used-requires-clause-fits : goal.put_vtable-used-requires-clause-fits
 put_vtable-used-requires-clause-fits c k =
     let L = c.args.layout.now in
     let es = c.args.entries.now in
     let made = c.schema-schema.ensures.made in
-    let known = known_of L c.args.table.0 es made.declared (all_known L made) c.requires.fits c.requires.whole in
-    let seen : slots_seen L c.slots_of-slots.result.now ≡ slots_of L c.args.table.0 = ap (map (slot_of L.schema)) c.slots_of-slots.ensures.slots in
+    let known = known_of L c.args.table.0 es made c.requires.fits c.requires.whole in
+    let seen = slots_are L c.args.table.0 c.slots_of-slots.result.now c.slots_of-slots.ensures.slots in
     let fs = slots_of L c.args.table.0 in
     let xs = stored_in fs (entries_seen es) in
-    let ends : c.place_fields-end.new.ends ≡ field_ends L fs xs = c.place_fields-end.ensures.ends ∙ ap (λ (gs : List Slot). field_ends L gs (stored_in gs (entries_seen es))) seen in
-    let size : c.place_fields-end.result ≡ fields_size L fs xs = c.place_fields-end.ensures.size ∙ ap (λ (gs : List Slot). fields_size L gs (stored_in gs (entries_seen es))) seen in
-    let small : fields_size L fs xs ≤ 65528 = fields_narrow L c.args.table.0 xs known.known (made.tables c.args.table.0).wide in
-    offset_low (c.next_multiple_of-place.result + 4) (slice_index c.place_fields-end.new.ends k) (omega (arith, c.next_multiple_of-place.ensures.value, ceil-is c.place_fields-end.result, size, small))
+    let ends : c.place_fields-end.new.ends ≡ field_ends L fs xs =
+    c.place_fields-end.ensures.ends ∙ ap (λ (gs : List Slot). field_ends L gs (stored_in gs (entries_seen es)))
+    seen in
+    let size : c.place_fields-end.result ≡ fields_size L fs xs =
+    c.place_fields-end.ensures.size ∙ ap (λ (gs : List Slot). fields_size L gs (stored_in gs (entries_seen es)))
+    seen in
+    let small : fields_size L fs xs ≤ 65528 =
+    fields_narrow L c.args.table.0 xs known.known (made.tables c.args.table.0).wide in
+    offset_low (c.next_multiple_of-place.result + 4) (slice_index c.place_fields-end.new.ends k)
+    (omega (arith, c.next_multiple_of-place.ensures.value, ceil-is c.place_fields-end.result, size, small))
 
 none_is : (o : Option ℕ) → is_some o ≡ false → o ≡ None
 none_is None is = refl
 none_is (Some n) is = cc
 
-found_at : (known : List (List ℕ)) (vt : List ℕ) (o : Option ℕ) → is_some o ≡ true → IfSome o (λ i. slice_get known i ≡ Some vt) → IsKey known vt
+found_at : (known : List (List ℕ)) (vt : List ℕ) (o : Option ℕ) → is_some o ≡ true
+    → IfSome o (λ i. slice_get known i ≡ Some vt) → IsKey known vt
 found_at known vt None out there = cc
 found_at known vt (Some i) out there = (i, there)
 
@@ -138,27 +191,41 @@ returns-in_ok-insert-clause-key c =
     let L = c.args.layout.now in
     let es = c.args.entries.now in
     let made = c.schema-schema.ensures.made in
-    let known = known_of L c.args.table.0 es made.declared (all_known L made) c.requires.fits c.requires.whole in
-    let seen : slots_seen L c.slots_of-slots.result.now ≡ slots_of L c.args.table.0 = ap (map (slot_of L.schema)) c.slots_of-slots.ensures.slots in
+    let known = known_of L c.args.table.0 es made c.requires.fits c.requires.whole in
+    let seen = slots_are L c.args.table.0 c.slots_of-slots.result.now c.slots_of-slots.ensures.slots in
     let fs = slots_of L c.args.table.0 in
     let xs = stored_in fs (entries_seen es) in
-    let ends : c.place_fields-end.new.ends ≡ field_ends L fs xs = c.place_fields-end.ensures.ends ∙ ap (λ (gs : List Slot). field_ends L gs (stored_in gs (entries_seen es))) seen in
-    let size : c.place_fields-end.result ≡ fields_size L fs xs = c.place_fields-end.ensures.size ∙ ap (λ (gs : List Slot). fields_size L gs (stored_in gs (entries_seen es))) seen in
-    let small : fields_size L fs xs ≤ 65528 = fields_narrow L c.args.table.0 xs known.known (made.tables c.args.table.0).wide in
-    let place : c.next_multiple_of-place.result + 4 ≡ table_size L fs xs = omega (arith, c.next_multiple_of-place.ensures.value, ceil-is c.place_fields-end.result, size) in
-    let whole : vtable_of L c.args.table.0 (entries_view es) ≡ table_vtable L fs xs = ap (λ (ys : List (Option Datum)). table_vtable L fs (stored_in fs ys)) (listed (entries_seen es)) in
+    let ends : c.place_fields-end.new.ends ≡ field_ends L fs xs =
+    c.place_fields-end.ensures.ends ∙ ap (λ (gs : List Slot). field_ends L gs (stored_in gs (entries_seen es)))
+    seen in
+    let size : c.place_fields-end.result ≡ fields_size L fs xs =
+    c.place_fields-end.ensures.size ∙ ap (λ (gs : List Slot). fields_size L gs (stored_in gs (entries_seen es)))
+    seen in
+    let small : fields_size L fs xs ≤ 65528 =
+    fields_narrow L c.args.table.0 xs known.known (made.tables c.args.table.0).wide in
+    let place : c.next_multiple_of-place.result + 4 ≡ table_size L fs xs =
+    omega (arith, c.next_multiple_of-place.ensures.value, ceil-is c.place_fields-end.result, size) in
+    let whole : vtable_of L c.args.table.0 (entries_view es) ≡ table_vtable L fs xs =
+    ap (λ (ys : List (Option Datum)). table_vtable L fs (stored_in fs ys)) (listed (entries_seen es)) in
     let put = c.put_vtable-used.ensures in
-    let is : take (4 + 2 * c.put_vtable-used.result) c.put_vtable-used.new.scratch ≡ vtable_of L c.args.table.0 (entries_view es) =
-    put.there ∙ planned_is_of L fs xs c.place_fields-end.new.ends (c.next_multiple_of-place.result + 4) c.put_vtable-used.result ends place put.within put.rest put.last ∙ sym whole in
+    let is : take (4 + 2 * c.put_vtable-used.result) c.put_vtable-used.new.scratch
+    ≡ vtable_of L c.args.table.0 (entries_view es) =
+    put.there ∙ planned_is_of L fs xs c.place_fields-end.new.ends (c.next_multiple_of-place.result + 4)
+    c.put_vtable-used.result ends place put.within put.rest put.last ∙ sym whole in
     let old = c.args.known.now.keys in
     let value = c.in_ok-to_vec.field-0 in
-    let bytes : value.items ≡ vtable_of L c.args.table.0 (entries_view es) = c.in_ok-to_vec.ensures.items_if_clones_equal (λ x y h. h) ∙ is in
+    let bytes : value.items ≡ vtable_of L c.args.table.0 (entries_view es) =
+    c.in_ok-to_vec.ensures.items_if_clones_equal (λ x y h. h) ∙ is in
     let none = none_is c.index_of.result (c.is_none.ensures ∙ ap not c.if-is_none.true) in
     let absent : list_any (λ k. bytes_eq value.items k.items) old ≡ false =
-    none_among (λ k. k.items) value.items old (λ i there. c.index_of.ensures.absent none (i, there ∙ ap (λ (b : List ℕ). Some b) (bytes ∙ sym is))) in
-    let keys : c.insert.new.self.keys ≡ old ++ value ∷ [] = c.in_ok-insert.ensures.keys ∙ ap (λ (b : Bool). if b then old else old ++ value ∷ []) absent in
-    let seen_keys : map (λ k. k.items) c.insert.new.self.keys ≡ map (λ k. k.items) old ++ vtable_of L c.args.table.0 (entries_view es) ∷ [] =
-    ap (map (λ k. k.items)) keys ∙ (map-append (λ k. k.items) old (value ∷ []) ∙ ap (λ (b : List ℕ). map (λ k. k.items) old ++ b ∷ []) bytes) in
+    none_among (λ k. k.items) value.items old
+    (λ i there. c.index_of.ensures.absent none (i, there ∙ ap (λ (b : List ℕ). Some b) (bytes ∙ sym is))) in
+    let keys : c.insert.new.self.keys ≡ old ++ value ∷ [] =
+    c.in_ok-insert.ensures.keys ∙ ap (λ (b : Bool). if b then old else old ++ value ∷ []) absent in
+    let seen_keys : map (λ k. k.items) c.insert.new.self.keys
+    ≡ map (λ k. k.items) old ++ vtable_of L c.args.table.0 (entries_view es) ∷ [] =
+    ap (map (λ k. k.items)) keys ∙ (map-append (λ k. k.items) old (value ∷ [])
+    ∙ ap (λ (b : List ℕ). map (λ k. k.items) old ++ b ∷ []) bytes) in
     rw seen_keys (key_more (map (λ k. k.items) old) (vtable_of L c.args.table.0 (entries_view es)))
 
 pub returns-in_ok-insert-clause-kept : goal.returns-in_ok-insert-clause-kept
@@ -166,27 +233,41 @@ returns-in_ok-insert-clause-kept c =
     let L = c.args.layout.now in
     let es = c.args.entries.now in
     let made = c.schema-schema.ensures.made in
-    let known = known_of L c.args.table.0 es made.declared (all_known L made) c.requires.fits c.requires.whole in
-    let seen : slots_seen L c.slots_of-slots.result.now ≡ slots_of L c.args.table.0 = ap (map (slot_of L.schema)) c.slots_of-slots.ensures.slots in
+    let known = known_of L c.args.table.0 es made c.requires.fits c.requires.whole in
+    let seen = slots_are L c.args.table.0 c.slots_of-slots.result.now c.slots_of-slots.ensures.slots in
     let fs = slots_of L c.args.table.0 in
     let xs = stored_in fs (entries_seen es) in
-    let ends : c.place_fields-end.new.ends ≡ field_ends L fs xs = c.place_fields-end.ensures.ends ∙ ap (λ (gs : List Slot). field_ends L gs (stored_in gs (entries_seen es))) seen in
-    let size : c.place_fields-end.result ≡ fields_size L fs xs = c.place_fields-end.ensures.size ∙ ap (λ (gs : List Slot). fields_size L gs (stored_in gs (entries_seen es))) seen in
-    let small : fields_size L fs xs ≤ 65528 = fields_narrow L c.args.table.0 xs known.known (made.tables c.args.table.0).wide in
-    let place : c.next_multiple_of-place.result + 4 ≡ table_size L fs xs = omega (arith, c.next_multiple_of-place.ensures.value, ceil-is c.place_fields-end.result, size) in
-    let whole : vtable_of L c.args.table.0 (entries_view es) ≡ table_vtable L fs xs = ap (λ (ys : List (Option Datum)). table_vtable L fs (stored_in fs ys)) (listed (entries_seen es)) in
+    let ends : c.place_fields-end.new.ends ≡ field_ends L fs xs =
+    c.place_fields-end.ensures.ends ∙ ap (λ (gs : List Slot). field_ends L gs (stored_in gs (entries_seen es)))
+    seen in
+    let size : c.place_fields-end.result ≡ fields_size L fs xs =
+    c.place_fields-end.ensures.size ∙ ap (λ (gs : List Slot). fields_size L gs (stored_in gs (entries_seen es)))
+    seen in
+    let small : fields_size L fs xs ≤ 65528 =
+    fields_narrow L c.args.table.0 xs known.known (made.tables c.args.table.0).wide in
+    let place : c.next_multiple_of-place.result + 4 ≡ table_size L fs xs =
+    omega (arith, c.next_multiple_of-place.ensures.value, ceil-is c.place_fields-end.result, size) in
+    let whole : vtable_of L c.args.table.0 (entries_view es) ≡ table_vtable L fs xs =
+    ap (λ (ys : List (Option Datum)). table_vtable L fs (stored_in fs ys)) (listed (entries_seen es)) in
     let put = c.put_vtable-used.ensures in
-    let is : take (4 + 2 * c.put_vtable-used.result) c.put_vtable-used.new.scratch ≡ vtable_of L c.args.table.0 (entries_view es) =
-    put.there ∙ planned_is_of L fs xs c.place_fields-end.new.ends (c.next_multiple_of-place.result + 4) c.put_vtable-used.result ends place put.within put.rest put.last ∙ sym whole in
+    let is : take (4 + 2 * c.put_vtable-used.result) c.put_vtable-used.new.scratch
+    ≡ vtable_of L c.args.table.0 (entries_view es) =
+    put.there ∙ planned_is_of L fs xs c.place_fields-end.new.ends (c.next_multiple_of-place.result + 4)
+    c.put_vtable-used.result ends place put.within put.rest put.last ∙ sym whole in
     let old = c.args.known.now.keys in
     let value = c.in_ok-to_vec.field-0 in
-    let bytes : value.items ≡ vtable_of L c.args.table.0 (entries_view es) = c.in_ok-to_vec.ensures.items_if_clones_equal (λ x y h. h) ∙ is in
+    let bytes : value.items ≡ vtable_of L c.args.table.0 (entries_view es) =
+    c.in_ok-to_vec.ensures.items_if_clones_equal (λ x y h. h) ∙ is in
     let none = none_is c.index_of.result (c.is_none.ensures ∙ ap not c.if-is_none.true) in
     let absent : list_any (λ k. bytes_eq value.items k.items) old ≡ false =
-    none_among (λ k. k.items) value.items old (λ i there. c.index_of.ensures.absent none (i, there ∙ ap (λ (b : List ℕ). Some b) (bytes ∙ sym is))) in
-    let keys : c.insert.new.self.keys ≡ old ++ value ∷ [] = c.in_ok-insert.ensures.keys ∙ ap (λ (b : Bool). if b then old else old ++ value ∷ []) absent in
-    let seen_keys : map (λ k. k.items) c.insert.new.self.keys ≡ map (λ k. k.items) old ++ vtable_of L c.args.table.0 (entries_view es) ∷ [] =
-    ap (map (λ k. k.items)) keys ∙ (map-append (λ k. k.items) old (value ∷ []) ∙ ap (λ (b : List ℕ). map (λ k. k.items) old ++ b ∷ []) bytes) in
+    none_among (λ k. k.items) value.items old
+    (λ i there. c.index_of.ensures.absent none (i, there ∙ ap (λ (b : List ℕ). Some b) (bytes ∙ sym is))) in
+    let keys : c.insert.new.self.keys ≡ old ++ value ∷ [] =
+    c.in_ok-insert.ensures.keys ∙ ap (λ (b : Bool). if b then old else old ++ value ∷ []) absent in
+    let seen_keys : map (λ k. k.items) c.insert.new.self.keys
+    ≡ map (λ k. k.items) old ++ vtable_of L c.args.table.0 (entries_view es) ∷ [] =
+    ap (map (λ k. k.items)) keys ∙ (map-append (λ k. k.items) old (value ∷ [])
+    ∙ ap (λ (b : List ℕ). map (λ k. k.items) old ++ b ∷ []) bytes) in
     rw seen_keys (kept_more (map (λ k. k.items) old) (vtable_of L c.args.table.0 (entries_view es)))
 
 pub returns-else-is_none-clause-key : goal.returns-else-is_none-clause-key
@@ -194,16 +275,27 @@ returns-else-is_none-clause-key c =
     let L = c.args.layout.now in
     let es = c.args.entries.now in
     let made = c.schema-schema.ensures.made in
-    let known = known_of L c.args.table.0 es made.declared (all_known L made) c.requires.fits c.requires.whole in
-    let seen : slots_seen L c.slots_of-slots.result.now ≡ slots_of L c.args.table.0 = ap (map (slot_of L.schema)) c.slots_of-slots.ensures.slots in
+    let known = known_of L c.args.table.0 es made c.requires.fits c.requires.whole in
+    let seen = slots_are L c.args.table.0 c.slots_of-slots.result.now c.slots_of-slots.ensures.slots in
     let fs = slots_of L c.args.table.0 in
     let xs = stored_in fs (entries_seen es) in
-    let ends : c.place_fields-end.new.ends ≡ field_ends L fs xs = c.place_fields-end.ensures.ends ∙ ap (λ (gs : List Slot). field_ends L gs (stored_in gs (entries_seen es))) seen in
-    let size : c.place_fields-end.result ≡ fields_size L fs xs = c.place_fields-end.ensures.size ∙ ap (λ (gs : List Slot). fields_size L gs (stored_in gs (entries_seen es))) seen in
-    let small : fields_size L fs xs ≤ 65528 = fields_narrow L c.args.table.0 xs known.known (made.tables c.args.table.0).wide in
-    let place : c.next_multiple_of-place.result + 4 ≡ table_size L fs xs = omega (arith, c.next_multiple_of-place.ensures.value, ceil-is c.place_fields-end.result, size) in
-    let whole : vtable_of L c.args.table.0 (entries_view es) ≡ table_vtable L fs xs = ap (λ (ys : List (Option Datum)). table_vtable L fs (stored_in fs ys)) (listed (entries_seen es)) in
+    let ends : c.place_fields-end.new.ends ≡ field_ends L fs xs =
+    c.place_fields-end.ensures.ends ∙ ap (λ (gs : List Slot). field_ends L gs (stored_in gs (entries_seen es)))
+    seen in
+    let size : c.place_fields-end.result ≡ fields_size L fs xs =
+    c.place_fields-end.ensures.size ∙ ap (λ (gs : List Slot). fields_size L gs (stored_in gs (entries_seen es)))
+    seen in
+    let small : fields_size L fs xs ≤ 65528 =
+    fields_narrow L c.args.table.0 xs known.known (made.tables c.args.table.0).wide in
+    let place : c.next_multiple_of-place.result + 4 ≡ table_size L fs xs =
+    omega (arith, c.next_multiple_of-place.ensures.value, ceil-is c.place_fields-end.result, size) in
+    let whole : vtable_of L c.args.table.0 (entries_view es) ≡ table_vtable L fs xs =
+    ap (λ (ys : List (Option Datum)). table_vtable L fs (stored_in fs ys)) (listed (entries_seen es)) in
     let put = c.put_vtable-used.ensures in
-    let is : take (4 + 2 * c.put_vtable-used.result) c.put_vtable-used.new.scratch ≡ vtable_of L c.args.table.0 (entries_view es) =
-    put.there ∙ planned_is_of L fs xs c.place_fields-end.new.ends (c.next_multiple_of-place.result + 4) c.put_vtable-used.result ends place put.within put.rest put.last ∙ sym whole in
-    rw (← is) (found_at (map (λ k. k.items) c.args.known.now.keys) (take (4 + 2 * c.put_vtable-used.result) c.put_vtable-used.new.scratch) c.index_of.result (c.is_none.ensures ∙ ap not c.if-is_none.false) c.index_of.ensures.found)
+    let is : take (4 + 2 * c.put_vtable-used.result) c.put_vtable-used.new.scratch
+    ≡ vtable_of L c.args.table.0 (entries_view es) =
+    put.there ∙ planned_is_of L fs xs c.place_fields-end.new.ends (c.next_multiple_of-place.result + 4)
+    c.put_vtable-used.result ends place put.within put.rest put.last ∙ sym whole in
+    rw (← is) (found_at (map (λ k. k.items) c.args.known.now.keys)
+    (take (4 + 2 * c.put_vtable-used.result) c.put_vtable-used.new.scratch) c.index_of.result (c.is_none.ensures
+    ∙ ap not c.if-is_none.false) c.index_of.ensures.found)

@@ -1,4 +1,4 @@
-use Rattle.fb_build.proofs.CoveredWhole.{covered_shown}
+use Rattle.fb_build.proofs.covered.TightTailIsCovered.{covered_shown}
 use Rattle.fb_build.proofs.laws.covered_whole.Goals as goal
 
 pub returns : goal.returns

@@ -1,4 +1,4 @@
-use Rattle.fb_build.proofs.InlineMoved.{inline_front_shown}
+use Rattle.fb_build.proofs.covered.TightStructStaysTightFurtherOn.{inline_front_shown}
 use Rattle.fb_build.proofs.laws.inline_kept_in_front.Goals as goal
 
 pub returns : goal.returns

@@ -1,4 +1,4 @@
-use Rattle.fb_build.proofs.ChunksJoined.{made_shown}
+use Rattle.fb_build.proofs.covered.ChunksJoin.{made_shown}
 use Rattle.fb_build.proofs.laws.made_in_front.Goals as goal
 
 pub returns : goal.returns

@@ -1,4 +1,4 @@
-use Rattle.fb_build.proofs.MadeWhole.{whole_shown}
+use Rattle.fb_build.proofs.covered.HeaderCompletesTheBuffer.{whole_shown}
 use Rattle.fb_build.proofs.laws.made_whole.Goals as goal
 
 pub returns : goal.returns

@@ -8,11 +8,11 @@ use Rattle.fb_build.specs.Tails.{LaidInTail}
 use Rattle.fb_value.specs.View.{view, parts_view}
 use Rattle.fb_value.specs.Wanted.{struct_wanted}
 use Rattle.fb_value.proofs.Views.{view-Fixed}
-use Rattle.fb_build.proofs.FieldSteps.{reference_known}
-use Rattle.fb_build.proofs.Grown.{grown_long}
-use Rattle.fb_build.proofs.Multiples.{sum_divides}
-use Rattle.fb_build.proofs.Simple.{simple_multiple}
-use Rattle.fb_build.proofs.PlaceSteps.{struct_slot, struct_end, struct_leads_nowhere}
+use Rattle.fb_build.proofs.fields.FieldHasItsValue.{reference_known}
+use Rattle.fb_build.proofs.tail.WhatIsLaidStaysLaid.{grown_long}
+use Rattle.fb_build.proofs.tail.MultiplesAdd.{sum_divides}
+use Rattle.fb_build.proofs.fields.AlignmentDividesTheSize.{simple_multiple}
+use Rattle.fb_build.proofs.places.StructIsInItsPlace.{struct_slot, struct_end, struct_leads_nowhere}
 use Rattle.fb_build.proofs.places.lay_place.Goals as goal
 
 pub returns-in-Fixed-clause-lies : goal.returns-in-Fixed-clause-lies
@@ -20,33 +20,45 @@ returns-in-Fixed-clause-lies c =
     let L = c.args.layout.now in
     let shape = stored_shape L.schema c.args.shape in
     let n = c.lay_struct.new.out in
-    let wanted : struct_wanted shape ≡ Some c.in-Some.structure.0 = sym c.struct_in.ensures ∙ ap (option_map (λ (t : TypeId). t.0)) c.in-Some.is in
+    let wanted : struct_wanted shape ≡ Some c.in-Some.structure.0 =
+    sym c.struct_in.ensures ∙ ap (option_map (λ (t : TypeId). t.0)) c.in-Some.is in
     let fits = rw (c.in-Fixed.is, view-Fixed c.in-Fixed.parts) at c.requires.fits in
-    let slot = struct_slot L shape c.in-Some.structure.0 (parts_view c.in-Fixed.parts.items) wanted c.requires.simple fits in
-    let long : length n.bytes ≡ length c.args.out.now.bytes + inline_size L shape = (let grown = grown_long c.args.out.now n c.lay_struct.ensures.grows in omega (arith, grown, c.lay_struct.ensures.free, slot.size)) in
-    let whole : divides (inline_align L shape) (length n.bytes) ≡ true = sum_divides _ _ _ _ c.requires.whole (simple_multiple L shape c.requires.simple) long in
-    rw (c.in-Fixed.is, view-Fixed c.in-Fixed.parts) (struct_end L n.most n.bytes shape c.in-Some.structure.0 (parts_view c.in-Fixed.parts.items) wanted c.lay_struct.ensures.lies c.lay_struct.ensures.inline whole (rw c.lay_struct.ensures.most c.requires.wide) (omega (arith, long)))
+    let slot = struct_slot L shape c.in-Some.structure.0 (parts_view c.in-Fixed.parts.items) wanted c.requires.simple
+    fits in
+    let long : length n.bytes ≡ length c.args.out.now.bytes + inline_size L shape =
+    (let grown = grown_long c.args.out.now n c.lay_struct.ensures.grows in
+    omega (arith, grown, c.lay_struct.ensures.free, slot.size)) in
+    let whole : divides (inline_align L shape) (length n.bytes) ≡ true =
+    sum_divides _ _ _ _ c.requires.whole (simple_multiple L shape c.requires.simple) long in
+    rw (c.in-Fixed.is, view-Fixed c.in-Fixed.parts)
+    (struct_end L n.most n.bytes shape c.in-Some.structure.0 (parts_view c.in-Fixed.parts.items) wanted
+    c.lay_struct.ensures.lies c.lay_struct.ensures.inline whole (rw c.lay_struct.ensures.most c.requires.wide)
+    (omega (arith, long)))
 
 pub returns-in-None-clause-lies : goal.returns-in-None-clause-lies
 returns-in-None-clause-lies c =
     let L = c.args.layout.now in
     let shape = stored_shape L.schema c.args.shape in
-    let wanted : struct_wanted shape ≡ None = sym c.struct_in.ensures ∙ ap (option_map (λ (t : TypeId). t.0)) c.in-None.is in
+    let wanted : struct_wanted shape ≡ None = sym c.struct_in.ensures
+    ∙ ap (option_map (λ (t : TypeId). t.0)) c.in-None.is in
     let known = reference_known L shape (view c.args.value.now) wanted c.requires.other c.requires.fits in
-    let target : LaidInTail L c.args.out.now.most c.args.out.now.bytes (part_place known.target) c.args.end (view c.args.value.now) = rw known.named at c.requires.target in
+    let target : LaidInTail L c.args.out.now.most c.args.out.now.bytes (part_place known.target) c.args.end
+    (view c.args.value.now) = rw known.named at c.requires.target in
     rw known.sort (c.lay_reference.ensures.lies L known.target (view c.args.value.now) target)
 
 pub returns-in-Fixed-clause-leads : goal.returns-in-Fixed-clause-leads
 returns-in-Fixed-clause-leads c =
     let L = c.args.layout.now in
     let shape = stored_shape L.schema c.args.shape in
-    let wanted : struct_wanted shape ≡ Some c.in-Some.structure.0 = sym c.struct_in.ensures ∙ ap (option_map (λ (t : TypeId). t.0)) c.in-Some.is in
+    let wanted : struct_wanted shape ≡ Some c.in-Some.structure.0 =
+    sym c.struct_in.ensures ∙ ap (option_map (λ (t : TypeId). t.0)) c.in-Some.is in
     rw (struct_leads_nowhere shape c.in-Some.structure.0 (view c.args.value.now) wanted) tt
 
 pub returns-in-None-clause-leads : goal.returns-in-None-clause-leads
 returns-in-None-clause-leads c =
     let L = c.args.layout.now in
     let shape = stored_shape L.schema c.args.shape in
-    let wanted : struct_wanted shape ≡ None = sym c.struct_in.ensures ∙ ap (option_map (λ (t : TypeId). t.0)) c.in-None.is in
+    let wanted : struct_wanted shape ≡ None = sym c.struct_in.ensures
+    ∙ ap (option_map (λ (t : TypeId). t.0)) c.in-None.is in
     let known = reference_known L shape (view c.args.value.now) wanted c.requires.other c.requires.fits in
     rw known.named c.lay_reference.ensures.leads

@@ -1,32 +1,40 @@
 use Rattle.std.proofs.Common.{ℕ, ◌≡◌, ◌+◌, ◌-◌, ◌∙◌, true, refl, sym, ap, subst, slice_index, arith}
 use Rattle.std.proofs.lemmas.Bool.{eq-eqb}
+use Rattle.std.specs.Vec.{with_items}
+use Rattle.std.proofs.lemmas.List.{with_items_is}
 use Rattle.fb_layout.specs.Laid.{slots_of}
 use Rattle.fb_value.specs.Num.{Bytes, divides}
 use Rattle.fb_build.specs.Fields.{stored_in, stored_align, entries_seen}
 use Rattle.fb_build.specs.TableBytes.{VtableEnd, vtable_bytes, offset_from}
-use Rattle.fb_build.proofs.Grown.{four_power, then_grows, grown_long}
+use Rattle.fb_build.proofs.tail.WhatIsLaidStaysLaid.{four_power, then_grows, grown_long}
 use Rattle.fb_value.proofs.TailsKept.{through}
-use Rattle.fb_build.proofs.VtableEnds.{shared_grown}
-use Rattle.fb_build.proofs.TableSpent.{ends_under, ends_high, offset_small}
-use Rattle.fb_build.proofs.TableEnds.{vtable_told, vtable_long, vtable_at, table_read, table_end}
-use Rattle.fb_build.proofs.TableTight.{zeros_stay, last_used}
-use Rattle.std.proofs.Common.{List, Option, Some}
+use Rattle.fb_build.proofs.vtables.VtableIsLaidOnce.{shared_grown}
+use Rattle.fb_build.proofs.vtables.EndsAreWithinTheTable.{ends_under, ends_high, offset_small}
+use Rattle.fb_build.proofs.vtables.ClosedTableHasItsValue.{vtable_told, vtable_long, vtable_at, table_read, table_end}
+use Rattle.fb_build.proofs.tables.TableHasNoSlack.{zeros_stay, last_used}
+use Rattle.std.proofs.Common.{List, Option, Some, Vec, take, ◌*◌}
 use Rattle.fb_value.specs.Datum.{Datum, a_table}
 use Rattle.fb_value.specs.View.{entries_view}
 use Rattle.fb_build.specs.FieldEnds.{table_size, table_vtable}
 use Rattle.fb_build.specs.Vtables.{vtable_of}
-use Rattle.fb_build.proofs.VtableOf.{vtable_is_of}
-use Rattle.fb_build.proofs.VtableKeys.{listed}
-use Rattle.fb_build.proofs.TableLeads.{table_leads}
-use Rattle.fb_build.proofs.PartsStay.{table_stays}
-use Rattle.fb_build.proofs.TableTight.{laid_size, laid_align}
+use Rattle.fb_build.proofs.vtables.VtableHasTheDefinedBytes.{vtable_is_of}
+use Rattle.fb_build.proofs.vtables.EachVtableIsAKey.{listed}
+use Rattle.fb_build.proofs.tables.TableLeadsToItsTargets.{table_leads}
+use Rattle.fb_build.proofs.covered.PartsStayAsLaid.{table_stays}
+use Rattle.fb_build.proofs.tables.TableHasNoSlack.{laid_size, laid_align}
 use Rattle.fb_build.specs.Made.{OldVtable, NewVtable}
 use Rattle.fb_build.specs.Tails.{LaidInTail}
 use Rattle.fb_value.specs.Places.{part_place, table_part, vtable}
 use Rattle.fb_value.specs.Tails.{from_end}
 use Rattle.std.proofs.Common.{◌<◌, ◌≤◌, ◌^◌, ◌⊎◌, inl, inr, max, length, map, slice_get}
-use Rattle.fb_build.proofs.ClosedTable.{IsClosed, old_closed, new_closed}
+use Rattle.fb_build.proofs.vtables.ClosedTableAddsItsPieces.{IsClosed, old_closed, new_closed}
 use Rattle.fb_build.proofs.vtables.close_table.Goals as goal
+
+-- what was written into a slice of a vector, read from the vector again
+read_back : {Z : Type 0} (v : Vec ℕ Z) (new seen : List ℕ) (vt : Bytes) (n : ℕ) → seen ≡ (with_items v new).items
+    → length new ≡ length v.items → take n new ≡ vt → take n seen ≡ vt
+read_back v new seen vt n is long there =
+    ap (take n) (is ∙ with_items_is v new (omega (arith, long, v.ok.0))) ∙ there
 
 pub pad-requires-clause-power : goal.pad-requires-clause-power
 pad-requires-clause-power c = four_power
@@ -34,34 +42,42 @@ pad-requires-clause-power c = four_power
 pub put_vtable-slots-requires-clause-under : goal.put_vtable-slots-requires-clause-under
 put_vtable-slots-requires-clause-under c k =
     let L = c.args.layout.now in
-    let under = ends_under L c.args.start c.args.out.now.most c.args.out.now.bytes (slots_of L c.args.table.0) (stored_in (slots_of L c.args.table.0) (entries_seen c.args.entries.now)) c.args.ends.now c.requires.fits.known c.requires.each c.requires.state k in
-    let long = grown_long c.args.out.now c.pad.new.self c.pad.ensures.grows in
+    let under = ends_under L c.args.start c.args.builder.now.tail.most c.args.builder.now.tail.bytes
+    (slots_of L c.args.table.0)
+    (stored_in (slots_of L c.args.table.0) (entries_seen c.args.entries.now)) c.args.ends.now c.requires.fits.known
+    c.requires.laid.slots.each c.requires.laid.slots.state k in
+    let long = grown_long c.args.builder.now.tail c.pad.new.self c.pad.ensures.grows in
     omega (arith, under, long, c.pad.ensures.free, c.count.ensures.exact)
 
 pub put_vtable-slots-requires-clause-fits : goal.put_vtable-slots-requires-clause-fits
 put_vtable-slots-requires-clause-fits c k =
     let L = c.args.layout.now in
-    let high = ends_high L c.args.start c.args.out.now.most c.args.out.now.bytes (slots_of L c.args.table.0) (stored_in (slots_of L c.args.table.0) (entries_seen c.args.entries.now)) c.args.ends.now c.requires.fits.known c.requires.each c.requires.state k in
-    let long = grown_long c.args.out.now c.pad.new.self c.pad.ensures.grows in
-    offset_small (c.count.result + 4) (slice_index c.args.ends.now k) c.args.start high (omega (arith, long, c.pad.ensures.free, c.pad.ensures.under, c.count.ensures.exact, c.requires.narrow))
+    let high = ends_high L c.args.start c.args.builder.now.tail.most c.args.builder.now.tail.bytes
+    (slots_of L c.args.table.0)
+    (stored_in (slots_of L c.args.table.0) (entries_seen c.args.entries.now)) c.args.ends.now c.requires.fits.known
+    c.requires.laid.slots.each c.requires.laid.slots.state k in
+    let long = grown_long c.args.builder.now.tail c.pad.new.self c.pad.ensures.grows in
+    offset_small (c.count.result + 4) (slice_index c.args.ends.now k) c.args.start high
+    (omega (arith, long, c.pad.ensures.free, c.pad.ensures.under, c.count.ensures.exact, c.requires.narrow))
 
 pub lay_vtable-requires-clause-told : goal.lay_vtable-requires-clause-told
 lay_vtable-requires-clause-told c =
     let place = c.count.result + 4 in
     let u = c.put_vtable-slots.result in
     let few : u ≤ 32765 = omega (arith, c.put_vtable-slots.ensures.within, c.requires.few) in
-    rw c.put_vtable-slots.ensures.there (vtable_told place (place - c.args.start) u c.args.ends.now c.put_vtable-slots.ensures.within few)
+    rw (read_back c.args.builder.now.scratch c.put_vtable-slots.new.scratch c.deref.result.now _
+    (4 + 2 * c.put_vtable-slots.result) c.deref.ensures.value
+    (c.put_vtable-slots.ensures.long ∙ ap length c.as_mut_slice-scratch.ensures.value) c.put_vtable-slots.ensures.there)
+    (vtable_told place (place - c.args.start) u c.args.ends.now c.put_vtable-slots.ensures.within few)
 
 pub lay_vtable-requires-clause-shared : goal.lay_vtable-requires-clause-shared
-lay_vtable-requires-clause-shared c = shared_grown _ _ _ _ c.pad.ensures.grows c.requires.shared
-
-pub returns-clause-grows : goal.returns-clause-grows
-returns-clause-grows c = then_grows _ _ _ c.pad.ensures.grows c.lay_vtable.ensures.grows
+lay_vtable-requires-clause-shared c =
+    rw c.as_mut_slice-places.ensures.value (shared_grown _ _ _ _ c.pad.ensures.grows c.requires.ready.laid)
 
 pub returns-clause-lies : goal.returns-clause-lies
 returns-clause-lies c =
     let L = c.args.layout.now in
-    let o = c.args.out.now in
+    let o = c.args.builder.now.tail in
     let n = c.lay_vtable.new.out in
     let fs = slots_of L c.args.table.0 in
     let xs = entries_seen c.args.entries.now in
@@ -73,22 +89,46 @@ returns-clause-lies c =
     let grows = then_grows _ _ _ c.pad.ensures.grows c.lay_vtable.ensures.grows in
     let padded = grown_long o c.pad.new.self c.pad.ensures.grows in
     let long = grown_long c.pad.new.self n c.lay_vtable.ensures.grows in
-    let high = ends_high L c.args.start o.most o.bytes fs (stored_in fs xs) ends c.requires.fits.known c.requires.each c.requires.state in
+    let high = ends_high L c.args.start o.most o.bytes fs (stored_in fs xs) ends c.requires.fits.known
+    c.requires.laid.slots.each
+    c.requires.laid.slots.state in
     let most : divides 4 n.most ≡ true = rw c.lay_vtable.ensures.most c.pad.ensures.wide in
-    let stands : VtableEnd n.bytes place (vtable_bytes place size u ends) = subst (λ (i : ℕ). VtableEnd n.bytes i (vtable_bytes place size u ends)) same (subst (λ (x : Bytes). VtableEnd n.bytes c.lay_vtable.result x) c.put_vtable-slots.ensures.there c.lay_vtable.ensures.stands) in
+    let stands : VtableEnd n.bytes place (vtable_bytes place size u ends) =
+    subst (λ (i : ℕ). VtableEnd n.bytes i (vtable_bytes place size u ends)) same
+    (subst (λ (x : Bytes). VtableEnd n.bytes c.lay_vtable.result x)
+    (read_back c.args.builder.now.scratch c.put_vtable-slots.new.scratch c.deref.result.now _
+    (4 + 2 * c.put_vtable-slots.result) c.deref.ensures.value
+    (c.put_vtable-slots.ensures.long ∙ ap length c.as_mut_slice-scratch.ensures.value) c.put_vtable-slots.ensures.there)
+    c.lay_vtable.ensures.stands) in
     rw same (table_end L c.args.start place size u o n ends grows
     (omega (arith, padded, c.pad.ensures.free, c.count.ensures.exact))
     (omega (arith, same, c.lay_vtable.ensures.inside))
     (eq-eqb _ _ (omega (arith, c.pad.ensures.multiple, c.count.ensures.exact)))
     most (through 2 4 n.most refl most)
     (omega (arith, long, c.count.ensures))
-    stands c.put_vtable-slots.ensures.within (omega (arith, c.put_vtable-slots.ensures.within, c.requires.few)) c.put_vtable-slots.ensures.rest
-    (λ k. offset_small place (slice_index ends k) c.args.start (high k) (omega (arith, padded, c.pad.ensures.free, c.pad.ensures.under, c.count.ensures.exact, c.requires.narrow)))
-    c.args.table.0 xs c.requires.each c.requires.fits.long c.requires.fits.paired c.requires.fits.fits c.requires.fits.known c.requires.state
-    (omega (arith, padded, c.pad.ensures.free, c.pad.ensures.under, c.count.ensures.exact, c.requires.narrow)) (last_used u ends c.put_vtable-slots.ensures.last)
-    (omega (arith, padded, c.pad.ensures.free, c.pad.ensures.under, c.pad.ensures.multiple, c.requires.whole, c.requires.size, c.count.ensures.exact))
-    (omega (arith, padded, c.pad.ensures.free, c.requires.start, c.count.ensures.exact)) c.requires.filled (omega (arith, padded, c.pad.ensures.free, c.count.ensures.exact))
-    (λ e over low. zeros_stay c.pad.new.self n o.bytes c.pad.result e c.pad.ensures.bytes c.lay_vtable.ensures.grows over (omega (arith, low, c.count.ensures.exact))))
+    stands c.put_vtable-slots.ensures.within (omega (arith, c.put_vtable-slots.ensures.within, c.requires.few))
+    c.put_vtable-slots.ensures.rest
+    (λ k. offset_small place (slice_index ends k) c.args.start (high k)
+    (omega (arith, padded, c.pad.ensures.free, c.pad.ensures.under, c.count.ensures.exact, c.requires.narrow)))
+    c.args.table.0 xs c.requires.laid.slots.each c.requires.fits.long c.requires.fits.paired c.requires.fits.fits
+    c.requires.fits.known c.requires.laid.slots.state
+    (omega (arith, padded, c.pad.ensures.free, c.pad.ensures.under, c.count.ensures.exact, c.requires.narrow))
+    (last_used u ends c.put_vtable-slots.ensures.last)
+    (omega (
+      arith,
+      padded,
+      c.pad.ensures.free,
+      c.pad.ensures.under,
+      c.pad.ensures.multiple,
+      c.requires.laid.whole,
+      c.requires.laid.size,
+      c.count.ensures.exact,
+    ))
+    (omega (arith, padded, c.pad.ensures.free, c.requires.laid.within, c.count.ensures.exact))
+    c.requires.laid.slots.filled
+    (omega (arith, padded, c.pad.ensures.free, c.count.ensures.exact))
+    (λ e over low. zeros_stay c.pad.new.self n o.bytes c.pad.result e c.pad.ensures.bytes c.lay_vtable.ensures.grows
+    over (omega (arith, low, c.count.ensures.exact))))
 
 pub lay_vtable-requires-clause-key : goal.lay_vtable-requires-clause-key
 lay_vtable-requires-clause-key c =
@@ -97,16 +137,33 @@ lay_vtable-requires-clause-key c =
     let ys = entries_seen c.args.entries.now in
     let xs = stored_in fs ys in
     let put = c.put_vtable-slots.ensures in
-    let long = grown_long c.args.out.now c.pad.new.self c.pad.ensures.grows in
-    let place : c.count.result + 4 ≡ c.args.start + table_size L fs xs = omega (arith, long, c.pad.ensures.free, c.pad.ensures.under, c.pad.ensures.multiple, c.count.ensures.exact, c.requires.size, c.requires.whole) in
-    let is = put.there ∙ vtable_is_of L c.args.start fs xs c.args.ends.now c.requires.fits.known c.requires.each c.requires.counted (λ k f x fk xk out. (c.requires.state k f x fk xk).absent out) (c.count.result + 4) c.put_vtable-slots.result place put.within put.rest put.last in
-    let whole : vtable_of L c.args.table.0 (entries_view c.args.entries.now) ≡ table_vtable L fs xs = ap (λ (zs : List (Option Datum)). table_vtable L fs (stored_in fs zs)) (listed ys) in
+    let long = grown_long c.args.builder.now.tail c.pad.new.self c.pad.ensures.grows in
+    let place : c.count.result + 4 ≡ c.args.start + table_size L fs xs =
+    omega (
+      arith,
+      long,
+      c.pad.ensures.free,
+      c.pad.ensures.under,
+      c.pad.ensures.multiple,
+      c.count.ensures.exact,
+      c.requires.laid.size,
+      c.requires.laid.whole,
+    ) in
+    let is = (read_back c.args.builder.now.scratch c.put_vtable-slots.new.scratch c.deref.result.now _
+    (4 + 2 * c.put_vtable-slots.result) c.deref.ensures.value
+    (c.put_vtable-slots.ensures.long ∙ ap length c.as_mut_slice-scratch.ensures.value) c.put_vtable-slots.ensures.there)
+    ∙ vtable_is_of L c.args.start fs xs c.args.ends.now c.requires.fits.known c.requires.laid.slots.each
+    c.requires.laid.slots.counted (λ k f x fk xk out. (c.requires.laid.slots.state k f x fk xk).absent out)
+    (c.count.result + 4)
+    c.put_vtable-slots.result place put.within put.rest put.last in
+    let whole : vtable_of L c.args.table.0 (entries_view c.args.entries.now) ≡ table_vtable L fs xs =
+    ap (λ (zs : List (Option Datum)). table_vtable L fs (stored_in fs zs)) (listed ys) in
     (c.requires.key.0, c.requires.key.1 ∙ ap (λ (b : List ℕ). Some b) (whole ∙ sym is))
 
 pub returns-clause-leads : goal.returns-clause-leads
 returns-clause-leads c targets leads =
     let L = c.args.layout.now in
-    let o = c.args.out.now in
+    let o = c.args.builder.now.tail in
     let n = c.lay_vtable.new.out in
     let t = c.args.table.0 in
     let fs = slots_of L t in
@@ -120,23 +177,36 @@ returns-clause-leads c targets leads =
     let grows = then_grows _ _ _ c.pad.ensures.grows c.lay_vtable.ensures.grows in
     let padded = grown_long o c.pad.new.self c.pad.ensures.grows in
     let long = grown_long c.pad.new.self n c.lay_vtable.ensures.grows in
-    let high = ends_high L start o.most o.bytes fs (stored_in fs xs) ends c.requires.fits.known c.requires.each c.requires.state in
+    let high = ends_high L start o.most o.bytes fs (stored_in fs xs) ends c.requires.fits.known
+    c.requires.laid.slots.each
+    c.requires.laid.slots.state in
     let most : divides 4 n.most ≡ true = rw c.lay_vtable.ensures.most c.pad.ensures.wide in
     let behind : length o.bytes < place = omega (arith, padded, c.pad.ensures.free, c.count.ensures.exact) in
     let within : place ≤ length n.bytes = omega (arith, same, c.lay_vtable.ensures.inside) in
     let four : divides 4 place ≡ true = eq-eqb _ _ (omega (arith, c.pad.ensures.multiple, c.count.ensures.exact)) in
     let short : length n.bytes < 2 ^ 31 = omega (arith, long, c.count.ensures) in
     let few : u ≤ 32765 = omega (arith, c.put_vtable-slots.ensures.within, c.requires.few) in
-    let fits : (k : ℕ) → offset_from place (slice_index ends k) < 256 ^ 2 = λ k. offset_small place (slice_index ends k) start (high k) (omega (arith, padded, c.pad.ensures.free, c.pad.ensures.under, c.count.ensures.exact, c.requires.narrow)) in
-    let low_size : size < 256 ^ 2 = omega (arith, padded, c.pad.ensures.free, c.pad.ensures.under, c.count.ensures.exact, c.requires.narrow) in
-    let stands : VtableEnd n.bytes place (vtable_bytes place size u ends) = subst (λ (i : ℕ). VtableEnd n.bytes i (vtable_bytes place size u ends)) same (subst (λ (x : Bytes). VtableEnd n.bytes c.lay_vtable.result x) c.put_vtable-slots.ensures.there c.lay_vtable.ensures.stands) in
-    let read = table_read L start place size u o n ends grows behind within four most (through 2 4 n.most refl most) short stands c.put_vtable-slots.ensures.within few c.put_vtable-slots.ensures.rest fits low_size in
-    rw same (table_leads L start place size u o n ends grows behind within read t xs targets c.requires.fits.long c.requires.fits.paired c.requires.fits.fits c.requires.fits.known c.requires.state leads)
+    let fits : (k : ℕ) → offset_from place (slice_index ends k) < 256 ^ 2 =
+    λ k. offset_small place (slice_index ends k) start (high k)
+    (omega (arith, padded, c.pad.ensures.free, c.pad.ensures.under, c.count.ensures.exact, c.requires.narrow)) in
+    let low_size : size < 256 ^ 2 =
+    omega (arith, padded, c.pad.ensures.free, c.pad.ensures.under, c.count.ensures.exact, c.requires.narrow) in
+    let stands : VtableEnd n.bytes place (vtable_bytes place size u ends) =
+    subst (λ (i : ℕ). VtableEnd n.bytes i (vtable_bytes place size u ends)) same
+    (subst (λ (x : Bytes). VtableEnd n.bytes c.lay_vtable.result x)
+    (read_back c.args.builder.now.scratch c.put_vtable-slots.new.scratch c.deref.result.now _
+    (4 + 2 * c.put_vtable-slots.result) c.deref.ensures.value
+    (c.put_vtable-slots.ensures.long ∙ ap length c.as_mut_slice-scratch.ensures.value) c.put_vtable-slots.ensures.there)
+    c.lay_vtable.ensures.stands) in
+    let read = table_read L start place size u o n ends grows behind within four most (through 2 4 n.most refl most)
+    short stands c.put_vtable-slots.ensures.within few c.put_vtable-slots.ensures.rest fits low_size in
+    rw same (table_leads L start place size u o n ends grows behind within read t xs targets c.requires.fits.long
+    c.requires.fits.paired c.requires.fits.fits c.requires.fits.known c.requires.laid.slots.state leads)
 
 pub returns-clause-adds : goal.returns-clause-adds
 returns-clause-adds c a front =
     let L = c.args.layout.now in
-    let o = c.args.out.now in
+    let o = c.args.builder.now.tail in
     let n = c.lay_vtable.new.out in
     let t = c.args.table.0 in
     let fs = slots_of L t in
@@ -150,42 +220,104 @@ returns-clause-adds c a front =
     let grows = then_grows _ _ _ c.pad.ensures.grows c.lay_vtable.ensures.grows in
     let padded = grown_long o c.pad.new.self c.pad.ensures.grows in
     let long = grown_long c.pad.new.self n c.lay_vtable.ensures.grows in
-    let high = ends_high L start o.most o.bytes fs (stored_in fs xs) ends c.requires.fits.known c.requires.each c.requires.state in
+    let high = ends_high L start o.most o.bytes fs (stored_in fs xs) ends c.requires.fits.known
+    c.requires.laid.slots.each
+    c.requires.laid.slots.state in
     let most : divides 4 n.most ≡ true = rw c.lay_vtable.ensures.most c.pad.ensures.wide in
     let behind : length o.bytes < place = omega (arith, padded, c.pad.ensures.free, c.count.ensures.exact) in
     let within : place ≤ length n.bytes = omega (arith, same, c.lay_vtable.ensures.inside) in
     let four : divides 4 place ≡ true = eq-eqb _ _ (omega (arith, c.pad.ensures.multiple, c.count.ensures.exact)) in
     let short : length n.bytes < 2 ^ 31 = omega (arith, long, c.count.ensures) in
     let few : u ≤ 32765 = omega (arith, c.put_vtable-slots.ensures.within, c.requires.few) in
-    let fits : (k : ℕ) → offset_from place (slice_index ends k) < 256 ^ 2 = λ k. offset_small place (slice_index ends k) start (high k) (omega (arith, padded, c.pad.ensures.free, c.pad.ensures.under, c.count.ensures.exact, c.requires.narrow)) in
-    let low_size : size < 256 ^ 2 = omega (arith, padded, c.pad.ensures.free, c.pad.ensures.under, c.count.ensures.exact, c.requires.narrow) in
-    let stands : VtableEnd n.bytes place (vtable_bytes place size u ends) = subst (λ (i : ℕ). VtableEnd n.bytes i (vtable_bytes place size u ends)) same (subst (λ (x : Bytes). VtableEnd n.bytes c.lay_vtable.result x) c.put_vtable-slots.ensures.there c.lay_vtable.ensures.stands) in
-    let read = table_read L start place size u o n ends grows behind within four most (through 2 4 n.most refl most) short stands c.put_vtable-slots.ensures.within few c.put_vtable-slots.ensures.rest fits low_size in
+    let fits : (k : ℕ) → offset_from place (slice_index ends k) < 256 ^ 2 =
+    λ k. offset_small place (slice_index ends k) start (high k)
+    (omega (arith, padded, c.pad.ensures.free, c.pad.ensures.under, c.count.ensures.exact, c.requires.narrow)) in
+    let low_size : size < 256 ^ 2 =
+    omega (arith, padded, c.pad.ensures.free, c.pad.ensures.under, c.count.ensures.exact, c.requires.narrow) in
+    let stands : VtableEnd n.bytes place (vtable_bytes place size u ends) =
+    subst (λ (i : ℕ). VtableEnd n.bytes i (vtable_bytes place size u ends)) same
+    (subst (λ (x : Bytes). VtableEnd n.bytes c.lay_vtable.result x)
+    (read_back c.args.builder.now.scratch c.put_vtable-slots.new.scratch c.deref.result.now _
+    (4 + 2 * c.put_vtable-slots.result) c.deref.ensures.value
+    (c.put_vtable-slots.ensures.long ∙ ap length c.as_mut_slice-scratch.ensures.value) c.put_vtable-slots.ensures.there)
+    c.lay_vtable.ensures.stands) in
+    let read = table_read L start place size u o n ends grows behind within four most (through 2 4 n.most refl most)
+    short stands c.put_vtable-slots.ensures.within few c.put_vtable-slots.ensures.rest fits low_size in
     let zs = stored_in fs xs in
     let vt = vtable_bytes place size u ends in
-    let keys = map (λ k. k.items) c.args.known.now.keys in
-    let there = c.put_vtable-slots.ensures.there in
-    let laid = subst (λ (x : Bytes). OldVtable keys c.args.places.now c.lay_vtable.new.places c.pad.new.self.bytes n.bytes x ⊎ NewVtable keys c.args.places.now c.lay_vtable.new.places c.pad.new.self.bytes n.bytes x) there c.lay_vtable.ensures.laid in
-    let at : (key : ℕ) → slice_get keys key ≡ Some vt → 0 < slice_index c.lay_vtable.new.places key → vtable n.bytes (length n.bytes - place) ≡ length n.bytes - slice_index c.lay_vtable.new.places key =
+    let keys = map (λ k. k.items) c.args.builder.now.vtables.keys in
+    let there =
+    (read_back c.args.builder.now.scratch c.put_vtable-slots.new.scratch c.deref.result.now _
+    (4 + 2 * c.put_vtable-slots.result) c.deref.ensures.value
+    (c.put_vtable-slots.ensures.long ∙ ap length c.as_mut_slice-scratch.ensures.value)
+    c.put_vtable-slots.ensures.there) in
+    let before = c.as_mut_slice-places.result.now in
+    let laid = subst (λ (x : Bytes). OldVtable keys before c.lay_vtable.new.places
+    c.pad.new.self.bytes
+    n.bytes x ⊎ NewVtable keys before c.lay_vtable.new.places c.pad.new.self.bytes n.bytes
+    x) there
+    c.lay_vtable.ensures.laid in
+    let at : (key : ℕ) → slice_get keys key ≡ Some vt → 0 < slice_index c.lay_vtable.new.places key
+    → vtable n.bytes (length n.bytes - place) ≡ length n.bytes - slice_index c.lay_vtable.new.places key =
     λ key is some. (
     let stood = c.lay_vtable.ensures.shared.stand key vt is some in
     let way = c.lay_vtable.ensures.leads key (rw there is) in
-    let v : VtableEnd n.bytes place vt = record { at = slice_index c.lay_vtable.new.places key; stands = stood.0; even = stood.1; way = rw same at way } in
-    vtable_at L start place size u o n ends grows behind within four most (through 2 4 n.most refl most) short v c.put_vtable-slots.ensures.within few c.put_vtable-slots.ensures.rest fits) in
-    let below : (k : ℕ) → slice_index ends k < place = λ k. omega (arith, behind, ends_under L start o.most o.bytes fs zs ends c.requires.fits.known c.requires.each c.requires.state k) in
-    let lies : LaidInTail L n.most n.bytes (part_place (table_part t)) place (a_table t (entries_view c.args.entries.now)) = subst (λ (i : ℕ). LaidInTail L n.most n.bytes (part_place (table_part t)) i (a_table t (entries_view c.args.entries.now))) same (returns-clause-lies c) in
-    let closed : IsClosed L a o n t start (max 4 (stored_align L fs zs)) place c.pad.result c.pad.new.self.bytes = record {
+    let v : VtableEnd n.bytes place vt = record {
+      at = slice_index c.lay_vtable.new.places key;
+      stands = stood.0;
+      even = stood.1;
+      way = rw same at way;
+    } in
+    vtable_at L start place size u o n ends grows behind within four most (through 2 4 n.most refl most) short v
+    c.put_vtable-slots.ensures.within few c.put_vtable-slots.ensures.rest fits) in
+    let below : (k : ℕ) → slice_index ends k < place =
+    λ k. omega (
+      arith,
+      behind,
+      ends_under L start o.most o.bytes fs zs ends c.requires.fits.known
+          c.requires.laid.slots.each
+          c.requires.laid.slots.state k,
+    ) in
+    let lies : LaidInTail L n.most n.bytes (part_place (table_part t)) place
+    (a_table t (entries_view c.args.entries.now)) =
+    subst (λ (i : ℕ). LaidInTail L n.most n.bytes (part_place (table_part t)) i
+    (a_table t (entries_view c.args.entries.now))) same (returns-clause-lies c) in
+    let closed : IsClosed L a o n t start (max 4 (stored_align L fs zs)) place c.pad.result c.pad.new.self.bytes =
+    record {
       front = front;
       padded = c.pad.ensures.bytes;
       most = c.lay_vtable.ensures.most ∙ c.pad.ensures.most;
       least = omega arith;
       here = ap (λ i. i + 4) c.count.ensures.exact;
       size = laid_size L n.bytes t (length n.bytes - place) place size u ends read;
-      own = ap (λ i. max 4 i) (laid_align L start o.most place o.bytes n.bytes t (length n.bytes - place) size u zs ends c.requires.fits.known.long c.requires.state below read);
+      own = ap (λ i. max 4 i) (laid_align L start o.most place o.bytes n.bytes t (length n.bytes - place) size u zs ends
+          c.requires.fits.known.long c.requires.laid.slots.state below read);
       stay = table_stays (from_end n.bytes n.most) L n.bytes t (length n.bytes - place) lies.lies.lies.0;
     } in
     let vt_long = vtable_long place size u ends c.put_vtable-slots.ensures.within in
-    rw same (elim laid [
-      | inl old ↦ old_closed L a o n t start (max 4 (stored_align L fs zs)) place c.pad.result c.pad.new.self.bytes closed keys c.args.places.now c.lay_vtable.new.places vt old at
-      | inr new ↦ new_closed L a o n t start (max 4 (stored_align L fs zs)) place c.pad.result c.pad.new.self.bytes closed keys c.args.places.now c.lay_vtable.new.places vt new at (omega (arith, vt_long)) (read.first ∙ sym vt_long)
+    let written = with_items_is c.args.builder.now.places c.lay_vtable.new.places
+    (omega (arith, c.lay_vtable.ensures.shared.each, c.requires.ready.laid.each, c.args.builder.now.places.ok.0)) in
+    rw (same, written, ← c.as_mut_slice-places.ensures.value) (elim laid [
+      | inl old ↦ old_closed L a o n t start (max 4 (stored_align L fs zs)) place c.pad.result c.pad.new.self.bytes
+          closed keys before c.lay_vtable.new.places vt old at
+      | inr new ↦ new_closed L a o n t start (max 4 (stored_align L fs zs)) place c.pad.result c.pad.new.self.bytes
+          closed keys before c.lay_vtable.new.places vt new at (omega (arith, vt_long))
+          (read.first
+          ∙ sym vt_long)
     ])
+
+pub returns-clause-builds : goal.returns-clause-builds
+returns-clause-builds c =
+    let places = with_items_is c.args.builder.now.places c.lay_vtable.new.places
+    (omega (arith, c.lay_vtable.ensures.shared.each, c.requires.ready.laid.each, c.args.builder.now.places.ok.0)) in
+    let as_long : length c.put_vtable-slots.new.scratch ≡ length c.args.builder.now.scratch.items =
+    c.put_vtable-slots.ensures.long ∙ ap length c.as_mut_slice-scratch.ensures.value in
+    let scratch = with_items_is c.args.builder.now.scratch c.put_vtable-slots.new.scratch
+    (omega (arith, as_long, c.args.builder.now.scratch.ok.0)) in
+    let long : 65534 ≤ length c.put_vtable-slots.new.scratch = omega (arith, as_long, c.requires.ready.long) in
+    record {
+      same = refl;
+      grows = then_grows _ _ _ c.pad.ensures.grows c.lay_vtable.ensures.grows;
+      bound = omega (arith, c.lay_vtable.ensures.most, c.pad.ensures.most);
+      ready = record { laid = rw places c.lay_vtable.ensures.shared; long = rw scratch long };
+    }

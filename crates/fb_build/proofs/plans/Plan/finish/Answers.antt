@@ -12,26 +12,45 @@ use Rattle.fb_build.proofs.plans.Plan.finish.Goals as goal
 pub fill-requires-clause-pending : goal.fill-requires-clause-pending
 fill-requires-clause-pending c =
     let pending = rw (c.in-Fields.is, view-Fields c.in-Fields.table c.in-Fields.entries) at c.self.invariant.pending in
-    omega (arith, pending, c.as_mut_slice-2.ensures.len)
+    omega (arith, pending, c.as_mut_slice.ensures.len)
 
 pub returns-clause-holds : goal.returns-clause-holds
 returns-clause-holds c most raw deep small =
     let layout = ap (λ p. p.layout) c.self.view_is in
     let value : a_table c.in-Fields.table.0 (entries_view c.in-Fields.entries.items) ≡ view c.args.self.value =
-    sym (view-Fields c.in-Fields.table c.in-Fields.entries) ∙ ap view (sym c.in-Fields.is) ∙ ap (λ p. view p.value) c.self.view_is in
+    sym (view-Fields c.in-Fields.table c.in-Fields.entries) ∙ ap view (sym c.in-Fields.is)
+    ∙ ap (λ p. view p.value) c.self.view_is in
     let deep2 = subst (λ (d : Datum). depth d ≤ most.depth) (sym value) deep in
     let small2 = subst (λ (d : Datum). cells d ≤ most.cells) (sym value) small in
-    let holds = subst (λ (d : Datum). Holds c.self.inside.layout.now most raw c.fill.result.items d) value (c.fill.ensures.holds most raw deep2 small2) in
+    let holds = subst (λ (d : Datum). Holds c.self.inside.layout.now most raw c.fill.result.items d) value
+    (c.fill.ensures.holds most raw deep2 small2) in
     subst (λ (L : LaidSchema). Holds L most raw c.fill.result.items (view c.args.self.value)) layout holds
 
 pub returns-clause-old_slots : goal.returns-clause-old_slots
-returns-clause-old_slots c = subst (λ (L : LaidSchema). OnlyOld L c.fill.result.items) (ap (λ p. p.layout) c.self.view_is) c.fill.ensures.old_slots
+returns-clause-old_slots c = subst (λ (L : LaidSchema). OnlyOld L c.fill.result.items)
+    (ap (λ p. p.layout) c.self.view_is) c.fill.ensures.old_slots
 
-pub fill-requires-clause-known : goal.fill-requires-clause-known
-fill-requires-clause-known c = rw (c.in-Fields.is, view-Fields c.in-Fields.table c.in-Fields.entries) at c.self.invariant.known
+pub fill-requires-clause-vtables : goal.fill-requires-clause-vtables
+fill-requires-clause-vtables c =
+    rw (c.in-Fields.is, view-Fields c.in-Fields.table c.in-Fields.entries) at c.self.invariant.known
 
 pub returns-clause-covered : goal.returns-clause-covered
-returns-clause-covered c = subst (λ (L : LaidSchema). Covered L c.fill.result.items) (ap (λ p. p.layout) c.self.view_is) c.fill.ensures.covered
+returns-clause-covered c = subst (λ (L : LaidSchema). Covered L c.fill.result.items) (ap (λ p. p.layout) c.self.view_is)
+    c.fill.ensures.covered.0
 
 pub returns-clause-aligned : goal.returns-clause-aligned
-returns-clause-aligned c = subst (λ (L : LaidSchema). EndsAligned L c.fill.result.items) (ap (λ p. p.layout) c.self.view_is) c.fill.ensures.aligned
+returns-clause-aligned c = subst (λ (L : LaidSchema). EndsAligned L c.fill.result.items)
+    (ap (λ p. p.layout) c.self.view_is) c.fill.ensures.covered.1
+
+pub fill-requires-clause-ready : goal.fill-requires-clause-ready
+fill-requires-clause-ready c = record {
+  laid = record {
+    each = sym c.self.invariant.places;
+    stand = λ i vt is some. absurd (omega (arith, c.self.invariant.none_laid i, some));
+  };
+  long = c.self.invariant.scratch;
+}
+
+pub fill-requires-clause-fresh : goal.fill-requires-clause-fresh
+fill-requires-clause-fresh c =
+    record { bytes = c.new.ensures.bytes; most = c.new.ensures.most; none_laid = c.self.invariant.none_laid }

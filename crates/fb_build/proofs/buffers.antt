@@ -1,0 +1,2 @@
+pub mod PendingEndsFitTheRoom
+pub mod ReservedMemoryIsZero

@@ -1,0 +1,9 @@
+pub mod AlignmentDividesTheSize
+pub mod CodeIsBeforeItsUnion
+pub mod FieldEndsBehindThoseBefore
+pub mod FieldHasItsValue
+pub mod FieldLeadsToItsTarget
+pub mod FieldsFillTheTable
+pub mod NumbersHaveDefaults
+pub mod PassTakesOneSlot
+pub mod UnionValueHasItsCode

@@ -1,0 +1,393 @@
+-- A field that was laid.
+use Rattle.std.proofs.Common.{◌≡◌, ℕ, ◌+◌, ◌-◌, ◌*◌, ◌^◌, ◌%◌, ◌<◌, ◌≤◌, ◌++◌, ◌==◌, Bool, true, false, not, nat_lt}
+use Rattle.std.proofs.Common.{nat_le, List, length, slice_get, slice_index, Option, None, Some, ℤ}
+use Rattle.std.proofs.Common.{refl, ap, sym, ◌∙◌, subst, arith}
+use Rattle.std.proofs.lemmas.Bool.{le-leb, lt-ltb, eq-eqb, and_from, eqb-true}
+use Rattle.std.proofs.Math.Nat.{add-mul-mod_self_left}
+use Rattle.std.proofs.lemmas.Bool.Decides.{Decides-int_eq, nat_tests}
+use Rattle.std.specs.Ordering.{int_eq}
+use Rattle.byteorder.specs.Endian.{little_bytes}
+use Rattle.fb_schema.specs.declared.kinds.Base.{Base}
+use Rattle.fb_schema.specs.declared.kinds.Base.TheVariants as the_base
+use Rattle.fb_schema.specs.Alignments.{base_size}
+use Rattle.fb_layout.specs.Laid.{LaidSchema, Slot, scalar_kind, struct_kind, table_kind, union_kind, code_kind}
+use Rattle.fb_layout.specs.Laid.{text_kind, StoredShape, one_of, vector_of}
+use Rattle.fb_layout.specs.Widths.{inline_size, inline_align}
+use Rattle.fb_value.specs.Wanted.{struct_wanted}
+use Rattle.fb_schema.specs.WellDeclared.{InRange}
+use Rattle.fb_value.specs.Datum.{Datum, a_number, a_text, a_vector, a_struct, a_table, a_member, an_unknown}
+use Rattle.fb_value.specs.Num.{Bytes, num, scalar_of, divides}
+use Rattle.fb_value.specs.Places.{Target, Sort, ref_place, part_place, inline_place}
+use Rattle.fb_value.specs.Rules.{fault_by, KeepsBy}
+use Rattle.fb_value.specs.Lies.{LiesBy}
+use Rattle.fb_value.specs.EachTable.{EachTable, EachTableAt, IsOldTable}
+use Rattle.fb_value.specs.Tails.{from_end, LiesInTail, OldInTail}
+use Rattle.fb_build.specs.Tails.{TailSeen, Grows, LaidInTail}
+use Rattle.fb_build.specs.Fields.{SlotFits, StoredFits, member_target, scalar_in, number_in, above, from, is_at}
+use Rattle.fb_build.specs.Fields.{is_stored, differs, IsDefault, TargetEnd, StoredEnd, EntryEnd, EntriesEnd, sort_for}
+use Rattle.fb_build.specs.Fields.{target_for}
+use Rattle.fb_value.proofs.Moved.{hold, no_rules}
+use Rattle.fb_build.proofs.numbers.NumberReadsBack.{num_first}
+use Rattle.fb_value.proofs.TailsKept.{front_shown, old_shown}
+use Rattle.fb_build.specs.CoveredTails.{IsTightInTail, TightInTail, InlineInTail}
+use Rattle.fb_build.specs.Stored.{IsBit}
+use Rattle.fb_build.specs.InlineBytes.{IsTightInline, EachInline, EachInlineAt}
+use Rattle.fb_build.proofs.covered.TightStructStaysTightFurtherOn.{inline_front_shown}
+use Rattle.fb_build.proofs.covered.TightTableStaysTightFurtherOn.{tight_front_shown}
+use Rattle.fb_build.proofs.tail.WhatIsLaidStaysLaid.{laid_grown}
+
+-- a number that was laid last
+pub scalar_end : (L : LaidSchema) (m : ℕ) (base : Base) (n : ℤ) (s : Bytes) (rest : ℕ)
+    → length s ≡ rest + base_size base → n ≡ scalar_of base (num s 0 (base_size base)) → IsBit base (num s 0 1)
+    → divides (base_size base) (length s) ≡ true → divides (base_size base) m ≡ true
+    → LaidInTail L m s (inline_place (scalar_kind base)) (length s) (a_number n)
+unfolding fault_by
+scalar_end L m base n s rest long is bit whole most =
+    let size = base_size base in
+    let first : length s - length s ≡ 0 = omega arith in
+    let all : length s - 0 ≡ length s = omega arith in
+    let aligned : from_end s m size 0 ≡ true = and_from _ _ (rw all whole) most in
+    let inside : 0 + size ≤ length s = omega (arith, long) in
+    let keeps : KeepsBy (from_end s m) L s (inline_place (scalar_kind base)) 0 =
+    hold _ _ _ aligned (hold _ _ _ (le-leb _ _ inside) no_rules) in
+    record {
+      lies = record { within = omega arith; lies = rw first (keeps, is) };
+      old = tt;
+      tight = tt;
+      inline = rw first bit;
+    }
+
+-- a reference that was laid last
+pub reference_end : (L : LaidSchema) (m : ℕ) (X : Target) (e : ℕ) (d : Datum) (s rest : Bytes)
+    → s ≡ little_bytes 4 ((length rest + 4) - e) ++ rest → length s ≡ 4 + length rest → length rest + 4 < 256 ^ 4
+    → divides 4 (length s) ≡ true → divides 4 m ≡ true → LaidInTail L m rest (part_place X) e d
+    → LaidInTail L m s (ref_place X) (length s) d
+unfolding fault_by
+reference_end L m X e d s rest is long short whole most h =
+    let x = (length rest + 4) - e in
+    let first : length s - length s ≡ 0 = omega arith in
+    let all : length s - 0 ≡ length s = omega arith in
+    let aligned : from_end s m 4 0 ≡ true = and_from _ _ (rw all whole) most in
+    let number : num s 0 4 ≡ x = ap (λ b. num b 0 4) is ∙ num_first 4 x rest (omega (arith, short)) in
+    let inside : 0 + 4 ≤ length s = omega (arith, long) in
+    let some : 0 < num s 0 4 = omega (arith, number, h.lies.within) in
+    let keeps : KeepsBy (from_end s m) L s (ref_place X) 0 =
+    hold _ _ _ aligned (hold _ _ _ (le-leb _ _ inside) (hold _ _ _ (lt-ltb _ _ some) no_rules)) in
+    let now : LiesInTail L m s (part_place X) e d =
+    rw is (front_shown L m (little_bytes 4 x) rest (part_place X) e d h.lies) in
+    let old = subst (λ (b : Bytes). OldInTail L b (part_place X) e d) (sym is)
+    (old_shown L m (little_bytes 4 x) rest (part_place X) e d h.lies h.old) in
+    let tight = subst (λ (b : Bytes). TightInTail L b (part_place X) e d) (sym is)
+    (tight_front_shown L m (little_bytes 4 x) rest (part_place X) e d h.lies h.tight) in
+    let inline = subst (λ (b : Bytes). InlineInTail L b (part_place X) e d) (sym is)
+    (inline_front_shown L m (little_bytes 4 x) rest (part_place X) e d h.lies h.inline) in
+    let place : length s - e ≡ 0 + num s 0 4 = omega (arith, number, long, h.lies.within) in
+    record {
+      lies = record {
+        within = omega arith;
+        lies = rw first (keeps, subst (λ (q : ℕ). LiesBy (from_end s m) L s (part_place X) q d) place now.lies);
+      };
+      old = subst (λ (q : ℕ). EachTableAt L s (λ t p. IsOldTable L s t p) (ref_place X) q d) (sym first)
+          (subst (λ (q : ℕ). EachTable L s (λ t p. IsOldTable L s t p) (part_place X) q d) place old);
+      tight = subst (λ (q : ℕ). EachTableAt L s (λ t p. IsTightInTail L s t p) (ref_place X) q d) (sym first)
+          (subst (λ (q : ℕ). EachTable L s (λ t p. IsTightInTail L s t p) (part_place X) q d) place tight);
+      inline = subst (λ (q : ℕ). EachInlineAt L s (IsTightInline L s) (ref_place X) q d) (sym first)
+          (subst (λ (q : ℕ). EachInline L s (IsTightInline L s) X q d) place inline);
+    }
+
+-- what isn't stored is a default
+pub default_known : (f : Slot) (d : Datum) → is_stored f (Some d) ≡ false → IsDefault f d
+default_known f (a_number n) e = by_case f.required refl
+  where
+    by_absent : (o : Option ℤ) → f.if_absent ≡ o → differs o n ≡ false
+        → (k : ℤ) × (f.if_absent ≡ Some k) × (a_number n ≡ a_number k)
+    by_absent None is h = cc
+    by_absent (Some k) is h = by_eq (int_eq k n) refl
+      where
+        by_eq : (t : Bool) → int_eq k n ≡ t → (k : ℤ) × (f.if_absent ≡ Some k) × (a_number n ≡ a_number k)
+        by_eq true same = (k, is, ap a_number (sym ((Decides-int_eq k n).0 same)))
+        by_eq false same = let bad : not (int_eq k n) ≡ true = rw same refl in cc
+
+    by_case : (r : Bool) → f.required ≡ r → IsDefault f (a_number n)
+    by_case true is = let bad : is_stored f (Some (a_number n)) ≡ true = rw is refl in cc
+    by_case false is = let rest : differs f.if_absent n ≡ false = rw is at e in
+        let known = by_absent f.if_absent refl rest in (is, known.0, known.1, known.2)
+default_known f (a_text bytes) e = cc
+default_known f (a_vector ds) e = cc
+default_known f (a_struct ds) e = cc
+default_known f (a_table t es) e = cc
+default_known f (a_member c d) e = cc
+default_known f (an_unknown c) e = cc
+
+-- ---- growing
+
+pub target_grown : (L : LaidSchema) (a b : TailSeen) (X : Option Target) (e : ℕ) (d : Datum) → Grows a b
+    → TargetEnd L a.most a.bytes X e d → TargetEnd L b.most b.bytes X e d
+target_grown L a b None e d g h = h
+target_grown L a b (Some X) e d g h = laid_grown L a b (part_place X) e d g h
+
+stored_grown : (L : LaidSchema) (low : ℕ) (a b : TailSeen) (laid : Bool) (f : Slot) (x : Option Datum) (e : ℕ)
+    → Grows a b → StoredEnd L low a.most a.bytes laid f x e → StoredEnd L low b.most b.bytes laid f x e
+stored_grown L low a b laid f None e g h = absurd h
+stored_grown L low a b true f (Some d) e g h = (h.0, laid_grown L a b (sort_for f.shape d) e d g h.1)
+stored_grown L low a b false f (Some d) e g h = target_grown L a b (target_for f.shape d) e d g h
+
+pub entry_grown : (L : LaidSchema) (low : ℕ) (a b : TailSeen) (laid : Bool) (f : Slot) (x : Option Datum) (e : ℕ)
+    → Grows a b → EntryEnd L low a.most a.bytes laid f x e → EntryEnd L low b.most b.bytes laid f x e
+entry_grown L low a b laid f x e g h = record {
+  stored = λ is. stored_grown L low a b laid f x e g (h.stored is);
+  absent = h.absent;
+}
+
+-- ---- one field
+
+-- a slot of a number, or of a union's code
+pub record IsNumber (L : LaidSchema) (shape : StoredShape) (base : Base) (d : Datum) : Type 0 where
+  pub sort : sort_for shape d ≡ inline_place (scalar_kind base)
+  pub align : inline_align L shape ≡ base_size base
+  pub is : d ≡ a_number (number_in (Some d))
+  pub range : InRange base (number_in (Some d))
+
+pub number_fits : (L : LaidSchema) (shape : StoredShape) (base : Base) (d : Datum) → scalar_in shape ≡ Some base
+    → SlotFits L shape d → IsNumber L shape base d
+number_fits L (one_of (scalar_kind b)) base (a_number n) e h =
+    let same : b ≡ base = cc in record {
+      sort = ap (λ x. inline_place (scalar_kind x)) same;
+      align = ap base_size same;
+      is = refl;
+      range = rw (← same) h;
+    }
+number_fits L (one_of (scalar_kind b)) base (a_text bytes) e h = absurd h
+number_fits L (one_of (scalar_kind b)) base (a_vector ds) e h = absurd h
+number_fits L (one_of (scalar_kind b)) base (a_struct ds) e h = absurd h
+number_fits L (one_of (scalar_kind b)) base (a_table t es) e h = absurd h
+number_fits L (one_of (scalar_kind b)) base (a_member c d) e h = absurd h
+number_fits L (one_of (scalar_kind b)) base (an_unknown c) e h = absurd h
+number_fits L (one_of (struct_kind s)) base d e h = cc
+number_fits L (one_of (table_kind t)) base d e h = cc
+number_fits L (one_of (union_kind u)) base d e h = cc
+number_fits L (one_of (code_kind u)) base (a_number n) e h =
+    let same : the_base.U8 ≡ base = cc in
+    record {
+      sort = ap (λ x. inline_place (scalar_kind x)) same;
+      align = ap base_size same;
+      is = refl;
+      range = rw (← same) h.0;
+    }
+number_fits L (one_of (code_kind u)) base (a_text bytes) e h = absurd h
+number_fits L (one_of (code_kind u)) base (a_vector ds) e h = absurd h
+number_fits L (one_of (code_kind u)) base (a_struct ds) e h = absurd h
+number_fits L (one_of (code_kind u)) base (a_table t es) e h = absurd h
+number_fits L (one_of (code_kind u)) base (a_member c d) e h = absurd h
+number_fits L (one_of (code_kind u)) base (an_unknown c) e h = absurd h
+number_fits L (one_of text_kind) base d e h = cc
+number_fits L (vector_of kind) base d e h = cc
+
+-- a slot of a reference
+pub record IsReference (L : LaidSchema) (shape : StoredShape) (d : Datum) : Type 0 where
+  pub target : Target
+  pub named : target_for shape d ≡ Some target
+  pub sort : sort_for shape d ≡ ref_place target
+  pub align : inline_align L shape ≡ 4
+
+-- a member is a table under its code
+pub member_known : (L : LaidSchema) (u : ℕ) (d : Datum) → SlotFits L (one_of (union_kind u)) d
+    → (X : Target) × (member_target d ≡ Some X)
+member_known L u (a_number n) h = absurd h
+member_known L u (a_text bytes) h = absurd h
+member_known L u (a_vector ds) h = absurd h
+member_known L u (a_struct ds) h = absurd h
+member_known L u (a_table t es) h = absurd h
+member_known L u (a_member c (a_number n)) h = absurd h.2
+member_known L u (a_member c (a_text bytes)) h = absurd h.2
+member_known L u (a_member c (a_vector ds)) h = absurd h.2
+member_known L u (a_member c (a_struct ds)) h = absurd h.2
+member_known L u (a_member c (a_table t es)) h = (Rattle.fb_value.specs.Places.member_part c t, refl)
+member_known L u (a_member c (a_member k d)) h = absurd h.2
+member_known L u (a_member c (an_unknown k)) h = absurd h.2
+member_known L u (an_unknown c) h = absurd h
+
+pub reference_known : (L : LaidSchema) (shape : StoredShape) (d : Datum) → struct_wanted shape ≡ None
+    → scalar_in shape ≡ None → SlotFits L shape d → IsReference L shape d
+reference_known L (one_of (scalar_kind b)) d h e fits = cc
+reference_known L (one_of (struct_kind s)) d h e fits = cc
+reference_known L (one_of (table_kind t)) d h e fits =
+    record { target = Rattle.fb_value.specs.Places.table_part t; named = refl; sort = refl; align = refl }
+reference_known L (one_of (union_kind u)) d h e fits =
+    let known = member_known L u d fits in
+    record { target = known.0; named = known.1; sort = rw known.1 refl; align = refl }
+reference_known L (one_of (code_kind u)) d h e fits = cc
+reference_known L (one_of text_kind) d h e fits =
+    record { target = Rattle.fb_value.specs.Places.text_part; named = refl; sort = refl; align = refl }
+reference_known L (vector_of kind) d h e fits =
+    record { target = Rattle.fb_value.specs.Places.vector_part kind; named = refl; sort = refl; align = refl }
+
+-- not at this alignment: the tests say the same
+same_test : (a n : ℕ) → (n == a) ≡ false → nat_lt a n ≡ nat_le a n
+same_test a n e = grind (arith, nat_tests)
+
+pub passed_over : (L : LaidSchema) (low : ℕ) (m : ℕ) (s : Bytes) (a : ℕ) (f : Slot) (x : Option Datum) (e : ℕ)
+    → is_at L a f x ≡ false → EntryEnd L low m s (above L a f) f x e → EntryEnd L low m s (from L a f) f x e
+passed_over L low m s a f x e out h = record {
+  stored = λ is. subst (λ (t : Bool). StoredEnd L low m s t f x e) (same_test a (inline_align L f.shape) (rw is at out))
+      (h.stored is);
+  absent = h.absent;
+}
+
+-- at this alignment: what its reference names lies before, its field is laid then
+pub target_waits : (L : LaidSchema) (low : ℕ) (m : ℕ) (s : Bytes) (a : ℕ) (f : Slot) (x : Option Datum) (e : ℕ)
+    → inline_align L f.shape ≡ a → is_stored f x ≡ true → EntryEnd L low m s (above L a f) f x e
+    → StoredEnd L 0 m s false f x e
+target_waits L low m s a f x e at is h =
+    let out : nat_lt a (inline_align L f.shape) ≡ false = rw at (not_below a) in
+    any_low x (subst (λ (t : Bool). StoredEnd L low m s t f x e) out (h.stored is))
+  where
+    not_below : (n : ℕ) → nat_lt n n ≡ false
+    not_below n = grind (arith, nat_tests)
+
+    any_low : (x : Option Datum) → StoredEnd L low m s false f x e → StoredEnd L 0 m s false f x e
+    any_low None h = absurd h
+    any_low (Some d) h = h
+
+pub now_laid : (L : LaidSchema) (low : ℕ) (m : ℕ) (s : Bytes) (a : ℕ) (f : Slot) (x : Option Datum) (e : ℕ)
+    → inline_align L f.shape ≡ a → is_stored f x ≡ true → StoredEnd L low m s true f x e
+    → EntryEnd L low m s (from L a f) f x e
+now_laid L low m s a f x e at is lies =
+    let yes : nat_le a (inline_align L f.shape) ≡ true = rw at (le-leb _ _ (omega arith)) in
+    record {
+      stored = λ _. subst (λ (t : Bool). StoredEnd L low m s t f x e) (sym yes) lies;
+      absent = λ out. absurd (no_both (is_stored f x) is out);
+    }
+  where
+    no_both : (b : Bool) → b ≡ true → b ≡ false → ⊥
+    no_both true a b = cc
+    no_both false a b = cc
+
+-- a number takes its own size
+number_size : (L : LaidSchema) (shape : StoredShape) (base : Base) → scalar_in shape ≡ Some base
+    → inline_size L shape ≡ base_size base
+number_size L (one_of (scalar_kind b)) base e = let same : b ≡ base = cc in ap base_size same
+number_size L (one_of (struct_kind s)) base e = cc
+number_size L (one_of (table_kind t)) base e = cc
+number_size L (one_of (union_kind u)) base e = cc
+number_size L (one_of (code_kind u)) base e = let same : the_base.U8 ≡ base = cc in ap base_size same
+number_size L (one_of text_kind) base e = cc
+number_size L (vector_of kind) base e = cc
+
+pub number_known : (L : LaidSchema) (f : Slot) (x : Option Datum) (base : Base) → is_stored f x ≡ true
+    → scalar_in f.shape ≡ Some base → StoredFits L f x
+    → InRange base (number_in x) × (base_size base ≡ inline_align L f.shape) × (inline_size L f.shape ≡ base_size base)
+number_known L f None base is scalar fits = cc
+number_known L f (Some d) base is scalar fits =
+    let known = number_fits L f.shape base d scalar fits.1 in
+    (known.range, sym known.align, number_size L f.shape base scalar)
+
+pub number_laid : (L : LaidSchema) (low : ℕ) (m : ℕ) (s : Bytes) (f : Slot) (x : Option Datum) (base : Base)
+    → is_stored f x ≡ true → scalar_in f.shape ≡ Some base → StoredFits L f x → low < length s
+    → LaidInTail L m s (inline_place (scalar_kind base)) (length s) (a_number (number_in x))
+    → StoredEnd L low m s true f x (length s)
+number_laid L low m s f None base is scalar fits some lies = cc
+number_laid L low m s f (Some d) base is scalar fits some lies =
+    let known = number_fits L f.shape base d scalar fits.1 in (
+      some,
+      rw known.sort (subst (λ (y : Datum). LaidInTail L m s (inline_place (scalar_kind base)) (length s) y)
+          (sym known.is) lies),
+    )
+
+-- a number that was laid last, for a slot of its shape
+pub number_element : (L : LaidSchema) (m : ℕ) (s : Bytes) (shape : StoredShape) (base : Base) (d : Datum)
+    → scalar_in shape ≡ Some base → SlotFits L shape d
+    → LaidInTail L m s (inline_place (scalar_kind base)) (length s) (a_number (number_in (Some d)))
+    → LaidInTail L m s (sort_for shape d) (length s) d
+number_element L m s shape base d scalar fits lies =
+    let known = number_fits L shape base d scalar fits in
+    rw known.sort (subst (λ (y : Datum). LaidInTail L m s (inline_place (scalar_kind base)) (length s) y) (sym known.is)
+    lies)
+
+pub place_laid : (L : LaidSchema) (low m : ℕ) (s : Bytes) (f : Slot) (x : Option Datum) (d : Datum) → x ≡ Some d
+    → low < length s → LaidInTail L m s (sort_for f.shape d) (length s) d → StoredEnd L low m s true f x (length s)
+place_laid L low m s f x d e some lies = rw e (some, lies)
+
+-- what the place of a stored slot names lies already
+pub place_target : (L : LaidSchema) (m : ℕ) (s : Bytes) (f : Slot) (x : Option Datum) (d : Datum) (e : ℕ) → x ≡ Some d
+    → StoredEnd L 0 m s false f x e → TargetEnd L m s (target_for f.shape d) e d
+place_target L m s f x d e same h = rw same at h
+
+pub more_divides : (a n k : ℕ) → divides a n ≡ true → k ≡ n + a → divides a k ≡ true
+more_divides a n k h e =
+    let one : n + a ≡ n + a * 1 = omega arith in
+    eq-eqb _ _ (ap (λ x. x % a) (e ∙ one) ∙ add-mul-mod_self_left n a 1 ∙ eqb-true _ _ h)
+
+-- under tests that say the same
+pub entries_tested : (L : LaidSchema) (low : ℕ) (m : ℕ) (s : Bytes)
+    (t u : ℕ → Slot → Bool) (fs : List Slot) (xs : List (Option Datum)) (ends : List ℕ)
+    → ((k : ℕ) (f : Slot) → slice_get fs k ≡ Some f → t k f ≡ u k f)
+    → EntriesEnd L low m s t fs xs ends → EntriesEnd L low m s u fs xs ends
+entries_tested L low m s t u fs xs ends same h k f x at there =
+    subst (λ (b : Bool). EntryEnd L low m s b f x (slice_index ends k)) (same k f at) (h k f x at there)
+
+pub entries_grown : (L : LaidSchema) (low : ℕ) (a b : TailSeen)
+    (t : ℕ → Slot → Bool) (fs : List Slot) (xs : List (Option Datum)) (ends : List ℕ) → Grows a b
+    → EntriesEnd L low a.most a.bytes t fs xs ends → EntriesEnd L low b.most b.bytes t fs xs ends
+entries_grown L low a b t fs xs ends g h k f x at there =
+    entry_grown L low a b (t k f) f x (slice_index ends k) g (h k f x at there)
+
+-- before anything is laid the lowest place doesn't count
+pub entries_before : (L : LaidSchema) (low low2 m : ℕ) (s : Bytes) (fs : List Slot) (xs : List (Option Datum))
+    (ends : List ℕ) → EntriesEnd L low m s (λ k f. false) fs xs ends → EntriesEnd L low2 m s (λ k f. false) fs xs ends
+entries_before L low low2 m s fs xs ends h k f x fk xk =
+    record {
+      stored = λ is. any_low x (slice_index ends k) ((h k f x fk xk).stored is);
+      absent = (h k f x fk xk).absent;
+    }
+  where
+    any_low : (x : Option Datum) (e : ℕ) → StoredEnd L low m s false f x e → StoredEnd L low2 m s false f x e
+    any_low None e h = absurd h
+    any_low (Some d) e h = h
+
+pub entry_under : (L : LaidSchema) (low m : ℕ) (s : Bytes) (f : Slot) (x : Option Datum) (e : ℕ)
+    → EntryEnd L low m s true f x e → e ≤ length s
+entry_under L low m s f x e h = by_stored (is_stored f x) refl
+  where
+    by_entry : (x : Option Datum) → StoredEnd L low m s true f x e → e ≤ length s
+    by_entry None h = absurd h
+    by_entry (Some d) h = h.1.lies.within
+
+    by_stored : (t : Bool) → is_stored f x ≡ t → e ≤ length s
+    by_stored true is = by_entry x (h.stored is)
+    by_stored false out = omega (arith, h.absent out)
+
+-- behind the lowest place
+pub entry_high : (L : LaidSchema) (low m : ℕ) (s : Bytes) (f : Slot) (x : Option Datum) (e : ℕ)
+    → EntryEnd L low m s true f x e → 0 < e → low < e
+entry_high L low m s f x e h some = by_stored (is_stored f x) refl
+  where
+    by_entry : (x : Option Datum) → StoredEnd L low m s true f x e → low < e
+    by_entry None h = absurd h
+    by_entry (Some d) h = h.0
+
+    by_stored : (t : Bool) → is_stored f x ≡ t → low < e
+    by_stored true is = by_entry x (h.stored is)
+    by_stored false out = absurd (omega (arith, h.absent out, some))
+
+pub entries_retested : (L : LaidSchema) (low m : ℕ) (s : Bytes)
+    (t u : ℕ → Slot → Bool) (fs : List Slot) (xs : List (Option Datum)) (ends : List ℕ)
+    → ((k : ℕ) (f : Slot) (x : Option Datum) → slice_get fs k ≡ Some f → slice_get xs k ≡ Some x → is_stored f x ≡ true
+    → t k f ≡ u k f)
+    → EntriesEnd L low m s t fs xs ends → EntriesEnd L low m s u fs xs ends
+entries_retested L low m s t u fs xs ends same h k f x fk xk = record {
+  stored = λ is. subst (λ (b : Bool). StoredEnd L low m s b f x (slice_index ends k)) (same k f x fk xk is)
+      ((h k f x fk xk).stored is);
+  absent = (h k f x fk xk).absent;
+}
+
+-- Nothing is stored above an alignment, and nothing is laid.
+pub entries_unlaid : (L : LaidSchema) (low m : ℕ) (s : Bytes) (a : ℕ) (fs : List Slot) (xs : List (Option Datum))
+    (ends : List ℕ) → ((k : ℕ) (f : Slot) (x : Option Datum) → slice_get fs k ≡ Some f → slice_get xs k ≡ Some x
+    → is_stored f x ≡ true → nat_lt a (inline_align L f.shape) ≡ false)
+    → EntriesEnd L low m s (λ k f. false) fs xs ends → EntriesEnd L low m s (λ k. above L a) fs xs ends
+entries_unlaid L low m s a fs xs ends none h k f x fk xk = record {
+  stored = λ is. subst (λ (b : Bool). StoredEnd L low m s b f x (slice_index ends k)) (sym (none k f x fk xk is))
+      ((h k f x fk xk).stored is);
+  absent = (h k f x fk xk).absent;
+}

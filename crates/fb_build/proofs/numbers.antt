@@ -1,0 +1,4 @@
+pub mod BoolIsZeroOrOne
+pub mod BytesSumToTheirNumber
+pub mod NumberFitsItsSize
+pub mod NumberReadsBack

@@ -1,0 +1,92 @@
+-- A tail whose root's reference was laid last is a buffer.
+use Rattle.std.proofs.Common.{◌≡◌, ℕ, ◌-◌, ◌≤◌, ◌++◌, Bool, true, false, List, Option, None, Some, if◌then◌else◌}
+use Rattle.std.proofs.Common.{length, take, drop, refl, ap, ◌∙◌, subst, arith, length-append}
+use Rattle.std.proofs.lemmas.Bool.{le-leb}
+use Rattle.std.proofs.lemmas.Slice.Eq.{bytes_eq-Decides}
+use Rattle.std.proofs.Math.Seq.{take-append_seam, drop-append_seam}
+use Rattle.fb_layout.specs.Laid.{LaidSchema}
+use Rattle.fb_value.specs.Bounds.{Bounds}
+use Rattle.fb_value.specs.Counts.{cells, depth}
+use Rattle.fb_value.specs.Datum.{Datum}
+use Rattle.fb_value.specs.Num.{Bytes, divides}
+use Rattle.fb_value.specs.Places.{Target, part_place, ref_place, table_part}
+use Rattle.fb_value.specs.Rules.{first_failing}
+use Rattle.fb_value.specs.Lies.{LiesAt}
+use Rattle.fb_value.specs.Holds.{Holds, header_fault, checked_identifier}
+use Rattle.fb_value.specs.Tails.{LiesInTail}
+use Rattle.fb_value.specs.EachTable.{EachTableAt, IsOldTable}
+use Rattle.fb_value.specs.OldSlots.{OnlyOld}
+use Rattle.fb_value.proofs.EachReached.{only_old_shown}
+use Rattle.fb_value.proofs.TailsKept.{whole_shown}
+use Rattle.fb_build.specs.Tails.{TailSeen, Grows, LaidInTail}
+use Rattle.fb_build.proofs.tail.WhatIsLaidStaysLaid.{laid_grown}
+use Rattle.fb_build.specs.Ends.{BeginsWith}
+
+-- the identifier stands behind the root's reference
+abbrev pub IsIdentified : Bytes → Bytes → Type 0
+IsIdentified b id = (8 ≤ length b) × (take 4 (drop 4 b) ≡ id)
+
+pub identified_behind : (front s id b : Bytes) → b ≡ front ++ s → length front ≡ 4 → length id ≡ 4 → BeginsWith id s
+    → IsIdentified b id
+identified_behind front s id b e four long begins =
+    let whole : b ≡ front ++ (id ++ begins.0) = e ∙ ap (λ x. front ++ x) begins.1 in
+    let parts = length-append front (id ++ begins.0) in
+    let inner = length-append id begins.0 in
+    let all = ap length whole in
+    let behind : drop 4 (front ++ (id ++ begins.0)) ≡ id ++ begins.0 =
+    subst (λ (n : ℕ). drop n (front ++ (id ++ begins.0)) ≡ id ++ begins.0) four
+    (drop-append_seam front (id ++ begins.0)) in
+    let first : take 4 (id ++ begins.0) ≡ id =
+    subst (λ (n : ℕ). take n (id ++ begins.0) ≡ id) long (take-append_seam id begins.0) in
+    (omega (arith, parts, inner, all, four, long), ap (λ x. take 4 (drop 4 x)) whole ∙ ap (take 4) behind ∙ first)
+
+header_holds : (b : Bytes) (o : Option (List ℕ)) → 4 ≤ length b → length b ≤ 2147483647
+    → ((id : Bytes) → o ≡ Some id → IsIdentified b id) → header_fault b o ≡ None
+unfolding header_fault first_failing
+header_holds b None low high identified = rw (le-leb _ _ low, le-leb _ _ high) refl
+header_holds b (Some id) low high identified =
+    let own = identified id refl in
+    rw (le-leb _ _ own.0, le-leb _ _ high, (bytes_eq-Decides (take 4 (drop 4 b)) id).1 own.1) refl
+
+checked : (L : LaidSchema) (b : Bytes) (raw : Bool) → ((id : Bytes) → L.schema.identifier ≡ Some id → IsIdentified b id)
+    → (id : Bytes) → checked_identifier L raw ≡ Some id → IsIdentified b id
+checked L b raw identified id e = by_raw raw e
+  where
+    by_raw : (r : Bool) → (if r then None else L.schema.identifier) ≡ Some id → IsIdentified b id
+    by_raw true e = cc
+    by_raw false e = identified id e
+
+-- the root's table, and the reference to it that is laid last
+pub root_laid : (L : LaidSchema) (a b c : TailSeen) (t e : ℕ) (d : Datum) → t ≡ L.schema.root → Grows a b
+    → LaidInTail L a.most a.bytes (part_place (table_part t)) e d
+    → ((X : Target) → LaidInTail L b.most b.bytes (part_place X) e d
+    → LaidInTail L c.most c.bytes (ref_place X) (length c.bytes) d)
+    → LaidInTail L c.most c.bytes (ref_place (table_part L.schema.root)) (length c.bytes) d
+root_laid L a b c t e d root g laid last =
+    subst (λ (n : ℕ). LaidInTail L c.most c.bytes (ref_place (table_part n)) (length c.bytes) d) root
+    (last (table_part t) (laid_grown L a b (part_place (table_part t)) e d g laid))
+
+pub whole_holds : (L : LaidSchema) (m : ℕ) (b : Bytes) (v : Datum) (most : Bounds) (raw : Bool)
+    → ((id : Bytes) → L.schema.identifier ≡ Some id → IsIdentified b id) → 4 ≤ length b → length b ≤ 2147483647
+    → divides m (length b) ≡ true
+    → LiesInTail L m b (ref_place (table_part L.schema.root)) (length b) v → depth v ≤ most.depth → cells v ≤ most.cells
+    → Holds L most raw b v
+whole_holds L m b v most raw identified low high whole lies deep small =
+    let front : length b - length b ≡ 0 = omega arith in
+    record {
+      header = header_holds b (checked_identifier L raw) low high (checked L b raw identified);
+      lies = subst (λ (p : ℕ). LiesAt L b (ref_place (table_part L.schema.root)) p v) front
+          (whole_shown L m b (ref_place (table_part L.schema.root)) (length b) v whole lies);
+      deep = deep;
+      small = small;
+    }
+
+pub whole_old : (L : LaidSchema) (m : ℕ) (b : Bytes) (v : Datum) → divides m (length b) ≡ true
+    → LaidInTail L m b (ref_place (table_part L.schema.root)) (length b) v → OnlyOld L b
+whole_old L m b v whole laid =
+    let front : length b - length b ≡ 0 = omega arith in
+    let lies = subst (λ (p : ℕ). LiesAt L b (ref_place (table_part L.schema.root)) p v) front
+    (whole_shown L m b (ref_place (table_part L.schema.root)) (length b) v whole laid.lies) in
+    only_old_shown L b v lies
+    (subst (λ (p : ℕ). EachTableAt L b (λ t q. IsOldTable L b t q) (ref_place (table_part L.schema.root)) p v) front
+    laid.old)

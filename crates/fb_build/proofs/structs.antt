@@ -1,0 +1,2 @@
+pub mod FieldAddsToItsStruct
+pub mod StructPaddingIsZero

@@ -1,0 +1,2 @@
+pub mod ElementLeadsToItsTarget
+pub mod VectorHasItsElements

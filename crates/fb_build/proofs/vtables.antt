@@ -1,0 +1,10 @@
+pub mod ClosedTableAddsItsPieces
+pub mod ClosedTableHasItsValue
+pub mod EachVtableIsAKey
+pub mod EndsAreWithinTheTable
+pub mod KeyHasTheBytes
+pub mod TableAndVtableAddThemselves
+pub mod TableLeadsToItsVtable
+pub mod VtableHasTheDefinedBytes
+pub mod VtableHasTheStoredFields
+pub mod VtableIsLaidOnce

@@ -1,0 +1,14 @@
+//! What a value's parts are laid with.
+
+use crate::tail::Tail;
+use indexmap::IndexSet;
+
+/// The tail that is laid so far, each vtable of the value once, where each of them is laid (0 for one
+/// that isn't yet), and the bytes in which a vtable is written before it is looked up.
+#[derive(Drop)]
+pub(crate) struct Builder {
+    pub(crate) tail: Tail,
+    pub(crate) vtables: IndexSet<Vec<u8>>,
+    pub(crate) places: Vec<u32>,
+    pub(crate) scratch: Vec<u8>,
+}
