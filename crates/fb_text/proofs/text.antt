@@ -1,0 +1,5 @@
+-- What the proofs of src/text.rt use.
+pub mod WholeWhereEachUnionIsNamed
+pub mod TextIsPrintedWhole
+pub mod NamesAreUtf8
+pub mod TextIsUtf8
