@@ -1,0 +1,2 @@
+pub mod NamesAreUtf8
+pub mod TextIsUtf8

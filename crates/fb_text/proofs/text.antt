@@ -1,5 +1,3 @@
 -- What the proofs of src/text.rt use.
 pub mod WholeWhereEachUnionIsNamed
 pub mod TextIsPrintedWhole
-pub mod NamesAreUtf8
-pub mod TextIsUtf8

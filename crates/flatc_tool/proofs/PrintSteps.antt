@@ -20,9 +20,9 @@ use Rattle.flatc_tool.specs.Prints.{IsSent, PrintRefused, IsOfInput, text_fault}
 use Rattle.flatc_tool.specs.declared.faults.ToolFault.{ToolFault}
 use Rattle.flatc_tool.specs.declared.faults.ToolFault.TheVariants.{Schema, Json, Build, Read, Text, Write, Breach, Older, Newer, FileRead, FileWrite, FileTooLong, BadJson, Memory}
 use Rattle.flatc_tool.proofs.OneText.{same_accepted}
-use Rattle.fb_text.proofs.text.NamesAreUtf8.{schema_utf8}
+use Rattle.fb_text.proofs.NamesAreUtf8.{schema_utf8}
 use Rattle.flatc_tool.proofs.Utf8Values.{root_spells}
-use Rattle.fb_text.proofs.text.TextIsUtf8.{text_utf8}
+use Rattle.fb_text.proofs.TextIsUtf8.{text_utf8}
 
 -- what a view under layout K and with a root table says is said of the accepted layout
 pub at_layout : (L K : LaidSchema) (table : ℕ) (defaults : Bool) (v : Datum) (start known : Option (List ℕ)) (r : Result (Unit {0}) WriteFault) → K ≡ L → table ≡ L.schema.root

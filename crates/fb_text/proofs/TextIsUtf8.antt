@@ -17,7 +17,7 @@ use Rattle.fb_layout.specs.Laid.{LaidSchema}
 use Rattle.fb_value.specs.Datum.{Datum, a_number, a_text, a_vector, a_struct, a_table, a_member, Parts, no_parts, more_parts, SlotEntries, no_entries, absent_entry, present_entry}
 use Rattle.fb_json.specs.EnumTexts.{has_flags}
 use Rattle.fb_text.specs.Texts.{in_quotes, is_odd, bit_text, bits_text, bits_of, are_flags, flags_text, enum_text, number_text, line, closing, inside, is_printed, member_line, member_name, code_text, has_code, entry_text, value_text, items_text, parts_text, members_text, json_text}
-use Rattle.fb_text.proofs.text.NamesAreUtf8.{FieldsUtf8, BodyUtf8, NameUtf8, or_nothing, slots_utf8, parts_utf8, member_utf8, numbered_utf8}
+use Rattle.fb_text.proofs.NamesAreUtf8.{FieldsUtf8, BodyUtf8, NameUtf8, or_nothing, slots_utf8, parts_utf8, member_utf8, numbered_utf8}
 use Rattle.fb_json.proofs.Utf8Texts.{HasUtf8, HaveUtf8, EntriesHaveUtf8}
 
 either_utf8 : (b : Bool) (x y : List ℕ) → IsUtf8 x → IsUtf8 y → IsUtf8 (if b then x else y)
