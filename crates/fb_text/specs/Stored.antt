@@ -2,7 +2,7 @@
 use Rattle.std.specs.Prelude.{ℕ, ◌+◌, ◌*◌}
 use Rattle.fb_read.specs.declared.entries.Entry.{Entry}
 use Rattle.fb_read.specs.declared.entries.Entry.TheVariants.{Absent, Number, Text, Fixed, Table, Member, Unknown, Vector}
-use Rattle.fb_read.specs.Weights.{weight_of, table_weight, struct_weight, items_weight}
+use Rattle.fb_read.specs.Weights.{table_weight, struct_weight, items_weight}
 
 -- a union's member is heavier than its table
 abbrev pub entry_weight : Entry → ℕ

@@ -1,11 +1,11 @@
 -- What is in a `Value`: the entry of a slot, the part of a number, and how heavy they are.
-use Rattle.std.proofs.Common.{◌≡◌, ℕ, zero, suc, ◌+◌, ◌≤◌, ◌<◌, Bor, List, [], ◌∷◌, slice_get, Option, None, Some, option_map, refl, arith}
+use Rattle.std.proofs.Common.{◌≡◌, ℕ, zero, suc, ◌≤◌, Bor, List, [], ◌∷◌, slice_get, Option, None, Some, option_map, refl, arith}
 use Rattle.std.specs.Option.{option_copied}
-use Rattle.fb_value.specs.Datum.{Datum, a_number, a_text, a_vector, a_struct, a_table, a_member, an_unknown, Parts, no_parts, more_parts, SlotEntries, no_entries, absent_entry, present_entry}
+use Rattle.fb_value.specs.Datum.{Datum, Parts, no_parts, more_parts, SlotEntries, no_entries, absent_entry, present_entry}
 use Rattle.fb_value.specs.Nth.{nth_entry, nth_part}
 use Rattle.fb_value.specs.View.{view, parts_view, entries_view}
 use Rattle.fb_value.specs.declared.values.Value.{Value}
-use Rattle.fb_text.specs.Shown.{size, parts_size, entries_size, size_in}
+use Rattle.fb_text.specs.Shown.{parts_size, entries_size, size_in}
 
 pub part_viewed : (vs : List Value) (i : ℕ) (o : Option Value) → o ≡ slice_get vs i → nth_part (parts_view vs) i ≡ option_map view o
 part_viewed [] i o e = rw e refl

@@ -1,4 +1,3 @@
-use Rattle.std.proofs.Common.{ap}
 use Rattle.fb_text.specs.Writes.{state_of}
 use Rattle.fb_text.proofs.writing.PiecesAddUp.{then}
 use Rattle.fb_text.proofs.text.TextIsPrintedWhole.{nothing_stands}

@@ -1,7 +1,7 @@
 use Rattle.std.proofs.Common.{◌≡◌, ◌<◌, Option, Some, length, map, sym, subst, ap, ◌∙◌, add-one, arith}
 use Rattle.fb_schema.specs.Schema.{body_at, slots_in}
 use Rattle.fb_schema.specs.Seen.{field_seen}
-use Rattle.fb_value.specs.Datum.{Datum, a_table, a_member, a_struct, a_vector, count}
+use Rattle.fb_value.specs.Datum.{Datum, a_table, a_member, count}
 use Rattle.fb_value.specs.Nth.{nth_entry, nth_part}
 use Rattle.fb_text.specs.Indents.{blanks}
 use Rattle.fb_text.specs.Shown.{IsTop}

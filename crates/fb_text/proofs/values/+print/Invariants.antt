@@ -1,4 +1,4 @@
-use Rattle.std.proofs.Common.{◌≡◌, ℕ, ◌+◌, ◌*◌, Some, false, drop, map}
+use Rattle.std.proofs.Common.{◌+◌, ◌*◌, Some, false, drop, map}
 use Rattle.fb_schema.specs.Seen.{field_seen}
 use Rattle.fb_value.specs.Datum.{Parts, SlotEntries, a_table, a_struct, a_vector}
 use Rattle.fb_read.proofs.EnteredCounts.{entries_from, parts_from}
