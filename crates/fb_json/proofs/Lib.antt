@@ -17,9 +17,4 @@ pub mod Words
 pub mod Utf8Texts
 pub mod InEnums
 pub mod Fitted
-pub mod Doubled
-pub mod Escaped
-pub mod WholeNamed
 pub mod MeantWhole
-pub mod NoBits
-pub mod FlagSteps

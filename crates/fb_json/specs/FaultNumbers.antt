@@ -1,10 +1,8 @@
--- The numbers of the faults of JSON and of texts, and their places.
+-- The numbers of the faults of JSON, and their places.
 use Rattle.std.specs.Prelude.{ℕ, Option, None, Some}
 use Rattle.fb_json.specs.declared.faults.Place.{Place}
 use Rattle.fb_json.specs.declared.faults.JsonFault.{JsonFault}
 use Rattle.fb_json.specs.declared.faults.JsonFault.TheVariants.{WrongShape, NotWhole, OutOfRange, UnknownName, UnknownMember, MissingMember, MissingRequired, UnionMismatch, TooDeep, TooManyCells, Memory}
-use Rattle.fb_json.specs.declared.faults.TextFault.{TextFault}
-use Rattle.fb_json.specs.declared.faults.TextFault.TheVariants.{NoMemberName, Memory as TextMemory}
 
 -- the number of the rule, which no other fault has
 abbrev pub number_of : JsonFault → ℕ
@@ -33,12 +31,3 @@ place_of (UnionMismatch at) = Some at
 place_of (TooDeep at) = Some at
 place_of (TooManyCells at) = Some at
 place_of Memory = None
-
--- the same of why a value has no text
-abbrev pub text_number_of : TextFault → ℕ
-text_number_of (NoMemberName at) = 81
-text_number_of TextMemory = 84
-
-abbrev pub text_place_of : TextFault → Option Place
-text_place_of (NoMemberName at) = Some at
-text_place_of TextMemory = None

@@ -7,9 +7,4 @@ pub mod Laws
 pub mod Breaks
 pub mod TreeCounts
 pub mod Refuses
-pub mod Texts
-pub mod Flags
-pub mod Indents
-pub mod Escapes
-pub mod Unnamed
 pub mod FaultNumbers

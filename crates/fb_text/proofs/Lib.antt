@@ -1,9 +1,2 @@
-pub mod Known
-pub mod Written
-pub mod Added
-pub mod EscapedPieces
-pub mod TextSteps
-pub mod Unprinted
-pub mod PrintSteps
-pub mod UnnamedSteps
-pub mod WholePrinted
+pub mod NamesAreUtf8
+pub mod TextIsUtf8

@@ -1,5 +1,11 @@
+pub mod Texts
+pub mod Escapes
+pub mod Indents
+pub mod Unnamed
 pub mod Noted
 pub mod Pages
 pub mod Writes
 pub mod Printed
+pub mod Shown
+pub mod Stored
 pub mod FaultNumbers

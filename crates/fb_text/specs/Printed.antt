@@ -7,8 +7,8 @@ use Rattle.fb_layout.specs.Laid.{LaidSchema}
 use Rattle.fb_value.specs.Datum.{Datum}
 use Rattle.fb_value.specs.Counts.{is_whole}
 use Rattle.fb_json.specs.declared.faults.Place.{Place}
-use Rattle.fb_json.specs.Texts.{is_printed, entry_text, member_line, value_text}
-use Rattle.fb_json.specs.Unnamed.{first_unnamed}
+use Rattle.fb_text.specs.Texts.{is_printed, entry_text, member_line, value_text}
+use Rattle.fb_text.specs.Unnamed.{first_unnamed}
 use Rattle.fb_text.specs.declared.faults.WriteFault.{WriteFault}
 use Rattle.fb_text.specs.declared.faults.WriteFault.TheVariants.{NoMemberName, WriteFailed}
 use Rattle.fb_text.specs.Writes.{counted}

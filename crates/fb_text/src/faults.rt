@@ -1,4 +1,4 @@
-//! Why a text was not written whole.
+//! Why a value has no JSON text, or its text was not written whole.
 use fb_json::Place;
 use thiserror::Error;
 
@@ -45,6 +45,40 @@ impl WriteFault {
         match self {
             WriteFault::NoMemberName(_) => None,
             WriteFault::WriteFailed(written) => Some(written),
+        }
+    }
+}
+
+/// Why a value has no JSON text. `Memory` is a refused allocation.
+#[derive(Clone, Copy, Debug, PartialEq, Eq, Drop, Error)]
+pub enum TextFault {
+    #[error("a union's member has no name in the schema, at {0:?}")]
+    NoMemberName(Place),
+    #[error("out of memory")]
+    Memory,
+}
+
+impl TextFault {
+    ghost use Rattle.std.specs.Prelude.{◌≡◌};
+    ghost use Rattle.fb_text.specs.FaultNumbers.{text_number_of, text_place_of};
+
+    /// The fault's number, which tells it from all others.
+    pub fn number(self) -> u8
+        ensures { result ≡ text_number_of self }
+    {
+        match self {
+            TextFault::NoMemberName(_) => 81,
+            TextFault::Memory => 84,
+        }
+    }
+
+    /// The slot of the union without a name; running out of memory has no place.
+    pub fn place(self) -> Option<Place>
+        ensures { result ≡ text_place_of self }
+    {
+        match self {
+            TextFault::NoMemberName(place) => Some(place),
+            TextFault::Memory => None,
         }
     }
 }

@@ -1,18 +1,23 @@
-//! JSON texts written piece by piece, without memory.
+//! JSON texts of values, written piece by piece.
 #![tactic(auto)]
 
 mod faults;
+mod indents;
 mod lines;
 mod members;
 mod noted;
 mod numbers;
+mod owned;
 mod pages;
 mod quotes;
+mod shown;
+mod stored;
 mod text;
 mod unnamed;
+mod value_codes;
 mod values;
 mod writing;
 
-pub use faults::WriteFault;
+pub use faults::{TextFault, WriteFault};
 pub use noted::Noted;
-pub use text::write_text;
+pub use text::{text_of, write_text};

@@ -1,13 +1,13 @@
-//! The lines of a JSON text, written.
+//! The lines of a JSON text.
 ghost use Rattle.std.specs.Prelude.{◌++◌, [], codes, if◌then◌else◌};
-ghost use Rattle.fb_json.specs.Indents.{blanks};
-ghost use Rattle.fb_json.specs.Texts.{line, closing, member_line, in_quotes};
+ghost use Rattle.fb_text.specs.Indents.{blanks};
+ghost use Rattle.fb_text.specs.Texts.{line, closing, member_line, in_quotes};
 ghost use Rattle.fb_text.specs.Writes.{state_of, Adds};
 
+use crate::indents::Indent;
 use crate::noted::Noted;
 use crate::pages::Page;
 use crate::writing::put;
-use fb_json::Indent;
 use std::io::Write;
 
 /// Adds a piece of text as it is.
@@ -19,7 +19,7 @@ pub(crate) fn put_str<W: Write>(page: &mut Page, out: &mut Noted<W>, piece: &str
 }
 
 /// Adds what stands in front of a member or an element: few levels in one piece.
-#[tactic(auto, using(crate::proofs::Added::added_then))]
+#[tactic(auto, using(crate::proofs::writing::PiecesAddUp::added_then))]
 pub(crate) fn put_line<W: Write>(page: &mut Page, out: &mut Noted<W>, indent: &Indent, some: bool)
     ensures { Adds (state_of W.contents page.old out.old) (state_of W.contents page.new out.new)
         (line (blanks indent.now) some) }
@@ -41,7 +41,7 @@ pub(crate) fn put_line<W: Write>(page: &mut Page, out: &mut Noted<W>, indent: &I
 }
 
 /// Adds what stands in front of a member's name, its quote included: few levels in one piece.
-#[tactic(auto, using(crate::proofs::Added::added_then))]
+#[tactic(auto, using(crate::proofs::writing::PiecesAddUp::added_then))]
 fn put_line_to_name<W: Write>(page: &mut Page, out: &mut Noted<W>, indent: &Indent, some: bool)
     ensures { Adds (state_of W.contents page.old out.old) (state_of W.contents page.new out.new)
         (line (blanks indent.now) some ++ codes "\"") }
@@ -78,7 +78,7 @@ pub(crate) fn put_closing<W: Write>(
 }
 
 /// Adds the line of a member up to its value. That of a union's code is called `x_type` where its member is `x`.
-#[tactic(auto, using(crate::proofs::Added::added_then))]
+#[tactic(auto, using(crate::proofs::writing::PiecesAddUp::added_then))]
 pub(crate) fn put_member_line<W: Write>(
     page: &mut Page,
     out: &mut Noted<W>,
@@ -96,7 +96,7 @@ pub(crate) fn put_member_line<W: Write>(
 }
 
 /// Adds a name in quotes.
-#[tactic(auto, using(crate::proofs::Added::added_then))]
+#[tactic(auto, using(crate::proofs::writing::PiecesAddUp::added_then))]
 pub(crate) fn put_name<W: Write>(page: &mut Page, out: &mut Noted<W>, name: &str)
     ensures { Adds (state_of W.contents page.old out.old) (state_of W.contents page.new out.new)
         (in_quotes name.now) }

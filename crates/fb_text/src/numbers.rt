@@ -1,17 +1,18 @@
-//! Numbers in JSON texts, written.
+//! Numbers in JSON texts.
 ghost use Rattle.std.specs.Prelude.{◌≡◌, ◌^◌, ◌<◌, ◌*◌, ◌≤◌, ◌||◌, if◌then◌else◌};
 ghost use Rattle.std.specs.Prelude.{[], false, pos, codes};
 ghost use Rattle.std.specs.Option.{unwrap_or};
 ghost use Rattle.std.specs.Fmt.{signed_decimal};
 ghost use Rattle.fb_schema.specs.Schema.{body_at};
 ghost use Rattle.fb_schema.specs.Found.{name_numbered};
-ghost use Rattle.fb_json.specs.Texts.{is_odd, bit_text, bits_text, flags_text, enum_text, number_text};
+ghost use Rattle.fb_text.specs.Texts.{bits_of, is_odd, has_name, are_named, are_flags};
+ghost use Rattle.fb_text.specs.Texts.{bit_text, bits_text, flags_text, enum_text, number_text};
 ghost use Rattle.fb_text.specs.Writes.{state_of, Adds};
 
 use crate::lines::{put_name, put_str};
 use crate::noted::Noted;
 use crate::pages::Page;
-use fb_json::{are_flags, bits_of, has_flags};
+use fb_json::has_flags;
 use fb_schema::{Base, Kind, Schema, TypeId};
 use itoa::Buffer;
 use std::io::Write;
@@ -62,7 +63,7 @@ fn put_enum<W: Write>(
 }
 
 /// Adds the names of a number's bits, where it has bits and each has a name, or the number.
-#[tactic(auto, using(crate::proofs::Added::added_then))]
+#[tactic(auto, using(crate::proofs::writing::PiecesAddUp::added_then))]
 fn put_flags<W: Write>(
     page: &mut Page,
     out: &mut Noted<W>,
@@ -80,6 +81,44 @@ fn put_flags<W: Write>(
     put_str(page, out, "\"");
     put_bits(page, out, schema, enumeration, 64, 1, bits, false);
     put_str(page, out, "\"");
+}
+
+/// The bits of a number; a negative one has none here.
+fn bits_of(number: i128) -> u128
+    ensures { result ≡ bits_of number }
+{
+    if number < 0 { 0 } else { number as u128 }
+}
+
+/// Whether a number has bits and each has a name.
+fn are_flags(schema: &Schema, enumeration: TypeId, bits: u128) -> bool
+    ensures { result ≡ are_flags (body_at schema.now enumeration.0) bits }
+{
+    bits != 0 && are_named(schema, enumeration, 64, 1, bits)
+}
+
+/// Whether a number's lowest bit, which stands for `bit`, has a name if it is set.
+fn has_name(schema: &Schema, enumeration: TypeId, bit: u128, bits: u128) -> bool
+    requires { bit < 2 ^ 127 }
+    ensures { result ≡ has_name (name_numbered (body_at schema.now enumeration.0)) bit bits }
+{
+    bits % 2 != 1 || schema.name_of_number(enumeration, bit as i128).is_some()
+}
+
+/// Whether so many of a number's bits have names where they are set. The lowest stands for `bit`.
+#[tactic(auto, using(crate::proofs::numbers::NoBitsHaveNoNames::none_named), unfolding(crate::specs::Texts::are_named))]
+fn are_named(schema: &Schema, enumeration: TypeId, left: u32, bit: u128, bits: u128) -> bool
+    requires { bit * 2 ^ left ≤ 2 ^ 64 }
+    ensures { result
+        ≡ are_named (name_numbered (body_at schema.now enumeration.0)) left bit bits }
+{
+    if left == 0 || bits == 0 {
+        return true;
+    }
+    if !has_name(schema, enumeration, bit, bits) {
+        return false;
+    }
+    are_named(schema, enumeration, left - 1, bit + bit, bits / 2)
 }
 
 /// What stands in front of a name: a blank behind an earlier one.
@@ -100,7 +139,7 @@ fn bit_name(schema: &Schema, enumeration: TypeId, bit: u128) -> &str
 }
 
 /// Adds the name of a number's lowest bit, if it is set.
-#[tactic(auto, using(crate::proofs::Added::added_then, crate::proofs::Added::added_none))]
+#[tactic(auto, using(crate::proofs::writing::PiecesAddUp::added_then, crate::proofs::writing::PiecesAddUp::added_none))]
 fn put_bit<W: Write>(
     page: &mut Page,
     out: &mut Noted<W>,

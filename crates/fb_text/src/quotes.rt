@@ -1,18 +1,18 @@
-//! Texts in quotes, written.
-ghost use Rattle.std.specs.Prelude.{◌≡◌, [], ◌∷◌, ◌<◌, false};
+//! Texts in quotes.
+ghost use Rattle.std.specs.Prelude.{◌≡◌, ◌<◌, ◌≤◌, false, length};
+ghost use Rattle.std.specs.List.{prefix_len};
 ghost use Rattle.std.specs.Char.{digit_char};
 ghost use Rattle.json.specs.Print.{quoted, escape, escape_byte};
-ghost use Rattle.fb_json.specs.Escapes.{is_plain};
+ghost use Rattle.fb_text.specs.Escapes.{is_plain};
 ghost use Rattle.fb_text.specs.Writes.{state_of, Adds};
 
 use crate::noted::Noted;
 use crate::pages::Page;
 use crate::writing::put;
-use fb_json::plain_run;
 use std::io::Write;
 
 /// Adds a text in quotes, escaped.
-#[tactic(auto, using(crate::proofs::Added::added_then))]
+#[tactic(auto, using(crate::proofs::writing::PiecesAddUp::added_then))]
 pub(crate) fn put_quoted<W: Write>(page: &mut Page, out: &mut Noted<W>, content: &str)
     ensures { Adds (state_of W.contents page.old out.old) (state_of W.contents page.new out.new)
         (quoted content.now) }
@@ -20,6 +20,21 @@ pub(crate) fn put_quoted<W: Write>(page: &mut Page, out: &mut Noted<W>, content:
     put(page, out, b"\"");
     put_escaped(page, out, content.as_bytes());
     put(page, out, b"\"");
+}
+
+/// Whether a byte stands in a JSON string as it is.
+fn is_plain(byte: u8) -> bool
+    ensures { result ≡ is_plain byte }
+{
+    byte >= 0x20 && byte != b'"' && byte != b'\\'
+}
+
+/// How many bytes at the front stand as they are.
+fn plain_run(text: &[u8]) -> usize
+    ensures run { result ≡ prefix_len is_plain text.now }
+    ensures within { result ≤ length text.now }
+{
+    text.iter().take_while(|byte| is_plain(**byte)).count()
 }
 
 /// Adds bytes of a text without its quotes: each stretch without escapes in one piece.
@@ -52,7 +67,7 @@ fn digit(number: u8) -> u8
 }
 
 /// Adds the escape of a byte that doesn't stand as it is.
-#[tactic(auto, using(crate::proofs::Added::added_then), unfolding(json::specs::Print::escape_byte))]
+#[tactic(auto, using(crate::proofs::writing::PiecesAddUp::added_then), unfolding(json::specs::Print::escape_byte))]
 fn put_escape<W: Write>(page: &mut Page, out: &mut Noted<W>, byte: u8)
     requires { is_plain byte ≡ false }
     ensures { Adds (state_of W.contents page.old out.old) (state_of W.contents page.new out.new)

@@ -1,22 +1,54 @@
-//! The JSON text of a table, written from where it lies.
-ghost use Rattle.std.specs.Prelude.{◌≡◌};
+//! The JSON text of a value of the root table.
+ghost use Rattle.std.specs.Prelude.{◌≡◌, ◌↔◌, Some, true, false, IfOk, IfErr, IsErr, IsTrue, string_bytes};
+ghost use Rattle.fb_value.specs.Counts.{is_whole};
 ghost use Rattle.fb_value.specs.Datum.{Datum};
+ghost use Rattle.fb_value.specs.View.{view};
 ghost use Rattle.fb_read.specs.Shows.{Shows};
 ghost use Rattle.fb_json.specs.Meant.{type_place};
-ghost use Rattle.fb_json.specs.Texts.{json_text};
+ghost use Rattle.fb_text.specs.Texts.{json_text};
 ghost use Rattle.fb_text.specs.Noted.{write_failed, writer_of};
 ghost use Rattle.fb_text.specs.Printed.{IsPrinted, TellsFailure, IfUnnamed};
+ghost use Rattle.fb_text.specs.Unnamed.{IsRefused};
+ghost use Rattle.fb_text.specs.Writes.{IsWritten};
 
-use crate::faults::WriteFault;
+use crate::faults::{TextFault, WriteFault};
+use crate::indents::Indent;
 use crate::lines::put_str;
 use crate::noted::Noted;
+use crate::owned::ValueEntry;
 use crate::pages::Page;
+use crate::shown::Shown;
 use crate::unnamed::first_in_table;
-use crate::values::{Style, put_table};
+use crate::value_codes::first_unnamed;
+use crate::values::{Style, put_value};
 use crate::writing::finish;
-use fb_json::Indent;
-use fb_read::View;
+use fb_json::Place;
+use fb_layout::Layout;
+use fb_read::{Entry, View};
+use fb_schema::{Kind, Shape};
+use fb_value::Value;
+use std::alloc::Global;
 use std::io::Write;
+
+/// Writes the text of a value of the root table, and the line feed at its end.
+fn write_root<W: Write, S: Shown>(
+    shown: S,
+    style: Style,
+    out: &mut Noted<W>,
+) -> Result<(), WriteFault>
+    requires { write_failed out.old ≡ false }
+    ensures written { (d : Datum) → S.shows shown style.entry.layout.now (Some d)
+        → IsWritten (W.contents (writer_of out.old)) (W.contents (writer_of out.new))
+        (json_text style.entry.layout.now style.entry.defaults d) result }
+    ensures failed { IsErr result ↔ IsTrue (write_failed out.new) }
+    ensures named { IfUnnamed result ⊥ }
+{
+    let mut page = Page::new();
+    let shape = Shape::One(Kind::Table(style.layout.schema().root()));
+    put_value(&mut page, out, style, &Indent::edge(), shape, shown);
+    put_str(&mut page, out, "\n");
+    finish(&mut page, out)
+}
 
 /// Writes the JSON text of a table. `defaults` prints numbers at their defaults too.
 ///
@@ -39,12 +71,41 @@ pub fn write_text<W: Write>(
     if out.failed() {
         return Err(WriteFault::WriteFailed(0));
     }
-    let mut page = Page::new();
     let style = Style {
         layout: view.layout(),
         defaults,
     };
-    put_table(&mut page, out, style, &Indent::edge(), *view);
-    put_str(&mut page, out, "\n");
-    finish(&mut page, out)
+    write_root(Entry::Table(*view), style, out)
+}
+
+/// The JSON text of a value of the root table. `defaults` prints numbers at their defaults too.
+pub fn text_of(
+    alloc: Global,
+    layout: &Layout,
+    value: &Value,
+    defaults: bool,
+) -> Result<String, TextFault>
+    ensures text { IfOk result
+        (λ s. string_bytes s ≡ json_text layout.now defaults (view value.now)) }
+    ensures whole { IfOk result (λ _. is_whole (view value.now) ≡ true) }
+    ensures refused { IfErr result
+        (IsRefused (type_place layout.now.schema.root) (view value.now)) }
+{
+    let place = Place {
+        owner: layout.schema().root(),
+        slot: None,
+    };
+    if let Some(unnamed) = first_unnamed(place, value) {
+        return Err(TextFault::NoMemberName(unnamed));
+    }
+    let _names = layout.schema().types(); // tells that names are UTF-8
+    let style = Style { layout, defaults };
+    let mut out = Noted::over(Vec::new(alloc));
+    if write_root(ValueEntry(Some(value)), style, &mut out).is_err() {
+        return Err(TextFault::Memory); // what a `Vec` refuses
+    }
+    match String::from_utf8(out.into_inner()) {
+        Ok(text) => Ok(text),
+        Err(_) => unreachable!(),
+    }
 }

@@ -3,7 +3,7 @@ ghost use Rattle.std.specs.Prelude.{◌≡◌, Option};
 ghost use Rattle.fb_layout.specs.Laid.{LaidSchema};
 ghost use Rattle.fb_value.specs.Datum.{Datum, Parts};
 ghost use Rattle.fb_json.specs.declared.faults.Place.{Place};
-ghost use Rattle.fb_json.specs.Unnamed.{first_unnamed, first_in_parts};
+ghost use Rattle.fb_text.specs.Unnamed.{first_unnamed, first_in_parts};
 ghost use Rattle.fb_read.specs.Shows.{Shows, ShowsItems};
 ghost use Rattle.fb_read.specs.Weights.{ShowsEntry};
 ghost use Rattle.fb_text.specs.Printed.{first_in_entry};

@@ -65,7 +65,7 @@ fn put_first<W: Write>(page: &mut Page, out: &mut Noted<W>, piece: &[u8])
 }
 
 /// Adds a piece of a text. What waits is written where the piece has no room behind it.
-#[tactic(auto, using(crate::proofs::Added::added_then))]
+#[tactic(auto, using(crate::proofs::writing::PiecesAddUp::added_then))]
 pub(crate) fn put<W: Write>(page: &mut Page, out: &mut Noted<W>, piece: &[u8])
     ensures { Adds (state_of W.contents page.old out.old) (state_of W.contents page.new out.new)
         piece.now }

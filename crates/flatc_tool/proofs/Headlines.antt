@@ -11,7 +11,7 @@ use Rattle.fb_value.specs.Num.{Bytes}
 use Rattle.fb_value.specs.Holds.{Holds, IsLeastFault, computed_fault}
 use Rattle.fb_value.specs.OldSlots.{OnlyOld}
 use Rattle.fb_value.specs.Laws.{HeldOrFault}
-use Rattle.fb_json.specs.Texts.{json_text}
+use Rattle.fb_text.specs.Texts.{json_text}
 use Rattle.fb_read.specs.declared.view.View.{View}
 use Rattle.fb_text.specs.declared.faults.WriteFault.TheVariants.{NoMemberName, WriteFailed}
 use Rattle.fb_conform.specs.Conforms.{Conforms}

@@ -5,8 +5,6 @@ pub mod Evolving
 pub mod Known
 pub mod LinesTold
 pub mod Sound
-pub mod Utf8Names
 pub mod Utf8Values
-pub mod Utf8Texts
 pub mod PrintSteps
 pub mod Breaches

@@ -9,7 +9,7 @@ use Rattle.fb_value.specs.Datum.{Datum}
 use Rattle.fb_value.specs.Num.{Bytes}
 use Rattle.fb_value.specs.Holds.{Holds}
 use Rattle.fb_json.specs.Meant.{type_place}
-use Rattle.fb_json.specs.Texts.{json_text}
+use Rattle.fb_text.specs.Texts.{json_text}
 use Rattle.fb_text.specs.declared.faults.WriteFault.{WriteFault}
 use Rattle.fb_text.specs.declared.faults.WriteFault.TheVariants.{NoMemberName, WriteFailed}
 use Rattle.fb_text.specs.Printed.{IsPrinted}
@@ -20,9 +20,9 @@ use Rattle.flatc_tool.specs.Prints.{IsSent, PrintRefused, IsOfInput, text_fault}
 use Rattle.flatc_tool.specs.declared.faults.ToolFault.{ToolFault}
 use Rattle.flatc_tool.specs.declared.faults.ToolFault.TheVariants.{Schema, Json, Build, Read, Text, Write, Breach, Older, Newer, FileRead, FileWrite, FileTooLong, BadJson, Memory}
 use Rattle.flatc_tool.proofs.OneText.{same_accepted}
-use Rattle.flatc_tool.proofs.Utf8Names.{schema_utf8}
+use Rattle.fb_text.proofs.NamesAreUtf8.{schema_utf8}
 use Rattle.flatc_tool.proofs.Utf8Values.{root_spells}
-use Rattle.flatc_tool.proofs.Utf8Texts.{text_utf8}
+use Rattle.fb_text.proofs.TextIsUtf8.{text_utf8}
 
 -- what a view under layout K and with a root table says is said of the accepted layout
 pub at_layout : (L K : LaidSchema) (table : ℕ) (defaults : Bool) (v : Datum) (start known : Option (List ℕ)) (r : Result (Unit {0}) WriteFault) → K ≡ L → table ≡ L.schema.root

@@ -12,8 +12,8 @@ use Rattle.fb_build.specs.declared.faults.BuildFault.{BuildFault}
 use Rattle.fb_build.specs.declared.faults.BuildFault.TheVariants as the_build
 use Rattle.fb_json.specs.declared.faults.JsonFault.{JsonFault}
 use Rattle.fb_json.specs.declared.faults.JsonFault.TheVariants as the_json
-use Rattle.fb_json.specs.declared.faults.TextFault.{TextFault}
-use Rattle.fb_json.specs.declared.faults.TextFault.TheVariants as the_text
+use Rattle.fb_text.specs.declared.faults.TextFault.{TextFault}
+use Rattle.fb_text.specs.declared.faults.TextFault.TheVariants as the_text
 use Rattle.fb_text.specs.declared.faults.WriteFault.{WriteFault}
 use Rattle.fb_text.specs.declared.faults.WriteFault.TheVariants as the_write
 use Rattle.fb_conform.specs.declared.breaches.Breach.{Breach as OneBreach}

@@ -16,7 +16,7 @@ use Rattle.flatc_tool.specs.declared.faults.ToolFault.TheVariants.{Schema, Json,
 -- JSON, values and their texts have declared places, a type and one of its slots
 abbrev pub place_of : ToolFault → Option Place
 place_of (Json f) = json_faults.place_of f
-place_of (Text f) = json_faults.text_place_of f
+place_of (Text f) = write_faults.text_place_of f
 place_of (Write f) = write_faults.place_of f
 place_of _ = None
 

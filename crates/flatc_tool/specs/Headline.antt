@@ -8,7 +8,7 @@ use Rattle.fb_value.specs.Datum.{Datum}
 use Rattle.fb_value.specs.Num.{Bytes}
 use Rattle.fb_value.specs.Holds.{Holds, IsLeastFault}
 use Rattle.fb_value.specs.OldSlots.{OnlyOld}
-use Rattle.fb_json.specs.Texts.{json_text}
+use Rattle.fb_text.specs.Texts.{json_text}
 use Rattle.fb_build.specs.Covered.{Covered}
 use Rattle.fb_read.specs.declared.view.View.{View}
 use Rattle.fb_conform.specs.Carry.{carry}

@@ -14,12 +14,12 @@ use Rattle.fb_value.specs.Holds.{Holds, Refuses}
 use Rattle.fb_value.specs.OldSlots.{OnlyOld}
 use Rattle.fb_json.specs.declared.faults.JsonFault.{JsonFault}
 use Rattle.fb_json.specs.declared.faults.JsonFault.TheVariants as the_json
-use Rattle.fb_json.specs.declared.faults.TextFault.TheVariants as the_text
+use Rattle.fb_text.specs.declared.faults.TextFault.TheVariants as the_text
 use Rattle.fb_json.specs.Means.{Means}
 use Rattle.fb_json.specs.Meant.{type_place}
 use Rattle.fb_json.specs.Refuses as refused_trees
-use Rattle.fb_json.specs.Texts.{json_text}
-use Rattle.fb_json.specs.Unnamed.{IsRefused as IsUnnamed}
+use Rattle.fb_text.specs.Texts.{json_text}
+use Rattle.fb_text.specs.Unnamed.{IsRefused as IsUnnamed}
 use Rattle.fb_build.specs.Covered.{Covered, EndsAligned}
 use Rattle.fb_build.specs.declared.faults.BuildFault.TheVariants as the_build
 use Rattle.flatc_tool.specs.SchemaTexts.{IsAccepted, IsRefused, IsWant}

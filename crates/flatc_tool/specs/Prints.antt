@@ -7,9 +7,9 @@ use Rattle.fb_value.specs.Bounds.{Bounds}
 use Rattle.fb_value.specs.Datum.{Datum}
 use Rattle.fb_value.specs.Num.{Bytes}
 use Rattle.fb_value.specs.Holds.{Holds}
-use Rattle.fb_json.specs.declared.faults.TextFault.TheVariants as the_text
+use Rattle.fb_text.specs.declared.faults.TextFault.TheVariants as the_text
 use Rattle.fb_json.specs.Meant.{type_place}
-use Rattle.fb_json.specs.Unnamed.{IsRefused as IsUnnamed}
+use Rattle.fb_text.specs.Unnamed.{IsRefused as IsUnnamed}
 use Rattle.fb_text.specs.Writes.{counted}
 use Rattle.fb_text.specs.declared.faults.WriteFault.TheVariants.{NoMemberName, WriteFailed}
 use Rattle.flatc_tool.specs.SchemaTexts.{IsAccepted, IsRefused}

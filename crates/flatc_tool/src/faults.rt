@@ -2,9 +2,9 @@
 use crate::schema_layouts::SchemaTextFault;
 use fb_build::BuildFault;
 use fb_conform::Breach;
-use fb_json::{JsonFault, Place, TextFault};
+use fb_json::{JsonFault, Place};
 use fb_schema::TypeId;
-use fb_text::WriteFault;
+use fb_text::{TextFault, WriteFault};
 use fb_value::ReadFault;
 use thiserror::Error;
 

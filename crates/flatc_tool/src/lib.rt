@@ -20,11 +20,11 @@ pub use faults::ToolFault;
 pub use fb_build::BuildFault;
 pub use fb_conform::Breach;
 pub use fb_declare::SchemaFault;
-pub use fb_json::{JsonFault, Place, TextFault};
+pub use fb_json::{JsonFault, Place};
 pub use fb_layout::{Layout, LayoutFault};
 pub use fb_schema::TypeId;
 pub use fb_syntax::SyntaxFault;
-pub use fb_text::{Noted, WriteFault};
+pub use fb_text::{Noted, TextFault, WriteFault};
 pub use fb_value::{Limits, ReadFault};
 pub use headline::{
     chains_carry, chains_conform, json_is_carried, old_programs_read, others_are_refused,

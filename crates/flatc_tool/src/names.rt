@@ -7,10 +7,10 @@ use crate::schema_layouts::SchemaTextFault;
 use fb_build::BuildFault;
 use fb_conform::Breach;
 use fb_declare::SchemaFault;
-use fb_json::{JsonFault, TextFault};
+use fb_json::JsonFault;
 use fb_layout::LayoutFault;
 use fb_syntax::SyntaxFault;
-use fb_text::WriteFault;
+use fb_text::{TextFault, WriteFault};
 use fb_value::ReadFault;
 
 fn syntax_name(fault: SyntaxFault) -> &'static str

@@ -8,10 +8,9 @@ ghost use Rattle.flatc_tool.specs.Prints.{IsSent, PrintRefused, TellsFailure, If
 use crate::faults::ToolFault;
 use crate::laws::layer_laws;
 use crate::schema_layouts::schema_of;
-use fb_json::TextFault;
 use fb_layout::Layout;
 use fb_read::{Entries, verify};
-use fb_text::{Noted, WriteFault, write_text};
+use fb_text::{Noted, TextFault, WriteFault, write_text};
 use fb_value::Limits;
 use std::alloc::Global;
 use std::io::Write;

@@ -1,6 +1,6 @@
 //! Texts of values beside those of their bytes.
 use crate::cases::Case;
-use fb_json::{TextFault, text_of};
+use fb_text::{TextFault, text_of};
 use fb_value::Value;
 use flatc_tool::{ToolFault, to_json};
 use std::alloc::AllocError;

@@ -2,11 +2,11 @@
 use fb_build::BuildFault;
 use fb_conform::Breach;
 use fb_declare::SchemaFault;
-use fb_json::{JsonFault, Place, TextFault};
+use fb_json::{JsonFault, Place};
 use fb_layout::LayoutFault;
 use fb_schema::TypeId;
 use fb_syntax::SyntaxFault;
-use fb_text::WriteFault;
+use fb_text::{TextFault, WriteFault};
 use fb_value::ReadFault;
 use flatc_tool::{SchemaTextFault, ToolFault, fault_line};
 use std::alloc::Global;

@@ -1,9 +1,9 @@
 //! Buffers that are printed to writers.
 use super::usual_limits;
 use super::writers::Short;
-use fb_json::{Place, TextFault};
+use fb_json::Place;
 use fb_schema::TypeId;
-use fb_text::{Noted, WriteFault};
+use fb_text::{Noted, TextFault, WriteFault};
 use fb_value::ReadFault;
 use flatc_tool::{ToolFault, print_to, to_binary, to_json};
 use std::alloc::Global;

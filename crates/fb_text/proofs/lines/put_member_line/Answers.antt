@@ -1,7 +1,7 @@
 use Rattle.std.proofs.Common.{◌≡◌, ℕ, List, [], ◌++◌, Bool, true, false, codes, if◌then◌else◌, refl, ap, ◌∙◌, append_assoc, rules}
-use Rattle.fb_json.specs.Texts.{line, member_line}
-use Rattle.fb_json.specs.Indents.{blanks}
-use Rattle.fb_text.proofs.Added.{then as joined, added_as}
+use Rattle.fb_text.specs.Texts.{line, member_line}
+use Rattle.fb_text.specs.Indents.{blanks}
+use Rattle.fb_text.proofs.writing.PiecesAddUp.{then as joined, added_as}
 use Rattle.fb_text.proofs.lines.put_member_line.Goals as goal
 
 behind_name : (is_code : Bool) → (if is_code then codes "_type\": " else codes "\": ") ≡ (if is_code then codes "_type" else []) ++ codes "\": "

@@ -1,10 +1,10 @@
 use Rattle.std.proofs.Common.{◌≡◌, ℕ, suc, ◌+◌, ◌-◌, ◌/◌, ◌<◌, ◌^◌, ◌++◌, ◌||◌, ℤ, Bool, Option, [], ap, sym, arith}
 use Rattle.fb_schema.specs.Schema.{Name, body_at}
 use Rattle.fb_schema.specs.Found.{name_numbered}
-use Rattle.fb_json.specs.Texts.{is_odd, bit_text, bits_text}
-use Rattle.fb_json.proofs.Doubled.{doubled}
-use Rattle.fb_json.proofs.NoBits.{no_places, no_bits}
-use Rattle.fb_text.proofs.Added.{added_none, added_as, then}
+use Rattle.fb_text.specs.Texts.{is_odd, bit_text, bits_text}
+use Rattle.fb_text.proofs.numbers.BitDoubles.{doubled}
+use Rattle.fb_text.proofs.numbers.NoBitsHaveNoNames.{no_places, no_bits}
+use Rattle.fb_text.proofs.writing.PiecesAddUp.{added_none, added_as, then}
 use Rattle.fb_text.proofs.numbers.+put_bits.Goals.{then-left-eq0-via-then-left-eq0, then-left-eq0-via-else-left-eq0+then-bits-eq0}
 use Rattle.fb_text.proofs.numbers.+put_bits.Goals as goal
 

@@ -1,14 +1,10 @@
 use Rattle.std.proofs.Common.{refl, sym, ◌∙◌}
 use Rattle.std.proofs.KnownBytes.{Appends-nil}
 use Rattle.fb_json.specs.Meant.{type_place}
-use Rattle.fb_json.specs.Texts.{json_text}
-use Rattle.fb_json.proofs.WholeNamed.{named_whole, unnamed_part}
-use Rattle.fb_schema.specs.declared.kinds.Kind.TheVariants.{Table}
-use Rattle.fb_schema.specs.declared.kinds.Shape.TheVariants.{One}
-use Rattle.fb_text.specs.Writes.{state_of}
-use Rattle.fb_text.proofs.Added.{then}
-use Rattle.fb_text.proofs.PrintSteps.{never_unnamed}
-use Rattle.fb_text.proofs.WholePrinted.{nothing_stands, some_text, whole_printed}
+use Rattle.fb_text.specs.Texts.{json_text}
+use Rattle.fb_text.proofs.text.WholeWhereEachUnionIsNamed.{named_whole, unnamed_part}
+use Rattle.fb_text.proofs.values.MemberIsItsCodeAndValue.{never_unnamed}
+use Rattle.fb_text.proofs.text.TextIsPrintedWhole.{some_text, whole_printed}
 use Rattle.fb_text.proofs.text.write_text.Goals as goal
 
 pub returns-in-Some-clause-printed : goal.returns-in-Some-clause-printed
@@ -27,11 +23,8 @@ returns-clause-printed g c d lies =
     let L = c.args.view.now.layout.now in
     let found = c.first_in_table.ensures (type_place c.args.view.now.table.0) d lies in
     let whole = named_whole (type_place c.args.view.now.table.0) d (sym c.in_default.is ∙ found) in
-    let fine = sym c.failed.ensures ∙ c.if-failed.false in
-    let table = rw (c.layout.ensures, c.edge.ensures) at (c.put_table.ensures (One (Table (record { 0 = L.schema.root }))) d (sym c.layout.ensures) lies) in
-    let begun = nothing_stands (state_of g.W.Write.contents c.new-page.result c.args.out.now) fine c.new-page.ensures.pending c.new-page.ensures.written in
-    let all = (then table c.put_str.ensures).adds _ _ begun in
-    whole_printed (type_place c.args.view.now.table.0) d (json_text L c.args.defaults d) _ _ c.finish.result whole (c.finish.ensures.written _ _ all)
+    let written = rw c.layout.ensures at (c.write_root.ensures.written d (sym c.layout.ensures, d, refl, lies)) in
+    whole_printed (type_place c.args.view.now.table.0) d (json_text L c.args.defaults d) _ _ c.write_root.result whole written
 
 pub returns-clause-untouched : goal.returns-clause-untouched
-returns-clause-untouched g c = never_unnamed c.finish.result _ c.finish.ensures.named
+returns-clause-untouched g c = never_unnamed c.write_root.result _ c.write_root.ensures.named

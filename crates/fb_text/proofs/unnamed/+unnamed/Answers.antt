@@ -4,9 +4,9 @@ use Rattle.fb_layout.specs.Laid.{stored_kind, slots_of}
 use Rattle.fb_value.specs.Datum.{a_table, count}
 use Rattle.fb_value.specs.Nth.{nth_entry}
 use Rattle.fb_read.specs.Tails.{entries_from, parts_from}
-use Rattle.fb_json.specs.Unnamed.{first_unnamed, first_in_parts, first_in_entries}
-use Rattle.fb_text.proofs.PrintSteps.{part_there}
-use Rattle.fb_text.proofs.UnnamedSteps.{is_table, plain_kind, place_is, table_case, entries_step, entries_end, parts_step, parts_end, found_first, found_later, fields_named, items_named}
+use Rattle.fb_text.specs.Unnamed.{first_unnamed, first_in_parts, first_in_entries}
+use Rattle.fb_text.proofs.values.MemberIsItsCodeAndValue.{part_there}
+use Rattle.fb_text.proofs.unnamed.OneEntryMore.{is_table, plain_kind, place_is, table_case, entries_step, entries_end, parts_step, parts_end, found_first, found_later, fields_named, items_named}
 use Rattle.fb_text.proofs.unnamed.+unnamed.Goals.{first_in_items-in-Table, first_in_items-in_default}
 use Rattle.fb_text.proofs.unnamed.+unnamed.Goals as goal
 

@@ -1,6 +1,6 @@
 use Rattle.std.proofs.Common.{◌≡◌, ℕ, ◌+◌, ◌*◌}
 use Rattle.fb_value.specs.Datum.{Parts, SlotEntries, a_table}
-use Rattle.fb_json.specs.Unnamed.{first_in_parts, first_in_entries}
+use Rattle.fb_text.specs.Unnamed.{first_in_parts, first_in_entries}
 use Rattle.fb_read.specs.Shows.{Shows, ShowsItems}
 use Rattle.fb_read.specs.Weights.{weight_of, table_weight, items_weight}
 use Rattle.fb_read.specs.Tails.{entries_from, parts_from}

@@ -3,95 +3,93 @@ use Rattle.fb_schema.specs.Schema.{body_at, slots_in}
 use Rattle.fb_schema.specs.Seen.{field_seen}
 use Rattle.fb_value.specs.Datum.{Datum, a_table, a_member, count}
 use Rattle.fb_value.specs.Nth.{nth_entry, nth_part}
-use Rattle.fb_layout.specs.Laid.{LaidSchema}
-use Rattle.fb_read.specs.Weights.{ShowsEntry}
-use Rattle.fb_json.specs.Indents.{blanks}
-use Rattle.fb_json.specs.Texts.{value_text}
-use Rattle.fb_text.proofs.Added.{then, added_as}
-use Rattle.fb_text.proofs.TextSteps.{members_step, members_behind, parts_step, parts_end, items_step, items_end, table_text}
-use Rattle.fb_text.proofs.PrintSteps.{seen_there, seen_long, part_there, entry_added, table_added}
+use Rattle.fb_text.specs.Indents.{blanks}
+use Rattle.fb_text.specs.Shown.{IsTop}
+use Rattle.fb_text.proofs.writing.PiecesAddUp.{then, added_as}
+use Rattle.fb_text.proofs.values.OneMemberMore.{members_step, members_behind, parts_step, parts_end, items_step, items_end, table_text}
+use Rattle.fb_text.proofs.values.MemberIsItsCodeAndValue.{seen_there, seen_long, part_there, entry_added}
 use Rattle.fb_text.proofs.values.+print.Goals as goal
 
 pub put_member-returns-clause-text : goal.put_member-returns-clause-text
 put_member-returns-clause-text g t c o shows =
     let L = c.args.style.layout.now in
-    entry_added L c.args.style.defaults (blanks c.args.inner.now) c.args.some (field_seen c.args.slot.now) o c.put_code-some.result _ _ _ (sym c.if-not-is_printed.false ∙ c.is_printed.ensures L o shows)
-    (λ d e. rw (c.schema-schema.ensures.schema, c.as_str-name.ensures.value) at (c.put_code-some.ensures.text L d (subst (λ (x : Option Datum). ShowsEntry L c.args.found x) e shows)))
-    (λ d e. c.put_code-some.ensures.some L d (subst (λ (x : Option Datum). ShowsEntry L c.args.found x) e shows))
-    (λ d e. c.put_named.ensures d (subst (λ (x : Option Datum). ShowsEntry L c.args.found x) e shows))
+    let top = c.find-found.ensures.top L o shows in
+    entry_added L c.args.style.defaults (blanks c.args.inner.now) c.args.some (field_seen c.args.slot.now) o c.put_code-some.result _ _ _ (sym c.if-not-is_printed.false ∙ c.is_printed.ensures o top)
+    (λ d e. rw (c.schema-schema.ensures.schema, c.as_str-name.ensures.value) at (c.put_code-some.ensures.text d (subst (λ (x : Option Datum). IsTop c.find-found.result x) e top)))
+    (λ d e. c.put_code-some.ensures.some d (subst (λ (x : Option Datum). IsTop c.find-found.result x) e top))
+    (λ d e. c.put_named.ensures d (subst (λ (x : Option Datum). g.S.Shown.shows c.args.shown L x) e shows))
 
 pub put_struct-loop-k-preserved : goal.put_struct-loop-k-preserved
-put_struct-loop-k-preserved g t c ds same lies end rest =
+put_struct-loop-k-preserved g t c ds lies end rest =
     let L = c.args.style.layout.now in
     let k = c.loop-k.k in
     let there = nth_part ds k in
     let f = field_seen c.index-fields-k.result in
     let fs = map field_seen c.parts_of-fields.result.now in
-    let shows : ShowsEntry L c.part.result there = subst (λ (M : LaidSchema). ShowsEntry M c.part.result there) same (c.part.ensures.shows ds lies) in
+    let shows = c.part.ensures.shows L ds lies in
     let less : k < length c.parts_of-fields.result.now = omega (arith, c.loop-k-test.true) in
     let step = parts_step L c.args.style.defaults (blanks c.inner-inner.result) (blanks c.args.indent.now) c.loop-k.some fs ds k f (seen_there c.parts_of-fields.result.now k c.index-fields-k.result less c.index-fields-k.is) in
-    c.loop-k.invariant ds same lies end (added_as step (then (c.put_part-some.ensures.text there shows) (rw (c.put_part-some.ensures.some there shows, add-one) at rest)))
+    c.loop-k.invariant ds lies end (added_as step (then (c.put_part-some.ensures.text there shows) (rw (c.put_part-some.ensures.some there shows, add-one) at rest)))
 
 pub put_struct-returns : goal.put_struct-returns
-put_struct-returns g t c ds same lies =
+put_struct-returns g t c ds lies =
     let L = c.args.style.layout.now in
     let fs = map field_seen c.parts_of-fields.result.now in
     let over : c.loop-k.k ≡ length fs = omega (arith, seen_long c.parts_of-fields.result.now, c.loop-k-test.false, c.loop-k.auto.k-end) in
     let end = parts_end L c.args.style.defaults (blanks c.inner-inner.result) (blanks c.args.indent.now) c.loop-k.some fs ds c.loop-k.k over in
-    let all = c.loop-k.invariant ds same lies _ (added_as end (then c.put_closing.ensures c.put_str-2.ensures)) in
+    let all = c.loop-k.invariant ds lies _ (added_as end (then c.put_closing.ensures c.put_str-2.ensures)) in
     then c.put_str.ensures (rw (c.inner-inner.ensures, c.parts_of-fields.ensures.parts) at all)
 
 pub put_table-loop-k-preserved : goal.put_table-loop-k-preserved
-put_table-loop-k-preserved g t c u es same lies end rest =
+put_table-loop-k-preserved g t c es lies end rest =
     let L = c.args.style.layout.now in
     let k = c.loop-k.k in
     let there = nth_entry es k in
-    let f = field_seen c.index-slots-from.result in
+    let f = field_seen c.index-slots-k.result in
     let fs = map field_seen c.slots_of-slots.result.now in
-    let shows : ShowsEntry L c.slot.result there = subst (λ (M : LaidSchema). ShowsEntry M c.slot.result there) same (c.slot.ensures.shows (a_table u es) lies) in
-    let seen : map field_seen c.slots_of-slots.result.now ≡ slots_in (body_at c.args.view.layout.now.schema c.args.view.table.0) = rw (c.layout.ensures, c.type_id.ensures) at c.slots_of-slots.ensures.slots in
-    let long : length c.slots_of-slots.result.now ≡ length (slots_in (body_at c.args.view.layout.now.schema c.args.view.table.0)) = sym (seen_long c.slots_of-slots.result.now) ∙ ap length seen in
-    let less : k < length c.slots_of-slots.result.now = omega (arith, long, c.loop-k-test.true, c.printed_slots-k-end.ensures.few) in
-    let is = rw c.from.ensures at c.index-slots-from.is in
-    let step = members_step L c.args.style.defaults (blanks c.inner-inner.result) (blanks c.args.indent.now) c.loop-k.some fs es k f (seen_there c.slots_of-slots.result.now k c.index-slots-from.result less is) in
-    c.loop-k.invariant u es same lies end (added_as step (then (c.put_member-some.ensures.text there shows) (rw (c.put_member-some.ensures.some there shows, add-one) at rest)))
+    let shows = c.slot.ensures.shows L c.args.owner.0 es lies in
+    let less : k < length c.slots_of-slots.result.now = omega (arith, c.loop-k-test.true, c.printed_slots-k-end.ensures.few) in
+    let step = members_step L c.args.style.defaults (blanks c.inner-inner.result) (blanks c.args.indent.now) c.loop-k.some fs es k f (seen_there c.slots_of-slots.result.now k c.index-slots-k.result less c.index-slots-k.is) in
+    c.loop-k.invariant es lies end (added_as step (then (c.put_member-some.ensures.text there shows) (rw (c.put_member-some.ensures.some there shows, add-one) at rest)))
 
 pub put_table-returns : goal.put_table-returns
-put_table-returns g t c shape d same lies =
+put_table-returns g t c shape es lies =
     let L = c.args.style.layout.now in
     let fs = map field_seen c.slots_of-slots.result.now in
-    let seen : fs ≡ slots_in (body_at c.args.view.layout.now.schema c.args.view.table.0) = rw (c.layout.ensures, c.type_id.ensures) at c.slots_of-slots.ensures.slots in
-    table_added c.args.view _ _ (λ x. value_text L c.args.style.defaults (blanks c.args.indent.now) shape x) d lies (λ u es here.
-    let end = members_behind L c.args.style.defaults (blanks c.inner-inner.result) (blanks c.args.indent.now) c.loop-k.some fs es c.loop-k.k (λ j f past there. c.printed_slots-k-end.ensures.behind (a_table u es) j f here (omega (arith, past, c.loop-k-test.false)) (rw seen at there)) in
-    let all = c.loop-k.invariant u es same here _ (added_as end (then c.put_closing.ensures c.put_str-2.ensures)) in
-    added_as (table_text L c.args.style.defaults (blanks c.inner-inner.result) (blanks c.args.indent.now) shape u es) (then c.put_str.ensures (rw (c.inner-inner.ensures, seen, same, ← here.1) at all)))
+    let seen : fs ≡ slots_in (body_at L.schema c.args.owner.0) = c.slots_of-slots.ensures.slots in
+    let long : length c.slots_of-slots.result.now ≡ length (slots_in (body_at L.schema c.args.owner.0)) = sym (seen_long c.slots_of-slots.result.now) ∙ ap length seen in
+    let end = members_behind L c.args.style.defaults (blanks c.inner-inner.result) (blanks c.args.indent.now) c.loop-k.some fs es c.loop-k.k (λ j f past there. c.printed_slots-k-end.ensures.behind L c.args.owner.0 es j f lies long (omega (arith, past, c.loop-k-test.false)) (rw seen at there)) in
+    let all = c.loop-k.invariant es lies _ (added_as end (then c.put_closing.ensures c.put_str-2.ensures)) in
+    added_as (table_text L c.args.style.defaults (blanks c.inner-inner.result) (blanks c.args.indent.now) shape c.args.owner.0 es) (then c.put_str.ensures (rw (c.inner-inner.ensures, seen) at all))
 
 pub put_value-returns-in-Table : goal.put_value-returns-in-Table
-put_value-returns-in-Table g t c d found =
-    let shows = rw c.in-Table.is at found in
-    let same : d ≡ shows.1 = cc in
-    c.put_table.ensures c.args.shape d shows.0 (rw same shows.3)
+put_value-returns-in-Table g t c d shows =
+    let L = c.args.style.layout.now in
+    let top = rw c.in-Table.is at (c.find.ensures.top L (Some d) shows) in
+    let same : d ≡ a_table c.in-Table.owner.0 top.0 = cc in
+    rw same (c.put_table.ensures c.args.shape top.0 (rw same at shows))
 
 pub put_value-returns-in-Member : goal.put_value-returns-in-Member
-put_value-returns-in-Member g t c d found =
-    let shows = rw c.in-Member.is at found in
-    let same : d ≡ a_member c.in-Member.field-0 shows.1 = cc in
-    rw same (c.put_table-in-Member.ensures c.args.shape shows.1 shows.0 shows.3)
+put_value-returns-in-Member g t c d shows =
+    let L = c.args.style.layout.now in
+    let top = rw c.in-Member.is at (c.find.ensures.top L (Some d) shows) in
+    let same : d ≡ a_member c.in-Member.field-0 top.0 = cc in
+    rw same (c.put_value.ensures top.0 (c.member.ensures.shows L c.in-Member.field-0 top.0 (rw same at shows)))
 
 pub put_vector-loop-i-preserved : goal.put_vector-loop-i-preserved
-put_vector-loop-i-preserved g t c ds same lies end rest =
+put_vector-loop-i-preserved g t c ds lies end rest =
     let L = c.args.style.layout.now in
     let i = c.loop-i.i in
-    let less : i < c.args.items.len = omega (arith, c.loop-i-test.true, c.count-i-end.ensures) in
-    let there = part_there ds i (omega (arith, less, lies.0)) in
-    let shows : ShowsEntry L c.item.result (Some there.0) = subst (λ (M : LaidSchema). ShowsEntry M c.item.result (Some there.0)) same (rw there.1 at (c.item.ensures.shows ds lies)) in
+    let less : i < count ds = omega (arith, c.loop-i-test.true, c.count-i-end.ensures.all L ds lies) in
+    let there = part_there ds i less in
+    let shows = rw there.1 at (c.item.ensures.shows L ds lies) in
     let step = items_step L c.args.style.defaults (blanks c.inner-inner.result) (blanks c.args.indent.now) c.args.kind c.loop-i.some ds i there.0 there.1 in
-    c.loop-i.invariant ds same lies end (added_as step (then c.put_line.ensures (then (c.put_value.ensures there.0 shows) (rw add-one at rest))))
+    c.loop-i.invariant ds lies end (added_as step (then c.put_line.ensures (then (c.put_value.ensures there.0 shows) (rw add-one at rest))))
 
 pub put_vector-returns : goal.put_vector-returns
-put_vector-returns g t c ds same lies =
+put_vector-returns g t c ds lies =
     let L = c.args.style.layout.now in
-    let over : c.loop-i.i ≡ count ds = omega (arith, lies.0, c.loop-i-test.false, c.loop-i.auto.i-end, c.count-i-end.ensures) in
+    let over : c.loop-i.i ≡ count ds = omega (arith, c.count-i-end.ensures.all L ds lies, c.loop-i-test.false, c.loop-i.auto.i-end) in
     let end = items_end L c.args.style.defaults (blanks c.inner-inner.result) (blanks c.args.indent.now) c.args.kind c.loop-i.some ds c.loop-i.i over in
-    let all = c.loop-i.invariant ds same lies _ (added_as end (then c.put_closing.ensures c.put_str-2.ensures)) in
+    let all = c.loop-i.invariant ds lies _ (added_as end (then c.put_closing.ensures c.put_str-2.ensures)) in
     then c.put_str.ensures (rw c.inner-inner.ensures at all)

@@ -1,51 +1,49 @@
-use Rattle.std.proofs.Common.{◌≡◌, ℕ, ◌+◌, ◌*◌, false, drop, map}
+use Rattle.std.proofs.Common.{◌+◌, ◌*◌, Some, false, drop, map}
 use Rattle.fb_schema.specs.Seen.{field_seen}
-use Rattle.fb_value.specs.Datum.{Parts, SlotEntries, a_table}
-use Rattle.fb_read.specs.Shows.{Shows, ShowsFields, ShowsItems}
-use Rattle.fb_read.specs.Weights.{weight_of, table_weight, items_weight, struct_weight}
+use Rattle.fb_value.specs.Datum.{Parts, SlotEntries, a_table, a_struct, a_vector}
 use Rattle.fb_read.specs.Tails.{entries_from, parts_from}
-use Rattle.fb_json.specs.Indents.{blanks}
-use Rattle.fb_json.specs.Texts.{items_text, parts_text, members_text}
+use Rattle.fb_text.specs.Indents.{blanks}
+use Rattle.fb_text.specs.Texts.{items_text, parts_text, members_text}
 use Rattle.fb_text.specs.Writes.{State, state_of, Adds}
 use Rattle.fb_text.proofs.values.+print.Given as goal
 
--- An entry weighs more than all that stands in it.
+-- An entry is lighter than what it stands in.
 abbrev pub decreases-put_value : goal.decreases-put_value
-decreases-put_value g l = 4 * weight_of l.found + 1
+decreases-put_value g l = 4 * g.S.Shown.weight l.shown + 1
 
 abbrev pub decreases-put_named : goal.decreases-put_named
-decreases-put_named g l = 4 * weight_of l.found + 2
+decreases-put_named g l = 4 * g.S.Shown.weight l.shown + 2
 
 abbrev pub decreases-put_part : goal.decreases-put_part
-decreases-put_part g l = 4 * weight_of l.found + 3
+decreases-put_part g l = 4 * g.S.Shown.weight l.shown + 3
 
 abbrev pub decreases-put_member : goal.decreases-put_member
-decreases-put_member g l = 4 * weight_of l.found + 3
+decreases-put_member g l = 4 * g.S.Shown.weight l.shown + 3
 
 abbrev pub decreases-put_table : goal.decreases-put_table
-decreases-put_table g l = 4 * table_weight l.view
+decreases-put_table g l = 4 * g.S.Shown.weight l.shown
 
 abbrev pub decreases-put_struct : goal.decreases-put_struct
-decreases-put_struct g l = 4 * struct_weight l.view
+decreases-put_struct g l = 4 * g.S.Shown.weight l.shown
 
 abbrev pub decreases-put_vector : goal.decreases-put_vector
-decreases-put_vector g l = 4 * items_weight l.items
+decreases-put_vector g l = 4 * g.S.Shown.weight l.shown
 
 -- What adds the rest adds, with what was added, all of it.
 abbrev pub invariant-put_table-loop-k : goal.invariant-put_table-loop-k
 invariant-put_table-loop-k g l =
-    (t : ℕ) (es : SlotEntries) → l.view.layout.now ≡ l.style.layout.now → Shows l.view (a_table t es) → (end : State)
+    (es : SlotEntries) → g.S.Shown.shows l.shown l.style.layout.now (Some (a_table l.fn.owner.0 es)) → (end : State)
     → Adds (state_of g.W.Write.contents l.page l.out) end (members_text l.style.layout.now l.style.defaults (blanks l.inner) (blanks l.indent) l.some (drop l.k (map field_seen l.slots)) (entries_from l.k es))
     → Adds (state_of g.W.Write.contents l.initial.page l.initial.out) end (members_text l.style.layout.now l.style.defaults (blanks l.inner) (blanks l.indent) false (map field_seen l.slots) es)
 
 abbrev pub invariant-put_struct-loop-k : goal.invariant-put_struct-loop-k
 invariant-put_struct-loop-k g l =
-    (ds : Parts) → l.view.layout.now ≡ l.style.layout.now → ShowsFields l.view ds → (end : State)
+    (ds : Parts) → g.S.Shown.shows l.shown l.style.layout.now (Some (a_struct ds)) → (end : State)
     → Adds (state_of g.W.Write.contents l.page l.out) end (parts_text l.style.layout.now l.style.defaults (blanks l.inner) (blanks l.indent) l.some (drop l.k (map field_seen l.fields)) (parts_from l.k ds))
     → Adds (state_of g.W.Write.contents l.initial.page l.initial.out) end (parts_text l.style.layout.now l.style.defaults (blanks l.inner) (blanks l.indent) false (map field_seen l.fields) ds)
 
 abbrev pub invariant-put_vector-loop-i : goal.invariant-put_vector-loop-i
 invariant-put_vector-loop-i g l =
-    (ds : Parts) → l.items.layout.now ≡ l.style.layout.now → ShowsItems l.items ds → (end : State)
+    (ds : Parts) → g.S.Shown.shows l.shown l.style.layout.now (Some (a_vector ds)) → (end : State)
     → Adds (state_of g.W.Write.contents l.page l.out) end (items_text l.style.layout.now l.style.defaults (blanks l.inner) (blanks l.indent) l.kind l.some (parts_from l.i ds))
     → Adds (state_of g.W.Write.contents l.initial.page l.initial.out) end (items_text l.style.layout.now l.style.defaults (blanks l.inner) (blanks l.indent) l.kind false ds)

@@ -1,6 +1,6 @@
 use Rattle.std.proofs.Common.{subst, sym, ◌∙◌, append-nil}
 use Rattle.fb_text.specs.Writes.{state_of, Stands}
-use Rattle.fb_text.proofs.Written.{written_whole, written_front}
+use Rattle.fb_text.proofs.writing.WrittenStands.{written_whole, written_front}
 use Rattle.fb_text.proofs.writing.finish.Goals as goal
 
 pub returns-then-failed-clause-written : goal.returns-then-failed-clause-written

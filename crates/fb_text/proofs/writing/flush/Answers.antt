@@ -3,7 +3,7 @@ use Rattle.std.specs.Io.KnownBytes.{Appends}
 use Rattle.fb_text.specs.Noted.{writer_of}
 use Rattle.fb_text.specs.Pages.{pending}
 use Rattle.fb_text.specs.Writes.{counted}
-use Rattle.fb_text.proofs.Added.{added_waiting, added_written}
+use Rattle.fb_text.proofs.writing.PiecesAddUp.{added_waiting, added_written}
 use Rattle.fb_text.proofs.writing.flush.Goals as goal
 
 pub returns-then-failed-clause-adds : goal.returns-then-failed-clause-adds

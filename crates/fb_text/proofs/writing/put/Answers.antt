@@ -1,5 +1,5 @@
 use Rattle.std.proofs.Common.{refl}
-use Rattle.fb_text.proofs.Added.{added_waiting}
+use Rattle.fb_text.proofs.writing.PiecesAddUp.{added_waiting}
 use Rattle.fb_text.proofs.writing.put.Goals as goal
 
 pub returns-then-has_room : goal.returns-then-has_room

@@ -1,6 +1,6 @@
 use Rattle.std.proofs.Common.{◌≡◌, ◌+◌, ◌++◌, true, false, length, refl, ap, sym, ◌∙◌}
 use Rattle.fb_text.specs.Writes.{counted}
-use Rattle.fb_text.proofs.Added.{added_waiting, added_written}
+use Rattle.fb_text.proofs.writing.PiecesAddUp.{added_waiting, added_written}
 use Rattle.fb_text.proofs.writing.put_first.Goals as goal
 
 pub returns-then-failed : goal.returns-then-failed

@@ -1,0 +1,3 @@
+-- What the proofs of src/numbers.rt use.
+pub mod BitDoubles
+pub mod NoBitsHaveNoNames

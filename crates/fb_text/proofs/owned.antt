@@ -1,0 +1,2 @@
+-- What the proofs of src/owned.rt use.
+pub mod PartsAreLighter

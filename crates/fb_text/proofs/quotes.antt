@@ -1,0 +1,2 @@
+-- What the proofs of src/quotes.rt use.
+pub mod EscapeGoesByStretches

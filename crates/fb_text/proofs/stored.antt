@@ -1,0 +1,2 @@
+-- What the proofs of src/stored.rt use.
+pub mod DefaultsAreNotPrinted

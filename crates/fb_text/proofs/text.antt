@@ -1,0 +1,3 @@
+-- What the proofs of src/text.rt use.
+pub mod WholeWhereEachUnionIsNamed
+pub mod TextIsPrintedWhole

@@ -1,0 +1,44 @@
+use Rattle.std.proofs.Common.{◌≡◌, ℕ, true, false, Some, IsUtf8, refl, ap, sym, subst, ◌∙◌}
+use Rattle.fb_schema.specs.Schema.{DeclaredSchema}
+use Rattle.fb_value.specs.View.{view}
+use Rattle.fb_json.specs.Meant.{type_place}
+use Rattle.fb_json.proofs.Utf8Texts.{value_utf8}
+use Rattle.fb_text.specs.Texts.{json_text}
+use Rattle.fb_text.specs.Unnamed.{first_unnamed}
+use Rattle.fb_text.proofs.NamesAreUtf8.{schema_utf8}
+use Rattle.fb_text.proofs.text.TextIsPrintedWhole.{written_items}
+use Rattle.fb_text.proofs.TextIsUtf8.{text_utf8}
+use Rattle.fb_text.proofs.text.WholeWhereEachUnionIsNamed.{named_whole, unnamed_part}
+use Rattle.fb_text.proofs.text.text_of.Goals as goal
+
+pub returns-in-Some-clause-refused : goal.returns-in-Some-clause-refused
+returns-in-Some-clause-refused c =
+    let d = view c.args.value.now in
+    let root = c.root.result in
+    let is : root.0 ≡ c.args.layout.now.schema.root = c.root.ensures ∙ ap (λ (s : DeclaredSchema). s.root) c.schema.ensures.schema in
+    let P : ℕ → Type 0 = λ r. first_unnamed (type_place r) d ≡ Some c.in-Some.unnamed in
+    (unnamed_part (type_place root.0) c.in-Some.unnamed d c.in-Some.ensures, subst P is (sym c.in-Some.ensures))
+
+pub returns-then-is_err-clause-refused : goal.returns-then-is_err-clause-refused
+returns-then-is_err-clause-refused c = named_whole (type_place c.root.result.0) (view c.args.value.now) c.in_default.ensures
+
+pub unreachable-requires : goal.unreachable-requires
+unreachable-requires c =
+    let L = c.args.layout.now in
+    let d = view c.args.value.now in
+    let made = written_items c.write_root.result _ _ (json_text L c.args.defaults d) (sym c.is_err.ensures.value ∙ c.if-is_err.false) (rw c.over-out.ensures.same c.new.ensures.items) (c.write_root.ensures.written d refl) in
+    let names = c.types-names.ensures.types ∙ ap (λ (s : DeclaredSchema). s.types) c.schema-2.ensures.schema in
+    let text = text_utf8 L (schema_utf8 L.schema c.types-names.result.now names) c.args.defaults d (value_utf8 c.args.value.now) in
+    let utf8 : IsUtf8 c.into_inner.result.items = rw (c.into_inner.ensures, made) text in
+    let fine : false ≡ true = rw c.in-Err.is at (c.from_utf8.ensures.succeeds utf8) in
+    cc
+
+pub returns-clause-text : goal.returns-clause-text
+returns-clause-text c =
+    let L = c.args.layout.now in
+    let d = view c.args.value.now in
+    let made = written_items c.write_root.result _ _ (json_text L c.args.defaults d) (sym c.is_err.ensures.value ∙ c.if-is_err.false) (rw c.over-out.ensures.same c.new.ensures.items) (c.write_root.ensures.written d refl) in
+    rw (c.in-Ok.ensures.ok, c.into_inner.ensures) made
+
+pub returns-clause-whole : goal.returns-clause-whole
+returns-clause-whole c = named_whole (type_place c.root.result.0) (view c.args.value.now) c.in_default.ensures

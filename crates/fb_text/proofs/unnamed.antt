@@ -1,0 +1,2 @@
+-- What the proofs of src/unnamed.rt use.
+pub mod OneEntryMore

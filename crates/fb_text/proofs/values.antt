@@ -1,0 +1,3 @@
+-- What the proofs of src/values.rt use.
+pub mod OneMemberMore
+pub mod MemberIsItsCodeAndValue

@@ -1,0 +1,72 @@
+//! Values in buffers, as a printer reads them.
+
+use crate::shown::{Found, Shown};
+use fb_read::Entry;
+
+impl Shown for Entry<'_> {
+    ghost use Rattle.std.specs.Prelude.{◌≡◌};
+    ghost use Rattle.fb_read.specs.Weights.{ShowsEntry};
+    ghost use Rattle.fb_text.specs.Stored.{entry_weight, len_in};
+
+    ghost shows = { λ e L o. ShowsEntry L e o };
+
+    ghost weight = { entry_weight };
+
+    ghost items = { len_in };
+
+    fn find(&self) -> Found<'_> {
+        match self {
+            Entry::Absent => Found::Absent,
+            Entry::Number(number) => Found::Number(*number),
+            Entry::Text(text) => Found::Text(text),
+            Entry::Fixed(_) => Found::Struct,
+            Entry::Table(view) => Found::Table(view.type_id()),
+            Entry::Member(code, _) => Found::Member(*code),
+            Entry::Unknown(_) => Found::Unknown,
+            Entry::Vector(_) => Found::Vector,
+        }
+    }
+
+    fn member(self) -> Self {
+        match self {
+            Entry::Member(_, view) => Entry::Table(view),
+            _ => Entry::Absent,
+        }
+    }
+
+    fn printed_slots(self, defaults: bool, all: usize) -> usize {
+        match self {
+            Entry::Table(_) if defaults => all,
+            Entry::Table(view) => all.min(usize::from(view.stored_slots())),
+            _ => 0,
+        }
+    }
+
+    fn slot(self, slot: u16) -> Self {
+        match self {
+            Entry::Table(view) => view.slot(slot),
+            _ => Entry::Absent,
+        }
+    }
+
+    fn part(self, field: u16) -> Self {
+        match self {
+            Entry::Fixed(view) => view.part(field),
+            _ => Entry::Absent,
+        }
+    }
+
+    fn count(self) -> usize {
+        match self {
+            Entry::Vector(items) => items.count() as usize,
+            _ => 0,
+        }
+    }
+
+    fn item(self, i: usize) -> Self {
+        match self {
+            Entry::Vector(items) => items.item(i as u32),
+            _ => Entry::Absent,
+        }
+    }
+}
