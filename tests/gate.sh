@@ -1,6 +1,6 @@
 #!/usr/bin/env bash
-# The gate: all that rt ci proves and runs, whether each mutation can still be applied, and the built program with
-# words and files. The last line counts all three: 'N passed, M failed'.
+# The gate: all that rt ci proves and runs, whether each mutation can still be applied and each edit in not-compiled/
+# is refused, and the built program with words and files. The last line counts all of it: 'N passed, M failed'.
 set -uo pipefail
 cd "$(dirname "$0")/.."
 program=crates/flatc/out/flatc
@@ -13,11 +13,12 @@ python3 tools/mutations.py --applies | tee "$logs/mutations" || status=1
 if [ ! -x "$program" ]; then
     make --silent build || status=1
 fi
+python3 tools/mutations.py --not-compiled | tee "$logs/not-compiled" || status=1
 python3 tests/command.py "$program" | tee "$logs/command" || status=1
 
 passed=0
 failed=0
-for log in "$logs/ci" "$logs/mutations" "$logs/command"; do
+for log in "$logs/ci" "$logs/mutations" "$logs/not-compiled" "$logs/command"; do
     if [[ $(tail -n 1 "$log") =~ ^([0-9]+)\ passed,\ ([0-9]+)\ failed$ ]]; then
         passed=$((passed + BASH_REMATCH[1]))
         failed=$((failed + BASH_REMATCH[2]))

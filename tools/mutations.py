@@ -3,12 +3,17 @@
 
 usage: tools/mutations.py [CRATE..] [--jobs N]   proves the crates, and then tries the edits of all or of these
        tools/mutations.py --applies              only checks that each edit can still be applied
+       tools/mutations.py --not-compiled         tries the edits of crates/*/not-compiled instead
 
 An edit has the form that rt gives those in must-fail/: lines 'file: src/lib.rt', and then pairs of lines 'old: TEXT'
 and 'new: TEXT', where the old text is in that file exactly once. It is tried in a copy of the tree, over the work that
 the build kept, so that only what changed is proved again. The last line is 'N refused, M not refused'.
+
+An edit in crates/*/not-compiled writes what can't even be compiled, and has a line 'error: NAME' more: the compiler has
+to refuse it with that error, and no other. The crates below have to be built. The last line is 'N passed, M failed'.
 """
 import argparse
+import contextlib
 import glob
 import os
 import re
@@ -67,10 +72,77 @@ def do_all_apply(crates):
     return failed
 
 
+def wanted_error(edit):
+    with open(edit, encoding="utf-8") as it:
+        for line in it:
+            if line.startswith("error: "):
+                return line[len("error: ") :].strip()
+    return ""
+
+
+def compile_edit(edit, folder):
+    """Whether the compiler refuses an edit with its error alone, and why not. The copy is left as it was."""
+    texts, why = edited(edit, folder)
+    if texts is None:
+        return False, f"can't be applied: {why}"
+    with changed(folder, texts):
+        status, lines = check(folder)
+    errors = [it for it in lines if re.search(r": error\b", it)]
+    if status and len(errors) == 1 and f"error[{wanted_error(edit)}]" in errors[0]:
+        return True, ""
+    return False, "\n".join([f"isn't refused with error[{wanted_error(edit)}] alone:", *(errors or lines[-6:])])
+
+
+def do_none_compile(crates):
+    passed, failed = 0, 0
+    for name in crates:
+        edits = sorted(glob.glob(f"{ROOT}/crates/{name}/not-compiled/*.edit"))
+        if not edits:
+            continue
+        with tempfile.TemporaryDirectory(prefix=f"not-compiled-{name}-") as room:
+            folder = copy_crate(crates, name, room)
+            for edit in edits:
+                well, why = compile_edit(edit, folder)
+                passed, failed = passed + well, failed + (not well)
+                if why:
+                    print(f"edit {os.path.relpath(edit, ROOT)}: {why}")
+    print("edits that the compiler refuses:")
+    print(f"{passed} passed, {failed} failed")
+    return failed or not passed
+
+
 def check(folder):
     how = {"stdin": subprocess.DEVNULL, "stdout": subprocess.PIPE, "stderr": subprocess.STDOUT, "errors": "replace"}
     ran = subprocess.run(["rt", "check", "--jobs", "1"], cwd=folder, check=False, **how)
     return ran.returncode, ran.stdout.rstrip("\n").split("\n")
+
+
+def write_all(folder, texts):
+    for path, text in texts.items():
+        with open(f"{folder}/{path}", "w", encoding="utf-8") as it:
+            it.write(text)
+
+
+@contextlib.contextmanager
+def changed(folder, texts):
+    """Has other texts in some files of a folder while the block runs."""
+    were = {}
+    for path in texts:
+        with open(f"{folder}/{path}", encoding="utf-8") as it:
+            were[path] = it.read()
+    write_all(folder, texts)
+    try:
+        yield
+    finally:
+        write_all(folder, were)
+
+
+def copy_crate(crates, name, room):
+    """Copies a crate and what it stands on to a folder, and returns the crate's own folder there."""
+    copy_below(crates, name, room)
+    folder = f"{room}/crates/{name}"
+    shutil.copytree(f"{ROOT}/crates/{name}", folder, ignore=shutil.ignore_patterns("must-fail", "mutations"))
+    return folder
 
 
 def judge(edit, folder):
@@ -78,16 +150,8 @@ def judge(edit, folder):
     texts, why = edited(edit, folder)
     if texts is None:
         return False, f"{label(edit)}: can't be applied: {why}"
-    were = {}
-    for path, text in texts.items():
-        with open(f"{folder}/{path}", encoding="utf-8") as it:
-            were[path] = it.read()
-        with open(f"{folder}/{path}", "w", encoding="utf-8") as it:
-            it.write(text)
-    status, lines = check(folder)
-    for path, text in were.items():
-        with open(f"{folder}/{path}", "w", encoding="utf-8") as it:
-            it.write(text)
+    with changed(folder, texts):
+        status, lines = check(folder)
     errors = [it for it in lines if re.match(r"(note: )?\S+:\d+:\d+:", it) and (": error" in it or it.startswith("note: "))]
     # a line that names the clause says more than one of a proof file that no longer fits
     reasons = [it for it in errors if re.search("-clause-|is not proved", it)] or errors
@@ -102,9 +166,7 @@ def judge(edit, folder):
 def try_crate(crates, name, edits):
     """Tries edits of one crate in turn, in a copy of what it stands on."""
     with tempfile.TemporaryDirectory(prefix=f"mutations-{name}-") as room:
-        copy_below(crates, name, room)
-        folder = f"{room}/crates/{name}"
-        shutil.copytree(f"{ROOT}/crates/{name}", folder, ignore=shutil.ignore_patterns("must-fail", "mutations"))
+        folder = copy_crate(crates, name, room)
         tried = []
         for edit in edits:
             tried.append(judge(edit, folder))
@@ -129,11 +191,14 @@ def main():
     parser = argparse.ArgumentParser(description=__doc__.split("\n", 1)[0])
     parser.add_argument("crates", nargs="*")
     parser.add_argument("--applies", action="store_true")
+    parser.add_argument("--not-compiled", action="store_true")
     parser.add_argument("--jobs", type=int, default=0)
     given = parser.parse_args()
     crates = read_crates()
     if given.applies:
         return 1 if do_all_apply(crates) else 0
+    if given.not_compiled:
+        return 1 if do_none_compile(crates) else 0
     names = [it for it in crates if it in given.crates or not given.crates]
     lanes = given.jobs or jobs_here()
     with ThreadPoolExecutor(lanes) as pool:
