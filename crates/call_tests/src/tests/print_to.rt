@@ -50,15 +50,17 @@ const WRITERS: &[(usize, bool)] = &[
     (4096, false),
 ];
 
-/// Prints bytes to a writer that takes so many bytes, and then as `WRITERS` says.
+/// Prints bytes to a writer that takes as many bytes as the front of the text has, and then as
+/// `WRITERS` says.
 fn expect_front(
     rt: &impl Abort,
     alloc: Global,
-    (schema, text): (&[u8], &str),
+    schema: &[u8],
     bytes: &[u8],
-    left: usize,
+    (front, is_whole): (&[u8], bool),
     (each, fails): (usize, bool),
 ) {
+    let left = front.len();
     let mut out = Noted::over(Short {
         left,
         each,
@@ -66,22 +68,29 @@ fn expect_front(
         taken: Vec::new(alloc),
     });
     let printed = print_to(alloc, schema, bytes, usual_limits(), false, false, &mut out);
-    let is_short = left < text.len();
-    let want = if is_short {
-        Err(ToolFault::Write(WriteFault::WriteFailed(left as u64)))
-    } else {
+    let want = if is_whole {
         Ok(())
+    } else {
+        Err(ToolFault::Write(WriteFault::WriteFailed(left as u64)))
     };
     assert!(rt; printed == want, "after {left} bytes, {each} a call");
-    assert!(rt; out.failed() == is_short);
-    assert!(rt; out.into_inner().taken.as_slice() == &text.as_bytes()[..left]);
+    assert!(rt; out.failed() == !is_whole);
+    assert!(rt; out.into_inner().taken.as_slice() == front);
 }
 
 /// Prints bytes to each writer, after each number of bytes up to the whole text.
-fn expect_fronts(rt: &impl Abort, alloc: Global, printed: (&[u8], &str), bytes: &[u8]) {
-    for left in 0..=printed.1.len() {
+fn expect_fronts(rt: &impl Abort, alloc: Global, schema: &[u8], text: &[u8], bytes: &[u8]) {
+    for left in 0..=text.len() {
+        let front = &text[..left];
         for writer in WRITERS {
-            expect_front(rt, alloc, printed, bytes, left, *writer);
+            expect_front(
+                rt,
+                alloc,
+                schema,
+                bytes,
+                (front, left == text.len()),
+                *writer,
+            );
         }
     }
 }
@@ -90,10 +99,9 @@ fn expect_fronts(rt: &impl Abort, alloc: Global, printed: (&[u8], &str), bytes: 
 fn a_text_of_which_each_front_is_written(rt: HostRuntime) -> Result<(), Fail> {
     let alloc = rt.alloc();
     assert!(rt; TABLES_TEXT.len() == 69);
-    for printed in TEXTS {
-        let (schema, text) = *printed;
+    for (schema, text) in TEXTS {
         let bytes = to_binary(alloc, schema, text.as_bytes(), usual_limits(), false)?;
-        expect_fronts(&rt, alloc, *printed, bytes.as_slice());
+        expect_fronts(&rt, alloc, schema, text.as_bytes(), bytes.as_slice());
     }
     Ok(())
 }
