@@ -9,3 +9,4 @@ pub mod Printed
 pub mod Shown
 pub mod Stored
 pub mod FaultNumbers
+pub mod Laws

@@ -3,6 +3,7 @@
 
 mod faults;
 mod indents;
+mod laws;
 mod lines;
 mod members;
 mod noted;
@@ -19,5 +20,6 @@ mod values;
 mod writing;
 
 pub use faults::{TextFault, WriteFault};
+pub use laws::texts_are_utf8;
 pub use noted::Noted;
 pub use text::{text_of, write_text};

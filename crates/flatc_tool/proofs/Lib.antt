@@ -5,6 +5,5 @@ pub mod Evolving
 pub mod Known
 pub mod LinesTold
 pub mod Sound
-pub mod Utf8Values
 pub mod PrintSteps
 pub mod Breaches

@@ -1,7 +1,5 @@
 -- What the layers of printing say together.
-use Rattle.std.proofs.Common.{◌≡◌, ℕ, ◌<◌, List, map, Bool, true, Option, Result, Ok, Err, All, refl, ap, subst}
-use Rattle.fb_schema.specs.Seen.{type_seen}
-use Rattle.fb_schema.specs.declared.types.TypeInfo.{TypeInfo}
+use Rattle.std.proofs.Common.{◌≡◌, ℕ, ◌<◌, List, Bool, true, Option, Result, Ok, Err, All, refl, ap, subst}
 use Rattle.fb_layout.specs.Laid.{LaidSchema}
 use Rattle.fb_value.specs.Bounds.{Bounds}
 use Rattle.fb_value.specs.Counts.{is_whole}
@@ -10,6 +8,7 @@ use Rattle.fb_value.specs.Num.{Bytes}
 use Rattle.fb_value.specs.Holds.{Holds}
 use Rattle.fb_json.specs.Meant.{type_place}
 use Rattle.fb_text.specs.Texts.{json_text}
+use Rattle.fb_text.specs.Laws.{TextsAreUtf8}
 use Rattle.fb_text.specs.declared.faults.WriteFault.{WriteFault}
 use Rattle.fb_text.specs.declared.faults.WriteFault.TheVariants.{NoMemberName, WriteFailed}
 use Rattle.fb_text.specs.Printed.{IsPrinted}
@@ -20,9 +19,6 @@ use Rattle.flatc_tool.specs.Prints.{IsSent, PrintRefused, IsOfInput, text_fault}
 use Rattle.flatc_tool.specs.declared.faults.ToolFault.{ToolFault}
 use Rattle.flatc_tool.specs.declared.faults.ToolFault.TheVariants.{Schema, Json, Build, Read, Text, Write, Breach, Older, Newer, FileRead, FileWrite, FileTooLong, BadJson, Memory}
 use Rattle.flatc_tool.proofs.OneText.{same_accepted}
-use Rattle.fb_text.proofs.NamesAreUtf8.{schema_utf8}
-use Rattle.flatc_tool.proofs.Utf8Values.{root_spells}
-use Rattle.fb_text.proofs.TextIsUtf8.{text_utf8}
 
 -- what a view under layout K and with a root table says is said of the accepted layout
 pub at_layout : (L K : LaidSchema) (table : ℕ) (defaults : Bool) (v : Datum) (start known : Option (List ℕ)) (r : Result (Unit {0}) WriteFault) → K ≡ L → table ≡ L.schema.root
@@ -35,11 +31,11 @@ module _ (laws : LayerLaws) (schema : List ℕ) (b : Bytes) (most : Bounds) (raw
   text_is : is_whole v ≡ true → IsText schema b most raw defaults (json_text L defaults v)
   text_is whole = record { layout = L; accepted = accepted; value = v; holds = holds; whole = whole; spelled = refl }
 
-  pub sent : (x : Unit {0}) (ts : List TypeInfo) → map type_seen ts ≡ L.schema.types → All (λ x. x < 256) b → IsPrinted (type_place L.schema.root) v (json_text L defaults v) start known (Ok x)
+  pub sent : (x : Unit {0}) → TextsAreUtf8 L → All (λ x. x < 256) b → IsPrinted (type_place L.schema.root) v (json_text L defaults v) start known (Ok x)
       → IsSent schema b most raw defaults start known
-  sent x ts names small printed =
+  sent x utf8 small printed =
       let fits = laws.fits_where_held L most raw b v accepted.made small holds in
-      (json_text L defaults v, text_is printed.0, text_utf8 L (schema_utf8 L.schema ts names) defaults v (root_spells L v fits), printed.1)
+      (json_text L defaults v, text_is printed.0, utf8 defaults v fits, printed.1)
 
   pub unsent : (f : WriteFault) → IsPrinted {A = Unit {0}} (type_place L.schema.root) v (json_text L defaults v) start known (Err f) → PrintRefused schema b most raw defaults start known (Write f)
   unsent (NoMemberName at) printed = (L, accepted, v, holds, printed)

@@ -10,7 +10,7 @@ use crate::laws::layer_laws;
 use crate::schema_layouts::schema_of;
 use fb_layout::Layout;
 use fb_read::{Entries, verify};
-use fb_text::{Noted, TextFault, WriteFault, write_text};
+use fb_text::{Noted, TextFault, WriteFault, texts_are_utf8, write_text};
 use fb_value::Limits;
 use std::alloc::Global;
 use std::io::Write;
@@ -35,7 +35,7 @@ fn print_under<W: Write>(
         ¬ MayBeText schema bytes.now limits raw)) }
 {
     layer_laws();
-    let _names = layout.schema().types(); // tells that names are UTF-8
+    texts_are_utf8(layout);
     let mut entries = Entries::new();
     let view = match verify(layout, bytes, limits, raw, &mut entries) {
         Ok(view) => view,

@@ -1,6 +1,5 @@
-use Rattle.std.proofs.Common.{◌<◌, All, Ok, Err, ap, ◌∙◌, arith}
+use Rattle.std.proofs.Common.{◌<◌, All, Ok, Err, arith}
 use Rattle.std.proofs.lemmas.List.Elements.{All-from_get_or}
-use Rattle.fb_schema.specs.Schema.{DeclaredSchema}
 use Rattle.fb_text.specs.Noted.{writer_of}
 use Rattle.flatc_tool.proofs.JobSteps.{bytes_exclude}
 use Rattle.flatc_tool.proofs.PrintSteps.{at_layout, sent, unsent, unsent_excludes}
@@ -19,8 +18,7 @@ returns-in-Ok-write_text-clause-printed g c schema accepted =
     let printed = c.in-Ok-write_text.ensures.printed held.0 (c.in-Ok.ensures.stands held.0 held.1) in
     let small : All (λ x. x < 256) c.args.bytes.now = All-from_get_or (λ x. x < 256) c.args.bytes.now 0 (λ i less. (let fits = c.type_inv.bytes i in omega arith)) in
     let root = at_layout L view.layout.now view.table.0 c.args.defaults held.0 start known (Ok tt) c.in-Ok.ensures.root.0 c.in-Ok.ensures.root.1 printed in
-    let names = c.types-names.ensures.types ∙ ap (λ (s : DeclaredSchema). s.types) c.schema.ensures.schema in
-    sent c.layer_laws.ensures.laws schema c.args.bytes.now c.args.limits c.args.raw c.args.defaults L accepted held.0 held.1 start known tt c.types-names.result.now names small root
+    sent c.layer_laws.ensures.laws schema c.args.bytes.now c.args.limits c.args.raw c.args.defaults L accepted held.0 held.1 start known tt c.texts_are_utf8.ensures small root
 
 pub returns-in-Err-write_text-clause-refused : goal.returns-in-Err-write_text-clause-refused
 returns-in-Err-write_text-clause-refused g c schema accepted =
