@@ -82,11 +82,7 @@ def wanted_error(edit):
 
 def compile_edit(edit, folder):
     """Whether the compiler refuses an edit with its error alone, and why not. The copy is left as it was."""
-    texts, why = edited(edit, folder)
-    if texts is None:
-        return False, f"can't be applied: {why}"
-    with changed(folder, texts):
-        status, lines = check(folder)
+    status, lines = check_with(edit, folder)
     errors = [it for it in lines if re.search(r": error\b", it)]
     if status and len(errors) == 1 and f"error[{wanted_error(edit)}]" in errors[0]:
         return True, ""
@@ -137,6 +133,15 @@ def changed(folder, texts):
         write_all(folder, were)
 
 
+def check_with(edit, folder):
+    """The status and the lines of a check with an edit; no status where it can't be applied."""
+    texts, why = edited(edit, folder)
+    if texts is None:
+        return None, [f"can't be applied: {why}"]
+    with changed(folder, texts):
+        return check(folder)
+
+
 def copy_crate(crates, name, room):
     """Copies a crate and what it stands on to a folder, and returns the crate's own folder there."""
     copy_below(crates, name, room)
@@ -147,11 +152,7 @@ def copy_crate(crates, name, room):
 
 def judge(edit, folder):
     """Whether the prover refuses an edit in a copy of its crate, and a line about it. The copy is left as it was."""
-    texts, why = edited(edit, folder)
-    if texts is None:
-        return False, f"{label(edit)}: can't be applied: {why}"
-    with changed(folder, texts):
-        status, lines = check(folder)
+    status, lines = check_with(edit, folder)
     errors = [it for it in lines if re.match(r"(note: )?\S+:\d+:\d+:", it) and (": error" in it or it.startswith("note: "))]
     # a line that names the clause says more than one of a proof file that no longer fits
     reasons = [it for it in errors if re.search("-clause-|is not proved", it)] or errors
