@@ -44,7 +44,7 @@ impl<'a> FixedView<'a> {
     pub fn number(self, field: u16) -> Option<i128>
         ensures { (ds : Parts) → ShowsFields self.entry ds → result ≡ number_in (nth_part ds field) }
     {
-        let _schema = self.layout.schema();
+        let _schema = self.layout.schema(); // its contract: the layout is well made
         let fields = self.layout.parts_of(self.structure);
         let index = usize::from(field);
         if index >= fields.len() {
@@ -63,7 +63,7 @@ impl<'a> FixedView<'a> {
         ensures shows { (ds : Parts) → ShowsFields self.entry ds → ShowsStruct result (nth_part ds field) }
         ensures layout { IfSome result (λ view. view.layout.now ≡ self.entry.layout.now) }
     {
-        let _schema = self.layout.schema();
+        let _schema = self.layout.schema(); // its contract: the layout is well made
         let fields = self.layout.parts_of(self.structure);
         let index = usize::from(field);
         if index >= fields.len() {
@@ -88,7 +88,7 @@ impl<'a> FixedView<'a> {
             → ShowsEntry self.entry.layout.now result (nth_part ds field) }
         ensures lighter { weight_of result < struct_weight self.entry }
     {
-        let _schema = self.layout.schema();
+        let _schema = self.layout.schema(); // its contract: the layout is well made
         let fields = self.layout.parts_of(self.structure);
         let index = usize::from(field);
         if index >= fields.len() {

@@ -51,7 +51,7 @@ fn read_struct(
         (struct_kind structure.0) at (Some (view v))) }
     ensures flat { IfOk result (λ v. entered (view v) ≡ 0) }
 {
-    let _schema = layout.schema();
+    let _schema = layout.schema(); // its contract: the layout is well made
     let fields = layout.parts_of(structure);
     let mut parts = Vec::with_capacity(alloc, fields.len())?;
     for index in 0..fields.len() {

@@ -138,7 +138,7 @@ pub fn default_of(layout: &Layout, field: &FieldInfo) -> Option<i128>
     if field.optional {
         return None;
     }
-    let _ = layout;
+    let _ = layout; // the contract names it, the code needs none of it
     match field.shape {
         Shape::One(Kind::Scalar(_)) | Shape::One(Kind::Enum(_)) => Some(field.default),
         _ => None,

@@ -20,9 +20,10 @@ use Rattle.fb_value.proofs.NthLies.{element_lies_shown, part_lies_shown}
 use Rattle.fb_value.specs.Rules.{Keeps}
 use Rattle.std.proofs.Math.Nat.{mul-le-mul_left}
 use Rattle.fb_read.proofs.view.ViewHasAVtable.{sure_of}
-use Rattle.fb_read.proofs.view.AccessorsReadTheEntry.{number_class, struct_class, text_class, table_class, number_else}
-use Rattle.fb_read.proofs.view.AccessorsReadTheEntry.{text_else, table_else, struct_else, text_here, table_from}
-use Rattle.fb_read.proofs.view.AccessorsReadTheEntry.{ref_within, there_too, text_behind_sure}
+use Rattle.fb_read.proofs.view.AccessorsReadTheEntry.{text_here, table_from}
+use Rattle.fb_read.proofs.view.EachSortHasItsClass.{number_class, struct_class, text_class, table_class, number_else}
+use Rattle.fb_read.proofs.view.EachSortHasItsClass.{text_else, table_else, struct_else}
+use Rattle.fb_read.proofs.view.ViewsAreWithinTheBuffer.{ref_within, there_too, text_behind_sure}
 use Rattle.fb_read.specs.Kinds.{base_wanted, structure_wanted, table_wanted, is_text}
 use Rattle.fb_read.specs.Stored.{text_behind, IsTextBehind}
 use Rattle.fb_read.specs.Views.{number_in, text_in, table_in, struct_in}

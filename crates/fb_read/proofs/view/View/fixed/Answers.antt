@@ -1,6 +1,7 @@
 use Rattle.std.proofs.Common.{sym, ◌∙◌}
 use Rattle.fb_read.specs.Views.{entry_of}
-use Rattle.fb_read.proofs.view.AccessorsReadTheEntry.{struct_sure, struct_found, struct_none}
+use Rattle.fb_read.proofs.view.AccessorsReadTheEntry.{struct_found, struct_none}
+use Rattle.fb_read.proofs.view.ViewsAreWithinTheBuffer.{struct_sure}
 use Rattle.fb_read.proofs.view.View.fixed.Goals as goal
 
 pub invariant_of-result : goal.invariant_of-result

@@ -1,7 +1,7 @@
 use Rattle.std.proofs.Common.{sym, ◌∙◌, arith}
 use Rattle.fb_read.specs.Views.{entry_of}
-use Rattle.fb_read.proofs.view.AccessorsReadTheEntry.{vector_sure, count_sure, items_sure, items_lie, vector_found}
-use Rattle.fb_read.proofs.view.AccessorsReadTheEntry.{vector_none}
+use Rattle.fb_read.proofs.view.AccessorsReadTheEntry.{vector_found, vector_none}
+use Rattle.fb_read.proofs.view.ViewsAreWithinTheBuffer.{vector_sure, count_sure, items_sure, items_lie}
 use Rattle.fb_read.proofs.view.View.items.Goals as goal
 
 pub u32_at-requires : goal.u32_at-requires

@@ -1,6 +1,7 @@
 use Rattle.std.proofs.Common.{sym, ◌∙◌, arith}
 use Rattle.fb_read.specs.Views.{entry_of}
-use Rattle.fb_read.proofs.view.AccessorsReadTheEntry.{member_sure, member_lies, member_found, member_none}
+use Rattle.fb_read.proofs.view.AccessorsReadTheEntry.{member_found, member_none}
+use Rattle.fb_read.proofs.view.ViewsAreWithinTheBuffer.{member_sure, member_lies}
 use Rattle.fb_read.proofs.view.View.member.Goals as goal
 
 pub u32_at-requires : goal.u32_at-requires

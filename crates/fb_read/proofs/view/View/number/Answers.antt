@@ -3,7 +3,8 @@ use Rattle.std.proofs.Common.{sym, ◌∙◌, rules}
 use Rattle.std.specs.Prelude.{FitsSigned}
 use Rattle.std.specs.Int.{w128}
 use Rattle.fb_read.specs.Views.{entry_of}
-use Rattle.fb_read.proofs.view.AccessorsReadTheEntry.{number_sure, number_found, number_none}
+use Rattle.fb_read.proofs.view.AccessorsReadTheEntry.{number_found, number_none}
+use Rattle.fb_read.proofs.view.ViewsAreWithinTheBuffer.{number_sure}
 use Rattle.fb_read.proofs.view.View.number.Goals as goal
 
 pub number_at-requires : goal.number_at-requires

@@ -4,9 +4,10 @@ use Rattle.fb_read.specs.Stored.{number_place_of}
 use Rattle.fb_read.specs.Views.{entry_of}
 use Rattle.fb_read.proofs.view.ViewHasAVtable.{view_within}
 use Rattle.fb_read.proofs.entry.EntryIsWhatWasFound.{vector_told, table_told, member_told}
-use Rattle.fb_read.proofs.view.AccessorsReadTheEntry.{number_sure, text_sure, struct_sure, table_sure, table_lies}
-use Rattle.fb_read.proofs.view.AccessorsReadTheEntry.{member_sure, member_lies, vector_sure, count_sure, items_sure}
-use Rattle.fb_read.proofs.view.AccessorsReadTheEntry.{items_lie, vector_found, table_found, member_found}
+use Rattle.fb_read.proofs.view.AccessorsReadTheEntry.{vector_found, table_found, member_found}
+use Rattle.fb_read.proofs.view.ViewsAreWithinTheBuffer.{number_sure, text_sure, struct_sure, table_sure, table_lies}
+use Rattle.fb_read.proofs.view.ViewsAreWithinTheBuffer.{member_sure, member_lies, vector_sure, count_sure, items_sure}
+use Rattle.fb_read.proofs.view.ViewsAreWithinTheBuffer.{items_lie}
 use Rattle.fb_read.proofs.view.View.slot.Goals as goal
 
 pub number_at-requires : goal.number_at-requires

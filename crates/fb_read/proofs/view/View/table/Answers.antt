@@ -1,6 +1,7 @@
 use Rattle.std.proofs.Common.{sym, ◌∙◌, arith}
 use Rattle.fb_read.specs.Views.{entry_of}
-use Rattle.fb_read.proofs.view.AccessorsReadTheEntry.{table_sure, table_lies, table_found, table_none}
+use Rattle.fb_read.proofs.view.AccessorsReadTheEntry.{table_found, table_none}
+use Rattle.fb_read.proofs.view.ViewsAreWithinTheBuffer.{table_sure, table_lies}
 use Rattle.fb_read.proofs.view.View.table.Goals as goal
 
 pub u32_at-requires : goal.u32_at-requires

@@ -1,6 +1,7 @@
 use Rattle.std.proofs.Common.{sym, ap, Some, ◌∙◌}
 use Rattle.fb_read.specs.Views.{entry_of}
-use Rattle.fb_read.proofs.view.AccessorsReadTheEntry.{text_sure, text_found, text_none}
+use Rattle.fb_read.proofs.view.AccessorsReadTheEntry.{text_found, text_none}
+use Rattle.fb_read.proofs.view.ViewsAreWithinTheBuffer.{text_sure}
 use Rattle.fb_read.proofs.view.View.text.Goals as goal
 
 pub text_behind-requires : goal.text_behind-requires
