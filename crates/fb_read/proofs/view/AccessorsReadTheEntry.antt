@@ -22,10 +22,10 @@ use Rattle.fb_value.specs.Places.{inline_place, Place, named_slots}
 use Rattle.fb_value.specs.Rules.{Keeps, fault_by}
 use Rattle.fb_value.specs.Lies.{LiesInline, LiesParts, Lies, LiesItems, LiesSlots}
 use Rattle.fb_value.specs.Nth.{nth_entry, slot_place, LiesInSlot}
-use Rattle.fb_value.proofs.Steps.{rule_held}
-use Rattle.fb_value.proofs.Counted.{text_length}
-use Rattle.fb_value.proofs.Ranged.{utf8_whole}
-use Rattle.fb_value.proofs.NthLies.{entry_lies_shown}
+use Rattle.fb_value.proofs.RulesHoldOneByOne.{rule_held}
+use Rattle.fb_value.proofs.CellsAreThoseReached.{text_length}
+use Rattle.fb_value.proofs.NumbersAreInTheirRange.{utf8_whole}
+use Rattle.fb_value.proofs.EachPartLiesInItsPlace.{entry_lies_shown}
 use Rattle.fb_read.specs.declared.stored.Stored.{Stored}
 use Rattle.fb_read.specs.declared.stored.Stored.TheVariants.{Absent, Code, Unknown, Number, Fixed, Text, Table, Member}
 use Rattle.fb_read.specs.declared.stored.Stored.TheVariants.{Vector}
