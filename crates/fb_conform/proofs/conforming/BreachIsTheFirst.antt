@@ -1,15 +1,19 @@
 -- The first breach of two schemas, type after type.
-use Rattle.std.proofs.Common.{◌≡◌, ℕ, ◌+◌, ◌<◌, ◌≤◌, inl, inr, Bool, true, false, nat_lt, length, None, refl, sym, subst, ◌∙◌, arith}
+use Rattle.std.proofs.Common.{◌≡◌, ℕ, ◌+◌, ◌<◌, ◌≤◌, inl, inr, Bool, true, false, nat_lt, length, None, refl, sym}
+use Rattle.std.proofs.Common.{subst, ◌∙◌, arith}
 use Rattle.std.proofs.lemmas.Bool.{ltb-true}
 use Rattle.std.proofs.lemmas.Bool.Decides.{nat_tests}
 use Rattle.fb_layout.specs.Laid.{LaidSchema}
 use Rattle.fb_conform.specs.declared.breaches.Breach.{Breach}
-use Rattle.fb_conform.specs.declared.breaches.Breach.TheVariants.{RootChanged, IdentifierChanged, TypeGone, KindChanged, StructChanged, SlotGone, FieldTypeChanged, DefaultChanged, RequiredChanged, DeprecatedTakenBack, NewRequired, EnumChanged, UnionChanged}
+use Rattle.fb_conform.specs.declared.breaches.Breach.TheVariants.{RootChanged, IdentifierChanged, TypeGone, KindChanged}
+use Rattle.fb_conform.specs.declared.breaches.Breach.TheVariants.{StructChanged, SlotGone, FieldTypeChanged}
+use Rattle.fb_conform.specs.declared.breaches.Breach.TheVariants.{DefaultChanged, RequiredChanged, DeprecatedTakenBack}
+use Rattle.fb_conform.specs.declared.breaches.Breach.TheVariants.{NewRequired, EnumChanged, UnionChanged}
 use Rattle.fb_conform.specs.BreachNumbers.{number_of}
 use Rattle.fb_conform.specs.Conforms.{Kept, Conforms}
 use Rattle.fb_conform.specs.Order.{type_place, IsFirst, IsFirstOfType, TellsType}
 use Rattle.fb_conform.specs.Twins.{SameName}
-use Rattle.fb_conform.proofs.Names.{twin_declared}
+use Rattle.fb_conform.proofs.twins.TypesAreFoundByTheirNames.{twin_declared}
 
 module _ (A B : LaidSchema) where
   -- no breach stands of the root, the identifier and the types below a number
@@ -51,20 +55,27 @@ module _ (A B : LaidSchema) where
     stands = λ kept. differs kept;
     first = λ r before. elim before [
       | inl less ↦ absurd (omega (arith, less))
-      | inr both ↦ elim both.1 [ inl less ↦ absurd (omega (arith, less)) | inr last ↦ absurd (omega (arith, last.1, numbered r)) ]
+      | inr both ↦ elim both.1
+          [ inl less ↦ absurd (omega (arith, less)) | inr last ↦ absurd (omega (arith, last.1, numbered r)) ]
     ];
   }
 
-  pub identifier_first : SameName A.schema B.schema A.schema.root B.schema.root → (B.schema.identifier ≡ A.schema.identifier → ⊥) → IsFirst A B IdentifierChanged
+  pub identifier_first : SameName A.schema B.schema A.schema.root B.schema.root
+      → (B.schema.identifier ≡ A.schema.identifier → ⊥) → IsFirst A B IdentifierChanged
   identifier_first same differs = record {
     stands = λ kept. differs kept;
     first = λ r before. elim before [
       | inl less ↦ absurd (omega (arith, less))
-      | inr both ↦ elim both.1 [ inl less ↦ absurd (omega (arith, less)) | inr last ↦ subst (λ (b : Breach). Kept A B b) (sym (first_number r last.1)) same ]
+      | inr both ↦ elim both.1 [
+        | inl less ↦ absurd (omega (arith, less))
+        | inr last ↦ subst (λ (b : Breach). Kept A B b)
+            (sym (first_number r last.1)) same
+      ]
     ];
   }
 
-  pub header_kept : SameName A.schema B.schema A.schema.root B.schema.root → B.schema.identifier ≡ A.schema.identifier → KeptBelow 0
+  pub header_kept : SameName A.schema B.schema A.schema.root B.schema.root → B.schema.identifier ≡ A.schema.identifier
+      → KeptBelow 0
   header_kept root identifier RootChanged less = root
   header_kept root identifier IdentifierChanged less = identifier
   header_kept root identifier (TypeGone t) less = absurd (omega (arith, less))
@@ -100,16 +111,26 @@ module _ (A B : LaidSchema) where
   past_kept RootChanged past = absurd (omega (arith, past))
   past_kept IdentifierChanged past = absurd (omega (arith, past))
   past_kept (TypeGone t) past = λ known. absurd (omega (arith, past, known))
-  past_kept (KindChanged t) past = λ u twins. let known = twin_declared A.schema B.schema t.0 u twins in absurd (omega (arith, past, known))
-  past_kept (StructChanged t) past = λ u twins. let known = twin_declared A.schema B.schema t.0 u twins in absurd (omega (arith, past, known))
-  past_kept (SlotGone t k) past = λ u f twins table at. let known = twin_declared A.schema B.schema t.0 u twins in absurd (omega (arith, past, known))
-  past_kept (FieldTypeChanged t k) past = λ f g pair. let known = twin_declared A.schema B.schema t.0 pair.type pair.twins in absurd (omega (arith, past, known))
-  past_kept (DefaultChanged t k) past = λ f g pair. let known = twin_declared A.schema B.schema t.0 pair.type pair.twins in absurd (omega (arith, past, known))
-  past_kept (RequiredChanged t k) past = λ f g pair. let known = twin_declared A.schema B.schema t.0 pair.type pair.twins in absurd (omega (arith, past, known))
-  past_kept (DeprecatedTakenBack t k) past = λ f g pair. let known = twin_declared A.schema B.schema t.0 pair.type pair.twins in absurd (omega (arith, past, known))
-  past_kept (NewRequired t k) past = λ u g twins table none at. let known = twin_declared A.schema B.schema t.0 u twins in absurd (omega (arith, past, known))
-  past_kept (EnumChanged t) past = λ u twins. let known = twin_declared A.schema B.schema t.0 u twins in absurd (omega (arith, past, known))
-  past_kept (UnionChanged t) past = λ u twins. let known = twin_declared A.schema B.schema t.0 u twins in absurd (omega (arith, past, known))
+  past_kept (KindChanged t) past = λ u twins. let known = twin_declared A.schema B.schema t.0 u twins in
+      absurd (omega (arith, past, known))
+  past_kept (StructChanged t) past = λ u twins. let known = twin_declared A.schema B.schema t.0 u twins in
+      absurd (omega (arith, past, known))
+  past_kept (SlotGone t k) past = λ u f twins table at. let known = twin_declared A.schema B.schema t.0 u twins in
+      absurd (omega (arith, past, known))
+  past_kept (FieldTypeChanged t k) past = λ f g pair. let known =
+      twin_declared A.schema B.schema t.0 pair.type pair.twins in absurd (omega (arith, past, known))
+  past_kept (DefaultChanged t k) past = λ f g pair. let known =
+      twin_declared A.schema B.schema t.0 pair.type pair.twins in absurd (omega (arith, past, known))
+  past_kept (RequiredChanged t k) past = λ f g pair. let known =
+      twin_declared A.schema B.schema t.0 pair.type pair.twins in absurd (omega (arith, past, known))
+  past_kept (DeprecatedTakenBack t k) past = λ f g pair. let known =
+      twin_declared A.schema B.schema t.0 pair.type pair.twins in absurd (omega (arith, past, known))
+  past_kept (NewRequired t k) past = λ u g twins table none at. let known =
+      twin_declared A.schema B.schema t.0 u twins in absurd (omega (arith, past, known))
+  past_kept (EnumChanged t) past = λ u twins. let known = twin_declared A.schema B.schema t.0 u twins in
+      absurd (omega (arith, past, known))
+  past_kept (UnionChanged t) past = λ u twins. let known = twin_declared A.schema B.schema t.0 u twins in
+      absurd (omega (arith, past, known))
 
   pub all_below : (n : ℕ) → length A.schema.types ≤ n → KeptBelow n → Conforms A B
   all_below n past before r = by (nat_lt (type_place r) (n + 1)) refl

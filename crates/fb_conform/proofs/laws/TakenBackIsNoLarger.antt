@@ -1,12 +1,13 @@
 -- What is taken back has no more depth and no more cells.
 use Rattle.std.proofs.Common.{◌≡◌, ℕ, suc, ◌≤◌, List, [], ◌∷◌, Option, None, Some, ℤ, refl, ap, arith}
-use Rattle.fb_value.specs.Datum.{Datum, a_number, a_text, a_vector, a_struct, a_table, a_member, an_unknown, Parts, no_parts, more_parts, SlotEntries, no_entries, absent_entry, present_entry, count}
+use Rattle.fb_value.specs.Datum.{Datum, a_number, a_text, a_vector, a_struct, a_table, a_member, an_unknown, Parts}
+use Rattle.fb_value.specs.Datum.{no_parts, more_parts, SlotEntries, no_entries, absent_entry, present_entry, count}
 use Rattle.fb_value.specs.Counts.{depth, parts_depth, entries_depth, cells, parts_cells, entries_cells}
 use Rattle.fb_layout.specs.Laid.{LaidSchema, Slot, union_kind, StoredShape, one_of, slots_of, member_by_code}
 use Rattle.fb_conform.specs.Twins.{to_new}
 use Rattle.fb_conform.specs.Back.{back, back_items, back_slots, if_known, union_known, known_code}
 use Rattle.fb_value.specs.Reads.{default_entry}
-use Rattle.fb_conform.proofs.CarriedCounts.{gone_depth, gone_cells}
+use Rattle.fb_conform.proofs.laws.CarriedIsNoLarger.{gone_depth, gone_cells}
 
 pub count_back : (A B : LaidSchema) (ds : Parts) → count (back_items A B ds) ≡ count ds
 count_back A B no_parts = refl
@@ -63,8 +64,11 @@ module _ (A B : LaidSchema) where
     slots_depth_back fs no_entries = omega arith
     slots_depth_back [] (absent_entry ss) = omega arith
     slots_depth_back [] (present_entry d ss) = omega arith
-    slots_depth_back (f ∷ fs) (absent_entry ss) = omega (arith, default_depth f.if_absent (back_slots A B fs ss), slots_depth_back fs ss)
-    slots_depth_back (f ∷ fs) (present_entry d ss) = gone_depth f.deprecated (if_known A f.shape d (back A B d)) d (back_slots A B fs ss) ss (omega (arith, known_depth A f.shape d (back A B d), depth_back d)) (slots_depth_back fs ss)
+    slots_depth_back (f ∷ fs) (absent_entry ss) =
+        omega (arith, default_depth f.if_absent (back_slots A B fs ss), slots_depth_back fs ss)
+    slots_depth_back (f ∷ fs) (present_entry d ss) = gone_depth f.deprecated (if_known A f.shape d (back A B d)) d
+        (back_slots A B fs ss) ss (omega (arith, known_depth A f.shape d (back A B d), depth_back d))
+        (slots_depth_back fs ss)
 
   mutual
     pub cells_back : (d : Datum) → cells (back A B d) ≤ cells d
@@ -84,5 +88,8 @@ module _ (A B : LaidSchema) where
     slots_cells_back fs no_entries = omega arith
     slots_cells_back [] (absent_entry ss) = omega arith
     slots_cells_back [] (present_entry d ss) = omega arith
-    slots_cells_back (f ∷ fs) (absent_entry ss) = omega (arith, default_cells f.if_absent (back_slots A B fs ss), slots_cells_back fs ss)
-    slots_cells_back (f ∷ fs) (present_entry d ss) = gone_cells f.deprecated (if_known A f.shape d (back A B d)) d (back_slots A B fs ss) ss (omega (arith, known_cells A f.shape d (back A B d), cells_back d)) (slots_cells_back fs ss)
+    slots_cells_back (f ∷ fs) (absent_entry ss) =
+        omega (arith, default_cells f.if_absent (back_slots A B fs ss), slots_cells_back fs ss)
+    slots_cells_back (f ∷ fs) (present_entry d ss) = gone_cells f.deprecated (if_known A f.shape d (back A B d)) d
+        (back_slots A B fs ss) ss (omega (arith, known_cells A f.shape d (back A B d), cells_back d))
+        (slots_cells_back fs ss)

@@ -1,24 +1,30 @@
 -- What two bodies, kinds and slots share, part by part.
-use Rattle.std.proofs.Common.{◌≡◌, ℕ, zero, suc, ◌≤◌, Bool, true, false, IsTrue, List, [], ◌∷◌, map, Option, None, Some, slice_get, ℤ, refl, sym, subst, arith}
+use Rattle.std.proofs.Common.{◌≡◌, ℕ, zero, suc, ◌≤◌, Bool, true, false, IsTrue, List, [], ◌∷◌, map, Option, None, Some}
+use Rattle.std.proofs.Common.{slice_get, ℤ, refl, sym, subst, arith}
 use Rattle.fb_schema.specs.declared.kinds.Base.{Base}
 use Rattle.fb_schema.specs.declared.kinds.Kind.TheVariants.{Scalar, Enum, Struct as Fixed, Table, Union, Code, Text}
 use Rattle.fb_schema.specs.declared.kinds.Shape as declared_shape
 use Rattle.fb_schema.specs.declared.kinds.Shape.TheVariants.{One, Many}
-use Rattle.fb_schema.specs.Schema.{Name, DeclaredField, DeclaredBody, table_body, struct_body, enum_body, union_body, DeclaredSchema, slots_in, parts_in, base_in, is_table, is_struct, is_enum, is_union}
+use Rattle.fb_schema.specs.Schema.{Name, DeclaredField, DeclaredBody, table_body, struct_body, enum_body, union_body}
+use Rattle.fb_schema.specs.Schema.{DeclaredSchema, slots_in, parts_in, base_in, is_table, is_struct, is_enum, is_union}
 use Rattle.fb_schema.specs.Found.{member_coded}
-use Rattle.fb_layout.specs.Laid.{LaidSchema, scalar_kind, struct_kind, table_kind, union_kind, code_kind, text_kind, StoredShape, one_of, vector_of, stored_shape, default_of, slot_of, kind_in, struct_at}
+use Rattle.fb_layout.specs.Laid.{LaidSchema, scalar_kind, struct_kind, table_kind, union_kind, code_kind, text_kind}
+use Rattle.fb_layout.specs.Laid.{StoredShape, one_of, vector_of, stored_shape, default_of, slot_of, kind_in, struct_at}
 use Rattle.fb_conform.specs.Twins.{SameName}
 use Rattle.fb_conform.specs.Conforms.{SameKind, SameStruct, KeepsValues, KeepsMembers, is_number, is_required}
-use Rattle.fb_conform.specs.ByName.{SameFields, KindByName, basic_type, named_type, code_type, ShapeByName, one_by_name, vector_by_name}
-use Rattle.fb_conform.proofs.Moved.{moved_kind, moved_shape}
+use Rattle.fb_conform.specs.ByName.{SameFields, KindByName, basic_type, named_type, code_type, ShapeByName, one_by_name}
+use Rattle.fb_conform.specs.ByName.{vector_by_name}
+use Rattle.fb_conform.proofs.laws.OldTypesByTheirNewNumbers.{moved_kind, moved_shape}
 use Rattle.fb_layout.specs.Sizes.{IsLeastMultiple}
-use Rattle.fb_conform.proofs.Agrees.{SlotStays, Grown}
+use Rattle.fb_conform.proofs.laws.LayoutsAgree.{SlotStays, Grown}
 
 -- numbers that are least are the same
 pub least_same : (a n m o : ℕ) → IsLeastMultiple a n m → IsLeastMultiple a n o → o ≡ m
 least_same a n m o first second =
-    let below : o ≤ m = subst (λ (z : ℕ). o ≤ z) (sym first.multiple.1) (second.least first.multiple.0 (subst (λ (z : ℕ). n ≤ z) first.multiple.1 first.above)) in
-    let above : m ≤ o = subst (λ (z : ℕ). m ≤ z) (sym second.multiple.1) (first.least second.multiple.0 (subst (λ (z : ℕ). n ≤ z) second.multiple.1 second.above)) in
+    let below : o ≤ m = subst (λ (z : ℕ). o ≤ z) (sym first.multiple.1)
+    (second.least first.multiple.0 (subst (λ (z : ℕ). n ≤ z) first.multiple.1 first.above)) in
+    let above : m ≤ o = subst (λ (z : ℕ). m ≤ z) (sym second.multiple.1)
+    (first.least second.multiple.0 (subst (λ (z : ℕ). n ≤ z) second.multiple.1 second.above)) in
     omega arith
 
 pub base_same : (x y : DeclaredBody) → SameKind x y → KeepsValues x y → base_in y ≡ base_in x
@@ -91,8 +97,10 @@ has_slot (struct_body fs m) k f e = cc
 has_slot (enum_body b flags values) k f e = cc
 has_slot (union_body ms) k f e = cc
 
-pub struct_kept : (A B : LaidSchema) (t u : ℕ) (x y : DeclaredBody) → IsTrue (is_struct x) → SameKind x y → SameStruct A B t u x y
-    → IsTrue (is_struct y) × SameFields A.schema B.schema (parts_in x) (parts_in y) × ((struct_at B u).align ≡ (struct_at A t).align)
+pub struct_kept : (A B : LaidSchema) (t u : ℕ) (x y : DeclaredBody) → IsTrue (is_struct x) → SameKind x y
+    → SameStruct A B t u x y
+    → IsTrue (is_struct y) × SameFields A.schema B.schema (parts_in x) (parts_in y)
+    × ((struct_at B u).align ≡ (struct_at A t).align)
 struct_kept A B t u (struct_body fs m) (struct_body gs n) h same keeps = (refl, keeps.0, keeps.1)
 struct_kept A B t u (table_body fs) y h same keeps = cc
 struct_kept A B t u (enum_body b flags values) y h same keeps = cc
@@ -100,7 +108,8 @@ struct_kept A B t u (union_body ms) y h same keeps = cc
 struct_kept A B t u (struct_body fs m) _ h same keeps = absurd same
 
 -- what is no struct stays none, and has no fields
-pub no_struct_kept : (x y : DeclaredBody) → is_struct x ≡ false → SameKind x y → (is_struct y ≡ false) × (parts_in x ≡ []) × (parts_in y ≡ [])
+pub no_struct_kept : (x y : DeclaredBody) → is_struct x ≡ false → SameKind x y
+    → (is_struct y ≡ false) × (parts_in x ≡ []) × (parts_in y ≡ [])
 no_struct_kept (table_body fs) (table_body gs) e same = (refl, refl, refl)
 no_struct_kept (enum_body b flags values) (enum_body c marks others) e same = (refl, refl, refl)
 no_struct_kept (union_body ms) (union_body ns) e same = (refl, refl, refl)
@@ -109,7 +118,8 @@ no_struct_kept (table_body fs) _ e same = absurd same
 no_struct_kept (enum_body b flags values) _ e same = absurd same
 no_struct_kept (union_body ms) _ e same = absurd same
 
-pub members_same : (S T : DeclaredSchema) (x y : DeclaredBody) (c t : ℕ) → SameKind x y → KeepsMembers S T x y → member_coded x c ≡ Some t → (u : ℕ) × (member_coded y c ≡ Some u) × SameName S T t u
+pub members_same : (S T : DeclaredSchema) (x y : DeclaredBody) (c t : ℕ) → SameKind x y → KeepsMembers S T x y
+    → member_coded x c ≡ Some t → (u : ℕ) × (member_coded y c ≡ Some u) × SameName S T t u
 members_same S T (union_body ms) (union_body ns) c t same keeps e = keeps c t e
 members_same S T (table_body fs) y zero t same keeps e = cc
 members_same S T (table_body fs) y (suc c) t same keeps e = cc
@@ -122,14 +132,22 @@ members_same S T (union_body ms) _ c t same keeps e = absurd same
 -- slots of two tables, once each pair is known
 pub grown_from : (S T : DeclaredSchema) (to : ℕ → ℕ) (n : ℕ) (ds es : List DeclaredField)
     → ((k : ℕ) (d : DeclaredField) → slice_get ds k ≡ Some d → (e : DeclaredField) × (slice_get es k ≡ Some e))
-    → ((k : ℕ) (d e : DeclaredField) → slice_get ds k ≡ Some d → slice_get es k ≡ Some e → SlotStays to n (slot_of S d) (slot_of T e))
+    → ((k : ℕ) (d e : DeclaredField) → slice_get ds k ≡ Some d → slice_get es k ≡ Some e
+    → SlotStays to n (slot_of S d) (slot_of T e))
     → ((k : ℕ) (e : DeclaredField) → slice_get ds k ≡ None → slice_get es k ≡ Some e → is_required e ≡ false)
     → Grown to n (map (slot_of S) ds) (map (slot_of T) es)
 grown_from S T to n [] [] there both added = tt
-grown_from S T to n [] (e ∷ es) there both added = (added 0 e refl refl, grown_from S T to n [] es (λ k d h. let bad : None ≡ Some d = h in cc) (λ k d e h i. let bad : None ≡ Some d = h in cc) (λ k e h i. added (suc k) e refl i))
+grown_from S T to n [] (e ∷ es) there both added = (
+  added 0 e refl refl,
+  grown_from S T to n [] es (λ k d h. let bad : None ≡ Some d = h in cc)
+      (λ k d e h i. let bad : None ≡ Some d = h in cc) (λ k e h i. added (suc k) e refl i),
+)
 grown_from S T to n (d ∷ ds) [] there both added = let h = there 0 d refl in let bad : None ≡ Some h.0 = h.1 in cc
-grown_from S T to n (d ∷ ds) (e ∷ es) there both added =
-    (both 0 d e refl refl, grown_from S T to n ds es (λ k d h. there (suc k) d h) (λ k d e h i. both (suc k) d e h i) (λ k e h i. added (suc k) e h i))
+grown_from S T to n (d ∷ ds) (e ∷ es) there both added = (
+  both 0 d e refl refl,
+  grown_from S T to n ds es (λ k d h. there (suc k) d h) (λ k d e h i. both (suc k) d e h i)
+      (λ k e h i. added (suc k) e h i),
+)
 
 unfoldable pub is_scalar : StoredShape → Bool
 is_scalar (one_of (scalar_kind base)) = true
@@ -146,7 +164,8 @@ never false n (one_of (code_kind t)) e = refl
 never false n (one_of text_kind) e = refl
 never false n (vector_of kind) e = refl
 
-pub number_shape : (gone : Bool) (m n : ℤ) (s : StoredShape) → default_of gone m s ≡ Some n → (base : Base) × (s ≡ one_of (scalar_kind base))
+pub number_shape : (gone : Bool) (m n : ℤ) (s : StoredShape) → default_of gone m s ≡ Some n
+    → (base : Base) × (s ≡ one_of (scalar_kind base))
 number_shape false m n (one_of (scalar_kind base)) e = (base, refl)
 number_shape false m n (one_of (struct_kind t)) e = cc
 number_shape false m n (one_of (table_kind t)) e = cc

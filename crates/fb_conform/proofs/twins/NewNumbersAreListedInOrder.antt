@@ -1,5 +1,6 @@
 -- The new numbers of old types, listed one after another.
-use Rattle.std.proofs.Common.{◌≡◌, ℕ, zero, suc, ◌<◌, ◌≤◌, Bool, true, false, nat_lt, List, [], ◌∷◌, ◌++◌, length, Some, slice_get, option_map, option_and_then, refl, sym, ap, subst, ◌∙◌, arith}
+use Rattle.std.proofs.Common.{◌≡◌, ℕ, zero, suc, ◌<◌, ◌≤◌, Bool, true, false, nat_lt, List, [], ◌∷◌, ◌++◌, length, Some}
+use Rattle.std.proofs.Common.{slice_get, option_map, option_and_then, refl, sym, ap, subst, ◌∙◌, arith}
 use Rattle.std.specs.Option.{unwrap_or}
 use Rattle.std.proofs.lemmas.Bool.{ltb-true}
 use Rattle.std.proofs.lemmas.Bool.Decides.{nat_tests}
@@ -23,17 +24,22 @@ got_last (y ∷ xs) x = got_last xs x
 abbrev pub Numbered : LaidSchema → LaidSchema → List TypeId → Type 0
 Numbered A B xs = (t : ℕ) → t < length xs → unwrap_or (option_map (λ u. u.0) (slice_get xs t)) 0 ≡ to_new A B t
 
-pub numbered_more : (A B : LaidSchema) (xs : List TypeId) (x : TypeId) → x.0 ≡ to_new A B (length xs) → Numbered A B xs → Numbered A B (xs ++ x ∷ [])
+pub numbered_more : (A B : LaidSchema) (xs : List TypeId) (x : TypeId) → x.0 ≡ to_new A B (length xs) → Numbered A B xs
+    → Numbered A B (xs ++ x ∷ [])
 numbered_more A B xs x is before t less = by (nat_lt t (length xs)) refl
   where
-    by : (c : Bool) → nat_lt t (length xs) ≡ c → unwrap_or (option_map (λ u. u.0) (slice_get (xs ++ x ∷ []) t)) 0 ≡ to_new A B t
-    by true test = let inside = ltb-true t (length xs) test in ap (λ o. unwrap_or (option_map (λ u. u.0) o) 0) (got_before xs (x ∷ []) t inside) ∙ before t inside
+    by : (c : Bool) → nat_lt t (length xs) ≡ c
+        → unwrap_or (option_map (λ u. u.0) (slice_get (xs ++ x ∷ []) t)) 0 ≡ to_new A B t
+    by true test = let inside = ltb-true t (length xs) test in
+        ap (λ o. unwrap_or (option_map (λ u. u.0) o) 0) (got_before xs (x ∷ []) t inside) ∙ before t inside
     by false test =
         let long = length-append xs (x ∷ []) in
         let last : length xs ≡ t = grind (arith, nat_tests, test, less, long) in
-        subst (λ (k : ℕ). unwrap_or (option_map (λ u. u.0) (slice_get (xs ++ x ∷ []) k)) 0 ≡ to_new A B k) last (ap (λ o. unwrap_or (option_map (λ u. u.0) o) 0) (got_last xs x) ∙ is)
+        subst (λ (k : ℕ). unwrap_or (option_map (λ u. u.0) (slice_get (xs ++ x ∷ []) k)) 0 ≡ to_new A B k) last
+        (ap (λ o. unwrap_or (option_map (λ u. u.0) o) 0) (got_last xs x) ∙ is)
 
-pub numbered_all : (A B : LaidSchema) (xs : List TypeId) → length xs ≡ length A.schema.types → Numbered A B xs → ListsNewNumbers A B xs
+pub numbered_all : (A B : LaidSchema) (xs : List TypeId) → length xs ≡ length A.schema.types → Numbered A B xs
+    → ListsNewNumbers A B xs
 numbered_all A B xs long before t = by (nat_lt t (length xs)) refl
   where
     by : (c : Bool) → nat_lt t (length xs) ≡ c → unwrap_or (option_map (λ u. u.0) (slice_get xs t)) 0 ≡ to_new A B t
@@ -41,4 +47,5 @@ numbered_all A B xs long before t = by (nat_lt t (length xs)) refl
     by false test =
         let past : length xs ≤ t = grind (arith, nat_tests, test) in
         ap (λ o. unwrap_or (option_map (λ u. u.0) o) 0) (slice_get_past xs t past)
-        ∙ ap (λ o. unwrap_or (option_and_then (λ name. type_named B.schema name) (option_map (λ x. x.name) o)) 0) (sym (slice_get_past A.schema.types t (omega arith)))
+        ∙ ap (λ o. unwrap_or (option_and_then (λ name. type_named B.schema name) (option_map (λ x. x.name) o)) 0)
+        (sym (slice_get_past A.schema.types t (omega arith)))
