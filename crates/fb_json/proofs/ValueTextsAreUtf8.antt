@@ -1,7 +1,8 @@
 -- The texts of a `Value` are UTF-8, since each is a `String`.
 use Rattle.std.proofs.Common.{◌≡◌, List, [], ◌∷◌, Option, None, Some, map, IsUtf8, subst, refl}
 use Rattle.std.proofs.lemmas.Str.{IsUtf8-string_bytes}
-use Rattle.fb_value.specs.Datum.{Datum, a_number, a_text, a_vector, a_struct, a_table, a_member, an_unknown, Parts, no_parts, more_parts, SlotEntries, no_entries, absent_entry, present_entry}
+use Rattle.fb_value.specs.Datum.{Datum, a_number, a_text, a_vector, a_struct, a_table, a_member, an_unknown, Parts}
+use Rattle.fb_value.specs.Datum.{no_parts, more_parts, SlotEntries, no_entries, absent_entry, present_entry}
 use Rattle.fb_value.specs.View.{view, view_step, parts_in, entries_in}
 use Rattle.fb_value.specs.declared.values.Value.{Value, ind-Value, roll-Value, fold-roll-Value, map-Value}
 use Rattle.fb_value.specs.declared.values.Value.TheOpen.{Value-F}
@@ -31,7 +32,8 @@ module _ {X : Type 0} (get : X → Value) (has : (x : X) → HasUtf8 (view (get 
   parts (x ∷ xs) = (has x, parts xs)
 
   -- however an `Option` is mapped
-  entries : (outer : Option Value → Option Datum) (inner : Option X → Option Value) → outer None ≡ None → ((v : Value) → outer (Some v) ≡ Some (view v)) → inner None ≡ None → ((x : X) → inner (Some x) ≡ Some (get x))
+  entries : (outer : Option Value → Option Datum) (inner : Option X → Option Value) → outer None ≡ None
+      → ((v : Value) → outer (Some v) ≡ Some (view v)) → inner None ≡ None → ((x : X) → inner (Some x) ≡ Some (get x))
       → (xs : List (Option X)) → EntriesHaveUtf8 (entries_in (map outer (map inner xs)))
   entries outer inner o p i j [] = tt
   entries outer inner o p i j (None ∷ xs) = rw (i, o) (entries outer inner o p i j xs)
@@ -50,4 +52,5 @@ module _ {X : Type 0} (get : X → Value) (has : (x : X) → HasUtf8 (view (get 
 pub value_utf8 : (v : Value) → HasUtf8 (view v)
 value_utf8 v =
     ind-Value (λ (w : Value). HasUtf8 (view w))
-    (λ x y e. subst (λ (z : Value-F Value). HasUtf8 (view (roll-Value z))) e (rw fold-roll-Value (level (λ c. c.0) (λ c. c.1) y))) v
+    (λ x y e. subst (λ (z : Value-F Value). HasUtf8 (view (roll-Value z))) e
+    (rw fold-roll-Value (level (λ c. c.0) (λ c. c.1) y))) v
