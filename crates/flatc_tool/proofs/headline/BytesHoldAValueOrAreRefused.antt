@@ -22,27 +22,34 @@ use Rattle.flatc_tool.specs.Jobs.{JsonMeans, IsBinary, IsText, TextRefused, IsNo
 use Rattle.flatc_tool.specs.Checks.{CheckRefused}
 use Rattle.flatc_tool.specs.Prints.{PrintRefused}
 use Rattle.flatc_tool.specs.Evolution.{TextsConform}
-use Rattle.flatc_tool.specs.Answers.{TextAnswer, CheckAnswer, ViewAnswer, ValueAnswer, IsTextOrMemory, IsOkOrMemory, IsViewOf, IsValueOrMemory}
+use Rattle.flatc_tool.specs.Answers.{TextAnswer, CheckAnswer, ViewAnswer, ValueAnswer, IsTextOrMemory, IsOkOrMemory}
+use Rattle.flatc_tool.specs.Answers.{IsViewOf, IsValueOrMemory}
 use Rattle.flatc_tool.specs.Headline.{HoldsAndPrints, CarriesValue, JsonIsCarried, NoneLies, OthersAreRefused}
 use Rattle.flatc_tool.specs.declared.faults.ToolFault.{ToolFault}
-use Rattle.flatc_tool.specs.declared.faults.ToolFault.TheVariants.{Schema, Json, Build, Read, Text, Write, Breach, Older, Newer, FileRead, FileWrite, FileTooLong, BadJson, Memory}
-use Rattle.flatc_tool.proofs.Breaches.{conforms_at}
-use Rattle.flatc_tool.proofs.OneText.{same_accepted, refused_excludes}
-use Rattle.flatc_tool.proofs.JobSteps.{same_value}
+use Rattle.flatc_tool.specs.declared.faults.ToolFault.TheVariants.{Schema, Json, Build, Read, Text, Write, Breach}
+use Rattle.flatc_tool.specs.declared.faults.ToolFault.TheVariants.{Older, Newer, FileRead, FileWrite, FileTooLong}
+use Rattle.flatc_tool.specs.declared.faults.ToolFault.TheVariants.{BadJson, Memory}
+use Rattle.flatc_tool.proofs.evolution.BreachExcludesConforming.{conforms_at}
+use Rattle.flatc_tool.proofs.schema_layouts.SchemaTextHasOneLayout.{same_accepted, refused_excludes}
+use Rattle.flatc_tool.proofs.jobs.RefusalExcludesABuffer.{same_value}
 
 -- ---- what the calls return for bytes that hold a value
 
-module _ (laws : LayerLaws) (schema : List ℕ) (b : Bytes) (most : Bounds) (raw : Bool) (L : LaidSchema) (accepted : IsAccepted schema L) (v : Datum) (holds : Holds L most raw b v) where
+module _ (laws : LayerLaws) (schema : List ℕ) (b : Bytes) (most : Bounds) (raw : Bool) (L : LaidSchema)
+    (accepted : IsAccepted schema L) (v : Datum) (holds : Holds L most raw b v) where
   one_text : (defaults : Bool) (text : List ℕ) → IsText schema b most raw defaults text → text ≡ json_text L defaults v
   one_text defaults text is =
       let same = same_accepted laws schema is.layout L is.accepted accepted in
       let there = subst (λ (K : LaidSchema). Holds K most raw b is.value) same is.holds in
       let one = laws.one_value L most raw b is.value v there holds in
-      is.spelled ∙ (ap (λ (K : LaidSchema). json_text K defaults is.value) same ∙ ap (λ (w : Datum). json_text L defaults w) one)
+      is.spelled ∙ (ap (λ (K : LaidSchema). json_text K defaults is.value) same
+      ∙ ap (λ (w : Datum). json_text L defaults w) one)
 
-  text_answer : is_whole v ≡ true → (defaults : Bool) (r : Result (List ℕ) ToolFault) → TextAnswer schema b most raw defaults r → IsTextOrMemory (json_text L defaults v) r
+  text_answer : is_whole v ≡ true → (defaults : Bool) (r : Result (List ℕ) ToolFault)
+      → TextAnswer schema b most raw defaults r → IsTextOrMemory (json_text L defaults v) r
   text_answer whole defaults (Ok text) is = one_text defaults text is
-  text_answer whole defaults (Err f) answer = λ rule. answer.1 rule (record { layout = L; accepted = accepted; value = v; holds = holds; whole = whole })
+  text_answer whole defaults (Err f) answer =
+      λ rule. answer.1 rule (record { layout = L; accepted = accepted; value = v; holds = holds; whole = whole })
 
   pub there : is_whole v ≡ true → HoldsAndPrints schema b most raw L v
   there whole = record { holds = holds; printed = text_answer whole }
@@ -61,18 +68,23 @@ module _ (laws : LayerLaws) (schema : List ℕ) (b : Bytes) (most : Bounds) (raw
 
 -- ---- JSON that means a value
 
-module _ (laws : LayerLaws) (schema json : List ℕ) (most : Bounds) (unknown : Bool) (b : Bytes) (made : IsBinary schema json most unknown b) (L : LaidSchema) (accepted : IsAccepted schema L) (v : Datum) (means : JsonMeans L most unknown json v) where
+module _ (laws : LayerLaws) (schema json : List ℕ) (most : Bounds) (unknown : Bool) (b : Bytes)
+    (made : IsBinary schema json most unknown b) (L : LaidSchema) (accepted : IsAccepted schema L) (v : Datum)
+    (means : JsonMeans L most unknown json v) where
   layout : made.layout ≡ L
   layout = same_accepted laws schema made.layout L made.accepted accepted
 
   value : made.value ≡ v
-  value = same_value laws L most unknown json made.value v (subst (λ (K : LaidSchema). JsonMeans K most unknown json made.value) layout made.means) means
+  value = same_value laws L most unknown json made.value v
+      (subst (λ (K : LaidSchema). JsonMeans K most unknown json made.value) layout made.means) means
 
   pub held : (raw : Bool) → Holds L most raw b v
-  held raw = subst (λ (w : Datum). Holds L most raw b w) value (subst (λ (K : LaidSchema). Holds K most raw b made.value) layout (made.holds raw))
+  held raw = subst (λ (w : Datum). Holds L most raw b w) value
+      (subst (λ (K : LaidSchema). Holds K most raw b made.value) layout (made.holds raw))
 
   pub fitting : FitsRoot L v
-  fitting = subst (λ (w : Datum). FitsRoot L w) value (subst (λ (K : LaidSchema). FitsRoot K made.value) layout made.fits)
+  fitting = subst (λ (w : Datum). FitsRoot L w) value
+      (subst (λ (K : LaidSchema). FitsRoot K made.value) layout made.fits)
 
   pub in_use : OnlyOld L b
   in_use = subst (λ (K : LaidSchema). OnlyOld K b) layout made.old_slots
@@ -80,10 +92,13 @@ module _ (laws : LayerLaws) (schema json : List ℕ) (most : Bounds) (unknown : 
   pub is_known : is_whole v ≡ true
   is_known = laws.meant_is_whole L most unknown means.0 v means.2
 
-  pub carried_on : (raw : Bool) (K : LaidSchema) (new : List ℕ) → IsAccepted new K → Conforms L K → Holds K most raw b (carry L K v)
-  carried_on raw K new other conforms = laws.carried_holds L K most raw b v accepted.made other.made conforms is_known in_use (held raw)
+  pub carried_on : (raw : Bool) (K : LaidSchema) (new : List ℕ) → IsAccepted new K → Conforms L K
+      → Holds K most raw b (carry L K v)
+  carried_on raw K new other conforms = laws.carried_holds L K most raw b v accepted.made other.made conforms is_known
+      in_use (held raw)
 
-  evolved : (raw : Bool) (new : List ℕ) (K : LaidSchema) → TextsConform schema new → IsAccepted new K → HoldsAndPrints new b most raw K (carry L K v)
+  evolved : (raw : Bool) (new : List ℕ) (K : LaidSchema) → TextsConform schema new → IsAccepted new K
+      → HoldsAndPrints new b most raw K (carry L K v)
   evolved raw new K texts other =
       let conforms = conforms_at laws schema new L K accepted other texts in
       let known = (laws.carried_fits L K v accepted.made other.made conforms fitting is_known).1 in
@@ -103,18 +118,23 @@ module _ (laws : LayerLaws) (schema json : List ℕ) (most : Bounds) (unknown : 
   }
 
 pub json_is_carried_shown : LayerLaws → JsonIsCarried
-json_is_carried_shown laws schema json most unknown b made L accepted v means = carried laws schema json most unknown b made L accepted v means
+json_is_carried_shown laws schema json most unknown b made L accepted v means =
+    carried laws schema json most unknown b made L accepted v means
 
 -- ---- bytes in which no value lies
 
-module _ (laws : LayerLaws) (schema : List ℕ) (b : Bytes) (most : Bounds) (raw : Bool) (L : LaidSchema) (accepted : IsAccepted schema L) (none : (v : Datum) → ¬ Holds L most raw b v) where
+module _ (laws : LayerLaws) (schema : List ℕ) (b : Bytes) (most : Bounds) (raw : Bool) (L : LaidSchema)
+    (accepted : IsAccepted schema L) (none : (v : Datum) → ¬ Holds L most raw b v) where
   none_under : (K : LaidSchema) → IsAccepted schema K → (v : Datum) → Holds K most raw b v → ⊥
-  none_under K other v holds = none v (subst (λ (M : LaidSchema). Holds M most raw b v) (same_accepted laws schema K L other accepted) holds)
+  none_under K other v holds =
+      none v (subst (λ (M : LaidSchema). Holds M most raw b v) (same_accepted laws schema K L other accepted) holds)
 
   module _ (fault : ReadFault) (least : IsLeastFault L most raw b fault) where
-    same_fault : (f : ReadFault) (K : LaidSchema) → IsAccepted schema K → IsLeastFault K most raw b f → Read f ≡ Read fault
+    same_fault : (f : ReadFault) (K : LaidSchema) → IsAccepted schema K → IsLeastFault K most raw b f
+        → Read f ≡ Read fault
     same_fault f K other first =
-        let there = subst (λ (M : LaidSchema). IsLeastFault M most raw b f) (same_accepted laws schema K L other accepted) first in
+        let there = subst (λ (M : LaidSchema). IsLeastFault M most raw b f)
+        (same_accepted laws schema K L other accepted) first in
         ap Read (laws.one_least_fault L most raw b f fault there least)
 
     answered : (f : ToolFault) → TextRefused schema b most raw f → IsNotMemory f → f ≡ Read fault
@@ -149,10 +169,13 @@ module _ (laws : LayerLaws) (schema : List ℕ) (b : Bytes) (most : Bounds) (raw
     checked BadJson refused rule = absurd refused
     checked Memory refused rule = absurd refused
 
-    printed : (defaults : Bool) (start known : Option (List ℕ)) (f : ToolFault) → PrintRefused schema b most raw defaults start known f → IsNotMemory f → f ≡ Read fault
-    printed defaults start known (Schema f) refused rule = absurd (refused_excludes laws schema f refused rule L accepted)
+    printed : (defaults : Bool) (start known : Option (List ℕ)) (f : ToolFault)
+        → PrintRefused schema b most raw defaults start known f → IsNotMemory f → f ≡ Read fault
+    printed defaults start known (Schema f) refused rule =
+        absurd (refused_excludes laws schema f refused rule L accepted)
     printed defaults start known (Read f) refused rule = same_fault f refused.0 refused.1 refused.2.0
-    printed defaults start known (Write (NoMemberName at)) refused rule = absurd (none_under refused.0 refused.1 refused.2 refused.3)
+    printed defaults start known (Write (NoMemberName at)) refused rule =
+        absurd (none_under refused.0 refused.1 refused.2 refused.3)
     printed defaults start known (Write (WriteFailed n)) refused rule =
         let is = refused.1 in
         absurd (none_under is.layout is.accepted is.value is.holds)
@@ -182,4 +205,6 @@ module _ (laws : LayerLaws) (schema : List ℕ) (b : Bytes) (most : Bounds) (raw
   }
 
 pub others_are_refused_shown : LayerLaws → OthersAreRefused
-others_are_refused_shown laws schema b most raw L accepted none = by_outcome laws schema b most raw L accepted none (computed_fault L most raw b) (laws.value_or_fault L most raw b accepted.made)
+others_are_refused_shown laws schema b most raw L accepted none =
+    by_outcome laws schema b most raw L accepted none (computed_fault L most raw b)
+    (laws.value_or_fault L most raw b accepted.made)
