@@ -16,7 +16,6 @@ use Rattle.fb_conform.proofs.laws.OldTypesByTheirNewNumbers.{KnownShape, KnownSo
 use Rattle.fb_conform.proofs.laws.LayoutsAgree.{types_in, Agrees}
 use Rattle.fb_conform.specs.Twins.{to_new}
 use Rattle.fb_conform.specs.Back.{back, if_known, union_known}
-use Rattle.fb_conform.proofs.laws.ConformingLayoutsAgree.{agrees}
 use Rattle.fb_conform.proofs.laws.RulesHoldUnderBothLayouts.{keeps_back}
 use Rattle.fb_conform.proofs.laws.SlotsNameTheSamePlaces.{MovedPlace, UnionAt, Numbered, same_number, zero_test}
 use Rattle.fb_conform.proofs.laws.SlotsNameTheSamePlaces.{slot_moved, place_known, no_code, kept_code, union_is}

@@ -10,7 +10,6 @@ use Rattle.fb_value.specs.Rules.{Keeps, fault_by, is_union, is_missing, first_mi
 use Rattle.fb_conform.specs.Twins.{to_new}
 use Rattle.fb_conform.proofs.laws.OldTypesByTheirNewNumbers.{moved_kind, moved_shape, moved_sort, KnownKind, KnownSort}
 use Rattle.fb_conform.proofs.laws.LayoutsAgree.{SlotStays, Grown, types_in, Agrees}
-use Rattle.fb_value.proofs.RulesHoldOneByOne.{hold}
 
 pub union_moved : (to : ℕ → ℕ) (s : StoredShape) → is_union (moved_shape to s) ≡ is_union s
 union_moved to (one_of (scalar_kind base)) = refl

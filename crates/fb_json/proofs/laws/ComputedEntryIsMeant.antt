@@ -2,7 +2,7 @@
 use Rattle.std.proofs.Common.{◌≡◌, ℕ, zero, suc, ◌+◌, ◌≤◌, ℤ, pos, negsuc, length, Bool, true, false, Option, Some}
 use Rattle.std.proofs.Common.{None, option_map, is_some, Ok, Err, nat_lt, if◌then◌else◌, refl, sym, ap, subst, arith}
 use Rattle.std.proofs.lemmas.Bool.Decides.{nat_tests}
-use Rattle.serde_json.specs.Data.{Num, Data, null, boolean, number, string, array, object, Members, member}
+use Rattle.serde_json.specs.Data.{Num, Data, null, boolean, number, string, array, object, Members}
 use Rattle.serde_json.specs.Find.{as_integer, get_member}
 use Rattle.fb_schema.specs.declared.kinds.Base.{Base}
 use Rattle.fb_schema.specs.declared.kinds.Base.TheVariants.{Bool as Boolean}

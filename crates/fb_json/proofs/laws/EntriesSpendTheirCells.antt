@@ -1,5 +1,5 @@
 -- What an entry spends, and a fault of the limits in it.
-use Rattle.std.proofs.Common.{◌≡◌, ◌∙◌, inl, inr, ℕ, zero, suc, ◌+◌, ℤ, [], Bool, true, false, Option, Some, None}
+use Rattle.std.proofs.Common.{◌≡◌, ◌∙◌, inl, inr, ℕ, zero, suc, ◌+◌, ℤ, Bool, true, false, Option, Some, None}
 use Rattle.std.proofs.Common.{option_map, Ok, Err, refl, sym, ap, subst, arith}
 use Rattle.serde_json.specs.Data.{Data, Members}
 use Rattle.serde_json.specs.Find.{get_member}
@@ -19,7 +19,6 @@ use Rattle.fb_json.specs.TreeCounts.{tree_depth}
 use Rattle.fb_json.proofs.laws.EachStepOfABindSucceeds.{bind_err, bind_ok, ok_inj}
 use Rattle.fb_json.proofs.laws.FaultOfALeafIsABrokenRule.{err_inj, no_err}
 use Rattle.fb_json.proofs.laws.LeavesSpendTheirCells.{over_map, count_of, SpentAt, LimitAt}
-use Rattle.fb_json.proofs.members.MapFindsTheMembers.{found_in}
 
 -- ---- slots
 

@@ -1,5 +1,5 @@
 -- A fault of an entry is a rule that it breaks.
-use Rattle.std.proofs.Common.{◌≡◌, ◌⊎◌, inl, inr, ℕ, zero, suc, ℤ, [], Bool, true, false, Option, Some, None}
+use Rattle.std.proofs.Common.{◌≡◌, ◌⊎◌, inl, inr, ℕ, zero, suc, ℤ, Bool, true, false, Option, Some, None}
 use Rattle.std.proofs.Common.{option_map, Err, refl, sym, subst, arith}
 use Rattle.serde_json.specs.Data.{Data}
 use Rattle.fb_schema.specs.declared.kinds.TypeId.{TypeId}
@@ -17,7 +17,7 @@ use Rattle.fb_json.specs.Breaks.{ToldBreaks, HasNoCode, EntryBreaks, is_own, Bre
 use Rattle.fb_json.specs.Laws.{IsLimit}
 use Rattle.fb_json.proofs.laws.EachStepOfABindSucceeds.{bind_err}
 use Rattle.fb_json.proofs.members.MapFindsTheMembers.{with_meaning}
-use Rattle.fb_json.proofs.laws.FaultOfALeafIsABrokenRule.{err_inj, no_err, Refused, own, BrokenAt, told_broken}
+use Rattle.fb_json.proofs.laws.FaultOfALeafIsABrokenRule.{err_inj, no_err, Refused, BrokenAt, told_broken}
 
 -- ---- slots
 
