@@ -12,11 +12,12 @@ not_below n over below = over (omega arith)
 pub cells_in-returns-in_err-cells_in_entries-in-Fields : goal.cells_in-returns-in_err-cells_in_entries-in-Fields
 cells_in-returns-in_err-cells_in_entries-in-Fields t c =
     rw (c.from_residual-in_err-cells_in_entries-in-Fields.ensures, c.in-Fields.is, view-Fields)
-    (not_below (entries_cells (entries_view c.in-Fields.entries.items)) c.in_err-cells_in_entries-in-Fields.ensures)
+    (not_below (entries_cells (entries_view c.in-Fields.entries.items))
+        (rw c.deref-in-Fields.ensures.value at c.in_err-cells_in_entries-in-Fields.ensures))
 
 pub cells_in_entries-returns : goal.cells_in_entries-returns
 cells_in_entries-returns t c =
-    let done = rw (drop_all c.loop-entry.entry-index c.args.entries.now.items (omega arith))
+    let done = rw (drop_all c.loop-entry.entry-index c.args.entries.now (omega arith))
     at c.loop-entry.invariant.1 in
     (omega arith, omega arith)
 
@@ -25,7 +26,7 @@ cells_in-returns-in_ok-cells_in_entries-in-Fields t c = rw (c.in-Fields.is, view
 
 pub cells_in_parts-returns : goal.cells_in_parts-returns
 cells_in_parts-returns t c =
-    let done = rw (drop_all c.loop-part.part-index c.args.parts.now.items (omega arith)) at c.loop-part.invariant.1 in
+    let done = rw (drop_all c.loop-part.part-index c.args.parts.now (omega arith)) at c.loop-part.invariant.1 in
     (omega arith, omega arith)
 
 pub cells_in-returns-in_err-ok-in-Items : goal.cells_in-returns-in_err-ok-in-Items

@@ -8,11 +8,11 @@ use Rattle.fb_value.proofs.rooms.RoomIsThatOfTheParts.{slots_seen}
 use Rattle.fb_value.proofs.ValueFitsPartByPart.{kinds_seen, parts_count, entries_count, struct_fits, table_fits}
 use Rattle.fb_value.proofs.fitting.+fits.Goals as goal
 
-pub parts_fit-returns-then-fields-len : goal.parts_fit-returns-then-fields-len
-parts_fit-returns-then-fields-len t c = (
+pub parts_fit-returns-then-fields-parts : goal.parts_fit-returns-then-fields-parts
+parts_fit-returns-then-fields-parts t c = (
   (λ bad. absurd (false≢true bad)),
   (λ h. let long = simp length-map
-      at (parts_count c.args.layout.now (kinds_seen c.args.layout.now c.args.fields.now) c.args.parts.now.items h) in
+      at (parts_count c.args.layout.now (kinds_seen c.args.layout.now c.args.fields.now) c.args.parts.now h) in
       absurd (omega arith)),
 )
 
@@ -29,7 +29,7 @@ fits_in-returns-in-Some-struct_wanted t c =
     let L = c.args.layout.now in
     let fits = struct_fits L (stored_shape L.schema c.args.shape) c.in-Some-struct_wanted.structure.0
     (parts_view c.in-Fixed.parts.items) (sym (c.in-Some-struct_wanted.ensures L.schema)) in
-    let own = rw c.parts_of.ensures.parts at c.parts_fit.ensures in
+    let own = rw (c.parts_of.ensures.parts, c.deref-in-Some-struct_wanted.ensures.value) at c.parts_fit.ensures in
     rw (c.in-Fixed.is, view-Fixed c.in-Fixed.parts) ((λ yes. fits.1 (own.0 yes)), (λ h. own.1 (fits.0 h)))
 
 pub fits_in-returns-then-is_table : goal.fits_in-returns-then-is_table

@@ -8,12 +8,12 @@ use Rattle.fb_value.proofs.fitting.+fits.Given as goal
 
 abbrev pub invariant-each_fits-loop-item : goal.invariant-each_fits-loop-item
 invariant-each_fits-loop-item l =
-    EachFits l.layout (stored_kind l.layout.schema l.kind) (parts_view (drop l.item-index l.items.items))
-    ↔ EachFits l.layout (stored_kind l.layout.schema l.kind) (parts_view l.items.items)
+    EachFits l.layout (stored_kind l.layout.schema l.kind) (parts_view (drop l.item-index l.items))
+    ↔ EachFits l.layout (stored_kind l.layout.schema l.kind) (parts_view l.items)
 
 abbrev pub invariant-parts_fit-loop-i : goal.invariant-parts_fit-loop-i
 invariant-parts_fit-loop-i l = PartsFit l.layout (kinds_seen l.layout (drop l.i l.fields))
-    (parts_view (drop l.i l.parts.items)) ↔ PartsFit l.layout (kinds_seen l.layout l.fields) (parts_view l.parts.items)
+    (parts_view (drop l.i l.parts)) ↔ PartsFit l.layout (kinds_seen l.layout l.fields) (parts_view l.parts)
 
 abbrev pub invariant-entries_fit-loop-i : goal.invariant-entries_fit-loop-i
 invariant-entries_fit-loop-i l = EntriesFit l.layout (slots_seen l.layout (drop l.i l.slots))

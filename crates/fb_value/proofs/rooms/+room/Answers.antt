@@ -9,7 +9,8 @@ room_in-returns-in-Many t c =
     let long : c.len-in-Many.result ≡ length c.in-Items.items.items = search rules in
     let known = vector_known L c.args.shape c.in-Many.kind c.args.value.now c.in-Items.items c.len-in-Many.result
     c.in-Many.is c.in-Items.is long in
-    rw known (omega (arith, c.room_of_vector-own.ensures, c.room_in_parts.ensures, c.saturating_add-in-Many.ensures))
+    let inner = rw c.deref.ensures.value at c.room_in_parts.ensures in
+    rw known (omega (arith, c.room_of_vector-own.ensures, inner, c.saturating_add-in-Many.ensures))
 
 pub room_in-returns-in-Fields : goal.room_in-returns-in-Fields
 room_in-returns-in-Fields t c =

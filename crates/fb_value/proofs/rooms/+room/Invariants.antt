@@ -9,8 +9,8 @@ use Rattle.fb_value.proofs.rooms.+room.Given as goal
 abbrev pub invariant-room_in_parts-loop-part : goal.invariant-room_in_parts-loop-part
 invariant-room_in_parts-loop-part l = (l.total < 2 ^ 64)
     × (at_most_usize (l.total + parts_room l.layout (stored_kind l.layout.schema l.kind)
-    (parts_view (drop l.part-index l.parts.items)))
-    ≡ at_most_usize (parts_room l.layout (stored_kind l.layout.schema l.kind) (parts_view l.parts.items)))
+    (parts_view (drop l.part-index l.parts)))
+    ≡ at_most_usize (parts_room l.layout (stored_kind l.layout.schema l.kind) (parts_view l.parts)))
 
 abbrev pub invariant-room_in_entries-loop-i : goal.invariant-room_in_entries-loop-i
 invariant-room_in_entries-loop-i l = (l.total < 2 ^ 64)
