@@ -17,8 +17,8 @@ carry_entries-returns t c =
 
 pub carry_parts-returns : goal.carry_parts-returns
 carry_parts-returns t c =
-    all_parts c.args.versions.before.now c.args.versions.after.now c.args.parts.now.items c.loop-part.carried.items
-    c.loop-part.part-index (grind (arith, c.loop-part-test.false, c.deref-part-items.ensures.value))
+    all_parts c.args.versions.before.now c.args.versions.after.now c.args.parts.now c.loop-part.carried.items
+    c.loop-part.part-index (grind (arith, c.loop-part-test.false))
     c.loop-part.invariant
 
 pub carry_entries-loop-i-preserved : goal.carry_entries-loop-i-preserved
