@@ -2,7 +2,10 @@
 use Rattle.std.specs.Prelude.{ℕ, Option, None, Some}
 use Rattle.fb_schema.specs.declared.kinds.TypeId.{TypeId}
 use Rattle.fb_conform.specs.declared.breaches.Breach.{Breach}
-use Rattle.fb_conform.specs.declared.breaches.Breach.TheVariants.{RootChanged, IdentifierChanged, TypeGone, KindChanged, StructChanged, SlotGone, FieldTypeChanged, DefaultChanged, RequiredChanged, DeprecatedTakenBack, NewRequired, EnumChanged, UnionChanged}
+use Rattle.fb_conform.specs.declared.breaches.Breach.TheVariants.{RootChanged, IdentifierChanged, TypeGone, KindChanged}
+use Rattle.fb_conform.specs.declared.breaches.Breach.TheVariants.{StructChanged, SlotGone, FieldTypeChanged}
+use Rattle.fb_conform.specs.declared.breaches.Breach.TheVariants.{DefaultChanged, RequiredChanged, DeprecatedTakenBack}
+use Rattle.fb_conform.specs.declared.breaches.Breach.TheVariants.{NewRequired, EnumChanged, UnionChanged}
 
 -- the number of the rule, which no other breach has
 abbrev pub number_of : Breach → ℕ

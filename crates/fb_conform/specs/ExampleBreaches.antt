@@ -1,10 +1,16 @@
 -- Breaches that stand: rows worked by hand.
-use Rattle.std.proofs.Common.{◌≡◌, ℕ, zero, suc, ◌<◌, ℤ, pos, List, [], ◌∷◌, get_or, Some, refl, sym, ap, subst, arith, lit≤, lit<}
+use Rattle.std.proofs.Common.{◌≡◌, ℕ, zero, suc, ◌<◌, ℤ, pos, List, [], ◌∷◌, get_or, Some, refl, sym, ap, subst, arith}
+use Rattle.std.proofs.Common.{lit≤, lit<}
 use Rattle.fb_schema.specs.Found.{name_at}
-use Rattle.fb_conform.specs.declared.breaches.Breach.TheVariants.{RootChanged, IdentifierChanged, TypeGone, StructChanged, SlotGone, FieldTypeChanged, DefaultChanged, RequiredChanged, DeprecatedTakenBack, NewRequired, EnumChanged, UnionChanged}
+use Rattle.fb_conform.specs.declared.breaches.Breach.TheVariants.{RootChanged, IdentifierChanged, TypeGone}
+use Rattle.fb_conform.specs.declared.breaches.Breach.TheVariants.{StructChanged, SlotGone, FieldTypeChanged}
+use Rattle.fb_conform.specs.declared.breaches.Breach.TheVariants.{DefaultChanged, RequiredChanged, DeprecatedTakenBack}
+use Rattle.fb_conform.specs.declared.breaches.Breach.TheVariants.{NewRequired, EnumChanged, UnionChanged}
 use Rattle.fb_conform.specs.Conforms.{Stands}
 use Rattle.fb_schema.specs.Schema.{Name}
-use Rattle.fb_conform.specs.ExampleSchemas.{id, int_field, text_field, byte_field, with_default, optional_one, required_one, deprecated_one, of_types, one_table, s1, s2, s2_later, u_ab, u_ba, with_enum, with_struct}
+use Rattle.fb_conform.specs.ExampleSchemas.{id, int_field, text_field, byte_field, with_default, optional_one}
+use Rattle.fb_conform.specs.ExampleSchemas.{required_one, deprecated_one, of_types, one_table, s1, s2, s2_later, u_ab}
+use Rattle.fb_conform.specs.ExampleSchemas.{u_ba, with_enum, with_struct}
 
 same_letter : (m n : ℕ) → Some (m ∷ []) ≡ Some (n ∷ []) → m ≡ n
 same_letter m n e = cc
@@ -14,7 +20,9 @@ pub root_row : Stands s2_later (of_types 0 s2_later.schema.types) RootChanged
 root_row kept = let letter = same_letter 0x54 0x41 kept in omega (arith, letter)
 
 -- an identifier that is new
-pub identifier_row : Stands s1 (record { schema = record { types = s1.schema.types; root = 0; identifier = Some (0x54 ∷ []) }; structs = [] }) IdentifierChanged
+pub identifier_row : Stands s1
+    (record { schema = record { types = s1.schema.types; root = 0; identifier = Some (0x54 ∷ []) }; structs = [] })
+    IdentifierChanged
 identifier_row kept = cc
 
 -- A is gone from s2_later to s1
@@ -22,7 +30,9 @@ pub type_gone_row : Stands s2_later s1 (TypeGone (id 0))
 type_gone_row kept = let h = (kept (lit≤ tt)).1 in cc
 
 -- struct S { x:ubyte; } grows by y:ubyte
-pub struct_row : Stands (with_struct (byte_field 0 ∷ []) (record { size = 1; align = 1; offsets = 0 ∷ [] })) (with_struct (byte_field 0 ∷ byte_field 1 ∷ []) (record { size = 2; align = 1; offsets = 0 ∷ 1 ∷ [] })) (StructChanged (id 0))
+pub struct_row : Stands (with_struct (byte_field 0 ∷ []) (record { size = 1; align = 1; offsets = 0 ∷ [] }))
+    (with_struct (byte_field 0 ∷ byte_field 1 ∷ []) (record { size = 2; align = 1; offsets = 0 ∷ 1 ∷ [] }))
+    (StructChanged (id 0))
 struct_row kept = let h = (kept 0 refl).0 in cc
 
 -- slot b is gone from s2 to s1
@@ -31,26 +41,37 @@ slot_gone_row kept = let h = (kept 0 (int_field 1) refl refl refl).1 in cc
 
 -- a:int becomes a:string
 pub type_row : Stands s1 (one_table (text_field 0 ∷ [])) (FieldTypeChanged (id 0) 0)
-type_row kept = let h = kept (int_field 0) (text_field 0) (record { type = 0; twins = refl; old = refl; new = refl }) in cc
+type_row kept = let h = kept (int_field 0) (text_field 0) (record { type = 0; twins = refl; old = refl; new = refl }) in
+    cc
 
 -- a:int becomes a:int = 1
 pub default_row : Stands s1 (one_table (with_default (pos 1) (int_field 0) ∷ [])) (DefaultChanged (id 0) 0)
-default_row kept = let h = (kept (int_field 0) (with_default (pos 1) (int_field 0)) (record { type = 0; twins = refl; old = refl; new = refl }) refl refl).0 in cc
+default_row kept = let h =
+    (kept (int_field 0) (with_default (pos 1) (int_field 0)) (record { type = 0; twins = refl; old = refl; new = refl })
+    refl refl).0 in cc
 
 -- a:int becomes a:int = null, and back
 pub optional_row : Stands s1 (one_table (optional_one (int_field 0) ∷ [])) (DefaultChanged (id 0) 0)
-optional_row kept = let h = (kept (int_field 0) (optional_one (int_field 0)) (record { type = 0; twins = refl; old = refl; new = refl }) refl refl).1 in cc
+optional_row kept = let h =
+    (kept (int_field 0) (optional_one (int_field 0)) (record { type = 0; twins = refl; old = refl; new = refl }) refl
+    refl).1 in cc
 
 pub plain_row : Stands (one_table (optional_one (int_field 0) ∷ [])) s1 (DefaultChanged (id 0) 0)
-plain_row kept = let h = (kept (optional_one (int_field 0)) (int_field 0) (record { type = 0; twins = refl; old = refl; new = refl }) refl refl).1 in cc
+plain_row kept = let h =
+    (kept (optional_one (int_field 0)) (int_field 0) (record { type = 0; twins = refl; old = refl; new = refl }) refl
+    refl).1 in cc
 
 -- s:string (required) becomes s:string (required, deprecated)
-pub required_row : Stands (one_table (required_one (text_field 0) ∷ [])) (one_table (deprecated_one (required_one (text_field 0)) ∷ [])) (RequiredChanged (id 0) 0)
-required_row kept = let h = kept (required_one (text_field 0)) (deprecated_one (required_one (text_field 0))) (record { type = 0; twins = refl; old = refl; new = refl }) in cc
+pub required_row : Stands (one_table (required_one (text_field 0) ∷ []))
+    (one_table (deprecated_one (required_one (text_field 0)) ∷ [])) (RequiredChanged (id 0) 0)
+required_row kept = let h = kept (required_one (text_field 0)) (deprecated_one (required_one (text_field 0)))
+    (record { type = 0; twins = refl; old = refl; new = refl }) in cc
 
 -- a:int (deprecated) becomes a:int
 pub taken_back_row : Stands (one_table (deprecated_one (int_field 0) ∷ [])) s1 (DeprecatedTakenBack (id 0) 0)
-taken_back_row kept = let h = kept (deprecated_one (int_field 0)) (int_field 0) (record { type = 0; twins = refl; old = refl; new = refl }) refl in cc
+taken_back_row kept = let h =
+    kept (deprecated_one (int_field 0)) (int_field 0) (record { type = 0; twins = refl; old = refl; new = refl })
+    refl in cc
 
 -- b:string (required) is new
 pub new_required_row : Stands s1 (one_table (int_field 0 ∷ required_one (text_field 1) ∷ [])) (NewRequired (id 0) 1)
@@ -65,7 +86,8 @@ one_y = (0x59 ∷ [], pos 1)
 
 nowhere : (k : ℕ) → k < 3 → get_or xzy k one_y ≡ one_y → ⊥
 nowhere zero less e = let number : pos 0 ≡ pos 1 = ap (λ (v : Name × ℤ). v.1) e in cc
-nowhere (suc zero) less e = let letter = same_letter 0x5a 0x59 (ap (λ (v : Name × ℤ). Some v.0) e) in omega (arith, letter)
+nowhere (suc zero) less e = let letter = same_letter 0x5a 0x59 (ap (λ (v : Name × ℤ). Some v.0) e) in
+    omega (arith, letter)
 nowhere (suc (suc zero)) less e = let number : pos 2 ≡ pos 1 = ap (λ (v : Name × ℤ). v.1) e in cc
 nowhere (suc (suc (suc k))) less e = omega (arith, less)
 
@@ -81,4 +103,5 @@ pub union_row : Stands u_ab u_ba (UnionChanged (id 2))
 union_row kept =
     let there = kept 2 refl 1 0 refl in
     let second : there.0 ≡ 1 = same_number _ _ (sym there.1) in
-    let letter = same_letter 0x41 0x42 (subst (λ (u : ℕ). name_at u_ab.schema 0 ≡ name_at u_ba.schema u) second there.2) in omega (arith, letter)
+    let letter = same_letter 0x41 0x42 (subst (λ (u : ℕ). name_at u_ab.schema 0 ≡ name_at u_ba.schema u) second there.2)
+    in omega (arith, letter)

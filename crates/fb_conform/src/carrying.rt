@@ -61,10 +61,10 @@ fn carry_in(alloc: Global, versions: Versions, value: &Value) -> Result<Value, A
 fn carry_parts(
     alloc: Global,
     versions: Versions,
-    parts: &Vec<Value>,
+    parts: &[Value],
 ) -> Result<Vec<Value>, AllocError>
     ensures { IfOk result (λ carried. parts_view carried.items
-        ≡ carry_items versions.entry.before.now versions.entry.after.now (parts_view parts.now.items)) }
+        ≡ carry_items versions.entry.before.now versions.entry.after.now (parts_view parts.now)) }
 {
     let mut carried = Vec::with_capacity(alloc, parts.len())?;
     for part in parts {

@@ -1,20 +1,2 @@
-pub mod Looked
-pub mod Told
-pub mod Steps
-pub mod Entries
-pub mod InRange
-pub mod Binds
-pub mod Sound
-pub mod CompleteLeaves
-pub mod Complete
-pub mod Roots
-pub mod BrokenLeaves
-pub mod Broken
-pub mod LimitedLeaves
-pub mod LimitedSlots
-pub mod Limited
-pub mod Words
-pub mod Utf8Texts
-pub mod InEnums
-pub mod Fitted
-pub mod MeantWhole
+-- Lemmas are below the modules that they serve: proofs/laws/ has those of src/laws.rt.
+pub mod ValueTextsAreUtf8

@@ -31,4 +31,5 @@ has_flags _ = false
 
 -- the number that a text names
 unfoldable pub number_told : DeclaredSchema → ℕ → List ℕ → Option ℤ
-number_told S e text = if has_flags (body_at S e) then flags_named (number_by_path S e) (pos 0) (words text) else number_by_path S e text
+number_told S e text = if has_flags (body_at S e) then flags_named (number_by_path S e) (pos 0) (words text)
+    else number_by_path S e text

@@ -2,7 +2,9 @@
 use Rattle.std.specs.Prelude.{ℕ, Option, None, Some}
 use Rattle.fb_json.specs.declared.faults.Place.{Place}
 use Rattle.fb_json.specs.declared.faults.JsonFault.{JsonFault}
-use Rattle.fb_json.specs.declared.faults.JsonFault.TheVariants.{WrongShape, NotWhole, OutOfRange, UnknownName, UnknownMember, MissingMember, MissingRequired, UnionMismatch, TooDeep, TooManyCells, Memory}
+use Rattle.fb_json.specs.declared.faults.JsonFault.TheVariants.{WrongShape, NotWhole, OutOfRange, UnknownName}
+use Rattle.fb_json.specs.declared.faults.JsonFault.TheVariants.{UnknownMember, MissingMember, MissingRequired}
+use Rattle.fb_json.specs.declared.faults.JsonFault.TheVariants.{UnionMismatch, TooDeep, TooManyCells, Memory}
 
 -- the number of the rule, which no other fault has
 abbrev pub number_of : JsonFault → ℕ

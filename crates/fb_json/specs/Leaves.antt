@@ -1,5 +1,6 @@
 -- What a tree without members and elements gives.
-use Rattle.std.specs.Prelude.{ℕ, zero, suc, ◌+◌, ℤ, pos, negsuc, nat_lt, is_some, length, Bool, true, false, Option, None, Some, Result, Ok, Err, if◌then◌else◌}
+use Rattle.std.specs.Prelude.{ℕ, zero, suc, ◌+◌, ℤ, pos, negsuc, nat_lt, is_some, length, Bool, true, false, Option}
+use Rattle.std.specs.Prelude.{None, Some, Result, Ok, Err, if◌then◌else◌}
 use Rattle.serde_json.specs.Data.{Data, null, boolean, number, string}
 use Rattle.serde_json.specs.Find.{as_integer}
 use Rattle.fb_schema.specs.declared.kinds.Base.{Base}
@@ -52,7 +53,9 @@ abbrev pub code_numbered : DeclaredSchema → ℕ → Place → Option ℤ → R
 code_numbered S u at None = Err (WrongShape at)
 code_numbered S u at (Some (negsuc n)) = Err (OutOfRange at)
 code_numbered S u at (Some (pos zero)) = Ok 0
-code_numbered S u at (Some (pos (suc c))) = if nat_lt 255 (suc c) then Err (OutOfRange at) else (if is_some (member_coded (body_at S u) (suc c)) then Ok (suc c) else Err (UnknownName at))
+code_numbered S u at (Some (pos (suc c))) =
+    if nat_lt 255 (suc c) then Err (OutOfRange at)
+    else (if is_some (member_coded (body_at S u) (suc c)) then Ok (suc c) else Err (UnknownName at))
 
 -- the code that a member called `x_type` tells
 unfoldable pub code_told : DeclaredSchema → ℕ → Data → Place → Result ℕ JsonFault

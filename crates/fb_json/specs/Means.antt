@@ -1,6 +1,7 @@
 -- Which value a JSON tree means under a type.
 -- From the FlatBuffers documentation, "JSON parsing". An object is a finite map from names to trees.
-use Rattle.std.specs.Prelude.{ℕ, zero, suc, ◌≡◌, ◌≤◌, ◌||◌, List, [], ◌∷◌, Bool, true, false, ℤ, pos, Option, None, Some, is_some, if◌then◌else◌}
+use Rattle.std.specs.Prelude.{ℕ, zero, suc, ◌≡◌, ◌≤◌, ◌||◌, List, [], ◌∷◌, Bool, true, false, ℤ, pos, Option, None}
+use Rattle.std.specs.Prelude.{Some, is_some, if◌then◌else◌}
 use Rattle.serde_json.specs.Data.{Data, null, boolean, number, string, array, object, Items, no_items, item, Members}
 use Rattle.serde_json.specs.Find.{as_integer, get_member}
 use Rattle.fb_schema.specs.declared.kinds.Base.{Base}
@@ -16,7 +17,8 @@ use Rattle.fb_schema.specs.WellDeclared.{InRange}
 use Rattle.fb_layout.specs.Laid.{LaidSchema, Slot, slot_of, member_by_code}
 use Rattle.fb_value.specs.Bounds.{Bounds}
 use Rattle.fb_value.specs.Counts.{cells, depth}
-use Rattle.fb_value.specs.Datum.{Datum, a_number, a_text, a_vector, a_struct, a_table, a_member, Parts, no_parts, more_parts, SlotEntries, no_entries, absent_entry, present_entry}
+use Rattle.fb_value.specs.Datum.{Datum, a_number, a_text, a_vector, a_struct, a_table, a_member, Parts, no_parts}
+use Rattle.fb_value.specs.Datum.{more_parts, SlotEntries, no_entries, absent_entry, present_entry}
 use Rattle.fb_json.specs.EnumTexts.{number_told}
 use Rattle.fb_json.specs.Meant.{names_known}
 
@@ -40,7 +42,8 @@ abbrev pub CodeMeans : DeclaredSchema → ℕ → Option Data → ℕ → Type 0
 CodeMeans S u None c = c ≡ 0
 CodeMeans S u (Some null) c = c ≡ 0
 CodeMeans S u (Some (number x)) zero = as_integer x ≡ Some (pos 0)
-CodeMeans S u (Some (number x)) (suc c) = (as_integer x ≡ Some (pos (suc c))) × (suc c ≤ 255) × (is_some (member_coded (body_at S u) (suc c)) ≡ true)
+CodeMeans S u (Some (number x)) (suc c) = (as_integer x ≡ Some (pos (suc c))) × (suc c ≤ 255)
+    × (is_some (member_coded (body_at S u) (suc c)) ≡ true)
 CodeMeans S u (Some (string s)) c = code_by_path S u s ≡ Some c
 CodeMeans S u (Some _) c = ⊥
 
@@ -63,10 +66,12 @@ member_called name ms = unless_null (get_member name ms)
 abbrev pub IsKnown : LaidSchema → Bool → ℕ → Members → Type 0
 IsKnown L unknown t ms = (unknown || names_known (body_at L.schema t) ms) ≡ true
 
--- a union has a member exactly where its code isn't 0; all else may be absent where it has no default and isn't required
+-- a union has a member exactly where its code isn't 0; all else may be absent where it has no default and isn't
+-- required
 abbrev pub AbsentMeans : LaidSchema → DeclaredField → ℕ → Option Data → Shape → Type 0
 AbsentMeans L f c o (One (Code u)) = Unit {0}
-AbsentMeans L f c o (One (Union u)) = (c ≡ 0) × (o ≡ None) × ((slot_of L.schema f).if_absent ≡ None) × ((slot_of L.schema f).required ≡ false)
+AbsentMeans L f c o (One (Union u)) = (c ≡ 0) × (o ≡ None) × ((slot_of L.schema f).if_absent ≡ None)
+    × ((slot_of L.schema f).required ≡ false)
 AbsentMeans L f c o _ = (o ≡ None) × ((slot_of L.schema f).if_absent ≡ None) × ((slot_of L.schema f).required ≡ false)
 
 abbrev pub AbsentAt : LaidSchema → DeclaredField → ℕ → Option Data → Bool → Type 0
@@ -89,36 +94,47 @@ abbrev mutual
   MeansAs L unknown t (One (Scalar base)) (a_number n) = ScalarMeans base t n
   MeansAs L unknown t (One (Enum e)) (a_number n) = EnumMeans L.schema e.0 t n
   MeansAs L unknown t (One Text) (a_text bytes) = t ≡ string bytes
-  MeansAs L unknown t (One (Struct s)) (a_struct ds) = (ms : Members) × (t ≡ object ms) × IsKnown L unknown s.0 ms × PartsMean L unknown ms (parts_in (body_at L.schema s.0)) ds
-  MeansAs L unknown t (One (Table id)) (a_table type es) = (ms : Members) × (t ≡ object ms) × (type ≡ id.0) × IsKnown L unknown type ms × SlotsMean L unknown ms 0 (slots_in (body_at L.schema type)) es
+  MeansAs L unknown t (One (Struct s)) (a_struct ds) = (ms : Members) × (t ≡ object ms) × IsKnown L unknown s.0 ms
+      × PartsMean L unknown ms (parts_in (body_at L.schema s.0)) ds
+  MeansAs L unknown t (One (Table id)) (a_table type es) = (ms : Members) × (t ≡ object ms) × (type ≡ id.0)
+      × IsKnown L unknown type ms × SlotsMean L unknown ms 0 (slots_in (body_at L.schema type)) es
   MeansAs L unknown t (Many kind) (a_vector ds) = (ts : Items) × (t ≡ array ts) × EachMeans L unknown ts kind ds
   MeansAs L unknown t _ _ = ⊥
 
   -- a union's member, of the table that its code names
   pub MemberMeans : LaidSchema → Bool → Data → ℕ → ℕ → Datum → Type 0
-  MemberMeans L unknown t u c (a_member k d) = (k ≡ c) × ((table : ℕ) × (member_by_code L u c ≡ Some table) × MeansAs L unknown t (One (Table (record { 0 = table }))) d)
+  MemberMeans L unknown t u c (a_member k d) =
+      (k ≡ c) × ((table : ℕ) × (member_by_code L u c ≡ Some table)
+      × MeansAs L unknown t (One (Table (record { 0 = table }))) d)
   MemberMeans L unknown t u c _ = ⊥
 
   -- one value for each field
   pub PartsMean : LaidSchema → Bool → Members → List DeclaredField → Parts → Type 0
   PartsMean L unknown ms [] no_parts = Unit {0}
-  PartsMean L unknown ms (f ∷ fs) (more_parts d ds) = (t : Data) × (get_member f.name ms ≡ Some t) × MeansAs L unknown t f.shape d × PartsMean L unknown ms fs ds
+  PartsMean L unknown ms (f ∷ fs) (more_parts d ds) = (t : Data) × (get_member f.name ms ≡ Some t)
+      × MeansAs L unknown t f.shape d × PartsMean L unknown ms fs ds
   PartsMean L unknown ms _ _ = ⊥
 
   -- one value for each element
   pub EachMeans : LaidSchema → Bool → Items → Kind → Parts → Type 0
   EachMeans L unknown no_items kind no_parts = Unit {0}
-  EachMeans L unknown (item t ts) kind (more_parts d ds) = MeansAs L unknown t (One kind) d × EachMeans L unknown ts kind ds
+  EachMeans L unknown (item t ts) kind (more_parts d ds) = MeansAs L unknown t (One kind) d
+      × EachMeans L unknown ts kind ds
   EachMeans L unknown _ kind _ = ⊥
 
   -- one entry for each slot, behind the code that was told last
   pub SlotsMean : LaidSchema → Bool → Members → ℕ → List DeclaredField → SlotEntries → Type 0
   SlotsMean L unknown ms before [] no_entries = Unit {0}
-  SlotsMean L unknown ms before (f ∷ fs) (absent_entry es) = (c : ℕ) × CodeAt L.schema ms f f.deprecated f.shape before c × AbsentAt L f c (member_called f.name ms) f.deprecated × SlotsMean L unknown ms c fs es
+  SlotsMean L unknown ms before (f ∷ fs) (absent_entry es) =
+      (c : ℕ) × CodeAt L.schema ms f f.deprecated f.shape before c × AbsentAt L f c (member_called f.name ms)
+      f.deprecated × SlotsMean L unknown ms c fs es
   SlotsMean L unknown ms before (f ∷ fs) (present_entry d es) =
-      (c : ℕ) × CodeAt L.schema ms f f.deprecated f.shape before c × (f.deprecated ≡ false) × PresentMeans (slot_of L.schema f) f.shape (member_called f.name ms) d (λ t. MeansAs L unknown t f.shape d) (λ t u. MemberMeans L unknown t u c d) × SlotsMean L unknown ms c fs es
+      (c : ℕ) × CodeAt L.schema ms f f.deprecated f.shape before c × (f.deprecated ≡ false)
+      × PresentMeans (slot_of L.schema f) f.shape (member_called f.name ms) d (λ t. MeansAs L unknown t f.shape d)
+      (λ t u. MemberMeans L unknown t u c d) × SlotsMean L unknown ms c fs es
   SlotsMean L unknown ms before _ _ = ⊥
 
 -- The tree means the value as one of the root table, within the limits.
 abbrev pub Means : LaidSchema → Bounds → Bool → Data → Datum → Type 0
-Means L most unknown t d = MeansAs L unknown t (One (Table (record { 0 = L.schema.root }))) d × (depth d ≤ most.depth) × (cells d ≤ most.cells)
+Means L most unknown t d = MeansAs L unknown t (One (Table (record { 0 = L.schema.root }))) d × (depth d ≤ most.depth)
+    × (cells d ≤ most.cells)

@@ -1,14 +1,6 @@
-pub mod Added
-pub mod Taken
-pub mod TablesFrom
-pub mod Exact
-pub mod Multiples
-pub mod Lower
-pub mod SizedExact
-pub mod Wide
-pub mod FirstFault
-pub mod LaidOut
-pub mod OneSizing
-pub mod Alignments
-pub mod Filled
-pub mod RequiredNumbers
+-- Lemmas are below the modules that they serve: proofs/laws/ has those of src/laws.rt.
+pub mod ExactSizesAreRight
+pub mod NarrowTablesAreKnown
+pub mod AlignmentsArePowersOfTwo
+pub mod EachFieldTakesAByte
+pub mod RequiredSlotsAreNumbered

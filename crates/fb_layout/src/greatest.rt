@@ -11,7 +11,7 @@ use crate::extents::{StructSizes, extent_of, kind_in};
 use fb_schema::{Body, FieldInfo, Kind, Schema, TypeInfo};
 
 /// The alignment of a kind; 1 for a struct that isn't known.
-#[tactic(auto, using(crate::proofs::Taken::align_known))]
+#[tactic(auto, using(crate::proofs::extents::UnknownStructTakesNothing::align_known))]
 fn known_align(schema: &Schema, structs: &[Option<StructSizes>], kind: Kind) -> u16
     ensures { result ≡ align_of (layout_known schema.now (structs_seen structs.now)) (stored_kind schema.now kind) }
 {

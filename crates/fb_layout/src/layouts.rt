@@ -144,7 +144,7 @@ impl Layout {
     }
 
     /// Where a field of a struct begins, in bytes from the struct's begin; 0 where there is none.
-    #[tactic(auto, using(crate::proofs::Taken::struct_known))]
+    #[tactic(auto, using(crate::proofs::extents::UnknownStructTakesNothing::struct_known))]
     pub fn offset_of(&self, owner: TypeId, field: u16) -> u32
         ensures { result ≡ slice_index (struct_at self.now owner.0).offsets field }
     {

@@ -1,5 +1,6 @@
 -- The text of a value is UTF-8, where its own texts and the names of the schema are.
-use Rattle.std.proofs.Common.{ℕ, zero, suc, ◌+◌, ◌/◌, ◌%◌, ◌<◌, ◌||◌, ◌==◌, nat_lt, ℤ, pos, negsuc, List, [], ◌∷◌, Bool, true, false, Option, None, Some, IsUtf8, codes, refl, arith, if◌then◌else◌}
+use Rattle.std.proofs.Common.{ℕ, zero, suc, ◌+◌, ◌/◌, ◌%◌, ◌<◌, ◌||◌, ◌==◌, nat_lt, ℤ, pos, negsuc, List, [], ◌∷◌, Bool}
+use Rattle.std.proofs.Common.{true, false, Option, None, Some, IsUtf8, codes, refl, arith, if◌then◌else◌}
 use Rattle.std.specs.Fmt.{decimal, signed_decimal, digits, digits_onto, digit_glyph}
 use Rattle.std.specs.Str.{IsAscii}
 use Rattle.std.specs.Option.{option_map_or}
@@ -14,11 +15,15 @@ use Rattle.fb_schema.specs.declared.kinds.Shape.TheVariants.{One, Many}
 use Rattle.fb_schema.specs.Schema.{Name, DeclaredField, DeclaredBody, body_at, slots_in, parts_in}
 use Rattle.fb_schema.specs.Found.{name_numbered}
 use Rattle.fb_layout.specs.Laid.{LaidSchema}
-use Rattle.fb_value.specs.Datum.{Datum, a_number, a_text, a_vector, a_struct, a_table, a_member, Parts, no_parts, more_parts, SlotEntries, no_entries, absent_entry, present_entry}
+use Rattle.fb_value.specs.Datum.{Datum, a_number, a_text, a_vector, a_struct, a_table, a_member, Parts, no_parts}
+use Rattle.fb_value.specs.Datum.{more_parts, SlotEntries, no_entries, absent_entry, present_entry}
 use Rattle.fb_json.specs.EnumTexts.{has_flags}
-use Rattle.fb_text.specs.Texts.{in_quotes, is_odd, bit_text, bits_text, bits_of, are_flags, flags_text, enum_text, number_text, line, closing, inside, is_printed, member_line, member_name, code_text, has_code, entry_text, value_text, items_text, parts_text, members_text, json_text}
-use Rattle.fb_text.proofs.NamesAreUtf8.{FieldsUtf8, BodyUtf8, NameUtf8, or_nothing, slots_utf8, parts_utf8, member_utf8, numbered_utf8}
-use Rattle.fb_json.proofs.Utf8Texts.{HasUtf8, HaveUtf8, EntriesHaveUtf8}
+use Rattle.fb_text.specs.Texts.{in_quotes, is_odd, bit_text, bits_text, bits_of, are_flags, flags_text, enum_text}
+use Rattle.fb_text.specs.Texts.{number_text, line, closing, inside, is_printed, member_line, member_name, code_text}
+use Rattle.fb_text.specs.Texts.{has_code, entry_text, value_text, items_text, parts_text, members_text, json_text}
+use Rattle.fb_text.proofs.NamesAreUtf8.{FieldsUtf8, BodyUtf8, NameUtf8, or_nothing, slots_utf8, parts_utf8, member_utf8}
+use Rattle.fb_text.proofs.NamesAreUtf8.{numbered_utf8}
+use Rattle.fb_json.proofs.ValueTextsAreUtf8.{HasUtf8, HaveUtf8, EntriesHaveUtf8}
 
 either_utf8 : (b : Bool) (x y : List ℕ) → IsUtf8 x → IsUtf8 y → IsUtf8 (if b then x else y)
 either_utf8 true x y h g = h

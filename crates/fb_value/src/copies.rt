@@ -44,8 +44,8 @@ fn copy_in(alloc: Global, value: &Value) -> Result<Value, AllocError>
 }
 
 #[cycle(copy)]
-fn copy_parts(alloc: Global, parts: &Vec<Value>) -> Result<Vec<Value>, AllocError>
-    ensures { IfOk result (λ copied. parts_view copied.items ≡ parts_view parts.now.items) }
+fn copy_parts(alloc: Global, parts: &[Value]) -> Result<Vec<Value>, AllocError>
+    ensures { IfOk result (λ copied. parts_view copied.items ≡ parts_view parts.now) }
 {
     let mut copied = Vec::with_capacity(alloc, parts.len())?;
     for part in parts {
@@ -57,9 +57,9 @@ fn copy_parts(alloc: Global, parts: &Vec<Value>) -> Result<Vec<Value>, AllocErro
 #[cycle(copy)]
 fn copy_entries(
     alloc: Global,
-    entries: &Vec<Option<Value>>,
+    entries: &[Option<Value>],
 ) -> Result<Vec<Option<Value>>, AllocError>
-    ensures { IfOk result (λ copied. entries_view copied.items ≡ entries_view entries.now.items) }
+    ensures { IfOk result (λ copied. entries_view copied.items ≡ entries_view entries.now) }
 {
     let mut copied = Vec::with_capacity(alloc, entries.len())?;
     for entry in entries {

@@ -34,8 +34,8 @@ fn cells_in(value: &Value) -> Option<u32>
 }
 
 #[cycle(cells)]
-fn cells_in_parts(parts: &Vec<Value>) -> Option<u32>
-    ensures { SomeBelow (2 ^ 32) result (parts_cells (parts_view parts.now.items)) }
+fn cells_in_parts(parts: &[Value]) -> Option<u32>
+    ensures { SomeBelow (2 ^ 32) result (parts_cells (parts_view parts.now)) }
 {
     let mut total = 0u32;
     for part in parts {
@@ -45,8 +45,8 @@ fn cells_in_parts(parts: &Vec<Value>) -> Option<u32>
 }
 
 #[cycle(cells)]
-fn cells_in_entries(entries: &Vec<Option<Value>>) -> Option<u32>
-    ensures { SomeBelow (2 ^ 32) result (entries_cells (entries_view entries.now.items)) }
+fn cells_in_entries(entries: &[Option<Value>]) -> Option<u32>
+    ensures { SomeBelow (2 ^ 32) result (entries_cells (entries_view entries.now)) }
 {
     let mut total = 0u32;
     for entry in entries {
@@ -79,8 +79,8 @@ fn depth_in(value: &Value) -> Option<u8>
 }
 
 #[cycle(depth)]
-fn depth_in_parts(parts: &Vec<Value>) -> Option<u8>
-    ensures { SomeBelow (2 ^ 8) result (parts_depth (parts_view parts.now.items)) }
+fn depth_in_parts(parts: &[Value]) -> Option<u8>
+    ensures { SomeBelow (2 ^ 8) result (parts_depth (parts_view parts.now)) }
 {
     let mut deepest = 0u8;
     for part in parts {
@@ -90,8 +90,8 @@ fn depth_in_parts(parts: &Vec<Value>) -> Option<u8>
 }
 
 #[cycle(depth)]
-fn depth_in_entries(entries: &Vec<Option<Value>>) -> Option<u8>
-    ensures { SomeBelow (2 ^ 8) result (entries_depth (entries_view entries.now.items)) }
+fn depth_in_entries(entries: &[Option<Value>]) -> Option<u8>
+    ensures { SomeBelow (2 ^ 8) result (entries_depth (entries_view entries.now)) }
 {
     let mut deepest = 0u8;
     for entry in entries {

@@ -78,8 +78,8 @@ fn fits_in(layout: &Layout, shape: Shape, value: &Value) -> bool
 }
 
 #[cycle(fits)]
-fn each_fits(layout: &Layout, kind: Kind, items: &Vec<Value>) -> bool
-    ensures { IsTrue result ↔ EachFits layout.now (kind_seen layout.now kind) (parts_view items.now.items) }
+fn each_fits(layout: &Layout, kind: Kind, items: &[Value]) -> bool
+    ensures { IsTrue result ↔ EachFits layout.now (kind_seen layout.now kind) (parts_view items.now) }
 {
     for item in items {
         if !fits_in(layout, Shape::One(kind), item) {
@@ -90,8 +90,8 @@ fn each_fits(layout: &Layout, kind: Kind, items: &Vec<Value>) -> bool
 }
 
 #[cycle(fits)]
-fn parts_fit(layout: &Layout, fields: &[FieldInfo], parts: &Vec<Value>) -> bool
-    ensures { IsTrue result ↔ PartsFit layout.now (kinds_seen layout.now fields.now) (parts_view parts.now.items) }
+fn parts_fit(layout: &Layout, fields: &[FieldInfo], parts: &[Value]) -> bool
+    ensures { IsTrue result ↔ PartsFit layout.now (kinds_seen layout.now fields.now) (parts_view parts.now) }
 {
     if fields.len() != parts.len() {
         return false;

@@ -81,9 +81,9 @@ fn room_in(layout: &Layout, shape: Shape, value: &Value) -> usize
 }
 
 #[cycle(room)]
-fn room_in_parts(layout: &Layout, kind: Kind, parts: &Vec<Value>) -> usize
+fn room_in_parts(layout: &Layout, kind: Kind, parts: &[Value]) -> usize
     ensures { result ≡ at_most_usize
-        (parts_room layout.now (kind_seen layout.now kind) (parts_view parts.now.items)) }
+        (parts_room layout.now (kind_seen layout.now kind) (parts_view parts.now)) }
 {
     let mut total = 0usize;
     for part in parts {

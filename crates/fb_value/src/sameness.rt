@@ -31,8 +31,8 @@ fn same_in(first: &Value, second: &Value) -> bool
 }
 
 #[cycle(same)]
-fn same_parts(first: &Vec<Value>, second: &Vec<Value>) -> bool
-    ensures { IsTrue result ↔ (parts_view first.now.items ≡ parts_view second.now.items) }
+fn same_parts(first: &[Value], second: &[Value]) -> bool
+    ensures { IsTrue result ↔ (parts_view first.now ≡ parts_view second.now) }
 {
     if first.len() != second.len() {
         return false;

@@ -27,8 +27,8 @@ fn whole_in(value: &Value) -> bool
 }
 
 #[cycle(whole)]
-fn whole_in_parts(parts: &Vec<Value>) -> bool
-    ensures { result ≡ parts_whole (parts_view parts.now.items) }
+fn whole_in_parts(parts: &[Value]) -> bool
+    ensures { result ≡ parts_whole (parts_view parts.now) }
 {
     for part in parts {
         if !whole_in(part) {
@@ -39,8 +39,8 @@ fn whole_in_parts(parts: &Vec<Value>) -> bool
 }
 
 #[cycle(whole)]
-fn whole_in_entries(entries: &Vec<Option<Value>>) -> bool
-    ensures { result ≡ entries_whole (entries_view entries.now.items) }
+fn whole_in_entries(entries: &[Option<Value>]) -> bool
+    ensures { result ≡ entries_whole (entries_view entries.now) }
 {
     for entry in entries {
         if let Some(value) = entry {

@@ -1,9 +1,1 @@
-pub mod OneText
-pub mod JobSteps
-pub mod Headlines
-pub mod Evolving
-pub mod Known
-pub mod LinesTold
-pub mod Sound
-pub mod PrintSteps
-pub mod Breaches
+-- Lemmas are below the modules that they serve: proofs/laws/ has those of src/laws.rt.

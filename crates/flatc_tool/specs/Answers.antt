@@ -16,12 +16,14 @@ use Rattle.flatc_tool.specs.declared.faults.ToolFault.{ToolFault}
 -- the clauses `text`, `refused` and `exact` of `to_json`
 abbrev pub TextAnswer : List ℕ → Bytes → Bounds → Bool → Bool → Result (List ℕ) ToolFault → Type 0
 TextAnswer schema b most raw defaults (Ok text) = IsText schema b most raw defaults text
-TextAnswer schema b most raw defaults (Err f) = TextRefused schema b most raw f × (IsNotMemory f → ¬ MayBeText schema b most raw)
+TextAnswer schema b most raw defaults (Err f) = TextRefused schema b most raw f
+    × (IsNotMemory f → ¬ MayBeText schema b most raw)
 
 -- the clauses `sound`, `refused` and `exact` of `check`
 abbrev pub CheckAnswer : List ℕ → Option Bytes → Bounds → Bool → Result (Unit {0}) ToolFault → Type 0
 CheckAnswer schema bytes most raw (Ok x) = IsSound schema bytes most raw
-CheckAnswer schema bytes most raw (Err f) = CheckRefused schema bytes most raw f × (IsNotMemory f → ¬ IsSound schema bytes most raw)
+CheckAnswer schema bytes most raw (Err f) = CheckRefused schema bytes most raw f
+    × (IsNotMemory f → ¬ IsSound schema bytes most raw)
 
 -- the clauses `stands` and `fault` of `verify`
 abbrev pub ViewAnswer : LaidSchema → Bytes → Bounds → Bool → Result View ReadFault → Type 0

@@ -12,10 +12,13 @@ use Rattle.flatc_tool.specs.SchemaTexts.{IsAccepted}
 use Rattle.flatc_tool.specs.Jobs.{JsonMeans, IsBinary}
 use Rattle.flatc_tool.specs.Evolution.{TextsConform}
 
--- A program that still has the old schema reads what is written under the new one: later fields are gone, and a later union member is its code alone.
+-- A program that still has the old schema reads what is written under the new one: later fields are gone, and a later
+-- union member is its code alone.
 abbrev pub OldProgramsRead : Type 0
-OldProgramsRead = (old new json : List ℕ) (most : Bounds) (unknown : Bool) (b : Bytes) → IsBinary new json most unknown b → TextsConform old new
-    → (A B : LaidSchema) → IsAccepted old A → IsAccepted new B → (v : Datum) → JsonMeans B most unknown json v → (raw : Bool) → Holds A most raw b (back A B v)
+OldProgramsRead = (old new json : List ℕ) (most : Bounds) (unknown : Bool) (b : Bytes)
+    → IsBinary new json most unknown b → TextsConform old new
+    → (A B : LaidSchema) → IsAccepted old A → IsAccepted new B → (v : Datum) → JsonMeans B most unknown json v
+    → (raw : Bool) → Holds A most raw b (back A B v)
 
 -- each text conforms to the one before it
 abbrev pub ConformInTurn : List ℕ → List (List ℕ) → Type 0
@@ -28,7 +31,8 @@ last_of first (next ∷ later) = last_of next later
 
 -- Texts that conform one by one conform from the first to the last.
 abbrev pub ChainsConform : Type 0
-ChainsConform = (first next : List ℕ) (later : List (List ℕ)) → ConformInTurn first (next ∷ later) → TextsConform first (last_of next later)
+ChainsConform = (first next : List ℕ) (later : List (List ℕ)) → ConformInTurn first (next ∷ later)
+    → TextsConform first (last_of next later)
 
 -- w is v carried from each text to the next, and K the layout of the last
 abbrev pub CarriedInTurn : LaidSchema → Datum → List (List ℕ) → LaidSchema → Datum → Type 0
@@ -37,5 +41,7 @@ CarriedInTurn A v (next ∷ later) K w = (B : LaidSchema) × IsAccepted next B �
 
 -- The bytes that are written under the first text hold, under the last, the value carried from each to the next.
 abbrev pub ChainsCarry : Type 0
-ChainsCarry = (first json : List ℕ) (later : List (List ℕ)) (most : Bounds) (unknown : Bool) (b : Bytes) → IsBinary first json most unknown b → ConformInTurn first later
-    → (A : LaidSchema) → IsAccepted first A → (v : Datum) → JsonMeans A most unknown json v → (K : LaidSchema) (w : Datum) → CarriedInTurn A v later K w → (raw : Bool) → Holds K most raw b w
+ChainsCarry = (first json : List ℕ) (later : List (List ℕ)) (most : Bounds) (unknown : Bool) (b : Bytes)
+    → IsBinary first json most unknown b → ConformInTurn first later
+    → (A : LaidSchema) → IsAccepted first A → (v : Datum) → JsonMeans A most unknown json v
+    → (K : LaidSchema) (w : Datum) → CarriedInTurn A v later K w → (raw : Bool) → Holds K most raw b w

@@ -16,5 +16,6 @@ TextsConform old new = (A : LaidSchema) × (B : LaidSchema) × IsAccepted old A 
 abbrev pub ConformRefused : List ℕ → List ℕ → ToolFault → Type 0
 ConformRefused old new (Older f) = IsRefused old f
 ConformRefused old new (Newer f) = (A : LaidSchema) × IsAccepted old A × IsRefused new f
-ConformRefused old new (Breach b) = (A : LaidSchema) × (B : LaidSchema) × IsAccepted old A × IsAccepted new B × IsFirst A B b
+ConformRefused old new (Breach b) = (A : LaidSchema) × (B : LaidSchema) × IsAccepted old A × IsAccepted new B
+    × IsFirst A B b
 ConformRefused old new _ = ⊥

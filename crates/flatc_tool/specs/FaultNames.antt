@@ -21,7 +21,9 @@ use Rattle.fb_conform.specs.declared.breaches.Breach.TheVariants as the_breach
 use Rattle.flatc_tool.specs.declared.schema_layouts.SchemaTextFault.{SchemaTextFault}
 use Rattle.flatc_tool.specs.declared.schema_layouts.SchemaTextFault.TheVariants as the_texts
 use Rattle.flatc_tool.specs.declared.faults.ToolFault.{ToolFault}
-use Rattle.flatc_tool.specs.declared.faults.ToolFault.TheVariants.{Schema, Json, Build, Read, Text, Write, Breach, Older, Newer, FileRead, FileWrite, FileTooLong, BadJson, Memory}
+use Rattle.flatc_tool.specs.declared.faults.ToolFault.TheVariants.{Schema, Json, Build, Read, Text, Write, Breach}
+use Rattle.flatc_tool.specs.declared.faults.ToolFault.TheVariants.{Older, Newer, FileRead, FileWrite, FileTooLong}
+use Rattle.flatc_tool.specs.declared.faults.ToolFault.TheVariants.{BadJson, Memory}
 
 abbrev pub syntax_name : SyntaxFault → List ℕ
 syntax_name (the_syntax.NotUtf8 at) = codes "NotUtf8"

@@ -11,7 +11,9 @@ use Rattle.fb_conform.specs.BreachNumbers as breaches
 use Rattle.flatc_tool.specs.declared.schema_layouts.SchemaTextFault.{SchemaTextFault}
 use Rattle.flatc_tool.specs.declared.schema_layouts.SchemaTextFault.TheVariants as the_schema
 use Rattle.flatc_tool.specs.declared.faults.ToolFault.{ToolFault}
-use Rattle.flatc_tool.specs.declared.faults.ToolFault.TheVariants.{Schema, Json, Build, Read, Text, Write, Breach, Older, Newer, FileRead, FileWrite, FileTooLong, BadJson, Memory}
+use Rattle.flatc_tool.specs.declared.faults.ToolFault.TheVariants.{Schema, Json, Build, Read, Text, Write, Breach}
+use Rattle.flatc_tool.specs.declared.faults.ToolFault.TheVariants.{Older, Newer, FileRead, FileWrite, FileTooLong}
+use Rattle.flatc_tool.specs.declared.faults.ToolFault.TheVariants.{BadJson, Memory}
 
 abbrev pub schema_number_of : SchemaTextFault → ℕ
 schema_number_of (the_schema.Syntax f) = syntax_faults.number_of f

@@ -11,7 +11,8 @@ use Rattle.fb_conform.specs.BreachNumbers as breaches
 use Rattle.flatc_tool.specs.declared.schema_layouts.SchemaTextFault.{SchemaTextFault}
 use Rattle.flatc_tool.specs.declared.schema_layouts.SchemaTextFault.TheVariants.{Layout}
 use Rattle.flatc_tool.specs.declared.faults.ToolFault.{ToolFault}
-use Rattle.flatc_tool.specs.declared.faults.ToolFault.TheVariants.{Schema, Json, Read, Text, Write, Breach, Older, Newer}
+use Rattle.flatc_tool.specs.declared.faults.ToolFault.TheVariants.{Schema, Json, Read, Text, Write, Breach, Older}
+use Rattle.flatc_tool.specs.declared.faults.ToolFault.TheVariants.{Newer}
 
 -- JSON, values and their texts have declared places, a type and one of its slots
 abbrev pub place_of : ToolFault → Option Place

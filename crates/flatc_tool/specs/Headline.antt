@@ -17,16 +17,20 @@ use Rattle.flatc_tool.specs.Jobs.{JsonMeans, IsBinary, IsText, TextRefused, IsNo
 use Rattle.flatc_tool.specs.Checks.{IsSound, CheckRefused}
 use Rattle.flatc_tool.specs.Prints.{IsSent, PrintRefused}
 use Rattle.flatc_tool.specs.Evolution.{TextsConform}
-use Rattle.flatc_tool.specs.Answers.{TextAnswer, CheckAnswer, ViewAnswer, ValueAnswer, IsTextOrMemory, IsOkOrMemory, IsViewOf, IsValueOrMemory}
+use Rattle.flatc_tool.specs.Answers.{TextAnswer, CheckAnswer, ViewAnswer, ValueAnswer, IsTextOrMemory, IsOkOrMemory}
+use Rattle.flatc_tool.specs.Answers.{IsViewOf, IsValueOrMemory}
 use Rattle.flatc_tool.specs.declared.faults.ToolFault.{ToolFault}
 use Rattle.flatc_tool.specs.declared.faults.ToolFault.TheVariants.{Read}
 
 -- Under a schema text the bytes hold the value, and `to_json` returns its text or runs out of memory.
-pub record HoldsAndPrints (schema : List ℕ) (b : Bytes) (most : Bounds) (raw : Bool) (L : LaidSchema) (v : Datum) : Type 0 where
+pub record HoldsAndPrints (schema : List ℕ) (b : Bytes) (most : Bounds) (raw : Bool) (L : LaidSchema) (v : Datum) : Type
+    0 where
   pub holds : Holds L most raw b v
-  pub printed : (defaults : Bool) (r : Result (List ℕ) ToolFault) → TextAnswer schema b most raw defaults r → IsTextOrMemory (json_text L defaults v) r
+  pub printed : (defaults : Bool) (r : Result (List ℕ) ToolFault) → TextAnswer schema b most raw defaults r
+      → IsTextOrMemory (json_text L defaults v) r
 
--- The value that a JSON text means is whole, it is held by the bytes and no other is, only slots in use have something, each byte belongs
+-- The value that a JSON text means is whole, it is held by the bytes and no other is, only slots in use have something,
+-- each byte belongs
 -- to the value or is one of few zeros, and each call on these bytes returns what is the value's, or runs out of memory.
 pub record CarriesValue (schema : List ℕ) (b : Bytes) (most : Bounds) (L : LaidSchema) (v : Datum) : Type 0 where
   pub whole : is_whole v ≡ true
@@ -37,15 +41,20 @@ pub record CarriesValue (schema : List ℕ) (b : Bytes) (most : Bounds) (L : Lai
   pub checked : (raw : Bool) (r : Result (Unit {0}) ToolFault) → CheckAnswer schema (Some b) most raw r → IsOkOrMemory r
   pub viewed : (raw : Bool) (r : Result View ReadFault) → ViewAnswer L b most raw r → IsViewOf v r
   pub read : (raw : Bool) (r : Result Datum ReadFault) → ValueAnswer L b most raw r → IsValueOrMemory v r
-  -- under any new schema text that conforms, the bytes are those of that value with new fields at defaults and deprecated ones gone
-  pub evolved : (raw : Bool) (new : List ℕ) (K : LaidSchema) → TextsConform schema new → IsAccepted new K → HoldsAndPrints new b most raw K (carry L K v)
+  -- under any new schema text that conforms, the bytes are those of that value with new fields at defaults and
+  -- deprecated ones gone
+  pub evolved : (raw : Bool) (new : List ℕ) (K : LaidSchema) → TextsConform schema new → IsAccepted new K
+      → HoldsAndPrints new b most raw K (carry L K v)
 
 -- JSON that means a value becomes bytes that carry exactly it.
 abbrev pub JsonIsCarried : Type 0
-JsonIsCarried = (schema json : List ℕ) (most : Bounds) (unknown : Bool) (b : Bytes) → IsBinary schema json most unknown b
-    → (L : LaidSchema) → IsAccepted schema L → (v : Datum) → JsonMeans L most unknown json v → CarriesValue schema b most L v
+JsonIsCarried = (schema json : List ℕ) (most : Bounds) (unknown : Bool) (b : Bytes)
+    → IsBinary schema json most unknown b
+    → (L : LaidSchema) → IsAccepted schema L → (v : Datum) → JsonMeans L most unknown json v
+    → CarriesValue schema b most L v
 
--- Where no value lies, the bytes have a least fault; no call has anything to return for them, and none returns another fault.
+-- Where no value lies, the bytes have a least fault; no call has anything to return for them, and none returns another
+-- fault.
 pub record NoneLies (schema : List ℕ) (b : Bytes) (most : Bounds) (raw : Bool) (L : LaidSchema) : Type 0 where
   pub fault : ReadFault
   pub least : IsLeastFault L most raw b fault
@@ -57,8 +66,10 @@ pub record NoneLies (schema : List ℕ) (b : Bytes) (most : Bounds) (raw : Bool)
   pub checked : (f : ToolFault) → CheckRefused schema (Some b) most raw f → IsNotMemory f → f ≡ Read fault
   -- `print_to`
   pub unsent : (defaults : Bool) (start known : Option (List ℕ)) → ¬ IsSent schema b most raw defaults start known
-  pub printed : (defaults : Bool) (start known : Option (List ℕ)) (f : ToolFault) → PrintRefused schema b most raw defaults start known f → IsNotMemory f → f ≡ Read fault
+  pub printed : (defaults : Bool) (start known : Option (List ℕ)) (f : ToolFault)
+      → PrintRefused schema b most raw defaults start known f → IsNotMemory f → f ≡ Read fault
 
 -- Bytes in which no value lies are refused with their least fault.
 abbrev pub OthersAreRefused : Type 0
-OthersAreRefused = (schema : List ℕ) (b : Bytes) (most : Bounds) (raw : Bool) (L : LaidSchema) → IsAccepted schema L → ((v : Datum) → ¬ Holds L most raw b v) → NoneLies schema b most raw L
+OthersAreRefused = (schema : List ℕ) (b : Bytes) (most : Bounds) (raw : Bool) (L : LaidSchema) → IsAccepted schema L
+    → ((v : Datum) → ¬ Holds L most raw b v) → NoneLies schema b most raw L

@@ -25,7 +25,8 @@ use Rattle.fb_build.specs.declared.faults.BuildFault.TheVariants as the_build
 use Rattle.flatc_tool.specs.SchemaTexts.{IsAccepted, IsRefused, IsWant}
 use Rattle.flatc_tool.specs.JsonText.{IsTree}
 use Rattle.flatc_tool.specs.declared.faults.ToolFault.{ToolFault}
-use Rattle.flatc_tool.specs.declared.faults.ToolFault.TheVariants.{Schema, Json, Build, Read, Text, Older, Newer, BadJson, Memory}
+use Rattle.flatc_tool.specs.declared.faults.ToolFault.TheVariants.{Schema, Json, Build, Read, Text, Older, Newer}
+use Rattle.flatc_tool.specs.declared.faults.ToolFault.TheVariants.{BadJson, Memory}
 
 -- ---- JSON to a buffer
 
@@ -37,7 +38,8 @@ JsonMeans L most unknown json v = (t : Data) × IsTree json t × Means L most un
 abbrev pub most_room : ℕ
 most_room = 2147483647
 
--- The bytes of a JSON text: exactly the value that it means lies in them, only slots in use have something, each byte belongs to the value or is one of few zeros, and they are no longer than its room.
+-- The bytes of a JSON text: exactly the value that it means lies in them, only slots in use have something, each byte
+-- belongs to the value or is one of few zeros, and they are no longer than its room.
 pub record IsBinary (schema json : List ℕ) (most : Bounds) (unknown : Bool) (b : Bytes) : Type 0 where
   pub layout : LaidSchema
   pub accepted : IsAccepted schema layout
@@ -70,8 +72,10 @@ TreeRefused L most unknown t f = refused_trees.Refuses L most unknown t f × ((v
 abbrev pub BinaryRefused : List ℕ → List ℕ → Bounds → Bool → ToolFault → Type 0
 BinaryRefused schema json most unknown (Schema f) = IsRefused schema f
 BinaryRefused schema json most unknown BadJson = (L : LaidSchema) × IsAccepted schema L × ((t : Data) → ¬ IsTree json t)
-BinaryRefused schema json most unknown (Json f) = (L : LaidSchema) × IsAccepted schema L × (t : Data) × IsTree json t × TreeRefused L most unknown t f
-BinaryRefused schema json most unknown (Build the_build.TooBig) = (L : LaidSchema) × IsAccepted schema L × (v : Datum) × JsonMeans L most unknown json v × (most_room < room_of L v)
+BinaryRefused schema json most unknown (Json f) = (L : LaidSchema) × IsAccepted schema L × (t : Data) × IsTree json t
+    × TreeRefused L most unknown t f
+BinaryRefused schema json most unknown (Build the_build.TooBig) = (L : LaidSchema) × IsAccepted schema L × (v : Datum)
+    × JsonMeans L most unknown json v × (most_room < room_of L v)
 BinaryRefused schema json most unknown (Build the_build.Memory) = MayBeBinary schema json most unknown
 BinaryRefused schema json most unknown Memory = (L : LaidSchema) × IsAccepted schema L
 BinaryRefused schema json most unknown _ = ⊥
@@ -104,7 +108,8 @@ BytesRefused schema b most raw f = (L : LaidSchema) × IsAccepted schema L × Re
 abbrev pub TextRefused : List ℕ → Bytes → Bounds → Bool → ToolFault → Type 0
 TextRefused schema b most raw (Schema f) = IsRefused schema f
 TextRefused schema b most raw (Read f) = BytesRefused schema b most raw f
-TextRefused schema b most raw (Text f) = (L : LaidSchema) × IsAccepted schema L × (v : Datum) × Holds L most raw b v × IsUnnamed (type_place L.schema.root) v f
+TextRefused schema b most raw (Text f) = (L : LaidSchema) × IsAccepted schema L × (v : Datum) × Holds L most raw b v
+    × IsUnnamed (type_place L.schema.root) v f
 TextRefused schema b most raw _ = ⊥
 
 -- ---- memory

@@ -19,17 +19,21 @@ use Rattle.flatc_tool.specs.declared.faults.ToolFault.TheVariants.{Schema, Read,
 
 -- All of the text of the bytes, which is UTF-8, was written behind the bytes of the start.
 abbrev pub IsSent : List ℕ → Bytes → Bounds → Bool → Bool → Option (List ℕ) → Option (List ℕ) → Type 0
-IsSent schema b most raw defaults start known = (text : List ℕ) × IsText schema b most raw defaults text × IsUtf8 text × Appends start known text
+IsSent schema b most raw defaults start known = (text : List ℕ) × IsText schema b most raw defaults text × IsUtf8 text
+    × Appends start known text
 
--- The refusal of the schema, the least fault of the bytes, or the first union's code without a name; else a write failed behind
+-- The refusal of the schema, the least fault of the bytes, or the first union's code without a name; else a write
+-- failed behind
 -- the first bytes of the text, as many as it counts.
 abbrev pub PrintRefused : List ℕ → Bytes → Bounds → Bool → Bool → Option (List ℕ) → Option (List ℕ) → ToolFault → Type 0
 PrintRefused schema b most raw defaults start known (Schema f) = IsRefused schema f
 PrintRefused schema b most raw defaults start known (Read f) = BytesRefused schema b most raw f
 PrintRefused schema b most raw defaults start known (Write (NoMemberName at)) =
-    (L : LaidSchema) × IsAccepted schema L × (v : Datum) × Holds L most raw b v × IsUnnamed (type_place L.schema.root) v (the_text.NoMemberName at)
+    (L : LaidSchema) × IsAccepted schema L × (v : Datum) × Holds L most raw b v × IsUnnamed (type_place L.schema.root) v
+    (the_text.NoMemberName at)
 PrintRefused schema b most raw defaults start known (Write (WriteFailed n)) =
-    (text : List ℕ) × IsText schema b most raw defaults text × (m : ℕ) × (m < length text) × Appends start known (take m text) × (n ≡ counted m)
+    (text : List ℕ) × IsText schema b most raw defaults text × (m : ℕ) × (m < length text)
+    × Appends start known (take m text) × (n ≡ counted m)
 PrintRefused schema b most raw defaults start known _ = ⊥
 
 -- a failed write is told exactly where the last write failed

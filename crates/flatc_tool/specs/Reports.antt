@@ -14,4 +14,5 @@ IsLineOf f line = (line ≡ ended (line_of f)) ⊎ (line ≡ ended (codes "114 M
 
 -- The line of a fault was written, or its first bytes and then a write failed.
 abbrev pub IsTold : ToolFault → Option (List ℕ) → Option (List ℕ) → Type 0
-IsTold f start known = (line : List ℕ) × IsLineOf f line × (m : ℕ) × (m ≤ length line) × Appends start known (take m line)
+IsTold f start known = (line : List ℕ) × IsLineOf f line × (m : ℕ) × (m ≤ length line)
+    × Appends start known (take m line)

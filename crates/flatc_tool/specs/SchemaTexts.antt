@@ -33,13 +33,16 @@ ForEachText L P = (text : List ℕ) → IsAccepted text L → P text
 abbrev pub IsSyntaxRefused : List ℕ → SyntaxFault → Type 0
 IsSyntaxRefused text (syntax_faults.NotUtf8 at) = (¬ (IsUtf8 text)) × (at ≡ utf8_valid_len text)
 IsSyntaxRefused text syntax_faults.Memory = IsUtf8 text
-IsSyntaxRefused text f = IsUtf8 text × IsToldOfNoTokens text f × IsToldOfTokens text f × StandsWithin (length text) f × ((d : DeclsRead) → ¬ (Parses text d))
+IsSyntaxRefused text f = IsUtf8 text × IsToldOfNoTokens text f × IsToldOfTokens text f × StandsWithin (length text) f
+    × ((d : DeclsRead) → ¬ (Parses text d))
 
 -- The first layer that refuses: the layers before it have passed. Of the faults of declarations the least is told.
 abbrev pub IsRefused : List ℕ → SchemaTextFault → Type 0
 IsRefused text (Syntax f) = IsSyntaxRefused text f
-IsRefused text (Schema f) = (d : DeclsRead) × Parses text d × (f ≢ schema_faults.Memory → least_of (faults_of d) ≡ Some f)
-IsRefused text (Layout f) = (d : DeclsRead) × (S : DeclaredSchema) × Parses text d × Declares d S × (f ≢ layout_faults.Memory → Refuses S f)
+IsRefused text (Schema f) = (d : DeclsRead) × Parses text d
+    × (f ≢ schema_faults.Memory → least_of (faults_of d) ≡ Some f)
+IsRefused text (Layout f) = (d : DeclsRead) × (S : DeclaredSchema) × Parses text d × Declares d S
+    × (f ≢ layout_faults.Memory → Refuses S f)
 
 -- a want of memory in one of the layers
 abbrev pub IsWant : SchemaTextFault → Type 0

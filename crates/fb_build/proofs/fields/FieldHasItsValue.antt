@@ -26,9 +26,9 @@ use Rattle.fb_build.specs.Tails.{TailSeen, Grows, LaidInTail}
 use Rattle.fb_build.specs.Fields.{SlotFits, StoredFits, member_target, scalar_in, number_in, above, from, is_at}
 use Rattle.fb_build.specs.Fields.{is_stored, differs, IsDefault, TargetEnd, StoredEnd, EntryEnd, EntriesEnd, sort_for}
 use Rattle.fb_build.specs.Fields.{target_for}
-use Rattle.fb_value.proofs.Moved.{hold, no_rules}
+use Rattle.fb_value.proofs.RulesHoldOneByOne.{hold, no_rules}
 use Rattle.fb_build.proofs.numbers.NumberReadsBack.{num_first}
-use Rattle.fb_value.proofs.TailsKept.{front_shown, old_shown}
+use Rattle.fb_value.proofs.TailsAreKeptInFront.{front_shown, old_shown}
 use Rattle.fb_build.specs.CoveredTails.{IsTightInTail, TightInTail, InlineInTail}
 use Rattle.fb_build.specs.Stored.{IsBit}
 use Rattle.fb_build.specs.InlineBytes.{IsTightInline, EachInline, EachInlineAt}

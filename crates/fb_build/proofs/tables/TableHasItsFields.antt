@@ -24,7 +24,7 @@ use Rattle.fb_build.specs.CoveredTails.{IsTightInTail}
 use Rattle.fb_build.specs.InlineBytes.{IsTightInline, EachInline, EachInlineAt, EachInlineNamed, EachInlineEntry}
 use Rattle.fb_build.specs.TableBytes.{offset_from}
 use Rattle.fb_build.proofs.fields.FieldHasItsValue.{default_known}
-use Rattle.fb_value.proofs.Moved.{hold, no_rules}
+use Rattle.fb_value.proofs.RulesHoldOneByOne.{hold, no_rules}
 use Rattle.fb_build.proofs.fields.PassTakesOneSlot.{in_mapped}
 use Rattle.fb_build.specs.Paired.{ArePaired}
 

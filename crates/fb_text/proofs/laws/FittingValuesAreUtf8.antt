@@ -1,8 +1,10 @@
 -- The texts in a value that fits are UTF-8.
 use Rattle.std.proofs.Common.{List, [], ◌∷◌, Option, None, Some, slice_get}
-use Rattle.fb_layout.specs.Laid.{LaidSchema, Slot, StoredKind, scalar_kind, struct_kind, table_kind, union_kind, text_kind, StoredShape, one_of, vector_of, slots_of, parts_of}
-use Rattle.fb_value.specs.Datum.{Datum, a_number, a_text, a_vector, a_struct, a_table, a_member, an_unknown, Parts, no_parts, more_parts, SlotEntries, no_entries, absent_entry, present_entry}
-use Rattle.fb_json.proofs.Utf8Texts.{HasUtf8, HaveUtf8, EntriesHaveUtf8}
+use Rattle.fb_layout.specs.Laid.{LaidSchema, Slot, StoredKind, scalar_kind, struct_kind, table_kind, union_kind}
+use Rattle.fb_layout.specs.Laid.{text_kind, StoredShape, one_of, vector_of, slots_of, parts_of}
+use Rattle.fb_value.specs.Datum.{Datum, a_number, a_text, a_vector, a_struct, a_table, a_member, an_unknown, Parts}
+use Rattle.fb_value.specs.Datum.{no_parts, more_parts, SlotEntries, no_entries, absent_entry, present_entry}
+use Rattle.fb_json.proofs.ValueTextsAreUtf8.{HasUtf8, HaveUtf8, EntriesHaveUtf8}
 use Rattle.fb_value.specs.Fits.{Fits, PartsFit, EachFits, EntriesFit, FitsKind, FitsRoot, kind_of_type}
 
 module _ (L : LaidSchema) where

@@ -1,7 +1,7 @@
 use Rattle.std.proofs.Common.{option_map, ◌∙◌, sym, ap}
 use Rattle.fb_schema.specs.Schema.{DeclaredSchema}
 use Rattle.fb_conform.specs.Twins.{twin, Twins}
-use Rattle.fb_conform.proofs.OfType.{type_told}
+use Rattle.fb_conform.proofs.bodies.BreachOfBodiesIsTheTypes.{type_told}
 use Rattle.fb_conform.proofs.bodies.type_breach.Goals as goal
 
 pub returns-in-Some : goal.returns-in-Some

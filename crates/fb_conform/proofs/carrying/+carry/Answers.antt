@@ -4,19 +4,22 @@ use Rattle.fb_layout.specs.Laid.{slot_of, slots_of}
 use Rattle.fb_value.specs.Datum.{a_table}
 use Rattle.fb_value.specs.View.{view, entries_view}
 use Rattle.fb_value.specs.declared.values.Value.{Value}
-use Rattle.fb_value.proofs.Views.{view-Fields}
+use Rattle.fb_value.proofs.EachVariantHasItsView.{view-Fields}
 use Rattle.fb_conform.specs.Carry.{carry_slots}
-use Rattle.fb_conform.proofs.Entries.{SoFar, one_carried, one_default, all_done, all_parts}
+use Rattle.fb_conform.proofs.carrying.EntriesAreCarriedInOrder.{SoFar, one_carried, one_default, all_done, all_parts}
 use Rattle.fb_conform.proofs.carrying.+carry.Goals as goal
 use Rattle.fb_conform.proofs.carrying.+carry.Goals.{carry_entries-then-i-len+in_ok-entry, carry_entries-else-i-len}
 
 pub carry_entries-returns : goal.carry_entries-returns
 carry_entries-returns t c =
-    all_done c.args.versions.before.now c.args.versions.after.now c.args.slots.now c.args.entries.now.items c.loop-i.i c.loop-i.carried.items (grind (arith, c.loop-i-test.false)) c.loop-i.invariant
+    all_done c.args.versions.before.now c.args.versions.after.now c.args.slots.now c.args.entries.now.items c.loop-i.i
+    c.loop-i.carried.items (grind (arith, c.loop-i-test.false)) c.loop-i.invariant
 
 pub carry_parts-returns : goal.carry_parts-returns
 carry_parts-returns t c =
-    all_parts c.args.versions.before.now c.args.versions.after.now c.args.parts.now.items c.loop-part.carried.items c.loop-part.part-index (grind (arith, c.loop-part-test.false, c.deref-part-items.ensures.value)) c.loop-part.invariant
+    all_parts c.args.versions.before.now c.args.versions.after.now c.args.parts.now c.loop-part.carried.items
+    c.loop-part.part-index (grind (arith, c.loop-part-test.false))
+    c.loop-part.invariant
 
 pub carry_entries-loop-i-preserved : goal.carry_entries-loop-i-preserved
 carry_entries-loop-i-preserved t c =
@@ -27,12 +30,16 @@ carry_entries-loop-i-preserved t c =
     let i = c.loop-i.i in
     subst (λ (xs : List (Option Value)). SoFar A B slots es (i + 1) xs) (sym c.in_ok-push.ensures.items)
     (elim c.if-i-len.branch [
-      | carry_entries-then-i-len+in_ok-entry w ↦ one_carried A B slots es i w.index-slots-i.result w.index.result.now c.if-i-len.entry c.loop-i.carried.items
+      | carry_entries-then-i-len+in_ok-entry w ↦ one_carried A B slots es i w.index-slots-i.result w.index.result.now
+          c.if-i-len.entry c.loop-i.carried.items
           (slice_get_read slots (length slots) i w.index-slots-i.result refl c.loop-i-test.true w.index-slots-i.is)
-          (slice_get_read es (length es) i w.index.result.now refl (grind (arith, w.if-i-len.true, c.len.ensures)) w.index.ensures)
+          (slice_get_read es (length es) i w.index.result.now refl (grind (arith, w.if-i-len.true, c.len.ensures))
+          w.index.ensures)
           (ap (option_map view) w.entry-is ∙ w.in_ok-entry.ensures) c.loop-i.invariant
-      | carry_entries-else-i-len w ↦ one_default A B slots es i w.index-slots-i-else-i-len.result c.if-i-len.entry c.loop-i.carried.items
-          (slice_get_read slots (length slots) i w.index-slots-i-else-i-len.result refl c.loop-i-test.true w.index-slots-i-else-i-len.is)
+      | carry_entries-else-i-len w ↦ one_default A B slots es i w.index-slots-i-else-i-len.result c.if-i-len.entry
+          c.loop-i.carried.items
+          (slice_get_read slots (length slots) i w.index-slots-i-else-i-len.result refl c.loop-i-test.true
+          w.index-slots-i-else-i-len.is)
           (slice_get_past es i (grind (arith, w.if-i-len.false, c.len.ensures)))
           (ap (option_map view) w.entry-is ∙ w.default_entry-entry.ensures B.schema) c.loop-i.invariant
     ])
@@ -43,6 +50,13 @@ carry_in-returns-in_ok-carry_entries-in-Fields t c =
     let B = c.args.versions.after.now in
     let id = c.in-Fields.type_id in
     let entries = c.in-Fields.entries in
-    rw (c.in-Fields.is, view-Fields id entries, view-Fields c.new_number-new_id.result c.in_ok-carry_entries-in-Fields.field-0)
-    (ap (a_table c.new_number-new_id.result.0) (c.in_ok-carry_entries-in-Fields.ensures ∙ ap (λ fs. carry_slots A B (map (slot_of B.schema) fs) (entries_view entries.items)) c.slots_of-slots.ensures.slots)
+    rw (
+      c.in-Fields.is,
+      view-Fields id entries,
+      view-Fields c.new_number-new_id.result c.in_ok-carry_entries-in-Fields.field-0,
+    )
+    (ap (a_table c.new_number-new_id.result.0)
+    (c.in_ok-carry_entries-in-Fields.ensures
+    ∙ ap (λ fs. carry_slots A B (map (slot_of B.schema) fs) (entries_view entries.items))
+    c.slots_of-slots.ensures.slots)
     ∙ ap (λ u. a_table u (carry_slots A B (slots_of B u) (entries_view entries.items))) c.new_number-new_id.ensures)

@@ -1,4 +1,4 @@
-use Rattle.fb_conform.proofs.FirstBreach.{KeptBelow}
+use Rattle.fb_conform.proofs.conforming.BreachIsTheFirst.{KeptBelow}
 use Rattle.fb_conform.proofs.conforming.conform.Given as goal
 
 abbrev pub invariant-loop-i : goal.invariant-loop-i

@@ -1,4 +1,4 @@
-use Rattle.fb_conform.proofs.CarriedFits.{carried_fits}
+use Rattle.fb_conform.proofs.laws.CarriedFitsTheNewRoot.{carried_fits}
 use Rattle.fb_conform.proofs.laws.carried_fits.Goals as goal
 
 pub returns : goal.returns

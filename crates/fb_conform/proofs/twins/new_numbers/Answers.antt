@@ -5,13 +5,17 @@ use Rattle.fb_schema.specs.Schema.{DeclaredSchema}
 use Rattle.fb_schema.specs.Seen.{type_seen}
 use Rattle.fb_schema.specs.declared.kinds.TypeId.{TypeId}
 use Rattle.fb_conform.specs.Twins.{twin, to_new}
-use Rattle.fb_conform.proofs.Numbered.{Numbered, numbered_more, numbered_all}
+use Rattle.fb_conform.proofs.twins.NewNumbersAreListedInOrder.{Numbered, numbered_more, numbered_all}
 use Rattle.fb_conform.proofs.twins.new_numbers.Goals as goal
 
 pub loop-i-init : goal.loop-i-init
 loop-i-init c =
     let none : c.in_ok-numbers.numbers.items ≡ [] = c.in_ok-numbers.ensures.items in
-    record { many = ap length none; numbered = subst (λ (xs : List TypeId). Numbered c.args.old.now c.args.new.now xs) (sym none) (λ t less. let bad : t < 0 = less in absurd (omega (arith, bad))) }
+    record {
+      many = ap length none;
+      numbered = subst (λ (xs : List TypeId). Numbered c.args.old.now c.args.new.now xs)
+          (sym none) (λ t less. let bad : t < 0 = less in absurd (omega (arith, bad)));
+    }
 
 pub loop-i-preserved : goal.loop-i-preserved
 loop-i-preserved c =
@@ -30,13 +34,16 @@ loop-i-preserved c =
     in
     record {
       many = ap length more ∙ omega (arith, long, c.loop-i.invariant.many);
-      numbered = subst (λ (ys : List TypeId). Numbered c.args.old.now c.args.new.now ys) (sym more) (numbered_more c.args.old.now c.args.new.now xs x number c.loop-i.invariant.numbered);
+      numbered = subst (λ (ys : List TypeId). Numbered c.args.old.now c.args.new.now ys) (sym more)
+          (numbered_more c.args.old.now c.args.new.now xs x number c.loop-i.invariant.numbered);
     }
 
 pub returns : goal.returns
 returns c =
     let long = length-map c.types-types.result.now type_seen in
     let types : map type_seen c.types-types.result.now ≡ c.schema-was.result.now.types = c.types-types.ensures.types in
-    let all : length c.schema-was.result.now.types ≡ length c.args.old.now.schema.types = ap (λ (S : DeclaredSchema). length S.types) c.schema-was.ensures.schema in
+    let all : length c.schema-was.result.now.types ≡ length c.args.old.now.schema.types =
+    ap (λ (S : DeclaredSchema). length S.types) c.schema-was.ensures.schema in
     numbered_all c.args.old.now c.args.new.now c.loop-i.numbers.items
-    (omega (arith, long, ap length types, all, c.loop-i.invariant.many, c.loop-i-test.false, c.loop-i.auto)) c.loop-i.invariant.numbered
+    (omega (arith, long, ap length types, all, c.loop-i.invariant.many, c.loop-i-test.false, c.loop-i.auto))
+    c.loop-i.invariant.numbered

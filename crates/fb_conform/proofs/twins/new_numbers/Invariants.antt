@@ -1,5 +1,5 @@
 use Rattle.std.proofs.Common.{◌≡◌, length}
-use Rattle.fb_conform.proofs.Numbered.{Numbered}
+use Rattle.fb_conform.proofs.twins.NewNumbersAreListedInOrder.{Numbered}
 use Rattle.fb_conform.proofs.twins.new_numbers.Given as goal
 
 abbrev pub invariant-loop-i : goal.invariant-loop-i

@@ -7,7 +7,8 @@ use Rattle.fb_json.proofs.enums.flags_of.Given as goal
 abbrev pub invariant-loop-name : goal.invariant-loop-name
 invariant-loop-name l = record {
   utf8 : IsUtf8 l.left;
-  so_far : flags_named (number_by_path l.schema l.enumeration.0) l.flags (words l.left) ≡ flags_named (number_by_path l.schema l.enumeration.0) (pos 0) (words l.names);
+  so_far : flags_named (number_by_path l.schema l.enumeration.0) l.flags (words l.left)
+      ≡ flags_named (number_by_path l.schema l.enumeration.0) (pos 0) (words l.names);
 }
 
 abbrev pub decreases-loop-name : goal.decreases-loop-name

@@ -9,14 +9,22 @@ use Rattle.fb_json.proofs.tree.+tree.Given as goal
 abbrev pub invariant-items-loop-element : goal.invariant-items-loop-element
 invariant-items-loop-element l =
     items_meant l.source.layout.now l.source.unknown (items_view l.elements.items) l.kind l.place l.levels l.fn.left
-    ≡ after (map view l.found.items) (items_meant l.source.layout.now l.source.unknown (items_view (drop l.element-index l.elements.items)) l.kind l.place l.levels l.left)
+    ≡ after (map view l.found.items)
+    (items_meant l.source.layout.now l.source.unknown (items_view (drop l.element-index l.elements.items)) l.kind
+    l.place l.levels l.left)
 
 abbrev pub invariant-entries-loop-k : goal.invariant-entries-loop-k
 invariant-entries-loop-k l =
-    slots_meant l.source.layout.now (look l.source.layout.now l.source.unknown (members_view l.members.entries)) l.owner.0 (map field_seen l.slots) 0 0 l.levels l.fn.left
-    ≡ after (map (option_map view) l.found.items) (slots_meant l.source.layout.now (look l.source.layout.now l.source.unknown (members_view l.members.entries)) l.owner.0 (map field_seen (drop l.k l.slots)) l.k l.code l.levels l.left)
+    slots_meant l.source.layout.now (look l.source.layout.now l.source.unknown (members_view l.members.entries))
+    l.owner.0 (map field_seen l.slots) 0 0 l.levels l.fn.left
+    ≡ after (map (option_map view) l.found.items)
+    (slots_meant l.source.layout.now (look l.source.layout.now l.source.unknown (members_view l.members.entries))
+    l.owner.0 (map field_seen (drop l.k l.slots)) l.k l.code l.levels l.left)
 
 abbrev pub invariant-parts-loop-k : goal.invariant-parts-loop-k
 invariant-parts-loop-k l =
-    parts_meant (look l.source.layout.now l.source.unknown (members_view l.members.entries)) l.owner.0 (map field_seen l.fields) 0 l.levels l.fn.left
-    ≡ after (map view l.found.items) (parts_meant (look l.source.layout.now l.source.unknown (members_view l.members.entries)) l.owner.0 (map field_seen (drop l.k l.fields)) l.k l.levels l.left)
+    parts_meant (look l.source.layout.now l.source.unknown (members_view l.members.entries)) l.owner.0
+    (map field_seen l.fields) 0 l.levels l.fn.left
+    ≡ after (map view l.found.items)
+    (parts_meant (look l.source.layout.now l.source.unknown (members_view l.members.entries)) l.owner.0
+    (map field_seen (drop l.k l.fields)) l.k l.levels l.left)

@@ -6,5 +6,8 @@ use Rattle.fb_layout.specs.Known.{sizes_seen}
 use Rattle.fb_layout.proofs.greatest.structs_align.Given as goal
 
 abbrev pub invariant-loop-sizes : goal.invariant-loop-sizes
-invariant-loop-sizes l = max l.greatest (greatest_in (map (λ r. r.align) (map (λ s. unwrap_or s no_struct) (map (option_map sizes_seen) (drop l.sizes-index l.structs)))))
+invariant-loop-sizes l =
+    max l.greatest (greatest_in
+    (map (λ r. r.align) (map (λ s. unwrap_or s no_struct)
+    (map (option_map sizes_seen) (drop l.sizes-index l.structs)))))
     ≡ greatest_in (map (λ r. r.align) (map (λ s. unwrap_or s no_struct) (map (option_map sizes_seen) l.structs)))

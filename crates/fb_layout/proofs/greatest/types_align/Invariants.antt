@@ -7,4 +7,5 @@ use Rattle.fb_layout.proofs.greatest.types_align.Given as goal
 
 abbrev pub invariant-loop-info : goal.invariant-loop-info
 invariant-loop-info l = let align = slots_align (layout_known l.schema (map (option_map sizes_seen) l.structs)) in
-    max l.greatest (greatest_in (map align (map type_seen (drop l.info-index l.types)))) ≡ greatest_in (map align (map type_seen l.types))
+    max l.greatest (greatest_in (map align (map type_seen (drop l.info-index l.types))))
+    ≡ greatest_in (map align (map type_seen l.types))

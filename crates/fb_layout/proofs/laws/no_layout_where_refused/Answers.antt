@@ -1,4 +1,4 @@
-use Rattle.fb_layout.proofs.OneSizing.{no_layout}
+use Rattle.fb_layout.proofs.laws.SchemaHasOneLayout.{no_layout}
 use Rattle.fb_layout.proofs.laws.no_layout_where_refused.Goals as goal
 
 pub returns : goal.returns

@@ -4,49 +4,63 @@ use Rattle.fb_layout.specs.Widths.{greatest}
 use Rattle.fb_layout.specs.WellMade.{IsWellMade}
 use Rattle.fb_layout.specs.Laid.{LaidSchema}
 use Rattle.fb_layout.specs.Known.{no_table, sizes_seen, known_from, tables_from, layout_known}
-use Rattle.fb_layout.proofs.LaidOut.{refused_for, made_for}
-use Rattle.fb_layout.proofs.OneSizing.{no_layout}
-use Rattle.fb_layout.proofs.FirstFault.{table_at}
-use Rattle.fb_layout.proofs.RequiredNumbers.{small_numbers}
+use Rattle.fb_layout.proofs.layouts.LayoutIsWellMadeOrRefused.{refused_for, made_for}
+use Rattle.fb_layout.proofs.laws.SchemaHasOneLayout.{no_layout}
+use Rattle.fb_layout.proofs.layouts.SizesOrTheFirstFault.{table_at}
+use Rattle.fb_layout.proofs.RequiredSlotsAreNumbered.{small_numbers}
 use Rattle.fb_layout.proofs.layouts.lay.Goals as goal
 
 pub returns-in-Err-clause-fault : goal.returns-in-Err-clause-fault
 returns-in-Err-clause-fault c no_memory =
     let S = c.args.schema in
-    let seen : map (option_map sizes_seen) c.as_slice.result.now ≡ known_from S [] S.types = ap (map (option_map sizes_seen)) c.as_slice.ensures.value ∙ c.in-Ok.ensures in
-    refused_for S c.tables_of.ensures.declared c.in-Err.fault (ap (λ k. tables_from S k 0 S.types) (sym seen) ∙ c.in-Err.ensures.fault no_memory)
+    let seen : map (option_map sizes_seen) c.as_slice.result.now ≡ known_from S [] S.types =
+    ap (map (option_map sizes_seen)) c.as_slice.ensures.value ∙ c.in-Ok.ensures in
+    refused_for S c.tables_of.ensures.declared c.in-Err.fault (ap (λ k. tables_from S k 0 S.types) (sym seen)
+    ∙ c.in-Err.ensures.fault no_memory)
 
 pub invariant_of-result : goal.invariant_of-result
 invariant_of-result c =
     let S = c.args.schema in
     let items : map (option_map sizes_seen) c.in-Ok.structs.items ≡ known_from S [] S.types = c.in-Ok.ensures in
-    let seen : map (option_map sizes_seen) c.as_slice.result.now ≡ known_from S [] S.types = ap (map (option_map sizes_seen)) c.as_slice.ensures.value ∙ items in
-    let is = made_for S c.tables_of.ensures.declared c.in-Ok-tables_of.tables.items (ap (λ k. tables_from S k 0 S.types) (sym seen) ∙ c.in-Ok-tables_of.ensures.sizes) in
-    let same : layout_known S (known_from S [] S.types) ≡ layout_known S (map (option_map sizes_seen) c.in-Ok.structs.items) = ap (layout_known S) (sym items) in
+    let seen : map (option_map sizes_seen) c.as_slice.result.now ≡ known_from S [] S.types =
+    ap (map (option_map sizes_seen)) c.as_slice.ensures.value ∙ items in
+    let is = made_for S c.tables_of.ensures.declared c.in-Ok-tables_of.tables.items
+    (ap (λ k. tables_from S k 0 S.types) (sym seen) ∙ c.in-Ok-tables_of.ensures.sizes) in
+    let same : layout_known S (known_from S [] S.types)
+    ≡ layout_known S (map (option_map sizes_seen) c.in-Ok.structs.items) = ap (layout_known S) (sym items) in
     record {
       made = subst IsWellMade same is.made;
-      tables = subst (λ (L : LaidSchema). (t : ℕ) → slice_index_or c.in-Ok-tables_of.tables.items t no_table ≡ table_at L t) same is.tables;
+      tables = subst (λ (L : LaidSchema). (t : ℕ) → slice_index_or c.in-Ok-tables_of.tables.items t no_table
+          ≡ table_at L t) same is.tables;
       required = c.in-Ok-required_of.ensures;
-      greatest = c.greatest-greatest.ensures ∙ ap (λ s. greatest (layout_known S (map (option_map sizes_seen) s))) c.as_slice-2.ensures.value;
+      greatest = c.greatest-greatest.ensures ∙ ap (λ s. greatest (layout_known S (map (option_map sizes_seen) s)))
+          c.as_slice-2.ensures.value;
     }
 
 pub returns-clause-made : goal.returns-clause-made
 returns-clause-made c =
     let S = c.args.schema in
     let items : map (option_map sizes_seen) c.in-Ok.structs.items ≡ known_from S [] S.types = c.in-Ok.ensures in
-    let seen : map (option_map sizes_seen) c.as_slice.result.now ≡ known_from S [] S.types = ap (map (option_map sizes_seen)) c.as_slice.ensures.value ∙ items in
-    let is = made_for S c.tables_of.ensures.declared c.in-Ok-tables_of.tables.items (ap (λ k. tables_from S k 0 S.types) (sym seen) ∙ c.in-Ok-tables_of.ensures.sizes) in
+    let seen : map (option_map sizes_seen) c.as_slice.result.now ≡ known_from S [] S.types =
+    ap (map (option_map sizes_seen)) c.as_slice.ensures.value ∙ items in
+    let is = made_for S c.tables_of.ensures.declared c.in-Ok-tables_of.tables.items
+    (ap (λ k. tables_from S k 0 S.types) (sym seen) ∙ c.in-Ok-tables_of.ensures.sizes) in
     subst IsWellMade (ap (layout_known S) (sym items)) is.made
 
 pub returns-in-Err-clause-exact : goal.returns-in-Err-clause-exact
 returns-in-Err-clause-exact c no_memory =
     let S = c.args.schema in
-    let seen : map (option_map sizes_seen) c.as_slice.result.now ≡ known_from S [] S.types = ap (map (option_map sizes_seen)) c.as_slice.ensures.value ∙ c.in-Ok.ensures in
-    no_layout S c.in-Err.fault (refused_for S c.tables_of.ensures.declared c.in-Err.fault (ap (λ k. tables_from S k 0 S.types) (sym seen) ∙ c.in-Err.ensures.fault no_memory))
+    let seen : map (option_map sizes_seen) c.as_slice.result.now ≡ known_from S [] S.types =
+    ap (map (option_map sizes_seen)) c.as_slice.ensures.value ∙ c.in-Ok.ensures in
+    no_layout S c.in-Err.fault
+    (refused_for S c.tables_of.ensures.declared c.in-Err.fault (ap (λ k. tables_from S k 0 S.types) (sym seen)
+    ∙ c.in-Err.ensures.fault no_memory))
 
 pub required_of-requires : goal.required_of-requires
 required_of-requires c =
     let S = c.args.schema in
-    let seen : map (option_map sizes_seen) c.as_slice.result.now ≡ known_from S [] S.types = ap (map (option_map sizes_seen)) c.as_slice.ensures.value ∙ c.in-Ok.ensures in
-    let is = made_for S c.tables_of.ensures.declared c.in-Ok-tables_of.tables.items (ap (λ k. tables_from S k 0 S.types) (sym seen) ∙ c.in-Ok-tables_of.ensures.sizes) in
+    let seen : map (option_map sizes_seen) c.as_slice.result.now ≡ known_from S [] S.types =
+    ap (map (option_map sizes_seen)) c.as_slice.ensures.value ∙ c.in-Ok.ensures in
+    let is = made_for S c.tables_of.ensures.declared c.in-Ok-tables_of.tables.items
+    (ap (λ k. tables_from S k 0 S.types) (sym seen) ∙ c.in-Ok-tables_of.ensures.sizes) in
     small_numbers (layout_known S (known_from S [] S.types)) is.made

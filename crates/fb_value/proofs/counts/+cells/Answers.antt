@@ -1,7 +1,7 @@
 use Rattle.std.proofs.Common.{◌+◌, ◌<◌, ◌^◌, ℕ, arith}
 use Rattle.std.proofs.lemmas.List.{drop_all}
 use Rattle.std.proofs.lemmas.Grind.{common_steps}
-use Rattle.fb_value.proofs.Views.{view-Items, view-Fields, count-parts_view}
+use Rattle.fb_value.proofs.EachVariantHasItsView.{view-Items, view-Fields, count-parts_view}
 use Rattle.fb_value.specs.View.{entries_view}
 use Rattle.fb_value.specs.Counts.{entries_cells}
 use Rattle.fb_value.proofs.counts.+cells.Goals as goal
@@ -10,11 +10,15 @@ not_below : (n : ℕ) → (n < 2 ^ 32 → ⊥) → 1 + n < 2 ^ 32 → ⊥
 not_below n over below = over (omega arith)
 
 pub cells_in-returns-in_err-cells_in_entries-in-Fields : goal.cells_in-returns-in_err-cells_in_entries-in-Fields
-cells_in-returns-in_err-cells_in_entries-in-Fields t c = rw (c.from_residual-in_err-cells_in_entries-in-Fields.ensures, c.in-Fields.is, view-Fields) (not_below (entries_cells (entries_view c.in-Fields.entries.items)) c.in_err-cells_in_entries-in-Fields.ensures)
+cells_in-returns-in_err-cells_in_entries-in-Fields t c =
+    rw (c.from_residual-in_err-cells_in_entries-in-Fields.ensures, c.in-Fields.is, view-Fields)
+    (not_below (entries_cells (entries_view c.in-Fields.entries.items))
+        (rw c.deref-in-Fields.ensures.value at c.in_err-cells_in_entries-in-Fields.ensures))
 
 pub cells_in_entries-returns : goal.cells_in_entries-returns
 cells_in_entries-returns t c =
-    let done = rw (drop_all c.loop-entry.entry-index c.args.entries.now.items (omega arith)) at c.loop-entry.invariant.1 in
+    let done = rw (drop_all c.loop-entry.entry-index c.args.entries.now (omega arith))
+    at c.loop-entry.invariant.1 in
     (omega arith, omega arith)
 
 pub cells_in-returns-in_ok-cells_in_entries-in-Fields : goal.cells_in-returns-in_ok-cells_in_entries-in-Fields
@@ -22,7 +26,7 @@ cells_in-returns-in_ok-cells_in_entries-in-Fields t c = rw (c.in-Fields.is, view
 
 pub cells_in_parts-returns : goal.cells_in_parts-returns
 cells_in_parts-returns t c =
-    let done = rw (drop_all c.loop-part.part-index c.args.parts.now.items (omega arith)) at c.loop-part.invariant.1 in
+    let done = rw (drop_all c.loop-part.part-index c.args.parts.now (omega arith)) at c.loop-part.invariant.1 in
     (omega arith, omega arith)
 
 pub cells_in-returns-in_err-ok-in-Items : goal.cells_in-returns-in_err-ok-in-Items

@@ -1,4 +1,4 @@
-use Rattle.fb_value.proofs.LeastOnce.{one_least_fault_shown}
+use Rattle.fb_value.proofs.laws.LeastFaultIsOne.{one_least_fault_shown}
 use Rattle.fb_value.proofs.laws.one_least_fault.Goals as goal
 
 pub returns : goal.returns

@@ -1,4 +1,4 @@
-use Rattle.fb_value.proofs.ValueSteps.{value_where_lies_shown}
+use Rattle.fb_value.proofs.laws.ValueOfAPlaceByOneStep.{value_where_lies_shown}
 use Rattle.fb_value.proofs.laws.value_where_lies.Goals as goal
 
 pub returns : goal.returns

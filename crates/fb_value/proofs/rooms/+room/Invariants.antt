@@ -8,10 +8,13 @@ use Rattle.fb_value.proofs.rooms.+room.Given as goal
 
 abbrev pub invariant-room_in_parts-loop-part : goal.invariant-room_in_parts-loop-part
 invariant-room_in_parts-loop-part l = (l.total < 2 ^ 64)
-    × (at_most_usize (l.total + parts_room l.layout (stored_kind l.layout.schema l.kind) (parts_view (drop l.part-index l.parts.items)))
-    ≡ at_most_usize (parts_room l.layout (stored_kind l.layout.schema l.kind) (parts_view l.parts.items)))
+    × (at_most_usize (l.total + parts_room l.layout (stored_kind l.layout.schema l.kind)
+    (parts_view (drop l.part-index l.parts)))
+    ≡ at_most_usize (parts_room l.layout (stored_kind l.layout.schema l.kind) (parts_view l.parts)))
 
 abbrev pub invariant-room_in_entries-loop-i : goal.invariant-room_in_entries-loop-i
 invariant-room_in_entries-loop-i l = (l.total < 2 ^ 64)
-    × (at_most_usize (l.total + entries_room l.layout (map (slot_of l.layout.schema) (map field_seen (drop l.i l.slots))) (entries_view (drop l.i l.entries.items)))
-    ≡ at_most_usize (entries_room l.layout (map (slot_of l.layout.schema) (map field_seen l.slots)) (entries_view l.entries.items)))
+    × (at_most_usize (l.total + entries_room l.layout
+    (map (slot_of l.layout.schema) (map field_seen (drop l.i l.slots))) (entries_view (drop l.i l.entries.items)))
+    ≡ at_most_usize (entries_room l.layout (map (slot_of l.layout.schema) (map field_seen l.slots))
+    (entries_view l.entries.items)))

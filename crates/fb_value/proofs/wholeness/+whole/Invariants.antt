@@ -4,7 +4,9 @@ use Rattle.fb_value.specs.Counts.{parts_whole, entries_whole}
 use Rattle.fb_value.proofs.wholeness.+whole.Given as goal
 
 abbrev pub invariant-whole_in_parts-loop-part : goal.invariant-whole_in_parts-loop-part
-invariant-whole_in_parts-loop-part l = parts_whole (parts_view (drop l.part-index l.parts.items)) ≡ parts_whole (parts_view l.parts.items)
+invariant-whole_in_parts-loop-part l = parts_whole (parts_view (drop l.part-index l.parts))
+    ≡ parts_whole (parts_view l.parts)
 
 abbrev pub invariant-whole_in_entries-loop-entry : goal.invariant-whole_in_entries-loop-entry
-invariant-whole_in_entries-loop-entry l = entries_whole (entries_view (drop l.entry-index l.entries.items)) ≡ entries_whole (entries_view l.entries.items)
+invariant-whole_in_entries-loop-entry l = entries_whole (entries_view (drop l.entry-index l.entries))
+    ≡ entries_whole (entries_view l.entries)

@@ -1,4 +1,4 @@
-use Rattle.flatc_tool.proofs.Evolving.{chains_carry_shown}
+use Rattle.flatc_tool.proofs.headline.ConformingTextsFollowEachOther.{chains_carry_shown}
 use Rattle.flatc_tool.proofs.headline.chains_carry.Goals as goal
 
 pub returns : goal.returns

@@ -1,4 +1,4 @@
-use Rattle.flatc_tool.proofs.Evolving.{chains_conform_shown}
+use Rattle.flatc_tool.proofs.headline.ConformingTextsFollowEachOther.{chains_conform_shown}
 use Rattle.flatc_tool.proofs.headline.chains_conform.Goals as goal
 
 pub returns : goal.returns

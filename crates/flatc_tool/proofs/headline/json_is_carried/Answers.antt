@@ -1,4 +1,4 @@
-use Rattle.flatc_tool.proofs.Headlines.{json_is_carried_shown}
+use Rattle.flatc_tool.proofs.headline.BytesHoldAValueOrAreRefused.{json_is_carried_shown}
 use Rattle.flatc_tool.proofs.headline.json_is_carried.Goals as goal
 
 pub returns : goal.returns

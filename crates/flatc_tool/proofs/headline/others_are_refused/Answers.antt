@@ -1,4 +1,4 @@
-use Rattle.flatc_tool.proofs.Headlines.{others_are_refused_shown}
+use Rattle.flatc_tool.proofs.headline.BytesHoldAValueOrAreRefused.{others_are_refused_shown}
 use Rattle.flatc_tool.proofs.headline.others_are_refused.Goals as goal
 
 pub returns : goal.returns

@@ -1,6 +1,6 @@
 use Rattle.std.proofs.Common.{rules, ◌≡◌, length, [], refl}
 use Rattle.std.proofs.KnownBytes.{Consumes-trans, Consumes-all}
-use Rattle.flatc_tool.proofs.Known.{had_more, grows, no_failure, unfailed}
+use Rattle.flatc_tool.proofs.heard.ReaderHadWhatItGave.{had_more, grows, no_failure, unfailed}
 use Rattle.flatc_tool.proofs.heard.take_all.Goals as goal
 
 pub returns-then-n-eq0-clause-whole : goal.returns-then-n-eq0-clause-whole
@@ -22,8 +22,13 @@ loop-preserved g c =
     let (taken, ended) = c.in-Ok.ensures.bytes in
     let len : c.len.result ≡ length c.loop.found.items = search rules in
     let items = c.in-Ok-extend_from_slice.ensures.items in
-    let (more, within) = grows c.loop.counter c.in-Ok.n c.args.most c.len.result c.loop.found.items c.read.new.buf _ long short len c.if-n-limit.false c.if-n-eq0.false c.in-Ok.ensures.bound.0 items in
-    (more, within, no_failure _ c.in-Ok.ensures.failed.0, rw items (Consumes-trans _ _ _ c.loop.found.items _ given taken))
+    let (more, within) = grows c.loop.counter c.in-Ok.n c.args.most c.len.result c.loop.found.items c.read.new.buf _
+    long short len c.if-n-limit.false c.if-n-eq0.false c.in-Ok.ensures.bound.0 items in (
+      more,
+      within,
+      no_failure _ c.in-Ok.ensures.failed.0,
+      rw items (Consumes-trans _ _ _ c.loop.found.items _ given taken),
+    )
 
 pub returns-in_default-clause-failed : goal.returns-in_default-clause-failed
 returns-in_default-clause-failed g c = (λ e. c.in_default.ensures.failed.1 refl, λ e. refl)

@@ -7,14 +7,17 @@ use Rattle.fb_syntax.specs.DeclsRead.{DeclsRead}
 use Rattle.fb_declare.specs.Declares.{Declares}
 use Rattle.fb_declare.specs.TypeFaults.{faults_of}
 use Rattle.fb_declare.specs.Faults.{least_of}
-use Rattle.flatc_tool.proofs.OneText.{none_least, syntax_refused}
+use Rattle.flatc_tool.proofs.schema_layouts.SchemaTextHasOneLayout.{none_least, syntax_refused}
 use Rattle.flatc_tool.proofs.schema_layouts.schema_of.Goals as goal
 
 pub returns-in-Err-clause-refused : goal.returns-in-Err-clause-refused
 returns-in-Err-clause-refused c =
-    syntax_refused c.args.text.now c.in-Err.fault (λ at e. (c.in-Err.ensures.not_utf8 at).0 (ap Err e)) c.in-Err.ensures.utf8 c.in-Err.ensures.spelled_by_none c.in-Err.ensures.spelled c.in-Err.ensures.within (λ d parses. c.in-Err.ensures.exact d parses)
+    syntax_refused c.args.text.now c.in-Err.fault (λ at e. (c.in-Err.ensures.not_utf8 at).0 (ap Err e))
+    c.in-Err.ensures.utf8 c.in-Err.ensures.spelled_by_none c.in-Err.ensures.spelled c.in-Err.ensures.within
+    (λ d parses. c.in-Err.ensures.exact d parses)
 
-same_fault : {A : Type 0} (f g : SyntaxFault) → ◌≡◌ {A = Result A SchemaTextFault} (Err (Syntax f)) (Err (Syntax g)) → f ≡ g
+same_fault : {A : Type 0} (f g : SyntaxFault) → ◌≡◌ {A = Result A SchemaTextFault} (Err (Syntax f)) (Err (Syntax g))
+    → f ≡ g
 same_fault f g e = cc
 
 pub returns-in-Err-clause-not_utf8 : goal.returns-in-Err-clause-not_utf8
@@ -31,10 +34,13 @@ returns-in-Err-clause-exact c no_want L accepted = no_want (c.in-Err.ensures.exa
 pub returns-in-Err-declare-clause-exact : goal.returns-in-Err-declare-clause-exact
 returns-in-Err-declare-clause-exact c no_want L accepted =
     let same = c.in-Ok.ensures.exact accepted.decls accepted.parsed in
-    none_least accepted.decls L.schema c.in-Err-declare.fault accepted.declared (subst (λ (d : DeclsRead). least_of (faults_of d) ≡ Some c.in-Err-declare.fault) same (c.in-Err-declare.ensures.least no_want))
+    none_least accepted.decls L.schema c.in-Err-declare.fault accepted.declared
+    (subst (λ (d : DeclsRead). least_of (faults_of d) ≡ Some c.in-Err-declare.fault) same
+    (c.in-Err-declare.ensures.least no_want))
 
 pub returns-clause-exact : goal.returns-clause-exact
 returns-clause-exact c no_want L accepted =
     let same = c.in-Ok.ensures.exact accepted.decls accepted.parsed in
-    let schema = c.layer_laws.ensures.laws.one_schema accepted.decls L.schema c.in-Ok-declare.schema accepted.declared (subst (λ (d : DeclsRead). Declares d c.in-Ok-declare.schema) same c.in-Ok-declare.ensures.declared) in
+    let schema = c.layer_laws.ensures.laws.one_schema accepted.decls L.schema c.in-Ok-declare.schema accepted.declared
+    (subst (λ (d : DeclsRead). Declares d c.in-Ok-declare.schema) same c.in-Ok-declare.ensures.declared) in
     c.in-Err-lay.ensures.exact no_want L schema accepted.made

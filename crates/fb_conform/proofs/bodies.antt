@@ -1,0 +1,4 @@
+-- What the proofs of src/bodies.rt use.
+pub mod BreachOfBodiesIsTheTypes
+pub mod ComparedPartsDecideTheBreach
+pub mod FactsExcludeBreaches

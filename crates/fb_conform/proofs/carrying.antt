@@ -1,0 +1,2 @@
+-- What the proofs of src/carrying.rt use.
+pub mod EntriesAreCarriedInOrder

@@ -1,0 +1,2 @@
+-- What the proofs of src/conforming.rt use.
+pub mod BreachIsTheFirst

@@ -1,0 +1,3 @@
+-- What the proofs of src/members.rt use.
+pub mod OneMemberMore
+pub mod ValueIsFoundByItsName

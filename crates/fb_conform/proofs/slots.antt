@@ -1,0 +1,2 @@
+-- What the proofs of src/slots.rt use.
+pub mod OneSlotMore

@@ -1,0 +1,2 @@
+-- What the proofs of src/structs.rt use.
+pub mod OneFieldMore

@@ -1,0 +1,2 @@
+-- What the proofs of src/enums.rt use.
+pub mod WordsEndAtBlanks

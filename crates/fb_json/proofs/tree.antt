@@ -1,0 +1,3 @@
+-- What the proofs of src/tree.rt use.
+pub mod EntryIsWhatTheLookUpFinds
+pub mod OneSlotOrFieldMore

@@ -1,0 +1,128 @@
+-- One slot, field or element after the other, as a loop does.
+use Rattle.std.proofs.Common.{◌≡◌, ◌∙◌, ℕ, suc, ◌+◌, ◌<◌, ◌≤◌, List, [], ◌∷◌, ◌++◌, length, map, drop, get_or, Option}
+use Rattle.std.proofs.Common.{Result, Ok, Err, refl, ap, sym, subst, add-one}
+use Rattle.std.proofs.Math.Seq.{drop-cons}
+use Rattle.std.proofs.lemmas.List.{drop_all, append_assoc, append-nil}
+use Rattle.serde_json.specs.declared.value.Value.{Value as Json}
+use Rattle.serde_json.specs.View.{items_view}
+use Rattle.fb_schema.specs.declared.types.FieldInfo.{FieldInfo}
+use Rattle.fb_schema.specs.Seen.{field_seen}
+use Rattle.fb_layout.specs.Laid.{LaidSchema}
+use Rattle.fb_value.specs.Datum.{Datum}
+use Rattle.fb_json.specs.declared.faults.Place.{Place}
+use Rattle.fb_json.specs.declared.faults.JsonFault.{JsonFault}
+use Rattle.fb_json.specs.declared.faults.JsonFault.TheVariants.{WrongShape, NotWhole, OutOfRange, UnknownName}
+use Rattle.fb_json.specs.declared.faults.JsonFault.TheVariants.{UnknownMember, MissingMember, MissingRequired}
+use Rattle.fb_json.specs.declared.faults.JsonFault.TheVariants.{UnionMismatch, TooDeep, TooManyCells, Memory}
+use Rattle.fb_json.specs.Outcome.{◌>>=◌, Fails, Counted, after}
+use Rattle.fb_json.specs.Meant.{Look, slot_place, code_after, entry_meant, slots_meant, part_meant, parts_meant, count}
+
+pub fails_is : {Y : Type 0} (e : JsonFault) (whole : Result Y JsonFault) → whole ≡ Err e → Fails e whole
+fails_is Memory whole h = tt
+fails_is (WrongShape at) whole h = h
+fails_is (NotWhole at) whole h = h
+fails_is (OutOfRange at) whole h = h
+fails_is (UnknownName at) whole h = h
+fails_is (UnknownMember at) whole h = h
+fails_is (MissingMember at) whole h = h
+fails_is (MissingRequired at) whole h = h
+fails_is (UnionMismatch at) whole h = h
+fails_is (TooDeep at) whole h = h
+fails_is (TooManyCells at) whole h = h
+
+-- the fault of a part is the fault of the whole
+pub fails_by : {X Y : Type 0} (e : JsonFault) (part : Result X JsonFault) (whole : Result Y JsonFault)
+    → (part ≡ Err e → whole ≡ Err e) → Fails e part → Fails e whole
+fails_by Memory part whole same h = tt
+fails_by (WrongShape at) part whole same h = same h
+fails_by (NotWhole at) part whole same h = same h
+fails_by (OutOfRange at) part whole same h = same h
+fails_by (UnknownName at) part whole same h = same h
+fails_by (UnknownMember at) part whole same h = same h
+fails_by (MissingMember at) part whole same h = same h
+fails_by (MissingRequired at) part whole same h = same h
+fails_by (UnionMismatch at) part whole same h = same h
+fails_by (TooDeep at) part whole same h = same h
+fails_by (TooManyCells at) part whole same h = same h
+
+put_front : {A : Type 0} (front : List A) (x : A) (r : Counted (List A))
+    → after front (r >>= λ xs. Ok (x ∷ xs.0, xs.1)) ≡ after (front ++ x ∷ []) r
+put_front front x (Err e) = refl
+put_front front x (Ok xs) = rw append_assoc refl
+
+drop_at : {A : Type 0} (xs : List A) (k : ℕ) (x : A) → k < length xs → x ≡ get_or xs k x
+    → drop k xs ≡ x ∷ drop (k + 1) xs
+drop_at xs k x h is = let there : drop k xs ≡ get_or xs k x ∷ drop (k + 1) xs = rw (add-one, drop-cons xs k x) refl in
+    there ∙ ap (λ y. y ∷ drop (k + 1) xs) (sym is)
+
+module _ (L : LaidSchema) (look : Look) (t : ℕ) (slots : List FieldInfo) (k : ℕ) (f : FieldInfo)
+    (within : k < length slots) (is : f ≡ get_or slots k f) where
+  here : map field_seen (drop k slots) ≡ field_seen f ∷ map field_seen (drop (k + 1) slots)
+  here = ap (map field_seen) (drop_at slots k f within is)
+
+  module _ (front : List (Option Datum)) (code levels left : ℕ) where
+    pub slots_next : (c rest : ℕ) (e : Option Datum)
+        → code_after L.schema look (slot_place t k) code f.deprecated (field_seen f).name f.shape ≡ Ok c
+        → entry_meant L look (field_seen f) (slot_place t k) c levels left ≡ Ok (e, rest)
+        → after front (slots_meant L look t (map field_seen (drop k slots)) k code levels left)
+        ≡ after (front ++ e ∷ []) (slots_meant L look t (map field_seen (drop (k + 1) slots)) (k + 1) c levels rest)
+    unfolding slots_meant
+    slots_next c rest e told given =
+        rw (here, told, given)
+        (put_front front e (slots_meant L look t (map field_seen (drop (k + 1) slots)) (k + 1) c levels rest))
+
+    pub slots_untold : (fault : JsonFault)
+        → code_after L.schema look (slot_place t k) code f.deprecated (field_seen f).name f.shape ≡ Err fault
+        → after front (slots_meant L look t (map field_seen (drop k slots)) k code levels left) ≡ Err fault
+    unfolding slots_meant
+    slots_untold fault told = rw (here, told) refl
+
+    pub slots_ungiven : (c : ℕ) (fault : JsonFault)
+        → code_after L.schema look (slot_place t k) code f.deprecated (field_seen f).name f.shape ≡ Ok c
+        → entry_meant L look (field_seen f) (slot_place t k) c levels left ≡ Err fault
+        → after front (slots_meant L look t (map field_seen (drop k slots)) k code levels left) ≡ Err fault
+    unfolding slots_meant
+    slots_ungiven c fault told given = rw (here, told, given) refl
+
+  module _ (front : List Datum) (levels left : ℕ) where
+    pub parts_next : (at : Place) → at ≡ slot_place t k → (rest : ℕ) (d : Datum)
+        → part_meant (look (field_seen f).name) f.shape at levels left ≡ Ok (d, rest)
+        → after front (parts_meant look t (map field_seen (drop k slots)) k levels left)
+        ≡ after (front ++ d ∷ []) (parts_meant look t (map field_seen (drop (k + 1) slots)) (k + 1) levels rest)
+    unfolding parts_meant
+    parts_next at stands rest d found =
+        let given : part_meant (look (field_seen f).name) f.shape (slot_place t k) levels left ≡ Ok (d, rest) =
+        subst (λ (p : Place). part_meant (look (field_seen f).name) f.shape p levels left ≡ Ok (d, rest)) stands
+        found in
+        rw (here, given) (put_front front d (parts_meant look t (map field_seen (drop (k + 1) slots)) (k + 1) levels
+        rest))
+
+    pub parts_ungiven : (at : Place) → at ≡ slot_place t k → (fault : JsonFault)
+        → part_meant (look (field_seen f).name) f.shape at levels left ≡ Err fault
+        → after front (parts_meant look t (map field_seen (drop k slots)) k levels left) ≡ Err fault
+    unfolding parts_meant
+    parts_ungiven at stands fault found =
+        let given : part_meant (look (field_seen f).name) f.shape (slot_place t k) levels left ≡ Err fault =
+        subst (λ (p : Place). part_meant (look (field_seen f).name) f.shape p levels left ≡ Err fault) stands
+        found in
+        rw (here, given) refl
+
+pub slots_end : (L : LaidSchema) (look : Look) (t : ℕ) (slots : List FieldInfo) (k : ℕ) (front : List (Option Datum))
+    (code levels left : ℕ) → length slots ≤ k
+    → after front (slots_meant L look t (map field_seen (drop k slots)) k code levels left) ≡ Ok (front, left)
+unfolding slots_meant
+slots_end L look t slots k front code levels left past =
+    let none : map field_seen (drop k slots) ≡ [] = ap (map field_seen) (drop_all k slots past) in
+    rw (none, append-nil) refl
+
+pub parts_end : (look : Look) (t : ℕ) (slots : List FieldInfo) (k : ℕ) (front : List Datum) (levels left : ℕ)
+    → length slots ≤ k → after front (parts_meant look t (map field_seen (drop k slots)) k levels left)
+    ≡ Ok (front, left)
+unfolding parts_meant
+parts_end look t slots k front levels left past =
+    let none : map field_seen (drop k slots) ≡ [] = ap (map field_seen) (drop_all k slots past) in
+    rw (none, append-nil) refl
+
+pub counted : (vs : List Json) → count (items_view vs) ≡ length vs
+counted [] = refl
+counted (v ∷ vs) = ap suc (counted vs)

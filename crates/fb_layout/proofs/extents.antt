@@ -1,0 +1,2 @@
+-- What the proofs of src/extents.rt use.
+pub mod UnknownStructTakesNothing

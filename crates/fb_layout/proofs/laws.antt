@@ -1,0 +1,3 @@
+-- What the proofs of src/laws.rt use.
+pub mod NextMultipleIsTheLeast
+pub mod SchemaHasOneLayout

@@ -1,0 +1,3 @@
+-- What the proofs of src/layouts.rt use.
+pub mod LayoutIsWellMadeOrRefused
+pub mod SizesOrTheFirstFault

@@ -1,0 +1,5 @@
+-- What the proofs of src/structs.rt use.
+pub mod KindsTakeTheirExactSizes
+pub mod OneStepMore
+pub mod SmallStructsAreKnown
+pub mod StructNeedsOnlyLowerOnes

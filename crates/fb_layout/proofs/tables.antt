@@ -1,0 +1,2 @@
+-- What the proofs of src/tables.rt use.
+pub mod OneTypeMore

@@ -1,0 +1,47 @@
+-- Bytes have one least fault.
+use Rattle.std.proofs.Common.{◌≡◌, ◌<◌, ◌⊎◌, inl, inr, ℕ, [], ◌∷◌, None, Some, refl, sym, ◌∙◌, subst}
+use Rattle.std.proofs.lemmas.Bool.{cases_order}
+use Rattle.fb_layout.specs.Laid.{LaidSchema}
+use Rattle.fb_value.specs.declared.faults.ReadFault.{ReadFault}
+use Rattle.fb_value.specs.Bounds.{Bounds}
+use Rattle.fb_value.specs.Num.{Bytes}
+use Rattle.fb_value.specs.Places.{Place}
+use Rattle.fb_value.specs.Reached.{Path, ComesBefore}
+use Rattle.fb_value.specs.Faults.{FaultFrom, LeastFrom}
+use Rattle.fb_value.specs.Laws.{OneLeastFault}
+
+-- paths of which neither comes before the other
+same_path : (p q : Path) → (ComesBefore p q → ⊥) → (ComesBefore q p → ⊥) → p ≡ q
+same_path [] [] n m = refl
+same_path [] (k ∷ ks) n m = absurd (n tt)
+same_path (j ∷ js) [] n m = absurd (m tt)
+same_path (j ∷ js) (k ∷ ks) n m =
+    by_case (cases_order j k) (λ same. same_path js ks (λ h. n (inr (same, h))) (λ h. m (inr (sym same, h))))
+  where
+    by_case : (j ≡ k) ⊎ ((j < k) ⊎ (k < j)) → (j ≡ k → js ≡ ks) → (j ∷ js) ≡ (k ∷ ks)
+    by_case (inr (inl less)) rest = absurd (n (inl less))
+    by_case (inr (inr more)) rest = absurd (m (inl more))
+    by_case (inl same) rest = rw (same, rest same) refl
+
+module _ (L : LaidSchema) (b : Bytes) (most : Bounds) where
+  -- one fault stands at the end of a path
+  one_at_path : (path : Path) (x : Place) (tables spent : ℕ) (f g : ReadFault)
+      → FaultFrom L b most x tables spent path f → FaultFrom L b most x tables spent path g → f ≡ g
+  one_at_path [] x tables spent f g p q = let both : Some f ≡ Some g = sym p ∙ q in cc
+  one_at_path (k ∷ path) x tables spent f g p q =
+      let named : Some (Some p.1) ≡ Some (Some q.1) = sym p.2 ∙ q.2 in
+      let same : p.1 ≡ q.1 = cc in
+      one_at_path path q.1 _ _ f g (subst (λ (y : Place). FaultFrom L b most y _ _ path f) same p.3) q.3
+
+  one_least : (x : Place) (tables spent : ℕ) (f g : ReadFault) → LeastFrom L b most x tables spent f
+      → LeastFrom L b most x tables spent g → f ≡ g
+  one_least x tables spent f g p q =
+      let same : p.0 ≡ q.0 = same_path p.0 q.0 (λ before. q.2 p.0 f before p.1) (λ before. p.2 q.0 g before q.1) in
+      one_at_path q.0 x tables spent f g (subst (λ (path : Path). FaultFrom L b most x tables spent path f) same p.1)
+      q.1
+
+pub one_least_fault_shown : OneLeastFault
+one_least_fault_shown L most raw b f g (inl p) (inl q) = let both : Some f ≡ Some g = sym p ∙ q in cc
+one_least_fault_shown L most raw b f g (inl p) (inr q) = let clash : Some f ≡ None = sym p ∙ q.0 in cc
+one_least_fault_shown L most raw b f g (inr p) (inl q) = let clash : None ≡ Some g = sym p.0 ∙ q in cc
+one_least_fault_shown L most raw b f g (inr p) (inr q) = one_least L b most _ 0 0 f g p.1 q.1

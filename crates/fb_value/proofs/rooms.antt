@@ -1,0 +1,2 @@
+-- What the proofs of src/rooms.rt use.
+pub mod RoomIsThatOfTheParts

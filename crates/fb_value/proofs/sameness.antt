@@ -1,0 +1,2 @@
+-- What the proofs of src/sameness.rt use.
+pub mod EqualViewsHaveEqualParts

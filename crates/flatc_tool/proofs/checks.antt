@@ -1,0 +1,2 @@
+-- What the proofs of src/checks.rt use.
+pub mod RefusedBytesAreUnsound

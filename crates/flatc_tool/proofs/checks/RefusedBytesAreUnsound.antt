@@ -1,0 +1,32 @@
+-- What a refusal of a check excludes.
+use Rattle.std.proofs.Common.{List, ℕ, Bool, Option, None, Some, subst}
+use Rattle.fb_layout.specs.Laid.{LaidSchema}
+use Rattle.fb_value.specs.declared.faults.ReadFault.{ReadFault}
+use Rattle.fb_value.specs.Bounds.{Bounds}
+use Rattle.fb_value.specs.Num.{Bytes}
+use Rattle.fb_value.specs.Holds.{Holds, Refuses}
+use Rattle.flatc_tool.specs.declared.schema_layouts.SchemaTextFault.{SchemaTextFault}
+use Rattle.flatc_tool.specs.LayerLaws.{LayerLaws}
+use Rattle.flatc_tool.specs.SchemaTexts.{IsAccepted, IsRefused, IsWant}
+use Rattle.flatc_tool.specs.Checks.{IsSound}
+use Rattle.flatc_tool.proofs.schema_layouts.SchemaTextHasOneLayout.{refused_excludes, same_accepted}
+
+-- what is sound has an accepted schema
+accepted_of : (schema : List ℕ) (bytes : Option Bytes) (most : Bounds) (raw : Bool) → IsSound schema bytes most raw
+    → (L : LaidSchema) × IsAccepted schema L
+accepted_of schema None most raw sound = sound
+accepted_of schema (Some b) most raw sound = (sound.0, sound.1)
+
+-- nothing is sound under a schema that is refused
+pub schema_unsound : (laws : LayerLaws) (schema : List ℕ) (bytes : Option Bytes) (most : Bounds) (raw : Bool)
+    (f : SchemaTextFault) → IsRefused schema f → ¬ (IsWant f) → ¬ IsSound schema bytes most raw
+schema_unsound laws schema bytes most raw f refused rule sound =
+    let accepted = accepted_of schema bytes most raw sound in
+    refused_excludes laws schema f refused rule accepted.0 accepted.1
+
+-- bytes with a fault hold no value
+pub bytes_unsound : (laws : LayerLaws) (schema : List ℕ) (b : Bytes) (most : Bounds) (raw : Bool) (L : LaidSchema)
+    (f : ReadFault) → IsAccepted schema L → Refuses L most raw b f → ¬ IsSound schema (Some b) most raw
+bytes_unsound laws schema b most raw L f accepted refused sound =
+    let same = same_accepted laws schema sound.0 L sound.1 accepted in
+    refused.1 sound.2 (subst (λ (K : LaidSchema). Holds K most raw b sound.2) same sound.3)

@@ -1,0 +1,2 @@
+-- What the proofs of src/evolution.rt use.
+pub mod BreachExcludesConforming

@@ -1,0 +1,3 @@
+-- What the proofs of src/headline.rt use.
+pub mod BytesHoldAValueOrAreRefused
+pub mod ConformingTextsFollowEachOther

@@ -1,0 +1,210 @@
+-- What holds of the tool's answers together.
+use Rattle.std.proofs.Common.{◌≡◌, ℕ, List, Bool, true, Option, None, Some, Result, Ok, Err, ap, ◌∙◌, subst}
+use Rattle.fb_build.specs.Covered.{Covered}
+use Rattle.fb_layout.specs.Laid.{LaidSchema}
+use Rattle.fb_value.specs.declared.faults.ReadFault.{ReadFault}
+use Rattle.fb_value.specs.Bounds.{Bounds}
+use Rattle.fb_value.specs.Counts.{is_whole}
+use Rattle.fb_value.specs.Datum.{Datum}
+use Rattle.fb_value.specs.Fits.{FitsRoot}
+use Rattle.fb_value.specs.Num.{Bytes}
+use Rattle.fb_value.specs.Holds.{Holds, IsLeastFault, computed_fault}
+use Rattle.fb_value.specs.OldSlots.{OnlyOld}
+use Rattle.fb_value.specs.Laws.{HeldOrFault}
+use Rattle.fb_text.specs.Texts.{json_text}
+use Rattle.fb_read.specs.declared.view.View.{View}
+use Rattle.fb_text.specs.declared.faults.WriteFault.TheVariants.{NoMemberName, WriteFailed}
+use Rattle.fb_conform.specs.Conforms.{Conforms}
+use Rattle.fb_conform.specs.Carry.{carry}
+use Rattle.flatc_tool.specs.LayerLaws.{LayerLaws}
+use Rattle.flatc_tool.specs.SchemaTexts.{IsAccepted}
+use Rattle.flatc_tool.specs.Jobs.{JsonMeans, IsBinary, IsText, TextRefused, IsNotMemory}
+use Rattle.flatc_tool.specs.Checks.{CheckRefused}
+use Rattle.flatc_tool.specs.Prints.{PrintRefused}
+use Rattle.flatc_tool.specs.Evolution.{TextsConform}
+use Rattle.flatc_tool.specs.Answers.{TextAnswer, CheckAnswer, ViewAnswer, ValueAnswer, IsTextOrMemory, IsOkOrMemory}
+use Rattle.flatc_tool.specs.Answers.{IsViewOf, IsValueOrMemory}
+use Rattle.flatc_tool.specs.Headline.{HoldsAndPrints, CarriesValue, JsonIsCarried, NoneLies, OthersAreRefused}
+use Rattle.flatc_tool.specs.declared.faults.ToolFault.{ToolFault}
+use Rattle.flatc_tool.specs.declared.faults.ToolFault.TheVariants.{Schema, Json, Build, Read, Text, Write, Breach}
+use Rattle.flatc_tool.specs.declared.faults.ToolFault.TheVariants.{Older, Newer, FileRead, FileWrite, FileTooLong}
+use Rattle.flatc_tool.specs.declared.faults.ToolFault.TheVariants.{BadJson, Memory}
+use Rattle.flatc_tool.proofs.evolution.BreachExcludesConforming.{conforms_at}
+use Rattle.flatc_tool.proofs.schema_layouts.SchemaTextHasOneLayout.{same_accepted, refused_excludes}
+use Rattle.flatc_tool.proofs.jobs.RefusalExcludesABuffer.{same_value}
+
+-- ---- what the calls return for bytes that hold a value
+
+module _ (laws : LayerLaws) (schema : List ℕ) (b : Bytes) (most : Bounds) (raw : Bool) (L : LaidSchema)
+    (accepted : IsAccepted schema L) (v : Datum) (holds : Holds L most raw b v) where
+  one_text : (defaults : Bool) (text : List ℕ) → IsText schema b most raw defaults text → text ≡ json_text L defaults v
+  one_text defaults text is =
+      let same = same_accepted laws schema is.layout L is.accepted accepted in
+      let there = subst (λ (K : LaidSchema). Holds K most raw b is.value) same is.holds in
+      let one = laws.one_value L most raw b is.value v there holds in
+      is.spelled ∙ (ap (λ (K : LaidSchema). json_text K defaults is.value) same
+      ∙ ap (λ (w : Datum). json_text L defaults w) one)
+
+  text_answer : is_whole v ≡ true → (defaults : Bool) (r : Result (List ℕ) ToolFault)
+      → TextAnswer schema b most raw defaults r → IsTextOrMemory (json_text L defaults v) r
+  text_answer whole defaults (Ok text) is = one_text defaults text is
+  text_answer whole defaults (Err f) answer =
+      λ rule. answer.1 rule (record { layout = L; accepted = accepted; value = v; holds = holds; whole = whole })
+
+  pub there : is_whole v ≡ true → HoldsAndPrints schema b most raw L v
+  there whole = record { holds = holds; printed = text_answer whole }
+
+  check_answer : (r : Result (Unit {0}) ToolFault) → CheckAnswer schema (Some b) most raw r → IsOkOrMemory r
+  check_answer (Ok x) answer = tt
+  check_answer (Err f) answer = λ rule. answer.1 rule (L, accepted, v, holds)
+
+  view_answer : (r : Result View ReadFault) → ViewAnswer L b most raw r → IsViewOf v r
+  view_answer (Ok view) answer = answer v holds
+  view_answer (Err f) answer = answer.1 v holds
+
+  value_answer : (r : Result Datum ReadFault) → ValueAnswer L b most raw r → IsValueOrMemory v r
+  value_answer (Ok w) answer = laws.one_value L most raw b w v answer holds
+  value_answer (Err f) answer = λ rule. (answer rule).1 v holds
+
+-- ---- JSON that means a value
+
+module _ (laws : LayerLaws) (schema json : List ℕ) (most : Bounds) (unknown : Bool) (b : Bytes)
+    (made : IsBinary schema json most unknown b) (L : LaidSchema) (accepted : IsAccepted schema L) (v : Datum)
+    (means : JsonMeans L most unknown json v) where
+  layout : made.layout ≡ L
+  layout = same_accepted laws schema made.layout L made.accepted accepted
+
+  value : made.value ≡ v
+  value = same_value laws L most unknown json made.value v
+      (subst (λ (K : LaidSchema). JsonMeans K most unknown json made.value) layout made.means) means
+
+  pub held : (raw : Bool) → Holds L most raw b v
+  held raw = subst (λ (w : Datum). Holds L most raw b w) value
+      (subst (λ (K : LaidSchema). Holds K most raw b made.value) layout (made.holds raw))
+
+  pub fitting : FitsRoot L v
+  fitting = subst (λ (w : Datum). FitsRoot L w) value
+      (subst (λ (K : LaidSchema). FitsRoot K made.value) layout made.fits)
+
+  pub in_use : OnlyOld L b
+  in_use = subst (λ (K : LaidSchema). OnlyOld K b) layout made.old_slots
+
+  pub is_known : is_whole v ≡ true
+  is_known = laws.meant_is_whole L most unknown means.0 v means.2
+
+  pub carried_on : (raw : Bool) (K : LaidSchema) (new : List ℕ) → IsAccepted new K → Conforms L K
+      → Holds K most raw b (carry L K v)
+  carried_on raw K new other conforms = laws.carried_holds L K most raw b v accepted.made other.made conforms is_known
+      in_use (held raw)
+
+  evolved : (raw : Bool) (new : List ℕ) (K : LaidSchema) → TextsConform schema new → IsAccepted new K
+      → HoldsAndPrints new b most raw K (carry L K v)
+  evolved raw new K texts other =
+      let conforms = conforms_at laws schema new L K accepted other texts in
+      let known = (laws.carried_fits L K v accepted.made other.made conforms fitting is_known).1 in
+      there laws new b most raw K other (carry L K v) (carried_on raw K new other conforms) known
+
+  carried : CarriesValue schema b most L v
+  carried = record {
+    whole = is_known;
+    here = λ raw. there laws schema b most raw L accepted v (held raw) is_known;
+    only = λ raw w other. laws.one_value L most raw b w v other (held raw);
+    old_slots = in_use;
+    covered = subst (λ (K : LaidSchema). Covered K b) layout made.covered;
+    checked = λ raw r answer. check_answer laws schema b most raw L accepted v (held raw) r answer;
+    viewed = λ raw r answer. view_answer laws schema b most raw L accepted v (held raw) r answer;
+    read = λ raw r answer. value_answer laws schema b most raw L accepted v (held raw) r answer;
+    evolved = evolved;
+  }
+
+pub json_is_carried_shown : LayerLaws → JsonIsCarried
+json_is_carried_shown laws schema json most unknown b made L accepted v means =
+    carried laws schema json most unknown b made L accepted v means
+
+-- ---- bytes in which no value lies
+
+module _ (laws : LayerLaws) (schema : List ℕ) (b : Bytes) (most : Bounds) (raw : Bool) (L : LaidSchema)
+    (accepted : IsAccepted schema L) (none : (v : Datum) → ¬ Holds L most raw b v) where
+  none_under : (K : LaidSchema) → IsAccepted schema K → (v : Datum) → Holds K most raw b v → ⊥
+  none_under K other v holds =
+      none v (subst (λ (M : LaidSchema). Holds M most raw b v) (same_accepted laws schema K L other accepted) holds)
+
+  module _ (fault : ReadFault) (least : IsLeastFault L most raw b fault) where
+    same_fault : (f : ReadFault) (K : LaidSchema) → IsAccepted schema K → IsLeastFault K most raw b f
+        → Read f ≡ Read fault
+    same_fault f K other first =
+        let there = subst (λ (M : LaidSchema). IsLeastFault M most raw b f)
+        (same_accepted laws schema K L other accepted) first in
+        ap Read (laws.one_least_fault L most raw b f fault there least)
+
+    answered : (f : ToolFault) → TextRefused schema b most raw f → IsNotMemory f → f ≡ Read fault
+    answered (Schema f) refused rule = absurd (refused_excludes laws schema f refused rule L accepted)
+    answered (Read f) refused rule = same_fault f refused.0 refused.1 refused.2.0
+    answered (Text f) refused rule = absurd (none_under refused.0 refused.1 refused.2 refused.3)
+    answered (Json f) refused rule = absurd refused
+    answered (Build f) refused rule = absurd refused
+    answered (Write f) refused rule = absurd refused
+    answered (Breach b) refused rule = absurd refused
+    answered (Older f) refused rule = absurd refused
+    answered (Newer f) refused rule = absurd refused
+    answered FileRead refused rule = absurd refused
+    answered FileWrite refused rule = absurd refused
+    answered FileTooLong refused rule = absurd refused
+    answered BadJson refused rule = absurd refused
+    answered Memory refused rule = absurd refused
+
+    checked : (f : ToolFault) → CheckRefused schema (Some b) most raw f → IsNotMemory f → f ≡ Read fault
+    checked (Schema f) refused rule = absurd (refused_excludes laws schema f refused rule L accepted)
+    checked (Read f) refused rule = same_fault f refused.0 refused.1 refused.2.0
+    checked (Text f) refused rule = absurd refused
+    checked (Json f) refused rule = absurd refused
+    checked (Build f) refused rule = absurd refused
+    checked (Write f) refused rule = absurd refused
+    checked (Breach b) refused rule = absurd refused
+    checked (Older f) refused rule = absurd refused
+    checked (Newer f) refused rule = absurd refused
+    checked FileRead refused rule = absurd refused
+    checked FileWrite refused rule = absurd refused
+    checked FileTooLong refused rule = absurd refused
+    checked BadJson refused rule = absurd refused
+    checked Memory refused rule = absurd refused
+
+    printed : (defaults : Bool) (start known : Option (List ℕ)) (f : ToolFault)
+        → PrintRefused schema b most raw defaults start known f → IsNotMemory f → f ≡ Read fault
+    printed defaults start known (Schema f) refused rule =
+        absurd (refused_excludes laws schema f refused rule L accepted)
+    printed defaults start known (Read f) refused rule = same_fault f refused.0 refused.1 refused.2.0
+    printed defaults start known (Write (NoMemberName at)) refused rule =
+        absurd (none_under refused.0 refused.1 refused.2 refused.3)
+    printed defaults start known (Write (WriteFailed n)) refused rule =
+        let is = refused.1 in
+        absurd (none_under is.layout is.accepted is.value is.holds)
+    printed defaults start known (Text f) refused rule = absurd refused
+    printed defaults start known (Json f) refused rule = absurd refused
+    printed defaults start known (Build f) refused rule = absurd refused
+    printed defaults start known (Breach b) refused rule = absurd refused
+    printed defaults start known (Older f) refused rule = absurd refused
+    printed defaults start known (Newer f) refused rule = absurd refused
+    printed defaults start known FileRead refused rule = absurd refused
+    printed defaults start known FileWrite refused rule = absurd refused
+    printed defaults start known FileTooLong refused rule = absurd refused
+    printed defaults start known BadJson refused rule = absurd refused
+    printed defaults start known Memory refused rule = absurd refused
+
+  by_outcome : (o : Option ReadFault) → HeldOrFault L most raw b o → NoneLies schema b most raw L
+  by_outcome None h = absurd (none h.1.0 h.1.1)
+  by_outcome (Some f) h = record {
+    fault = f;
+    least = h.0;
+    no_text = λ defaults text is. none_under is.layout is.accepted is.value is.holds;
+    answered = answered f h.0;
+    unsound = λ sound. none_under sound.0 sound.1 sound.2 sound.3;
+    checked = checked f h.0;
+    unsent = λ defaults start known sent. none_under sent.1.layout sent.1.accepted sent.1.value sent.1.holds;
+    printed = printed f h.0;
+  }
+
+pub others_are_refused_shown : LayerLaws → OthersAreRefused
+others_are_refused_shown laws schema b most raw L accepted none =
+    by_outcome laws schema b most raw L accepted none (computed_fault L most raw b)
+    (laws.value_or_fault L most raw b accepted.made)

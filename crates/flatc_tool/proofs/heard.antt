@@ -1,0 +1,2 @@
+-- What the proofs of src/heard.rt use.
+pub mod ReaderHadWhatItGave

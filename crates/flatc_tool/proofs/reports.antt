@@ -1,0 +1,2 @@
+-- What the proofs of src/reports.rt use.
+pub mod WriterHasALineOrItsFront

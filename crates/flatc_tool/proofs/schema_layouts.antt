@@ -1,0 +1,2 @@
+-- What the proofs of src/schema_layouts.rt use.
+pub mod SchemaTextHasOneLayout
