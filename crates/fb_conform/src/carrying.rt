@@ -58,11 +58,7 @@ fn carry_in(alloc: Global, versions: Versions, value: &Value) -> Result<Value, A
 }
 
 #[cycle(carry)]
-fn carry_parts(
-    alloc: Global,
-    versions: Versions,
-    parts: &[Value],
-) -> Result<Vec<Value>, AllocError>
+fn carry_parts(alloc: Global, versions: Versions, parts: &[Value]) -> Result<Vec<Value>, AllocError>
     ensures { IfOk result (λ carried. parts_view carried.items
         ≡ carry_items versions.entry.before.now versions.entry.after.now (parts_view parts.now)) }
 {

@@ -15,6 +15,9 @@ layout_seen l = layout_known l.schema (map (option_map sizes_seen) l.structs.ite
 -- It is well made, and beside it stand the sizes of its tables, their required slots and the greatest alignment.
 pub record IsLaid (l : Inside) : Type 0 where
   pub made : IsWellMade (layout_seen l)
-  pub tables : (t : ℕ) → slice_index_or l.tables.items t no_table ≡ record { widest = widest (layout_seen l) t; align = table_align (layout_seen l) t }
-  pub required : map (λ numbers. numbers.items) l.required.items ≡ map (λ type. required_numbers (slots_in type.body)) (layout_seen l).schema.types
+  pub tables : (t : ℕ)
+      → slice_index_or l.tables.items t no_table
+      ≡ record { widest = widest (layout_seen l) t; align = table_align (layout_seen l) t }
+  pub required : map (λ numbers. numbers.items) l.required.items ≡ map (λ type. required_numbers (slots_in type.body))
+      (layout_seen l).schema.types
   pub greatest : l.greatest ≡ greatest (layout_seen l)

@@ -24,7 +24,8 @@ NoneAlignedToZero = (L : LaidSchema) (kind : StoredKind) → IsWellMade L → 0 
 
 -- The size of what is stored is a multiple of its alignment.
 abbrev pub SizesAreMultiples : Type 0
-SizesAreMultiples = (L : LaidSchema) (kind : StoredKind) → IsWellMade L → (k : ℕ) × (size_of L kind ≡ k * align_of L kind)
+SizesAreMultiples = (L : LaidSchema) (kind : StoredKind) → IsWellMade L
+    → (k : ℕ) × (size_of L kind ≡ k * align_of L kind)
 
 -- Sizes fit 16 bits.
 abbrev pub SizesFit : Type 0

@@ -8,8 +8,10 @@ use Rattle.fb_layout.specs.Refused.{Refuses}
 use Rattle.fb_layout.specs.WellMade.{IsSized, IsWellMade}
 
 abbrev pub OneLayout : Type 0
-OneLayout = (S : DeclaredSchema) (a b : List StructLayout) → IsDeclared S → IsSized (record { schema = S; structs = a }) → IsSized (record { schema = S; structs = b }) → a ≡ b
+OneLayout = (S : DeclaredSchema) (a b : List StructLayout) → IsDeclared S → IsSized (record { schema = S; structs = a })
+    → IsSized (record { schema = S; structs = b }) → a ≡ b
 
 -- A schema that is refused has no layout.
 abbrev pub NoLayoutWhereRefused : Type 0
-NoLayoutWhereRefused = (S : DeclaredSchema) (f : LayoutFault) → Refuses S f → (L : LaidSchema) → L.schema ≡ S → ¬ (IsWellMade L)
+NoLayoutWhereRefused = (S : DeclaredSchema) (f : LayoutFault) → Refuses S f → (L : LaidSchema) → L.schema ≡ S
+    → ¬ (IsWellMade L)

@@ -1,6 +1,7 @@
 -- The slots that a table must have.
 -- From the FlatBuffers documentation, "Writing a schema": Attributes (`required`, `deprecated`).
-use Rattle.std.specs.Prelude.{ℕ, ◌≡◌, ◌<◌, List, length, map, filter, Bool, false, not, ◌&&◌, Option, None, Some, slice_get}
+use Rattle.std.specs.Prelude.{ℕ, ◌≡◌, ◌<◌, List, length, map, filter, Bool, false, not, ◌&&◌, Option, None, Some}
+use Rattle.std.specs.Prelude.{slice_get}
 use Rattle.std.specs.List.{range_with_len}
 use Rattle.fb_schema.specs.Schema.{DeclaredField}
 use Rattle.fb_layout.specs.Laid.{LaidSchema, Slot, slots_of}

@@ -5,14 +5,17 @@ use Rattle.std.specs.Option.{ForSome, unwrap_or}
 use Rattle.fb_schema.specs.Schema.{body_at, force_align_in, is_struct}
 use Rattle.fb_schema.specs.WellDeclared.{IsDeclared}
 use Rattle.fb_layout.specs.Sizes.{IsLeastMultiple}
-use Rattle.fb_layout.specs.Laid.{LaidSchema, StructLayout, no_struct, StoredKind, struct_at, parts_of, slots_of, size_of, align_of}
+use Rattle.fb_layout.specs.Laid.{LaidSchema, StructLayout, no_struct, StoredKind, struct_at, parts_of, slots_of}
+use Rattle.fb_layout.specs.Laid.{size_of, align_of}
 use Rattle.fb_schema.specs.Alignments.{greatest_in}
 use Rattle.fb_layout.specs.Widths.{widest}
 
--- From position p on each field stands at the least multiple of its alignment that isn't below the end of the one before. The last ends at `end`.
+-- From position p on each field stands at the least multiple of its alignment that isn't below the end of the one
+-- before. The last ends at `end`.
 abbrev pub StandInOrder : LaidSchema → ℕ → List StoredKind → List ℕ → ℕ → Type 0
 StandInOrder L p [] [] end = p ≡ end
-StandInOrder L p (kind ∷ kinds) (o ∷ os) end = IsLeastMultiple (align_of L kind) p o × StandInOrder L (o + size_of L kind) kinds os end
+StandInOrder L p (kind ∷ kinds) (o ∷ os) end =
+    IsLeastMultiple (align_of L kind) p o × StandInOrder L (o + size_of L kind) kinds os end
 StandInOrder L p _ _ end = ⊥
 
 -- the greatest of the alignments of a struct's fields
@@ -35,7 +38,8 @@ pub record IsNarrow (L : LaidSchema) (t : ℕ) : Type 0 where
 -- one entry for each type, however great
 pub record IsSized (L : LaidSchema) : Type 0 where
   pub one_each : length L.structs ≡ length L.schema.types
-  pub structs : (s : ℕ) → IsTrue (is_struct (body_at L.schema s)) → IsStructLaid L (parts_of L s) (force_align_in (body_at L.schema s)) (struct_at L s)
+  pub structs : (s : ℕ) → IsTrue (is_struct (body_at L.schema s))
+      → IsStructLaid L (parts_of L s) (force_align_in (body_at L.schema s)) (struct_at L s)
   -- a type that is no struct takes nothing of its own
   pub others : (t : ℕ) → is_struct (body_at L.schema t) ≡ false → struct_at L t ≡ no_struct
 

@@ -4,7 +4,8 @@ use Rattle.std.specs.Prelude.{ℕ, ◌+◌, max, map, sum_by, if◌then◌else�
 use Rattle.fb_schema.specs.Schema.{DeclaredType, slots_in}
 use Rattle.fb_schema.specs.Alignments.{greatest_in}
 use Rattle.fb_layout.specs.Sizes.{ceil4}
-use Rattle.fb_layout.specs.Laid.{LaidSchema, StoredShape, one_of, vector_of, stored_shape, slots_of, kind_in, size_of, align_of}
+use Rattle.fb_layout.specs.Laid.{LaidSchema, StoredShape, one_of, vector_of, stored_shape, slots_of, kind_in, size_of}
+use Rattle.fb_layout.specs.Laid.{align_of}
 
 -- what a slot takes in its table: a vector is stored as a reference
 abbrev pub inline_size : LaidSchema → StoredShape → ℕ

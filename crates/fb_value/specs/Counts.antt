@@ -1,7 +1,9 @@
 -- Cells, tables, vectors and texts, depth and nesting of a value, and whether it is whole.
--- From the FlatBuffers documentation, "Verification": the depth of tables is bounded. Cells are this project's own measure.
+-- From the FlatBuffers documentation, "Verification": the depth of tables is bounded. Cells are this project's own
+-- measure.
 use Rattle.std.specs.Prelude.{ℕ, suc, ◌+◌, max, length, Bool, true, false, ◌&&◌}
-use Rattle.fb_value.specs.Datum.{Datum, a_number, a_text, a_vector, a_struct, a_table, a_member, an_unknown, Parts, no_parts, more_parts, SlotEntries, no_entries, absent_entry, present_entry, count}
+use Rattle.fb_value.specs.Datum.{Datum, a_number, a_text, a_vector, a_struct, a_table, a_member, an_unknown, Parts}
+use Rattle.fb_value.specs.Datum.{no_parts, more_parts, SlotEntries, no_entries, absent_entry, present_entry, count}
 
 -- One for each table, text and vector, one for each byte of a text and for each element of a vector.
 abbrev mutual

@@ -1,5 +1,6 @@
 -- What a value is for contracts, whatever memory it lies in.
--- From the FlatBuffers documentation, "Writing a schema": a table has one entry a slot, a union's value its member's code.
+-- From the FlatBuffers documentation, "Writing a schema": a table has one entry a slot, a union's value its member's
+-- code.
 use Rattle.std.specs.Prelude.{ℕ, suc, ℤ, List}
 
 mutual

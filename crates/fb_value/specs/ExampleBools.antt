@@ -33,14 +33,28 @@ pub bools_held : Holds bools_everywhere usual false bools_bytes bools
 unfolding num slot_number named_slots first_failing fault_by header_fault
 bools_held = record {
   header = refl;
-  lies = (refl, (refl, refl, ((refl, (refl, ((refl, tt), tt))), ((refl, (refl, refl, ((refl, ((refl, tt), tt)), ((refl, ((refl, tt), tt)), tt)))), ((refl, (refl, refl, (refl, (refl, (refl, tt))))), tt)))));
+  lies = (
+    refl,
+    (
+      refl,
+      refl,
+      (
+        (refl, (refl, ((refl, tt), tt))),
+        (
+          (refl, (refl, refl, ((refl, ((refl, tt), tt)), ((refl, ((refl, tt), tt)), tt)))),
+          ((refl, (refl, refl, (refl, (refl, (refl, tt))))), tt),
+        ),
+      ),
+    ),
+  );
   deep = lit≤ tt;
   small = lit≤ tt;
 }
 
 -- The computing program finds no fault there.
 pub bools_kept : computed_fault bools_everywhere usual false bools_bytes ≡ None
-unfolding num slot_number named_slots named_elements first_failing fault_by all_within all limited_fault first_fault fault_from header_fault
+unfolding num slot_number named_slots named_elements first_failing fault_by all_within all limited_fault first_fault
+    fault_from header_fault
 bools_kept = refl
 
 -- A byte other than 0 is read as true, in a struct too.
@@ -48,7 +62,20 @@ pub odd_in_struct : Holds bools_everywhere usual false (set bools_bytes 22 0xff)
 unfolding num slot_number named_slots first_failing fault_by header_fault
 odd_in_struct = record {
   header = refl;
-  lies = (refl, (refl, refl, ((refl, (refl, ((refl, tt), tt))), ((refl, (refl, refl, ((refl, ((refl, tt), tt)), ((refl, ((refl, tt), tt)), tt)))), ((refl, (refl, refl, (refl, (refl, (refl, tt))))), tt)))));
+  lies = (
+    refl,
+    (
+      refl,
+      refl,
+      (
+        (refl, (refl, ((refl, tt), tt))),
+        (
+          (refl, (refl, refl, ((refl, ((refl, tt), tt)), ((refl, ((refl, tt), tt)), tt)))),
+          ((refl, (refl, refl, (refl, (refl, (refl, tt))))), tt),
+        ),
+      ),
+    ),
+  );
   deep = lit≤ tt;
   small = lit≤ tt;
 }
@@ -58,7 +85,20 @@ pub odd_in_vector : Holds bools_everywhere usual false (set bools_bytes 38 0xff)
 unfolding num slot_number named_slots first_failing fault_by header_fault
 odd_in_vector = record {
   header = refl;
-  lies = (refl, (refl, refl, ((refl, (refl, ((refl, tt), tt))), ((refl, (refl, refl, ((refl, ((refl, tt), tt)), ((refl, ((refl, tt), tt)), tt)))), ((refl, (refl, refl, (refl, (refl, (refl, tt))))), tt)))));
+  lies = (
+    refl,
+    (
+      refl,
+      refl,
+      (
+        (refl, (refl, ((refl, tt), tt))),
+        (
+          (refl, (refl, refl, ((refl, ((refl, tt), tt)), ((refl, ((refl, tt), tt)), tt)))),
+          ((refl, (refl, refl, (refl, (refl, (refl, tt))))), tt),
+        ),
+      ),
+    ),
+  );
   deep = lit≤ tt;
   small = lit≤ tt;
 }
@@ -68,7 +108,20 @@ pub odd_in_element : Holds bools_everywhere usual false (set bools_bytes 46 0xff
 unfolding num slot_number named_slots first_failing fault_by header_fault
 odd_in_element = record {
   header = refl;
-  lies = (refl, (refl, refl, ((refl, (refl, ((refl, tt), tt))), ((refl, (refl, refl, ((refl, ((refl, tt), tt)), ((refl, ((refl, tt), tt)), tt)))), ((refl, (refl, refl, (refl, (refl, (refl, tt))))), tt)))));
+  lies = (
+    refl,
+    (
+      refl,
+      refl,
+      (
+        (refl, (refl, ((refl, tt), tt))),
+        (
+          (refl, (refl, refl, ((refl, ((refl, tt), tt)), ((refl, ((refl, tt), tt)), tt)))),
+          ((refl, (refl, refl, (refl, (refl, (refl, tt))))), tt),
+        ),
+      ),
+    ),
+  );
   deep = lit≤ tt;
   small = lit≤ tt;
 }

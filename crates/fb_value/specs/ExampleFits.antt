@@ -18,7 +18,8 @@ pub unknown_fits : FitsRoot two_members third_code
 unknown_fits = (refl, ((refl, refl), (refl, (λ e. cc, lit≤ tt, refl), tt)))
 
 -- The code of a member isn't such a code.
-pub known_code_is_no_unknown : ¬ (FitsRoot two_members (a_table 3 (absent_entry (present_entry (an_unknown 2) no_entries))))
+pub known_code_is_no_unknown : ¬
+    (FitsRoot two_members (a_table 3 (absent_entry (present_entry (an_unknown 2) no_entries))))
 known_code_is_no_unknown h = let none = h.1.1.1.2 in cc
 
 -- A union may be absent.

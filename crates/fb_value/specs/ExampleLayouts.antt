@@ -17,7 +17,16 @@ letter code = code ∷ []
 
 -- a field without a mark
 abbrev pub plain : Name → ℕ → Shape → DeclaredField
-plain name slot shape = record { name = name; shape = shape; default = pos 0; optional = false; required = false; deprecated = false; slot = slot }
+plain name slot shape =
+    record {
+      name = name;
+      shape = shape;
+      default = pos 0;
+      optional = false;
+      required = false;
+      deprecated = false;
+      slot = slot;
+    }
 
 -- `a` of type `int` in slot 0
 abbrev pub a_int : DeclaredField
@@ -33,7 +42,8 @@ type_called code body = record { name = letter code; body = body }
 
 -- types with what each struct takes, the root's number, no identifier
 abbrev pub laid : ℕ → List DeclaredType → List StructLayout → LaidSchema
-laid root types structs = record { schema = record { types = types; root = root; identifier = None }; structs = structs }
+laid root types structs =
+    record { schema = record { types = types; root = root; identifier = None }; structs = structs }
 
 -- types of which none is a struct
 abbrev pub without_structs : ℕ → List DeclaredType → LaidSchema
@@ -49,7 +59,8 @@ one_int = root_alone (a_int ∷ [])
 
 -- the same with file_identifier "TEST";
 abbrev pub identified_int : LaidSchema
-identified_int = record one_int { schema = record one_int.schema { identifier = Some (0x54 ∷ 0x45 ∷ 0x53 ∷ 0x54 ∷ []) } }
+identified_int = record one_int
+    { schema = record one_int.schema { identifier = Some (0x54 ∷ 0x45 ∷ 0x53 ∷ 0x54 ∷ []) } }
 
 -- table T { a:int; b:int; }
 abbrev pub two_ints : LaidSchema
@@ -93,7 +104,9 @@ table_vector = without_structs 1 (
 -- struct S { a:ubyte; b:ulong; c:ushort; } table T { s:S; } root_type T;
 abbrev pub one_struct : LaidSchema
 one_struct = laid 1
-    (type_called 0x53 (struct_body (plain (letter 0x61) 0 (One (Scalar U8)) ∷ plain (letter 0x62) 1 (One (Scalar U64)) ∷ plain (letter 0x63) 2 (One (Scalar U16)) ∷ []) None)
+    (type_called 0x53 (struct_body
+    (plain (letter 0x61) 0 (One (Scalar U8)) ∷ plain (letter 0x62) 1 (One (Scalar U64)) ∷ plain (letter 0x63) 2
+    (One (Scalar U16)) ∷ []) None)
     ∷ type_called 0x54 (table_body (plain (letter 0x73) 0 (One (Struct (record { 0 = 0 }))) ∷ []))
     ∷ [])
     (record { size = 24; align = 8; offsets = 0 ∷ 8 ∷ 16 ∷ [] } ∷ no_struct ∷ [])
@@ -102,7 +115,9 @@ one_struct = laid 1
 abbrev pub wide_structs : LaidSchema
 wide_structs = laid 1
     (type_called 0x53 (struct_body (plain (letter 0x61) 0 (One (Scalar U8)) ∷ []) (Some 16))
-    ∷ type_called 0x54 (table_body (plain (letter 0x73) 0 (One Text) ∷ plain (letter 0x76) 1 (Many (Struct (record { 0 = 0 }))) ∷ plain (letter 0x6e) 2 (One (Scalar I32)) ∷ []))
+    ∷ type_called 0x54 (table_body
+    (plain (letter 0x73) 0 (One Text) ∷ plain (letter 0x76) 1 (Many (Struct (record { 0 = 0 })))
+    ∷ plain (letter 0x6e) 2 (One (Scalar I32)) ∷ []))
     ∷ [])
     (record { size = 16; align = 16; offsets = 0 ∷ [] } ∷ no_struct ∷ [])
 
@@ -110,18 +125,21 @@ wide_structs = laid 1
 abbrev pub bools_everywhere : LaidSchema
 bools_everywhere = laid 2
     (type_called 0x49 (struct_body (plain (letter 0x62) 0 (One (Scalar Boolean)) ∷ []) None)
-    ∷ type_called 0x53 (struct_body (plain (letter 0x6e) 0 (One (Scalar U16)) ∷ plain (letter 0x69) 1 (One (Struct (record { 0 = 0 }))) ∷ []) None)
+    ∷ type_called 0x53 (struct_body
+    (plain (letter 0x6e) 0 (One (Scalar U16)) ∷ plain (letter 0x69) 1 (One (Struct (record { 0 = 0 }))) ∷ []) None)
     ∷ type_called 0x54 (table_body (
     plain (letter 0x73) 0 (One (Struct (record { 0 = 1 })))
     ∷ plain (0x73 ∷ 0x73 ∷ []) 1 (Many (Struct (record { 0 = 1 })))
     ∷ plain (0x62 ∷ 0x73 ∷ []) 2 (Many (Scalar Boolean))
     ∷ []))
     ∷ [])
-    (record { size = 1; align = 1; offsets = 0 ∷ [] } ∷ record { size = 4; align = 2; offsets = 0 ∷ 2 ∷ [] } ∷ no_struct ∷ [])
+    (record { size = 1; align = 1; offsets = 0 ∷ [] } ∷ record { size = 4; align = 2; offsets = 0 ∷ 2 ∷ [] } ∷ no_struct
+    ∷ [])
 
 -- `u` of the union of a number, with its code: slots 0 and 1
 abbrev pub u_union : ℕ → List DeclaredField
-u_union u = plain (0x75 ∷ 0x5f ∷ 0x74 ∷ 0x79 ∷ 0x70 ∷ 0x65 ∷ []) 0 (One (Code (record { 0 = u }))) ∷ plain (letter 0x75) 1 (One (Union (record { 0 = u }))) ∷ []
+u_union u = plain (0x75 ∷ 0x5f ∷ 0x74 ∷ 0x79 ∷ 0x70 ∷ 0x65 ∷ []) 0 (One (Code (record { 0 = u }))) ∷ plain (letter 0x75)
+    1 (One (Union (record { 0 = u }))) ∷ []
 
 -- table A {} table B {} union U { A, B } table T { u:U; } root_type T;
 abbrev pub two_members : LaidSchema
@@ -144,8 +162,10 @@ three_members = without_structs 4 (
 
 -- table N { n:N; } root_type N;
 abbrev pub table_in_table : LaidSchema
-table_in_table = without_structs 0 (type_called 0x4e (table_body (plain (letter 0x6e) 0 (One (Table (record { 0 = 0 }))) ∷ [])) ∷ [])
+table_in_table = without_structs 0
+    (type_called 0x4e (table_body (plain (letter 0x6e) 0 (One (Table (record { 0 = 0 }))) ∷ [])) ∷ [])
 
 -- table N { n:[N]; } root_type N;
 abbrev pub tables_in_table : LaidSchema
-tables_in_table = without_structs 0 (type_called 0x4e (table_body (plain (letter 0x6e) 0 (Many (Table (record { 0 = 0 }))) ∷ [])) ∷ [])
+tables_in_table = without_structs 0
+    (type_called 0x4e (table_body (plain (letter 0x6e) 0 (Many (Table (record { 0 = 0 }))) ∷ [])) ∷ [])

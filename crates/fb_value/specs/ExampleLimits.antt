@@ -1,5 +1,6 @@
 -- Buffers that the limits of depth and cells refuse.
-use Rattle.std.specs.Prelude.{ℕ, zero, suc, ◌+◌, ◌-◌, ◌/◌, ◌%◌, ◌≡◌, List, [], ◌∷◌, ◌++◌, length, false, Option, None, Some, refl}
+use Rattle.std.specs.Prelude.{ℕ, zero, suc, ◌+◌, ◌-◌, ◌/◌, ◌%◌, ◌≡◌, List, [], ◌∷◌, ◌++◌, length, false, Option, None}
+use Rattle.std.specs.Prelude.{Some, refl}
 use Rattle.std.specs.Str.Lossy.{utf8_valid_len}
 use Rattle.std.specs.Str.{is_utf8, chars}
 use Rattle.std.proofs.Common.{ap, subst, sym, lit≤}
@@ -21,7 +22,8 @@ use Rattle.fb_value.specs.ExampleTables.{seven_bytes}
 
 -- Where no cell is allowed, the root's table is one too many.
 pub no_cells : computed_fault one_int (record { depth = 64; cells = 0 }) false seven_bytes ≡ Some (TooManyCells 12)
-unfolding num slot_number named_slots named_elements first_failing fault_by all_within all limited_fault first_fault fault_from header_fault
+unfolding num slot_number named_slots named_elements first_failing fault_by all_within all limited_fault first_fault
+    fault_from header_fault
 no_cells = refl
 
 -- a number below 65,536 in four bytes
@@ -56,12 +58,14 @@ deep_length = refl
 
 -- The last table is one too many.
 pub too_deep : computed_fault table_in_table usual false deep_bytes ≡ Some (TooDeep 528)
-unfolding num slot_number named_slots named_elements first_failing fault_by all_within all limited_fault first_fault fault_from header_fault tables_from
+unfolding num slot_number named_slots named_elements first_failing fault_by all_within all limited_fault first_fault
+    fault_from header_fault tables_from
 too_deep = refl
 
 -- With one level more it isn't.
 pub deep_kept : computed_fault table_in_table deeper false deep_bytes ≡ None
-unfolding num slot_number named_slots named_elements first_failing fault_by all_within all limited_fault first_fault fault_from header_fault tables_from
+unfolding num slot_number named_slots named_elements first_failing fault_by all_within all limited_fault first_fault
+    fault_from header_fault tables_from
 deep_kept = refl
 
 -- one cell for each table
@@ -69,7 +73,8 @@ pub nested_cells : cells (nested 64) ≡ 65
 unfolding nested
 nested_cells = refl
 
--- what is met at a table: its fault, the places that it names, and behind its one slot the reference's fault and where it leads
+-- what is met at a table: its fault, the places that it names, and behind its one slot the reference's fault and where
+-- it leads
 abbrev pub Met : Type 0
 Met = Option ReadFault × List (Option Place) × Option ReadFault × ℕ
 
@@ -83,7 +88,12 @@ met_at b p = (
 
 -- at the last table, whose slot is absent
 abbrev pub met_last : Bytes → ℕ → Met
-met_last b p = (fault_at table_in_table b (part_place (table_part 0)) p, named_slots table_in_table b p 0 (slots_of table_in_table 0), None, 0)
+met_last b p = (
+  fault_at table_in_table b (part_place (table_part 0)) p,
+  named_slots table_in_table b p 0 (slots_of table_in_table 0),
+  None,
+  0,
+)
 
 -- where each rule holds and the next table stands 8 bytes behind
 abbrev pub link : ℕ → Met
@@ -107,21 +117,36 @@ unfolding num slot_number named_slots first_failing fault_by tables_from met_fro
 deep_chain = refl
 
 -- Such a chain holds tables in one another.
-pub chain_held : (b : Bytes) (n p : ℕ) → met_from b p n ≡ links_from p n → Lies table_in_table b (part_place (table_part 0)) p (nested n)
+pub chain_held : (b : Bytes) (n p : ℕ) → met_from b p n ≡ links_from p n
+    → Lies table_in_table b (part_place (table_part 0)) p (nested n)
 unfolding met_from links_from nested
 chain_held b zero p e =
-    let met : met_last b p ≡ last_link = cc in
-    (ap (λ x. x.0) met, refl, subst (λ (xs : List (Option Place)). LiesSlots table_in_table b (slots_of table_in_table 0) xs (absent_entry no_entries)) (sym (ap (λ x. x.1) met)) (refl, tt))
+    let met : met_last b p ≡ last_link = cc in (
+      ap (λ x. x.0) met,
+      refl,
+      subst (λ (xs : List (Option Place)). LiesSlots table_in_table b (slots_of table_in_table 0) xs
+          (absent_entry no_entries)) (sym (ap (λ x. x.1) met)) (refl, tt),
+    )
 chain_held b (suc n) p e =
     let met : met_at b p ≡ link p = cc in
     let behind : Lies table_in_table b (part_place (table_part 0)) (p + 8) (nested n) = chain_held b n (p + 8) cc in
-    let there = subst (λ (q : ℕ). Lies table_in_table b (part_place (table_part 0)) q (nested n)) (sym (ap (λ x. x.3) met)) behind in
-    (ap (λ x. x.0) met, refl, subst (λ (xs : List (Option Place)). LiesSlots table_in_table b (slots_of table_in_table 0) xs (present_entry (nested n) no_entries)) (sym (ap (λ x. x.1) met)) ((ap (λ x. x.2) met, there), tt))
+    let there = subst (λ (q : ℕ). Lies table_in_table b (part_place (table_part 0)) q (nested n))
+    (sym (ap (λ x. x.3) met)) behind in (
+      ap (λ x. x.0) met,
+      refl,
+      subst (λ (xs : List (Option Place)). LiesSlots table_in_table b (slots_of table_in_table 0) xs
+          (present_entry (nested n) no_entries)) (sym (ap (λ x. x.1) met)) ((ap (λ x. x.2) met, there), tt),
+    )
 
 -- The tables in one another are held where so many are allowed.
 pub deep_held : Holds table_in_table deeper false deep_bytes (nested 64)
 unfolding num slot_number named_slots first_failing fault_by header_fault tables_from nested
-deep_held = record { header = refl; lies = (refl, chain_held deep_bytes 64 16 deep_chain); deep = lit≤ tt; small = lit≤ tt }
+deep_held = record {
+  header = refl;
+  lies = (refl, chain_held deep_bytes 64 16 deep_chain);
+  deep = lit≤ tt;
+  small = lit≤ tt;
+}
 
 -- n tables from p on, each with a vector of two references to the one behind it, and a last one without
 unfoldable pub pairs_from : ℕ → ℕ → Bytes
@@ -138,21 +163,28 @@ unfolding pairs_from
 doubled_length = refl
 
 -- A shared part counts as often as it is reached: 1,000 cells are spent when the last table is reached once more.
-pub too_many_at_table : computed_fault tables_in_table (record { depth = 64; cells = 1000 }) false doubled_bytes ≡ Some (TooManyCells 596)
-unfolding num slot_number named_slots named_elements first_failing fault_by all_within all limited_fault first_fault fault_from header_fault pairs_from
+pub too_many_at_table : computed_fault tables_in_table (record { depth = 64; cells = 1000 }) false doubled_bytes
+    ≡ Some (TooManyCells 596)
+unfolding num slot_number named_slots named_elements first_failing fault_by all_within all limited_fault first_fault
+    fault_from header_fault pairs_from
 too_many_at_table = refl
 
 -- With one cell less the vector above it is too much.
-pub too_many_at_vector : computed_fault tables_in_table (record { depth = 64; cells = 999 }) false doubled_bytes ≡ Some (TooManyCells 584)
-unfolding num slot_number named_slots named_elements first_failing fault_by all_within all limited_fault first_fault fault_from header_fault pairs_from
+pub too_many_at_vector : computed_fault tables_in_table (record { depth = 64; cells = 999 }) false doubled_bytes
+    ≡ Some (TooManyCells 584)
+unfolding num slot_number named_slots named_elements first_failing fault_by all_within all limited_fault first_fault
+    fault_from header_fault pairs_from
 too_many_at_vector = refl
 
 -- A text counts its bytes: 1 for the table, and 3 for the text `hi` are one more than 3.
-pub too_many_at_text : computed_fault one_text (record { depth = 64; cells = 3 }) false hi_bytes ≡ Some (TooManyCells 20)
-unfolding num slot_number named_slots named_elements first_failing fault_by all_within all limited_fault first_fault fault_from header_fault utf8_valid_len is_utf8 chars lib.Utf8.encode
+pub too_many_at_text : computed_fault one_text (record { depth = 64; cells = 3 }) false hi_bytes
+    ≡ Some (TooManyCells 20)
+unfolding num slot_number named_slots named_elements first_failing fault_by all_within all limited_fault first_fault
+    fault_from header_fault utf8_valid_len is_utf8 chars lib.Utf8.encode
 too_many_at_text = refl
 
 -- With 4 cells there is no fault.
 pub text_kept : computed_fault one_text (record { depth = 64; cells = 4 }) false hi_bytes ≡ None
-unfolding num slot_number named_slots named_elements first_failing fault_by all_within all limited_fault first_fault fault_from header_fault utf8_valid_len is_utf8 chars lib.Utf8.encode
+unfolding num slot_number named_slots named_elements first_failing fault_by all_within all limited_fault first_fault
+    fault_from header_fault utf8_valid_len is_utf8 chars lib.Utf8.encode
 text_kept = refl

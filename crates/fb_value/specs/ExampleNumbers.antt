@@ -40,49 +40,71 @@ least_byte_bytes = 0x0c ∷ 0 ∷ 0 ∷ 0 ∷ 0 ∷ 0 ∷ 6 ∷ 0 ∷ 8 ∷ 0 �
 -- An absent number is its default.
 pub absent_default_held : Holds five_by_default usual false bare_bytes (the_number (pos 5))
 unfolding num slot_number named_slots first_failing fault_by header_fault
-absent_default_held = record { header = refl; lies = (refl, (refl, refl, ((pos 5, refl, refl), tt))); deep = lit≤ tt; small = lit≤ tt }
+absent_default_held =
+    record { header = refl; lies = (refl, (refl, refl, ((pos 5, refl, refl), tt))); deep = lit≤ tt; small = lit≤ tt }
 
 -- The computing program finds no fault there.
 pub absent_default_kept : computed_fault five_by_default usual false bare_bytes ≡ None
-unfolding num slot_number named_slots named_elements first_failing fault_by all_within all limited_fault first_fault fault_from header_fault
+unfolding num slot_number named_slots named_elements first_failing fault_by all_within all limited_fault first_fault
+    fault_from header_fault
 absent_default_kept = refl
 
 -- A default may be below 0.
 pub absent_below_zero_held : Holds below_zero_by_default usual false bare_bytes (the_number (negsuc 2))
 unfolding num slot_number named_slots first_failing fault_by header_fault
-absent_below_zero_held = record { header = refl; lies = (refl, (refl, refl, ((negsuc 2, refl, refl), tt))); deep = lit≤ tt; small = lit≤ tt }
+absent_below_zero_held =
+    record { header = refl; lies = (refl, (refl, refl, ((negsuc 2, refl, refl), tt))); deep = lit≤ tt; small = lit≤ tt }
 
 -- The computing program finds no fault there.
 pub absent_below_zero_kept : computed_fault below_zero_by_default usual false bare_bytes ≡ None
-unfolding num slot_number named_slots named_elements first_failing fault_by all_within all limited_fault first_fault fault_from header_fault
+unfolding num slot_number named_slots named_elements first_failing fault_by all_within all limited_fault first_fault
+    fault_from header_fault
 absent_below_zero_kept = refl
 
 -- A stored 0 is 0, whatever the default is.
 pub stored_zero_held : Holds five_by_default usual false stored_zero_bytes (the_number (pos 0))
 unfolding num slot_number named_slots first_failing fault_by header_fault
-stored_zero_held = record { header = refl; lies = (refl, (refl, refl, ((refl, refl), tt))); deep = lit≤ tt; small = lit≤ tt }
+stored_zero_held = record {
+  header = refl;
+  lies = (refl, (refl, refl, ((refl, refl), tt)));
+  deep = lit≤ tt;
+  small = lit≤ tt;
+}
 
 -- The computing program finds no fault there.
 pub stored_zero_kept : computed_fault five_by_default usual false stored_zero_bytes ≡ None
-unfolding num slot_number named_slots named_elements first_failing fault_by all_within all limited_fault first_fault fault_from header_fault
+unfolding num slot_number named_slots named_elements first_failing fault_by all_within all limited_fault first_fault
+    fault_from header_fault
 stored_zero_kept = refl
 
 -- A stored number is read as two's complement: -2.
 pub below_zero_held : Holds one_int usual false below_zero_bytes (the_number (negsuc 1))
 unfolding num slot_number named_slots first_failing fault_by header_fault
-below_zero_held = record { header = refl; lies = (refl, (refl, refl, ((refl, refl), tt))); deep = lit≤ tt; small = lit≤ tt }
+below_zero_held = record {
+  header = refl;
+  lies = (refl, (refl, refl, ((refl, refl), tt)));
+  deep = lit≤ tt;
+  small = lit≤ tt;
+}
 
 -- The computing program finds no fault there.
 pub below_zero_kept : computed_fault one_int usual false below_zero_bytes ≡ None
-unfolding num slot_number named_slots named_elements first_failing fault_by all_within all limited_fault first_fault fault_from header_fault
+unfolding num slot_number named_slots named_elements first_failing fault_by all_within all limited_fault first_fault
+    fault_from header_fault
 below_zero_kept = refl
 
 -- The least `byte`: -128.
 pub least_byte_held : Holds one_byte usual false least_byte_bytes (the_number (negsuc 127))
 unfolding num slot_number named_slots first_failing fault_by header_fault
-least_byte_held = record { header = refl; lies = (refl, (refl, refl, ((refl, refl), tt))); deep = lit≤ tt; small = lit≤ tt }
+least_byte_held = record {
+  header = refl;
+  lies = (refl, (refl, refl, ((refl, refl), tt)));
+  deep = lit≤ tt;
+  small = lit≤ tt;
+}
 
 -- The computing program finds no fault there.
 pub least_byte_kept : computed_fault one_byte usual false least_byte_bytes ≡ None
-unfolding num slot_number named_slots named_elements first_failing fault_by all_within all limited_fault first_fault fault_from header_fault
+unfolding num slot_number named_slots named_elements first_failing fault_by all_within all limited_fault first_fault
+    fault_from header_fault
 least_byte_kept = refl

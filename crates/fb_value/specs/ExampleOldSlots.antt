@@ -14,9 +14,13 @@ not_zero n e = omega (arith, e)
 -- The second slot isn't the schema's.
 pub newer_slot : ¬ (OnlyOld one_int two_slots_bytes)
 unfolding num slot_number first_failing fault_by
-newer_slot h = not_zero 3 (h (0 ∷ []) (table_part 0) 12 0 1 (refl, record { sort = part_place (table_part 0); at = 12 }, refl, refl) refl refl)
+newer_slot h = not_zero 3
+    (h (0 ∷ []) (table_part 0) 12 0 1 (refl, record { sort = part_place (table_part 0); at = 12 }, refl, refl) refl
+    refl)
 
 -- The first slot is deprecated.
 pub deprecated_slot : ¬ (OnlyOld deprecated_int two_slots_bytes)
 unfolding num slot_number first_failing fault_by
-deprecated_slot h = not_zero 7 (h (0 ∷ []) (table_part 0) 12 0 0 (refl, record { sort = part_place (table_part 0); at = 12 }, refl, refl) refl refl)
+deprecated_slot h = not_zero 7
+    (h (0 ∷ []) (table_part 0) 12 0 0 (refl, record { sort = part_place (table_part 0); at = 12 }, refl, refl) refl
+    refl)

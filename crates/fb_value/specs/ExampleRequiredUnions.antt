@@ -29,24 +29,34 @@ required_union = without_structs 3 (
 -- A member is there.
 pub required_member_held : Holds required_union usual false member_bytes second_member
 unfolding num slot_number named_slots first_failing fault_by header_fault
-required_member_held = record { header = refl; lies = (refl, (refl, refl, (refl, ((refl, (refl, (refl, refl, tt))), tt)))); deep = lit≤ tt; small = lit≤ tt }
+required_member_held =
+    record {
+      header = refl;
+      lies = (refl, (refl, refl, (refl, ((refl, (refl, (refl, refl, tt))), tt))));
+      deep = lit≤ tt;
+      small = lit≤ tt;
+    }
 
 -- The computing program finds no fault there.
 pub required_member_kept : computed_fault required_union usual false member_bytes ≡ None
-unfolding num slot_number named_slots named_elements first_failing fault_by all_within all limited_fault first_fault fault_from header_fault
+unfolding num slot_number named_slots named_elements first_failing fault_by all_within all limited_fault first_fault
+    fault_from header_fault
 required_member_kept = refl
 
 -- Without a code it is missing, told at the table with the slot of the value.
 pub without_code : computed_fault required_union usual false (set member_bytes 8 0) ≡ Some (MissingRequired 12 1)
-unfolding num slot_number named_slots named_elements first_failing fault_by all_within all limited_fault first_fault fault_from header_fault
+unfolding num slot_number named_slots named_elements first_failing fault_by all_within all limited_fault first_fault
+    fault_from header_fault
 without_code = refl
 
 -- So it is without a value.
 pub without_value : computed_fault required_union usual false (set member_bytes 10 0) ≡ Some (MissingRequired 12 1)
-unfolding num slot_number named_slots named_elements first_failing fault_by all_within all limited_fault first_fault fault_from header_fault
+unfolding num slot_number named_slots named_elements first_failing fault_by all_within all limited_fault first_fault
+    fault_from header_fault
 without_value = refl
 
 -- A stored code of 0 is told at the code's own byte.
 pub with_code_zero : computed_fault required_union usual false (set member_bytes 19 0) ≡ Some (MissingRequired 19 1)
-unfolding num slot_number named_slots named_elements first_failing fault_by all_within all limited_fault first_fault fault_from header_fault
+unfolding num slot_number named_slots named_elements first_failing fault_by all_within all limited_fault first_fault
+    fault_from header_fault
 with_code_zero = refl

@@ -1,7 +1,9 @@
--- Tables in a vector of two, level by level: what a buffer of 600 bytes holds that has each table once, and names it twice.
+-- Tables in a vector of two, level by level: what a buffer of 600 bytes holds that has each table once, and names it
+-- twice.
 use Rattle.std.specs.Prelude.{ℕ, zero, suc, ◌≡◌, ◌+◌, ◌*◌, ◌^◌}
 use Rattle.std.proofs.Common.{arith, refl}
-use Rattle.fb_value.specs.Datum.{Datum, a_vector, a_table, no_parts, more_parts, no_entries, absent_entry, present_entry}
+use Rattle.fb_value.specs.Datum.{Datum, a_vector, a_table, no_parts, more_parts, no_entries, absent_entry}
+use Rattle.fb_value.specs.Datum.{present_entry}
 use Rattle.fb_value.specs.Counts.{cells, depth}
 
 -- table N { n:[N]; } root_type N; so many levels below the outermost table

@@ -29,14 +29,28 @@ pub pair_held : Holds table_vector usual false pair_bytes pair
 unfolding num slot_number named_slots first_failing fault_by header_fault named_elements
 pair_held = record {
   header = refl;
-  lies = (refl, (refl, refl, ((refl, (refl, refl, ((refl, (refl, refl, ((refl, refl), tt))), ((refl, (refl, refl, ((refl, refl), tt))), tt)))), tt)));
+  lies = (
+    refl,
+    (
+      refl,
+      refl,
+      (
+        (
+          refl,
+          (refl, refl, ((refl, (refl, refl, ((refl, refl), tt))), ((refl, (refl, refl, ((refl, refl), tt))), tt))),
+        ),
+        tt,
+      ),
+    ),
+  );
   deep = lit≤ tt;
   small = lit≤ tt;
 }
 
 -- The computing program finds no fault there.
 pub pair_kept : computed_fault table_vector usual false pair_bytes ≡ None
-unfolding num slot_number named_slots named_elements first_failing fault_by all_within all limited_fault first_fault fault_from header_fault
+unfolding num slot_number named_slots named_elements first_failing fault_by all_within all limited_fault first_fault
+    fault_from header_fault
 pair_kept = refl
 
 -- three tables, and a vector with two elements

@@ -1,7 +1,10 @@
 -- The numbers of the faults of a buffer, and their offsets.
 use Rattle.std.specs.Prelude.{ℕ, Option, None, Some}
 use Rattle.fb_value.specs.declared.faults.ReadFault.{ReadFault}
-use Rattle.fb_value.specs.declared.faults.ReadFault.TheVariants.{Short, TooLong, WrongIdentifier, Misaligned, OutOfBounds, ZeroOffset, BadVtable, MissingRequired, NoTerminator, BadUtf8, UnionMismatch, TooDeep, TooManyCells, Memory}
+use Rattle.fb_value.specs.declared.faults.ReadFault.TheVariants.{Short, TooLong, WrongIdentifier, Misaligned}
+use Rattle.fb_value.specs.declared.faults.ReadFault.TheVariants.{OutOfBounds, ZeroOffset, BadVtable, MissingRequired}
+use Rattle.fb_value.specs.declared.faults.ReadFault.TheVariants.{NoTerminator, BadUtf8, UnionMismatch, TooDeep}
+use Rattle.fb_value.specs.declared.faults.ReadFault.TheVariants.{TooManyCells, Memory}
 
 -- the number of the rule, which no other fault has
 abbrev pub number_of : ReadFault → ℕ

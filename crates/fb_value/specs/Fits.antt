@@ -1,11 +1,15 @@
 -- The values that a type may have.
--- From the FlatBuffers documentation, "Writing a schema": Tables, Structs, Unions, Attributes (`required`, `deprecated`).
+-- From the FlatBuffers documentation, "Writing a schema": Tables, Structs, Unions, Attributes (`required`,
+-- `deprecated`).
 use Rattle.std.specs.Prelude.{ℕ, ◌≡◌, ◌≢◌, ◌≤◌, List, [], ◌∷◌, false, Option, None, Some, slice_get}
 use Rattle.std.specs.Str.{IsUtf8}
-use Rattle.fb_schema.specs.Schema.{DeclaredSchema, DeclaredType, DeclaredBody, table_body, struct_body, enum_body, union_body}
+use Rattle.fb_schema.specs.Schema.{DeclaredSchema, DeclaredType, DeclaredBody, table_body, struct_body, enum_body}
+use Rattle.fb_schema.specs.Schema.{union_body}
 use Rattle.fb_schema.specs.WellDeclared.{InRange}
-use Rattle.fb_layout.specs.Laid.{LaidSchema, Slot, StoredKind, scalar_kind, struct_kind, table_kind, union_kind, text_kind, StoredShape, one_of, vector_of, slots_of, parts_of, member_by_code}
-use Rattle.fb_value.specs.Datum.{Datum, a_number, a_text, a_vector, a_struct, a_table, a_member, an_unknown, Parts, no_parts, more_parts, SlotEntries, no_entries, absent_entry, present_entry}
+use Rattle.fb_layout.specs.Laid.{LaidSchema, Slot, StoredKind, scalar_kind, struct_kind, table_kind, union_kind}
+use Rattle.fb_layout.specs.Laid.{text_kind, StoredShape, one_of, vector_of, slots_of, parts_of, member_by_code}
+use Rattle.fb_value.specs.Datum.{Datum, a_number, a_text, a_vector, a_struct, a_table, a_member, an_unknown, Parts}
+use Rattle.fb_value.specs.Datum.{no_parts, more_parts, SlotEntries, no_entries, absent_entry, present_entry}
 
 -- A slot may have no entry where it isn't required and has no default: a code's and a deprecated one never has.
 abbrev pub MayBeAbsent : Slot → Type 0
@@ -17,7 +21,8 @@ abbrev mutual
   Fits L (one_of (struct_kind s)) (a_struct ds) = PartsFit L (parts_of L s) ds
   Fits L (one_of text_kind) (a_text bytes) = IsUtf8 bytes
   Fits L (one_of (table_kind t)) (a_table type es) = (type ≡ t) × EntriesFit L (slots_of L t) es
-  Fits L (one_of (union_kind u)) (a_member c d) = (t : ℕ) × (member_by_code L u c ≡ Some t) × Fits L (one_of (table_kind t)) d
+  Fits L (one_of (union_kind u)) (a_member c d) = (t : ℕ) × (member_by_code L u c ≡ Some t)
+      × Fits L (one_of (table_kind t)) d
   Fits L (one_of (union_kind u)) (an_unknown c) = (c ≢ 0) × (c ≤ 255) × (member_by_code L u c ≡ None)
   Fits L (vector_of kind) (a_vector ds) = EachFits L kind ds
   Fits L _ _ = ⊥

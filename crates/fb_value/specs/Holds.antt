@@ -1,6 +1,8 @@
 -- The value that bytes hold, or the least of their faults.
--- From the FlatBuffers documentation, "FlatBuffer Internals" and "File identification": the root's reference, and the identifier behind it.
-use Rattle.std.specs.Prelude.{ℕ, ◌+◌, ◌≡◌, ◌≤◌, ◌⊎◌, List, [], ◌∷◌, length, take, drop, nat_le, Bool, Option, None, Some, if◌then◌else◌}
+-- From the FlatBuffers documentation, "FlatBuffer Internals" and "File identification": the root's reference, and the
+-- identifier behind it.
+use Rattle.std.specs.Prelude.{ℕ, ◌+◌, ◌≡◌, ◌≤◌, ◌⊎◌, List, [], ◌∷◌, length, take, drop, nat_le, Bool, Option, None}
+use Rattle.std.specs.Prelude.{Some, if◌then◌else◌}
 use Rattle.std.specs.Str.{bytes_eq}
 use Rattle.fb_layout.specs.Laid.{LaidSchema}
 use Rattle.fb_value.specs.declared.faults.ReadFault.{ReadFault}
@@ -26,7 +28,8 @@ checked_identifier L raw = if raw then None else L.schema.identifier
 -- The header's rules. A checked identifier stands behind the root's reference.
 abbrev pub header_rules : Bytes → Option (List ℕ) → List Rule
 header_rules b None = (Short (length b), nat_le 4 (length b)) ∷ (TooLong 2147483647, nat_le (length b) 2147483647) ∷ []
-header_rules b (Some id) = (Short (length b), nat_le 8 (length b)) ∷ (TooLong 2147483647, nat_le (length b) 2147483647) ∷ (WrongIdentifier 4, bytes_eq (take 4 (drop 4 b)) id) ∷ []
+header_rules b (Some id) = (Short (length b), nat_le 8 (length b)) ∷ (TooLong 2147483647, nat_le (length b) 2147483647)
+    ∷ (WrongIdentifier 4, bytes_eq (take 4 (drop 4 b)) id) ∷ []
 
 unfoldable pub header_fault : Bytes → Option (List ℕ) → Option ReadFault
 header_fault b id = first_failing (header_rules b id)
@@ -60,7 +63,8 @@ HasNoFault L most raw b =
 
 -- the least fault computed, if there is one: a law ties it to the definition
 abbrev pub computed_fault : LaidSchema → Bounds → Bool → Bytes → Option ReadFault
-computed_fault L most raw b = or_else (header_fault b (checked_identifier L raw)) (fault_from L b most (root_place L) 0 0)
+computed_fault L most raw b =
+    or_else (header_fault b (checked_identifier L raw)) (fault_from L b most (root_place L) 0 0)
 
 -- what a refusal tells: the least fault, and that the bytes hold no value
 abbrev pub Refuses : LaidSchema → Bounds → Bool → Bytes → ReadFault → Type 0

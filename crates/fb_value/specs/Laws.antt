@@ -13,20 +13,26 @@ use Rattle.fb_value.specs.Rules.{fault_at}
 use Rattle.fb_value.specs.Lies.{Lies, LiesAt}
 use Rattle.fb_value.specs.Reads.{value_at, inline_value, value_step, inline_step}
 use Rattle.fb_value.specs.Reached.{Path, AllKeep}
-use Rattle.fb_value.specs.Faults.{own_cells, own_tables, sum_over, if_kept, or_else, limited_fault, FaultFrom, LeastFrom, first_among, all, fault_from}
+use Rattle.fb_value.specs.Faults.{own_cells, own_tables, sum_over, if_kept, or_else, limited_fault, FaultFrom}
+use Rattle.fb_value.specs.Faults.{LeastFrom, first_among, all, fault_from}
 use Rattle.fb_value.specs.Holds.{Holds, HasNoFault, IsLeastFault, Refuses, computed_fault, root_place}
 
 -- Bytes hold one value at most.
 abbrev pub OneValue : Type 0
-OneValue = (L : LaidSchema) (most : Bounds) (raw : Bool) (b : Bytes) (v w : Datum) → Holds L most raw b v → Holds L most raw b w → v ≡ w
+OneValue = (L : LaidSchema) (most : Bounds) (raw : Bool) (b : Bytes) (v w : Datum) → Holds L most raw b v
+    → Holds L most raw b w → v ≡ w
 
 -- A value lies at the root exactly where all places that are reached keep their rules.
 abbrev pub ValueWhereAllKeep : Type 0
-ValueWhereAllKeep = (L : LaidSchema) (b : Bytes) → IsWellMade L → ((d : Datum) × LiesAt L b (root_place L).sort 0 d) ↔ AllKeep L b (root_place L)
+ValueWhereAllKeep = (L : LaidSchema) (b : Bytes) → IsWellMade L
+    → ((d : Datum) × LiesAt L b (root_place L).sort 0 d) ↔ AllKeep L b (root_place L)
 
--- The cells of what is reached from a place: none where a rule fails there, else its own and those of all that it names.
+-- The cells of what is reached from a place: none where a rule fails there, else its own and those of all that it
+-- names.
 abbrev pub CellsOfPlace : Type 0
-CellsOfPlace = (L : LaidSchema) (b : Bytes) (x : Place) → all L b x ≡ if_kept (fault_at L b x.sort x.at) (own_cells b x.sort x.at + sum_over (all L b) (named L b x.sort x.at))
+CellsOfPlace = (L : LaidSchema) (b : Bytes) (x : Place)
+    → all L b x ≡ if_kept (fault_at L b x.sort x.at)
+    (own_cells b x.sort x.at + sum_over (all L b) (named L b x.sort x.at))
 
 -- The cells of a value are those of the places that are reached from where it lies.
 abbrev pub CellsOfValue : Type 0
@@ -39,7 +45,8 @@ IsFirstFault L b most x (Some f) = LeastFrom L b most x 0 0 f
 
 -- The computed fault is the least; where none is computed, none stands.
 abbrev pub FaultOfLeastPath : Type 0
-FaultOfLeastPath = (L : LaidSchema) (b : Bytes) (most : Bounds) (x : Place) → IsFirstFault L b most x (fault_from L b most x 0 0)
+FaultOfLeastPath = (L : LaidSchema) (b : Bytes) (most : Bounds) (x : Place)
+    → IsFirstFault L b most x (fault_from L b most x 0 0)
 
 -- what a computed outcome says: no fault stands and a value is held, or the fault is the least and none is held
 abbrev pub HeldOrFault : LaidSchema → Bounds → Bool → Bytes → Option ReadFault → Type 0
@@ -48,11 +55,13 @@ HeldOrFault L most raw b (Some f) = Refuses L most raw b f
 
 -- A value is held exactly where no fault stands.
 abbrev pub ValueOrFault : Type 0
-ValueOrFault = (L : LaidSchema) (most : Bounds) (raw : Bool) (b : Bytes) → IsWellMade L → HeldOrFault L most raw b (computed_fault L most raw b)
+ValueOrFault = (L : LaidSchema) (most : Bounds) (raw : Bool) (b : Bytes) → IsWellMade L
+    → HeldOrFault L most raw b (computed_fault L most raw b)
 
 -- Bytes have one least fault at most.
 abbrev pub OneLeastFault : Type 0
-OneLeastFault = (L : LaidSchema) (most : Bounds) (raw : Bool) (b : Bytes) (f g : ReadFault) → IsLeastFault L most raw b f → IsLeastFault L most raw b g → f ≡ g
+OneLeastFault = (L : LaidSchema) (most : Bounds) (raw : Bool) (b : Bytes) (f g : ReadFault)
+    → IsLeastFault L most raw b f → IsLeastFault L most raw b g → f ≡ g
 
 -- What fits the root with at most 127 tables in one another is nested at most 300 deep.
 abbrev pub NestingOfDepth : Type 0
@@ -63,18 +72,22 @@ abbrev pub FaultOfPlace : Type 0
 FaultOfPlace =
     (L : LaidSchema) (b : Bytes) (most : Bounds) (x : Place) (tables spent : ℕ) → fault_from L b most x tables spent
     ≡ or_else (limited_fault L b most x (tables + own_tables x.sort) (spent + own_cells b x.sort x.at))
-    (first_among (λ y before. fault_from L b most y (tables + own_tables x.sort) before) (all L b) (spent + own_cells b x.sort x.at) (named L b x.sort x.at))
+    (first_among (λ y before. fault_from L b most y (tables + own_tables x.sort) before) (all L b)
+    (spent + own_cells b x.sort x.at) (named L b x.sort x.at))
 
 -- The value that bytes hold is one that the root may have: each byte is below 256.
 abbrev pub FitsWhereHeld : Type 0
-FitsWhereHeld = (L : LaidSchema) (most : Bounds) (raw : Bool) (b : Bytes) (v : Datum) → IsWellMade L → All (λ x. x < 256) b → Holds L most raw b v → FitsRoot L v
+FitsWhereHeld = (L : LaidSchema) (most : Bounds) (raw : Bool) (b : Bytes) (v : Datum) → IsWellMade L
+    → All (λ x. x < 256) b → Holds L most raw b v → FitsRoot L v
 
 -- The value at a place, by one step; and of what stands in its place.
 abbrev pub ValueOfPlace : Type 0
 ValueOfPlace =
     (L : LaidSchema) (b : Bytes) → IsWellMade L
-    → ((sort : Sort) (p : ℕ) → value_at L b sort p ≡ value_step L b sort p) × ((kind : StoredKind) (p : ℕ) → inline_value L b kind p ≡ inline_step L b kind p)
+    → ((sort : Sort) (p : ℕ) → value_at L b sort p ≡ value_step L b sort p)
+    × ((kind : StoredKind) (p : ℕ) → inline_value L b kind p ≡ inline_step L b kind p)
 
 -- The value that is computed at a place is the one that lies there.
 abbrev pub ValueWhereLies : Type 0
-ValueWhereLies = (L : LaidSchema) (b : Bytes) (sort : Sort) (p : ℕ) (d : Datum) → IsWellMade L → (value_at L b sort p ≡ Some d) ↔ Lies L b sort p d
+ValueWhereLies = (L : LaidSchema) (b : Bytes) (sort : Sort) (p : ℕ) (d : Datum) → IsWellMade L
+    → (value_at L b sort p ≡ Some d) ↔ Lies L b sort p d

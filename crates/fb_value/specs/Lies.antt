@@ -2,10 +2,13 @@
 -- From the FlatBuffers documentation, "FlatBuffer Internals". Nothing is said of order, overlap or sharing.
 use Rattle.std.specs.Prelude.{ℕ, ◌+◌, ◌≡◌, List, [], ◌∷◌, Option, None, Some, ℤ}
 use Rattle.fb_schema.specs.Alignments.{base_size}
-use Rattle.fb_layout.specs.Laid.{LaidSchema, Slot, StoredKind, scalar_kind, struct_kind, slots_of, parts_of, struct_at, size_of}
-use Rattle.fb_value.specs.Datum.{Datum, a_number, a_text, a_vector, a_struct, a_table, a_member, an_unknown, Parts, no_parts, more_parts, SlotEntries, no_entries, absent_entry, present_entry, count}
+use Rattle.fb_layout.specs.Laid.{LaidSchema, Slot, StoredKind, scalar_kind, struct_kind, slots_of, parts_of, struct_at}
+use Rattle.fb_layout.specs.Laid.{size_of}
+use Rattle.fb_value.specs.Datum.{Datum, a_number, a_text, a_vector, a_struct, a_table, a_member, an_unknown, Parts}
+use Rattle.fb_value.specs.Datum.{no_parts, more_parts, SlotEntries, no_entries, absent_entry, present_entry, count}
 use Rattle.fb_value.specs.Num.{Bytes, num, part_of, scalar_of}
-use Rattle.fb_value.specs.Places.{Target, table_part, member_part, text_part, vector_part, Sort, ref_place, part_place, inline_place, code_place, unknown_place, Place, named_slots, target_of}
+use Rattle.fb_value.specs.Places.{Target, table_part, member_part, text_part, vector_part, Sort, ref_place, part_place}
+use Rattle.fb_value.specs.Places.{inline_place, code_place, unknown_place, Place, named_slots, target_of}
 use Rattle.fb_value.specs.Rules.{Aligned, from_start, KeepsBy}
 
 -- Numbers and structs stand in their place without references. A struct's field i lies at its offset.
@@ -52,28 +55,36 @@ PresentEntryBy al L b f None d lies = (n : ℤ) × (f.if_absent ≡ Some n) × (
 PresentEntryBy al L b f (Some x) d lies = EntryBy al L b x.sort x.at d lies
 
 -- an element of a vector: a text or table behind its reference, all else in its place
-abbrev pub ElementBy : Aligned → LaidSchema → Bytes → StoredKind → ℕ → Option Target → Datum → (Sort → ℕ → Type 0) → Type 0
+abbrev pub ElementBy : Aligned → LaidSchema → Bytes → StoredKind → ℕ → Option Target → Datum → (Sort → ℕ → Type 0)
+    → Type 0
 ElementBy al L b kind p None d lies = LiesInline L b kind p d
 ElementBy al L b kind p (Some X) d lies = BehindBy al L b (ref_place X) p lies
 
 abbrev mutual
   pub LiesBy : Aligned → LaidSchema → Bytes → Sort → ℕ → Datum → Type 0
   LiesBy al L b (inline_place kind) p d = KeepsBy al L b (inline_place kind) p × LiesInline L b kind p d
-  LiesBy al L b (part_place text_part) p (a_text bytes) = KeepsBy al L b (part_place text_part) p × (bytes ≡ part_of b (p + 4) (num b p 4))
-  LiesBy al L b (part_place (vector_part kind)) p (a_vector ds) = KeepsBy al L b (part_place (vector_part kind)) p × (count ds ≡ num b p 4) × LiesItemsBy al L b kind (p + 4) ds
-  LiesBy al L b (part_place (table_part t)) p (a_table type es) = KeepsBy al L b (part_place (table_part t)) p × (type ≡ t) × LiesSlotsBy al L b (slots_of L t) (named_slots L b p 0 (slots_of L t)) es
-  LiesBy al L b (part_place (member_part c t)) p (a_member c2 d) = (c2 ≡ c) × LiesBy al L b (part_place (table_part t)) p d
+  LiesBy al L b (part_place text_part) p (a_text bytes) = KeepsBy al L b (part_place text_part) p
+      × (bytes ≡ part_of b (p + 4) (num b p 4))
+  LiesBy al L b (part_place (vector_part kind)) p (a_vector ds) = KeepsBy al L b (part_place (vector_part kind)) p
+      × (count ds ≡ num b p 4) × LiesItemsBy al L b kind (p + 4) ds
+  LiesBy al L b (part_place (table_part t)) p (a_table type es) = KeepsBy al L b (part_place (table_part t)) p
+      × (type ≡ t) × LiesSlotsBy al L b (slots_of L t) (named_slots L b p 0 (slots_of L t)) es
+  LiesBy al L b (part_place (member_part c t)) p (a_member c2 d) =
+      (c2 ≡ c) × LiesBy al L b (part_place (table_part t)) p d
   LiesBy al L b _ p _ = ⊥
 
   pub LiesItemsBy : Aligned → LaidSchema → Bytes → StoredKind → ℕ → Parts → Type 0
   LiesItemsBy al L b kind p no_parts = Unit {0}
-  LiesItemsBy al L b kind p (more_parts d ds) = ElementBy al L b kind p (target_of kind) d (λ sort q. LiesBy al L b sort q d) × LiesItemsBy al L b kind (p + size_of L kind) ds
+  LiesItemsBy al L b kind p (more_parts d ds) =
+      ElementBy al L b kind p (target_of kind) d (λ sort q. LiesBy al L b sort q d)
+      × LiesItemsBy al L b kind (p + size_of L kind) ds
 
   -- one entry a slot, beside the places that the slots name
   pub LiesSlotsBy : Aligned → LaidSchema → Bytes → List Slot → List (Option Place) → SlotEntries → Type 0
   LiesSlotsBy al L b [] [] no_entries = Unit {0}
   LiesSlotsBy al L b (f ∷ fs) (x ∷ xs) (absent_entry es) = AbsentEntryBy al L b f x × LiesSlotsBy al L b fs xs es
-  LiesSlotsBy al L b (f ∷ fs) (x ∷ xs) (present_entry d es) = PresentEntryBy al L b f x d (λ sort q. LiesBy al L b sort q d) × LiesSlotsBy al L b fs xs es
+  LiesSlotsBy al L b (f ∷ fs) (x ∷ xs) (present_entry d es) =
+      PresentEntryBy al L b f x d (λ sort q. LiesBy al L b sort q d) × LiesSlotsBy al L b fs xs es
   LiesSlotsBy al L b _ _ _ = ⊥
 
 -- what lies at a place, also behind a reference

@@ -13,4 +13,6 @@ is_missing_slot b p k (Some f) = is_missing b p k f
 
 -- The least required slot that is absent is the first of the required ones that is.
 abbrev pub FirstMissing : Type 0
-FirstMissing = (L : LaidSchema) (b : Bytes) (t p : ℕ) → first_missing b p 0 (slots_of L t) ≡ find (λ k. is_missing_slot b p k (slice_get (slots_of L t) k)) (required_slots L t)
+FirstMissing = (L : LaidSchema) (b : Bytes) (t p : ℕ)
+    → first_missing b p 0 (slots_of L t) ≡ find (λ k. is_missing_slot b p k (slice_get (slots_of L t) k))
+    (required_slots L t)

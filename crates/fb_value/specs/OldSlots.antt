@@ -20,5 +20,6 @@ is_in_use (Some f) = not f.deprecated
 -- No table that is reached has a number for a slot that isn't in use.
 abbrev pub OnlyOld : LaidSchema → Bytes → Type 0
 OnlyOld L b =
-    (path : Path) (X : Target) (p t k : ℕ) → Leads L b (root_place L) path (record { sort = part_place X; at = p }) → table_of X ≡ Some t
+    (path : Path) (X : Target) (p t k : ℕ) → Leads L b (root_place L) path (record { sort = part_place X; at = p })
+    → table_of X ≡ Some t
     → is_in_use (slice_get (slots_of L t) k) ≡ false → slot_number b p k ≡ 0

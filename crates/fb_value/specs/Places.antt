@@ -1,7 +1,9 @@
 -- The places of a buffer, and which places each names.
 -- From the FlatBuffers documentation, "FlatBuffer Internals": Tables, Unions, Strings and vectors.
-use Rattle.std.specs.Prelude.{ℕ, zero, suc, ◌+◌, ◌-◌, ◌*◌, ◌^◌, List, [], ◌∷◌, Bool, false, not, ◌&&◌, ◌==◌, nat_lt, nat_le, if◌then◌else◌, Option, None, Some}
-use Rattle.fb_layout.specs.Laid.{LaidSchema, Slot, StoredKind, table_kind, union_kind, code_kind, text_kind, StoredShape, one_of, vector_of, slots_of, member_by_code}
+use Rattle.std.specs.Prelude.{ℕ, zero, suc, ◌+◌, ◌-◌, ◌*◌, ◌^◌, List, [], ◌∷◌, Bool, false, not, ◌&&◌, ◌==◌, nat_lt}
+use Rattle.std.specs.Prelude.{nat_le, if◌then◌else◌, Option, None, Some}
+use Rattle.fb_layout.specs.Laid.{LaidSchema, Slot, StoredKind, table_kind, union_kind, code_kind, text_kind}
+use Rattle.fb_layout.specs.Laid.{StoredShape, one_of, vector_of, slots_of, member_by_code}
 use Rattle.fb_value.specs.Num.{Bytes, num}
 
 -- what a reference leads to; a member is a table under its code
@@ -44,8 +46,11 @@ code_at b p k = if is_present b p k then num b (p + slot_number b p k) 1 else 0
 
 -- A union's value is the table of its code's member. Where no member has the code, nothing is looked at behind it.
 abbrev pub named_union : Bytes → ℕ → ℕ → ℕ → Option ℕ → Option Place
-named_union b p k c None = if not (c == 0) && is_present b p k then Some (record { sort = unknown_place c; at = p + slot_number b p k }) else None
-named_union b p k c (Some t) = if is_present b p k then Some (record { sort = ref_place (member_part c t); at = p + slot_number b p k }) else None
+named_union b p k c None =
+    if not (c == 0) && is_present b p k then Some (record { sort = unknown_place c; at = p + slot_number b p k })
+    else None
+named_union b p k c (Some t) =
+    if is_present b p k then Some (record { sort = ref_place (member_part c t); at = p + slot_number b p k }) else None
 
 -- whether the next slot is required
 abbrev pub next_required : List Slot → Bool
@@ -62,13 +67,16 @@ sort_of b p k fs (one_of kind) = inline_place kind
 
 -- the place that slot k of the table at p names, if it is present
 abbrev pub named_slot : LaidSchema → Bytes → ℕ → ℕ → List Slot → StoredShape → Option Place
-named_slot L b p k fs (one_of (union_kind u)) = let c = code_at b p (k - 1) in named_union b p k c (member_by_code L u c)
-named_slot L b p k fs shape = if is_present b p k then Some (record { sort = sort_of b p k fs shape; at = p + slot_number b p k }) else None
+named_slot L b p k fs (one_of (union_kind u)) = let c = code_at b p (k - 1) in
+    named_union b p k c (member_by_code L u c)
+named_slot L b p k fs shape =
+    if is_present b p k then Some (record { sort = sort_of b p k fs shape; at = p + slot_number b p k }) else None
 
 -- One entry a slot, from slot k on. Deprecated slots aren't looked at.
 unfoldable pub named_slots : LaidSchema → Bytes → ℕ → ℕ → List Slot → List (Option Place)
 named_slots L b p k [] = []
-named_slots L b p k (f ∷ fs) = (if f.deprecated then None else named_slot L b p k fs f.shape) ∷ named_slots L b p (suc k) fs
+named_slots L b p k (f ∷ fs) =
+    (if f.deprecated then None else named_slot L b p k fs f.shape) ∷ named_slots L b p (suc k) fs
 
 -- texts and tables are elements by reference
 abbrev pub target_of : StoredKind → Option Target

@@ -1,8 +1,10 @@
 -- How many bytes are surely enough for a value: this project's own measure, by which it refuses what is too big.
 use Rattle.std.specs.Prelude.{ℕ, ◌+◌, ◌-◌, ◌*◌, max, List, ◌∷◌, length}
-use Rattle.fb_layout.specs.Laid.{LaidSchema, Slot, StoredKind, table_kind, StoredShape, one_of, vector_of, slots_of, size_of, align_of}
+use Rattle.fb_layout.specs.Laid.{LaidSchema, Slot, StoredKind, table_kind, StoredShape, one_of, vector_of, slots_of}
+use Rattle.fb_layout.specs.Laid.{size_of, align_of}
 use Rattle.fb_layout.specs.Widths.{widest, table_align, greatest}
-use Rattle.fb_value.specs.Datum.{Datum, a_text, a_vector, a_table, a_member, Parts, no_parts, more_parts, SlotEntries, absent_entry, present_entry, count}
+use Rattle.fb_value.specs.Datum.{Datum, a_text, a_vector, a_table, a_member, Parts, no_parts, more_parts, SlotEntries}
+use Rattle.fb_value.specs.Datum.{absent_entry, present_entry, count}
 
 -- a table and its vtable, without what the table's references name
 abbrev pub table_room : LaidSchema → ℕ → ℕ

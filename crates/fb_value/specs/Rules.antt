@@ -1,12 +1,17 @@
 -- What has to hold at each place, in order, and the fault where it doesn't.
--- From the FlatBuffers documentation, "FlatBuffer Internals" and "Verification"; a union's code and value stand together.
-use Rattle.std.specs.Prelude.{ℕ, suc, ◌+◌, ◌-◌, ◌*◌, ◌^◌, ◌≡◌, List, [], ◌∷◌, length, slice_index, Bool, true, false, not, ◌&&◌, ◌||◌, ◌==◌, nat_lt, nat_le, if◌then◌else◌, Option, None, Some, is_none, unwrap_or}
+-- From the FlatBuffers documentation, "FlatBuffer Internals" and "Verification"; a union's code and value stand
+-- together.
+use Rattle.std.specs.Prelude.{ℕ, suc, ◌+◌, ◌-◌, ◌*◌, ◌^◌, ◌≡◌, List, [], ◌∷◌, length, slice_index, Bool, true, false}
+use Rattle.std.specs.Prelude.{not, ◌&&◌, ◌||◌, ◌==◌, nat_lt, nat_le, if◌then◌else◌, Option, None, Some, is_none}
+use Rattle.std.specs.Prelude.{unwrap_or}
 use Rattle.std.specs.Str.Lossy.{utf8_valid_len}
 use Rattle.fb_layout.specs.Laid.{LaidSchema, Slot, union_kind, StoredShape, one_of, slots_of, size_of, align_of}
 use Rattle.fb_value.specs.declared.faults.ReadFault.{ReadFault}
-use Rattle.fb_value.specs.declared.faults.ReadFault.TheVariants.{Misaligned, OutOfBounds, ZeroOffset, BadVtable, MissingRequired, NoTerminator, BadUtf8, UnionMismatch}
+use Rattle.fb_value.specs.declared.faults.ReadFault.TheVariants.{Misaligned, OutOfBounds, ZeroOffset, BadVtable}
+use Rattle.fb_value.specs.declared.faults.ReadFault.TheVariants.{MissingRequired, NoTerminator, BadUtf8, UnionMismatch}
 use Rattle.fb_value.specs.Num.{Bytes, num, divides, part_of}
-use Rattle.fb_value.specs.Places.{Target, table_part, member_part, text_part, vector_part, Sort, ref_place, part_place, inline_place, code_place, unknown_place, vtable, is_present}
+use Rattle.fb_value.specs.Places.{Target, table_part, member_part, text_part, vector_part, Sort, ref_place, part_place}
+use Rattle.fb_value.specs.Places.{inline_place, code_place, unknown_place, vtable, is_present}
 
 -- a rule: the fault where it fails, and whether it holds
 abbrev pub Rule : Type 0
@@ -30,7 +35,8 @@ has_vtable_by al b p =
     let s = num b p 4 in
     let q = vtable b p in
     let z = num b q 2 in
-    not (nat_lt s (2 ^ 31) && nat_lt p s) && al 2 q && nat_le (q + 2) (length b) && divides 2 z && nat_le 4 z && nat_le (q + z) (length b)
+    not (nat_lt s (2 ^ 31) && nat_lt p s) && al 2 q && nat_le (q + 2) (length b) && divides 2 z && nat_le 4 z
+    && nat_le (q + z) (length b)
 
 abbrev pub is_union : StoredShape → Bool
 is_union (one_of (union_kind u)) = true
@@ -48,7 +54,8 @@ first_missing b p k (f ∷ fs) = if is_missing b p k f then Some k else first_mi
 abbrev pub table_rules : Aligned → LaidSchema → Bytes → ℕ → ℕ → List Rule
 table_rules al L b t p =
     let missing = first_missing b p 0 (slots_of L t) in
-    (Misaligned p, al 4 p) ∷ (OutOfBounds p, nat_le (p + 4) (length b)) ∷ (BadVtable p, has_vtable_by al b p) ∷ (MissingRequired p (unwrap_or missing 0), is_none missing) ∷ []
+    (Misaligned p, al 4 p) ∷ (OutOfBounds p, nat_le (p + 4) (length b)) ∷ (BadVtable p, has_vtable_by al b p)
+    ∷ (MissingRequired p (unwrap_or missing 0), is_none missing) ∷ []
 
 -- n bytes behind their count, UTF-8, and a zero byte behind them
 abbrev pub text_rules : Aligned → Bytes → ℕ → List Rule
@@ -56,14 +63,17 @@ text_rules al b p =
     let n = num b p 4 in
     let end = (p + 4) + n in
     let valid = utf8_valid_len (part_of b (p + 4) n) in
-    (Misaligned p, al 4 p) ∷ (OutOfBounds p, nat_le (p + 4) (length b) && nat_le end (length b)) ∷ (NoTerminator end, nat_lt end (length b) && (slice_index b end == 0)) ∷ (BadUtf8 ((p + 4) + valid), valid == n) ∷ []
+    (Misaligned p, al 4 p) ∷ (OutOfBounds p, nat_le (p + 4) (length b) && nat_le end (length b))
+    ∷ (NoTerminator end, nat_lt end (length b) && (slice_index b end == 0))
+    ∷ (BadUtf8 ((p + 4) + valid), valid == n) ∷ []
 
 -- n elements of a size and an alignment behind their count
 abbrev pub vector_rules : Aligned → Bytes → ℕ → ℕ → ℕ → List Rule
 vector_rules al b size align p =
     let n = num b p 4 in
     let start = p + 4 in
-    (Misaligned p, al 4 p && (nat_lt (length b) start || (n == 0) || al align start)) ∷ (OutOfBounds p, nat_le start (length b) && nat_le (start + n * size) (length b)) ∷ []
+    (Misaligned p, al 4 p && (nat_lt (length b) start || (n == 0) || al align start))
+    ∷ (OutOfBounds p, nat_le start (length b) && nat_le (start + n * size) (length b)) ∷ []
 
 abbrev pub part_rules : Aligned → LaidSchema → Bytes → Target → ℕ → List Rule
 part_rules al L b (table_part t) p = table_rules al L b t p
@@ -73,12 +83,15 @@ part_rules al L b (vector_part kind) p = vector_rules al b (size_of L kind) (ali
 
 -- The rules at a place, in their order.
 abbrev pub rules_by : Aligned → LaidSchema → Bytes → Sort → ℕ → List Rule
-rules_by al L b (ref_place X) p = (Misaligned p, al 4 p) ∷ (OutOfBounds p, nat_le (p + 4) (length b)) ∷ (ZeroOffset p, nat_lt 0 (num b p 4)) ∷ []
+rules_by al L b (ref_place X) p =
+    (Misaligned p, al 4 p) ∷ (OutOfBounds p, nat_le (p + 4) (length b)) ∷ (ZeroOffset p, nat_lt 0 (num b p 4)) ∷ []
 rules_by al L b (part_place X) p = part_rules al L b X p
-rules_by al L b (inline_place kind) p = (Misaligned p, al (align_of L kind) p) ∷ (OutOfBounds p, nat_le (p + size_of L kind) (length b)) ∷ []
+rules_by al L b (inline_place kind) p =
+    (Misaligned p, al (align_of L kind) p) ∷ (OutOfBounds p, nat_le (p + size_of L kind) (length b)) ∷ []
 rules_by al L b (code_place u k required present) p =
     let c = num b p 1 in
-    (OutOfBounds p, nat_le (p + 1) (length b)) ∷ (MissingRequired p k, not (required && (c == 0))) ∷ (UnionMismatch p, (c == 0) || present) ∷ []
+    (OutOfBounds p, nat_le (p + 1) (length b)) ∷ (MissingRequired p k, not (required && (c == 0)))
+    ∷ (UnionMismatch p, (c == 0) || present) ∷ []
 rules_by al L b (unknown_place c) p = []
 
 -- the first rule that fails there

@@ -1,5 +1,6 @@
 -- What lies in a tail of a buffer: its front bytes aren't there yet, so positions count from the end.
--- From the FlatBuffers documentation, "FlatBuffer Internals": a buffer is built from its end, and aligned where it starts.
+-- From the FlatBuffers documentation, "FlatBuffer Internals": a buffer is built from its end, and aligned where it
+-- starts.
 use Rattle.std.specs.Prelude.{ℕ, ◌-◌, ◌≤◌, length, ◌&&◌}
 use Rattle.fb_layout.specs.Laid.{LaidSchema}
 use Rattle.fb_value.specs.Datum.{Datum}

@@ -1,6 +1,7 @@
 -- What a shape wants.
 use Rattle.std.specs.Prelude.{ℕ, Bool, true, false, Option, None, Some}
-use Rattle.fb_layout.specs.Laid.{LaidSchema, StoredKind, scalar_kind, struct_kind, table_kind, union_kind, text_kind, StoredShape, one_of, vector_of, member_by_code}
+use Rattle.fb_layout.specs.Laid.{LaidSchema, StoredKind, scalar_kind, struct_kind, table_kind, union_kind, text_kind}
+use Rattle.fb_layout.specs.Laid.{StoredShape, one_of, vector_of, member_by_code}
 
 -- what the elements are, where it wants a vector
 abbrev pub elements_wanted : StoredShape → Option StoredKind

@@ -55,10 +55,7 @@ fn copy_parts(alloc: Global, parts: &[Value]) -> Result<Vec<Value>, AllocError>
 }
 
 #[cycle(copy)]
-fn copy_entries(
-    alloc: Global,
-    entries: &[Option<Value>],
-) -> Result<Vec<Option<Value>>, AllocError>
+fn copy_entries(alloc: Global, entries: &[Option<Value>]) -> Result<Vec<Option<Value>>, AllocError>
     ensures { IfOk result (λ copied. entries_view copied.items ≡ entries_view entries.now) }
 {
     let mut copied = Vec::with_capacity(alloc, entries.len())?;

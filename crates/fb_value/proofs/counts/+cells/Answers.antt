@@ -13,7 +13,7 @@ pub cells_in-returns-in_err-cells_in_entries-in-Fields : goal.cells_in-returns-i
 cells_in-returns-in_err-cells_in_entries-in-Fields t c =
     rw (c.from_residual-in_err-cells_in_entries-in-Fields.ensures, c.in-Fields.is, view-Fields)
     (not_below (entries_cells (entries_view c.in-Fields.entries.items))
-        (rw c.deref-in-Fields.ensures.value at c.in_err-cells_in_entries-in-Fields.ensures))
+    (rw c.deref-in-Fields.ensures.value at c.in_err-cells_in_entries-in-Fields.ensures))
 
 pub cells_in_entries-returns : goal.cells_in_entries-returns
 cells_in_entries-returns t c =

@@ -13,7 +13,7 @@ pub depth_in-returns-in_err-depth_in_entries-in-Fields : goal.depth_in-returns-i
 depth_in-returns-in_err-depth_in_entries-in-Fields t c =
     rw (c.from_residual.ensures, c.in-Fields.is, view-Fields)
     (not_below (entries_depth (entries_view c.in-Fields.entries.items))
-        (rw c.deref.ensures.value at c.in_err-depth_in_entries-in-Fields.ensures))
+    (rw c.deref.ensures.value at c.in_err-depth_in_entries-in-Fields.ensures))
 
 pub depth_in_entries-returns : goal.depth_in_entries-returns
 depth_in_entries-returns t c =
