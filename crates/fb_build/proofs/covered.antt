@@ -1,7 +1,6 @@
 pub mod ChunksJoin
 pub mod DistinctNumbersAreListedOnce
 pub mod ExampleBuffersAreCovered
-pub mod ExampleBuffersHaveSlack
 pub mod HeaderCompletesTheBuffer
 pub mod LaidBufferIsCovered
 pub mod PartAddsItself
@@ -15,5 +14,4 @@ pub mod SameBytesReadTheSameFurtherOn
 pub mod TightStructStaysTightFurtherOn
 pub mod TightTableStaysTightFurtherOn
 pub mod TightTailIsCovered
-pub mod UncoveredBytesAreZero
 pub mod ZeroOutsideIsComputed
