@@ -3,6 +3,7 @@ pub mod Tails
 pub mod Fields
 pub mod TableBytes
 pub mod FieldEnds
+pub mod FieldOrder
 pub mod Vtables
 pub mod Needs
 pub mod Paired

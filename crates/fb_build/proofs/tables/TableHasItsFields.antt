@@ -25,7 +25,7 @@ use Rattle.fb_build.specs.InlineBytes.{IsTightInline, EachInline, EachInlineAt, 
 use Rattle.fb_build.specs.TableBytes.{offset_from}
 use Rattle.fb_build.proofs.fields.FieldHasItsValue.{default_known}
 use Rattle.fb_value.proofs.Moved.{hold, no_rules}
-use Rattle.fb_build.proofs.fields.PassTakesOneSlot.{in_mapped}
+use Rattle.fb_build.proofs.fields.SlotStoresItsEntry.{in_mapped}
 use Rattle.fb_build.specs.Paired.{ArePaired}
 
 entry_from : (al : Aligned) (L : LaidSchema) (b : Bytes) (sort : Sort) (p : ℕ) (d : Datum) (lies : Sort → ℕ → Type 0)

@@ -31,7 +31,7 @@ use Rattle.fb_build.specs.TableBytes.{offset_from}
 use Rattle.fb_build.specs.Tails.{TailSeen, Grows}
 use Rattle.fb_build.specs.Taken.{is_within}
 use Rattle.fb_build.proofs.tail.WhatIsLaidStaysLaid.{lower}
-use Rattle.fb_build.proofs.fields.PassTakesOneSlot.{in_mapped}
+use Rattle.fb_build.proofs.fields.SlotStoresItsEntry.{in_mapped}
 use Rattle.fb_build.proofs.vtables.VtableHasTheStoredFields.{TellsStored, stored_size, stored_greatest, in_stored}
 use Rattle.fb_build.proofs.vtables.VtableHasTheStoredFields.{IsNoDefault, none_default, StandsInside, TheyStandApart}
 use Rattle.fb_build.proofs.vtables.VtableHasTheStoredFields.{all_apart, all_bits, number_at, tells_stored}

@@ -13,7 +13,7 @@ use Rattle.fb_build.specs.Fields.{ref_or}
 use Rattle.fb_build.specs.Paired.{ArePaired}
 use Rattle.fb_build.specs.Pieces.{PartAt, reached, reached_named, reached_entries}
 use Rattle.fb_build.specs.Made.{LeadsTo, FieldLeads, named_of, named_stored, named_fields, parts_at, ends_parts}
-use Rattle.fb_build.proofs.fields.PassTakesOneSlot.{in_mapped}
+use Rattle.fb_build.proofs.fields.SlotStoresItsEntry.{in_mapped}
 use Rattle.fb_build.proofs.tables.TableHasItsFields.{no_place, no_code_entry, got, stored_get, p, IsOwn, SlotKnown}
 use Rattle.fb_build.proofs.tables.TableHasItsFields.{place_of, something_there, nothing_there, empty, stored_number}
 use Rattle.fb_build.proofs.tables.TableHasItsFields.{there, code_there, value_known, code_known}
