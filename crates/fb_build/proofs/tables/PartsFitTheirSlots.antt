@@ -26,7 +26,7 @@ use Rattle.fb_build.proofs.fields.AlignmentDividesTheSize.{all_known}
 use Rattle.fb_value.specs.Counts.{is_whole, parts_whole, entries_whole}
 use Rattle.fb_build.proofs.fields.NumbersHaveDefaults.{slots_default}
 use Rattle.fb_build.proofs.fields.CodeIsBeforeItsUnion.{slots_paired, stored_known, entry_whole}
-use Rattle.fb_build.proofs.tables.TableHasItsFields.{no_code_entry}
+use Rattle.fb_build.proofs.tables.CodeSlotHasNoEntry.{no_code_entry}
 use Rattle.fb_build.specs.Needs.{first_waits, need, parts_need, entries_count, entries_need, entry_need}
 use Rattle.std.proofs.lemmas.Bool.{and_parts}
 use Rattle.fb_build.proofs.fields.FieldHasItsValue.{entry_grown, target_grown}

@@ -13,7 +13,7 @@ use Rattle.fb_build.specs.TableBytes.{offset_from, offset_bytes, vtable_bytes}
 use Rattle.fb_build.specs.FieldEnds.{stored_end, field_end, ends_from, field_ends, used_slots, table_size}
 use Rattle.fb_build.specs.FieldEnds.{table_vtable, AreCounted}
 use Rattle.fb_build.proofs.fields.AlignmentDividesTheSize.{simple_some}
-use Rattle.fb_build.proofs.tables.TableHasItsFields.{got}
+use Rattle.fb_build.proofs.tables.CodeSlotHasNoEntry.{got}
 use Rattle.fb_build.proofs.fields.FieldEndsBehindThoseBefore.{own_end}
 use Rattle.fb_build.proofs.order.LaidFieldsTakeTheirSizes.{placed_part}
 

@@ -10,7 +10,7 @@ use Rattle.fb_build.proofs.fields.AlignmentDividesTheSize.{simple_some}
 use Rattle.fb_build.proofs.fields.SlotStoresItsEntry.{slots_at, slots_long}
 use Rattle.fb_build.proofs.order.FieldsArePlacedInOrder.{none_placed, next_placed, size_placed, ends_placed}
 use Rattle.fb_build.proofs.order.NextFieldIsNamed.{named, link_low, room_of_next}
-use Rattle.fb_build.proofs.tables.TableHasItsFields.{got}
+use Rattle.fb_build.proofs.tables.CodeSlotHasNoEntry.{got}
 use Rattle.fb_build.proofs.keys.place_fields.Goals as goal
 
 pub loop-next-init : goal.loop-next-init
