@@ -20,6 +20,7 @@ pub(crate) fn link_at(links: &[u8], k: usize) -> usize
     links[2 * k] as usize + 256 * links[2 * k + 1] as usize
 }
 
+/// Links slot k to another, one up; to none by 0.
 fn put_link(links: &mut [u8], k: usize, link: usize)
     requires within { 2 * k + 1 < length links.old }
     requires small { link < 65536 }

@@ -9,8 +9,8 @@ use Rattle.fb_value.specs.Num.{Bytes, divides}
 use Rattle.fb_value.proofs.TailsKept.{through}
 use Rattle.fb_build.specs.Tails.{TailSeen, Grows}
 use Rattle.fb_build.specs.Fields.{AreKnown, EntriesEnd, StoredEnd, is_stored, fields_size, stored_align}
-use Rattle.fb_build.specs.FieldOrder.{before, SameOfStored, AreLinked, link_in}
-use Rattle.fb_build.specs.FieldsLaid.{AreSlotsLaid, AreLaidUpTo, LeadSoFar}
+use Rattle.fb_build.specs.FieldOrder.{LinksNext, before, SameOfStored, AreLinked, link_in, size_from}
+use Rattle.fb_build.specs.FieldsLaid.{AreSlotsLaid}
 use Rattle.fb_build.specs.Made.{FieldLeads, FieldsLead}
 use Rattle.fb_build.proofs.tail.WhatIsLaidStaysLaid.{power_divides, grown_long}
 use Rattle.fb_build.proofs.fields.AlignmentDividesTheSize.{simple_aligned}
@@ -22,6 +22,22 @@ use Rattle.fb_build.proofs.fields.SlotStoresItsEntry.{passed_laid, whole_step}
 use Rattle.fb_build.proofs.order.LaidFieldsTakeTheirSizes.{size_retested, size_all, size_none}
 use Rattle.fb_build.proofs.order.NextFieldIsNamed.{IsNamed, waits, still_waits, end_of_next, size_of_next}
 use Rattle.fb_build.proofs.order.NextFieldIsNamed.{lower_behind, align_least}
+
+-- Where references lead once what passes a test is laid.
+abbrev pub LeadSoFar : Bytes → (ℕ → Slot → Bool) → List Slot → List (Option Datum) → List ℕ → List ℕ → Type 0
+LeadSoFar s laid fs xs targets ends = (k : ℕ) (f : Slot) (x : Option Datum) → slice_get fs k ≡ Some f
+    → slice_get xs k ≡ Some x → FieldLeads s (is_stored f x && laid k f) f x (slice_index targets k) (slice_index ends k)
+
+-- The fields before the slot that a link names are laid, and each other one may be laid here by its alignment.
+pub record AreLaidUpTo (L : LaidSchema) (tail : TailSeen) (fs : List Slot) (xs : List (Option Datum)) (start : ℕ)
+    (targets ends : List ℕ) (link : ℕ) : Type 0 where
+  pub laid : ℕ → Slot → Bool
+  pub next : LinksNext L laid fs xs link
+  pub slots : AreSlotsLaid L tail laid fs xs start ends
+  pub leads : LeadSoFar tail.bytes laid fs xs targets ends
+  pub size : length tail.bytes ≡ start + size_from L laid 0 fs xs
+  pub whole : (k : ℕ) (f : Slot) (x : Option Datum) → slice_get fs k ≡ Some f → slice_get xs k ≡ Some x
+      → is_stored f x ≡ true → laid k f ≡ false → divides (inline_align L f.shape) (length tail.bytes) ≡ true
 
 both_false : (b : Bool) → (b && false) ≡ false
 both_false true = refl

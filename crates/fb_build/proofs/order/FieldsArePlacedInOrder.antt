@@ -6,13 +6,20 @@ use Rattle.fb_layout.specs.Widths.{inline_size, inline_align}
 use Rattle.fb_value.specs.Datum.{Datum}
 use Rattle.fb_value.specs.Num.{Bytes}
 use Rattle.fb_build.specs.Fields.{AreKnown, is_stored, fields_size}
-use Rattle.fb_build.specs.FieldEnds.{stored_end, field_ends}
-use Rattle.fb_build.specs.FieldOrder.{before, SameOfStored, AreLinked, link_in}
-use Rattle.fb_build.specs.FieldsLaid.{ArePlacedUpTo}
+use Rattle.fb_build.specs.FieldEnds.{stored_end, field_ends, ArePlaced}
+use Rattle.fb_build.specs.FieldOrder.{before, SameOfStored, LinksNext, AreLinked, link_in, size_from}
 use Rattle.fb_build.proofs.fields.FieldEndsBehindThoseBefore.{Placed, end_put, end_retested}
 use Rattle.fb_build.proofs.order.LaidFieldsTakeTheirSizes.{size_retested, size_all, size_none}
 use Rattle.fb_build.proofs.order.NextFieldIsNamed.{IsNamed, end_of_next, size_of_next}
 use Rattle.fb_build.proofs.vtables.VtableHasTheDefinedBytes.{placed_list}
+
+-- The fields before the slot that a link names are placed, and end there.
+pub record ArePlacedUpTo (L : LaidSchema) (fs : List Slot) (xs : List (Option Datum)) (ends : List ℕ) (end link : ℕ)
+    : Type 0 where
+  pub laid : ℕ → Slot → Bool
+  pub next : LinksNext L laid fs xs link
+  pub placed : ArePlaced L laid fs xs ends
+  pub size : end ≡ size_from L laid 0 fs xs
 
 passes_none : (b : Bool) (e : ℕ) → 0 ≡ (if b && false then e else 0)
 passes_none true e = refl

@@ -1,7 +1,7 @@
 use Rattle.std.proofs.Common.{◌≡◌, ◌≤◌, length}
 use Rattle.fb_build.specs.Tails.{Grows}
 use Rattle.fb_build.specs.Fields.{slots_seen, stored_seen}
-use Rattle.fb_build.specs.FieldsLaid.{AreLaidUpTo}
+use Rattle.fb_build.proofs.fields.FieldsAreLaidInOrder.{AreLaidUpTo}
 use Rattle.fb_build.proofs.fields.lay_fields.Given as goal
 
 abbrev pub invariant-loop-next : goal.invariant-loop-next

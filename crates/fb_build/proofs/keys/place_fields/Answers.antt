@@ -4,7 +4,7 @@ use Rattle.fb_layout.specs.Laid.{slot_of}
 use Rattle.fb_layout.specs.Widths.{inline_size}
 use Rattle.fb_build.specs.Fields.{slots_seen, stored_seen}
 use Rattle.fb_build.specs.FieldOrder.{link_in}
-use Rattle.fb_build.specs.FieldsLaid.{ArePlacedUpTo}
+use Rattle.fb_build.proofs.order.FieldsArePlacedInOrder.{ArePlacedUpTo}
 use Rattle.fb_build.proofs.buffers.ReservedMemoryIsZero.{zero_in}
 use Rattle.fb_build.proofs.fields.AlignmentDividesTheSize.{simple_some}
 use Rattle.fb_build.proofs.fields.SlotStoresItsEntry.{slots_at, slots_long}

@@ -1,6 +1,6 @@
 use Rattle.std.proofs.Common.{◌≡◌, ◌≤◌, ◌-◌, length}
 use Rattle.fb_build.specs.Fields.{fields_size, slots_seen, stored_seen}
-use Rattle.fb_build.specs.FieldsLaid.{ArePlacedUpTo}
+use Rattle.fb_build.proofs.order.FieldsArePlacedInOrder.{ArePlacedUpTo}
 use Rattle.fb_build.proofs.keys.place_fields.Given as goal
 
 abbrev pub invariant-loop-next : goal.invariant-loop-next
