@@ -1,5 +1,5 @@
 -- Worked buffers with structs that are covered.
-use Rattle.std.specs.Prelude.{◌+◌, ◌++◌, [], ◌∷◌, replicate, refl}
+use Rattle.std.specs.Prelude.{◌++◌, [], ◌∷◌, replicate, refl}
 use Rattle.std.proofs.Common.{lit≤, inl, inr}
 use Rattle.fb_value.specs.Num.{num}
 use Rattle.fb_value.specs.Places.{slot_number, named_slots}

@@ -76,13 +76,16 @@ pub list_passed : (L : LaidSchema) (a first last m : ℕ) (fs : List Slot) (xs :
 list_passed L a first last m fs xs links out h = record {
   begin = elim h.begin [
     | inl none ↦ inl (none.0, none_more L a 0 m fs xs none.1 out)
-    | inr ends ↦ inr (first_more L a first m fs xs ends.0, record {
+    | inr ends ↦ inr (
+      first_more L a first m fs xs ends.0,
+      record {
         slot = ends.1.slot;
         is = ends.1.is;
         under = omega (arith, ends.1.under);
         there = ends.1.there;
         none = none_more L a (ends.1.slot + 1) m fs xs ends.1.none out;
-      })
+      },
+    )
   ];
   each = λ j under at. by_slot j under at (lower m j);
 }
@@ -160,8 +163,10 @@ pub list_grown : (L : LaidSchema) (a first last m : ℕ) (fs : List Slot) (xs : 
     → ((j : ℕ) → (j ≡ last - 1 → ⊥) → link_in new j ≡ link_in links j) → IsList L a fs xs links first last m
     → IsList L a fs xs new first (m + 1) (m + 1)
 list_grown L a first last m fs xs links new some own linked others h = record {
-  begin = inr (first_more L a first m fs xs (the_first L a first last m fs xs links some h),
-      record { slot = m; is = refl; under = omega arith; there = own; none = none_yet L a (m + 1) fs xs });
+  begin = inr (
+    first_more L a first m fs xs (the_first L a first last m fs xs links some h),
+    record { slot = m; is = refl; under = omega arith; there = own; none = none_yet L a (m + 1) fs xs },
+  );
   each = λ j under at. by_slot j under at (lower m j);
 }
   where

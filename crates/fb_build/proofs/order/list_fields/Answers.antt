@@ -1,8 +1,8 @@
-use Rattle.std.proofs.Common.{◌-◌, ◌^◌, true, sym, ◌∙◌, option_map, arith}
+use Rattle.std.proofs.Common.{◌^◌, sym, ◌∙◌, option_map, arith}
 use Rattle.fb_schema.specs.Seen.{field_seen}
 use Rattle.fb_layout.specs.Laid.{slot_of}
 use Rattle.fb_value.specs.View.{view}
-use Rattle.fb_build.specs.Fields.{is_stored, stored_here, slots_seen, stored_seen}
+use Rattle.fb_build.specs.Fields.{stored_here, slots_seen, stored_seen}
 use Rattle.fb_build.specs.FieldOrder.{IsStoredAt}
 use Rattle.fb_build.proofs.fields.AlignmentDividesTheSize.{simple_aligned}
 use Rattle.fb_build.proofs.fields.SlotStoresItsEntry.{slots_at, stored_at}
@@ -48,31 +48,31 @@ loop-k-preserved c =
           } in
           elim w.if-firsts-class-eq0.branch [
             | then-firsts-class-eq0 v ↦ record {
-                long = rw (w.links-is, v.links-is) inv.long;
-                all_firsts = c.if-is_stored.array_long;
-                all_lasts = c.if-is_stored.array_long2;
-                lists = rw (w.links-is, w.firsts-is, w.lasts-is, v.links-is, v.firsts-is)
-                    (slot_opens L class k fs xs _ _ _ w.class_of-class.ensures.low
-                    (omega (arith, inv.all_firsts, w.class_of-class.ensures.low))
-                    (omega (arith, inv.all_lasts, w.class_of-class.ensures.low)) v.if-firsts-class-eq0.true own
-                    inv.lists);
-              }
+              long = rw (w.links-is, v.links-is) inv.long;
+              all_firsts = c.if-is_stored.array_long;
+              all_lasts = c.if-is_stored.array_long2;
+              lists = rw (w.links-is, w.firsts-is, w.lasts-is, v.links-is, v.firsts-is)
+                  (slot_opens L class k fs xs _ _ _ w.class_of-class.ensures.low
+                  (omega (arith, inv.all_firsts, w.class_of-class.ensures.low))
+                  (omega (arith, inv.all_lasts, w.class_of-class.ensures.low)) v.if-firsts-class-eq0.true own
+                  inv.lists);
+            }
             | else-firsts-class-eq0 v ↦ record {
-                long = rw (w.links-is, v.links-is) (v.put_link.ensures.long ∙ inv.long);
-                all_firsts = c.if-is_stored.array_long;
-                all_lasts = c.if-is_stored.array_long2;
-                lists = rw (w.links-is, w.firsts-is, w.lasts-is, v.links-is, v.firsts-is)
-                    (slot_follows L class k fs xs _ _ _ _ w.class_of-class.ensures.low
-                    (omega (arith, inv.all_lasts, w.class_of-class.ensures.low)) v.if-firsts-class-eq0.false own
-                    v.put_link.ensures.there v.put_link.ensures.others inv.lists);
-              }
+              long = rw (w.links-is, v.links-is) (v.put_link.ensures.long ∙ inv.long);
+              all_firsts = c.if-is_stored.array_long;
+              all_lasts = c.if-is_stored.array_long2;
+              lists = rw (w.links-is, w.firsts-is, w.lasts-is, v.links-is, v.firsts-is)
+                  (slot_follows L class k fs xs _ _ _ _ w.class_of-class.ensures.low
+                  (omega (arith, inv.all_lasts, w.class_of-class.ensures.low)) v.if-firsts-class-eq0.false own
+                  v.put_link.ensures.there v.put_link.ensures.others inv.lists);
+            }
           ]
       | else-is_stored w ↦ record {
-          long = rw w.links-is inv.long;
-          all_firsts = c.if-is_stored.array_long;
-          all_lasts = c.if-is_stored.array_long2;
-          lists = rw (w.links-is, w.firsts-is, w.lasts-is) (λ d low. list_passed L (2 ^ d) _ _ k fs xs _
-              (λ at. unstored L (2 ^ d) k fs xs f x fk xk (sym c.is_stored.ensures ∙ w.if-is_stored.false) at)
-              (inv.lists d low));
-        }
+        long = rw w.links-is inv.long;
+        all_firsts = c.if-is_stored.array_long;
+        all_lasts = c.if-is_stored.array_long2;
+        lists = rw (w.links-is, w.firsts-is, w.lasts-is) (λ d low. list_passed L (2 ^ d) _ _ k fs xs _
+            (λ at. unstored L (2 ^ d) k fs xs f x fk xk (sym c.is_stored.ensures ∙ w.if-is_stored.false) at)
+            (inv.lists d low));
+      }
     ]

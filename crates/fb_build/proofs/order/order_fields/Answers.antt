@@ -46,24 +46,24 @@ loop-class-preserved c =
     let list = inv.lists class (omega arith) few in
     elim c.if-firsts-class-ne0.branch [
       | then-firsts-class-ne0 w ↦ record {
-          long = rw w.links-is (w.put_link.ensures.long ∙ inv.long);
-          next = rw w.next-is (list_first L class _ _ fs xs c.loop-class.links c.requires.known w.if-firsts-class-ne0.true
-              list);
-          linked = rw w.links-is (linked_joined L class _ _ c.loop-class.next fs xs c.loop-class.links
-              w.put_link.new.links c.requires.known w.if-firsts-class-ne0.true list w.put_link.ensures.there
-              w.put_link.ensures.others inv.next inv.linked);
-          lists = rw w.links-is (λ d over low. higher_kept L class d _ _ _ _ fs xs c.loop-class.links
-              w.put_link.new.links w.if-firsts-class-ne0.true list (omega (arith, over)) w.put_link.ensures.others
-              (inv.lists d (omega (arith, over)) low));
-        }
+        long = rw w.links-is (w.put_link.ensures.long ∙ inv.long);
+        next = rw w.next-is (list_first L class _ _ fs xs c.loop-class.links c.requires.known w.if-firsts-class-ne0.true
+            list);
+        linked = rw w.links-is (linked_joined L class _ _ c.loop-class.next fs xs c.loop-class.links
+            w.put_link.new.links c.requires.known w.if-firsts-class-ne0.true list w.put_link.ensures.there
+            w.put_link.ensures.others inv.next inv.linked);
+        lists = rw w.links-is (λ d over low. higher_kept L class d _ _ _ _ fs xs c.loop-class.links
+            w.put_link.new.links w.if-firsts-class-ne0.true list (omega (arith, over)) w.put_link.ensures.others
+            (inv.lists d (omega (arith, over)) low));
+      }
       | else-firsts-class-ne0 w ↦ record {
-          long = rw w.links-is inv.long;
-          next = rw w.next-is (list_empty L class _ _ c.loop-class.next fs xs c.loop-class.links c.requires.known
-              w.if-firsts-class-ne0.false list inv.next);
-          linked = rw w.links-is (linked_still L class _ _ fs xs c.loop-class.links c.requires.known
-              w.if-firsts-class-ne0.false list inv.linked);
-          lists = rw w.links-is (λ d over low. inv.lists d (omega (arith, over)) low);
-        }
+        long = rw w.links-is inv.long;
+        next = rw w.next-is (list_empty L class _ _ c.loop-class.next fs xs c.loop-class.links c.requires.known
+            w.if-firsts-class-ne0.false list inv.next);
+        linked = rw w.links-is (linked_still L class _ _ fs xs c.loop-class.links c.requires.known
+            w.if-firsts-class-ne0.false list inv.linked);
+        lists = rw w.links-is (λ d over low. inv.lists d (omega (arith, over)) low);
+      }
     ]
 
 pub returns-clause-linked : goal.returns-clause-linked

@@ -1,5 +1,5 @@
 -- A part is laid as its kind asks.
-use Rattle.std.proofs.Common.{◌≡◌, ◌-◌, rules}
+use Rattle.std.proofs.Common.{◌≡◌, rules}
 use Rattle.fb_layout.specs.Laid.{stored_shape}
 use Rattle.fb_value.specs.View.{view}
 use Rattle.fb_value.specs.declared.values.Value.{the_lemmas}

@@ -1,5 +1,5 @@
 -- What a table refers to is laid slot by slot.
-use Rattle.std.proofs.Common.{ℕ, ◌≡◌, ◌<◌, ◌-◌, true, false, Option, List, get_or, Some, option_map, take, refl, subst}
+use Rattle.std.proofs.Common.{ℕ, ◌≡◌, ◌<◌, Option, List, get_or, Some, option_map, take, refl, subst}
 use Rattle.std.proofs.Common.{length, arith, rules}
 use Rattle.fb_schema.specs.Seen.{field_seen}
 use Rattle.fb_layout.specs.Laid.{slot_of}
