@@ -1,7 +1,7 @@
 pub mod ChunksJoin
 pub mod DistinctNumbersAreListedOnce
 pub mod ExampleBuffersAreCovered
-pub mod ExampleBuffersHaveSlack
+pub mod ExampleStructsAreCovered
 pub mod HeaderCompletesTheBuffer
 pub mod LaidBufferIsCovered
 pub mod PartAddsItself
@@ -11,8 +11,9 @@ pub mod PartsStayAsLaid
 pub mod ReachedPartsAreListed
 pub mod ReachedVtablesAreInside
 pub mod ReferenceLeadsThereFurtherOn
+pub mod SameBytesReadTheSameFurtherOn
+pub mod TestsTellWhatIsCovered
 pub mod TightStructStaysTightFurtherOn
 pub mod TightTableStaysTightFurtherOn
 pub mod TightTailIsCovered
-pub mod UncoveredBytesAreZero
 pub mod ZeroOutsideIsComputed

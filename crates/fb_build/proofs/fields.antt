@@ -3,7 +3,8 @@ pub mod CodeIsBeforeItsUnion
 pub mod FieldEndsBehindThoseBefore
 pub mod FieldHasItsValue
 pub mod FieldLeadsToItsTarget
+pub mod FieldsAreLaidInOrder
 pub mod FieldsFillTheTable
 pub mod NumbersHaveDefaults
-pub mod PassTakesOneSlot
+pub mod SlotStoresItsEntry
 pub mod UnionValueHasItsCode

@@ -1,3 +1,4 @@
+pub mod CodeSlotHasNoEntry
 pub mod EachSlotAddsItsParts
 pub mod EndsNameTheParts
 pub mod PartsFitTheirSlots

@@ -159,10 +159,6 @@ size_if_at L a f x = if is_at L a f x then inline_size L f.shape else 0
 abbrev pub align_if_stored : LaidSchema → Slot → Option Datum → ℕ
 align_if_stored L f x = if is_stored f x then inline_align L f.shape else 0
 
--- where it is below another
-abbrev pub align_if_below : LaidSchema → ℕ → Slot → Option Datum → ℕ
-align_if_below L a f x = if is_stored f x && nat_lt (inline_align L f.shape) a then inline_align L f.shape else 0
-
 -- what the fields take that are stored at an alignment
 abbrev pub size_at : LaidSchema → ℕ → List Slot → List (Option Datum) → ℕ
 size_at L a (f ∷ fs) (x ∷ xs) = size_if_at L a f x + size_at L a fs xs
@@ -231,11 +227,6 @@ fields_size L _ _ = 0
 abbrev pub stored_align : LaidSchema → List Slot → List (Option Datum) → ℕ
 stored_align L (f ∷ fs) (x ∷ xs) = max (align_if_stored L f x) (stored_align L fs xs)
 stored_align L _ _ = 0
-
--- the greatest of the stored fields' alignments below one; 0 where there is none
-abbrev pub stored_below : LaidSchema → ℕ → List Slot → List (Option Datum) → ℕ
-stored_below L a (f ∷ fs) (x ∷ xs) = max (align_if_below L a f x) (stored_below L a fs xs)
-stored_below L a _ _ = 0
 
 -- the bytes of all stored fields, with what is padded before them
 abbrev pub stored_room : LaidSchema → List Slot → List (Option Datum) → ℕ

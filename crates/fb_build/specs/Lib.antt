@@ -3,6 +3,7 @@ pub mod Tails
 pub mod Fields
 pub mod TableBytes
 pub mod FieldEnds
+pub mod FieldOrder
 pub mod Vtables
 pub mod Needs
 pub mod Paired
@@ -24,3 +25,5 @@ pub mod FaultNumbers
 pub mod Made
 pub mod Builders
 pub mod FieldsLaid
+pub mod UncoveredBytesAreZero
+pub mod ExampleBuffersHaveSlack

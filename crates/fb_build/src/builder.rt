@@ -4,7 +4,8 @@ use crate::tail::Tail;
 use indexmap::IndexSet;
 
 /// The tail that is laid so far, each vtable of the value once, where each of them is laid (0 for one
-/// that isn't yet), and the bytes in which a vtable is written before it is looked up.
+/// that isn't yet), and bytes for one table at a time: in them its stored slots are linked while its
+/// fields are laid, and its vtable is written before it is looked up.
 #[derive(Drop)]
 pub(crate) struct Builder {
     pub(crate) tail: Tail,

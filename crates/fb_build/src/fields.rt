@@ -1,5 +1,5 @@
 //! Lays the fields of tables.
-ghost use Rattle.std.specs.Prelude.{ℕ, List, drop, ◌≡◌, ◌≤◌, ◌+◌, ◌%◌, length, true, false, max};
+ghost use Rattle.std.specs.Prelude.{ℕ, List, Option, drop, ◌≡◌, ◌≤◌, ◌+◌, length, true, false, max};
 ghost use Rattle.fb_layout.specs.Laid.{LaidSchema};
 ghost use Rattle.fb_layout.specs.Widths.{inline_size, inline_align, greatest};
 ghost use Rattle.fb_value.specs.Datum.{Datum};
@@ -9,13 +9,15 @@ ghost use Rattle.fb_value.specs.View.{view};
 ghost use Rattle.fb_build.specs.Made.{LeadsEnd, FieldLeads, FieldsLead, FieldsFront};
 ghost use Rattle.fb_build.specs.Tails.{Grows, LaidInTail};
 ghost use Rattle.fb_build.specs.Fields.{IsSimple, StoredFits, stored_seen, next_code, is_coded};
-ghost use Rattle.fb_build.specs.Fields.{scalar_in, number_in, number_of_datum, is_stored, above, from};
-ghost use Rattle.fb_build.specs.Fields.{StoredEnd, EntriesEnd, AreKnown, size_at, stored_align};
-ghost use Rattle.fb_build.specs.Fields.{stored_below, slots_seen, entries_seen, stored_room};
-ghost use Rattle.fb_build.specs.Fields.{fields_size, size_above, slot_seen, entry_stored, shape_seen};
-ghost use Rattle.fb_build.specs.FieldsLaid.{AreFieldsLaid, AreSlotsLaid};
+ghost use Rattle.fb_build.specs.Fields.{scalar_in, number_in, number_of_datum, is_stored};
+ghost use Rattle.fb_build.specs.Fields.{StoredEnd, EntriesEnd, AreKnown, stored_align};
+ghost use Rattle.fb_build.specs.Fields.{slots_seen, entries_seen, stored_room};
+ghost use Rattle.fb_build.specs.Fields.{slot_seen, entry_stored, shape_seen};
+ghost use Rattle.fb_build.specs.FieldOrder.{LinksNext};
+ghost use Rattle.fb_build.specs.FieldsLaid.{AreFieldsLaid};
 
 use crate::numbers::lay_number;
+use crate::order::{link_at, order_fields};
 use crate::places::lay_place;
 use crate::tail::Tail;
 use fb_layout::Layout;
@@ -206,108 +208,35 @@ fn lay_field(
     out.count() as u32
 }
 
-/// Lays the fields that are stored at an alignment, the first slot's the highest, and returns the
-/// greatest alignment below it at which any is stored; 0 where there is none.
-fn lay_pass(
-    out: &mut Tail,
-    layout: &Layout,
-    slots: &[FieldInfo],
-    entries: &[Option<Value>],
-    align: u32,
-    start: u32,
-    ends: &mut [u32],
-) -> u32
-    requires long { length entries.now ≡ length slots.now }
-    requires low { start ≤ length out.old.bytes }
-    requires known { AreKnown layout.now (slots_seen layout.now slots.now)
-        (stored_seen layout.now slots.now entries.now) }
-    requires laid { AreSlotsLaid layout.now out.old (λ k. above layout.now align)
-        (slots_seen layout.now slots.now) (stored_seen layout.now slots.now entries.now) start ends.old }
-    requires count { length out.old.bytes ≡ start + size_above layout.now align
-        (slots_seen layout.now slots.now) (stored_seen layout.now slots.now entries.now) }
-    requires whole { divides align (length out.old.bytes) ≡ true }
-    requires wide { divides align out.old.most ≡ true }
-    requires room { size_at layout.now align (slots_seen layout.now slots.now)
-        (stored_seen layout.now slots.now entries.now) ≤ out.old.free }
-    ensures next { result ≡ stored_below layout.now align (slots_seen layout.now slots.now)
-        (stored_seen layout.now slots.now entries.now) }
-    ensures laid { AreSlotsLaid layout.now out.new (λ k. from layout.now align)
-        (slots_seen layout.now slots.now) (stored_seen layout.now slots.now entries.now) start ends.new }
-    ensures leads { (targets : List ℕ) → FieldsLead out.old.bytes (λ k. above layout.now align)
-        (slots_seen layout.now slots.now) (stored_seen layout.now slots.now entries.now) targets ends.old
-        → FieldsLead out.new.bytes (λ k. from layout.now align) (slots_seen layout.now slots.now)
-        (stored_seen layout.now slots.now entries.now) targets ends.new }
-    ensures whole { divides align (length out.new.bytes) ≡ true }
-    ensures free { out.new.free + size_at layout.now align (slots_seen layout.now slots.now)
-        (stored_seen layout.now slots.now entries.now) ≡ out.old.free }
-    ensures most { out.new.most ≡ out.old.most }
-    ensures grows { Grows out.old out.new }
+/// What the begin of a table's fields is a multiple of: what the first one is aligned to, 4 at least.
+fn start_align(layout: &Layout, slots: &[FieldInfo], first: usize) -> u32
+    requires within { first ≤ length slots.now }
+    ensures { (xs : List (Option Datum)) → LinksNext layout.now (λ k f. false) (slots_seen layout.now slots.now) xs first
+        → result ≡ max 4 (stored_align layout.now (slots_seen layout.now slots.now) xs) }
 {
-    let mut next = 0;
-    for k in 0..slots.len() {
-        let slot = &slots[k];
-        let entry = &entries[k];
-        let code = code_at(entries, k + 1);
-        let own = slot_align(layout, slot.shape);
-        // What is aligned above is laid already, and takes no further look.
-        if own <= align && is_stored(layout, slot, code, entry) {
-            if own == align {
-                ends[k] = lay_field(out, layout, slot, code, entry, ends[k]);
-            } else {
-                next = own.max(next);
-            }
-        }
+    if first == 0 {
+        return 4;
     }
-    next
+    slot_align(layout, slots[first - 1].shape).max(4)
 }
 
-/// What the begin of a table's fields is a multiple of, where none is aligned above `most`.
-pub(crate) fn start_align(
-    layout: &Layout,
-    slots: &[FieldInfo],
-    entries: &[Option<Value>],
-    most: u32,
-) -> u32
-    requires long { length entries.now ≡ length slots.now }
-    ensures { stored_align layout.now (slots_seen layout.now slots.now)
-        (stored_seen layout.now slots.now entries.now) ≤ most
-        → result ≡ max 4 (stored_align layout.now (slots_seen layout.now slots.now)
-        (stored_seen layout.now slots.now entries.now)) }
-{
-    let mut align = 4;
-    for k in 0..slots.len() {
-        if align >= most {
-            break;
-        }
-        let slot = &slots[k];
-        let entry = &entries[k];
-        let code = code_at(entries, k + 1);
-        let own = slot_align(layout, slot.shape);
-        if own > align && is_stored(layout, slot, code, entry) {
-            align = own;
-        }
-    }
-    align
-}
-
-/// Lays the fields of a table by falling alignment, none of them above `most`, and returns how many
-/// bytes were laid before the first one.
+/// Lays the fields of a table in their order, and returns how many bytes were laid before the first one.
 pub(crate) fn lay_fields(
     out: &mut Tail,
     layout: &Layout,
     slots: &[FieldInfo],
     entries: &[Option<Value>],
-    most: u32,
+    links: &mut [u8],
     ends: &mut [u32],
 ) -> u32
     requires long { length entries.now ≡ length slots.now }
-    requires low { stored_align layout.now (slots_seen layout.now slots.now)
-        (stored_seen layout.now slots.now entries.now) ≤ most }
+    requires few { length slots.now ≤ 32765 }
     requires each { length ends.old ≡ length slots.now }
     requires known { AreKnown layout.now (slots_seen layout.now slots.now)
         (stored_seen layout.now slots.now entries.now) }
     requires state { EntriesEnd layout.now 0 out.old.most out.old.bytes (λ k f. false)
         (slots_seen layout.now slots.now) (stored_seen layout.now slots.now entries.now) ends.old }
+    requires links { 65534 ≤ length links.old }
     requires room { stored_room layout.now (slots_seen layout.now slots.now)
         (stored_seen layout.now slots.now entries.now) ≤ out.old.free }
     ensures laid { AreFieldsLaid layout.now out.new (slots_seen layout.now slots.now)
@@ -318,14 +247,22 @@ pub(crate) fn lay_fields(
         (slots_seen layout.now slots.now) (stored_seen layout.now slots.now entries.now))) }
     ensures bound { out.new.most ≤ max out.old.most (greatest layout.now) }
     ensures grows { Grows out.old out.new }
+    ensures links { length links.new ≡ length links.old }
     ensures spent { out.old.free ≤ out.new.free + stored_room layout.now (slots_seen layout.now slots.now)
         (stored_seen layout.now slots.now entries.now) }
 {
-    let mut align = start_align(layout, slots, entries, most);
+    let first = order_fields(layout, slots, entries, links);
+    let align = start_align(layout, slots, first);
     out.pad(align as usize, 0);
     let start = out.count() as u32;
-    while align > 0 {
-        align = lay_pass(out, layout, slots, entries, align, start, ends);
+    let mut next = first;
+    while next > 0 {
+        let k = next - 1;
+        let slot = &slots[k];
+        let entry = &entries[k];
+        let code = code_at(entries, k + 1);
+        ends[k] = lay_field(out, layout, slot, code, entry, ends[k]);
+        next = link_at(links, k);
     }
     start
 }

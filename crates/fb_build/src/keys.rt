@@ -6,9 +6,8 @@ ghost use Rattle.fb_value.specs.Counts.{is_whole, parts_whole, entries_whole};
 ghost use Rattle.fb_value.specs.Datum.{a_table, count};
 ghost use Rattle.fb_value.specs.Fits.{EntriesFit};
 ghost use Rattle.fb_value.specs.View.{view, parts_view, entries_view};
-ghost use Rattle.fb_build.specs.Fields.{AreKnown, above, from, fields_size, size_above, size_at};
-ghost use Rattle.fb_build.specs.Fields.{stored_align, stored_below, shape_seen, slots_seen, stored_seen};
-ghost use Rattle.fb_build.specs.FieldEnds.{ArePlaced, field_ends};
+ghost use Rattle.fb_build.specs.Fields.{AreKnown, fields_size, shape_seen, slots_seen, stored_seen};
+ghost use Rattle.fb_build.specs.FieldEnds.{field_ends};
 ghost use Rattle.fb_build.specs.Needs.{need, parts_need, entries_count, entries_need, entry_need};
 ghost use Rattle.fb_build.specs.Parts.{EntryWhole};
 ghost use Rattle.fb_build.specs.Vtables.{AreKept, FitsSomewhere, IsKey, VtablesKnown, vtable_of};
@@ -16,8 +15,9 @@ ghost use Rattle.fb_build.specs.Vtables.{EachFitsSomewhere, EntryFitsSomewhere, 
 ghost use Rattle.fb_build.specs.declared.faults.BuildFault.TheVariants.{Memory};
 
 use crate::faults::BuildFault;
-use crate::fields::{code_at, is_stored, slot_align, slot_size, start_align};
+use crate::fields::slot_size;
 use crate::needs::waits;
+use crate::order::{link_at, order_fields};
 use crate::vtables::{index_of, put_vtable};
 use fb_layout::Layout;
 use fb_schema::{FieldInfo, TypeId};
@@ -37,87 +37,36 @@ fn place_field(layout: &Layout, slot: &FieldInfo, k: usize, end: u32, ends: &mut
     next
 }
 
-/// Where the fields that are placed end, and the next alignment at which any is stored.
-#[derive(Clone, Copy, Drop)]
-struct Placed {
-    end: u32,
-    next: u32,
-}
-
-/// Places the fields that are stored at an alignment behind those before.
-fn place_pass(
-    layout: &Layout,
-    slots: &[FieldInfo],
-    entries: &[Option<Value>],
-    align: u32,
-    before: u32,
-    ends: &mut [u32],
-) -> Placed
-    requires long { length entries.now ≡ length slots.now }
-    requires each { length ends.old ≡ length slots.now }
-    requires some { 0 < align }
-    requires narrow { fields_size layout.now (slots_seen layout.now slots.now)
-        (stored_seen layout.now slots.now entries.now) ≤ 65528 }
-    requires before { before ≡ size_above layout.now align (slots_seen layout.now slots.now)
-        (stored_seen layout.now slots.now entries.now) }
-    requires placed { ArePlaced layout.now (λ k. above layout.now align) (slots_seen layout.now slots.now)
-        (stored_seen layout.now slots.now entries.now) ends.old }
-    ensures next { result.next ≡ stored_below layout.now align (slots_seen layout.now slots.now)
-        (stored_seen layout.now slots.now entries.now) }
-    ensures end { result.end ≡ before + size_at layout.now align (slots_seen layout.now slots.now)
-        (stored_seen layout.now slots.now entries.now) }
-    ensures placed { ArePlaced layout.now (λ k. from layout.now align) (slots_seen layout.now slots.now)
-        (stored_seen layout.now slots.now entries.now) ends.new }
-    ensures each { length ends.new ≡ length slots.now }
-{
-    let mut end = before;
-    let mut next = 0;
-    for k in 0..slots.len() {
-        let slot = &slots[k];
-        let entry = &entries[k];
-        let code = code_at(entries, k + 1);
-        let own = slot_align(layout, slot.shape);
-        // What is aligned above is placed already, and takes no further look.
-        if own <= align && is_stored(layout, slot, code, entry) {
-            if own == align {
-                end = place_field(layout, slot, k, end, ends);
-            } else {
-                next = own.max(next);
-            }
-        }
-    }
-    Placed { end, next }
-}
-
-/// Places the stored fields of a table, none aligned above `most`, and returns where they end. Counts
-/// begin at the table's end, and are 0 for what isn't stored.
+/// Places the stored fields of a table, and returns where they end. Counts begin at the table's end, and
+/// are 0 for what isn't stored.
 fn place_fields(
     layout: &Layout,
     slots: &[FieldInfo],
     entries: &[Option<Value>],
-    most: u32,
+    links: &mut [u8],
     ends: &mut [u32],
 ) -> u32
     requires long { length entries.now ≡ length slots.now }
+    requires few { length slots.now ≤ 32765 }
     requires each { length ends.old ≡ length slots.now }
-    requires low { stored_align layout.now (slots_seen layout.now slots.now)
-        (stored_seen layout.now slots.now entries.now) ≤ most }
     requires known { AreKnown layout.now (slots_seen layout.now slots.now)
         (stored_seen layout.now slots.now entries.now) }
+    requires links { 65534 ≤ length links.old }
     requires narrow { fields_size layout.now (slots_seen layout.now slots.now)
         (stored_seen layout.now slots.now entries.now) ≤ 65528 }
     ensures size { result ≡ fields_size layout.now (slots_seen layout.now slots.now)
         (stored_seen layout.now slots.now entries.now) }
     ensures ends { ends.new ≡ field_ends layout.now (slots_seen layout.now slots.now)
         (stored_seen layout.now slots.now entries.now) }
+    ensures links { length links.new ≡ length links.old }
 {
     ends.fill(0);
-    let mut align = start_align(layout, slots, entries, most);
+    let mut next = order_fields(layout, slots, entries, links);
     let mut end = 0;
-    while align > 0 {
-        let placed = place_pass(layout, slots, entries, align, end, ends);
-        end = placed.end;
-        align = placed.next;
+    while next > 0 {
+        let k = next - 1;
+        end = place_field(layout, &slots[k], k, end, ends);
+        next = link_at(links, k);
     }
     end
 }
@@ -146,8 +95,7 @@ fn add_vtable(
     let _schema = layout.schema(); // its contract: the layout is well made
     let slots = layout.slots_of(table);
     let ends = &mut ends[..slots.len()];
-    let most = layout.table_align(table);
-    let end = place_fields(layout, slots, entries, most, ends);
+    let end = place_fields(layout, slots, entries, scratch, ends);
     let place = end.next_multiple_of(4) + 4;
     let used = put_vtable(scratch, ends, place, place as u16);
     let vtable = &scratch[..4 + 2 * used];

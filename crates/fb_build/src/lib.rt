@@ -10,6 +10,7 @@ mod keys;
 mod laws;
 mod needs;
 mod numbers;
+mod order;
 mod places;
 mod plans;
 mod roots;

@@ -63,13 +63,12 @@ pub(crate) fn lay_table(
     let slots = layout.slots_of(table);
     let (ends, rest) = pending.split_at_mut(slots.len());
     lay_targets(builder, layout, slots, entries, ends, rest);
-    let most = layout.table_align(table);
     let start = lay_fields(
         &mut builder.tail,
         layout,
         slots,
         entries.as_slice(),
-        most,
+        builder.scratch.as_mut_slice(),
         ends,
     );
     close_table(builder, layout, table, entries.as_slice(), start, ends)

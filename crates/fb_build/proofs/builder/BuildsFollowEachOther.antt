@@ -1,5 +1,6 @@
 -- What one call and then another make of a builder is what both make of it.
-use Rattle.std.proofs.Common.{◌≤◌, ◌∙◌, max, refl, arith}
+use Rattle.std.proofs.Common.{ℕ, List, ◌≤◌, ◌∙◌, max, refl, arith}
+use Rattle.std.specs.Vec.{with_items}
 use Rattle.fb_layout.specs.Laid.{LaidSchema}
 use Rattle.fb_layout.specs.Widths.{greatest}
 use Rattle.fb_build.specs.declared.builder.Builder.{Builder}
@@ -27,4 +28,18 @@ tail_builds L b tail grows bound ready = record {
   grows = grows;
   bound = bound;
   ready = record { laid = shared_grown _ _ b.tail tail grows ready.laid; long = ready.long };
+}
+
+-- where what is written before it is looked up is another, too
+pub scratch_builds : (L : LaidSchema) (b : Builder) (tail : TailSeen) (bytes : List ℕ) → Grows b.tail tail
+    → tail.most ≤ max b.tail.most (greatest L) → IsBuilder b
+    → Builds L b (record b { tail = tail; scratch = with_items b.scratch bytes })
+scratch_builds L b tail bytes grows bound ready = record {
+  same = refl;
+  grows = grows;
+  bound = bound;
+  ready = record {
+    laid = shared_grown _ _ b.tail tail grows ready.laid;
+    long = omega (arith, (with_items b.scratch bytes).ok.0, b.scratch.ok.0, ready.long);
+  };
 }

@@ -24,7 +24,7 @@ use Rattle.fb_build.specs.Covered.{Covered, EndsAligned}
 use Rattle.fb_build.specs.CoveredTails.{part_further, parts_in_tail}
 use Rattle.fb_build.specs.CoveredSteps.{AreDistinct, ChunksOfTail}
 use Rattle.fb_build.specs.Made.{StaysInFront, laid_at, times_among, IsMade, LeadsEnd, identifier_bytes, HeaderFront}
-use Rattle.fb_build.proofs.tables.TableHasItsFields.{got}
+use Rattle.fb_build.proofs.tables.CodeSlotHasNoEntry.{got}
 use Rattle.fb_build.proofs.numbers.NumberReadsBack.{num_behind}
 use Rattle.fb_build.proofs.covered.ReachedVtablesAreInside.{reached_front_shown}
 use Rattle.fb_build.proofs.covered.TightTailIsCovered.{covered_shown}

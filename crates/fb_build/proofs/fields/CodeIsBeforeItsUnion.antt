@@ -27,8 +27,8 @@ use Rattle.fb_build.specs.Fields.{IsSimple, SlotFits, StoredFits, HasDefault, Ar
 use Rattle.fb_build.specs.Fields.{code_in, next_code, entries_seen}
 use Rattle.fb_build.specs.Paired.{ArePaired}
 use Rattle.fb_build.specs.Parts.{EntryWhole}
-use Rattle.fb_build.proofs.fields.PassTakesOneSlot.{in_mapped, same_some}
-use Rattle.fb_build.proofs.tables.TableHasItsFields.{stored_get, next_is, got}
+use Rattle.fb_build.proofs.fields.SlotStoresItsEntry.{in_mapped, same_some}
+use Rattle.fb_build.proofs.tables.CodeSlotHasNoEntry.{stored_get, next_is, got}
 
 -- ---- the pairs
 

@@ -1,18 +1,15 @@
--- End-counts that a pass over a table's slots gives.
-use Rattle.std.proofs.Common.{◌≡◌, ℕ, zero, suc, ◌+◌, ◌<◌, ◌≤◌, ◌==◌, ◌⊎◌, inl, inr, Bool, true, false, ◌&&◌, cond}
-use Rattle.std.proofs.Common.{if◌then◌else◌, nat_lt, nat_le, List, [], ◌∷◌, length, take, slice_get, slice_index}
-use Rattle.std.proofs.Common.{slice_set, Option, Some, refl, ap, sym, ◌∙◌, subst, arith}
+-- The end-count of a field: behind all that stands before it.
+use Rattle.std.proofs.Common.{◌≡◌, ℕ, zero, suc, ◌+◌, ◌<◌, ◌⊎◌, inl, inr, Bool, true, false, ◌&&◌, cond, if◌then◌else◌}
+use Rattle.std.proofs.Common.{nat_lt, nat_le, List, [], ◌∷◌, length, take, slice_get, slice_index, slice_set, Option}
+use Rattle.std.proofs.Common.{Some, refl, ap, sym, subst, arith}
 use Rattle.std.proofs.lemmas.List.{get_or-set_same, get_or-set_other}
 use Rattle.std.proofs.lemmas.Bool.{lt-ltb, le-leb, eq-eqb}
-use Rattle.std.proofs.lemmas.Bool.Decides.{nat_tests}
 use Rattle.fb_layout.specs.Laid.{LaidSchema, Slot}
 use Rattle.fb_layout.specs.Widths.{inline_size, inline_align}
 use Rattle.fb_value.specs.Datum.{Datum}
-use Rattle.fb_build.specs.Fields.{is_stored, is_at, size_if_at, size_at, size_above, fields_size, stored_below}
-use Rattle.fb_build.specs.Fields.{stored_align, above, from}
-use Rattle.fb_build.specs.FieldEnds.{stored_end, AreCounted, ArePlaced}
-use Rattle.fb_build.proofs.fields.PassTakesOneSlot.{by_index, same_some, ltb_yes, ltb_out}
-use Rattle.fb_build.proofs.tables.TableFitsItsRoom.{above_next, above_part, below_less, below_least, none_above}
+use Rattle.fb_build.specs.Fields.{is_stored, size_if_at, size_at, size_above, above, from}
+use Rattle.fb_build.specs.FieldEnds.{stored_end}
+use Rattle.fb_build.proofs.fields.SlotStoresItsEntry.{by_index, same_some, ltb_yes, ltb_out}
 
 -- ---- the sizes of the slots before one
 
@@ -26,37 +23,6 @@ size_taken_next L a zero (g ∷ fs) (y ∷ xs) f x fk xk =
     let x_is : y ≡ x = cc in
     rw (f_is, x_is) (omega arith)
 size_taken_next L a (suc k) (g ∷ fs) (y ∷ xs) f x fk xk = omega (arith, size_taken_next L a k fs xs f x fk xk)
-
-pub size_taken_step : (L : LaidSchema) (a k : ℕ) (fs : List Slot) (xs : List (Option Datum)) (f : Slot)
-    (x : Option Datum) → slice_get fs k ≡ Some f → slice_get xs k ≡ Some x
-    → size_at L a (take (k + 1) fs) (take (k + 1) xs) ≡ size_at L a (take k fs) (take k xs) + size_if_at L a f x
-size_taken_step L a k fs xs f x fk xk =
-    let one : suc k ≡ k + 1 = omega arith in
-    subst (λ (j : ℕ). size_at L a (take j fs) (take j xs) ≡ size_at L a (take k fs) (take k xs) + size_if_at L a f x)
-    one (size_taken_next L a k fs xs f x fk xk)
-
-pub all_taken : (L : LaidSchema) (a k : ℕ) (fs : List Slot) (xs : List (Option Datum)) → length fs ≤ k
-    → size_at L a (take k fs) (take k xs) ≡ size_at L a fs xs
-all_taken L a zero [] xs past = refl
-all_taken L a (suc k) [] xs past = refl
-all_taken L a zero (g ∷ fs) xs past = absurd (omega (arith, past))
-all_taken L a (suc k) (g ∷ fs) [] past = refl
-all_taken L a (suc k) (g ∷ fs) (y ∷ xs) past = omega (arith, all_taken L a k fs xs (omega (arith, past)))
-
-pub part_taken : (L : LaidSchema) (a k : ℕ) (fs : List Slot) (xs : List (Option Datum))
-    → size_at L a (take k fs) (take k xs) ≤ size_at L a fs xs
-part_taken L a zero fs xs = omega arith
-part_taken L a (suc k) [] xs = omega arith
-part_taken L a (suc k) (g ∷ fs) [] = omega arith
-part_taken L a (suc k) (g ∷ fs) (y ∷ xs) = omega (arith, part_taken L a k fs xs)
-
--- what is placed up to some slot of a pass is a part of all fields
-pub placed_part : (L : LaidSchema) (a k : ℕ) (fs : List Slot) (xs : List (Option Datum)) → 0 < a
-    → size_above L a fs xs + size_at L a (take k fs) (take k xs) ≤ fields_size L fs xs
-placed_part L a k fs xs some =
-    let b = stored_below L a fs xs in
-    let next = above_next L a b fs xs (below_less L a fs xs some) (below_least L a fs xs) in
-    omega (arith, next, above_part L b fs xs, part_taken L a k fs xs)
 
 -- ---- what holds of each slot's end-count
 
@@ -95,25 +61,6 @@ end_passed P L a k e fs xs ends others f0 x0 own rest fk xk now before j f x fj 
         let x_is : x ≡ x0 = same_some (slice_get xs k) x x0 (rw same at xj) xk in
         rw same (rw (test_same k, own, f_is, x_is) now)
     by_case (inr ne) = rw (test_other ne, rest j ne) (before j f x fj xj)
-
--- where it isn't at this alignment
-pub end_skipped :
-    (P : ℕ → Slot → Option Datum → Bool → ℕ → Type 0) (L : LaidSchema) (a k : ℕ) (fs : List Slot)
-    (xs : List (Option Datum)) (ends : List ℕ) (f : Slot)
-    (x : Option Datum) → slice_get fs k ≡ Some f → slice_get xs k ≡ Some x → is_at L a f x ≡ false
-    → EachEnd P (λ j f. cond (nat_lt j k) (from L a f) (above L a f)) fs xs ends
-    → EachEnd P (λ j f. cond (nat_lt j (k + 1)) (from L a f) (above L a f)) fs xs ends
-end_skipped P L a k fs xs ends f x fk xk out before =
-    end_passed P L a k (slice_index ends k) fs xs ends ends f x refl (λ j ne. refl) fk xk
-    (subst (λ (t : Bool). P k f x t (slice_index ends k)) (same_test (is_stored f x) (inline_align L f.shape) out)
-    test_now) before
-  where
-    same_test : (t : Bool) (n : ℕ) → (t && (n == a)) ≡ false → (t && nat_lt a n) ≡ (t && nat_le a n)
-    same_test true n e = grind (arith, nat_tests)
-    same_test false n e = refl
-
-    test_now : P k f x (is_stored f x && above L a f) (slice_index ends k)
-    test_now = let test : nat_lt k k ≡ false = grind (arith, nat_tests) in rw test at (before k f x fk xk)
 
 -- where it is, and its end-count is put there
 pub end_put :
@@ -157,26 +104,3 @@ own_end L a k fs xs f x fk xk is at =
     let next = size_taken_next L a k fs xs f x fk xk in
     let own : size_if_at L a f x ≡ inline_size L f.shape = rw (is, at, eq-eqb a a refl) refl in
     rw at (omega (arith, next, own))
-
--- Before the first pass none is counted.
-pub none_counted : (L : LaidSchema) (base a : ℕ) (fs : List Slot) (xs : List (Option Datum)) (ends : List ℕ)
-    → stored_align L fs xs ≤ a → AreCounted L base (λ k. above L a) fs xs ends
-none_counted L base a fs xs ends low k f x fk xk passes = absurd (by_stored (is_stored f x) refl)
-  where
-    by_stored : (s : Bool) → is_stored f x ≡ s → ⊥
-    by_stored true is = let out = none_above L fs xs a low k f x fk xk is in
-        let no : true ≡ false = sym passes ∙ rw (is, out) refl in cc
-    by_stored false out = let no : true ≡ false = sym passes ∙ rw out refl in cc
-
-pub none_placed : (L : LaidSchema) (a : ℕ) (fs : List Slot) (xs : List (Option Datum)) (ends : List ℕ)
-    → stored_align L fs xs ≤ a → ((k : ℕ) → slice_index ends k ≡ 0) → ArePlaced L (λ k. above L a) fs xs ends
-none_placed L a fs xs ends low zeros k f x fk xk = zeros k ∙ by_stored (is_stored f x) refl
-  where
-    by_stored : (s : Bool) → is_stored f x ≡ s
-        → 0 ≡ (if is_stored f x && above L a f then stored_end L fs xs k f else 0)
-    by_stored true is = let out = none_above L fs xs a low k f x fk xk is in rw (is, out) refl
-    by_stored false out = rw out refl
-
-pub and_true : (b : Bool) → (b && true) ≡ b
-and_true true = refl
-and_true false = refl

@@ -1,10 +1,9 @@
 -- A field that was laid.
-use Rattle.std.proofs.Common.{◌≡◌, ℕ, ◌+◌, ◌-◌, ◌*◌, ◌^◌, ◌%◌, ◌<◌, ◌≤◌, ◌++◌, ◌==◌, Bool, true, false, not, nat_lt}
-use Rattle.std.proofs.Common.{nat_le, List, length, slice_get, slice_index, Option, None, Some, ℤ}
-use Rattle.std.proofs.Common.{refl, ap, sym, ◌∙◌, subst, arith}
+use Rattle.std.proofs.Common.{◌≡◌, ℕ, ◌+◌, ◌-◌, ◌*◌, ◌^◌, ◌%◌, ◌<◌, ◌≤◌, ◌++◌, Bool, true, false, not, nat_le, List}
+use Rattle.std.proofs.Common.{length, slice_get, slice_index, Option, None, Some, ℤ, refl, ap, sym, ◌∙◌, subst, arith}
 use Rattle.std.proofs.lemmas.Bool.{le-leb, lt-ltb, eq-eqb, and_from, eqb-true}
 use Rattle.std.proofs.Math.Nat.{add-mul-mod_self_left}
-use Rattle.std.proofs.lemmas.Bool.Decides.{Decides-int_eq, nat_tests}
+use Rattle.std.proofs.lemmas.Bool.Decides.{Decides-int_eq}
 use Rattle.std.specs.Ordering.{int_eq}
 use Rattle.byteorder.specs.Endian.{little_bytes}
 use Rattle.fb_schema.specs.declared.kinds.Base.{Base}
@@ -17,16 +16,15 @@ use Rattle.fb_value.specs.Wanted.{struct_wanted}
 use Rattle.fb_schema.specs.WellDeclared.{InRange}
 use Rattle.fb_value.specs.Datum.{Datum, a_number, a_text, a_vector, a_struct, a_table, a_member, an_unknown}
 use Rattle.fb_value.specs.Num.{Bytes, num, scalar_of, divides}
-use Rattle.fb_value.specs.Places.{Target, Sort, ref_place, part_place, inline_place}
+use Rattle.fb_value.specs.Places.{Target, ref_place, part_place, inline_place}
 use Rattle.fb_value.specs.Rules.{fault_by, KeepsBy}
 use Rattle.fb_value.specs.Lies.{LiesBy}
 use Rattle.fb_value.specs.EachTable.{EachTable, EachTableAt, IsOldTable}
 use Rattle.fb_value.specs.Tails.{from_end, LiesInTail, OldInTail}
 use Rattle.fb_build.specs.Tails.{TailSeen, Grows, LaidInTail}
-use Rattle.fb_build.specs.Fields.{SlotFits, StoredFits, member_target, scalar_in, number_in, above, from, is_at}
-use Rattle.fb_build.specs.Fields.{is_stored, differs, IsDefault, TargetEnd, StoredEnd, EntryEnd, EntriesEnd, sort_for}
-use Rattle.fb_build.specs.Fields.{target_for}
-use Rattle.fb_value.proofs.RulesHoldOneByOne.{hold, no_rules}
+use Rattle.fb_build.specs.Fields.{SlotFits, StoredFits, member_target, scalar_in, number_in, from, is_stored, differs}
+use Rattle.fb_build.specs.Fields.{IsDefault, TargetEnd, StoredEnd, EntryEnd, EntriesEnd, sort_for, target_for}
+use Rattle.fb_value.proofs.Moved.{hold, no_rules}
 use Rattle.fb_build.proofs.numbers.NumberReadsBack.{num_first}
 use Rattle.fb_value.proofs.TailsAreKeptInFront.{front_shown, old_shown}
 use Rattle.fb_build.specs.CoveredTails.{IsTightInTail, TightInTail, InlineInTail}
@@ -222,33 +220,6 @@ reference_known L (one_of text_kind) d h e fits =
 reference_known L (vector_of kind) d h e fits =
     record { target = Rattle.fb_value.specs.Places.vector_part kind; named = refl; sort = refl; align = refl }
 
--- not at this alignment: the tests say the same
-same_test : (a n : ℕ) → (n == a) ≡ false → nat_lt a n ≡ nat_le a n
-same_test a n e = grind (arith, nat_tests)
-
-pub passed_over : (L : LaidSchema) (low : ℕ) (m : ℕ) (s : Bytes) (a : ℕ) (f : Slot) (x : Option Datum) (e : ℕ)
-    → is_at L a f x ≡ false → EntryEnd L low m s (above L a f) f x e → EntryEnd L low m s (from L a f) f x e
-passed_over L low m s a f x e out h = record {
-  stored = λ is. subst (λ (t : Bool). StoredEnd L low m s t f x e) (same_test a (inline_align L f.shape) (rw is at out))
-      (h.stored is);
-  absent = h.absent;
-}
-
--- at this alignment: what its reference names lies before, its field is laid then
-pub target_waits : (L : LaidSchema) (low : ℕ) (m : ℕ) (s : Bytes) (a : ℕ) (f : Slot) (x : Option Datum) (e : ℕ)
-    → inline_align L f.shape ≡ a → is_stored f x ≡ true → EntryEnd L low m s (above L a f) f x e
-    → StoredEnd L 0 m s false f x e
-target_waits L low m s a f x e at is h =
-    let out : nat_lt a (inline_align L f.shape) ≡ false = rw at (not_below a) in
-    any_low x (subst (λ (t : Bool). StoredEnd L low m s t f x e) out (h.stored is))
-  where
-    not_below : (n : ℕ) → nat_lt n n ≡ false
-    not_below n = grind (arith, nat_tests)
-
-    any_low : (x : Option Datum) → StoredEnd L low m s false f x e → StoredEnd L 0 m s false f x e
-    any_low None h = absurd h
-    any_low (Some d) h = h
-
 pub now_laid : (L : LaidSchema) (low : ℕ) (m : ℕ) (s : Bytes) (a : ℕ) (f : Slot) (x : Option Datum) (e : ℕ)
     → inline_align L f.shape ≡ a → is_stored f x ≡ true → StoredEnd L low m s true f x e
     → EntryEnd L low m s (from L a f) f x e
@@ -377,17 +348,6 @@ pub entries_retested : (L : LaidSchema) (low m : ℕ) (s : Bytes)
     → EntriesEnd L low m s t fs xs ends → EntriesEnd L low m s u fs xs ends
 entries_retested L low m s t u fs xs ends same h k f x fk xk = record {
   stored = λ is. subst (λ (b : Bool). StoredEnd L low m s b f x (slice_index ends k)) (same k f x fk xk is)
-      ((h k f x fk xk).stored is);
-  absent = (h k f x fk xk).absent;
-}
-
--- Nothing is stored above an alignment, and nothing is laid.
-pub entries_unlaid : (L : LaidSchema) (low m : ℕ) (s : Bytes) (a : ℕ) (fs : List Slot) (xs : List (Option Datum))
-    (ends : List ℕ) → ((k : ℕ) (f : Slot) (x : Option Datum) → slice_get fs k ≡ Some f → slice_get xs k ≡ Some x
-    → is_stored f x ≡ true → nat_lt a (inline_align L f.shape) ≡ false)
-    → EntriesEnd L low m s (λ k f. false) fs xs ends → EntriesEnd L low m s (λ k. above L a) fs xs ends
-entries_unlaid L low m s a fs xs ends none h k f x fk xk = record {
-  stored = λ is. subst (λ (b : Bool). StoredEnd L low m s b f x (slice_index ends k)) (sym (none k f x fk xk is))
       ((h k f x fk xk).stored is);
   absent = (h k f x fk xk).absent;
 }

@@ -1,16 +1,17 @@
 -- The fields of a table that are laid fill its bytes, from one field that is laid to the next.
-use Rattle.std.proofs.Common.{◌≡◌, ℕ, ◌+◌, ◌<◌, ◌≤◌, ◌⊎◌, inl, inr, ◌==◌, Bool, true, false, cond, nat_lt, nat_le, List}
-use Rattle.std.proofs.Common.{length, slice_get, slice_index, slice_set, Option, Some, refl, sym, ◌∙◌, arith}
+use Rattle.std.proofs.Common.{◌≡◌, ℕ, ◌+◌, ◌<◌, ◌≤◌, ◌⊎◌, inl, inr, Bool, true, false, nat_lt, List, length, slice_get}
+use Rattle.std.proofs.Common.{slice_index, slice_set, Option, Some, refl, sym, ◌∙◌, arith}
 use Rattle.std.proofs.lemmas.Bool.{false≢true, lt-ltb, le-leb, ltb-true, ltb-false}
 use Rattle.std.proofs.lemmas.Bool.Decides.{nat_tests}
 use Rattle.std.proofs.lemmas.List.{get_or-set_same, get_or-set_other}
 use Rattle.fb_layout.specs.Laid.{LaidSchema, Slot}
 use Rattle.fb_layout.specs.Widths.{inline_size, inline_align}
 use Rattle.fb_value.specs.Datum.{Datum}
-use Rattle.fb_build.specs.Fields.{is_stored, is_at, above, from}
+use Rattle.fb_build.specs.Fields.{is_stored, above}
+use Rattle.fb_build.specs.FieldOrder.{before}
 use Rattle.fb_build.specs.Filled.{IsLaidSlot, IsFilled, AreFilled}
 use Rattle.fb_build.proofs.tail.WhatIsLaidStaysLaid.{lower}
-use Rattle.fb_build.proofs.fields.PassTakesOneSlot.{by_index, same_some}
+use Rattle.fb_build.proofs.fields.SlotStoresItsEntry.{by_index, same_some}
 
 -- What is stored is laid by the one test where it is by the other, and ends in the same place.
 abbrev pub SameLaid : (ℕ → Slot → Bool) → (ℕ → Slot → Bool) → List Slot → List (Option Datum) → List ℕ → List ℕ → Type 0
@@ -68,11 +69,7 @@ none_filled L start count done fs xs ends none out = record {
     nothing : (k : ℕ) (f : Slot) (x : Option Datum) → IsLaidSlot done fs xs k f x → ⊥
     nothing k f x at = false≢true (sym (out k f x at.is at.has at.stored) ∙ at.laid)
 
--- ---- one slot of a pass
-
--- the slots that are laid once a pass at an alignment has come to slot k
-abbrev pub in_pass : LaidSchema → ℕ → ℕ → ℕ → Slot → Bool
-in_pass L a k j f = cond (nat_lt j k) (from L a f) (above L a f)
+-- ---- one more field
 
 other_test : (j k : ℕ) → (j ≡ k → ⊥) → nat_lt j k ≡ nat_lt j (k + 1)
 other_test j k ne = by_test (nat_lt j k) refl (nat_lt j (k + 1)) refl
@@ -83,7 +80,7 @@ other_test j k ne = by_test (nat_lt j k) refl (nat_lt j (k + 1)) refl
     by_test true p false q = absurd (omega (arith, ltb-true j k p, ltb-false j (k + 1) q))
     by_test false p true q = absurd (ne (omega (arith, ltb-false j k p, ltb-true j (k + 1) q)))
 
-other_slot : (L : LaidSchema) (a j k : ℕ) (f : Slot) → (j ≡ k → ⊥) → in_pass L a k j f ≡ in_pass L a (k + 1) j f
+other_slot : (L : LaidSchema) (a j k : ℕ) (f : Slot) → (j ≡ k → ⊥) → before L a k j f ≡ before L a (k + 1) j f
 other_slot L a j k f ne = rw (other_test j k ne) refl
 
 not_itself : (k : ℕ) → nat_lt k k ≡ false
@@ -92,37 +89,15 @@ not_itself k = grind (arith, nat_tests)
 below_next : (k : ℕ) → nat_lt k (k + 1) ≡ true
 below_next k = lt-ltb k (k + 1) (omega arith)
 
-same_test : (a n : ℕ) → (n == a) ≡ false → nat_lt a n ≡ nat_le a n
-same_test a n e = grind (arith, nat_tests)
-
--- a slot that isn't laid in the pass
-pub filled_passed : (L : LaidSchema) (start count a k : ℕ) (fs : List Slot) (xs : List (Option Datum)) (ends : List ℕ)
-    (f : Slot) (x : Option Datum) → slice_get fs k ≡ Some f → slice_get xs k ≡ Some x → is_at L a f x ≡ false
-    → AreFilled L start count (in_pass L a k) fs xs ends → AreFilled L start count (in_pass L a (k + 1)) fs xs ends
-filled_passed L start count a k fs xs ends f x fk xk out h =
-    all_still L start count (in_pass L a k) (in_pass L a (k + 1)) fs xs ends ends same h
-  where
-    same : SameLaid (in_pass L a k) (in_pass L a (k + 1)) fs xs ends ends
-    same j g y gj yj stands = (by_slot (by_index j k), refl)
-      where
-        by_slot : (j ≡ k) ⊎ (j ≡ k → ⊥) → in_pass L a k j g ≡ in_pass L a (k + 1) j g
-        by_slot (inl here) =
-            let g_is : g ≡ f = same_some (slice_get fs k) g f (rw here at gj) fk in
-            let y_is : y ≡ x = same_some (slice_get xs k) y x (rw here at yj) xk in
-            let is : is_stored f x ≡ true = rw (g_is, y_is) at stands in
-            let own : above L a f ≡ from L a f = same_test a (inline_align L f.shape) (rw is at out) in
-            rw (here, not_itself k, below_next k, g_is) own
-        by_slot (inr ne) = other_slot L a j k g ne
-
 -- one that is
 module _ (L : LaidSchema) (start count more a k e : ℕ) (fs : List Slot) (xs : List (Option Datum)) (ends : List ℕ)
     (f : Slot) (x : Option Datum) (under : k < length ends) (fk : slice_get fs k ≡ Some f)
     (xk : slice_get xs k ≡ Some x)
     (is : is_stored f x ≡ true) (at : inline_align L f.shape ≡ a) (low : start ≤ count)
     (size : more ≡ count + inline_size L f.shape) (end : e ≡ more)
-    (h : AreFilled L start count (in_pass L a k) fs xs ends) where
+    (h : AreFilled L start count (before L a k) fs xs ends) where
   now : ℕ → Slot → Bool
-  now = in_pass L a (k + 1)
+  now = before L a (k + 1)
 
   others : List ℕ
   others = slice_set ends k e
@@ -136,11 +111,11 @@ module _ (L : LaidSchema) (start count more a k e : ℕ) (fs : List Slot) (xs : 
   other_end j ne = get_or-set_other ends k j e 0 ne
 
   older : (j : ℕ) (g : Slot) (y : Option Datum) → (j ≡ k → ⊥) → IsLaidSlot now fs xs j g y
-      → IsLaidSlot (in_pass L a k) fs xs j g y
+      → IsLaidSlot (before L a k) fs xs j g y
   unfolding now
   older j g y ne w = record { is = w.is; has = w.has; stored = w.stored; laid = other_slot L a j k g ne ∙ w.laid }
 
-  newer : (j : ℕ) (g : Slot) (y : Option Datum) → (j ≡ k → ⊥) → IsLaidSlot (in_pass L a k) fs xs j g y
+  newer : (j : ℕ) (g : Slot) (y : Option Datum) → (j ≡ k → ⊥) → IsLaidSlot (before L a k) fs xs j g y
       → IsLaidSlot now fs xs j g y
   unfolding now
   newer j g y ne w = record { is = w.is; has = w.has; stored = w.stored; laid = sym (other_slot L a j k g ne) ∙ w.laid }
@@ -158,7 +133,7 @@ module _ (L : LaidSchema) (start count more a k e : ℕ) (fs : List Slot) (xs : 
   the_field j g y same w = same_some (slice_get fs k) g f (rw same at w.is) fk
 
   -- slot k wasn't laid before
-  not_yet : (j : ℕ) (g : Slot) (y : Option Datum) → IsLaidSlot (in_pass L a k) fs xs j g y → j ≡ k → ⊥
+  not_yet : (j : ℕ) (g : Slot) (y : Option Datum) → IsLaidSlot (before L a k) fs xs j g y → j ≡ k → ⊥
   not_yet j g y w same =
       let g_is : g ≡ f = same_some (slice_get fs k) g f (rw same at w.is) fk in
       let own : above L a f ≡ true = rw (same, not_itself k, g_is) at w.laid in
@@ -226,24 +201,6 @@ module _ (L : LaidSchema) (start count more a k e : ℕ) (fs : List Slot) (xs : 
       by_slots (inr p) (inr q) = rw (other_end i p, other_end j q)
           (h.apart i j d g z y (older i d z p v) (older j g y q w) differ)
 
-  pub filled_laid : AreFilled L start more (in_pass L a (k + 1)) fs xs (slice_set ends k e)
+  pub filled_laid : AreFilled L start more (before L a (k + 1)) fs xs (slice_set ends k e)
   unfolding now others
   filled_laid = record { each = one_filled; between = one_between; apart = one_apart }
-
--- ---- before a pass and after it
-
-pub none_passed : (L : LaidSchema) (start count a : ℕ) (fs : List Slot) (xs : List (Option Datum)) (ends : List ℕ)
-    → AreFilled L start count (λ k. above L a) fs xs ends → AreFilled L start count (in_pass L a 0) fs xs ends
-none_passed L start count a fs xs ends h =
-    all_still L start count (λ k. above L a) (in_pass L a 0) fs xs ends ends
-    (λ j f x fj xj is. (let test : nat_lt j 0 ≡ false = lt_none j in rw test refl, refl)) h
-  where
-    lt_none : (j : ℕ) → nat_lt j 0 ≡ false
-    lt_none j = grind (arith, nat_tests)
-
-pub all_passed : (L : LaidSchema) (start count a k : ℕ) (fs : List Slot) (xs : List (Option Datum)) (ends : List ℕ)
-    → ((j : ℕ) (f : Slot) → slice_get fs j ≡ Some f → j < k) → AreFilled L start count (in_pass L a k) fs xs ends
-    → AreFilled L start count (λ k. from L a) fs xs ends
-all_passed L start count a k fs xs ends low h =
-    all_still L start count (in_pass L a k) (λ k. from L a) fs xs ends ends
-    (λ j f x fj xj is. (let test : nat_lt j k ≡ true = lt-ltb j k (low j f fj) in rw test refl, refl)) h

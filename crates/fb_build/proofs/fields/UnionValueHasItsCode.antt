@@ -10,9 +10,9 @@ use Rattle.fb_value.specs.Num.{Bytes}
 use Rattle.fb_value.specs.Places.{is_present, code_at}
 use Rattle.fb_build.specs.Fields.{coded, code_in, stored_in}
 use Rattle.fb_build.specs.Paired.{ArePaired}
-use Rattle.fb_build.proofs.fields.PassTakesOneSlot.{in_mapped}
+use Rattle.fb_build.proofs.fields.SlotStoresItsEntry.{in_mapped}
 use Rattle.fb_build.proofs.tables.TableHasItsFields.{p, SlotKnown, empty, code_there, code_known, value_known}
-use Rattle.fb_build.proofs.tables.TableHasItsFields.{no_code_entry, got}
+use Rattle.fb_build.proofs.tables.CodeSlotHasNoEntry.{no_code_entry, got}
 
 module _ (L : LaidSchema) (low m : ℕ) (s : Bytes) (c : ℕ) (within : c ≤ length s) where
   -- where the table stands

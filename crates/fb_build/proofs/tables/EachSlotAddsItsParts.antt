@@ -24,7 +24,7 @@ use Rattle.fb_build.specs.CoveredTails.{part_further}
 use Rattle.fb_build.specs.Made.{Adds, NamedPart, named_of, named_items, named_stored, named_fields, part_named}
 use Rattle.fb_build.specs.Made.{parts_at, ends_parts}
 use Rattle.fb_build.proofs.tail.WhatIsLaidStaysLaid.{grown_long}
-use Rattle.fb_build.proofs.tables.TableHasItsFields.{no_code_entry}
+use Rattle.fb_build.proofs.tables.CodeSlotHasNoEntry.{no_code_entry}
 use Rattle.fb_build.proofs.tables.PartsFitTheirSlots.{ItemsBefore, TargetsBefore}
 use Rattle.fb_build.proofs.covered.PartsInFrontAreAdded.{adds_then, adds_permuted}
 use Rattle.fb_build.proofs.tables.EndsNameTheParts.{AreThere, take_whole, ends_moved, ends_more}

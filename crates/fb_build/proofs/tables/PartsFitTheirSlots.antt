@@ -26,7 +26,7 @@ use Rattle.fb_build.proofs.fields.AlignmentDividesTheSize.{all_known}
 use Rattle.fb_value.specs.Counts.{is_whole, parts_whole, entries_whole}
 use Rattle.fb_build.proofs.fields.NumbersHaveDefaults.{slots_default}
 use Rattle.fb_build.proofs.fields.CodeIsBeforeItsUnion.{slots_paired, stored_known, entry_whole}
-use Rattle.fb_build.proofs.tables.TableHasItsFields.{no_code_entry}
+use Rattle.fb_build.proofs.tables.CodeSlotHasNoEntry.{no_code_entry}
 use Rattle.fb_build.specs.Needs.{first_waits, need, parts_need, entries_count, entries_need, entry_need}
 use Rattle.std.proofs.lemmas.Bool.{and_parts}
 use Rattle.fb_build.proofs.fields.FieldHasItsValue.{entry_grown, target_grown}
@@ -34,8 +34,8 @@ use Rattle.fb_build.proofs.vectors.VectorHasItsElements.{parts_next}
 use Rattle.fb_build.specs.Items.{ItemsKnown}
 use Rattle.fb_layout.specs.Laid.{StoredKind, kind_in, align_of}
 use Rattle.fb_layout.specs.Widths.{greatest}
-use Rattle.fb_layout.proofs.AlignmentsArePowersOfTwo.{slot_below}
-use Rattle.fb_build.proofs.fields.PassTakesOneSlot.{by_index, same_some, slots_long, entries_long}
+use Rattle.fb_layout.proofs.Alignments.{slot_below}
+use Rattle.fb_build.proofs.fields.SlotStoresItsEntry.{by_index, same_some, slots_long, entries_long}
 
 entry_fits : (L : LaidSchema) (fs : List Slot) (es : List (Option Value)) → EntriesFit L fs (entries_view es)
     → (k : ℕ) (f : Slot) (x : Option Datum) → slice_get fs k ≡ Some f → slice_get (entries_seen es) k ≡ Some x

@@ -1,92 +1,36 @@
 -- A table lies where its vtable and its fields stand.
-use Rattle.std.proofs.Common.{◌≡◌, ℕ, zero, suc, ◌+◌, ◌-◌, ◌<◌, ◌≤◌, ◌==◌, Bool, true, false, not, cond, ◌&&◌, ◌||◌}
-use Rattle.std.proofs.Common.{List, [], ◌∷◌, length, drop, slice_get, slice_index, Option, None, Some, pos, refl, ap}
-use Rattle.std.proofs.Common.{sym, ◌∙◌, subst, arith}
-use Rattle.std.proofs.lemmas.Bool.{lt-ltb, le-leb}
-use Rattle.std.proofs.lemmas.Bool.Decides.{nat_tests}
+use Rattle.std.proofs.Common.{◌≡◌, ℕ, zero, suc, ◌+◌, ◌-◌, ◌<◌, ◌≤◌, Bool, true, false, cond, List, [], ◌∷◌, length}
+use Rattle.std.proofs.Common.{drop, slice_get, slice_index, Option, None, Some, pos, refl, ap, sym, ◌∙◌, subst, arith}
+use Rattle.std.proofs.lemmas.Bool.{lt-ltb}
 use Rattle.fb_schema.specs.declared.kinds.Base.TheVariants.{U8}
 use Rattle.fb_layout.specs.Laid.{LaidSchema, Slot, scalar_kind, struct_kind, table_kind, union_kind, code_kind}
 use Rattle.fb_layout.specs.Laid.{text_kind, StoredShape, one_of, vector_of, member_by_code}
 use Rattle.fb_value.specs.Datum.{Datum, a_number, a_text, a_vector, a_struct, a_table, a_member, an_unknown}
 use Rattle.fb_value.specs.View.{entries_in}
 use Rattle.fb_value.specs.Entries.{EntryFits}
-use Rattle.fb_value.specs.Fits.{Fits, MayBeAbsent}
+use Rattle.fb_value.specs.Fits.{MayBeAbsent}
 use Rattle.fb_value.specs.Num.{Bytes, num}
-use Rattle.fb_value.specs.Places.{Sort, ref_place, part_place, inline_place, code_place, unknown_place, member_part}
-use Rattle.fb_value.specs.Places.{Place, slot_number, is_present, code_at, next_required, named_slot, named_slots}
-use Rattle.fb_value.specs.Rules.{Aligned, KeepsBy, fault_by, is_missing, is_union, first_missing}
-use Rattle.fb_value.specs.Lies.{BehindBy, EntryBy, AbsentEntryBy, PresentEntryBy, LiesBy, LiesAtBy, LiesSlotsBy}
-use Rattle.fb_value.specs.EachTable.{EachTable, EachTableAt, EachNamed, EachEntry, IsOldTable}
+use Rattle.fb_value.specs.Places.{ref_place, inline_place, code_place, member_part, Place, slot_number, is_present}
+use Rattle.fb_value.specs.Places.{code_at, next_required, named_slot, named_slots}
+use Rattle.fb_value.specs.Rules.{is_missing, first_missing}
+use Rattle.fb_value.specs.Lies.{AbsentEntryBy, LiesBy, LiesAtBy, LiesSlotsBy}
+use Rattle.fb_value.specs.EachTable.{EachTableAt, EachEntry, IsOldTable}
 use Rattle.fb_value.specs.Tails.{from_end}
 use Rattle.fb_build.specs.Fields.{IsSimple, StoredFits, stored_here, stored_in, coded, code_in, next_code, sort_for}
 use Rattle.fb_build.specs.Fields.{is_stored, EntryEnd}
 use Rattle.fb_build.specs.CoveredTails.{IsTightInTail}
-use Rattle.fb_build.specs.InlineBytes.{IsTightInline, EachInline, EachInlineAt, EachInlineNamed, EachInlineEntry}
+use Rattle.fb_build.specs.InlineBytes.{IsTightInline, EachInlineAt, EachInlineEntry}
 use Rattle.fb_build.specs.TableBytes.{offset_from}
 use Rattle.fb_build.proofs.fields.FieldHasItsValue.{default_known}
-use Rattle.fb_value.proofs.RulesHoldOneByOne.{hold, no_rules}
-use Rattle.fb_build.proofs.fields.PassTakesOneSlot.{in_mapped}
+use Rattle.fb_build.proofs.fields.SlotStoresItsEntry.{in_mapped}
 use Rattle.fb_build.specs.Paired.{ArePaired}
-
-entry_from : (al : Aligned) (L : LaidSchema) (b : Bytes) (sort : Sort) (p : ℕ) (d : Datum) (lies : Sort → ℕ → Type 0)
-    → BehindBy al L b sort p lies → EntryBy al L b sort p d lies
-entry_from al L b (ref_place X) p d lies h = h
-entry_from al L b (part_place X) p d lies h = h
-entry_from al L b (inline_place kind) p d lies h = h
-entry_from al L b (code_place u k required here) p d lies h = absurd h
-entry_from al L b (unknown_place c) p d lies h = absurd h
-
--- what a slot has, whose tables have nothing in slots that aren't in use, and they, its structs and its numbers have
--- nothing to spare
-pub EntryLies : Aligned → LaidSchema → Bytes → Slot → Option Place → Option Datum → Type 0
-EntryLies al L b f place None = AbsentEntryBy al L b f place
-EntryLies al L b f place (Some d) = PresentEntryBy al L b f place d (λ sort q. LiesBy al L b sort q d)
-    × EachNamed b place (λ sort q. EachTable L b (λ t r. IsOldTable L b t r) sort q d)
-    × EachNamed b place (λ sort q. EachTable L b (λ t r. IsTightInTail L b t r) sort q d)
-    × EachInlineNamed L b (IsTightInline L b) place d (λ X q. EachInline L b (IsTightInline L b) X q d)
-
-pub no_place : (t : Bool) (x : Option Place) → x ≡ None → cond t None x ≡ None
-no_place true x e = refl
-no_place false x e = e
-
-pub stored_get : (fs : List Slot) (xs : List (Option Datum)) (k : ℕ) (f : Slot) (x : Option Datum)
-    → slice_get fs k ≡ Some f → slice_get xs k ≡ Some x
-    → slice_get (stored_in fs xs) k ≡ Some (stored_here f.shape (next_code (drop (suc k) xs)) x)
-stored_get [] xs k f x a b = cc
-stored_get (g ∷ fs) [] k f x a b = cc
-stored_get (g ∷ fs) (y ∷ xs) zero f x a b = let f_is : g ≡ f = cc in let x_is : y ≡ x = cc in rw (f_is, x_is) refl
-stored_get (g ∷ fs) (y ∷ xs) (suc k) f x a b = stored_get fs xs k f x a b
-
-pub next_is : (xs : List (Option Datum)) (k : ℕ) (x : Option Datum) → slice_get xs k ≡ Some x
-    → next_code (drop k xs) ≡ code_in x
-next_is [] k x e = cc
-next_is (y ∷ xs) zero x e = let is : y ≡ x = cc in ap code_in is
-next_is (y ∷ xs) (suc k) x e = next_is xs k x e
-
-pub got : {A : Type 0} (xs : List A) (k : ℕ) → k < length xs → (x : A) × (slice_get xs k ≡ Some x)
-got [] k h = absurd (omega (arith, h))
-got (x ∷ xs) zero h = (x, refl)
-got (x ∷ xs) (suc k) h = got xs k (omega (arith, h))
-
--- a code slot has no entry
-pub no_code_entry : (L : LaidSchema) (u : ℕ) (d : Datum) → Fits L (one_of (code_kind u)) d → ⊥
-no_code_entry L u (a_number n) h = h
-no_code_entry L u (a_text b) h = h
-no_code_entry L u (a_vector ds) h = h
-no_code_entry L u (a_struct ds) h = h
-no_code_entry L u (a_table t es) h = h
-no_code_entry L u (a_member c d) h = h
-no_code_entry L u (an_unknown c) h = h
+use Rattle.fb_build.proofs.tables.CodeSlotHasNoEntry.{not_required, entry_from, EntryLies, no_place, stored_get}
+use Rattle.fb_build.proofs.tables.CodeSlotHasNoEntry.{next_is, got, no_code_entry, IsOwn, no_union, code_stored}
+use Rattle.fb_build.proofs.tables.CodeSlotHasNoEntry.{code_some, code_keeps}
 
 module _ (L : LaidSchema) (low m : ℕ) (s : Bytes) (c : ℕ) (within : c ≤ length s) where
   unfoldable pub p : ℕ
   p = length s - c
-
-  -- a slot of its own: no union's code, nor its value
-  unfoldable pub IsOwn : StoredShape → Type 0
-  IsOwn (one_of (code_kind u)) = ⊥
-  IsOwn (one_of (union_kind u)) = ⊥
-  IsOwn shape = Unit {0}
 
   pub nothing_there : (k : ℕ) (fs : List Slot) (shape : StoredShape) → IsOwn shape → slot_number s p k ≡ 0
       → named_slot L s p k fs shape ≡ None
@@ -110,16 +54,6 @@ module _ (L : LaidSchema) (low m : ℕ) (s : Bytes) (c : ℕ) (within : c ≤ le
   something_there k fs (one_of (code_kind u)) d h e = absurd h
   something_there k fs (one_of text_kind) d h e = rw e refl
   something_there k fs (vector_of kind) d h e = rw e refl
-
-  no_union : (shape : StoredShape) → IsOwn shape → is_union shape ≡ false
-  unfolding IsOwn
-  no_union (one_of (scalar_kind b)) h = refl
-  no_union (one_of (struct_kind t)) h = refl
-  no_union (one_of (table_kind t)) h = refl
-  no_union (one_of (union_kind u)) h = absurd h
-  no_union (one_of (code_kind u)) h = absurd h
-  no_union (one_of text_kind) h = refl
-  no_union (vector_of kind) h = refl
 
   -- slot k of the table, what it stores and its end-count
   pub record SlotKnown (k : ℕ) (f : Slot) (x : Option Datum) (e : ℕ) : Type 0 where
@@ -201,23 +135,12 @@ module _ (L : LaidSchema) (low m : ℕ) (s : Bytes) (c : ℕ) (within : c ≤ le
   not_missing k f None e own fits h = rw fits.0 refl
   not_missing k f (Some d) e own fits h = by_stored (is_stored f (Some d)) refl
     where
-      by_required : (r t : Bool) → (r && (not true || (false && t))) ≡ false
-      by_required true t = refl
-      by_required false t = refl
-
       by_stored : (t : Bool) → is_stored f (Some d) ≡ t → is_missing s p k f ≡ false
       by_stored false out = rw (default_known f d out).0 refl
       by_stored true is = rw ((there k f d e h is).present, no_union f.shape own)
-          (by_required f.required (not (is_present s p (k - 1))))
+          (not_required f.required)
 
   -- ---- a union's code, and the value behind it
-
-  or_true : (r : Bool) → (r || true) ≡ true
-  or_true true = refl
-  or_true false = refl
-
-  code_stored : (f : Slot) (n : ℕ) → f.if_absent ≡ None → is_stored f (Some (a_number (pos n))) ≡ true
-  code_stored f n e = rw e (or_true f.required)
 
   -- the code that stands in a stored code slot
   pub record CodeThere (j n : ℕ) : Type 0 where
@@ -235,27 +158,6 @@ module _ (L : LaidSchema) (low m : ℕ) (s : Bytes) (c : ℕ) (within : c ≤ le
     where
       same_pos : {a b : ℕ} → pos a ≡ pos b → a ≡ b
       same_pos e = cc
-
-  no_code : (u : ℕ) → member_by_code L u 0 ≡ None
-  no_code u = refl
-
-  code_some : (u n t : ℕ) → member_by_code L u n ≡ Some t → 0 < n
-  code_some u zero t e = cc
-  code_some u (suc n) t e = omega arith
-
-  not_both : (r : Bool) → not (r && false) ≡ true
-  not_both true = refl
-  not_both false = refl
-
-  required_kept : (r : Bool) (n : ℕ) → 0 < n → not (r && (n == 0)) ≡ true
-  required_kept r n some = let test : (n == 0) ≡ false = grind (arith, nat_tests) in rw test (not_both r)
-
-  code_keeps : (u k : ℕ) (required here : Bool) (q : ℕ) → q + 1 ≤ length s → 0 < num s q 1 → here ≡ true
-      → KeepsBy (from_end s m) L s (code_place u k required here) q
-  unfolding fault_by
-  code_keeps u k required here q inside some is =
-      hold _ _ _ (le-leb _ _ inside) (hold _ _ _ (required_kept required (num s q 1) some)
-      (hold _ _ _ (rw is (or_true (num s q 1 == 0))) no_rules))
 
   -- a code slot, with the entry of the slot behind it
   code_lies : (j : ℕ) (f g : Slot) (fs : List Slot) (u : ℕ) (x : Option Datum) (e e2 : ℕ)
@@ -284,18 +186,14 @@ module _ (L : LaidSchema) (low m : ℕ) (s : Bytes) (c : ℕ) (within : c ≤ le
           let code = code_there j f u n e shape may.1 h in
           let now = there (suc j) g (a_member n d) e2 h2 refl in
           let own = rw value at fits.1 in
-          let some : 0 < n = code_some u n own.0 own.1 in
-          let named : named_slot L s p j fs f.shape
-          ≡ Some (record {
+          let some : 0 < n = code_some L u n own.0 own.1 in
+          let spot : Place = record {
             sort = code_place u (suc j) (next_required fs) (is_present s p (suc j));
             at = p + slot_number s p j;
-          }) = rw (shape, code.present) refl in
-          let place : place_of j f fs
-          ≡ Some (record {
-            sort = code_place u (suc j) (next_required fs) (is_present s p (suc j));
-            at = p + slot_number s p j;
-          }) = rw h.fits.0 named in
-          rw place (code_keeps u (suc j) (next_required fs) (is_present s p (suc j)) (p + slot_number s p j) code.inside
+          } in
+          let named : named_slot L s p j fs f.shape ≡ Some spot = rw (shape, code.present) refl in
+          let place : place_of j f fs ≡ Some spot = rw h.fits.0 named in
+          rw place (code_keeps L m s u (suc j) (next_required fs) (is_present s p (suc j)) (p + slot_number s p j) code.inside
           (omega (arith, code.reads, some)) now.present)
 
   -- a union's value slot, with the code slot before it
@@ -359,11 +257,7 @@ module _ (L : LaidSchema) (low m : ℕ) (s : Bytes) (c : ℕ) (within : c ≤ le
       let code = code_there j f u n e shape may.1 h in
       let now = there (suc j) g (a_member n d) e2 h2 refl in
       let back : suc j - 1 ≡ j = omega arith in
-      rw (now.present, back, code.present, value) (by_required g.required)
-    where
-      by_required : (r : Bool) → (r && (not true || (true && not true))) ≡ false
-      by_required true = refl
-      by_required false = refl
+      rw (now.present, back, code.present, value) (not_required g.required)
 
   -- ---- all slots
 

@@ -31,12 +31,12 @@ use Rattle.fb_build.specs.TableBytes.{offset_from}
 use Rattle.fb_build.specs.Tails.{TailSeen, Grows}
 use Rattle.fb_build.specs.Taken.{is_within}
 use Rattle.fb_build.proofs.tail.WhatIsLaidStaysLaid.{lower}
-use Rattle.fb_build.proofs.fields.PassTakesOneSlot.{in_mapped}
+use Rattle.fb_build.proofs.fields.SlotStoresItsEntry.{in_mapped}
 use Rattle.fb_build.proofs.vtables.VtableHasTheStoredFields.{TellsStored, stored_size, stored_greatest, in_stored}
 use Rattle.fb_build.proofs.vtables.VtableHasTheStoredFields.{IsNoDefault, none_default, StandsInside, TheyStandApart}
 use Rattle.fb_build.proofs.vtables.VtableHasTheStoredFields.{all_apart, all_bits, number_at, tells_stored}
 use Rattle.fb_build.proofs.structs.StructPaddingIsZero.{zeros_read}
-use Rattle.fb_build.proofs.tables.TableHasItsFields.{got}
+use Rattle.fb_build.proofs.tables.CodeSlotHasNoEntry.{got}
 use Rattle.fb_build.proofs.tail.PaddingIsZero.{zeros_long}
 
 -- what is read of the table at p and of its vtable, where its slots have these end-counts

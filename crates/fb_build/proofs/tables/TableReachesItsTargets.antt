@@ -13,8 +13,9 @@ use Rattle.fb_build.specs.Fields.{ref_or}
 use Rattle.fb_build.specs.Paired.{ArePaired}
 use Rattle.fb_build.specs.Pieces.{PartAt, reached, reached_named, reached_entries}
 use Rattle.fb_build.specs.Made.{LeadsTo, FieldLeads, named_of, named_stored, named_fields, parts_at, ends_parts}
-use Rattle.fb_build.proofs.fields.PassTakesOneSlot.{in_mapped}
-use Rattle.fb_build.proofs.tables.TableHasItsFields.{no_place, no_code_entry, got, stored_get, p, IsOwn, SlotKnown}
+use Rattle.fb_build.proofs.fields.SlotStoresItsEntry.{in_mapped}
+use Rattle.fb_build.proofs.tables.CodeSlotHasNoEntry.{no_place, no_code_entry, got, stored_get, IsOwn}
+use Rattle.fb_build.proofs.tables.TableHasItsFields.{p, SlotKnown}
 use Rattle.fb_build.proofs.tables.TableHasItsFields.{place_of, something_there, nothing_there, empty, stored_number}
 use Rattle.fb_build.proofs.tables.TableHasItsFields.{there, code_there, value_known, code_known}
 use Rattle.fb_build.proofs.tables.EndsNameTheParts.{first_dropped}
@@ -58,7 +59,7 @@ module _ (L : LaidSchema) (low m : ℕ) (s : Bytes) (c : ℕ) (within : c ≤ le
       omega (arith, number, h.under, within, state.0)
 
   -- a slot of its own
-  own_reached : (k : ℕ) (f : Slot) (fs : List Slot) (d : Datum) (e t : ℕ) → IsOwn L low m s c within f.shape
+  own_reached : (k : ℕ) (f : Slot) (fs : List Slot) (d : Datum) (e t : ℕ) → IsOwn f.shape
       → EntryFits L f (Some d) → SlotKnown L low m s c within k f (Some d) e → FieldLeads s true f (Some d) t e
       → entry_reached L s (place_of L low m s c within k f fs) (Some d) ≡ parts_at L s (named_of f.shape d) t
   unfolding place_of
@@ -179,10 +180,10 @@ module _ (L : LaidSchema) (low m : ℕ) (s : Bytes) (c : ℕ) (within : c ≤ le
     slot_reached k f None fk xk = sym (nothing_named L s f (next_code (drop (suc k) xs)) (slice_index targets k))
     slot_reached k f (Some d) fk xk = by_shape f.shape refl
       where
-        own : (shape : StoredShape) → f.shape ≡ shape → IsOwn L low m s c within shape
+        own : (shape : StoredShape) → f.shape ≡ shape → IsOwn shape
             → stored_here shape (next_code (drop (suc k) xs)) (Some d) ≡ Some d → Reaches k f (Some d)
         own shape is o same =
-            let o2 : IsOwn L low m s c within f.shape = rw is o in
+            let o2 : IsOwn f.shape = rw is o in
             let stored : stored_here f.shape (next_code (drop (suc k) xs)) (Some d) ≡ Some d =
             ap (λ z. stored_here z (next_code (drop (suc k) xs)) (Some d)) is ∙ same in
             let h : SlotKnown L low m s c within k f (Some d) (slice_index ends k) =

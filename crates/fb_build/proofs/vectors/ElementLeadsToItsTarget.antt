@@ -8,7 +8,7 @@ use Rattle.fb_build.specs.Tails.{TailSeen, Grows}
 use Rattle.fb_build.specs.Fields.{target_for}
 use Rattle.fb_build.specs.Made.{LeadsTo}
 use Rattle.fb_build.proofs.covered.ReferenceLeadsThereFurtherOn.{leads_grown}
-use Rattle.fb_build.proofs.fields.PassTakesOneSlot.{by_index, same_some}
+use Rattle.fb_build.proofs.fields.SlotStoresItsEntry.{by_index, same_some}
 
 -- those of the elements from one on
 abbrev pub LeadFrom : LaidSchema → Bytes → ℕ → ℕ → StoredKind → List Datum → List ℕ → Type 0

@@ -12,7 +12,7 @@ use Rattle.fb_value.specs.View.{view, parts_view, entries_in, entries_view}
 use Rattle.fb_value.specs.declared.values.Value.{Value}
 use Rattle.fb_build.specs.Fields.{IsSimple, IsElement}
 use Rattle.fb_build.specs.Needs.{first_waits, need, parts_need, entries_need, entry_need}
-use Rattle.fb_build.proofs.fields.PassTakesOneSlot.{by_index}
+use Rattle.fb_build.proofs.fields.SlotStoresItsEntry.{by_index}
 use Rattle.fb_build.specs.Vtables.{IsKey, AreKept, entries_listed, VtablesKnown, PartsVtablesKnown, EntriesVtablesKnown}
 use Rattle.fb_build.specs.Vtables.{EntryVtablesKnown, FitsSomewhere, EntryFitsSomewhere, EachFitsSomewhere}
 

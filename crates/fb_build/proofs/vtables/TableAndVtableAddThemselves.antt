@@ -17,7 +17,7 @@ use Rattle.fb_build.specs.Pieces.{Piece}
 use Rattle.fb_build.specs.Covered.{piece_chunk, zeros_chunk}
 use Rattle.fb_build.specs.Tails.{TailSeen}
 use Rattle.fb_build.specs.Made.{StaysInFront, laid_at, Adds}
-use Rattle.fb_build.proofs.fields.PassTakesOneSlot.{by_index}
+use Rattle.fb_build.proofs.fields.SlotStoresItsEntry.{by_index}
 use Rattle.fb_build.proofs.covered.PartsInFrontAreAdded.{LaysInFront, made_laid, same_among}
 use Rattle.fb_build.proofs.covered.PartAddsItself.{laid_further, same_further, times_further, times_with_first}
 use Rattle.fb_build.proofs.covered.PartAddsItself.{front_joined}

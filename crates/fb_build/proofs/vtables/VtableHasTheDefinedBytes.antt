@@ -10,11 +10,12 @@ use Rattle.fb_value.specs.Datum.{Datum}
 use Rattle.fb_value.specs.Num.{Bytes}
 use Rattle.fb_build.specs.Fields.{is_stored, fields_size, AreKnown}
 use Rattle.fb_build.specs.TableBytes.{offset_from, offset_bytes, vtable_bytes}
-use Rattle.fb_build.specs.FieldEnds.{stored_end, field_end, ends_from, field_ends, used_slots, table_size, table_vtable}
-use Rattle.fb_build.specs.FieldEnds.{AreCounted}
-use Rattle.fb_build.proofs.fields.AlignmentDividesTheSize.{simple_some, simple_aligned, aligned_some}
-use Rattle.fb_build.proofs.tables.TableHasItsFields.{got}
-use Rattle.fb_build.proofs.fields.FieldEndsBehindThoseBefore.{own_end, placed_part}
+use Rattle.fb_build.specs.FieldEnds.{stored_end, field_end, ends_from, field_ends, used_slots, table_size}
+use Rattle.fb_build.specs.FieldEnds.{table_vtable, AreCounted}
+use Rattle.fb_build.proofs.fields.AlignmentDividesTheSize.{simple_some}
+use Rattle.fb_build.proofs.tables.CodeSlotHasNoEntry.{got}
+use Rattle.fb_build.proofs.fields.FieldEndsBehindThoseBefore.{own_end}
+use Rattle.fb_build.proofs.order.LaidFieldsTakeTheirSizes.{placed_part}
 
 -- ---- the list of end-counts
 
@@ -220,8 +221,7 @@ ends_small L fs xs known k = by_case (lower k (length fs))
     by_slot f x fk xk true is =
         let own : slice_index (field_ends L fs xs) k ≡ stored_end L fs xs k f =
         field_end_at L k fs xs f x fk xk ∙ rw is refl in
-        let some = aligned_some _ (simple_aligned L f.shape (known.each k f x fk xk).0) in
-        omega (arith, own, placed_part L (inline_align L f.shape) (suc k) fs xs some)
+        omega (arith, own, placed_part L (inline_align L f.shape) (suc k) fs xs)
     by_slot f x fk xk false out =
         let own : slice_index (field_ends L fs xs) k ≡ 0 = field_end_at L k fs xs f x fk xk ∙ rw out refl in
         omega (arith, own)

@@ -12,7 +12,7 @@ use Rattle.fb_build.specs.Tails.{TailSeen, Grows}
 use Rattle.fb_build.specs.TableBytes.{way_to, VtableEnd, TellsItsLength, AreLaid}
 use Rattle.fb_build.proofs.tail.WhatIsLaidStaysLaid.{stands_grown}
 use Rattle.fb_build.proofs.numbers.NumberReadsBack.{num_behind, num_first}
-use Rattle.fb_build.proofs.fields.PassTakesOneSlot.{by_index, same_some}
+use Rattle.fb_build.proofs.fields.SlotStoresItsEntry.{by_index, same_some}
 
 pub new_end : (s old vt : Bytes) (place : ℕ) → s ≡ vt ++ (little_bytes 4 (length vt) ++ old) → place ≡ length old + 4
     → length old % 4 ≡ 0 → length vt % 2 ≡ 0 → length vt ≤ 65534 → VtableEnd s place vt

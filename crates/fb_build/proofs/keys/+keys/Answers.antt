@@ -10,7 +10,7 @@ use Rattle.fb_build.specs.Vtables.{FitsSomewhere}
 use Rattle.fb_value.specs.Counts.{is_whole}
 use Rattle.fb_value.specs.Datum.{Datum}
 use Rattle.fb_build.proofs.fields.CodeIsBeforeItsUnion.{entry_whole}
-use Rattle.fb_build.proofs.fields.PassTakesOneSlot.{entries_at}
+use Rattle.fb_build.proofs.fields.SlotStoresItsEntry.{entries_at}
 use Rattle.fb_build.proofs.fields.AlignmentDividesTheSize.{all_known}
 use Rattle.fb_build.proofs.vectors.VectorHasItsElements.{views_at}
 use Rattle.fb_build.proofs.vtables.EachVtableIsAKey.{entries_known, entries_next, entry_somewhere, key_kept}

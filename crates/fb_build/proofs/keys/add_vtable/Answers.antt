@@ -14,9 +14,9 @@ use Rattle.fb_build.proofs.vtables.VtableHasTheDefinedBytes.{planned_is_of, ends
 use Rattle.fb_build.proofs.vtables.EachVtableIsAKey.{listed}
 use Rattle.fb_layout.proofs.NarrowTablesAreKnown.{ceil-is}
 use Rattle.fb_build.specs.Fields.{stored_in, entries_seen, fields_size}
-use Rattle.fb_build.proofs.fields.PassTakesOneSlot.{slots_long, entries_long}
+use Rattle.fb_build.proofs.fields.SlotStoresItsEntry.{slots_long, entries_long}
 use Rattle.fb_build.proofs.tables.PartsFitTheirSlots.{known_of, slots_are}
-use Rattle.fb_build.proofs.tables.TableFitsItsRoom.{fields_narrow, stored_within}
+use Rattle.fb_build.proofs.tables.TableFitsItsRoom.{fields_narrow}
 use Rattle.fb_build.proofs.keys.add_vtable.Goals as goal
 
 pub place_fields-end-requires-clause-known : goal.place_fields-end-requires-clause-known
@@ -27,16 +27,6 @@ place_fields-end-requires-clause-known c =
     let known = known_of L c.args.table.0 es made c.requires.fits c.requires.whole in
     let seen = slots_are L c.args.table.0 c.slots_of-slots.result.now c.slots_of-slots.ensures.slots in
     rw seen known.known
-
-pub place_fields-end-requires-clause-low : goal.place_fields-end-requires-clause-low
-place_fields-end-requires-clause-low c =
-    let L = c.args.layout.now in
-    let es = c.args.entries.now in
-    let made = c.schema-schema.ensures.made in
-    let known = known_of L c.args.table.0 es made c.requires.fits c.requires.whole in
-    let seen = slots_are L c.args.table.0 c.slots_of-slots.result.now c.slots_of-slots.ensures.slots in
-    rw (seen, c.table_align-most.ensures)
-    (stored_within L c.args.table.0 (stored_in (slots_of L c.args.table.0) (entries_seen es)) known.known)
 
 pub place_fields-end-requires-clause-narrow : goal.place_fields-end-requires-clause-narrow
 place_fields-end-requires-clause-narrow c =

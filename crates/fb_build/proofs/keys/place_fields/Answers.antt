@@ -1,80 +1,109 @@
-use Rattle.std.proofs.Common.{◌≡◌, ◌≤◌, ◌∙◌, true, sym, ap, if◌then◌else◌, Bool, length, arith, rules}
-use Rattle.std.proofs.lemmas.Bool.{lt-ltb}
-use Rattle.fb_layout.specs.Widths.{inline_align}
-use Rattle.fb_build.specs.Fields.{is_stored, slots_seen, stored_seen, stored_align, stored_below, above, from}
-use Rattle.fb_build.specs.FieldEnds.{stored_end}
-use Rattle.fb_build.proofs.tables.TableFitsItsRoom.{above_none, above_all, above_next, below_least, below_less}
-use Rattle.fb_build.proofs.tables.TableFitsItsRoom.{from_next}
-use Rattle.fb_build.proofs.fields.PassTakesOneSlot.{slots_long}
-use Rattle.fb_build.proofs.fields.AlignmentDividesTheSize.{simple_aligned, aligned_some}
+use Rattle.std.proofs.Common.{◌≡◌, ◌<◌, ◌+◌, ◌-◌, ◌∙◌, length, sym, slice_set, arith, rules}
+use Rattle.fb_schema.specs.Seen.{field_seen}
+use Rattle.fb_layout.specs.Laid.{slot_of}
+use Rattle.fb_layout.specs.Widths.{inline_size}
+use Rattle.fb_build.specs.Fields.{slots_seen, stored_seen}
+use Rattle.fb_build.specs.FieldOrder.{link_in}
+use Rattle.fb_build.proofs.order.FieldsArePlacedInOrder.{ArePlacedUpTo}
 use Rattle.fb_build.proofs.buffers.ReservedMemoryIsZero.{zero_in}
-use Rattle.fb_build.proofs.fields.FieldEndsBehindThoseBefore.{Placed, and_true, end_retested, none_placed}
-use Rattle.fb_build.proofs.vtables.VtableHasTheDefinedBytes.{placed_list}
+use Rattle.fb_build.proofs.fields.AlignmentDividesTheSize.{simple_some}
+use Rattle.fb_build.proofs.fields.SlotStoresItsEntry.{slots_at, slots_long}
+use Rattle.fb_build.proofs.order.FieldsArePlacedInOrder.{none_placed, next_placed, size_placed, ends_placed}
+use Rattle.fb_build.proofs.order.NextFieldIsNamed.{named, link_low, room_of_next}
+use Rattle.fb_build.proofs.tables.CodeSlotHasNoEntry.{got}
 use Rattle.fb_build.proofs.keys.place_fields.Goals as goal
 
-pub loop-align-init : goal.loop-align-init
-loop-align-init c =
+pub loop-next-init : goal.loop-next-init
+loop-next-init c =
     let L = c.args.layout.now in
     let fs = slots_seen L c.args.slots.now in
     let xs = stored_seen L c.args.slots.now c.args.entries.now in
-    let a = c.start_align-align.result in
-    let is = (c.start_align-align.ensures c.requires.low) in
-    let low : stored_align L fs xs ≤ a = omega (arith, is) in
     record {
+      low = omega (
+        arith,
+        link_low L _ fs xs c.order_fields-next.result c.order_fields-next.ensures.linked.begin,
+        slots_long L c.args.slots.now,
+      );
       each = search rules;
-      end = omega (arith, above_none L a fs xs low);
-      placed = none_placed L a fs xs c.fill.new.self low
+      placed = none_placed L fs xs c.fill.new.self c.order_fields-next.new.links c.order_fields-next.result
+          c.order_fields-next.ensures.linked
           (zero_in c.fill.new.self (length c.args.ends.now) (c.fill.ensures.after (λ y h. h)));
     }
 
-pub loop-align-preserved : goal.loop-align-preserved
-loop-align-preserved c =
+pub place_field-end-requires-clause-short : goal.place_field-end-requires-clause-short
+place_field-end-requires-clause-short c =
     let L = c.args.layout.now in
     let fs = slots_seen L c.args.slots.now in
     let xs = stored_seen L c.args.slots.now c.args.entries.now in
-    let a = c.loop-align.align in
-    let now = c.place_pass-placed.ensures in
-    let b = stored_below L a fs xs in
-    let less = below_less L a fs xs c.loop-align-test.true in
-    let least = below_least L a fs xs in
-    record {
-      each = now.each;
-      end = rw now.next (omega (arith, c.loop-align.invariant.end, now.end, above_next L a b fs xs less least));
-      placed = end_retested (Placed L fs xs) (λ k. from L a) (λ k. above L c.place_pass-placed.result.next) fs xs
-          c.place_pass-placed.new.ends (rw now.next (from_next L a b fs xs less least)) now.placed;
-    }
+    let k = c.loop-next.next - 1 in
+    let f = slot_of L.schema (field_seen c.index-slots-k.result) in
+    let inv = c.loop-next.invariant in
+    let low : k < length c.args.slots.now = omega (arith, c.loop-next-test.true, inv.low) in
+    let fk = slots_at L c.args.slots.now k c.index-slots-k.result low c.index-slots-k.is in
+    let x = got xs k (omega (arith, low, slots_long L c.args.slots.now, c.requires.known.long)) in
+    let n = named L inv.placed.laid fs xs c.loop-next.next k f x.0 inv.placed.next (omega (arith, c.loop-next-test.true))
+    fk x.1 in
+    omega (arith, room_of_next L inv.placed.laid fs xs k f x.0 fk x.1 n, inv.placed.size, c.requires.narrow)
 
-pub loop-align-smaller : goal.loop-align-smaller
-loop-align-smaller c =
+pub loop-next-smaller : goal.loop-next-smaller
+loop-next-smaller c =
     let L = c.args.layout.now in
-    rw c.place_pass-placed.ensures.next
-    (below_less L c.loop-align.align (slots_seen L c.args.slots.now)
-    (stored_seen L c.args.slots.now c.args.entries.now) c.loop-align-test.true)
+    let fs = slots_seen L c.args.slots.now in
+    let xs = stored_seen L c.args.slots.now c.args.entries.now in
+    let k = c.loop-next.next - 1 in
+    let f = slot_of L.schema (field_seen c.index-slots-k.result) in
+    let inv = c.loop-next.invariant in
+    let low : k < length c.args.slots.now = omega (arith, c.loop-next-test.true, inv.low) in
+    let fk = slots_at L c.args.slots.now k c.index-slots-k.result low c.index-slots-k.is in
+    let x = got xs k (omega (arith, low, slots_long L c.args.slots.now, c.requires.known.long)) in
+    let n = named L inv.placed.laid fs xs c.loop-next.next k f x.0 inv.placed.next (omega (arith, c.loop-next-test.true))
+    fk x.1 in
+    let some = simple_some L f.shape (c.requires.known.each k f x.0 fk x.1).0 in
+    let end : c.place_field-end.result ≡ c.loop-next.end + inline_size L f.shape = c.place_field-end.ensures.end in
+    omega (arith, room_of_next L inv.placed.laid fs xs k f x.0 fk x.1 n, inv.placed.size, some, end)
+
+pub loop-next-preserved : goal.loop-next-preserved
+loop-next-preserved c =
+    let L = c.args.layout.now in
+    let fs = slots_seen L c.args.slots.now in
+    let xs = stored_seen L c.args.slots.now c.args.entries.now in
+    let k = c.loop-next.next - 1 in
+    let f = slot_of L.schema (field_seen c.index-slots-k.result) in
+    let inv = c.loop-next.invariant in
+    let low : k < length c.args.slots.now = omega (arith, c.loop-next-test.true, inv.low) in
+    let fk = slots_at L c.args.slots.now k c.index-slots-k.result low c.index-slots-k.is in
+    let x = got xs k (omega (arith, low, slots_long L c.args.slots.now, c.requires.known.long)) in
+    let n = named L inv.placed.laid fs xs c.loop-next.next k f x.0 inv.placed.next (omega (arith, c.loop-next-test.true))
+    fk x.1 in
+    let e = c.place_field-end.result in
+    let next : ArePlacedUpTo L fs xs (slice_set c.loop-next.ends k e) e (link_in c.order_fields-next.new.links k) =
+    next_placed L k e c.loop-next.end c.loop-next.next c.order_fields-next.result fs xs c.loop-next.ends
+    c.order_fields-next.new.links f x.0 c.order_fields-next.ensures.linked inv.placed fk x.1 n
+    (omega (arith, low, inv.each)) c.place_field-end.ensures.end in
+    record {
+      low = omega (
+        arith,
+        link_low L next.laid fs xs (link_in c.order_fields-next.new.links k) next.next,
+        slots_long L c.args.slots.now,
+        c.link_at-next.ensures,
+      );
+      each = rw c.place_field-end.ensures.placed (search (rules, inv.each));
+      placed = rw (c.link_at-next.ensures, c.place_field-end.ensures.placed) next;
+    }
 
 pub returns-clause-size : goal.returns-clause-size
 returns-clause-size c =
     let L = c.args.layout.now in
-    let none : c.loop-align.align ≡ 0 = omega (arith, c.loop-align-test.false) in
-    let end = rw none at c.loop-align.invariant.end in
-    omega (
-      arith,
-      end,
-      above_all L (slots_seen L c.args.slots.now) (stored_seen L c.args.slots.now c.args.entries.now)
-          c.requires.known.each,
-    )
+    let fs = slots_seen L c.args.slots.now in
+    let xs = stored_seen L c.args.slots.now c.args.entries.now in
+    size_placed L c.loop-next.end c.loop-next.next fs xs c.loop-next.ends c.loop-next.invariant.placed
+    (omega (arith, c.loop-next-test.false))
 
 pub returns-clause-ends : goal.returns-clause-ends
 returns-clause-ends c =
     let L = c.args.layout.now in
-    let a = c.loop-align.align in
     let fs = slots_seen L c.args.slots.now in
     let xs = stored_seen L c.args.slots.now c.args.entries.now in
-    let none : a ≡ 0 = omega (arith, c.loop-align-test.false) in
-    let all = end_retested (Placed L fs xs) (λ k. above L a) (λ k f. true) fs xs c.loop-align.ends
-    (λ k f x fk xk is. let some = aligned_some (inline_align L f.shape)
-    (simple_aligned L f.shape (c.requires.known.each k f x fk xk).0) in
-    lt-ltb a (inline_align L f.shape) (omega (arith, none, some))) c.loop-align.invariant.placed in
-    placed_list L fs xs c.loop-align.ends c.requires.known.long (c.loop-align.invariant.each
-    ∙ sym (slots_long L c.args.slots.now))
-    (λ k f x fk xk. all k f x fk xk ∙ ap (λ (b : Bool). if b then stored_end L fs xs k f else 0)
-    (and_true (is_stored f x)))
+    ends_placed L c.loop-next.end c.loop-next.next fs xs c.loop-next.ends c.requires.known
+    (c.loop-next.invariant.each ∙ sym (slots_long L c.args.slots.now)) c.loop-next.invariant.placed
+    (omega (arith, c.loop-next-test.false))

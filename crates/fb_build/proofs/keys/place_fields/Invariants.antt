@@ -1,15 +1,16 @@
-use Rattle.std.proofs.Common.{◌≡◌, length}
-use Rattle.fb_build.specs.Fields.{above, size_above, slots_seen, stored_seen}
-use Rattle.fb_build.specs.FieldEnds.{ArePlaced}
+use Rattle.std.proofs.Common.{◌≡◌, ◌≤◌, ◌-◌, length}
+use Rattle.fb_build.specs.Fields.{fields_size, slots_seen, stored_seen}
+use Rattle.fb_build.proofs.order.FieldsArePlacedInOrder.{ArePlacedUpTo}
 use Rattle.fb_build.proofs.keys.place_fields.Given as goal
 
-abbrev pub invariant-loop-align : goal.invariant-loop-align
-invariant-loop-align l = record {
+abbrev pub invariant-loop-next : goal.invariant-loop-next
+invariant-loop-next l = record {
+  low : l.next ≤ length l.slots;
   each : length l.ends ≡ length l.slots;
-  end : l.end ≡ size_above l.layout l.align (slots_seen l.layout l.slots) (stored_seen l.layout l.slots l.entries);
-  placed : ArePlaced l.layout (λ k. above l.layout l.align) (slots_seen l.layout l.slots)
-      (stored_seen l.layout l.slots l.entries) l.ends;
+  placed : ArePlacedUpTo l.layout (slots_seen l.layout l.slots) (stored_seen l.layout l.slots l.entries) l.ends l.end
+      l.next;
 }
 
-abbrev pub decreases-loop-align : goal.decreases-loop-align
-decreases-loop-align l = l.align
+abbrev pub decreases-loop-next : goal.decreases-loop-next
+decreases-loop-next l =
+    fields_size l.layout (slots_seen l.layout l.slots) (stored_seen l.layout l.slots l.entries) - l.end

@@ -20,7 +20,7 @@ use Rattle.fb_build.specs.Stored.{stored_from}
 use Rattle.fb_build.specs.Pieces.{Piece, reached_parts, pieces_of, each_once}
 use Rattle.fb_build.specs.Covered.{Covered}
 use Rattle.fb_build.specs.CoveredLaws.{is_outside}
-use Rattle.fb_build.proofs.covered.UncoveredBytesAreZero.{by_its_value_shown, zero_outside_shown, few_outside_shown}
+use Rattle.fb_build.specs.UncoveredBytesAreZero.{by_its_value_shown, zero_outside_shown, few_outside_shown}
 
 -- A stored default.
 pub stored_default : ¬ (Covered one_int (set seven_bytes 16 0))

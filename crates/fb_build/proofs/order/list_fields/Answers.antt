@@ -1,0 +1,78 @@
+use Rattle.std.proofs.Common.{◌^◌, sym, ◌∙◌, option_map, arith}
+use Rattle.fb_schema.specs.Seen.{field_seen}
+use Rattle.fb_layout.specs.Laid.{slot_of}
+use Rattle.fb_value.specs.View.{view}
+use Rattle.fb_build.specs.Fields.{stored_here, slots_seen, stored_seen}
+use Rattle.fb_build.specs.FieldOrder.{IsStoredAt}
+use Rattle.fb_build.proofs.fields.AlignmentDividesTheSize.{simple_aligned}
+use Rattle.fb_build.proofs.fields.SlotStoresItsEntry.{slots_at, stored_at}
+use Rattle.fb_build.proofs.order.SlotJoinsItsList.{list_passed, unstored, slot_opens, slot_follows}
+use Rattle.fb_build.proofs.order.list_fields.Goals.{then-is_stored, then-firsts-class-eq0, else-firsts-class-eq0}
+use Rattle.fb_build.proofs.order.list_fields.Goals.{else-is_stored}
+use Rattle.fb_build.proofs.order.list_fields.Goals as goal
+
+pub class_of-class-requires : goal.class_of-class-requires
+class_of-class-requires c =
+    let L = c.args.layout.now in
+    let k = c.loop-k.k in
+    let f = slot_of L.schema (field_seen c.index-slots-k.result) in
+    let fk = slots_at L c.args.slots.now k c.index-slots-k.result c.loop-k-test.true c.index-slots-k.is in
+    let xk = stored_at L c.args.slots.now c.args.entries.now k c.index-slots-k.result c.index-entries-k.result
+    c.code_at-code.result c.loop-k-test.true (omega (arith, c.loop-k-test.true, c.requires.long)) c.index-slots-k.is
+    c.index-entries-k.is c.code_at-code.ensures in
+    record { power = rw c.slot_align.ensures (simple_aligned L f.shape (c.requires.known.each k _ _ fk xk).0) }
+
+pub loop-k-preserved : goal.loop-k-preserved
+loop-k-preserved c =
+    let L = c.args.layout.now in
+    let k = c.loop-k.k in
+    let f = slot_of L.schema (field_seen c.index-slots-k.result) in
+    let x = stored_here f.shape c.code_at-code.result (option_map view c.index-entries-k.result) in
+    let fs = slots_seen L c.args.slots.now in
+    let xs = stored_seen L c.args.slots.now c.args.entries.now in
+    let fk = slots_at L c.args.slots.now k c.index-slots-k.result c.loop-k-test.true c.index-slots-k.is in
+    let xk = stored_at L c.args.slots.now c.args.entries.now k c.index-slots-k.result c.index-entries-k.result
+    c.code_at-code.result c.loop-k-test.true (omega (arith, c.loop-k-test.true, c.requires.long)) c.index-slots-k.is
+    c.index-entries-k.is c.code_at-code.ensures in
+    let inv = c.loop-k.invariant in
+    elim c.if-is_stored.branch [
+      | then-is_stored w ↦
+          let class = w.class_of-class.result in
+          let own : IsStoredAt L (2 ^ class) fs xs k = record {
+            field = f;
+            entry = x;
+            is = fk;
+            has = xk;
+            stored = sym c.is_stored.ensures ∙ w.if-is_stored.true;
+            at = sym w.slot_align.ensures ∙ sym w.class_of-class.ensures.power;
+          } in
+          elim w.if-firsts-class-eq0.branch [
+            | then-firsts-class-eq0 v ↦ record {
+              long = rw (w.links-is, v.links-is) inv.long;
+              all_firsts = c.if-is_stored.array_long;
+              all_lasts = c.if-is_stored.array_long2;
+              lists = rw (w.links-is, w.firsts-is, w.lasts-is, v.links-is, v.firsts-is)
+                  (slot_opens L class k fs xs _ _ _ w.class_of-class.ensures.low
+                  (omega (arith, inv.all_firsts, w.class_of-class.ensures.low))
+                  (omega (arith, inv.all_lasts, w.class_of-class.ensures.low)) v.if-firsts-class-eq0.true own
+                  inv.lists);
+            }
+            | else-firsts-class-eq0 v ↦ record {
+              long = rw (w.links-is, v.links-is) (v.put_link.ensures.long ∙ inv.long);
+              all_firsts = c.if-is_stored.array_long;
+              all_lasts = c.if-is_stored.array_long2;
+              lists = rw (w.links-is, w.firsts-is, w.lasts-is, v.links-is, v.firsts-is)
+                  (slot_follows L class k fs xs _ _ _ _ w.class_of-class.ensures.low
+                  (omega (arith, inv.all_lasts, w.class_of-class.ensures.low)) v.if-firsts-class-eq0.false own
+                  v.put_link.ensures.there v.put_link.ensures.others inv.lists);
+            }
+          ]
+      | else-is_stored w ↦ record {
+        long = rw w.links-is inv.long;
+        all_firsts = c.if-is_stored.array_long;
+        all_lasts = c.if-is_stored.array_long2;
+        lists = rw (w.links-is, w.firsts-is, w.lasts-is) (λ d low. list_passed L (2 ^ d) _ _ k fs xs _
+            (λ at. unstored L (2 ^ d) k fs xs f x fk xk (sym c.is_stored.ensures ∙ w.if-is_stored.false) at)
+            (inv.lists d low));
+      }
+    ]
