@@ -11,7 +11,6 @@ pub mod PartsStayAsLaid
 pub mod ReachedPartsAreListed
 pub mod ReachedVtablesAreInside
 pub mod ReferenceLeadsThereFurtherOn
-pub mod SameBytesReadTheSameFurtherOn
 pub mod TestsTellWhatIsCovered
 pub mod TightStructStaysTightFurtherOn
 pub mod TightTableStaysTightFurtherOn

@@ -34,7 +34,7 @@ use Rattle.fb_build.proofs.vectors.VectorHasItsElements.{parts_next}
 use Rattle.fb_build.specs.Items.{ItemsKnown}
 use Rattle.fb_layout.specs.Laid.{StoredKind, kind_in, align_of}
 use Rattle.fb_layout.specs.Widths.{greatest}
-use Rattle.fb_layout.proofs.Alignments.{slot_below}
+use Rattle.fb_layout.proofs.AlignmentsArePowersOfTwo.{slot_below}
 use Rattle.fb_build.proofs.fields.SlotStoresItsEntry.{by_index, same_some, slots_long, entries_long}
 
 entry_fits : (L : LaidSchema) (fs : List Slot) (es : List (Option Value)) → EntriesFit L fs (entries_view es)
