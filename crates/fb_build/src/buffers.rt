@@ -68,7 +68,7 @@ pub fn plan<'v>(alloc: Global, layout: &'v Layout, value: &'v Value) -> Result<P
     })
 }
 
-/// The bytes in which a value of the root table lies.
+/// The bytes that encode a value of the root table.
 pub fn build(alloc: Global, layout: &Layout, value: &Value) -> Result<Vec<u8>, BuildFault>
     requires fits { FitsRoot layout.now (view value.now) }
     requires whole { is_whole (view value.now) ≡ true }

@@ -5,7 +5,7 @@ ghost use Rattle.fb_build.specs.CoveredSteps.{RunsKeptByMore, ChunksJoin, MadeIn
 ghost use Rattle.fb_build.specs.CoveredSteps.{MadeWhole, CoveredWhole};
 ghost use Rattle.fb_build.specs.Taken.{ZeroIsComputed};
 
-/// A buffer is covered by the value that lies in it.
+/// A buffer is covered by the value that it encodes.
 pub fn covered_by_its_value()
     ensures { CoveredByItsValue }
 {}
@@ -55,7 +55,7 @@ pub fn made_in_front()
     ensures { MadeInFront }
 {}
 
-/// Numbers that stand once each are a list's numbers, each once.
+/// Numbers that occur once each are a list's numbers, each once.
 pub fn once_where_distinct()
     ensures { OnceWhereDistinct }
 {}

@@ -28,7 +28,7 @@ fn bits_of(base: Base, number: i128) -> u64
     }
 }
 
-/// Lays a number, wherever it stands.
+/// Lays a number, wherever it is stored.
 pub(crate) fn put_number(out: &mut Tail, base: Base, number: i128)
     requires range { InRange base number }
     requires room { base_size base ≤ out.old.free }

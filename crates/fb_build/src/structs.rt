@@ -47,7 +47,7 @@ pub(crate) fn lay_struct(out: &mut Tail, layout: &Layout, structure: TypeId, par
     out.take_zeros(behind);
 }
 
-/// Lays a number or a struct, wherever it stands.
+/// Lays a number or a struct, wherever it is stored.
 #[cycle(structs)]
 fn lay_inline(out: &mut Tail, layout: &Layout, kind: Kind, value: &Value)
     requires inline { IsInline layout.now (kind_seen layout.now kind) }

@@ -142,7 +142,7 @@ fn lay_target(
     }
 }
 
-/// Lays what a value needs outside of where it stands, and returns its end-count; 0 where there is
+/// Lays what a value needs outside of its own place, and returns its end-count; 0 where there is
 /// nothing.
 #[cycle(tables)]
 fn lay_part(

@@ -133,7 +133,7 @@ impl Tail {
         self.free -= zeros;
     }
 
-    /// Takes zeros that already stand there.
+    /// Takes zeros that are already there.
     pub(crate) fn take_zeros(&mut self, zeros: usize)
         requires room { zeros ≤ self.old.free }
         ensures bytes { self.new.bytes ≡ replicate zeros 0 ++ self.old.bytes }
@@ -154,7 +154,7 @@ impl Tail {
         self.most = self.most.max(align);
     }
 
-    /// Takes zeros that already stand there, so that so many more bytes end at a multiple.
+    /// Takes zeros that are already there, so that so many more bytes end at a multiple.
     pub(crate) fn pad(&mut self, align: usize, more: usize) -> usize
         requires power { IsAlignment align }
         requires short { more ≤ 2147483648 }

@@ -23,7 +23,7 @@ use fb_layout::Layout;
 use fb_schema::{Base, Kind, Shape};
 use fb_value::Value;
 
-/// Lays an element where it stands in its vector; of numbers `base` is the basic type.
+/// Lays an element at its place in its vector; of numbers `base` is the basic type.
 fn lay_element(
     out: &mut Tail,
     layout: &Layout,

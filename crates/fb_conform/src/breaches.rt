@@ -54,7 +54,7 @@ impl Breach {
     ghost use Rattle.std.specs.Prelude.{◌≡◌};
     ghost use Rattle.fb_conform.specs.BreachNumbers.{number_of, type_of, slot_of};
 
-    /// The breach's number, which tells it from all others.
+    /// The breach's number; no other breach has it.
     pub fn number(self) -> u8
         ensures { result ≡ number_of self }
     {
@@ -75,7 +75,7 @@ impl Breach {
         }
     }
 
-    /// The old schema's type that it is told of; none for the root and the identifier.
+    /// The old schema's type that it is in; none for the root and the identifier.
     pub fn type_id(self) -> Option<TypeId>
         ensures { result ≡ type_of self }
     {
@@ -95,7 +95,7 @@ impl Breach {
         }
     }
 
-    /// The slot that it is told of, where it is one slot's.
+    /// The slot that it is in, where it is one slot's.
     pub fn slot(self) -> Option<u16>
         ensures { result ≡ slot_of self }
     {

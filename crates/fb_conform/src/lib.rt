@@ -3,8 +3,8 @@
 
 mod bodies;
 mod breaches;
-mod carrying;
-mod conforming;
+mod carry;
+mod conform;
 mod laws;
 mod members;
 mod shapes;
@@ -13,6 +13,6 @@ mod structs;
 mod twins;
 
 pub use breaches::Breach;
-pub use carrying::carry;
-pub use conforming::conform;
+pub use carry::carry;
+pub use conform::conform;
 pub use laws::{back_holds, carried_fits, carried_holds, carries_on, conforms_on};

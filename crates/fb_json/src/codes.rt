@@ -32,7 +32,7 @@ fn code_numbered(
     Ok(code)
 }
 
-/// The code that a tree tells; `null` tells none.
+/// The code that a tree has; `null` has none.
 #[tactic(auto, unfolding(crate::specs::Leaves::code_told))]
 fn code_told(layout: &Layout, union: TypeId, tree: &Json, place: Place) -> Result<u8, JsonFault>
     ensures { result ≡ code_told layout.now.schema union.0 (tree_view tree.now) place }
@@ -48,7 +48,7 @@ fn code_told(layout: &Layout, union: TypeId, tree: &Json, place: Place) -> Resul
     }
 }
 
-/// The code that a slot tells; another slot hands on what it was handed.
+/// The code that a slot has; another slot returns what it was passed.
 #[tactic(auto, unfolding(crate::specs::Meant::code_after))]
 pub(crate) fn code_after(
     source: Source,

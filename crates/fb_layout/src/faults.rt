@@ -21,7 +21,7 @@ impl LayoutFault {
     ghost use Rattle.std.specs.Prelude.{◌≡◌, None};
     ghost use Rattle.fb_layout.specs.FaultNumbers.{number_of};
 
-    /// The fault's number, which tells it from all others.
+    /// The fault's number; no other fault has it.
     pub fn number(self) -> u8
         ensures { result ≡ number_of self }
     {

@@ -20,7 +20,7 @@ use fb_schema::{Base, FieldInfo, Kind, Schema, TypeId};
 use std::alloc::Global;
 use std::marker::Model;
 
-/// A schema with the size and alignment of each struct, where its fields stand, and the greatest
+/// A schema with the size and alignment of each struct, where its fields are, and the largest
 /// inline size and the required slots of each table.
 #[derive(Drop)]
 pub struct Layout {
@@ -45,7 +45,7 @@ impl Model for Layout {
 
 /// The layout of a schema.
 ///
-/// A refusal hands the schema back. It names the type of the lowest number that fails a rule: a
+/// A refusal returns the schema. It names the type of the lowest number that fails a rule: a
 /// struct over 65,535 bytes, or a table that is over 65,535 bytes wide with all its fields stored that
 /// aren't deprecated, or has over 32,765 slots. `Memory` is a refused allocation.
 pub fn lay(alloc: Global, schema: Schema) -> Result<Layout, (LayoutFault, Schema)>

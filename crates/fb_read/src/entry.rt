@@ -3,7 +3,7 @@ use crate::fixed_view::FixedView;
 use crate::items::Items;
 use crate::view::View;
 
-/// What stands in a slot of a table, in a field of a struct or as an element of a vector.
+/// What is in a slot of a table or a field of a struct, or is an element of a vector.
 #[derive(Clone, Copy)]
 pub enum Entry<'a> {
     Absent,

@@ -11,7 +11,7 @@ use crate::numbers::number_at;
 use fb_layout::{Layout, kind_in};
 use fb_schema::TypeId;
 
-/// A struct that lies in bytes, read in place.
+/// A struct in a buffer, read in place.
 #[derive(Clone, Copy)]
 pub struct FixedView<'a> {
     pub layout: &'a Layout,

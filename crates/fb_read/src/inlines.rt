@@ -14,7 +14,7 @@ use fb_schema::{Kind, TypeId};
 use fb_value::Value;
 use std::alloc::{AllocError, Global};
 
-/// The number or struct at a position; None for a kind that never stands in its place.
+/// The number or struct at a position; None for a kind that is never stored inline.
 #[cycle(inlines)]
 pub fn read_inline(
     alloc: Global,

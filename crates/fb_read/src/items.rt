@@ -15,7 +15,7 @@ use crate::view::View;
 use fb_layout::Layout;
 use fb_schema::Kind;
 
-/// A vector that lies in bytes, read in place: its elements begin at a position.
+/// A vector in a buffer, read in place: its elements begin at a position.
 #[derive(Clone, Copy)]
 pub struct Items<'a> {
     pub layout: &'a Layout,

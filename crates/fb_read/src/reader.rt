@@ -30,7 +30,7 @@ use ticks::Ticks;
 /// ("FlatBuffer Internals").
 ///
 /// `Memory` is returned only where a table, vector or text is reached that keeps its rules and is within
-/// the limits, with no fault at or before it: it may stand in place of a fault that comes later.
+/// the limits, with no fault at or before it: it may be reported in place of a later fault.
 #[tactic(auto, using(crate::proofs::source::AlignmentsArePositive::layout_sizes))]
 pub fn read<'a>(
     alloc: Global,

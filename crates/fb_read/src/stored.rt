@@ -25,7 +25,7 @@ pub struct UnionCode {
     pub present: bool,
 }
 
-/// What a slot has, or where it stands in the bytes.
+/// What a slot has, or where it is in the bytes.
 #[derive(Clone, Copy)]
 pub enum Stored {
     /// Nothing is stored: the default, if there is one.

@@ -18,7 +18,7 @@ use crate::walk::TableAt;
 use fb_layout::Layout;
 use fb_schema::TypeId;
 
-/// A table that lies in bytes, read in place.
+/// A table in a buffer, read in place.
 #[derive(Clone, Copy)]
 pub struct View<'a> {
     pub layout: &'a Layout,

@@ -18,7 +18,7 @@ impl WriteFault {
     ghost use Rattle.std.specs.Prelude.{◌≡◌};
     ghost use Rattle.fb_text.specs.FaultNumbers.{number_of, place_of, written_of};
 
-    /// The fault's number, which tells it from all others.
+    /// The fault's number; no other fault has it.
     pub fn number(self) -> u8
         ensures { result ≡ number_of self }
     {
@@ -62,7 +62,7 @@ impl TextFault {
     ghost use Rattle.std.specs.Prelude.{◌≡◌};
     ghost use Rattle.fb_text.specs.FaultNumbers.{text_number_of, text_place_of};
 
-    /// The fault's number, which tells it from all others.
+    /// The fault's number; no other fault has it.
     pub fn number(self) -> u8
         ensures { result ≡ text_number_of self }
     {

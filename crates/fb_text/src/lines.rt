@@ -18,7 +18,7 @@ pub(crate) fn put_str<W: Write>(page: &mut Page, out: &mut Noted<W>, piece: &str
     put(page, out, piece.as_bytes());
 }
 
-/// Adds what stands in front of a member or an element: few levels in one piece.
+/// Adds what is in front of a member or an element: few levels in one piece.
 #[tactic(auto, using(crate::proofs::writing::PiecesAddUp::added_then))]
 pub(crate) fn put_line<W: Write>(page: &mut Page, out: &mut Noted<W>, indent: &Indent, some: bool)
     ensures { Adds (state_of W.contents page.old out.old) (state_of W.contents page.new out.new)
@@ -40,7 +40,7 @@ pub(crate) fn put_line<W: Write>(page: &mut Page, out: &mut Noted<W>, indent: &I
     put_str(page, out, "        ");
 }
 
-/// Adds what stands in front of a member's name, its quote included: few levels in one piece.
+/// Adds what is in front of a member's name, its quote included: few levels in one piece.
 #[tactic(auto, using(crate::proofs::writing::PiecesAddUp::added_then))]
 fn put_line_to_name<W: Write>(page: &mut Page, out: &mut Noted<W>, indent: &Indent, some: bool)
     ensures { Adds (state_of W.contents page.old out.old) (state_of W.contents page.new out.new)
@@ -62,7 +62,7 @@ fn put_line_to_name<W: Write>(page: &mut Page, out: &mut Noted<W>, indent: &Inde
     put_str(page, out, "        \"");
 }
 
-/// Adds what stands in front of a closing bracket.
+/// Adds what is in front of a closing bracket.
 pub(crate) fn put_closing<W: Write>(
     page: &mut Page,
     out: &mut Noted<W>,

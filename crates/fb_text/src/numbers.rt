@@ -97,7 +97,7 @@ fn are_flags(schema: &Schema, enumeration: TypeId, bits: u128) -> bool
     bits != 0 && are_named(schema, enumeration, 64, 1, bits)
 }
 
-/// Whether a number's lowest bit, which stands for `bit`, has a name if it is set.
+/// Whether a number's lowest bit, which means `bit`, has a name if it is set.
 fn has_name(schema: &Schema, enumeration: TypeId, bit: u128, bits: u128) -> bool
     requires { bit < 2 ^ 127 }
     ensures { result ≡ has_name (name_numbered (body_at schema.now enumeration.0)) bit bits }
@@ -105,7 +105,7 @@ fn has_name(schema: &Schema, enumeration: TypeId, bit: u128, bits: u128) -> bool
     bits % 2 != 1 || schema.name_of_number(enumeration, bit as i128).is_some()
 }
 
-/// Whether so many of a number's bits have names where they are set. The lowest stands for `bit`.
+/// Whether so many of a number's bits have names where they are set. The lowest means `bit`.
 #[tactic(auto, using(crate::proofs::numbers::NoBitsHaveNoNames::none_named), unfolding(crate::specs::Texts::are_named))]
 fn are_named(schema: &Schema, enumeration: TypeId, left: u32, bit: u128, bits: u128) -> bool
     requires { bit * 2 ^ left ≤ 2 ^ 64 }
@@ -121,7 +121,7 @@ fn are_named(schema: &Schema, enumeration: TypeId, left: u32, bit: u128, bits: u
     are_named(schema, enumeration, left - 1, bit + bit, bits / 2)
 }
 
-/// What stands in front of a name: a blank behind an earlier one.
+/// What is in front of a name: a blank behind an earlier one.
 fn gap(some: bool) -> &'static str
     ensures { result.now ≡ (if some then codes " " else []) }
 {
@@ -160,7 +160,7 @@ fn put_bit<W: Write>(
     put_str(page, out, bit_name(schema, enumeration, bit));
 }
 
-/// Whether a name stands before those behind the lowest bit.
+/// Whether there is a name before those behind the lowest bit.
 fn is_more(some: bool, bits: u128) -> bool
     ensures { result ≡ (some || is_odd bits) }
 {

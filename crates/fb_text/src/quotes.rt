@@ -22,14 +22,14 @@ pub(crate) fn put_quoted<W: Write>(page: &mut Page, out: &mut Noted<W>, content:
     put(page, out, b"\"");
 }
 
-/// Whether a byte stands in a JSON string as it is.
+/// Whether a byte is written in a JSON string as it is.
 fn is_plain(byte: u8) -> bool
     ensures { result ≡ is_plain byte }
 {
     byte >= 0x20 && byte != b'"' && byte != b'\\'
 }
 
-/// How many bytes at the front stand as they are.
+/// How many bytes at the front are written as they are.
 fn plain_run(text: &[u8]) -> usize
     ensures run { result ≡ prefix_len is_plain text.now }
     ensures within { result ≤ length text.now }
@@ -66,7 +66,7 @@ fn digit(number: u8) -> u8
     }
 }
 
-/// Adds the escape of a byte that doesn't stand as it is.
+/// Adds the escape of a byte that isn't written as it is.
 #[tactic(auto, using(crate::proofs::writing::PiecesAddUp::added_then), unfolding(json::specs::Print::escape_byte))]
 fn put_escape<W: Write>(page: &mut Page, out: &mut Noted<W>, byte: u8)
     requires { is_plain byte ≡ false }

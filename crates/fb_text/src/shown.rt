@@ -26,7 +26,7 @@ pub(crate) enum Found<'a> {
 
 /// Where a value is read, if there is one: in a buffer or in a `Value`.
 ///
-/// An entry is lighter than what it stands in, so that reading ends.
+/// An entry is lighter than what it is in, so that reading ends.
 pub(crate) trait Shown: Copy {
     ghost shows: { Self → LaidSchema → Option Datum → Type 0 };
 
@@ -45,7 +45,7 @@ pub(crate) trait Shown: Copy {
             → shows result L (Some d) }
         ensures lighter { 0 < weight self → weight result < weight self };
 
-    /// How many of a table's slots are to be looked at, of all that its type has. None behind them is printed.
+    /// How many of a table's slots are to be read, of all that its type has. None behind them is printed.
     fn printed_slots(self, defaults: bool, all: usize) -> usize
         ensures few { result ≤ all }
         ensures behind { (L : LaidSchema) (t : ℕ) (es : SlotEntries) (k : ℕ) (f : DeclaredField)

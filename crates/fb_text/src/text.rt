@@ -52,7 +52,7 @@ fn write_root<W: Write, S: Shown>(
 
 /// Writes the JSON text of a table. `defaults` prints numbers at their defaults too.
 ///
-/// No memory is taken. A union's member without a name is told before the first byte. Nothing is
+/// No memory is allocated. A union's member without a name is reported before the first byte. Nothing is
 /// written where the writer's last write failed.
 pub fn write_text<W: Write>(
     view: &View,

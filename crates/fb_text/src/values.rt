@@ -29,7 +29,7 @@ pub(crate) struct Style<'a> {
     pub defaults: bool,
 }
 
-/// Adds the text of a value of a shape. Lines that the value begins stand behind the indent.
+/// Adds the text of a value of a shape. Lines that the value begins are indented.
 #[cycle(print)]
 pub(crate) fn put_value<W: Write, S: Shown>(
     page: &mut Page,

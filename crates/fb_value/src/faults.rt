@@ -41,7 +41,7 @@ impl ReadFault {
     ghost use Rattle.std.specs.Prelude.{◌≡◌};
     ghost use Rattle.fb_value.specs.FaultNumbers.{number_of, offset_of};
 
-    /// The fault's number, which tells it from all others.
+    /// The fault's number; no other fault has it.
     pub fn number(self) -> u8
         ensures { result ≡ number_of self }
     {
@@ -63,7 +63,7 @@ impl ReadFault {
         }
     }
 
-    /// Where it stands, in bytes from the buffer's start; running out of memory has no place.
+    /// Its offset, in bytes from the buffer's start; running out of memory has no place.
     pub fn offset(self) -> Option<u64>
         ensures { result ≡ offset_of self }
     {

@@ -12,7 +12,7 @@ pub fn one_value()
     ensures { OneValue }
 {}
 
-/// A value lies at the root exactly where each place that is reached keeps its rules.
+/// There is a value at the root exactly where each reachable place keeps its rules.
 pub fn value_where_all_keep()
     ensures { ValueWhereAllKeep }
 {}
@@ -32,7 +32,7 @@ pub fn fault_of_least_path()
     ensures { FaultOfLeastPath }
 {}
 
-/// Bytes hold a value exactly where no fault stands, and else have a least one.
+/// Bytes hold a value exactly where there is no fault, and else have a least one.
 pub fn value_or_fault()
     ensures { ValueOrFault }
 {}
@@ -47,17 +47,17 @@ pub fn nesting_of_depth()
     ensures { NestingOfDepth }
 {}
 
-/// What a table has in a slot lies where the slot's number leads.
+/// What a table has in a slot is stored where the slot's offset points.
 pub fn entry_lies()
     ensures { EntryLies }
 {}
 
-/// What a vector has as an element lies as far on as its number says.
+/// An element of a vector is stored as far on as its index says.
 pub fn element_lies()
     ensures { ElementLies }
 {}
 
-/// What a struct has in a field lies at the field's offset.
+/// What a struct has in a field is stored at the field's offset.
 pub fn part_lies()
     ensures { PartLies }
 {}
@@ -77,17 +77,17 @@ pub fn value_of_place()
     ensures { ValueOfPlace }
 {}
 
-/// The value that is computed at a place is the one that lies there.
+/// The value that is computed at a place is the one that is stored there.
 pub fn value_where_lies()
     ensures { ValueWhereLies }
 {}
 
-/// Bytes laid in front keep what lies in a tail.
+/// Bytes added in front keep what a tail encodes.
 pub fn kept_in_front()
     ensures { KeptInFront }
 {}
 
-/// What lies in a tail lies there for a greater multiple too.
+/// What a tail encodes it encodes for a larger multiple too.
 pub fn kept_by_multiple()
     ensures { KeptByMultiple }
 {}
@@ -97,7 +97,7 @@ pub fn old_kept_in_front()
     ensures { OldKeptInFront }
 {}
 
-/// What lies in a tail lies in a whole buffer whose length is a multiple of all alignments.
+/// What a tail encodes a whole buffer encodes whose length is a multiple of all alignments.
 pub fn lies_in_whole()
     ensures { LiesInWhole }
 {}

@@ -3,20 +3,21 @@
 
 mod copies;
 mod counts;
+mod equality;
 mod faults;
-mod fitting;
+mod fit;
 mod laws;
 mod limits;
 mod rooms;
-mod sameness;
+mod shapes;
+mod union_codes;
 mod values;
-mod wanted;
-mod wholeness;
 
 pub use copies::{copy, copy_part};
 pub use counts::{cells, depth};
+pub use equality::same;
 pub use faults::ReadFault;
-pub use fitting::fits;
+pub use fit::fits;
 pub use laws::{
     cells_of_place, cells_of_value, each_table_reached, element_lies, entry_lies,
     fault_of_least_path, fault_of_place, first_missing, fits_where_held, kept_by_multiple,
@@ -26,6 +27,5 @@ pub use laws::{
 };
 pub use limits::Limits;
 pub use rooms::room;
-pub use sameness::same;
+pub use union_codes::whole;
 pub use values::Value;
-pub use wholeness::whole;

@@ -31,7 +31,7 @@ fn check_bytes(layout: &Layout, bytes: &[u8], limits: Limits, raw: bool) -> Resu
 
 /// Whether a schema text is accepted and, where there are bytes, they hold a value under it.
 ///
-/// `raw` leaves out the check of the file identifier. The schema is looked at before the bytes. No
+/// `raw` skips the file identifier check. The schema is checked before the bytes. No
 /// value is made: memory is taken for the schema alone.
 pub fn check(
     alloc: Global,

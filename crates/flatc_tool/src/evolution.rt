@@ -32,7 +32,7 @@ fn conform_to(alloc: Global, was: &Layout, new: &[u8]) -> Result<(), ToolFault>
 /// Whether a new schema text conforms to an old one: new programs then read what old ones wrote, and
 /// old programs what new ones write.
 ///
-/// The old text is looked at first. The breach that is told is the first: the root's, the
+/// The old text is checked first. The breach that is reported is the first: the root's, the
 /// identifier's, then the old types' by number, in a type its slots' by number.
 pub fn conform_texts(alloc: Global, old: &[u8], new: &[u8]) -> Result<(), ToolFault>
     ensures conforms { OnOk result (TextsConform old.now new.now) }

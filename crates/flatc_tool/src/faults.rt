@@ -52,7 +52,7 @@ impl ToolFault {
     ghost use Rattle.flatc_tool.specs.FaultNumbers.{number_of, offset_of};
     ghost use Rattle.flatc_tool.specs.FaultPlaces.{place_of, owner_of, slot_of, written_of};
 
-    /// The fault's number, which tells it from all others.
+    /// The fault's number; no other fault has it.
     pub fn number(self) -> u8
         ensures { result ≡ number_of self }
     {
@@ -73,7 +73,7 @@ impl ToolFault {
         }
     }
 
-    /// Where it stands in the schema text or the buffer, in bytes from the start, if it has such a
+    /// Its offset in the schema text or the buffer, in bytes from the start, if it has such a
     /// place.
     pub fn offset(self) -> Option<u64>
         ensures { result ≡ offset_of self }
@@ -98,7 +98,7 @@ impl ToolFault {
         }
     }
 
-    /// The declared type where it stands, if it has such a place.
+    /// The declared type that it is in, if it has such a place.
     pub fn owner(self) -> Option<TypeId>
         ensures { option_map (λ owner. owner.0) result ≡ owner_of self }
     {
@@ -111,7 +111,7 @@ impl ToolFault {
         }
     }
 
-    /// The slot where it stands, if it has one.
+    /// The slot that it is in, if it has one.
     pub fn slot(self) -> Option<u16>
         ensures { result ≡ slot_of self }
     {

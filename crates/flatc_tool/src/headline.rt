@@ -14,7 +14,7 @@ pub fn json_is_carried()
     layer_laws();
 }
 
-/// Bytes in which no value lies are refused with the least fault, whose rule fails at a place that
+/// Bytes that encode no value are refused with the least fault, whose rule fails at a place that
 /// is reached: by `to_json`, `check` and `print_to`.
 pub fn others_are_refused()
     ensures { OthersAreRefused }

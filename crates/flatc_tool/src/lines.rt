@@ -29,7 +29,7 @@ fn side_of(fault: &ToolFault) -> &'static str
     }
 }
 
-/// The line that tells a fault, without a newline: its number and name, and what it has of an offset
+/// The line that reports a fault, without a newline: its number and name, and what it has of an offset
 /// in bytes, a type, a slot, and a count of bytes that were written.
 pub fn fault_line(alloc: Global, fault: &ToolFault) -> Result<String, AllocError>
     ensures { IfOk result (λ s. string_bytes s ≡ line_of fault.now) }

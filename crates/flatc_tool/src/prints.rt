@@ -49,9 +49,9 @@ fn print_under<W: Write>(
 
 /// Writes the JSON text of the value that a buffer holds under a schema text.
 ///
-/// `raw` leaves out the check of the file identifier, and `defaults` prints scalars at their
-/// defaults too. The bytes are verified before the first byte is written, and memory is taken for
-/// the schema alone. A write that fails is told with the count of the bytes before it, all of which
+/// `raw` skips the file identifier check, and `defaults` includes scalars with their
+/// default values. The bytes are verified before the first byte is written, and memory is allocated for
+/// the schema alone. A write that fails is reported with the count of the bytes before it, all of which
 /// are the text's first.
 pub fn print_to<W: Write>(
     alloc: Global,
@@ -94,8 +94,8 @@ fn text_fault(fault: ToolFault) -> ToolFault
 
 /// The JSON text of the value that a buffer holds under a schema text.
 ///
-/// `raw` leaves out the check of the file identifier, and `defaults` prints scalars at their
-/// defaults too. The schema is looked at before the bytes, and the bytes before a union's code that
+/// `raw` skips the file identifier check, and `defaults` includes scalars with their
+/// defaults too. The schema is checked before the bytes, and the bytes before a union's code that
 /// has no name.
 pub fn to_json(
     alloc: Global,

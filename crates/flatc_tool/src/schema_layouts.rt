@@ -31,7 +31,7 @@ impl SchemaTextFault {
     ghost use Rattle.flatc_tool.specs.FaultNumbers.{schema_number_of, schema_offset_of};
     ghost use Rattle.flatc_tool.specs.FaultPlaces.{schema_owner_of};
 
-    /// The fault's number, which tells it from all others.
+    /// The fault's number; no other fault has it.
     pub fn number(self) -> u8
         ensures { result ≡ schema_number_of self }
     {
@@ -42,7 +42,7 @@ impl SchemaTextFault {
         }
     }
 
-    /// Where it stands, in bytes from the text's start, if it has such a place.
+    /// Its offset, in bytes from the text's start, if it has one.
     pub fn offset(self) -> Option<u64>
         ensures { result ≡ schema_offset_of self }
     {
@@ -53,7 +53,7 @@ impl SchemaTextFault {
         }
     }
 
-    /// The declared type where it stands, if it has such a place.
+    /// The declared type that it is in, if it has such a place.
     pub fn owner(self) -> Option<TypeId>
         ensures { option_map (λ owner. owner.0) result ≡ schema_owner_of self }
     {

@@ -47,7 +47,7 @@ fn is_text(shape: Shape) -> bool
 pub(crate) fn takes_text(shape: Shape, text: &str) -> bool
     ensures { (L : LaidSchema) → IsTrue result ↔ Fits L (stored_shape L.schema shape) (a_text text.now) }
 {
-    let _ = text;
+    let _ = text; // the contract names it, the code needs none of it
     is_text(shape)
 }
 

@@ -4,7 +4,7 @@ use Rattle.fb_value.specs.View.{parts_view, entries_view}
 use Rattle.fb_value.specs.Fits.{PartsFit, EachFits, EntriesFit}
 use Rattle.fb_value.proofs.rooms.RoomIsThatOfTheParts.{slots_seen}
 use Rattle.fb_value.proofs.ValueFitsPartByPart.{kinds_seen}
-use Rattle.fb_value.proofs.fitting.+fits.Given as goal
+use Rattle.fb_value.proofs.fit.+fits.Given as goal
 
 abbrev pub invariant-each_fits-loop-item : goal.invariant-each_fits-loop-item
 invariant-each_fits-loop-item l =

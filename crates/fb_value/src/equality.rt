@@ -5,7 +5,7 @@ ghost use Rattle.fb_value.specs.Counts.{nesting};
 
 use crate::values::Value;
 
-/// Whether both are the same value, whatever memory they lie in.
+/// Whether both are the same value, whatever memory they are in.
 pub fn same(first: &Value, second: &Value) -> bool
     requires first_nests { nesting (view first.now) ≤ 300 }
     requires second_nests { nesting (view second.now) ≤ 300 }

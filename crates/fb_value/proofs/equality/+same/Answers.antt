@@ -1,8 +1,8 @@
 use Rattle.std.proofs.Common.{◌<◌, length, arith}
 use Rattle.std.proofs.lemmas.Bool.{false≢true}
 use Rattle.fb_value.proofs.EachVariantHasItsView.{view-Fields}
-use Rattle.fb_value.proofs.sameness.EqualViewsHaveEqualParts.{parts_alike, entries_alike, parts_long, entries_long}
-use Rattle.fb_value.proofs.sameness.+same.Goals as goal
+use Rattle.fb_value.proofs.equality.EqualViewsHaveEqualParts.{parts_alike, entries_alike, parts_long, entries_long}
+use Rattle.fb_value.proofs.equality.+same.Goals as goal
 
 pub same_in-returns-then-s-t : goal.same_in-returns-then-s-t
 same_in-returns-then-s-t t c =

@@ -28,7 +28,7 @@ fn same_identifier(old: &Layout, new: &Layout) -> bool
 /// Whether the new schema conforms to the old one: what was written under the old one is read under the
 /// new one, and what is written under the new one is read by old programs.
 ///
-/// The breach that is told is the first: the root's, the identifier's, then the old types' by number, in
+/// The breach that is reported is the first: the root's, the identifier's, then the old types' by number, in
 /// a type its slots' by number, and at one place the one of the lowest number.
 pub fn conform(old: &Layout, new: &Layout) -> Result<(), Breach>
     ensures exact { IsOk result ↔ Conforms old.now new.now }

@@ -1,7 +1,7 @@
 use Rattle.std.proofs.Common.{◌≡◌, drop}
 use Rattle.fb_value.specs.View.{parts_view, entries_view}
 use Rattle.fb_value.specs.Counts.{parts_whole, entries_whole}
-use Rattle.fb_value.proofs.wholeness.+whole.Given as goal
+use Rattle.fb_value.proofs.union_codes.+whole.Given as goal
 
 abbrev pub invariant-whole_in_parts-loop-part : goal.invariant-whole_in_parts-loop-part
 invariant-whole_in_parts-loop-part l = parts_whole (parts_view (drop l.part-index l.parts))

@@ -10,7 +10,7 @@ ghost use Rattle.fb_value.specs.Fits.{Fits, PartsFit, EachFits, EntriesFit, kind
 ghost use Rattle.fb_value.specs.Entries.{EntryFits};
 
 use crate::values::Value;
-use crate::wanted::{
+use crate::shapes::{
     elements_wanted, is_table, may_be_absent, member_wanted, struct_wanted, takes_number,
     takes_text, takes_unknown,
 };

@@ -1,0 +1,2 @@
+-- What the proofs of src/carry.rt use.
+pub mod EntriesAreCarriedInOrder

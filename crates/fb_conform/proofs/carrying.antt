@@ -1,2 +1,0 @@
--- What the proofs of src/carrying.rt use.
-pub mod EntriesAreCarriedInOrder

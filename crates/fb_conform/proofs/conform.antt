@@ -1,0 +1,2 @@
+-- What the proofs of src/conform.rt use.
+pub mod BreachIsTheFirst

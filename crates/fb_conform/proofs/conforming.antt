@@ -1,2 +1,0 @@
--- What the proofs of src/conforming.rt use.
-pub mod BreachIsTheFirst

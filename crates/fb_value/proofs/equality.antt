@@ -1,0 +1,2 @@
+-- What the proofs of src/equality.rt use.
+pub mod EqualViewsHaveEqualParts

@@ -1,2 +1,0 @@
--- What the proofs of src/sameness.rt use.
-pub mod EqualViewsHaveEqualParts
