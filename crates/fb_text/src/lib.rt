@@ -6,6 +6,7 @@ mod indents;
 mod laws;
 mod lines;
 mod members;
+mod nested;
 mod noted;
 mod numbers;
 mod owned;

@@ -1,11 +1,14 @@
 //! Values in JSON texts.
-ghost use Rattle.std.specs.Prelude.{◌≡◌, ◌<◌, ◌||◌, Option, Some, is_some};
+ghost use Rattle.std.specs.Prelude.{◌≡◌, ℕ, ◌<◌, ◌≤◌, ◌++◌, ◌||◌, List, length, Bool};
+ghost use Rattle.std.specs.Prelude.{Option, Some, is_some, IfSome};
+ghost use Rattle.fb_schema.specs.Schema.{body_at, parts_in};
 ghost use Rattle.fb_schema.specs.Seen.{field_seen};
 ghost use Rattle.fb_schema.specs.declared.kinds.Kind.TheVariants.{Struct};
 ghost use Rattle.fb_schema.specs.declared.kinds.Shape.{Shape};
 ghost use Rattle.fb_schema.specs.declared.kinds.Shape.TheVariants.{One, Many};
 ghost use Rattle.fb_value.specs.Datum.{Datum, Parts, SlotEntries, a_struct, a_table, a_vector};
 ghost use Rattle.fb_text.specs.Indents.{blanks};
+ghost use Rattle.fb_text.specs.Nested.{IsAt, IsInside, IsNext, left_text, steps_left};
 ghost use Rattle.fb_text.specs.Texts.{value_text};
 ghost use Rattle.fb_text.specs.Printed.{is_entry_printed, slot_text, named_text, part_text};
 ghost use Rattle.fb_text.specs.Writes.{state_of, Adds};
@@ -13,6 +16,7 @@ ghost use Rattle.fb_text.specs.Writes.{state_of, Adds};
 use crate::indents::Indent;
 use crate::lines::{put_closing, put_line, put_member_line, put_str};
 use crate::members::{is_printed, put_code};
+use crate::nested::{Nested, entered, outermost, parent_of, struct_in};
 use crate::noted::Noted;
 use crate::numbers::put_number;
 use crate::pages::Page;
@@ -93,6 +97,7 @@ fn put_vector<W: Write, S: Shown>(
     put_str(page, out, "]");
 }
 
+/// Adds a struct, and the structs in it without a call for each: no depth of structs takes more stack.
 #[cycle(print)]
 fn put_struct<W: Write, S: Shown>(
     page: &mut Page,
@@ -108,16 +113,60 @@ fn put_struct<W: Write, S: Shown>(
         (value_text style.entry.layout.now style.entry.defaults (blanks indent.now)
         (One (Struct structure)) (a_struct ds)) }
 {
-    let inner = indent.inner();
-    let fields = style.layout.parts_of(structure);
+    let first = outermost(structure, shown);
+    let mut here = first;
     put_str(page, out, "{");
-    let mut some = false;
-    for k in 0..fields.len() {
-        let field = &fields[k];
-        some = put_part(page, out, style, &inner, some, field, shown.part(k as u16));
+    while let Some(next) = put_next(page, out, style, indent, first, here) {
+        here = next;
     }
-    put_closing(page, out, indent, some);
-    put_str(page, out, "}");
+}
+
+/// Adds what comes next of a struct or of one in it: a field, the begin of a struct, or a closing
+/// bracket. Returns where the printer is then; nothing behind the outermost.
+#[cycle(print)]
+fn put_next<W: Write, S: Shown>(
+    page: &mut Page,
+    out: &mut Noted<W>,
+    style: Style,
+    indent: &Indent,
+    first: Nested<S>,
+    here: Nested<S>,
+) -> Option<Nested<S>>
+    requires first { first.at ≡ 0 }
+    requires heavy { 0 < S.weight first.shown }
+    requires inside { IsInside S.weight first.shown here }
+    ensures inside { IfSome result (λ next. IsInside S.weight first.shown next) }
+    ensures fewer { IfSome result (λ next. steps_left next < steps_left here) }
+    ensures text { (ds es : Parts) (behind : List ℕ)
+        → S.shows first.shown style.entry.layout.now (Some (a_struct ds))
+        → IsAt S.shows style.entry.layout.now style.entry.defaults (blanks indent.now)
+        first.structure ds here es behind
+        → IsNext S.shows style.entry.layout.now style.entry.defaults (blanks indent.now)
+        first.structure ds result
+        (state_of W.contents page.old out.old) (state_of W.contents page.new out.new)
+        (left_text style.entry.layout.now style.entry.defaults (blanks indent.now) here es ++ behind) }
+{
+    let _schema = style.layout.schema(); // tells that structs take few bytes
+    let fields = style.layout.parts_of(here.structure);
+    let k = usize::from(here.next);
+    if k >= fields.len() {
+        return put_end(page, out, style.layout, indent, first, here);
+    }
+    let field = &fields[k];
+    let part = here.shown.part(here.next);
+    let inner = indent.deeper(here.depth + 1);
+    match struct_in(field, part) {
+        Some(structure) if here.left > 0 => {
+            put_member_line(page, out, &inner, here.some, field.name.as_str(), false);
+            put_str(page, out, "{");
+            Some(entered(style.layout, here, structure, part))
+        }
+        _ => {
+            let some = put_part(page, out, style, &inner, here.some, field, part);
+            let next = here.next + 1;
+            Some(Nested { next, some, ..here })
+        }
+    }
 }
 
 #[cycle(print)]
@@ -192,6 +241,36 @@ fn put_part<W: Write, S: Shown>(
     }
     put_named(page, out, style, inner, some, field, shown);
     true
+}
+
+/// Adds the end of a struct. Returns where its parent goes on; nothing behind the outermost.
+fn put_end<W: Write, S: Shown>(
+    page: &mut Page,
+    out: &mut Noted<W>,
+    layout: &Layout,
+    indent: &Indent,
+    first: Nested<S>,
+    here: Nested<S>,
+) -> Option<Nested<S>>
+    requires first { first.at ≡ 0 }
+    requires heavy { 0 < S.weight first.shown }
+    requires inside { IsInside S.weight first.shown here }
+    requires end { length (parts_in (body_at layout.now.schema here.structure.0)) ≤ here.next }
+    ensures inside { IfSome result (λ next. IsInside S.weight first.shown next) }
+    ensures fewer { IfSome result (λ next. steps_left next < steps_left here) }
+    ensures text { (defaults : Bool) (ds es : Parts) (behind : List ℕ)
+        → S.shows first.shown layout.now (Some (a_struct ds))
+        → IsAt S.shows layout.now defaults (blanks indent.now) first.structure ds here es behind
+        → IsNext S.shows layout.now defaults (blanks indent.now) first.structure ds result
+        (state_of W.contents page.old out.old) (state_of W.contents page.new out.new)
+        (left_text layout.now defaults (blanks indent.now) here es ++ behind) }
+{
+    put_closing(page, out, &indent.deeper(here.depth), here.some);
+    put_str(page, out, "}");
+    if here.depth == 0 {
+        return None;
+    }
+    Some(parent_of(layout, first, here))
 }
 
 /// Adds a slot's member, where it is printed, and says whether there is a member now.
