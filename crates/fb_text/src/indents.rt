@@ -21,6 +21,7 @@ impl Indent<'_> {
     }
 
     /// So many levels further.
+    #[inline]
     pub(crate) fn deeper(&self, levels: u64) -> Indent<'_>
         ensures { blanks result ≡ further levels (blanks self.now) }
     {

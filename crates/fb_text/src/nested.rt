@@ -5,13 +5,14 @@ ghost use Rattle.fb_schema.specs.declared.kinds.TypeId.{TypeId};
 ghost use Rattle.fb_schema.specs.declared.kinds.Kind.TheVariants.{Struct};
 ghost use Rattle.fb_schema.specs.declared.kinds.Shape.TheVariants.{One};
 ghost use Rattle.fb_schema.specs.Schema.{DeclaredField, body_at, parts_in};
-ghost use Rattle.fb_layout.specs.Laid.{LaidSchema, struct_at};
+ghost use Rattle.fb_layout.specs.Laid.{struct_at};
 ghost use Rattle.fb_value.specs.Datum.{Datum, Parts, a_struct};
+ghost use Rattle.fb_text.specs.Shown.{IsTop, HasWeight};
 ghost use Rattle.fb_text.specs.Nested.{HasByte, HasStruct, IsStructAt, StandsIn, IsAt, left_text};
 
 use crate::shown::{Found, Shown};
 use fb_layout::Layout;
-use fb_schema::{FieldInfo, Kind, Shape, TypeId};
+use fb_schema::{Kind, Shape, TypeId};
 
 /// A struct that stands in another, or that one itself, and which of its fields is printed next.
 #[derive(Clone, Copy)]
@@ -84,17 +85,17 @@ pub(crate) fn entered<S: Shown>(
     }
 }
 
-/// The type of the struct in a field, if the field has one.
-pub(crate) fn struct_in<S: Shown>(field: &FieldInfo, part: S) -> Option<TypeId>
-    ensures found { (L : LaidSchema) (u : TypeId) (es : Parts) → field.now.shape ≡ One (Struct u)
-        → S.shows part L (Some (a_struct es)) → result ≡ Some u }
-    ensures shape { IfSome result (λ u. field.now.shape ≡ One (Struct u)) }
-    ensures part { IfSome result (λ _. (L : LaidSchema) (o : Option Datum) → S.shows part L o
+/// The type of the struct that was found in a field, if one was.
+pub(crate) fn struct_in(shape: Shape, found: Found) -> Option<TypeId>
+    ensures known { (u : TypeId) (es : Parts) → shape ≡ One (Struct u) → IsTop found.entry (Some (a_struct es))
+        → result ≡ Some u }
+    ensures shape { IfSome result (λ u. shape ≡ One (Struct u)) }
+    ensures part { IfSome result (λ _. (o : Option Datum) → IsTop found.entry o
         → (es : Parts) × (o ≡ Some (a_struct es))) }
-    ensures heavy { IfSome result (λ _. 0 < S.weight part) }
+    ensures heavy { IfSome result (λ _. (weight : ℕ) → HasWeight found.entry weight → 0 < weight) }
 {
-    match part.find() {
-        Found::Struct => match field.shape {
+    match found {
+        Found::Struct => match shape {
             Shape::One(Kind::Struct(structure)) => Some(structure),
             _ => None,
         },
@@ -144,7 +145,7 @@ fn inner_at<S: Shown>(layout: &Layout, here: Nested<S>, byte: u32) -> Nested<S>
         return here;
     }
     let part = here.shown.part(next);
-    match struct_in(&fields[k], part) {
+    match struct_in(fields[k].shape, part.find()) {
         Some(structure) => Nested {
             structure,
             shown: part,

@@ -93,6 +93,7 @@ impl Shown for ValueEntry<'_> {
 
     ghost items = { λ e. count_in (datum_of e) };
 
+    #[inline]
     fn find(&self) -> Found<'_> {
         match self.0 {
             Some(value) => top_of(value),
@@ -100,6 +101,7 @@ impl Shown for ValueEntry<'_> {
         }
     }
 
+    #[inline]
     fn member(self) -> Self {
         match self.0 {
             Some(value) => ValueEntry(member_of(value)),
@@ -107,6 +109,7 @@ impl Shown for ValueEntry<'_> {
         }
     }
 
+    #[inline]
     fn printed_slots(self, _defaults: bool, all: usize) -> usize {
         match self.0 {
             Some(value) => all.min(entries_of(value).len()),
@@ -114,6 +117,7 @@ impl Shown for ValueEntry<'_> {
         }
     }
 
+    #[inline]
     fn slot(self, slot: u16) -> Self {
         let Some(value) = self.0 else {
             return ValueEntry(None);
@@ -124,6 +128,7 @@ impl Shown for ValueEntry<'_> {
         }
     }
 
+    #[inline]
     fn part(self, field: u16) -> Self {
         match self.0 {
             Some(value) => ValueEntry(fields_of(value).get(usize::from(field))),
@@ -131,6 +136,7 @@ impl Shown for ValueEntry<'_> {
         }
     }
 
+    #[inline]
     fn count(self) -> usize {
         match self.0 {
             Some(value) => items_of(value).len(),
@@ -138,6 +144,7 @@ impl Shown for ValueEntry<'_> {
         }
     }
 
+    #[inline]
     fn item(self, i: usize) -> Self {
         match self.0 {
             Some(value) => ValueEntry(Some(&items_of(value)[i])),

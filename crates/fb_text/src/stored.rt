@@ -14,6 +14,7 @@ impl Shown for Entry<'_> {
 
     ghost items = { len_in };
 
+    #[inline]
     fn find(&self) -> Found<'_> {
         match self {
             Entry::Absent => Found::Absent,
@@ -27,6 +28,7 @@ impl Shown for Entry<'_> {
         }
     }
 
+    #[inline]
     fn member(self) -> Self {
         match self {
             Entry::Member(_, view) => Entry::Table(view),
@@ -34,6 +36,7 @@ impl Shown for Entry<'_> {
         }
     }
 
+    #[inline]
     fn printed_slots(self, defaults: bool, all: usize) -> usize {
         match self {
             Entry::Table(_) if defaults => all,
@@ -42,6 +45,7 @@ impl Shown for Entry<'_> {
         }
     }
 
+    #[inline]
     fn slot(self, slot: u16) -> Self {
         match self {
             Entry::Table(view) => view.slot(slot),
@@ -49,6 +53,7 @@ impl Shown for Entry<'_> {
         }
     }
 
+    #[inline]
     fn part(self, field: u16) -> Self {
         match self {
             Entry::Fixed(view) => view.part(field),
@@ -56,6 +61,7 @@ impl Shown for Entry<'_> {
         }
     }
 
+    #[inline]
     fn count(self) -> usize {
         match self {
             Entry::Vector(items) => items.count() as usize,
@@ -63,6 +69,7 @@ impl Shown for Entry<'_> {
         }
     }
 
+    #[inline]
     fn item(self, i: usize) -> Self {
         match self {
             Entry::Vector(items) => items.item(i as u32),

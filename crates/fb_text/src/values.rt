@@ -1,6 +1,6 @@
 //! Values in JSON texts.
 ghost use Rattle.std.specs.Prelude.{◌≡◌, ℕ, ◌<◌, ◌≤◌, ◌++◌, ◌||◌, List, length, Bool};
-ghost use Rattle.std.specs.Prelude.{Option, Some, is_some, IfSome};
+ghost use Rattle.std.specs.Prelude.{Option, Some, IfSome};
 ghost use Rattle.fb_schema.specs.Schema.{body_at, parts_in};
 ghost use Rattle.fb_schema.specs.Seen.{field_seen};
 ghost use Rattle.fb_schema.specs.declared.kinds.Kind.TheVariants.{Struct};
@@ -10,7 +10,8 @@ ghost use Rattle.fb_value.specs.Datum.{Datum, Parts, SlotEntries, a_struct, a_ta
 ghost use Rattle.fb_text.specs.Indents.{blanks};
 ghost use Rattle.fb_text.specs.Nested.{IsAt, IsInside, IsNext, left_text, steps_left};
 ghost use Rattle.fb_text.specs.Texts.{value_text};
-ghost use Rattle.fb_text.specs.Printed.{is_entry_printed, slot_text, named_text, part_text};
+ghost use Rattle.fb_text.specs.Printed.{is_entry_printed, slot_text};
+ghost use Rattle.fb_text.specs.Shown.{IsTop, HasWeight};
 ghost use Rattle.fb_text.specs.Writes.{state_of, Adds};
 
 use crate::indents::Indent;
@@ -47,7 +48,26 @@ pub(crate) fn put_value<W: Write, S: Shown>(
         → Adds (state_of W.contents page.old out.old) (state_of W.contents page.new out.new)
         (value_text style.entry.layout.now style.entry.defaults (blanks indent.now) shape d) }
 {
-    match shown.find() {
+    put_found(page, out, style, indent, shape, shown, shown.find());
+}
+
+/// The same where it is known what is found there.
+#[cycle(print)]
+fn put_found<W: Write, S: Shown>(
+    page: &mut Page,
+    out: &mut Noted<W>,
+    style: Style,
+    indent: &Indent,
+    shape: Shape,
+    shown: S,
+    found: Found,
+)
+    requires { HasWeight found (S.weight shown) }
+    ensures { (d : Datum) → S.shows shown style.entry.layout.now (Some d) → IsTop found.entry (Some d)
+        → Adds (state_of W.contents page.old out.old) (state_of W.contents page.new out.new)
+        (value_text style.entry.layout.now style.entry.defaults (blanks indent.now) shape d) }
+{
+    match found {
         Found::Absent | Found::Unknown => {}
         Found::Number(number) => {
             if let Shape::One(kind) = shape {
@@ -154,16 +174,21 @@ fn put_next<W: Write, S: Shown>(
     }
     let field = &fields[k];
     let part = here.shown.part(here.next);
+    let found = part.find();
+    let next = here.next + 1;
+    if let Found::Absent = found {
+        return Some(Nested { next, ..here });
+    }
     let inner = indent.deeper(here.depth + 1);
-    match struct_in(field, part) {
+    put_member_line(page, out, &inner, here.some, field.name.as_str(), false);
+    match struct_in(field.shape, found) {
         Some(structure) if here.left > 0 => {
-            put_member_line(page, out, &inner, here.some, field.name.as_str(), false);
             put_str(page, out, "{");
             Some(entered(style.layout, here, structure, part))
         }
         _ => {
-            let some = put_part(page, out, style, &inner, here.some, field, part);
-            let next = here.next + 1;
+            put_found(page, out, style, &inner, field.shape, part, found);
+            let some = true;
             Some(Nested { next, some, ..here })
         }
     }
@@ -195,52 +220,6 @@ fn put_table<W: Write, S: Shown>(
     }
     put_closing(page, out, indent, some);
     put_str(page, out, "}");
-}
-
-/// Adds a name and its value.
-#[cycle(print)]
-#[tactic(auto, using(crate::proofs::writing::PiecesAddUp::added_then))]
-fn put_named<W: Write, S: Shown>(
-    page: &mut Page,
-    out: &mut Noted<W>,
-    style: Style,
-    inner: &Indent,
-    some: bool,
-    field: &FieldInfo,
-    shown: S,
-)
-    ensures { (d : Datum) → S.shows shown style.entry.layout.now (Some d)
-        → Adds (state_of W.contents page.old out.old) (state_of W.contents page.new out.new)
-        (named_text style.entry.layout.now style.entry.defaults (blanks inner.now) some
-        (field_seen field.now) d) }
-{
-    put_member_line(page, out, inner, some, field.name.as_str(), false);
-    put_value(page, out, style, inner, field.shape, shown);
-}
-
-/// Adds a struct's field, and says whether there is one now.
-#[cycle(print)]
-fn put_part<W: Write, S: Shown>(
-    page: &mut Page,
-    out: &mut Noted<W>,
-    style: Style,
-    inner: &Indent,
-    some: bool,
-    field: &FieldInfo,
-    shown: S,
-) -> bool
-    ensures text { (o : Option Datum) → S.shows shown style.entry.layout.now o
-        → Adds (state_of W.contents page.old out.old) (state_of W.contents page.new out.new)
-        (part_text style.entry.layout.now style.entry.defaults (blanks inner.now) some
-        (field_seen field.now) o) }
-    ensures some { (o : Option Datum) → S.shows shown style.entry.layout.now o
-        → result ≡ (some || is_some o) }
-{
-    if matches!(shown.find(), Found::Absent) {
-        return some;
-    }
-    put_named(page, out, style, inner, some, field, shown);
-    true
 }
 
 /// Adds the end of a struct. Returns where its parent goes on; nothing behind the outermost.
@@ -298,6 +277,7 @@ fn put_member<W: Write, S: Shown>(
     let name = slot.name.as_str();
     let schema = style.layout.schema();
     let some = put_code(page, out, schema, inner, some, name, slot.shape, found);
-    put_named(page, out, style, inner, some, slot, shown);
+    put_member_line(page, out, inner, some, name, false);
+    put_found(page, out, style, inner, slot.shape, shown, found);
     true
 }

@@ -47,9 +47,9 @@ returns-in-Some-clause-inner g c ds k u es more shown has less begin =
     let within : next < length fields = omega (arith, c.from-k.ensures, c.if-k-fields.false) in
     let is : x ≡ slice_index_or fields next x = rw c.from-k.ensures at c.index-fields-k.is in
     let field = field_is fields _ next k x has.field c.parts_of-fields.ensures.parts same within is has.there in
-    let shape = ap (λ (f : DeclaredField). f.shape) field ∙ has.shape in
+    let shape = ap (λ (f : FieldInfo). f.shape) (sym c.index-fields-k.is) ∙ (ap (λ (f : DeclaredField). f.shape) field ∙ has.shape) in
     let part = subst (λ (o : Option Datum). g.S.Shown.shows c.part-part.result L o) (ap (nth_part ds) same ∙ has.part) (c.part-part.ensures.shows L ds shown) in
-    let found : Some c.in-Some.structure ≡ Some u = c.in-Some.ensures.found L u es shape part in
+    let found : Some c.in-Some.structure ≡ Some u = c.in-Some.ensures.known u es shape (c.find.ensures.top L _ part) in
     let offset : slice_index (struct_at L t.0).offsets next ≡ slice_index (struct_at L t.0).offsets k = ap (slice_index (struct_at L t.0).offsets) same in
     let fits : c.args.byte < 2 ^ 32 = c.ranges.byte.fits in
     record {
@@ -71,7 +71,7 @@ returns-in-None-clause-inner g c ds k u es more shown has less begin =
     let within : next < length fields = omega (arith, c.from-k.ensures, c.if-k-fields.false) in
     let is : x ≡ slice_index_or fields next x = rw c.from-k.ensures at c.index-fields-k.is in
     let field = field_is fields _ next k x has.field c.parts_of-fields.ensures.parts same within is has.there in
-    let shape = ap (λ (f : DeclaredField). f.shape) field ∙ has.shape in
+    let shape = ap (λ (f : FieldInfo). f.shape) (sym c.index-fields-k.is) ∙ (ap (λ (f : DeclaredField). f.shape) field ∙ has.shape) in
     let part = subst (λ (o : Option Datum). g.S.Shown.shows c.part-part.result L o) (ap (nth_part ds) same ∙ has.part) (c.part-part.ensures.shows L ds shown) in
-    let found : None ≡ Some u = c.in-None.ensures.found L u es shape part in
+    let found : None ≡ Some u = c.in-None.ensures.known u es shape (c.find.ensures.top L _ part) in
     absurd (cc)

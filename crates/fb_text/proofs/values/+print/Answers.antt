@@ -1,4 +1,4 @@
-use Rattle.std.proofs.Common.{◌≡◌, suc, true, min, ◌+◌, ◌-◌, ◌^◌, ◌<◌, ◌++◌, [], slice_index, slice_index_or, append-nil, Option, Some, length, map, sym, subst, ap, ◌∙◌, add-one, arith}
+use Rattle.std.proofs.Common.{◌≡◌, suc, true, min, ◌+◌, ◌-◌, ◌^◌, ◌<◌, ◌++◌, [], slice_index, slice_index_or, append-nil, Option, None, Some, length, map, sym, subst, ap, ◌∙◌, add-one, arith}
 use Rattle.fb_schema.specs.Schema.{body_at, slots_in}
 use Rattle.fb_schema.specs.Seen.{field_seen}
 use Rattle.fb_value.specs.Datum.{Datum, a_table, a_member, count}
@@ -9,7 +9,7 @@ use Rattle.fb_text.specs.Nested.{HasStruct, fields_text}
 use Rattle.fb_text.specs.Shown.{IsTop}
 use Rattle.fb_text.proofs.writing.PiecesAddUp.{then, added_as}
 use Rattle.fb_text.proofs.nested.StructStandsInItsParent.{outermost_stands, stands_deeper, few_bytes}
-use Rattle.fb_text.proofs.values.NestedStructIsAField.{field_first, struct_first}
+use Rattle.fb_text.proofs.values.NestedStructIsAField.{something_found, field_missing, field_first, struct_first}
 use Rattle.fb_text.proofs.values.OneMemberMore.{members_step, members_behind, parts_end, items_step, items_end, table_text}
 use Rattle.fb_text.proofs.values.MemberIsItsCodeAndValue.{seen_there, seen_long, part_there, entry_added}
 use Rattle.fb_text.proofs.values.+print.Goals as goal
@@ -21,7 +21,8 @@ put_member-returns-clause-text g t c o shows =
     entry_added L c.args.style.defaults (blanks c.args.inner.now) c.args.some (field_seen c.args.slot.now) o c.put_code-some.result _ _ _ (sym c.if-not-is_printed.false ∙ c.is_printed.ensures o top)
     (λ d e. rw (c.schema-schema.ensures.schema, c.as_str-name.ensures.value) at (c.put_code-some.ensures.text d (subst (λ (x : Option Datum). IsTop c.find-found.result x) e top)))
     (λ d e. c.put_code-some.ensures.some d (subst (λ (x : Option Datum). IsTop c.find-found.result x) e top))
-    (λ d e. c.put_named.ensures d (subst (λ (x : Option Datum). g.S.Shown.shows c.args.shown L x) e shows))
+    (λ d e. then (rw c.as_str-name.ensures.value at c.put_member_line.ensures)
+    (c.put_found.ensures d (subst (λ (x : Option Datum). g.S.Shown.shows c.args.shown L x) e shows) (subst (λ (x : Option Datum). IsTop c.find-found.result x) e top)))
 
 pub put_struct-loop-next-init : goal.put_struct-loop-next-init
 put_struct-loop-next-init g t c =
@@ -63,7 +64,7 @@ put_next-returns-in-Some-clause-text g t c ds es behind shows at =
     let x = c.index-fields-k.result in
     let fields = c.parts_of-fields.result.now in
     let part = c.part-part.ensures.shows L es at.0 in
-    let (inner, is) = c.in-Some.ensures.part L (nth_part es k) part in
+    let (inner, is) = c.in-Some.ensures.part (nth_part es k) (c.find-found.ensures.top L _ part) in
     let less : k < length fields = omega (arith, c.from-k.ensures, c.if-k-fields.false) in
     let own : x ≡ slice_index_or fields k x = rw c.from-k.ensures at c.index-fields-k.is in
     let there = rw c.parts_of-fields.ensures.parts at (seen_there fields k x less own) in
@@ -80,13 +81,10 @@ put_next-returns-in-Some-clause-text g t c ds es behind shows at =
       λ end adds. added_as (struct_first L defaults indent u es here.depth k here.some behind s inner has) (then line (then c.put_str.ensures adds)),
     )
 
-pub put_next-returns-in_default-clause-text : goal.put_next-returns-in_default-clause-text
-put_next-returns-in_default-clause-text g t c ds es behind shows at =
+pub put_next-returns-in-Absent-clause-text : goal.put_next-returns-in-Absent-clause-text
+put_next-returns-in-Absent-clause-text g t c ds es behind shows at =
     let L = c.args.style.layout.now in
-    let defaults = c.args.style.defaults in
-    let indent = blanks c.args.indent.now in
     let here = c.args.here in
-    let u = here.structure in
     let k = here.next in
     let x = c.index-fields-k.result in
     let fields = c.parts_of-fields.result.now in
@@ -94,15 +92,28 @@ put_next-returns-in_default-clause-text g t c ds es behind shows at =
     let less : k < length fields = omega (arith, c.from-k.ensures, c.if-k-fields.false) in
     let own : x ≡ slice_index_or fields k x = rw c.from-k.ensures at c.index-fields-k.is in
     let there = rw c.parts_of-fields.ensures.parts at (seen_there fields k x less own) in
+    let none : nth_part es k ≡ None = rw c.in-Absent.is at (c.find-found.ensures.top L _ part) in
+    let next : k + 1 ≡ suc k = omega arith in
+    (es, behind, at, λ end adds. added_as (field_missing L c.args.style.defaults (blanks c.args.indent.now) here.structure es here.depth k here.some behind (field_seen x) there none) (rw next at adds))
+
+pub put_next-returns-in_default-struct_in-clause-text : goal.put_next-returns-in_default-struct_in-clause-text
+put_next-returns-in_default-struct_in-clause-text g t c ds es behind shows at =
+    let L = c.args.style.layout.now in
+    let here = c.args.here in
+    let k = here.next in
+    let x = c.index-fields-k.result in
+    let fields = c.parts_of-fields.result.now in
+    let part = c.part-part.ensures.shows L es at.0 in
+    let less : k < length fields = omega (arith, c.from-k.ensures, c.if-k-fields.false) in
+    let own : x ≡ slice_index_or fields k x = rw c.from-k.ensures at c.index-fields-k.is in
+    let there = rw c.parts_of-fields.ensures.parts at (seen_there fields k x less own) in
+    let top = c.find-found.ensures.top L (nth_part es k) part in
+    let (d, is) = something_found c.find-found.result (nth_part es k) top c.in_default.not-Absent in
     let one : here.depth + 1 ≡ suc here.depth = omega arith in
     let next : k + 1 ≡ suc k = omega arith in
-    let text = rw (c.deeper-inner.ensures, one) at (c.put_part-some.ensures.text (nth_part es k) part) in (
-      es,
-      behind,
-      at,
-      λ end adds. added_as (field_first L defaults indent u es here.depth k here.some behind (field_seen x) there)
-          (then text (rw (next, c.put_part-some.ensures.some (nth_part es k) part) at adds)),
-    )
+    let line = rw (c.deeper-inner.ensures, one, c.as_str.ensures.value) at c.put_member_line.ensures in
+    let value = rw (c.deeper-inner.ensures, one) at (c.put_found.ensures d (subst (λ (o : Option Datum). g.S.Shown.shows c.part-part.result L o) is part) (subst (λ (o : Option Datum). IsTop c.find-found.result o) is top)) in
+    (es, behind, at, λ end adds. added_as (field_first L c.args.style.defaults (blanks c.args.indent.now) here.structure es here.depth k here.some behind (field_seen x) there d is) (then line (then value (rw next at adds))))
 
 pub put_table-loop-k-preserved : goal.put_table-loop-k-preserved
 put_table-loop-k-preserved g t c es lies end rest =
@@ -126,17 +137,16 @@ put_table-returns g t c shape es lies =
     let all = c.loop-k.invariant es lies _ (added_as end (then c.put_closing.ensures c.put_str-2.ensures)) in
     added_as (table_text L c.args.style.defaults (blanks c.inner-inner.result) (blanks c.args.indent.now) shape c.args.owner.0 es) (then c.put_str.ensures (rw (c.inner-inner.ensures, seen) at all))
 
-pub put_value-returns-in-Table : goal.put_value-returns-in-Table
-put_value-returns-in-Table g t c d shows =
-    let L = c.args.style.layout.now in
-    let top = rw c.in-Table.is at (c.find.ensures.top L (Some d) shows) in
+pub put_found-returns-in-Table : goal.put_found-returns-in-Table
+put_found-returns-in-Table g t c d shows found =
+    let top = rw c.in-Table.is at found in
     let same : d ≡ a_table c.in-Table.owner.0 top.0 = cc in
     rw same (c.put_table.ensures c.args.shape top.0 (rw same at shows))
 
-pub put_value-returns-in-Member : goal.put_value-returns-in-Member
-put_value-returns-in-Member g t c d shows =
+pub put_found-returns-in-Member : goal.put_found-returns-in-Member
+put_found-returns-in-Member g t c d shows found =
     let L = c.args.style.layout.now in
-    let top = rw c.in-Member.is at (c.find.ensures.top L (Some d) shows) in
+    let top = rw c.in-Member.is at found in
     let same : d ≡ a_member c.in-Member.field-0 top.0 = cc in
     rw same (c.put_value.ensures top.0 (c.member.ensures.shows L c.in-Member.field-0 top.0 (rw same at shows)))
 

@@ -10,13 +10,10 @@ use Rattle.fb_text.proofs.values.+print.Given as goal
 
 -- An entry is lighter than what it stands in.
 abbrev pub decreases-put_value : goal.decreases-put_value
-decreases-put_value g l = 8 * g.S.Shown.weight l.shown + 2
+decreases-put_value g l = 8 * g.S.Shown.weight l.shown + 3
 
-abbrev pub decreases-put_named : goal.decreases-put_named
-decreases-put_named g l = 8 * g.S.Shown.weight l.shown + 3
-
-abbrev pub decreases-put_part : goal.decreases-put_part
-decreases-put_part g l = 8 * g.S.Shown.weight l.shown + 4
+abbrev pub decreases-put_found : goal.decreases-put_found
+decreases-put_found g l = 8 * g.S.Shown.weight l.shown + 2
 
 abbrev pub decreases-put_member : goal.decreases-put_member
 decreases-put_member g l = 8 * g.S.Shown.weight l.shown + 4
