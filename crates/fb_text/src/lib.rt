@@ -16,7 +16,6 @@ mod shown;
 mod stored;
 mod text;
 mod unnamed;
-mod value_codes;
 mod values;
 mod writing;
 

@@ -1,5 +1,7 @@
 //! Values in memory, as a printer reads them.
-ghost use Rattle.std.specs.Prelude.{◌≡◌, ℕ, ◌<◌, Some, length, option_map};
+ghost use Rattle.std.specs.Prelude.{◌≡◌, ℕ, ◌<◌, ◌^◌, Some, None, length, option_map};
+ghost use Rattle.fb_json.specs.declared.faults.Place.{Place};
+ghost use Rattle.fb_text.specs.Unnamed.{nth_child, unnamed_from};
 ghost use Rattle.fb_value.specs.Datum.{Datum, Parts, SlotEntries, a_vector, a_struct, a_table, a_member};
 ghost use Rattle.fb_value.specs.View.{view, parts_view, entries_view};
 ghost use Rattle.fb_text.specs.Shown.{IsTop, HasWeight, size, parts_size, entries_size, size_in, count_in};
@@ -79,12 +81,43 @@ fn lent(entry: &Option<Value>) -> Option<&Value>
     }
 }
 
+/// How many entries, elements or fields are in a value; a union has one member.
+fn children_of(value: &Value) -> usize
+    ensures behind { (at : Place) → unnamed_from at (Some (view value.now)) result ≡ None }
+    ensures heavy { 0 < result → 0 < size (view value.now) }
+{
+    match value {
+        Value::Items(items) => items.len(),
+        Value::Fixed(parts) => parts.len(),
+        Value::Fields(_, entries) => entries.len(),
+        Value::Member(_, _) => 1,
+        Value::Number(_) | Value::Text(_) | Value::Other(_) => 0,
+    }
+}
+
+/// One of them, if there is one.
+fn child_of(value: &Value, i: usize) -> Option<&Value>
+    ensures known { option_map (λ v. view v.now) result ≡ nth_child (Some (view value.now)) i }
+    ensures lighter { size_in (option_map (λ v. view v.now) result) < size (view value.now) }
+{
+    match value {
+        Value::Items(items) => items.as_slice().get(i),
+        Value::Fixed(parts) => parts.as_slice().get(i),
+        Value::Fields(_, entries) => match entries.as_slice().get(i) {
+            Some(entry) => lent(entry),
+            None => None,
+        },
+        Value::Member(_, member) if i == 0 => Some(member),
+        _ => None,
+    }
+}
+
 /// A `Value` or what is in one, if there is one.
 #[derive(Clone, Copy)]
 pub(crate) struct ValueEntry<'a>(pub Option<&'a Value>);
 
 impl Shown for ValueEntry<'_> {
-    ghost use Rattle.std.specs.Prelude.{◌≡◌};
+    ghost use Rattle.std.specs.Prelude.{◌≡◌, ◌^◌};
     ghost use Rattle.fb_text.specs.Shown.{datum_of, size_in, count_in};
 
     ghost shows = { λ e L o. o ≡ datum_of e };
@@ -92,6 +125,8 @@ impl Shown for ValueEntry<'_> {
     ghost weight = { λ e. size_in (datum_of e) };
 
     ghost items = { λ e. count_in (datum_of e) };
+
+    ghost children = { λ _. 2 ^ 64 };
 
     #[inline]
     fn find(&self) -> Found<'_> {
@@ -148,6 +183,22 @@ impl Shown for ValueEntry<'_> {
     fn item(self, i: usize) -> Self {
         match self.0 {
             Some(value) => ValueEntry(Some(&items_of(value)[i])),
+            None => ValueEntry(None),
+        }
+    }
+
+    #[inline]
+    fn searched(&self) -> usize {
+        match self.0 {
+            Some(value) => children_of(value),
+            None => 0,
+        }
+    }
+
+    #[inline]
+    fn child(self, i: usize) -> Self {
+        match self.0 {
+            Some(value) => ValueEntry(child_of(value, i)),
             None => ValueEntry(None),
         }
     }

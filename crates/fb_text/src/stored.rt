@@ -2,17 +2,20 @@
 
 use crate::shown::{Found, Shown};
 use fb_read::Entry;
+use fb_schema::Kind;
 
 impl Shown for Entry<'_> {
     ghost use Rattle.std.specs.Prelude.{◌≡◌};
     ghost use Rattle.fb_read.specs.Weights.{ShowsEntry};
-    ghost use Rattle.fb_text.specs.Stored.{entry_weight, len_in};
+    ghost use Rattle.fb_text.specs.Stored.{entry_weight, len_in, children_in};
 
     ghost shows = { λ e L o. ShowsEntry L e o };
 
     ghost weight = { entry_weight };
 
     ghost items = { len_in };
+
+    ghost children = { children_in };
 
     #[inline]
     fn find(&self) -> Found<'_> {
@@ -72,6 +75,30 @@ impl Shown for Entry<'_> {
     #[inline]
     fn item(self, i: usize) -> Self {
         match self {
+            Entry::Vector(items) => items.item(i as u32),
+            _ => Entry::Absent,
+        }
+    }
+
+    #[inline]
+    fn searched(&self) -> usize {
+        match self {
+            Entry::Table(view) => usize::from(view.stored_slots()),
+            Entry::Member(_, _) => 1,
+            Entry::Vector(items) => match items.kind {
+                Kind::Table(_) => items.count() as usize,
+                _ => 0,
+            },
+            Entry::Fixed(_) => 0,
+            Entry::Absent | Entry::Number(_) | Entry::Text(_) | Entry::Unknown(_) => 0,
+        }
+    }
+
+    #[inline]
+    fn child(self, i: usize) -> Self {
+        match self {
+            Entry::Table(view) => view.slot(i as u16),
+            Entry::Member(_, view) => Entry::Table(view),
             Entry::Vector(items) => items.item(i as u32),
             _ => Entry::Absent,
         }
