@@ -7,6 +7,7 @@ pub mod Pages
 pub mod Writes
 pub mod Printed
 pub mod Shown
+pub mod Nested
 pub mod Stored
 pub mod FaultNumbers
 pub mod Laws

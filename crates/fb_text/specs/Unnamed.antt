@@ -1,9 +1,11 @@
 -- The first union, in the order of printing, whose code names no member.
 -- From the FlatBuffers documentation, "Evolution": a reader may know fewer members of a union than a writer.
-use Rattle.std.specs.Prelude.{ℕ, min, ◌+◌, ◌≡◌, true, false, Option, None, Some}
+use Rattle.std.specs.Prelude.{ℕ, zero, suc, min, ◌+◌, ◌≡◌, true, false, Option, None, Some}
 use Rattle.std.specs.Option.{option_or}
 use Rattle.fb_value.specs.Datum.{Datum, a_number, a_text, a_vector, a_struct, a_table, a_member, an_unknown, Parts, no_parts, more_parts, SlotEntries, no_entries, absent_entry, present_entry}
 use Rattle.fb_value.specs.Counts.{is_whole}
+use Rattle.fb_value.specs.Nth.{nth_entry, nth_part}
+use Rattle.fb_read.specs.Tails.{entries_from, parts_from}
 use Rattle.fb_json.specs.declared.faults.Place.{Place}
 use Rattle.fb_text.specs.declared.faults.TextFault.{TextFault}
 use Rattle.fb_text.specs.declared.faults.TextFault.TheVariants.{NoMemberName, Memory}
@@ -32,6 +34,27 @@ abbrev mutual
   first_in_entries type k no_entries = None
   first_in_entries type k (absent_entry es) = first_in_entries type (k + 1) es
   first_in_entries type k (present_entry d es) = option_or (first_unnamed (entry_place type k) d) (first_in_entries type (k + 1) es)
+
+-- ---- what is in a value: the entries of a table, the elements of a vector, the fields of a struct, the table of a member
+
+abbrev pub nth_child : Option Datum → ℕ → Option Datum
+nth_child (Some (a_vector ds)) i = nth_part ds i
+nth_child (Some (a_struct ds)) i = nth_part ds i
+nth_child (Some (a_table type es)) i = nth_entry es i
+nth_child (Some (a_member c d)) zero = Some d
+nth_child _ i = None
+
+abbrev pub child_place : Place → Option Datum → ℕ → Place
+child_place at (Some (a_table type es)) i = entry_place type i
+child_place at _ i = at
+
+-- the first such union from child i on
+abbrev pub unnamed_from : Place → Option Datum → ℕ → Option Place
+unnamed_from at (Some (a_vector ds)) i = first_in_parts at (parts_from i ds)
+unnamed_from at (Some (a_struct ds)) i = first_in_parts at (parts_from i ds)
+unnamed_from at (Some (a_table type es)) i = first_in_entries type i (entries_from i es)
+unnamed_from at (Some (a_member c d)) zero = first_unnamed at d
+unnamed_from at _ i = None
 
 -- A value with such a union is refused, with its place. Memory is told only of a value without.
 abbrev pub IsRefused : Place → Datum → TextFault → Type 0

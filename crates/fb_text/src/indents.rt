@@ -1,30 +1,40 @@
 //! How far lines are indented.
 
-/// How far a line is indented: at the edge, or one level further than another.
-///
-/// Each level borrows the one around it, so that a printer of any depth takes no memory for it.
+/// How far a line is indented, in levels of two blanks.
 #[derive(Clone, Copy)]
 pub(crate) enum Indent<'a> {
-    Edge,
-    Inside(&'a Indent<'a>),
+    Levels(u64),
+    /// So many levels further than another, where no `u64` has the sum.
+    Further(&'a Indent<'a>, u64),
 }
 
 impl Indent<'_> {
     ghost use Rattle.std.specs.Prelude.{◌≡◌, []};
-    ghost use Rattle.fb_text.specs.Indents.{blanks};
+    ghost use Rattle.fb_text.specs.Indents.{blanks, further};
     ghost use Rattle.fb_text.specs.Texts.{inside};
 
     /// No blanks.
     pub(crate) fn edge() -> Indent<'static>
         ensures { blanks result ≡ [] }
     {
-        Indent::Edge
+        Indent::Levels(0)
+    }
+
+    /// So many levels further.
+    #[inline]
+    pub(crate) fn deeper(&self, levels: u64) -> Indent<'_>
+        ensures { blanks result ≡ further levels (blanks self.now) }
+    {
+        match self {
+            Indent::Levels(outer) if *outer <= u64::MAX - levels => Indent::Levels(*outer + levels),
+            _ => Indent::Further(self, levels),
+        }
     }
 
     /// One level further.
     pub(crate) fn inner(&self) -> Indent<'_>
         ensures { blanks result ≡ inside (blanks self.now) }
     {
-        Indent::Inside(self)
+        self.deeper(1)
     }
 }

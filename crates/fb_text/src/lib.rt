@@ -6,6 +6,7 @@ mod indents;
 mod laws;
 mod lines;
 mod members;
+mod nested;
 mod noted;
 mod numbers;
 mod owned;
@@ -15,7 +16,6 @@ mod shown;
 mod stored;
 mod text;
 mod unnamed;
-mod value_codes;
 mod values;
 mod writing;
 

@@ -1,6 +1,6 @@
 //! The lines of a JSON text.
 ghost use Rattle.std.specs.Prelude.{◌++◌, [], codes, if◌then◌else◌};
-ghost use Rattle.fb_text.specs.Indents.{blanks};
+ghost use Rattle.fb_text.specs.Indents.{blanks, further};
 ghost use Rattle.fb_text.specs.Texts.{line, closing, member_line, in_quotes};
 ghost use Rattle.fb_text.specs.Writes.{state_of, Adds};
 
@@ -18,48 +18,87 @@ pub(crate) fn put_str<W: Write>(page: &mut Page, out: &mut Noted<W>, piece: &str
     put(page, out, piece.as_bytes());
 }
 
-/// Adds what is in front of a member or an element: few levels in one piece.
+/// Adds the blanks of so many levels, up to 32 of them in one piece.
+fn put_levels<W: Write>(page: &mut Page, out: &mut Noted<W>, levels: u64)
+    ensures { Adds (state_of W.contents page.old out.old) (state_of W.contents page.new out.new)
+        (further levels []) }
+{
+    let blanks = b"                                                                ";
+    let mut left = levels;
+    while left > 32 {
+        put(page, out, blanks);
+        left -= 32;
+    }
+    put(page, out, &blanks[..2 * left as usize]);
+}
+
+/// Adds the blanks of an indent.
 #[tactic(auto, using(crate::proofs::writing::PiecesAddUp::added_then))]
+fn put_blanks<W: Write>(page: &mut Page, out: &mut Noted<W>, indent: &Indent)
+    ensures { Adds (state_of W.contents page.old out.old) (state_of W.contents page.new out.new)
+        (blanks indent.now) }
+{
+    match indent {
+        Indent::Levels(levels) => put_levels(page, out, *levels),
+        Indent::Further(outer, levels) => {
+            put_blanks(page, out, outer);
+            put_levels(page, out, *levels);
+        }
+    }
+}
+
+/// Adds what is in front of a member or an element, in two pieces or more.
+#[tactic(auto, using(crate::proofs::writing::PiecesAddUp::added_then))]
+fn put_far_line<W: Write>(page: &mut Page, out: &mut Noted<W>, indent: &Indent, some: bool)
+    ensures { Adds (state_of W.contents page.old out.old) (state_of W.contents page.new out.new)
+        (line (blanks indent.now) some) }
+{
+    put_str(page, out, if some { ",\n" } else { "\n" });
+    put_blanks(page, out, indent);
+}
+
+/// Adds what is in front of a member or an element: few levels in one piece.
 pub(crate) fn put_line<W: Write>(page: &mut Page, out: &mut Noted<W>, indent: &Indent, some: bool)
     ensures { Adds (state_of W.contents page.old out.old) (state_of W.contents page.new out.new)
         (line (blanks indent.now) some) }
 {
-    let Indent::Inside(one) = indent else {
-        return put_str(page, out, if some { ",\n" } else { "\n" });
+    let Indent::Levels(levels) = indent else {
+        return put_far_line(page, out, indent, some);
     };
-    let Indent::Inside(two) = one else {
-        return put_str(page, out, if some { ",\n  " } else { "\n  " });
-    };
-    let Indent::Inside(three) = two else {
-        return put_str(page, out, if some { ",\n    " } else { "\n    " });
-    };
-    let Indent::Inside(four) = three else {
-        return put_str(page, out, if some { ",\n      " } else { "\n      " });
-    };
-    put_line(page, out, four, some);
-    put_str(page, out, "        ");
+    match *levels {
+        0 => put_str(page, out, if some { ",\n" } else { "\n" }),
+        1 => put_str(page, out, if some { ",\n  " } else { "\n  " }),
+        2 => put_str(page, out, if some { ",\n    " } else { "\n    " }),
+        3 => put_str(page, out, if some { ",\n      " } else { "\n      " }),
+        _ => put_far_line(page, out, indent, some),
+    }
+}
+
+/// Adds what is in front of a member's name, its quote included, in three pieces or more.
+#[tactic(auto, using(crate::proofs::writing::PiecesAddUp::added_then))]
+fn put_far_line_to_name<W: Write>(page: &mut Page, out: &mut Noted<W>, indent: &Indent, some: bool)
+    ensures { Adds (state_of W.contents page.old out.old) (state_of W.contents page.new out.new)
+        (line (blanks indent.now) some ++ codes "\"") }
+{
+    put_far_line(page, out, indent, some);
+    put_str(page, out, "\"");
 }
 
 /// Adds what is in front of a member's name, its quote included: few levels in one piece.
-#[tactic(auto, using(crate::proofs::writing::PiecesAddUp::added_then))]
 fn put_line_to_name<W: Write>(page: &mut Page, out: &mut Noted<W>, indent: &Indent, some: bool)
     ensures { Adds (state_of W.contents page.old out.old) (state_of W.contents page.new out.new)
         (line (blanks indent.now) some ++ codes "\"") }
 {
-    let Indent::Inside(one) = indent else {
-        return put_str(page, out, if some { ",\n\"" } else { "\n\"" });
+    let Indent::Levels(levels) = indent else {
+        return put_far_line_to_name(page, out, indent, some);
     };
-    let Indent::Inside(two) = one else {
-        return put_str(page, out, if some { ",\n  \"" } else { "\n  \"" });
-    };
-    let Indent::Inside(three) = two else {
-        return put_str(page, out, if some { ",\n    \"" } else { "\n    \"" });
-    };
-    let Indent::Inside(four) = three else {
-        return put_str(page, out, if some { ",\n      \"" } else { "\n      \"" });
-    };
-    put_line(page, out, four, some);
-    put_str(page, out, "        \"");
+    match *levels {
+        0 => put_str(page, out, if some { ",\n\"" } else { "\n\"" }),
+        1 => put_str(page, out, if some { ",\n  \"" } else { "\n  \"" }),
+        2 => put_str(page, out, if some { ",\n    \"" } else { "\n    \"" }),
+        3 => put_str(page, out, if some { ",\n      \"" } else { "\n      \"" }),
+        _ => put_far_line_to_name(page, out, indent, some),
+    }
 }
 
 /// Adds what is in front of a closing bracket.

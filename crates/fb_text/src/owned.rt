@@ -1,5 +1,7 @@
 //! Values in memory, as a printer reads them.
-ghost use Rattle.std.specs.Prelude.{◌≡◌, ℕ, ◌<◌, Some, length, option_map};
+ghost use Rattle.std.specs.Prelude.{◌≡◌, ℕ, ◌<◌, ◌^◌, Some, None, length, option_map};
+ghost use Rattle.fb_json.specs.declared.faults.Place.{Place};
+ghost use Rattle.fb_text.specs.Unnamed.{nth_child, unnamed_from};
 ghost use Rattle.fb_value.specs.Datum.{Datum, Parts, SlotEntries, a_vector, a_struct, a_table, a_member};
 ghost use Rattle.fb_value.specs.View.{view, parts_view, entries_view};
 ghost use Rattle.fb_text.specs.Shown.{IsTop, HasWeight, size, parts_size, entries_size, size_in, count_in};
@@ -79,12 +81,43 @@ fn lent(entry: &Option<Value>) -> Option<&Value>
     }
 }
 
+/// How many entries, elements or fields are in a value; a union has one member.
+fn children_of(value: &Value) -> usize
+    ensures behind { (at : Place) → unnamed_from at (Some (view value.now)) result ≡ None }
+    ensures heavy { 0 < result → 0 < size (view value.now) }
+{
+    match value {
+        Value::Items(items) => items.len(),
+        Value::Fixed(parts) => parts.len(),
+        Value::Fields(_, entries) => entries.len(),
+        Value::Member(_, _) => 1,
+        Value::Number(_) | Value::Text(_) | Value::Other(_) => 0,
+    }
+}
+
+/// One of them, if there is one.
+fn child_of(value: &Value, i: usize) -> Option<&Value>
+    ensures known { option_map (λ v. view v.now) result ≡ nth_child (Some (view value.now)) i }
+    ensures lighter { size_in (option_map (λ v. view v.now) result) < size (view value.now) }
+{
+    match value {
+        Value::Items(items) => items.as_slice().get(i),
+        Value::Fixed(parts) => parts.as_slice().get(i),
+        Value::Fields(_, entries) => match entries.as_slice().get(i) {
+            Some(entry) => lent(entry),
+            None => None,
+        },
+        Value::Member(_, member) if i == 0 => Some(member),
+        _ => None,
+    }
+}
+
 /// A `Value` or what is in one, if there is one.
 #[derive(Clone, Copy)]
 pub(crate) struct ValueEntry<'a>(pub Option<&'a Value>);
 
 impl Shown for ValueEntry<'_> {
-    ghost use Rattle.std.specs.Prelude.{◌≡◌};
+    ghost use Rattle.std.specs.Prelude.{◌≡◌, ◌^◌};
     ghost use Rattle.fb_text.specs.Shown.{datum_of, size_in, count_in};
 
     ghost shows = { λ e L o. o ≡ datum_of e };
@@ -93,6 +126,9 @@ impl Shown for ValueEntry<'_> {
 
     ghost items = { λ e. count_in (datum_of e) };
 
+    ghost children = { λ _. 2 ^ 64 };
+
+    #[inline]
     fn find(&self) -> Found<'_> {
         match self.0 {
             Some(value) => top_of(value),
@@ -100,6 +136,7 @@ impl Shown for ValueEntry<'_> {
         }
     }
 
+    #[inline]
     fn member(self) -> Self {
         match self.0 {
             Some(value) => ValueEntry(member_of(value)),
@@ -107,6 +144,7 @@ impl Shown for ValueEntry<'_> {
         }
     }
 
+    #[inline]
     fn printed_slots(self, _defaults: bool, all: usize) -> usize {
         match self.0 {
             Some(value) => all.min(entries_of(value).len()),
@@ -114,6 +152,7 @@ impl Shown for ValueEntry<'_> {
         }
     }
 
+    #[inline]
     fn slot(self, slot: u16) -> Self {
         let Some(value) = self.0 else {
             return ValueEntry(None);
@@ -124,6 +163,7 @@ impl Shown for ValueEntry<'_> {
         }
     }
 
+    #[inline]
     fn part(self, field: u16) -> Self {
         match self.0 {
             Some(value) => ValueEntry(fields_of(value).get(usize::from(field))),
@@ -131,6 +171,7 @@ impl Shown for ValueEntry<'_> {
         }
     }
 
+    #[inline]
     fn count(self) -> usize {
         match self.0 {
             Some(value) => items_of(value).len(),
@@ -138,9 +179,26 @@ impl Shown for ValueEntry<'_> {
         }
     }
 
+    #[inline]
     fn item(self, i: usize) -> Self {
         match self.0 {
             Some(value) => ValueEntry(Some(&items_of(value)[i])),
+            None => ValueEntry(None),
+        }
+    }
+
+    #[inline]
+    fn searched(&self) -> usize {
+        match self.0 {
+            Some(value) => children_of(value),
+            None => 0,
+        }
+    }
+
+    #[inline]
+    fn child(self, i: usize) -> Self {
+        match self.0 {
+            Some(value) => ValueEntry(child_of(value, i)),
             None => ValueEntry(None),
         }
     }

@@ -1,11 +1,13 @@
 //! What a printer reads values from.
-ghost use Rattle.std.specs.Prelude.{◌≡◌, ℕ, ◌<◌, ◌≤◌, Option, Some, length, slice_get, false};
+ghost use Rattle.std.specs.Prelude.{◌≡◌, ℕ, ◌<◌, ◌≤◌, Option, Some, None, length, slice_get, false};
 ghost use Rattle.fb_schema.specs.Schema.{DeclaredField, body_at, slots_in};
 ghost use Rattle.fb_layout.specs.Laid.{LaidSchema};
 ghost use Rattle.fb_value.specs.Datum.{Datum, Parts, SlotEntries, count, a_vector, a_struct, a_table, a_member};
 ghost use Rattle.fb_value.specs.Nth.{nth_entry, nth_part};
+ghost use Rattle.fb_json.specs.declared.faults.Place.{Place};
 ghost use Rattle.fb_text.specs.Printed.{is_entry_printed};
 ghost use Rattle.fb_text.specs.Shown.{IsTop, HasWeight};
+ghost use Rattle.fb_text.specs.Unnamed.{nth_child, unnamed_from};
 
 use fb_schema::TypeId;
 
@@ -33,6 +35,8 @@ pub(crate) trait Shown: Copy {
     ghost weight: { Self → ℕ };
 
     ghost items: { Self → ℕ };
+
+    ghost children: { Self → ℕ };
 
     /// What is there.
     fn find(&self) -> Found<'_>
@@ -75,5 +79,19 @@ pub(crate) trait Shown: Copy {
         requires { i < items self }
         ensures shows { (L : LaidSchema) (ds : Parts) → shows self L (Some (a_vector ds))
             → shows result L (nth_part ds i) }
+        ensures lighter { 0 < weight self → weight result < weight self };
+
+    /// How many of the entries, elements or fields in it, or of a union's member, are to be searched for unions
+    /// whose codes have no name. None behind them is one or has one in it.
+    fn searched(&self) -> usize
+        ensures few { result ≤ children self.now }
+        ensures heavy { 0 < result → 0 < weight self.now }
+        ensures behind { (L : LaidSchema) (o : Option Datum) (at : Place) → shows self.now L o
+            → unnamed_from at o result ≡ None };
+
+    /// One of them.
+    fn child(self, i: usize) -> Self
+        requires { i < children self }
+        ensures shows { (L : LaidSchema) (o : Option Datum) → shows self L o → shows result L (nth_child o i) }
         ensures lighter { 0 < weight self → weight result < weight self };
 }

@@ -2,11 +2,12 @@
 
 use crate::shown::{Found, Shown};
 use fb_read::Entry;
+use fb_schema::Kind;
 
 impl Shown for Entry<'_> {
     ghost use Rattle.std.specs.Prelude.{◌≡◌};
     ghost use Rattle.fb_read.specs.Weights.{ShowsEntry};
-    ghost use Rattle.fb_text.specs.Stored.{entry_weight, len_in};
+    ghost use Rattle.fb_text.specs.Stored.{entry_weight, len_in, children_in};
 
     ghost shows = { λ e L o. ShowsEntry L e o };
 
@@ -14,6 +15,9 @@ impl Shown for Entry<'_> {
 
     ghost items = { len_in };
 
+    ghost children = { children_in };
+
+    #[inline]
     fn find(&self) -> Found<'_> {
         match self {
             Entry::Absent => Found::Absent,
@@ -27,6 +31,7 @@ impl Shown for Entry<'_> {
         }
     }
 
+    #[inline]
     fn member(self) -> Self {
         match self {
             Entry::Member(_, view) => Entry::Table(view),
@@ -34,6 +39,7 @@ impl Shown for Entry<'_> {
         }
     }
 
+    #[inline]
     fn printed_slots(self, defaults: bool, all: usize) -> usize {
         match self {
             Entry::Table(_) if defaults => all,
@@ -42,6 +48,7 @@ impl Shown for Entry<'_> {
         }
     }
 
+    #[inline]
     fn slot(self, slot: u16) -> Self {
         match self {
             Entry::Table(view) => view.slot(slot),
@@ -49,6 +56,7 @@ impl Shown for Entry<'_> {
         }
     }
 
+    #[inline]
     fn part(self, field: u16) -> Self {
         match self {
             Entry::Fixed(view) => view.part(field),
@@ -56,6 +64,7 @@ impl Shown for Entry<'_> {
         }
     }
 
+    #[inline]
     fn count(self) -> usize {
         match self {
             Entry::Vector(items) => items.count() as usize,
@@ -63,8 +72,33 @@ impl Shown for Entry<'_> {
         }
     }
 
+    #[inline]
     fn item(self, i: usize) -> Self {
         match self {
+            Entry::Vector(items) => items.item(i as u32),
+            _ => Entry::Absent,
+        }
+    }
+
+    #[inline]
+    fn searched(&self) -> usize {
+        match self {
+            Entry::Table(view) => usize::from(view.stored_slots()),
+            Entry::Member(_, _) => 1,
+            Entry::Vector(items) => match items.kind {
+                Kind::Table(_) => items.count() as usize,
+                _ => 0,
+            },
+            Entry::Fixed(_) => 0,
+            Entry::Absent | Entry::Number(_) | Entry::Text(_) | Entry::Unknown(_) => 0,
+        }
+    }
+
+    #[inline]
+    fn child(self, i: usize) -> Self {
+        match self {
+            Entry::Table(view) => view.slot(i as u16),
+            Entry::Member(_, view) => Entry::Table(view),
             Entry::Vector(items) => items.item(i as u32),
             _ => Entry::Absent,
         }

@@ -18,8 +18,7 @@ use crate::noted::Noted;
 use crate::owned::ValueEntry;
 use crate::pages::Page;
 use crate::shown::Shown;
-use crate::unnamed::first_in_table;
-use crate::value_codes::first_unnamed;
+use crate::unnamed::first_unnamed;
 use crate::values::{Style, put_value};
 use crate::writing::finish;
 use fb_json::Place;
@@ -65,7 +64,11 @@ pub fn write_text<W: Write>(
     ensures failed { TellsFailure (write_failed out.new) result }
     ensures untouched { IfUnnamed result (out.new ≡ out.old) }
 {
-    if let Some(unnamed) = first_in_table(*view) {
+    let place = Place {
+        owner: view.type_id(),
+        slot: None,
+    };
+    if let Some(unnamed) = first_unnamed(place, Entry::Table(*view)) {
         return Err(WriteFault::NoMemberName(unnamed));
     }
     if out.failed() {
@@ -95,7 +98,7 @@ pub fn text_of(
         owner: layout.schema().root(),
         slot: None,
     };
-    if let Some(unnamed) = first_unnamed(place, value) {
+    if let Some(unnamed) = first_unnamed(place, ValueEntry(Some(value))) {
         return Err(TextFault::NoMemberName(unnamed));
     }
     let _names = layout.schema().types(); // tells that names are UTF-8

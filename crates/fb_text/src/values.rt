@@ -1,18 +1,23 @@
 //! Values in JSON texts.
-ghost use Rattle.std.specs.Prelude.{◌≡◌, ◌<◌, ◌||◌, Option, Some, is_some};
+ghost use Rattle.std.specs.Prelude.{◌≡◌, ℕ, ◌<◌, ◌≤◌, ◌++◌, ◌||◌, List, length, Bool};
+ghost use Rattle.std.specs.Prelude.{Option, Some, IfSome};
+ghost use Rattle.fb_schema.specs.Schema.{body_at, parts_in};
 ghost use Rattle.fb_schema.specs.Seen.{field_seen};
 ghost use Rattle.fb_schema.specs.declared.kinds.Kind.TheVariants.{Struct};
 ghost use Rattle.fb_schema.specs.declared.kinds.Shape.{Shape};
 ghost use Rattle.fb_schema.specs.declared.kinds.Shape.TheVariants.{One, Many};
 ghost use Rattle.fb_value.specs.Datum.{Datum, Parts, SlotEntries, a_struct, a_table, a_vector};
 ghost use Rattle.fb_text.specs.Indents.{blanks};
+ghost use Rattle.fb_text.specs.Nested.{IsAt, IsInside, IsNext, left_text, steps_left};
 ghost use Rattle.fb_text.specs.Texts.{value_text};
-ghost use Rattle.fb_text.specs.Printed.{is_entry_printed, slot_text, named_text, part_text};
+ghost use Rattle.fb_text.specs.Printed.{is_entry_printed, slot_text};
+ghost use Rattle.fb_text.specs.Shown.{IsTop, HasWeight};
 ghost use Rattle.fb_text.specs.Writes.{state_of, Adds};
 
 use crate::indents::Indent;
 use crate::lines::{put_closing, put_line, put_member_line, put_str};
 use crate::members::{is_printed, put_code};
+use crate::nested::{Nested, entered, outermost, parent_of, struct_in};
 use crate::noted::Noted;
 use crate::numbers::put_number;
 use crate::pages::Page;
@@ -43,7 +48,26 @@ pub(crate) fn put_value<W: Write, S: Shown>(
         → Adds (state_of W.contents page.old out.old) (state_of W.contents page.new out.new)
         (value_text style.entry.layout.now style.entry.defaults (blanks indent.now) shape d) }
 {
-    match shown.find() {
+    put_found(page, out, style, indent, shape, shown, shown.find());
+}
+
+/// The same where it is known what is found there.
+#[cycle(print)]
+fn put_found<W: Write, S: Shown>(
+    page: &mut Page,
+    out: &mut Noted<W>,
+    style: Style,
+    indent: &Indent,
+    shape: Shape,
+    shown: S,
+    found: Found,
+)
+    requires { HasWeight found (S.weight shown) }
+    ensures { (d : Datum) → S.shows shown style.entry.layout.now (Some d) → IsTop found.entry (Some d)
+        → Adds (state_of W.contents page.old out.old) (state_of W.contents page.new out.new)
+        (value_text style.entry.layout.now style.entry.defaults (blanks indent.now) shape d) }
+{
+    match found {
         Found::Absent | Found::Unknown => {}
         Found::Number(number) => {
             if let Shape::One(kind) = shape {
@@ -93,6 +117,7 @@ fn put_vector<W: Write, S: Shown>(
     put_str(page, out, "]");
 }
 
+/// Adds a struct, and the structs in it without a call for each: no depth of structs takes more stack.
 #[cycle(print)]
 fn put_struct<W: Write, S: Shown>(
     page: &mut Page,
@@ -108,16 +133,65 @@ fn put_struct<W: Write, S: Shown>(
         (value_text style.entry.layout.now style.entry.defaults (blanks indent.now)
         (One (Struct structure)) (a_struct ds)) }
 {
-    let inner = indent.inner();
-    let fields = style.layout.parts_of(structure);
+    let first = outermost(structure, shown);
+    let mut here = first;
     put_str(page, out, "{");
-    let mut some = false;
-    for k in 0..fields.len() {
-        let field = &fields[k];
-        some = put_part(page, out, style, &inner, some, field, shown.part(k as u16));
+    while let Some(next) = put_next(page, out, style, indent, first, here) {
+        here = next;
     }
-    put_closing(page, out, indent, some);
-    put_str(page, out, "}");
+}
+
+/// Adds what comes next of a struct or of one in it: a field, the begin of a struct, or a closing
+/// bracket. Returns where the printer is then; nothing behind the outermost.
+#[cycle(print)]
+fn put_next<W: Write, S: Shown>(
+    page: &mut Page,
+    out: &mut Noted<W>,
+    style: Style,
+    indent: &Indent,
+    first: Nested<S>,
+    here: Nested<S>,
+) -> Option<Nested<S>>
+    requires first { first.at ≡ 0 }
+    requires heavy { 0 < S.weight first.shown }
+    requires inside { IsInside S.weight first.shown here }
+    ensures inside { IfSome result (λ next. IsInside S.weight first.shown next) }
+    ensures fewer { IfSome result (λ next. steps_left next < steps_left here) }
+    ensures text { (ds es : Parts) (behind : List ℕ)
+        → S.shows first.shown style.entry.layout.now (Some (a_struct ds))
+        → IsAt S.shows style.entry.layout.now style.entry.defaults (blanks indent.now)
+        first.structure ds here es behind
+        → IsNext S.shows style.entry.layout.now style.entry.defaults (blanks indent.now)
+        first.structure ds result
+        (state_of W.contents page.old out.old) (state_of W.contents page.new out.new)
+        (left_text style.entry.layout.now style.entry.defaults (blanks indent.now) here es ++ behind) }
+{
+    let _schema = style.layout.schema(); // tells that structs take few bytes
+    let fields = style.layout.parts_of(here.structure);
+    let k = usize::from(here.next);
+    if k >= fields.len() {
+        return put_end(page, out, style.layout, indent, first, here);
+    }
+    let field = &fields[k];
+    let part = here.shown.part(here.next);
+    let found = part.find();
+    let next = here.next + 1;
+    if let Found::Absent = found {
+        return Some(Nested { next, ..here });
+    }
+    let inner = indent.deeper(here.depth + 1);
+    put_member_line(page, out, &inner, here.some, field.name.as_str(), false);
+    match struct_in(field.shape, found) {
+        Some(structure) if here.left > 0 => {
+            put_str(page, out, "{");
+            Some(entered(style.layout, here, structure, part))
+        }
+        _ => {
+            put_found(page, out, style, &inner, field.shape, part, found);
+            let some = true;
+            Some(Nested { next, some, ..here })
+        }
+    }
 }
 
 #[cycle(print)]
@@ -148,50 +222,34 @@ fn put_table<W: Write, S: Shown>(
     put_str(page, out, "}");
 }
 
-/// Adds a name and its value.
-#[cycle(print)]
-#[tactic(auto, using(crate::proofs::writing::PiecesAddUp::added_then))]
-fn put_named<W: Write, S: Shown>(
+/// Adds the end of a struct. Returns where its parent goes on; nothing behind the outermost.
+fn put_end<W: Write, S: Shown>(
     page: &mut Page,
     out: &mut Noted<W>,
-    style: Style,
-    inner: &Indent,
-    some: bool,
-    field: &FieldInfo,
-    shown: S,
-)
-    ensures { (d : Datum) → S.shows shown style.entry.layout.now (Some d)
-        → Adds (state_of W.contents page.old out.old) (state_of W.contents page.new out.new)
-        (named_text style.entry.layout.now style.entry.defaults (blanks inner.now) some
-        (field_seen field.now) d) }
+    layout: &Layout,
+    indent: &Indent,
+    first: Nested<S>,
+    here: Nested<S>,
+) -> Option<Nested<S>>
+    requires first { first.at ≡ 0 }
+    requires heavy { 0 < S.weight first.shown }
+    requires inside { IsInside S.weight first.shown here }
+    requires end { length (parts_in (body_at layout.now.schema here.structure.0)) ≤ here.next }
+    ensures inside { IfSome result (λ next. IsInside S.weight first.shown next) }
+    ensures fewer { IfSome result (λ next. steps_left next < steps_left here) }
+    ensures text { (defaults : Bool) (ds es : Parts) (behind : List ℕ)
+        → S.shows first.shown layout.now (Some (a_struct ds))
+        → IsAt S.shows layout.now defaults (blanks indent.now) first.structure ds here es behind
+        → IsNext S.shows layout.now defaults (blanks indent.now) first.structure ds result
+        (state_of W.contents page.old out.old) (state_of W.contents page.new out.new)
+        (left_text layout.now defaults (blanks indent.now) here es ++ behind) }
 {
-    put_member_line(page, out, inner, some, field.name.as_str(), false);
-    put_value(page, out, style, inner, field.shape, shown);
-}
-
-/// Adds a struct's field, and says whether there is one now.
-#[cycle(print)]
-fn put_part<W: Write, S: Shown>(
-    page: &mut Page,
-    out: &mut Noted<W>,
-    style: Style,
-    inner: &Indent,
-    some: bool,
-    field: &FieldInfo,
-    shown: S,
-) -> bool
-    ensures text { (o : Option Datum) → S.shows shown style.entry.layout.now o
-        → Adds (state_of W.contents page.old out.old) (state_of W.contents page.new out.new)
-        (part_text style.entry.layout.now style.entry.defaults (blanks inner.now) some
-        (field_seen field.now) o) }
-    ensures some { (o : Option Datum) → S.shows shown style.entry.layout.now o
-        → result ≡ (some || is_some o) }
-{
-    if matches!(shown.find(), Found::Absent) {
-        return some;
+    put_closing(page, out, &indent.deeper(here.depth), here.some);
+    put_str(page, out, "}");
+    if here.depth == 0 {
+        return None;
     }
-    put_named(page, out, style, inner, some, field, shown);
-    true
+    Some(parent_of(layout, first, here))
 }
 
 /// Adds a slot's member, where it is printed, and says whether there is a member now.
@@ -219,6 +277,7 @@ fn put_member<W: Write, S: Shown>(
     let name = slot.name.as_str();
     let schema = style.layout.schema();
     let some = put_code(page, out, schema, inner, some, name, slot.shape, found);
-    put_named(page, out, style, inner, some, slot, shown);
+    put_member_line(page, out, inner, some, name, false);
+    put_found(page, out, style, inner, slot.shape, shown, found);
     true
 }

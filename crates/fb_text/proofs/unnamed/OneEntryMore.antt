@@ -1,9 +1,9 @@
 -- The first union without a name, one entry after another.
-use Rattle.std.proofs.Common.{◌≡◌, ℕ, zero, suc, ◌+◌, ◌≤◌, List, [], ◌∷◌, slice_get, ℤ, Bool, true, false, Option, None, Some, refl, sym, arith}
+use Rattle.std.proofs.Common.{◌≡◌, ℕ, zero, suc, ◌+◌, ◌≤◌, List, [], ◌∷◌, slice_get, ℤ, Bool, true, false, Option, None, Some, refl, sym, ap, ◌∙◌, add-one, arith}
 use Rattle.std.specs.Prelude.{min}
 use Rattle.std.specs.Option.{option_or, is_some}
 use Rattle.fb_layout.specs.Laid.{LaidSchema, StoredKind, scalar_kind, struct_kind, table_kind, text_kind, union_kind, code_kind, Slot, parts_of, struct_at, size_of}
-use Rattle.fb_value.specs.Datum.{Datum, a_number, a_text, a_struct, a_table, Parts, no_parts, more_parts, SlotEntries, no_entries, absent_entry, present_entry, count}
+use Rattle.fb_value.specs.Datum.{Datum, a_number, a_text, a_vector, a_struct, a_table, a_member, an_unknown, Parts, no_parts, more_parts, SlotEntries, no_entries, absent_entry, present_entry, count}
 use Rattle.fb_value.specs.Num.{Bytes, num}
 use Rattle.fb_value.specs.Places.{Place as Spot, text_part, part_place, target_of}
 use Rattle.fb_value.specs.Lies.{LiesInline, LiesParts, Element, Lies, LiesItems, LiesSlots}
@@ -19,7 +19,10 @@ use Rattle.fb_schema.specs.Schema.{DeclaredSchema}
 use Rattle.fb_layout.specs.Laid.{stored_kind}
 use Rattle.fb_read.specs.declared.view.View.{View}
 use Rattle.fb_read.specs.Shows.{Shows}
-use Rattle.fb_text.specs.Unnamed.{entry_place, first_unnamed, first_in_parts, first_in_entries}
+use Rattle.fb_text.specs.Unnamed.{entry_place, first_unnamed, first_in_parts, first_in_entries, nth_child, child_place, unnamed_from}
+use Rattle.fb_text.specs.declared.shown.Found.{Found}
+use Rattle.fb_text.specs.declared.shown.Found.TheVariants.{Absent, Number, Text as TextFound, Vector, Struct as StructFound, Table as TableFound, Member, Unknown}
+use Rattle.fb_text.specs.Shown.{IsTop}
 
 -- the entry of slot k, and those behind it
 pub entries_step : (t j k : ℕ) (es : SlotEntries) → first_in_entries t j (entries_from k es) ≡ option_or (first_in_entry (entry_place t j) (nth_entry es k)) (first_in_entries t (j + 1) (entries_from (suc k) es))
@@ -46,16 +49,57 @@ entries_end L b t j (suc k) (f ∷ fs) (x ∷ xs) (absent_entry es) lies unset =
 entries_end L b t j (suc k) (f ∷ fs) (x ∷ xs) (present_entry d es) lies unset = entries_end L b t j k fs xs es lies.1 (λ i s past there. unset (suc i) s (omega (arith, past)) there)
 entries_end L b t j k _ _ _ lies unset = absurd lies
 
-pub parts_step : (at : Place) (i : ℕ) (ds : Parts) (d : Datum) → nth_part ds i ≡ Some d → first_in_parts at (parts_from i ds) ≡ option_or (first_unnamed at d) (first_in_parts at (parts_from (suc i) ds))
-parts_step at i no_parts d e = cc
-parts_step at zero (more_parts x ds) d e = let is : x ≡ d = cc in rw is refl
-parts_step at (suc i) (more_parts x ds) d e = parts_step at i ds d e
-
 pub parts_end : (at : Place) (i : ℕ) (ds : Parts) → count ds ≤ i → None ≡ first_in_parts at (parts_from i ds)
 parts_end at zero no_parts past = refl
 parts_end at (suc i) no_parts past = refl
 parts_end at zero (more_parts d ds) past = absurd (omega arith)
 parts_end at (suc i) (more_parts d ds) past = parts_end at i ds (omega arith)
+
+child_here : (at : Place) (i : ℕ) (ds : Parts) → first_in_parts at (parts_from i ds) ≡ option_or (first_in_entry at (nth_part ds i)) (first_in_parts at (parts_from (suc i) ds))
+child_here at zero no_parts = refl
+child_here at (suc i) no_parts = refl
+child_here at zero (more_parts d ds) = refl
+child_here at (suc i) (more_parts d ds) = child_here at i ds
+
+or_nothing : (o : Option Place) → o ≡ option_or o None
+or_nothing None = refl
+or_nothing (Some p) = refl
+
+-- child i, and those behind it
+pub children_step : (at : Place) (o : Option Datum) (i : ℕ) → unnamed_from at o i ≡ option_or (first_in_entry (child_place at o i) (nth_child o i)) (unnamed_from at o (i + 1))
+children_step at o i = rw add-one (step o i)
+  where
+    step : (p : Option Datum) (k : ℕ) → unnamed_from at p k ≡ option_or (first_in_entry (child_place at p k) (nth_child p k)) (unnamed_from at p (suc k))
+    step None k = refl
+    step (Some (a_number n)) k = refl
+    step (Some (a_text bytes)) k = refl
+    step (Some (a_vector ds)) k = child_here at k ds
+    step (Some (a_struct ds)) k = child_here at k ds
+    step (Some (a_table t es)) k = entries_step t k k es ∙ ap (λ (j : ℕ). option_or (first_in_entry (entry_place t k) (nth_entry es k)) (first_in_entries t j (entries_from (suc k) es))) (let next : k + 1 ≡ suc k = omega arith in next)
+    step (Some (a_member c d)) zero = or_nothing (first_unnamed at d)
+    step (Some (a_member c d)) (suc k) = refl
+    step (Some (an_unknown c)) k = refl
+
+found_unknown : (found : Found) (code : ℕ) → IsTop found (Some (an_unknown code)) → found ≡ Unknown
+found_unknown Absent code top = cc
+found_unknown (Number n) code top = cc
+found_unknown (TextFound s) code top = cc
+found_unknown Vector code top = let same = top.1 in cc
+found_unknown StructFound code top = let same = top.1 in cc
+found_unknown (TableFound t) code top = let same = top.1 in cc
+found_unknown (Member c) code top = let same = top.1 in cc
+found_unknown Unknown code top = refl
+
+-- what is no such union itself has the first of its children's
+pub from_first : (at : Place) (found : Found) (o : Option Datum) → IsTop found o → (found ≡ Unknown → ⊥) → unnamed_from at o 0 ≡ first_in_entry at o
+from_first at found None top not = refl
+from_first at found (Some (a_number n)) top not = refl
+from_first at found (Some (a_text bytes)) top not = refl
+from_first at found (Some (a_vector ds)) top not = refl
+from_first at found (Some (a_struct ds)) top not = refl
+from_first at found (Some (a_table t es)) top not = refl
+from_first at found (Some (a_member c d)) top not = refl
+from_first at found (Some (an_unknown c)) top not = absurd (not (found_unknown found c top))
 
 -- one that is found is the first, and where none is found it's behind
 pub found_first : (one two found : Option Place) → found ≡ one → is_some found ≡ true → option_or one two ≡ found
@@ -107,10 +151,6 @@ plain_kind S (Struct s) plain = refl
 plain_kind S (Union u) plain = refl
 plain_kind S (Code u) plain = refl
 plain_kind S Text plain = refl
-
--- the place of a slot
-pub place_is : (owner : TypeId) (u k : ℕ) → u ≡ owner.0 → k ≤ 65535 → (record { owner = owner; slot = Some k }) ≡ entry_place u k
-place_is owner u k is few = let least : min k 65535 ≡ k = omega arith in rw (is, least) refl
 
 -- What lies where a view is is a table.
 pub table_case : (view : View) (P : Datum → Type 0) (d : Datum) → Shows view d → ((t : ℕ) (es : SlotEntries) → Shows view (a_table t es) → P (a_table t es)) → P d

@@ -81,12 +81,12 @@ module _ (L : LaidSchema) (defaults : Bool) (inner indent : List ℕ) where
   parts_step some (g ∷ fs) no_parts (suc k) f e = rw (or_false some) (parts_none some (drop (suc k) fs) ∙ sym (parts_none some (drop k fs)))
   parts_step some (g ∷ fs) (more_parts d ds) (suc k) f e = parts_step some fs ds k f e
 
-  pub parts_end : (some : Bool) (fs : List DeclaredField) (ds : Parts) (k : ℕ) → k ≡ length fs → closing indent some ++ codes "}" ≡ parts_text L defaults inner indent some (drop k fs) (parts_from k ds)
+  pub parts_end : (some : Bool) (fs : List DeclaredField) (ds : Parts) (k : ℕ) → length fs ≤ k → closing indent some ++ codes "}" ≡ parts_text L defaults inner indent some (drop k fs) (parts_from k ds)
   parts_end some [] ds zero e = sym (parts_past some ds)
-  parts_end some [] ds (suc k) e = absurd (omega arith)
-  parts_end some (f ∷ fs) ds zero e = absurd (omega arith)
+  parts_end some [] ds (suc k) e = sym (parts_past some (parts_from (suc k) ds))
+  parts_end some (f ∷ fs) ds zero e = absurd (omega (arith, e))
   parts_end some (f ∷ fs) no_parts (suc k) e = sym (parts_none some (drop k fs))
-  parts_end some (f ∷ fs) (more_parts d ds) (suc k) e = parts_end some fs ds k (omega arith)
+  parts_end some (f ∷ fs) (more_parts d ds) (suc k) e = parts_end some fs ds k (omega (arith, e))
 
   -- element i, and those behind it
   pub items_step : (kind : Kind) (some : Bool) (ds : Parts) (i : ℕ) (d : Datum) → nth_part ds i ≡ Some d

@@ -17,10 +17,11 @@ returns-in-Some-clause-refused c =
     let root = c.root.result in
     let is : root.0 ≡ c.args.layout.now.schema.root = c.root.ensures ∙ ap (λ (s : DeclaredSchema). s.root) c.schema.ensures.schema in
     let P : ℕ → Type 0 = λ r. first_unnamed (type_place r) d ≡ Some c.in-Some.unnamed in
-    (unnamed_part (type_place root.0) c.in-Some.unnamed d c.in-Some.ensures, subst P is (sym c.in-Some.ensures))
+    let found = c.in-Some.ensures c.args.layout.now (Some d) refl in
+    (unnamed_part (type_place root.0) c.in-Some.unnamed d found, subst P is (sym found))
 
 pub returns-then-is_err-clause-refused : goal.returns-then-is_err-clause-refused
-returns-then-is_err-clause-refused c = named_whole (type_place c.root.result.0) (view c.args.value.now) c.in_default.ensures
+returns-then-is_err-clause-refused c = named_whole (type_place c.root.result.0) (view c.args.value.now) (c.in_default.ensures c.args.layout.now (Some (view c.args.value.now)) refl)
 
 pub unreachable-requires : goal.unreachable-requires
 unreachable-requires c =
@@ -41,4 +42,4 @@ returns-clause-text c =
     rw (c.in-Ok.ensures.ok, c.into_inner.ensures) made
 
 pub returns-clause-whole : goal.returns-clause-whole
-returns-clause-whole c = named_whole (type_place c.root.result.0) (view c.args.value.now) c.in_default.ensures
+returns-clause-whole c = named_whole (type_place c.root.result.0) (view c.args.value.now) (c.in_default.ensures c.args.layout.now (Some (view c.args.value.now)) refl)

@@ -1,12 +1,16 @@
-use Rattle.std.proofs.Common.{◌≡◌, ◌<◌, Option, Some, length, map, sym, subst, ap, ◌∙◌, add-one, arith}
+use Rattle.std.proofs.Common.{◌≡◌, suc, true, min, ◌+◌, ◌-◌, ◌^◌, ◌<◌, ◌++◌, [], slice_index, slice_index_or, append-nil, Option, None, Some, length, map, sym, subst, ap, ◌∙◌, add-one, arith}
 use Rattle.fb_schema.specs.Schema.{body_at, slots_in}
 use Rattle.fb_schema.specs.Seen.{field_seen}
 use Rattle.fb_value.specs.Datum.{Datum, a_table, a_member, count}
 use Rattle.fb_value.specs.Nth.{nth_entry, nth_part}
 use Rattle.fb_text.specs.Indents.{blanks}
+use Rattle.fb_layout.specs.Laid.{struct_at}
+use Rattle.fb_text.specs.Nested.{HasStruct, fields_text}
 use Rattle.fb_text.specs.Shown.{IsTop}
 use Rattle.fb_text.proofs.writing.PiecesAddUp.{then, added_as}
-use Rattle.fb_text.proofs.values.OneMemberMore.{members_step, members_behind, parts_step, parts_end, items_step, items_end, table_text}
+use Rattle.fb_text.proofs.nested.StructStandsInItsParent.{outermost_stands, stands_deeper, few_bytes}
+use Rattle.fb_text.proofs.values.NestedStructIsAField.{something_found, field_missing, field_first, struct_first}
+use Rattle.fb_text.proofs.values.OneMemberMore.{members_step, members_behind, parts_end, items_step, items_end, table_text}
 use Rattle.fb_text.proofs.values.MemberIsItsCodeAndValue.{seen_there, seen_long, part_there, entry_added}
 use Rattle.fb_text.proofs.values.+print.Goals as goal
 
@@ -17,28 +21,99 @@ put_member-returns-clause-text g t c o shows =
     entry_added L c.args.style.defaults (blanks c.args.inner.now) c.args.some (field_seen c.args.slot.now) o c.put_code-some.result _ _ _ (sym c.if-not-is_printed.false ∙ c.is_printed.ensures o top)
     (λ d e. rw (c.schema-schema.ensures.schema, c.as_str-name.ensures.value) at (c.put_code-some.ensures.text d (subst (λ (x : Option Datum). IsTop c.find-found.result x) e top)))
     (λ d e. c.put_code-some.ensures.some d (subst (λ (x : Option Datum). IsTop c.find-found.result x) e top))
-    (λ d e. c.put_named.ensures d (subst (λ (x : Option Datum). g.S.Shown.shows c.args.shown L x) e shows))
+    (λ d e. then (rw c.as_str-name.ensures.value at c.put_member_line.ensures)
+    (c.put_found.ensures d (subst (λ (x : Option Datum). g.S.Shown.shows c.args.shown L x) e shows) (subst (λ (x : Option Datum). IsTop c.find-found.result x) e top)))
 
-pub put_struct-loop-k-preserved : goal.put_struct-loop-k-preserved
-put_struct-loop-k-preserved g t c ds lies end rest =
+pub put_struct-loop-next-init : goal.put_struct-loop-next-init
+put_struct-loop-next-init g t c =
     let L = c.args.style.layout.now in
-    let k = c.loop-k.k in
-    let there = nth_part ds k in
-    let f = field_seen c.index-fields-k.result in
-    let fs = map field_seen c.parts_of-fields.result.now in
-    let shows = c.part.ensures.shows L ds lies in
-    let less : k < length c.parts_of-fields.result.now = omega (arith, c.loop-k-test.true) in
-    let step = parts_step L c.args.style.defaults (blanks c.inner-inner.result) (blanks c.args.indent.now) c.loop-k.some fs ds k f (seen_there c.parts_of-fields.result.now k c.index-fields-k.result less c.index-fields-k.is) in
-    c.loop-k.invariant ds lies end (added_as step (then (c.put_part-some.ensures.text there shows) (rw (c.put_part-some.ensures.some there shows, add-one) at rest)))
+    record {
+      inside = rw c.outermost-first.ensures (record { heavy = c.requires; light = omega arith; few = omega arith });
+      goes = rw c.outermost-first.ensures (λ ds shows. (
+        ds,
+        [],
+        (shows, outermost_stands L c.args.style.defaults (blanks c.args.indent.now) c.args.structure ds),
+        λ end rest. added_as (append-nil _) rest,
+      ));
+    }
+
+pub put_struct-loop-next-preserved : goal.put_struct-loop-next-preserved
+put_struct-loop-next-preserved g t c = record {
+  inside = c.in-Some.ensures.inside;
+  goes = λ ds shows.
+      let (es, behind, at, more) = c.loop-next.invariant.goes ds shows in
+      let (fs, rest, on, next) = c.in-Some.ensures.text ds es behind shows at in
+      (fs, rest, on, λ end adds. more end (next end adds));
+}
 
 pub put_struct-returns : goal.put_struct-returns
-put_struct-returns g t c ds lies =
+put_struct-returns g t c ds shows =
+    let (es, behind, at, more) = c.loop-next.invariant.goes ds (rw c.outermost-first.ensures shows) in
+    let all = more _ (c.in_default.ensures.text ds es behind (rw c.outermost-first.ensures shows) at) in
+    then c.put_str.ensures (rw c.outermost-first.ensures at all)
+
+pub put_next-returns-in-Some-clause-text : goal.put_next-returns-in-Some-clause-text
+put_next-returns-in-Some-clause-text g t c ds es behind shows at =
     let L = c.args.style.layout.now in
-    let fs = map field_seen c.parts_of-fields.result.now in
-    let over : c.loop-k.k ≡ length fs = omega (arith, seen_long c.parts_of-fields.result.now, c.loop-k-test.false, c.loop-k.auto.k-end) in
-    let end = parts_end L c.args.style.defaults (blanks c.inner-inner.result) (blanks c.args.indent.now) c.loop-k.some fs ds c.loop-k.k over in
-    let all = c.loop-k.invariant ds lies _ (added_as end (then c.put_closing.ensures c.put_str-2.ensures)) in
-    then c.put_str.ensures (rw (c.inner-inner.ensures, c.parts_of-fields.ensures.parts) at all)
+    let defaults = c.args.style.defaults in
+    let indent = blanks c.args.indent.now in
+    let here = c.args.here in
+    let u = here.structure in
+    let k = here.next in
+    let s = c.in-Some.structure in
+    let x = c.index-fields-k.result in
+    let fields = c.parts_of-fields.result.now in
+    let part = c.part-part.ensures.shows L es at.0 in
+    let (inner, is) = c.in-Some.ensures.part (nth_part es k) (c.find-found.ensures.top L _ part) in
+    let less : k < length fields = omega (arith, c.from-k.ensures, c.if-k-fields.false) in
+    let own : x ≡ slice_index_or fields k x = rw c.from-k.ensures at c.index-fields-k.is in
+    let there = rw c.parts_of-fields.ensures.parts at (seen_there fields k x less own) in
+    let has : HasStruct L u es k s inner = record { field = field_seen x; there = there; shape = c.in-Some.ensures.shape; part = is } in
+    let deeper = stands_deeper L defaults indent c.args.first.structure ds here.depth here.at u es behind k s inner at.1 has in
+    let few = few_bytes L defaults c.schema-schema.ensures.made indent c.args.first.structure ds here.depth _ s inner _ deeper in
+    let place : min (here.at + slice_index (struct_at L u.0).offsets k) (2 ^ 32 - 1) ≡ here.at + slice_index (struct_at L u.0).offsets k = omega (arith, few) in
+    let one : here.depth + 1 ≡ suc here.depth = omega arith in
+    let line = rw (c.deeper-inner.ensures, one, c.as_str.ensures.value) at c.put_member_line.ensures in
+    rw (c.entered.ensures, place, one) (
+      inner,
+      fields_text L defaults indent u es here.depth (suc k) true ++ behind,
+      (subst (λ (o : Option Datum). g.S.Shown.shows c.part-part.result L o) is part, deeper),
+      λ end adds. added_as (struct_first L defaults indent u es here.depth k here.some behind s inner has) (then line (then c.put_str.ensures adds)),
+    )
+
+pub put_next-returns-in-Absent-clause-text : goal.put_next-returns-in-Absent-clause-text
+put_next-returns-in-Absent-clause-text g t c ds es behind shows at =
+    let L = c.args.style.layout.now in
+    let here = c.args.here in
+    let k = here.next in
+    let x = c.index-fields-k.result in
+    let fields = c.parts_of-fields.result.now in
+    let part = c.part-part.ensures.shows L es at.0 in
+    let less : k < length fields = omega (arith, c.from-k.ensures, c.if-k-fields.false) in
+    let own : x ≡ slice_index_or fields k x = rw c.from-k.ensures at c.index-fields-k.is in
+    let there = rw c.parts_of-fields.ensures.parts at (seen_there fields k x less own) in
+    let none : nth_part es k ≡ None = rw c.in-Absent.is at (c.find-found.ensures.top L _ part) in
+    let next : k + 1 ≡ suc k = omega arith in
+    (es, behind, at, λ end adds. added_as (field_missing L c.args.style.defaults (blanks c.args.indent.now) here.structure es here.depth k here.some behind (field_seen x) there none) (rw next at adds))
+
+pub put_next-returns-in_default-struct_in-clause-text : goal.put_next-returns-in_default-struct_in-clause-text
+put_next-returns-in_default-struct_in-clause-text g t c ds es behind shows at =
+    let L = c.args.style.layout.now in
+    let here = c.args.here in
+    let k = here.next in
+    let x = c.index-fields-k.result in
+    let fields = c.parts_of-fields.result.now in
+    let part = c.part-part.ensures.shows L es at.0 in
+    let less : k < length fields = omega (arith, c.from-k.ensures, c.if-k-fields.false) in
+    let own : x ≡ slice_index_or fields k x = rw c.from-k.ensures at c.index-fields-k.is in
+    let there = rw c.parts_of-fields.ensures.parts at (seen_there fields k x less own) in
+    let top = c.find-found.ensures.top L (nth_part es k) part in
+    let (d, is) = something_found c.find-found.result (nth_part es k) top c.in_default.not-Absent in
+    let one : here.depth + 1 ≡ suc here.depth = omega arith in
+    let next : k + 1 ≡ suc k = omega arith in
+    let line = rw (c.deeper-inner.ensures, one, c.as_str.ensures.value) at c.put_member_line.ensures in
+    let value = rw (c.deeper-inner.ensures, one) at (c.put_found.ensures d (subst (λ (o : Option Datum). g.S.Shown.shows c.part-part.result L o) is part) (subst (λ (o : Option Datum). IsTop c.find-found.result o) is top)) in
+    (es, behind, at, λ end adds. added_as (field_first L c.args.style.defaults (blanks c.args.indent.now) here.structure es here.depth k here.some behind (field_seen x) there d is) (then line (then value (rw next at adds))))
 
 pub put_table-loop-k-preserved : goal.put_table-loop-k-preserved
 put_table-loop-k-preserved g t c es lies end rest =
@@ -62,17 +137,16 @@ put_table-returns g t c shape es lies =
     let all = c.loop-k.invariant es lies _ (added_as end (then c.put_closing.ensures c.put_str-2.ensures)) in
     added_as (table_text L c.args.style.defaults (blanks c.inner-inner.result) (blanks c.args.indent.now) shape c.args.owner.0 es) (then c.put_str.ensures (rw (c.inner-inner.ensures, seen) at all))
 
-pub put_value-returns-in-Table : goal.put_value-returns-in-Table
-put_value-returns-in-Table g t c d shows =
-    let L = c.args.style.layout.now in
-    let top = rw c.in-Table.is at (c.find.ensures.top L (Some d) shows) in
+pub put_found-returns-in-Table : goal.put_found-returns-in-Table
+put_found-returns-in-Table g t c d shows found =
+    let top = rw c.in-Table.is at found in
     let same : d ≡ a_table c.in-Table.owner.0 top.0 = cc in
     rw same (c.put_table.ensures c.args.shape top.0 (rw same at shows))
 
-pub put_value-returns-in-Member : goal.put_value-returns-in-Member
-put_value-returns-in-Member g t c d shows =
+pub put_found-returns-in-Member : goal.put_found-returns-in-Member
+put_found-returns-in-Member g t c d shows found =
     let L = c.args.style.layout.now in
-    let top = rw c.in-Member.is at (c.find.ensures.top L (Some d) shows) in
+    let top = rw c.in-Member.is at found in
     let same : d ≡ a_member c.in-Member.field-0 top.0 = cc in
     rw same (c.put_value.ensures top.0 (c.member.ensures.shows L c.in-Member.field-0 top.0 (rw same at shows)))
 

@@ -3,31 +3,32 @@ use Rattle.fb_schema.specs.Seen.{field_seen}
 use Rattle.fb_value.specs.Datum.{Parts, SlotEntries, a_table, a_struct, a_vector}
 use Rattle.fb_read.specs.Tails.{entries_from, parts_from}
 use Rattle.fb_text.specs.Indents.{blanks}
-use Rattle.fb_text.specs.Texts.{items_text, parts_text, members_text}
+use Rattle.fb_text.specs.Nested.{GoesOn, IsInside, fields_text, steps_left}
+use Rattle.fb_text.specs.Texts.{items_text, members_text}
 use Rattle.fb_text.specs.Writes.{State, state_of, Adds}
 use Rattle.fb_text.proofs.values.+print.Given as goal
 
 -- An entry is lighter than what it stands in.
 abbrev pub decreases-put_value : goal.decreases-put_value
-decreases-put_value g l = 4 * g.S.Shown.weight l.shown + 1
+decreases-put_value g l = 8 * g.S.Shown.weight l.shown + 3
 
-abbrev pub decreases-put_named : goal.decreases-put_named
-decreases-put_named g l = 4 * g.S.Shown.weight l.shown + 2
-
-abbrev pub decreases-put_part : goal.decreases-put_part
-decreases-put_part g l = 4 * g.S.Shown.weight l.shown + 3
+abbrev pub decreases-put_found : goal.decreases-put_found
+decreases-put_found g l = 8 * g.S.Shown.weight l.shown + 2
 
 abbrev pub decreases-put_member : goal.decreases-put_member
-decreases-put_member g l = 4 * g.S.Shown.weight l.shown + 3
+decreases-put_member g l = 8 * g.S.Shown.weight l.shown + 4
 
 abbrev pub decreases-put_table : goal.decreases-put_table
-decreases-put_table g l = 4 * g.S.Shown.weight l.shown
+decreases-put_table g l = 8 * g.S.Shown.weight l.shown
 
 abbrev pub decreases-put_struct : goal.decreases-put_struct
-decreases-put_struct g l = 4 * g.S.Shown.weight l.shown
+decreases-put_struct g l = 8 * g.S.Shown.weight l.shown + 1
+
+abbrev pub decreases-put_next : goal.decreases-put_next
+decreases-put_next g l = 8 * g.S.Shown.weight l.here.shown
 
 abbrev pub decreases-put_vector : goal.decreases-put_vector
-decreases-put_vector g l = 4 * g.S.Shown.weight l.shown
+decreases-put_vector g l = 8 * g.S.Shown.weight l.shown
 
 -- What adds the rest adds, with what was added, all of it.
 abbrev pub invariant-put_table-loop-k : goal.invariant-put_table-loop-k
@@ -36,11 +37,16 @@ invariant-put_table-loop-k g l =
     → Adds (state_of g.W.Write.contents l.page l.out) end (members_text l.style.layout.now l.style.defaults (blanks l.inner) (blanks l.indent) l.some (drop l.k (map field_seen l.slots)) (entries_from l.k es))
     → Adds (state_of g.W.Write.contents l.initial.page l.initial.out) end (members_text l.style.layout.now l.style.defaults (blanks l.inner) (blanks l.indent) false (map field_seen l.slots) es)
 
-abbrev pub invariant-put_struct-loop-k : goal.invariant-put_struct-loop-k
-invariant-put_struct-loop-k g l =
-    (ds : Parts) → g.S.Shown.shows l.shown l.style.layout.now (Some (a_struct ds)) → (end : State)
-    → Adds (state_of g.W.Write.contents l.page l.out) end (parts_text l.style.layout.now l.style.defaults (blanks l.inner) (blanks l.indent) l.some (drop l.k (map field_seen l.fields)) (parts_from l.k ds))
-    → Adds (state_of g.W.Write.contents l.initial.page l.initial.out) end (parts_text l.style.layout.now l.style.defaults (blanks l.inner) (blanks l.indent) false (map field_seen l.fields) ds)
+abbrev pub invariant-put_struct-loop-next : goal.invariant-put_struct-loop-next
+invariant-put_struct-loop-next g l = record {
+  inside : IsInside g.S.Shown.weight l.first.shown l.here;
+  goes : (ds : Parts) → g.S.Shown.shows l.first.shown l.style.layout.now (Some (a_struct ds))
+      → GoesOn g.S.Shown.shows l.style.layout.now l.style.defaults (blanks l.indent) l.first.structure ds l.here (state_of g.W.Write.contents l.initial.page l.initial.out) (state_of g.W.Write.contents l.page l.out)
+      (fields_text l.style.layout.now l.style.defaults (blanks l.indent) l.first.structure ds 0 0 false);
+}
+
+abbrev pub decreases-put_struct-loop-next : goal.decreases-put_struct-loop-next
+decreases-put_struct-loop-next g l = steps_left l.here
 
 abbrev pub invariant-put_vector-loop-i : goal.invariant-put_vector-loop-i
 invariant-put_vector-loop-i g l =

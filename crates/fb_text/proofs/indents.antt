@@ -1,0 +1,2 @@
+-- What the proofs of src/indents.rt use.
+pub mod LevelsAddUp

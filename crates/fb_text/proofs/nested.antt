@@ -1,0 +1,3 @@
+-- What the proofs of src/nested.rt use.
+pub mod FieldHasItsBytes
+pub mod StructStandsInItsParent

@@ -1,0 +1,63 @@
+use Rattle.std.proofs.Common.{◌≡◌, ℕ, suc, true, ◌+◌, ◌-◌, ◌<◌, ◌≤◌, Some, refl, sym, ap, subst, ◌∙◌, add-one, arith, ◌++◌, List, slice_index}
+use Rattle.fb_layout.specs.Laid.{struct_at}
+use Rattle.fb_value.specs.Datum.{Parts, a_struct}
+use Rattle.fb_text.specs.Nested.{HasByte, fields_text, StandsIn}
+use Rattle.fb_text.proofs.nested.FieldHasItsBytes.{has_byte, is_filled}
+use Rattle.fb_text.proofs.nested.StructStandsInItsParent.{OnTheWay, way_begins, way_goes_on, way_ends}
+use Rattle.fb_text.proofs.nested.parent_of.Goals as goal
+
+pub loop-level-init : goal.loop-level-init
+loop-level-init g c = record {
+  heavy = c.requires.heavy;
+  light = omega arith;
+  way = λ defaults indent ds es behind shows stands.
+      let all : c.args.inner.depth - 0 ≡ c.args.inner.depth = omega arith in
+      way_begins c.args.layout.now defaults indent c.args.outermost.structure ds c.args.inner.at c.args.inner.structure es behind
+      (λ ms. g.S.Shown.shows c.args.outermost.shown c.args.layout.now (Some (a_struct ms))) c.args.outermost.at (c.args.inner.depth - 0) shows c.requires.first
+      (rw all stands);
+}
+
+pub loop-level-preserved : goal.loop-level-preserved
+loop-level-preserved g c =
+    let L = c.args.layout.now in
+    let i = c.loop-level._level in
+    let n = c.args.inner.depth in
+    let here = c.loop-level.here in
+    let next = c.inner_at-here.result in
+    let left : n - i ≡ suc (n - suc i) = omega arith in
+    record {
+      heavy = c.inner_at-here.ensures.heavy;
+      light = omega (arith, c.inner_at-here.ensures.light, c.loop-level.invariant.light);
+      way = λ defaults indent ds es behind shows stands.
+          let on = c.loop-level.invariant.way defaults indent ds es behind shows stands in
+          let now = subst (λ (m : ℕ). OnTheWay L defaults indent c.args.outermost.structure ds (λ ms. g.S.Shown.shows here.shown L (Some (a_struct ms))) i here.at here.structure m c.args.inner.at c.args.inner.structure es behind) left on in
+          rw add-one (way_goes_on L defaults indent c.args.outermost.structure ds c.args.inner.at c.args.inner.structure es behind c.schema-schema.ensures.made
+          (λ ms. g.S.Shown.shows here.shown L (Some (a_struct ms))) (λ ms. g.S.Shown.shows next.shown L (Some (a_struct ms)))
+          i here.at here.structure (n - suc i) next.at next.structure now
+          (λ k x ms more child less begin. let got = c.inner_at-here.ensures.inner now.parts k x ms more now.shown child less begin in (got.structure, got.shown, got.begin)));
+    }
+
+pub returns-clause-parent : goal.returns-clause-parent
+returns-clause-parent g c defaults indent ds es behind shows stands =
+    let L = c.args.layout.now in
+    let i = c.loop-level._level in
+    let n = c.args.inner.depth in
+    let here = c.loop-level.here in
+    let byte = c.args.inner.at in
+    let field = c.field_at-field.result in
+    let made = c.schema-schema.ensures.made in
+    let level : i ≡ n - 1 = omega arith in
+    let left : n - i ≡ 1 = omega (arith, level, c.requires.nested) in
+    let on = c.loop-level.invariant.way defaults indent ds es behind shows stands in
+    let now = subst (λ (m : ℕ). OnTheWay L defaults indent c.args.outermost.structure ds (λ ms. g.S.Shown.shows here.shown L (Some (a_struct ms))) i here.at here.structure m byte c.args.inner.structure es behind) left on in
+    let (k, child, begin, whole) = way_ends L defaults indent c.args.outermost.structure ds byte c.args.inner.structure es behind made (λ ms. g.S.Shown.shows here.shown L (Some (a_struct ms))) i here.at here.structure now in
+    let filled = is_filled L made here.structure now.parts k c.args.inner.structure es child in
+    let at : slice_index (struct_at L here.structure.0).offsets k + 0 ≡ byte - here.at = omega (arith, begin) in
+    let has = subst (λ (b : ℕ). HasByte L here.structure k child.field b) (at ∙ sym c.saturating_sub.ensures) (has_byte L made here.structure now.parts k c.args.inner.structure es child 0 filled) in
+    let same : suc k ≡ field + 1 = omega (arith, c.field_at-field.ensures.found k child.field child.there has) in
+    let own = λ (d j : ℕ). fields_text L defaults indent here.structure now.parts d j true in (
+      now.parts,
+      now.rest,
+      (now.shown, subst (λ (d : ℕ). StandsIn L defaults indent c.args.outermost.structure ds d here.at here.structure now.parts now.rest) level now.above),
+      whole ∙ (ap (λ (d : ℕ). own d (suc k) ++ now.rest) level ∙ ap (λ (j : ℕ). own (n - 1) j ++ now.rest) same),
+    )

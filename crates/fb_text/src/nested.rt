@@ -1,0 +1,196 @@
+//! Structs in structs, and the way from one back to the struct around it.
+ghost use Rattle.std.specs.Prelude.{◌≡◌, ℕ, ◌+◌, ◌-◌, ◌<◌, ◌≤◌, ◌^◌, ◌++◌, min, false};
+ghost use Rattle.std.specs.Prelude.{List, Bool, Option, Some, IfSome, slice_get, slice_index};
+ghost use Rattle.fb_schema.specs.declared.kinds.TypeId.{TypeId};
+ghost use Rattle.fb_schema.specs.declared.kinds.Kind.TheVariants.{Struct};
+ghost use Rattle.fb_schema.specs.declared.kinds.Shape.TheVariants.{One};
+ghost use Rattle.fb_schema.specs.Schema.{DeclaredField, body_at, parts_in};
+ghost use Rattle.fb_layout.specs.Laid.{struct_at};
+ghost use Rattle.fb_value.specs.Datum.{Datum, Parts, a_struct};
+ghost use Rattle.fb_text.specs.Shown.{IsTop, HasWeight};
+ghost use Rattle.fb_text.specs.Nested.{HasByte, HasStruct, IsStructAt, StandsIn, IsAt, left_text};
+
+use crate::shown::{Found, Shown};
+use fb_layout::Layout;
+use fb_schema::{Kind, Shape, TypeId};
+
+/// A struct in another, or that one itself, and which of its fields is printed next.
+#[derive(Clone, Copy)]
+pub(crate) struct Nested<S> {
+    pub structure: TypeId,
+    pub shown: S,
+    /// How many structs are around it.
+    pub depth: u64,
+    /// Where it begins, in bytes behind the begin of the outermost.
+    pub at: u32,
+    pub next: u16,
+    /// Whether a field of it was printed.
+    pub some: bool,
+    /// How many structs may be entered yet. There are never so many in one: it takes 65,535 bytes
+    /// at most, and no more structs have a byte than there are types.
+    pub left: u64,
+}
+
+/// A struct before its first field.
+pub(crate) fn outermost<S: Shown>(structure: TypeId, shown: S) -> Nested<S>
+    ensures { result ≡ record {
+      structure = structure;
+      shown = shown;
+      depth = 0;
+      at = 0;
+      next = 0;
+      some = false;
+      left = 2 ^ 64 - 2;
+    } }
+{
+    Nested {
+        structure,
+        shown,
+        depth: 0,
+        at: 0,
+        next: 0,
+        some: false,
+        left: u64::MAX - 1,
+    }
+}
+
+/// The struct in the next field, before its first field.
+pub(crate) fn entered<S: Shown>(
+    layout: &Layout,
+    here: Nested<S>,
+    structure: TypeId,
+    part: S,
+) -> Nested<S>
+    requires some { 0 < here.left }
+    requires few { here.depth + here.left < 2 ^ 64 }
+    ensures { result ≡ record {
+      structure = structure;
+      shown = part;
+      depth = here.depth + 1;
+      at = min (here.at + slice_index (struct_at layout.now here.structure.0).offsets here.next) (2 ^ 32 - 1);
+      next = 0;
+      some = false;
+      left = here.left - 1;
+    } }
+{
+    let offset = layout.offset_of(here.structure, here.next);
+    Nested {
+        structure,
+        shown: part,
+        depth: here.depth + 1,
+        at: here.at.saturating_add(offset),
+        next: 0,
+        some: false,
+        left: here.left - 1,
+    }
+}
+
+/// The type of the struct that was found in a field, if one was.
+pub(crate) fn struct_in(shape: Shape, found: Found) -> Option<TypeId>
+    ensures known { (u : TypeId) (es : Parts) → shape ≡ One (Struct u) → IsTop found.entry (Some (a_struct es))
+        → result ≡ Some u }
+    ensures shape { IfSome result (λ u. shape ≡ One (Struct u)) }
+    ensures part { IfSome result (λ _. (o : Option Datum) → IsTop found.entry o
+        → (es : Parts) × (o ≡ Some (a_struct es))) }
+    ensures heavy { IfSome result (λ _. (weight : ℕ) → HasWeight found.entry weight → 0 < weight) }
+{
+    match found {
+        Found::Struct => match shape {
+            Shape::One(Kind::Struct(structure)) => Some(structure),
+            _ => None,
+        },
+        _ => None,
+    }
+}
+
+/// The field of a struct that has a byte, counted from the struct's begin; another where none has it.
+fn field_at(layout: &Layout, structure: TypeId, byte: u32) -> u16
+    ensures found { (k : ℕ) (f : DeclaredField)
+        → slice_get (parts_in (body_at layout.now.schema structure.0)) k ≡ Some f
+        → HasByte layout.now structure k f byte → result ≡ k }
+    ensures few { result < 65535 }
+{
+    let _schema = layout.schema();
+    let mut low = 0usize;
+    let mut high = layout.parts_of(structure).len();
+    while low + 1 < high {
+        let middle = low + (high - low) / 2;
+        if layout.offset_of(structure, middle as u16) <= byte {
+            low = middle;
+        } else {
+            high = middle;
+        }
+    }
+    low as u16
+}
+
+/// The struct in the field that has a byte, counted from the begin of the outermost; the struct
+/// itself where there is none.
+fn inner_at<S: Shown>(layout: &Layout, here: Nested<S>, byte: u32) -> Nested<S>
+    requires { 0 < S.weight here.shown }
+    ensures heavy { 0 < S.weight result.shown }
+    ensures light { S.weight result.shown ≤ S.weight here.shown }
+    ensures inner { (ds : Parts) (k : ℕ) (u : TypeId) (es : Parts) (more : ℕ)
+        → S.shows here.shown layout.now (Some (a_struct ds)) → HasStruct layout.now here.structure ds k u es
+        → more < (struct_at layout.now u.0).size
+        → byte ≡ here.at + (slice_index (struct_at layout.now here.structure.0).offsets k + more)
+        → IsStructAt S.shows layout.now u es
+        (here.at + slice_index (struct_at layout.now here.structure.0).offsets k) result }
+{
+    let _schema = layout.schema();
+    let fields = layout.parts_of(here.structure);
+    let next = field_at(layout, here.structure, byte.saturating_sub(here.at));
+    let k = usize::from(next);
+    if k >= fields.len() {
+        return here;
+    }
+    let part = here.shown.part(next);
+    match struct_in(fields[k].shape, part.find()) {
+        Some(structure) => Nested {
+            structure,
+            shown: part,
+            at: here
+                .at
+                .saturating_add(layout.offset_of(here.structure, next)),
+            ..here
+        },
+        None => here,
+    }
+}
+
+/// The struct around one, behind the field that has that one: the way leads by its bytes from the
+/// outermost down.
+pub(crate) fn parent_of<S: Shown>(
+    layout: &Layout,
+    outermost: Nested<S>,
+    inner: Nested<S>,
+) -> Nested<S>
+    requires nested { 0 < inner.depth }
+    requires first { outermost.at ≡ 0 }
+    requires heavy { 0 < S.weight outermost.shown }
+    ensures heavy { 0 < S.weight result.shown }
+    ensures light { S.weight result.shown ≤ S.weight outermost.shown }
+    ensures up { result.depth + 1 ≡ inner.depth }
+    ensures left { result.left ≡ inner.left }
+    ensures parent { (defaults : Bool) (indent : List ℕ) (ds es : Parts) (behind : List ℕ)
+        → S.shows outermost.shown layout.now (Some (a_struct ds))
+        → StandsIn layout.now defaults indent outermost.structure ds inner.depth inner.at
+        inner.structure es behind
+        → (around : Parts) × (rest : List ℕ)
+        × IsAt S.shows layout.now defaults indent outermost.structure ds result around rest
+        × (behind ≡ left_text layout.now defaults indent result around ++ rest) }
+{
+    let _schema = layout.schema();
+    let mut here = outermost;
+    for _level in 0..inner.depth - 1 {
+        here = inner_at(layout, here, inner.at);
+    }
+    let field = field_at(layout, here.structure, inner.at.saturating_sub(here.at));
+    Nested {
+        depth: inner.depth - 1,
+        next: field + 1,
+        some: true,
+        left: inner.left,
+        ..here
+    }
+}
