@@ -1,5 +1,6 @@
 -- The names of a schema are UTF-8, since each is a `String`.
-use Rattle.std.proofs.Common.{◌≡◌, ℕ, zero, suc, ℤ, List, [], ◌∷◌, Bool, true, false, Option, None, Some, Global, String, map, string_bytes, IsUtf8, slice_get, find, option_map, refl, subst}
+use Rattle.std.proofs.Common.{◌≡◌, ℕ, zero, suc, ℤ, List, [], ◌∷◌, Bool, true, false, Option, None, Some, Global}
+use Rattle.std.proofs.Common.{String, map, string_bytes, IsUtf8, slice_get, find, option_map, refl, subst}
 use Rattle.std.specs.Option.{unwrap_or}
 use Rattle.std.specs.Ordering.{int_eq}
 use Rattle.std.proofs.lemmas.Str.{IsUtf8-string_bytes, IsUtf8-nil}
@@ -8,7 +9,9 @@ use Rattle.fb_schema.specs.declared.types.FieldInfo.{FieldInfo}
 use Rattle.fb_schema.specs.declared.types.Body.{Body}
 use Rattle.fb_schema.specs.declared.types.Body.TheVariants as the_body
 use Rattle.fb_schema.specs.declared.types.TypeInfo.{TypeInfo}
-use Rattle.fb_schema.specs.Schema.{Name, DeclaredField, DeclaredBody, table_body, struct_body, enum_body, union_body, DeclaredType, DeclaredSchema, body_in, body_at, slots_in, parts_in, members_in, values_in}
+use Rattle.fb_schema.specs.Schema.{Name, DeclaredField, DeclaredBody, table_body, struct_body, enum_body, union_body}
+use Rattle.fb_schema.specs.Schema.{DeclaredType, DeclaredSchema, body_in, body_at, slots_in, parts_in, members_in}
+use Rattle.fb_schema.specs.Schema.{values_in}
 use Rattle.fb_schema.specs.Found.{name_numbered}
 use Rattle.fb_schema.specs.Seen.{field_seen, body_seen, type_seen}
 
@@ -50,7 +53,8 @@ types_utf8 (x ∷ ts) zero = seen_utf8 x.body
 types_utf8 (x ∷ ts) (suc t) = types_utf8 ts t
 
 -- each type of a schema that is made of data types
-pub schema_utf8 : (S : DeclaredSchema) (ts : List TypeInfo) → map type_seen ts ≡ S.types → (t : ℕ) → BodyUtf8 (body_at S t)
+pub schema_utf8 : (S : DeclaredSchema) (ts : List TypeInfo) → map type_seen ts ≡ S.types → (t : ℕ)
+    → BodyUtf8 (body_at S t)
 schema_utf8 S ts e t = subst (λ (types : List DeclaredType). BodyUtf8 (body_in (slice_get types t))) e (types_utf8 ts t)
 
 -- ---- what is found by number
@@ -88,20 +92,25 @@ pub or_nothing : (o : Option Name) → NameUtf8 o → IsUtf8 (unwrap_or o [])
 or_nothing None h = IsUtf8-nil
 or_nothing (Some name) h = h
 
-got_utf8 : {A : Type 0} (xs : List (Name × A)) (k : ℕ) → NamesUtf8 xs → NameUtf8 (option_map (λ x. x.0) (slice_get xs k))
+got_utf8 : {A : Type 0} (xs : List (Name × A)) (k : ℕ) → NamesUtf8 xs
+    → NameUtf8 (option_map (λ x. x.0) (slice_get xs k))
 got_utf8 [] k h = tt
 got_utf8 (x ∷ xs) zero h = h.0
 got_utf8 (x ∷ xs) (suc k) h = got_utf8 xs k h.1
 
-found_first : {A : Type 0} (test : Name × A → Bool) (x : Name × A) (xs : List (Name × A)) → IsUtf8 x.0 → NameUtf8 (option_map (λ y. y.0) (find test xs)) → (b : Bool) → test x ≡ b → NameUtf8 (option_map (λ y. y.0) (find test (x ∷ xs)))
+found_first : {A : Type 0} (test : Name × A → Bool) (x : Name × A) (xs : List (Name × A)) → IsUtf8 x.0
+    → NameUtf8 (option_map (λ y. y.0) (find test xs)) → (b : Bool) → test x ≡ b
+    → NameUtf8 (option_map (λ y. y.0) (find test (x ∷ xs)))
 found_first test x xs first rest true e = rw e first
 found_first test x xs first rest false e = rw e rest
 
-found_utf8 : {A : Type 0} (test : Name × A → Bool) (xs : List (Name × A)) → NamesUtf8 xs → NameUtf8 (option_map (λ x. x.0) (find test xs))
+found_utf8 : {A : Type 0} (test : Name × A → Bool) (xs : List (Name × A)) → NamesUtf8 xs
+    → NameUtf8 (option_map (λ x. x.0) (find test xs))
 found_utf8 test [] h = tt
 found_utf8 test (x ∷ xs) h = found_first test x xs h.0 (found_utf8 test xs h.1) (test x) refl
 
-pub member_utf8 : (b : DeclaredBody) (k : ℕ) → BodyUtf8 b → NameUtf8 (option_map (λ m. m.0) (slice_get (members_in b) k))
+pub member_utf8 : (b : DeclaredBody) (k : ℕ) → BodyUtf8 b
+    → NameUtf8 (option_map (λ m. m.0) (slice_get (members_in b) k))
 member_utf8 b k h = got_utf8 (members_in b) k (members_utf8 b h)
 
 pub numbered_utf8 : (b : DeclaredBody) (n : ℤ) → BodyUtf8 b → NameUtf8 (name_numbered b n)

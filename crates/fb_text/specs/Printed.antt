@@ -1,6 +1,7 @@
 -- What a printer returns, and the text of one slot, of one field.
 -- From the FlatBuffers documentation, "JSON parsing" (text output).
-use Rattle.std.specs.Prelude.{ℕ, ◌≡◌, ◌<◌, ◌++◌, List, [], take, length, Bool, true, false, Option, None, Some, Result, Ok, Err}
+use Rattle.std.specs.Prelude.{ℕ, ◌≡◌, ◌<◌, ◌++◌, List, [], take, length, Bool, true, false, Option, None, Some, Result}
+use Rattle.std.specs.Prelude.{Ok, Err}
 use Rattle.std.specs.Io.KnownBytes.{Appends}
 use Rattle.fb_schema.specs.Schema.{DeclaredField}
 use Rattle.fb_layout.specs.Laid.{LaidSchema}
@@ -15,7 +16,8 @@ use Rattle.fb_text.specs.Writes.{counted}
 
 -- All of a value's text was written behind the bytes of the start, or a write failed behind the first
 -- bytes of it. A value that isn't whole is refused, with the place of its first union without a name.
-abbrev pub IsPrinted : {A : Type 0} → Place → Datum → List ℕ → Option (List ℕ) → Option (List ℕ) → Result A WriteFault → Type 0
+abbrev pub IsPrinted : {A : Type 0} → Place → Datum → List ℕ → Option (List ℕ) → Option (List ℕ) → Result A WriteFault
+    → Type 0
 IsPrinted root d text start known (Ok x) = (is_whole d ≡ true) × Appends start known text
 IsPrinted root d text start known (Err (WriteFailed n)) =
     (is_whole d ≡ true) × (m : ℕ) × (m < length text) × Appends start known (take m text) × (n ≡ counted m)

@@ -1,6 +1,7 @@
 -- What a printer finds where a value is read, and how much is in it.
 use Rattle.std.specs.Prelude.{ℕ, suc, ◌+◌, ◌<◌, ◌≡◌, Option, None, Some, option_map}
-use Rattle.fb_value.specs.Datum.{Datum, a_number, a_text, a_vector, a_struct, a_table, a_member, an_unknown, Parts, no_parts, more_parts, SlotEntries, no_entries, absent_entry, present_entry, count}
+use Rattle.fb_value.specs.Datum.{Datum, a_number, a_text, a_vector, a_struct, a_table, a_member, an_unknown, Parts}
+use Rattle.fb_value.specs.Datum.{no_parts, more_parts, SlotEntries, no_entries, absent_entry, present_entry, count}
 use Rattle.fb_value.specs.View.{view}
 use Rattle.fb_text.specs.declared.shown.Found.{Found}
 use Rattle.fb_text.specs.declared.shown.Found.TheVariants.{Absent, Number, Text, Vector, Struct, Table, Member, Unknown}

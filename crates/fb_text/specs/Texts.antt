@@ -1,6 +1,7 @@
 -- The JSON text of a value: strict JSON, two blanks an indent, one member or element a line.
 -- From the FlatBuffers documentation, "JSON parsing" (text output) and RFC 8259 (strings).
-use Rattle.std.specs.Prelude.{ℕ, zero, suc, ◌+◌, ◌/◌, ◌%◌, ◌==◌, ◌&&◌, ◌||◌, ℤ, pos, negsuc, List, [], ◌∷◌, ◌++◌, Bool, true, false, not, Option, codes, is_some, option_map, slice_get, if◌then◌else◌}
+use Rattle.std.specs.Prelude.{ℕ, zero, suc, ◌+◌, ◌/◌, ◌%◌, ◌==◌, ◌&&◌, ◌||◌, ℤ, pos, negsuc, List, [], ◌∷◌, ◌++◌, Bool}
+use Rattle.std.specs.Prelude.{true, false, not, Option, codes, is_some, option_map, slice_get, if◌then◌else◌}
 use Rattle.std.specs.Fmt.{signed_decimal}
 use Rattle.std.specs.Option.{option_map_or, unwrap_or}
 use Rattle.std.specs.Ordering.{int_eq}
@@ -10,10 +11,12 @@ use Rattle.fb_schema.specs.declared.kinds.Kind.{Kind}
 use Rattle.fb_schema.specs.declared.kinds.Kind.TheVariants.{Scalar, Enum, Struct, Table, Union}
 use Rattle.fb_schema.specs.declared.kinds.Shape.{Shape}
 use Rattle.fb_schema.specs.declared.kinds.Shape.TheVariants.{One, Many}
-use Rattle.fb_schema.specs.Schema.{Name, DeclaredField, DeclaredBody, DeclaredSchema, body_at, slots_in, parts_in, members_in}
+use Rattle.fb_schema.specs.Schema.{Name, DeclaredField, DeclaredBody, DeclaredSchema, body_at, slots_in, parts_in}
+use Rattle.fb_schema.specs.Schema.{members_in}
 use Rattle.fb_schema.specs.Found.{name_numbered}
 use Rattle.fb_layout.specs.Laid.{LaidSchema}
-use Rattle.fb_value.specs.Datum.{Datum, a_number, a_text, a_vector, a_struct, a_table, a_member, Parts, no_parts, more_parts, SlotEntries, absent_entry, present_entry}
+use Rattle.fb_value.specs.Datum.{Datum, a_number, a_text, a_vector, a_struct, a_table, a_member, Parts, no_parts}
+use Rattle.fb_value.specs.Datum.{more_parts, SlotEntries, absent_entry, present_entry}
 use Rattle.fb_json.specs.EnumTexts.{has_flags}
 
 -- ---- numbers
@@ -40,7 +43,8 @@ bit_text name bit m some = if is_odd m then (if some then codes " " else []) ++ 
 -- the names of so many bits in rising order that are still to be written
 unfoldable pub bits_text : (ℤ → Option Name) → ℕ → ℕ → ℕ → Bool → List ℕ
 bits_text name zero bit m some = []
-bits_text name (suc left) bit m some = bit_text name bit m some ++ bits_text name left (bit + bit) (m / 2) (some || is_odd m)
+bits_text name (suc left) bit m some =
+    bit_text name bit m some ++ bits_text name left (bit + bit) (m / 2) (some || is_odd m)
 
 -- the bits of a number; a negative one has none here
 abbrev pub bits_of : ℤ → ℕ
@@ -52,11 +56,13 @@ abbrev pub are_flags : DeclaredBody → ℕ → Bool
 are_flags body m = not (m == 0) && are_named (name_numbered body) 64 1 m
 
 abbrev pub flags_text : DeclaredBody → ℤ → List ℕ
-flags_text body n = if are_flags body (bits_of n) then in_quotes (bits_text (name_numbered body) 64 1 (bits_of n) false) else signed_decimal n
+flags_text body n = if are_flags body (bits_of n) then in_quotes (bits_text (name_numbered body) 64 1 (bits_of n) false)
+    else signed_decimal n
 
 -- An enum's number is its name, if it has one.
 abbrev pub enum_text : DeclaredBody → ℤ → List ℕ
-enum_text body n = if has_flags body then flags_text body n else option_map_or in_quotes (name_numbered body n) (signed_decimal n)
+enum_text body n = if has_flags body then flags_text body n else option_map_or in_quotes (name_numbered body n)
+    (signed_decimal n)
 
 abbrev pub number_text : DeclaredSchema → Kind → ℤ → List ℕ
 number_text S (Scalar Boolean) n = if int_eq n (pos 0) then codes "false" else codes "true"
@@ -95,7 +101,8 @@ member_name body (suc k) = unwrap_or (option_map (λ m. m.0) (slice_get (members
 
 -- a union's code, in front of its member: of a field `x` its member is called `x_type`
 abbrev pub code_text : DeclaredSchema → List ℕ → Bool → Name → Shape → Datum → List ℕ
-code_text S indent some name (One (Union u)) (a_member c d) = member_line indent some name (codes "_type") ++ in_quotes (member_name (body_at S u.0) c)
+code_text S indent some name (One (Union u)) (a_member c d) =
+    member_line indent some name (codes "_type") ++ in_quotes (member_name (body_at S u.0) c)
 code_text S indent some name _ _ = []
 
 abbrev pub has_code : Shape → Datum → Bool
@@ -105,7 +112,8 @@ has_code _ _ = false
 -- one member, if it is printed
 abbrev pub entry_text : DeclaredSchema → Bool → List ℕ → Bool → Name → Shape → Datum → List ℕ → List ℕ
 entry_text S false indent some name shape d value = []
-entry_text S true indent some name shape d value = code_text S indent some name shape d ++ (member_line indent (some || has_code shape d) name [] ++ value)
+entry_text S true indent some name shape d value =
+    code_text S indent some name shape d ++ (member_line indent (some || has_code shape d) name [] ++ value)
 
 -- ---- values
 
@@ -114,24 +122,30 @@ abbrev mutual
   pub value_text : LaidSchema → Bool → List ℕ → Shape → Datum → List ℕ
   value_text L defaults indent (One kind) (a_number n) = number_text L.schema kind n
   value_text L defaults indent shape (a_text bytes) = quoted bytes
-  value_text L defaults indent (Many kind) (a_vector ds) = codes "[" ++ items_text L defaults (inside indent) indent kind false ds
-  value_text L defaults indent (One (Struct s)) (a_struct ds) = codes "{" ++ parts_text L defaults (inside indent) indent false (parts_in (body_at L.schema s.0)) ds
-  value_text L defaults indent shape (a_table type es) = codes "{" ++ members_text L defaults (inside indent) indent false (slots_in (body_at L.schema type)) es
+  value_text L defaults indent (Many kind) (a_vector ds) =
+      codes "[" ++ items_text L defaults (inside indent) indent kind false ds
+  value_text L defaults indent (One (Struct s)) (a_struct ds) =
+      codes "{" ++ parts_text L defaults (inside indent) indent false (parts_in (body_at L.schema s.0)) ds
+  value_text L defaults indent shape (a_table type es) =
+      codes "{" ++ members_text L defaults (inside indent) indent false (slots_in (body_at L.schema type)) es
   value_text L defaults indent shape (a_member c d) = value_text L defaults indent shape d
   value_text L defaults indent _ _ = []
 
   pub items_text : LaidSchema → Bool → List ℕ → List ℕ → Kind → Bool → Parts → List ℕ
   items_text L defaults inner indent kind some no_parts = closing indent some ++ codes "]"
-  items_text L defaults inner indent kind some (more_parts d ds) = line inner some ++ (value_text L defaults inner (One kind) d ++ items_text L defaults inner indent kind true ds)
+  items_text L defaults inner indent kind some (more_parts d ds) =
+      line inner some ++ (value_text L defaults inner (One kind) d ++ items_text L defaults inner indent kind true ds)
 
   pub parts_text : LaidSchema → Bool → List ℕ → List ℕ → Bool → List DeclaredField → Parts → List ℕ
   parts_text L defaults inner indent some (f ∷ fs) (more_parts d ds) =
-      member_line inner some f.name [] ++ (value_text L defaults inner f.shape d ++ parts_text L defaults inner indent true fs ds)
+      member_line inner some f.name []
+          ++ (value_text L defaults inner f.shape d ++ parts_text L defaults inner indent true fs ds)
   parts_text L defaults inner indent some _ _ = closing indent some ++ codes "}"
 
   pub members_text : LaidSchema → Bool → List ℕ → List ℕ → Bool → List DeclaredField → SlotEntries → List ℕ
   members_text L defaults inner indent some (f ∷ fs) (present_entry d es) =
-      entry_text L.schema (is_printed defaults f d) inner some f.name f.shape d (value_text L defaults inner f.shape d) ++ members_text L defaults inner indent (some || is_printed defaults f d) fs es
+      entry_text L.schema (is_printed defaults f d) inner some f.name f.shape d (value_text L defaults inner f.shape d)
+          ++ members_text L defaults inner indent (some || is_printed defaults f d) fs es
   members_text L defaults inner indent some (f ∷ fs) (absent_entry es) = members_text L defaults inner indent some fs es
   members_text L defaults inner indent some _ _ = closing indent some ++ codes "}"
 

@@ -2,7 +2,8 @@
 -- From the FlatBuffers documentation, "Evolution": a reader may know fewer members of a union than a writer.
 use Rattle.std.specs.Prelude.{ℕ, zero, suc, min, ◌+◌, ◌≡◌, true, false, Option, None, Some}
 use Rattle.std.specs.Option.{option_or}
-use Rattle.fb_value.specs.Datum.{Datum, a_number, a_text, a_vector, a_struct, a_table, a_member, an_unknown, Parts, no_parts, more_parts, SlotEntries, no_entries, absent_entry, present_entry}
+use Rattle.fb_value.specs.Datum.{Datum, a_number, a_text, a_vector, a_struct, a_table, a_member, an_unknown, Parts}
+use Rattle.fb_value.specs.Datum.{no_parts, more_parts, SlotEntries, no_entries, absent_entry, present_entry}
 use Rattle.fb_value.specs.Counts.{is_whole}
 use Rattle.fb_value.specs.Nth.{nth_entry, nth_part}
 use Rattle.fb_read.specs.Tails.{entries_from, parts_from}
@@ -33,9 +34,11 @@ abbrev mutual
   pub first_in_entries : ℕ → ℕ → SlotEntries → Option Place
   first_in_entries type k no_entries = None
   first_in_entries type k (absent_entry es) = first_in_entries type (k + 1) es
-  first_in_entries type k (present_entry d es) = option_or (first_unnamed (entry_place type k) d) (first_in_entries type (k + 1) es)
+  first_in_entries type k (present_entry d es) =
+      option_or (first_unnamed (entry_place type k) d) (first_in_entries type (k + 1) es)
 
--- ---- what is in a value: the entries of a table, the elements of a vector, the fields of a struct, the table of a member
+-- ---- what is in a value: the entries of a table, the elements of a vector, the fields of a struct, the table of a
+-- member
 
 abbrev pub nth_child : Option Datum → ℕ → Option Datum
 nth_child (Some (a_vector ds)) i = nth_part ds i

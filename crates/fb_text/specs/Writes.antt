@@ -1,5 +1,6 @@
 -- What a piece of a text does to a page and to the writer below it.
-use Rattle.std.specs.Prelude.{ℕ, ◌≡◌, ◌++◌, ◌<◌, ◌-◌, ◌^◌, min, List, length, take, Bool, true, false, Option, Result, Ok, Err}
+use Rattle.std.specs.Prelude.{ℕ, ◌≡◌, ◌++◌, ◌<◌, ◌-◌, ◌^◌, min, List, length, take, Bool, true, false, Option, Result}
+use Rattle.std.specs.Prelude.{Ok, Err}
 use Rattle.std.specs.Io.KnownBytes.{Appends}
 use Rattle.fb_text.specs.declared.faults.WriteFault.{WriteFault}
 use Rattle.fb_text.specs.declared.faults.WriteFault.TheVariants.{NoMemberName, WriteFailed}
@@ -8,7 +9,8 @@ use Rattle.fb_text.specs.declared.pages.Page.{Page}
 use Rattle.fb_text.specs.Noted.{write_failed, writer_of}
 use Rattle.fb_text.specs.Pages.{pending, written_before}
 
--- the bytes that a writer has, if they are known, whether its last write failed, what waits on the page, and how many bytes of the text were written
+-- the bytes that a writer has, if they are known, whether its last write failed, what waits on the page, and how many
+-- bytes of the text were written
 pub record State : Type 0 where
   pub known : Option (List ℕ)
   pub failed : Bool
@@ -16,7 +18,9 @@ pub record State : Type 0 where
   pub written : ℕ
 
 abbrev pub state_of : {W : Type 0} → (W → Option (List ℕ)) → Page → Noted W → State
-state_of contents page out = record { known = contents (writer_of out); failed = write_failed out; waits = pending page; written = written_before page }
+state_of contents page out =
+    record { known = contents (writer_of out); failed = write_failed out; waits = pending page;
+    written = written_before page }
 
 -- a count of bytes, which stops at the greatest one
 abbrev pub counted : ℕ → ℕ
@@ -47,5 +51,6 @@ pub record Adds (old new : State) (piece : List ℕ) : Type 0 where
 -- All of a text was written behind the bytes of the start, or a write failed behind the first bytes of it.
 abbrev pub IsWritten : {A : Type 0} → Option (List ℕ) → Option (List ℕ) → List ℕ → Result A WriteFault → Type 0
 IsWritten start known text (Ok x) = Appends start known text
-IsWritten start known text (Err (WriteFailed n)) = (m : ℕ) × (m < length text) × Appends start known (take m text) × (n ≡ counted m)
+IsWritten start known text (Err (WriteFailed n)) = (m : ℕ) × (m < length text) × Appends start known (take m text)
+    × (n ≡ counted m)
 IsWritten start known text (Err (NoMemberName at)) = ⊥

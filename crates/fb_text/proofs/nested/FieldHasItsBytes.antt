@@ -1,5 +1,6 @@
 -- In a well-made layout each field of a struct has its bytes for itself, and one at least.
-use Rattle.std.proofs.Common.{◌≡◌, ℕ, zero, suc, ◌+◌, ◌<◌, ◌≤◌, ◌⊎◌, inl, inr, List, [], ◌∷◌, length, map, slice_get, slice_index, Option, Some, IsTrue, refl, sym, ap, subst, ◌∙◌, arith}
+use Rattle.std.proofs.Common.{◌≡◌, ℕ, zero, suc, ◌+◌, ◌<◌, ◌≤◌, ◌⊎◌, inl, inr, List, [], ◌∷◌, length, map, slice_get}
+use Rattle.std.proofs.Common.{slice_index, Option, Some, IsTrue, refl, sym, ap, subst, ◌∙◌, arith}
 use Rattle.std.specs.Option.{option_map}
 use Rattle.std.proofs.lemmas.List.{length-map}
 use Rattle.std.proofs.lemmas.Option.{slice_get-map}
@@ -7,7 +8,8 @@ use Rattle.fb_schema.specs.declared.kinds.TypeId.{TypeId}
 use Rattle.fb_schema.specs.declared.kinds.Shape.{Shape}
 use Rattle.fb_schema.specs.declared.kinds.Shape.TheVariants.{One}
 use Rattle.fb_schema.specs.declared.kinds.Kind.TheVariants.{Struct}
-use Rattle.fb_schema.specs.Schema.{DeclaredField, DeclaredBody, table_body, struct_body, enum_body, union_body, body_at, parts_in, is_struct}
+use Rattle.fb_schema.specs.Schema.{DeclaredField, DeclaredBody, table_body, struct_body, enum_body, union_body, body_at}
+use Rattle.fb_schema.specs.Schema.{parts_in, is_struct}
 use Rattle.fb_schema.specs.WellDeclared.{IsPart}
 use Rattle.fb_layout.specs.Laid.{LaidSchema, StoredKind, kind_in, stored_shape, parts_of, struct_at, size_of}
 use Rattle.fb_layout.specs.WellMade.{StandInOrder, IsWellMade}
@@ -17,7 +19,8 @@ use Rattle.fb_value.specs.Datum.{Parts}
 use Rattle.fb_text.specs.Nested.{HasByte, HasStruct}
 
 -- a field ends before the end, and before a later one begins
-field_behind : (L : LaidSchema) (p : ℕ) (kinds : List StoredKind) (os : List ℕ) (end k : ℕ) (kind : StoredKind) → StandInOrder L p kinds os end → slice_get kinds k ≡ Some kind
+field_behind : (L : LaidSchema) (p : ℕ) (kinds : List StoredKind) (os : List ℕ) (end k : ℕ) (kind : StoredKind)
+    → StandInOrder L p kinds os end → slice_get kinds k ≡ Some kind
     → (p ≤ slice_index os k) × (slice_index os k + size_of L kind ≤ end)
 field_behind L p [] os end k kind is at = cc
 field_behind L p (x ∷ kinds) [] end k kind is at = absurd is
@@ -30,12 +33,14 @@ field_behind L p (x ∷ kinds) (o ∷ os) end zero kind is at =
     ends L q [] [] e is = omega (arith, is)
     ends L q [] (o ∷ qs) e is = absurd is
     ends L q (x ∷ ks) [] e is = absurd is
-    ends L q (x ∷ ks) (o ∷ qs) e is = let rest = ends L (o + size_of L x) ks qs e is.1 in omega (arith, rest, is.0.above)
+    ends L q (x ∷ ks) (o ∷ qs) e is = let rest = ends L (o + size_of L x) ks qs e is.1 in
+        omega (arith, rest, is.0.above)
 field_behind L p (x ∷ kinds) (o ∷ os) end (suc k) kind is at =
     let rest = field_behind L (o + size_of L x) kinds os end k kind is.1 at in
     (omega (arith, rest.0, is.0.above), rest.1)
 
-field_before : (L : LaidSchema) (p : ℕ) (kinds : List StoredKind) (os : List ℕ) (end j k : ℕ) (a b : StoredKind) → StandInOrder L p kinds os end → j < k → slice_get kinds j ≡ Some a → slice_get kinds k ≡ Some b
+field_before : (L : LaidSchema) (p : ℕ) (kinds : List StoredKind) (os : List ℕ) (end j k : ℕ) (a b : StoredKind)
+    → StandInOrder L p kinds os end → j < k → slice_get kinds j ≡ Some a → slice_get kinds k ≡ Some b
     → slice_index os j + size_of L a ≤ slice_index os k
 field_before L p [] os end j k a b is less at behind = cc
 field_before L p (x ∷ kinds) [] end j k a b is less at behind = absurd is
@@ -43,7 +48,8 @@ field_before L p (x ∷ kinds) (o ∷ os) end j zero a b is less at behind = abs
 field_before L p (x ∷ kinds) (o ∷ os) end zero (suc k) a b is less at behind =
     let same : x ≡ a = cc in
     rw (← same) (field_behind L (o + size_of L x) kinds os end k b is.1 behind).0
-field_before L p (x ∷ kinds) (o ∷ os) end (suc j) (suc k) a b is less at behind = field_before L (o + size_of L x) kinds os end j k a b is.1 (omega (arith, less)) at behind
+field_before L p (x ∷ kinds) (o ∷ os) end (suc j) (suc k) a b is less at behind =
+    field_before L (o + size_of L x) kinds os end j k a b is.1 (omega (arith, less)) at behind
 
 struct_with : (b : DeclaredBody) (k : ℕ) (f : DeclaredField) → slice_get (parts_in b) k ≡ Some f → IsTrue (is_struct b)
 struct_with (struct_body fs align) k f e = refl
@@ -54,7 +60,8 @@ struct_with (union_body members) k f e = cc
 abbrev field_kind : LaidSchema → DeclaredField → StoredKind
 field_kind L f = kind_in (stored_shape L.schema f.shape)
 
-kind_there : (L : LaidSchema) (fs : List DeclaredField) (k : ℕ) (f : DeclaredField) → slice_get fs k ≡ Some f → slice_get (map (field_kind L) fs) k ≡ Some (field_kind L f)
+kind_there : (L : LaidSchema) (fs : List DeclaredField) (k : ℕ) (f : DeclaredField) → slice_get fs k ≡ Some f
+    → slice_get (map (field_kind L) fs) k ≡ Some (field_kind L f)
 kind_there L fs k f e = slice_get-map (field_kind L) fs k ∙ ap (option_map (field_kind L)) e
 
 field_there : (fs : List DeclaredField) (k : ℕ) → k < length fs → (f : DeclaredField) × (slice_get fs k ≡ Some f)
@@ -69,16 +76,19 @@ lower (suc i) (suc j) = elim (lower i j) [ inl h ↦ inl (omega (arith, h)) | in
 
 module _ (L : LaidSchema) (made : IsWellMade L) (t : TypeId) where
   -- where two fields stand
-  in_order : (j k : ℕ) (f g : DeclaredField) → j < k → slice_get (parts_in (body_at L.schema t.0)) j ≡ Some f → slice_get (parts_in (body_at L.schema t.0)) k ≡ Some g
+  in_order : (j k : ℕ) (f g : DeclaredField) → j < k → slice_get (parts_in (body_at L.schema t.0)) j ≡ Some f
+      → slice_get (parts_in (body_at L.schema t.0)) k ≡ Some g
       → slice_index (struct_at L t.0).offsets j + size_of L (field_kind L f) ≤ slice_index (struct_at L t.0).offsets k
   in_order j k f g less at behind =
       let fs = parts_in (body_at L.schema t.0) in
       let laid = made.sized.structs t.0 (struct_with (body_at L.schema t.0) j f at) in
-      field_before L 0 (parts_of L t.0) (struct_at L t.0).offsets laid.end j k _ _ laid.fields less (kind_there L fs j f at) (kind_there L fs k g behind)
+      field_before L 0 (parts_of L t.0) (struct_at L t.0).offsets laid.end j k _ _ laid.fields less
+          (kind_there L fs j f at) (kind_there L fs k g behind)
 
   -- a field that begins at a byte or before it isn't behind the field that has it, nor the other way round
-  pub begins_before : (m k : ℕ) (f : DeclaredField) (byte : ℕ) → m < length (parts_in (body_at L.schema t.0)) → slice_get (parts_in (body_at L.schema t.0)) k ≡ Some f
-      → HasByte L t k f byte → slice_index (struct_at L t.0).offsets m ≤ byte → m ≤ k
+  pub begins_before : (m k : ℕ) (f : DeclaredField) (byte : ℕ) → m < length (parts_in (body_at L.schema t.0))
+      → slice_get (parts_in (body_at L.schema t.0)) k ≡ Some f → HasByte L t k f byte
+      → slice_index (struct_at L t.0).offsets m ≤ byte → m ≤ k
   begins_before m k f byte within at has begins = elim (lower k m) [
     | inl less ↦ absurd (let other = field_there (parts_in (body_at L.schema t.0)) m within in
         let order = in_order k m f other.0 less at other.1 in
@@ -86,8 +96,9 @@ module _ (L : LaidSchema) (made : IsWellMade L) (t : TypeId) where
     | inr below ↦ below
   ]
 
-  pub begins_behind : (m k : ℕ) (f : DeclaredField) (byte : ℕ) → m < length (parts_in (body_at L.schema t.0)) → slice_get (parts_in (body_at L.schema t.0)) k ≡ Some f
-      → HasByte L t k f byte → byte < slice_index (struct_at L t.0).offsets m → k < m
+  pub begins_behind : (m k : ℕ) (f : DeclaredField) (byte : ℕ) → m < length (parts_in (body_at L.schema t.0))
+      → slice_get (parts_in (body_at L.schema t.0)) k ≡ Some f → HasByte L t k f byte
+      → byte < slice_index (struct_at L t.0).offsets m → k < m
   begins_behind m k f byte within at has begins = elim (lower k m) [
     | inl less ↦ less
     | inr below ↦ absurd (elim (lower m k) [
@@ -95,7 +106,8 @@ module _ (L : LaidSchema) (made : IsWellMade L) (t : TypeId) where
           let order = in_order m k other.0 f less other.1 at in
           omega (arith, order, has.0, begins))
       | inr above ↦ (let same : m ≡ k = omega (arith, below, above) in
-          let begin : slice_index (struct_at L t.0).offsets m ≡ slice_index (struct_at L t.0).offsets k = ap (slice_index (struct_at L t.0).offsets) same in
+          let begin : slice_index (struct_at L t.0).offsets m ≡ slice_index (struct_at L t.0).offsets k =
+              ap (slice_index (struct_at L t.0).offsets) same in
           omega (arith, begin, has.0, begins))
     ])
   ]
@@ -115,11 +127,14 @@ module _ (L : LaidSchema) (made : IsWellMade L) (t : TypeId) where
         let laid = made.sized.structs t.0 (struct_with (body_at L.schema t.0) k has.field has.there) in
         let kind = kind_there L (parts_in (body_at L.schema t.0)) k has.field has.there in
         let ends = field_behind L 0 (parts_of L t.0) (struct_at L t.0).offsets laid.end k _ laid.fields kind in
-        let size : size_of L (field_kind L has.field) ≡ (struct_at L u.0).size = ap (λ (shape : Shape). size_of L (kind_in (stored_shape L.schema shape))) has.shape in
+        let size : size_of L (field_kind L has.field) ≡ (struct_at L u.0).size =
+            ap (λ (shape : Shape). size_of L (kind_in (stored_shape L.schema shape))) has.shape in
         omega (arith, ends.1, size, laid.sized.above)
 
     -- it has each byte behind its begin that is below its size
-    pub has_byte : (more : ℕ) → more < (struct_at L u.0).size → HasByte L t k has.field (slice_index (struct_at L t.0).offsets k + more)
+    pub has_byte : (more : ℕ) → more < (struct_at L u.0).size
+        → HasByte L t k has.field (slice_index (struct_at L t.0).offsets k + more)
     has_byte more less =
-        let size : size_of L (field_kind L has.field) ≡ (struct_at L u.0).size = ap (λ (shape : Shape). size_of L (kind_in (stored_shape L.schema shape))) has.shape in
+        let size : size_of L (field_kind L has.field) ≡ (struct_at L u.0).size =
+            ap (λ (shape : Shape). size_of L (kind_in (stored_shape L.schema shape))) has.shape in
         (omega arith, omega (arith, less, size))

@@ -1,5 +1,6 @@
 -- The way from the outermost struct down to one that stands in it, and one step further or less.
-use Rattle.std.proofs.Common.{◌≡◌, ℕ, zero, suc, ◌+◌, ◌<◌, ◌≤◌, ◌++◌, List, [], drop, Bool, true, Some, slice_get, slice_index, refl, sym, ap, subst, ◌∙◌, append_assoc, append-nil, arith}
+use Rattle.std.proofs.Common.{◌≡◌, ℕ, zero, suc, ◌+◌, ◌<◌, ◌≤◌, ◌++◌, List, [], drop, Bool, true, Some, slice_get}
+use Rattle.std.proofs.Common.{slice_index, refl, sym, ap, subst, ◌∙◌, append_assoc, append-nil, arith}
 use Rattle.fb_schema.specs.declared.kinds.TypeId.{TypeId}
 use Rattle.fb_schema.specs.Schema.{body_at, parts_in}
 use Rattle.fb_layout.specs.Laid.{LaidSchema, struct_at}
@@ -18,12 +19,15 @@ module _ (L : LaidSchema) (defaults : Bool) where
   outermost_stands indent t ds = (refl, refl, refl, refl)
 
   -- one step further down
-  pub stands_deeper : (indent : List ℕ) (t : TypeId) (ds : Parts) (depth at : ℕ) (u : TypeId) (es : Parts) (behind : List ℕ) (k : ℕ) (s : TypeId) (inner : Parts)
-      → StandsIn L defaults indent t ds depth at u es behind → HasStruct L u es k s inner
-      → StandsIn L defaults indent t ds (suc depth) (at + slice_index (struct_at L u.0).offsets k) s inner (fields_text L defaults indent u es depth (suc k) true ++ behind)
+  pub stands_deeper : (indent : List ℕ) (t : TypeId) (ds : Parts) (depth at : ℕ) (u : TypeId) (es : Parts)
+      (behind : List ℕ) (k : ℕ) (s : TypeId) (inner : Parts) → StandsIn L defaults indent t ds depth at u es behind
+      → HasStruct L u es k s inner
+      → StandsIn L defaults indent t ds (suc depth) (at + slice_index (struct_at L u.0).offsets k) s inner
+      (fields_text L defaults indent u es depth (suc k) true ++ behind)
   stands_deeper indent t ds zero at u es behind k s inner stands has =
       let (begin, type, parts, none) = stands in
-      (k, s, inner, 0, [], rw (type, parts) has, (refl, refl, refl, refl), rw type (omega (arith, begin)), rw (type, parts, none) (append-nil (fields_text L defaults indent u es 0 (suc k) true)))
+      (k, s, inner, 0, [], rw (type, parts) has, (refl, refl, refl, refl), rw type (omega (arith, begin)),
+          rw (type, parts, none) (append-nil (fields_text L defaults indent u es 0 (suc k) true)))
   stands_deeper indent t ds (suc depth) at u es behind k s inner stands has =
       let (j, v, ms, more, text, child, rest, begin, whole) = stands in
       let tail = fields_text L defaults indent t ds 0 (suc j) true in
@@ -40,14 +44,17 @@ module _ (L : LaidSchema) (defaults : Bool) where
       )
 
   -- a level's text is the same from wherever it is told
-  level_text : (indent : List ℕ) (t : TypeId) (ds : Parts) (depth k : ℕ) → fields_text L defaults (further depth indent) t ds 0 k true ≡ fields_text L defaults indent t ds depth k true
+  level_text : (indent : List ℕ) (t : TypeId) (ds : Parts) (depth k : ℕ)
+      → fields_text L defaults (further depth indent) t ds 0 k true ≡ fields_text L defaults indent t ds depth k true
   level_text indent t ds depth k =
-      ap (λ (inner : List ℕ). parts_text L defaults inner (further depth indent) true (drop k (parts_in (body_at L.schema t.0))) (parts_from k ds)) (inside_further depth indent)
+      ap (λ (inner : List ℕ). parts_text L defaults inner (further depth indent) true
+          (drop k (parts_in (body_at L.schema t.0))) (parts_from k ds)) (inside_further depth indent)
 
   module _ (made : IsWellMade L) where
     -- it begins within the outermost
-    pub begins_within : (indent : List ℕ) (t : TypeId) (ds : Parts) (depth at : ℕ) (u : TypeId) (es : Parts) (behind : List ℕ)
-        → StandsIn L defaults indent t ds depth at u es behind → 1 ≤ (struct_at L t.0).size → at < (struct_at L t.0).size
+    pub begins_within : (indent : List ℕ) (t : TypeId) (ds : Parts) (depth at : ℕ) (u : TypeId) (es : Parts)
+        (behind : List ℕ) → StandsIn L defaults indent t ds depth at u es behind → 1 ≤ (struct_at L t.0).size
+        → at < (struct_at L t.0).size
     begins_within indent t ds zero at u es behind stands some = omega (arith, stands.0, some)
     begins_within indent t ds (suc depth) at u es behind stands some =
         let (j, v, ms, more, text, child, rest, begin, whole) = stands in
@@ -56,7 +63,8 @@ module _ (L : LaidSchema) (defaults : Bool) where
         omega (arith, below, ends, begin)
 
     -- so few bytes behind it that they fit 32 bits
-    pub few_bytes : (indent : List ℕ) (t : TypeId) (ds : Parts) (depth at : ℕ) (u : TypeId) (es : Parts) (behind : List ℕ) → StandsIn L defaults indent t ds (suc depth) at u es behind → at ≤ 65535
+    pub few_bytes : (indent : List ℕ) (t : TypeId) (ds : Parts) (depth at : ℕ) (u : TypeId) (es : Parts)
+        (behind : List ℕ) → StandsIn L defaults indent t ds (suc depth) at u es behind → at ≤ 65535
     few_bytes indent t ds depth at u es behind stands =
         let (j, v, ms, more, text, child, rest, begin, whole) = stands in
         let below = begins_within (inside indent) v ms depth more u es text rest (is_filled L made t ds j v ms child) in
@@ -65,7 +73,8 @@ module _ (L : LaidSchema) (defaults : Bool) where
         omega (arith, below, ends, begin, small)
 
 -- A struct on the way to one that stands so many structs below it.
-pub record OnTheWay (L : LaidSchema) (defaults : Bool) (indent : List ℕ) (t : TypeId) (ds : Parts) (P : Parts → Type 0) (depth at : ℕ) (v : TypeId) (left byte : ℕ) (u : TypeId) (es : Parts) (behind : List ℕ) : Type 0 where
+pub record OnTheWay (L : LaidSchema) (defaults : Bool) (indent : List ℕ) (t : TypeId) (ds : Parts) (P : Parts → Type 0)
+    (depth at : ℕ) (v : TypeId) (left byte : ℕ) (u : TypeId) (es : Parts) (behind : List ℕ) : Type 0 where
   pub parts : Parts
   pub more : ℕ
   pub text : List ℕ
@@ -76,8 +85,11 @@ pub record OnTheWay (L : LaidSchema) (defaults : Bool) (indent : List ℕ) (t : 
   pub begin : byte ≡ at + more
   pub whole : behind ≡ text ++ rest
 
-module _ (L : LaidSchema) (defaults : Bool) (indent : List ℕ) (t : TypeId) (ds : Parts) (byte : ℕ) (u : TypeId) (es : Parts) (behind : List ℕ) where
-  pub way_begins : (P : Parts → Type 0) (at left : ℕ) → P ds → at ≡ 0 → StandsIn L defaults indent t ds left byte u es behind → OnTheWay L defaults indent t ds P 0 at t left byte u es behind
+module _ (L : LaidSchema) (defaults : Bool) (indent : List ℕ) (t : TypeId) (ds : Parts) (byte : ℕ) (u : TypeId)
+    (es : Parts) (behind : List ℕ) where
+  pub way_begins : (P : Parts → Type 0) (at left : ℕ) → P ds → at ≡ 0
+      → StandsIn L defaults indent t ds left byte u es behind
+      → OnTheWay L defaults indent t ds P 0 at t left byte u es behind
   way_begins P at left shown first stands = record {
     parts = ds;
     more = byte;
@@ -91,13 +103,16 @@ module _ (L : LaidSchema) (defaults : Bool) (indent : List ℕ) (t : TypeId) (ds
   }
 
   -- one step on, to the struct in the field that has the byte
-  pub way_goes_on : (made : IsWellMade L) (P Q : Parts → Type 0) (depth at : ℕ) (v : TypeId) (left next : ℕ) (s : TypeId) (w : OnTheWay L defaults indent t ds P depth at v (suc left) byte u es behind)
-      → ((k : ℕ) (x : TypeId) (inner : Parts) (more : ℕ) → HasStruct L v w.parts k x inner → more < (struct_at L x.0).size → byte ≡ at + (slice_index (struct_at L v.0).offsets k + more)
+  pub way_goes_on : (made : IsWellMade L) (P Q : Parts → Type 0) (depth at : ℕ) (v : TypeId) (left next : ℕ)
+      (s : TypeId) (w : OnTheWay L defaults indent t ds P depth at v (suc left) byte u es behind)
+      → ((k : ℕ) (x : TypeId) (inner : Parts) (more : ℕ) → HasStruct L v w.parts k x inner
+      → more < (struct_at L x.0).size → byte ≡ at + (slice_index (struct_at L v.0).offsets k + more)
       → (s ≡ x) × Q inner × (next ≡ at + slice_index (struct_at L v.0).offsets k))
       → OnTheWay L defaults indent t ds Q (suc depth) next s left byte u es behind
   way_goes_on made P Q depth at v left next s w known =
       let (k, x, inner, more, text, child, rest, begin, whole) = w.below in
-      let less = begins_within L defaults made _ x inner left more u es text rest (is_filled L made v w.parts k x inner child) in
+      let less = begins_within L defaults made _ x inner left more u es text rest
+          (is_filled L made v w.parts k x inner child) in
       let (type, shown, place) = known k x inner more child less (omega (arith, w.begin, begin)) in
       let deeper = stands_deeper L defaults indent t ds depth at v w.parts w.rest k x inner w.above child in
       let own = fields_text L defaults indent v w.parts depth (suc k) true in
@@ -108,20 +123,28 @@ module _ (L : LaidSchema) (defaults : Bool) (indent : List ℕ) (t : TypeId) (ds
         rest = own ++ w.rest;
         shown = shown;
         above = rw (type, place) deeper;
-        below = rw type (subst (λ (i : List ℕ). StandsIn L defaults i x inner left more u es text) (inside_further depth indent) rest);
+        below = rw type (subst (λ (i : List ℕ). StandsIn L defaults i x inner left more u es text)
+            (inside_further depth indent) rest);
         begin = omega (arith, w.begin, begin, place);
-        whole = w.whole ∙ (ap (λ (l : List ℕ). l ++ w.rest) (whole ∙ ap (λ (l : List ℕ). text ++ l) (level_text L defaults indent v w.parts depth (suc k))) ∙ append_assoc text own w.rest);
+        whole = w.whole ∙ (ap (λ (l : List ℕ). l ++ w.rest)
+            (whole ∙ ap (λ (l : List ℕ). text ++ l) (level_text L defaults indent v w.parts depth (suc k)))
+            ∙ append_assoc text own w.rest);
       }
 
   -- where one step is left, the struct is the parent
-  pub way_ends : (made : IsWellMade L) (P : Parts → Type 0) (depth at : ℕ) (v : TypeId) (w : OnTheWay L defaults indent t ds P depth at v 1 byte u es behind)
-      → (k : ℕ) × HasStruct L v w.parts k u es × (byte ≡ at + slice_index (struct_at L v.0).offsets k) × (behind ≡ fields_text L defaults indent v w.parts depth (suc k) true ++ w.rest)
+  pub way_ends : (made : IsWellMade L) (P : Parts → Type 0) (depth at : ℕ) (v : TypeId)
+      (w : OnTheWay L defaults indent t ds P depth at v 1 byte u es behind)
+      → (k : ℕ) × HasStruct L v w.parts k u es × (byte ≡ at + slice_index (struct_at L v.0).offsets k)
+      × (behind ≡ fields_text L defaults indent v w.parts depth (suc k) true ++ w.rest)
   way_ends made P depth at v w =
       let (k, x, inner, more, text, child, rest, begin, whole) = w.below in
       let (none, type, parts, empty) = rest in
       let own = fields_text L defaults indent v w.parts depth (suc k) true in (
         k,
-        subst (λ (y : TypeId). HasStruct L v w.parts k y es) type (subst (λ (ms : Parts). HasStruct L v w.parts k x ms) parts child),
+        subst (λ (y : TypeId). HasStruct L v w.parts k y es) type
+            (subst (λ (ms : Parts). HasStruct L v w.parts k x ms) parts child),
         omega (arith, w.begin, begin, none),
-        w.whole ∙ ap (λ (l : List ℕ). l ++ w.rest) (whole ∙ (ap (λ (l : List ℕ). l ++ fields_text L defaults (further depth indent) v w.parts 0 (suc k) true) empty ∙ level_text L defaults indent v w.parts depth (suc k))),
+        w.whole ∙ ap (λ (l : List ℕ). l ++ w.rest)
+            (whole ∙ (ap (λ (l : List ℕ). l ++ fields_text L defaults (further depth indent) v w.parts 0 (suc k) true)
+            empty ∙ level_text L defaults indent v w.parts depth (suc k))),
       )

@@ -15,7 +15,8 @@ none_named name (suc left) bit = none_named name left (bit + bit)
 none_written : (name : ℤ → Option Name) (left bit : ℕ) (some : Bool) → bits_text name left bit 0 some ≡ []
 unfolding bits_text
 none_written name zero bit some = refl
-none_written name (suc left) bit some = ap (bits_text name left (bit + bit) 0) (or_false some) ∙ none_written name left (bit + bit) some
+none_written name (suc left) bit some = ap (bits_text name left (bit + bit) 0) (or_false some)
+    ∙ none_written name left (bit + bit) some
 
 module _ (name : ℤ → Option Name) (left bit m : ℕ) (some : Bool) where
   pub no_places : left ≡ 0 → bits_text name left bit m some ≡ []

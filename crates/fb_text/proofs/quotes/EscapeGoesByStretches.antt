@@ -1,5 +1,7 @@
 -- A text escaped: a stretch as it is, the escape of the byte behind it, and the rest escaped.
-use Rattle.std.proofs.Common.{◌≡◌, ℕ, zero, suc, ◌+◌, ◌<◌, ◌≤◌, Bool, true, false, ◌&&◌, ◌==◌, not, nat_le, nat_lt, List, [], ◌∷◌, ◌++◌, length, get_or, take, drop, append-nil, subst, refl, ap, sym, ◌∙◌, arith, ne_eqb}
+use Rattle.std.proofs.Common.{◌≡◌, ℕ, zero, suc, ◌+◌, ◌<◌, ◌≤◌, Bool, true, false, ◌&&◌, ◌==◌, not, nat_le, nat_lt}
+use Rattle.std.proofs.Common.{List, [], ◌∷◌, ◌++◌, length, get_or, take, drop, append-nil, subst, refl, ap, sym, ◌∙◌}
+use Rattle.std.proofs.Common.{arith, ne_eqb}
 use Rattle.std.specs.List.{prefix_len}
 use Rattle.std.proofs.lemmas.Bool.{and_parts}
 use Rattle.std.proofs.lemmas.Bool.Decides.{nat_tests}
@@ -16,15 +18,19 @@ plain_byte c plain =
     let quote : (c == 34) ≡ false = grind (arith, nat_tests, two.1) in
     let slash : (c == 92) ≡ false = grind (arith, nat_tests, most.1) in
     let low : nat_lt c 32 ≡ false = grind (arith, nat_tests, high) in
-    rw (quote, slash, ne_eqb c 8 (λ e. omega arith), ne_eqb c 12 (λ e. omega arith), ne_eqb c 10 (λ e. omega arith), ne_eqb c 13 (λ e. omega arith), ne_eqb c 9 (λ e. omega arith), low) refl
+    rw (quote, slash, ne_eqb c 8 (λ e. omega arith), ne_eqb c 12 (λ e. omega arith), ne_eqb c 10 (λ e. omega arith),
+        ne_eqb c 13 (λ e. omega arith), ne_eqb c 9 (λ e. omega arith), low) refl
 
 -- what follows the stretch that stands as it is
-pub run_escaped : (bs : List ℕ) → escape bs ≡ take (prefix_len is_plain bs) bs ++ escape (drop (prefix_len is_plain bs) bs)
+pub run_escaped : (bs : List ℕ)
+    → escape bs ≡ take (prefix_len is_plain bs) bs ++ escape (drop (prefix_len is_plain bs) bs)
 run_escaped [] = refl
 run_escaped (c ∷ cs) = by (is_plain c) refl (run_escaped cs)
   where
-    by : (b : Bool) → is_plain c ≡ b → escape cs ≡ take (prefix_len is_plain cs) cs ++ escape (drop (prefix_len is_plain cs) cs)
-        → escape (c ∷ cs) ≡ take (prefix_len is_plain (c ∷ cs)) (c ∷ cs) ++ escape (drop (prefix_len is_plain (c ∷ cs)) (c ∷ cs))
+    by : (b : Bool) → is_plain c ≡ b
+        → escape cs ≡ take (prefix_len is_plain cs) cs ++ escape (drop (prefix_len is_plain cs) cs)
+        → escape (c ∷ cs) ≡ take (prefix_len is_plain (c ∷ cs)) (c ∷ cs)
+        ++ escape (drop (prefix_len is_plain (c ∷ cs)) (c ∷ cs))
     by true is rest =
         let next : 1 + prefix_len is_plain cs ≡ suc (prefix_len is_plain cs) = omega arith in
         rw (is, next, plain_byte c is) (ap (λ l. c ∷ l) rest)
@@ -45,11 +51,13 @@ module _ (bs : List ℕ) (run : ℕ) (is : run ≡ prefix_len is_plain bs) where
   pub stops : (b : ℕ) (rest : List ℕ) → drop run bs ≡ b ∷ rest → is_plain b ≡ false
   stops b rest e =
       let here = at_drop bs run b rest e in
-      let stopped : is_plain (get_or bs run b) ≡ false = rw is (prefix_len_stops is_plain bs b (omega (arith, here.0, is))) in
+      let stopped : is_plain (get_or bs run b) ≡ false =
+          rw is (prefix_len_stops is_plain bs b (omega (arith, here.0, is))) in
       rw here.1 at stopped
 
   -- the stretch, the byte's escape, and the rest escaped
-  pub step : (b : ℕ) (rest : List ℕ) → drop run bs ≡ b ∷ rest → take run bs ++ (escape_byte b ++ escape rest) ≡ escape bs
+  pub step : (b : ℕ) (rest : List ℕ) → drop run bs ≡ b ∷ rest
+      → take run bs ++ (escape_byte b ++ escape rest) ≡ escape bs
   unfolding whole
   step b rest e = sym (whole ∙ ap (λ l. take run bs ++ escape l) e)
 

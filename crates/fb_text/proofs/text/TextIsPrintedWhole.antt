@@ -1,5 +1,6 @@
 -- What stands at the start and at the end of a text.
-use Rattle.std.proofs.Common.{◌≡◌, ℕ, ◌<◌, ◌∷◌, [], List, length, Option, Some, Bool, true, false, Result, Ok, Err, refl, sym, subst, length-append, arith}
+use Rattle.std.proofs.Common.{◌≡◌, ℕ, ◌<◌, ◌∷◌, [], List, length, Option, Some, Bool, true, false, Result, Ok, Err}
+use Rattle.std.proofs.Common.{refl, sym, subst, length-append, arith}
 use Rattle.std.specs.Prelude.{is_err}
 use Rattle.std.proofs.KnownBytes.{Appends-nil}
 use Rattle.fb_layout.specs.Laid.{LaidSchema}
@@ -25,14 +26,18 @@ nothing_stands s fine empty none = record {
 
 -- a value's text has its line feed
 pub some_text : (L : LaidSchema) (defaults : Bool) (d : Datum) → 0 < length (json_text L defaults d)
-some_text L defaults d = rw (length-append (value_text L defaults [] (One (Table (record { 0 = L.schema.root }))) d) (10 ∷ [])) (omega arith)
+some_text L defaults d =
+    rw (length-append (value_text L defaults [] (One (Table (record { 0 = L.schema.root }))) d) (10 ∷ [])) (omega arith)
 
-pub whole_printed : {A : Type 0} (root : Place) (d : Datum) (text : List ℕ) (start known : Option (List ℕ)) (r : Result A WriteFault) → is_whole d ≡ true → IsWritten start known text r → IsPrinted root d text start known r
+pub whole_printed : {A : Type 0} (root : Place) (d : Datum) (text : List ℕ) (start known : Option (List ℕ))
+    (r : Result A WriteFault) → is_whole d ≡ true → IsWritten start known text r → IsPrinted root d text start known r
 whole_printed root d text start known (Ok x) whole written = (whole, written)
-whole_printed root d text start known (Err (WriteFailed n)) whole written = (whole, written.0, written.1, written.2, written.3)
+whole_printed root d text start known (Err (WriteFailed n)) whole written =
+    (whole, written.0, written.1, written.2, written.3)
 whole_printed root d text start known (Err (NoMemberName at)) whole written = absurd written
 
 -- what a writer has got that had nothing
-pub written_items : (r : Result (Unit {0}) WriteFault) (old new text : List ℕ) → is_err r ≡ false → old ≡ [] → IsWritten (Some old) (Some new) text r → new ≡ text
+pub written_items : (r : Result (Unit {0}) WriteFault) (old new text : List ℕ) → is_err r ≡ false → old ≡ []
+    → IsWritten (Some old) (Some new) text r → new ≡ text
 written_items (Ok x) old new text fine none got = rw none at got
 written_items (Err f) old new text fine none got = cc

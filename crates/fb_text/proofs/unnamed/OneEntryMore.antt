@@ -1,9 +1,12 @@
 -- The first union without a name, one entry after another.
-use Rattle.std.proofs.Common.{◌≡◌, ℕ, zero, suc, ◌+◌, ◌≤◌, List, [], ◌∷◌, slice_get, ℤ, Bool, true, false, Option, None, Some, refl, sym, ap, ◌∙◌, add-one, arith}
+use Rattle.std.proofs.Common.{◌≡◌, ℕ, zero, suc, ◌+◌, ◌≤◌, List, [], ◌∷◌, slice_get, ℤ, Bool, true, false, Option, None}
+use Rattle.std.proofs.Common.{Some, refl, sym, ap, ◌∙◌, add-one, arith}
 use Rattle.std.specs.Prelude.{min}
 use Rattle.std.specs.Option.{option_or, is_some}
-use Rattle.fb_layout.specs.Laid.{LaidSchema, StoredKind, scalar_kind, struct_kind, table_kind, text_kind, union_kind, code_kind, Slot, parts_of, struct_at, size_of}
-use Rattle.fb_value.specs.Datum.{Datum, a_number, a_text, a_vector, a_struct, a_table, a_member, an_unknown, Parts, no_parts, more_parts, SlotEntries, no_entries, absent_entry, present_entry, count}
+use Rattle.fb_layout.specs.Laid.{LaidSchema, StoredKind, scalar_kind, struct_kind, table_kind, text_kind, union_kind}
+use Rattle.fb_layout.specs.Laid.{code_kind, Slot, parts_of, struct_at, size_of}
+use Rattle.fb_value.specs.Datum.{Datum, a_number, a_text, a_vector, a_struct, a_table, a_member, an_unknown, Parts}
+use Rattle.fb_value.specs.Datum.{no_parts, more_parts, SlotEntries, no_entries, absent_entry, present_entry, count}
 use Rattle.fb_value.specs.Num.{Bytes, num}
 use Rattle.fb_value.specs.Places.{Place as Spot, text_part, part_place, target_of}
 use Rattle.fb_value.specs.Lies.{LiesInline, LiesParts, Element, Lies, LiesItems, LiesSlots}
@@ -19,13 +22,17 @@ use Rattle.fb_schema.specs.Schema.{DeclaredSchema}
 use Rattle.fb_layout.specs.Laid.{stored_kind}
 use Rattle.fb_read.specs.declared.view.View.{View}
 use Rattle.fb_read.specs.Shows.{Shows}
-use Rattle.fb_text.specs.Unnamed.{entry_place, first_unnamed, first_in_parts, first_in_entries, nth_child, child_place, unnamed_from}
+use Rattle.fb_text.specs.Unnamed.{entry_place, first_unnamed, first_in_parts, first_in_entries, nth_child, child_place}
+use Rattle.fb_text.specs.Unnamed.{unnamed_from}
 use Rattle.fb_text.specs.declared.shown.Found.{Found}
-use Rattle.fb_text.specs.declared.shown.Found.TheVariants.{Absent, Number, Text as TextFound, Vector, Struct as StructFound, Table as TableFound, Member, Unknown}
+use Rattle.fb_text.specs.declared.shown.Found.TheVariants.{Absent, Number, Text as TextFound, Vector}
+use Rattle.fb_text.specs.declared.shown.Found.TheVariants.{Struct as StructFound, Table as TableFound, Member, Unknown}
 use Rattle.fb_text.specs.Shown.{IsTop}
 
 -- the entry of slot k, and those behind it
-pub entries_step : (t j k : ℕ) (es : SlotEntries) → first_in_entries t j (entries_from k es) ≡ option_or (first_in_entry (entry_place t j) (nth_entry es k)) (first_in_entries t (j + 1) (entries_from (suc k) es))
+pub entries_step : (t j k : ℕ) (es : SlotEntries)
+    → first_in_entries t j (entries_from k es) ≡ option_or (first_in_entry (entry_place t j) (nth_entry es k))
+    (first_in_entries t (j + 1) (entries_from (suc k) es))
 entries_step t j zero no_entries = refl
 entries_step t j zero (absent_entry es) = refl
 entries_step t j zero (present_entry d es) = refl
@@ -38,15 +45,21 @@ number_named at o None e = rw e refl
 number_named at o (Some n) e = rw e refl
 
 -- where all behind have their defaults alone
-pub entries_end : (L : LaidSchema) (b : Bytes) (t j k : ℕ) (fs : List Slot) (xs : List (Option Spot)) (es : SlotEntries) → LiesSlots L b fs xs es
-    → ((i : ℕ) (s : Slot) → k ≤ i → slice_get fs i ≡ Some s → nth_entry es i ≡ number_entry s.if_absent) → None ≡ first_in_entries t j (entries_from k es)
+pub entries_end : (L : LaidSchema) (b : Bytes) (t j k : ℕ) (fs : List Slot) (xs : List (Option Spot)) (es : SlotEntries)
+    → LiesSlots L b fs xs es
+    → ((i : ℕ) (s : Slot) → k ≤ i → slice_get fs i ≡ Some s → nth_entry es i ≡ number_entry s.if_absent)
+    → None ≡ first_in_entries t j (entries_from k es)
 entries_end L b t j zero [] [] no_entries lies unset = refl
 entries_end L b t j (suc k) [] [] no_entries lies unset = refl
-entries_end L b t j zero (f ∷ fs) (x ∷ xs) (absent_entry es) lies unset = entries_end L b t (j + 1) zero fs xs es lies.1 (λ i s past there. unset (suc i) s (omega arith) there)
+entries_end L b t j zero (f ∷ fs) (x ∷ xs) (absent_entry es) lies unset =
+    entries_end L b t (j + 1) zero fs xs es lies.1 (λ i s past there. unset (suc i) s (omega arith) there)
 entries_end L b t j zero (f ∷ fs) (x ∷ xs) (present_entry d es) lies unset =
-    rw (← number_named (entry_place t j) (Some d) f.if_absent (unset 0 f (omega arith) refl)) (entries_end L b t (j + 1) zero fs xs es lies.1 (λ i s past there. unset (suc i) s (omega arith) there))
-entries_end L b t j (suc k) (f ∷ fs) (x ∷ xs) (absent_entry es) lies unset = entries_end L b t j k fs xs es lies.1 (λ i s past there. unset (suc i) s (omega (arith, past)) there)
-entries_end L b t j (suc k) (f ∷ fs) (x ∷ xs) (present_entry d es) lies unset = entries_end L b t j k fs xs es lies.1 (λ i s past there. unset (suc i) s (omega (arith, past)) there)
+    rw (← number_named (entry_place t j) (Some d) f.if_absent (unset 0 f (omega arith) refl))
+        (entries_end L b t (j + 1) zero fs xs es lies.1 (λ i s past there. unset (suc i) s (omega arith) there))
+entries_end L b t j (suc k) (f ∷ fs) (x ∷ xs) (absent_entry es) lies unset =
+    entries_end L b t j k fs xs es lies.1 (λ i s past there. unset (suc i) s (omega (arith, past)) there)
+entries_end L b t j (suc k) (f ∷ fs) (x ∷ xs) (present_entry d es) lies unset =
+    entries_end L b t j k fs xs es lies.1 (λ i s past there. unset (suc i) s (omega (arith, past)) there)
 entries_end L b t j k _ _ _ lies unset = absurd lies
 
 pub parts_end : (at : Place) (i : ℕ) (ds : Parts) → count ds ≤ i → None ≡ first_in_parts at (parts_from i ds)
@@ -55,7 +68,9 @@ parts_end at (suc i) no_parts past = refl
 parts_end at zero (more_parts d ds) past = absurd (omega arith)
 parts_end at (suc i) (more_parts d ds) past = parts_end at i ds (omega arith)
 
-child_here : (at : Place) (i : ℕ) (ds : Parts) → first_in_parts at (parts_from i ds) ≡ option_or (first_in_entry at (nth_part ds i)) (first_in_parts at (parts_from (suc i) ds))
+child_here : (at : Place) (i : ℕ) (ds : Parts)
+    → first_in_parts at (parts_from i ds)
+    ≡ option_or (first_in_entry at (nth_part ds i)) (first_in_parts at (parts_from (suc i) ds))
 child_here at zero no_parts = refl
 child_here at (suc i) no_parts = refl
 child_here at zero (more_parts d ds) = refl
@@ -66,16 +81,22 @@ or_nothing None = refl
 or_nothing (Some p) = refl
 
 -- child i, and those behind it
-pub children_step : (at : Place) (o : Option Datum) (i : ℕ) → unnamed_from at o i ≡ option_or (first_in_entry (child_place at o i) (nth_child o i)) (unnamed_from at o (i + 1))
+pub children_step : (at : Place) (o : Option Datum) (i : ℕ)
+    → unnamed_from at o i ≡ option_or (first_in_entry (child_place at o i) (nth_child o i)) (unnamed_from at o (i + 1))
 children_step at o i = rw add-one (step o i)
   where
-    step : (p : Option Datum) (k : ℕ) → unnamed_from at p k ≡ option_or (first_in_entry (child_place at p k) (nth_child p k)) (unnamed_from at p (suc k))
+    step : (p : Option Datum) (k : ℕ)
+        → unnamed_from at p k ≡ option_or (first_in_entry (child_place at p k) (nth_child p k))
+        (unnamed_from at p (suc k))
     step None k = refl
     step (Some (a_number n)) k = refl
     step (Some (a_text bytes)) k = refl
     step (Some (a_vector ds)) k = child_here at k ds
     step (Some (a_struct ds)) k = child_here at k ds
-    step (Some (a_table t es)) k = entries_step t k k es ∙ ap (λ (j : ℕ). option_or (first_in_entry (entry_place t k) (nth_entry es k)) (first_in_entries t j (entries_from (suc k) es))) (let next : k + 1 ≡ suc k = omega arith in next)
+    step (Some (a_table t es)) k =
+        entries_step t k k es
+        ∙ ap (λ (j : ℕ). option_or (first_in_entry (entry_place t k) (nth_entry es k))
+        (first_in_entries t j (entries_from (suc k) es))) (let next : k + 1 ≡ suc k = omega arith in next)
     step (Some (a_member c d)) zero = or_nothing (first_unnamed at d)
     step (Some (a_member c d)) (suc k) = refl
     step (Some (an_unknown c)) k = refl
@@ -91,7 +112,8 @@ found_unknown (Member c) code top = let same = top.1 in cc
 found_unknown Unknown code top = refl
 
 -- what is no such union itself has the first of its children's
-pub from_first : (at : Place) (found : Found) (o : Option Datum) → IsTop found o → (found ≡ Unknown → ⊥) → unnamed_from at o 0 ≡ first_in_entry at o
+pub from_first : (at : Place) (found : Found) (o : Option Datum) → IsTop found o → (found ≡ Unknown → ⊥)
+    → unnamed_from at o 0 ≡ first_in_entry at o
 from_first at found None top not = refl
 from_first at found (Some (a_number n)) top not = refl
 from_first at found (Some (a_text bytes)) top not = refl
@@ -112,17 +134,22 @@ found_later (Some p) two found e none = cc
 
 mutual
   -- Numbers and structs have no unions.
-  pub inline_named : (L : LaidSchema) (b : Bytes) (kind : StoredKind) (p : ℕ) (at : Place) (d : Datum) → LiesInline L b kind p d → None ≡ first_unnamed at d
+  pub inline_named : (L : LaidSchema) (b : Bytes) (kind : StoredKind) (p : ℕ) (at : Place) (d : Datum)
+      → LiesInline L b kind p d → None ≡ first_unnamed at d
   inline_named L b (scalar_kind base) p at (a_number n) lies = refl
-  inline_named L b (struct_kind s) p at (a_struct ds) lies = fields_named L b (parts_of L s) (struct_at L s).offsets p at ds lies
+  inline_named L b (struct_kind s) p at (a_struct ds) lies =
+      fields_named L b (parts_of L s) (struct_at L s).offsets p at ds lies
   inline_named L b _ p at _ lies = absurd lies
 
-  pub fields_named : (L : LaidSchema) (b : Bytes) (ks : List StoredKind) (os : List ℕ) (p : ℕ) (at : Place) (ds : Parts) → LiesParts L b ks os p ds → None ≡ first_in_parts at ds
+  pub fields_named : (L : LaidSchema) (b : Bytes) (ks : List StoredKind) (os : List ℕ) (p : ℕ) (at : Place) (ds : Parts)
+      → LiesParts L b ks os p ds → None ≡ first_in_parts at ds
   fields_named L b [] os p at no_parts lies = refl
-  fields_named L b (k ∷ ks) (o ∷ os) p at (more_parts d ds) lies = rw (← inline_named L b k (p + o) at d lies.0) (fields_named L b ks os p at ds lies.1)
+  fields_named L b (k ∷ ks) (o ∷ os) p at (more_parts d ds) lies =
+      rw (← inline_named L b k (p + o) at d lies.0) (fields_named L b ks os p at ds lies.1)
   fields_named L b _ _ p at _ lies = absurd lies
 
-text_named : (L : LaidSchema) (b : Bytes) (p : ℕ) (at : Place) (d : Datum) → Lies L b (part_place text_part) p d → None ≡ first_unnamed at d
+text_named : (L : LaidSchema) (b : Bytes) (p : ℕ) (at : Place) (d : Datum) → Lies L b (part_place text_part) p d
+    → None ≡ first_unnamed at d
 text_named L b p at (a_text bytes) lies = refl
 text_named L b p at _ lies = absurd lies
 
@@ -130,7 +157,9 @@ abbrev pub is_table : StoredKind → Bool
 is_table (table_kind t) = true
 is_table _ = false
 
-element_named : (L : LaidSchema) (b : Bytes) (kind : StoredKind) (p : ℕ) (at : Place) (d : Datum) → is_table kind ≡ false → Element L b kind p (target_of kind) d (λ sort q. Lies L b sort q d) → None ≡ first_unnamed at d
+element_named : (L : LaidSchema) (b : Bytes) (kind : StoredKind) (p : ℕ) (at : Place) (d : Datum)
+    → is_table kind ≡ false → Element L b kind p (target_of kind) d (λ sort q. Lies L b sort q d)
+    → None ≡ first_unnamed at d
 element_named L b (scalar_kind base) p at d plain lies = inline_named L b (scalar_kind base) p at d lies
 element_named L b (struct_kind s) p at d plain lies = inline_named L b (struct_kind s) p at d lies
 element_named L b (union_kind u) p at d plain lies = inline_named L b (union_kind u) p at d lies
@@ -139,11 +168,14 @@ element_named L b text_kind p at d plain lies = text_named L b (p + num b p 4) a
 element_named L b (table_kind t) p at d plain lies = cc
 
 -- nor have vectors of anything but tables
-pub items_named : (L : LaidSchema) (b : Bytes) (kind : StoredKind) (p : ℕ) (at : Place) (ds : Parts) → is_table kind ≡ false → LiesItems L b kind p ds → None ≡ first_in_parts at ds
+pub items_named : (L : LaidSchema) (b : Bytes) (kind : StoredKind) (p : ℕ) (at : Place) (ds : Parts)
+    → is_table kind ≡ false → LiesItems L b kind p ds → None ≡ first_in_parts at ds
 items_named L b kind p at no_parts plain lies = refl
-items_named L b kind p at (more_parts d ds) plain lies = rw (← element_named L b kind p at d plain lies.0) (items_named L b kind (p + size_of L kind) at ds plain lies.1)
+items_named L b kind p at (more_parts d ds) plain lies =
+    rw (← element_named L b kind p at d plain lies.0) (items_named L b kind (p + size_of L kind) at ds plain lies.1)
 
-pub plain_kind : (S : DeclaredSchema) (kind : Kind) → ((t : TypeId) → kind ≡ Table t → ⊥) → is_table (stored_kind S kind) ≡ false
+pub plain_kind : (S : DeclaredSchema) (kind : Kind) → ((t : TypeId) → kind ≡ Table t → ⊥)
+    → is_table (stored_kind S kind) ≡ false
 plain_kind S (Table t) plain = absurd (plain t refl)
 plain_kind S (Scalar base) plain = refl
 plain_kind S (Enum e) plain = refl
@@ -153,6 +185,7 @@ plain_kind S (Code u) plain = refl
 plain_kind S Text plain = refl
 
 -- What lies where a view is is a table.
-pub table_case : (view : View) (P : Datum → Type 0) (d : Datum) → Shows view d → ((t : ℕ) (es : SlotEntries) → Shows view (a_table t es) → P (a_table t es)) → P d
+pub table_case : (view : View) (P : Datum → Type 0) (d : Datum) → Shows view d
+    → ((t : ℕ) (es : SlotEntries) → Shows view (a_table t es) → P (a_table t es)) → P d
 table_case view P (a_table t es) lies known = known t es lies
 table_case view P _ lies known = absurd lies

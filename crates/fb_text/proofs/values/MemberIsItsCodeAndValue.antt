@@ -1,5 +1,6 @@
 -- What the printer's pieces add up to.
-use Rattle.std.proofs.Common.{◌≡◌, ℕ, zero, suc, ◌<◌, ◌||◌, List, [], ◌∷◌, length, map, slice_get, slice_index_or, Bool, true, Option, None, Some, Result, Ok, Err, refl, subst, arith}
+use Rattle.std.proofs.Common.{◌≡◌, ℕ, zero, suc, ◌<◌, ◌||◌, List, [], ◌∷◌, length, map, slice_get, slice_index_or, Bool}
+use Rattle.std.proofs.Common.{true, Option, None, Some, Result, Ok, Err, refl, subst, arith}
 use Rattle.fb_schema.specs.declared.types.FieldInfo.{FieldInfo}
 use Rattle.fb_schema.specs.Schema.{DeclaredField}
 use Rattle.fb_schema.specs.Seen.{field_seen}
@@ -14,7 +15,8 @@ use Rattle.fb_text.specs.Writes.{State, Adds}
 use Rattle.fb_text.proofs.writing.PiecesAddUp.{added_then}
 
 -- field k of a type, as the schema has it
-pub seen_there : (xs : List FieldInfo) (k : ℕ) (x : FieldInfo) → k < length xs → x ≡ slice_index_or xs k x → slice_get (map field_seen xs) k ≡ Some (field_seen x)
+pub seen_there : (xs : List FieldInfo) (k : ℕ) (x : FieldInfo) → k < length xs → x ≡ slice_index_or xs k x
+    → slice_get (map field_seen xs) k ≡ Some (field_seen x)
 seen_there [] k x less is = absurd (omega arith)
 seen_there (y ∷ xs) zero x less is = rw is refl
 seen_there (y ∷ xs) (suc k) x less is = seen_there xs k x (omega arith) is
@@ -29,12 +31,17 @@ part_there (more_parts d ds) zero less = (d, refl)
 part_there (more_parts d ds) (suc i) less = part_there ds i (omega arith)
 
 -- A printed slot is its code, if it has one, and its name and value.
-pub entry_added : (L : LaidSchema) (defaults : Bool) (inner : List ℕ) (some : Bool) (f : DeclaredField) (o : Option Datum) (more : Bool) (a b e : State) → true ≡ is_entry_printed defaults f o
-    → ((d : Datum) → o ≡ Some d → Adds a b (code_text L.schema inner some f.name f.shape d)) → ((d : Datum) → o ≡ Some d → more ≡ (some || has_code f.shape d))
-    → ((d : Datum) → o ≡ Some d → Adds b e (named_text L defaults inner more f d)) → Adds a e (slot_text L defaults inner some f o)
+pub entry_added : (L : LaidSchema) (defaults : Bool) (inner : List ℕ) (some : Bool) (f : DeclaredField)
+    (o : Option Datum) (more : Bool) (a b e : State) → true ≡ is_entry_printed defaults f o
+    → ((d : Datum) → o ≡ Some d → Adds a b (code_text L.schema inner some f.name f.shape d))
+    → ((d : Datum) → o ≡ Some d → more ≡ (some || has_code f.shape d))
+    → ((d : Datum) → o ≡ Some d → Adds b e (named_text L defaults inner more f d))
+    → Adds a e (slot_text L defaults inner some f o)
 entry_added L defaults inner some f None more a b e printed code has named = cc
 entry_added L defaults inner some f (Some d) more a b e printed code has named =
-    rw (← printed) (added_then a b e (code_text L.schema inner some f.name f.shape d) (named_text L defaults inner (some || has_code f.shape d) f d) (code d refl) (subst (λ (m : Bool). Adds b e (named_text L defaults inner m f d)) (has d refl) (named d refl)))
+    rw (← printed) (added_then a b e (code_text L.schema inner some f.name f.shape d)
+        (named_text L defaults inner (some || has_code f.shape d) f d) (code d refl)
+        (subst (λ (m : Bool). Adds b e (named_text L defaults inner m f d)) (has d refl) (named d refl)))
 
 -- a writer that is never told a union without a name
 pub never_unnamed : {A : Type 0} (r : Result A WriteFault) (P : Type 0) → IfUnnamed r ⊥ → IfUnnamed r P

@@ -1,5 +1,6 @@
 -- The text of a struct in a struct, and of what stands behind it.
-use Rattle.std.proofs.Common.{◌≡◌, ℕ, suc, ◌++◌, ◌||◌, List, [], Bool, true, false, Option, None, Some, slice_get, is_some, refl, sym, ap, subst, ◌∙◌, append_assoc}
+use Rattle.std.proofs.Common.{◌≡◌, ℕ, suc, ◌++◌, ◌||◌, List, [], Bool, true, false, Option, None, Some, slice_get}
+use Rattle.std.proofs.Common.{is_some, refl, sym, ap, subst, ◌∙◌, append_assoc}
 use Rattle.std.specs.Prelude.{codes}
 use Rattle.fb_schema.specs.declared.kinds.TypeId.{TypeId}
 use Rattle.fb_schema.specs.declared.kinds.Shape.{Shape}
@@ -7,7 +8,8 @@ use Rattle.fb_schema.specs.Schema.{DeclaredField, body_at, parts_in}
 use Rattle.fb_layout.specs.Laid.{LaidSchema}
 use Rattle.fb_value.specs.Datum.{Datum, a_number, a_text, a_vector, a_struct, a_table, a_member, an_unknown, Parts}
 use Rattle.fb_text.specs.declared.shown.Found.{Found}
-use Rattle.fb_text.specs.declared.shown.Found.TheVariants.{Absent, Number, Text, Vector, Struct as StructFound, Table as TableFound, Member, Unknown}
+use Rattle.fb_text.specs.declared.shown.Found.TheVariants.{Absent, Number, Text, Vector, Struct as StructFound}
+use Rattle.fb_text.specs.declared.shown.Found.TheVariants.{Table as TableFound, Member, Unknown}
 use Rattle.fb_text.specs.Shown.{IsTop}
 use Rattle.fb_value.specs.Nth.{nth_part}
 use Rattle.fb_text.specs.Indents.{further}
@@ -18,7 +20,8 @@ use Rattle.fb_text.proofs.indents.LevelsAddUp.{inside_further}
 use Rattle.fb_text.proofs.values.OneMemberMore.{parts_step}
 
 -- what is found somewhere is there
-pub something_found : (found : Found) (o : Option Datum) → IsTop found o → (found ≡ Absent → ⊥) → (d : Datum) × (o ≡ Some d)
+pub something_found : (found : Found) (o : Option Datum) → IsTop found o → (found ≡ Absent → ⊥)
+    → (d : Datum) × (o ≡ Some d)
 something_found Absent o top not = absurd (not refl)
 something_found (Number n) o top not = (a_number n, top)
 something_found (Text s) o top not = (a_text s.now, top)
@@ -36,24 +39,33 @@ or_true : (some : Bool) → (some || true) ≡ true
 or_true true = refl
 or_true false = refl
 
-module _ (L : LaidSchema) (defaults : Bool) (indent : List ℕ) (u : TypeId) (es : Parts) (depth k : ℕ) (some : Bool) (behind : List ℕ) where
+module _ (L : LaidSchema) (defaults : Bool) (indent : List ℕ) (u : TypeId) (es : Parts) (depth k : ℕ) (some : Bool)
+    (behind : List ℕ) where
   fields_next : (f : DeclaredField) → slice_get (parts_in (body_at L.schema u.0)) k ≡ Some f
-      → part_text L defaults (further (suc depth) indent) some f (nth_part es k) ++ (fields_text L defaults indent u es depth (suc k) (some || is_some (nth_part es k)) ++ behind)
+      → part_text L defaults (further (suc depth) indent) some f (nth_part es k)
+      ++ (fields_text L defaults indent u es depth (suc k) (some || is_some (nth_part es k)) ++ behind)
       ≡ fields_text L defaults indent u es depth k some ++ behind
   fields_next f there =
       let own = part_text L defaults (further (suc depth) indent) some f (nth_part es k) in
       let rest = fields_text L defaults indent u es depth (suc k) (some || is_some (nth_part es k)) in
       sym (append_assoc own rest behind)
-      ∙ ap (λ (l : List ℕ). l ++ behind) (parts_step L defaults (further (suc depth) indent) (further depth indent) some (parts_in (body_at L.schema u.0)) es k f there)
+      ∙ ap (λ (l : List ℕ). l ++ behind)
+      (parts_step L defaults (further (suc depth) indent) (further depth indent) some (parts_in (body_at L.schema u.0))
+      es k f there)
 
   -- no field, and those behind it
-  pub field_missing : (f : DeclaredField) → slice_get (parts_in (body_at L.schema u.0)) k ≡ Some f → nth_part es k ≡ None
-      → fields_text L defaults indent u es depth (suc k) some ++ behind ≡ fields_text L defaults indent u es depth k some ++ behind
+  pub field_missing : (f : DeclaredField) → slice_get (parts_in (body_at L.schema u.0)) k ≡ Some f
+      → nth_part es k ≡ None
+      → fields_text L defaults indent u es depth (suc k) some ++ behind
+      ≡ fields_text L defaults indent u es depth k some ++ behind
   field_missing f there none = rw (none, or_false some) at (fields_next f there)
 
   -- a field's name and value, and the fields behind it
-  pub field_first : (f : DeclaredField) → slice_get (parts_in (body_at L.schema u.0)) k ≡ Some f → (d : Datum) → nth_part es k ≡ Some d
-      → member_line (further (suc depth) indent) some f.name [] ++ (value_text L defaults (further (suc depth) indent) f.shape d ++ (fields_text L defaults indent u es depth (suc k) true ++ behind))
+  pub field_first : (f : DeclaredField) → slice_get (parts_in (body_at L.schema u.0)) k ≡ Some f → (d : Datum)
+      → nth_part es k ≡ Some d
+      → member_line (further (suc depth) indent) some f.name []
+      ++ (value_text L defaults (further (suc depth) indent) f.shape d
+      ++ (fields_text L defaults indent u es depth (suc k) true ++ behind))
       ≡ fields_text L defaults indent u es depth k some ++ behind
   field_first f there d is =
       let line = member_line (further (suc depth) indent) some f.name [] in
@@ -64,13 +76,19 @@ module _ (L : LaidSchema) (defaults : Bool) (indent : List ℕ) (u : TypeId) (es
 
   -- the struct in a field: the field's name, the struct's fields, and the fields behind it
   pub struct_first : (s : TypeId) (inner : Parts) (has : HasStruct L u es k s inner)
-      → member_line (further (suc depth) indent) some has.field.name [] ++ (codes "{" ++ (fields_text L defaults indent s inner (suc depth) 0 false ++ (fields_text L defaults indent u es depth (suc k) true ++ behind)))
+      → member_line (further (suc depth) indent) some has.field.name []
+      ++ (codes "{" ++ (fields_text L defaults indent s inner (suc depth) 0 false
+      ++ (fields_text L defaults indent u es depth (suc k) true ++ behind)))
       ≡ fields_text L defaults indent u es depth k some ++ behind
   struct_first s inner has =
       let line = member_line (further (suc depth) indent) some has.field.name [] in
       let fields = fields_text L defaults indent s inner (suc depth) 0 false in
       let tail = fields_text L defaults indent u es depth (suc k) true in
-      let value : value_text L defaults (further (suc depth) indent) has.field.shape (a_struct inner) ≡ codes "{" ++ fields =
+      let value : value_text L defaults (further (suc depth) indent) has.field.shape (a_struct inner)
+          ≡ codes "{" ++ fields =
       ap (λ (shape : Shape). value_text L defaults (further (suc depth) indent) shape (a_struct inner)) has.shape
-      ∙ ap (λ (i : List ℕ). codes "{" ++ parts_text L defaults i (further (suc depth) indent) false (parts_in (body_at L.schema s.0)) inner) (inside_further (suc depth) indent) in
-      ap (λ (l : List ℕ). line ++ (l ++ (tail ++ behind))) (sym value) ∙ field_first has.field has.there (a_struct inner) has.part
+      ∙ ap (λ (i : List ℕ). codes
+      "{" ++ parts_text L defaults i (further (suc depth) indent) false (parts_in (body_at L.schema s.0)) inner)
+      (inside_further (suc depth) indent) in
+      ap (λ (l : List ℕ). line ++ (l ++ (tail ++ behind))) (sym value)
+          ∙ field_first has.field has.there (a_struct inner) has.part

@@ -1,5 +1,6 @@
 -- What adds a piece.
-use Rattle.std.proofs.Common.{◌≡◌, ℕ, ◌+◌, ◌<◌, [], List, ◌++◌, Option, Bool, true, false, length, take, sym, ap, subst, ◌∙◌, arith, append_assoc, append-nil, length-append, refl}
+use Rattle.std.proofs.Common.{◌≡◌, ℕ, ◌+◌, ◌<◌, [], List, ◌++◌, Option, Bool, true, false, length, take, sym, ap, subst}
+use Rattle.std.proofs.Common.{◌∙◌, arith, append_assoc, append-nil, length-append, refl}
 use Rattle.std.specs.Io.KnownBytes.{Appends}
 use Rattle.fb_text.specs.Writes.{State, Sent, Stands, IsLeft, Adds, counted}
 use Rattle.fb_text.proofs.writing.WrittenStands.{all_written, some_written}
@@ -7,18 +8,22 @@ use Rattle.fb_text.proofs.writing.WrittenStands.{all_written, some_written}
 -- one piece and then another
 pub added_then : (a b c : State) (one two : List ℕ) → Adds a b one → Adds b c two → Adds a c (one ++ two)
 added_then a b c one two first second = record {
-  adds = λ start text stands. subst (Stands start c) (append_assoc text one two) (second.adds start (text ++ one) (first.adds start text stands));
+  adds = λ start text stands. subst (Stands start c) (append_assoc text one two)
+      (second.adds start (text ++ one) (first.adds start text stands));
 }
 
-sent_still : (start : Option (List ℕ)) (a b : State) → b.known ≡ a.known → b.written ≡ a.written → Sent start a → Sent start b
+sent_still : (start : Option (List ℕ)) (a b : State) → b.known ≡ a.known → b.written ≡ a.written → Sent start a
+    → Sent start b
 sent_still start a b known written sent = record {
   bytes = sent.bytes;
   gone = subst (λ (k : Option (List ℕ)). Appends start k sent.bytes) (sym known) sent.gone;
   count = written ∙ sent.count;
 }
 
-module _ (a b : State) (piece : List ℕ) (known : b.known ≡ a.known) (written : b.written ≡ a.written) (failed : b.failed ≡ a.failed) where
-  left_more : (f : Bool) (left : List ℕ) → (f ≡ false → b.waits ≡ a.waits ++ piece) → IsLeft f a left → IsLeft f b (left ++ piece)
+module _ (a b : State) (piece : List ℕ) (known : b.known ≡ a.known) (written : b.written ≡ a.written)
+    (failed : b.failed ≡ a.failed) where
+  left_more : (f : Bool) (left : List ℕ) → (f ≡ false → b.waits ≡ a.waits ++ piece) → IsLeft f a left
+      → IsLeft f b (left ++ piece)
   left_more false left waits h = ap (λ l. l ++ piece) h ∙ sym (waits refl)
   left_more true left waits h = omega (arith, length-append left piece, h)
 
@@ -30,26 +35,36 @@ module _ (a b : State) (piece : List ℕ) (known : b.known ≡ a.known) (written
       sent = sent_still start a b known written stands.sent;
       left = stands.left ++ piece;
       whole = ap (λ l. l ++ piece) stands.whole ∙ append_assoc stands.sent.bytes stands.left piece;
-      rest = subst (λ (f : Bool). IsLeft f b (stands.left ++ piece)) (sym failed) (left_more a.failed stands.left waits stands.rest);
+      rest = subst (λ (f : Bool). IsLeft f b (stands.left ++ piece)) (sym failed)
+          (left_more a.failed stands.left waits stands.rest);
     };
   }
 
-module _ (a b : State) (piece bytes : List ℕ) (was : a.failed ≡ false) (waits : a.waits ++ piece ≡ bytes) (empty : b.waits ≡ []) where
+module _ (a b : State) (piece bytes : List ℕ) (was : a.failed ≡ false) (waits : a.waits ++ piece ≡ bytes)
+    (empty : b.waits ≡ []) where
   -- what waited and a piece that are written, until a write fails
-  by_failure : (f : Bool) → b.failed ≡ f → (b.failed ≡ false → Appends a.known b.known bytes × (b.written ≡ counted (a.written + length bytes)))
-      → (b.failed ≡ true → (m : ℕ) × (m < length bytes) × Appends a.known b.known (take m bytes) × (b.written ≡ counted (a.written + m)))
-      → (start : Option (List ℕ)) (text : List ℕ) → Stands start a text → Stands start b (text ++ piece)
+  by_failure : (f : Bool) → b.failed ≡ f
+      → (b.failed ≡ false → Appends a.known b.known bytes × (b.written ≡ counted (a.written + length bytes)))
+      → (b.failed ≡ true → (m : ℕ) × (m < length bytes) × Appends a.known b.known (take m bytes)
+      × (b.written ≡ counted (a.written + m))) → (start : Option (List ℕ)) (text : List ℕ) → Stands start a text
+      → Stands start b (text ++ piece)
   by_failure f is all some start text stands =
       let held : stands.left ≡ a.waits = subst (λ (g : Bool). IsLeft g a stands.left) was stands.rest in
       let whole : text ++ piece ≡ stands.sent.bytes ++ bytes =
-      ap (λ l. l ++ piece) stands.whole ∙ (append_assoc stands.sent.bytes stands.left piece ∙ ap (λ l. stands.sent.bytes ++ l) (ap (λ l. l ++ piece) held ∙ waits)) in
+      ap (λ l. l ++ piece) stands.whole
+          ∙ (append_assoc stands.sent.bytes stands.left piece
+          ∙ ap (λ l. stands.sent.bytes ++ l) (ap (λ l. l ++ piece) held ∙ waits)) in
       elim f as (λ (g : Bool). b.failed ≡ g → Stands start b (text ++ piece)) [
-        | false ↦ λ fine. let (got, count) = all fine in all_written start a b stands.sent bytes (text ++ piece) whole fine empty got count
-        | true ↦ λ broken. let (m, less, got, count) = some broken in some_written start a b stands.sent bytes (text ++ piece) m whole broken less got count
+        | false ↦ λ fine. let (got, count) = all fine in
+            all_written start a b stands.sent bytes (text ++ piece) whole fine empty got count
+        | true ↦ λ broken. let (m, less, got, count) = some broken in
+            some_written start a b stands.sent bytes (text ++ piece) m whole broken less got count
       ] is
 
-  pub added_written : (b.failed ≡ false → Appends a.known b.known bytes × (b.written ≡ counted (a.written + length bytes)))
-      → (b.failed ≡ true → (m : ℕ) × (m < length bytes) × Appends a.known b.known (take m bytes) × (b.written ≡ counted (a.written + m))) → Adds a b piece
+  pub added_written : (b.failed ≡ false → Appends a.known b.known bytes
+      × (b.written ≡ counted (a.written + length bytes)))
+      → (b.failed ≡ true → (m : ℕ) × (m < length bytes) × Appends a.known b.known (take m bytes)
+      × (b.written ≡ counted (a.written + m))) → Adds a b piece
   added_written all some = record { adds = by_failure b.failed refl all some }
 
 pub added_none : (a : State) → Adds a a []

@@ -1,5 +1,6 @@
 -- What stands once bytes were written.
-use Rattle.std.proofs.Common.{◌≡◌, ℕ, ◌+◌, ◌<◌, [], List, ◌++◌, length, take, drop, Option, Bool, true, false, sym, ap, subst, ◌∙◌, arith, append_assoc, append-nil, length-append, length-drop, take-append-drop}
+use Rattle.std.proofs.Common.{◌≡◌, ℕ, ◌+◌, ◌<◌, [], List, ◌++◌, length, take, drop, Option, Bool, true, false, sym, ap}
+use Rattle.std.proofs.Common.{subst, ◌∙◌, arith, append_assoc, append-nil, length-append, length-drop, take-append-drop}
 use Rattle.std.proofs.Math.Seq.{take-append_seam}
 use Rattle.std.proofs.lemmas.List.{length-take}
 use Rattle.std.proofs.KnownBytes.{Appends-trans}
@@ -8,7 +9,8 @@ use Rattle.fb_text.specs.Writes.{State, Sent, Stands, IsLeft, counted}
 
 module _ (start : Option (List ℕ)) (old new : State) (sent : Sent start old) where
   -- so many more bytes
-  more_sent : (more : List ℕ) → Appends old.known new.known more → new.written ≡ counted (old.written + length more) → Sent start new
+  more_sent : (more : List ℕ) → Appends old.known new.known more → new.written ≡ counted (old.written + length more)
+      → Sent start new
   more_sent more got count =
       let longer = length-append sent.bytes more in
       let before = sent.count in
@@ -18,7 +20,8 @@ module _ (start : Option (List ℕ)) (old new : State) (sent : Sent start old) w
         count = omega arith;
       }
 
-  pub all_written : (bytes whole : List ℕ) → whole ≡ sent.bytes ++ bytes → new.failed ≡ false → new.waits ≡ [] → Appends old.known new.known bytes → new.written ≡ counted (old.written + length bytes) → Stands start new whole
+  pub all_written : (bytes whole : List ℕ) → whole ≡ sent.bytes ++ bytes → new.failed ≡ false → new.waits ≡ []
+      → Appends old.known new.known bytes → new.written ≡ counted (old.written + length bytes) → Stands start new whole
   unfolding more_sent
   all_written bytes whole is fine none got count = record {
     sent = more_sent bytes got count;
@@ -27,7 +30,8 @@ module _ (start : Option (List ℕ)) (old new : State) (sent : Sent start old) w
     rest = subst (λ (b : Bool). IsLeft b new []) (sym fine) (sym none);
   }
 
-  pub some_written : (bytes whole : List ℕ) (m : ℕ) → whole ≡ sent.bytes ++ bytes → new.failed ≡ true → m < length bytes → Appends old.known new.known (take m bytes) → new.written ≡ counted (old.written + m) → Stands start new whole
+  pub some_written : (bytes whole : List ℕ) (m : ℕ) → whole ≡ sent.bytes ++ bytes → new.failed ≡ true → m < length bytes
+      → Appends old.known new.known (take m bytes) → new.written ≡ counted (old.written + m) → Stands start new whole
   unfolding more_sent
   some_written bytes whole m is broke less got count =
       let fits : length (take m bytes) ≡ m = length-take m bytes ∙ omega arith in
@@ -35,7 +39,8 @@ module _ (start : Option (List ℕ)) (old new : State) (sent : Sent start old) w
       record {
         sent = more_sent (take m bytes) got (count ∙ ap (λ k. counted (old.written + k)) (sym fits));
         left = drop m bytes;
-        whole = is ∙ (ap (λ l. sent.bytes ++ l) (sym (take-append-drop m bytes)) ∙ sym (append_assoc sent.bytes (take m bytes) (drop m bytes)));
+        whole = is ∙ (ap (λ l. sent.bytes ++ l) (sym (take-append-drop m bytes))
+            ∙ sym (append_assoc sent.bytes (take m bytes) (drop m bytes)));
         rest = subst (λ (b : Bool). IsLeft b new (drop m bytes)) (sym broke) more;
       }
 
@@ -44,13 +49,18 @@ module _ (start : Option (List ℕ)) (s : State) (text : List ℕ) (stands : Sta
   pub written_whole : s.failed ≡ false → s.waits ≡ [] → Appends start s.known text
   written_whole fine empty =
       let none : stands.left ≡ [] = subst (λ (b : Bool). IsLeft b s stands.left) fine stands.rest ∙ empty in
-      let all : text ≡ stands.sent.bytes = stands.whole ∙ (ap (λ l. stands.sent.bytes ++ l) none ∙ append-nil stands.sent.bytes) in
+      let all : text ≡ stands.sent.bytes =
+          stands.whole ∙ (ap (λ l. stands.sent.bytes ++ l) none ∙ append-nil stands.sent.bytes) in
       subst (λ (l : List ℕ). Appends start s.known l) (sym all) stands.sent.gone
 
-  pub written_front : s.failed ≡ true → (m : ℕ) × (m < length text) × Appends start s.known (take m text) × (s.written ≡ counted m)
+  pub written_front : s.failed ≡ true
+      → (m : ℕ) × (m < length text) × Appends start s.known (take m text) × (s.written ≡ counted m)
   written_front broken =
       let more : 0 < length stands.left = subst (λ (b : Bool). IsLeft b s stands.left) broken stands.rest in
       let sent = stands.sent.bytes in
-      let longer : length text ≡ length sent + length stands.left = ap length stands.whole ∙ length-append sent stands.left in
-      let front : take (length sent) text ≡ sent = ap (take (length sent)) stands.whole ∙ take-append_seam sent stands.left in
-      (length sent, omega arith, subst (λ (l : List ℕ). Appends start s.known l) (sym front) stands.sent.gone, stands.sent.count)
+      let longer : length text ≡ length sent + length stands.left =
+          ap length stands.whole ∙ length-append sent stands.left in
+      let front : take (length sent) text ≡ sent =
+          ap (take (length sent)) stands.whole ∙ take-append_seam sent stands.left in
+      (length sent, omega arith, subst (λ (l : List ℕ). Appends start s.known l) (sym front) stands.sent.gone,
+          stands.sent.count)

@@ -1,4 +1,5 @@
-use Rattle.std.proofs.Common.{◌≡◌, ℕ, ◌+◌, ◌-◌, ◌/◌, ◌<◌, ◌≤◌, length, map, Some, slice_get, slice_index, sym, ap, subst, ◌∙◌, arith}
+use Rattle.std.proofs.Common.{◌≡◌, ℕ, ◌+◌, ◌-◌, ◌/◌, ◌<◌, ◌≤◌, length, map, Some, slice_get, slice_index, sym, ap}
+use Rattle.std.proofs.Common.{subst, ◌∙◌, arith}
 use Rattle.fb_schema.specs.Schema.{body_at, parts_in}
 use Rattle.fb_layout.specs.Laid.{struct_at}
 use Rattle.fb_text.proofs.nested.FieldHasItsBytes.{begins_before, begins_behind}
@@ -11,13 +12,15 @@ loop-low-preserved-then-offset_of-byte c =
     let middle = c.loop-low.low + (c.loop-low.high - c.loop-low.low) / 2 in
     let small : middle < c.loop-low.high = omega arith in
     let within : middle < length (parts_in (body_at L.schema t.0)) = omega (arith, small, c.loop-low.invariant.few) in
-    let begins : slice_index (struct_at L t.0).offsets middle ≤ c.args.byte = omega (arith, c.offset_of.ensures, c.if-offset_of-byte.true) in
+    let begins : slice_index (struct_at L t.0).offsets middle ≤ c.args.byte =
+        omega (arith, c.offset_of.ensures, c.if-offset_of-byte.true) in
     record {
       few = c.loop-low.invariant.few;
       small = c.loop-low.invariant.small;
       start = omega (arith, small, c.loop-low.invariant.small);
       found = λ k f at has.
-          (begins_before L c.schema-schema.ensures.made t middle k f c.args.byte within at has begins, (c.loop-low.invariant.found k f at has).1);
+          (begins_before L c.schema-schema.ensures.made t middle k f c.args.byte within at has begins,
+              (c.loop-low.invariant.found k f at has).1);
     }
 
 pub loop-low-preserved : goal.loop-low-preserved
@@ -27,11 +30,13 @@ loop-low-preserved c =
     let middle = c.loop-low.low + (c.loop-low.high - c.loop-low.low) / 2 in
     let small : middle < c.loop-low.high = omega arith in
     let within : middle < length (parts_in (body_at L.schema t.0)) = omega (arith, small, c.loop-low.invariant.few) in
-    let begins : c.args.byte < slice_index (struct_at L t.0).offsets middle = omega (arith, c.offset_of.ensures, c.if-offset_of-byte.false) in
+    let begins : c.args.byte < slice_index (struct_at L t.0).offsets middle =
+        omega (arith, c.offset_of.ensures, c.if-offset_of-byte.false) in
     record {
       few = omega (arith, within);
       small = omega (arith, small, c.loop-low.invariant.small);
       start = c.loop-low.invariant.start;
       found = λ k f at has.
-          ((c.loop-low.invariant.found k f at has).0, begins_behind L c.schema-schema.ensures.made t middle k f c.args.byte within at has begins);
+          ((c.loop-low.invariant.found k f at has).0,
+              begins_behind L c.schema-schema.ensures.made t middle k f c.args.byte within at has begins);
     }

@@ -9,7 +9,8 @@ invariant-loop-low l = record {
   few : l.high ≤ length (parts_in (body_at l.layout.schema l.structure.0));
   small : l.high ≤ 65535;
   start : l.low < 65535;
-  found : (k : ℕ) (f : DeclaredField) → slice_get (parts_in (body_at l.layout.schema l.structure.0)) k ≡ Some f → HasByte l.layout l.structure k f l.byte → (l.low ≤ k) × (k < l.high);
+  found : (k : ℕ) (f : DeclaredField) → slice_get (parts_in (body_at l.layout.schema l.structure.0)) k ≡ Some f
+      → HasByte l.layout l.structure k f l.byte → (l.low ≤ k) × (k < l.high);
 }
 
 abbrev pub decreases-loop-low : goal.decreases-loop-low

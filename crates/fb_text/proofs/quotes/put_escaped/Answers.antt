@@ -7,7 +7,8 @@ use Rattle.fb_text.proofs.quotes.put_escaped.Goals as goal
 
 pub put_escape-requires : goal.put_escape-requires
 put_escape-requires g c =
-    stops c.loop-left.left.now c.plain_run.result c.plain_run.ensures.run c.in-Some.byte.now c.in-Some.rest.now (sym c.split_at.ensures.back ∙ c.in-Some.ensures.cases.0)
+    stops c.loop-left.left.now c.plain_run.result c.plain_run.ensures.run c.in-Some.byte.now c.in-Some.rest.now
+        (sym c.split_at.ensures.back ∙ c.in-Some.ensures.cases.0)
 
 pub returns-in_default : goal.returns-in_default
 returns-in_default g c =
@@ -18,8 +19,10 @@ returns-in_default g c =
 pub loop-left-preserved : goal.loop-left-preserved
 loop-left-preserved g c =
     let front = c.split_at.ensures.front in
-    let made = step c.loop-left.left.now c.plain_run.result c.plain_run.ensures.run c.in-Some.byte.now c.in-Some.rest.now (sym c.split_at.ensures.back ∙ c.in-Some.ensures.cases.0) in
-    λ end rest. c.loop-left.invariant end (added_as made (then (added_as front c.put.ensures) (then c.put_escape.ensures rest)))
+    let made = step c.loop-left.left.now c.plain_run.result c.plain_run.ensures.run c.in-Some.byte.now
+        c.in-Some.rest.now (sym c.split_at.ensures.back ∙ c.in-Some.ensures.cases.0) in
+    λ end rest. c.loop-left.invariant end
+        (added_as made (then (added_as front c.put.ensures) (then c.put_escape.ensures rest)))
 
 -- nothing is left
 none : (l : List ℕ) → true ≡ (length l == 0) → [] ≡ escape l
@@ -27,4 +30,5 @@ none [] h = refl
 none (x ∷ xs) h = let empty : length (x ∷ xs) ≡ 0 = grind (arith, nat_tests, h) in absurd (omega arith)
 
 pub returns : goal.returns
-returns g c = c.loop-left.invariant _ (added_as (none c.loop-left.left.now (sym c.loop-left-test.false ∙ c.is_empty.ensures)) (added_none _))
+returns g c = c.loop-left.invariant _
+    (added_as (none c.loop-left.left.now (sym c.loop-left-test.false ∙ c.is_empty.ensures)) (added_none _))

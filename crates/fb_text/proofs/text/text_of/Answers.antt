@@ -15,21 +15,27 @@ pub returns-in-Some-clause-refused : goal.returns-in-Some-clause-refused
 returns-in-Some-clause-refused c =
     let d = view c.args.value.now in
     let root = c.root.result in
-    let is : root.0 ≡ c.args.layout.now.schema.root = c.root.ensures ∙ ap (λ (s : DeclaredSchema). s.root) c.schema.ensures.schema in
+    let is : root.0 ≡ c.args.layout.now.schema.root =
+        c.root.ensures ∙ ap (λ (s : DeclaredSchema). s.root) c.schema.ensures.schema in
     let P : ℕ → Type 0 = λ r. first_unnamed (type_place r) d ≡ Some c.in-Some.unnamed in
     let found = c.in-Some.ensures c.args.layout.now (Some d) refl in
     (unnamed_part (type_place root.0) c.in-Some.unnamed d found, subst P is (sym found))
 
 pub returns-then-is_err-clause-refused : goal.returns-then-is_err-clause-refused
-returns-then-is_err-clause-refused c = named_whole (type_place c.root.result.0) (view c.args.value.now) (c.in_default.ensures c.args.layout.now (Some (view c.args.value.now)) refl)
+returns-then-is_err-clause-refused c =
+    named_whole (type_place c.root.result.0) (view c.args.value.now)
+    (c.in_default.ensures c.args.layout.now (Some (view c.args.value.now)) refl)
 
 pub unreachable-requires : goal.unreachable-requires
 unreachable-requires c =
     let L = c.args.layout.now in
     let d = view c.args.value.now in
-    let made = written_items c.write_root.result _ _ (json_text L c.args.defaults d) (sym c.is_err.ensures.value ∙ c.if-is_err.false) (rw c.over-out.ensures.same c.new.ensures.items) (c.write_root.ensures.written d refl) in
+    let made = written_items c.write_root.result _ _ (json_text L c.args.defaults d)
+        (sym c.is_err.ensures.value ∙ c.if-is_err.false) (rw c.over-out.ensures.same c.new.ensures.items)
+        (c.write_root.ensures.written d refl) in
     let names = c.types-names.ensures.types ∙ ap (λ (s : DeclaredSchema). s.types) c.schema-2.ensures.schema in
-    let text = text_utf8 L (schema_utf8 L.schema c.types-names.result.now names) c.args.defaults d (value_utf8 c.args.value.now) in
+    let text = text_utf8 L (schema_utf8 L.schema c.types-names.result.now names) c.args.defaults d
+        (value_utf8 c.args.value.now) in
     let utf8 : IsUtf8 c.into_inner.result.items = rw (c.into_inner.ensures, made) text in
     let fine : false ≡ true = rw c.in-Err.is at (c.from_utf8.ensures.succeeds utf8) in
     cc
@@ -38,8 +44,12 @@ pub returns-clause-text : goal.returns-clause-text
 returns-clause-text c =
     let L = c.args.layout.now in
     let d = view c.args.value.now in
-    let made = written_items c.write_root.result _ _ (json_text L c.args.defaults d) (sym c.is_err.ensures.value ∙ c.if-is_err.false) (rw c.over-out.ensures.same c.new.ensures.items) (c.write_root.ensures.written d refl) in
+    let made = written_items c.write_root.result _ _ (json_text L c.args.defaults d)
+        (sym c.is_err.ensures.value ∙ c.if-is_err.false) (rw c.over-out.ensures.same c.new.ensures.items)
+        (c.write_root.ensures.written d refl) in
     rw (c.in-Ok.ensures.ok, c.into_inner.ensures) made
 
 pub returns-clause-whole : goal.returns-clause-whole
-returns-clause-whole c = named_whole (type_place c.root.result.0) (view c.args.value.now) (c.in_default.ensures c.args.layout.now (Some (view c.args.value.now)) refl)
+returns-clause-whole c =
+    named_whole (type_place c.root.result.0) (view c.args.value.now)
+    (c.in_default.ensures c.args.layout.now (Some (view c.args.value.now)) refl)

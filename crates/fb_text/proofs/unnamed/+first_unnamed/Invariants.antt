@@ -9,4 +9,5 @@ abbrev pub decreases-first_unnamed : goal.decreases-first_unnamed
 decreases-first_unnamed g l = g.S.Shown.weight l.shown
 
 abbrev pub invariant-loop-i : goal.invariant-loop-i
-invariant-loop-i g l = (L : LaidSchema) (o : Option Datum) → g.S.Shown.shows l.fn.shown L o → unnamed_from l.place o l.i ≡ first_in_entry l.place o
+invariant-loop-i g l = (L : LaidSchema) (o : Option Datum) → g.S.Shown.shows l.fn.shown L o
+    → unnamed_from l.place o l.i ≡ first_in_entry l.place o

@@ -34,14 +34,19 @@ decreases-put_vector g l = 8 * g.S.Shown.weight l.shown
 abbrev pub invariant-put_table-loop-k : goal.invariant-put_table-loop-k
 invariant-put_table-loop-k g l =
     (es : SlotEntries) → g.S.Shown.shows l.shown l.style.layout.now (Some (a_table l.fn.owner.0 es)) → (end : State)
-    → Adds (state_of g.W.Write.contents l.page l.out) end (members_text l.style.layout.now l.style.defaults (blanks l.inner) (blanks l.indent) l.some (drop l.k (map field_seen l.slots)) (entries_from l.k es))
-    → Adds (state_of g.W.Write.contents l.initial.page l.initial.out) end (members_text l.style.layout.now l.style.defaults (blanks l.inner) (blanks l.indent) false (map field_seen l.slots) es)
+    → Adds (state_of g.W.Write.contents l.page l.out) end
+    (members_text l.style.layout.now l.style.defaults (blanks l.inner) (blanks l.indent) l.some
+    (drop l.k (map field_seen l.slots)) (entries_from l.k es))
+    → Adds (state_of g.W.Write.contents l.initial.page l.initial.out) end
+    (members_text l.style.layout.now l.style.defaults (blanks l.inner) (blanks l.indent) false (map field_seen l.slots)
+    es)
 
 abbrev pub invariant-put_struct-loop-next : goal.invariant-put_struct-loop-next
 invariant-put_struct-loop-next g l = record {
   inside : IsInside g.S.Shown.weight l.first.shown l.here;
   goes : (ds : Parts) → g.S.Shown.shows l.first.shown l.style.layout.now (Some (a_struct ds))
-      → GoesOn g.S.Shown.shows l.style.layout.now l.style.defaults (blanks l.indent) l.first.structure ds l.here (state_of g.W.Write.contents l.initial.page l.initial.out) (state_of g.W.Write.contents l.page l.out)
+      → GoesOn g.S.Shown.shows l.style.layout.now l.style.defaults (blanks l.indent) l.first.structure ds l.here
+      (state_of g.W.Write.contents l.initial.page l.initial.out) (state_of g.W.Write.contents l.page l.out)
       (fields_text l.style.layout.now l.style.defaults (blanks l.indent) l.first.structure ds 0 0 false);
 }
 
@@ -51,5 +56,8 @@ decreases-put_struct-loop-next g l = steps_left l.here
 abbrev pub invariant-put_vector-loop-i : goal.invariant-put_vector-loop-i
 invariant-put_vector-loop-i g l =
     (ds : Parts) → g.S.Shown.shows l.shown l.style.layout.now (Some (a_vector ds)) → (end : State)
-    → Adds (state_of g.W.Write.contents l.page l.out) end (items_text l.style.layout.now l.style.defaults (blanks l.inner) (blanks l.indent) l.kind l.some (parts_from l.i ds))
-    → Adds (state_of g.W.Write.contents l.initial.page l.initial.out) end (items_text l.style.layout.now l.style.defaults (blanks l.inner) (blanks l.indent) l.kind false ds)
+    → Adds (state_of g.W.Write.contents l.page l.out) end
+    (items_text l.style.layout.now l.style.defaults (blanks l.inner) (blanks l.indent) l.kind l.some
+    (parts_from l.i ds))
+    → Adds (state_of g.W.Write.contents l.initial.page l.initial.out) end
+    (items_text l.style.layout.now l.style.defaults (blanks l.inner) (blanks l.indent) l.kind false ds)

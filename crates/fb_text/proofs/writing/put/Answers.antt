@@ -3,4 +3,5 @@ use Rattle.fb_text.proofs.writing.PiecesAddUp.{added_waiting}
 use Rattle.fb_text.proofs.writing.put.Goals as goal
 
 pub returns-then-has_room : goal.returns-then-has_room
-returns-then-has_room g c = added_waiting _ _ c.args.piece.now refl c.add.ensures.written refl (λ _. c.add.ensures.pending)
+returns-then-has_room g c =
+    added_waiting _ _ c.args.piece.now refl c.add.ensures.written refl (λ _. c.add.ensures.pending)
