@@ -211,8 +211,8 @@ fn lay_field(
 /// What the begin of a table's fields is a multiple of: what the first one is aligned to, 4 at least.
 fn start_align(layout: &Layout, slots: &[FieldInfo], first: usize) -> u32
     requires within { first ≤ length slots.now }
-    ensures { (xs : List (Option Datum)) → LinksNext layout.now (λ k f. false) (slots_seen layout.now slots.now) xs first
-        → result ≡ max 4 (stored_align layout.now (slots_seen layout.now slots.now) xs) }
+    ensures { (xs : List (Option Datum))
+        → LinksNext layout.now (λ k f. false) (slots_seen layout.now slots.now) xs first → result ≡ max 4 (stored_align layout.now (slots_seen layout.now slots.now) xs) }
 {
     if first == 0 {
         return 4;

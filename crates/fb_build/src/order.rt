@@ -12,7 +12,8 @@ use fb_value::Value;
 // An alignment is 1, 2, 4 .. 256.
 const ALIGNMENTS: usize = 9;
 
-/// The slot to which slot k links, one up; 0 for none.
+/// The slot to which slot k links, one up; 0 for none. A link takes two bytes, as a slot does in a
+/// vtable: all of them fit where the longest vtable does.
 pub(crate) fn link_at(links: &[u8], k: usize) -> usize
     requires within { 2 * k + 1 < length links.now }
     ensures { result ≡ link_in links.now k }

@@ -72,7 +72,8 @@ coded_by_test b p j (g ∷ fs) h (suc k) f u fk is there none =
     coded_by_test b p (suc j) fs (and_parts _ _ h).1 k f u fk is (rw at at there) (rw at at none)
 
 -- a table's unions, computed
-pub table_coded : (L : LaidSchema) (b : Bytes) (t p : ℕ) → are_coded b p 0 (slots_of L t) ≡ true → CodesItsMembers L b t p
+pub table_coded : (L : LaidSchema) (b : Bytes) (t p : ℕ) → are_coded b p 0 (slots_of L t) ≡ true
+    → CodesItsMembers L b t p
 table_coded L b t p h k f u fk is there =
     let none : 0 + k ≡ k = omega arith in
     subst (λ (i : ℕ). code_at b p (i - 1) ≢ 0) none (coded_by_test b p 0 (slots_of L t) h k f u fk is (rw none there))

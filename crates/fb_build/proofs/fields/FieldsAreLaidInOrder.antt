@@ -26,7 +26,8 @@ use Rattle.fb_build.proofs.order.NextFieldIsNamed.{lower_behind, align_least}
 -- Where references lead once what passes a test is laid.
 abbrev pub LeadSoFar : Bytes → (ℕ → Slot → Bool) → List Slot → List (Option Datum) → List ℕ → List ℕ → Type 0
 LeadSoFar s laid fs xs targets ends = (k : ℕ) (f : Slot) (x : Option Datum) → slice_get fs k ≡ Some f
-    → slice_get xs k ≡ Some x → FieldLeads s (is_stored f x && laid k f) f x (slice_index targets k) (slice_index ends k)
+    → slice_get xs k ≡ Some x
+    → FieldLeads s (is_stored f x && laid k f) f x (slice_index targets k) (slice_index ends k)
 
 -- The fields before the slot that a link names are laid, and each other one may be laid here by its alignment.
 pub record AreLaidUpTo (L : LaidSchema) (tail : TailSeen) (fs : List Slot) (xs : List (Option Datum)) (start : ℕ)
@@ -62,7 +63,8 @@ none_laid L o n start align fs xs ends links first known linked g each begin pow
   next = linked.begin;
   slots = record {
     each = each;
-    state = entries_grown L start o n (λ k f. false) fs xs ends g (entries_before L 0 start o.most o.bytes fs xs ends h);
+    state = entries_grown L start o n (λ k f. false) fs xs ends g
+        (entries_before L 0 start o.most o.bytes fs xs ends h);
     filled = none_filled L start (length n.bytes) (λ k f. false) fs xs ends (omega (arith, begin))
         (λ k f x fk xk is. refl);
     counted = λ k f x fk xk yes. absurd (no_both (is_stored f x && false) yes (both_false (is_stored f x)));
@@ -115,8 +117,8 @@ leads_on : (L : LaidSchema) (o n : TailSeen) (k e : ℕ) (fs : List Slot) (xs : 
     → LeadSoFar n.bytes (before L (inline_align L f.shape) (k + 1)) fs xs targets (slice_set ends k e)
 leads_on L o n k e fs xs targets ends laid f x g under fk xk named now h =
     end_put (Leads n.bytes) L a k e fs xs ends f x under fk xk named.stored refl here
-    (λ j p y fj yj. field_kept o n (is_stored p y && before L a k j p) p y (slice_index targets j) (slice_index ends j) g
-    (retested j p y fj yj))
+    (λ j p y fj yj. field_kept o n (is_stored p y && before L a k j p) p y (slice_index targets j)
+    (slice_index ends j) g (retested j p y fj yj))
   where
     a : ℕ
     a = inline_align L f.shape
@@ -145,7 +147,8 @@ pub next_laid : (L : LaidSchema) (o n : TailSeen) (start k e link : ℕ) (fs : L
     → n.free + inline_size L f.shape ≡ o.free → e ≡ length n.bytes → StoredEnd L start n.most n.bytes true f x e
     → FieldLeads n.bytes true f x (slice_index ends k) e → k < length ends
     → AreLaidUpTo L n fs xs start targets (slice_set ends k e) (link_in links k)
-next_laid L o n start k e link fs xs targets ends links first f x known linked h fk xk named g free end lies lead under =
+next_laid L o n start k e link fs xs targets ends links first f x known linked h fk xk named g free end lies lead
+    under =
     record {
       laid = before L a (k + 1);
       next = linked.each k a (record { field = f; entry = x; is = fk; has = xk; stored = named.stored; at = refl });

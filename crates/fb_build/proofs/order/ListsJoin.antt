@@ -75,7 +75,8 @@ before_first L a fs xs k f x fk xk is = let out : nat_lt k 0 ≡ false = none k 
 
 pub before_end : (L : LaidSchema) (a : ℕ) (fs : List Slot) (xs : List (Option Datum))
     → SameOfStored (before L a (length fs)) (λ k. from L a) fs xs
-before_end L a fs xs k f x fk xk is = let yes : nat_lt k (length fs) ≡ true = lt-ltb k (length fs) (in_mapped fs k f fk) in
+before_end L a fs xs k f x fk xk is =
+    let yes : nat_lt k (length fs) ≡ true = lt-ltb k (length fs) (in_mapped fs k f fk) in
     rw yes refl
 
 -- what is stored has an alignment

@@ -18,8 +18,8 @@ use Rattle.fb_build.specs.CoveredTails.{IsTightInTail}
 use Rattle.fb_build.specs.InlineBytes.{IsTightInline, EachInline, EachInlineNamed}
 use Rattle.fb_value.proofs.RulesHoldOneByOne.{hold, no_rules}
 
-pub entry_from : (al : Aligned) (L : LaidSchema) (b : Bytes) (sort : Sort) (p : ℕ) (d : Datum) (lies : Sort → ℕ → Type 0)
-    → BehindBy al L b sort p lies → EntryBy al L b sort p d lies
+pub entry_from : (al : Aligned) (L : LaidSchema) (b : Bytes) (sort : Sort) (p : ℕ) (d : Datum)
+    (lies : Sort → ℕ → Type 0) → BehindBy al L b sort p lies → EntryBy al L b sort p d lies
 entry_from al L b (ref_place X) p d lies h = h
 entry_from al L b (part_place X) p d lies h = h
 entry_from al L b (inline_place kind) p d lies h = h

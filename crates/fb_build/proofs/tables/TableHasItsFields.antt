@@ -193,8 +193,8 @@ module _ (L : LaidSchema) (low m : ℕ) (s : Bytes) (c : ℕ) (within : c ≤ le
           } in
           let named : named_slot L s p j fs f.shape ≡ Some spot = rw (shape, code.present) refl in
           let place : place_of j f fs ≡ Some spot = rw h.fits.0 named in
-          rw place (code_keeps L m s u (suc j) (next_required fs) (is_present s p (suc j)) (p + slot_number s p j) code.inside
-          (omega (arith, code.reads, some)) now.present)
+          rw place (code_keeps L m s u (suc j) (next_required fs) (is_present s p (suc j)) (p + slot_number s p j)
+          code.inside (omega (arith, code.reads, some)) now.present)
 
   -- a union's value slot, with the code slot before it
   value_lies : (j : ℕ) (f g : Slot) (fs : List Slot) (u : ℕ) (x : Option Datum) (e e2 : ℕ)

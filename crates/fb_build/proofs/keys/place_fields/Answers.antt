@@ -41,8 +41,8 @@ place_field-end-requires-clause-short c =
     let low : k < length c.args.slots.now = omega (arith, c.loop-next-test.true, inv.low) in
     let fk = slots_at L c.args.slots.now k c.index-slots-k.result low c.index-slots-k.is in
     let x = got xs k (omega (arith, low, slots_long L c.args.slots.now, c.requires.known.long)) in
-    let n = named L inv.placed.laid fs xs c.loop-next.next k f x.0 inv.placed.next (omega (arith, c.loop-next-test.true))
-    fk x.1 in
+    let n = named L inv.placed.laid fs xs c.loop-next.next k f x.0 inv.placed.next
+    (omega (arith, c.loop-next-test.true)) fk x.1 in
     omega (arith, room_of_next L inv.placed.laid fs xs k f x.0 fk x.1 n, inv.placed.size, c.requires.narrow)
 
 pub loop-next-smaller : goal.loop-next-smaller
@@ -56,8 +56,8 @@ loop-next-smaller c =
     let low : k < length c.args.slots.now = omega (arith, c.loop-next-test.true, inv.low) in
     let fk = slots_at L c.args.slots.now k c.index-slots-k.result low c.index-slots-k.is in
     let x = got xs k (omega (arith, low, slots_long L c.args.slots.now, c.requires.known.long)) in
-    let n = named L inv.placed.laid fs xs c.loop-next.next k f x.0 inv.placed.next (omega (arith, c.loop-next-test.true))
-    fk x.1 in
+    let n = named L inv.placed.laid fs xs c.loop-next.next k f x.0 inv.placed.next
+    (omega (arith, c.loop-next-test.true)) fk x.1 in
     let some = simple_some L f.shape (c.requires.known.each k f x.0 fk x.1).0 in
     let end : c.place_field-end.result ≡ c.loop-next.end + inline_size L f.shape = c.place_field-end.ensures.end in
     omega (arith, room_of_next L inv.placed.laid fs xs k f x.0 fk x.1 n, inv.placed.size, some, end)
@@ -73,8 +73,8 @@ loop-next-preserved c =
     let low : k < length c.args.slots.now = omega (arith, c.loop-next-test.true, inv.low) in
     let fk = slots_at L c.args.slots.now k c.index-slots-k.result low c.index-slots-k.is in
     let x = got xs k (omega (arith, low, slots_long L c.args.slots.now, c.requires.known.long)) in
-    let n = named L inv.placed.laid fs xs c.loop-next.next k f x.0 inv.placed.next (omega (arith, c.loop-next-test.true))
-    fk x.1 in
+    let n = named L inv.placed.laid fs xs c.loop-next.next k f x.0 inv.placed.next
+    (omega (arith, c.loop-next-test.true)) fk x.1 in
     let e = c.place_field-end.result in
     let next : ArePlacedUpTo L fs xs (slice_set c.loop-next.ends k e) e (link_in c.order_fields-next.new.links k) =
     next_placed L k e c.loop-next.end c.loop-next.next c.order_fields-next.result fs xs c.loop-next.ends
