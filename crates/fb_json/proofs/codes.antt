@@ -1,2 +1,2 @@
 -- What the proofs of src/codes.rt use.
-pub mod SlotTellsItsCode
+pub mod CodeIsFoundInItsSlot

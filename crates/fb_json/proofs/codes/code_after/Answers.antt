@@ -2,7 +2,7 @@ use Rattle.std.proofs.Common.{refl}
 use Rattle.serde_json.specs.View.{members_view}
 use Rattle.fb_json.specs.Meant.{look}
 use Rattle.fb_json.proofs.members.MapFindsTheMembers.{found_some, found_none}
-use Rattle.fb_json.proofs.codes.SlotTellsItsCode.{told}
+use Rattle.fb_json.proofs.codes.CodeIsFoundInItsSlot.{told}
 use Rattle.fb_json.proofs.codes.code_after.Goals as goal
 
 pub returns-in-Some : goal.returns-in-Some
