@@ -7,6 +7,7 @@ The last line is 'N passed, M failed'. A row that takes over two minutes fails.
 """
 import os
 import re
+import resource
 import shutil
 import subprocess
 import sys
@@ -18,6 +19,9 @@ LONGEST = 2_147_483_647
 PAIRS = 87
 NOBODY = 65534
 SECONDS = 120
+# In bytes: a stack, and how much of a long text is read.
+SMALL_STACK = 256 * 1024
+FRONT = 1_000_000
 
 ONE = b"table T { a:int; } root_type T;"
 SEVEN = bytes.fromhex("0c000000 0000 0600 0800 0400 06000000 07000000")
@@ -219,6 +223,59 @@ def streams():
     tell("a closed pipe", (done.returncode, done.stderr) == (1, b"82 WriteFailed after 0\n"), f"{done}")
 
 
+def small_stack():
+    resource.setrlimit(resource.RLIMIT_STACK, (SMALL_STACK, SMALL_STACK))
+
+
+def chain(count, field):
+    """A schema with so many structs, each in the next, and a field of that type behind each."""
+    inner = "".join(f"struct S{i} {{ a:S{i - 1};{field} }} " for i in range(1, count))
+    return f"struct S0 {{ a:ubyte; }} {inner}table T {{ s:S{count - 1}; }} root_type T;".encode()
+
+
+def one_struct(values):
+    """A buffer of a table with one struct in its first slot, aligned to 1."""
+    return bytes.fromhex("0c000000 0600 0500 0400 0000 08000000") + values
+
+
+def deep_text(count, values):
+    """The text of the chain's value, line by line: the values of `b` stand behind the structs."""
+    yield b'{\n  "s": {\n'
+    for depth in range(2, count + 1):
+        yield b"  " * depth + b'"a": {\n'
+    yield b"  " * (count + 1) + b'"a": 0\n'
+    for depth in range(count, 0, -1):
+        yield b"  " * depth + (b"}" if depth == 1 or not values else b'},\n' + b"  " * depth + b'"b": %d' % values[count - depth]) + b"\n"
+    yield b"}\n"
+
+
+def nesting():
+    """Structs nested deep, on a small stack: the printer's doesn't grow with them."""
+    values = bytes(range(1, 251)) * 12
+    open("chain.fbs", "wb").write(chain(2500, " b:ubyte;"))
+    open("chain.bin", "wb").write(one_struct(bytes([0]) + values[:2499]))
+    done = run(["json", "chain.fbs", "chain.bin"], preexec_fn=small_stack)
+    want = b"".join(deep_text(2500, values))
+    tell("2,500 structs, each with a field behind it", (done.returncode, done.stdout) == (0, want), f"{done.stderr} {done.stdout[:99]}")
+    open("chain.fbs", "wb").write(chain(60_000, ""))
+    open("chain.bin", "wb").write(one_struct(bytes(1)))
+    with subprocess.Popen(
+        [PROGRAM, "json", "chain.fbs", "chain.bin"], stdout=subprocess.PIPE, stderr=subprocess.PIPE, preexec_fn=small_stack
+    ) as child:
+        front = child.stdout.read(FRONT)
+        child.stdout.close()
+        err = child.stderr.read()
+        status = child.wait(SECONDS)
+    want, length = [], 0
+    for line in deep_text(60_000, b""):
+        want.append(line)
+        length += len(line)
+        if length > FRONT:
+            break
+    told = (front == b"".join(want)[:FRONT], status, err[:21])
+    tell("60,000 structs, cut after a megabyte", told == (True, 1, b"82 WriteFailed after "), f"{told}")
+
+
 def usage():
     for words in (["--help"], ["-h"], ["help"]):
         helped(f"help by {words}", words, b"Usage: flatc <COMMAND>")
@@ -289,7 +346,7 @@ def main():
         for name, length in (("over", LONGEST + 1), ("longest", LONGEST)):
             with open(name, "wb") as file:
                 file.truncate(length)
-        for part in (jobs, refusals, unions, comparisons, pairs, files, streams, usage, examples, readme, shown):
+        for part in (jobs, refusals, unions, comparisons, pairs, files, streams, nesting, usage, examples, readme, shown):
             try:
                 part()
             except Exception as problem:
