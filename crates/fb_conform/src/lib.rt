@@ -3,8 +3,8 @@
 
 mod bodies;
 mod breaches;
-mod carry;
-mod conform;
+mod carried_values;
+mod comparison;
 mod laws;
 mod members;
 mod shapes;
@@ -13,6 +13,6 @@ mod structs;
 mod twins;
 
 pub use breaches::Breach;
-pub use carry::carry;
-pub use conform::conform;
+pub use carried_values::carry;
+pub use comparison::conform;
 pub use laws::{back_holds, carried_fits, carried_holds, carries_on, conforms_on};

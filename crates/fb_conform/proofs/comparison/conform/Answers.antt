@@ -3,8 +3,8 @@ use Rattle.std.proofs.lemmas.List.{length-map}
 use Rattle.fb_schema.specs.Schema.{DeclaredSchema}
 use Rattle.fb_schema.specs.Seen.{type_seen}
 use Rattle.fb_conform.specs.declared.breaches.Breach.TheVariants.{RootChanged, IdentifierChanged}
-use Rattle.fb_conform.proofs.conform.BreachIsTheFirst.{all_below}
-use Rattle.fb_conform.proofs.conform.conform.Goals as goal
+use Rattle.fb_conform.proofs.comparison.BreachIsTheFirst.{all_below}
+use Rattle.fb_conform.proofs.comparison.conform.Goals as goal
 
 pub returns-then-not-same_root-clause-exact : goal.returns-then-not-same_root-clause-exact
 returns-then-not-same_root-clause-exact c =

@@ -6,9 +6,9 @@ use Rattle.fb_value.specs.View.{view, entries_view}
 use Rattle.fb_value.specs.declared.values.Value.{Value}
 use Rattle.fb_value.proofs.EachVariantHasItsView.{view-Fields}
 use Rattle.fb_conform.specs.Carry.{carry_slots}
-use Rattle.fb_conform.proofs.carry.EntriesAreCarriedInOrder.{SoFar, one_carried, one_default, all_done, all_parts}
-use Rattle.fb_conform.proofs.carry.+carry.Goals as goal
-use Rattle.fb_conform.proofs.carry.+carry.Goals.{carry_entries-then-i-len+in_ok-entry, carry_entries-else-i-len}
+use Rattle.fb_conform.proofs.carried_values.EntriesAreCarriedInOrder.{SoFar, one_carried, one_default, all_done, all_parts}
+use Rattle.fb_conform.proofs.carried_values.+carry.Goals as goal
+use Rattle.fb_conform.proofs.carried_values.+carry.Goals.{carry_entries-then-i-len+in_ok-entry, carry_entries-else-i-len}
 
 pub carry_entries-returns : goal.carry_entries-returns
 carry_entries-returns t c =

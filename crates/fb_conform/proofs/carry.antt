@@ -1,2 +1,0 @@
--- What the proofs of src/carry.rt use.
-pub mod EntriesAreCarriedInOrder

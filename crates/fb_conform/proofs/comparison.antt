@@ -1,0 +1,2 @@
+-- What the proofs of src/comparison.rt use.
+pub mod BreachIsTheFirst

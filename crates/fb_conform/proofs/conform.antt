@@ -1,2 +1,0 @@
--- What the proofs of src/conform.rt use.
-pub mod BreachIsTheFirst

@@ -1,5 +1,0 @@
-use Rattle.fb_conform.proofs.conform.BreachIsTheFirst.{KeptBelow}
-use Rattle.fb_conform.proofs.conform.conform.Given as goal
-
-abbrev pub invariant-loop-i : goal.invariant-loop-i
-invariant-loop-i l = KeptBelow l.old l.new l.i
