@@ -70,6 +70,7 @@ pub(crate) fn put_line<W: Write>(page: &mut Page, out: &mut Noted<W>, indent: &I
         1 => put_str(page, out, if some { ",\n  " } else { "\n  " }),
         2 => put_str(page, out, if some { ",\n    " } else { "\n    " }),
         3 => put_str(page, out, if some { ",\n      " } else { "\n      " }),
+        4 => put_str(page, out, if some { ",\n        " } else { "\n        " }),
         _ => put_far_line(page, out, indent, some),
     }
 }
@@ -97,6 +98,15 @@ fn put_line_to_name<W: Write>(page: &mut Page, out: &mut Noted<W>, indent: &Inde
         1 => put_str(page, out, if some { ",\n  \"" } else { "\n  \"" }),
         2 => put_str(page, out, if some { ",\n    \"" } else { "\n    \"" }),
         3 => put_str(page, out, if some { ",\n      \"" } else { "\n      \"" }),
+        4 => put_str(
+            page,
+            out,
+            if some {
+                ",\n        \""
+            } else {
+                "\n        \""
+            },
+        ),
         _ => put_far_line_to_name(page, out, indent, some),
     }
 }

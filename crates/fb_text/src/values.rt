@@ -1,6 +1,6 @@
 //! Values in JSON texts.
-ghost use Rattle.std.specs.Prelude.{◌≡◌, ℕ, ◌<◌, ◌≤◌, ◌++◌, ◌||◌, List, length, Bool};
-ghost use Rattle.std.specs.Prelude.{Option, Some, IfSome};
+ghost use Rattle.std.specs.Prelude.{◌≡◌, ℕ, ◌+◌, ◌-◌, ◌^◌, ◌<◌, ◌≤◌, ◌++◌, ◌||◌, List, length, Bool};
+ghost use Rattle.std.specs.Prelude.{Option, Some, is_some, IfSome};
 ghost use Rattle.fb_schema.specs.Schema.{body_at, parts_in};
 ghost use Rattle.fb_schema.specs.Seen.{field_seen};
 ghost use Rattle.fb_schema.specs.declared.kinds.Kind.TheVariants.{Struct};
@@ -10,9 +10,9 @@ ghost use Rattle.fb_value.specs.Datum.{Datum, Parts, SlotEntries, a_struct, a_ta
 ghost use Rattle.fb_text.specs.Indents.{blanks};
 ghost use Rattle.fb_text.specs.Nested.{IsAt, IsInside, IsNext, left_text, steps_left};
 ghost use Rattle.fb_text.specs.Texts.{value_text};
-ghost use Rattle.fb_text.specs.Printed.{is_entry_printed, slot_text};
+ghost use Rattle.fb_text.specs.Printed.{is_entry_printed, slot_text, part_text};
 ghost use Rattle.fb_text.specs.Shown.{IsTop, HasWeight};
-ghost use Rattle.fb_text.specs.Writes.{state_of, Adds};
+ghost use Rattle.fb_text.specs.Writes.{State, state_of, Adds};
 
 use crate::indents::Indent;
 use crate::lines::{put_closing, put_line, put_member_line, put_str};
@@ -136,9 +136,78 @@ fn put_struct<W: Write, S: Shown>(
     let first = outermost(structure, shown);
     let mut here = first;
     put_str(page, out, "{");
-    while let Some(next) = put_next(page, out, style, indent, first, here) {
-        here = next;
+    loop {
+        let plain = put_plain(page, out, style, indent, here);
+        match put_next(page, out, style, indent, first, plain) {
+            Some(next) => here = next,
+            None => return,
+        }
     }
+}
+
+/// Adds the fields of a struct up to one that has a struct.
+#[cycle(print)]
+fn put_plain<W: Write, S: Shown>(
+    page: &mut Page,
+    out: &mut Noted<W>,
+    style: Style,
+    indent: &Indent,
+    here: Nested<S>,
+) -> Nested<S>
+    requires heavy { 0 < S.weight here.shown }
+    requires few { here.depth + here.left < 2 ^ 64 - 1 }
+    ensures same { result ≡ record here { next = result.next; some = result.some } }
+    ensures on { here.next ≤ result.next }
+    ensures text { (es : Parts) (behind : List ℕ) (end : State)
+        → S.shows here.shown style.entry.layout.now (Some (a_struct es))
+        → Adds (state_of W.contents page.new out.new) end (left_text style.entry.layout.now
+        style.entry.defaults (blanks indent.now) result es ++ behind)
+        → Adds (state_of W.contents page.old out.old) end (left_text style.entry.layout.now
+        style.entry.defaults (blanks indent.now) here es ++ behind) }
+{
+    let fields = style.layout.parts_of(here.structure);
+    let inner = indent.deeper(here.depth + 1);
+    let mut k = usize::from(here.next);
+    let mut some = here.some;
+    while k < fields.len() {
+        let field = &fields[k];
+        let part = here.shown.part(k as u16);
+        if struct_in(field.shape, part.find()).is_some() {
+            let next = k as u16;
+            return Nested { next, some, ..here };
+        }
+        some = put_part(page, out, style, &inner, some, field, part);
+        k += 1;
+    }
+    let next = k as u16;
+    Nested { next, some, ..here }
+}
+
+/// Adds a struct's field, and says whether there is one now.
+#[cycle(print)]
+fn put_part<W: Write, S: Shown>(
+    page: &mut Page,
+    out: &mut Noted<W>,
+    style: Style,
+    inner: &Indent,
+    some: bool,
+    field: &FieldInfo,
+    shown: S,
+) -> bool
+    ensures text { (o : Option Datum) → S.shows shown style.entry.layout.now o
+        → Adds (state_of W.contents page.old out.old) (state_of W.contents page.new out.new)
+        (part_text style.entry.layout.now style.entry.defaults (blanks inner.now) some
+        (field_seen field.now) o) }
+    ensures some { (o : Option Datum) → S.shows shown style.entry.layout.now o
+        → result ≡ (some || is_some o) }
+{
+    let found = shown.find();
+    if let Found::Absent = found {
+        return some;
+    }
+    put_member_line(page, out, inner, some, field.name.as_str(), false);
+    put_found(page, out, style, inner, field.shape, shown, found);
+    true
 }
 
 /// Adds what comes next of a struct or of one in it: a field, the begin of a struct, or a closing

@@ -41,7 +41,7 @@ or_true false = refl
 
 module _ (L : LaidSchema) (defaults : Bool) (indent : List ℕ) (u : TypeId) (es : Parts) (depth k : ℕ) (some : Bool)
     (behind : List ℕ) where
-  fields_next : (f : DeclaredField) → slice_get (parts_in (body_at L.schema u.0)) k ≡ Some f
+  pub fields_next : (f : DeclaredField) → slice_get (parts_in (body_at L.schema u.0)) k ≡ Some f
       → part_text L defaults (further (suc depth) indent) some f (nth_part es k)
       ++ (fields_text L defaults indent u es depth (suc k) (some || is_some (nth_part es k)) ++ behind)
       ≡ fields_text L defaults indent u es depth k some ++ behind

@@ -6,11 +6,12 @@ use Rattle.fb_value.specs.Datum.{Datum, a_table, a_member, count}
 use Rattle.fb_value.specs.Nth.{nth_entry, nth_part}
 use Rattle.fb_text.specs.Indents.{blanks}
 use Rattle.fb_layout.specs.Laid.{struct_at}
-use Rattle.fb_text.specs.Nested.{HasStruct, fields_text}
+use Rattle.fb_text.specs.Nested.{HasStruct, IsAt, fields_text}
 use Rattle.fb_text.specs.Shown.{IsTop}
 use Rattle.fb_text.proofs.writing.PiecesAddUp.{then, added_as}
 use Rattle.fb_text.proofs.nested.StructStandsInItsParent.{outermost_stands, stands_deeper, few_bytes}
-use Rattle.fb_text.proofs.values.NestedStructIsAField.{something_found, field_missing, field_first, struct_first}
+use Rattle.fb_text.proofs.values.NestedStructIsAField.{something_found, fields_next, field_missing, field_first}
+use Rattle.fb_text.proofs.values.NestedStructIsAField.{struct_first}
 use Rattle.fb_text.proofs.values.OneMemberMore.{members_step, members_behind, parts_end, items_step, items_end}
 use Rattle.fb_text.proofs.values.OneMemberMore.{table_text}
 use Rattle.fb_text.proofs.values.MemberIsItsCodeAndValue.{seen_there, seen_long, part_there, entry_added}
@@ -47,15 +48,52 @@ put_struct-loop-next-preserved g t c = record {
   inside = c.in-Some.ensures.inside;
   goes = λ ds shows.
       let (es, behind, at, more) = c.loop-next.invariant.goes ds shows in
-      let (fs, rest, on, next) = c.in-Some.ensures.text ds es behind shows at in
-      (fs, rest, on, λ end adds. more end (next end adds));
+      let there : IsAt g.S.Shown.shows c.args.style.layout.now c.args.style.defaults (blanks c.args.indent.now)
+          c.outermost-first.result.structure ds c.put_plain-plain.result es behind =
+          rw c.put_plain-plain.ensures.same at in
+      let (fs, rest, on, next) = c.in-Some.ensures.text ds es behind shows there in
+      (fs, rest, on, λ end adds. more end (c.put_plain-plain.ensures.text es behind end at.0 (next end adds)));
 }
 
-pub put_struct-returns : goal.put_struct-returns
-put_struct-returns g t c ds shows =
+pub put_struct-returns-in-None : goal.put_struct-returns-in-None
+put_struct-returns-in-None g t c ds shows =
     let (es, behind, at, more) = c.loop-next.invariant.goes ds (rw c.outermost-first.ensures shows) in
-    let all = more _ (c.in_default.ensures.text ds es behind (rw c.outermost-first.ensures shows) at) in
+    let there : IsAt g.S.Shown.shows c.args.style.layout.now c.args.style.defaults (blanks c.args.indent.now)
+        c.outermost-first.result.structure ds c.put_plain-plain.result es behind =
+        rw c.put_plain-plain.ensures.same at in
+    let all = more _ (c.put_plain-plain.ensures.text es behind _ at.0
+        (c.in-None.ensures.text ds es behind (rw c.outermost-first.ensures shows) there)) in
     then c.put_str.ensures (rw c.outermost-first.ensures at all)
+
+pub put_plain-loop-k-preserved : goal.put_plain-loop-k-preserved
+put_plain-loop-k-preserved g t c =
+    let L = c.args.style.layout.now in
+    let here = c.args.here in
+    let k = c.loop-k.k in
+    let x = c.index-fields-k.result in
+    let fields = c.parts_of-fields.result.now in
+    let less : k < length fields = omega (arith, c.loop-k-test.true) in
+    let there = rw c.parts_of-fields.ensures.parts at (seen_there fields k x less c.index-fields-k.is) in
+    let one : here.depth + 1 ≡ suc here.depth = omega arith in
+    let next : k + 1 ≡ suc k = omega arith in
+    record {
+      on = omega (arith, c.loop-k.invariant.on);
+      few = omega (arith, less, c.parts_of-fields.ensures.few);
+      text = λ es behind end shows adds.
+          let part = c.part-part.ensures.shows L es shows in
+          let text = rw (c.deeper-inner.ensures, one) at (c.put_part-some.ensures.text (nth_part es k) part) in
+          c.loop-k.invariant.text es behind end shows
+              (added_as (fields_next L c.args.style.defaults (blanks c.args.indent.now) here.structure es here.depth k
+              c.loop-k.some behind (field_seen x) there)
+          (then text (rw (next, c.put_part-some.ensures.some (nth_part es k) part) at adds)));
+    }
+
+pub put_plain-returns-then-is_some-clause-text : goal.put_plain-returns-then-is_some-clause-text
+put_plain-returns-then-is_some-clause-text g t c es behind end shows adds =
+    c.loop-k.invariant.text es behind end shows adds
+
+pub put_plain-returns-clause-text : goal.put_plain-returns-clause-text
+put_plain-returns-clause-text g t c es behind end shows adds = c.loop-k.invariant.text es behind end shows adds
 
 pub put_next-returns-in-Some-clause-text : goal.put_next-returns-in-Some-clause-text
 put_next-returns-in-Some-clause-text g t c ds es behind shows at =

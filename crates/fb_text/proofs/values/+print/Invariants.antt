@@ -1,9 +1,9 @@
-use Rattle.std.proofs.Common.{◌+◌, ◌*◌, Some, false, drop, map}
+use Rattle.std.proofs.Common.{◌+◌, ◌-◌, ◌*◌, ◌≤◌, ◌++◌, List, ℕ, Some, false, drop, map}
 use Rattle.fb_schema.specs.Seen.{field_seen}
 use Rattle.fb_value.specs.Datum.{Parts, SlotEntries, a_table, a_struct, a_vector}
 use Rattle.fb_read.specs.Tails.{entries_from, parts_from}
 use Rattle.fb_text.specs.Indents.{blanks}
-use Rattle.fb_text.specs.Nested.{GoesOn, IsInside, fields_text, steps_left}
+use Rattle.fb_text.specs.Nested.{GoesOn, IsInside, fields_text, left_text, steps_left}
 use Rattle.fb_text.specs.Texts.{items_text, members_text}
 use Rattle.fb_text.specs.Writes.{State, state_of, Adds}
 use Rattle.fb_text.proofs.values.+print.Given as goal
@@ -14,6 +14,12 @@ decreases-put_value g l = 8 * g.S.Shown.weight l.shown + 3
 
 abbrev pub decreases-put_found : goal.decreases-put_found
 decreases-put_found g l = 8 * g.S.Shown.weight l.shown + 2
+
+abbrev pub decreases-put_part : goal.decreases-put_part
+decreases-put_part g l = 8 * g.S.Shown.weight l.shown + 4
+
+abbrev pub decreases-put_plain : goal.decreases-put_plain
+decreases-put_plain g l = 8 * g.S.Shown.weight l.here.shown
 
 abbrev pub decreases-put_member : goal.decreases-put_member
 decreases-put_member g l = 8 * g.S.Shown.weight l.shown + 4
@@ -52,6 +58,22 @@ invariant-put_struct-loop-next g l = record {
 
 abbrev pub decreases-put_struct-loop-next : goal.decreases-put_struct-loop-next
 decreases-put_struct-loop-next g l = steps_left l.here
+
+abbrev pub invariant-put_plain-loop-k : goal.invariant-put_plain-loop-k
+invariant-put_plain-loop-k g l = record {
+  on : l.fn.here.next ≤ l.k;
+  few : l.k ≤ 65535;
+  text : (es : Parts) (behind : List ℕ) (end : State)
+      → g.S.Shown.shows l.fn.here.shown l.fn.style.layout.now (Some (a_struct es))
+      → Adds (state_of g.W.Write.contents l.page l.out) end
+      (fields_text l.fn.style.layout.now l.fn.style.defaults (blanks l.fn.indent) l.fn.here.structure es l.fn.here.depth
+      l.k l.some ++ behind)
+      → Adds (state_of g.W.Write.contents l.initial.page l.initial.out) end
+      (left_text l.fn.style.layout.now l.fn.style.defaults (blanks l.fn.indent) l.fn.here es ++ behind);
+}
+
+abbrev pub decreases-put_plain-loop-k : goal.decreases-put_plain-loop-k
+decreases-put_plain-loop-k g l = 65536 - l.k
 
 abbrev pub invariant-put_vector-loop-i : goal.invariant-put_vector-loop-i
 invariant-put_vector-loop-i g l =
