@@ -137,6 +137,9 @@ fn put_struct<W: Write, S: Shown>(
     let mut here = first;
     put_str(page, out, "{");
     loop {
+        if out.failed() {
+            return; // no more of it is written
+        }
         let plain = put_plain(page, out, style, indent, here);
         match put_next(page, out, style, indent, first, plain) {
             Some(next) => here = next,

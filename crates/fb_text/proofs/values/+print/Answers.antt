@@ -1,5 +1,5 @@
 use Rattle.std.proofs.Common.{◌≡◌, suc, true, min, ◌+◌, ◌-◌, ◌^◌, ◌<◌, ◌++◌, [], slice_index, slice_index_or}
-use Rattle.std.proofs.Common.{append-nil, Option, None, Some, length, map, sym, subst, ap, ◌∙◌, add-one, arith}
+use Rattle.std.proofs.Common.{append-nil, refl, true≢false, Option, None, Some, length, map, sym, subst, ap, ◌∙◌, add-one, arith}
 use Rattle.fb_schema.specs.Schema.{body_at, slots_in}
 use Rattle.fb_schema.specs.Seen.{field_seen}
 use Rattle.fb_value.specs.Datum.{Datum, a_table, a_member, count}
@@ -8,7 +8,8 @@ use Rattle.fb_text.specs.Indents.{blanks}
 use Rattle.fb_layout.specs.Laid.{struct_at}
 use Rattle.fb_text.specs.Nested.{HasStruct, IsAt, fields_text}
 use Rattle.fb_text.specs.Shown.{IsTop}
-use Rattle.fb_text.proofs.writing.PiecesAddUp.{then, added_as}
+use Rattle.fb_text.specs.Writes.{state_of}
+use Rattle.fb_text.proofs.writing.PiecesAddUp.{then, added_as, added_waiting}
 use Rattle.fb_text.proofs.nested.StructStandsInItsParent.{outermost_stands, stands_deeper, few_bytes}
 use Rattle.fb_text.proofs.values.NestedStructIsAField.{something_found, fields_next, field_missing, field_first}
 use Rattle.fb_text.proofs.values.NestedStructIsAField.{struct_first}
@@ -30,8 +31,8 @@ put_member-returns-clause-text g t c o shows =
     (c.put_found.ensures d (subst (λ (x : Option Datum). g.S.Shown.shows c.args.shown L x) e shows)
         (subst (λ (x : Option Datum). IsTop c.find-found.result x) e top)))
 
-pub put_struct-loop-next-init : goal.put_struct-loop-next-init
-put_struct-loop-next-init g t c =
+pub put_struct-loop-first-init : goal.put_struct-loop-first-init
+put_struct-loop-first-init g t c =
     let L = c.args.style.layout.now in
     record {
       inside = rw c.outermost-first.ensures (record { heavy = c.requires; light = omega arith; few = omega arith });
@@ -43,11 +44,11 @@ put_struct-loop-next-init g t c =
       ));
     }
 
-pub put_struct-loop-next-preserved : goal.put_struct-loop-next-preserved
-put_struct-loop-next-preserved g t c = record {
+pub put_struct-loop-first-preserved : goal.put_struct-loop-first-preserved
+put_struct-loop-first-preserved g t c = record {
   inside = c.in-Some.ensures.inside;
   goes = λ ds shows.
-      let (es, behind, at, more) = c.loop-next.invariant.goes ds shows in
+      let (es, behind, at, more) = c.loop-first.invariant.goes ds shows in
       let there : IsAt g.S.Shown.shows c.args.style.layout.now c.args.style.defaults (blanks c.args.indent.now)
           c.outermost-first.result.structure ds c.put_plain-plain.result es behind =
           rw c.put_plain-plain.ensures.same at in
@@ -55,9 +56,17 @@ put_struct-loop-next-preserved g t c = record {
       (fs, rest, on, λ end adds. more end (c.put_plain-plain.ensures.text es behind end at.0 (next end adds)));
 }
 
+pub put_struct-returns-then-failed : goal.put_struct-returns-then-failed
+put_struct-returns-then-failed g t c ds shows =
+    let (es, behind, at, more) = c.loop-first.invariant.goes ds (rw c.outermost-first.ensures shows) in
+    let now = state_of g.W.Write.contents c.loop-first.page c.loop-first.out in
+    let all = more now (added_waiting now now _ refl refl refl
+        (λ fine. absurd (true≢false (sym c.if-failed.true ∙ (c.failed.ensures ∙ fine))))) in
+    then c.put_str.ensures (rw c.outermost-first.ensures at all)
+
 pub put_struct-returns-in-None : goal.put_struct-returns-in-None
 put_struct-returns-in-None g t c ds shows =
-    let (es, behind, at, more) = c.loop-next.invariant.goes ds (rw c.outermost-first.ensures shows) in
+    let (es, behind, at, more) = c.loop-first.invariant.goes ds (rw c.outermost-first.ensures shows) in
     let there : IsAt g.S.Shown.shows c.args.style.layout.now c.args.style.defaults (blanks c.args.indent.now)
         c.outermost-first.result.structure ds c.put_plain-plain.result es behind =
         rw c.put_plain-plain.ensures.same at in

@@ -47,8 +47,8 @@ invariant-put_table-loop-k g l =
     (members_text l.style.layout.now l.style.defaults (blanks l.inner) (blanks l.indent) false (map field_seen l.slots)
     es)
 
-abbrev pub invariant-put_struct-loop-next : goal.invariant-put_struct-loop-next
-invariant-put_struct-loop-next g l = record {
+abbrev pub invariant-put_struct-loop-first : goal.invariant-put_struct-loop-first
+invariant-put_struct-loop-first g l = record {
   inside : IsInside g.S.Shown.weight l.first.shown l.here;
   goes : (ds : Parts) → g.S.Shown.shows l.first.shown l.style.layout.now (Some (a_struct ds))
       → GoesOn g.S.Shown.shows l.style.layout.now l.style.defaults (blanks l.indent) l.first.structure ds l.here
@@ -56,8 +56,8 @@ invariant-put_struct-loop-next g l = record {
       (fields_text l.style.layout.now l.style.defaults (blanks l.indent) l.first.structure ds 0 0 false);
 }
 
-abbrev pub decreases-put_struct-loop-next : goal.decreases-put_struct-loop-next
-decreases-put_struct-loop-next g l = steps_left l.here
+abbrev pub decreases-put_struct-loop-first : goal.decreases-put_struct-loop-first
+decreases-put_struct-loop-first g l = steps_left l.here
 
 abbrev pub invariant-put_plain-loop-k : goal.invariant-put_plain-loop-k
 invariant-put_plain-loop-k g l = record {
