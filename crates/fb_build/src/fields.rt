@@ -212,7 +212,8 @@ fn lay_field(
 fn start_align(layout: &Layout, slots: &[FieldInfo], first: usize) -> u32
     requires within { first ≤ length slots.now }
     ensures { (xs : List (Option Datum))
-        → LinksNext layout.now (λ k f. false) (slots_seen layout.now slots.now) xs first → result ≡ max 4 (stored_align layout.now (slots_seen layout.now slots.now) xs) }
+        → LinksNext layout.now (λ k f. false) (slots_seen layout.now slots.now) xs first
+        → result ≡ max 4 (stored_align layout.now (slots_seen layout.now slots.now) xs) }
 {
     if first == 0 {
         return 4;

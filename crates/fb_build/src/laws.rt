@@ -25,7 +25,7 @@ pub fn zero_is_computed()
     ensures { ZeroIsComputed }
 {}
 
-/// Bytes laid in front keep that tables have nothing to spare.
+/// Bytes laid in front keep that tables have no slack.
 pub fn tight_kept_in_front()
     ensures { TightKeptInFront }
 {}
@@ -35,7 +35,7 @@ pub fn reached_kept_in_front()
     ensures { ReachedKeptInFront }
 {}
 
-/// Bytes laid in front keep that numbers and structs have nothing to spare.
+/// Bytes laid in front keep that numbers and structs have no slack.
 pub fn inline_kept_in_front()
     ensures { InlineKeptInFront }
 {}
@@ -70,7 +70,7 @@ pub fn reached_is_listed()
     ensures { ReachedIsListed }
 {}
 
-/// A buffer is covered once its header is laid in front of a tail that has nothing to spare.
+/// A buffer is covered once its header is laid in front of a tail that has no slack.
 pub fn covered_whole()
     ensures { CoveredWhole }
 {}

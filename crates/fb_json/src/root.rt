@@ -16,7 +16,7 @@ use fb_value::{Limits, Value};
 use serde_json::Value as Json;
 use std::alloc::Global;
 
-/// The value of the root table that a tree means. `unknown` lets names through that no field has.
+/// The value of the root table that a tree means. `unknown` ignores unknown JSON fields.
 pub fn value_of(
     alloc: Global,
     layout: &Layout,

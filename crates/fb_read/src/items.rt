@@ -65,7 +65,7 @@ impl<'a> Items<'a> {
         }
     }
 
-    /// The text that an element is, lent.
+    /// The string that an element is, borrowed from the buffer.
     pub fn text(self, i: u32) -> Option<&'a str>
         requires { i < self.len }
         ensures { (ds : Parts) → ShowsItems self.entry ds → option_copied result ≡ text_in (nth_part ds i) }

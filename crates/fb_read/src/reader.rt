@@ -25,7 +25,7 @@ use ticks::Ticks;
 
 /// The value that the bytes hold, or the least of their faults.
 ///
-/// `raw` leaves out the check of the file identifier. `entries` rises by one for each table, vector
+/// `raw` skips the file identifier check. `entries` rises by one for each table, vector
 /// and text that is entered. The bytes are read as the FlatBuffers documentation lays them out
 /// ("FlatBuffer Internals").
 ///
@@ -73,8 +73,8 @@ pub fn read<'a>(
 
 /// Whether the bytes hold a value; else the least of their faults.
 ///
-/// `raw` leaves out the check of the file identifier. `entries` rises by one for each table, vector
-/// and text that is entered. No memory is taken.
+/// `raw` skips the file identifier check. `entries` rises by one for each table, vector
+/// and text that is entered. Nothing is allocated.
 #[tactic(auto, using(crate::proofs::source::AlignmentsArePositive::layout_sizes))]
 pub fn verify<'a>(
     layout: &'a Layout,

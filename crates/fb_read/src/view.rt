@@ -88,7 +88,7 @@ impl<'a> View<'a> {
         }
     }
 
-    /// The text in a slot, lent.
+    /// The string in a slot, borrowed from the buffer.
     pub fn text(self, slot: u16) -> Option<&'a str>
         ensures { (d : Datum) → Shows self.entry d → option_copied result ≡ text_in (entry_of d slot) }
     {

@@ -44,7 +44,7 @@ onto_utf8 zero n behind h = h
 onto_utf8 (suc k) n behind h =
     let small : n % 10 < 10 = omega arith in
     let first = IsUtf8-from_ascii (digit_glyph false (n % 10) ∷ [])
-        (one_ascii (digit_glyph false (n % 10)) (glyph_below (n % 10) (nat_lt (n % 10) 10) small)) in
+    (one_ascii (digit_glyph false (n % 10)) (glyph_below (n % 10) (nat_lt (n % 10) 10) small)) in
     let more = IsUtf8-append (digit_glyph false (n % 10) ∷ []) behind first h in
     either_utf8 (n / 10 == 0) _ _ more (onto_utf8 k (n / 10) _ more)
 
@@ -66,8 +66,8 @@ module _ (body : DeclaredBody) (names : BodyUtf8 body) where
   bit_utf8 : (bit m : ℕ) (some : Bool) → IsUtf8 (bit_text (name_numbered body) bit m some)
   bit_utf8 bit m some =
       either_utf8 (is_odd m) _ []
-          (IsUtf8-append _ _ (either_utf8 some (codes " ") [] (IsUtf8-are_ascii (codes " ") refl) IsUtf8-nil)
-          (or_nothing (name_numbered body (pos bit)) (numbered_utf8 body (pos bit) names))) IsUtf8-nil
+      (IsUtf8-append _ _ (either_utf8 some (codes " ") [] (IsUtf8-are_ascii (codes " ") refl) IsUtf8-nil)
+      (or_nothing (name_numbered body (pos bit)) (numbered_utf8 body (pos bit) names))) IsUtf8-nil
 
   bits_utf8 : (left bit m : ℕ) (some : Bool) → IsUtf8 (bits_text (name_numbered body) left bit m some)
   unfolding bits_text
@@ -126,7 +126,7 @@ module _ (L : LaidSchema) (names : (t : ℕ) → BodyUtf8 (body_at L.schema t)) 
       → IsUtf8 (code_text L.schema indent some name shape d)
   code_utf8 indent some name (One (Union u)) (a_member c d) h n =
       IsUtf8-append _ _ (member_line_utf8 indent some name (codes "_type") h n (IsUtf8-are_ascii (codes "_type") refl))
-          (quotes_utf8 _ (member_name_utf8 (body_at L.schema u.0) c (names u.0)))
+      (quotes_utf8 _ (member_name_utf8 (body_at L.schema u.0) c (names u.0)))
   code_utf8 indent some name _ _ h n = IsUtf8-nil
 
   entry_utf8 : (printed : Bool) (indent : List ℕ) (some : Bool) (name : Name) (shape : Shape) (d : Datum)
@@ -135,7 +135,7 @@ module _ (L : LaidSchema) (names : (t : ℕ) → BodyUtf8 (body_at L.schema t)) 
   entry_utf8 false indent some name shape d value h n v = IsUtf8-nil
   entry_utf8 true indent some name shape d value h n v =
       IsUtf8-append _ _ (code_utf8 indent some name shape d h n)
-          (IsUtf8-append _ value (member_line_utf8 indent (some || has_code shape d) name [] h n IsUtf8-nil) v)
+      (IsUtf8-append _ value (member_line_utf8 indent (some || has_code shape d) name [] h n IsUtf8-nil) v)
 
   mutual
     value_utf8 : (indent : List ℕ) (shape : Shape) (d : Datum) → IsUtf8 indent → HasUtf8 d
@@ -147,14 +147,14 @@ module _ (L : LaidSchema) (names : (t : ℕ) → BodyUtf8 (body_at L.schema t)) 
         (IsUtf8-are_ascii (codes "[") refl) (items_utf8 (inside indent) indent kind false ds (inside_utf8 indent i) i h)
     value_utf8 indent (One (Struct s)) (a_struct ds) i h =
         IsUtf8-append (codes "{") _
-            (IsUtf8-are_ascii (codes "{") refl)
-            (parts_text_utf8 (inside indent) indent false (parts_in (body_at L.schema s.0)) ds (inside_utf8 indent i) i
-            (parts_utf8 _ (names s.0)) h)
+        (IsUtf8-are_ascii (codes "{") refl)
+        (parts_text_utf8 (inside indent) indent false (parts_in (body_at L.schema s.0)) ds (inside_utf8 indent i) i
+        (parts_utf8 _ (names s.0)) h)
     value_utf8 indent shape (a_table type es) i h =
         IsUtf8-append (codes "{") _
-            (IsUtf8-are_ascii (codes "{") refl)
-            (members_text_utf8 (inside indent) indent false (slots_in (body_at L.schema type)) es (inside_utf8 indent i)
-            i (slots_utf8 _ (names type)) h)
+        (IsUtf8-are_ascii (codes "{") refl)
+        (members_text_utf8 (inside indent) indent false (slots_in (body_at L.schema type)) es (inside_utf8 indent i)
+        i (slots_utf8 _ (names type)) h)
     value_utf8 indent shape (a_member c d) i h = value_utf8 indent shape d i h
     value_utf8 indent _ _ i h = IsUtf8-nil
 
@@ -164,13 +164,13 @@ module _ (L : LaidSchema) (names : (t : ℕ) → BodyUtf8 (body_at L.schema t)) 
         (IsUtf8-are_ascii (codes "]") refl)
     items_utf8 inner indent kind some (more_parts d ds) i o h =
         IsUtf8-append _ _ (line_utf8 inner some i)
-            (IsUtf8-append _ _ (value_utf8 inner (One kind) d i h.0) (items_utf8 inner indent kind true ds i o h.1))
+        (IsUtf8-append _ _ (value_utf8 inner (One kind) d i h.0) (items_utf8 inner indent kind true ds i o h.1))
 
     parts_text_utf8 : (inner indent : List ℕ) (some : Bool) (fs : List DeclaredField) (ds : Parts) → IsUtf8 inner
         → IsUtf8 indent → FieldsUtf8 fs → HaveUtf8 ds → IsUtf8 (parts_text L defaults inner indent some fs ds)
     parts_text_utf8 inner indent some (f ∷ fs) (more_parts d ds) i o n h =
         IsUtf8-append _ _ (member_line_utf8 inner some f.name [] i n.0 IsUtf8-nil)
-            (IsUtf8-append _ _ (value_utf8 inner f.shape d i h.0) (parts_text_utf8 inner indent true fs ds i o n.1 h.1))
+        (IsUtf8-append _ _ (value_utf8 inner f.shape d i h.0) (parts_text_utf8 inner indent true fs ds i o n.1 h.1))
     parts_text_utf8 inner indent some [] ds i o n h = IsUtf8-append _ (codes "}") (closing_utf8 indent some o)
         (IsUtf8-are_ascii (codes "}") refl)
     parts_text_utf8 inner indent some (f ∷ fs) no_parts i o n h = IsUtf8-append _ (codes "}")
@@ -181,7 +181,7 @@ module _ (L : LaidSchema) (names : (t : ℕ) → BodyUtf8 (body_at L.schema t)) 
         → IsUtf8 (members_text L defaults inner indent some fs es)
     members_text_utf8 inner indent some (f ∷ fs) (present_entry d es) i o n h =
         IsUtf8-append _ _ (entry_utf8 (is_printed defaults f d) inner some f.name f.shape d _ i n.0
-            (value_utf8 inner f.shape d i h.0))
+        (value_utf8 inner f.shape d i h.0))
         (members_text_utf8 inner indent (some || is_printed defaults f d) fs es i o n.1 h.1)
     members_text_utf8 inner indent some (f ∷ fs) (absent_entry es) i o n h =
         members_text_utf8 inner indent some fs es i o n.1 h

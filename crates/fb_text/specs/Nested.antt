@@ -19,7 +19,7 @@ use Rattle.fb_text.specs.declared.nested.Nested.{Nested}
 abbrev pub HasByte : LaidSchema → TypeId → ℕ → DeclaredField → ℕ → Type 0
 HasByte L t k f byte =
     (slice_index (struct_at L t.0).offsets k ≤ byte)
-        × (byte < slice_index (struct_at L t.0).offsets k + size_of L (kind_in (stored_shape L.schema f.shape)))
+    × (byte < slice_index (struct_at L t.0).offsets k + size_of L (kind_in (stored_shape L.schema f.shape)))
 
 -- a field of a struct is a struct
 pub record HasStruct (L : LaidSchema) (t : TypeId) (ds : Parts) (k : ℕ) (u : TypeId) (es : Parts) : Type 0 where
@@ -32,7 +32,7 @@ pub record HasStruct (L : LaidSchema) (t : TypeId) (ds : Parts) (k : ℕ) (u : T
 abbrev pub fields_text : LaidSchema → Bool → List ℕ → TypeId → Parts → ℕ → ℕ → Bool → List ℕ
 fields_text L defaults indent t ds depth k some =
     parts_text L defaults (further (suc depth) indent) (further depth indent) some
-        (drop k (parts_in (body_at L.schema t.0))) (parts_from k ds)
+    (drop k (parts_in (body_at L.schema t.0))) (parts_from k ds)
 
 -- So many structs down in a struct, and so many bytes behind its begin, stands another. Behind that one's text stands a
 -- text.
@@ -56,7 +56,7 @@ abbrev pub IsAt : {S : Type 0} → (S → LaidSchema → Option Datum → Type 0
     → Nested S → Parts → List ℕ → Type 0
 IsAt shows L defaults indent t ds here es behind =
     shows here.shown L (Some (a_struct es)) × StandsIn L defaults indent t ds here.depth here.at here.structure es
-        behind
+    behind
 
 -- what is left to print of its text
 abbrev pub left_text : {S : Type 0} → LaidSchema → Bool → List ℕ → Nested S → Parts → List ℕ

@@ -139,13 +139,13 @@ abbrev mutual
   pub parts_text : LaidSchema → Bool → List ℕ → List ℕ → Bool → List DeclaredField → Parts → List ℕ
   parts_text L defaults inner indent some (f ∷ fs) (more_parts d ds) =
       member_line inner some f.name []
-          ++ (value_text L defaults inner f.shape d ++ parts_text L defaults inner indent true fs ds)
+      ++ (value_text L defaults inner f.shape d ++ parts_text L defaults inner indent true fs ds)
   parts_text L defaults inner indent some _ _ = closing indent some ++ codes "}"
 
   pub members_text : LaidSchema → Bool → List ℕ → List ℕ → Bool → List DeclaredField → SlotEntries → List ℕ
   members_text L defaults inner indent some (f ∷ fs) (present_entry d es) =
       entry_text L.schema (is_printed defaults f d) inner some f.name f.shape d (value_text L defaults inner f.shape d)
-          ++ members_text L defaults inner indent (some || is_printed defaults f d) fs es
+      ++ members_text L defaults inner indent (some || is_printed defaults f d) fs es
   members_text L defaults inner indent some (f ∷ fs) (absent_entry es) = members_text L defaults inner indent some fs es
   members_text L defaults inner indent some _ _ = closing indent some ++ codes "}"
 

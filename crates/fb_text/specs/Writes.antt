@@ -19,8 +19,12 @@ pub record State : Type 0 where
 
 abbrev pub state_of : {W : Type 0} → (W → Option (List ℕ)) → Page → Noted W → State
 state_of contents page out =
-    record { known = contents (writer_of out); failed = write_failed out; waits = pending page;
-    written = written_before page }
+    record {
+      known = contents (writer_of out);
+      failed = write_failed out;
+      waits = pending page;
+      written = written_before page;
+    }
 
 -- a count of bytes, which stops at the greatest one
 abbrev pub counted : ℕ → ℕ

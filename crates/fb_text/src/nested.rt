@@ -110,7 +110,7 @@ fn field_at(layout: &Layout, structure: TypeId, byte: u32) -> u16
         → HasByte layout.now structure k f byte → result ≡ k }
     ensures few { result < 65535 }
 {
-    let _schema = layout.schema();
+    let _schema = layout.schema(); // its contract: the layout is well made
     let mut low = 0usize;
     let mut high = layout.parts_of(structure).len();
     while low + 1 < high {
@@ -137,7 +137,7 @@ fn inner_at<S: Shown>(layout: &Layout, here: Nested<S>, byte: u32) -> Nested<S>
         → IsStructAt S.shows layout.now u es
         (here.at + slice_index (struct_at layout.now here.structure.0).offsets k) result }
 {
-    let _schema = layout.schema();
+    let _schema = layout.schema(); // its contract: the layout is well made
     let fields = layout.parts_of(here.structure);
     let next = field_at(layout, here.structure, byte.saturating_sub(here.at));
     let k = usize::from(next);
@@ -180,7 +180,7 @@ pub(crate) fn parent_of<S: Shown>(
         × IsAt S.shows layout.now defaults indent outermost.structure ds result around rest
         × (behind ≡ left_text layout.now defaults indent result around ++ rest) }
 {
-    let _schema = layout.schema();
+    let _schema = layout.schema(); // its contract: the layout is well made
     let mut here = outermost;
     for _level in 0..inner.depth - 1 {
         here = inner_at(layout, here, inner.at);

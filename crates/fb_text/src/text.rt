@@ -49,7 +49,7 @@ fn write_root<W: Write, S: Shown>(
     finish(&mut page, out)
 }
 
-/// Writes the JSON text of a table. `defaults` prints numbers at their defaults too.
+/// Writes the JSON text of a table. `defaults` includes fields with default values.
 ///
 /// No memory is allocated. A union's member without a name is reported before the first byte. Nothing is
 /// written where the writer's last write failed.
@@ -81,7 +81,7 @@ pub fn write_text<W: Write>(
     write_root(Entry::Table(*view), style, out)
 }
 
-/// The JSON text of a value of the root table. `defaults` prints numbers at their defaults too.
+/// The JSON text of a value of the root table. `defaults` includes fields with default values.
 pub fn text_of(
     alloc: Global,
     layout: &Layout,

@@ -9,11 +9,11 @@ ghost use Rattle.fb_value.specs.Counts.{nesting};
 ghost use Rattle.fb_value.specs.Fits.{Fits, PartsFit, EachFits, EntriesFit, kind_of_type, kind_at, FitsType};
 ghost use Rattle.fb_value.specs.Entries.{EntryFits};
 
-use crate::values::Value;
 use crate::shapes::{
     elements_wanted, is_table, may_be_absent, member_wanted, struct_wanted, takes_number,
     takes_text, takes_unknown,
 };
+use crate::values::Value;
 use fb_layout::{Layout, kind_in};
 use fb_schema::{Body, FieldInfo, Kind, Schema, Shape, TypeId};
 

@@ -42,7 +42,7 @@ pub fn one_least_fault()
     ensures { OneLeastFault }
 {}
 
-/// What fits the root, with at most 127 tables in one another, is nested at most 300 deep.
+/// What fits the root, with a nesting depth of at most 127 tables, is nested at most 300 deep.
 pub fn nesting_of_depth()
     ensures { NestingOfDepth }
 {}

@@ -4,7 +4,7 @@ ghost use Rattle.std.specs.Option.{SomeIff};
 
 use std::marker::Model;
 
-/// The most tables in one another, and the most cells.
+/// The maximum nesting depth of tables, and the maximum number of cells.
 #[derive(Clone, Copy, Debug)]
 pub struct Limits {
     depth: u8,
@@ -35,7 +35,7 @@ impl Limits {
         Some(Limits { depth, cells })
     }
 
-    /// The most tables in one another.
+    /// The maximum nesting depth of tables.
     pub fn most_depth(&self) -> u8
         ensures exact { result ≡ self.now.depth }
         ensures some { 1 ≤ result }

@@ -1,4 +1,4 @@
-//! How many bytes are surely enough for a value.
+//! An upper bound on the length of a value's buffer.
 ghost use Rattle.std.specs.Prelude.{◌≡◌, ◌≤◌, ◌+◌, ◌-◌, ◌*◌, option_map};
 ghost use Rattle.fb_layout.specs.Seen.{kind_seen, shape_seen, slot_seen, slots_seen};
 ghost use Rattle.fb_layout.specs.Widths.{widest, table_align};
@@ -19,7 +19,7 @@ const HEADER: usize = 8;
 // The greatest room: what a reference of 4 bytes with a sign can span.
 const MOST: usize = 2_147_483_647;
 
-/// The bytes that are surely enough for a value of the root table; None exactly where they are over
+/// An upper bound on the length of a root value's buffer in bytes; None exactly where it is over
 /// 2,147,483,647.
 pub fn room(layout: &Layout, value: &Value) -> Option<u32>
     requires nests { nesting (view value.now) ≤ 300 }

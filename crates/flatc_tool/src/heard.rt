@@ -68,7 +68,7 @@ impl<R: Read> Read for Heard<R> {
     }
 }
 
-/// All bytes of a reader, `most` of them at most, by at most `most + 2` reads.
+/// All bytes of a reader, at most `most` of them.
 ///
 /// `FileRead` is returned at the first read that fails, `FileTooLong` where a byte past `most` came,
 /// and `Memory` where the bytes can't be kept.

@@ -49,7 +49,7 @@ fn binary_under(
         Ok(tree) => tree,
         Err(fault) => return Err(fault),
     };
-    let _depth = limits.most_depth();
+    let _depth = limits.most_depth(); // its contract: at most 127
     let value = match value_of(alloc, layout, &tree, limits, unknown) {
         Ok(value) => value,
         Err(fault) => return Err(ToolFault::Json(fault)),
@@ -62,9 +62,8 @@ fn binary_under(
 
 /// The buffer of a JSON text under a schema text.
 ///
-/// `unknown` lets members through that no field has. The schema is looked at first, then the JSON
-/// text, the value that it means, and that value's size; the first of these that refuses is
-/// answered.
+/// `unknown` ignores unknown JSON fields. The schema is checked first, then the JSON text, the value
+/// that it means, and that value's size; the error is that of the first of these that refuses.
 pub fn to_binary(
     alloc: Global,
     schema: &[u8],

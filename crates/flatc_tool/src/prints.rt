@@ -95,7 +95,7 @@ fn text_fault(fault: ToolFault) -> ToolFault
 /// The JSON text of the value that a buffer holds under a schema text.
 ///
 /// `raw` skips the file identifier check, and `defaults` includes scalars with their
-/// defaults too. The schema is checked before the bytes, and the bytes before a union's code that
+/// default values. The schema is checked before the bytes, and the bytes before a union's code that
 /// has no name.
 pub fn to_json(
     alloc: Global,

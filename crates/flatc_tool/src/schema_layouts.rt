@@ -1,4 +1,4 @@
-//! Schema texts of the whole language.
+//! Schema texts and their layouts.
 ghost use Rattle.std.specs.Prelude.{◌≡◌, ◌↔◌, ℕ, IfOk, IfErr, Err, IsUtf8};
 ghost use Rattle.std.specs.Str.Lossy.{utf8_valid_len};
 ghost use Rattle.fb_syntax.specs.declared.faults.SyntaxFault.TheVariants.{NotUtf8};

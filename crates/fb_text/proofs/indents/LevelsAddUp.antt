@@ -40,7 +40,7 @@ blanks_front n few =
     let long : length (further n []) ≡ 2 * n = omega (arith, further_long n []) in
     subst (λ (l : List ℕ). take (2 * n) l ≡ further n []) whole
     (subst (λ (k : ℕ). take k (further n [] ++ further (32 - n) []) ≡ further n []) long
-        (take-append_seam (further n []) (further (32 - n) [])))
+    (take-append_seam (further n []) (further (32 - n) [])))
 
 -- the blanks of an indent that is told by its levels
 pub blanks_levels : (n : ℕ) → blanks (Levels n) ≡ further n []

@@ -83,7 +83,7 @@ module _ (L : LaidSchema) (made : IsWellMade L) (t : TypeId) where
       let fs = parts_in (body_at L.schema t.0) in
       let laid = made.sized.structs t.0 (struct_with (body_at L.schema t.0) j f at) in
       field_before L 0 (parts_of L t.0) (struct_at L t.0).offsets laid.end j k _ _ laid.fields less
-          (kind_there L fs j f at) (kind_there L fs k g behind)
+      (kind_there L fs j f at) (kind_there L fs k g behind)
 
   -- a field that begins at a byte or before it isn't behind the field that has it, nor the other way round
   pub begins_before : (m k : ℕ) (f : DeclaredField) (byte : ℕ) → m < length (parts_in (body_at L.schema t.0))
@@ -107,7 +107,7 @@ module _ (L : LaidSchema) (made : IsWellMade L) (t : TypeId) where
           omega (arith, order, has.0, begins))
       | inr above ↦ (let same : m ≡ k = omega (arith, below, above) in
           let begin : slice_index (struct_at L t.0).offsets m ≡ slice_index (struct_at L t.0).offsets k =
-              ap (slice_index (struct_at L t.0).offsets) same in
+          ap (slice_index (struct_at L t.0).offsets) same in
           omega (arith, begin, has.0, begins))
     ])
   ]
@@ -128,7 +128,7 @@ module _ (L : LaidSchema) (made : IsWellMade L) (t : TypeId) where
         let kind = kind_there L (parts_in (body_at L.schema t.0)) k has.field has.there in
         let ends = field_behind L 0 (parts_of L t.0) (struct_at L t.0).offsets laid.end k _ laid.fields kind in
         let size : size_of L (field_kind L has.field) ≡ (struct_at L u.0).size =
-            ap (λ (shape : Shape). size_of L (kind_in (stored_shape L.schema shape))) has.shape in
+        ap (λ (shape : Shape). size_of L (kind_in (stored_shape L.schema shape))) has.shape in
         omega (arith, ends.1, size, laid.sized.above)
 
     -- it has each byte behind its begin that is below its size
@@ -136,5 +136,5 @@ module _ (L : LaidSchema) (made : IsWellMade L) (t : TypeId) where
         → HasByte L t k has.field (slice_index (struct_at L t.0).offsets k + more)
     has_byte more less =
         let size : size_of L (field_kind L has.field) ≡ (struct_at L u.0).size =
-            ap (λ (shape : Shape). size_of L (kind_in (stored_shape L.schema shape))) has.shape in
+        ap (λ (shape : Shape). size_of L (kind_in (stored_shape L.schema shape))) has.shape in
         (omega arith, omega (arith, less, size))

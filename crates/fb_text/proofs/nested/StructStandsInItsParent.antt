@@ -25,9 +25,17 @@ module _ (L : LaidSchema) (defaults : Bool) where
       → StandsIn L defaults indent t ds (suc depth) (at + slice_index (struct_at L u.0).offsets k) s inner
       (fields_text L defaults indent u es depth (suc k) true ++ behind)
   stands_deeper indent t ds zero at u es behind k s inner stands has =
-      let (begin, type, parts, none) = stands in
-      (k, s, inner, 0, [], rw (type, parts) has, (refl, refl, refl, refl), rw type (omega (arith, begin)),
-          rw (type, parts, none) (append-nil (fields_text L defaults indent u es 0 (suc k) true)))
+      let (begin, type, parts, none) = stands in (
+        k,
+        s,
+        inner,
+        0,
+        [],
+        rw (type, parts) has,
+        (refl, refl, refl, refl),
+        rw type (omega (arith, begin)),
+        rw (type, parts, none) (append-nil (fields_text L defaults indent u es 0 (suc k) true)),
+      )
   stands_deeper indent t ds (suc depth) at u es behind k s inner stands has =
       let (j, v, ms, more, text, child, rest, begin, whole) = stands in
       let tail = fields_text L defaults indent t ds 0 (suc j) true in
@@ -48,7 +56,7 @@ module _ (L : LaidSchema) (defaults : Bool) where
       → fields_text L defaults (further depth indent) t ds 0 k true ≡ fields_text L defaults indent t ds depth k true
   level_text indent t ds depth k =
       ap (λ (inner : List ℕ). parts_text L defaults inner (further depth indent) true
-          (drop k (parts_in (body_at L.schema t.0))) (parts_from k ds)) (inside_further depth indent)
+      (drop k (parts_in (body_at L.schema t.0))) (parts_from k ds)) (inside_further depth indent)
 
   module _ (made : IsWellMade L) where
     -- it begins within the outermost
@@ -112,7 +120,7 @@ module _ (L : LaidSchema) (defaults : Bool) (indent : List ℕ) (t : TypeId) (ds
   way_goes_on made P Q depth at v left next s w known =
       let (k, x, inner, more, text, child, rest, begin, whole) = w.below in
       let less = begins_within L defaults made _ x inner left more u es text rest
-          (is_filled L made v w.parts k x inner child) in
+      (is_filled L made v w.parts k x inner child) in
       let (type, shown, place) = known k x inner more child less (omega (arith, w.begin, begin)) in
       let deeper = stands_deeper L defaults indent t ds depth at v w.parts w.rest k x inner w.above child in
       let own = fields_text L defaults indent v w.parts depth (suc k) true in

@@ -8,7 +8,7 @@ doubled b left most some h =
     let next : left ≡ suc (left - 1) = omega arith in
     let power : 2 ^ left ≡ 2 ^ (left - 1) + 2 ^ (left - 1) = ap (λ n. 2 ^ n) next ∙ two-pow-succ (left - 1) in
     let first : b * (2 ^ (left - 1) + 2 ^ (left - 1)) ≡ b * 2 ^ (left - 1) + b * 2 ^ (left - 1) =
-        mul-add b (2 ^ (left - 1)) (2 ^ (left - 1)) in
+    mul-add b (2 ^ (left - 1)) (2 ^ (left - 1)) in
     let second : (b + b) * 2 ^ (left - 1) ≡ b * 2 ^ (left - 1) + b * 2 ^ (left - 1) = add-mul b b (2 ^ (left - 1)) in
     let whole : b * 2 ^ left ≡ b * (2 ^ (left - 1) + 2 ^ (left - 1)) = ap (λ p. b * p) power in
     omega (arith, whole, first, second, h)

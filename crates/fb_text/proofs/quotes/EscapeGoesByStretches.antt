@@ -18,8 +18,16 @@ plain_byte c plain =
     let quote : (c == 34) ≡ false = grind (arith, nat_tests, two.1) in
     let slash : (c == 92) ≡ false = grind (arith, nat_tests, most.1) in
     let low : nat_lt c 32 ≡ false = grind (arith, nat_tests, high) in
-    rw (quote, slash, ne_eqb c 8 (λ e. omega arith), ne_eqb c 12 (λ e. omega arith), ne_eqb c 10 (λ e. omega arith),
-        ne_eqb c 13 (λ e. omega arith), ne_eqb c 9 (λ e. omega arith), low) refl
+    rw (
+      quote,
+      slash,
+      ne_eqb c 8 (λ e. omega arith),
+      ne_eqb c 12 (λ e. omega arith),
+      ne_eqb c 10 (λ e. omega arith),
+      ne_eqb c 13 (λ e. omega arith),
+      ne_eqb c 9 (λ e. omega arith),
+      low,
+    ) refl
 
 -- what follows the stretch that stands as it is
 pub run_escaped : (bs : List ℕ)
@@ -52,7 +60,7 @@ module _ (bs : List ℕ) (run : ℕ) (is : run ≡ prefix_len is_plain bs) where
   stops b rest e =
       let here = at_drop bs run b rest e in
       let stopped : is_plain (get_or bs run b) ≡ false =
-          rw is (prefix_len_stops is_plain bs b (omega (arith, here.0, is))) in
+      rw is (prefix_len_stops is_plain bs b (omega (arith, here.0, is))) in
       rw here.1 at stopped
 
   -- the stretch, the byte's escape, and the rest escaped

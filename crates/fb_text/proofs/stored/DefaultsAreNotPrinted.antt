@@ -44,5 +44,5 @@ pub unprinted_behind : (L K : LaidSchema) (t u k : ℕ) (f : DeclaredField) (o :
     → is_entry_printed false f o ≡ false
 unprinted_behind L K t u k f o layout same there known =
     unset_unprinted L.schema f o
-        (known (slot_of L.schema f)
-        (rw (layout, ← same) (mapped_there L.schema (slots_in (body_at L.schema t)) k f there)))
+    (known (slot_of L.schema f)
+    (rw (layout, ← same) (mapped_there L.schema (slots_in (body_at L.schema t)) k f there)))

@@ -25,8 +25,8 @@ mutual
   parts_named at no_parts = refl
   parts_named at (more_parts d ds) =
       neither (first_unnamed at d) (first_in_parts at ds)
-          ∙ (ap (λ (b : Bool). b && not (is_some (first_in_parts at ds))) (unnamed_whole at d)
-          ∙ ap (λ (b : Bool). is_whole d && b) (parts_named at ds))
+      ∙ (ap (λ (b : Bool). b && not (is_some (first_in_parts at ds))) (unnamed_whole at d)
+      ∙ ap (λ (b : Bool). is_whole d && b) (parts_named at ds))
 
   entries_named : (type k : ℕ) (es : SlotEntries) → not (is_some (first_in_entries type k es)) ≡ entries_whole es
   entries_named type k no_entries = refl

@@ -55,7 +55,7 @@ entries_end L b t j zero (f ∷ fs) (x ∷ xs) (absent_entry es) lies unset =
     entries_end L b t (j + 1) zero fs xs es lies.1 (λ i s past there. unset (suc i) s (omega arith) there)
 entries_end L b t j zero (f ∷ fs) (x ∷ xs) (present_entry d es) lies unset =
     rw (← number_named (entry_place t j) (Some d) f.if_absent (unset 0 f (omega arith) refl))
-        (entries_end L b t (j + 1) zero fs xs es lies.1 (λ i s past there. unset (suc i) s (omega arith) there))
+    (entries_end L b t (j + 1) zero fs xs es lies.1 (λ i s past there. unset (suc i) s (omega arith) there))
 entries_end L b t j (suc k) (f ∷ fs) (x ∷ xs) (absent_entry es) lies unset =
     entries_end L b t j k fs xs es lies.1 (λ i s past there. unset (suc i) s (omega (arith, past)) there)
 entries_end L b t j (suc k) (f ∷ fs) (x ∷ xs) (present_entry d es) lies unset =

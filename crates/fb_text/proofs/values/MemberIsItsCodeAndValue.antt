@@ -40,8 +40,8 @@ pub entry_added : (L : LaidSchema) (defaults : Bool) (inner : List ℕ) (some : 
 entry_added L defaults inner some f None more a b e printed code has named = cc
 entry_added L defaults inner some f (Some d) more a b e printed code has named =
     rw (← printed) (added_then a b e (code_text L.schema inner some f.name f.shape d)
-        (named_text L defaults inner (some || has_code f.shape d) f d) (code d refl)
-        (subst (λ (m : Bool). Adds b e (named_text L defaults inner m f d)) (has d refl) (named d refl)))
+    (named_text L defaults inner (some || has_code f.shape d) f d) (code d refl)
+    (subst (λ (m : Bool). Adds b e (named_text L defaults inner m f d)) (has d refl) (named d refl)))
 
 -- a writer that is never told a union without a name
 pub never_unnamed : {A : Type 0} (r : Result A WriteFault) (P : Type 0) → IfUnnamed r ⊥ → IfUnnamed r P

@@ -85,10 +85,10 @@ module _ (L : LaidSchema) (defaults : Bool) (indent : List ℕ) (u : TypeId) (es
       let fields = fields_text L defaults indent s inner (suc depth) 0 false in
       let tail = fields_text L defaults indent u es depth (suc k) true in
       let value : value_text L defaults (further (suc depth) indent) has.field.shape (a_struct inner)
-          ≡ codes "{" ++ fields =
+      ≡ codes "{" ++ fields =
       ap (λ (shape : Shape). value_text L defaults (further (suc depth) indent) shape (a_struct inner)) has.shape
       ∙ ap (λ (i : List ℕ). codes
       "{" ++ parts_text L defaults i (further (suc depth) indent) false (parts_in (body_at L.schema s.0)) inner)
       (inside_further (suc depth) indent) in
       ap (λ (l : List ℕ). line ++ (l ++ (tail ++ behind))) (sym value)
-          ∙ field_first has.field has.there (a_struct inner) has.part
+      ∙ field_first has.field has.there (a_struct inner) has.part

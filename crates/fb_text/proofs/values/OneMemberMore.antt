@@ -67,9 +67,9 @@ module _ (L : LaidSchema) (defaults : Bool) (inner indent : List ℕ) where
       let plain = none 0 f (omega arith) refl in
       let rest = members_behind some fs es zero (λ j g past there. none (suc j) g (omega arith) there) in
       subst (λ (p : Bool). closing indent some ++ codes "}" ≡ entry_text L.schema p inner some f.name f.shape d
-          (value_text L defaults inner f.shape d) ++ members_text L defaults inner indent (some || p) fs es) (sym plain)
+      (value_text L defaults inner f.shape d) ++ members_text L defaults inner indent (some || p) fs es) (sym plain)
       (subst (λ (q : Bool). closing indent some ++ codes "}" ≡ members_text L defaults inner indent q fs es)
-          (sym (or_false some)) rest)
+      (sym (or_false some)) rest)
   members_behind some (f ∷ fs) (absent_entry es) (suc k) none =
       members_behind some fs es k (λ j g past there. none (suc j) g (omega (arith, past)) there)
   members_behind some (f ∷ fs) (present_entry d es) (suc k) none =

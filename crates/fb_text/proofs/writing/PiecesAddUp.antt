@@ -52,8 +52,8 @@ module _ (a b : State) (piece bytes : List ℕ) (was : a.failed ≡ false) (wait
       let held : stands.left ≡ a.waits = subst (λ (g : Bool). IsLeft g a stands.left) was stands.rest in
       let whole : text ++ piece ≡ stands.sent.bytes ++ bytes =
       ap (λ l. l ++ piece) stands.whole
-          ∙ (append_assoc stands.sent.bytes stands.left piece
-          ∙ ap (λ l. stands.sent.bytes ++ l) (ap (λ l. l ++ piece) held ∙ waits)) in
+      ∙ (append_assoc stands.sent.bytes stands.left piece
+      ∙ ap (λ l. stands.sent.bytes ++ l) (ap (λ l. l ++ piece) held ∙ waits)) in
       elim f as (λ (g : Bool). b.failed ≡ g → Stands start b (text ++ piece)) [
         | false ↦ λ fine. let (got, count) = all fine in
             all_written start a b stands.sent bytes (text ++ piece) whole fine empty got count

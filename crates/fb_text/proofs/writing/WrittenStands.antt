@@ -50,7 +50,7 @@ module _ (start : Option (List ℕ)) (s : State) (text : List ℕ) (stands : Sta
   written_whole fine empty =
       let none : stands.left ≡ [] = subst (λ (b : Bool). IsLeft b s stands.left) fine stands.rest ∙ empty in
       let all : text ≡ stands.sent.bytes =
-          stands.whole ∙ (ap (λ l. stands.sent.bytes ++ l) none ∙ append-nil stands.sent.bytes) in
+      stands.whole ∙ (ap (λ l. stands.sent.bytes ++ l) none ∙ append-nil stands.sent.bytes) in
       subst (λ (l : List ℕ). Appends start s.known l) (sym all) stands.sent.gone
 
   pub written_front : s.failed ≡ true
@@ -59,8 +59,11 @@ module _ (start : Option (List ℕ)) (s : State) (text : List ℕ) (stands : Sta
       let more : 0 < length stands.left = subst (λ (b : Bool). IsLeft b s stands.left) broken stands.rest in
       let sent = stands.sent.bytes in
       let longer : length text ≡ length sent + length stands.left =
-          ap length stands.whole ∙ length-append sent stands.left in
+      ap length stands.whole ∙ length-append sent stands.left in
       let front : take (length sent) text ≡ sent =
-          ap (take (length sent)) stands.whole ∙ take-append_seam sent stands.left in
-      (length sent, omega arith, subst (λ (l : List ℕ). Appends start s.known l) (sym front) stands.sent.gone,
-          stands.sent.count)
+      ap (take (length sent)) stands.whole ∙ take-append_seam sent stands.left in (
+        length sent,
+        omega arith,
+        subst (λ (l : List ℕ). Appends start s.known l) (sym front) stands.sent.gone,
+        stands.sent.count,
+      )

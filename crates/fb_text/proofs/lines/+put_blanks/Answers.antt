@@ -9,5 +9,5 @@ returns-in-Further g t c =
     let outer = c.in-Further.outer in
     let levels = c.in-Further.levels in
     added_as (further_behind levels (blanks outer.now)
-        ∙ (sym (blanks_further outer levels) ∙ sym (ap blanks c.in-Further.is)))
-        (then c.put_blanks.ensures c.put_levels-in-Further.ensures)
+    ∙ (sym (blanks_further outer levels) ∙ sym (ap blanks c.in-Further.is)))
+    (then c.put_blanks.ensures c.put_levels-in-Further.ensures)

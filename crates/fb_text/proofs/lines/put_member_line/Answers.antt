@@ -22,4 +22,4 @@ pieces indent some is_code name tail is =
 pub returns : goal.returns
 returns g c =
     added_as (pieces (blanks c.args.indent.now) c.args.some c.args.is_code _ _ (search rules))
-        (joined c.put_line_to_name.ensures (joined c.put_str.ensures c.put_str-2.ensures))
+    (joined c.put_line_to_name.ensures (joined c.put_str.ensures c.put_str-2.ensures))

@@ -29,10 +29,10 @@ unfolding seen name_of
 returns-in-Some-get c =
     let members = c.members_of.result.now in
     let there = got members c.from.result (Some c.in-Some-get.member) c.in-Some-get.ensures.lookup.0
-        c.in-Some-get.ensures.lookup.1 in
+    c.in-Some-get.ensures.lookup.1 in
     let next : suc c.from.result ≡ c.args.code = omega (arith, c.in-Some.ensures, c.from.ensures) in
     c.as_str.ensures.value ∙ named members c.from.result (Some c.in-Some-get.member.now)
-        (body_at c.args.schema.now c.args.union.0) c.args.code there c.members_of.ensures next
+    (body_at c.args.schema.now c.args.union.0) c.args.code there c.members_of.ensures next
 
 pub returns-in-None : goal.returns-in-None
 unfolding seen name_of
@@ -41,4 +41,4 @@ returns-in-None c =
     let there = got members c.from.result None c.in-None.ensures.lookup.0 c.in-None.ensures.lookup.1 in
     let next : suc c.from.result ≡ c.args.code = omega (arith, c.in-Some.ensures, c.from.ensures) in
     named members c.from.result None (body_at c.args.schema.now c.args.union.0) c.args.code there c.members_of.ensures
-        next
+    next

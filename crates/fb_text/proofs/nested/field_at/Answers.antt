@@ -13,14 +13,15 @@ loop-low-preserved-then-offset_of-byte c =
     let small : middle < c.loop-low.high = omega arith in
     let within : middle < length (parts_in (body_at L.schema t.0)) = omega (arith, small, c.loop-low.invariant.few) in
     let begins : slice_index (struct_at L t.0).offsets middle ≤ c.args.byte =
-        omega (arith, c.offset_of.ensures, c.if-offset_of-byte.true) in
+    omega (arith, c.offset_of.ensures, c.if-offset_of-byte.true) in
     record {
       few = c.loop-low.invariant.few;
       small = c.loop-low.invariant.small;
       start = omega (arith, small, c.loop-low.invariant.small);
-      found = λ k f at has.
-          (begins_before L c.schema-schema.ensures.made t middle k f c.args.byte within at has begins,
-              (c.loop-low.invariant.found k f at has).1);
+      found = λ k f at has. (
+        begins_before L c.schema-schema.ensures.made t middle k f c.args.byte within at has begins,
+        (c.loop-low.invariant.found k f at has).1,
+      );
     }
 
 pub loop-low-preserved : goal.loop-low-preserved
@@ -31,12 +32,13 @@ loop-low-preserved c =
     let small : middle < c.loop-low.high = omega arith in
     let within : middle < length (parts_in (body_at L.schema t.0)) = omega (arith, small, c.loop-low.invariant.few) in
     let begins : c.args.byte < slice_index (struct_at L t.0).offsets middle =
-        omega (arith, c.offset_of.ensures, c.if-offset_of-byte.false) in
+    omega (arith, c.offset_of.ensures, c.if-offset_of-byte.false) in
     record {
       few = omega (arith, within);
       small = omega (arith, small, c.loop-low.invariant.small);
       start = c.loop-low.invariant.start;
-      found = λ k f at has.
-          ((c.loop-low.invariant.found k f at has).0,
-              begins_behind L c.schema-schema.ensures.made t middle k f c.args.byte within at has begins);
+      found = λ k f at has. (
+        (c.loop-low.invariant.found k f at has).0,
+        begins_behind L c.schema-schema.ensures.made t middle k f c.args.byte within at has begins,
+      );
     }

@@ -32,7 +32,7 @@ returns-then-k-fields-clause-inner g c ds k u es more shown has less begin =
     let t = c.args.here.structure in
     let at : slice_index (struct_at L t.0).offsets k + more ≡ c.args.byte - c.args.here.at = omega (arith, begin) in
     let byte = subst (λ (b : ℕ). HasByte L t k has.field b) (at ∙ sym c.saturating_sub.ensures)
-        (has_byte L c.schema-schema.ensures.made t ds k u es has more less) in
+    (has_byte L c.schema-schema.ensures.made t ds k u es has more less) in
     let same = c.field_at-next.ensures.found k has.field has.there byte in
     let within = slice_get_within (parts_in (body_at L.schema t.0)) k has.field has.there in
     let long = seen_long_as c.parts_of-fields.result.now _ c.parts_of-fields.ensures.parts in
@@ -47,18 +47,18 @@ returns-in-Some-clause-inner g c ds k u es more shown has less begin =
     let next = c.field_at-next.result in
     let at : slice_index (struct_at L t.0).offsets k + more ≡ c.args.byte - c.args.here.at = omega (arith, begin) in
     let byte = subst (λ (b : ℕ). HasByte L t k has.field b) (at ∙ sym c.saturating_sub.ensures)
-        (has_byte L c.schema-schema.ensures.made t ds k u es has more less) in
+    (has_byte L c.schema-schema.ensures.made t ds k u es has more less) in
     let same : next ≡ k = c.field_at-next.ensures.found k has.field has.there byte in
     let within : next < length fields = omega (arith, c.from-k.ensures, c.if-k-fields.false) in
     let is : x ≡ slice_index_or fields next x = rw c.from-k.ensures at c.index-fields-k.is in
     let field = field_is fields _ next k x has.field c.parts_of-fields.ensures.parts same within is has.there in
     let shape = ap (λ (f : FieldInfo). f.shape) (sym c.index-fields-k.is)
-        ∙ (ap (λ (f : DeclaredField). f.shape) field ∙ has.shape) in
+    ∙ (ap (λ (f : DeclaredField). f.shape) field ∙ has.shape) in
     let part = subst (λ (o : Option Datum). g.S.Shown.shows c.part-part.result L o) (ap (nth_part ds) same ∙ has.part)
-        (c.part-part.ensures.shows L ds shown) in
+    (c.part-part.ensures.shows L ds shown) in
     let found : Some c.in-Some.structure ≡ Some u = c.in-Some.ensures.known u es shape (c.find.ensures.top L _ part) in
     let offset : slice_index (struct_at L t.0).offsets next ≡ slice_index (struct_at L t.0).offsets k =
-        ap (slice_index (struct_at L t.0).offsets) same in
+    ap (slice_index (struct_at L t.0).offsets) same in
     let fits : c.args.byte < 2 ^ 32 = c.ranges.byte.fits in
     record {
       structure = cc;
@@ -75,14 +75,14 @@ returns-in-None-clause-inner g c ds k u es more shown has less begin =
     let next = c.field_at-next.result in
     let at : slice_index (struct_at L t.0).offsets k + more ≡ c.args.byte - c.args.here.at = omega (arith, begin) in
     let byte = subst (λ (b : ℕ). HasByte L t k has.field b) (at ∙ sym c.saturating_sub.ensures)
-        (has_byte L c.schema-schema.ensures.made t ds k u es has more less) in
+    (has_byte L c.schema-schema.ensures.made t ds k u es has more less) in
     let same : next ≡ k = c.field_at-next.ensures.found k has.field has.there byte in
     let within : next < length fields = omega (arith, c.from-k.ensures, c.if-k-fields.false) in
     let is : x ≡ slice_index_or fields next x = rw c.from-k.ensures at c.index-fields-k.is in
     let field = field_is fields _ next k x has.field c.parts_of-fields.ensures.parts same within is has.there in
     let shape = ap (λ (f : FieldInfo). f.shape) (sym c.index-fields-k.is)
-        ∙ (ap (λ (f : DeclaredField). f.shape) field ∙ has.shape) in
+    ∙ (ap (λ (f : DeclaredField). f.shape) field ∙ has.shape) in
     let part = subst (λ (o : Option Datum). g.S.Shown.shows c.part-part.result L o) (ap (nth_part ds) same ∙ has.part)
-        (c.part-part.ensures.shows L ds shown) in
+    (c.part-part.ensures.shows L ds shown) in
     let found : None ≡ Some u = c.in-None.ensures.known u es shape (c.find.ensures.top L _ part) in
     absurd (cc)

@@ -14,9 +14,9 @@ loop-level-init g c = record {
   way = λ defaults indent ds es behind shows stands.
       let all : c.args.inner.depth - 0 ≡ c.args.inner.depth = omega arith in
       way_begins c.args.layout.now defaults indent c.args.outermost.structure ds c.args.inner.at c.args.inner.structure
-          es behind
+      es behind
       (λ ms. g.S.Shown.shows c.args.outermost.shown c.args.layout.now (Some (a_struct ms))) c.args.outermost.at
-          (c.args.inner.depth - 0) shows c.requires.first
+      (c.args.inner.depth - 0) shows c.requires.first
       (rw all stands);
 }
 
@@ -34,15 +34,15 @@ loop-level-preserved g c =
       way = λ defaults indent ds es behind shows stands.
           let on = c.loop-level.invariant.way defaults indent ds es behind shows stands in
           let now = subst (λ (m : ℕ). OnTheWay L defaults indent c.args.outermost.structure ds
-              (λ ms. g.S.Shown.shows here.shown L (Some (a_struct ms))) i here.at here.structure m c.args.inner.at
-              c.args.inner.structure es behind) left on in
+          (λ ms. g.S.Shown.shows here.shown L (Some (a_struct ms))) i here.at here.structure m c.args.inner.at
+          c.args.inner.structure es behind) left on in
           rw add-one (way_goes_on L defaults indent c.args.outermost.structure ds c.args.inner.at c.args.inner.structure
-              es behind c.schema-schema.ensures.made
+          es behind c.schema-schema.ensures.made
           (λ ms. g.S.Shown.shows here.shown L (Some (a_struct ms)))
-              (λ ms. g.S.Shown.shows next.shown L (Some (a_struct ms)))
+          (λ ms. g.S.Shown.shows next.shown L (Some (a_struct ms)))
           i here.at here.structure (n - suc i) next.at next.structure now
           (λ k x ms more child less begin. let got = c.inner_at-here.ensures.inner now.parts k x ms more now.shown child
-              less begin in (got.structure, got.shown, got.begin)));
+          less begin in (got.structure, got.shown, got.begin)));
     }
 
 pub returns-clause-parent : goal.returns-clause-parent
@@ -58,20 +58,23 @@ returns-clause-parent g c defaults indent ds es behind shows stands =
     let left : n - i ≡ 1 = omega (arith, level, c.requires.nested) in
     let on = c.loop-level.invariant.way defaults indent ds es behind shows stands in
     let now = subst (λ (m : ℕ). OnTheWay L defaults indent c.args.outermost.structure ds
-        (λ ms. g.S.Shown.shows here.shown L (Some (a_struct ms))) i here.at here.structure m byte c.args.inner.structure
-        es behind) left on in
+    (λ ms. g.S.Shown.shows here.shown L (Some (a_struct ms))) i here.at here.structure m byte c.args.inner.structure
+    es behind) left on in
     let (k, child, begin, whole) =
-        way_ends L defaults indent c.args.outermost.structure ds byte c.args.inner.structure es behind made
-        (λ ms. g.S.Shown.shows here.shown L (Some (a_struct ms))) i here.at here.structure now in
+    way_ends L defaults indent c.args.outermost.structure ds byte c.args.inner.structure es behind made
+    (λ ms. g.S.Shown.shows here.shown L (Some (a_struct ms))) i here.at here.structure now in
     let filled = is_filled L made here.structure now.parts k c.args.inner.structure es child in
     let at : slice_index (struct_at L here.structure.0).offsets k + 0 ≡ byte - here.at = omega (arith, begin) in
     let has = subst (λ (b : ℕ). HasByte L here.structure k child.field b) (at ∙ sym c.saturating_sub.ensures)
-        (has_byte L made here.structure now.parts k c.args.inner.structure es child 0 filled) in
+    (has_byte L made here.structure now.parts k c.args.inner.structure es child 0 filled) in
     let same : suc k ≡ field + 1 = omega (arith, c.field_at-field.ensures.found k child.field child.there has) in
     let own = λ (d j : ℕ). fields_text L defaults indent here.structure now.parts d j true in (
       now.parts,
       now.rest,
-      (now.shown, subst (λ (d : ℕ). StandsIn L defaults indent c.args.outermost.structure ds d here.at here.structure
-          now.parts now.rest) level now.above),
+      (
+        now.shown,
+        subst (λ (d : ℕ). StandsIn L defaults indent c.args.outermost.structure ds d here.at here.structure
+            now.parts now.rest) level now.above,
+      ),
       whole ∙ (ap (λ (d : ℕ). own d (suc k) ++ now.rest) level ∙ ap (λ (j : ℕ). own (n - 1) j ++ now.rest) same),
     )

@@ -16,7 +16,7 @@ returns-in-Items-clause-known c =
     let items = c.in-Items.items in
     let seen = ap view c.in-Items.is ∙ view-Items items in
     let there = got_of c.as_slice.result.now items.items c.args.i c.get.result c.as_slice.ensures.value
-        c.get.ensures.lookup.0 c.get.ensures.lookup.1 in
+    c.get.ensures.lookup.0 c.get.ensures.lookup.1 in
     let whole = part_viewed items.items c.args.i (option_copied c.get.result) there ∙ copied_view c.get.result in
     rw seen (sym whole)
 
@@ -25,7 +25,7 @@ returns-in-Items-clause-lighter c =
     let items = c.in-Items.items in
     let seen = ap view c.in-Items.is ∙ view-Items items in
     let there = got_of c.as_slice.result.now items.items c.args.i c.get.result c.as_slice.ensures.value
-        c.get.ensures.lookup.0 c.get.ensures.lookup.1 in
+    c.get.ensures.lookup.0 c.get.ensures.lookup.1 in
     let whole = part_viewed items.items c.args.i (option_copied c.get.result) there ∙ copied_view c.get.result in
     let light = rw whole at (part_light (parts_view items.items) c.args.i) in
     rw seen (omega (arith, light))
@@ -35,9 +35,9 @@ returns-in-Fixed-clause-known c =
     let parts = c.in-Fixed.parts in
     let seen = ap view c.in-Fixed.is ∙ view-Fixed parts in
     let there = got_of c.as_slice-in-Fixed.result.now parts.items c.args.i c.get-in-Fixed.result
-        c.as_slice-in-Fixed.ensures.value c.get-in-Fixed.ensures.lookup.0 c.get-in-Fixed.ensures.lookup.1 in
+    c.as_slice-in-Fixed.ensures.value c.get-in-Fixed.ensures.lookup.0 c.get-in-Fixed.ensures.lookup.1 in
     let whole = part_viewed parts.items c.args.i (option_copied c.get-in-Fixed.result) there
-        ∙ copied_view c.get-in-Fixed.result in
+    ∙ copied_view c.get-in-Fixed.result in
     rw seen (sym whole)
 
 pub returns-in-Fixed-clause-lighter : goal.returns-in-Fixed-clause-lighter
@@ -45,9 +45,9 @@ returns-in-Fixed-clause-lighter c =
     let parts = c.in-Fixed.parts in
     let seen = ap view c.in-Fixed.is ∙ view-Fixed parts in
     let there = got_of c.as_slice-in-Fixed.result.now parts.items c.args.i c.get-in-Fixed.result
-        c.as_slice-in-Fixed.ensures.value c.get-in-Fixed.ensures.lookup.0 c.get-in-Fixed.ensures.lookup.1 in
+    c.as_slice-in-Fixed.ensures.value c.get-in-Fixed.ensures.lookup.0 c.get-in-Fixed.ensures.lookup.1 in
     let whole = part_viewed parts.items c.args.i (option_copied c.get-in-Fixed.result) there
-        ∙ copied_view c.get-in-Fixed.result in
+    ∙ copied_view c.get-in-Fixed.result in
     let light = rw whole at (part_light (parts_view parts.items) c.args.i) in
     rw seen (omega (arith, light))
 
@@ -56,7 +56,7 @@ returns-in-Some-clause-known c =
     let entries = c.in-Fields.entries in
     let seen = ap view c.in-Fields.is ∙ view-Fields c.in-Fields.field-0 entries in
     let there = got_of c.as_slice-in-Fields.result.now entries.items c.args.i (Some c.in-Some.entry)
-        c.as_slice-in-Fields.ensures.value c.in-Some.ensures.lookup.0 c.in-Some.ensures.lookup.1 in
+    c.as_slice-in-Fields.ensures.value c.in-Some.ensures.lookup.0 c.in-Some.ensures.lookup.1 in
     rw seen (c.lent.ensures ∙ sym (entry_viewed entries.items c.args.i c.in-Some.entry.now there))
 
 pub returns-in-Some-clause-lighter : goal.returns-in-Some-clause-lighter
@@ -64,9 +64,9 @@ returns-in-Some-clause-lighter c =
     let entries = c.in-Fields.entries in
     let seen = ap view c.in-Fields.is ∙ view-Fields c.in-Fields.field-0 entries in
     let there = got_of c.as_slice-in-Fields.result.now entries.items c.args.i (Some c.in-Some.entry)
-        c.as_slice-in-Fields.ensures.value c.in-Some.ensures.lookup.0 c.in-Some.ensures.lookup.1 in
+    c.as_slice-in-Fields.ensures.value c.in-Some.ensures.lookup.0 c.in-Some.ensures.lookup.1 in
     let light = rw (entry_viewed entries.items c.args.i c.in-Some.entry.now there ∙ sym c.lent.ensures)
-        at (entry_light (entries_view entries.items) c.args.i) in
+    at (entry_light (entries_view entries.items) c.args.i) in
     rw seen (omega (arith, light))
 
 pub returns-in-None-clause-known : goal.returns-in-None-clause-known
@@ -74,5 +74,5 @@ returns-in-None-clause-known c =
     let entries = c.in-Fields.entries in
     let seen = ap view c.in-Fields.is ∙ view-Fields c.in-Fields.field-0 entries in
     let there = got_of c.as_slice-in-Fields.result.now entries.items c.args.i None c.as_slice-in-Fields.ensures.value
-        c.in-None.ensures.lookup.0 c.in-None.ensures.lookup.1 in
+    c.in-None.ensures.lookup.0 c.in-None.ensures.lookup.1 in
     rw seen (sym (entry_past entries.items c.args.i there))

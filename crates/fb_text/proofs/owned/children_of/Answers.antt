@@ -23,7 +23,7 @@ returns-in-Items-clause-behind c at =
     let items = c.in-Items.items in
     let seen = ap view c.in-Items.is ∙ view-Items items in
     let over : count (parts_view items.items) ≤ c.len.result =
-        omega (arith, count-parts_view items.items, c.len.ensures) in
+    omega (arith, count-parts_view items.items, c.len.ensures) in
     rw seen (sym (parts_end at c.len.result (parts_view items.items) over))
 
 pub returns-in-Fixed-clause-behind : goal.returns-in-Fixed-clause-behind
@@ -31,7 +31,7 @@ returns-in-Fixed-clause-behind c at =
     let parts = c.in-Fixed.parts in
     let seen = ap view c.in-Fixed.is ∙ view-Fixed parts in
     let over : count (parts_view parts.items) ≤ c.len-in-Fixed.result =
-        omega (arith, count-parts_view parts.items, c.len-in-Fixed.ensures) in
+    omega (arith, count-parts_view parts.items, c.len-in-Fixed.ensures) in
     rw seen (sym (parts_end at c.len-in-Fixed.result (parts_view parts.items) over))
 
 pub returns-in-Fields-clause-behind : goal.returns-in-Fields-clause-behind

@@ -12,11 +12,13 @@ returns-in-Fixed-clause-top c =
     (parts_view c.in-Fixed.field-0.items, ap Some (ap view c.in-Fixed.is ∙ view-Fixed c.in-Fixed.field-0))
 
 pub returns-in-Fields-clause-top : goal.returns-in-Fields-clause-top
-returns-in-Fields-clause-top c =
-    (entries_view c.in-Fields.field-1.items,
-    ap Some (ap view c.in-Fields.is ∙ view-Fields c.in-Fields.owner c.in-Fields.field-1))
+returns-in-Fields-clause-top c = (
+  entries_view c.in-Fields.field-1.items,
+  ap Some (ap view c.in-Fields.is ∙ view-Fields c.in-Fields.owner c.in-Fields.field-1),
+)
 
 pub returns-in-Member-clause-top : goal.returns-in-Member-clause-top
-returns-in-Member-clause-top c =
-    (view c.in-Member.field-1.value,
-    ap Some (ap view c.in-Member.is ∙ view-Member c.in-Member.code c.in-Member.field-1))
+returns-in-Member-clause-top c = (
+  view c.in-Member.field-1.value,
+  ap Some (ap view c.in-Member.is ∙ view-Member c.in-Member.code c.in-Member.field-1),
+)

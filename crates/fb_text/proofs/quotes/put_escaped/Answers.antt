@@ -8,7 +8,7 @@ use Rattle.fb_text.proofs.quotes.put_escaped.Goals as goal
 pub put_escape-requires : goal.put_escape-requires
 put_escape-requires g c =
     stops c.loop-left.left.now c.plain_run.result c.plain_run.ensures.run c.in-Some.byte.now c.in-Some.rest.now
-        (sym c.split_at.ensures.back ∙ c.in-Some.ensures.cases.0)
+    (sym c.split_at.ensures.back ∙ c.in-Some.ensures.cases.0)
 
 pub returns-in_default : goal.returns-in_default
 returns-in_default g c =
@@ -20,9 +20,9 @@ pub loop-left-preserved : goal.loop-left-preserved
 loop-left-preserved g c =
     let front = c.split_at.ensures.front in
     let made = step c.loop-left.left.now c.plain_run.result c.plain_run.ensures.run c.in-Some.byte.now
-        c.in-Some.rest.now (sym c.split_at.ensures.back ∙ c.in-Some.ensures.cases.0) in
+    c.in-Some.rest.now (sym c.split_at.ensures.back ∙ c.in-Some.ensures.cases.0) in
     λ end rest. c.loop-left.invariant end
-        (added_as made (then (added_as front c.put.ensures) (then c.put_escape.ensures rest)))
+    (added_as made (then (added_as front c.put.ensures) (then c.put_escape.ensures rest)))
 
 -- nothing is left
 none : (l : List ℕ) → true ≡ (length l == 0) → [] ≡ escape l

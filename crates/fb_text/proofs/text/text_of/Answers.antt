@@ -16,7 +16,7 @@ returns-in-Some-clause-refused c =
     let d = view c.args.value.now in
     let root = c.root.result in
     let is : root.0 ≡ c.args.layout.now.schema.root =
-        c.root.ensures ∙ ap (λ (s : DeclaredSchema). s.root) c.schema.ensures.schema in
+    c.root.ensures ∙ ap (λ (s : DeclaredSchema). s.root) c.schema.ensures.schema in
     let P : ℕ → Type 0 = λ r. first_unnamed (type_place r) d ≡ Some c.in-Some.unnamed in
     let found = c.in-Some.ensures c.args.layout.now (Some d) refl in
     (unnamed_part (type_place root.0) c.in-Some.unnamed d found, subst P is (sym found))
@@ -31,11 +31,11 @@ unreachable-requires c =
     let L = c.args.layout.now in
     let d = view c.args.value.now in
     let made = written_items c.write_root.result _ _ (json_text L c.args.defaults d)
-        (sym c.is_err.ensures.value ∙ c.if-is_err.false) (rw c.over-out.ensures.same c.new.ensures.items)
-        (c.write_root.ensures.written d refl) in
+    (sym c.is_err.ensures.value ∙ c.if-is_err.false) (rw c.over-out.ensures.same c.new.ensures.items)
+    (c.write_root.ensures.written d refl) in
     let names = c.types-names.ensures.types ∙ ap (λ (s : DeclaredSchema). s.types) c.schema-2.ensures.schema in
     let text = text_utf8 L (schema_utf8 L.schema c.types-names.result.now names) c.args.defaults d
-        (value_utf8 c.args.value.now) in
+    (value_utf8 c.args.value.now) in
     let utf8 : IsUtf8 c.into_inner.result.items = rw (c.into_inner.ensures, made) text in
     let fine : false ≡ true = rw c.in-Err.is at (c.from_utf8.ensures.succeeds utf8) in
     cc
@@ -45,8 +45,8 @@ returns-clause-text c =
     let L = c.args.layout.now in
     let d = view c.args.value.now in
     let made = written_items c.write_root.result _ _ (json_text L c.args.defaults d)
-        (sym c.is_err.ensures.value ∙ c.if-is_err.false) (rw c.over-out.ensures.same c.new.ensures.items)
-        (c.write_root.ensures.written d refl) in
+    (sym c.is_err.ensures.value ∙ c.if-is_err.false) (rw c.over-out.ensures.same c.new.ensures.items)
+    (c.write_root.ensures.written d refl) in
     rw (c.in-Ok.ensures.ok, c.into_inner.ensures) made
 
 pub returns-clause-whole : goal.returns-clause-whole

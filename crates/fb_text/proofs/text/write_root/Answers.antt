@@ -7,5 +7,5 @@ pub returns-clause-written : goal.returns-clause-written
 returns-clause-written g c d shows =
     let value = rw (c.edge.ensures, c.root.ensures, c.schema.ensures.schema) at (c.put_value.ensures d shows) in
     let begun = nothing_stands (state_of g.W.Write.contents c.new-page.result c.args.out.now) c.requires
-        c.new-page.ensures.pending c.new-page.ensures.written in
+    c.new-page.ensures.pending c.new-page.ensures.written in
     c.finish.ensures.written _ _ ((then value c.put_str.ensures).adds _ _ begun)

@@ -10,14 +10,15 @@ use Rattle.fb_text.proofs.text.write_text.Goals as goal
 pub returns-in-Some-clause-printed : goal.returns-in-Some-clause-printed
 returns-in-Some-clause-printed g c d lies =
     let found = rw c.type_id.ensures
-        at (c.first_unnamed.ensures c.args.view.now.layout.now (Some d) (refl, d, refl, lies)) in
-    (unnamed_part (type_place c.args.view.now.table.0) c.in-Some.unnamed d (sym c.in-Some.is ∙ found),
-        sym found ∙ c.in-Some.is)
+    at (c.first_unnamed.ensures c.args.view.now.layout.now (Some d) (refl, d, refl, lies)) in (
+      unnamed_part (type_place c.args.view.now.table.0) c.in-Some.unnamed d (sym c.in-Some.is ∙ found),
+      sym found ∙ c.in-Some.is,
+    )
 
 pub returns-then-failed-clause-printed : goal.returns-then-failed-clause-printed
 returns-then-failed-clause-printed g c d lies =
     let found = rw c.type_id.ensures
-        at (c.first_unnamed.ensures c.args.view.now.layout.now (Some d) (refl, d, refl, lies)) in
+    at (c.first_unnamed.ensures c.args.view.now.layout.now (Some d) (refl, d, refl, lies)) in
     let whole = named_whole (type_place c.args.view.now.table.0) d (sym c.in_default.is ∙ found) in
     (whole, 0, some_text c.args.view.now.layout.now c.args.defaults d, Appends-nil _, refl)
 
@@ -25,11 +26,11 @@ pub returns-clause-printed : goal.returns-clause-printed
 returns-clause-printed g c d lies =
     let L = c.args.view.now.layout.now in
     let found = rw c.type_id.ensures
-        at (c.first_unnamed.ensures c.args.view.now.layout.now (Some d) (refl, d, refl, lies)) in
+    at (c.first_unnamed.ensures c.args.view.now.layout.now (Some d) (refl, d, refl, lies)) in
     let whole = named_whole (type_place c.args.view.now.table.0) d (sym c.in_default.is ∙ found) in
     let written = rw c.layout.ensures at (c.write_root.ensures.written d (sym c.layout.ensures, d, refl, lies)) in
     whole_printed (type_place c.args.view.now.table.0) d (json_text L c.args.defaults d) _ _ c.write_root.result whole
-        written
+    written
 
 pub returns-clause-untouched : goal.returns-clause-untouched
 returns-clause-untouched g c = never_unnamed c.write_root.result _ c.write_root.ensures.named

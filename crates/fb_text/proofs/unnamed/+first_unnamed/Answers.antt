@@ -14,7 +14,7 @@ returns-then-is_some g t c L o shows =
     let place = c.place_in.ensures o (c.find-found.ensures.top L o shows) in
     let found = rw place at (c.first_unnamed-unnamed.ensures L (nth_child o i) (c.child.ensures.shows L o shows)) in
     sym (found_first _ (unnamed_from c.args.place o (i + 1)) _ found (sym c.is_some.ensures ∙ c.if-is_some.true))
-        ∙ (sym (children_step c.args.place o i) ∙ c.loop-i.invariant L o shows)
+    ∙ (sym (children_step c.args.place o i) ∙ c.loop-i.invariant L o shows)
 
 pub loop-i-preserved : goal.loop-i-preserved
 loop-i-preserved g t c L o shows =
@@ -22,4 +22,4 @@ loop-i-preserved g t c L o shows =
     let place = c.place_in.ensures o (c.find-found.ensures.top L o shows) in
     let found = rw place at (c.first_unnamed-unnamed.ensures L (nth_child o i) (c.child.ensures.shows L o shows)) in
     sym (found_later _ (unnamed_from c.args.place o (i + 1)) _ found (sym c.is_some.ensures ∙ c.if-is_some.false))
-        ∙ (sym (children_step c.args.place o i) ∙ c.loop-i.invariant L o shows)
+    ∙ (sym (children_step c.args.place o i) ∙ c.loop-i.invariant L o shows)

@@ -23,13 +23,13 @@ put_member-returns-clause-text g t c o shows =
     let L = c.args.style.layout.now in
     let top = c.find-found.ensures.top L o shows in
     entry_added L c.args.style.defaults (blanks c.args.inner.now) c.args.some (field_seen c.args.slot.now) o
-        c.put_code-some.result _ _ _ (sym c.if-not-is_printed.false ∙ c.is_printed.ensures o top)
+    c.put_code-some.result _ _ _ (sym c.if-not-is_printed.false ∙ c.is_printed.ensures o top)
     (λ d e. rw (c.schema-schema.ensures.schema, c.as_str-name.ensures.value)
-        at (c.put_code-some.ensures.text d (subst (λ (x : Option Datum). IsTop c.find-found.result x) e top)))
+    at (c.put_code-some.ensures.text d (subst (λ (x : Option Datum). IsTop c.find-found.result x) e top)))
     (λ d e. c.put_code-some.ensures.some d (subst (λ (x : Option Datum). IsTop c.find-found.result x) e top))
     (λ d e. then (rw c.as_str-name.ensures.value at c.put_member_line.ensures)
     (c.put_found.ensures d (subst (λ (x : Option Datum). g.S.Shown.shows c.args.shown L x) e shows)
-        (subst (λ (x : Option Datum). IsTop c.find-found.result x) e top)))
+    (subst (λ (x : Option Datum). IsTop c.find-found.result x) e top)))
 
 pub put_struct-loop-first-init : goal.put_struct-loop-first-init
 put_struct-loop-first-init g t c =
@@ -50,8 +50,8 @@ put_struct-loop-first-preserved g t c = record {
   goes = λ ds shows.
       let (es, behind, at, more) = c.loop-first.invariant.goes ds shows in
       let there : IsAt g.S.Shown.shows c.args.style.layout.now c.args.style.defaults (blanks c.args.indent.now)
-          c.outermost-first.result.structure ds c.put_plain-plain.result es behind =
-          rw c.put_plain-plain.ensures.same at in
+      c.outermost-first.result.structure ds c.put_plain-plain.result es behind =
+      rw c.put_plain-plain.ensures.same at in
       let (fs, rest, on, next) = c.in-Some.ensures.text ds es behind shows there in
       (fs, rest, on, λ end adds. more end (c.put_plain-plain.ensures.text es behind end at.0 (next end adds)));
 }
@@ -61,17 +61,17 @@ put_struct-returns-then-failed g t c ds shows =
     let (es, behind, at, more) = c.loop-first.invariant.goes ds (rw c.outermost-first.ensures shows) in
     let now = state_of g.W.Write.contents c.loop-first.page c.loop-first.out in
     let all = more now (added_waiting now now _ refl refl refl
-        (λ fine. absurd (true≢false (sym c.if-failed.true ∙ (c.failed.ensures ∙ fine))))) in
+    (λ fine. absurd (true≢false (sym c.if-failed.true ∙ (c.failed.ensures ∙ fine))))) in
     then c.put_str.ensures (rw c.outermost-first.ensures at all)
 
 pub put_struct-returns-in-None : goal.put_struct-returns-in-None
 put_struct-returns-in-None g t c ds shows =
     let (es, behind, at, more) = c.loop-first.invariant.goes ds (rw c.outermost-first.ensures shows) in
     let there : IsAt g.S.Shown.shows c.args.style.layout.now c.args.style.defaults (blanks c.args.indent.now)
-        c.outermost-first.result.structure ds c.put_plain-plain.result es behind =
-        rw c.put_plain-plain.ensures.same at in
+    c.outermost-first.result.structure ds c.put_plain-plain.result es behind =
+    rw c.put_plain-plain.ensures.same at in
     let all = more _ (c.put_plain-plain.ensures.text es behind _ at.0
-        (c.in-None.ensures.text ds es behind (rw c.outermost-first.ensures shows) there)) in
+    (c.in-None.ensures.text ds es behind (rw c.outermost-first.ensures shows) there)) in
     then c.put_str.ensures (rw c.outermost-first.ensures at all)
 
 pub put_plain-loop-k-preserved : goal.put_plain-loop-k-preserved
@@ -92,8 +92,8 @@ put_plain-loop-k-preserved g t c =
           let part = c.part-part.ensures.shows L es shows in
           let text = rw (c.deeper-inner.ensures, one) at (c.put_part-some.ensures.text (nth_part es k) part) in
           c.loop-k.invariant.text es behind end shows
-              (added_as (fields_next L c.args.style.defaults (blanks c.args.indent.now) here.structure es here.depth k
-              c.loop-k.some behind (field_seen x) there)
+          (added_as (fields_next L c.args.style.defaults (blanks c.args.indent.now) here.structure es here.depth k
+          c.loop-k.some behind (field_seen x) there)
           (then text (rw (next, c.put_part-some.ensures.some (nth_part es k) part) at adds)));
     }
 
@@ -121,13 +121,13 @@ put_next-returns-in-Some-clause-text g t c ds es behind shows at =
     let own : x ≡ slice_index_or fields k x = rw c.from-k.ensures at c.index-fields-k.is in
     let there = rw c.parts_of-fields.ensures.parts at (seen_there fields k x less own) in
     let has : HasStruct L u es k s inner =
-        record { field = field_seen x; there = there; shape = c.in-Some.ensures.shape; part = is } in
+    record { field = field_seen x; there = there; shape = c.in-Some.ensures.shape; part = is } in
     let deeper = stands_deeper L defaults indent c.args.first.structure ds here.depth here.at u es behind k s inner at.1
-        has in
+    has in
     let few = few_bytes L defaults c.schema-schema.ensures.made indent c.args.first.structure ds here.depth _ s inner _
-        deeper in
+    deeper in
     let place : min (here.at + slice_index (struct_at L u.0).offsets k) (2 ^ 32 - 1)
-        ≡ here.at + slice_index (struct_at L u.0).offsets k = omega (arith, few) in
+    ≡ here.at + slice_index (struct_at L u.0).offsets k = omega (arith, few) in
     let one : here.depth + 1 ≡ suc here.depth = omega arith in
     let line = rw (c.deeper-inner.ensures, one, c.as_str.ensures.value) at c.put_member_line.ensures in
     rw (c.entered.ensures, place, one) (
@@ -150,10 +150,14 @@ put_next-returns-in-Absent-clause-text g t c ds es behind shows at =
     let own : x ≡ slice_index_or fields k x = rw c.from-k.ensures at c.index-fields-k.is in
     let there = rw c.parts_of-fields.ensures.parts at (seen_there fields k x less own) in
     let none : nth_part es k ≡ None = rw c.in-Absent.is at (c.find-found.ensures.top L _ part) in
-    let next : k + 1 ≡ suc k = omega arith in
-    (es, behind, at, λ end adds. added_as
-        (field_missing L c.args.style.defaults (blanks c.args.indent.now) here.structure es here.depth k here.some
-        behind (field_seen x) there none) (rw next at adds))
+    let next : k + 1 ≡ suc k = omega arith in (
+      es,
+      behind,
+      at,
+      λ end adds. added_as
+          (field_missing L c.args.style.defaults (blanks c.args.indent.now) here.structure es here.depth k here.some
+          behind (field_seen x) there none) (rw next at adds),
+    )
 
 pub put_next-returns-in_default-struct_in-clause-text : goal.put_next-returns-in_default-struct_in-clause-text
 put_next-returns-in_default-struct_in-clause-text g t c ds es behind shows at =
@@ -172,11 +176,15 @@ put_next-returns-in_default-struct_in-clause-text g t c ds es behind shows at =
     let next : k + 1 ≡ suc k = omega arith in
     let line = rw (c.deeper-inner.ensures, one, c.as_str.ensures.value) at c.put_member_line.ensures in
     let value = rw (c.deeper-inner.ensures, one)
-        at (c.put_found.ensures d (subst (λ (o : Option Datum). g.S.Shown.shows c.part-part.result L o) is part)
-        (subst (λ (o : Option Datum). IsTop c.find-found.result o) is top)) in
-    (es, behind, at, λ end adds. added_as
-        (field_first L c.args.style.defaults (blanks c.args.indent.now) here.structure es here.depth k here.some behind
-        (field_seen x) there d is) (then line (then value (rw next at adds))))
+    at (c.put_found.ensures d (subst (λ (o : Option Datum). g.S.Shown.shows c.part-part.result L o) is part)
+    (subst (λ (o : Option Datum). IsTop c.find-found.result o) is top)) in (
+      es,
+      behind,
+      at,
+      λ end adds. added_as
+          (field_first L c.args.style.defaults (blanks c.args.indent.now) here.structure es here.depth k here.some behind
+          (field_seen x) there d is) (then line (then value (rw next at adds))),
+    )
 
 pub put_table-loop-k-preserved : goal.put_table-loop-k-preserved
 put_table-loop-k-preserved g t c es lies end rest =
@@ -187,13 +195,13 @@ put_table-loop-k-preserved g t c es lies end rest =
     let fs = map field_seen c.slots_of-slots.result.now in
     let shows = c.slot.ensures.shows L c.args.owner.0 es lies in
     let less : k < length c.slots_of-slots.result.now =
-        omega (arith, c.loop-k-test.true, c.printed_slots-k-end.ensures.few) in
+    omega (arith, c.loop-k-test.true, c.printed_slots-k-end.ensures.few) in
     let step = members_step L c.args.style.defaults (blanks c.inner-inner.result) (blanks c.args.indent.now)
-        c.loop-k.some fs es k f
-        (seen_there c.slots_of-slots.result.now k c.index-slots-k.result less c.index-slots-k.is) in
+    c.loop-k.some fs es k f
+    (seen_there c.slots_of-slots.result.now k c.index-slots-k.result less c.index-slots-k.is) in
     c.loop-k.invariant es lies end
-        (added_as step (then (c.put_member-some.ensures.text there shows)
-        (rw (c.put_member-some.ensures.some there shows, add-one) at rest)))
+    (added_as step (then (c.put_member-some.ensures.text there shows)
+    (rw (c.put_member-some.ensures.some there shows, add-one) at rest)))
 
 pub put_table-returns : goal.put_table-returns
 put_table-returns g t c shape es lies =
@@ -201,14 +209,14 @@ put_table-returns g t c shape es lies =
     let fs = map field_seen c.slots_of-slots.result.now in
     let seen : fs ≡ slots_in (body_at L.schema c.args.owner.0) = c.slots_of-slots.ensures.slots in
     let long : length c.slots_of-slots.result.now ≡ length (slots_in (body_at L.schema c.args.owner.0)) =
-        sym (seen_long c.slots_of-slots.result.now) ∙ ap length seen in
+    sym (seen_long c.slots_of-slots.result.now) ∙ ap length seen in
     let end = members_behind L c.args.style.defaults (blanks c.inner-inner.result) (blanks c.args.indent.now)
-        c.loop-k.some fs es c.loop-k.k
-        (λ j f past there. c.printed_slots-k-end.ensures.behind L c.args.owner.0 es j f lies long
-        (omega (arith, past, c.loop-k-test.false)) (rw seen at there)) in
+    c.loop-k.some fs es c.loop-k.k
+    (λ j f past there. c.printed_slots-k-end.ensures.behind L c.args.owner.0 es j f lies long
+    (omega (arith, past, c.loop-k-test.false)) (rw seen at there)) in
     let all = c.loop-k.invariant es lies _ (added_as end (then c.put_closing.ensures c.put_str-2.ensures)) in
     added_as (table_text L c.args.style.defaults (blanks c.inner-inner.result) (blanks c.args.indent.now) shape
-        c.args.owner.0 es) (then c.put_str.ensures (rw (c.inner-inner.ensures, seen) at all))
+    c.args.owner.0 es) (then c.put_str.ensures (rw (c.inner-inner.ensures, seen) at all))
 
 pub put_found-returns-in-Table : goal.put_found-returns-in-Table
 put_found-returns-in-Table g t c d shows found =
@@ -231,16 +239,16 @@ put_vector-loop-i-preserved g t c ds lies end rest =
     let there = part_there ds i less in
     let shows = rw there.1 at (c.item.ensures.shows L ds lies) in
     let step = items_step L c.args.style.defaults (blanks c.inner-inner.result) (blanks c.args.indent.now) c.args.kind
-        c.loop-i.some ds i there.0 there.1 in
+    c.loop-i.some ds i there.0 there.1 in
     c.loop-i.invariant ds lies end
-        (added_as step (then c.put_line.ensures (then (c.put_value.ensures there.0 shows) (rw add-one at rest))))
+    (added_as step (then c.put_line.ensures (then (c.put_value.ensures there.0 shows) (rw add-one at rest))))
 
 pub put_vector-returns : goal.put_vector-returns
 put_vector-returns g t c ds lies =
     let L = c.args.style.layout.now in
     let over : c.loop-i.i ≡ count ds =
-        omega (arith, c.count-i-end.ensures.all L ds lies, c.loop-i-test.false, c.loop-i.auto.i-end) in
+    omega (arith, c.count-i-end.ensures.all L ds lies, c.loop-i-test.false, c.loop-i.auto.i-end) in
     let end = items_end L c.args.style.defaults (blanks c.inner-inner.result) (blanks c.args.indent.now) c.args.kind
-        c.loop-i.some ds c.loop-i.i over in
+    c.loop-i.some ds c.loop-i.i over in
     let all = c.loop-i.invariant ds lies _ (added_as end (then c.put_closing.ensures c.put_str-2.ensures)) in
     then c.put_str.ensures (rw c.inner-inner.ensures at all)

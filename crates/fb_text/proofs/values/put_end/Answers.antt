@@ -14,7 +14,7 @@ returns-clause-text g c defaults ds es behind shows at =
     let depth = c.args.here.depth in
     let (around, rest, on, whole) = c.parent_of.ensures.parent defaults indent ds es behind shows at.1 in
     let end = parts_end L defaults (further (suc depth) indent) (further depth indent) c.args.here.some
-        (parts_in (body_at L.schema u.0)) es c.args.here.next c.requires.end in
+    (parts_in (body_at L.schema u.0)) es c.args.here.next c.requires.end in
     let closed = rw (c.deeper.ensures, end) at (then c.put_closing.ensures c.put_str.ensures) in
     (around, rest, on, λ finish adds. then closed (rw whole adds))
 
@@ -25,8 +25,8 @@ returns-then-here-eq0-clause-text g c defaults ds es behind shows at =
     let u = c.args.here.structure in
     let depth = c.args.here.depth in
     let first : StandsIn L defaults indent c.args.first.structure ds 0 c.args.here.at u es behind =
-        rw c.if-here-eq0.true at at.1 in
+    rw c.if-here-eq0.true at at.1 in
     let end = parts_end L defaults (further (suc depth) indent) (further depth indent) c.args.here.some
-        (parts_in (body_at L.schema u.0)) es c.args.here.next c.requires.end in
+    (parts_in (body_at L.schema u.0)) es c.args.here.next c.requires.end in
     let closed = rw (c.deeper.ensures, end) at (then c.put_closing.ensures c.put_str.ensures) in
     rw (first.3, append-nil (fields_text L defaults indent u es depth c.args.here.next c.args.here.some)) closed

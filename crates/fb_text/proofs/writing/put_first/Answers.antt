@@ -11,12 +11,14 @@ returns-then-failed g c =
 pub returns : goal.returns
 returns g c =
     added_written _ _ c.args.piece.now c.args.piece.now (sym c.failed.ensures ∙ c.if-failed.false)
-        (ap (λ l. l ++ c.args.piece.now) c.requires) c.restart.ensures.pending
-    (λ fine. let (got, count) = c.write_bytes-written.ensures.all fine in
-        (got, c.restart.ensures.written
-        ∙ (count ∙ ap (λ n. counted (n + length c.args.piece.now)) c.written-before.ensures)))
+    (ap (λ l. l ++ c.args.piece.now) c.requires) c.restart.ensures.pending
+    (λ fine. let (got, count) = c.write_bytes-written.ensures.all fine in (
+      got,
+      c.restart.ensures.written
+          ∙ (count ∙ ap (λ n. counted (n + length c.args.piece.now)) c.written-before.ensures),
+    ))
     (λ broken. let (m, less, got, count) = c.write_bytes-written.ensures.some broken in
-        (m, less, got, c.restart.ensures.written ∙ (count ∙ ap (λ n. counted (n + m)) c.written-before.ensures)))
+    (m, less, got, c.restart.ensures.written ∙ (count ∙ ap (λ n. counted (n + m)) c.written-before.ensures)))
 
 pub returns-then-has_room : goal.returns-then-has_room
 returns-then-has_room g c =

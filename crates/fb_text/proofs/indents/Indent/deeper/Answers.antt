@@ -6,6 +6,6 @@ use Rattle.fb_text.proofs.indents.Indent.deeper.Goals as goal
 pub returns-in-Levels : goal.returns-in-Levels
 returns-in-Levels c =
     let outer : blanks c.args.self.now ≡ further c.in-Levels.outer [] =
-        ap blanks c.in-Levels.is ∙ blanks_levels c.in-Levels.outer in
+    ap blanks c.in-Levels.is ∙ blanks_levels c.in-Levels.outer in
     blanks_levels (c.in-Levels.outer + c.args.levels)
-        ∙ (further_sum c.in-Levels.outer c.args.levels [] ∙ ap (further c.args.levels) (sym outer))
+    ∙ (further_sum c.in-Levels.outer c.args.levels [] ∙ ap (further c.args.levels) (sym outer))

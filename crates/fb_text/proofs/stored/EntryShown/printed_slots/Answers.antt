@@ -14,5 +14,5 @@ returns-in-Table-2-clause-behind c L t es k f shows all past there =
     let within = there_within _ k f there in
     let behind : c.stored_slots.result ≤ k = omega (arith, within, all, past, c.min.ensures, c.from.ensures) in
     rw c.if-defaults.false
-        (unprinted_behind L view.layout.now t view.table.0 k f (nth_entry es k) here.0 lies.1 there
-        (λ s found. c.stored_slots.ensures.behind (a_table t es) k s lies behind found))
+    (unprinted_behind L view.layout.now t view.table.0 k f (nth_entry es k) here.0 lies.1 there
+    (λ s found. c.stored_slots.ensures.behind (a_table t es) k s lies behind found))

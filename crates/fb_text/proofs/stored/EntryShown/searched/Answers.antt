@@ -12,9 +12,9 @@ returns-in-Table-clause-behind c L o at shown =
     let shows = rw c.in-Table.is at shown in
     rw shows.2 (table_case view (λ d. unnamed_from at (Some d) c.from.result ≡ None) shows.1 shows.3 (λ u es here.
     sym (entries_end view.layout.now view.bytes.now u c.from.result c.from.result
-        (slots_of view.layout.now view.table.0) _ es here.2
-        (λ i s past there. c.stored_slots.ensures.behind (a_table u es) i s here (omega (arith, past, c.from.ensures))
-        there))))
+    (slots_of view.layout.now view.table.0) _ es here.2
+    (λ i s past there. c.stored_slots.ensures.behind (a_table u es) i s here (omega (arith, past, c.from.ensures))
+    there))))
 
 pub returns-in-Fixed-clause-behind : goal.returns-in-Fixed-clause-behind
 returns-in-Fixed-clause-behind c L o at shown =
@@ -33,4 +33,4 @@ returns-in_default-clause-behind c L o at shown =
     let items = c.in-Vector.items in
     let K = items.layout.now in
     rw shows.2 (sym (items_named K items.bytes.now (stored_kind K.schema items.kind) items.at at shows.1
-        (plain_kind K.schema items.kind c.in_default.not-Table) shows.3.1))
+    (plain_kind K.schema items.kind c.in_default.not-Table) shows.3.1))
