@@ -12,6 +12,7 @@ import shutil
 import subprocess
 import sys
 import tempfile
+import threading
 
 ROOT = os.path.dirname(os.path.dirname(os.path.abspath(__file__)))
 LONGEST = 2_147_483_647
@@ -19,6 +20,7 @@ LONGEST = 2_147_483_647
 PAIRS = 87
 NOBODY = 65534
 SECONDS = 120
+CUT_SECONDS = 20
 # In bytes: a stack, and how much of a long text is read.
 SMALL_STACK = 256 * 1024
 FRONT = 1_000_000
@@ -239,13 +241,15 @@ def one_struct(values):
 
 
 def deep_text(count, values):
-    """The text of the chain's value, line by line: the values of `b` stand behind the structs."""
+    """The text of the chain's value, line by line: each value of `b` is behind a struct."""
     yield b'{\n  "s": {\n'
     for depth in range(2, count + 1):
         yield b"  " * depth + b'"a": {\n'
     yield b"  " * (count + 1) + b'"a": 0\n'
     for depth in range(count, 0, -1):
-        yield b"  " * depth + (b"}" if depth == 1 or not values else b'},\n' + b"  " * depth + b'"b": %d' % values[count - depth]) + b"\n"
+        indent = b"  " * depth
+        behind = b',\n%b"b": %d' % (indent, values[count - depth]) if values and depth > 1 else b""
+        yield indent + b"}" + behind + b"\n"
     yield b"}\n"
 
 
@@ -256,16 +260,21 @@ def nesting():
     open("chain.bin", "wb").write(one_struct(bytes([0]) + values[:2499]))
     done = run(["json", "chain.fbs", "chain.bin"], preexec_fn=small_stack)
     want = b"".join(deep_text(2500, values))
-    tell("2,500 structs, each with a field behind it", (done.returncode, done.stdout) == (0, want), f"{done.stderr} {done.stdout[:99]}")
+    good = (done.returncode, done.stdout) == (0, want)
+    tell("2,500 structs, each with a field behind it", good, f"{done.stderr} {done.stdout[:99]}")
     open("chain.fbs", "wb").write(chain(60_000, ""))
     open("chain.bin", "wb").write(one_struct(bytes(1)))
-    with subprocess.Popen(
-        [PROGRAM, "json", "chain.fbs", "chain.bin"], stdout=subprocess.PIPE, stderr=subprocess.PIPE, preexec_fn=small_stack
-    ) as child:
+    words = [PROGRAM, "json", "chain.fbs", "chain.bin"]
+    pipes = {"stdin": subprocess.DEVNULL, "stdout": subprocess.PIPE, "stderr": subprocess.PIPE}
+    with subprocess.Popen(words, preexec_fn=small_stack, **pipes) as child:
+        # printing has to end soon after the pipe is closed, and not once the whole text was gone through
+        timer = threading.Timer(CUT_SECONDS, child.kill)
+        timer.start()
         front = child.stdout.read(FRONT)
         child.stdout.close()
         err = child.stderr.read()
-        status = child.wait(SECONDS)
+        status = child.wait()
+        timer.cancel()
     want, length = [], 0
     for line in deep_text(60_000, b""):
         want.append(line)
