@@ -16,7 +16,7 @@ keys_differ key (x ∷ xs) pairs i j d before within =
 none_twice : {K : Type 0} → AllPairs {X = K} (λ a b. a ≢ b) []
 none_twice i j d before within = absurd (omega arith)
 
-no_repeats : (S : DeclaredSchema) (t : ℕ) (body : DeclaredBody) → IsBody S t body → HasNoRepeats body
+pub no_repeats : (S : DeclaredSchema) (t : ℕ) (body : DeclaredBody) → IsBody S t body → HasNoRepeats body
 no_repeats S t (table_body fs) is = record { names = is.names; numbers = none_twice }
 no_repeats S t (struct_body fs align) is = record { names = is.names; numbers = none_twice }
 no_repeats S t (enum_body base flags values) is = record { names = keys_differ (λ v. v.0) values is.names; numbers = keys_differ (λ v. v.1) values is.numbers }

@@ -1,7 +1,8 @@
 pub mod Positions
 pub mod Distinct
-pub mod NoRepeats
 pub mod LookUps
 pub mod DeclaredNames
 pub mod Got
 pub mod LastDot
+pub mod SearchedByHalves
+pub mod IndexesOfTypes

@@ -1,57 +1,65 @@
 -- What a look-up through an index finds is what is there.
-use Rattle.std.proofs.Common.{◌≡◌, ◌≤◌, ℕ, suc, lit≤, length, Bool, false, List, [], map, find, position, slice_get, Option, None, Some, bytes_eq, codes, ℤ, if◌then◌else◌, refl, ap, sym, ◌∙◌}
+use Rattle.std.proofs.Common.{◌≡◌, ◌≢◌, ◌<◌, ◌≤◌, ℕ, zero, suc, lit≤, length, Bool, false, List, [], ◌∷◌, map, AllPairs, find, position, slice_get, Option, None, Some, bytes_eq, codes, ℤ, if◌then◌else◌, ap, sym, ◌∙◌, arith}
 use Rattle.std.specs.Option.{option_map, option_and_then}
-use Rattle.std.specs.Ordering.{int_eq}
+use Rattle.std.specs.List.{AllZip}
 use Rattle.std.proofs.lemmas.Option.{slice_get-map}
+use Rattle.std.proofs.lemmas.Simd.{map-map}
 use Rattle.fb_schema.specs.declared.types.TypeInfo.{TypeInfo}
 use Rattle.fb_schema.specs.Schema.{Name, DeclaredBody, table_body, struct_body, enum_body, union_body, DeclaredType, DeclaredSchema, body_in, values_in, members_in}
 use Rattle.fb_schema.specs.Seen.{body_seen, type_seen, schema_of}
 use Rattle.fb_schema.specs.WellDeclared.{IsBody, IsDeclared}
 use Rattle.fb_schema.specs.declared.kinds.TypeId.{TypeId}
-use Rattle.fb_schema.specs.Indexed.{inner_names, inner_numbers}
+use Rattle.fb_schema.specs.declared.name_index.NameIndex.{NameIndex}
+use Rattle.fb_schema.specs.Indexed.{inner_names, inner_numbers, few, HasNoRepeats, IndexesNames}
 use Rattle.fb_schema.specs.declared.kinds.Base.{Base}
 use Rattle.fb_schema.specs.Bodies.{as_enum, as_union}
-use Rattle.fb_schema.specs.Found.{fields_in, field_named, name_numbered, number_named, code_named}
+use Rattle.fb_schema.specs.Found.{fields_in, code_named}
+use Rattle.fb_schema.proofs.DeclaredNames.{no_repeats}
 use Rattle.fb_schema.proofs.Positions.{position-map, find-position}
 
 -- the place of a key is that of the first item with the key
 find-keys : {X K : Type 0} (key : X → K) (p : K → Bool) (xs : List X) → option_and_then (slice_get xs) (position p (map key xs)) ≡ find (λ x. p (key x)) xs
 find-keys key p xs = ap (option_and_then (slice_get xs)) (position-map key p xs) ∙ find-position (λ x. p (key x)) xs
 
-none_in : {X : Type 0} (o : Option ℕ) → option_and_then (slice_get {X = X} []) o ≡ None
-none_in None = refl
-none_in (Some n) = refl
+-- what is at the place of a key among items is the first item with that key, as items are seen
+module _ {X Y K : Type 0} (seen : X → Y) (key : Y → K) (p : K → Bool) (items : List X) (declared : List Y) (same : map seen items ≡ declared) where
+  pub keys_seen : map (λ x. key (seen x)) items ≡ map key declared
+  keys_seen = sym (map-map key seen items) ∙ ap (map key) same
 
-field_at : (body : DeclaredBody) (name : Name) → option_and_then (slice_get (fields_in body)) (position (bytes_eq name) (inner_names body)) ≡ field_named body name
-field_at (table_body fs) name = find-keys (λ f. f.name) (bytes_eq name) fs
-field_at (struct_body fs align) name = find-keys (λ f. f.name) (bytes_eq name) fs
-field_at (enum_body base flags values) name = none_in (position (bytes_eq name) (map (λ v. v.0) values))
-field_at (union_body members) name = none_in (position (bytes_eq name) (map (λ m. m.0) members))
+  pub found_through : (at : Option ℕ) → at ≡ position p (map (λ x. key (seen x)) items) → option_and_then (slice_get declared) at ≡ find (λ y. p (key y)) declared
+  found_through at place = ap (option_and_then (slice_get declared)) (place ∙ ap (position p) keys_seen) ∙ find-keys key p declared
 
--- a field through the names of its type
-pub field_through : (body : DeclaredBody) (names : List Name) (name : Name) (at : Option ℕ) → names ≡ inner_names body → at ≡ position (bytes_eq name) names
-    → option_and_then (slice_get (fields_in body)) at ≡ field_named body name
-field_through body names name at listed place =
-    ap (option_and_then (slice_get (fields_in body))) (place ∙ ap (position (bytes_eq name)) listed) ∙ field_at body name
+none_many : {A : Type 0} → few < 0 → A
+none_many many = absurd (omega (arith, many))
 
--- a value's name through the numbers of its type
-pub name_through : (body : DeclaredBody) (numbers : List ℤ) (number : ℤ) (at : Option ℕ) → numbers ≡ inner_numbers body → at ≡ position (int_eq number) numbers
-    → option_map (λ v. v.0) (option_and_then (slice_get (values_in body)) at) ≡ name_numbered body number
-name_through body numbers number at listed place =
-    ap (λ (o : Option ℕ). option_map (λ v. v.0) (option_and_then (slice_get (values_in body)) o)) (place ∙ ap (position (int_eq number)) listed)
-    ∙ ap (option_map (λ v. v.0)) (find-keys (λ v. v.1) (int_eq number) (values_in body))
+none_twice : {K : Type 0} → AllPairs {X = K} (λ a b. a ≢ b) []
+none_twice i j d before within = absurd (omega arith)
 
-number_at : (body : DeclaredBody) (name : Name) → option_map (λ v. v.1) (option_and_then (slice_get (values_in body)) (position (bytes_eq name) (inner_names body))) ≡ number_named body name
-number_at (table_body fs) name = ap (option_map (λ v. v.1)) (none_in (position (bytes_eq name) (map (λ f. f.name) fs)))
-number_at (struct_body fs align) name = ap (option_map (λ v. v.1)) (none_in (position (bytes_eq name) (map (λ f. f.name) fs)))
-number_at (enum_body base flags values) name = ap (option_map (λ v. v.1)) (find-keys (λ v. v.0) (bytes_eq name) values)
-number_at (union_body members) name = ap (option_map (λ v. v.1)) (none_in (position (bytes_eq name) (map (λ m. m.0) members)))
+-- the index of a type's names is that of its fields' names, where it has fields
+pub fields_indexed : (body : DeclaredBody) (index : NameIndex) → IndexesNames index (inner_names body) → IndexesNames index (map (λ f. f.name) (fields_in body))
+fields_indexed (table_body fs) index h = h
+fields_indexed (struct_body fs align) index h = h
+fields_indexed (enum_body base flags values) index h = none_many
+fields_indexed (union_body members) index h = none_many
 
--- a value's number through the names of its type
-pub number_through : (body : DeclaredBody) (names : List Name) (name : Name) (at : Option ℕ) → names ≡ inner_names body → at ≡ position (bytes_eq name) names
-    → option_map (λ v. v.1) (option_and_then (slice_get (values_in body)) at) ≡ number_named body name
-number_through body names name at listed place =
-    ap (λ (o : Option ℕ). option_map (λ v. v.1) (option_and_then (slice_get (values_in body)) o)) (place ∙ ap (position (bytes_eq name)) listed) ∙ number_at body name
+pub fields_differ : (body : DeclaredBody) → HasNoRepeats body → AllPairs (λ a b. a ≢ b) (map (λ f. f.name) (fields_in body))
+fields_differ (table_body fs) h = h.names
+fields_differ (struct_body fs align) h = h.names
+fields_differ (enum_body base flags values) h = none_twice
+fields_differ (union_body members) h = none_twice
+
+-- and that of its values' names, where it has values
+pub values_indexed : (body : DeclaredBody) (index : NameIndex) → IndexesNames index (inner_names body) → IndexesNames index (map (λ v. v.0) (values_in body))
+values_indexed (table_body fs) index h = none_many
+values_indexed (struct_body fs align) index h = none_many
+values_indexed (enum_body base flags values) index h = h
+values_indexed (union_body members) index h = none_many
+
+pub values_differ : (body : DeclaredBody) → HasNoRepeats body → AllPairs (λ a b. a ≢ b) (map (λ v. v.0) (values_in body))
+values_differ (table_body fs) h = none_twice
+values_differ (struct_body fs align) h = none_twice
+values_differ (enum_body base flags values) h = h.names
+values_differ (union_body members) h = none_twice
 
 -- a body with members is that of a union
 pub union_of : (body : DeclaredBody) (members : List (Name × ℕ)) → Some members ≡ as_union body → body ≡ union_body members
@@ -70,13 +78,27 @@ numbers_of (enum_body b f vs) base flags values e = ap (λ (o : Option (Base × 
   values_or_none None = []
   values_or_none (Some e) = e.2
 
--- a member's code through the names of its union
-pub code_through : (body : DeclaredBody) (members : List (Name × ℕ)) (names : List Name) (name : Name) (at : Option ℕ) → body ≡ union_body members → names ≡ inner_names body
-    → at ≡ position (bytes_eq name) names → bytes_eq name (codes "NONE") ≡ false → option_map (λ k. suc k) at ≡ code_named body name
-code_through body members names name at is listed place other =
-    let placed : at ≡ position (λ m. bytes_eq name m.0) members = place ∙ (ap (position (bytes_eq name)) (listed ∙ ap inner_names is) ∙ position-map (λ m. m.0) (bytes_eq name) members) in
+-- a member's code by the place of its name in its union
+pub code_through : (body : DeclaredBody) (members : List (Name × ℕ)) (name : Name) (at : Option ℕ) → body ≡ union_body members
+    → at ≡ position (bytes_eq name) (map (λ m. m.0) members) → bytes_eq name (codes "NONE") ≡ false → option_map (λ k. suc k) at ≡ code_named body name
+code_through body members name at is place other =
+    let placed : at ≡ position (λ m. bytes_eq name m.0) members = place ∙ position-map (λ m. m.0) (bytes_eq name) members in
     ap (option_map (λ k. suc k)) placed
     ∙ (ap (λ (b : Bool). if b then Some 0 else option_map (λ k. suc k) (position (λ m. bytes_eq name m.0) members)) (sym other) ∙ ap (λ (b : DeclaredBody). code_named b name) (sym is))
+
+-- what holds place by place
+zipped_at : {A B : Type 0} (R : A → B → Type 0) (xs : List A) (ys : List B) (k : ℕ) (x : A) (y : B) → AllZip R xs ys → slice_get xs k ≡ Some x → slice_get ys k ≡ Some y → R x y
+zipped_at R [] ys k x y h e f = absurd cc
+zipped_at R (a ∷ xs) [] k x y h e f = absurd h
+zipped_at R (a ∷ xs) (b ∷ ys) zero x y h e f = let first : a ≡ x = cc in let second : b ≡ y = cc in rw (← first, ← second) h.0
+zipped_at R (a ∷ xs) (b ∷ ys) (suc k) x y h e f = zipped_at R xs ys k x y h.1 e f
+
+zipped_past : {A B : Type 0} (R : A → B → Type 0) (xs : List A) (ys : List B) (k : ℕ) (y : B) → AllZip R xs ys → slice_get xs k ≡ None → slice_get ys k ≡ Some y → ⊥
+zipped_past R [] [] k y h e f = cc
+zipped_past R [] (b ∷ ys) k y h e f = h
+zipped_past R (a ∷ xs) [] k y h e f = h
+zipped_past R (a ∷ xs) (b ∷ ys) zero y h e f = cc
+zipped_past R (a ∷ xs) (b ∷ ys) (suc k) y h e f = zipped_past R xs ys k y h.1 e f
 
 module _ (types : List TypeInfo) (at : ℕ) (info : TypeInfo) (there : Some info ≡ slice_get types at) where
   seen_there : slice_get (map type_seen types) at ≡ Some (type_seen info)
@@ -97,12 +119,14 @@ module _ (types : List TypeInfo) (at : ℕ) (info : TypeInfo) (there : Some info
   few_members root identifier declared =
       members_few (schema_of types root identifier) at (body_seen info.body) (declared.bodies at (type_seen info) seen_there)
 
-  -- the index of the type there
-  pub index_there : {K : Type 0} (listed : DeclaredBody → K) (all : List K) (index : K) → all ≡ map (λ t. listed t.body) (map type_seen types)
-      → Some index ≡ slice_get all at → index ≡ listed (body_seen info.body)
-  index_there {K} listed all index made held =
-      let same : Some index ≡ Some (listed (body_seen info.body)) =
-      held
-      ∙ (ap (λ (l : List K). slice_get l at) made
-      ∙ (slice_get-map (λ (t : DeclaredType). listed t.body) (map type_seen types) at ∙ ap (option_map (λ (t : DeclaredType). listed t.body)) seen_there)) in
-      cc
+  -- what holds of each type's index holds of that of the type there
+  pub index_there : {I : Type 0} (R : I → DeclaredType → Type 0) (all : List I) (index : I) → AllZip R all (map type_seen types) → Some index ≡ slice_get all at → R index (type_seen info)
+  index_there R all index zipped held = zipped_at R all (map type_seen types) at index (type_seen info) zipped (sym held) seen_there
+
+  -- there is one
+  pub index_held : {I : Type 0} (R : I → DeclaredType → Type 0) (all : List I) → AllZip R all (map type_seen types) → None ≡ slice_get all at → ⊥
+  index_held R all zipped none = zipped_past R all (map type_seen types) at (type_seen info) zipped (sym none) seen_there
+
+  -- no name and no number is there twice
+  pub no_repeats_there : (root : TypeId) (identifier : Option (List ℕ)) → IsDeclared (schema_of types root identifier) → HasNoRepeats (body_seen info.body)
+  no_repeats_there root identifier declared = no_repeats (schema_of types root identifier) at (body_seen info.body) (declared.bodies at (type_seen info) seen_there)

@@ -1,5 +1,12 @@
--- What a schema's indexes list.
-use Rattle.std.specs.Prelude.{◌≢◌, List, AllPairs, map, ℤ}
+-- What a schema's indexes find.
+use Rattle.std.specs.Prelude.{ℕ, ◌<◌, ◌≢◌, List, [], length, get_or, AllPairs, map, ℤ, pos}
+use Rattle.std.specs.Ordering.{nat_cmp, int_cmp}
+use Rattle.std.specs.declared.cmp.Ordering.{Ordering}
+use Rattle.std.specs.Cmp.Lexicographic.{slice_cmp}
+use Rattle.std.specs.List.{range_with_len}
+use Rattle.std.specs.List.Sorted.{IsPermutation, IsSortedByKey}
+use Rattle.fb_schema.specs.declared.name_index.NameIndex.{NameIndex}
+use Rattle.fb_schema.specs.declared.number_index.NumberIndex.{NumberIndex}
 use Rattle.fb_schema.specs.Schema.{Name, DeclaredBody, table_body, struct_body, enum_body, union_body, values_in}
 
 -- the names that stand in a type: of its fields, values or members
@@ -17,3 +24,20 @@ inner_numbers body = map (λ v. v.1) (values_in body)
 pub record HasNoRepeats (body : DeclaredBody) : Type 0 where
   pub names : AllPairs (λ a b. a ≢ b) (inner_names body)
   pub numbers : AllPairs (λ a b. a ≢ b) (inner_numbers body)
+
+-- The places of all keys, in ascending order of the keys; where there is no key, this one counts.
+pub record IsInOrder {K : Type 0} (cmp : K → K → Ordering) (none : K) (keys : List K) (places : List ℕ) : Type 0 where
+  pub all : IsPermutation (range_with_len 0 (length keys)) places
+  pub ascending : IsSortedByKey (λ p. get_or keys p none) cmp places
+
+-- so few names are looked through, and have no places in order
+abbrev pub few : ℕ
+few = 8
+
+-- an index of names, which are ordered by their bytes
+abbrev pub IndexesNames : NameIndex → List Name → Type 0
+IndexesNames index names = few < length names → IsInOrder (slice_cmp nat_cmp) [] names index.places.items
+
+-- an index of the numbers of an enum's values
+abbrev pub IndexesNumbers : NumberIndex → List ℤ → Type 0
+IndexesNumbers index numbers = IsInOrder int_cmp (pos 0) numbers index.places.items

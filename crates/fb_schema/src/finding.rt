@@ -2,7 +2,7 @@
 ghost use Rattle.std.specs.Prelude.{◌≡◌, ◌≤◌, length, map, option_copied, option_map, string_bytes};
 ghost use Rattle.fb_schema.specs.Schema.{values_in, members_in};
 ghost use Rattle.fb_schema.specs.Seen.{field_seen, body_seen};
-ghost use Rattle.fb_schema.specs.Indexed.{inner_names, inner_numbers};
+ghost use Rattle.fb_schema.specs.Indexed.{inner_names, inner_numbers, HasNoRepeats, IndexesNames, IndexesNumbers};
 ghost use Rattle.fb_schema.specs.Found.{fields_in, field_named, member_coded, name_numbered, number_named, code_named};
 
 use crate::kinds::TypeId;
@@ -40,12 +40,13 @@ fn members_of(body: &Body) -> &[(String, TypeId)]
 
 /// The field of a table or struct that has a name.
 pub(crate) fn field_in<'a>(body: &'a Body, names: &NameIndex, name: &str) -> Option<&'a FieldInfo>
-    requires { names.now ≡ inner_names (body_seen body.now) }
+    requires indexed { IndexesNames names.now (inner_names (body_seen body.now)) }
+    requires distinct { HasNoRepeats (body_seen body.now) }
     ensures { option_map field_seen (option_copied result)
         ≡ field_named (body_seen body.now) name.now }
 {
-    let at = names.position(name)?;
-    fields_of(body).get(at)
+    let fields = fields_of(body);
+    fields.get(names.position(fields, name)?)
 }
 
 /// The table of a union's member that has a code, from 1 on.
@@ -59,34 +60,37 @@ pub(crate) fn member_in(body: &Body, code: u8) -> Option<TypeId>
 
 /// The name of an enum's value that has a number.
 pub(crate) fn name_in<'a>(body: &'a Body, numbers: &NumberIndex, number: i128) -> Option<&'a str>
-    requires { numbers.now ≡ inner_numbers (body_seen body.now) }
+    requires indexed { IndexesNumbers numbers.now (inner_numbers (body_seen body.now)) }
+    requires distinct { HasNoRepeats (body_seen body.now) }
     ensures { option_copied result ≡ name_numbered (body_seen body.now) number }
 {
-    let at = numbers.position(number)?;
-    let value = values_of(body).get(at)?;
+    let values = values_of(body);
+    let value = values.get(numbers.position(values, number)?)?;
     Some(value.0.as_str())
 }
 
 /// The number of an enum's value that has a name.
 pub(crate) fn number_in(body: &Body, names: &NameIndex, name: &str) -> Option<i128>
-    requires { names.now ≡ inner_names (body_seen body.now) }
+    requires indexed { IndexesNames names.now (inner_names (body_seen body.now)) }
+    requires distinct { HasNoRepeats (body_seen body.now) }
     ensures { result ≡ number_named (body_seen body.now) name.now }
 {
-    let at = names.position(name)?;
-    let value = values_of(body).get(at)?;
+    let values = values_of(body);
+    let value = values.get(names.position(values, name)?)?;
     Some(value.1)
 }
 
 /// The code of a union's member that has a name; of `NONE` it is 0.
 pub(crate) fn code_in(body: &Body, names: &NameIndex, name: &str) -> Option<u8>
-    requires names { names.now ≡ inner_names (body_seen body.now) }
+    requires indexed { IndexesNames names.now (inner_names (body_seen body.now)) }
+    requires distinct { HasNoRepeats (body_seen body.now) }
     requires few { length (members_in (body_seen body.now)) ≤ 255 }
     ensures { result ≡ code_named (body_seen body.now) name.now }
 {
-    let _members = body.as_union()?;
+    let members = body.as_union()?;
     if name == "NONE" {
         return Some(0);
     }
-    let at = names.position(name)?;
+    let at = names.position(members, name)?;
     Some(at as u8 + 1)
 }

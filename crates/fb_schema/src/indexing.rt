@@ -1,17 +1,18 @@
 //! The indexes of a schema's types.
-ghost use Rattle.std.specs.Prelude.{◌≡◌, ◌≢◌, map, All, AllPairs, IfOk};
+ghost use Rattle.std.specs.Prelude.{map, IfOk};
+ghost use Rattle.std.specs.List.{AllZip};
 ghost use Rattle.fb_schema.specs.Seen.{body_seen, type_seen};
-ghost use Rattle.fb_schema.specs.Indexed.{inner_names as names_of_body, inner_numbers as numbers_of_body, HasNoRepeats};
+ghost use Rattle.fb_schema.specs.Indexed.{inner_names as names_of_body, inner_numbers as numbers_of_body};
+ghost use Rattle.fb_schema.specs.Indexed.{IndexesNames, IndexesNumbers};
 
 use crate::name_index::NameIndex;
 use crate::number_index::NumberIndex;
 use crate::types::{Body, TypeInfo};
 use std::alloc::{AllocError, Global};
 
-/// The names of a type's fields, values or members.
+/// The index of the names of a type's fields, values or members.
 fn names_in(alloc: Global, body: &Body) -> Result<NameIndex, AllocError>
-    requires { AllPairs (λ a b. a ≢ b) (names_of_body (body_seen body.now)) }
-    ensures { IfOk result (λ names. names ≡ names_of_body (body_seen body.now)) }
+    ensures { IfOk result (λ index. IndexesNames index (names_of_body (body_seen body.now))) }
 {
     match body {
         Body::Table(fields) => NameIndex::of(alloc, fields.as_slice()),
@@ -21,10 +22,9 @@ fn names_in(alloc: Global, body: &Body) -> Result<NameIndex, AllocError>
     }
 }
 
-/// The numbers of an enum's values.
+/// The index of the numbers of an enum's values.
 fn numbers_in(alloc: Global, body: &Body) -> Result<NumberIndex, AllocError>
-    requires { AllPairs (λ a b. a ≢ b) (numbers_of_body (body_seen body.now)) }
-    ensures { IfOk result (λ numbers. numbers ≡ numbers_of_body (body_seen body.now)) }
+    ensures { IfOk result (λ index. IndexesNumbers index (numbers_of_body (body_seen body.now))) }
 {
     match body.as_enum() {
         Some((_, _, values)) => NumberIndex::of(alloc, values),
@@ -32,11 +32,10 @@ fn numbers_in(alloc: Global, body: &Body) -> Result<NumberIndex, AllocError>
     }
 }
 
-/// For each type, the names of its fields, values or members.
+/// For each type, the index of the names of its fields, values or members.
 pub(crate) fn inner_names(alloc: Global, types: &[TypeInfo]) -> Result<Vec<NameIndex>, AllocError>
-    requires { All (λ t. HasNoRepeats t.body) (map type_seen types.now) }
-    ensures { IfOk result
-        (λ all. all.items ≡ map (λ t. names_of_body t.body) (map type_seen types.now)) }
+    ensures { IfOk result (λ all. AllZip (λ index t. IndexesNames index (names_of_body t.body))
+        all.items (map type_seen types.now)) }
 {
     let mut all = Vec::with_capacity(alloc, types.len())?;
     for info in types {
@@ -45,14 +44,13 @@ pub(crate) fn inner_names(alloc: Global, types: &[TypeInfo]) -> Result<Vec<NameI
     Ok(all)
 }
 
-/// For each type, the numbers of its values.
+/// For each type, the index of the numbers of its values.
 pub(crate) fn inner_numbers(
     alloc: Global,
     types: &[TypeInfo],
 ) -> Result<Vec<NumberIndex>, AllocError>
-    requires { All (λ t. HasNoRepeats t.body) (map type_seen types.now) }
-    ensures { IfOk result
-        (λ all. all.items ≡ map (λ t. numbers_of_body t.body) (map type_seen types.now)) }
+    ensures { IfOk result (λ all. AllZip (λ index t. IndexesNumbers index (numbers_of_body t.body))
+        all.items (map type_seen types.now)) }
 {
     let mut all = Vec::with_capacity(alloc, types.len())?;
     for info in types {

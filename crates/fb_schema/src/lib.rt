@@ -8,6 +8,7 @@ mod name_index;
 mod named;
 mod number_index;
 mod paths;
+mod places;
 mod schema;
 mod types;
 

@@ -1,14 +1,13 @@
-//! Names that are found in one step.
-ghost use Rattle.std.specs.Prelude.{◌≡◌, ◌≢◌, ◌∷◌, ◌++◌, if◌then◌else◌};
-ghost use Rattle.std.specs.Prelude.{[], map, bytes_eq, string_bytes, AllPairs, IfOk, OnErr, is_some, not};
+//! Names that are found in few steps.
+ghost use Rattle.std.specs.Prelude.{◌≡◌, ◌≢◌, [], map, bytes_eq, get_or, AllPairs, IfOk};
 ghost use Rattle.fb_schema.specs.Found.{index_of};
+ghost use Rattle.fb_schema.specs.Indexed.{IndexesNames};
 
 use crate::named::Named;
-use indexmap::IndexSet;
+use crate::places::places_of;
 use std::alloc::{AllocError, Global};
-use std::marker::Model;
 
-/// How many names are looked through; among more a name is found by its hash.
+/// How many names are looked through; more are searched by halves.
 const FEW: usize = 8;
 
 /// Whether two texts are one. Most that aren't differ in their length or their first byte.
@@ -20,76 +19,64 @@ fn is_same(one: &str, other: &str) -> bool
 }
 
 /// The number of a name among few, from 0, where it is there.
-fn position_among(names: &[String], name: &str) -> Option<usize>
-    ensures { result ≡ index_of (map string_bytes names.now) name.now }
+fn position_among<T: Named>(items: &[T], name: &str) -> Option<usize>
+    ensures { result ≡ index_of (map T.name items.now) name.now }
 {
-    for (place, known) in names.iter().enumerate() {
-        if is_same(name, known.as_str()) {
+    for (place, item) in items.iter().enumerate() {
+        if is_same(name, item.name()) {
             return Some(place);
         }
     }
     None
 }
 
-/// Names in order, all different, each found by its text in one step.
-#[derive(Drop)]
-pub(crate) struct NameIndex {
-    names: IndexSet<String>,
+/// The bytes of the name at a place; none where there is no name.
+fn name_at<T: Named>(items: &[T], place: usize) -> &[u8]
+    ensures { result.now ≡ get_or (map T.name items.now) place [] }
+{
+    match items.get(place) {
+        Some(item) => item.name().as_bytes(),
+        None => &[],
+    }
 }
 
-impl Model for NameIndex {
-    ghost use Rattle.std.specs.Prelude.{List, map, string_bytes};
-    ghost use Rattle.fb_schema.specs.Schema.{Name};
-
-    ghost Value = { List Name };
-
-    ghost view = { λ s. map string_bytes s.names.keys };
+/// The places of names in ascending order of the names, so that one is found by halves; of few names
+/// it holds none. It holds no name: a search is given what has them.
+///
+/// No names make it slow, whoever chose them: it doesn't hash.
+#[derive(Drop)]
+pub(crate) struct NameIndex {
+    places: Vec<usize>,
 }
 
 impl NameIndex {
-    /// No names.
-    pub(crate) fn new(alloc: Global) -> NameIndex
-        ensures { result ≡ [] }
-    {
-        NameIndex {
-            names: IndexSet::new(alloc),
-        }
-    }
-
-    /// The names of some items, in their order.
+    /// The index of the names of some items.
     pub(crate) fn of<T: Named>(alloc: Global, items: &[T]) -> Result<NameIndex, AllocError>
-        requires { AllPairs (λ a b. a ≢ b) (map T.name items.now) }
-        ensures { IfOk result (λ names. names ≡ map T.name items.now) }
+        ensures { IfOk result (λ index. IndexesNames index (map T.name items.now)) }
     {
-        let mut names = NameIndex::new(alloc);
-        for item in items {
-            names.push(alloc, item.name())?;
+        if items.len() <= FEW {
+            return Ok(NameIndex {
+                places: Vec::new(alloc),
+            });
         }
-        Ok(names)
-    }
-
-    /// Adds a name at the end, unless it is there already. It tells whether the name is new.
-    pub(crate) fn push(&mut self, alloc: Global, name: &str) -> Result<bool, AllocError>
-        ensures is_new { IfOk result (λ added. added ≡ not (is_some (index_of self.old name.now))) }
-        ensures names { IfOk result
-            (λ added. self.new ≡ (if added then self.old ++ name.now ∷ [] else self.old)) }
-        ensures err { OnErr result (self.new ≡ self.old) }
-    {
-        if self.names.contains(name) {
-            return Ok(false);
-        }
-        let name = String::from_str(alloc, name)?;
-        self.names.insert(name)?;
-        Ok(true)
+        let mut places = places_of(alloc, items.len())?;
+        places.sort_by(|one, other| name_at(items, *one).cmp(name_at(items, *other)))?;
+        Ok(NameIndex { places })
     }
 
     /// The number of a name, from 0, where it is there.
-    pub(crate) fn position(&self, name: &str) -> Option<usize>
-        ensures { result ≡ index_of self.now name.now }
+    pub(crate) fn position<T: Named>(&self, items: &[T], name: &str) -> Option<usize>
+        requires indexed { IndexesNames self.now (map T.name items.now) }
+        requires distinct { AllPairs (λ a b. a ≢ b) (map T.name items.now) }
+        ensures { result ≡ index_of (map T.name items.now) name.now }
     {
-        if self.names.len() <= FEW {
-            return position_among(self.names.as_slice(), name);
+        if items.len() <= FEW {
+            return position_among(items, name);
         }
-        self.names.get_index_of(name)
+        let places = self.places.as_slice();
+        match places.binary_search_by(|place| name_at(items, *place).cmp(name.as_bytes())) {
+            Ok(at) => places.get(at).copied(),
+            Err(_) => None,
+        }
     }
 }

@@ -1,63 +1,67 @@
-//! Numbers that are found in one step.
-ghost use Rattle.std.specs.Prelude.{◌≡◌, ◌≢◌, map, position, slice_get, AllPairs, IfOk, Some, true};
+//! Numbers that are found in few steps.
+ghost use Rattle.std.specs.Prelude.{◌≡◌, ◌≢◌, map, position, slice_get, get_or, pos, option_map, AllPairs, IfOk, Some, true};
 ghost use Rattle.std.specs.Ordering.{int_eq};
+ghost use Rattle.fb_schema.specs.Indexed.{IndexesNumbers};
 
-use indexmap::IndexSet;
+use crate::places::places_of;
 use std::alloc::{AllocError, Global};
-use std::marker::Model;
 
-/// Whether a number stands at a place.
-fn stands_at(numbers: &[i128], place: usize, number: i128) -> bool
-    ensures { result ≡ true → slice_get numbers.now place ≡ Some number }
+/// Whether the value at a place has a number.
+fn is_at(values: &[(String, i128)], place: usize, number: i128) -> bool
+    ensures { result ≡ true → slice_get (map (λ v. v.1) values.now) place ≡ Some number }
 {
-    match numbers.get(place) {
-        Some(known) => *known == number,
+    match values.get(place) {
+        Some(value) => value.1 == number,
         None => false,
     }
 }
 
-/// Numbers in order, all different, each found in one step. Most count up from 0, or double from 1 as
-/// flags do, and are where their number or its bit says; the others are found by their hash.
-#[derive(Drop)]
-pub(crate) struct NumberIndex {
-    numbers: IndexSet<i128>,
+/// The number of the value at a place; 0 where there is none.
+fn number_at(values: &[(String, i128)], place: usize) -> i128
+    ensures { result ≡ get_or (map (λ v. v.1) values.now) place (pos 0) }
+{
+    match values.get(place) {
+        Some(value) => value.1,
+        None => 0,
+    }
 }
 
-impl Model for NumberIndex {
-    ghost use Rattle.std.specs.Prelude.{List, ℤ};
-
-    ghost Value = { List ℤ };
-
-    ghost view = { λ s. s.numbers.keys };
+/// The places of an enum's values in ascending order of their numbers, so that one is found by halves. A
+/// search is given the values.
+#[derive(Drop)]
+pub(crate) struct NumberIndex {
+    places: Vec<usize>,
 }
 
 impl NumberIndex {
-    /// The numbers of an enum's values, in their order.
+    /// The index of the numbers of an enum's values.
     pub(crate) fn of(alloc: Global, values: &[(String, i128)]) -> Result<NumberIndex, AllocError>
-        requires { AllPairs (λ a b. a ≢ b) (map (λ v. v.1) values.now) }
-        ensures { IfOk result (λ numbers. numbers ≡ map (λ v. v.1) values.now) }
+        ensures { IfOk result (λ index. IndexesNumbers index (map (λ v. v.1) values.now)) }
     {
-        let mut numbers = IndexSet::new(alloc);
-        for value in values {
-            let number = value.1;
-            numbers.insert(number)?;
-        }
-        Ok(NumberIndex { numbers })
+        let mut places = places_of(alloc, values.len())?;
+        places.sort_by(|one, other| number_at(values, *one).cmp(&number_at(values, *other)))?;
+        Ok(NumberIndex { places })
     }
 
-    /// The place of a number, from 0, where it is there.
-    pub(crate) fn position(&self, number: i128) -> Option<usize>
-        ensures { result ≡ position (int_eq number) self.now }
+    /// The place of the value of a number, from 0, where it is there. Most numbers count up from 0, or double
+    /// from 1 as flags do, and their value is where the number or its bit says.
+    pub(crate) fn position(&self, values: &[(String, i128)], number: i128) -> Option<usize>
+        requires indexed { IndexesNumbers self.now (map (λ v. v.1) values.now) }
+        requires distinct { AllPairs (λ a b. a ≢ b) (map (λ v. v.1) values.now) }
+        ensures { result ≡ position (int_eq number) (map (λ v. v.1) values.now) }
     {
-        let numbers = self.numbers.as_slice();
         let counted = usize::try_from(number).unwrap_or(0);
-        if stands_at(numbers, counted, number) {
+        if is_at(values, counted, number) {
             return Some(counted);
         }
         let doubled = number.trailing_zeros() as usize;
-        if stands_at(numbers, doubled, number) {
+        if is_at(values, doubled, number) {
             return Some(doubled);
         }
-        self.numbers.get_index_of(&number)
+        let places = self.places.as_slice();
+        match places.binary_search_by(|place| number_at(values, *place).cmp(&number)) {
+            Ok(at) => places.get(at).copied(),
+            Err(_) => None,
+        }
     }
 }

@@ -19,7 +19,8 @@ use std::marker::Model;
 
 /// A schema: its types by number, the root's type, and the identifier of its files.
 ///
-/// Each look-up by a name or a number takes one step, whatever the schema's size, and no memory.
+/// A look-up by a name or a number takes as many steps as the number of names has digits in base 2, at
+/// most, and no memory. Each name is held once.
 #[derive(Drop)]
 pub struct Schema {
     types: Vec<TypeInfo>,
@@ -92,7 +93,7 @@ impl Schema {
     pub fn find(&self, full_name: &str) -> Option<TypeId>
         ensures { option_map (λ t. t.0) result ≡ type_named self.now full_name.now }
     {
-        let at = self.full_names.position(full_name)?;
+        let at = self.full_names.position(self.types.as_slice(), full_name)?;
         Some(TypeId(at as u64))
     }
 

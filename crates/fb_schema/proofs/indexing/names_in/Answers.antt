@@ -1,4 +1,4 @@
-use Rattle.std.proofs.Common.{◌≡◌, ◌≢◌, ℕ, Bool, Option, List, Vec, String, Global, ℤ, map, AllPairs, IfOk, Result, string_bytes, ap, sym, subst, ◌∙◌}
+use Rattle.std.proofs.Common.{◌≡◌, ℕ, Bool, Option, List, Vec, String, Global, ℤ, map, IfOk, Result, string_bytes, ap, sym, subst, ◌∙◌}
 use Rattle.std.specs.declared.alloc.AllocError.{AllocError}
 use Rattle.std.proofs.lemmas.Simd.{map-map}
 use Rattle.fb_schema.specs.declared.kinds.Base.{Base}
@@ -8,7 +8,8 @@ use Rattle.fb_schema.specs.declared.types.Body.TheVariants.{Table, Struct, Enum,
 use Rattle.fb_schema.specs.declared.types.FieldInfo.{FieldInfo}
 use Rattle.fb_schema.specs.Schema.{Name}
 use Rattle.fb_schema.specs.Seen.{field_seen, body_seen}
-use Rattle.fb_schema.specs.Indexed.{inner_names}
+use Rattle.fb_schema.specs.declared.name_index.NameIndex.{NameIndex}
+use Rattle.fb_schema.specs.Indexed.{inner_names, IndexesNames}
 use Rattle.fb_schema.proofs.indexing.names_in.Goals as goal
 
 -- the names are those of the items of a slice over the variant's vector
@@ -31,23 +32,8 @@ module _ (body : Body) where
       → inner_names (body_seen body) ≡ map (λ v. string_bytes v.0) xs
   union_names members xs lent is = ap (λ (b : Body). inner_names (body_seen b)) is ∙ (map-map (λ v. v.0) (λ (x : String Global × TypeId). (string_bytes x.0, x.1.0)) members.items ∙ ap (map (λ v. string_bytes v.0)) (sym lent))
 
-differ : (ms ns : List Name) → ms ≡ ns → AllPairs (λ a b. a ≢ b) ms → AllPairs (λ a b. a ≢ b) ns
-differ ms ns e pairs = subst (λ (names : List Name). AllPairs (λ a b. a ≢ b) names) e pairs
-
-made : (r : Result (List Name) AllocError) (ms ns : List Name) → ms ≡ ns → IfOk r (λ names. names ≡ ns) → IfOk r (λ names. names ≡ ms)
-made r ms ns e h = subst (λ (all : List Name). IfOk r (λ names. names ≡ all)) (sym e) h
-
-pub of-requires : goal.of-requires
-of-requires c = differ _ _ (table_names _ _ _ c.as_slice.ensures.value c.in-Table.is) c.requires
-
-pub of-requires-in-Struct : goal.of-requires-in-Struct
-of-requires-in-Struct c = differ _ _ (struct_names _ _ _ c.as_slice-in-Struct.ensures.value c.in-Struct.is) c.requires
-
-pub of-requires-in-Enum : goal.of-requires-in-Enum
-of-requires-in-Enum c = differ _ _ (enum_names _ _ _ c.as_slice-in-Enum.ensures.value c.in-Enum.is) c.requires
-
-pub of-requires-in-Union : goal.of-requires-in-Union
-of-requires-in-Union c = differ _ _ (union_names _ _ _ c.as_slice-in-Union.ensures.value c.in-Union.is) c.requires
+made : (r : Result NameIndex AllocError) (ms ns : List Name) → ms ≡ ns → IfOk r (λ index. IndexesNames index ns) → IfOk r (λ index. IndexesNames index ms)
+made r ms ns e h = subst (λ (names : List Name). IfOk r (λ index. IndexesNames index names)) (sym e) h
 
 pub returns-in-Table : goal.returns-in-Table
 returns-in-Table c = made _ _ _ (table_names _ _ _ c.as_slice.ensures.value c.in-Table.is) c.of.ensures

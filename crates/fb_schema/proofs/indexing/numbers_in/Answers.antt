@@ -1,7 +1,7 @@
-use Rattle.std.proofs.Common.{◌≡◌, ◌≢◌, List, String, Global, ℤ, map, AllPairs, IfOk, string_bytes, sym, subst, ◌∙◌}
+use Rattle.std.proofs.Common.{◌≡◌, List, String, Global, ℤ, map, IfOk, string_bytes, sym, subst, ◌∙◌}
 use Rattle.std.proofs.lemmas.Simd.{map-map}
 use Rattle.fb_schema.specs.Seen.{body_seen}
-use Rattle.fb_schema.specs.Indexed.{inner_numbers}
+use Rattle.fb_schema.specs.Indexed.{inner_numbers, IndexesNumbers}
 use Rattle.fb_schema.proofs.LookUps.{numbers_of}
 use Rattle.fb_schema.proofs.indexing.numbers_in.Goals as goal
 use Rattle.fb_schema.proofs.indexing.numbers_in.Goals.{In-Some}
@@ -13,9 +13,6 @@ numbers c =
     numbers_of (body_seen c.args.body.now) c.in-Some.field-0-0 c.in-Some.field-0-1 _ c.in-Some.ensures
     ∙ map-map (λ v. v.1) (λ (x : String Global × ℤ). (string_bytes x.0, x.1)) values
 
-pub of-requires : goal.of-requires
-of-requires c = subst (λ (ns : List ℤ). AllPairs (λ a b. a ≢ b) ns) (numbers c) c.requires
-
 pub returns-in-Some : goal.returns-in-Some
 returns-in-Some c =
-    subst (λ (ns : List ℤ). IfOk c.of.result (λ all. all ≡ ns)) (sym (numbers (goal.at.returns-in-Some c).In-Some)) c.of.ensures
+    subst (λ (ns : List ℤ). IfOk c.of.result (λ index. IndexesNumbers index ns)) (sym (numbers (goal.at.returns-in-Some c).In-Some)) c.of.ensures

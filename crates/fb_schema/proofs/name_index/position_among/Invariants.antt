@@ -1,6 +1,6 @@
-use Rattle.std.proofs.Common.{◌≡◌, drop, bytes_eq, string_bytes}
+use Rattle.std.proofs.Common.{◌≡◌, drop, bytes_eq}
 use Rattle.std.specs.List.{position_from}
 use Rattle.fb_schema.proofs.name_index.position_among.Given as goal
 
 abbrev pub invariant-loop-place : goal.invariant-loop-place
-invariant-loop-place l = position_from (λ k. bytes_eq l.name (string_bytes k)) 0 l.names ≡ position_from (λ k. bytes_eq l.name (string_bytes k)) l.place (drop l.place l.names)
+invariant-loop-place g l = position_from (λ x. bytes_eq l.name (g.T.Named.name x)) 0 l.items ≡ position_from (λ x. bytes_eq l.name (g.T.Named.name x)) l.place (drop l.place l.items)

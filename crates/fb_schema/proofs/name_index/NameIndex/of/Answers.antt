@@ -1,25 +1,19 @@
-use Rattle.std.proofs.Common.{◌≡◌, ◌≢◌, ℕ, ◌+◌, ◌<◌, Bool, true, false, not, List, [], ◌∷◌, ◌++◌, length, map, take, get_or, AllPairs, is_some, bytes_eq, if◌then◌else◌, ap, sym, ◌∙◌}
-use Rattle.std.specs.List.{list_any}
-use Rattle.std.proofs.lemmas.Slice.Eq.{bytes_eq-Decides}
+use Rattle.std.proofs.Common.{rules, ◌≡◌, ℕ, List, [], map, get_or, nat_cmp, ap, subst, refl, ◌∙◌}
+use Rattle.std.specs.Cmp.Lexicographic.{slice_cmp}
+use Rattle.std.specs.Ordering.{is_lt}
+use Rattle.std.specs.List.Sorted.{IsPermutation}
+use Rattle.std.proofs.lemmas.Cmp.{nat_list_cmp_total}
+use Rattle.std.proofs.lemmas.Fn.{always_returns_same}
+use Rattle.std.proofs.lemmas.List.{length-map}
+use Rattle.std.proofs.lemmas.List.Sorted.{ranks_by}
 use Rattle.fb_schema.specs.Schema.{Name}
-use Rattle.fb_schema.specs.Found.{index_of}
-use Rattle.fb_schema.proofs.Positions.{is_some-position}
-use Rattle.fb_schema.proofs.Distinct.{fresh, keys_more}
 use Rattle.fb_schema.proofs.name_index.NameIndex.of.Goals as goal
 
-module _ {X : Type 0} (name : X → Name) (items : List X) (i : ℕ) (d : X) (within : i < length items) where
-  -- a name that differs from those before it is added behind them
-  more : (old new : List Name) (bytes : Name) (added : Bool) → AllPairs (λ a b. a ≢ b) (map name items) → old ≡ map name (take i items)
-      → bytes ≡ name (get_or items i d) → added ≡ not (is_some (index_of old bytes)) → new ≡ (if added then old ++ bytes ∷ [] else old)
-      → new ≡ map name (take (i + 1) items)
-  more old new bytes added pairs was spelled is_new is =
-      let absent : list_any (bytes_eq bytes) old ≡ false = rw (was, spelled) (fresh bytes_eq bytes_eq-Decides name items i d pairs within) in
-      let yes : added ≡ true = is_new ∙ ap not (is_some-position (bytes_eq bytes) old ∙ absent) in
-      let pushed : new ≡ old ++ bytes ∷ [] = is ∙ ap (λ (b : Bool). if b then old ++ bytes ∷ [] else old) yes in
-      pushed ∙ (rw (was, spelled) (sym (keys_more name items i d within)))
-
-pub loop-item-preserved : goal.loop-item-preserved
-loop-item-preserved g c =
-    let within : c.loop-item.item-index < length c.args.items.now = c.loop-item-test.true in
-    more g.T.Named.name c.args.items.now c.loop-item.item-index c.item-item.result within c.loop-item.names c.push.new.self c.name.result.now c.in_ok-push.field-0
-    c.requires c.loop-item.invariant (c.name.ensures ∙ ap g.T.Named.name c.item-item.is) c.in_ok-push.ensures.is_new c.in_ok-push.ensures.names
+pub returns : goal.returns
+returns g c = λ many.
+    let names : List Name = map g.T.Named.name c.args.items.now in
+    let key = λ (p : ℕ). get_or names p [] in
+    record {
+      all = subst (λ ps. IsPermutation ps c.sort_by.new.self.items) (c.in_ok-places.ensures ∙ rw (length-map c.args.items.now g.T.Named.name) refl) c.sort_by.ensures.permutation;
+      ascending = c.in_ok-sort_by.ensures.sorted (λ a b. is_lt (slice_cmp nat_cmp (key a) (key b))) (ranks_by nat_list_cmp_total key) (always_returns_same _ _ _ (λ a r q k. let is : r ≡ slice_cmp nat_cmp (key a.0.now) (key a.1.0.now) = search rules in (ap is_lt is, search rules)));
+    }

@@ -1,19 +1,34 @@
-use Rattle.std.proofs.Common.{Some, ap, sym, ◌∙◌}
+use Rattle.std.proofs.Common.{None, Some, ap, sym, ◌∙◌}
 use Rattle.fb_schema.specs.Schema.{DeclaredBody}
 use Rattle.fb_schema.specs.Found.{number_named}
-use Rattle.fb_schema.specs.Indexed.{inner_names}
+use Rattle.fb_schema.specs.Indexed.{inner_names, IndexesNames}
 use Rattle.fb_schema.proofs.Got.{got_of}
-use Rattle.fb_schema.proofs.LookUps.{index_there, body_there}
+use Rattle.fb_schema.proofs.LookUps.{index_there, index_held, no_repeats_there, body_there}
 use Rattle.fb_schema.proofs.schema.Schema.number_of_name.Goals as goal
 
-pub number_in-requires : goal.number_in-requires
-number_in-requires c =
+pub number_in-requires-clause-indexed : goal.number_in-requires-clause-indexed
+number_in-requires-clause-indexed c =
     let s = c.self.inside in
     let info = c.in_ok-info.info in
-    let names = c.in_ok-names.names in
+    let index = c.in_ok-names.names in
     let there = got_of c.deref.result.now s.types.items c.args.enumeration.0 (Some info) c.deref.ensures.value c.in_ok-info.ensures.lookup.0 c.in_ok-info.ensures.lookup.1 in
-    let held = got_of c.deref-2.result.now s.inner_names.items c.args.enumeration.0 (Some names) c.deref-2.ensures.value c.in_ok-names.ensures.lookup.0 c.in_ok-names.ensures.lookup.1 in
-    index_there s.types.items c.args.enumeration.0 info.now there inner_names s.inner_names.items names.now c.self.invariant.names held
+    let held = got_of c.deref-2.result.now s.inner_names.items c.args.enumeration.0 (Some index) c.deref-2.ensures.value c.in_ok-names.ensures.lookup.0 c.in_ok-names.ensures.lookup.1 in
+    index_there s.types.items c.args.enumeration.0 info.now there (λ index t. IndexesNames index (inner_names t.body)) s.inner_names.items index.now c.self.invariant.names held
+
+pub number_in-requires-clause-distinct : goal.number_in-requires-clause-distinct
+number_in-requires-clause-distinct c =
+    let s = c.self.inside in
+    let info = c.in_ok-info.info in
+    let there = got_of c.deref.result.now s.types.items c.args.enumeration.0 (Some info) c.deref.ensures.value c.in_ok-info.ensures.lookup.0 c.in_ok-info.ensures.lookup.1 in
+    no_repeats_there s.types.items c.args.enumeration.0 info.now there s.root s.identifier c.self.invariant.declared
+
+pub returns-in_err-names : goal.returns-in_err-names
+returns-in_err-names c =
+    let s = c.self.inside in
+    let info = c.in_ok-info.info in
+    let there = got_of c.deref.result.now s.types.items c.args.enumeration.0 (Some info) c.deref.ensures.value c.in_ok-info.ensures.lookup.0 c.in_ok-info.ensures.lookup.1 in
+    let held = got_of c.deref-2.result.now s.inner_names.items c.args.enumeration.0 None c.deref-2.ensures.value c.in_err-names.ensures.lookup.0 c.in_err-names.ensures.lookup.1 in
+    absurd (index_held s.types.items c.args.enumeration.0 info.now there (λ index t. IndexesNames index (inner_names t.body)) s.inner_names.items c.self.invariant.names held)
 
 pub returns : goal.returns
 returns c =
