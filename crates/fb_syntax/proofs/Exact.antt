@@ -1,10 +1,11 @@
 -- What the grammar has is read: signs, words and names.
 use Rattle.std.proofs.Common.{◌≡◌, ℕ, suc, ◌<◌, ◌≤◌, List, [], ◌∷◌, length, Some, None, true, false, eqb, refl, sym, ap, ◌∙◌, arith}
 use Rattle.fb_syntax.specs.Located.{Located, joined}
+use Rattle.fb_syntax.specs.NumberRead.{NumberRead}
 use Rattle.fb_syntax.specs.Lexemes.{Lexeme}
 use Rattle.fb_syntax.specs.Signs.{dot}
-use Rattle.fb_syntax.specs.Reading.{is_kind, is_sign, sign_at, token_at, name_more, name_at}
-use Rattle.fb_syntax.specs.Grammar.{IsToken, IsSignAt, IsSign, IsMore, no_further, further, IsName}
+use Rattle.fb_syntax.specs.Reading.{is_kind, is_sign, sign_at, token_at, number_at, name_more, name_at}
+use Rattle.fb_syntax.specs.Grammar.{IsToken, IsNumber, IsSignAt, IsSign, IsMore, no_further, further, IsName}
 use Rattle.fb_syntax.specs.declared.tokens.TokenKind.{TokenKind}
 use Rattle.fb_syntax.specs.declared.tokens.TokenKind.TheVariants.{Word, Integer, Quoted, Punct}
 use Rattle.fb_syntax.proofs.Names.{name_goes_on, name_ends}
@@ -18,6 +19,10 @@ own_kind Punct = refl
 pub token_read : (kind : TokenKind) (ts rest : List Lexeme) (t : Located) → IsToken kind ts t rest → token_at kind ts ≡ Some (t, rest)
 unfolding token_at
 token_read kind ts rest t e = rw e (rw (own_kind kind) refl)
+
+pub number_read : (ts rest : List Lexeme) (n : NumberRead) → IsNumber ts n rest → number_at ts ≡ Some (n, rest)
+unfolding number_at
+number_read ts rest n h = rw (token_read Integer ts rest h.0 h.1, h.2) refl
 
 pub sign_stands : (c : ℕ) (ts rest : List Lexeme) → IsSign c ts rest → is_sign c ts ≡ true
 sign_stands c ts rest s = rw s.1 (Rattle.std.proofs.Common.eq-eqb c c refl)

@@ -5,9 +5,9 @@ use Rattle.fb_syntax.specs.Lexemes.{Lexeme}
 use Rattle.fb_syntax.specs.Keywords.{spelling, keyword_of}
 use Rattle.fb_syntax.specs.Signs.{dot, semicolon}
 use Rattle.fb_syntax.specs.Reading.{is_empty, token_at}
-use Rattle.fb_syntax.specs.ReadingSchema.{keyword_at, namespace_at, attribute_at, root_at, quoted_at, declared_at, declaration_at, declarations_at}
+use Rattle.fb_syntax.specs.ReadingSchema.{keyword_at, namespace_at, attribute_decl_at, root_at, quoted_at, declared_at, declaration_at, declarations_at}
 use Rattle.fb_syntax.specs.Grammar.{Repeated}
-use Rattle.fb_syntax.specs.GrammarSchema.{IsKeyword, IsNamespace, outermost, inner, IsAttribute, word_attribute, quoted_attribute, IsRoot, IsQuoted, IsDeclared, is_namespace, is_attribute, is_table, is_struct, is_enum, is_union, is_root, is_extension, is_identifier, IsDeclaration}
+use Rattle.fb_syntax.specs.GrammarSchema.{IsKeyword, IsNamespace, outermost, inner, IsAttributeDecl, word_attribute, quoted_attribute, IsRoot, IsQuoted, IsDeclared, is_namespace, is_attribute, is_table, is_struct, is_enum, is_union, is_root, is_extension, is_identifier, IsDeclaration}
 use Rattle.fb_syntax.specs.declared.tokens.TokenKind.TheVariants.{Word, Quoted}
 use Rattle.fb_syntax.specs.declared.parser.keywords.Keyword.{Keyword}
 use Rattle.fb_syntax.specs.declared.parser.keywords.Keyword.TheVariants as keywords
@@ -38,10 +38,10 @@ unfolding namespace_at
 namespace_read n ts rest (outermost s) = rw (sign_read semicolon s.0 ts rest s.1) refl
 namespace_read n ts rest (inner {n = m} after name s) = rw (name_no_sign semicolon m ts after name, name_read m ts after name (other_sign semicolon dot after rest refl s), sign_read semicolon s.0 after rest s.1) refl
 
-attribute_read : (t : Located) (ts rest : List Lexeme) → IsAttribute ts t rest → attribute_at ts ≡ Some (t, rest)
-unfolding attribute_at token_at
-attribute_read t ts rest (word_attribute after e s) = rw e (rw (sign_read semicolon s.0 after rest s.1) refl)
-attribute_read t ts rest (quoted_attribute after e s) = rw e (rw (sign_read semicolon s.0 after rest s.1) refl)
+attribute_decl_read : (t : Located) (ts rest : List Lexeme) → IsAttributeDecl ts t rest → attribute_decl_at ts ≡ Some (t, rest)
+unfolding attribute_decl_at token_at
+attribute_decl_read t ts rest (word_attribute after e s) = rw e (rw (sign_read semicolon s.0 after rest s.1) refl)
+attribute_decl_read t ts rest (quoted_attribute after e s) = rw e (rw (sign_read semicolon s.0 after rest s.1) refl)
 
 root_read : (n : Located) (ts rest : List Lexeme) → IsRoot ts n rest → root_at ts ≡ Some (n, rest)
 unfolding root_at
@@ -54,7 +54,7 @@ quoted_read t ts rest h = rw (token_read Quoted ts h.0 t h.1, sign_read semicolo
 declared_read : (keyword : Keyword) (d : Declaration) (ts rest : List Lexeme) → IsDeclared keyword ts d rest → declared_at keyword ts ≡ Some (d, rest)
 unfolding declared_at
 declared_read keyword d ts rest (is_namespace {n = n} h) = rw (namespace_read n ts rest h) refl
-declared_read keyword d ts rest (is_attribute {t = t} h) = rw (attribute_read t ts rest h) refl
+declared_read keyword d ts rest (is_attribute {t = t} h) = rw (attribute_decl_read t ts rest h) refl
 declared_read keyword d ts rest (is_table {t = t} h) = rw (table_read t ts rest h) refl
 declared_read keyword d ts rest (is_struct {t = t} h) = rw (table_read t ts rest h) refl
 declared_read keyword d ts rest (is_enum {e = e} h) = rw (enum_read e ts rest h) refl
@@ -71,13 +71,13 @@ namespace_shorter : {n : Option Located} {ts rest : List Lexeme} → IsNamespace
 namespace_shorter (outermost s) = sign_shorter s
 namespace_shorter (inner after n s) = omega (arith, name_shorter n, sign_shorter s)
 
-attribute_shorter : {t : Located} {ts rest : List Lexeme} → IsAttribute ts t rest → length rest < length ts
-attribute_shorter (word_attribute after e s) = omega (arith, ap length e, sign_shorter s)
-attribute_shorter (quoted_attribute after e s) = omega (arith, ap length e, sign_shorter s)
+attribute_decl_shorter : {t : Located} {ts rest : List Lexeme} → IsAttributeDecl ts t rest → length rest < length ts
+attribute_decl_shorter (word_attribute after e s) = omega (arith, ap length e, sign_shorter s)
+attribute_decl_shorter (quoted_attribute after e s) = omega (arith, ap length e, sign_shorter s)
 
 declared_shorter : (keyword : Keyword) → Shortens (IsDeclared keyword)
 declared_shorter keyword ts rest d (is_namespace h) = namespace_shorter h
-declared_shorter keyword ts rest d (is_attribute h) = attribute_shorter h
+declared_shorter keyword ts rest d (is_attribute h) = attribute_decl_shorter h
 declared_shorter keyword ts rest d (is_table {t = t} h) = table_shorter ts rest t h
 declared_shorter keyword ts rest d (is_struct {t = t} h) = table_shorter ts rest t h
 declared_shorter keyword ts rest d (is_enum {e = e} h) = enum_shorter ts rest e h

@@ -10,10 +10,10 @@ use Rattle.fb_syntax.specs.ReadingTypes.{table_at, enum_value_at, listed_value_a
 use Rattle.fb_syntax.specs.Grammar.{IsSign, IsMore, no_further, further, Listed, MayBeComma}
 use Rattle.fb_syntax.specs.GrammarFields.{IsField}
 use Rattle.fb_syntax.specs.GrammarTypes.{IsTable, IsEnumValue, without_number, with_number, IsEnum, IsMember, with_alias, without_alias, IsUnion}
-use Rattle.fb_syntax.specs.declared.tokens.TokenKind.TheVariants.{Word, Integer}
+use Rattle.fb_syntax.specs.declared.tokens.TokenKind.TheVariants.{Word}
 use Rattle.fb_syntax.specs.declared.declarations.EnumValue.{EnumValue}
 use Rattle.fb_syntax.specs.declared.declarations.UnionMember.{UnionMember}
-use Rattle.fb_syntax.proofs.Exact.{token_read, sign_stands, sign_read, other_sign, word_no_sign, name_read, more_read}
+use Rattle.fb_syntax.proofs.Exact.{token_read, number_read, sign_stands, sign_read, other_sign, word_no_sign, name_read, more_read}
 use Rattle.fb_syntax.proofs.ExactLists.{until_read, followed_lacks, some_read}
 use Rattle.fb_syntax.proofs.ExactFields.{metadata_read, metadata_lacks, field_read, field_opens}
 use Rattle.fb_syntax.proofs.Shorter.{field_shorter, enum_value_shorter, member_shorter}
@@ -31,7 +31,7 @@ table_read t ts rest h =
 enum_value_read : (v : EnumValue) (ts rest : List Lexeme) → IsEnumValue ts v rest → sign_at equals rest ≡ None → enum_value_at ts ≡ Some (v, rest)
 unfolding enum_value_at
 enum_value_read v ts rest (without_number {name = name} e) none = rw (token_read Word ts rest name e, none) refl
-enum_value_read v ts rest (with_number {name = name} {n = n} sign after e s number) none = rw (token_read Word ts sign name e, sign_read equals s.0 sign after s.1, token_read Integer after rest n number) refl
+enum_value_read v ts rest (with_number {name = name} {n = n} sign after e s number) none = rw (token_read Word ts sign name e, sign_read equals s.0 sign after s.1, number_read after rest n number) refl
 
 enum_value_opens : (c : ℕ) (ts rest : List Lexeme) (v : EnumValue) → IsEnumValue ts v rest → is_sign c ts ≡ false
 enum_value_opens c ts rest v (without_number {name = name} e) = word_no_sign c ts rest name e

@@ -10,7 +10,6 @@ pub mod FrontPieces
 pub mod Scanning
 pub mod TextSpellings
 pub mod TokenEnds
-pub mod TokenTexts
 pub mod Readable
 pub mod Names
 pub mod Repeat

@@ -2,10 +2,11 @@
 use Rattle.std.proofs.Common.{◌≡◌, ℕ, List, [], ◌∷◌, Option, Some, None, ◌⊎◌, inl, inr, Bool, true, false, ◌&&◌, cond, refl, ap}
 use Rattle.std.proofs.lemmas.Bool.{eqb-true}
 use Rattle.fb_syntax.specs.Located.{Located, joined}
+use Rattle.fb_syntax.specs.NumberRead.{NumberRead}
 use Rattle.fb_syntax.specs.Lexemes.{Lexeme}
 use Rattle.fb_syntax.specs.Signs.{dot}
-use Rattle.fb_syntax.specs.Reading.{◌>>=◌, Front, behind, is_kind, is_only, is_sign, sign_at, token_at, name_more, name_at}
-use Rattle.fb_syntax.specs.Grammar.{IsToken, IsSignAt, IsSign, IsMore, no_further, further, IsName}
+use Rattle.fb_syntax.specs.Reading.{◌>>=◌, Front, behind, is_kind, is_only, is_sign, sign_at, token_at, number_at, name_more, name_at}
+use Rattle.fb_syntax.specs.Grammar.{IsToken, IsNumber, IsSignAt, IsSign, IsMore, no_further, further, IsName}
 use Rattle.fb_syntax.specs.declared.tokens.TokenKind.{TokenKind}
 use Rattle.fb_syntax.specs.declared.tokens.TokenKind.TheVariants.{Word, Integer, Quoted, Punct}
 use Rattle.fb_syntax.proofs.Names.{pair_of, token_at-some, token_at-nothing, sign_at-some, sign_at-nothing}
@@ -59,6 +60,10 @@ token_found kind [] rest t e = let none = token_at-nothing kind in absurd cc
 token_found kind (l ∷ ls) rest t e =
     let h = token_at-some kind l ls rest t e in
     built l.kind kind l.text t ls rest (same_kind l.kind kind h.0) h.1 h.2
+
+pub number_found : (ts rest : List Lexeme) (n : NumberRead) → number_at ts ≡ Some (n, rest) → IsNumber ts n rest
+unfolding number_at
+number_found ts rest n e = let t = bind-some {m = token_at Integer ts} e in lands (IsNumber ts) t.2 (t.0.0, token_found Integer ts t.0.1 t.0.0 t.1, refl)
 
 both : (a b : Bool) → a && b ≡ true → (a ≡ true) × (b ≡ true)
 both true true e = (refl, refl)

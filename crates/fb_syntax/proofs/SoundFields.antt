@@ -4,20 +4,20 @@ use Rattle.fb_syntax.specs.FieldRead.{FieldRead}
 use Rattle.fb_syntax.specs.Lexemes.{Lexeme}
 use Rattle.fb_syntax.specs.Signs.{open_round, close_round, colon, semicolon, equals, open_square, close_square}
 use Rattle.fb_syntax.specs.Reading.{Front, is_sign, kind_at, sign_at, until}
-use Rattle.fb_syntax.specs.ReadingFields.{value_of_kind, attribute_value_at, attribute_use_at, listed_attribute_at, metadata_at, type_behind, type_at, default_of_kind, default_value_at, default_at, field_at}
+use Rattle.fb_syntax.specs.ReadingFields.{value_of_kind, attribute_value_at, attribute_at, listed_attribute_at, metadata_at, type_behind, type_at, default_of_kind, default_value_at, default_at, field_at}
 use Rattle.fb_syntax.specs.Grammar.{IsSign}
-use Rattle.fb_syntax.specs.GrammarFields.{IsAttributeValue, integer_value, word_value, quoted_value, IsAttributeUse, without_value, with_value, IsMetadata, no_metadata, no_attributes, some_attributes, IsType, one_type, many_type, IsDefaultValue, integer_default, name_default, IsDefault, no_default, some_default, IsField}
+use Rattle.fb_syntax.specs.GrammarFields.{IsAttributeValue, integer_value, word_value, quoted_value, IsAttribute, without_value, with_value, IsMetadata, no_metadata, no_attributes, some_attributes, IsType, one_type, many_type, IsDefaultValue, integer_default, name_default, IsDefault, no_default, some_default, IsField}
 use Rattle.fb_syntax.specs.declared.tokens.TokenKind.{TokenKind}
 use Rattle.fb_syntax.specs.declared.tokens.TokenKind.TheVariants.{Word, Integer, Quoted, Punct}
-use Rattle.fb_syntax.specs.declared.declarations.AttributeUse.{AttributeUse}
+use Rattle.fb_syntax.specs.declared.declarations.Attribute.{Attribute}
 use Rattle.fb_syntax.specs.declared.declarations.AttributeValue.{AttributeValue}
 use Rattle.fb_syntax.specs.declared.declarations.FieldType.{FieldType}
 use Rattle.fb_syntax.specs.declared.declarations.DefaultValue.{DefaultValue}
 use Rattle.fb_syntax.proofs.SoundLists.{listed_until, none_left}
-use Rattle.fb_syntax.proofs.Sound.{decided, bind-some, stood, lacked, behind-ways, token_found, sign_found, sign_is, name_found, lands}
+use Rattle.fb_syntax.proofs.Sound.{decided, bind-some, stood, lacked, behind-ways, token_found, number_found, sign_found, sign_is, name_found, lands}
 
 value_found : (kind : Option TokenKind) (v : AttributeValue) (ts rest : List Lexeme) → value_of_kind kind ts ≡ Some (v, rest) → IsAttributeValue ts v rest
-value_found (Some Integer) v ts rest e = let t = bind-some e in lands (IsAttributeValue ts) t.2 (integer_value (token_found Integer ts t.0.1 t.0.0 t.1))
+value_found (Some Integer) v ts rest e = let n = bind-some e in lands (IsAttributeValue ts) n.2 (integer_value (number_found ts n.0.1 n.0.0 n.1))
 value_found (Some Quoted) v ts rest e = let t = bind-some e in lands (IsAttributeValue ts) t.2 (quoted_value (token_found Quoted ts t.0.1 t.0.0 t.1))
 value_found (Some Word) v ts rest e = let t = bind-some e in lands (IsAttributeValue ts) t.2 (word_value (token_found Word ts t.0.1 t.0.0 t.1))
 value_found (Some Punct) v ts rest e = let t = bind-some e in lands (IsAttributeValue ts) t.2 (word_value (token_found Word ts t.0.1 t.0.0 t.1))
@@ -27,16 +27,16 @@ attribute_value_found : (v : AttributeValue) (ts rest : List Lexeme) → attribu
 unfolding attribute_value_at
 attribute_value_found v ts rest e = value_found (kind_at ts) v ts rest e
 
-pub attribute_use_found : (a : AttributeUse) (ts rest : List Lexeme) → attribute_use_at ts ≡ Some (a, rest) → IsAttributeUse ts a rest
-unfolding attribute_use_at
-attribute_use_found a ts rest e =
+pub attribute_found : (a : Attribute) (ts rest : List Lexeme) → attribute_at ts ≡ Some (a, rest) → IsAttribute ts a rest
+unfolding attribute_at
+attribute_found a ts rest e =
     let name = bind-some e in
     let named = token_found Word ts name.0.1 name.0.0 name.1 in
     elim (behind-ways name.2) [
       | stood at after sign read ↦
           let v = bind-some read in
-          lands (IsAttributeUse ts) v.2 (with_value name.0.1 after named (sign_is colon at name.0.1 after sign) (attribute_value_found v.0.0 after v.0.1 v.1))
-      | lacked none read ↦ lands (IsAttributeUse ts) read (without_value named)
+          lands (IsAttribute ts) v.2 (with_value name.0.1 after named (sign_is colon at name.0.1 after sign) (attribute_value_found v.0.0 after v.0.1 v.1))
+      | lacked none read ↦ lands (IsAttribute ts) read (without_value named)
     ]
 
 pub type_found : (t : FieldType) (ts rest : List Lexeme) → type_at ts ≡ Some (t, rest) → IsType ts t rest
@@ -53,7 +53,7 @@ by_name : (v : DefaultValue) (ts rest : List Lexeme) → default_of_kind None ts
 by_name v ts rest e = let n = bind-some e in lands (IsDefaultValue ts) n.2 (name_default (name_found n.0.0 ts n.0.1 n.1))
 
 default_value_found : (kind : Option TokenKind) (v : DefaultValue) (ts rest : List Lexeme) → default_of_kind kind ts ≡ Some (v, rest) → IsDefaultValue ts v rest
-default_value_found (Some Integer) v ts rest e = let t = bind-some e in lands (IsDefaultValue ts) t.2 (integer_default (token_found Integer ts t.0.1 t.0.0 t.1))
+default_value_found (Some Integer) v ts rest e = let n = bind-some e in lands (IsDefaultValue ts) n.2 (integer_default (number_found ts n.0.1 n.0.0 n.1))
 default_value_found (Some Quoted) v ts rest e = by_name v ts rest e
 default_value_found (Some Word) v ts rest e = by_name v ts rest e
 default_value_found (Some Punct) v ts rest e = by_name v ts rest e
@@ -69,15 +69,15 @@ default_found v ts rest e =
       | lacked none read ↦ lands (IsDefault ts) read no_default
     ]
 
-attributes_found : (a : List AttributeUse) (ts inside close rest : List Lexeme) → IsSign open_round ts inside → IsSign close_round close rest → until listed_attribute_at (is_sign close_round) inside ≡ Some (a, close) → IsMetadata ts a rest
+attributes_found : (a : List Attribute) (ts inside close rest : List Lexeme) → IsSign open_round ts inside → IsSign close_round close rest → until listed_attribute_at (is_sign close_round) inside ≡ Some (a, close) → IsMetadata ts a rest
 unfolding listed_attribute_at
 attributes_found a ts inside close rest opened shut e =
     elim (decided (is_sign close_round inside)) [
-      | inl b ↦ lands (λ (found : List AttributeUse) (r : List Lexeme). IsSign close_round r rest → IsMetadata ts found rest) (none_left listed_attribute_at (is_sign close_round) a inside close b e) (λ shut. no_attributes inside opened shut) shut
-      | inr b ↦ some_attributes inside close opened (listed_until attribute_use_at IsAttributeUse attribute_use_found false close_round a inside close b e) shut
+      | inl b ↦ lands (λ (found : List Attribute) (r : List Lexeme). IsSign close_round r rest → IsMetadata ts found rest) (none_left listed_attribute_at (is_sign close_round) a inside close b e) (λ shut. no_attributes inside opened shut) shut
+      | inr b ↦ some_attributes inside close opened (listed_until attribute_at IsAttribute attribute_found false close_round a inside close b e) shut
     ]
 
-pub metadata_found : (a : List AttributeUse) (ts rest : List Lexeme) → metadata_at ts ≡ Some (a, rest) → IsMetadata ts a rest
+pub metadata_found : (a : List Attribute) (ts rest : List Lexeme) → metadata_at ts ≡ Some (a, rest) → IsMetadata ts a rest
 unfolding metadata_at
 metadata_found a ts rest e =
     elim (behind-ways e) [

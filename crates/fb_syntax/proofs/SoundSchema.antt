@@ -8,9 +8,9 @@ use Rattle.fb_syntax.specs.Keywords.{spelling, keyword_of}
 use Rattle.fb_syntax.specs.Signs.{semicolon}
 use Rattle.fb_syntax.specs.Reading.{sign_at, token_at, name_at, kind_at}
 use Rattle.fb_syntax.specs.ReadingTypes.{table_at, enum_at, union_at}
-use Rattle.fb_syntax.specs.ReadingSchema.{keyword_at, namespace_at, attribute_of_kind, attribute_at, root_at, quoted_at, declared_at, declaration_at}
+use Rattle.fb_syntax.specs.ReadingSchema.{keyword_at, namespace_at, attribute_of_kind, attribute_decl_at, root_at, quoted_at, declared_at, declaration_at}
 use Rattle.fb_syntax.specs.Grammar.{IsToken}
-use Rattle.fb_syntax.specs.GrammarSchema.{IsKeyword, IsNamespace, outermost, inner, IsAttribute, word_attribute, quoted_attribute, IsRoot, IsQuoted, IsDeclared, is_namespace, is_attribute, is_table, is_struct, is_enum, is_union, is_root, is_extension, is_identifier, IsDeclaration}
+use Rattle.fb_syntax.specs.GrammarSchema.{IsKeyword, IsNamespace, outermost, inner, IsAttributeDecl, word_attribute, quoted_attribute, IsRoot, IsQuoted, IsDeclared, is_namespace, is_attribute, is_table, is_struct, is_enum, is_union, is_root, is_extension, is_identifier, IsDeclaration}
 use Rattle.fb_syntax.specs.declared.tokens.TokenKind.{TokenKind}
 use Rattle.fb_syntax.specs.declared.tokens.TokenKind.TheVariants.{Word, Integer, Quoted, Punct}
 use Rattle.fb_syntax.specs.declared.parser.keywords.Keyword.{Keyword}
@@ -78,19 +78,19 @@ namespace_found n ts rest e =
           lands (IsNamespace ts) end.2 (inner name.0.1 (name_found name.0.0 ts name.0.1 name.1) (sign_is semicolon end.0.0 name.0.1 end.0.1 end.1))
     ]
 
-attribute_stands : (kind : Option TokenKind) (t : Located) (ts after rest : List Lexeme) → attribute_of_kind kind ts ≡ Some (t, after) → (at : ℕ) → sign_at semicolon after ≡ Some (at, rest) → IsAttribute ts t rest
+attribute_stands : (kind : Option TokenKind) (t : Located) (ts after rest : List Lexeme) → attribute_of_kind kind ts ≡ Some (t, after) → (at : ℕ) → sign_at semicolon after ≡ Some (at, rest) → IsAttributeDecl ts t rest
 attribute_stands (Some Quoted) t ts after rest e at s = quoted_attribute after (token_found Quoted ts after t e) (sign_is semicolon at after rest s)
 attribute_stands (Some Word) t ts after rest e at s = word_attribute after (token_found Word ts after t e) (sign_is semicolon at after rest s)
 attribute_stands (Some Integer) t ts after rest e at s = word_attribute after (token_found Word ts after t e) (sign_is semicolon at after rest s)
 attribute_stands (Some Punct) t ts after rest e at s = word_attribute after (token_found Word ts after t e) (sign_is semicolon at after rest s)
 attribute_stands None t ts after rest e at s = word_attribute after (token_found Word ts after t e) (sign_is semicolon at after rest s)
 
-attribute_found : (t : Located) (ts rest : List Lexeme) → attribute_at ts ≡ Some (t, rest) → IsAttribute ts t rest
-unfolding attribute_at
-attribute_found t ts rest e =
+attribute_decl_found : (t : Located) (ts rest : List Lexeme) → attribute_decl_at ts ≡ Some (t, rest) → IsAttributeDecl ts t rest
+unfolding attribute_decl_at
+attribute_decl_found t ts rest e =
     let name = bind-some {m = attribute_of_kind (kind_at ts) ts} e in
     let end = bind-some {m = sign_at semicolon name.0.1} name.2 in
-    lands (IsAttribute ts) end.2 (attribute_stands (kind_at ts) name.0.0 ts name.0.1 end.0.1 name.1 end.0.0 end.1)
+    lands (IsAttributeDecl ts) end.2 (attribute_stands (kind_at ts) name.0.0 ts name.0.1 end.0.1 name.1 end.0.0 end.1)
 
 root_found : (n : Located) (ts rest : List Lexeme) → root_at ts ≡ Some (n, rest) → IsRoot ts n rest
 unfolding root_at
@@ -109,7 +109,7 @@ quoted_found t ts rest e =
 declared_found : (keyword : Keyword) (d : Declaration) (ts rest : List Lexeme) → declared_at keyword ts ≡ Some (d, rest) → IsDeclared keyword ts d rest
 unfolding declared_at
 declared_found keywords.Namespace d ts rest e = let x = bind-some {m = namespace_at ts} e in lands (IsDeclared keywords.Namespace ts) x.2 (is_namespace (namespace_found x.0.0 ts x.0.1 x.1))
-declared_found keywords.Attribute d ts rest e = let x = bind-some {m = attribute_at ts} e in lands (IsDeclared keywords.Attribute ts) x.2 (is_attribute (attribute_found x.0.0 ts x.0.1 x.1))
+declared_found keywords.Attribute d ts rest e = let x = bind-some {m = attribute_decl_at ts} e in lands (IsDeclared keywords.Attribute ts) x.2 (is_attribute (attribute_decl_found x.0.0 ts x.0.1 x.1))
 declared_found keywords.Table d ts rest e = let x = bind-some {m = table_at ts} e in lands (IsDeclared keywords.Table ts) x.2 (is_table (table_found x.0.0 ts x.0.1 x.1))
 declared_found keywords.Struct d ts rest e = let x = bind-some {m = table_at ts} e in lands (IsDeclared keywords.Struct ts) x.2 (is_struct (table_found x.0.0 ts x.0.1 x.1))
 declared_found keywords.Enum d ts rest e = let x = bind-some {m = enum_at ts} e in lands (IsDeclared keywords.Enum ts) x.2 (is_enum (enum_found x.0.0 ts x.0.1 x.1))

@@ -8,10 +8,10 @@ use Rattle.fb_syntax.specs.ReadingFields.{field_at}
 use Rattle.fb_syntax.specs.ReadingTypes.{table_at, enum_value_at, listed_value_at, enum_at, member_at, listed_member_at, union_at}
 use Rattle.fb_syntax.specs.GrammarFields.{IsField}
 use Rattle.fb_syntax.specs.GrammarTypes.{IsTable, IsEnumValue, without_number, with_number, IsEnum, IsMember, with_alias, without_alias, IsUnion}
-use Rattle.fb_syntax.specs.declared.tokens.TokenKind.TheVariants.{Word, Integer}
+use Rattle.fb_syntax.specs.declared.tokens.TokenKind.TheVariants.{Word}
 use Rattle.fb_syntax.specs.declared.declarations.EnumValue.{EnumValue}
 use Rattle.fb_syntax.specs.declared.declarations.UnionMember.{UnionMember}
-use Rattle.fb_syntax.proofs.Sound.{bind-some, stood, lacked, behind-ways, token_found, sign_is, name_found, more_found, lands}
+use Rattle.fb_syntax.proofs.Sound.{bind-some, stood, lacked, behind-ways, token_found, number_found, sign_is, name_found, more_found, lands}
 use Rattle.fb_syntax.proofs.SoundLists.{until_found, some_found}
 use Rattle.fb_syntax.proofs.SoundFields.{metadata_found, field_found}
 
@@ -43,7 +43,7 @@ enum_value_found v ts rest e =
     elim (behind-ways name.2) [
       | stood at after sign read ↦
           let n = bind-some read in
-          lands (IsEnumValue ts) n.2 (with_number name.0.1 after named (sign_is equals at name.0.1 after sign) (token_found Integer after n.0.1 n.0.0 n.1))
+          lands (IsEnumValue ts) n.2 (with_number name.0.1 after named (sign_is equals at name.0.1 after sign) (number_found after n.0.1 n.0.0 n.1))
       | lacked none read ↦ lands (IsEnumValue ts) read (without_number named)
     ]
 

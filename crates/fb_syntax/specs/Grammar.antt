@@ -1,14 +1,20 @@
 -- The grammar: what stands at the front of the tokens, and which tokens are left behind it. Signs, words, names and lists.
 use Rattle.std.specs.Prelude.{ℕ, ◌≡◌, List, [], ◌∷◌}
 use Rattle.fb_syntax.specs.Located.{Located, joined}
+use Rattle.fb_syntax.specs.NumberRead.{NumberRead}
+use Rattle.fb_syntax.specs.Integers.{number_of}
 use Rattle.fb_syntax.specs.Lexemes.{Lexeme}
 use Rattle.fb_syntax.specs.Signs.{dot, comma}
 use Rattle.fb_syntax.specs.declared.tokens.TokenKind.{TokenKind}
-use Rattle.fb_syntax.specs.declared.tokens.TokenKind.TheVariants.{Word, Punct}
+use Rattle.fb_syntax.specs.declared.tokens.TokenKind.TheVariants.{Word, Integer, Punct}
 
 -- a token of a kind, with its text
 abbrev pub IsToken : TokenKind → List Lexeme → Located → List Lexeme → Type 0
 IsToken kind ts text rest = ts ≡ record { kind = kind; text = text } ∷ rest
+
+-- an integer constant, as a number
+abbrev pub IsNumber : List Lexeme → NumberRead → List Lexeme → Type 0
+IsNumber ts n rest = (digits : Located) × IsToken Integer ts digits rest × (n ≡ number_of digits)
 
 -- a sign, with its offset
 abbrev pub IsSignAt : ℕ → List Lexeme → ℕ → List Lexeme → Type 0

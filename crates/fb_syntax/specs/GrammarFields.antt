@@ -1,12 +1,13 @@
 -- The grammar of fields: attributes, types and defaults.
 use Rattle.std.specs.Prelude.{ℕ, List, [], Option, Some, None}
 use Rattle.fb_syntax.specs.Located.{Located}
+use Rattle.fb_syntax.specs.NumberRead.{NumberRead}
 use Rattle.fb_syntax.specs.FieldRead.{FieldRead}
 use Rattle.fb_syntax.specs.Lexemes.{Lexeme}
 use Rattle.fb_syntax.specs.Signs.{open_round, close_round, colon, semicolon, equals, open_square, close_square}
-use Rattle.fb_syntax.specs.Grammar.{IsToken, IsSignAt, IsSign, IsName, Listed, IsNothing}
-use Rattle.fb_syntax.specs.declared.tokens.TokenKind.TheVariants.{Word, Integer, Quoted}
-use Rattle.fb_syntax.specs.declared.declarations.AttributeUse.{AttributeUse}
+use Rattle.fb_syntax.specs.Grammar.{IsToken, IsNumber, IsSignAt, IsSign, IsName, Listed, IsNothing}
+use Rattle.fb_syntax.specs.declared.tokens.TokenKind.TheVariants.{Word, Quoted}
+use Rattle.fb_syntax.specs.declared.declarations.Attribute.{Attribute}
 use Rattle.fb_syntax.specs.declared.declarations.AttributeValue.{AttributeValue}
 use Rattle.fb_syntax.specs.declared.declarations.AttributeValue.TheVariants as values
 use Rattle.fb_syntax.specs.declared.declarations.FieldType.{FieldType}
@@ -16,20 +17,20 @@ use Rattle.fb_syntax.specs.declared.declarations.DefaultValue.TheVariants as def
 
 -- Integer | Word | Quoted
 pub data IsAttributeValue : List Lexeme → AttributeValue → List Lexeme → Type 0 where
-  integer_value : {ts rest : List Lexeme} {t : Located} → IsToken Integer ts t rest → IsAttributeValue ts (values.Integer t) rest
+  integer_value : {ts rest : List Lexeme} {n : NumberRead} → IsNumber ts n rest → IsAttributeValue ts (values.Integer n) rest
   word_value : {ts rest : List Lexeme} {t : Located} → IsToken Word ts t rest → IsAttributeValue ts (values.Word t) rest
   quoted_value : {ts rest : List Lexeme} {t : Located} → IsToken Quoted ts t rest → IsAttributeValue ts (values.Quoted t) rest
 
 -- attr = Word [ ":" ( Integer | Word | Quoted ) ]
-pub data IsAttributeUse : List Lexeme → AttributeUse → List Lexeme → Type 0 where
-  without_value : {ts rest : List Lexeme} {name : Located} → IsToken Word ts name rest → IsAttributeUse ts (record { name = name; value = None }) rest
-  with_value : {ts rest : List Lexeme} {name : Located} {v : AttributeValue} (sign after : List Lexeme) → IsToken Word ts name sign → IsSign colon sign after → IsAttributeValue after v rest → IsAttributeUse ts (record { name = name; value = Some v }) rest
+pub data IsAttribute : List Lexeme → Attribute → List Lexeme → Type 0 where
+  without_value : {ts rest : List Lexeme} {name : Located} → IsToken Word ts name rest → IsAttribute ts (record { name = name; value = None }) rest
+  with_value : {ts rest : List Lexeme} {name : Located} {v : AttributeValue} (sign after : List Lexeme) → IsToken Word ts name sign → IsSign colon sign after → IsAttributeValue after v rest → IsAttribute ts (record { name = name; value = Some v }) rest
 
 -- metadata = [ "(" [ attr { "," attr } ] ")" ]
-pub data IsMetadata : List Lexeme → List AttributeUse → List Lexeme → Type 0 where
+pub data IsMetadata : List Lexeme → List Attribute → List Lexeme → Type 0 where
   no_metadata : {ts : List Lexeme} → IsMetadata ts [] ts
   no_attributes : {ts rest : List Lexeme} (inside : List Lexeme) → IsSign open_round ts inside → IsSign close_round inside rest → IsMetadata ts [] rest
-  some_attributes : {ts rest : List Lexeme} {attributes : List AttributeUse} (inside close : List Lexeme) → IsSign open_round ts inside → Listed IsAttributeUse IsNothing inside attributes close → IsSign close_round close rest → IsMetadata ts attributes rest
+  some_attributes : {ts rest : List Lexeme} {attributes : List Attribute} (inside close : List Lexeme) → IsSign open_round ts inside → Listed IsAttribute IsNothing inside attributes close → IsSign close_round close rest → IsMetadata ts attributes rest
 
 -- type = name | "[" name "]"
 pub data IsType : List Lexeme → FieldType → List Lexeme → Type 0 where
@@ -38,7 +39,7 @@ pub data IsType : List Lexeme → FieldType → List Lexeme → Type 0 where
 
 -- scalar = Integer | name
 pub data IsDefaultValue : List Lexeme → DefaultValue → List Lexeme → Type 0 where
-  integer_default : {ts rest : List Lexeme} {t : Located} → IsToken Integer ts t rest → IsDefaultValue ts (defaults.Integer t) rest
+  integer_default : {ts rest : List Lexeme} {n : NumberRead} → IsNumber ts n rest → IsDefaultValue ts (defaults.Integer n) rest
   name_default : {ts rest : List Lexeme} {n : Located} → IsName ts n rest → IsDefaultValue ts (defaults.Name n) rest
 
 -- [ "=" scalar ]

@@ -14,6 +14,8 @@ use Rattle.fb_syntax.specs.declared.parser.keywords.Keyword.{Keyword}
 use Rattle.fb_syntax.specs.declared.parser.keywords.Keyword.TheVariants as keywords
 use Rattle.fb_syntax.specs.declared.declarations.Declaration.{Declaration}
 use Rattle.fb_syntax.specs.declared.declarations.Declaration.TheVariants as declarations
+use Rattle.fb_syntax.specs.declared.declarations.TypeDecl.TheVariants as types
+use Rattle.fb_syntax.specs.declared.declarations.Directive.TheVariants as directives
 
 -- one of the grammar's own words
 abbrev pub IsKeyword : Keyword → List Lexeme → List Lexeme → Type 0
@@ -25,9 +27,9 @@ pub data IsNamespace : List Lexeme → Option Located → List Lexeme → Type 0
   inner : {ts rest : List Lexeme} {n : Located} (after : List Lexeme) → IsName ts n after → IsSign semicolon after rest → IsNamespace ts (Some n) rest
 
 -- ( Word | Quoted ) ";"
-pub data IsAttribute : List Lexeme → Located → List Lexeme → Type 0 where
-  word_attribute : {ts rest : List Lexeme} {t : Located} (after : List Lexeme) → IsToken Word ts t after → IsSign semicolon after rest → IsAttribute ts t rest
-  quoted_attribute : {ts rest : List Lexeme} {t : Located} (after : List Lexeme) → IsToken Quoted ts t after → IsSign semicolon after rest → IsAttribute ts t rest
+pub data IsAttributeDecl : List Lexeme → Located → List Lexeme → Type 0 where
+  word_attribute : {ts rest : List Lexeme} {t : Located} (after : List Lexeme) → IsToken Word ts t after → IsSign semicolon after rest → IsAttributeDecl ts t rest
+  quoted_attribute : {ts rest : List Lexeme} {t : Located} (after : List Lexeme) → IsToken Quoted ts t after → IsSign semicolon after rest → IsAttributeDecl ts t rest
 
 -- name ";"
 abbrev pub IsRoot : List Lexeme → Located → List Lexeme → Type 0
@@ -40,14 +42,14 @@ IsQuoted ts t rest = (after : List Lexeme) × IsToken Quoted ts t after × IsSig
 -- namespace | attribute | table | struct | enum | union | root | extension | identifier, behind the first word
 pub data IsDeclared : Keyword → List Lexeme → Declaration → List Lexeme → Type 0 where
   is_namespace : {ts rest : List Lexeme} {n : Option Located} → IsNamespace ts n rest → IsDeclared keywords.Namespace ts (declarations.Namespace n) rest
-  is_attribute : {ts rest : List Lexeme} {t : Located} → IsAttribute ts t rest → IsDeclared keywords.Attribute ts (declarations.Attribute t) rest
-  is_table : {ts rest : List Lexeme} {t : TableRead} → IsTable ts t rest → IsDeclared keywords.Table ts (declarations.Table t) rest
-  is_struct : {ts rest : List Lexeme} {t : TableRead} → IsTable ts t rest → IsDeclared keywords.Struct ts (declarations.Struct t) rest
-  is_enum : {ts rest : List Lexeme} {e : EnumRead} → IsEnum ts e rest → IsDeclared keywords.Enum ts (declarations.Enum e) rest
-  is_union : {ts rest : List Lexeme} {u : UnionRead} → IsUnion ts u rest → IsDeclared keywords.Union ts (declarations.Union u) rest
-  is_root : {ts rest : List Lexeme} {n : Located} → IsRoot ts n rest → IsDeclared keywords.Root ts (declarations.Root n) rest
-  is_extension : {ts rest : List Lexeme} {t : Located} → IsQuoted ts t rest → IsDeclared keywords.Extension ts (declarations.Extension t) rest
-  is_identifier : {ts rest : List Lexeme} {t : Located} → IsQuoted ts t rest → IsDeclared keywords.Identifier ts (declarations.Identifier t) rest
+  is_attribute : {ts rest : List Lexeme} {t : Located} → IsAttributeDecl ts t rest → IsDeclared keywords.Attribute ts (declarations.Attribute t) rest
+  is_table : {ts rest : List Lexeme} {t : TableRead} → IsTable ts t rest → IsDeclared keywords.Table ts (declarations.Type (types.Table t)) rest
+  is_struct : {ts rest : List Lexeme} {t : TableRead} → IsTable ts t rest → IsDeclared keywords.Struct ts (declarations.Type (types.Struct t)) rest
+  is_enum : {ts rest : List Lexeme} {e : EnumRead} → IsEnum ts e rest → IsDeclared keywords.Enum ts (declarations.Type (types.Enum e)) rest
+  is_union : {ts rest : List Lexeme} {u : UnionRead} → IsUnion ts u rest → IsDeclared keywords.Union ts (declarations.Type (types.Union u)) rest
+  is_root : {ts rest : List Lexeme} {n : Located} → IsRoot ts n rest → IsDeclared keywords.Root ts (declarations.Directive (directives.RootType n)) rest
+  is_extension : {ts rest : List Lexeme} {t : Located} → IsQuoted ts t rest → IsDeclared keywords.Extension ts (declarations.Directive (directives.FileExtension t)) rest
+  is_identifier : {ts rest : List Lexeme} {t : Located} → IsQuoted ts t rest → IsDeclared keywords.Identifier ts (declarations.Directive (directives.FileIdentifier t)) rest
 
 pub record IsDeclaration (ts : List Lexeme) (d : Declaration) (rest : List Lexeme) : Type 0 where
   pub keyword : Keyword

@@ -1,12 +1,13 @@
 -- The grammar of tables, structs, enums and unions, behind their first words.
 use Rattle.std.specs.Prelude.{List, Some, None}
 use Rattle.fb_syntax.specs.Located.{Located}
+use Rattle.fb_syntax.specs.NumberRead.{NumberRead}
 use Rattle.fb_syntax.specs.TypesRead.{TableRead, EnumRead, UnionRead}
 use Rattle.fb_syntax.specs.Lexemes.{Lexeme}
 use Rattle.fb_syntax.specs.Signs.{colon, equals, open_brace, close_brace}
-use Rattle.fb_syntax.specs.Grammar.{IsToken, IsSign, IsName, Repeated, Listed, MayBeComma}
+use Rattle.fb_syntax.specs.Grammar.{IsToken, IsNumber, IsSign, IsName, Repeated, Listed, MayBeComma}
 use Rattle.fb_syntax.specs.GrammarFields.{IsMetadata, IsField}
-use Rattle.fb_syntax.specs.declared.tokens.TokenKind.TheVariants.{Word, Integer}
+use Rattle.fb_syntax.specs.declared.tokens.TokenKind.TheVariants.{Word}
 use Rattle.fb_syntax.specs.declared.declarations.EnumValue.{EnumValue}
 use Rattle.fb_syntax.specs.declared.declarations.UnionMember.{UnionMember}
 
@@ -25,7 +26,7 @@ pub record IsTable (ts : List Lexeme) (t : TableRead) (rest : List Lexeme) : Typ
 -- value = Word [ "=" Integer ]
 pub data IsEnumValue : List Lexeme → EnumValue → List Lexeme → Type 0 where
   without_number : {ts rest : List Lexeme} {name : Located} → IsToken Word ts name rest → IsEnumValue ts (record { name = name; number = None }) rest
-  with_number : {ts rest : List Lexeme} {name n : Located} (sign after : List Lexeme) → IsToken Word ts name sign → IsSign equals sign after → IsToken Integer after n rest → IsEnumValue ts (record { name = name; number = Some n }) rest
+  with_number : {ts rest : List Lexeme} {name : Located} {n : NumberRead} (sign after : List Lexeme) → IsToken Word ts name sign → IsSign equals sign after → IsNumber after n rest → IsEnumValue ts (record { name = name; number = Some n }) rest
 
 -- Word ":" name metadata "{" value { "," value } [ "," ] "}"
 pub record IsEnum (ts : List Lexeme) (e : EnumRead) (rest : List Lexeme) : Type 0 where

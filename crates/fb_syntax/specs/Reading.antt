@@ -1,6 +1,8 @@
 -- What stands at the front of the tokens, and the tokens behind it: signs, words, names and lists.
 use Rattle.std.specs.Prelude.{ℕ, zero, suc, ◌≡◌, ◌==◌, Bool, true, false, ◌&&◌, not, List, [], ◌∷◌, length, Option, Some, None, Result, Ok, Err, if◌then◌else◌}
 use Rattle.fb_syntax.specs.Located.{Located, joined}
+use Rattle.fb_syntax.specs.NumberRead.{NumberRead}
+use Rattle.fb_syntax.specs.Integers.{number_of}
 use Rattle.fb_syntax.specs.Lexemes.{Lexeme}
 use Rattle.fb_syntax.specs.Signs.{dot, comma}
 use Rattle.fb_syntax.specs.declared.faults.SyntaxFault.{SyntaxFault}
@@ -65,6 +67,10 @@ is_kind _ _ = false
 unfoldable pub token_at : TokenKind → List Lexeme → Front Located
 token_at kind [] = None
 token_at kind (t ∷ rest) = if is_kind t.kind kind then Some (t.text, rest) else None
+
+-- an integer constant, as a number
+unfoldable pub number_at : List Lexeme → Front NumberRead
+number_at ts = token_at Integer ts >>= λ t. Some (number_of t.0, t.1)
 
 abbrev pub is_only : ℕ → List ℕ → Bool
 is_only c [] = false

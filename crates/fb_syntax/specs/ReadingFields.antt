@@ -3,10 +3,10 @@ use Rattle.std.specs.Prelude.{ℕ, false, List, [], Option, Some, None}
 use Rattle.fb_syntax.specs.FieldRead.{FieldRead}
 use Rattle.fb_syntax.specs.Lexemes.{Lexeme}
 use Rattle.fb_syntax.specs.Signs.{open_round, close_round, colon, semicolon, equals, open_square, close_square}
-use Rattle.fb_syntax.specs.Reading.{◌>>=◌, Front, behind, kind_at, token_at, is_sign, sign_at, name_at, until, listed_at}
+use Rattle.fb_syntax.specs.Reading.{◌>>=◌, Front, behind, kind_at, token_at, number_at, is_sign, sign_at, name_at, until, listed_at}
 use Rattle.fb_syntax.specs.declared.tokens.TokenKind.{TokenKind}
 use Rattle.fb_syntax.specs.declared.tokens.TokenKind.TheVariants.{Word, Integer, Quoted}
-use Rattle.fb_syntax.specs.declared.declarations.AttributeUse.{AttributeUse}
+use Rattle.fb_syntax.specs.declared.declarations.Attribute.{Attribute}
 use Rattle.fb_syntax.specs.declared.declarations.AttributeValue.{AttributeValue}
 use Rattle.fb_syntax.specs.declared.declarations.AttributeValue.TheVariants as values
 use Rattle.fb_syntax.specs.declared.declarations.FieldType.{FieldType}
@@ -15,22 +15,22 @@ use Rattle.fb_syntax.specs.declared.declarations.DefaultValue.{DefaultValue}
 use Rattle.fb_syntax.specs.declared.declarations.DefaultValue.TheVariants as defaults
 
 abbrev pub value_of_kind : Option TokenKind → List Lexeme → Front AttributeValue
-value_of_kind (Some Integer) ts = token_at Integer ts >>= λ t. Some (values.Integer t.0, t.1)
+value_of_kind (Some Integer) ts = number_at ts >>= λ n. Some (values.Integer n.0, n.1)
 value_of_kind (Some Quoted) ts = token_at Quoted ts >>= λ t. Some (values.Quoted t.0, t.1)
 value_of_kind _ ts = token_at Word ts >>= λ t. Some (values.Word t.0, t.1)
 
 unfoldable pub attribute_value_at : List Lexeme → Front AttributeValue
 attribute_value_at ts = value_of_kind (kind_at ts) ts
 
-unfoldable pub attribute_use_at : List Lexeme → Front AttributeUse
-attribute_use_at ts = do
+unfoldable pub attribute_at : List Lexeme → Front Attribute
+attribute_at ts = do
   name ← token_at Word ts
   behind (sign_at colon name.1) (λ after. attribute_value_at after >>= λ v. Some (record { name = name.0; value = Some v.0 }, v.1)) (Some (record { name = name.0; value = None }, name.1))
 
-unfoldable pub listed_attribute_at : List Lexeme → Front AttributeUse
-listed_attribute_at = listed_at attribute_use_at false close_round
+unfoldable pub listed_attribute_at : List Lexeme → Front Attribute
+listed_attribute_at = listed_at attribute_at false close_round
 
-unfoldable pub metadata_at : List Lexeme → Front (List AttributeUse)
+unfoldable pub metadata_at : List Lexeme → Front (List Attribute)
 metadata_at ts = behind (sign_at open_round ts) (λ inside. until listed_attribute_at (is_sign close_round) inside >>= λ x. sign_at close_round x.1 >>= λ sign. Some (x.0, sign.1)) (Some ([], ts))
 
 abbrev pub type_behind : Front ℕ → List Lexeme → Front FieldType
@@ -41,7 +41,7 @@ unfoldable pub type_at : List Lexeme → Front FieldType
 type_at ts = type_behind (sign_at open_square ts) ts
 
 abbrev pub default_of_kind : Option TokenKind → List Lexeme → Front DefaultValue
-default_of_kind (Some Integer) ts = token_at Integer ts >>= λ t. Some (defaults.Integer t.0, t.1)
+default_of_kind (Some Integer) ts = number_at ts >>= λ n. Some (defaults.Integer n.0, n.1)
 default_of_kind _ ts = name_at ts >>= λ n. Some (defaults.Name n.0, n.1)
 
 unfoldable pub default_value_at : List Lexeme → Front DefaultValue

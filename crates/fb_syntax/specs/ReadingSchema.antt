@@ -12,6 +12,8 @@ use Rattle.fb_syntax.specs.declared.parser.keywords.Keyword.{Keyword}
 use Rattle.fb_syntax.specs.declared.parser.keywords.Keyword.TheVariants as keywords
 use Rattle.fb_syntax.specs.declared.declarations.Declaration.{Declaration}
 use Rattle.fb_syntax.specs.declared.declarations.Declaration.TheVariants as declarations
+use Rattle.fb_syntax.specs.declared.declarations.TypeDecl.TheVariants as types
+use Rattle.fb_syntax.specs.declared.declarations.Directive.TheVariants as directives
 
 unfoldable pub keyword_at : List Lexeme → Front Keyword
 keyword_at ts = token_at Word ts >>= λ w. keyword_of (w.0).bytes >>= λ k. Some (k, w.1)
@@ -24,8 +26,8 @@ abbrev pub attribute_of_kind : Option TokenKind → List Lexeme → Front Locate
 attribute_of_kind (Some Quoted) ts = token_at Quoted ts
 attribute_of_kind _ ts = token_at Word ts
 
-unfoldable pub attribute_at : List Lexeme → Front Located
-attribute_at ts = attribute_of_kind (kind_at ts) ts >>= λ t. sign_at semicolon t.1 >>= λ end. Some (t.0, end.1)
+unfoldable pub attribute_decl_at : List Lexeme → Front Located
+attribute_decl_at ts = attribute_of_kind (kind_at ts) ts >>= λ t. sign_at semicolon t.1 >>= λ end. Some (t.0, end.1)
 
 unfoldable pub root_at : List Lexeme → Front Located
 root_at ts = name_at ts >>= λ n. sign_at semicolon n.1 >>= λ end. Some (n.0, end.1)
@@ -40,14 +42,14 @@ as_declaration kind read = read >>= λ x. Some (kind x.0, x.1)
 -- the declaration that a word begins
 unfoldable pub declared_at : Keyword → List Lexeme → Front Declaration
 declared_at keywords.Namespace ts = as_declaration declarations.Namespace (namespace_at ts)
-declared_at keywords.Attribute ts = as_declaration declarations.Attribute (attribute_at ts)
-declared_at keywords.Table ts = as_declaration declarations.Table (table_at ts)
-declared_at keywords.Struct ts = as_declaration declarations.Struct (table_at ts)
-declared_at keywords.Enum ts = as_declaration declarations.Enum (enum_at ts)
-declared_at keywords.Union ts = as_declaration declarations.Union (union_at ts)
-declared_at keywords.Root ts = as_declaration declarations.Root (root_at ts)
-declared_at keywords.Extension ts = as_declaration declarations.Extension (quoted_at ts)
-declared_at keywords.Identifier ts = as_declaration declarations.Identifier (quoted_at ts)
+declared_at keywords.Attribute ts = as_declaration declarations.Attribute (attribute_decl_at ts)
+declared_at keywords.Table ts = as_declaration (λ t. declarations.Type (types.Table t)) (table_at ts)
+declared_at keywords.Struct ts = as_declaration (λ t. declarations.Type (types.Struct t)) (table_at ts)
+declared_at keywords.Enum ts = as_declaration (λ e. declarations.Type (types.Enum e)) (enum_at ts)
+declared_at keywords.Union ts = as_declaration (λ u. declarations.Type (types.Union u)) (union_at ts)
+declared_at keywords.Root ts = as_declaration (λ n. declarations.Directive (directives.RootType n)) (root_at ts)
+declared_at keywords.Extension ts = as_declaration (λ t. declarations.Directive (directives.FileExtension t)) (quoted_at ts)
+declared_at keywords.Identifier ts = as_declaration (λ t. declarations.Directive (directives.FileIdentifier t)) (quoted_at ts)
 
 unfoldable pub declaration_at : List Lexeme → Front Declaration
 declaration_at ts = keyword_at ts >>= λ k. declared_at k.0 k.1

@@ -3,9 +3,9 @@ use Rattle.std.specs.Prelude.{true, List, Some, None}
 use Rattle.fb_syntax.specs.TypesRead.{TableRead, EnumRead, UnionRead}
 use Rattle.fb_syntax.specs.Lexemes.{Lexeme}
 use Rattle.fb_syntax.specs.Signs.{colon, equals, open_brace, close_brace}
-use Rattle.fb_syntax.specs.Reading.{◌>>=◌, Front, behind, token_at, is_sign, sign_at, name_at, name_more, until, listed_at, some_until}
+use Rattle.fb_syntax.specs.Reading.{◌>>=◌, Front, behind, token_at, number_at, is_sign, sign_at, name_at, name_more, until, listed_at, some_until}
 use Rattle.fb_syntax.specs.ReadingFields.{metadata_at, field_at}
-use Rattle.fb_syntax.specs.declared.tokens.TokenKind.TheVariants.{Word, Integer}
+use Rattle.fb_syntax.specs.declared.tokens.TokenKind.TheVariants.{Word}
 use Rattle.fb_syntax.specs.declared.declarations.EnumValue.{EnumValue}
 use Rattle.fb_syntax.specs.declared.declarations.UnionMember.{UnionMember}
 
@@ -21,7 +21,7 @@ table_at ts = do
 unfoldable pub enum_value_at : List Lexeme → Front EnumValue
 enum_value_at ts = do
   name ← token_at Word ts
-  behind (sign_at equals name.1) (λ after. token_at Integer after >>= λ n. Some (record { name = name.0; number = Some n.0 }, n.1)) (Some (record { name = name.0; number = None }, name.1))
+  behind (sign_at equals name.1) (λ after. number_at after >>= λ n. Some (record { name = name.0; number = Some n.0 }, n.1)) (Some (record { name = name.0; number = None }, name.1))
 
 unfoldable pub listed_value_at : List Lexeme → Front EnumValue
 listed_value_at = listed_at enum_value_at true close_brace

@@ -324,7 +324,7 @@ impl<'t> Model for Decls<'t> {
 
 impl<'t> Decls<'t> {
     pub(crate) fn new(declarations: Vec<Declaration<'t>>, text_len: u64) -> Decls<'t>
-        ensures { result ≡ record { declarations = declarations.items; text_len = text_len } }
+        ensures { result ≡ record { declarations = declarations.entry.items; text_len = text_len } }
     {
         Decls {
             declarations,

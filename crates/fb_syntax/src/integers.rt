@@ -103,7 +103,7 @@ fn is_negative(spelling: &[u8]) -> bool
 
 /// The number that an integer constant is.
 pub(crate) fn number_of(digits: Text<'_>) -> Number
-    requires { magnitude digits.entry.bytes ≤ greatest_magnitude }
+    requires { magnitude digits.bytes ≤ greatest_magnitude }
     ensures { result ≡ number_of digits.entry }
 {
     let bytes = digits.text.as_bytes();

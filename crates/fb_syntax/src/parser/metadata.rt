@@ -2,7 +2,7 @@
 ghost use Rattle.std.specs.Prelude.{◌<◌, ◌≤◌, length, IfOk};
 ghost use Rattle.fb_syntax.specs.Signs.{close_round};
 ghost use Rattle.fb_syntax.specs.Reading.{Gives, is_sign, until};
-ghost use Rattle.fb_syntax.specs.ReadingFields.{attribute_value_at, attribute_use_at, listed_attribute_at, metadata_at};
+ghost use Rattle.fb_syntax.specs.ReadingFields.{attribute_value_at, attribute_at, listed_attribute_at, metadata_at};
 
 use super::{Parser, Stop};
 use crate::declarations::{Attribute, AttributeValue};
@@ -21,9 +21,9 @@ impl<'t> Parser<'t, '_> {
         }
     }
 
-    #[tactic(auto, unfolding(crate::specs::ReadingFields::attribute_use_at))]
-    fn attribute_use(&mut self) -> Result<Attribute<'t>, Stop>
-        ensures exact { Gives (λ a. (a, self.new)) result (attribute_use_at self.old) }
+    #[tactic(auto, unfolding(crate::specs::ReadingFields::attribute_at))]
+    fn attribute(&mut self) -> Result<Attribute<'t>, Stop>
+        ensures exact { Gives (λ a. (a, self.new)) result (attribute_at self.old) }
         ensures shorter { IfOk result (λ _. length self.new < length self.old) }
     {
         let name = self.token(TokenKind::Word)?;
@@ -39,7 +39,7 @@ impl<'t> Parser<'t, '_> {
         ensures exact { Gives (λ a. (a, self.new)) result (listed_attribute_at self.old) }
         ensures shorter { IfOk result (λ _. length self.new < length self.old) }
     {
-        let attribute = self.attribute_use()?;
+        let attribute = self.attribute()?;
         self.comma(false, b')')?;
         Ok(attribute)
     }

@@ -6,7 +6,7 @@ ghost use Rattle.fb_syntax.specs.GrammarSchema.{Reads};
 ghost use Rattle.fb_syntax.specs.Lexemes.{AreReadable};
 ghost use Rattle.fb_syntax.specs.Refusals.{StandsWithin};
 ghost use Rattle.fb_syntax.specs.Reading.{Gives, IsGrammarFault, is_empty, until};
-ghost use Rattle.fb_syntax.specs.ReadingSchema.{keyword_at, namespace_at, attribute_at, root_at, quoted_at};
+ghost use Rattle.fb_syntax.specs.ReadingSchema.{keyword_at, namespace_at, attribute_decl_at, root_at, quoted_at};
 ghost use Rattle.fb_syntax.specs.ReadingSchema.{declared_at, declaration_at};
 
 use super::keywords::{Keyword, keyword_of};
@@ -30,9 +30,9 @@ impl<'t> Parser<'t, '_> {
         Ok(Some(name))
     }
 
-    #[tactic(auto, unfolding(crate::specs::ReadingSchema::attribute_at))]
-    fn attribute(&mut self) -> Result<Text<'t>, Stop>
-        ensures exact { Gives (λ t. (t, self.new)) result (attribute_at self.old) }
+    #[tactic(auto, unfolding(crate::specs::ReadingSchema::attribute_decl_at))]
+    fn attribute_decl(&mut self) -> Result<Text<'t>, Stop>
+        ensures exact { Gives (λ t. (t, self.new)) result (attribute_decl_at self.old) }
         ensures shorter { IfOk result (λ _. length self.new < length self.old) }
     {
         let name = match self.kind() {
@@ -83,7 +83,7 @@ impl<'t> Parser<'t, '_> {
     {
         match keyword {
             Keyword::Namespace => Ok(Declaration::Namespace(self.namespace()?)),
-            Keyword::Attribute => Ok(Declaration::Attribute(self.attribute()?)),
+            Keyword::Attribute => Ok(Declaration::Attribute(self.attribute_decl()?)),
             Keyword::Table => Ok(Declaration::Type(TypeDecl::Table(self.table()?))),
             Keyword::Struct => Ok(Declaration::Type(TypeDecl::Struct(self.table()?))),
             Keyword::Enum => Ok(Declaration::Type(TypeDecl::Enum(self.enumeration()?))),

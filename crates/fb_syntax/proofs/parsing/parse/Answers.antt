@@ -1,4 +1,4 @@
-use Rattle.std.proofs.Common.{ℕ, List, Vec, Global, subst, sym}
+use Rattle.std.proofs.Common.{ℕ, List, Vec, Global, IsUtf8, subst, sym}
 use Rattle.std.proofs.lemmas.Result.{err_from_is_err_and}
 use Rattle.std.proofs.lemmas.Str.{utf8_valid_len_le}
 use Rattle.fb_syntax.specs.declared.tokens.Token.{Token}
@@ -28,13 +28,14 @@ returns-in_err-readable-clause-within c =
 
 pub declarations_of-requires : goal.declarations_of-requires
 declarations_of-requires c =
-    let tokens = rw c.in_ok-readable.ensures.text.0 at c.in_ok-tokens.ensures.tokens in
-    rw c.as_slice.ensures.value (all_readable c.args.text.now c.in_ok-tokens.tokens.items c.in_ok-readable.ensures.text.1 tokens)
+    let utf8 = subst IsUtf8 (sym c.in_ok-readable.ensures.text.0) c.in_ok-readable.ensures.text.1 in
+    rw c.as_slice.ensures.value (all_readable c.in_ok-readable.readable.now c.in_ok-tokens.tokens.items utf8 c.in_ok-tokens.ensures.tokens)
 
 pub returns-clause-exact : goal.returns-clause-exact
 returns-clause-exact c =
     let found = rw c.in_ok-readable.ensures.text.0 at c.in_ok-tokens.ensures.found in
     λ d parses.
     (let same = one_spelling_shown c.args.text.now parses.0 c.in_ok-tokens.tokens.items parses.1 found in
-    let reads = subst (λ (ts : List Token). Reads c.args.text.now ts d) same parses.2 in
+    let of_text = subst (λ (ts : List Token). Reads c.args.text.now ts d) same parses.2 in
+    let reads = subst (λ (b : List ℕ). Reads b c.in_ok-tokens.tokens.items d) (sym c.in_ok-readable.ensures.text.0) of_text in
     c.declarations_of.ensures.exact d (rw c.as_slice.ensures.value reads))
