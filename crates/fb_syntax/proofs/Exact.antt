@@ -5,7 +5,7 @@ use Rattle.fb_syntax.specs.NumberRead.{NumberRead}
 use Rattle.fb_syntax.specs.Lexemes.{Lexeme}
 use Rattle.fb_syntax.specs.Signs.{dot}
 use Rattle.fb_syntax.specs.Reading.{is_kind, is_sign, sign_at, token_at, number_at, name_more, name_at}
-use Rattle.fb_syntax.specs.Grammar.{IsToken, IsNumber, IsSignAt, IsSign, IsMore, no_further, further, IsName}
+use Rattle.fb_syntax.specs.Grammar.{IsToken, IsNumber, IsSign, IsMore, no_further, further, IsName}
 use Rattle.fb_syntax.specs.declared.tokens.TokenKind.{TokenKind}
 use Rattle.fb_syntax.specs.declared.tokens.TokenKind.TheVariants.{Word, Integer, Quoted, Punct}
 use Rattle.fb_syntax.proofs.Names.{name_goes_on, name_ends}
@@ -14,7 +14,7 @@ own_kind : (kind : TokenKind) → is_kind kind kind ≡ true
 own_kind Word = refl
 own_kind Integer = refl
 own_kind Quoted = refl
-own_kind Punct = refl
+own_kind (Punct c) = Rattle.std.proofs.Common.eq-eqb c c refl
 
 pub token_read : (kind : TokenKind) (ts rest : List Lexeme) (t : Located) → IsToken kind ts t rest → token_at kind ts ≡ Some (t, rest)
 unfolding token_at
@@ -27,16 +27,16 @@ number_read ts rest n h = rw (token_read Integer ts rest h.0 h.1, h.2) refl
 pub sign_stands : (c : ℕ) (ts rest : List Lexeme) → IsSign c ts rest → is_sign c ts ≡ true
 sign_stands c ts rest s = rw s.1 (Rattle.std.proofs.Common.eq-eqb c c refl)
 
-pub sign_read : (c at : ℕ) (ts rest : List Lexeme) → IsSignAt c ts at rest → sign_at c ts ≡ Some (at, rest)
+pub sign_read : (c : ℕ) (sign : Located) (ts rest : List Lexeme) → IsToken (Punct c) ts sign rest → sign_at c ts ≡ Some (sign.at, rest)
 unfolding sign_at
-sign_read c at ts rest e = let same : eqb c c ≡ true = Rattle.std.proofs.Common.eq-eqb c c refl in rw e (rw same refl)
+sign_read c sign ts rest e = let same : eqb c c ≡ true = Rattle.std.proofs.Common.eq-eqb c c refl in rw e (rw same refl)
 
 pub other_sign : (c d : ℕ) (ts rest : List Lexeme) → eqb c d ≡ false → IsSign c ts rest → sign_at d ts ≡ None
 unfolding sign_at
 other_sign c d ts rest apart s = rw s.1 (rw apart refl)
 
 -- A token that is no sign.
-pub token_no_sign : (kind : TokenKind) (c : ℕ) (ts rest : List Lexeme) (t : Located) → is_kind kind Punct ≡ false → IsToken kind ts t rest → sign_at c ts ≡ None
+pub token_no_sign : (kind : TokenKind) (c : ℕ) (ts rest : List Lexeme) (t : Located) → is_kind kind (Punct c) ≡ false → IsToken kind ts t rest → sign_at c ts ≡ None
 unfolding sign_at
 token_no_sign kind c ts rest t other e = rw e (rw other refl)
 
@@ -46,7 +46,7 @@ word_no_sign c ts rest t e = rw e refl
 pub more_read : (s n : Located) (ts rest : List Lexeme) → IsMore s ts n rest → sign_at dot rest ≡ None → name_more s ts ≡ Some (n, rest)
 more_read s n ts rest no_further e = name_ends s ts e
 more_read s n ts rest (further w before after sign word m) e =
-    name_goes_on s w sign.0 ts before after (sign_read dot sign.0 ts before sign.1) (token_read Word before after w word) ∙ more_read (joined s w.bytes) n after rest m e
+    name_goes_on s w (sign.0).at ts before after (sign_read dot sign.0 ts before sign.1) (token_read Word before after w word) ∙ more_read (joined s w.bytes) n after rest m e
 
 -- A name that no further dot follows is read.
 pub name_read : (n : Located) (ts rest : List Lexeme) → IsName ts n rest → sign_at dot rest ≡ None → name_at ts ≡ Some (n, rest)

@@ -58,7 +58,7 @@ metadata_lacks d a ts rest (some_attributes inside close o listed c) apart none 
 type_read : (t : FieldType) (ts rest : List Lexeme) → IsType ts t rest → sign_at dot rest ≡ None → type_at ts ≡ Some (t, rest)
 unfolding type_at
 type_read t ts rest (one_type {n = n} name) none = rw (name_no_sign open_square n ts rest name, name_read n ts rest name none) refl
-type_read t ts rest (many_type {n = n} {at = at} inside close o name c) none = rw (sign_read open_square at ts inside o, name_read n inside close name (other_sign close_square dot close rest refl c), sign_read close_square c.0 close rest c.1) refl
+type_read t ts rest (many_type {n = n} {bracket = bracket} inside close o name c) none = rw (sign_read open_square bracket ts inside o, name_read n inside close name (other_sign close_square dot close rest refl c), sign_read close_square c.0 close rest c.1) refl
 
 name_by_kind : (n : Located) (ts rest : List Lexeme) → IsName ts n rest → name_at ts ≡ Some (n, rest) → default_of_kind (kind_at ts) ts ≡ Some (defaults.Name n, rest)
 name_by_kind n ts rest h e = let kind : kind_at ts ≡ Some Word = rw h.begins refl in rw kind (rw e refl)

@@ -1,9 +1,9 @@
 -- Signs and words at the front, and a name, word by word.
-use Rattle.std.proofs.Common.{◌≡◌, ℕ, List, [], ◌∷◌, Option, Some, None, Bool, true, false, ◌&&◌, cond, refl, sym, ap, ◌∙◌}
+use Rattle.std.proofs.Common.{◌≡◌, ℕ, List, [], ◌∷◌, Option, Some, None, Bool, true, false, cond, refl, sym, ap, ◌∙◌}
 use Rattle.fb_syntax.specs.Located.{Located, joined}
 use Rattle.fb_syntax.specs.Lexemes.{Lexeme}
 use Rattle.fb_syntax.specs.Signs.{dot}
-use Rattle.fb_syntax.specs.Reading.{Fails, is_kind, is_only, is_sign, sign_at, token_at, name_more, name_at}
+use Rattle.fb_syntax.specs.Reading.{Fails, is_kind, is_sign, sign_at, token_at, name_more, name_at}
 use Rattle.fb_syntax.specs.declared.parser.stop.Stop.{Stop}
 use Rattle.fb_syntax.specs.declared.parser.stop.Stop.TheVariants.{Memory, Unexpected, NestedVector}
 use Rattle.fb_syntax.specs.declared.tokens.TokenKind.{TokenKind}
@@ -83,12 +83,12 @@ pub more_fails : (stop : Stop) (s : Located) (at : ℕ) (ts inside : List Lexeme
 more_fails stop s at ts inside begun so_far e f = fails_with stop (token_at Word inside) begun (λ none. sym so_far ∙ name_breaks s at ts inside e none) f
 
 no_word : (c : ℕ) (t : Lexeme) (rest : List Lexeme) → is_sign c (t ∷ rest) ≡ true → is_kind t.kind Word ≡ false
-no_word c t rest e = by_kind t.kind (is_only c t.text.bytes) e where
-  by_kind : (kind : TokenKind) (only : Bool) → is_kind kind Punct && only ≡ true → is_kind kind Word ≡ false
-  by_kind Word only e = absurd cc
-  by_kind Integer only e = refl
-  by_kind Quoted only e = refl
-  by_kind Punct only e = refl
+no_word c t rest e = by_kind t.kind e where
+  by_kind : (kind : TokenKind) → is_kind kind (Punct c) ≡ true → is_kind kind Word ≡ false
+  by_kind Word e = absurd cc
+  by_kind Integer e = refl
+  by_kind Quoted e = refl
+  by_kind (Punct d) e = refl
 
 -- A sign is no word.
 pub sign_no_word : (c : ℕ) (ts : List Lexeme) → is_sign c ts ≡ true → token_at Word ts ≡ None

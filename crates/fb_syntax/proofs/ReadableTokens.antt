@@ -1,5 +1,5 @@
 -- What a text's tokens say can be read.
-use Rattle.std.proofs.Common.{◌≡◌, ℕ, ◌+◌, ◌-◌, ◌≤◌, List, All, IsUtf8, refl, arith}
+use Rattle.std.proofs.Common.{◌≡◌, ℕ, ◌+◌, ◌-◌, List, All, IsUtf8, refl, arith}
 use Rattle.fb_syntax.specs.declared.tokens.TokenKind.{TokenKind}
 use Rattle.fb_syntax.specs.declared.tokens.TokenKind.TheVariants.{Word, Integer, Quoted, Punct}
 use Rattle.fb_syntax.specs.declared.tokens.Token.{Token}
@@ -36,7 +36,7 @@ readable text t u h = by_kind t.kind refl where
   by_kind Word k = bare text t (rw k refl) u h
   by_kind Integer k = bare text t (rw k refl) u h
   by_kind Quoted k = quoted text t k u h
-  by_kind Punct k = bare text t (rw k refl) u h
+  by_kind (Punct p) k = bare text t (rw k refl) u h
 
 pub all_readable : (text : List ℕ) (ts : List Token) → IsUtf8 text → All (IsTokenOf text) ts → AreReadable text ts
 all_readable text ts u h k d l = readable text _ u (h k d l)

@@ -1,12 +1,12 @@
 -- What is read is what the grammar has: signs, words, names and lists.
-use Rattle.std.proofs.Common.{◌≡◌, ℕ, List, [], ◌∷◌, Option, Some, None, ◌⊎◌, inl, inr, Bool, true, false, ◌&&◌, cond, refl, ap}
+use Rattle.std.proofs.Common.{◌≡◌, ℕ, List, [], ◌∷◌, Option, Some, None, ◌⊎◌, inl, inr, Bool, true, false, cond, refl, ap}
 use Rattle.std.proofs.lemmas.Bool.{eqb-true}
 use Rattle.fb_syntax.specs.Located.{Located, joined}
 use Rattle.fb_syntax.specs.NumberRead.{NumberRead}
 use Rattle.fb_syntax.specs.Lexemes.{Lexeme}
 use Rattle.fb_syntax.specs.Signs.{dot}
-use Rattle.fb_syntax.specs.Reading.{◌>>=◌, Front, behind, is_kind, is_only, is_sign, sign_at, token_at, number_at, name_more, name_at}
-use Rattle.fb_syntax.specs.Grammar.{IsToken, IsNumber, IsSignAt, IsSign, IsMore, no_further, further, IsName}
+use Rattle.fb_syntax.specs.Reading.{◌>>=◌, Front, behind, is_kind, is_sign, sign_at, token_at, number_at, name_more, name_at}
+use Rattle.fb_syntax.specs.Grammar.{IsToken, IsNumber, IsSign, IsMore, no_further, further, IsName}
 use Rattle.fb_syntax.specs.declared.tokens.TokenKind.{TokenKind}
 use Rattle.fb_syntax.specs.declared.tokens.TokenKind.TheVariants.{Word, Integer, Quoted, Punct}
 use Rattle.fb_syntax.proofs.Names.{pair_of, token_at-some, token_at-nothing, sign_at-some, sign_at-nothing}
@@ -49,7 +49,7 @@ same_kind : (a b : TokenKind) → is_kind a b ≡ true → a ≡ b
 same_kind Word Word e = refl
 same_kind Integer Integer e = refl
 same_kind Quoted Quoted e = refl
-same_kind Punct Punct e = refl
+same_kind (Punct c) (Punct d) e = ap Punct (eqb-true c d e)
 same_kind _ _ e = absurd cc
 
 built : (k j : TokenKind) (t u : Located) (r q : List Lexeme) → k ≡ j → t ≡ u → r ≡ q → ◌≡◌ {A = List Lexeme} (record { kind = k; text = t } ∷ r) (record { kind = j; text = u } ∷ q)
@@ -65,28 +65,14 @@ pub number_found : (ts rest : List Lexeme) (n : NumberRead) → number_at ts ≡
 unfolding number_at
 number_found ts rest n e = let t = bind-some {m = token_at Integer ts} e in lands (IsNumber ts) t.2 (t.0.0, token_found Integer ts t.0.1 t.0.0 t.1, refl)
 
-both : (a b : Bool) → a && b ≡ true → (a ≡ true) × (b ≡ true)
-both true true e = (refl, refl)
-both true false e = absurd cc
-both false b e = absurd cc
-
-only_byte : (c : ℕ) (bs : List ℕ) → is_only c bs ≡ true → bs ≡ c ∷ []
-only_byte c [] e = absurd cc
-only_byte c (d ∷ []) e = ap (λ (x : ℕ). x ∷ []) (eqb-true d c e)
-only_byte c (d ∷ f ∷ bs) e = absurd cc
-
-spelled_at : (bs cs : List ℕ) (at place : ℕ) → bs ≡ cs → at ≡ place → ◌≡◌ {A = Located} (record { bytes = bs; at = at }) (record { bytes = cs; at = place })
-spelled_at bs cs at place a b = rw (a, b) refl
-
-pub sign_found : (c at : ℕ) (ts rest : List Lexeme) → sign_at c ts ≡ Some (at, rest) → IsSignAt c ts at rest
+pub sign_found : (c at : ℕ) (ts rest : List Lexeme) → sign_at c ts ≡ Some (at, rest) → (sign : Located) × IsToken (Punct c) ts sign rest × (sign.at ≡ at)
 sign_found c at [] rest e = let none = sign_at-nothing c in absurd cc
 sign_found c at (l ∷ ls) rest e =
     let h = sign_at-some c l ls rest at e in
-    let b = both (is_kind l.kind Punct) (is_only c l.text.bytes) h.0 in
-    built l.kind Punct l.text (record { bytes = c ∷ []; at = at }) ls rest (same_kind l.kind Punct b.0) (spelled_at l.text.bytes (c ∷ []) l.text.at at (only_byte c l.text.bytes b.1) h.1) h.2
+    (l.text, built l.kind (Punct c) l.text l.text ls rest (same_kind l.kind (Punct c) h.0) refl h.2, h.1)
 
 pub sign_is : (c at : ℕ) (ts rest : List Lexeme) → sign_at c ts ≡ Some (at, rest) → IsSign c ts rest
-sign_is c at ts rest e = (at, sign_found c at ts rest e)
+sign_is c at ts rest e = let h = sign_found c at ts rest e in (h.0, h.1)
 
 pub more_found : (s n : Located) (ts rest : List Lexeme) → name_more s ts ≡ Some (n, rest) → IsMore s ts n rest
 unfolding name_more sign_at token_at

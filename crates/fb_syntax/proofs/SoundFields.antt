@@ -3,7 +3,7 @@ use Rattle.std.proofs.Common.{◌≡◌, inl, inr, ℕ, false, List, Option, Som
 use Rattle.fb_syntax.specs.FieldRead.{FieldRead}
 use Rattle.fb_syntax.specs.Lexemes.{Lexeme}
 use Rattle.fb_syntax.specs.Signs.{open_round, close_round, colon, semicolon, equals, open_square, close_square}
-use Rattle.fb_syntax.specs.Reading.{Front, is_sign, kind_at, sign_at, until}
+use Rattle.fb_syntax.specs.Reading.{Front, is_sign, kind_at, sign_at, name_at, until}
 use Rattle.fb_syntax.specs.ReadingFields.{value_of_kind, attribute_value_at, attribute_at, listed_attribute_at, metadata_at, type_behind, type_at, default_of_kind, default_value_at, default_at, field_at}
 use Rattle.fb_syntax.specs.Grammar.{IsSign}
 use Rattle.fb_syntax.specs.GrammarFields.{IsAttributeValue, integer_value, word_value, quoted_value, IsAttribute, without_value, with_value, IsMetadata, no_metadata, no_attributes, some_attributes, IsType, one_type, many_type, IsDefaultValue, integer_default, name_default, IsDefault, no_default, some_default, IsField}
@@ -12,6 +12,7 @@ use Rattle.fb_syntax.specs.declared.tokens.TokenKind.TheVariants.{Word, Integer,
 use Rattle.fb_syntax.specs.declared.declarations.Attribute.{Attribute}
 use Rattle.fb_syntax.specs.declared.declarations.AttributeValue.{AttributeValue}
 use Rattle.fb_syntax.specs.declared.declarations.FieldType.{FieldType}
+use Rattle.fb_syntax.specs.declared.declarations.FieldType.TheVariants as types
 use Rattle.fb_syntax.specs.declared.declarations.DefaultValue.{DefaultValue}
 use Rattle.fb_syntax.proofs.SoundLists.{listed_until, none_left}
 use Rattle.fb_syntax.proofs.Sound.{decided, bind-some, stood, lacked, behind-ways, token_found, number_found, sign_found, sign_is, name_found, lands}
@@ -20,7 +21,7 @@ value_found : (kind : Option TokenKind) (v : AttributeValue) (ts rest : List Lex
 value_found (Some Integer) v ts rest e = let n = bind-some e in lands (IsAttributeValue ts) n.2 (integer_value (number_found ts n.0.1 n.0.0 n.1))
 value_found (Some Quoted) v ts rest e = let t = bind-some e in lands (IsAttributeValue ts) t.2 (quoted_value (token_found Quoted ts t.0.1 t.0.0 t.1))
 value_found (Some Word) v ts rest e = let t = bind-some e in lands (IsAttributeValue ts) t.2 (word_value (token_found Word ts t.0.1 t.0.0 t.1))
-value_found (Some Punct) v ts rest e = let t = bind-some e in lands (IsAttributeValue ts) t.2 (word_value (token_found Word ts t.0.1 t.0.0 t.1))
+value_found (Some (Punct p)) v ts rest e = let t = bind-some e in lands (IsAttributeValue ts) t.2 (word_value (token_found Word ts t.0.1 t.0.0 t.1))
 value_found None v ts rest e = let t = bind-some e in lands (IsAttributeValue ts) t.2 (word_value (token_found Word ts t.0.1 t.0.0 t.1))
 
 attribute_value_found : (v : AttributeValue) (ts rest : List Lexeme) → attribute_value_at ts ≡ Some (v, rest) → IsAttributeValue ts v rest
@@ -44,9 +45,11 @@ unfolding type_at
 type_found t ts rest e = by_sign (sign_at open_square ts) refl e where
   by_sign : (sign : Front ℕ) → sign_at open_square ts ≡ sign → type_behind sign ts ≡ Some (t, rest) → IsType ts t rest
   by_sign (Some sign) stands e =
-      let name = bind-some e in
-      let end = bind-some name.2 in
-      lands (IsType ts) end.2 (many_type sign.1 name.0.1 (sign_found open_square sign.0 ts sign.1 stands) (name_found name.0.0 sign.1 name.0.1 name.1) (sign_is close_square end.0.0 name.0.1 end.0.1 end.1))
+      let name = bind-some {m = name_at sign.1} e in
+      let end = bind-some {m = sign_at close_square name.0.1} name.2 in
+      let bracket = sign_found open_square sign.0 ts sign.1 stands in
+      let many : IsType ts (types.Many (bracket.0).at name.0.0) end.0.1 = many_type sign.1 name.0.1 bracket.1 (name_found name.0.0 sign.1 name.0.1 name.1) (sign_is close_square end.0.0 name.0.1 end.0.1 end.1) in
+      lands (IsType ts) end.2 (rw bracket.2 at many)
   by_sign None lacks e = let name = bind-some e in lands (IsType ts) name.2 (one_type (name_found name.0.0 ts name.0.1 name.1))
 
 by_name : (v : DefaultValue) (ts rest : List Lexeme) → default_of_kind None ts ≡ Some (v, rest) → IsDefaultValue ts v rest
@@ -56,7 +59,7 @@ default_value_found : (kind : Option TokenKind) (v : DefaultValue) (ts rest : Li
 default_value_found (Some Integer) v ts rest e = let n = bind-some e in lands (IsDefaultValue ts) n.2 (integer_default (number_found ts n.0.1 n.0.0 n.1))
 default_value_found (Some Quoted) v ts rest e = by_name v ts rest e
 default_value_found (Some Word) v ts rest e = by_name v ts rest e
-default_value_found (Some Punct) v ts rest e = by_name v ts rest e
+default_value_found (Some (Punct p)) v ts rest e = by_name v ts rest e
 default_value_found None v ts rest e = by_name v ts rest e
 
 default_found : (v : Option DefaultValue) (ts rest : List Lexeme) → default_at ts ≡ Some (v, rest) → IsDefault ts v rest

@@ -82,7 +82,7 @@ attribute_stands : (kind : Option TokenKind) (t : Located) (ts after rest : List
 attribute_stands (Some Quoted) t ts after rest e at s = quoted_attribute after (token_found Quoted ts after t e) (sign_is semicolon at after rest s)
 attribute_stands (Some Word) t ts after rest e at s = word_attribute after (token_found Word ts after t e) (sign_is semicolon at after rest s)
 attribute_stands (Some Integer) t ts after rest e at s = word_attribute after (token_found Word ts after t e) (sign_is semicolon at after rest s)
-attribute_stands (Some Punct) t ts after rest e at s = word_attribute after (token_found Word ts after t e) (sign_is semicolon at after rest s)
+attribute_stands (Some (Punct p)) t ts after rest e at s = word_attribute after (token_found Word ts after t e) (sign_is semicolon at after rest s)
 attribute_stands None t ts after rest e at s = word_attribute after (token_found Word ts after t e) (sign_is semicolon at after rest s)
 
 attribute_decl_found : (t : Located) (ts rest : List Lexeme) → attribute_decl_at ts ≡ Some (t, rest) → IsAttributeDecl ts t rest

@@ -16,12 +16,9 @@ IsToken kind ts text rest = ts ≡ record { kind = kind; text = text } ∷ rest
 abbrev pub IsNumber : List Lexeme → NumberRead → List Lexeme → Type 0
 IsNumber ts n rest = (digits : Located) × IsToken Integer ts digits rest × (n ≡ number_of digits)
 
--- a sign, with its offset
-abbrev pub IsSignAt : ℕ → List Lexeme → ℕ → List Lexeme → Type 0
-IsSignAt c ts at rest = IsToken Punct ts (record { bytes = c ∷ []; at = at }) rest
-
+-- a sign
 abbrev pub IsSign : ℕ → List Lexeme → List Lexeme → Type 0
-IsSign c ts rest = (at : ℕ) × IsSignAt c ts at rest
+IsSign c ts rest = (sign : Located) × IsToken (Punct c) ts sign rest
 
 -- { "." Word }
 pub data IsMore : Located → List Lexeme → Located → List Lexeme → Type 0 where

@@ -1,12 +1,12 @@
 -- The grammar of fields: attributes, types and defaults.
-use Rattle.std.specs.Prelude.{ℕ, List, [], Option, Some, None}
+use Rattle.std.specs.Prelude.{List, [], Option, Some, None}
 use Rattle.fb_syntax.specs.Located.{Located}
 use Rattle.fb_syntax.specs.NumberRead.{NumberRead}
 use Rattle.fb_syntax.specs.FieldRead.{FieldRead}
 use Rattle.fb_syntax.specs.Lexemes.{Lexeme}
 use Rattle.fb_syntax.specs.Signs.{open_round, close_round, colon, semicolon, equals, open_square, close_square}
-use Rattle.fb_syntax.specs.Grammar.{IsToken, IsNumber, IsSignAt, IsSign, IsName, Listed, IsNothing}
-use Rattle.fb_syntax.specs.declared.tokens.TokenKind.TheVariants.{Word, Quoted}
+use Rattle.fb_syntax.specs.Grammar.{IsToken, IsNumber, IsSign, IsName, Listed, IsNothing}
+use Rattle.fb_syntax.specs.declared.tokens.TokenKind.TheVariants.{Word, Quoted, Punct}
 use Rattle.fb_syntax.specs.declared.declarations.Attribute.{Attribute}
 use Rattle.fb_syntax.specs.declared.declarations.AttributeValue.{AttributeValue}
 use Rattle.fb_syntax.specs.declared.declarations.AttributeValue.TheVariants as values
@@ -35,7 +35,7 @@ pub data IsMetadata : List Lexeme → List Attribute → List Lexeme → Type 0 
 -- type = name | "[" name "]"
 pub data IsType : List Lexeme → FieldType → List Lexeme → Type 0 where
   one_type : {ts rest : List Lexeme} {n : Located} → IsName ts n rest → IsType ts (types.One n) rest
-  many_type : {ts rest : List Lexeme} {n : Located} {at : ℕ} (inside close : List Lexeme) → IsSignAt open_square ts at inside → IsName inside n close → IsSign close_square close rest → IsType ts (types.Many at n) rest
+  many_type : {ts rest : List Lexeme} {n bracket : Located} (inside close : List Lexeme) → IsToken (Punct open_square) ts bracket inside → IsName inside n close → IsSign close_square close rest → IsType ts (types.Many bracket.at n) rest
 
 -- scalar = Integer | name
 pub data IsDefaultValue : List Lexeme → DefaultValue → List Lexeme → Type 0 where

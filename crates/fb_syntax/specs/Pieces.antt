@@ -52,5 +52,5 @@ piece_at at (c ∷ cs) =
     else (if is_digit c then integer_at at 0 (c ∷ cs)
     else (if is_sign c then integer_at at 1 (c ∷ cs)
     else (if c == 34 then quoted_at at cs
-    else (if is_punct c then Ok (Token Punct 1)
+    else (if is_punct c then Ok (Token (Punct c) 1)
     else Err (BadByte at)))))))

@@ -61,7 +61,7 @@ abbrev pub is_kind : TokenKind → TokenKind → Bool
 is_kind Word Word = true
 is_kind Integer Integer = true
 is_kind Quoted Quoted = true
-is_kind Punct Punct = true
+is_kind (Punct c) (Punct d) = c == d
 is_kind _ _ = false
 
 unfoldable pub token_at : TokenKind → List Lexeme → Front Located
@@ -72,14 +72,9 @@ token_at kind (t ∷ rest) = if is_kind t.kind kind then Some (t.text, rest) els
 unfoldable pub number_at : List Lexeme → Front NumberRead
 number_at ts = token_at Integer ts >>= λ t. Some (number_of t.0, t.1)
 
-abbrev pub is_only : ℕ → List ℕ → Bool
-is_only c [] = false
-is_only c (d ∷ []) = d == c
-is_only c (d ∷ e ∷ cs) = false
-
 abbrev pub is_sign : ℕ → List Lexeme → Bool
 is_sign c [] = false
-is_sign c (t ∷ rest) = is_kind t.kind Punct && is_only c t.text.bytes
+is_sign c (t ∷ rest) = is_kind t.kind (Punct c)
 
 -- a sign's offset, and the tokens behind it
 unfoldable pub sign_at : ℕ → List Lexeme → Front ℕ

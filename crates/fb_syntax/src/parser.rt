@@ -12,7 +12,7 @@ ghost use Rattle.std.specs.Prelude.{◌≡◌, ◌<◌, ◌≤◌, length, drop,
 ghost use Rattle.fb_syntax.specs.Integers.{number_of};
 ghost use Rattle.fb_syntax.specs.Lexemes.{IsReadable, AreReadable, lexemes, located};
 ghost use Rattle.fb_syntax.specs.TokenBytes.{IsSmall};
-ghost use Rattle.fb_syntax.specs.Reading.{Gives, is_empty, is_only, is_sign, kind_at, name_at, name_more, sign_at};
+ghost use Rattle.fb_syntax.specs.Reading.{Gives, is_empty, is_sign, kind_at, name_at, name_more, sign_at};
 ghost use Rattle.fb_syntax.specs.Reading.{number_at, token_at};
 
 use crate::declarations::{DottedName, Number, Text};
@@ -57,15 +57,6 @@ fn located<'t>(text: &'t str, token: Token) -> Text<'t>
     Text {
         text: &text[start..end],
         at: token.at,
-    }
-}
-
-fn is_only(text: &str, sign: u8) -> bool
-    ensures { result ≡ is_only sign text.now }
-{
-    match text.as_bytes() {
-        [only] => *only == sign,
-        _ => false,
     }
 }
 
@@ -154,9 +145,7 @@ impl<'t, 's> Parser<'t, 's> {
         ensures { result ≡ is_sign sign self.now }
     {
         match self.tokens {
-            [next, ..] => {
-                next.kind == TokenKind::Punct && is_only(located(self.text, *next).text, sign)
-            }
+            [next, ..] => next.kind == TokenKind::Punct(sign),
             [] => false,
         }
     }

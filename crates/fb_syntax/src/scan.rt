@@ -121,7 +121,7 @@ fn next_piece(at: u64, text: &[u8]) -> Result<Piece, SyntaxFault>
     } else if first == b'"' {
         quoted(at, rest)
     } else if is_punct(first) {
-        Ok(Piece::Token(TokenKind::Punct, 1))
+        Ok(Piece::Token(TokenKind::Punct(first), 1))
     } else {
         Err(SyntaxFault::BadByte(at))
     }
