@@ -97,6 +97,11 @@ unfoldable pub many : {X : Type 0} → (List Lexeme → Front X) → (List Lexem
 many item stop zero ts = None
 many item stop (suc n) ts = if stop ts then Some ([], ts) else (item ts >>= λ x. many item stop n x.1 >>= λ xs. Some (x.0 ∷ xs.0, xs.1))
 
+-- a closing sign stands next or, with none, no token is left
+abbrev pub closes : Option ℕ → List Lexeme → Bool
+closes (Some c) = is_sign c
+closes None = is_empty
+
 unfoldable pub until : {X : Type 0} → (List Lexeme → Front X) → (List Lexeme → Bool) → List Lexeme → Front (List X)
 until item stop ts = many item stop (suc (length ts)) ts
 

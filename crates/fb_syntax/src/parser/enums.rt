@@ -1,12 +1,23 @@
 //! Enums.
-ghost use Rattle.std.specs.Prelude.{◌<◌, ◌≤◌, length, IfOk};
-ghost use Rattle.fb_syntax.specs.Signs.{close_brace};
-ghost use Rattle.fb_syntax.specs.Reading.{Gives, is_sign, some_until, until};
+ghost use Rattle.std.specs.Prelude.{◌<◌, length, IfOk};
+ghost use Rattle.fb_syntax.specs.Reading.{Gives};
 ghost use Rattle.fb_syntax.specs.ReadingTypes.{enum_value_at, listed_value_at, enum_at};
 
+use super::lists::Item;
 use super::{Parser, Stop};
 use crate::declarations::{EnumDecl, EnumValue};
 use crate::tokens::TokenKind;
+
+impl<'t> Item<'t> for EnumValue<'t> {
+    ghost item_at = { listed_value_at };
+
+    #[tactic(auto, unfolding(crate::specs::ReadingTypes::listed_value_at, crate::specs::Reading::listed_at))]
+    fn read(parser: &mut Parser<'t, '_>) -> Result<EnumValue<'t>, Stop> {
+        let value = parser.enum_value()?;
+        parser.comma(true, b'}')?;
+        Ok(value)
+    }
+}
 
 impl<'t> Parser<'t, '_> {
     #[tactic(auto, unfolding(crate::specs::ReadingTypes::enum_value_at))]
@@ -22,42 +33,6 @@ impl<'t> Parser<'t, '_> {
         Ok(EnumValue { name, number })
     }
 
-    #[tactic(auto, unfolding(crate::specs::ReadingTypes::listed_value_at, crate::specs::Reading::listed_at))]
-    fn listed_value(&mut self) -> Result<EnumValue<'t>, Stop>
-        ensures exact { Gives (λ v. (v, self.new)) result (listed_value_at self.old) }
-        ensures shorter { IfOk result (λ _. length self.new < length self.old) }
-    {
-        let value = self.enum_value()?;
-        self.comma(true, b'}')?;
-        Ok(value)
-    }
-
-    /// The values before a closing brace.
-    fn values(&mut self) -> Result<Vec<EnumValue<'t>>, Stop>
-        ensures exact { Gives (λ v. (v.items, self.new)) result
-            (until listed_value_at (is_sign close_brace) self.old) }
-        ensures shorter { IfOk result (λ _. length self.new ≤ length self.old) }
-    {
-        let mut values = Vec::new(self.alloc());
-        while !self.is_sign(b'}') {
-            let value = self.listed_value()?;
-            values.push(value)?;
-        }
-        Ok(values)
-    }
-
-    #[tactic(auto, unfolding(crate::specs::Reading::some_until))]
-    fn some_values(&mut self) -> Result<Vec<EnumValue<'t>>, Stop>
-        ensures exact { Gives (λ v. (v.items, self.new)) result
-            (some_until listed_value_at close_brace self.old) }
-        ensures shorter { IfOk result (λ _. length self.new ≤ length self.old) }
-    {
-        if self.is_sign(b'}') {
-            return Err(Stop::Unexpected);
-        }
-        self.values()
-    }
-
     /// An enum behind its first word.
     #[tactic(auto, unfolding(crate::specs::ReadingTypes::enum_at))]
     pub(super) fn enumeration(&mut self) -> Result<EnumDecl<'t>, Stop>
@@ -69,7 +44,7 @@ impl<'t> Parser<'t, '_> {
         let underlying = self.name()?;
         let attributes = self.metadata()?;
         self.sign(b'{')?;
-        let values = self.some_values()?;
+        let values = self.some_items(b'}')?;
         self.sign(b'}')?;
         Ok(EnumDecl {
             name,

@@ -1,13 +1,33 @@
 //! Tables, structs and their fields.
 ghost use Rattle.std.specs.Prelude.{◌<◌, ◌≤◌, length, IfOk};
-ghost use Rattle.fb_syntax.specs.Signs.{close_brace};
-ghost use Rattle.fb_syntax.specs.Reading.{Gives, is_sign, name_at, until};
+ghost use Rattle.fb_syntax.specs.Reading.{Gives, name_at};
 ghost use Rattle.fb_syntax.specs.ReadingFields.{type_at, default_value_at, default_at, field_at};
 ghost use Rattle.fb_syntax.specs.ReadingTypes.{table_at};
 
+use super::lists::Item;
 use super::{Parser, Stop};
 use crate::declarations::{DefaultValue, DottedName, Field, FieldType, TableDecl};
 use crate::tokens::TokenKind;
+
+impl<'t> Item<'t> for Field<'t> {
+    ghost item_at = { field_at };
+
+    #[tactic(auto, unfolding(crate::specs::ReadingFields::field_at))]
+    fn read(parser: &mut Parser<'t, '_>) -> Result<Field<'t>, Stop> {
+        let name = parser.token(TokenKind::Word)?;
+        parser.sign(b':')?;
+        let kind = parser.field_type()?;
+        let default = parser.default()?;
+        let attributes = parser.metadata()?;
+        parser.sign(b';')?;
+        Ok(Field {
+            name,
+            kind,
+            default,
+            attributes,
+        })
+    }
+}
 
 impl<'t> Parser<'t, '_> {
     /// The name of the type of a vector's elements.
@@ -58,38 +78,6 @@ impl<'t> Parser<'t, '_> {
         }
     }
 
-    #[tactic(auto, unfolding(crate::specs::ReadingFields::field_at))]
-    fn field(&mut self) -> Result<Field<'t>, Stop>
-        ensures exact { Gives (λ f. (f, self.new)) result (field_at self.old) }
-        ensures shorter { IfOk result (λ _. length self.new < length self.old) }
-    {
-        let name = self.token(TokenKind::Word)?;
-        self.sign(b':')?;
-        let kind = self.field_type()?;
-        let default = self.default()?;
-        let attributes = self.metadata()?;
-        self.sign(b';')?;
-        Ok(Field {
-            name,
-            kind,
-            default,
-            attributes,
-        })
-    }
-
-    fn fields(&mut self) -> Result<Vec<Field<'t>>, Stop>
-        ensures exact { Gives (λ v. (v.items, self.new)) result
-            (until field_at (is_sign close_brace) self.old) }
-        ensures shorter { IfOk result (λ _. length self.new ≤ length self.old) }
-    {
-        let mut fields = Vec::new(self.alloc());
-        while !self.is_sign(b'}') {
-            let field = self.field()?;
-            fields.push(field)?;
-        }
-        Ok(fields)
-    }
-
     /// A table or struct behind its first word.
     #[tactic(auto, unfolding(crate::specs::ReadingTypes::table_at))]
     pub(super) fn table(&mut self) -> Result<TableDecl<'t>, Stop>
@@ -99,7 +87,7 @@ impl<'t> Parser<'t, '_> {
         let name = self.token(TokenKind::Word)?;
         let attributes = self.metadata()?;
         self.sign(b'{')?;
-        let fields = self.fields()?;
+        let fields = self.items(Some(b'}'))?;
         self.sign(b'}')?;
         Ok(TableDecl {
             name,

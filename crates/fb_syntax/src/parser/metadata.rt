@@ -1,12 +1,23 @@
 //! Attributes behind a name or a type.
 ghost use Rattle.std.specs.Prelude.{◌<◌, ◌≤◌, length, IfOk};
-ghost use Rattle.fb_syntax.specs.Signs.{close_round};
-ghost use Rattle.fb_syntax.specs.Reading.{Gives, is_sign, until};
+ghost use Rattle.fb_syntax.specs.Reading.{Gives};
 ghost use Rattle.fb_syntax.specs.ReadingFields.{attribute_value_at, attribute_at, listed_attribute_at, metadata_at};
 
+use super::lists::Item;
 use super::{Parser, Stop};
 use crate::declarations::{Attribute, AttributeValue};
 use crate::tokens::TokenKind;
+
+impl<'t> Item<'t> for Attribute<'t> {
+    ghost item_at = { listed_attribute_at };
+
+    #[tactic(auto, unfolding(crate::specs::ReadingFields::listed_attribute_at, crate::specs::Reading::listed_at))]
+    fn read(parser: &mut Parser<'t, '_>) -> Result<Attribute<'t>, Stop> {
+        let attribute = parser.attribute()?;
+        parser.comma(false, b')')?;
+        Ok(attribute)
+    }
+}
 
 impl<'t> Parser<'t, '_> {
     #[tactic(auto, unfolding(crate::specs::ReadingFields::attribute_value_at))]
@@ -34,30 +45,6 @@ impl<'t> Parser<'t, '_> {
         Ok(Attribute { name, value })
     }
 
-    #[tactic(auto, unfolding(crate::specs::ReadingFields::listed_attribute_at, crate::specs::Reading::listed_at))]
-    fn listed_attribute(&mut self) -> Result<Attribute<'t>, Stop>
-        ensures exact { Gives (λ a. (a, self.new)) result (listed_attribute_at self.old) }
-        ensures shorter { IfOk result (λ _. length self.new < length self.old) }
-    {
-        let attribute = self.attribute()?;
-        self.comma(false, b')')?;
-        Ok(attribute)
-    }
-
-    /// The attributes before a closing parenthesis.
-    fn attributes(&mut self) -> Result<Vec<Attribute<'t>>, Stop>
-        ensures exact { Gives (λ v. (v.items, self.new)) result
-            (until listed_attribute_at (is_sign close_round) self.old) }
-        ensures shorter { IfOk result (λ _. length self.new ≤ length self.old) }
-    {
-        let mut attributes = Vec::new(self.alloc());
-        while !self.is_sign(b')') {
-            let attribute = self.listed_attribute()?;
-            attributes.push(attribute)?;
-        }
-        Ok(attributes)
-    }
-
     #[tactic(auto, unfolding(crate::specs::ReadingFields::metadata_at))]
     pub(super) fn metadata(&mut self) -> Result<Vec<Attribute<'t>>, Stop>
         ensures exact { Gives (λ v. (v.items, self.new)) result (metadata_at self.old) }
@@ -66,7 +53,7 @@ impl<'t> Parser<'t, '_> {
         if let None = self.take_sign(b'(') {
             return Ok(Vec::new(self.alloc()));
         }
-        let attributes = self.attributes()?;
+        let attributes = self.items(Some(b')'))?;
         self.sign(b')')?;
         Ok(attributes)
     }

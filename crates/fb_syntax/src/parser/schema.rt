@@ -5,16 +5,27 @@ ghost use Rattle.fb_syntax.specs.DeclsRead.{DeclsRead};
 ghost use Rattle.fb_syntax.specs.GrammarSchema.{Reads};
 ghost use Rattle.fb_syntax.specs.Lexemes.{AreReadable};
 ghost use Rattle.fb_syntax.specs.Refusals.{StandsWithin};
-ghost use Rattle.fb_syntax.specs.Reading.{Gives, IsGrammarFault, is_empty, until};
+ghost use Rattle.fb_syntax.specs.Reading.{Gives, IsGrammarFault};
 ghost use Rattle.fb_syntax.specs.ReadingSchema.{keyword_at, namespace_at, attribute_decl_at, root_at, quoted_at};
 ghost use Rattle.fb_syntax.specs.ReadingSchema.{declared_at, declaration_at};
 
 use super::keywords::{Keyword, keyword_of};
+use super::lists::Item;
 use super::{Parser, Stop};
 use crate::declarations::{Declaration, Decls, Directive, DottedName, Text, TypeDecl};
 use crate::faults::SyntaxFault;
 use crate::tokens::{Token, TokenKind};
 use std::alloc::Global;
+
+impl<'t> Item<'t> for Declaration<'t> {
+    ghost item_at = { declaration_at };
+
+    #[tactic(auto, unfolding(crate::specs::ReadingSchema::declaration_at))]
+    fn read(parser: &mut Parser<'t, '_>) -> Result<Declaration<'t>, Stop> {
+        let keyword = parser.keyword()?;
+        parser.declared(keyword)
+    }
+}
 
 impl<'t> Parser<'t, '_> {
     #[tactic(auto, unfolding(crate::specs::ReadingSchema::namespace_at))]
@@ -97,28 +108,6 @@ impl<'t> Parser<'t, '_> {
             ))),
         }
     }
-
-    #[tactic(auto, unfolding(crate::specs::ReadingSchema::declaration_at))]
-    fn declaration(&mut self) -> Result<Declaration<'t>, Stop>
-        ensures exact { Gives (λ d. (d, self.new)) result (declaration_at self.old) }
-        ensures shorter { IfOk result (λ _. length self.new < length self.old) }
-    {
-        let keyword = self.keyword()?;
-        self.declared(keyword)
-    }
-
-    fn declarations(&mut self) -> Result<Vec<Declaration<'t>>, Stop>
-        ensures exact { Gives (λ v. (v.items, self.new)) result
-            (until declaration_at is_empty self.old) }
-        ensures shorter { IfOk result (λ _. length self.new ≤ length self.old) }
-    {
-        let mut declarations = Vec::new(self.alloc());
-        while !self.is_at_end() {
-            let declaration = self.declaration()?;
-            declarations.push(declaration)?;
-        }
-        Ok(declarations)
-    }
 }
 
 /// The offset of the first of the tokens that are left, or of the text's end.
@@ -149,7 +138,7 @@ pub(crate) fn declarations_of<'t>(
     ensures within { IfErr result (StandsWithin (length text.now)) }
 {
     let mut parser = Parser::new(alloc, text, tokens);
-    match parser.declarations() {
+    match parser.items(None) {
         Ok(declarations) => Ok(Decls::new(declarations, text.len() as u64)),
         Err(stop) => Err(stop.at(offset_of(text, tokens, parser.left()))),
     }
