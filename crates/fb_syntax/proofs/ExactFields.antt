@@ -4,8 +4,8 @@ use Rattle.fb_syntax.specs.Located.{Located}
 use Rattle.fb_syntax.specs.FieldRead.{FieldRead}
 use Rattle.fb_syntax.specs.Lexemes.{Lexeme}
 use Rattle.fb_syntax.specs.Signs.{dot, open_round, close_round, colon, semicolon, equals, open_square, close_square}
-use Rattle.fb_syntax.specs.Reading.{is_sign, kind_at, sign_at, token_at, name_at, until}
-use Rattle.fb_syntax.specs.ReadingFields.{attribute_value_at, attribute_at, listed_attribute_at, metadata_at, type_at, default_of_kind, default_value_at, default_at, field_at}
+use Rattle.fb_syntax.specs.parser.Front.{is_sign, kind_at, sign_at, token_at, name_at, until}
+use Rattle.fb_syntax.specs.parser.Fields.{attribute_value_at, attribute_at, listed_attribute_at, metadata_at, type_at, default_of_kind, default_value_at, default_at, field_at}
 use Rattle.fb_syntax.specs.Grammar.{IsSign, IsName, Listed, IsNothing}
 use Rattle.fb_syntax.specs.GrammarFields.{IsAttributeValue, integer_value, word_value, quoted_value, IsAttribute, without_value, with_value, IsMetadata, no_metadata, no_attributes, some_attributes, IsType, one_type, many_type, IsDefaultValue, integer_default, name_default, IsDefault, no_default, some_default, IsField}
 use Rattle.fb_syntax.specs.declared.tokens.TokenKind.TheVariants.{Word, Integer}

@@ -2,7 +2,7 @@
 use Rattle.std.proofs.Common.{◌≡◌, ℕ, suc, ◌<◌, ◌≤◌, List, [], ◌∷◌, length, Some, None, Bool, true, false, eqb, refl, sym, ap, ◌∙◌, arith}
 use Rattle.fb_syntax.specs.Lexemes.{Lexeme}
 use Rattle.fb_syntax.specs.Signs.{comma}
-use Rattle.fb_syntax.specs.Reading.{Front, is_sign, sign_at, many, until, comma_at, listed_at, some_until}
+use Rattle.fb_syntax.specs.parser.Front.{Front, is_sign, sign_at, many, until, comma_at, listed_at, some_until}
 use Rattle.fb_syntax.specs.Grammar.{IsSign, Repeated, no_more, one_more, Listed, last_item, item_before, no_comma, one_comma}
 use Rattle.fb_syntax.proofs.Repeat.{closed, positive}
 use Rattle.fb_syntax.proofs.Repeat as repeat

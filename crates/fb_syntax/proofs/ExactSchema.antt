@@ -2,10 +2,11 @@
 use Rattle.std.proofs.Common.{◌≡◌, ◌<◌, List, [], length, Option, Some, false, refl, ap, arith}
 use Rattle.fb_syntax.specs.Located.{Located}
 use Rattle.fb_syntax.specs.Lexemes.{Lexeme}
-use Rattle.fb_syntax.specs.Keywords.{spelling, keyword_of}
+use Rattle.fb_syntax.specs.Keywords.{spelling}
+use Rattle.fb_syntax.specs.parser.Keywords.{keyword_of}
 use Rattle.fb_syntax.specs.Signs.{dot, semicolon}
-use Rattle.fb_syntax.specs.Reading.{is_empty, token_at}
-use Rattle.fb_syntax.specs.ReadingSchema.{keyword_at, namespace_at, attribute_decl_at, root_at, quoted_at, declared_at, declaration_at, declarations_at}
+use Rattle.fb_syntax.specs.parser.Front.{is_empty, token_at}
+use Rattle.fb_syntax.specs.parser.Schema.{keyword_at, namespace_at, attribute_decl_at, root_at, quoted_at, declared_at, declaration_at, declarations_at}
 use Rattle.fb_syntax.specs.Grammar.{Repeated}
 use Rattle.fb_syntax.specs.GrammarSchema.{IsKeyword, IsNamespace, outermost, inner, IsAttributeDecl, word_attribute, quoted_attribute, IsRoot, IsQuoted, IsDeclared, is_namespace, is_attribute, is_table, is_struct, is_enum, is_union, is_root, is_extension, is_identifier, IsDeclaration}
 use Rattle.fb_syntax.specs.declared.tokens.TokenKind.TheVariants.{Word, Quoted}

@@ -4,9 +4,9 @@ use Rattle.fb_syntax.specs.Located.{Located}
 use Rattle.fb_syntax.specs.TypesRead.{TableRead, EnumRead, UnionRead}
 use Rattle.fb_syntax.specs.Lexemes.{Lexeme}
 use Rattle.fb_syntax.specs.Signs.{dot, open_round, colon, equals, open_brace, close_brace}
-use Rattle.fb_syntax.specs.Reading.{is_sign, sign_at, some_until}
-use Rattle.fb_syntax.specs.ReadingFields.{field_at}
-use Rattle.fb_syntax.specs.ReadingTypes.{table_at, enum_value_at, listed_value_at, enum_at, member_at, listed_member_at, union_at}
+use Rattle.fb_syntax.specs.parser.Front.{is_sign, sign_at, some_until}
+use Rattle.fb_syntax.specs.parser.Fields.{field_at}
+use Rattle.fb_syntax.specs.parser.Types.{table_at, enum_value_at, listed_value_at, enum_at, member_at, listed_member_at, union_at}
 use Rattle.fb_syntax.specs.Grammar.{IsSign, IsMore, no_further, further, Listed, MayBeComma}
 use Rattle.fb_syntax.specs.GrammarFields.{IsField}
 use Rattle.fb_syntax.specs.GrammarTypes.{IsTable, IsEnumValue, without_number, with_number, IsEnum, IsMember, with_alias, without_alias, IsUnion}

@@ -15,8 +15,8 @@ use Rattle.fb_syntax.specs.Bytes.{is_letter, is_digit, is_word_byte, is_blank, i
 use Rattle.fb_syntax.specs.TokenBytes.{IsLongest, IsSmall}
 use Rattle.fb_syntax.specs.Integers.{magnitude}
 use Rattle.fb_syntax.specs.Gaps.{IsGap}
-use Rattle.fb_syntax.specs.Pieces.{integer_of, close_len, block_at, quote_of, comment_at, integer_at, quoted_at, piece_at}
-use Rattle.fb_syntax.specs.NumberLen.{number_len}
+use Rattle.fb_syntax.specs.scan.Pieces.{integer_of, close_len, block_at, quote_of, comment_at, integer_at, quoted_at, piece_at}
+use Rattle.fb_syntax.specs.scan.NumberLen.{number_len}
 use Rattle.fb_syntax.proofs.Numbers.{plain_longest, signed_longest}
 use borrow.Author.Tests.{leb-true}
 use Rattle.fb_syntax.proofs.Quotes.{quoted_longest}

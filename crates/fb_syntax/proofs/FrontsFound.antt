@@ -11,8 +11,8 @@ use Rattle.fb_syntax.specs.Bytes.{is_letter, is_digit, is_word_byte, is_blank, i
 use Rattle.fb_syntax.specs.TokenBytes.{is_token, IsLongest, IsSmall}
 use Rattle.fb_syntax.specs.Integers.{is_unsigned, magnitude}
 use Rattle.fb_syntax.specs.Gaps.{IsGap, is_space, is_line_comment, is_block_comment}
-use Rattle.fb_syntax.specs.Pieces.{integer_of, close_len, comment_at, integer_at, quoted_at, piece_at}
-use Rattle.fb_syntax.specs.NumberLen.{number_len}
+use Rattle.fb_syntax.specs.scan.Pieces.{integer_of, close_len, comment_at, integer_at, quoted_at, piece_at}
+use Rattle.fb_syntax.specs.scan.NumberLen.{number_len}
 use Rattle.fb_syntax.proofs.Numbers.{no_sign_taken, sign_taken, plain_longest, signed_longest, number_longest}
 use Rattle.fb_syntax.proofs.Quotes.{closed-complete}
 use Rattle.fb_syntax.proofs.Blocks.{close-complete}

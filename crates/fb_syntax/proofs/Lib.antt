@@ -7,7 +7,7 @@ pub mod Blocks
 pub mod Fronts
 pub mod FrontsFound
 pub mod FrontPieces
-pub mod Scanning
+pub mod ScanSteps
 pub mod TextSpellings
 pub mod TokenEnds
 pub mod Readable

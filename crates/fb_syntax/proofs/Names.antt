@@ -3,7 +3,7 @@ use Rattle.std.proofs.Common.{◌≡◌, ℕ, List, [], ◌∷◌, Option, Some,
 use Rattle.fb_syntax.specs.Located.{Located, joined}
 use Rattle.fb_syntax.specs.Lexemes.{Lexeme}
 use Rattle.fb_syntax.specs.Signs.{dot}
-use Rattle.fb_syntax.specs.Reading.{Fails, is_kind, is_sign, sign_at, token_at, name_more, name_at}
+use Rattle.fb_syntax.specs.parser.Front.{Fails, is_kind, is_sign, sign_at, token_at, name_more, name_at}
 use Rattle.fb_syntax.specs.declared.parser.stop.Stop.{Stop}
 use Rattle.fb_syntax.specs.declared.parser.stop.Stop.TheVariants.{Memory, Unexpected, NestedVector}
 use Rattle.fb_syntax.specs.declared.tokens.TokenKind.{TokenKind}

@@ -12,7 +12,7 @@ use Rattle.fb_syntax.specs.Bytes.{is_digit, is_hex, is_sign, is_punct}
 use Rattle.std.specs.List.{list_all}
 use Rattle.fb_syntax.specs.TokenBytes.{is_token, IsLongest}
 use Rattle.fb_syntax.specs.Integers.{is_unsigned, is_decimal, is_hexadecimal, is_prefixed, without_sign}
-use Rattle.fb_syntax.specs.NumberLen.{number_len}
+use Rattle.fb_syntax.specs.scan.NumberLen.{number_len}
 use Rattle.fb_syntax.proofs.TokenStarts.{and_both, and_true, or_either, all-take, all-prefix, starts, token_starts}
 
 or_right : (a b : Bool) → b ≡ true → (a || b) ≡ true

@@ -2,8 +2,8 @@
 use Rattle.std.proofs.Common.{◌≡◌, ℕ, List, [], ◌∷◌, Option, Some, None, true, length, refl, sym, ap, ◌∙◌}
 use Rattle.fb_syntax.specs.DeclsRead.{DeclsRead}
 use Rattle.fb_syntax.specs.Lexemes.{Lexeme, lexemes}
-use Rattle.fb_syntax.specs.Reading.{Fails, fault_at, is_empty, until}
-use Rattle.fb_syntax.specs.ReadingSchema.{declaration_at, declarations_at}
+use Rattle.fb_syntax.specs.parser.Front.{Fails, fault_at, is_empty, until}
+use Rattle.fb_syntax.specs.parser.Schema.{declaration_at, declarations_at}
 use Rattle.fb_syntax.specs.Grammar.{Repeated}
 use Rattle.fb_syntax.specs.GrammarSchema.{IsDeclaration, Reads}
 use Rattle.fb_syntax.specs.OneReading.{OneReading}

@@ -3,7 +3,7 @@ use Rattle.std.proofs.Common.{◌≡◌, ℕ, zero, suc, ◌<◌, List, [], ◌�
 use Rattle.std.proofs.lemmas.List.{append-nil}
 use Rattle.fb_syntax.specs.declared.parser.stop.Stop.{Stop}
 use Rattle.fb_syntax.specs.Lexemes.{Lexeme}
-use Rattle.fb_syntax.specs.Reading.{◌>>=◌, Fails, Front, many, until}
+use Rattle.fb_syntax.specs.parser.Front.{◌>>=◌, Fails, Front, many, until}
 use Rattle.fb_syntax.proofs.Names.{fails_with}
 
 abbrev pub with_front : {X : Type 0} → List X → Front (List X) → Front (List X)

@@ -5,7 +5,7 @@ use Rattle.fb_syntax.specs.Located.{Located, joined}
 use Rattle.fb_syntax.specs.NumberRead.{NumberRead}
 use Rattle.fb_syntax.specs.Lexemes.{Lexeme}
 use Rattle.fb_syntax.specs.Signs.{dot}
-use Rattle.fb_syntax.specs.Reading.{◌>>=◌, Front, behind, is_kind, is_sign, sign_at, token_at, number_at, name_more, name_at}
+use Rattle.fb_syntax.specs.parser.Front.{◌>>=◌, Front, behind, is_kind, is_sign, sign_at, token_at, number_at, name_more, name_at}
 use Rattle.fb_syntax.specs.Grammar.{IsToken, IsNumber, IsSign, IsMore, no_further, further, IsName}
 use Rattle.fb_syntax.specs.declared.tokens.TokenKind.{TokenKind}
 use Rattle.fb_syntax.specs.declared.tokens.TokenKind.TheVariants.{Word, Integer, Quoted, Punct}

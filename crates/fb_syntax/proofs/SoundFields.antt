@@ -3,8 +3,8 @@ use Rattle.std.proofs.Common.{◌≡◌, inl, inr, ℕ, false, List, Option, Som
 use Rattle.fb_syntax.specs.FieldRead.{FieldRead}
 use Rattle.fb_syntax.specs.Lexemes.{Lexeme}
 use Rattle.fb_syntax.specs.Signs.{open_round, close_round, colon, semicolon, equals, open_square, close_square}
-use Rattle.fb_syntax.specs.Reading.{Front, is_sign, kind_at, sign_at, name_at, until}
-use Rattle.fb_syntax.specs.ReadingFields.{value_of_kind, attribute_value_at, attribute_at, listed_attribute_at, metadata_at, type_behind, type_at, default_of_kind, default_value_at, default_at, field_at}
+use Rattle.fb_syntax.specs.parser.Front.{Front, is_sign, kind_at, sign_at, name_at, until}
+use Rattle.fb_syntax.specs.parser.Fields.{value_of_kind, attribute_value_at, attribute_at, listed_attribute_at, metadata_at, type_behind, type_at, default_of_kind, default_value_at, default_at, field_at}
 use Rattle.fb_syntax.specs.Grammar.{IsSign}
 use Rattle.fb_syntax.specs.GrammarFields.{IsAttributeValue, integer_value, word_value, quoted_value, IsAttribute, without_value, with_value, IsMetadata, no_metadata, no_attributes, some_attributes, IsType, one_type, many_type, IsDefaultValue, integer_default, name_default, IsDefault, no_default, some_default, IsField}
 use Rattle.fb_syntax.specs.declared.tokens.TokenKind.{TokenKind}

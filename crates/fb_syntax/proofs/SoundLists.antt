@@ -2,7 +2,7 @@
 use Rattle.std.proofs.Common.{◌≡◌, inl, inr, ℕ, zero, suc, List, [], ◌∷◌, length, Some, Bool, true, false, ◌&&◌, not, sym, ◌∙◌}
 use Rattle.fb_syntax.specs.Lexemes.{Lexeme}
 use Rattle.fb_syntax.specs.Signs.{comma}
-use Rattle.fb_syntax.specs.Reading.{Front, is_sign, many, until, comma_at, listed_at, some_until}
+use Rattle.fb_syntax.specs.parser.Front.{Front, is_sign, many, until, comma_at, listed_at, some_until}
 use Rattle.fb_syntax.specs.Grammar.{IsSign, Repeated, no_more, one_more, Listed, last_item, item_before, IsNothing, MayBeComma, no_comma, one_comma}
 use Rattle.fb_syntax.proofs.Repeat.{closed}
 use Rattle.fb_syntax.proofs.Sound.{bind-some, stood, lacked, behind-ways, chose_first, chose_second, chosen, decided, none_some, sign_is, lands}

@@ -1,14 +1,15 @@
 -- What is read is what the grammar has: declarations, to the end.
-use Rattle.std.proofs.Common.{◌≡◌, ℕ, List, Option, Some, None, true}
+use Rattle.std.proofs.Common.{◌≡◌, ℕ, List, [], ◌∷◌, Option, Some, None, true}
 use Rattle.std.specs.Str.{bytes_eq}
 use Rattle.std.proofs.lemmas.Slice.Eq.{bytes_eq-Decides}
 use Rattle.fb_syntax.specs.Located.{Located}
 use Rattle.fb_syntax.specs.Lexemes.{Lexeme}
-use Rattle.fb_syntax.specs.Keywords.{spelling, keyword_of}
+use Rattle.fb_syntax.specs.Keywords.{spelling}
+use Rattle.fb_syntax.specs.parser.Keywords.{first_spelled, keywords as all_keywords, keyword_of}
 use Rattle.fb_syntax.specs.Signs.{semicolon}
-use Rattle.fb_syntax.specs.Reading.{sign_at, token_at, name_at, kind_at}
-use Rattle.fb_syntax.specs.ReadingTypes.{table_at, enum_at, union_at}
-use Rattle.fb_syntax.specs.ReadingSchema.{keyword_at, namespace_at, attribute_of_kind, attribute_decl_at, root_at, quoted_at, declared_at, declaration_at}
+use Rattle.fb_syntax.specs.parser.Front.{sign_at, token_at, name_at, kind_at}
+use Rattle.fb_syntax.specs.parser.Types.{table_at, enum_at, union_at}
+use Rattle.fb_syntax.specs.parser.Schema.{keyword_at, namespace_at, attribute_of_kind, attribute_decl_at, root_at, quoted_at, declared_at, declaration_at}
 use Rattle.fb_syntax.specs.Grammar.{IsToken}
 use Rattle.fb_syntax.specs.GrammarSchema.{IsKeyword, IsNamespace, outermost, inner, IsAttributeDecl, word_attribute, quoted_attribute, IsRoot, IsQuoted, IsDeclared, is_namespace, is_attribute, is_table, is_struct, is_enum, is_union, is_root, is_extension, is_identifier, IsDeclaration}
 use Rattle.fb_syntax.specs.declared.tokens.TokenKind.{TokenKind}
@@ -22,42 +23,13 @@ use Rattle.fb_syntax.proofs.SoundTypes.{table_found, enum_found, union_found}
 spelled_so : (word : List ℕ) (found keyword : Keyword) → bytes_eq word (spelling found) ≡ true → ◌≡◌ {A = Option Keyword} (Some found) (Some keyword) → word ≡ spelling keyword
 spelled_so word found keyword b e = let same : found ≡ keyword = cc in rw (← same) ((bytes_eq-Decides word (spelling found)).0 b)
 
+first_found : (ks : List Keyword) (word : List ℕ) (keyword : Keyword) → first_spelled ks word ≡ Some keyword → word ≡ spelling keyword
+first_found [] word keyword e = absurd (none_some e)
+first_found (k ∷ ks) word keyword e = elim (chosen (bytes_eq word (spelling k)) e) [ chose_first b same ↦ spelled_so word k keyword b same | chose_second b more ↦ first_found ks word keyword more ]
+
 keyword_found : (word : List ℕ) (keyword : Keyword) → keyword_of word ≡ Some keyword → word ≡ spelling keyword
 unfolding keyword_of
-keyword_found word k e =
-    elim (chosen (bytes_eq word (spelling keywords.Namespace)) e) [
-      | chose_first b e ↦ spelled_so word keywords.Namespace k b e
-      | chose_second b e ↦
-          elim (chosen (bytes_eq word (spelling keywords.Attribute)) e) [
-            | chose_first b e ↦ spelled_so word keywords.Attribute k b e
-            | chose_second b e ↦
-                elim (chosen (bytes_eq word (spelling keywords.Table)) e) [
-                  | chose_first b e ↦ spelled_so word keywords.Table k b e
-                  | chose_second b e ↦
-                      elim (chosen (bytes_eq word (spelling keywords.Struct)) e) [
-                        | chose_first b e ↦ spelled_so word keywords.Struct k b e
-                        | chose_second b e ↦
-                            elim (chosen (bytes_eq word (spelling keywords.Enum)) e) [
-                              | chose_first b e ↦ spelled_so word keywords.Enum k b e
-                              | chose_second b e ↦
-                                  elim (chosen (bytes_eq word (spelling keywords.Union)) e) [
-                                    | chose_first b e ↦ spelled_so word keywords.Union k b e
-                                    | chose_second b e ↦
-                                        elim (chosen (bytes_eq word (spelling keywords.Root)) e) [
-                                          | chose_first b e ↦ spelled_so word keywords.Root k b e
-                                          | chose_second b e ↦
-                                              elim (chosen (bytes_eq word (spelling keywords.Extension)) e) [
-                                                | chose_first b e ↦ spelled_so word keywords.Extension k b e
-                                                | chose_second b e ↦
-                                                    elim (chosen (bytes_eq word (spelling keywords.Identifier)) e) [ chose_first b e ↦ spelled_so word keywords.Identifier k b e | chose_second b e ↦ absurd (none_some e) ]
-                                              ]
-                                        ]
-                                  ]
-                            ]
-                      ]
-                ]
-          ]
-    ]
+keyword_found = first_found all_keywords
 
 keyword_stands : (keyword : Keyword) (ts rest : List Lexeme) → keyword_at ts ≡ Some (keyword, rest) → IsKeyword keyword ts rest
 unfolding keyword_at

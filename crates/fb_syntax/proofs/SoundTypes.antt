@@ -3,9 +3,9 @@ use Rattle.std.proofs.Common.{◌≡◌, true, List, Some}
 use Rattle.fb_syntax.specs.TypesRead.{TableRead, EnumRead, UnionRead}
 use Rattle.fb_syntax.specs.Lexemes.{Lexeme}
 use Rattle.fb_syntax.specs.Signs.{colon, equals, open_brace, close_brace}
-use Rattle.fb_syntax.specs.Reading.{is_sign}
-use Rattle.fb_syntax.specs.ReadingFields.{field_at}
-use Rattle.fb_syntax.specs.ReadingTypes.{table_at, enum_value_at, listed_value_at, enum_at, member_at, listed_member_at, union_at}
+use Rattle.fb_syntax.specs.parser.Front.{is_sign}
+use Rattle.fb_syntax.specs.parser.Fields.{field_at}
+use Rattle.fb_syntax.specs.parser.Types.{table_at, enum_value_at, listed_value_at, enum_at, member_at, listed_member_at, union_at}
 use Rattle.fb_syntax.specs.GrammarFields.{IsField}
 use Rattle.fb_syntax.specs.GrammarTypes.{IsTable, IsEnumValue, without_number, with_number, IsEnum, IsMember, with_alias, without_alias, IsUnion}
 use Rattle.fb_syntax.specs.declared.tokens.TokenKind.TheVariants.{Word}

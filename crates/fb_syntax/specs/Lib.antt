@@ -1,10 +1,6 @@
 pub mod Bytes
 pub mod Gaps
 pub mod Integers
-pub mod Marks
-pub mod NumberLen
-pub mod Pieces
-pub mod Scanned
 pub mod SpelledTokens
 pub mod Spells
 pub mod TokenBytes
@@ -18,10 +14,6 @@ pub mod DeclsRead
 pub mod Lexemes
 pub mod Signs
 pub mod Keywords
-pub mod Reading
-pub mod ReadingFields
-pub mod ReadingTypes
-pub mod ReadingSchema
 pub mod Grammar
 pub mod GrammarFields
 pub mod GrammarTypes
@@ -30,3 +22,5 @@ pub mod OneReading
 pub mod Parsed
 pub mod FaultNumbers
 pub mod Refusals
+pub mod parser
+pub mod scan

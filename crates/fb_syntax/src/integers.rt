@@ -3,7 +3,7 @@ ghost use Rattle.std.specs.Prelude.{◌≡◌, ◌≤◌, ◌<◌, ◌+◌, ◌*
 ghost use Rattle.std.specs.Prelude.{MatchOption, IsTrue, IsSome, IfSome};
 ghost use Rattle.fb_syntax.specs.Integers.{is_integer, is_prefixed, without_sign, digit_value, digits_value};
 ghost use Rattle.fb_syntax.specs.Integers.{magnitude, is_negative, signed_value, number_of, greatest_magnitude, IsInteger};
-ghost use Rattle.fb_syntax.specs.NumberLen.{number_len};
+ghost use Rattle.fb_syntax.specs.scan.NumberLen.{number_len};
 
 use crate::bytes::{digit_run, hex_run, is_hex, is_sign};
 use crate::declarations::{Number, Text};
@@ -76,7 +76,7 @@ pub(crate) fn magnitude(spelling: &[u8]) -> Option<u64>
     }
 }
 
-#[tactic(auto, unfolding(crate::specs::NumberLen::number_len))]
+#[tactic(auto, unfolding(crate::specs::scan::NumberLen::number_len))]
 pub(crate) fn number_len(text: &[u8]) -> usize
     ensures len { result ≡ number_len text.now }
     ensures within { result ≤ length text.now }

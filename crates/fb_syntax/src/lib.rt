@@ -6,9 +6,8 @@ mod declarations;
 mod faults;
 mod integers;
 mod parser;
-mod parsing;
-mod readings;
 mod scan;
+mod schema_text;
 mod tokens;
 
 pub use declarations::{
@@ -17,7 +16,6 @@ pub use declarations::{
 };
 pub use faults::SyntaxFault;
 pub use integers::integer_value;
-pub use parsing::parse;
-pub use readings::one_reading;
 pub use scan::one_spelling;
+pub use schema_text::{one_reading, parse};
 pub use tokens::{Token, TokenKind};

@@ -12,8 +12,8 @@ ghost use Rattle.std.specs.Prelude.{◌≡◌, ◌<◌, ◌≤◌, length, drop,
 ghost use Rattle.fb_syntax.specs.Integers.{number_of};
 ghost use Rattle.fb_syntax.specs.Lexemes.{IsReadable, AreReadable, lexemes, located};
 ghost use Rattle.fb_syntax.specs.TokenBytes.{IsSmall};
-ghost use Rattle.fb_syntax.specs.Reading.{Gives, is_empty, is_sign, kind_at, name_at, name_more, sign_at};
-ghost use Rattle.fb_syntax.specs.Reading.{number_at, token_at};
+ghost use Rattle.fb_syntax.specs.parser.Front.{Gives, is_empty, is_sign, kind_at, name_at, name_more, sign_at};
+ghost use Rattle.fb_syntax.specs.parser.Front.{number_at, token_at};
 
 use crate::declarations::{DottedName, Number, Text};
 use crate::integers::number_of;
@@ -108,7 +108,7 @@ impl<'t, 's> Parser<'t, 's> {
     }
 
     /// The next token, not passed yet.
-    #[tactic(auto, unfolding(crate::specs::Reading::token_at))]
+    #[tactic(auto, unfolding(crate::specs::parser::Front::token_at))]
     fn next(&self, kind: TokenKind) -> Result<Text<'t>, Stop>
         ensures exact { Gives (λ t. (t, drop 1 self.now)) result (token_at kind self.now) }
         ensures some { IfOk result (λ _. 0 < length self.now) }
@@ -133,7 +133,7 @@ impl<'t, 's> Parser<'t, 's> {
         Ok(token)
     }
 
-    #[tactic(auto, unfolding(crate::specs::Reading::number_at))]
+    #[tactic(auto, unfolding(crate::specs::parser::Front::number_at))]
     fn number(&mut self) -> Result<Number, Stop>
         ensures exact { Gives (λ n. (n, self.new)) result (number_at self.old) }
         ensures shorter { IfOk result (λ _. length self.new < length self.old) }
@@ -151,7 +151,7 @@ impl<'t, 's> Parser<'t, 's> {
     }
 
     /// Passes a sign that stands next, and answers its offset.
-    #[tactic(auto, unfolding(crate::specs::Reading::sign_at))]
+    #[tactic(auto, unfolding(crate::specs::parser::Front::sign_at))]
     fn take_sign(&mut self, sign: u8) -> Option<u64>
         ensures exact { MatchOption result
             ((sign_at sign self.old ≡ None) × (self.new ≡ self.old))
@@ -179,7 +179,7 @@ impl<'t, 's> Parser<'t, 's> {
         }
     }
 
-    #[tactic(auto, unfolding(crate::specs::Reading::name_at))]
+    #[tactic(auto, unfolding(crate::specs::parser::Front::name_at))]
     fn name(&mut self) -> Result<DottedName<'t>, Stop>
         ensures exact { Gives (λ n. (n, self.new)) result (name_at self.old) }
         ensures shorter { IfOk result (λ _. length self.new < length self.old) }

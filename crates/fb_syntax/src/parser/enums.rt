@@ -1,7 +1,7 @@
 //! Enums.
 ghost use Rattle.std.specs.Prelude.{◌<◌, length, IfOk};
-ghost use Rattle.fb_syntax.specs.Reading.{Gives};
-ghost use Rattle.fb_syntax.specs.ReadingTypes.{enum_value_at, listed_value_at, enum_at};
+ghost use Rattle.fb_syntax.specs.parser.Front.{Gives};
+ghost use Rattle.fb_syntax.specs.parser.Types.{enum_value_at, listed_value_at, enum_at};
 
 use super::lists::Item;
 use super::{Parser, Stop};
@@ -11,7 +11,7 @@ use crate::tokens::TokenKind;
 impl<'t> Item<'t> for EnumValue<'t> {
     ghost item_at = { listed_value_at };
 
-    #[tactic(auto, unfolding(crate::specs::ReadingTypes::listed_value_at, crate::specs::Reading::listed_at))]
+    #[tactic(auto, unfolding(crate::specs::parser::Types::listed_value_at, crate::specs::parser::Front::listed_at))]
     fn read(parser: &mut Parser<'t, '_>) -> Result<EnumValue<'t>, Stop> {
         let value = parser.enum_value()?;
         parser.comma(true, b'}')?;
@@ -20,7 +20,7 @@ impl<'t> Item<'t> for EnumValue<'t> {
 }
 
 impl<'t> Parser<'t, '_> {
-    #[tactic(auto, unfolding(crate::specs::ReadingTypes::enum_value_at))]
+    #[tactic(auto, unfolding(crate::specs::parser::Types::enum_value_at))]
     fn enum_value(&mut self) -> Result<EnumValue<'t>, Stop>
         ensures exact { Gives (λ v. (v, self.new)) result (enum_value_at self.old) }
         ensures shorter { IfOk result (λ _. length self.new < length self.old) }
@@ -34,7 +34,7 @@ impl<'t> Parser<'t, '_> {
     }
 
     /// An enum behind its first word.
-    #[tactic(auto, unfolding(crate::specs::ReadingTypes::enum_at))]
+    #[tactic(auto, unfolding(crate::specs::parser::Types::enum_at))]
     pub(super) fn enumeration(&mut self) -> Result<EnumDecl<'t>, Stop>
         ensures exact { Gives (λ e. (e, self.new)) result (enum_at self.old) }
         ensures shorter { IfOk result (λ _. length self.new < length self.old) }

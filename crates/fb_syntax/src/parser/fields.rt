@@ -1,8 +1,8 @@
 //! Tables, structs and their fields.
 ghost use Rattle.std.specs.Prelude.{◌<◌, ◌≤◌, length, IfOk};
-ghost use Rattle.fb_syntax.specs.Reading.{Gives, name_at};
-ghost use Rattle.fb_syntax.specs.ReadingFields.{type_at, default_value_at, default_at, field_at};
-ghost use Rattle.fb_syntax.specs.ReadingTypes.{table_at};
+ghost use Rattle.fb_syntax.specs.parser.Front.{Gives, name_at};
+ghost use Rattle.fb_syntax.specs.parser.Fields.{type_at, default_value_at, default_at, field_at};
+ghost use Rattle.fb_syntax.specs.parser.Types.{table_at};
 
 use super::lists::Item;
 use super::{Parser, Stop};
@@ -12,7 +12,7 @@ use crate::tokens::TokenKind;
 impl<'t> Item<'t> for Field<'t> {
     ghost item_at = { field_at };
 
-    #[tactic(auto, unfolding(crate::specs::ReadingFields::field_at))]
+    #[tactic(auto, unfolding(crate::specs::parser::Fields::field_at))]
     fn read(parser: &mut Parser<'t, '_>) -> Result<Field<'t>, Stop> {
         let name = parser.token(TokenKind::Word)?;
         parser.sign(b':')?;
@@ -41,7 +41,7 @@ impl<'t> Parser<'t, '_> {
         self.name()
     }
 
-    #[tactic(auto, unfolding(crate::specs::ReadingFields::type_at))]
+    #[tactic(auto, unfolding(crate::specs::parser::Fields::type_at))]
     fn field_type(&mut self) -> Result<FieldType<'t>, Stop>
         ensures exact { Gives (λ t. (t, self.new)) result (type_at self.old) }
         ensures shorter { IfOk result (λ _. length self.new < length self.old) }
@@ -56,7 +56,7 @@ impl<'t> Parser<'t, '_> {
         }
     }
 
-    #[tactic(auto, unfolding(crate::specs::ReadingFields::default_value_at))]
+    #[tactic(auto, unfolding(crate::specs::parser::Fields::default_value_at))]
     fn default_value(&mut self) -> Result<DefaultValue<'t>, Stop>
         ensures exact { Gives (λ v. (v, self.new)) result (default_value_at self.old) }
         ensures shorter { IfOk result (λ _. length self.new < length self.old) }
@@ -67,7 +67,7 @@ impl<'t> Parser<'t, '_> {
         }
     }
 
-    #[tactic(auto, unfolding(crate::specs::ReadingFields::default_at))]
+    #[tactic(auto, unfolding(crate::specs::parser::Fields::default_at))]
     fn default(&mut self) -> Result<Option<DefaultValue<'t>>, Stop>
         ensures exact { Gives (λ v. (v, self.new)) result (default_at self.old) }
         ensures shorter { IfOk result (λ _. length self.new ≤ length self.old) }
@@ -79,7 +79,7 @@ impl<'t> Parser<'t, '_> {
     }
 
     /// A table or struct behind its first word.
-    #[tactic(auto, unfolding(crate::specs::ReadingTypes::table_at))]
+    #[tactic(auto, unfolding(crate::specs::parser::Types::table_at))]
     pub(super) fn table(&mut self) -> Result<TableDecl<'t>, Stop>
         ensures exact { Gives (λ t. (t, self.new)) result (table_at self.old) }
         ensures shorter { IfOk result (λ _. length self.new < length self.old) }

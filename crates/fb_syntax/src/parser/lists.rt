@@ -1,7 +1,7 @@
 //! Lists: items up to a closing sign, or up to the end.
 ghost use Rattle.std.specs.Prelude.{◌≡◌, ◌<◌, ◌≤◌, length, IfOk, List, Option};
 ghost use Rattle.fb_syntax.specs.Lexemes.{Lexeme};
-ghost use Rattle.fb_syntax.specs.Reading.{Gives, closes, comma_at, some_until, until};
+ghost use Rattle.fb_syntax.specs.parser.Front.{Gives, closes, comma_at, some_until, until};
 
 use super::{Parser, Stop};
 
@@ -40,7 +40,7 @@ impl<'t> Parser<'t, '_> {
     }
 
     /// The items before a closing sign, of which there has to be one.
-    #[tactic(auto, unfolding(crate::specs::Reading::some_until))]
+    #[tactic(auto, unfolding(crate::specs::parser::Front::some_until))]
     pub(super) fn some_items<T: Item<'t>>(&mut self, close: u8) -> Result<Vec<T>, Stop>
         ensures exact { Gives (λ v. (v.items, self.new)) result (some_until T.item_at close self.old) }
         ensures shorter { IfOk result (λ _. length self.new ≤ length self.old) }
@@ -53,7 +53,7 @@ impl<'t> Parser<'t, '_> {
 
     /// Passes a comma; nothing where the list's closing sign stands. Where `trailing` is false, an
     /// item has to follow the comma.
-    #[tactic(auto, unfolding(crate::specs::Reading::comma_at))]
+    #[tactic(auto, unfolding(crate::specs::parser::Front::comma_at))]
     pub(super) fn comma(&mut self, trailing: bool, close: u8) -> Result<(), Stop>
         ensures exact { Gives (λ _. self.new) result (comma_at trailing close self.old) }
         ensures shorter { IfOk result (λ _. length self.new ≤ length self.old) }

@@ -1,7 +1,7 @@
 //! Attributes behind a name or a type.
 ghost use Rattle.std.specs.Prelude.{◌<◌, ◌≤◌, length, IfOk};
-ghost use Rattle.fb_syntax.specs.Reading.{Gives};
-ghost use Rattle.fb_syntax.specs.ReadingFields.{attribute_value_at, attribute_at, listed_attribute_at, metadata_at};
+ghost use Rattle.fb_syntax.specs.parser.Front.{Gives};
+ghost use Rattle.fb_syntax.specs.parser.Fields.{attribute_value_at, attribute_at, listed_attribute_at, metadata_at};
 
 use super::lists::Item;
 use super::{Parser, Stop};
@@ -11,7 +11,7 @@ use crate::tokens::TokenKind;
 impl<'t> Item<'t> for Attribute<'t> {
     ghost item_at = { listed_attribute_at };
 
-    #[tactic(auto, unfolding(crate::specs::ReadingFields::listed_attribute_at, crate::specs::Reading::listed_at))]
+    #[tactic(auto, unfolding(crate::specs::parser::Fields::listed_attribute_at, crate::specs::parser::Front::listed_at))]
     fn read(parser: &mut Parser<'t, '_>) -> Result<Attribute<'t>, Stop> {
         let attribute = parser.attribute()?;
         parser.comma(false, b')')?;
@@ -20,7 +20,7 @@ impl<'t> Item<'t> for Attribute<'t> {
 }
 
 impl<'t> Parser<'t, '_> {
-    #[tactic(auto, unfolding(crate::specs::ReadingFields::attribute_value_at))]
+    #[tactic(auto, unfolding(crate::specs::parser::Fields::attribute_value_at))]
     fn attribute_value(&mut self) -> Result<AttributeValue<'t>, Stop>
         ensures exact { Gives (λ v. (v, self.new)) result (attribute_value_at self.old) }
         ensures shorter { IfOk result (λ _. length self.new < length self.old) }
@@ -32,7 +32,7 @@ impl<'t> Parser<'t, '_> {
         }
     }
 
-    #[tactic(auto, unfolding(crate::specs::ReadingFields::attribute_at))]
+    #[tactic(auto, unfolding(crate::specs::parser::Fields::attribute_at))]
     fn attribute(&mut self) -> Result<Attribute<'t>, Stop>
         ensures exact { Gives (λ a. (a, self.new)) result (attribute_at self.old) }
         ensures shorter { IfOk result (λ _. length self.new < length self.old) }
@@ -45,7 +45,7 @@ impl<'t> Parser<'t, '_> {
         Ok(Attribute { name, value })
     }
 
-    #[tactic(auto, unfolding(crate::specs::ReadingFields::metadata_at))]
+    #[tactic(auto, unfolding(crate::specs::parser::Fields::metadata_at))]
     pub(super) fn metadata(&mut self) -> Result<Vec<Attribute<'t>>, Stop>
         ensures exact { Gives (λ v. (v.items, self.new)) result (metadata_at self.old) }
         ensures shorter { IfOk result (λ _. length self.new ≤ length self.old) }

@@ -5,9 +5,9 @@ ghost use Rattle.fb_syntax.specs.DeclsRead.{DeclsRead};
 ghost use Rattle.fb_syntax.specs.GrammarSchema.{Reads};
 ghost use Rattle.fb_syntax.specs.Lexemes.{AreReadable};
 ghost use Rattle.fb_syntax.specs.Refusals.{StandsWithin};
-ghost use Rattle.fb_syntax.specs.Reading.{Gives, IsGrammarFault};
-ghost use Rattle.fb_syntax.specs.ReadingSchema.{keyword_at, namespace_at, attribute_decl_at, root_at, quoted_at};
-ghost use Rattle.fb_syntax.specs.ReadingSchema.{declared_at, declaration_at};
+ghost use Rattle.fb_syntax.specs.parser.Front.{Gives, IsGrammarFault};
+ghost use Rattle.fb_syntax.specs.parser.Schema.{keyword_at, namespace_at, attribute_decl_at, root_at, quoted_at};
+ghost use Rattle.fb_syntax.specs.parser.Schema.{declared_at, declaration_at};
 
 use super::keywords::{Keyword, keyword_of};
 use super::lists::Item;
@@ -20,7 +20,7 @@ use std::alloc::Global;
 impl<'t> Item<'t> for Declaration<'t> {
     ghost item_at = { declaration_at };
 
-    #[tactic(auto, unfolding(crate::specs::ReadingSchema::declaration_at))]
+    #[tactic(auto, unfolding(crate::specs::parser::Schema::declaration_at))]
     fn read(parser: &mut Parser<'t, '_>) -> Result<Declaration<'t>, Stop> {
         let keyword = parser.keyword()?;
         parser.declared(keyword)
@@ -28,7 +28,7 @@ impl<'t> Item<'t> for Declaration<'t> {
 }
 
 impl<'t> Parser<'t, '_> {
-    #[tactic(auto, unfolding(crate::specs::ReadingSchema::namespace_at))]
+    #[tactic(auto, unfolding(crate::specs::parser::Schema::namespace_at))]
     fn namespace(&mut self) -> Result<Option<DottedName<'t>>, Stop>
         ensures exact { Gives (λ n. (n, self.new)) result (namespace_at self.old) }
         ensures shorter { IfOk result (λ _. length self.new < length self.old) }
@@ -41,7 +41,7 @@ impl<'t> Parser<'t, '_> {
         Ok(Some(name))
     }
 
-    #[tactic(auto, unfolding(crate::specs::ReadingSchema::attribute_decl_at))]
+    #[tactic(auto, unfolding(crate::specs::parser::Schema::attribute_decl_at))]
     fn attribute_decl(&mut self) -> Result<Text<'t>, Stop>
         ensures exact { Gives (λ t. (t, self.new)) result (attribute_decl_at self.old) }
         ensures shorter { IfOk result (λ _. length self.new < length self.old) }
@@ -54,7 +54,7 @@ impl<'t> Parser<'t, '_> {
         Ok(name)
     }
 
-    #[tactic(auto, unfolding(crate::specs::ReadingSchema::root_at))]
+    #[tactic(auto, unfolding(crate::specs::parser::Schema::root_at))]
     fn root(&mut self) -> Result<DottedName<'t>, Stop>
         ensures exact { Gives (λ t. (t, self.new)) result (root_at self.old) }
         ensures shorter { IfOk result (λ _. length self.new < length self.old) }
@@ -65,7 +65,7 @@ impl<'t> Parser<'t, '_> {
     }
 
     /// What a file's name ends in, or its identifier.
-    #[tactic(auto, unfolding(crate::specs::ReadingSchema::quoted_at))]
+    #[tactic(auto, unfolding(crate::specs::parser::Schema::quoted_at))]
     fn quoted(&mut self) -> Result<Text<'t>, Stop>
         ensures exact { Gives (λ t. (t, self.new)) result (quoted_at self.old) }
         ensures shorter { IfOk result (λ _. length self.new < length self.old) }
@@ -75,7 +75,7 @@ impl<'t> Parser<'t, '_> {
         Ok(text)
     }
 
-    #[tactic(auto, unfolding(crate::specs::ReadingSchema::keyword_at))]
+    #[tactic(auto, unfolding(crate::specs::parser::Schema::keyword_at))]
     fn keyword(&mut self) -> Result<Keyword, Stop>
         ensures exact { Gives (λ k. (k, self.new)) result (keyword_at self.old) }
         ensures shorter { IfOk result (λ _. length self.new < length self.old) }
@@ -87,7 +87,7 @@ impl<'t> Parser<'t, '_> {
     }
 
     /// The declaration that a word begins.
-    #[tactic(auto, unfolding(crate::specs::ReadingSchema::declared_at))]
+    #[tactic(auto, unfolding(crate::specs::parser::Schema::declared_at))]
     fn declared(&mut self, keyword: Keyword) -> Result<Declaration<'t>, Stop>
         ensures exact { Gives (λ d. (d, self.new)) result (declared_at keyword self.old) }
         ensures shorter { IfOk result (λ _. length self.new < length self.old) }

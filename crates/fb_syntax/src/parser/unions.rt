@@ -1,7 +1,7 @@
 //! Unions.
 ghost use Rattle.std.specs.Prelude.{◌<◌, length, IfOk};
-ghost use Rattle.fb_syntax.specs.Reading.{Gives};
-ghost use Rattle.fb_syntax.specs.ReadingTypes.{member_at, listed_member_at, union_at};
+ghost use Rattle.fb_syntax.specs.parser.Front.{Gives};
+ghost use Rattle.fb_syntax.specs.parser.Types.{member_at, listed_member_at, union_at};
 
 use super::lists::Item;
 use super::{Parser, Stop};
@@ -11,7 +11,7 @@ use crate::tokens::TokenKind;
 impl<'t> Item<'t> for UnionMember<'t> {
     ghost item_at = { listed_member_at };
 
-    #[tactic(auto, unfolding(crate::specs::ReadingTypes::listed_member_at, crate::specs::Reading::listed_at))]
+    #[tactic(auto, unfolding(crate::specs::parser::Types::listed_member_at, crate::specs::parser::Front::listed_at))]
     fn read(parser: &mut Parser<'t, '_>) -> Result<UnionMember<'t>, Stop> {
         let member = parser.member()?;
         parser.comma(true, b'}')?;
@@ -20,7 +20,7 @@ impl<'t> Item<'t> for UnionMember<'t> {
 }
 
 impl<'t> Parser<'t, '_> {
-    #[tactic(auto, unfolding(crate::specs::ReadingTypes::member_at))]
+    #[tactic(auto, unfolding(crate::specs::parser::Types::member_at))]
     fn member(&mut self) -> Result<UnionMember<'t>, Stop>
         ensures exact { Gives (λ m. (m, self.new)) result (member_at self.old) }
         ensures shorter { IfOk result (λ _. length self.new < length self.old) }
@@ -42,7 +42,7 @@ impl<'t> Parser<'t, '_> {
     }
 
     /// A union behind its first word.
-    #[tactic(auto, unfolding(crate::specs::ReadingTypes::union_at))]
+    #[tactic(auto, unfolding(crate::specs::parser::Types::union_at))]
     pub(super) fn union(&mut self) -> Result<UnionDecl<'t>, Stop>
         ensures exact { Gives (λ u. (u, self.new)) result (union_at self.old) }
         ensures shorter { IfOk result (λ _. length self.new < length self.old) }

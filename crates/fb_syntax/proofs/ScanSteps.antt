@@ -6,10 +6,15 @@ use Rattle.fb_syntax.specs.declared.tokens.Token.{Token}
 use Rattle.fb_syntax.specs.declared.scan.Piece.TheVariants as pieces
 use Rattle.fb_syntax.specs.declared.faults.SyntaxFault.{SyntaxFault}
 use Rattle.fb_syntax.specs.Spells.{Spells, finished, gap, token}
-use Rattle.fb_syntax.specs.Pieces.{piece_at}
-use Rattle.fb_syntax.specs.Scanned.{Scanned}
+use Rattle.fb_syntax.specs.scan.Pieces.{piece_at}
 use Rattle.fb_syntax.proofs.Fronts.{gap-sound, token-sound}
 use Rattle.fb_syntax.proofs.FrontPieces.{behind_gap, behind_token, no_piece, at_end}
+
+-- Before the place `at` stand the tokens `found`: with those behind it they are all, and none else are.
+pub record Scanned (start : ℕ) (text : List ℕ) (at : ℕ) (found : List Token) : Type 0 where
+  pub within : at ≤ length text
+  pub sound : (rest : List Token) → Spells at (drop at text) rest → Spells start (drop start text) (found ++ rest)
+  pub only : (every : List Token) → Spells start (drop start text) every → (rest : List Token) × (every ≡ found ++ rest) × Spells at (drop at text) rest
 
 further : (text : List ℕ) (at n : ℕ) → drop n (drop at text) ≡ drop (at + n) text
 further text at n = grind (arith, common_steps)

@@ -3,7 +3,7 @@ use Rattle.std.specs.Prelude.{ℕ, false, List, [], Option, Some, None}
 use Rattle.fb_syntax.specs.FieldRead.{FieldRead}
 use Rattle.fb_syntax.specs.Lexemes.{Lexeme}
 use Rattle.fb_syntax.specs.Signs.{open_round, close_round, colon, semicolon, equals, open_square, close_square}
-use Rattle.fb_syntax.specs.Reading.{◌>>=◌, Front, behind, kind_at, token_at, number_at, is_sign, sign_at, name_at, until, listed_at}
+use Rattle.fb_syntax.specs.parser.Front.{◌>>=◌, Front, behind, kind_at, token_at, number_at, is_sign, sign_at, name_at, until, listed_at}
 use Rattle.fb_syntax.specs.declared.tokens.TokenKind.{TokenKind}
 use Rattle.fb_syntax.specs.declared.tokens.TokenKind.TheVariants.{Word, Integer, Quoted}
 use Rattle.fb_syntax.specs.declared.declarations.Attribute.{Attribute}

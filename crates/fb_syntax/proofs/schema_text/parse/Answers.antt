@@ -6,7 +6,7 @@ use Rattle.fb_syntax.specs.Spells.{SpellsText}
 use Rattle.fb_syntax.specs.GrammarSchema.{Reads}
 use Rattle.fb_syntax.proofs.TextSpellings.{finds_memory, one_spelling_shown, told_of_no_tokens}
 use Rattle.fb_syntax.proofs.ReadableTokens.{all_readable}
-use Rattle.fb_syntax.proofs.parsing.parse.Goals as goal
+use Rattle.fb_syntax.proofs.schema_text.parse.Goals as goal
 
 pub returns-in_err-tokens-clause-exact : goal.returns-in_err-tokens-clause-exact
 returns-in_err-tokens-clause-exact c =

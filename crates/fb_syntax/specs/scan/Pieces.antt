@@ -8,7 +8,7 @@ use Rattle.fb_syntax.specs.declared.faults.SyntaxFault.{SyntaxFault}
 use Rattle.fb_syntax.specs.declared.faults.SyntaxFault.TheVariants.{BadByte, Unterminated, NumberTooBig}
 use Rattle.fb_syntax.specs.Bytes.{is_letter, is_digit, is_word_byte, is_blank, is_punct, is_quotable, is_sign}
 use Rattle.fb_syntax.specs.Integers.{magnitude, greatest_magnitude}
-use Rattle.fb_syntax.specs.NumberLen.{number_len}
+use Rattle.fb_syntax.specs.scan.NumberLen.{number_len}
 
 abbrev pub is_close : List ℕ → Bool
 is_close [] = false

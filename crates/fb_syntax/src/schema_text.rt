@@ -2,6 +2,7 @@
 ghost use Rattle.std.specs.Prelude.{◌≡◌, ◌↔◌, ℕ, IfOk, IfErr, MatchResult, Err, IsUtf8, length};
 ghost use Rattle.std.specs.Str.Lossy.{utf8_valid_len};
 ghost use Rattle.fb_syntax.specs.DeclsRead.{DeclsRead};
+ghost use Rattle.fb_syntax.specs.OneReading.{OneReading};
 ghost use Rattle.fb_syntax.specs.Parsed.{Parses};
 ghost use Rattle.fb_syntax.specs.Refusals.{IsToldOfUtf8, IsToldOfNoTokens, IsToldOfTokens, StandsWithin};
 
@@ -31,3 +32,8 @@ pub fn parse<'t>(alloc: Global, text: &'t [u8]) -> Result<Decls<'t>, SyntaxFault
     let tokens = tokens_in(alloc, readable)?;
     declarations_of(alloc, readable, tokens.as_slice())
 }
+
+/// The tokens of a text read as at most one list of declarations.
+pub fn one_reading()
+    ensures { OneReading }
+{}

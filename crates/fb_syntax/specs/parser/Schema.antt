@@ -2,10 +2,10 @@
 use Rattle.std.specs.Prelude.{List, Option, Some, None}
 use Rattle.fb_syntax.specs.Located.{Located}
 use Rattle.fb_syntax.specs.Lexemes.{Lexeme}
-use Rattle.fb_syntax.specs.Keywords.{keyword_of}
+use Rattle.fb_syntax.specs.parser.Keywords.{keyword_of}
 use Rattle.fb_syntax.specs.Signs.{semicolon}
-use Rattle.fb_syntax.specs.Reading.{◌>>=◌, Front, behind, is_empty, kind_at, token_at, sign_at, name_at, until}
-use Rattle.fb_syntax.specs.ReadingTypes.{table_at, enum_at, union_at}
+use Rattle.fb_syntax.specs.parser.Front.{◌>>=◌, Front, behind, is_empty, kind_at, token_at, sign_at, name_at, until}
+use Rattle.fb_syntax.specs.parser.Types.{table_at, enum_at, union_at}
 use Rattle.fb_syntax.specs.declared.tokens.TokenKind.{TokenKind}
 use Rattle.fb_syntax.specs.declared.tokens.TokenKind.TheVariants.{Word, Quoted}
 use Rattle.fb_syntax.specs.declared.parser.keywords.Keyword.{Keyword}

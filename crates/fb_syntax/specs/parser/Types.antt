@@ -3,8 +3,8 @@ use Rattle.std.specs.Prelude.{true, List, Some, None}
 use Rattle.fb_syntax.specs.TypesRead.{TableRead, EnumRead, UnionRead}
 use Rattle.fb_syntax.specs.Lexemes.{Lexeme}
 use Rattle.fb_syntax.specs.Signs.{colon, equals, open_brace, close_brace}
-use Rattle.fb_syntax.specs.Reading.{◌>>=◌, Front, behind, token_at, number_at, is_sign, sign_at, name_at, name_more, until, listed_at, some_until}
-use Rattle.fb_syntax.specs.ReadingFields.{metadata_at, field_at}
+use Rattle.fb_syntax.specs.parser.Front.{◌>>=◌, Front, behind, token_at, number_at, is_sign, sign_at, name_at, name_more, until, listed_at, some_until}
+use Rattle.fb_syntax.specs.parser.Fields.{metadata_at, field_at}
 use Rattle.fb_syntax.specs.declared.tokens.TokenKind.TheVariants.{Word}
 use Rattle.fb_syntax.specs.declared.declarations.EnumValue.{EnumValue}
 use Rattle.fb_syntax.specs.declared.declarations.UnionMember.{UnionMember}
