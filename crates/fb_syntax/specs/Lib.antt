@@ -14,13 +14,12 @@ pub mod DeclsRead
 pub mod Lexemes
 pub mod Signs
 pub mod Keywords
+pub mod Rules
+pub mod Stops
 pub mod Grammar
-pub mod GrammarFields
-pub mod GrammarTypes
 pub mod GrammarSchema
 pub mod OneReading
 pub mod Parsed
 pub mod FaultNumbers
 pub mod Refusals
-pub mod parser
 pub mod scan

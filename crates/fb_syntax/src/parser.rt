@@ -9,11 +9,12 @@ mod stop;
 mod unions;
 
 ghost use Rattle.std.specs.Prelude.{◌≡◌, ◌<◌, ◌≤◌, length, drop, Some, None, IfOk, IfSome, MatchOption};
-ghost use Rattle.fb_syntax.specs.Integers.{number_of};
 ghost use Rattle.fb_syntax.specs.Lexemes.{IsReadable, AreReadable, lexemes, located};
 ghost use Rattle.fb_syntax.specs.TokenBytes.{IsSmall};
-ghost use Rattle.fb_syntax.specs.parser.Front.{Gives, is_empty, is_sign, kind_at, name_at, name_more, sign_at};
-ghost use Rattle.fb_syntax.specs.parser.Front.{number_at, token_at};
+ghost use Rattle.fb_syntax.specs.Rules.{is_empty, is_sign, name_more, token_at};
+ghost use Rattle.fb_syntax.specs.Grammar.{dotted_name, number};
+ghost use Rattle.fb_syntax.specs.Stops.{Gives};
+ghost use Rattle.fb_syntax.specs.declared.tokens.TokenKind.TheVariants.{Punct};
 
 use crate::declarations::{DottedName, Number, Text};
 use crate::integers::number_of;
@@ -89,15 +90,6 @@ impl<'t, 's> Parser<'t, 's> {
         self.tokens.len()
     }
 
-    fn kind(&self) -> Option<TokenKind>
-        ensures { result ≡ kind_at self.now }
-    {
-        match self.tokens {
-            [next, ..] => Some(next.kind),
-            [] => None,
-        }
-    }
-
     /// Passes the next token.
     fn advance(&mut self)
         ensures { self.new ≡ drop 1 self.old }
@@ -107,20 +99,34 @@ impl<'t, 's> Parser<'t, 's> {
         }
     }
 
-    /// The next token, not passed yet.
-    #[tactic(auto, unfolding(crate::specs::parser::Front::token_at))]
-    fn next(&self, kind: TokenKind) -> Result<Text<'t>, Stop>
-        ensures exact { Gives (λ t. (t, drop 1 self.now)) result (token_at kind self.now) }
-        ensures some { IfOk result (λ _. 0 < length self.now) }
-        ensures small { IfOk result (λ t. IsSmall kind t.bytes) }
+    /// What the next token says, if it is of a kind.
+    #[tactic(auto, unfolding(crate::specs::Rules::token_at))]
+    fn peek(&self, kind: TokenKind) -> Option<Text<'t>>
+        ensures exact { MatchOption result (token_at kind self.now ≡ None)
+            (λ t. token_at kind self.now ≡ Some (t, drop 1 self.now)) }
+        ensures some { IfSome result (λ _. 0 < length self.now) }
+        ensures small { IfSome result (λ t. IsSmall kind t.bytes) }
     {
         let [next, ..] = self.tokens else {
-            return Err(Stop::Unexpected);
+            return None;
         };
         if next.kind != kind {
-            return Err(Stop::Unexpected);
+            return None;
         }
-        Ok(located(self.text, *next))
+        Some(located(self.text, *next))
+    }
+
+    /// Passes the next token, if it is of a kind.
+    fn take(&mut self, kind: TokenKind) -> Option<Text<'t>>
+        ensures exact { MatchOption result
+            ((token_at kind self.old ≡ None) × (self.new ≡ self.old))
+            (λ t. token_at kind self.old ≡ Some (t, self.new)) }
+        ensures shorter { IfSome result (λ _. length self.new < length self.old) }
+        ensures small { IfSome result (λ t. IsSmall kind t.bytes) }
+    {
+        let token = self.peek(kind)?;
+        self.advance();
+        Some(token)
     }
 
     fn token(&mut self, kind: TokenKind) -> Result<Text<'t>, Stop>
@@ -128,14 +134,15 @@ impl<'t, 's> Parser<'t, 's> {
         ensures shorter { IfOk result (λ _. length self.new < length self.old) }
         ensures small { IfOk result (λ t. IsSmall kind t.bytes) }
     {
-        let token = self.next(kind)?;
-        self.advance();
-        Ok(token)
+        match self.take(kind) {
+            Some(token) => Ok(token),
+            None => Err(Stop::Unexpected),
+        }
     }
 
-    #[tactic(auto, unfolding(crate::specs::parser::Front::number_at))]
+    #[tactic(auto, unfolding(crate::specs::Grammar::number))]
     fn number(&mut self) -> Result<Number, Stop>
-        ensures exact { Gives (λ n. (n, self.new)) result (number_at self.old) }
+        ensures exact { Gives (λ n. (n, self.new)) result (number.read self.old) }
         ensures shorter { IfOk result (λ _. length self.new < length self.old) }
     {
         Ok(number_of(self.token(TokenKind::Integer)?))
@@ -150,38 +157,25 @@ impl<'t, 's> Parser<'t, 's> {
         }
     }
 
-    /// Passes a sign that stands next, and answers its offset.
-    #[tactic(auto, unfolding(crate::specs::parser::Front::sign_at))]
-    fn take_sign(&mut self, sign: u8) -> Option<u64>
+    fn take_sign(&mut self, sign: u8) -> Option<Text<'t>>
         ensures exact { MatchOption result
-            ((sign_at sign self.old ≡ None) × (self.new ≡ self.old))
-            (λ at. sign_at sign self.old ≡ Some (at, self.new)) }
+            ((token_at (Punct sign) self.old ≡ None) × (self.new ≡ self.old))
+            (λ t. token_at (Punct sign) self.old ≡ Some (t, self.new)) }
         ensures shorter { IfSome result (λ _. length self.new < length self.old) }
     {
-        if !self.is_sign(sign) {
-            return None;
-        }
-        let [next, ..] = self.tokens else {
-            return None;
-        };
-        let at = next.at;
-        self.advance();
-        Some(at)
+        self.take(TokenKind::Punct(sign))
     }
 
-    fn sign(&mut self, sign: u8) -> Result<u64, Stop>
-        ensures exact { Gives (λ at. (at, self.new)) result (sign_at sign self.old) }
+    fn sign(&mut self, sign: u8) -> Result<Text<'t>, Stop>
+        ensures exact { Gives (λ t. (t, self.new)) result (token_at (Punct sign) self.old) }
         ensures shorter { IfOk result (λ _. length self.new < length self.old) }
     {
-        match self.take_sign(sign) {
-            Some(at) => Ok(at),
-            None => Err(Stop::Unexpected),
-        }
+        self.token(TokenKind::Punct(sign))
     }
 
-    #[tactic(auto, unfolding(crate::specs::parser::Front::name_at))]
+    #[tactic(auto, unfolding(crate::specs::Grammar::dotted_name))]
     fn name(&mut self) -> Result<DottedName<'t>, Stop>
-        ensures exact { Gives (λ n. (n, self.new)) result (name_at self.old) }
+        ensures exact { Gives (λ n. (n, self.new)) result (dotted_name.read self.old) }
         ensures shorter { IfOk result (λ _. length self.new < length self.old) }
     {
         let first = self.token(TokenKind::Word)?;

@@ -1,7 +1,9 @@
 //! Enums.
-ghost use Rattle.std.specs.Prelude.{◌<◌, length, IfOk};
-ghost use Rattle.fb_syntax.specs.parser.Front.{Gives};
-ghost use Rattle.fb_syntax.specs.parser.Types.{enum_value_at, listed_value_at, enum_at};
+ghost use Rattle.std.specs.Prelude.{◌<◌, length, IfOk, true};
+ghost use Rattle.fb_syntax.specs.Signs.{close_brace};
+ghost use Rattle.fb_syntax.specs.Rules.{listed_at};
+ghost use Rattle.fb_syntax.specs.Grammar.{enum_value, enumeration};
+ghost use Rattle.fb_syntax.specs.Stops.{Gives};
 
 use super::lists::Item;
 use super::{Parser, Stop};
@@ -9,9 +11,9 @@ use crate::declarations::{EnumDecl, EnumValue};
 use crate::tokens::TokenKind;
 
 impl<'t> Item<'t> for EnumValue<'t> {
-    ghost item_at = { listed_value_at };
+    ghost item_at = { listed_at enum_value.read true close_brace };
 
-    #[tactic(auto, unfolding(crate::specs::parser::Types::listed_value_at, crate::specs::parser::Front::listed_at))]
+    #[tactic(auto, unfolding(crate::specs::Rules::listed_at))]
     fn read(parser: &mut Parser<'t, '_>) -> Result<EnumValue<'t>, Stop> {
         let value = parser.enum_value()?;
         parser.comma(true, b'}')?;
@@ -20,9 +22,9 @@ impl<'t> Item<'t> for EnumValue<'t> {
 }
 
 impl<'t> Parser<'t, '_> {
-    #[tactic(auto, unfolding(crate::specs::parser::Types::enum_value_at))]
+    #[tactic(auto, unfolding(crate::specs::Grammar::enum_value))]
     fn enum_value(&mut self) -> Result<EnumValue<'t>, Stop>
-        ensures exact { Gives (λ v. (v, self.new)) result (enum_value_at self.old) }
+        ensures exact { Gives (λ v. (v, self.new)) result (enum_value.read self.old) }
         ensures shorter { IfOk result (λ _. length self.new < length self.old) }
     {
         let name = self.token(TokenKind::Word)?;
@@ -34,9 +36,9 @@ impl<'t> Parser<'t, '_> {
     }
 
     /// An enum behind its first word.
-    #[tactic(auto, unfolding(crate::specs::parser::Types::enum_at))]
+    #[tactic(auto, unfolding(crate::specs::Grammar::enumeration))]
     pub(super) fn enumeration(&mut self) -> Result<EnumDecl<'t>, Stop>
-        ensures exact { Gives (λ e. (e, self.new)) result (enum_at self.old) }
+        ensures exact { Gives (λ e. (e, self.new)) result (enumeration.read self.old) }
         ensures shorter { IfOk result (λ _. length self.new < length self.old) }
     {
         let name = self.token(TokenKind::Word)?;
@@ -44,8 +46,7 @@ impl<'t> Parser<'t, '_> {
         let underlying = self.name()?;
         let attributes = self.metadata()?;
         self.sign(b'{')?;
-        let values = self.some_items(b'}')?;
-        self.sign(b'}')?;
+        let values = self.listed(b'}')?;
         Ok(EnumDecl {
             name,
             underlying,

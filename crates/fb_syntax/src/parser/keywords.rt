@@ -1,6 +1,6 @@
 //! The words that a declaration begins with.
 ghost use Rattle.std.specs.Prelude.{◌≡◌};
-ghost use Rattle.fb_syntax.specs.parser.Keywords.{keyword_of};
+ghost use Rattle.fb_syntax.specs.Keywords.{keyword_of};
 
 /// What a declaration's first word says that it is.
 #[derive(Clone, Copy, Drop)]
@@ -16,7 +16,7 @@ pub(crate) enum Keyword {
     Identifier,
 }
 
-#[tactic(auto, unfolding(crate::specs::parser::Keywords::keyword_of))]
+#[tactic(auto, unfolding(crate::specs::Keywords::keyword_of))]
 pub(crate) fn keyword_of(word: &str) -> Option<Keyword>
     ensures { result ≡ keyword_of word.now }
 {

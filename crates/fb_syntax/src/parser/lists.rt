@@ -1,7 +1,8 @@
 //! Lists: items up to a closing sign, or up to the end.
 ghost use Rattle.std.specs.Prelude.{◌≡◌, ◌<◌, ◌≤◌, length, IfOk, List, Option};
 ghost use Rattle.fb_syntax.specs.Lexemes.{Lexeme};
-ghost use Rattle.fb_syntax.specs.parser.Front.{Gives, closes, comma_at, some_until, until};
+ghost use Rattle.fb_syntax.specs.Rules.{closed, closes, comma_at, is_sign, some_until, until};
+ghost use Rattle.fb_syntax.specs.Stops.{Gives};
 
 use super::{Parser, Stop};
 
@@ -39,21 +40,33 @@ impl<'t> Parser<'t, '_> {
         Ok(items)
     }
 
-    /// The items before a closing sign, of which there has to be one.
-    #[tactic(auto, unfolding(crate::specs::parser::Front::some_until))]
-    pub(super) fn some_items<T: Item<'t>>(&mut self, close: u8) -> Result<Vec<T>, Stop>
-        ensures exact { Gives (λ v. (v.items, self.new)) result (some_until T.item_at close self.old) }
-        ensures shorter { IfOk result (λ _. length self.new ≤ length self.old) }
+    /// Items and the closing sign behind them.
+    pub(super) fn block<T: Item<'t>>(&mut self, close: u8) -> Result<Vec<T>, Stop>
+        ensures exact { Gives (λ v. (v.items, self.new)) result
+            (closed close (until T.item_at (is_sign close) self.old)) }
+        ensures shorter { IfOk result (λ _. length self.new < length self.old) }
+    {
+        let items = self.items(Some(close))?;
+        self.sign(close)?;
+        Ok(items)
+    }
+
+    /// At least one item, and the closing sign.
+    #[tactic(auto, unfolding(crate::specs::Rules::some_until))]
+    pub(super) fn listed<T: Item<'t>>(&mut self, close: u8) -> Result<Vec<T>, Stop>
+        ensures exact { Gives (λ v. (v.items, self.new)) result
+            (closed close (some_until T.item_at close self.old)) }
+        ensures shorter { IfOk result (λ _. length self.new < length self.old) }
     {
         if self.is_sign(close) {
             return Err(Stop::Unexpected);
         }
-        self.items(Some(close))
+        self.block(close)
     }
 
     /// Passes a comma; nothing where the list's closing sign stands. Where `trailing` is false, an
     /// item has to follow the comma.
-    #[tactic(auto, unfolding(crate::specs::parser::Front::comma_at))]
+    #[tactic(auto, unfolding(crate::specs::Rules::comma_at))]
     pub(super) fn comma(&mut self, trailing: bool, close: u8) -> Result<(), Stop>
         ensures exact { Gives (λ _. self.new) result (comma_at trailing close self.old) }
         ensures shorter { IfOk result (λ _. length self.new ≤ length self.old) }

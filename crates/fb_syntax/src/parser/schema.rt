@@ -2,12 +2,11 @@
 ghost use Rattle.std.specs.Prelude.{IfErr, ◌≡◌, ◌<◌, ◌≤◌, length, IfOk, MatchResult};
 ghost use Rattle.fb_syntax.specs.declared.faults.SyntaxFault.TheVariants.{Memory};
 ghost use Rattle.fb_syntax.specs.DeclsRead.{DeclsRead};
-ghost use Rattle.fb_syntax.specs.GrammarSchema.{Reads};
+ghost use Rattle.fb_syntax.specs.GrammarSchema.{Reads, keyword_at, namespace, attribute_decl, root_type, quoted};
+ghost use Rattle.fb_syntax.specs.GrammarSchema.{declared, declaration};
 ghost use Rattle.fb_syntax.specs.Lexemes.{AreReadable};
 ghost use Rattle.fb_syntax.specs.Refusals.{StandsWithin};
-ghost use Rattle.fb_syntax.specs.parser.Front.{Gives, IsGrammarFault};
-ghost use Rattle.fb_syntax.specs.parser.Schema.{keyword_at, namespace_at, attribute_decl_at, root_at, quoted_at};
-ghost use Rattle.fb_syntax.specs.parser.Schema.{declared_at, declaration_at};
+ghost use Rattle.fb_syntax.specs.Stops.{Gives, IsGrammarFault};
 
 use super::keywords::{Keyword, keyword_of};
 use super::lists::Item;
@@ -18,9 +17,9 @@ use crate::tokens::{Token, TokenKind};
 use std::alloc::Global;
 
 impl<'t> Item<'t> for Declaration<'t> {
-    ghost item_at = { declaration_at };
+    ghost item_at = { declaration.read };
 
-    #[tactic(auto, unfolding(crate::specs::parser::Schema::declaration_at))]
+    #[tactic(auto, unfolding(crate::specs::GrammarSchema::declaration))]
     fn read(parser: &mut Parser<'t, '_>) -> Result<Declaration<'t>, Stop> {
         let keyword = parser.keyword()?;
         parser.declared(keyword)
@@ -28,9 +27,9 @@ impl<'t> Item<'t> for Declaration<'t> {
 }
 
 impl<'t> Parser<'t, '_> {
-    #[tactic(auto, unfolding(crate::specs::parser::Schema::namespace_at))]
+    #[tactic(auto, unfolding(crate::specs::GrammarSchema::namespace))]
     fn namespace(&mut self) -> Result<Option<DottedName<'t>>, Stop>
-        ensures exact { Gives (λ n. (n, self.new)) result (namespace_at self.old) }
+        ensures exact { Gives (λ n. (n, self.new)) result (namespace.read self.old) }
         ensures shorter { IfOk result (λ _. length self.new < length self.old) }
     {
         if let Some(_) = self.take_sign(b';') {
@@ -41,22 +40,22 @@ impl<'t> Parser<'t, '_> {
         Ok(Some(name))
     }
 
-    #[tactic(auto, unfolding(crate::specs::parser::Schema::attribute_decl_at))]
+    #[tactic(auto, unfolding(crate::specs::GrammarSchema::attribute_decl))]
     fn attribute_decl(&mut self) -> Result<Text<'t>, Stop>
-        ensures exact { Gives (λ t. (t, self.new)) result (attribute_decl_at self.old) }
+        ensures exact { Gives (λ t. (t, self.new)) result (attribute_decl.read self.old) }
         ensures shorter { IfOk result (λ _. length self.new < length self.old) }
     {
-        let name = match self.kind() {
-            Some(TokenKind::Quoted) => self.token(TokenKind::Quoted)?,
-            _ => self.token(TokenKind::Word)?,
+        let name = match self.take(TokenKind::Quoted) {
+            Some(text) => text,
+            None => self.token(TokenKind::Word)?,
         };
         self.sign(b';')?;
         Ok(name)
     }
 
-    #[tactic(auto, unfolding(crate::specs::parser::Schema::root_at))]
-    fn root(&mut self) -> Result<DottedName<'t>, Stop>
-        ensures exact { Gives (λ t. (t, self.new)) result (root_at self.old) }
+    #[tactic(auto, unfolding(crate::specs::GrammarSchema::root_type))]
+    fn root_type(&mut self) -> Result<DottedName<'t>, Stop>
+        ensures exact { Gives (λ t. (t, self.new)) result (root_type.read self.old) }
         ensures shorter { IfOk result (λ _. length self.new < length self.old) }
     {
         let name = self.name()?;
@@ -65,9 +64,9 @@ impl<'t> Parser<'t, '_> {
     }
 
     /// What a file's name ends in, or its identifier.
-    #[tactic(auto, unfolding(crate::specs::parser::Schema::quoted_at))]
+    #[tactic(auto, unfolding(crate::specs::GrammarSchema::quoted))]
     fn quoted(&mut self) -> Result<Text<'t>, Stop>
-        ensures exact { Gives (λ t. (t, self.new)) result (quoted_at self.old) }
+        ensures exact { Gives (λ t. (t, self.new)) result (quoted.read self.old) }
         ensures shorter { IfOk result (λ _. length self.new < length self.old) }
     {
         let text = self.token(TokenKind::Quoted)?;
@@ -75,21 +74,21 @@ impl<'t> Parser<'t, '_> {
         Ok(text)
     }
 
-    #[tactic(auto, unfolding(crate::specs::parser::Schema::keyword_at))]
+    #[tactic(auto, unfolding(crate::specs::GrammarSchema::keyword_at))]
     fn keyword(&mut self) -> Result<Keyword, Stop>
         ensures exact { Gives (λ k. (k, self.new)) result (keyword_at self.old) }
         ensures shorter { IfOk result (λ _. length self.new < length self.old) }
     {
-        let word = self.next(TokenKind::Word)?;
+        let word = self.peek(TokenKind::Word).ok_or(Stop::Unexpected)?;
         let keyword = keyword_of(word.text).ok_or(Stop::Unexpected)?;
         self.advance();
         Ok(keyword)
     }
 
     /// The declaration that a word begins.
-    #[tactic(auto, unfolding(crate::specs::parser::Schema::declared_at))]
+    #[tactic(auto, unfolding(crate::specs::GrammarSchema::declared))]
     fn declared(&mut self, keyword: Keyword) -> Result<Declaration<'t>, Stop>
-        ensures exact { Gives (λ d. (d, self.new)) result (declared_at keyword self.old) }
+        ensures exact { Gives (λ d. (d, self.new)) result ((declared keyword).read self.old) }
         ensures shorter { IfOk result (λ _. length self.new < length self.old) }
     {
         match keyword {
@@ -99,7 +98,7 @@ impl<'t> Parser<'t, '_> {
             Keyword::Struct => Ok(Declaration::Type(TypeDecl::Struct(self.table()?))),
             Keyword::Enum => Ok(Declaration::Type(TypeDecl::Enum(self.enumeration()?))),
             Keyword::Union => Ok(Declaration::Type(TypeDecl::Union(self.union()?))),
-            Keyword::Root => Ok(Declaration::Directive(Directive::RootType(self.root()?))),
+            Keyword::Root => Ok(Declaration::Directive(Directive::RootType(self.root_type()?))),
             Keyword::Extension => Ok(Declaration::Directive(Directive::FileExtension(
                 self.quoted()?,
             ))),

@@ -1,6 +1,6 @@
 use Rattle.std.proofs.Common.{sym, ◌∙◌, arith}
 use Rattle.std.proofs.lemmas.Result.{err_from_is_err_and}
-use Rattle.fb_syntax.specs.parser.Front.{closes}
+use Rattle.fb_syntax.specs.Rules.{closes}
 use Rattle.fb_syntax.proofs.Repeat.{begins, goes_on, ends, fails}
 use Rattle.fb_syntax.proofs.parser.Parser.items.Goals as goal
 

@@ -1,5 +1,5 @@
 use Rattle.std.proofs.Common.{length, ◌≤◌}
-use Rattle.fb_syntax.specs.parser.Front.{closes}
+use Rattle.fb_syntax.specs.Rules.{closes}
 use Rattle.fb_syntax.proofs.Repeat.{Repeats}
 use Rattle.fb_syntax.proofs.parser.Parser.items.Given as goal
 
