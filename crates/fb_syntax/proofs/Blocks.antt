@@ -1,7 +1,7 @@
 -- Block comments: up to the first end.
 use Rattle.std.proofs.Common.{◌≡◌, ℕ, zero, suc, ◌+◌, ◌≤◌, Bool, true, false, cond, eqb, ◌&&◌, not, List, [], ◌∷◌, length, take, Option, Some, None, option_map, refl, arith, ap, ◌∙◌}
 use Rattle.fb_syntax.specs.Gaps.{closes}
-use Rattle.fb_syntax.specs.Pieces.{close_len}
+use Rattle.fb_syntax.specs.scan.Pieces.{close_len}
 use Rattle.fb_syntax.proofs.TokenStarts.{and_both, and_true}
 
 not_true : (b : Bool) → not b ≡ true → b ≡ false

@@ -7,7 +7,7 @@ use Rattle.fb_syntax.specs.declared.faults.SyntaxFault.{SyntaxFault}
 use Rattle.fb_syntax.specs.declared.faults.SyntaxFault.TheVariants.{BadByte}
 use Rattle.fb_syntax.specs.Spells.{Spells, finished, gap, token}
 use Rattle.fb_syntax.proofs.FrontsFound.{gap-complete, token-complete}
-use Rattle.fb_syntax.specs.Pieces.{piece_at}
+use Rattle.fb_syntax.specs.scan.Pieces.{piece_at}
 
 nothing : (at : ℕ) → piece_at at [] ≡ Err (BadByte at)
 unfolding piece_at

@@ -15,8 +15,8 @@ use Rattle.fb_syntax.specs.Bytes.{is_letter, is_digit, is_word_byte, is_blank, i
 use Rattle.fb_syntax.specs.TokenBytes.{IsLongest, IsSmall}
 use Rattle.fb_syntax.specs.Integers.{magnitude}
 use Rattle.fb_syntax.specs.Gaps.{IsGap}
-use Rattle.fb_syntax.specs.Pieces.{integer_of, close_len, block_at, quote_of, comment_at, integer_at, quoted_at, piece_at}
-use Rattle.fb_syntax.specs.NumberLen.{number_len}
+use Rattle.fb_syntax.specs.scan.Pieces.{integer_of, close_len, block_at, quote_of, comment_at, integer_at, quoted_at, piece_at}
+use Rattle.fb_syntax.specs.scan.NumberLen.{number_len}
 use Rattle.fb_syntax.proofs.Numbers.{plain_longest, signed_longest}
 use borrow.Author.Tests.{leb-true}
 use Rattle.fb_syntax.proofs.Quotes.{quoted_longest}
@@ -31,7 +31,7 @@ data Front (at : ℕ) (c : ℕ) (cs : List ℕ) (r : Result Piece SyntaxFault) :
   digit : is_digit c ≡ true → integer_at at 0 (c ∷ cs) ≡ r → Front at c cs r
   signed : is_sign c ≡ true → integer_at at 1 (c ∷ cs) ≡ r → Front at c cs r
   quote : eqb c 34 ≡ true → quoted_at at cs ≡ r → Front at c cs r
-  mark : is_punct c ≡ true → Ok (pieces.Token Punct 1) ≡ r → Front at c cs r
+  mark : is_punct c ≡ true → Ok (pieces.Token (Punct c) 1) ≡ r → Front at c cs r
   other : Err (BadByte at) ≡ r → Front at c cs r
 
 chosen : {X : Type 0} (b : Bool) (x y z : X) → cond b x y ≡ z → ((b ≡ true) × (x ≡ z)) ⊎ ((b ≡ false) × (y ≡ z))
@@ -210,6 +210,6 @@ token-sound at n kind (c ∷ cs) e = elim (front_of at c cs (Ok (pieces.Token ki
   | digit h k ↦ plain-token at n kind c cs h k
   | signed h k ↦ signed-token at n kind c cs h k
   | quote h k ↦ quoted-token at n kind c cs h k
-  | mark h k ↦ (let same = token_is Punct kind 1 n k in rw (← same.0, ← same.1) (punct_longest c cs h, tt, omega arith))
+  | mark h k ↦ (let same = token_is (Punct c) kind 1 n k in rw (← same.0, ← same.1) (punct_longest c cs h, tt, omega arith))
   | other k ↦ absurd cc
 ]

@@ -1,6 +1,7 @@
 -- Which piece stands at the front.
 use Rattle.std.proofs.Common.{◌≡◌, ℕ, zero, suc, ◌+◌, ◌≤◌, ◌⊎◌, inl, inr, Bool, true, false, cond, eqb, leb, ◌&&◌, ◌==◌, not, List, [], ◌∷◌, length, take, Some, Ok, refl, arith, ap, ◌∙◌, slice_get}
 use Rattle.std.proofs.lemmas.Bool.Decides.{nat_tests}
+use Rattle.std.proofs.lemmas.Bool.{eqb-true}
 use Rattle.std.proofs.lemmas.List.Sums.{prefix_len-le-length}
 use Rattle.std.specs.List.{prefix_len}
 use Rattle.fb_syntax.specs.declared.tokens.TokenKind.{TokenKind}
@@ -10,8 +11,8 @@ use Rattle.fb_syntax.specs.Bytes.{is_letter, is_digit, is_word_byte, is_blank, i
 use Rattle.fb_syntax.specs.TokenBytes.{is_token, IsLongest, IsSmall}
 use Rattle.fb_syntax.specs.Integers.{is_unsigned, magnitude}
 use Rattle.fb_syntax.specs.Gaps.{IsGap, is_space, is_line_comment, is_block_comment}
-use Rattle.fb_syntax.specs.Pieces.{integer_of, close_len, comment_at, integer_at, quoted_at, piece_at}
-use Rattle.fb_syntax.specs.NumberLen.{number_len}
+use Rattle.fb_syntax.specs.scan.Pieces.{integer_of, close_len, comment_at, integer_at, quoted_at, piece_at}
+use Rattle.fb_syntax.specs.scan.NumberLen.{number_len}
 use Rattle.fb_syntax.proofs.Numbers.{no_sign_taken, sign_taken, plain_longest, signed_longest, number_longest}
 use Rattle.fb_syntax.proofs.Quotes.{closed-complete}
 use Rattle.fb_syntax.proofs.Blocks.{close-complete}
@@ -31,7 +32,7 @@ letter_piece at c cs e =
     let no_slash : eqb c 47 ≡ false = grind (arith, nat_tests) in
     rw (no_blank, no_slash, e) refl
 
-punct_piece : (at c : ℕ) (cs : List ℕ) → is_punct c ≡ true → piece_at at (c ∷ cs) ≡ Ok (pieces.Token Punct 1)
+punct_piece : (at c : ℕ) (cs : List ℕ) → is_punct c ≡ true → piece_at at (c ∷ cs) ≡ Ok (pieces.Token (Punct c) 1)
 unfolding piece_at
 punct_piece at c cs e =
     let no_blank : is_blank c ≡ false = grind (arith, nat_tests) in
@@ -62,13 +63,16 @@ word-complete at (suc n) (c ∷ cs) h =
     let same = same_length Word Word (1 + prefix_len is_word_byte cs) (suc n) (c ∷ cs) (word_longest c cs first) h in
     letter_piece at c cs first ∙ ap (λ m. Ok (pieces.Token Word m)) same
 
-punct-complete : (at n : ℕ) (text : List ℕ) → IsLongest Punct n text → piece_at at text ≡ Ok (pieces.Token Punct n)
+punct-complete : (at p n : ℕ) (text : List ℕ) → IsLongest (Punct p) n text → piece_at at text ≡ Ok (pieces.Token (Punct p) n)
 unfolding is_token
-punct-complete at zero text h = let s = h.spelled in absurd cc
-punct-complete at (suc n) [] h = let s = h.spelled in absurd cc
-punct-complete at (suc zero) (c ∷ cs) h = punct_piece at c cs h.spelled
-punct-complete at (suc (suc n)) (c ∷ []) h = let w = h.within in absurd (omega arith)
-punct-complete at (suc (suc n)) (c ∷ d ∷ cs) h = let s = h.spelled in absurd cc
+punct-complete at p zero text h = let s = h.spelled in absurd cc
+punct-complete at p (suc n) [] h = let s = h.spelled in absurd cc
+punct-complete at p (suc zero) (c ∷ cs) h =
+    let both = and_both (eqb c p) (is_punct c) h.spelled in
+    let same : c ≡ p = eqb-true c p both.0 in
+    punct_piece at c cs both.1 ∙ ap (λ q. Ok (pieces.Token (Punct q) 1)) same
+punct-complete at p (suc (suc n)) (c ∷ []) h = let w = h.within in absurd (omega arith)
+punct-complete at p (suc (suc n)) (c ∷ d ∷ cs) h = let s = h.spelled in absurd cc
 
 digit_piece : (at c : ℕ) (cs : List ℕ) → is_digit c ≡ true → piece_at at (c ∷ cs) ≡ integer_at at 0 (c ∷ cs)
 unfolding piece_at
@@ -209,4 +213,4 @@ pub token-complete : (at n : ℕ) (kind : TokenKind) (text : List ℕ) → IsLon
 token-complete at n Word text h small = word-complete at n text h
 token-complete at n Integer text h small = integer-complete at n text h small
 token-complete at n Quoted text h small = quoted-complete at n text h
-token-complete at n Punct text h small = punct-complete at n text h
+token-complete at n (Punct p) text h small = punct-complete at p n text h

@@ -8,11 +8,11 @@ use Rattle.std.proofs.lemmas.Bool.{eqb-true}
 use Rattle.std.specs.List.{prefix_len}
 use Rattle.fb_syntax.specs.declared.tokens.TokenKind.{TokenKind}
 use Rattle.fb_syntax.specs.declared.tokens.TokenKind.TheVariants.{Word, Integer, Quoted, Punct}
-use Rattle.fb_syntax.specs.Bytes.{is_digit, is_hex, is_sign}
+use Rattle.fb_syntax.specs.Bytes.{is_digit, is_hex, is_sign, is_punct}
 use Rattle.std.specs.List.{list_all}
 use Rattle.fb_syntax.specs.TokenBytes.{is_token, IsLongest}
 use Rattle.fb_syntax.specs.Integers.{is_unsigned, is_decimal, is_hexadecimal, is_prefixed, without_sign}
-use Rattle.fb_syntax.specs.NumberLen.{number_len}
+use Rattle.fb_syntax.specs.scan.NumberLen.{number_len}
 use Rattle.fb_syntax.proofs.TokenStarts.{and_both, and_true, or_either, all-take, all-prefix, starts, token_starts}
 
 or_right : (a b : Bool) → b ≡ true → (a || b) ≡ true
@@ -122,7 +122,7 @@ pub integer_alone : (k : TokenKind) (c : ℕ) → (is_digit c || is_sign c) ≡ 
 integer_alone Word c e f = absurd (grind (arith, nat_tests))
 integer_alone Integer c e f = refl
 integer_alone Quoted c e f = absurd (grind (arith, nat_tests))
-integer_alone Punct c e f = absurd (grind (arith, nat_tests))
+integer_alone (Punct p) c e f = absurd (grind (arith, nat_tests, (and_both (eqb c p) (is_punct c) f).1))
 
 pub no_sign_taken : (c : ℕ) (cs : List ℕ) (m : ℕ) → is_sign c ≡ false → without_sign (take m (c ∷ cs)) ≡ take m (c ∷ cs)
 no_sign_taken c cs zero e = refl

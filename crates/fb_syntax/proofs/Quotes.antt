@@ -6,7 +6,7 @@ use Rattle.std.proofs.Math.Numerals.{one-add}
 use Rattle.std.specs.List.{prefix_len}
 use Rattle.fb_syntax.specs.declared.tokens.TokenKind.{TokenKind}
 use Rattle.fb_syntax.specs.declared.tokens.TokenKind.TheVariants.{Word, Integer, Quoted, Punct}
-use Rattle.fb_syntax.specs.Bytes.{is_quotable}
+use Rattle.fb_syntax.specs.Bytes.{is_quotable, is_punct}
 use Rattle.fb_syntax.specs.TokenBytes.{is_closed_by_quote, is_token, IsLongest}
 use Rattle.fb_syntax.proofs.TokenStarts.{and_both, and_true, starts, token_starts}
 
@@ -14,7 +14,7 @@ quote_alone : (k : TokenKind) (c : ℕ) → eqb c 34 ≡ true → starts k c ≡
 quote_alone Word c e f = absurd (grind (arith, nat_tests))
 quote_alone Integer c e f = absurd (grind (arith, nat_tests))
 quote_alone Quoted c e f = refl
-quote_alone Punct c e f = absurd (grind (arith, nat_tests))
+quote_alone (Punct p) c e f = absurd (grind (arith, nat_tests, (and_both (eqb c p) (is_punct c) f).1))
 
 longer : (c : ℕ) (cs : List ℕ) (p : ℕ) → is_quotable c ≡ true → (is_closed_by_quote (take (suc p) cs) ≡ true) × (suc p ≤ length cs) → (is_closed_by_quote (take (suc (suc p)) (c ∷ cs)) ≡ true) × (suc (suc p) ≤ length (c ∷ cs))
 longer c [] p q h = absurd (omega arith)

@@ -3,11 +3,12 @@ use Rattle.std.proofs.Common.{◌≡◌, ℕ, zero, suc, ◌<◌, List, [], ◌�
 use Rattle.std.proofs.lemmas.List.{append-nil}
 use Rattle.fb_syntax.specs.declared.parser.stop.Stop.{Stop}
 use Rattle.fb_syntax.specs.Lexemes.{Lexeme}
-use Rattle.fb_syntax.specs.Reading.{◌>>=◌, Fails, Front, many, until}
+use Rattle.fb_syntax.specs.Stops.{Fails}
+use Rattle.fb_syntax.specs.Rules.{and_then, Front, many, until}
 use Rattle.fb_syntax.proofs.Names.{fails_with}
 
 abbrev pub with_front : {X : Type 0} → List X → Front (List X) → Front (List X)
-with_front front read = read >>= λ x. Some (front ++ x.0, x.1)
+with_front front read = and_then read (λ x. Some (front ++ x.0, x.1))
 
 -- The items so far, and those that follow, are the items from `begun` on.
 pub record Repeats {X : Type 0} (item : List Lexeme → Front X) (stop : List Lexeme → Bool) (begun : List Lexeme) (front : List X) (rest : List Lexeme) : Type 0 where
@@ -19,7 +20,7 @@ append_nothing : {X : Type 0} (xs : List X) → [] ++ xs ≡ xs
 append_nothing xs = refl
 
 module _ {X : Type 0} (item : List Lexeme → Front X) (stop : List Lexeme → Bool) where
-  pub one_more : (n : ℕ) (ts after : List Lexeme) (x : X) → stop ts ≡ false → item ts ≡ Some (x, after) → many item stop (suc n) ts ≡ (many item stop n after >>= λ xs. Some (x ∷ xs.0, xs.1))
+  pub one_more : (n : ℕ) (ts after : List Lexeme) (x : X) → stop ts ≡ false → item ts ≡ Some (x, after) → many item stop (suc n) ts ≡ and_then (many item stop n after) (λ xs. Some (x ∷ xs.0, xs.1))
   unfolding many
   one_more n ts after x none e = rw (none, e) refl
 
@@ -35,7 +36,7 @@ module _ {X : Type 0} (item : List Lexeme → Front X) (stop : List Lexeme → B
   plain None = refl
   plain (Some x) = ap (λ (xs : List X). Some (xs, x.1)) (append_nothing x.0)
 
-  regroup : (front : List X) (x : X) (read : Front (List X)) → with_front front (read >>= λ xs. Some (x ∷ xs.0, xs.1)) ≡ with_front (front ++ x ∷ []) read
+  regroup : (front : List X) (x : X) (read : Front (List X)) → with_front front (and_then read (λ xs. Some (x ∷ xs.0, xs.1))) ≡ with_front (front ++ x ∷ []) read
   regroup front x (Some xs) = ap (λ (ys : List X). Some (ys, xs.1)) (simp append_assoc)
   regroup front x None = refl
 

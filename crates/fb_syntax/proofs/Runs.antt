@@ -1,6 +1,6 @@
 -- Seeking a block comment's end, place by place.
 use Rattle.std.proofs.Common.{◌≡◌, ℕ, zero, suc, add-one, ◌+◌, ◌<◌, true, false, List, [], ◌∷◌, length, drop, Option, Some, None, option_map, refl, arith, ap, ◌∙◌}
-use Rattle.fb_syntax.specs.Pieces.{is_close, close_len}
+use Rattle.fb_syntax.specs.scan.Pieces.{is_close, close_len}
 
 pub option_map-more : (o : Option ℕ) (k : ℕ) → option_map (λ n. n + k) (option_map (λ n. n + 1) o) ≡ option_map (λ n. n + (k + 1)) o
 option_map-more None k = refl

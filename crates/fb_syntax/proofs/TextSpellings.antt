@@ -9,8 +9,8 @@ use Rattle.fb_syntax.specs.declared.faults.SyntaxFault.TheVariants.{NotUtf8, Bad
 use Rattle.fb_syntax.specs.Spells.{Finds, Spells, finished, gap, token, SpellsText, OneSpelling, byte_order_mark}
 use Rattle.fb_syntax.specs.SpelledTokens.{IsTokenOf}
 use Rattle.fb_syntax.specs.Refusals.{IsToldOfNoTokens}
-use Rattle.fb_syntax.specs.Marks.{mark_len}
-use Rattle.fb_syntax.specs.Pieces.{piece_at}
+use Rattle.fb_syntax.specs.scan.Marks.{mark_len}
+use Rattle.fb_syntax.specs.scan.Pieces.{piece_at}
 use Rattle.fb_syntax.proofs.TokenStarts.{and_both}
 use Rattle.fb_syntax.proofs.FrontPieces.{no_piece, same_tokens}
 

@@ -127,9 +127,9 @@ token_ends Integer (c ∷ cs) e = all_ascii_ends c cs (integer_all_ascii (c ∷ 
 token_ends Quoted s e =
     let q = quoted_quotes s e in
     record { some = omega (arith, q.both); first = rw q.first (omega arith); last = rw q.last (omega arith) }
-token_ends Punct [] e = absurd cc
-token_ends Punct (c ∷ []) e = all_ascii_ends c [] (and_true (is_ascii c) true (punct_ascii c e) refl)
-token_ends Punct (c ∷ d ∷ cs) e = absurd cc
+token_ends (Punct p) [] e = absurd cc
+token_ends (Punct p) (c ∷ []) e = all_ascii_ends c [] (and_true (is_ascii c) true (punct_ascii c (and_both (eqb c p) (is_punct c) e).1) refl)
+token_ends (Punct p) (c ∷ d ∷ cs) e = absurd cc
 
 -- the bytes of a token by their places in the text
 token_length : (text : List ℕ) (t : Token) → t.at + t.len ≤ length text → length (token_bytes text t) ≡ t.len

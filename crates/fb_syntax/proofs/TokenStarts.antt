@@ -1,6 +1,7 @@
 -- Words and signs: the longest token at the front.
-use Rattle.std.proofs.Common.{◌≡◌, ℕ, zero, suc, ◌+◌, ◌≤◌, ◌⊎◌, inl, inr, Bool, true, false, cond, eqb, ◌&&◌, ◌||◌, List, [], ◌∷◌, length, take, refl, arith}
+use Rattle.std.proofs.Common.{◌≡◌, ℕ, zero, suc, ◌+◌, ◌≤◌, ◌⊎◌, inl, inr, Bool, true, false, cond, eqb, ◌&&◌, ◌||◌, List, [], ◌∷◌, length, take, refl, sym, ap, eq-eqb, arith}
 use Rattle.std.proofs.lemmas.Bool.Decides.{nat_tests}
+use Rattle.std.proofs.lemmas.Bool.{eqb-true}
 use Rattle.std.proofs.Math.Numerals.{one-add}
 use Rattle.std.specs.List.{prefix_len}
 use Rattle.fb_syntax.specs.declared.tokens.TokenKind.{TokenKind}
@@ -42,7 +43,7 @@ abbrev pub starts : TokenKind → ℕ → Bool
 starts Word c = is_letter c
 starts Integer c = is_digit c || is_sign c
 starts Quoted c = eqb c 34
-starts Punct c = is_punct c
+starts (Punct p) c = eqb c p && is_punct c
 
 prefixed_digit : (c : ℕ) (s : List ℕ) → is_prefixed (c ∷ s) ≡ true → is_digit c ≡ true
 prefixed_digit c [] e = absurd cc
@@ -72,20 +73,20 @@ token_starts Integer c s e = by_sign (is_sign c) refl e where
   by_sign true h f = or_right (is_digit c) (is_sign c) h
   by_sign false h f = or_left (is_digit c) (is_sign c) (digit_first f)
 token_starts Quoted c s e = (and_both (eqb c 34) (is_closed_by_quote s) e).0
-token_starts Punct c [] e = e
-token_starts Punct c (d ∷ s) e = absurd cc
+token_starts (Punct p) c [] e = e
+token_starts (Punct p) c (d ∷ s) e = absurd cc
 
 pub word_alone : (k : TokenKind) (c : ℕ) → is_letter c ≡ true → starts k c ≡ true → k ≡ Word
 word_alone Word c e f = refl
 word_alone Integer c e f = absurd (grind (arith, nat_tests))
 word_alone Quoted c e f = absurd (grind (arith, nat_tests))
-word_alone Punct c e f = absurd (grind (arith, nat_tests))
+word_alone (Punct p) c e f = absurd (grind (arith, nat_tests, (and_both (eqb c p) (is_punct c) f).1))
 
-pub punct_alone : (k : TokenKind) (c : ℕ) → is_punct c ≡ true → starts k c ≡ true → k ≡ Punct
+pub punct_alone : (k : TokenKind) (c : ℕ) → is_punct c ≡ true → starts k c ≡ true → k ≡ Punct c
 punct_alone Word c e f = absurd (grind (arith, nat_tests))
 punct_alone Integer c e f = absurd (grind (arith, nat_tests))
 punct_alone Quoted c e f = absurd (grind (arith, nat_tests))
-punct_alone Punct c e f = refl
+punct_alone (Punct p) c e f = ap Punct (sym (eqb-true c p (and_both (eqb c p) (is_punct c) f).0))
 
 pub word_longest : (c : ℕ) (cs : List ℕ) → is_letter c ≡ true → IsLongest Word (1 + prefix_len is_word_byte cs) (c ∷ cs)
 unfolding is_token
@@ -102,9 +103,9 @@ word_longest c cs e = record {
       let rest = all-take is_word_byte cs m (omega arith) (and_both (is_letter c) _ as_word).1 in
       omega arith
 
-pub punct_longest : (c : ℕ) (cs : List ℕ) → is_punct c ≡ true → IsLongest Punct 1 (c ∷ cs)
+pub punct_longest : (c : ℕ) (cs : List ℕ) → is_punct c ≡ true → IsLongest (Punct c) 1 (c ∷ cs)
 unfolding is_token
-punct_longest c cs e = record { within = omega arith; spelled = e; longest = no_longer } where
+punct_longest c cs e = record { within = omega arith; spelled = and_true (eqb c c) (is_punct c) (eq-eqb c c refl) e; longest = no_longer } where
   no_longer : (k : TokenKind) (m : ℕ) → m ≤ length (c ∷ cs) → is_token k (take m (c ∷ cs)) ≡ true → m ≤ 1
   no_longer k zero h t = omega arith
   no_longer k (suc zero) h t = omega arith
@@ -113,5 +114,5 @@ punct_longest c cs e = record { within = omega arith; spelled = e; longest = no_
     by_rest [] h t = absurd (omega arith)
     by_rest (d ∷ cs) h t =
         let same = punct_alone k c e (token_starts k c (d ∷ take m cs) t) in
-        let as_punct : is_token Punct (c ∷ d ∷ take m cs) ≡ true = rw same at t in
+        let as_punct : is_token (Punct c) (c ∷ d ∷ take m cs) ≡ true = rw same at t in
         absurd cc

@@ -1,49 +1,109 @@
--- The grammar: what stands at the front of the tokens, and which tokens are left behind it. Signs, words, names and lists.
-use Rattle.std.specs.Prelude.{ℕ, ◌≡◌, List, [], ◌∷◌}
-use Rattle.fb_syntax.specs.Located.{Located, joined}
-use Rattle.fb_syntax.specs.Lexemes.{Lexeme}
-use Rattle.fb_syntax.specs.Signs.{dot, comma}
-use Rattle.fb_syntax.specs.declared.tokens.TokenKind.{TokenKind}
-use Rattle.fb_syntax.specs.declared.tokens.TokenKind.TheVariants.{Word, Punct}
+-- The grammar of names, fields and types (Grammar).
+use Rattle.std.specs.Prelude.{true, false, List, [], Option, Some, None}
+use Rattle.fb_syntax.specs.Located.{Located}
+use Rattle.fb_syntax.specs.NumberRead.{NumberRead}
+use Rattle.fb_syntax.specs.Integers.{number_of}
+use Rattle.fb_syntax.specs.FieldRead.{FieldRead}
+use Rattle.fb_syntax.specs.TypesRead.{TableRead, EnumRead, UnionRead}
+use Rattle.fb_syntax.specs.Signs.{open_round, close_round, colon, semicolon, equals, open_square, close_square, open_brace, close_brace}
+use Rattle.fb_syntax.specs.Rules.{Rule, token, sign, give, ◌>>=◌, with_token, more, block, listed}
+use Rattle.fb_syntax.specs.declared.tokens.TokenKind.TheVariants.{Word, Integer, Quoted, Punct}
+use Rattle.fb_syntax.specs.declared.declarations.Attribute.{Attribute}
+use Rattle.fb_syntax.specs.declared.declarations.AttributeValue.{AttributeValue}
+use Rattle.fb_syntax.specs.declared.declarations.AttributeValue.TheVariants as values
+use Rattle.fb_syntax.specs.declared.declarations.FieldType.{FieldType}
+use Rattle.fb_syntax.specs.declared.declarations.FieldType.TheVariants as types
+use Rattle.fb_syntax.specs.declared.declarations.DefaultValue.{DefaultValue}
+use Rattle.fb_syntax.specs.declared.declarations.DefaultValue.TheVariants as defaults
+use Rattle.fb_syntax.specs.declared.declarations.EnumValue.{EnumValue}
+use Rattle.fb_syntax.specs.declared.declarations.UnionMember.{UnionMember}
 
--- a token of a kind, with its text
-abbrev pub IsToken : TokenKind → List Lexeme → Located → List Lexeme → Type 0
-IsToken kind ts text rest = ts ≡ record { kind = kind; text = text } ∷ rest
+-- Integer
+unfoldable pub number : Rule NumberRead
+number = do
+  digits ← token Integer
+  give (number_of digits)
 
--- a sign, with its offset
-abbrev pub IsSignAt : ℕ → List Lexeme → ℕ → List Lexeme → Type 0
-IsSignAt c ts at rest = IsToken Punct ts (record { bytes = c ∷ []; at = at }) rest
+-- Word { "." Word }
+unfoldable pub dotted_name : Rule Located
+dotted_name = do
+  word ← token Word
+  more word
 
-abbrev pub IsSign : ℕ → List Lexeme → List Lexeme → Type 0
-IsSign c ts rest = (at : ℕ) × IsSignAt c ts at rest
+-- Integer | Quoted | Word
+unfoldable pub attribute_value : Rule AttributeValue
+attribute_value = with_token Integer (λ digits. give (values.Integer (number_of digits))) (with_token Quoted (λ text. give (values.Quoted text)) (do word ← token Word; give (values.Word word)))
 
--- { "." Word }
-pub data IsMore : Located → List Lexeme → Located → List Lexeme → Type 0 where
-  no_further : {s : Located} {ts : List Lexeme} → IsMore s ts s ts
-  further : {s n : Located} {ts rest : List Lexeme} (w : Located) (before after : List Lexeme) → IsSign dot ts before → IsToken Word before w after → IsMore (joined s w.bytes) after n rest → IsMore s ts n rest
+-- Word [ ":" value ]
+unfoldable pub attribute : Rule Attribute
+attribute = do
+  name ← token Word
+  with_token (Punct colon) (λ _. do value ← attribute_value; give (record { name = name; value = Some value })) (give (record { name = name; value = None }))
 
--- name = Word { "." Word }
-pub record IsName (ts : List Lexeme) (n : Located) (rest : List Lexeme) : Type 0 where
-  pub word : Located
-  pub behind_word : List Lexeme
-  pub begins : IsToken Word ts word behind_word
-  pub goes_on : IsMore word behind_word n rest
+-- [ "(" [ attribute { "," attribute } ] ")" ]
+unfoldable pub metadata : Rule (List Attribute)
+metadata = with_token (Punct open_round) (λ _. with_token (Punct close_round) (λ _. give []) (listed attribute false close_round)) (give [])
 
--- { item }
-pub data Repeated {X : Type 0} (Item : List Lexeme → X → List Lexeme → Type 0) : List Lexeme → List X → List Lexeme → Type 0 where
-  no_more : {ts : List Lexeme} → Repeated Item ts [] ts
-  one_more : {ts rest : List Lexeme} {x : X} {xs : List X} (mid : List Lexeme) → Item ts x mid → Repeated Item mid xs rest → Repeated Item ts (x ∷ xs) rest
+-- "[" name "]" | name
+unfoldable pub field_type : Rule FieldType
+field_type = with_token (Punct open_square) (λ bracket. do name ← dotted_name; _ ← sign close_square; give (types.Many bracket.at name)) (do name ← dotted_name; give (types.One name))
 
--- item { "," item }, and what may end such a list
-pub data Listed {X : Type 0} (Item : List Lexeme → X → List Lexeme → Type 0) (Ends : List Lexeme → List Lexeme → Type 0) : List Lexeme → List X → List Lexeme → Type 0 where
-  last_item : {ts rest : List Lexeme} {x : X} (mid : List Lexeme) → Item ts x mid → Ends mid rest → Listed Item Ends ts (x ∷ []) rest
-  item_before : {ts rest : List Lexeme} {x : X} {xs : List X} (mid after : List Lexeme) → Item ts x mid → IsSign comma mid after → Listed Item Ends after xs rest → Listed Item Ends ts (x ∷ xs) rest
+-- Integer | name
+unfoldable pub default_value : Rule DefaultValue
+default_value = with_token Integer (λ digits. give (defaults.Integer (number_of digits))) (do name ← dotted_name; give (defaults.Name name))
 
--- nothing
-abbrev pub IsNothing : List Lexeme → List Lexeme → Type 0
-IsNothing ts rest = ts ≡ rest
+-- [ "=" default_value ]
+unfoldable pub default_part : Rule (Option DefaultValue)
+default_part = with_token (Punct equals) (λ _. do value ← default_value; give (Some value)) (give None)
 
--- [ "," ]
-pub data MayBeComma : List Lexeme → List Lexeme → Type 0 where
-  no_comma : {ts : List Lexeme} → MayBeComma ts ts
-  one_comma : {ts rest : List Lexeme} → IsSign comma ts rest → MayBeComma ts rest
+-- Word ":" type [ "=" default_value ] metadata ";"
+unfoldable pub field : Rule FieldRead
+field = do
+  name ← token Word
+  _ ← sign colon
+  kind ← field_type
+  default ← default_part
+  attributes ← metadata
+  _ ← sign semicolon
+  give (record { name = name; kind = kind; default = default; attributes = attributes })
+
+-- Word metadata "{" { field } "}", of a table or a struct
+unfoldable pub table : Rule TableRead
+table = do
+  name ← token Word
+  attributes ← metadata
+  _ ← sign open_brace
+  fields ← block field close_brace
+  give (record { name = name; attributes = attributes; fields = fields })
+
+-- Word [ "=" Integer ]
+unfoldable pub enum_value : Rule EnumValue
+enum_value = do
+  name ← token Word
+  with_token (Punct equals) (λ _. do n ← number; give (record { name = name; number = Some n })) (give (record { name = name; number = None }))
+
+-- Word ":" name metadata "{" value { "," value } [ "," ] "}"
+unfoldable pub enumeration : Rule EnumRead
+enumeration = do
+  name ← token Word
+  _ ← sign colon
+  underlying ← dotted_name
+  attributes ← metadata
+  _ ← sign open_brace
+  values ← listed enum_value true close_brace
+  give (record { name = name; underlying = underlying; attributes = attributes; values = values })
+
+-- Word ":" name | name
+unfoldable pub union_member : Rule UnionMember
+union_member = do
+  word ← token Word
+  with_token (Punct colon) (λ _. do table ← dotted_name; give (record { alias = Some word; table = table })) (do table ← more word; give (record { alias = None; table = table }))
+
+-- Word metadata "{" member { "," member } [ "," ] "}"
+unfoldable pub union : Rule UnionRead
+union = do
+  name ← token Word
+  attributes ← metadata
+  _ ← sign open_brace
+  members ← listed union_member true close_brace
+  give (record { name = name; attributes = attributes; members = members })

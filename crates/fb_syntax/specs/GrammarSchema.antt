@@ -1,61 +1,71 @@
--- The grammar of declarations, to the end of the tokens.
+-- The grammar of declarations, to the end of the tokens (Grammar).
 use Rattle.std.specs.Prelude.{ℕ, ◌≡◌, List, [], length, Option, Some, None}
 use Rattle.fb_syntax.specs.Located.{Located}
-use Rattle.fb_syntax.specs.TypesRead.{TableRead, EnumRead, UnionRead}
 use Rattle.fb_syntax.specs.DeclsRead.{DeclsRead}
 use Rattle.fb_syntax.specs.Lexemes.{Lexeme, lexemes}
-use Rattle.fb_syntax.specs.Keywords.{spelling}
+use Rattle.fb_syntax.specs.Keywords.{spelling, keyword_of}
 use Rattle.fb_syntax.specs.Signs.{semicolon}
-use Rattle.fb_syntax.specs.Grammar.{IsToken, IsSign, IsName, Repeated}
-use Rattle.fb_syntax.specs.GrammarTypes.{IsTable, IsEnum, IsUnion}
+use Rattle.fb_syntax.specs.Rules.{Front, Rule, and_then, IsToken, token_at, token, sign, give, ◌>>=◌, with_token, Repeated}
+use Rattle.fb_syntax.specs.Grammar.{dotted_name, table, enumeration, union}
 use Rattle.fb_syntax.specs.declared.tokens.Token.{Token}
-use Rattle.fb_syntax.specs.declared.tokens.TokenKind.TheVariants.{Word, Quoted}
+use Rattle.fb_syntax.specs.declared.tokens.TokenKind.TheVariants.{Word, Quoted, Punct}
 use Rattle.fb_syntax.specs.declared.parser.keywords.Keyword.{Keyword}
 use Rattle.fb_syntax.specs.declared.parser.keywords.Keyword.TheVariants as keywords
 use Rattle.fb_syntax.specs.declared.declarations.Declaration.{Declaration}
 use Rattle.fb_syntax.specs.declared.declarations.Declaration.TheVariants as declarations
+use Rattle.fb_syntax.specs.declared.declarations.TypeDecl.TheVariants as types
+use Rattle.fb_syntax.specs.declared.declarations.Directive.TheVariants as directives
+
+unfoldable pub keyword_at : List Lexeme → Front Keyword
+keyword_at ts = and_then (token_at Word ts) (λ w. and_then (keyword_of (w.0).bytes) (λ k. Some (k, w.1)))
 
 -- one of the grammar's own words
-abbrev pub IsKeyword : Keyword → List Lexeme → List Lexeme → Type 0
-IsKeyword keyword ts rest = (at : ℕ) × IsToken Word ts (record { bytes = spelling keyword; at = at }) rest
+abbrev pub keyword : Rule Keyword
+keyword = record { Is = λ ts k rest. (at : ℕ) × IsToken Word ts (record { bytes = spelling k; at = at }) rest; read = keyword_at }
 
 -- [ name ] ";"
-pub data IsNamespace : List Lexeme → Option Located → List Lexeme → Type 0 where
-  outermost : {ts rest : List Lexeme} → IsSign semicolon ts rest → IsNamespace ts None rest
-  inner : {ts rest : List Lexeme} {n : Located} (after : List Lexeme) → IsName ts n after → IsSign semicolon after rest → IsNamespace ts (Some n) rest
+unfoldable pub namespace : Rule (Option Located)
+namespace = with_token (Punct semicolon) (λ _. give None) (do name ← dotted_name; _ ← sign semicolon; give (Some name))
 
--- ( Word | Quoted ) ";"
-pub data IsAttribute : List Lexeme → Located → List Lexeme → Type 0 where
-  word_attribute : {ts rest : List Lexeme} {t : Located} (after : List Lexeme) → IsToken Word ts t after → IsSign semicolon after rest → IsAttribute ts t rest
-  quoted_attribute : {ts rest : List Lexeme} {t : Located} (after : List Lexeme) → IsToken Quoted ts t after → IsSign semicolon after rest → IsAttribute ts t rest
+-- ( Quoted | Word ) ";"
+unfoldable pub attribute_decl : Rule Located
+attribute_decl = do
+  name ← with_token Quoted (λ text. give text) (token Word)
+  _ ← sign semicolon
+  give name
 
 -- name ";"
-abbrev pub IsRoot : List Lexeme → Located → List Lexeme → Type 0
-IsRoot ts n rest = (after : List Lexeme) × IsName ts n after × IsSign semicolon after rest
+unfoldable pub root_type : Rule Located
+root_type = do
+  name ← dotted_name
+  _ ← sign semicolon
+  give name
 
--- Quoted ";"
-abbrev pub IsQuoted : List Lexeme → Located → List Lexeme → Type 0
-IsQuoted ts t rest = (after : List Lexeme) × IsToken Quoted ts t after × IsSign semicolon after rest
+-- Quoted ";", of a file's extension or identifier
+unfoldable pub quoted : Rule Located
+quoted = do
+  text ← token Quoted
+  _ ← sign semicolon
+  give text
 
--- namespace | attribute | table | struct | enum | union | root | extension | identifier, behind the first word
-pub data IsDeclared : Keyword → List Lexeme → Declaration → List Lexeme → Type 0 where
-  is_namespace : {ts rest : List Lexeme} {n : Option Located} → IsNamespace ts n rest → IsDeclared keywords.Namespace ts (declarations.Namespace n) rest
-  is_attribute : {ts rest : List Lexeme} {t : Located} → IsAttribute ts t rest → IsDeclared keywords.Attribute ts (declarations.Attribute t) rest
-  is_table : {ts rest : List Lexeme} {t : TableRead} → IsTable ts t rest → IsDeclared keywords.Table ts (declarations.Table t) rest
-  is_struct : {ts rest : List Lexeme} {t : TableRead} → IsTable ts t rest → IsDeclared keywords.Struct ts (declarations.Struct t) rest
-  is_enum : {ts rest : List Lexeme} {e : EnumRead} → IsEnum ts e rest → IsDeclared keywords.Enum ts (declarations.Enum e) rest
-  is_union : {ts rest : List Lexeme} {u : UnionRead} → IsUnion ts u rest → IsDeclared keywords.Union ts (declarations.Union u) rest
-  is_root : {ts rest : List Lexeme} {n : Located} → IsRoot ts n rest → IsDeclared keywords.Root ts (declarations.Root n) rest
-  is_extension : {ts rest : List Lexeme} {t : Located} → IsQuoted ts t rest → IsDeclared keywords.Extension ts (declarations.Extension t) rest
-  is_identifier : {ts rest : List Lexeme} {t : Located} → IsQuoted ts t rest → IsDeclared keywords.Identifier ts (declarations.Identifier t) rest
+-- the declaration that a keyword begins
+unfoldable pub declared : Keyword → Rule Declaration
+declared keywords.Namespace = do n ← namespace; give (declarations.Namespace n)
+declared keywords.Attribute = do a ← attribute_decl; give (declarations.Attribute a)
+declared keywords.Table = do t ← table; give (declarations.Type (types.Table t))
+declared keywords.Struct = do t ← table; give (declarations.Type (types.Struct t))
+declared keywords.Enum = do e ← enumeration; give (declarations.Type (types.Enum e))
+declared keywords.Union = do u ← union; give (declarations.Type (types.Union u))
+declared keywords.Root = do n ← root_type; give (declarations.Directive (directives.RootType n))
+declared keywords.Extension = do t ← quoted; give (declarations.Directive (directives.FileExtension t))
+declared keywords.Identifier = do t ← quoted; give (declarations.Directive (directives.FileIdentifier t))
 
-pub record IsDeclaration (ts : List Lexeme) (d : Declaration) (rest : List Lexeme) : Type 0 where
-  pub keyword : Keyword
-  pub behind_keyword : List Lexeme
-  pub begins : IsKeyword keyword ts behind_keyword
-  pub goes_on : IsDeclared keyword behind_keyword d rest
+unfoldable pub declaration : Rule Declaration
+declaration = do
+  k ← keyword
+  declared k
 
 -- The tokens of a text read as these declarations, to the last; with the text's length.
 pub record Reads (text : List ℕ) (tokens : List Token) (d : DeclsRead) : Type 0 where
-  pub whole : Repeated IsDeclaration (lexemes text tokens) d.declarations []
+  pub whole : Repeated declaration.Is (lexemes text tokens) d.declarations []
   pub len : d.text_len ≡ length text

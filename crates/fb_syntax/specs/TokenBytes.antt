@@ -20,17 +20,18 @@ abbrev pub is_quoted : List ℕ → Bool
 is_quoted [] = false
 is_quoted (c ∷ cs) = c == 34 && is_closed_by_quote cs
 
-abbrev pub is_punctuation : List ℕ → Bool
-is_punctuation [] = false
-is_punctuation (c ∷ []) = is_punct c
-is_punctuation (c ∷ d ∷ cs) = false
+-- that byte alone
+abbrev pub is_punctuation : ℕ → List ℕ → Bool
+is_punctuation p [] = false
+is_punctuation p (c ∷ []) = c == p && is_punct c
+is_punctuation p (c ∷ d ∷ cs) = false
 
 -- the bytes are a token of that kind
 unfoldable pub is_token : TokenKind → List ℕ → Bool
 is_token Word s = is_word s
 is_token Integer s = is_integer s
 is_token Quoted s = is_quoted s
-is_token Punct s = is_punctuation s
+is_token (Punct p) s = is_punctuation p s
 
 -- The first n bytes are a token of that kind, and no more bytes are a token.
 pub record IsLongest (kind : TokenKind) (n : ℕ) (text : List ℕ) : Type 0 where

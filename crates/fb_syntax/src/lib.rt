@@ -6,18 +6,16 @@ mod declarations;
 mod faults;
 mod integers;
 mod parser;
-mod parsing;
-mod readings;
 mod scan;
+mod schema_text;
 mod tokens;
 
 pub use declarations::{
-    AttributeUse, AttributeValue, Declaration, Decls, DefaultValue, EnumDeclaration, EnumValue,
-    Field, FieldType, TableDeclaration, Text, UnionDeclaration, UnionMember,
+    Attribute, AttributeValue, Declaration, Decls, DefaultValue, Directive, DottedName, EnumDecl,
+    EnumValue, Field, FieldType, Number, TableDecl, Text, TypeDecl, UnionDecl, UnionMember,
 };
 pub use faults::SyntaxFault;
 pub use integers::integer_value;
-pub use parsing::parse;
-pub use readings::one_reading;
 pub use scan::one_spelling;
+pub use schema_text::{one_reading, parse};
 pub use tokens::{Token, TokenKind};

@@ -6,8 +6,8 @@ ghost use Rattle.fb_syntax.specs.declared.tokens.Token.{Token};
 ghost use Rattle.fb_syntax.specs.Spells.{Spells, SpellsText, OneSpelling, Finds};
 ghost use Rattle.fb_syntax.specs.Refusals.{StandsWithin};
 ghost use Rattle.fb_syntax.specs.SpelledTokens.{IsTokenOf, IsTokenFault};
-ghost use Rattle.fb_syntax.specs.Marks.{mark_len};
-ghost use Rattle.fb_syntax.specs.Pieces.{is_close, close_len, comment_at, integer_at, quoted_at, piece_at};
+ghost use Rattle.fb_syntax.specs.scan.Marks.{mark_len};
+ghost use Rattle.fb_syntax.specs.scan.Pieces.{is_close, close_len, comment_at, integer_at, quoted_at, piece_at};
 
 use crate::bytes::{
     is_blank, is_digit, is_letter, is_punct, is_sign, line_run, quotable_run, word_run,
@@ -46,7 +46,7 @@ fn close_len(text: &[u8]) -> Option<usize>
 }
 
 // The comment behind a slash that stands at `at`.
-#[tactic(auto, unfolding(crate::specs::Pieces::comment_at))]
+#[tactic(auto, unfolding(crate::specs::scan::Pieces::comment_at))]
 fn comment(at: u64, text: &[u8]) -> Result<Piece, SyntaxFault>
     ensures piece { result ≡ comment_at at text.now }
     ensures fault { IfErr result IsTokenFault }
@@ -63,7 +63,7 @@ fn comment(at: u64, text: &[u8]) -> Result<Piece, SyntaxFault>
 }
 
 // The quoted text behind a quote that stands at `at`.
-#[tactic(auto, unfolding(crate::specs::Pieces::quoted_at))]
+#[tactic(auto, unfolding(crate::specs::scan::Pieces::quoted_at))]
 fn quoted(at: u64, text: &[u8]) -> Result<Piece, SyntaxFault>
     requires { at + length text.now < 2 ^ 64 }
     ensures piece { result ≡ quoted_at at text.now }
@@ -79,7 +79,7 @@ fn quoted(at: u64, text: &[u8]) -> Result<Piece, SyntaxFault>
 }
 
 // The integer at `at`, whose sign has that many bytes.
-#[tactic(auto, unfolding(crate::specs::Pieces::integer_at))]
+#[tactic(auto, unfolding(crate::specs::scan::Pieces::integer_at))]
 fn integer(at: u64, sign: usize, text: &[u8]) -> Result<Piece, SyntaxFault>
     requires { sign ≤ length text.now }
     ensures piece { result ≡ integer_at at sign text.now }
@@ -97,7 +97,7 @@ fn integer(at: u64, sign: usize, text: &[u8]) -> Result<Piece, SyntaxFault>
 }
 
 // What stands at `at`, where `text` begins.
-#[tactic(auto, unfolding(crate::specs::Pieces::piece_at))]
+#[tactic(auto, unfolding(crate::specs::scan::Pieces::piece_at))]
 fn next_piece(at: u64, text: &[u8]) -> Result<Piece, SyntaxFault>
     requires { at + length text.now < 2 ^ 64 }
     ensures piece { result ≡ piece_at at text.now }
@@ -121,7 +121,7 @@ fn next_piece(at: u64, text: &[u8]) -> Result<Piece, SyntaxFault>
     } else if first == b'"' {
         quoted(at, rest)
     } else if is_punct(first) {
-        Ok(Piece::Token(TokenKind::Punct, 1))
+        Ok(Piece::Token(TokenKind::Punct(first), 1))
     } else {
         Err(SyntaxFault::BadByte(at))
     }

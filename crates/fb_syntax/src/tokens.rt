@@ -6,7 +6,8 @@ pub enum TokenKind {
     Word,
     Integer,
     Quoted,
-    Punct,
+    /// One of `{ } ( ) [ ] : ; , . =`.
+    Punct(u8),
 }
 
 /// A token: its kind, its offset and its length in bytes.

@@ -1,18 +1,38 @@
 //! Tables, structs and their fields.
 ghost use Rattle.std.specs.Prelude.{◌<◌, ◌≤◌, length, IfOk};
-ghost use Rattle.fb_syntax.specs.Signs.{close_brace};
-ghost use Rattle.fb_syntax.specs.Reading.{Gives, is_sign, name_at, until};
-ghost use Rattle.fb_syntax.specs.ReadingFields.{type_at, default_value_at, default_at, field_at};
-ghost use Rattle.fb_syntax.specs.ReadingTypes.{table_at};
+ghost use Rattle.fb_syntax.specs.Grammar.{dotted_name, field_type, default_value, default_part, field, table};
+ghost use Rattle.fb_syntax.specs.Stops.{Gives};
 
+use super::lists::Item;
 use super::{Parser, Stop};
-use crate::declarations::{DefaultValue, Field, FieldType, TableDeclaration, Text};
+use crate::declarations::{DefaultValue, DottedName, Field, FieldType, TableDecl};
+use crate::integers::number_of;
 use crate::tokens::TokenKind;
 
-impl Parser<'_> {
+impl<'t> Item<'t> for Field<'t> {
+    ghost item_at = { field.read };
+
+    #[tactic(auto, unfolding(crate::specs::Grammar::field))]
+    fn read(parser: &mut Parser<'t, '_>) -> Result<Field<'t>, Stop> {
+        let name = parser.token(TokenKind::Word)?;
+        parser.sign(b':')?;
+        let kind = parser.field_type()?;
+        let default = parser.default_part()?;
+        let attributes = parser.metadata()?;
+        parser.sign(b';')?;
+        Ok(Field {
+            name,
+            kind,
+            default,
+            attributes,
+        })
+    }
+}
+
+impl<'t> Parser<'t, '_> {
     /// The name of the type of a vector's elements.
-    fn element(&mut self) -> Result<Text, Stop>
-        ensures exact { Gives (λ t. (t, self.new)) result (name_at self.old) }
+    fn element(&mut self) -> Result<DottedName<'t>, Stop>
+        ensures exact { Gives (λ t. (t, self.new)) result (dotted_name.read self.old) }
         ensures shorter { IfOk result (λ _. length self.new < length self.old) }
     {
         if self.is_sign(b'[') {
@@ -21,35 +41,35 @@ impl Parser<'_> {
         self.name()
     }
 
-    #[tactic(auto, unfolding(crate::specs::ReadingFields::type_at))]
-    fn field_type(&mut self) -> Result<FieldType, Stop>
-        ensures exact { Gives (λ t. (t, self.new)) result (type_at self.old) }
+    #[tactic(auto, unfolding(crate::specs::Grammar::field_type))]
+    fn field_type(&mut self) -> Result<FieldType<'t>, Stop>
+        ensures exact { Gives (λ t. (t, self.new)) result (field_type.read self.old) }
         ensures shorter { IfOk result (λ _. length self.new < length self.old) }
     {
         match self.take_sign(b'[') {
-            Some(at) => {
+            Some(bracket) => {
                 let element = self.element()?;
                 self.sign(b']')?;
-                Ok(FieldType::Many(at, element))
+                Ok(FieldType::Many(bracket.at, element))
             }
             None => Ok(FieldType::One(self.name()?)),
         }
     }
 
-    #[tactic(auto, unfolding(crate::specs::ReadingFields::default_value_at))]
-    fn default_value(&mut self) -> Result<DefaultValue, Stop>
-        ensures exact { Gives (λ v. (v, self.new)) result (default_value_at self.old) }
+    #[tactic(auto, unfolding(crate::specs::Grammar::default_value))]
+    fn default_value(&mut self) -> Result<DefaultValue<'t>, Stop>
+        ensures exact { Gives (λ v. (v, self.new)) result (default_value.read self.old) }
         ensures shorter { IfOk result (λ _. length self.new < length self.old) }
     {
-        match self.kind() {
-            Some(TokenKind::Integer) => Ok(DefaultValue::Integer(self.text(TokenKind::Integer)?)),
-            _ => Ok(DefaultValue::Name(self.name()?)),
+        match self.take(TokenKind::Integer) {
+            Some(digits) => Ok(DefaultValue::Integer(number_of(digits))),
+            None => Ok(DefaultValue::Name(self.name()?)),
         }
     }
 
-    #[tactic(auto, unfolding(crate::specs::ReadingFields::default_at))]
-    fn default(&mut self) -> Result<Option<DefaultValue>, Stop>
-        ensures exact { Gives (λ v. (v, self.new)) result (default_at self.old) }
+    #[tactic(auto, unfolding(crate::specs::Grammar::default_part))]
+    fn default_part(&mut self) -> Result<Option<DefaultValue<'t>>, Stop>
+        ensures exact { Gives (λ v. (v, self.new)) result (default_part.read self.old) }
         ensures shorter { IfOk result (λ _. length self.new ≤ length self.old) }
     {
         match self.take_sign(b'=') {
@@ -58,50 +78,17 @@ impl Parser<'_> {
         }
     }
 
-    #[tactic(auto, unfolding(crate::specs::ReadingFields::field_at))]
-    fn field(&mut self) -> Result<Field, Stop>
-        ensures exact { Gives (λ f. (f, self.new)) result (field_at self.old) }
-        ensures shorter { IfOk result (λ _. length self.new < length self.old) }
-    {
-        let name = self.text(TokenKind::Word)?;
-        self.sign(b':')?;
-        let kind = self.field_type()?;
-        let default = self.default()?;
-        let attributes = self.metadata()?;
-        self.sign(b';')?;
-        Ok(Field {
-            name,
-            kind,
-            default,
-            attributes,
-        })
-    }
-
-    fn fields(&mut self) -> Result<Vec<Field>, Stop>
-        ensures exact { Gives (λ v. (v.items, self.new)) result
-            (until field_at (is_sign close_brace) self.old) }
-        ensures shorter { IfOk result (λ _. length self.new ≤ length self.old) }
-    {
-        let mut fields = Vec::new(self.alloc());
-        while !self.is_sign(b'}') {
-            let field = self.field()?;
-            fields.push(field)?;
-        }
-        Ok(fields)
-    }
-
     /// A table or struct behind its first word.
-    #[tactic(auto, unfolding(crate::specs::ReadingTypes::table_at))]
-    pub(super) fn table(&mut self) -> Result<TableDeclaration, Stop>
-        ensures exact { Gives (λ t. (t, self.new)) result (table_at self.old) }
+    #[tactic(auto, unfolding(crate::specs::Grammar::table))]
+    pub(super) fn table(&mut self) -> Result<TableDecl<'t>, Stop>
+        ensures exact { Gives (λ t. (t, self.new)) result (table.read self.old) }
         ensures shorter { IfOk result (λ _. length self.new < length self.old) }
     {
-        let name = self.text(TokenKind::Word)?;
+        let name = self.token(TokenKind::Word)?;
         let attributes = self.metadata()?;
         self.sign(b'{')?;
-        let fields = self.fields()?;
-        self.sign(b'}')?;
-        Ok(TableDeclaration {
+        let fields = self.block(b'}')?;
+        Ok(TableDecl {
             name,
             attributes,
             fields,

@@ -1,13 +1,72 @@
-//! What stands between the items of a list.
-ghost use Rattle.std.specs.Prelude.{◌≤◌, length, IfOk};
-ghost use Rattle.fb_syntax.specs.Reading.{Gives, comma_at};
+//! Lists: items up to a closing sign, or up to the end.
+ghost use Rattle.std.specs.Prelude.{◌≡◌, ◌<◌, ◌≤◌, length, IfOk, List, Option};
+ghost use Rattle.fb_syntax.specs.Lexemes.{Lexeme};
+ghost use Rattle.fb_syntax.specs.Rules.{closed, closes, comma_at, is_sign, some_until, until};
+ghost use Rattle.fb_syntax.specs.Stops.{Gives};
 
 use super::{Parser, Stop};
 
-impl Parser<'_> {
+/// What lists consist of: fields, attributes, values, members and declarations.
+pub(super) trait Item<'t>: Drop + Sized {
+    /// What stands at the front of the tokens, and the tokens behind it.
+    ghost item_at: { List Lexeme → Option (Self × List Lexeme) };
+
+    /// Passes an item, and what divides it from the next.
+    fn read(parser: &mut Parser<'t, '_>) -> Result<Self, Stop>
+        ensures exact { Gives (λ x. (x, parser.new)) result (item_at parser.old) }
+        ensures shorter { IfOk result (λ _. length parser.new < length parser.old) };
+}
+
+impl<'t> Parser<'t, '_> {
+    fn is_closed(&self, close: Option<u8>) -> bool
+        ensures { result ≡ closes close self.now }
+    {
+        match close {
+            Some(sign) => self.is_sign(sign),
+            None => self.is_at_end(),
+        }
+    }
+
+    /// The items before a closing sign or, with none, before the end.
+    pub(super) fn items<T: Item<'t>>(&mut self, close: Option<u8>) -> Result<Vec<T>, Stop>
+        ensures exact { Gives (λ v. (v.items, self.new)) result (until T.item_at (closes close) self.old) }
+        ensures shorter { IfOk result (λ _. length self.new ≤ length self.old) }
+    {
+        let mut items = Vec::new(self.alloc());
+        while !self.is_closed(close) {
+            let item = T::read(self)?;
+            items.push(item)?;
+        }
+        Ok(items)
+    }
+
+    /// Items and the closing sign behind them.
+    pub(super) fn block<T: Item<'t>>(&mut self, close: u8) -> Result<Vec<T>, Stop>
+        ensures exact { Gives (λ v. (v.items, self.new)) result
+            (closed close (until T.item_at (is_sign close) self.old)) }
+        ensures shorter { IfOk result (λ _. length self.new < length self.old) }
+    {
+        let items = self.items(Some(close))?;
+        self.sign(close)?;
+        Ok(items)
+    }
+
+    /// At least one item, and the closing sign.
+    #[tactic(auto, unfolding(crate::specs::Rules::some_until))]
+    pub(super) fn listed<T: Item<'t>>(&mut self, close: u8) -> Result<Vec<T>, Stop>
+        ensures exact { Gives (λ v. (v.items, self.new)) result
+            (closed close (some_until T.item_at close self.old)) }
+        ensures shorter { IfOk result (λ _. length self.new < length self.old) }
+    {
+        if self.is_sign(close) {
+            return Err(Stop::Unexpected);
+        }
+        self.block(close)
+    }
+
     /// Passes a comma; nothing where the list's closing sign stands. Where `trailing` is false, an
     /// item has to follow the comma.
-    #[tactic(auto, unfolding(crate::specs::Reading::comma_at))]
+    #[tactic(auto, unfolding(crate::specs::Rules::comma_at))]
     pub(super) fn comma(&mut self, trailing: bool, close: u8) -> Result<(), Stop>
         ensures exact { Gives (λ _. self.new) result (comma_at trailing close self.old) }
         ensures shorter { IfOk result (λ _. length self.new ≤ length self.old) }

@@ -1,73 +1,66 @@
 //! Attributes behind a name or a type.
-ghost use Rattle.std.specs.Prelude.{◌<◌, ◌≤◌, length, IfOk};
+ghost use Rattle.std.specs.Prelude.{◌<◌, ◌≤◌, length, IfOk, false};
 ghost use Rattle.fb_syntax.specs.Signs.{close_round};
-ghost use Rattle.fb_syntax.specs.Reading.{Gives, is_sign, until};
-ghost use Rattle.fb_syntax.specs.ReadingFields.{attribute_value_at, attribute_use_at, listed_attribute_at, metadata_at};
+ghost use Rattle.fb_syntax.specs.Rules.{listed_at};
+ghost use Rattle.fb_syntax.specs.Grammar.{attribute_value, attribute, metadata};
+ghost use Rattle.fb_syntax.specs.Stops.{Gives};
 
+use super::lists::Item;
 use super::{Parser, Stop};
-use crate::declarations::{AttributeUse, AttributeValue};
+use crate::declarations::{Attribute, AttributeValue};
+use crate::integers::number_of;
 use crate::tokens::TokenKind;
 
-impl Parser<'_> {
-    #[tactic(auto, unfolding(crate::specs::ReadingFields::attribute_value_at))]
-    fn attribute_value(&mut self) -> Result<AttributeValue, Stop>
-        ensures exact { Gives (λ v. (v, self.new)) result (attribute_value_at self.old) }
+impl<'t> Item<'t> for Attribute<'t> {
+    ghost item_at = { listed_at attribute.read false close_round };
+
+    #[tactic(auto, unfolding(crate::specs::Rules::listed_at))]
+    fn read(parser: &mut Parser<'t, '_>) -> Result<Attribute<'t>, Stop> {
+        let attribute = parser.attribute()?;
+        parser.comma(false, b')')?;
+        Ok(attribute)
+    }
+}
+
+impl<'t> Parser<'t, '_> {
+    #[tactic(auto, unfolding(crate::specs::Grammar::attribute_value))]
+    fn attribute_value(&mut self) -> Result<AttributeValue<'t>, Stop>
+        ensures exact { Gives (λ v. (v, self.new)) result (attribute_value.read self.old) }
         ensures shorter { IfOk result (λ _. length self.new < length self.old) }
     {
-        match self.kind() {
-            Some(TokenKind::Integer) => Ok(AttributeValue::Integer(self.text(TokenKind::Integer)?)),
-            Some(TokenKind::Quoted) => Ok(AttributeValue::Quoted(self.text(TokenKind::Quoted)?)),
-            _ => Ok(AttributeValue::Word(self.text(TokenKind::Word)?)),
+        if let Some(digits) = self.take(TokenKind::Integer) {
+            return Ok(AttributeValue::Integer(number_of(digits)));
         }
+        if let Some(text) = self.take(TokenKind::Quoted) {
+            return Ok(AttributeValue::Quoted(text));
+        }
+        Ok(AttributeValue::Word(self.token(TokenKind::Word)?))
     }
 
-    #[tactic(auto, unfolding(crate::specs::ReadingFields::attribute_use_at))]
-    fn attribute_use(&mut self) -> Result<AttributeUse, Stop>
-        ensures exact { Gives (λ a. (a, self.new)) result (attribute_use_at self.old) }
+    #[tactic(auto, unfolding(crate::specs::Grammar::attribute))]
+    fn attribute(&mut self) -> Result<Attribute<'t>, Stop>
+        ensures exact { Gives (λ a. (a, self.new)) result (attribute.read self.old) }
         ensures shorter { IfOk result (λ _. length self.new < length self.old) }
     {
-        let name = self.text(TokenKind::Word)?;
+        let name = self.token(TokenKind::Word)?;
         let value = match self.take_sign(b':') {
             Some(_) => Some(self.attribute_value()?),
             None => None,
         };
-        Ok(AttributeUse { name, value })
+        Ok(Attribute { name, value })
     }
 
-    #[tactic(auto, unfolding(crate::specs::ReadingFields::listed_attribute_at, crate::specs::Reading::listed_at))]
-    fn listed_attribute(&mut self) -> Result<AttributeUse, Stop>
-        ensures exact { Gives (λ a. (a, self.new)) result (listed_attribute_at self.old) }
-        ensures shorter { IfOk result (λ _. length self.new < length self.old) }
-    {
-        let attribute = self.attribute_use()?;
-        self.comma(false, b')')?;
-        Ok(attribute)
-    }
-
-    /// The attributes before a closing parenthesis.
-    fn attributes(&mut self) -> Result<Vec<AttributeUse>, Stop>
-        ensures exact { Gives (λ v. (v.items, self.new)) result
-            (until listed_attribute_at (is_sign close_round) self.old) }
+    #[tactic(auto, unfolding(crate::specs::Grammar::metadata))]
+    pub(super) fn metadata(&mut self) -> Result<Vec<Attribute<'t>>, Stop>
+        ensures exact { Gives (λ v. (v.items, self.new)) result (metadata.read self.old) }
         ensures shorter { IfOk result (λ _. length self.new ≤ length self.old) }
     {
-        let mut attributes = Vec::new(self.alloc());
-        while !self.is_sign(b')') {
-            let attribute = self.listed_attribute()?;
-            attributes.push(attribute)?;
-        }
-        Ok(attributes)
-    }
-
-    #[tactic(auto, unfolding(crate::specs::ReadingFields::metadata_at))]
-    pub(super) fn metadata(&mut self) -> Result<Vec<AttributeUse>, Stop>
-        ensures exact { Gives (λ v. (v.items, self.new)) result (metadata_at self.old) }
-        ensures shorter { IfOk result (λ _. length self.new ≤ length self.old) }
-    {
-        if let None = self.take_sign(b'(') {
+        if self.take_sign(b'(').is_none() {
             return Ok(Vec::new(self.alloc()));
         }
-        let attributes = self.attributes()?;
-        self.sign(b')')?;
-        Ok(attributes)
+        if self.take_sign(b')').is_some() {
+            return Ok(Vec::new(self.alloc()));
+        }
+        self.listed(b')')
     }
 }

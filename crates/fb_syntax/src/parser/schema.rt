@@ -2,24 +2,34 @@
 ghost use Rattle.std.specs.Prelude.{IfErr, ◌≡◌, ◌<◌, ◌≤◌, length, IfOk, MatchResult};
 ghost use Rattle.fb_syntax.specs.declared.faults.SyntaxFault.TheVariants.{Memory};
 ghost use Rattle.fb_syntax.specs.DeclsRead.{DeclsRead};
-ghost use Rattle.fb_syntax.specs.GrammarSchema.{Reads};
+ghost use Rattle.fb_syntax.specs.GrammarSchema.{Reads, keyword_at, namespace, attribute_decl, root_type, quoted};
+ghost use Rattle.fb_syntax.specs.GrammarSchema.{declared, declaration};
 ghost use Rattle.fb_syntax.specs.Lexemes.{AreReadable};
 ghost use Rattle.fb_syntax.specs.Refusals.{StandsWithin};
-ghost use Rattle.fb_syntax.specs.Reading.{Gives, IsGrammarFault, is_empty, until};
-ghost use Rattle.fb_syntax.specs.ReadingSchema.{keyword_at, namespace_at, attribute_at, root_at, quoted_at};
-ghost use Rattle.fb_syntax.specs.ReadingSchema.{declared_at, declaration_at};
+ghost use Rattle.fb_syntax.specs.Stops.{Gives, IsGrammarFault};
 
 use super::keywords::{Keyword, keyword_of};
+use super::lists::Item;
 use super::{Parser, Stop};
-use crate::declarations::{Declaration, Decls, Text};
+use crate::declarations::{Declaration, Decls, Directive, DottedName, Text, TypeDecl};
 use crate::faults::SyntaxFault;
 use crate::tokens::{Token, TokenKind};
 use std::alloc::Global;
 
-impl Parser<'_> {
-    #[tactic(auto, unfolding(crate::specs::ReadingSchema::namespace_at))]
-    fn namespace(&mut self) -> Result<Option<Text>, Stop>
-        ensures exact { Gives (λ n. (n, self.new)) result (namespace_at self.old) }
+impl<'t> Item<'t> for Declaration<'t> {
+    ghost item_at = { declaration.read };
+
+    #[tactic(auto, unfolding(crate::specs::GrammarSchema::declaration))]
+    fn read(parser: &mut Parser<'t, '_>) -> Result<Declaration<'t>, Stop> {
+        let keyword = parser.keyword()?;
+        parser.declared(keyword)
+    }
+}
+
+impl<'t> Parser<'t, '_> {
+    #[tactic(auto, unfolding(crate::specs::GrammarSchema::namespace))]
+    fn namespace(&mut self) -> Result<Option<DottedName<'t>>, Stop>
+        ensures exact { Gives (λ n. (n, self.new)) result (namespace.read self.old) }
         ensures shorter { IfOk result (λ _. length self.new < length self.old) }
     {
         if let Some(_) = self.take_sign(b';') {
@@ -30,22 +40,22 @@ impl Parser<'_> {
         Ok(Some(name))
     }
 
-    #[tactic(auto, unfolding(crate::specs::ReadingSchema::attribute_at))]
-    fn attribute(&mut self) -> Result<Text, Stop>
-        ensures exact { Gives (λ t. (t, self.new)) result (attribute_at self.old) }
+    #[tactic(auto, unfolding(crate::specs::GrammarSchema::attribute_decl))]
+    fn attribute_decl(&mut self) -> Result<Text<'t>, Stop>
+        ensures exact { Gives (λ t. (t, self.new)) result (attribute_decl.read self.old) }
         ensures shorter { IfOk result (λ _. length self.new < length self.old) }
     {
-        let name = match self.kind() {
-            Some(TokenKind::Quoted) => self.text(TokenKind::Quoted)?,
-            _ => self.text(TokenKind::Word)?,
+        let name = match self.take(TokenKind::Quoted) {
+            Some(text) => text,
+            None => self.token(TokenKind::Word)?,
         };
         self.sign(b';')?;
         Ok(name)
     }
 
-    #[tactic(auto, unfolding(crate::specs::ReadingSchema::root_at))]
-    fn root(&mut self) -> Result<Text, Stop>
-        ensures exact { Gives (λ t. (t, self.new)) result (root_at self.old) }
+    #[tactic(auto, unfolding(crate::specs::GrammarSchema::root_type))]
+    fn root_type(&mut self) -> Result<DottedName<'t>, Stop>
+        ensures exact { Gives (λ t. (t, self.new)) result (root_type.read self.old) }
         ensures shorter { IfOk result (λ _. length self.new < length self.old) }
     {
         let name = self.name()?;
@@ -54,71 +64,53 @@ impl Parser<'_> {
     }
 
     /// What a file's name ends in, or its identifier.
-    #[tactic(auto, unfolding(crate::specs::ReadingSchema::quoted_at))]
-    fn quoted(&mut self) -> Result<Text, Stop>
-        ensures exact { Gives (λ t. (t, self.new)) result (quoted_at self.old) }
+    #[tactic(auto, unfolding(crate::specs::GrammarSchema::quoted))]
+    fn quoted(&mut self) -> Result<Text<'t>, Stop>
+        ensures exact { Gives (λ t. (t, self.new)) result (quoted.read self.old) }
         ensures shorter { IfOk result (λ _. length self.new < length self.old) }
     {
-        let text = self.text(TokenKind::Quoted)?;
+        let text = self.token(TokenKind::Quoted)?;
         self.sign(b';')?;
         Ok(text)
     }
 
-    #[tactic(auto, unfolding(crate::specs::ReadingSchema::keyword_at))]
+    #[tactic(auto, unfolding(crate::specs::GrammarSchema::keyword_at))]
     fn keyword(&mut self) -> Result<Keyword, Stop>
         ensures exact { Gives (λ k. (k, self.new)) result (keyword_at self.old) }
         ensures shorter { IfOk result (λ _. length self.new < length self.old) }
     {
-        let word = self.next(TokenKind::Word)?;
+        let word = self.peek(TokenKind::Word).ok_or(Stop::Unexpected)?;
         let keyword = keyword_of(word.text).ok_or(Stop::Unexpected)?;
         self.advance();
         Ok(keyword)
     }
 
     /// The declaration that a word begins.
-    #[tactic(auto, unfolding(crate::specs::ReadingSchema::declared_at))]
-    fn declared(&mut self, keyword: Keyword) -> Result<Declaration, Stop>
-        ensures exact { Gives (λ d. (d, self.new)) result (declared_at keyword self.old) }
+    #[tactic(auto, unfolding(crate::specs::GrammarSchema::declared))]
+    fn declared(&mut self, keyword: Keyword) -> Result<Declaration<'t>, Stop>
+        ensures exact { Gives (λ d. (d, self.new)) result ((declared keyword).read self.old) }
         ensures shorter { IfOk result (λ _. length self.new < length self.old) }
     {
         match keyword {
             Keyword::Namespace => Ok(Declaration::Namespace(self.namespace()?)),
-            Keyword::Attribute => Ok(Declaration::Attribute(self.attribute()?)),
-            Keyword::Table => Ok(Declaration::Table(self.table()?)),
-            Keyword::Struct => Ok(Declaration::Struct(self.table()?)),
-            Keyword::Enum => Ok(Declaration::Enum(self.enumeration()?)),
-            Keyword::Union => Ok(Declaration::Union(self.union()?)),
-            Keyword::Root => Ok(Declaration::Root(self.root()?)),
-            Keyword::Extension => Ok(Declaration::Extension(self.quoted()?)),
-            Keyword::Identifier => Ok(Declaration::Identifier(self.quoted()?)),
+            Keyword::Attribute => Ok(Declaration::Attribute(self.attribute_decl()?)),
+            Keyword::Table => Ok(Declaration::Type(TypeDecl::Table(self.table()?))),
+            Keyword::Struct => Ok(Declaration::Type(TypeDecl::Struct(self.table()?))),
+            Keyword::Enum => Ok(Declaration::Type(TypeDecl::Enum(self.enumeration()?))),
+            Keyword::Union => Ok(Declaration::Type(TypeDecl::Union(self.union()?))),
+            Keyword::Root => Ok(Declaration::Directive(Directive::RootType(self.root_type()?))),
+            Keyword::Extension => Ok(Declaration::Directive(Directive::FileExtension(
+                self.quoted()?,
+            ))),
+            Keyword::Identifier => Ok(Declaration::Directive(Directive::FileIdentifier(
+                self.quoted()?,
+            ))),
         }
-    }
-
-    #[tactic(auto, unfolding(crate::specs::ReadingSchema::declaration_at))]
-    fn declaration(&mut self) -> Result<Declaration, Stop>
-        ensures exact { Gives (λ d. (d, self.new)) result (declaration_at self.old) }
-        ensures shorter { IfOk result (λ _. length self.new < length self.old) }
-    {
-        let keyword = self.keyword()?;
-        self.declared(keyword)
-    }
-
-    fn declarations(&mut self) -> Result<Vec<Declaration>, Stop>
-        ensures exact { Gives (λ v. (v.items, self.new)) result
-            (until declaration_at is_empty self.old) }
-        ensures shorter { IfOk result (λ _. length self.new ≤ length self.old) }
-    {
-        let mut declarations = Vec::new(self.alloc());
-        while !self.is_at_end() {
-            let declaration = self.declaration()?;
-            declarations.push(declaration)?;
-        }
-        Ok(declarations)
     }
 }
 
 /// The offset of the first of the tokens that are left, or of the text's end.
-fn offset_of(text: &[u8], tokens: &[Token], left: usize) -> u64
+fn offset_of(text: &str, tokens: &[Token], left: usize) -> u64
     requires { AreReadable text.now tokens.now }
     ensures { result ≤ length text.now }
 {
@@ -132,11 +124,11 @@ fn offset_of(text: &[u8], tokens: &[Token], left: usize) -> u64
 ///
 /// A refusal names the first token that the grammar doesn't allow, or the text's length; a vector
 /// inside a vector is one of its own.
-pub(crate) fn declarations_of(
+pub(crate) fn declarations_of<'t>(
     alloc: Global,
-    text: &[u8],
+    text: &'t str,
     tokens: &[Token],
-) -> Result<Decls, SyntaxFault>
+) -> Result<Decls<'t>, SyntaxFault>
     requires { AreReadable text.now tokens.now }
     ensures reads { IfOk result (Reads text.now tokens.now) }
     ensures exact { (d : DeclsRead) → Reads text.now tokens.now d
@@ -145,7 +137,7 @@ pub(crate) fn declarations_of(
     ensures within { IfErr result (StandsWithin (length text.now)) }
 {
     let mut parser = Parser::new(alloc, text, tokens);
-    match parser.declarations() {
+    match parser.items(None) {
         Ok(declarations) => Ok(Decls::new(declarations, text.len() as u64)),
         Err(stop) => Err(stop.at(offset_of(text, tokens, parser.left()))),
     }

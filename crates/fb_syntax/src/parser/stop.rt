@@ -1,6 +1,6 @@
 //! Why the parser stops.
 ghost use Rattle.std.specs.Prelude.{◌≡◌};
-ghost use Rattle.fb_syntax.specs.Reading.{fault_at};
+ghost use Rattle.fb_syntax.specs.Stops.{fault_at};
 
 use crate::faults::SyntaxFault;
 use std::alloc::{AllocError, AllocFailed};

@@ -1,6 +1,6 @@
 use Rattle.std.proofs.Common.{◌≡◌, false, arith, drop}
 use Rattle.std.proofs.lemmas.Grind.{common_steps}
-use Rattle.fb_syntax.specs.Pieces.{is_close}
+use Rattle.fb_syntax.specs.scan.Pieces.{is_close}
 use Rattle.fb_syntax.proofs.Runs.{close_len-next}
 use Rattle.fb_syntax.proofs.scan.close_len.Goals as goal
 

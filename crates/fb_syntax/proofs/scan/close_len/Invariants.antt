@@ -1,5 +1,5 @@
 use Rattle.std.proofs.Common.{◌≡◌, ◌+◌, drop, option_map}
-use Rattle.fb_syntax.specs.Pieces.{close_len}
+use Rattle.fb_syntax.specs.scan.Pieces.{close_len}
 use Rattle.fb_syntax.proofs.scan.close_len.Given as goal
 
 abbrev pub invariant-loop-i : goal.invariant-loop-i

@@ -1,9 +1,9 @@
 use Rattle.std.proofs.Common.{◌≡◌, ◌≤◌, ◌<◌, ◌+◌, length, drop, Ok, Err, arith, ◌++◌, ◌∷◌, []}
 use Rattle.std.proofs.lemmas.Grind.{common_steps}
-use Rattle.fb_syntax.specs.Pieces.{piece_at}
-use Rattle.fb_syntax.specs.Scanned.{Scanned}
+use Rattle.fb_syntax.specs.scan.Pieces.{piece_at}
+use Rattle.fb_syntax.proofs.ScanSteps.{Scanned}
 use Rattle.fb_syntax.specs.declared.scan.Piece.TheVariants as pieces
-use Rattle.fb_syntax.proofs.Scanning.{begun, over_gap, over_token, over_fault, over}
+use Rattle.fb_syntax.proofs.ScanSteps.{begun, over_gap, over_token, over_fault, over}
 use Rattle.fb_syntax.proofs.scan.tokens_from.Goals as goal
 use Rattle.fb_syntax.proofs.scan.tokens_from.Goals.{In-Ok-Gap, In-Ok-Token}
 

@@ -1,5 +1,5 @@
 use Rattle.std.proofs.Common.{◌-◌, length}
-use Rattle.fb_syntax.specs.Scanned.{Scanned}
+use Rattle.fb_syntax.proofs.ScanSteps.{Scanned}
 use Rattle.fb_syntax.proofs.scan.tokens_from.Given as goal
 
 abbrev pub invariant-loop-at : goal.invariant-loop-at

@@ -1,5 +1,6 @@
-use Rattle.std.proofs.Common.{sym, ◌∙◌, arith}
+use Rattle.std.proofs.Common.{sym, ap, ◌∙◌, arith}
 use Rattle.std.proofs.lemmas.Result.{err_from_is_err_and}
+use Rattle.fb_syntax.specs.Located.{Located}
 use Rattle.fb_syntax.proofs.Names.{more_fails, name_goes_on, name_ends}
 use Rattle.fb_syntax.proofs.parser.Parser.name_from.Goals as goal
 
@@ -11,7 +12,7 @@ returns-in_err-word-clause-exact c =
 pub loop-self-preserved : goal.loop-self-preserved
 loop-self-preserved c = record {
   within = omega (arith, c.in-Some.ensures.shorter, c.in_ok-word.ensures.shorter, c.loop-self.invariant.within);
-  so_far = rw c.in_ok-join.ensures (sym (name_goes_on _ _ _ _ _ _ c.in-Some.ensures.exact c.in_ok-word.ensures.exact) ∙ c.loop-self.invariant.so_far);
+  so_far = rw (c.in_ok-name.ensures, ap (λ (t : Located). t.bytes) c.word.view_is) (sym (name_goes_on _ _ _ _ _ _ c.in-Some.ensures.exact c.in_ok-word.ensures.exact) ∙ c.loop-self.invariant.so_far);
 }
 
 pub returns-clause-exact : goal.returns-clause-exact

@@ -1,5 +1,5 @@
 use Rattle.std.proofs.Common.{◌≡◌, length, ◌≤◌}
-use Rattle.fb_syntax.specs.Reading.{name_more}
+use Rattle.fb_syntax.specs.Rules.{name_more}
 use Rattle.fb_syntax.proofs.parser.Parser.name_from.Given as goal
 
 abbrev pub invariant-loop-self : goal.invariant-loop-self

@@ -6,7 +6,7 @@ returns-in-Ok-clause-reads c = rw c.new.ensures (reads_found c.args.text.now c.a
 
 pub returns-in-Ok-clause-exact : goal.returns-in-Ok-clause-exact
 returns-in-Ok-clause-exact c =
-    let found = reads_found c.args.text.now c.args.tokens.now c.in-Ok.declarations.items c.declarations.new.self (rw c.new-parser.ensures at c.in-Ok.ensures.exact) in
+    let found = reads_found c.args.text.now c.args.tokens.now c.in-Ok.declarations.items c.items.new.self (rw c.new-parser.ensures at c.in-Ok.ensures.exact) in
     λ d reads. rw c.new.ensures (one_reading_shown c.args.text.now c.args.tokens.now _ d found reads)
 
 pub returns-in-Err-clause-exact : goal.returns-in-Err-clause-exact

@@ -1,0 +1,29 @@
+-- What the parser's calls return, and why they stop.
+use Rattle.std.specs.Prelude.{ℕ, ◌≡◌, Option, Some, None, Result, Ok, Err}
+use Rattle.fb_syntax.specs.declared.faults.SyntaxFault.{SyntaxFault}
+use Rattle.fb_syntax.specs.declared.faults.SyntaxFault.TheVariants.{Unexpected, NestedVector, Memory}
+use Rattle.fb_syntax.specs.declared.parser.stop.Stop.{Stop}
+use Rattle.fb_syntax.specs.declared.parser.stop.Stop.TheVariants as stops
+
+-- What a call answered and left is what reading gives, unless memory ran out.
+abbrev pub Fails : {Y : Type 0} → Stop → Option Y → Type 0
+Fails stops.Memory read = Unit {0}
+Fails stops.Unexpected read = read ≡ None
+Fails stops.NestedVector read = read ≡ None
+
+-- the fault of a parser that stops at an offset
+abbrev pub fault_at : Stop → ℕ → SyntaxFault
+fault_at stops.Memory offset = Memory
+fault_at stops.Unexpected offset = Unexpected offset
+fault_at stops.NestedVector offset = NestedVector offset
+
+-- a fault of the grammar, or want of memory: no fault of a token
+abbrev pub IsGrammarFault : SyntaxFault → Type 0
+IsGrammarFault Memory = Unit {0}
+IsGrammarFault (Unexpected at) = Unit {0}
+IsGrammarFault (NestedVector at) = Unit {0}
+IsGrammarFault _ = ⊥
+
+abbrev pub Gives : {X Y : Type 0} → (X → Y) → Result X Stop → Option Y → Type 0
+Gives view (Ok x) read = read ≡ Some (view x)
+Gives view (Err e) read = Fails e read
