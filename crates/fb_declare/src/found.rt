@@ -9,6 +9,6 @@ pub(crate) struct Found<'t, 'd, 'n> {
     pub types: TypesRead<'t, 'd, 'n>,
     pub declared: DeclaredNames<'t, 'd>,
     pub root: Option<&'t RootRead<'d>>,
-    pub identifier: Option<&'d Text>,
+    pub identifier: Option<&'d Text<'d>>,
     pub text_len: u64,
 }

@@ -2,7 +2,8 @@
 ghost use Rattle.std.specs.Prelude.{◌≡◌, IfOk, None, string_bytes};
 ghost use Rattle.fb_meaning.specs.Outline.{outline_of, scope_named, word_of, name_of_type, located_name};
 
-use fb_syntax::{Declaration, Decls, Text};
+use crate::located_names::LocatedName;
+use fb_syntax::{Declaration, Decls, Directive, DottedName, Text, TypeDecl};
 use std::alloc::{AllocError, Global};
 use std::marker::Model;
 
@@ -10,7 +11,7 @@ use std::marker::Model;
 #[derive(Drop)]
 pub struct TypeRead<'d> {
     pub scope: Option<&'d str>,
-    pub declaration: &'d Declaration,
+    pub declaration: &'d TypeDecl<'d>,
 }
 
 impl<'d> Model for TypeRead<'d> {
@@ -26,7 +27,7 @@ impl<'d> Model for TypeRead<'d> {
 #[derive(Drop)]
 pub struct RootRead<'d> {
     pub scope: Option<&'d str>,
-    pub name: &'d Text,
+    pub name: &'d DottedName<'d>,
 }
 
 impl<'d> Model for RootRead<'d> {
@@ -44,7 +45,7 @@ pub struct Outline<'d> {
     pub types: Vec<TypeRead<'d>>,
     pub attributes: Vec<&'d str>,
     pub root: Option<RootRead<'d>>,
-    pub identifier: Option<&'d Text>,
+    pub identifier: Option<&'d Text<'d>>,
     pub text_len: u64,
 }
 
@@ -66,7 +67,7 @@ impl<'d> Model for Outline<'d> {
 
 impl<'d> Outline<'d> {
     /// What the text declares. The only error is a refused allocation.
-    pub fn of(alloc: Global, decls: &'d Decls) -> Result<Outline<'d>, AllocError>
+    pub fn of(alloc: Global, decls: &'d Decls<'d>) -> Result<Outline<'d>, AllocError>
         ensures { IfOk result (λ o. o ≡ outline_of decls.now) }
     {
         let mut outline = Outline {
@@ -79,14 +80,18 @@ impl<'d> Outline<'d> {
         let mut scope = None;
         for declaration in decls.declarations() {
             match declaration {
-                Declaration::Namespace(name) => scope = name
-                    .as_ref()
-                    .map(|name| name.text.as_str()),
-                Declaration::Attribute(name) => outline.attributes.push(name.text.as_str())?,
-                Declaration::Root(name) => outline.root = Some(RootRead { scope, name }),
-                Declaration::Identifier(text) => outline.identifier = Some(text),
-                Declaration::Extension(_) => {}
-                _ => outline.types.push(TypeRead { scope, declaration })?,
+                Declaration::Namespace(name) => scope = name.as_ref().map(|name| name.as_str()),
+                Declaration::Type(declaration) => {
+                    outline.types.push(TypeRead { scope, declaration })?;
+                }
+                Declaration::Attribute(name) => outline.attributes.push(name.text)?,
+                Declaration::Directive(Directive::RootType(name)) => {
+                    outline.root = Some(RootRead { scope, name });
+                }
+                Declaration::Directive(Directive::FileIdentifier(text)) => {
+                    outline.identifier = Some(text);
+                }
+                Declaration::Directive(Directive::FileExtension(_)) => {}
             }
         }
         Ok(outline)
@@ -97,7 +102,7 @@ impl<'d> Outline<'d> {
 pub fn name_of_type(alloc: Global, read: &TypeRead<'_>) -> Result<String, AllocError>
     ensures { IfOk result (λ s. string_bytes s ≡ name_of_type read.now) }
 {
-    let word = word_of(read.declaration);
+    let word = word_of(read.declaration).text;
     let Some(scope) = read.scope else {
         return String::from_str(alloc, word);
     };
@@ -107,34 +112,23 @@ pub fn name_of_type(alloc: Global, read: &TypeRead<'_>) -> Result<String, AllocE
     Ok(name)
 }
 
-fn word_of(declaration: &Declaration) -> &str
-    ensures { result.now ≡ (word_of declaration.now).bytes }
+/// A type's name as it is declared.
+pub fn word_of<'d>(declaration: &'d TypeDecl<'d>) -> &'d Text<'d>
+    ensures { result.now ≡ word_of declaration.now }
 {
     match declaration {
-        Declaration::Table(read) | Declaration::Struct(read) => read.name.text.as_str(),
-        Declaration::Enum(read) => read.name.text.as_str(),
-        Declaration::Union(read) => read.name.text.as_str(),
-        _ => "",
-    }
-}
-
-fn word_at(declaration: &Declaration) -> u64
-    ensures { result ≡ (word_of declaration.now).at }
-{
-    match declaration {
-        Declaration::Table(read) | Declaration::Struct(read) => read.name.at,
-        Declaration::Enum(read) => read.name.at,
-        Declaration::Union(read) => read.name.at,
-        _ => 0,
+        TypeDecl::Table(read) | TypeDecl::Struct(read) => &read.name,
+        TypeDecl::Enum(read) => &read.name,
+        TypeDecl::Union(read) => &read.name,
     }
 }
 
 /// The full name of a type, and where its own name stands. The only error is a refused allocation.
-pub fn located_name(alloc: Global, read: &TypeRead<'_>) -> Result<Text, AllocError>
+pub fn located_name(alloc: Global, read: &TypeRead<'_>) -> Result<LocatedName, AllocError>
     ensures { IfOk result (λ t. t ≡ located_name read.now) }
 {
-    Ok(Text {
+    Ok(LocatedName {
         text: name_of_type(alloc, read)?,
-        at: word_at(read.declaration),
+        at: word_of(read.declaration).at,
     })
 }

@@ -10,20 +10,21 @@ ghost use Rattle.fb_meaning.specs.ValueNumbers.{IndexesValues};
 
 use crate::basic_types::{basic_type, is_float_type, is_text_type};
 use crate::candidates::{Candidate, longer};
+use crate::located_names::LocatedName;
 use crate::meanings::{Meaning, type_name};
 use crate::outline::TypeRead;
 use crate::readings::is_reading;
 use crate::value_numbers::ValueNumbers;
 use crate::word_places::{WordPlaces, last_word};
 use fb_schema::{Kind, TypeId};
-use fb_syntax::{Declaration, FieldType, Text};
+use fb_syntax::{FieldType, TypeDecl};
 
 /// The types of a text and their full names by their numbers, their numbers by the last words of
 /// these names, and the numbers of the values of enums.
 #[derive(Clone, Copy)]
 pub struct TypesRead<'t, 'd, 'n> {
     pub types: &'t [TypeRead<'d>],
-    pub names: &'n [Text],
+    pub names: &'n [LocatedName],
     pub words: &'t WordPlaces<'n>,
     pub values: &'t ValueNumbers<'d>,
     ghost named: { map (λ n. n.bytes) names.now ≡ names_of_types types.now },
@@ -77,11 +78,10 @@ impl TypesRead<'_, '_, '_> {
         };
         let id = TypeId(number as u64);
         match read.declaration {
-            Declaration::Table(_) => Meaning::Known(Kind::Table(id)),
-            Declaration::Struct(_) => Meaning::Known(Kind::Struct(id)),
-            Declaration::Enum(_) => Meaning::Known(Kind::Enum(id)),
-            Declaration::Union(_) => Meaning::Known(Kind::Union(id)),
-            _ => Meaning::Unknown,
+            TypeDecl::Table(_) => Meaning::Known(Kind::Table(id)),
+            TypeDecl::Struct(_) => Meaning::Known(Kind::Struct(id)),
+            TypeDecl::Enum(_) => Meaning::Known(Kind::Enum(id)),
+            TypeDecl::Union(_) => Meaning::Known(Kind::Union(id)),
         }
     }
 
@@ -111,6 +111,6 @@ impl TypesRead<'_, '_, '_> {
         ensures { result
             ≡ meaning_in self.entry.types.now (option_copied scope.entry) kind.now }
     {
-        self.meaning(scope, type_name(kind).text.as_str())
+        self.meaning(scope, type_name(kind).as_str())
     }
 }

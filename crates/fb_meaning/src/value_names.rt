@@ -5,7 +5,7 @@ ghost use Rattle.fb_meaning.specs.Outline.{inside, full_name};
 ghost use Rattle.fb_meaning.specs.EnumsRead.{values_at, number_named, behind_dot, behind, value_named, value_at};
 
 use crate::types_read::TypesRead;
-use fb_syntax::{Declaration, EnumDeclaration};
+use fb_syntax::{EnumDecl, TypeDecl};
 
 /// The number of the value of a name, which may be missing, in the enum of a number.
 fn number_behind(types: TypesRead<'_, '_, '_>, number: usize, name: Option<&[u8]>) -> Option<i128>
@@ -63,7 +63,7 @@ fn value_named(
     types: TypesRead<'_, '_, '_>,
     number: usize,
     scope: Option<&str>,
-    read: &EnumDeclaration,
+    read: &EnumDecl<'_>,
     name: &[u8],
 ) -> Option<i128>
     ensures { result ≡ value_named (option_copied scope.entry) read.now
@@ -83,7 +83,7 @@ pub(crate) fn value_at(types: TypesRead<'_, '_, '_>, number: usize, name: &str) 
 {
     let read = types.types.get(number)?;
     match read.declaration {
-        Declaration::Enum(declaration) => {
+        TypeDecl::Enum(declaration) => {
             value_named(types, number, read.scope, declaration, name.as_bytes())
         }
         _ => None,

@@ -8,7 +8,7 @@ ghost use Rattle.fb_meaning.specs.ValueNumbers.{number_in, NotesNumber, NotesVal
 use crate::enums::{has_flags, underlying, value_number, written_number};
 use crate::outline::TypeRead;
 use fb_schema::Base;
-use fb_syntax::{Declaration, EnumDeclaration};
+use fb_syntax::{EnumDecl, TypeDecl};
 use indexmap::IndexMap;
 use std::alloc::{AllocError, Global};
 
@@ -27,7 +27,7 @@ impl<'d> ValueNumbers<'d> {
             numbers: IndexMap::new(alloc),
         };
         for (type_number, read) in types.iter().enumerate() {
-            if let Declaration::Enum(declaration) = read.declaration {
+            if let TypeDecl::Enum(declaration) = read.declaration {
                 index.note_values(type_number, declaration)?;
             }
         }
@@ -38,7 +38,7 @@ impl<'d> ValueNumbers<'d> {
     fn note_values(
         &mut self,
         type_number: usize,
-        read: &'d EnumDeclaration,
+        read: &'d EnumDecl<'d>,
     ) -> Result<(), AllocError>
         ensures { (types : List TypeRead) (scope : Option Name) → OnOk result
             (NotesValues self.old self.new type_number (values_read types scope read.now)) }
