@@ -1,6 +1,8 @@
 -- Integers and their values (Grammar: integer_constant, dec_integer_constant, hex_integer_constant).
 use Rattle.std.specs.Prelude.{ℕ, ◌≡◌, ◌≤◌, ◌+◌, ◌-◌, ◌*◌, ◌^◌, Bool, true, false, ◌==◌, ◌||◌, ◌&&◌, List, [], ◌∷◌, length, drop, if◌then◌else◌, ℤ, pos, ◌-ℤ◌}
 use Rattle.std.specs.List.{list_all}
+use Rattle.fb_syntax.specs.Located.{Located}
+use Rattle.fb_syntax.specs.NumberRead.{NumberRead}
 use Rattle.fb_syntax.specs.Bytes.{is_between, is_digit, is_hex, is_sign}
 
 -- what stands behind the sign, if there is one
@@ -54,6 +56,10 @@ is_negative (c ∷ cs) = c == 45
 
 abbrev pub signed_value : List ℕ → ℤ
 signed_value s = if is_negative s then pos 0 -ℤ pos (magnitude s) else pos (magnitude s)
+
+-- the number that an integer constant is
+abbrev pub number_of : Located → NumberRead
+number_of t = record { value = signed_value t.bytes; at = t.at }
 
 -- an integer that is not too great
 pub record IsInteger (s : List ℕ) : Type 0 where

@@ -9,6 +9,9 @@ pub mod SpelledTokens
 pub mod Spells
 pub mod TokenBytes
 pub mod Located
+pub mod NumberRead
+pub mod Signed
+pub mod Spelled
 pub mod FieldRead
 pub mod TypesRead
 pub mod DeclsRead

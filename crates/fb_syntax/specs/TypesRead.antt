@@ -2,22 +2,22 @@
 use Rattle.std.specs.Prelude.{List}
 use Rattle.fb_syntax.specs.Located.{Located}
 use Rattle.fb_syntax.specs.FieldRead.{FieldRead}
-use Rattle.fb_syntax.specs.declared.declarations.AttributeUse.{AttributeUse}
+use Rattle.fb_syntax.specs.declared.declarations.Attribute.{Attribute}
 use Rattle.fb_syntax.specs.declared.declarations.EnumValue.{EnumValue}
 use Rattle.fb_syntax.specs.declared.declarations.UnionMember.{UnionMember}
 
 pub record TableRead : Type 0 where
   pub name : Located
-  pub attributes : List AttributeUse
+  pub attributes : List Attribute
   pub fields : List FieldRead
 
 pub record EnumRead : Type 0 where
   pub name : Located
   pub underlying : Located
-  pub attributes : List AttributeUse
+  pub attributes : List Attribute
   pub values : List EnumValue
 
 pub record UnionRead : Type 0 where
   pub name : Located
-  pub attributes : List AttributeUse
+  pub attributes : List Attribute
   pub members : List UnionMember

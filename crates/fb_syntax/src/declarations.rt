@@ -1,88 +1,190 @@
 //! What a schema text declares.
-ghost use Rattle.std.specs.Prelude.{◌≡◌, OnOk, IfOk};
+ghost use Rattle.std.specs.Prelude.{◌≡◌, ◌<ℤ◌, pos, negsuc, OnOk, IfOk};
 ghost use Rattle.fb_syntax.specs.Located.{joined};
+ghost use Rattle.fb_syntax.specs.NumberRead.{signed};
 
 use std::alloc::{AllocError, Global};
 use std::marker::Model;
 
-/// A part of a schema text, and the offset of its first token.
-///
-/// A dotted name is its words with a dot between them, an integer stands as it is spelled, and of
-/// a quoted text there is what stands between the quotes.
+/// A word of a schema text, or what is between the quotes of a quoted text, and its token's offset.
 #[derive(Debug, Drop)]
-pub struct Text {
-    pub text: String,
+pub struct Text<'t> {
+    pub text: &'t str,
     pub at: u64,
 }
 
-impl Model for Text {
-    ghost use Rattle.std.specs.Prelude.{string_bytes};
+impl<'t> Model for Text<'t> {
     ghost use Rattle.fb_syntax.specs.Located.{Located};
 
     ghost Value = { Located };
 
-    ghost view = { λ t. record { bytes = string_bytes t.text; at = t.at } };
+    ghost view = { λ t. record { bytes = t.text.now; at = t.at } };
 }
 
-impl Text {
-    /// A copy of a part of the text.
-    pub(crate) fn new(alloc: Global, text: &str, at: u64) -> Result<Text, AllocError>
-        ensures { IfOk result (λ t. t ≡ record { bytes = text.now; at = at }) }
+/// A name's words: one that stands in the schema text, or several with dots between them.
+#[derive(Debug, Drop)]
+enum Spelling<'t> {
+    Word(&'t str),
+    Dotted(String),
+}
+
+/// A name of words with dots between them, and the offset of its first word.
+#[derive(Debug, Drop)]
+pub struct DottedName<'t> {
+    spelling: Spelling<'t>,
+    at: u64,
+}
+
+impl<'t> Model for DottedName<'t> {
+    ghost use Rattle.fb_syntax.specs.Located.{Located};
+
+    ghost Value = { Located };
+
+    ghost use Rattle.fb_syntax.specs.Spelled.{spelled};
+
+    ghost view = { λ n. record { bytes = spelled n.spelling; at = n.at } };
+}
+
+impl<'t> DottedName<'t> {
+    /// A name of one word.
+    pub(crate) fn new(word: Text<'t>) -> DottedName<'t>
+        ensures { result ≡ word.entry }
     {
-        let text = String::from_str(alloc, text)?;
-        Ok(Text { text, at })
+        DottedName {
+            spelling: Spelling::Word(word.text),
+            at: word.at,
+        }
     }
 
-    /// Sets a dot and a word behind the text.
-    pub(crate) fn join(&mut self, word: &str) -> Result<(), AllocError>
-        ensures { OnOk result (self.new ≡ joined self.old word.now) }
+    /// The name with a dot and a word behind it.
+    pub(crate) fn join(self, alloc: Global, word: &str) -> Result<DottedName<'t>, AllocError>
+        ensures { IfOk result (λ n. n ≡ joined self.entry word.now) }
     {
-        self.text.push_str(".")?;
-        self.text.push_str(word)
+        let DottedName { spelling, at } = self;
+        let mut name = match spelling {
+            Spelling::Word(first) => String::from_str(alloc, first)?,
+            Spelling::Dotted(name) => name,
+        };
+        name.push_str(".")?;
+        name.push_str(word)?;
+        Ok(DottedName {
+            spelling: Spelling::Dotted(name),
+            at,
+        })
+    }
+
+    /// The words with a dot between them.
+    pub fn as_str(&self) -> &str
+        ensures { result.now ≡ self.now.bytes }
+    {
+        match &self.spelling {
+            Spelling::Word(word) => *word,
+            Spelling::Dotted(name) => name.as_str(),
+        }
+    }
+
+    /// The offset of its first word.
+    pub fn at(&self) -> u64
+        ensures { result ≡ self.now.at }
+    {
+        self.at
+    }
+}
+
+/// An integer constant: its value, and the offset of its token.
+#[derive(Clone, Copy, Debug, PartialEq, Eq)]
+pub struct Number {
+    is_negative: bool,
+    magnitude: u64,
+    at: u64,
+}
+
+impl Model for Number {
+    ghost use Rattle.std.specs.Prelude.{◌≡◌, ◌<◌, true};
+    ghost use Rattle.fb_syntax.specs.NumberRead.{NumberRead, signed};
+
+    ghost Value = { NumberRead };
+
+    ghost use Rattle.fb_syntax.specs.Signed.{inside_of, inside_of-view};
+
+    ghost view = { λ n. record { value = signed n.is_negative n.magnitude; at = n.at } };
+
+    ghost invariant = { λ n. (n.is_negative ≡ true → 0 < n.magnitude) × (n.magnitude < 18446744073709551616) };
+
+    ghost inverse = { inside_of };
+
+    ghost inverse_ok = { λ n h. inside_of-view n h.0 };
+}
+
+impl Number {
+    pub(crate) fn new(is_negative: bool, magnitude: u64, at: u64) -> Number
+        ensures { result ≡ record { value = signed is_negative magnitude; at = at } }
+    {
+        Number {
+            is_negative: is_negative && magnitude > 0,
+            magnitude,
+            at,
+        }
+    }
+
+    /// Its value.
+    pub fn value(self) -> i128
+        ensures exact { result ≡ self.value }
+        ensures small { (negsuc 18446744073709551615 <ℤ result) × (result <ℤ pos 18446744073709551616) }
+    {
+        let value = i128::from(self.magnitude);
+        if self.is_negative { -value } else { value }
+    }
+
+    /// The offset of its token.
+    pub fn at(self) -> u64
+        ensures { result ≡ self.at }
+    {
+        self.at
     }
 }
 
 /// What stands behind an attribute's colon.
 #[derive(Debug, Drop)]
-pub enum AttributeValue {
-    Integer(Text),
-    Word(Text),
-    Quoted(Text),
+pub enum AttributeValue<'t> {
+    Integer(Number),
+    Word(Text<'t>),
+    Quoted(Text<'t>),
 }
 
 /// An attribute of a declaration's or a field's metadata.
 #[derive(Debug, Drop)]
-pub struct AttributeUse {
-    pub name: Text,
-    pub value: Option<AttributeValue>,
+pub struct Attribute<'t> {
+    pub name: Text<'t>,
+    pub value: Option<AttributeValue<'t>>,
 }
 
 /// The type of a field.
 #[derive(Debug, Drop)]
-pub enum FieldType {
+pub enum FieldType<'t> {
     /// A type's name.
-    One(Text),
+    One(DottedName<'t>),
     /// A vector: the offset of its `[`, and the name of its elements' type.
-    Many(u64, Text),
+    Many(u64, DottedName<'t>),
 }
 
 /// What stands behind a field's `=`.
 #[derive(Debug, Drop)]
-pub enum DefaultValue {
-    Integer(Text),
-    Name(Text),
+pub enum DefaultValue<'t> {
+    Integer(Number),
+    Name(DottedName<'t>),
 }
 
 /// A field of a table or struct.
 #[derive(Debug, Drop)]
-pub struct Field {
-    pub name: Text,
-    pub kind: FieldType,
-    pub default: Option<DefaultValue>,
-    pub attributes: Vec<AttributeUse>,
+pub struct Field<'t> {
+    pub name: Text<'t>,
+    pub kind: FieldType<'t>,
+    pub default: Option<DefaultValue<'t>>,
+    pub attributes: Vec<Attribute<'t>>,
 }
 
-impl Model for Field {
+impl<'t> Model for Field<'t> {
     ghost use Rattle.fb_syntax.specs.FieldRead.{FieldRead};
 
     ghost Value = { FieldRead };
@@ -97,13 +199,13 @@ impl Model for Field {
 
 /// A table or a struct.
 #[derive(Debug, Drop)]
-pub struct TableDeclaration {
-    pub name: Text,
-    pub attributes: Vec<AttributeUse>,
-    pub fields: Vec<Field>,
+pub struct TableDecl<'t> {
+    pub name: Text<'t>,
+    pub attributes: Vec<Attribute<'t>>,
+    pub fields: Vec<Field<'t>>,
 }
 
-impl Model for TableDeclaration {
+impl<'t> Model for TableDecl<'t> {
     ghost use Rattle.fb_syntax.specs.TypesRead.{TableRead};
 
     ghost Value = { TableRead };
@@ -117,21 +219,21 @@ impl Model for TableDeclaration {
 
 /// A value of an enum: its name, and the integer behind its `=`.
 #[derive(Debug, Drop)]
-pub struct EnumValue {
-    pub name: Text,
-    pub number: Option<Text>,
+pub struct EnumValue<'t> {
+    pub name: Text<'t>,
+    pub number: Option<Number>,
 }
 
 /// An enum, with the name of its underlying type.
 #[derive(Debug, Drop)]
-pub struct EnumDeclaration {
-    pub name: Text,
-    pub underlying: Text,
-    pub attributes: Vec<AttributeUse>,
-    pub values: Vec<EnumValue>,
+pub struct EnumDecl<'t> {
+    pub name: Text<'t>,
+    pub underlying: DottedName<'t>,
+    pub attributes: Vec<Attribute<'t>>,
+    pub values: Vec<EnumValue<'t>>,
 }
 
-impl Model for EnumDeclaration {
+impl<'t> Model for EnumDecl<'t> {
     ghost use Rattle.fb_syntax.specs.TypesRead.{EnumRead};
 
     ghost Value = { EnumRead };
@@ -146,20 +248,20 @@ impl Model for EnumDeclaration {
 
 /// A member of a union: the name of its table, and the word before its colon.
 #[derive(Debug, Drop)]
-pub struct UnionMember {
-    pub alias: Option<Text>,
-    pub table: Text,
+pub struct UnionMember<'t> {
+    pub alias: Option<Text<'t>>,
+    pub table: DottedName<'t>,
 }
 
 /// A union.
 #[derive(Debug, Drop)]
-pub struct UnionDeclaration {
-    pub name: Text,
-    pub attributes: Vec<AttributeUse>,
-    pub members: Vec<UnionMember>,
+pub struct UnionDecl<'t> {
+    pub name: Text<'t>,
+    pub attributes: Vec<Attribute<'t>>,
+    pub members: Vec<UnionMember<'t>>,
 }
 
-impl Model for UnionDeclaration {
+impl<'t> Model for UnionDecl<'t> {
     ghost use Rattle.fb_syntax.specs.TypesRead.{UnionRead};
 
     ghost Value = { UnionRead };
@@ -171,33 +273,45 @@ impl Model for UnionDeclaration {
     } };
 }
 
+/// A declaration of a type.
+#[derive(Debug, Drop)]
+pub enum TypeDecl<'t> {
+    Table(TableDecl<'t>),
+    Struct(TableDecl<'t>),
+    Enum(EnumDecl<'t>),
+    Union(UnionDecl<'t>),
+}
+
+/// What a schema text says of files and of their roots.
+#[derive(Debug, Drop)]
+pub enum Directive<'t> {
+    /// The name of the root's type.
+    RootType(DottedName<'t>),
+    /// What a file's name ends in.
+    FileExtension(Text<'t>),
+    /// The identifier of files.
+    FileIdentifier(Text<'t>),
+}
+
 /// A declaration of a schema text.
 #[derive(Debug, Drop)]
-pub enum Declaration {
+pub enum Declaration<'t> {
     /// The namespace from here on, or none.
-    Namespace(Option<Text>),
+    Namespace(Option<DottedName<'t>>),
+    Type(TypeDecl<'t>),
     /// The name of an attribute that may be used.
-    Attribute(Text),
-    Table(TableDeclaration),
-    Struct(TableDeclaration),
-    Enum(EnumDeclaration),
-    Union(UnionDeclaration),
-    /// The name of the root's type.
-    Root(Text),
-    /// What a file's name ends in.
-    Extension(Text),
-    /// The identifier of files.
-    Identifier(Text),
+    Attribute(Text<'t>),
+    Directive(Directive<'t>),
 }
 
 /// What a schema text declares, in its order.
 #[derive(Debug, Drop)]
-pub struct Decls {
-    declarations: Vec<Declaration>,
+pub struct Decls<'t> {
+    declarations: Vec<Declaration<'t>>,
     text_len: u64,
 }
 
-impl Model for Decls {
+impl<'t> Model for Decls<'t> {
     ghost use Rattle.fb_syntax.specs.DeclsRead.{DeclsRead};
 
     ghost Value = { DeclsRead };
@@ -208,8 +322,8 @@ impl Model for Decls {
     } };
 }
 
-impl Decls {
-    pub(crate) fn new(declarations: Vec<Declaration>, text_len: u64) -> Decls
+impl<'t> Decls<'t> {
+    pub(crate) fn new(declarations: Vec<Declaration<'t>>, text_len: u64) -> Decls<'t>
         ensures { result ≡ record { declarations = declarations.items; text_len = text_len } }
     {
         Decls {
@@ -219,7 +333,7 @@ impl Decls {
     }
 
     /// The declarations in the order of the text.
-    pub fn declarations(&self) -> &[Declaration]
+    pub fn declarations(&self) -> &[Declaration<'t>]
         ensures { result.now ≡ self.now.declarations }
     {
         self.declarations.as_slice()

@@ -2,10 +2,11 @@
 ghost use Rattle.std.specs.Prelude.{◌≡◌, ◌≤◌, ◌<◌, ◌+◌, ◌*◌, ◌↔◌, length};
 ghost use Rattle.std.specs.Prelude.{MatchOption, IsTrue, IsSome, IfSome};
 ghost use Rattle.fb_syntax.specs.Integers.{is_integer, is_prefixed, without_sign, digit_value, digits_value};
-ghost use Rattle.fb_syntax.specs.Integers.{magnitude, is_negative, signed_value, greatest_magnitude, IsInteger};
+ghost use Rattle.fb_syntax.specs.Integers.{magnitude, is_negative, signed_value, number_of, greatest_magnitude, IsInteger};
 ghost use Rattle.fb_syntax.specs.NumberLen.{number_len};
 
 use crate::bytes::{digit_run, hex_run, is_hex, is_sign};
+use crate::declarations::{Number, Text};
 
 fn digit_value(byte: u8) -> u64
     ensures value { result ≡ digit_value byte }
@@ -98,6 +99,15 @@ fn is_negative(spelling: &[u8]) -> bool
     ensures { result ≡ is_negative spelling.now }
 {
     matches!(spelling, [b'-', ..])
+}
+
+/// The number that an integer constant is.
+pub(crate) fn number_of(digits: Text<'_>) -> Number
+    requires { magnitude digits.entry.bytes ≤ greatest_magnitude }
+    ensures { result ≡ number_of digits.entry }
+{
+    let bytes = digits.text.as_bytes();
+    Number::new(is_negative(bytes), magnitude(bytes).unwrap(), digits.at)
 }
 
 /// The value of an integer, with its sign; `None` for what is no integer or too great.

@@ -12,8 +12,8 @@ mod scan;
 mod tokens;
 
 pub use declarations::{
-    AttributeUse, AttributeValue, Declaration, Decls, DefaultValue, EnumDeclaration, EnumValue,
-    Field, FieldType, TableDeclaration, Text, UnionDeclaration, UnionMember,
+    Attribute, AttributeValue, Declaration, Decls, DefaultValue, Directive, DottedName, EnumDecl,
+    EnumValue, Field, FieldType, Number, TableDecl, Text, TypeDecl, UnionDecl, UnionMember,
 };
 pub use faults::SyntaxFault;
 pub use integers::integer_value;

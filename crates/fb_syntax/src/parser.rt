@@ -9,33 +9,29 @@ mod stop;
 mod unions;
 
 ghost use Rattle.std.specs.Prelude.{◌≡◌, ◌<◌, ◌≤◌, length, drop, Some, None, IfOk, IfSome, MatchOption};
-ghost use Rattle.fb_syntax.specs.Lexemes.{IsReadable, AreReadable, content, lexemes};
+ghost use Rattle.fb_syntax.specs.Integers.{number_of};
+ghost use Rattle.fb_syntax.specs.Lexemes.{IsReadable, AreReadable, lexemes, located};
+ghost use Rattle.fb_syntax.specs.TokenBytes.{IsSmall};
 ghost use Rattle.fb_syntax.specs.Reading.{Gives, is_empty, is_only, is_sign, kind_at, name_at, name_more, sign_at};
-ghost use Rattle.fb_syntax.specs.Reading.{token_at};
+ghost use Rattle.fb_syntax.specs.Reading.{number_at, token_at};
 
-use crate::declarations::Text;
+use crate::declarations::{DottedName, Number, Text};
+use crate::integers::number_of;
 use crate::tokens::{Token, TokenKind};
 pub(crate) use schema::declarations_of;
 use std::alloc::Global;
 use std::marker::Model;
 use stop::Stop;
 
-/// What a token says, and its offset.
-#[derive(Clone, Copy)]
-struct Spelling<'t> {
-    text: &'t str,
-    at: u64,
-}
-
 /// The tokens that are left, and the text that they stand in.
 #[derive(Drop)]
-struct Parser<'t> {
+struct Parser<'t, 's> {
     alloc: Global,
-    text: &'t [u8],
-    tokens: &'t [Token],
+    text: &'t str,
+    tokens: &'s [Token],
 }
 
-impl<'t> Model for Parser<'t> {
+impl<'t, 's> Model for Parser<'t, 's> {
     ghost use Rattle.std.specs.Prelude.{List};
     ghost use Rattle.fb_syntax.specs.Lexemes.{Lexeme, AreReadable, lexemes};
 
@@ -47,10 +43,9 @@ impl<'t> Model for Parser<'t> {
 }
 
 /// What a token says.
-fn spelled<'t>(text: &'t [u8], token: Token) -> Spelling<'t>
+fn located<'t>(text: &'t str, token: Token) -> Text<'t>
     requires { IsReadable text.now token }
-    ensures says { result.text.now ≡ content text.now token }
-    ensures stands { result.at ≡ token.at }
+    ensures { result ≡ located text.now token }
 {
     let margin = if token.kind == TokenKind::Quoted {
         1
@@ -58,10 +53,9 @@ fn spelled<'t>(text: &'t [u8], token: Token) -> Spelling<'t>
         0
     };
     let start = token.at as usize + margin;
-    let len = token.len as usize - (margin + margin);
-    let bytes = &text[start..start + len];
-    Spelling {
-        text: str::from_utf8(bytes).unwrap(),
+    let end = token.at as usize + token.len as usize - margin;
+    Text {
+        text: &text[start..end],
         at: token.at,
     }
 }
@@ -75,8 +69,8 @@ fn is_only(text: &str, sign: u8) -> bool
     }
 }
 
-impl<'t> Parser<'t> {
-    fn new(alloc: Global, text: &'t [u8], tokens: &'t [Token]) -> Parser<'t>
+impl<'t, 's> Parser<'t, 's> {
+    fn new(alloc: Global, text: &'t str, tokens: &'s [Token]) -> Parser<'t, 's>
         requires { AreReadable text.now tokens.now }
         ensures { result ≡ lexemes text.now tokens.now }
     {
@@ -124,10 +118,10 @@ impl<'t> Parser<'t> {
 
     /// The next token, not passed yet.
     #[tactic(auto, unfolding(crate::specs::Reading::token_at))]
-    fn next(&self, kind: TokenKind) -> Result<Spelling<'t>, Stop>
-        ensures exact { Gives (λ t. (record { bytes = t.text.now; at = t.at }, drop 1 self.now))
-            result (token_at kind self.now) }
+    fn next(&self, kind: TokenKind) -> Result<Text<'t>, Stop>
+        ensures exact { Gives (λ t. (t, drop 1 self.now)) result (token_at kind self.now) }
         ensures some { IfOk result (λ _. 0 < length self.now) }
+        ensures small { IfOk result (λ t. IsSmall kind t.bytes) }
     {
         let [next, ..] = self.tokens else {
             return Err(Stop::Unexpected);
@@ -135,25 +129,25 @@ impl<'t> Parser<'t> {
         if next.kind != kind {
             return Err(Stop::Unexpected);
         }
-        Ok(spelled(self.text, *next))
+        Ok(located(self.text, *next))
     }
 
-    fn token(&mut self, kind: TokenKind) -> Result<Spelling<'t>, Stop>
-        ensures exact { Gives (λ t. (record { bytes = t.text.now; at = t.at }, self.new)) result
-            (token_at kind self.old) }
+    fn token(&mut self, kind: TokenKind) -> Result<Text<'t>, Stop>
+        ensures exact { Gives (λ t. (t, self.new)) result (token_at kind self.old) }
         ensures shorter { IfOk result (λ _. length self.new < length self.old) }
+        ensures small { IfOk result (λ t. IsSmall kind t.bytes) }
     {
         let token = self.next(kind)?;
         self.advance();
         Ok(token)
     }
 
-    fn text(&mut self, kind: TokenKind) -> Result<Text, Stop>
-        ensures exact { Gives (λ t. (t, self.new)) result (token_at kind self.old) }
+    #[tactic(auto, unfolding(crate::specs::Reading::number_at))]
+    fn number(&mut self) -> Result<Number, Stop>
+        ensures exact { Gives (λ n. (n, self.new)) result (number_at self.old) }
         ensures shorter { IfOk result (λ _. length self.new < length self.old) }
     {
-        let token = self.token(kind)?;
-        Ok(Text::new(self.alloc(), token.text, token.at)?)
+        Ok(number_of(self.token(TokenKind::Integer)?))
     }
 
     fn is_sign(&self, sign: u8) -> bool
@@ -161,7 +155,7 @@ impl<'t> Parser<'t> {
     {
         match self.tokens {
             [next, ..] => {
-                next.kind == TokenKind::Punct && is_only(spelled(self.text, *next).text, sign)
+                next.kind == TokenKind::Punct && is_only(located(self.text, *next).text, sign)
             }
             [] => false,
         }
@@ -197,23 +191,23 @@ impl<'t> Parser<'t> {
     }
 
     #[tactic(auto, unfolding(crate::specs::Reading::name_at))]
-    fn name(&mut self) -> Result<Text, Stop>
-        ensures exact { Gives (λ t. (t, self.new)) result (name_at self.old) }
+    fn name(&mut self) -> Result<DottedName<'t>, Stop>
+        ensures exact { Gives (λ n. (n, self.new)) result (name_at self.old) }
         ensures shorter { IfOk result (λ _. length self.new < length self.old) }
     {
-        let first = self.text(TokenKind::Word)?;
+        let first = self.token(TokenKind::Word)?;
         self.name_from(first)
     }
 
     /// A name whose first word is read already.
-    fn name_from(&mut self, first: Text) -> Result<Text, Stop>
-        ensures exact { Gives (λ t. (t, self.new)) result (name_more first self.old) }
+    fn name_from(&mut self, first: Text<'t>) -> Result<DottedName<'t>, Stop>
+        ensures exact { Gives (λ n. (n, self.new)) result (name_more first.entry self.old) }
         ensures shorter { IfOk result (λ _. length self.new ≤ length self.old) }
     {
-        let mut name = first;
+        let mut name = DottedName::new(first);
         while let Some(_) = self.take_sign(b'.') {
             let word = self.token(TokenKind::Word)?;
-            name.join(word.text)?;
+            name = name.join(self.alloc(), word.text)?;
         }
         Ok(name)
     }

@@ -16,7 +16,7 @@ use std::alloc::Global;
 /// UTF-8 is checked over the whole text first, then tokens over the whole text, then the grammar
 /// (FlatBuffers documentation, "Grammar"); the first fault in this order and in the text is
 /// answered, with its offset in bytes.
-pub fn parse(alloc: Global, text: &[u8]) -> Result<Decls, SyntaxFault>
+pub fn parse<'t>(alloc: Global, text: &'t [u8]) -> Result<Decls<'t>, SyntaxFault>
     ensures parses { IfOk result (Parses text.now) }
     ensures exact { (d : DeclsRead) → Parses text.now d
         → MatchResult result (λ r. r ≡ d) (λ e. e ≡ SyntaxFault.Memory) }
@@ -29,5 +29,5 @@ pub fn parse(alloc: Global, text: &[u8]) -> Result<Decls, SyntaxFault>
 {
     let readable = text_of(text)?;
     let tokens = tokens_in(alloc, readable)?;
-    declarations_of(alloc, text, tokens.as_slice())
+    declarations_of(alloc, readable, tokens.as_slice())
 }

@@ -5,25 +5,25 @@ ghost use Rattle.fb_syntax.specs.Reading.{Gives, is_sign, some_until, until};
 ghost use Rattle.fb_syntax.specs.ReadingTypes.{enum_value_at, listed_value_at, enum_at};
 
 use super::{Parser, Stop};
-use crate::declarations::{EnumDeclaration, EnumValue};
+use crate::declarations::{EnumDecl, EnumValue};
 use crate::tokens::TokenKind;
 
-impl Parser<'_> {
+impl<'t> Parser<'t, '_> {
     #[tactic(auto, unfolding(crate::specs::ReadingTypes::enum_value_at))]
-    fn enum_value(&mut self) -> Result<EnumValue, Stop>
+    fn enum_value(&mut self) -> Result<EnumValue<'t>, Stop>
         ensures exact { Gives (λ v. (v, self.new)) result (enum_value_at self.old) }
         ensures shorter { IfOk result (λ _. length self.new < length self.old) }
     {
-        let name = self.text(TokenKind::Word)?;
+        let name = self.token(TokenKind::Word)?;
         let number = match self.take_sign(b'=') {
-            Some(_) => Some(self.text(TokenKind::Integer)?),
+            Some(_) => Some(self.number()?),
             None => None,
         };
         Ok(EnumValue { name, number })
     }
 
     #[tactic(auto, unfolding(crate::specs::ReadingTypes::listed_value_at, crate::specs::Reading::listed_at))]
-    fn listed_value(&mut self) -> Result<EnumValue, Stop>
+    fn listed_value(&mut self) -> Result<EnumValue<'t>, Stop>
         ensures exact { Gives (λ v. (v, self.new)) result (listed_value_at self.old) }
         ensures shorter { IfOk result (λ _. length self.new < length self.old) }
     {
@@ -33,7 +33,7 @@ impl Parser<'_> {
     }
 
     /// The values before a closing brace.
-    fn values(&mut self) -> Result<Vec<EnumValue>, Stop>
+    fn values(&mut self) -> Result<Vec<EnumValue<'t>>, Stop>
         ensures exact { Gives (λ v. (v.items, self.new)) result
             (until listed_value_at (is_sign close_brace) self.old) }
         ensures shorter { IfOk result (λ _. length self.new ≤ length self.old) }
@@ -47,7 +47,7 @@ impl Parser<'_> {
     }
 
     #[tactic(auto, unfolding(crate::specs::Reading::some_until))]
-    fn some_values(&mut self) -> Result<Vec<EnumValue>, Stop>
+    fn some_values(&mut self) -> Result<Vec<EnumValue<'t>>, Stop>
         ensures exact { Gives (λ v. (v.items, self.new)) result
             (some_until listed_value_at close_brace self.old) }
         ensures shorter { IfOk result (λ _. length self.new ≤ length self.old) }
@@ -60,18 +60,18 @@ impl Parser<'_> {
 
     /// An enum behind its first word.
     #[tactic(auto, unfolding(crate::specs::ReadingTypes::enum_at))]
-    pub(super) fn enumeration(&mut self) -> Result<EnumDeclaration, Stop>
+    pub(super) fn enumeration(&mut self) -> Result<EnumDecl<'t>, Stop>
         ensures exact { Gives (λ e. (e, self.new)) result (enum_at self.old) }
         ensures shorter { IfOk result (λ _. length self.new < length self.old) }
     {
-        let name = self.text(TokenKind::Word)?;
+        let name = self.token(TokenKind::Word)?;
         self.sign(b':')?;
         let underlying = self.name()?;
         let attributes = self.metadata()?;
         self.sign(b'{')?;
         let values = self.some_values()?;
         self.sign(b'}')?;
-        Ok(EnumDeclaration {
+        Ok(EnumDecl {
             name,
             underlying,
             attributes,

@@ -6,12 +6,12 @@ ghost use Rattle.fb_syntax.specs.ReadingFields.{type_at, default_value_at, defau
 ghost use Rattle.fb_syntax.specs.ReadingTypes.{table_at};
 
 use super::{Parser, Stop};
-use crate::declarations::{DefaultValue, Field, FieldType, TableDeclaration, Text};
+use crate::declarations::{DefaultValue, DottedName, Field, FieldType, TableDecl};
 use crate::tokens::TokenKind;
 
-impl Parser<'_> {
+impl<'t> Parser<'t, '_> {
     /// The name of the type of a vector's elements.
-    fn element(&mut self) -> Result<Text, Stop>
+    fn element(&mut self) -> Result<DottedName<'t>, Stop>
         ensures exact { Gives (λ t. (t, self.new)) result (name_at self.old) }
         ensures shorter { IfOk result (λ _. length self.new < length self.old) }
     {
@@ -22,7 +22,7 @@ impl Parser<'_> {
     }
 
     #[tactic(auto, unfolding(crate::specs::ReadingFields::type_at))]
-    fn field_type(&mut self) -> Result<FieldType, Stop>
+    fn field_type(&mut self) -> Result<FieldType<'t>, Stop>
         ensures exact { Gives (λ t. (t, self.new)) result (type_at self.old) }
         ensures shorter { IfOk result (λ _. length self.new < length self.old) }
     {
@@ -37,18 +37,18 @@ impl Parser<'_> {
     }
 
     #[tactic(auto, unfolding(crate::specs::ReadingFields::default_value_at))]
-    fn default_value(&mut self) -> Result<DefaultValue, Stop>
+    fn default_value(&mut self) -> Result<DefaultValue<'t>, Stop>
         ensures exact { Gives (λ v. (v, self.new)) result (default_value_at self.old) }
         ensures shorter { IfOk result (λ _. length self.new < length self.old) }
     {
         match self.kind() {
-            Some(TokenKind::Integer) => Ok(DefaultValue::Integer(self.text(TokenKind::Integer)?)),
+            Some(TokenKind::Integer) => Ok(DefaultValue::Integer(self.number()?)),
             _ => Ok(DefaultValue::Name(self.name()?)),
         }
     }
 
     #[tactic(auto, unfolding(crate::specs::ReadingFields::default_at))]
-    fn default(&mut self) -> Result<Option<DefaultValue>, Stop>
+    fn default(&mut self) -> Result<Option<DefaultValue<'t>>, Stop>
         ensures exact { Gives (λ v. (v, self.new)) result (default_at self.old) }
         ensures shorter { IfOk result (λ _. length self.new ≤ length self.old) }
     {
@@ -59,11 +59,11 @@ impl Parser<'_> {
     }
 
     #[tactic(auto, unfolding(crate::specs::ReadingFields::field_at))]
-    fn field(&mut self) -> Result<Field, Stop>
+    fn field(&mut self) -> Result<Field<'t>, Stop>
         ensures exact { Gives (λ f. (f, self.new)) result (field_at self.old) }
         ensures shorter { IfOk result (λ _. length self.new < length self.old) }
     {
-        let name = self.text(TokenKind::Word)?;
+        let name = self.token(TokenKind::Word)?;
         self.sign(b':')?;
         let kind = self.field_type()?;
         let default = self.default()?;
@@ -77,7 +77,7 @@ impl Parser<'_> {
         })
     }
 
-    fn fields(&mut self) -> Result<Vec<Field>, Stop>
+    fn fields(&mut self) -> Result<Vec<Field<'t>>, Stop>
         ensures exact { Gives (λ v. (v.items, self.new)) result
             (until field_at (is_sign close_brace) self.old) }
         ensures shorter { IfOk result (λ _. length self.new ≤ length self.old) }
@@ -92,16 +92,16 @@ impl Parser<'_> {
 
     /// A table or struct behind its first word.
     #[tactic(auto, unfolding(crate::specs::ReadingTypes::table_at))]
-    pub(super) fn table(&mut self) -> Result<TableDeclaration, Stop>
+    pub(super) fn table(&mut self) -> Result<TableDecl<'t>, Stop>
         ensures exact { Gives (λ t. (t, self.new)) result (table_at self.old) }
         ensures shorter { IfOk result (λ _. length self.new < length self.old) }
     {
-        let name = self.text(TokenKind::Word)?;
+        let name = self.token(TokenKind::Word)?;
         let attributes = self.metadata()?;
         self.sign(b'{')?;
         let fields = self.fields()?;
         self.sign(b'}')?;
-        Ok(TableDeclaration {
+        Ok(TableDecl {
             name,
             attributes,
             fields,

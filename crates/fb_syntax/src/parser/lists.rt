@@ -4,7 +4,7 @@ ghost use Rattle.fb_syntax.specs.Reading.{Gives, comma_at};
 
 use super::{Parser, Stop};
 
-impl Parser<'_> {
+impl<'t> Parser<'t, '_> {
     /// Passes a comma; nothing where the list's closing sign stands. Where `trailing` is false, an
     /// item has to follow the comma.
     #[tactic(auto, unfolding(crate::specs::Reading::comma_at))]

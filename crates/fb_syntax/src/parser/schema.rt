@@ -11,14 +11,14 @@ ghost use Rattle.fb_syntax.specs.ReadingSchema.{declared_at, declaration_at};
 
 use super::keywords::{Keyword, keyword_of};
 use super::{Parser, Stop};
-use crate::declarations::{Declaration, Decls, Text};
+use crate::declarations::{Declaration, Decls, Directive, DottedName, Text, TypeDecl};
 use crate::faults::SyntaxFault;
 use crate::tokens::{Token, TokenKind};
 use std::alloc::Global;
 
-impl Parser<'_> {
+impl<'t> Parser<'t, '_> {
     #[tactic(auto, unfolding(crate::specs::ReadingSchema::namespace_at))]
-    fn namespace(&mut self) -> Result<Option<Text>, Stop>
+    fn namespace(&mut self) -> Result<Option<DottedName<'t>>, Stop>
         ensures exact { Gives (λ n. (n, self.new)) result (namespace_at self.old) }
         ensures shorter { IfOk result (λ _. length self.new < length self.old) }
     {
@@ -31,20 +31,20 @@ impl Parser<'_> {
     }
 
     #[tactic(auto, unfolding(crate::specs::ReadingSchema::attribute_at))]
-    fn attribute(&mut self) -> Result<Text, Stop>
+    fn attribute(&mut self) -> Result<Text<'t>, Stop>
         ensures exact { Gives (λ t. (t, self.new)) result (attribute_at self.old) }
         ensures shorter { IfOk result (λ _. length self.new < length self.old) }
     {
         let name = match self.kind() {
-            Some(TokenKind::Quoted) => self.text(TokenKind::Quoted)?,
-            _ => self.text(TokenKind::Word)?,
+            Some(TokenKind::Quoted) => self.token(TokenKind::Quoted)?,
+            _ => self.token(TokenKind::Word)?,
         };
         self.sign(b';')?;
         Ok(name)
     }
 
     #[tactic(auto, unfolding(crate::specs::ReadingSchema::root_at))]
-    fn root(&mut self) -> Result<Text, Stop>
+    fn root(&mut self) -> Result<DottedName<'t>, Stop>
         ensures exact { Gives (λ t. (t, self.new)) result (root_at self.old) }
         ensures shorter { IfOk result (λ _. length self.new < length self.old) }
     {
@@ -55,11 +55,11 @@ impl Parser<'_> {
 
     /// What a file's name ends in, or its identifier.
     #[tactic(auto, unfolding(crate::specs::ReadingSchema::quoted_at))]
-    fn quoted(&mut self) -> Result<Text, Stop>
+    fn quoted(&mut self) -> Result<Text<'t>, Stop>
         ensures exact { Gives (λ t. (t, self.new)) result (quoted_at self.old) }
         ensures shorter { IfOk result (λ _. length self.new < length self.old) }
     {
-        let text = self.text(TokenKind::Quoted)?;
+        let text = self.token(TokenKind::Quoted)?;
         self.sign(b';')?;
         Ok(text)
     }
@@ -77,25 +77,29 @@ impl Parser<'_> {
 
     /// The declaration that a word begins.
     #[tactic(auto, unfolding(crate::specs::ReadingSchema::declared_at))]
-    fn declared(&mut self, keyword: Keyword) -> Result<Declaration, Stop>
+    fn declared(&mut self, keyword: Keyword) -> Result<Declaration<'t>, Stop>
         ensures exact { Gives (λ d. (d, self.new)) result (declared_at keyword self.old) }
         ensures shorter { IfOk result (λ _. length self.new < length self.old) }
     {
         match keyword {
             Keyword::Namespace => Ok(Declaration::Namespace(self.namespace()?)),
             Keyword::Attribute => Ok(Declaration::Attribute(self.attribute()?)),
-            Keyword::Table => Ok(Declaration::Table(self.table()?)),
-            Keyword::Struct => Ok(Declaration::Struct(self.table()?)),
-            Keyword::Enum => Ok(Declaration::Enum(self.enumeration()?)),
-            Keyword::Union => Ok(Declaration::Union(self.union()?)),
-            Keyword::Root => Ok(Declaration::Root(self.root()?)),
-            Keyword::Extension => Ok(Declaration::Extension(self.quoted()?)),
-            Keyword::Identifier => Ok(Declaration::Identifier(self.quoted()?)),
+            Keyword::Table => Ok(Declaration::Type(TypeDecl::Table(self.table()?))),
+            Keyword::Struct => Ok(Declaration::Type(TypeDecl::Struct(self.table()?))),
+            Keyword::Enum => Ok(Declaration::Type(TypeDecl::Enum(self.enumeration()?))),
+            Keyword::Union => Ok(Declaration::Type(TypeDecl::Union(self.union()?))),
+            Keyword::Root => Ok(Declaration::Directive(Directive::RootType(self.root()?))),
+            Keyword::Extension => Ok(Declaration::Directive(Directive::FileExtension(
+                self.quoted()?,
+            ))),
+            Keyword::Identifier => Ok(Declaration::Directive(Directive::FileIdentifier(
+                self.quoted()?,
+            ))),
         }
     }
 
     #[tactic(auto, unfolding(crate::specs::ReadingSchema::declaration_at))]
-    fn declaration(&mut self) -> Result<Declaration, Stop>
+    fn declaration(&mut self) -> Result<Declaration<'t>, Stop>
         ensures exact { Gives (λ d. (d, self.new)) result (declaration_at self.old) }
         ensures shorter { IfOk result (λ _. length self.new < length self.old) }
     {
@@ -103,7 +107,7 @@ impl Parser<'_> {
         self.declared(keyword)
     }
 
-    fn declarations(&mut self) -> Result<Vec<Declaration>, Stop>
+    fn declarations(&mut self) -> Result<Vec<Declaration<'t>>, Stop>
         ensures exact { Gives (λ v. (v.items, self.new)) result
             (until declaration_at is_empty self.old) }
         ensures shorter { IfOk result (λ _. length self.new ≤ length self.old) }
@@ -118,7 +122,7 @@ impl Parser<'_> {
 }
 
 /// The offset of the first of the tokens that are left, or of the text's end.
-fn offset_of(text: &[u8], tokens: &[Token], left: usize) -> u64
+fn offset_of(text: &str, tokens: &[Token], left: usize) -> u64
     requires { AreReadable text.now tokens.now }
     ensures { result ≤ length text.now }
 {
@@ -132,11 +136,11 @@ fn offset_of(text: &[u8], tokens: &[Token], left: usize) -> u64
 ///
 /// A refusal names the first token that the grammar doesn't allow, or the text's length; a vector
 /// inside a vector is one of its own.
-pub(crate) fn declarations_of(
+pub(crate) fn declarations_of<'t>(
     alloc: Global,
-    text: &[u8],
+    text: &'t str,
     tokens: &[Token],
-) -> Result<Decls, SyntaxFault>
+) -> Result<Decls<'t>, SyntaxFault>
     requires { AreReadable text.now tokens.now }
     ensures reads { IfOk result (Reads text.now tokens.now) }
     ensures exact { (d : DeclsRead) → Reads text.now tokens.now d

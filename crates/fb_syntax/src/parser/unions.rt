@@ -5,16 +5,16 @@ ghost use Rattle.fb_syntax.specs.Reading.{Gives, is_sign, some_until, until};
 ghost use Rattle.fb_syntax.specs.ReadingTypes.{member_at, listed_member_at, union_at};
 
 use super::{Parser, Stop};
-use crate::declarations::{UnionDeclaration, UnionMember};
+use crate::declarations::{UnionDecl, UnionMember};
 use crate::tokens::TokenKind;
 
-impl Parser<'_> {
+impl<'t> Parser<'t, '_> {
     #[tactic(auto, unfolding(crate::specs::ReadingTypes::member_at))]
-    fn member(&mut self) -> Result<UnionMember, Stop>
+    fn member(&mut self) -> Result<UnionMember<'t>, Stop>
         ensures exact { Gives (λ m. (m, self.new)) result (member_at self.old) }
         ensures shorter { IfOk result (λ _. length self.new < length self.old) }
     {
-        let word = self.text(TokenKind::Word)?;
+        let word = self.token(TokenKind::Word)?;
         match self.take_sign(b':') {
             Some(_) => {
                 let table = self.name()?;
@@ -31,7 +31,7 @@ impl Parser<'_> {
     }
 
     #[tactic(auto, unfolding(crate::specs::ReadingTypes::listed_member_at, crate::specs::Reading::listed_at))]
-    fn listed_member(&mut self) -> Result<UnionMember, Stop>
+    fn listed_member(&mut self) -> Result<UnionMember<'t>, Stop>
         ensures exact { Gives (λ m. (m, self.new)) result (listed_member_at self.old) }
         ensures shorter { IfOk result (λ _. length self.new < length self.old) }
     {
@@ -41,7 +41,7 @@ impl Parser<'_> {
     }
 
     /// The members before a closing brace.
-    fn members(&mut self) -> Result<Vec<UnionMember>, Stop>
+    fn members(&mut self) -> Result<Vec<UnionMember<'t>>, Stop>
         ensures exact { Gives (λ v. (v.items, self.new)) result
             (until listed_member_at (is_sign close_brace) self.old) }
         ensures shorter { IfOk result (λ _. length self.new ≤ length self.old) }
@@ -55,7 +55,7 @@ impl Parser<'_> {
     }
 
     #[tactic(auto, unfolding(crate::specs::Reading::some_until))]
-    fn some_members(&mut self) -> Result<Vec<UnionMember>, Stop>
+    fn some_members(&mut self) -> Result<Vec<UnionMember<'t>>, Stop>
         ensures exact { Gives (λ v. (v.items, self.new)) result
             (some_until listed_member_at close_brace self.old) }
         ensures shorter { IfOk result (λ _. length self.new ≤ length self.old) }
@@ -68,16 +68,16 @@ impl Parser<'_> {
 
     /// A union behind its first word.
     #[tactic(auto, unfolding(crate::specs::ReadingTypes::union_at))]
-    pub(super) fn union(&mut self) -> Result<UnionDeclaration, Stop>
+    pub(super) fn union(&mut self) -> Result<UnionDecl<'t>, Stop>
         ensures exact { Gives (λ u. (u, self.new)) result (union_at self.old) }
         ensures shorter { IfOk result (λ _. length self.new < length self.old) }
     {
-        let name = self.text(TokenKind::Word)?;
+        let name = self.token(TokenKind::Word)?;
         let attributes = self.metadata()?;
         self.sign(b'{')?;
         let members = self.some_members()?;
         self.sign(b'}')?;
-        Ok(UnionDeclaration {
+        Ok(UnionDecl {
             name,
             attributes,
             members,
