@@ -19,7 +19,7 @@ use fb_syntax::{EnumDecl, TableDecl, TypeDecl, UnionDecl, UnionMember};
 use std::alloc::{AllocError, Global};
 
 fn member_read(
-    types: TypesRead<'_, '_, '_>,
+    types: TypesRead<'_, '_, '_, '_>,
     alloc: Global,
     scope: Option<&str>,
     member: &UnionMember<'_>,
@@ -34,7 +34,7 @@ fn member_read(
 }
 
 fn members_read(
-    types: TypesRead<'_, '_, '_>,
+    types: TypesRead<'_, '_, '_, '_>,
     alloc: Global,
     scope: Option<&str>,
     read: &UnionDecl<'_>,
@@ -50,7 +50,7 @@ fn members_read(
 }
 
 fn struct_body(
-    types: TypesRead<'_, '_, '_>,
+    types: TypesRead<'_, '_, '_, '_>,
     alloc: Global,
     scope: Option<&str>,
     read: &TableDecl<'_>,
@@ -72,7 +72,7 @@ fn enum_body(alloc: Global, read: &EnumDecl<'_>) -> Result<Body, AllocError>
 }
 
 fn table_body(
-    types: TypesRead<'_, '_, '_>,
+    types: TypesRead<'_, '_, '_, '_>,
     alloc: Global,
     scope: Option<&str>,
     read: &TableDecl<'_>,
@@ -86,7 +86,7 @@ fn table_body(
 }
 
 fn union_body(
-    types: TypesRead<'_, '_, '_>,
+    types: TypesRead<'_, '_, '_, '_>,
     alloc: Global,
     scope: Option<&str>,
     read: &UnionDecl<'_>,
@@ -98,7 +98,7 @@ fn union_body(
 }
 
 fn body_of(
-    types: TypesRead<'_, '_, '_>,
+    types: TypesRead<'_, '_, '_, '_>,
     alloc: Global,
     scope: Option<&str>,
     declaration: &TypeDecl<'_>,
@@ -116,9 +116,9 @@ fn body_of(
 }
 
 fn type_of(
-    types: TypesRead<'_, '_, '_>,
+    types: TypesRead<'_, '_, '_, '_>,
     alloc: Global,
-    read: &TypeRead<'_>,
+    read: &TypeRead<'_, '_>,
 ) -> Result<TypeInfo, AllocError>
     requires { IsBuildable types.types.now read.now.scope read.now.declaration }
     ensures { IfOk result (λ t. IsType types.entry.types.now read.now (type_seen t)) }
@@ -130,7 +130,7 @@ fn type_of(
 
 /// The types that the declarations give. The only error is a refused allocation.
 pub(crate) fn types_of(
-    types: TypesRead<'_, '_, '_>,
+    types: TypesRead<'_, '_, '_, '_>,
     alloc: Global,
 ) -> Result<Vec<TypeInfo>, AllocError>
     requires { AreBuildable types.types.now }

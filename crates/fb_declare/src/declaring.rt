@@ -22,7 +22,7 @@ use fb_schema::{Schema, TypeId};
 use fb_syntax::{Decls, Text};
 use std::alloc::{AllocError, Global};
 
-fn located_names(alloc: Global, types: &[TypeRead<'_>]) -> Result<Vec<LocatedName>, AllocError>
+fn located_names(alloc: Global, types: &[TypeRead<'_, '_>]) -> Result<Vec<LocatedName>, AllocError>
     ensures { IfOk result (λ names. names.items ≡ map located_name types.now) }
 {
     let mut names = Vec::with_capacity(alloc, types.len())?;
@@ -33,7 +33,7 @@ fn located_names(alloc: Global, types: &[TypeRead<'_>]) -> Result<Vec<LocatedNam
 }
 
 /// The number of the root's table.
-fn root_table(types: TypesRead<'_, '_, '_>, root: Option<&RootRead<'_>>) -> Option<TypeId>
+fn root_table(types: TypesRead<'_, '_, '_, '_>, root: Option<&RootRead<'_, '_>>) -> Option<TypeId>
     ensures { option_map (λ n. n.0) result
         ≡ root_table types.entry.types.now (option_copied root.entry) }
 {
@@ -57,7 +57,7 @@ fn identifier_of(identifier: Option<&Text<'_>>) -> Option<[u8; 4]>
 #[tactic(auto, using(crate::proofs::Least::least_of_append), unfolding(crate::specs::TypeFaults::faults_of_outline))]
 fn least_fault(
     alloc: Global,
-    found: Found<'_, '_, '_>,
+    found: Found<'_, '_, '_, '_>,
     names: &[LocatedName],
 ) -> Result<Option<SchemaFault>, AllocError>
     requires { names.now ≡ map located_name found.types.types.now }
@@ -73,7 +73,7 @@ fn least_fault(
 }
 
 /// The schema that an outline with no fault gives.
-fn schema_found(alloc: Global, found: Found<'_, '_, '_>) -> Result<Schema, AllocError>
+fn schema_found(alloc: Global, found: Found<'_, '_, '_, '_>) -> Result<Schema, AllocError>
     requires { faults_of_outline (outline_found found) ≡ [] }
     ensures { IfOk result (Gives (outline_found found.entry)) }
 {
@@ -88,7 +88,7 @@ fn schema_found(alloc: Global, found: Found<'_, '_, '_>) -> Result<Schema, Alloc
 /// its types.
 fn schema_or_fault(
     alloc: Global,
-    found: Found<'_, '_, '_>,
+    found: Found<'_, '_, '_, '_>,
     names: &[LocatedName],
 ) -> Result<Schema, SchemaFault>
     requires names { names.now ≡ map located_name found.types.types.now }
@@ -104,10 +104,10 @@ fn schema_or_fault(
 }
 
 /// The schema that an outline gives, or the least of its faults, where its types are found by name.
-fn declare_types<'t, 'd, 'n>(
+fn declare_types<'t, 'd, 's, 'n>(
     alloc: Global,
-    outline: &'t Outline<'d>,
-    types: TypesRead<'t, 'd, 'n>,
+    outline: &'t Outline<'d, 's>,
+    types: TypesRead<'t, 'd, 's, 'n>,
     names: &[LocatedName],
 ) -> Result<Schema, SchemaFault>
     requires same { types.types.now ≡ outline.now.types }
@@ -131,7 +131,7 @@ fn declare_types<'t, 'd, 'n>(
 }
 
 /// The schema that an outline gives, or the least of its faults.
-fn declare_outline(alloc: Global, outline: &Outline<'_>) -> Result<Schema, SchemaFault>
+fn declare_outline(alloc: Global, outline: &Outline<'_, '_>) -> Result<Schema, SchemaFault>
     ensures sound { OnOk result (faults_of_outline outline.now ≡ []) }
     ensures given { IfOk result (Gives outline.now) }
     ensures least { IfErr result (λ f. f ≢ Memory → least_of (faults_of_outline outline.now) ≡ Some f) }

@@ -61,7 +61,7 @@ fn value_names(alloc: Global, values: &[EnumValue<'_>]) -> Result<Vec<LocatedNam
 /// The least fault of an enum. The only error is a refused allocation.
 #[tactic(auto, using(crate::proofs::Least::least_of_append), unfolding(crate::specs::TypeFaults::enum_faults))]
 pub(crate) fn enum_fault(
-    types: TypesRead<'_, '_, '_>,
+    types: TypesRead<'_, '_, '_, '_>,
     alloc: Global,
     declared: DeclaredNames<'_, '_>,
     scope: Option<&str>,

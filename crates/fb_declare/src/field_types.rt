@@ -39,7 +39,7 @@ pub(crate) fn table_field_type(kind: &FieldType<'_>, meaning: Meaning) -> Option
     ensures { result ≡ least_of (table_field_type kind.now meaning) }
 {
     earlier(
-        use_fault(meaning, type_name(kind).at),
+        use_fault(meaning, type_name(kind).at()),
         union_vector(kind, meaning),
     )
 }
@@ -70,7 +70,7 @@ pub(crate) fn struct_field_type(
     ensures { result ≡ least_of (struct_field_type number kind.now meaning) }
 {
     earlier(
-        use_fault(meaning, type_name(kind).at),
+        use_fault(meaning, type_name(kind).at()),
         part_fault(number, kind, meaning),
     )
 }

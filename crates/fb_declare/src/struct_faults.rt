@@ -29,7 +29,7 @@ fn field_names(alloc: Global, fields: &[Field<'_>]) -> Result<Vec<LocatedName>, 
 
 #[tactic(auto, using(crate::proofs::Least::least_of_append), unfolding(crate::specs::TypeFaults::struct_field_faults))]
 fn field_fault(
-    types: TypesRead<'_, '_, '_>,
+    types: TypesRead<'_, '_, '_, '_>,
     alloc: Global,
     declared: DeclaredNames<'_, '_>,
     scope: Option<&str>,
@@ -50,7 +50,7 @@ fn field_fault(
 }
 
 fn fields_fault(
-    types: TypesRead<'_, '_, '_>,
+    types: TypesRead<'_, '_, '_, '_>,
     alloc: Global,
     declared: DeclaredNames<'_, '_>,
     scope: Option<&str>,
@@ -80,7 +80,7 @@ fn is_empty(fields: &[Field<'_>]) -> bool
 /// error is a refused allocation.
 #[tactic(auto, using(crate::proofs::Least::least_of_append), unfolding(crate::specs::TypeFaults::struct_faults))]
 pub(crate) fn struct_fault(
-    types: TypesRead<'_, '_, '_>,
+    types: TypesRead<'_, '_, '_, '_>,
     alloc: Global,
     declared: DeclaredNames<'_, '_>,
     scope: Option<&str>,

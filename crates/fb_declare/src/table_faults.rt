@@ -20,7 +20,7 @@ use std::alloc::{AllocError, Global};
 
 /// Adds the names that a field takes: a union's code has one.
 fn push_names(
-    types: TypesRead<'_, '_, '_>,
+    types: TypesRead<'_, '_, '_, '_>,
     alloc: Global,
     scope: Option<&str>,
     field: &Field<'_>,
@@ -41,7 +41,7 @@ fn push_names(
 }
 
 fn field_names(
-    types: TypesRead<'_, '_, '_>,
+    types: TypesRead<'_, '_, '_, '_>,
     alloc: Global,
     scope: Option<&str>,
     fields: &[Field<'_>],
@@ -68,7 +68,7 @@ fn place_of_field(kind: &FieldType<'_>, meaning: Meaning) -> Place
 
 #[tactic(auto, using(crate::proofs::Least::least_of_append), unfolding(crate::specs::TypeFaults::table_field_faults))]
 fn field_fault(
-    types: TypesRead<'_, '_, '_>,
+    types: TypesRead<'_, '_, '_, '_>,
     alloc: Global,
     declared: DeclaredNames<'_, '_>,
     scope: Option<&str>,
@@ -88,7 +88,7 @@ fn field_fault(
 }
 
 fn fields_fault(
-    types: TypesRead<'_, '_, '_>,
+    types: TypesRead<'_, '_, '_, '_>,
     alloc: Global,
     declared: DeclaredNames<'_, '_>,
     scope: Option<&str>,
@@ -107,7 +107,7 @@ fn fields_fault(
 /// The least fault of a table. The only error is a refused allocation.
 #[tactic(auto, using(crate::proofs::Least::least_of_append), unfolding(crate::specs::TypeFaults::table_faults))]
 pub(crate) fn table_fault(
-    types: TypesRead<'_, '_, '_>,
+    types: TypesRead<'_, '_, '_, '_>,
     alloc: Global,
     declared: DeclaredNames<'_, '_>,
     scope: Option<&str>,

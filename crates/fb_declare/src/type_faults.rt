@@ -29,7 +29,7 @@ fn reserved_name(name: &Text<'_>) -> Option<SchemaFault>
 
 #[tactic(auto, unfolding(crate::specs::Faults::least_of))]
 fn declaration_fault(
-    types: TypesRead<'_, '_, '_>,
+    types: TypesRead<'_, '_, '_, '_>,
     alloc: Global,
     declared: DeclaredNames<'_, '_>,
     lower: &[u16],
@@ -49,11 +49,11 @@ fn declaration_fault(
 
 #[tactic(auto, using(crate::proofs::Least::least_of_append), unfolding(crate::specs::TypeFaults::type_faults))]
 fn type_fault(
-    types: TypesRead<'_, '_, '_>,
+    types: TypesRead<'_, '_, '_, '_>,
     alloc: Global,
     declared: DeclaredNames<'_, '_>,
     lower: &[u16],
-    read: &TypeRead<'_>,
+    read: &TypeRead<'_, '_>,
 ) -> Result<Option<SchemaFault>, AllocError>
     ensures { IfOk result (λ f. f ≡ least_of
         (type_faults types.entry.types.now (names_declared declared.entry) lower.now read.now)) }
@@ -65,7 +65,7 @@ fn type_fault(
 
 /// The least fault of the types. The only error is a refused allocation.
 pub(crate) fn types_fault(
-    types: TypesRead<'_, '_, '_>,
+    types: TypesRead<'_, '_, '_, '_>,
     alloc: Global,
     declared: DeclaredNames<'_, '_>,
 ) -> Result<Option<SchemaFault>, AllocError>
@@ -94,9 +94,9 @@ fn root_use_fault(meaning: Meaning, at: u64) -> Option<SchemaFault>
 /// The least fault of the root.
 #[tactic(auto, unfolding(crate::specs::FaultRows::root_faults, crate::specs::Faults::least_of))]
 pub(crate) fn root_fault(
-    types: TypesRead<'_, '_, '_>,
+    types: TypesRead<'_, '_, '_, '_>,
     text_len: u64,
-    root: Option<&RootRead<'_>>,
+    root: Option<&RootRead<'_, '_>>,
 ) -> Option<SchemaFault>
     ensures { result
         ≡ least_of (root_faults types.entry.types.now text_len (option_copied root.entry)) }

@@ -28,7 +28,7 @@ fn member_names(alloc: Global, members: &[UnionMember<'_>]) -> Result<Vec<Locate
 }
 
 fn fault_of_member(
-    types: TypesRead<'_, '_, '_>,
+    types: TypesRead<'_, '_, '_, '_>,
     alloc: Global,
     scope: Option<&str>,
     before: usize,
@@ -44,7 +44,7 @@ fn fault_of_member(
 
 #[tactic(auto, using(crate::proofs::Least::least_of_append), unfolding(crate::specs::TypeFaults::members_faults))]
 fn members_fault(
-    types: TypesRead<'_, '_, '_>,
+    types: TypesRead<'_, '_, '_, '_>,
     alloc: Global,
     scope: Option<&str>,
     members: &[UnionMember<'_>],
@@ -62,7 +62,7 @@ fn members_fault(
 /// The least fault of a union. The only error is a refused allocation.
 #[tactic(auto, using(crate::proofs::Least::least_of_append), unfolding(crate::specs::TypeFaults::union_faults))]
 pub(crate) fn union_fault(
-    types: TypesRead<'_, '_, '_>,
+    types: TypesRead<'_, '_, '_, '_>,
     alloc: Global,
     declared: DeclaredNames<'_, '_>,
     scope: Option<&str>,

@@ -20,7 +20,6 @@ no_declared t (decls.Table d) = refl
 no_declared t (decls.Struct d) = refl
 no_declared t (decls.Enum d) = refl
 no_declared t (decls.Union d) = refl
-no_declared t _ = refl
 
 no_read : (t : ℕ) (r : Option TypeRead) → integer_type (use_of_read t r) ≡ None
 no_read t None = refl

@@ -69,10 +69,10 @@ pub(crate) fn has_attribute(known: Known, attributes: &[Attribute<'_>]) -> bool
     attributes.iter().any(|attribute| attribute.name.text == known.spelling())
 }
 
-fn attribute_called<'d>(
+fn attribute_called<'a, 's>(
     known: Known,
-    attributes: &'d [Attribute<'d>],
-) -> Option<&'d Attribute<'d>>
+    attributes: &'a [Attribute<'s>],
+) -> Option<&'a Attribute<'s>>
     ensures { option_copied result ≡ attribute_called known attributes.now }
 {
     attributes.iter().find(|attribute| attribute.name.text == known.spelling())

@@ -39,7 +39,7 @@ pub fn underlying(read: &EnumDecl<'_>) -> Option<Base>
 }
 
 /// The underlying type of the enum of a number.
-pub(crate) fn underlying_at(types: TypesRead<'_, '_, '_>, number: usize) -> Option<Base>
+pub(crate) fn underlying_at(types: TypesRead<'_, '_, '_, '_>, number: usize) -> Option<Base>
     ensures { result ≡ underlying_at types.entry.types.now number }
 {
     match types.types.get(number)?.declaration {

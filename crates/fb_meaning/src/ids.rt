@@ -16,7 +16,7 @@ use fb_schema::{FieldInfo, TypeId};
 use fb_syntax::Field;
 use std::alloc::{AllocError, Global};
 
-fn union_in(types: TypesRead<'_, '_, '_>, scope: Option<&str>, field: &Field<'_>) -> Option<TypeId>
+fn union_in(types: TypesRead<'_, '_, '_, '_>, scope: Option<&str>, field: &Field<'_>) -> Option<TypeId>
     ensures { result
         ≡ union_in types.entry.types.now (option_copied scope.entry) field.now }
 {
@@ -39,7 +39,7 @@ fn first_slot(union: Option<TypeId>, id: Option<i128>) -> Option<u64>
 
 /// The first slot of a field by its id.
 #[tactic(auto, unfolding(crate::specs::SlotsRead::slot_by_id))]
-fn slot_by_id(types: TypesRead<'_, '_, '_>, scope: Option<&str>, field: &Field<'_>) -> Option<u64>
+fn slot_by_id(types: TypesRead<'_, '_, '_, '_>, scope: Option<&str>, field: &Field<'_>) -> Option<u64>
     ensures slot { result
         ≡ slot_by_id types.entry.types.now (option_copied scope.entry) field.now }
     ensures room { IsSome (union_in types.entry.types.now (option_copied scope.entry) field.now)
@@ -53,7 +53,7 @@ fn slot_by_id(types: TypesRead<'_, '_, '_>, scope: Option<&str>, field: &Field<'
 /// Adds the numbers of the slots that a field takes by its id; says whether it has one.
 #[tactic(auto, unfolding(crate::specs::SlotsRead::slots_of_field))]
 fn push_numbers(
-    types: TypesRead<'_, '_, '_>,
+    types: TypesRead<'_, '_, '_, '_>,
     scope: Option<&str>,
     field: &Field<'_>,
     numbers: &mut Vec<u64>,
@@ -75,7 +75,7 @@ fn push_numbers(
 
 /// The numbers of the slots that fields take by their ids, if each has one.
 fn numbers_by_id(
-    types: TypesRead<'_, '_, '_>,
+    types: TypesRead<'_, '_, '_, '_>,
     alloc: Global,
     scope: Option<&str>,
     fields: &[Field<'_>],
@@ -119,7 +119,7 @@ fn have_ids(fields: &[Field<'_>]) -> bool
 /// allocation.
 #[tactic(auto, unfolding(crate::specs::SlotsRead::are_ids_wrong))]
 pub fn are_ids_wrong(
-    types: TypesRead<'_, '_, '_>,
+    types: TypesRead<'_, '_, '_, '_>,
     alloc: Global,
     scope: Option<&str>,
     fields: &[Field<'_>],
@@ -139,7 +139,7 @@ pub fn are_ids_wrong(
 /// The slots of fields by their ids, in the order of declaration; without an id a field takes
 /// those from 0 on.
 fn slots_by_id(
-    types: TypesRead<'_, '_, '_>,
+    types: TypesRead<'_, '_, '_, '_>,
     alloc: Global,
     scope: Option<&str>,
     fields: &[Field<'_>],
@@ -157,7 +157,7 @@ fn slots_by_id(
 
 /// The slots of a table, each at the place of its number. The only error is a refused allocation.
 pub fn table_slots(
-    types: TypesRead<'_, '_, '_>,
+    types: TypesRead<'_, '_, '_, '_>,
     alloc: Global,
     scope: Option<&str>,
     fields: &[Field<'_>],

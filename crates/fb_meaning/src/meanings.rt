@@ -14,7 +14,7 @@ pub enum Meaning {
 }
 
 /// The name in a field's type.
-pub fn type_name<'d>(kind: &'d FieldType<'d>) -> &'d DottedName<'d>
+pub fn type_name<'d, 's>(kind: &'d FieldType<'s>) -> &'d DottedName<'s>
     ensures { result.now ≡ type_name kind.now }
 {
     match kind {

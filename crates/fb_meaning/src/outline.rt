@@ -9,12 +9,12 @@ use std::marker::Model;
 
 /// A table, struct, enum or union, and the namespace in force.
 #[derive(Drop)]
-pub struct TypeRead<'d> {
+pub struct TypeRead<'d, 's> {
     pub scope: Option<&'d str>,
-    pub declaration: &'d TypeDecl<'d>,
+    pub declaration: &'d TypeDecl<'s>,
 }
 
-impl<'d> Model for TypeRead<'d> {
+impl<'d, 's> Model for TypeRead<'d, 's> {
     ghost use Rattle.std.specs.Option.{option_copied};
     ghost use Rattle.fb_meaning.specs.Outline.{TypeRead as Read};
 
@@ -25,12 +25,12 @@ impl<'d> Model for TypeRead<'d> {
 
 /// The name of the root's type, and the namespace in force.
 #[derive(Drop)]
-pub struct RootRead<'d> {
+pub struct RootRead<'d, 's> {
     pub scope: Option<&'d str>,
-    pub name: &'d DottedName<'d>,
+    pub name: &'d DottedName<'s>,
 }
 
-impl<'d> Model for RootRead<'d> {
+impl<'d, 's> Model for RootRead<'d, 's> {
     ghost use Rattle.std.specs.Option.{option_copied};
     ghost use Rattle.fb_meaning.specs.Outline.{RootRead as Read};
 
@@ -41,15 +41,15 @@ impl<'d> Model for RootRead<'d> {
 
 /// What a schema text declares, sorted by kind.
 #[derive(Drop)]
-pub struct Outline<'d> {
-    pub types: Vec<TypeRead<'d>>,
-    pub attributes: Vec<&'d str>,
-    pub root: Option<RootRead<'d>>,
-    pub identifier: Option<&'d Text<'d>>,
+pub struct Outline<'d, 's> {
+    pub types: Vec<TypeRead<'d, 's>>,
+    pub attributes: Vec<&'s str>,
+    pub root: Option<RootRead<'d, 's>>,
+    pub identifier: Option<&'d Text<'s>>,
     pub text_len: u64,
 }
 
-impl<'d> Model for Outline<'d> {
+impl<'d, 's> Model for Outline<'d, 's> {
     ghost use Rattle.std.specs.Prelude.{map};
     ghost use Rattle.std.specs.Option.{option_copied};
     ghost use Rattle.fb_meaning.specs.Outline.{Outline as Outlined};
@@ -65,9 +65,9 @@ impl<'d> Model for Outline<'d> {
     } };
 }
 
-impl<'d> Outline<'d> {
+impl<'d, 's> Outline<'d, 's> {
     /// What the text declares. The only error is a refused allocation.
-    pub fn of(alloc: Global, decls: &'d Decls<'d>) -> Result<Outline<'d>, AllocError>
+    pub fn of(alloc: Global, decls: &'d Decls<'s>) -> Result<Outline<'d, 's>, AllocError>
         ensures { IfOk result (λ o. o ≡ outline_of decls.now) }
     {
         let mut outline = Outline {
@@ -99,7 +99,7 @@ impl<'d> Outline<'d> {
 }
 
 /// The name of a type with its namespace. The only error is a refused allocation.
-pub fn name_of_type(alloc: Global, read: &TypeRead<'_>) -> Result<String, AllocError>
+pub fn name_of_type(alloc: Global, read: &TypeRead<'_, '_>) -> Result<String, AllocError>
     ensures { IfOk result (λ s. string_bytes s ≡ name_of_type read.now) }
 {
     let word = word_of(read.declaration).text;
@@ -113,7 +113,7 @@ pub fn name_of_type(alloc: Global, read: &TypeRead<'_>) -> Result<String, AllocE
 }
 
 /// A type's name as it is declared.
-pub fn word_of<'d>(declaration: &'d TypeDecl<'d>) -> &'d Text<'d>
+pub fn word_of<'d, 's>(declaration: &'d TypeDecl<'s>) -> &'d Text<'s>
     ensures { result.now ≡ word_of declaration.now }
 {
     match declaration {
@@ -124,7 +124,7 @@ pub fn word_of<'d>(declaration: &'d TypeDecl<'d>) -> &'d Text<'d>
 }
 
 /// The full name of a type, and where its own name stands. The only error is a refused allocation.
-pub fn located_name(alloc: Global, read: &TypeRead<'_>) -> Result<LocatedName, AllocError>
+pub fn located_name(alloc: Global, read: &TypeRead<'_, '_>) -> Result<LocatedName, AllocError>
     ensures { IfOk result (λ t. t ≡ located_name read.now) }
 {
     Ok(LocatedName {

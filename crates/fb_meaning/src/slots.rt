@@ -27,7 +27,7 @@ pub fn union_of(kind: &FieldType<'_>, meaning: Meaning) -> Option<TypeId>
 }
 
 fn value_slot(
-    types: TypesRead<'_, '_, '_>,
+    types: TypesRead<'_, '_, '_, '_>,
     alloc: Global,
     field: &Field<'_>,
     meaning: Meaning,
@@ -84,7 +84,7 @@ fn code_slot(
 /// Adds the slots of a field from this one on: a union's code comes before its value.
 #[tactic(auto, unfolding(crate::specs::SlotsRead::slots_of_field))]
 pub(crate) fn push_slots(
-    types: TypesRead<'_, '_, '_>,
+    types: TypesRead<'_, '_, '_, '_>,
     alloc: Global,
     scope: Option<&str>,
     field: &Field<'_>,
@@ -111,7 +111,7 @@ pub(crate) fn push_slots(
 /// allocation.
 #[tactic(auto, unfolding(crate::specs::SlotsRead::slots_in_order))]
 pub(crate) fn slots_in_order(
-    types: TypesRead<'_, '_, '_>,
+    types: TypesRead<'_, '_, '_, '_>,
     alloc: Global,
     scope: Option<&str>,
     fields: &[Field<'_>],

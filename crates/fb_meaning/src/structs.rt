@@ -38,7 +38,7 @@ pub(crate) fn shape_of(kind: &FieldType<'_>, meaning: Meaning) -> Shape
 }
 
 /// The alignment that a field of a struct needs; 0 for a type at fault.
-fn align_by(types: TypesRead<'_, '_, '_>, lower: &[u16], kind: &FieldType<'_>, meaning: Meaning) -> u16
+fn align_by(types: TypesRead<'_, '_, '_, '_>, lower: &[u16], kind: &FieldType<'_>, meaning: Meaning) -> u16
     ensures { result ≡ align_by types.entry.types.now lower.now kind.now meaning }
 {
     match (kind, meaning) {
@@ -54,7 +54,7 @@ fn align_by(types: TypesRead<'_, '_, '_>, lower: &[u16], kind: &FieldType<'_>, m
 }
 
 #[tactic(auto, unfolding(crate::specs::StructsRead::align_in))]
-fn align_in(types: TypesRead<'_, '_, '_>, scope: Option<&str>, lower: &[u16], field: &Field<'_>) -> u16
+fn align_in(types: TypesRead<'_, '_, '_, '_>, scope: Option<&str>, lower: &[u16], field: &Field<'_>) -> u16
     ensures { result
         ≡ align_in types.entry.types.now (option_copied scope.entry) lower.now field.now }
 {
@@ -67,7 +67,7 @@ fn align_in(types: TypesRead<'_, '_, '_>, scope: Option<&str>, lower: &[u16], fi
 /// types before it.
 #[tactic(auto, unfolding(crate::specs::StructsRead::natural_align))]
 pub fn natural_align(
-    types: TypesRead<'_, '_, '_>,
+    types: TypesRead<'_, '_, '_, '_>,
     scope: Option<&str>,
     lower: &[u16],
     fields: &[Field<'_>],
@@ -101,7 +101,7 @@ pub fn forced_align(least: u16, attributes: &[Attribute<'_>]) -> Option<u16>
 }
 
 fn align_of_struct(
-    types: TypesRead<'_, '_, '_>,
+    types: TypesRead<'_, '_, '_, '_>,
     scope: Option<&str>,
     lower: &[u16],
     read: &TableDecl<'_>,
@@ -115,7 +115,7 @@ fn align_of_struct(
 
 /// The alignment of a type, 0 of what is no struct.
 #[tactic(auto, unfolding(crate::specs::StructsRead::align_of_read))]
-pub fn align_of_read(types: TypesRead<'_, '_, '_>, lower: &[u16], read: &TypeRead<'_>) -> u16
+pub fn align_of_read(types: TypesRead<'_, '_, '_, '_>, lower: &[u16], read: &TypeRead<'_, '_>) -> u16
     ensures { result ≡ align_of_read types.entry.types.now lower.now read.now }
 {
     match read.declaration {
@@ -125,7 +125,7 @@ pub fn align_of_read(types: TypesRead<'_, '_, '_>, lower: &[u16], read: &TypeRea
 }
 
 fn part_read(
-    types: TypesRead<'_, '_, '_>,
+    types: TypesRead<'_, '_, '_, '_>,
     alloc: Global,
     scope: Option<&str>,
     field: &Field<'_>,
@@ -149,7 +149,7 @@ fn part_read(
 /// The fields of a struct with their numbers. The only error is a refused allocation.
 #[tactic(auto, unfolding(crate::specs::StructsRead::parts_from))]
 pub fn parts_read(
-    types: TypesRead<'_, '_, '_>,
+    types: TypesRead<'_, '_, '_, '_>,
     alloc: Global,
     scope: Option<&str>,
     fields: &[Field<'_>],

@@ -22,17 +22,17 @@ use fb_syntax::{FieldType, TypeDecl};
 /// The types of a text and their full names by their numbers, their numbers by the last words of
 /// these names, and the numbers of the values of enums.
 #[derive(Clone, Copy)]
-pub struct TypesRead<'t, 'd, 'n> {
-    pub types: &'t [TypeRead<'d>],
+pub struct TypesRead<'t, 'd, 's, 'n> {
+    pub types: &'t [TypeRead<'d, 's>],
     pub names: &'n [LocatedName],
     pub words: &'t WordPlaces<'n>,
-    pub values: &'t ValueNumbers<'d>,
+    pub values: &'t ValueNumbers<'s>,
     ghost named: { map (λ n. n.bytes) names.now ≡ names_of_types types.now },
     ghost worded: { IndexesWords words.now (names_of_types types.now) },
     ghost numbered: { IndexesValues values.now types.now },
 }
 
-impl TypesRead<'_, '_, '_> {
+impl TypesRead<'_, '_, '_, '_> {
     /// One candidate more for what a name means, if the full name of this type is one that the name
     /// may stand for.
     fn with_type(
@@ -107,7 +107,7 @@ impl TypesRead<'_, '_, '_> {
     }
 
     /// What the name in a field's type means.
-    pub fn meaning_in(self, scope: Option<&str>, kind: &FieldType) -> Meaning
+    pub fn meaning_in(self, scope: Option<&str>, kind: &FieldType<'_>) -> Meaning
         ensures { result
             ≡ meaning_in self.entry.types.now (option_copied scope.entry) kind.now }
     {
