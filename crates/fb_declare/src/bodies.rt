@@ -56,7 +56,7 @@ fn struct_body(
     read: &TableDecl<'_>,
 ) -> Result<Body, AllocError>
     ensures { IfOk result (λ b. HasBody types.entry.types.now (option_copied scope.entry)
-        (Declaration.Struct read.now) (body_seen b)) }
+        (TypeDecl.Struct read.now) (body_seen b)) }
 {
     let parts = parts_read(types, alloc, scope, read.fields.as_slice())?;
     Ok(Body::Struct(parts, forced_align(0, read.attributes.as_slice())))
@@ -64,7 +64,7 @@ fn struct_body(
 
 fn enum_body(alloc: Global, read: &EnumDecl<'_>) -> Result<Body, AllocError>
     ensures { (types : List TypeRead) (scope : Option Name) → IfOk result
-        (λ b. HasBody types scope (Declaration.Enum read.now) (body_seen b)) }
+        (λ b. HasBody types scope (TypeDecl.Enum read.now) (body_seen b)) }
 {
     let base = underlying(read).unwrap_or(Base::U8);
     let values = values_read(alloc, read)?;
@@ -77,9 +77,9 @@ fn table_body(
     scope: Option<&str>,
     read: &TableDecl<'_>,
 ) -> Result<Body, AllocError>
-    requires { IsBuildable types.types.now (option_copied scope) (Declaration.Table read.now) }
+    requires { IsBuildable types.types.now (option_copied scope) (TypeDecl.Table read.now) }
     ensures { IfOk result (λ b. HasBody types.entry.types.now (option_copied scope.entry)
-        (Declaration.Table read.now) (body_seen b)) }
+        (TypeDecl.Table read.now) (body_seen b)) }
 {
     let slots = table_slots(types, alloc, scope, read.fields.as_slice())?;
     Ok(Body::Table(slots))
@@ -92,7 +92,7 @@ fn union_body(
     read: &UnionDecl<'_>,
 ) -> Result<Body, AllocError>
     ensures { IfOk result (λ b. HasBody types.entry.types.now (option_copied scope.entry)
-        (Declaration.Union read.now) (body_seen b)) }
+        (TypeDecl.Union read.now) (body_seen b)) }
 {
     Ok(Body::Union(members_read(types, alloc, scope, read)?))
 }
