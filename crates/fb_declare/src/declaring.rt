@@ -16,7 +16,8 @@ use crate::name_places::NamePlaces;
 use crate::names_again::names_again;
 use crate::type_faults::{identifier_fault, root_fault, types_fault};
 use fb_meaning::{
-    LocatedName, Outline, RootRead, TypeRead, TypesRead, ValueNumbers, WordPlaces, located_name, table_of,
+    LocatedName, Outline, RootRead, TypeRead, TypesRead, ValueNumbers, WordPlaces, located_name,
+    table_of,
 };
 use fb_schema::{Schema, TypeId};
 use fb_syntax::{Decls, Text};

@@ -9,7 +9,10 @@ use fb_meaning::LocatedName;
 use std::alloc::{AllocError, Global};
 
 /// The least fault of names that have to differ. The only error is a refused allocation.
-pub(crate) fn names_again(alloc: Global, names: &[LocatedName]) -> Result<Option<SchemaFault>, AllocError>
+pub(crate) fn names_again(
+    alloc: Global,
+    names: &[LocatedName],
+) -> Result<Option<SchemaFault>, AllocError>
     ensures { IfOk result (λ f. f ≡ least_of (names_again [] names.now)) }
 {
     let mut seen = NamePlaces::new(alloc);

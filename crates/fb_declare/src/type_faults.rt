@@ -15,7 +15,9 @@ use crate::field_types::use_fault;
 use crate::struct_faults::struct_fault;
 use crate::table_faults::table_fault;
 use crate::union_faults::union_fault;
-use fb_meaning::{Meaning, RootRead, TypeRead, TypesRead, align_of_read, is_reserved, is_table, word_of};
+use fb_meaning::{
+    Meaning, RootRead, TypeRead, TypesRead, align_of_read, is_reserved, is_table, word_of,
+};
 use fb_syntax::{Text, TypeDecl};
 use std::alloc::{AllocError, Global};
 
@@ -25,7 +27,6 @@ fn reserved_name(name: &Text<'_>) -> Option<SchemaFault>
 {
     when(is_reserved(name.text), SchemaFault::DuplicateName(name.at))
 }
-
 
 #[tactic(auto, unfolding(crate::specs::Faults::least_of))]
 fn declaration_fault(

@@ -66,7 +66,9 @@ pub fn is_alignment(least: u16, number: i128) -> bool
 pub(crate) fn has_attribute(known: Known, attributes: &[Attribute<'_>]) -> bool
     ensures { result ≡ has_attribute known attributes.now }
 {
-    attributes.iter().any(|attribute| attribute.name.text == known.spelling())
+    attributes
+        .iter()
+        .any(|attribute| attribute.name.text == known.spelling())
 }
 
 fn attribute_called<'a, 's>(
@@ -75,7 +77,9 @@ fn attribute_called<'a, 's>(
 ) -> Option<&'a Attribute<'s>>
     ensures { option_copied result ≡ attribute_called known attributes.now }
 {
-    attributes.iter().find(|attribute| attribute.name.text == known.spelling())
+    attributes
+        .iter()
+        .find(|attribute| attribute.name.text == known.spelling())
 }
 
 /// The integer that the first attribute of a name has.

@@ -16,7 +16,11 @@ use fb_schema::{FieldInfo, TypeId};
 use fb_syntax::Field;
 use std::alloc::{AllocError, Global};
 
-fn union_in(types: TypesRead<'_, '_, '_, '_>, scope: Option<&str>, field: &Field<'_>) -> Option<TypeId>
+fn union_in(
+    types: TypesRead<'_, '_, '_, '_>,
+    scope: Option<&str>,
+    field: &Field<'_>,
+) -> Option<TypeId>
     ensures { result
         ≡ union_in types.entry.types.now (option_copied scope.entry) field.now }
 {
@@ -39,7 +43,11 @@ fn first_slot(union: Option<TypeId>, id: Option<i128>) -> Option<u64>
 
 /// The first slot of a field by its id.
 #[tactic(auto, unfolding(crate::specs::SlotsRead::slot_by_id))]
-fn slot_by_id(types: TypesRead<'_, '_, '_, '_>, scope: Option<&str>, field: &Field<'_>) -> Option<u64>
+fn slot_by_id(
+    types: TypesRead<'_, '_, '_, '_>,
+    scope: Option<&str>,
+    field: &Field<'_>,
+) -> Option<u64>
     ensures slot { result
         ≡ slot_by_id types.entry.types.now (option_copied scope.entry) field.now }
     ensures room { IsSome (union_in types.entry.types.now (option_copied scope.entry) field.now)

@@ -38,7 +38,12 @@ pub(crate) fn shape_of(kind: &FieldType<'_>, meaning: Meaning) -> Shape
 }
 
 /// The alignment that a field of a struct needs; 0 for a type at fault.
-fn align_by(types: TypesRead<'_, '_, '_, '_>, lower: &[u16], kind: &FieldType<'_>, meaning: Meaning) -> u16
+fn align_by(
+    types: TypesRead<'_, '_, '_, '_>,
+    lower: &[u16],
+    kind: &FieldType<'_>,
+    meaning: Meaning,
+) -> u16
     ensures { result ≡ align_by types.entry.types.now lower.now kind.now meaning }
 {
     match (kind, meaning) {
@@ -54,7 +59,12 @@ fn align_by(types: TypesRead<'_, '_, '_, '_>, lower: &[u16], kind: &FieldType<'_
 }
 
 #[tactic(auto, unfolding(crate::specs::StructsRead::align_in))]
-fn align_in(types: TypesRead<'_, '_, '_, '_>, scope: Option<&str>, lower: &[u16], field: &Field<'_>) -> u16
+fn align_in(
+    types: TypesRead<'_, '_, '_, '_>,
+    scope: Option<&str>,
+    lower: &[u16],
+    field: &Field<'_>,
+) -> u16
     ensures { result
         ≡ align_in types.entry.types.now (option_copied scope.entry) lower.now field.now }
 {
@@ -115,7 +125,11 @@ fn align_of_struct(
 
 /// The alignment of a type, 0 of what is no struct.
 #[tactic(auto, unfolding(crate::specs::StructsRead::align_of_read))]
-pub fn align_of_read(types: TypesRead<'_, '_, '_, '_>, lower: &[u16], read: &TypeRead<'_, '_>) -> u16
+pub fn align_of_read(
+    types: TypesRead<'_, '_, '_, '_>,
+    lower: &[u16],
+    read: &TypeRead<'_, '_>,
+) -> u16
     ensures { result ≡ align_of_read types.entry.types.now lower.now read.now }
 {
     match read.declaration {

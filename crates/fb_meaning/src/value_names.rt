@@ -8,7 +8,11 @@ use crate::types_read::TypesRead;
 use fb_syntax::{EnumDecl, TypeDecl};
 
 /// The number of the value of a name, which may be missing, in the enum of a number.
-fn number_behind(types: TypesRead<'_, '_, '_, '_>, number: usize, name: Option<&[u8]>) -> Option<i128>
+fn number_behind(
+    types: TypesRead<'_, '_, '_, '_>,
+    number: usize,
+    name: Option<&[u8]>,
+) -> Option<i128>
     ensures { result ≡ option_and_then (number_named (values_at types.entry.types.now number))
         (option_copied name.entry) }
 {

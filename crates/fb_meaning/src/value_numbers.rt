@@ -35,11 +35,7 @@ impl<'s> ValueNumbers<'s> {
     }
 
     /// Notes the numbers of the values of an enum.
-    fn note_values(
-        &mut self,
-        type_number: usize,
-        read: &EnumDecl<'s>,
-    ) -> Result<(), AllocError>
+    fn note_values(&mut self, type_number: usize, read: &EnumDecl<'s>) -> Result<(), AllocError>
         ensures { (types : List TypeRead) (scope : Option Name) → OnOk result
             (NotesValues self.old self.new type_number (values_read types scope read.now)) }
     {

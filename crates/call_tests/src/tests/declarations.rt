@@ -136,7 +136,10 @@ impl Line {
             Declaration::Type(TypeDecl::Union(declared)) => self.union(declared),
             Declaration::Directive(Directive::RootType(name)) => self.name("root ", name),
             Declaration::Directive(Directive::FileExtension(name)) => self.text("extension ", name),
-            Declaration::Directive(Directive::FileIdentifier(name)) => self.text("identifier ", name),
+            Declaration::Directive(Directive::FileIdentifier(name)) => self.text(
+                "identifier ",
+                name,
+            ),
         }
     }
 }
