@@ -8,13 +8,13 @@ use Rattle.std.proofs.lemmas.List.{get_or_append_left, get_or_push, length_push}
 use Rattle.std.proofs.lemmas.Option.{none-some, same_Some}
 use Rattle.fb_syntax.specs.FieldRead.{FieldRead}
 use Rattle.fb_syntax.specs.TypesRead.{TableRead, EnumRead}
-use Rattle.fb_syntax.specs.declared.declarations.AttributeUse.{AttributeUse}
+use Rattle.fb_syntax.specs.declared.declarations.Attribute.{Attribute}
 use Rattle.fb_syntax.specs.declared.declarations.AttributeValue.{AttributeValue}
 use Rattle.fb_syntax.specs.declared.declarations.AttributeValue.TheVariants.{Integer}
 use Rattle.fb_syntax.specs.declared.declarations.FieldType.{FieldType}
 use Rattle.fb_syntax.specs.declared.declarations.FieldType.TheVariants.{One, Many}
-use Rattle.fb_syntax.specs.declared.declarations.Declaration.{Declaration}
-use Rattle.fb_syntax.specs.declared.declarations.Declaration.TheVariants as declarations
+use Rattle.fb_syntax.specs.declared.declarations.TypeDecl.{TypeDecl}
+use Rattle.fb_syntax.specs.declared.declarations.TypeDecl.TheVariants as decls
 use Rattle.fb_schema.specs.declared.kinds.Kind.{Kind}
 use Rattle.fb_schema.specs.declared.kinds.Kind.TheVariants.{Scalar, Enum, Struct}
 use Rattle.fb_schema.specs.Schema.{Name, DeclaredBody, table_body, struct_body, enum_body, union_body, DeclaredType, DeclaredSchema, body_in, body_at, parts_in, base_in, force_align_in, is_struct, is_enum}
@@ -26,7 +26,7 @@ use Rattle.fb_meaning.specs.declared.attributes.Known.TheVariants.{ForceAlign}
 use Rattle.fb_declare.specs.declared.attribute_faults.Place.TheVariants as places
 use Rattle.fb_meaning.specs.Outline.{TypeRead, Outline, word_of}
 use Rattle.fb_meaning.specs.Meaning.{meaning_in, type_name}
-use Rattle.fb_meaning.specs.Attributes.{integer_of, is_alignment, attribute_called, integer_value_in, number_called}
+use Rattle.fb_meaning.specs.Attributes.{is_alignment, attribute_called, integer_value_in, number_called}
 use Rattle.fb_declare.specs.AttributeFaults.{may_stand, metadata_faults}
 use Rattle.fb_meaning.specs.EnumsRead.{underlying, underlying_in, underlying_of_read, underlying_at, base_or_ubyte}
 use Rattle.fb_meaning.specs.SlotsRead.{shape_of}
@@ -92,17 +92,17 @@ forced_integer natural (negsuc n) h = absurd (false≢true h)
 forced_value : (natural : ℕ) (value : Option AttributeValue) → may_stand (places.Struct natural) ForceAlign value ≡ true
     → IsForced natural (option_and_then (alignment_in natural) (integer_value_in value)) (option_and_then (alignment_in 0) (integer_value_in value))
 unfolding may_stand
-forced_value natural (Some (Integer n)) h = forced_integer natural (integer_of n) h
+forced_value natural (Some (Integer n)) h = forced_integer natural n.value h
 forced_value natural value h = absurd (false≢true h)
 
 -- of the first `force_align`, if there is one
-forced_called : (natural : ℕ) (called : Option AttributeUse) → ((a : AttributeUse) → called ≡ Some a → may_stand (places.Struct natural) ForceAlign a.value ≡ true)
+forced_called : (natural : ℕ) (called : Option Attribute) → ((a : Attribute) → called ≡ Some a → may_stand (places.Struct natural) ForceAlign a.value ≡ true)
     → IsForced natural (option_and_then (alignment_in natural) (option_and_then (λ a. integer_value_in a.value) called)) (option_and_then (alignment_in 0) (option_and_then (λ a. integer_value_in a.value) called))
 forced_called natural None stands = record { same = refl; enough = λ a is. absurd (none-some a is) }
 forced_called natural (Some a) stands = forced_value natural a.value (stands a refl)
 
 -- the `force_align` of a struct with no fault
-pub forced_right : (declared : List Name) (natural : ℕ) (attributes : List AttributeUse) → metadata_faults declared (places.Struct natural) [] attributes ≡ []
+pub forced_right : (declared : List Name) (natural : ℕ) (attributes : List Attribute) → metadata_faults declared (places.Struct natural) [] attributes ≡ []
     → IsForced natural (forced_align natural attributes) (forced_align 0 attributes)
 unfolding forced_align number_called
 forced_right declared natural attributes h = forced_called natural (attribute_called ForceAlign attributes) (λ a is. called_stands declared (places.Struct natural) [] attributes ForceAlign a h is)
@@ -110,21 +110,21 @@ forced_right declared natural attributes h = forced_called natural (attribute_ca
 -- ---- what the schema's bodies come from
 
 -- a struct's body comes from a struct
-struct_from : (types : List TypeRead) (scope : Option Name) (d : Declaration) (body : DeclaredBody) → HasBody types scope d body → IsTrue (is_struct body)
-    → (s : TableRead) × (d ≡ declarations.Struct s) × (body ≡ struct_body (parts_from types scope 0 s.fields) (forced_align 0 s.attributes))
+struct_from : (types : List TypeRead) (scope : Option Name) (d : TypeDecl) (body : DeclaredBody) → HasBody types scope d body → IsTrue (is_struct body)
+    → (s : TableRead) × (d ≡ decls.Struct s) × (body ≡ struct_body (parts_from types scope 0 s.fields) (forced_align 0 s.attributes))
 struct_from types scope d (table_body fs) h is = absurd (false≢true is)
 struct_from types scope d (enum_body base flags values) h is = absurd (false≢true is)
 struct_from types scope d (union_body members) h is = absurd (false≢true is)
-struct_from types scope (declarations.Struct s) (struct_body parts force) h is = (s, refl, λ i. struct_body (h.0 i) (h.1 i))
+struct_from types scope (decls.Struct s) (struct_body parts force) h is = (s, refl, λ i. struct_body (h.0 i) (h.1 i))
 struct_from types scope _ (struct_body parts force) h is = absurd h
 
 -- an enum's body comes from an enum
-enum_from : (types : List TypeRead) (scope : Option Name) (d : Declaration) (body : DeclaredBody) → HasBody types scope d body → IsTrue (is_enum body)
-    → (e : EnumRead) × (d ≡ declarations.Enum e) × (base_in body ≡ base_or_ubyte (underlying types scope e))
+enum_from : (types : List TypeRead) (scope : Option Name) (d : TypeDecl) (body : DeclaredBody) → HasBody types scope d body → IsTrue (is_enum body)
+    → (e : EnumRead) × (d ≡ decls.Enum e) × (base_in body ≡ base_or_ubyte (underlying types scope e))
 enum_from types scope d (table_body fs) h is = absurd (false≢true is)
 enum_from types scope d (struct_body parts force) h is = absurd (false≢true is)
 enum_from types scope d (union_body members) h is = absurd (false≢true is)
-enum_from types scope (declarations.Enum e) (enum_body base flags values) h is = (e, refl, h.0)
+enum_from types scope (decls.Enum e) (enum_body base flags values) h is = (e, refl, h.0)
 enum_from types scope _ (enum_body base flags values) h is = absurd h
 
 -- a body that passes a test which an absent one fails is there
@@ -153,9 +153,9 @@ module _ (o : Outline) (S : DeclaredSchema) (gives : Gives o S) (none : faults_o
 
   -- an enum's size is that of the type under it
   enum_size_by : (t : ℕ) (type : DeclaredType) (r : TypeRead) (e : EnumRead) → slice_get S.types t ≡ Some type → slice_get o.types t ≡ Some r
-      → r.declaration ≡ declarations.Enum e → base_in type.body ≡ base_or_ubyte (underlying o.types r.scope e) → base_size (base_in (body_at S t)) ≡ option_map_or base_size (underlying_at o.types t) 0
+      → r.declaration ≡ decls.Enum e → base_in type.body ≡ base_or_ubyte (underlying o.types r.scope e) → base_size (base_in (body_at S t)) ≡ option_map_or base_size (underlying_at o.types t) 0
   enum_size_by t type r e there at is base =
-      let right : enum_faults o.types o.attributes r.scope e ≡ [] = subst (λ (d : Declaration). declaration_faults o.types o.attributes (aligns_before t) r.scope d ≡ []) is (declaration_right t r at) in
+      let right : enum_faults o.types o.attributes r.scope e ≡ [] = subst (λ (d : TypeDecl). declaration_faults o.types o.attributes (aligns_before t) r.scope d ≡ []) is (declaration_right t r at) in
       let found = enum_base o.types o.attributes r.scope e right in
       ap (λ b. base_size (base_in (body_in b))) there
       ∙ (ap base_size (base ∙ ap base_or_ubyte found.1)
@@ -201,7 +201,7 @@ module _ (o : Outline) (S : DeclaredSchema) (gives : Gives o S) (none : faults_o
     pub align : slice_index aligns s ≡ align_of_struct o.types scope (aligns_before s) read
 
   -- a struct that is declared is known so
-  struct_at_by : (s : ℕ) (type : DeclaredType) (r : TypeRead) (d : TableRead) → slice_get S.types s ≡ Some type → slice_get o.types s ≡ Some r → r.declaration ≡ declarations.Struct d
+  struct_at_by : (s : ℕ) (type : DeclaredType) (r : TypeRead) (d : TableRead) → slice_get S.types s ≡ Some type → slice_get o.types s ≡ Some r → r.declaration ≡ decls.Struct d
       → type.body ≡ struct_body (parts_from o.types r.scope 0 d.fields) (forced_align 0 d.attributes) → IsStructAt s
   unfolding align_of_read
   struct_at_by s type r d there at is body =
@@ -210,7 +210,7 @@ module _ (o : Outline) (S : DeclaredSchema) (gives : Gives o S) (none : faults_o
         scope = r.scope;
         read = d;
         body = ap body_in there ∙ body;
-        right = subst (λ (d : Declaration). declaration_faults o.types o.attributes (aligns_before s) r.scope d ≡ []) is (declaration_right s r at);
+        right = subst (λ (d : TypeDecl). declaration_faults o.types o.attributes (aligns_before s) r.scope d ≡ []) is (declaration_right s r at);
         align = ap (slice_index aligns) place ∙ (aligns-at o.types [] o.types s r at ∙ ap (align_of_declaration o.types r.scope (aligns_before s)) is);
       }
 

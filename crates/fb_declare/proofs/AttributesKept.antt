@@ -2,7 +2,7 @@
 use Rattle.std.proofs.Common.{◌≡◌, ◌++◌, ◌||◌, Bool, true, false, List, [], ◌∷◌, Some, cond, refl, ap, sym, subst, ◌∙◌, arith, if◌then◌else◌}
 use Rattle.std.specs.Str.{bytes_eq}
 use Rattle.std.proofs.lemmas.Option.{same_Some}
-use Rattle.fb_syntax.specs.declared.declarations.AttributeUse.{AttributeUse}
+use Rattle.fb_syntax.specs.declared.declarations.Attribute.{Attribute}
 use Rattle.fb_schema.specs.Schema.{Name}
 use Rattle.fb_declare.specs.declared.faults.SchemaFault.{SchemaFault}
 use Rattle.fb_declare.specs.declared.faults.SchemaFault.TheVariants.{Unsupported}
@@ -25,7 +25,7 @@ known_spelling BitFlags = refl
 known_spelling OriginalOrder = refl
 
 -- a known attribute with no fault may stand
-known_stands : (place : Place) (seen : List Known) (a : AttributeUse) (k : Known) → faults_of_known place seen a k ≡ [] → may_stand place k a.value ≡ true
+known_stands : (place : Place) (seen : List Known) (a : Attribute) (k : Known) → faults_of_known place seen a k ≡ [] → may_stand place k a.value ≡ true
 known_stands place seen a k h = by (may_stand place k a.value) refl
   where
     by : (b : Bool) → may_stand place k a.value ≡ b → b ≡ true
@@ -38,7 +38,7 @@ not_left_out true fault faults h = absurd (grind arith)
 not_left_out false fault faults h = h
 
 -- an attribute with no fault that is spelled like a known one
-attribute_stands : (declared : List Name) (place : Place) (seen : List Known) (a : AttributeUse) (k : Known)
+attribute_stands : (declared : List Name) (place : Place) (seen : List Known) (a : Attribute) (k : Known)
     → attribute_faults declared place seen a ≡ [] → bytes_eq a.name.bytes (spelling k) ≡ true → may_stand place k a.value ≡ true
 unfolding attribute_faults
 attribute_stands declared place seen a k h e =
@@ -48,35 +48,35 @@ attribute_stands declared place seen a k h e =
     known_stands place seen a k (sym (ap (faults_by_name declared place seen a) known) ∙ none)
 
 -- the faults of one attribute more
-metadata-cons : (declared : List Name) (place : Place) (seen : List Known) (a : AttributeUse) (rest : List AttributeUse)
+metadata-cons : (declared : List Name) (place : Place) (seen : List Known) (a : Attribute) (rest : List Attribute)
     → metadata_faults declared place seen (a ∷ rest) ≡ attribute_faults declared place seen a ++ metadata_faults declared place (noted seen (known_attribute a.name.bytes)) rest
 unfolding metadata_faults
 metadata-cons declared place seen a rest = refl
 
 -- they are empty for it and for the rest
-metadata_parts : (declared : List Name) (place : Place) (seen : List Known) (a : AttributeUse) (rest : List AttributeUse) → metadata_faults declared place seen (a ∷ rest) ≡ []
+metadata_parts : (declared : List Name) (place : Place) (seen : List Known) (a : Attribute) (rest : List Attribute) → metadata_faults declared place seen (a ∷ rest) ≡ []
     → (attribute_faults declared place seen a ≡ []) × (metadata_faults declared place (noted seen (known_attribute a.name.bytes)) rest ≡ [])
 metadata_parts declared place seen a rest h = both_empty (attribute_faults declared place seen a) (metadata_faults declared place (noted seen (known_attribute a.name.bytes)) rest)
     (sym (metadata-cons declared place seen a rest) ∙ h)
 
 -- the first attribute of a known name may stand
-pub called_stands : (declared : List Name) (place : Place) (seen : List Known) (attributes : List AttributeUse) (k : Known) (a : AttributeUse)
+pub called_stands : (declared : List Name) (place : Place) (seen : List Known) (attributes : List Attribute) (k : Known) (a : Attribute)
     → metadata_faults declared place seen attributes ≡ [] → attribute_called k attributes ≡ Some a → may_stand place k a.value ≡ true
 called_stands declared place seen [] k a h called = absurd (grind arith)
 called_stands declared place seen (b ∷ rest) k a h called =
     by (bytes_eq b.name.bytes (spelling k)) refl called (called_stands declared place (noted seen (known_attribute b.name.bytes)) rest k a (metadata_parts declared place seen b rest h).1)
   where
     by : (t : Bool) → bytes_eq b.name.bytes (spelling k) ≡ t → cond t (Some b) (attribute_called k rest) ≡ Some a → (attribute_called k rest ≡ Some a → may_stand place k a.value ≡ true) → may_stand place k a.value ≡ true
-    by true e first later = subst (λ (x : AttributeUse). may_stand place k x.value ≡ true) (same_Some b a first) (attribute_stands declared place seen b k (metadata_parts declared place seen b rest h).0 e)
+    by true e first later = subst (λ (x : Attribute). may_stand place k x.value ≡ true) (same_Some b a first) (attribute_stands declared place seen b k (metadata_parts declared place seen b rest h).0 e)
     by false e first later = later first
 
 -- if a known name occurs, some attribute of it may stand
-pub noted_stands : (declared : List Name) (place : Place) (seen : List Known) (attributes : List AttributeUse) (k : Known)
-    → metadata_faults declared place seen attributes ≡ [] → has_attribute k attributes ≡ true → (a : AttributeUse) × (may_stand place k a.value ≡ true)
+pub noted_stands : (declared : List Name) (place : Place) (seen : List Known) (attributes : List Attribute) (k : Known)
+    → metadata_faults declared place seen attributes ≡ [] → has_attribute k attributes ≡ true → (a : Attribute) × (may_stand place k a.value ≡ true)
 noted_stands declared place seen [] k h has = absurd (grind arith)
 noted_stands declared place seen (b ∷ rest) k h has =
     by (bytes_eq b.name.bytes (spelling k)) refl has (noted_stands declared place (noted seen (known_attribute b.name.bytes)) rest k (metadata_parts declared place seen b rest h).1)
   where
-    by : (t : Bool) → bytes_eq b.name.bytes (spelling k) ≡ t → t || has_attribute k rest ≡ true → (has_attribute k rest ≡ true → (a : AttributeUse) × (may_stand place k a.value ≡ true)) → (a : AttributeUse) × (may_stand place k a.value ≡ true)
+    by : (t : Bool) → bytes_eq b.name.bytes (spelling k) ≡ t → t || has_attribute k rest ≡ true → (has_attribute k rest ≡ true → (a : Attribute) × (may_stand place k a.value ≡ true)) → (a : Attribute) × (may_stand place k a.value ≡ true)
     by true e has later = (b, attribute_stands declared place seen b k (metadata_parts declared place seen b rest h).0 e)
     by false e has later = later has

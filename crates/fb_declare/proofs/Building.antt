@@ -1,14 +1,14 @@
 -- What a schema is built from, where no fault stands; and the fault that is told, where one does.
-use Rattle.std.proofs.Common.{◌≡◌, ◌++◌, ℕ, zero, suc, Bool, true, false, List, [], ◌∷◌, map, take, Contains, Option, None, Some, refl, ap, subst, arith, true≢false, if◌then◌else◌}
+use Rattle.std.proofs.Common.{◌≡◌, ◌++◌, ℕ, suc, Bool, true, false, List, [], ◌∷◌, map, take, Contains, Option, None, Some, refl, ap, subst, arith, true≢false, if◌then◌else◌}
 use Rattle.std.specs.Option.{is_some, is_none}
-use Rattle.fb_syntax.specs.declared.declarations.Declaration.{Declaration}
-use Rattle.fb_syntax.specs.declared.declarations.Declaration.TheVariants as declarations
+use Rattle.fb_syntax.specs.declared.declarations.TypeDecl.{TypeDecl}
+use Rattle.fb_syntax.specs.declared.declarations.TypeDecl.TheVariants as decls
 use Rattle.fb_schema.specs.Schema.{Name}
 use Rattle.fb_declare.specs.declared.faults.SchemaFault.{SchemaFault}
 use Rattle.fb_declare.specs.declared.faults.SchemaFault.TheVariants.{BadIds, BadRoot}
 use Rattle.fb_declare.specs.declared.attribute_faults.Place.TheVariants as places
 use Rattle.fb_declare.specs.Faults.{comes_before, earlier, least_of}
-use Rattle.fb_meaning.specs.Outline.{Outline, TypeRead, RootRead, types_in, scope_named, word_of, names_of_types, located_name}
+use Rattle.fb_meaning.specs.Outline.{Outline, TypeRead, RootRead, word_of, names_of_types, located_name}
 use Rattle.fb_meaning.specs.Meaning.{meaning_of}
 use Rattle.fb_declare.specs.AttributeFaults.{metadata_faults}
 use Rattle.fb_meaning.specs.SlotsRead.{are_ids_wrong}
@@ -17,7 +17,6 @@ use Rattle.fb_declare.specs.FaultRows.{when, names_again, reserved_name, use_fau
 use Rattle.fb_declare.specs.TypeFaults.{names_of_field, table_field_faults, table_faults, declaration_faults, type_faults, faults_of_types, faults_of_outline}
 use Rattle.fb_declare.specs.Declares.{root_table}
 use Rattle.fb_declare.specs.Buildable.{IsBuildable, AreBuildable}
-use Rattle.fb_declare.specs.Found.{DeclaresType, DeclareTypes}
 use Rattle.fb_syntax.specs.Located.{Located}
 use Rattle.fb_declare.proofs.FaultFree.{none_left, none_right, when-none, none_of_type, aligns_from}
 
@@ -56,46 +55,28 @@ least-some (g ∷ fs) f e = contained_by f g fs (least_of fs) (λ h is. least-so
 
 -- ---- what a schema is built from
 
--- the types of an outline are tables, structs, enums and unions
-pub types_only : (scope : Option Name) (ds : List Declaration) → DeclareTypes (types_in scope ds)
-types_only scope [] t r e = cc
-types_only scope (declarations.Namespace n ∷ ds) t r e = types_only (scope_named n) ds t r e
-types_only scope (declarations.Attribute n ∷ ds) t r e = types_only scope ds t r e
-types_only scope (declarations.Root n ∷ ds) t r e = types_only scope ds t r e
-types_only scope (declarations.Extension n ∷ ds) t r e = types_only scope ds t r e
-types_only scope (declarations.Identifier n ∷ ds) t r e = types_only scope ds t r e
-types_only scope (declarations.Table d ∷ ds) zero r e = let same : declarations.Table d ≡ r.declaration = cc in subst DeclaresType same tt
-types_only scope (declarations.Table d ∷ ds) (suc t) r e = types_only scope ds t r e
-types_only scope (declarations.Struct d ∷ ds) zero r e = let same : declarations.Struct d ≡ r.declaration = cc in subst DeclaresType same tt
-types_only scope (declarations.Struct d ∷ ds) (suc t) r e = types_only scope ds t r e
-types_only scope (declarations.Enum d ∷ ds) zero r e = let same : declarations.Enum d ≡ r.declaration = cc in subst DeclaresType same tt
-types_only scope (declarations.Enum d ∷ ds) (suc t) r e = types_only scope ds t r e
-types_only scope (declarations.Union d ∷ ds) zero r e = let same : declarations.Union d ≡ r.declaration = cc in subst DeclaresType same tt
-types_only scope (declarations.Union d ∷ ds) (suc t) r e = types_only scope ds t r e
-
 -- a declaration with no fault gives a body
-buildable_by : (types : List TypeRead) (declared : List Name) (lower : List ℕ) (scope : Option Name) (d : Declaration) → DeclaresType d → declaration_faults types declared lower scope d ≡ [] → IsBuildable types scope d
+buildable_by : (types : List TypeRead) (declared : List Name) (lower : List ℕ) (scope : Option Name) (d : TypeDecl) → declaration_faults types declared lower scope d ≡ [] → IsBuildable types scope d
 unfolding table_faults
-buildable_by types declared lower scope (declarations.Table t) is h =
+buildable_by types declared lower scope (decls.Table t) h =
     let marks = metadata_faults declared places.Table [] t.attributes in
     let ids = when (are_ids_wrong types scope t.fields) (BadIds t.name.at) in
     let names = names_again [] (Rattle.std.specs.List.flat_map (names_of_field types scope) t.fields) in
     let fields = Rattle.std.specs.List.flat_map (table_field_faults types declared scope) t.fields in
     when-none (are_ids_wrong types scope t.fields) (BadIds t.name.at) (none_right marks ids (none_left (marks ++ ids) names (none_left (marks ++ ids ++ names) fields h)))
-buildable_by types declared lower scope (declarations.Struct t) is h = tt
-buildable_by types declared lower scope (declarations.Enum t) is h = tt
-buildable_by types declared lower scope (declarations.Union t) is h = tt
-buildable_by types declared lower scope d is h = absurd is
+buildable_by types declared lower scope (decls.Struct t) h = tt
+buildable_by types declared lower scope (decls.Enum t) h = tt
+buildable_by types declared lower scope (decls.Union t) h = tt
 
 type_split : (types : List TypeRead) (declared : List Name) (lower : List ℕ) (r : TypeRead) → type_faults types declared lower r ≡ [] → declaration_faults types declared lower r.scope r.declaration ≡ []
 unfolding type_faults
 type_split types declared lower r h = none_right (reserved_name (word_of r.declaration)) (declaration_faults types declared lower r.scope r.declaration) h
 
 -- types with no fault give bodies
-pub buildable : (types : List TypeRead) (declared : List Name) → DeclareTypes types → faults_of_types types declared [] types ≡ [] → AreBuildable types
-buildable types declared only h t r e =
+pub buildable : (types : List TypeRead) (declared : List Name) → faults_of_types types declared [] types ≡ [] → AreBuildable types
+buildable types declared h t r e =
     let lower = aligns_from types [] (take t types) in
-    buildable_by types declared lower r.scope r.declaration (only t r e) (type_split types declared lower r (none_of_type types declared [] types h t r e))
+    buildable_by types declared lower r.scope r.declaration (type_split types declared lower r (none_of_type types declared [] types h t r e))
 
 -- a root with no fault is a table
 pub root_some : (types : List TypeRead) (text_len : ℕ) (root : Option RootRead) → root_faults types text_len root ≡ [] → is_some (root_table types root) ≡ true

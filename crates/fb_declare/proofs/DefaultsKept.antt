@@ -17,7 +17,6 @@ use Rattle.fb_schema.specs.declared.kinds.TypeId.{TypeId}
 use Rattle.fb_schema.specs.declared.kinds.Kind.TheVariants.{Scalar, Enum}
 use Rattle.fb_meaning.specs.Outline.{TypeRead, full_name}
 use Rattle.fb_schema.specs.Ranges.{holds}
-use Rattle.fb_meaning.specs.Attributes.{integer_of}
 use Rattle.fb_meaning.specs.EnumsRead.{underlying_at, value_at, number_named, value_named, behind}
 use Rattle.fb_meaning.specs.Defaults.{number_within, null_or_wrong, scalar_named, enum_number, enum_named, given_to, given_by}
 use Rattle.fb_meaning.specs.SlotsRead.{number_given, is_null}
@@ -78,7 +77,7 @@ named_in U64 name = null_in U64 name
 pub scalar_default : (types : List TypeRead) (n : Located) (base : Base) (d : Option DefaultValue) → GivesIn base (given_by types (One n) (Known (Scalar base)) d)
 unfolding given_to
 scalar_default types n base None = InRange-zero base
-scalar_default types n base (Some (Integer t)) = number_in base (integer_of t)
+scalar_default types n base (Some (Integer t)) = number_in base t.value
 scalar_default types n base (Some (Named t)) = named_in base t.bytes
 
 enum_number_in : (base : Base) (under : Option Base) (n : ℤ) → under ≡ Some base → GivesIn base (enum_number under n)
@@ -94,7 +93,7 @@ pub enum_default : (types : List TypeRead) (n : Located) (e : TypeId) (base : Ba
     → ((name : Name) → IfSome (value_at types e.0 name) (InRange base)) → GivesIn base (given_by types (One n) (Known (Enum e)) d)
 unfolding given_to
 enum_default types n e base None under values = InRange-zero base
-enum_default types n e base (Some (Integer t)) under values = enum_number_in base (underlying_at types e.0) (integer_of t) under
+enum_default types n e base (Some (Integer t)) under values = enum_number_in base (underlying_at types e.0) t.value under
 enum_default types n e base (Some (Named t)) under values = enum_named_in base (value_at types e.0 t.bytes) t.bytes (values t.bytes)
 
 -- what a name finds among values of which something holds

@@ -6,8 +6,8 @@ use Rattle.std.proofs.lemmas.Bool.{and_parts, eqb-true, not-false}
 use Rattle.std.proofs.lemmas.List.{length-take-le}
 use Rattle.std.proofs.lemmas.Option.{none-some, slice_get_within}
 use Rattle.fb_syntax.specs.Located.{Located}
-use Rattle.fb_syntax.specs.declared.declarations.Declaration.{Declaration}
-use Rattle.fb_syntax.specs.declared.declarations.Declaration.TheVariants as declarations
+use Rattle.fb_syntax.specs.declared.declarations.TypeDecl.{TypeDecl}
+use Rattle.fb_syntax.specs.declared.declarations.TypeDecl.TheVariants as decls
 use Rattle.fb_schema.specs.Schema.{Name, DeclaredBody, table_body, struct_body, enum_body, union_body, DeclaredType, DeclaredSchema, is_table}
 use Rattle.fb_schema.specs.WellDeclared.{Names, IsUnionBody, IsBody, IsDeclared}
 use Rattle.fb_schema.specs.declared.kinds.Kind.TheVariants.{Scalar, Enum, Struct, Table, Union, Code, Text}
@@ -80,14 +80,14 @@ module _ (o : Outline) (S : DeclaredSchema) (g : Gives o S) (none : faults_of_ty
       let taken = length-take-le t o.types (omega arith) in
       omega arith
 
-  body_kept : (t : ℕ) (scope : Option Name) (d : Declaration) (b : DeclaredBody) → length (aligns_before o S g none t) ≡ t → declaration_faults o.types o.attributes (aligns_before o S g none t) scope d ≡ []
+  body_kept : (t : ℕ) (scope : Option Name) (d : TypeDecl) (b : DeclaredBody) → length (aligns_before o S g none t) ≡ t → declaration_faults o.types o.attributes (aligns_before o S g none t) scope d ≡ []
       → HasBody o.types scope d b → IsBody S t b
-  body_kept t scope (declarations.Table d) (table_body slots) len h body = table_kept o S g (enums_kept o S g none) scope d (table_right o.types o.attributes scope d h) slots body
-  body_kept t scope (declarations.Struct d) (struct_body parts force) len h body =
+  body_kept t scope (decls.Table d) (table_body slots) len h body = table_kept o S g (enums_kept o S g none) scope d (table_right o.types o.attributes scope d h) slots body
+  body_kept t scope (decls.Struct d) (struct_body parts force) len h body =
       subst (λ b. IsBody S t b) (sym (λ i. struct_body (body.0 i) (body.1 i))) (struct_kept o S g scope (aligns_before o S g none t) d h t len)
-  body_kept t scope (declarations.Enum d) (enum_body base flags values) len h body =
+  body_kept t scope (decls.Enum d) (enum_body base flags values) len h body =
       subst (λ b. IsBody S t b) (sym (λ i. enum_body (body.0 i) (body.1 i) (body.2 i))) (enum_kept o.types o.attributes scope d h)
-  body_kept t scope (declarations.Union d) (union_body members) len h body = subst (IsUnionBody S) (sym body) (union_kept o S g scope d h)
+  body_kept t scope (decls.Union d) (union_body members) len h body = subst (IsUnionBody S) (sym body) (union_kept o S g scope d h)
   body_kept t scope d b len h body = absurd body
 
   -- Each type has the body that its declaration needs.

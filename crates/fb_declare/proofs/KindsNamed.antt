@@ -3,8 +3,8 @@ use Rattle.std.proofs.Common.{◌≡◌, ℕ, zero, suc, Bool, true, false, List
 use Rattle.std.specs.List.{slice_get, AllZip}
 use Rattle.std.proofs.lemmas.Option.{slice_get_within, none-some}
 use Rattle.fb_syntax.specs.TypesRead.{TableRead, EnumRead, UnionRead}
-use Rattle.fb_syntax.specs.declared.declarations.Declaration.{Declaration}
-use Rattle.fb_syntax.specs.declared.declarations.Declaration.TheVariants as declarations
+use Rattle.fb_syntax.specs.declared.declarations.TypeDecl.{TypeDecl}
+use Rattle.fb_syntax.specs.declared.declarations.TypeDecl.TheVariants as decls
 use Rattle.fb_schema.specs.Schema.{Name, DeclaredBody, table_body, struct_body, enum_body, union_body, DeclaredType, DeclaredSchema, body_in, is_table, is_struct, is_enum, is_union}
 use Rattle.fb_schema.specs.WellDeclared.{Names, KindNames}
 use Rattle.fb_schema.specs.declared.kinds.Base.{Base}
@@ -53,25 +53,25 @@ names_at : (S : DeclaredSchema) (test : DeclaredBody → Bool) (t : ℕ) (type :
 names_at S test t type e h = (slice_get_within S.types t type e, subst (λ o. IsTrue (test (body_in o))) (sym e) h)
 
 -- the body that each declaration has
-is_table_from : (types : List TypeRead) (scope : Option Name) (d : TableRead) (b : DeclaredBody) → HasBody types scope (declarations.Table d) b → IsTrue (is_table b)
+is_table_from : (types : List TypeRead) (scope : Option Name) (d : TableRead) (b : DeclaredBody) → HasBody types scope (decls.Table d) b → IsTrue (is_table b)
 is_table_from types scope d (table_body fs) h = refl
 is_table_from types scope d (struct_body fs a) h = absurd h
 is_table_from types scope d (enum_body b f vs) h = absurd h
 is_table_from types scope d (union_body ms) h = absurd h
 
-is_struct_from : (types : List TypeRead) (scope : Option Name) (d : TableRead) (b : DeclaredBody) → HasBody types scope (declarations.Struct d) b → IsTrue (is_struct b)
+is_struct_from : (types : List TypeRead) (scope : Option Name) (d : TableRead) (b : DeclaredBody) → HasBody types scope (decls.Struct d) b → IsTrue (is_struct b)
 is_struct_from types scope d (table_body fs) h = absurd h
 is_struct_from types scope d (struct_body fs a) h = refl
 is_struct_from types scope d (enum_body b f vs) h = absurd h
 is_struct_from types scope d (union_body ms) h = absurd h
 
-is_enum_from : (types : List TypeRead) (scope : Option Name) (d : EnumRead) (b : DeclaredBody) → HasBody types scope (declarations.Enum d) b → IsTrue (is_enum b)
+is_enum_from : (types : List TypeRead) (scope : Option Name) (d : EnumRead) (b : DeclaredBody) → HasBody types scope (decls.Enum d) b → IsTrue (is_enum b)
 is_enum_from types scope d (table_body fs) h = absurd h
 is_enum_from types scope d (struct_body fs a) h = absurd h
 is_enum_from types scope d (enum_body b f vs) h = refl
 is_enum_from types scope d (union_body ms) h = absurd h
 
-is_union_from : (types : List TypeRead) (scope : Option Name) (d : UnionRead) (b : DeclaredBody) → HasBody types scope (declarations.Union d) b → IsTrue (is_union b)
+is_union_from : (types : List TypeRead) (scope : Option Name) (d : UnionRead) (b : DeclaredBody) → HasBody types scope (decls.Union d) b → IsTrue (is_union b)
 is_union_from types scope d (table_body fs) h = absurd h
 is_union_from types scope d (struct_body fs a) h = absurd h
 is_union_from types scope d (enum_body b f vs) h = absurd h
@@ -88,16 +88,11 @@ MeansIn S (Known kind) = KindNames S kind × IsNoCode kind
 MeansIn S Float = Unit {0}
 MeansIn S Unknown = Unit {0}
 
-means_use : (S : DeclaredSchema) (types : List TypeRead) (scope : Option Name) (t : ℕ) (type : DeclaredType) (d : Declaration) → slice_get S.types t ≡ Some type → HasBody types scope d type.body → MeansIn S (use_of t d)
-means_use S types scope t type (declarations.Table d) e h = (names_at S is_table t type e (is_table_from types scope d type.body h), tt)
-means_use S types scope t type (declarations.Struct d) e h = (names_at S is_struct t type e (is_struct_from types scope d type.body h), tt)
-means_use S types scope t type (declarations.Enum d) e h = (names_at S is_enum t type e (is_enum_from types scope d type.body h), tt)
-means_use S types scope t type (declarations.Union d) e h = (names_at S is_union t type e (is_union_from types scope d type.body h), tt)
-means_use S types scope t type (declarations.Namespace d) e h = tt
-means_use S types scope t type (declarations.Attribute d) e h = tt
-means_use S types scope t type (declarations.Root d) e h = tt
-means_use S types scope t type (declarations.Extension d) e h = tt
-means_use S types scope t type (declarations.Identifier d) e h = tt
+means_use : (S : DeclaredSchema) (types : List TypeRead) (scope : Option Name) (t : ℕ) (type : DeclaredType) (d : TypeDecl) → slice_get S.types t ≡ Some type → HasBody types scope d type.body → MeansIn S (use_of t d)
+means_use S types scope t type (decls.Table d) e h = (names_at S is_table t type e (is_table_from types scope d type.body h), tt)
+means_use S types scope t type (decls.Struct d) e h = (names_at S is_struct t type e (is_struct_from types scope d type.body h), tt)
+means_use S types scope t type (decls.Enum d) e h = (names_at S is_enum t type e (is_enum_from types scope d type.body h), tt)
+means_use S types scope t type (decls.Union d) e h = (names_at S is_union t type e (is_union_from types scope d type.body h), tt)
 
 means_read : (o : Outline) (S : DeclaredSchema) → Gives o S → (t : ℕ) (r : Option TypeRead) → slice_get o.types t ≡ r → MeansIn S (use_of_read t r)
 means_read o S g t None e = tt

@@ -6,8 +6,8 @@ use Rattle.std.proofs.lemmas.List.Elements.{Contains-get_or}
 use Rattle.std.proofs.lemmas.List.Sorted.{Contains-permutation, IsPermutation-sym, length_permutation}
 use Rattle.std.proofs.lemmas.Option.{get_or_from_slice_get, same_Some, slice_get-get_or, slice_get_read}
 use Rattle.fb_syntax.specs.DeclsRead.{DeclsRead}
-use Rattle.fb_syntax.specs.declared.declarations.Declaration.{Declaration}
-use Rattle.fb_syntax.specs.declared.declarations.Declaration.TheVariants as declarations
+use Rattle.fb_syntax.specs.declared.declarations.TypeDecl.{TypeDecl}
+use Rattle.fb_syntax.specs.declared.declarations.TypeDecl.TheVariants as decls
 use Rattle.fb_schema.specs.Schema.{Name, DeclaredField, DeclaredBody, table_body, struct_body, enum_body, union_body, DeclaredType, DeclaredSchema}
 use Rattle.fb_meaning.specs.Outline.{TypeRead, Outline, outline_of}
 use Rattle.fb_meaning.specs.SlotsRead.{slots_read, AreInPlace}
@@ -28,16 +28,16 @@ same_slots read [] q a b = sym (nil_from_length q (length_permutation read q b.s
 same_slots read (f ∷ fs) q a b = ext_get_or f (f ∷ fs) q (length_permutation read (f ∷ fs) a.same ∙ sym (length_permutation read q b.same)) (λ k h. same_slot read (f ∷ fs) q a b f k h)
 
 -- A declaration gives one body at most.
-same_body : (types : List TypeRead) (scope : Option Name) (d : Declaration) (b c : DeclaredBody) → HasBody types scope d b → HasBody types scope d c → b ≡ c
-same_body types scope (declarations.Table t) (table_body p) (table_body q) x y = ap table_body (same_slots (slots_read types scope t.fields) p q x y)
-same_body types scope (declarations.Table t) (table_body p) _ x y = absurd y
-same_body types scope (declarations.Struct s) (struct_body ps a) (struct_body qs b) x y = let parts : ps ≡ qs = x.0 ∙ sym y.0 in let force : a ≡ b = x.1 ∙ sym y.1 in cc
-same_body types scope (declarations.Struct s) (struct_body ps a) _ x y = absurd y
-same_body types scope (declarations.Enum e) (enum_body a f vs) (enum_body b g ws) x y =
+same_body : (types : List TypeRead) (scope : Option Name) (d : TypeDecl) (b c : DeclaredBody) → HasBody types scope d b → HasBody types scope d c → b ≡ c
+same_body types scope (decls.Table t) (table_body p) (table_body q) x y = ap table_body (same_slots (slots_read types scope t.fields) p q x y)
+same_body types scope (decls.Table t) (table_body p) _ x y = absurd y
+same_body types scope (decls.Struct s) (struct_body ps a) (struct_body qs b) x y = let parts : ps ≡ qs = x.0 ∙ sym y.0 in let force : a ≡ b = x.1 ∙ sym y.1 in cc
+same_body types scope (decls.Struct s) (struct_body ps a) _ x y = absurd y
+same_body types scope (decls.Enum e) (enum_body a f vs) (enum_body b g ws) x y =
     let base : a ≡ b = x.0 ∙ sym y.0 in let flags : f ≡ g = x.1 ∙ sym y.1 in let values : vs ≡ ws = x.2 ∙ sym y.2 in cc
-same_body types scope (declarations.Enum e) (enum_body a f vs) _ x y = absurd y
-same_body types scope (declarations.Union u) (union_body ms) (union_body ns) x y = ap union_body (x ∙ sym y)
-same_body types scope (declarations.Union u) (union_body ms) _ x y = absurd y
+same_body types scope (decls.Enum e) (enum_body a f vs) _ x y = absurd y
+same_body types scope (decls.Union u) (union_body ms) (union_body ns) x y = ap union_body (x ∙ sym y)
+same_body types scope (decls.Union u) (union_body ms) _ x y = absurd y
 same_body types scope _ _ _ x y = absurd x
 
 -- a type of a name and a body

@@ -9,7 +9,7 @@ use Rattle.std.proofs.lemmas.List.Folds.{Any-from_list_any}
 use Rattle.std.proofs.lemmas.Option.{none-some, same_Some}
 use Rattle.fb_syntax.specs.FieldRead.{FieldRead}
 use Rattle.fb_syntax.specs.TypesRead.{TableRead}
-use Rattle.fb_syntax.specs.declared.declarations.AttributeUse.{AttributeUse}
+use Rattle.fb_syntax.specs.declared.declarations.Attribute.{Attribute}
 use Rattle.fb_syntax.specs.declared.declarations.FieldType.{FieldType}
 use Rattle.fb_syntax.specs.declared.declarations.FieldType.TheVariants.{One, Many}
 use Rattle.fb_schema.specs.declared.kinds.Kind.{Kind}
@@ -75,7 +75,7 @@ aligned_at least (Some (pos n)) = aligned_if least n (is_alignment least (pos n)
 aligned_at least (Some (negsuc n)) = λ a is. absurd (none-some a is)
 
 -- a right `force_align` is a power of two
-pub forced_aligned : (least : ℕ) (attributes : List AttributeUse) → ForSome (forced_align least attributes) IsForceAlign
+pub forced_aligned : (least : ℕ) (attributes : List Attribute) → ForSome (forced_align least attributes) IsForceAlign
 unfolding forced_align
 forced_aligned least attributes = aligned_at least (number_called ForceAlign attributes)
 

@@ -4,9 +4,9 @@ use Rattle.std.specs.List.{flat_map, slice_get, All, Contains}
 use Rattle.fb_syntax.specs.FieldRead.{FieldRead}
 use Rattle.fb_syntax.specs.Located.{Located}
 use Rattle.fb_syntax.specs.TypesRead.{TableRead}
-use Rattle.fb_syntax.specs.declared.declarations.AttributeUse.{AttributeUse}
-use Rattle.fb_syntax.specs.declared.declarations.Declaration.{Declaration}
-use Rattle.fb_syntax.specs.declared.declarations.Declaration.TheVariants as declarations
+use Rattle.fb_syntax.specs.declared.declarations.Attribute.{Attribute}
+use Rattle.fb_syntax.specs.declared.declarations.TypeDecl.{TypeDecl}
+use Rattle.fb_syntax.specs.declared.declarations.TypeDecl.TheVariants as decls
 use Rattle.fb_syntax.specs.declared.declarations.DefaultValue.{DefaultValue}
 use Rattle.fb_syntax.specs.declared.declarations.FieldType.{FieldType}
 use Rattle.fb_syntax.specs.declared.declarations.FieldType.TheVariants as types_read
@@ -48,25 +48,20 @@ use Rattle.fb_declare.proofs.SlotsKept.{slot_placed}
 abbrev IsEnumKept : List TypeRead → Option Base → (Name → Option ℤ) → DeclaredBody → Type 0
 IsEnumKept types under value body = (under ≡ Some (base_in body)) × ((name : Name) → IfSome (value name) (InRange (base_in body)))
 
-enum_facts : (types : List TypeRead) (declared : List Name) (lower : List ℕ) (scope : Option Name) (d : Declaration) (b : DeclaredBody) → declaration_faults types declared lower scope d ≡ [] → HasBody types scope d b
+enum_facts : (types : List TypeRead) (declared : List Name) (lower : List ℕ) (scope : Option Name) (d : TypeDecl) (b : DeclaredBody) → declaration_faults types declared lower scope d ≡ [] → HasBody types scope d b
     → IsTrue (is_enum b) → IsEnumKept types (underlying_in types scope d) (value_in types scope d) b
 enum_facts types declared lower scope d (table_body fs) h body is = cc
 enum_facts types declared lower scope d (struct_body fs a) h body is = cc
 enum_facts types declared lower scope d (union_body ms) h body is = cc
-enum_facts types declared lower scope (declarations.Enum e) (enum_body base flags values) h body is =
+enum_facts types declared lower scope (decls.Enum e) (enum_body base flags values) h body is =
     let found = enum_base types declared scope e h in
     let same : base ≡ found.0 = body.0 ∙ ap base_or_ubyte found.1 in (
       found.1 ∙ ap Some (sym same),
       λ name. value_found (InRange base) scope e (values_read types scope e) name (subst (λ b. All (λ v. InRange b v.1) (values_read types scope e)) (sym body.0) (enum_in_range types declared scope e h)),
     )
-enum_facts types declared lower scope (declarations.Table d) (enum_body base flags values) h body is = absurd body
-enum_facts types declared lower scope (declarations.Struct d) (enum_body base flags values) h body is = absurd body
-enum_facts types declared lower scope (declarations.Union d) (enum_body base flags values) h body is = absurd body
-enum_facts types declared lower scope (declarations.Namespace d) (enum_body base flags values) h body is = absurd body
-enum_facts types declared lower scope (declarations.Attribute d) (enum_body base flags values) h body is = absurd body
-enum_facts types declared lower scope (declarations.Root d) (enum_body base flags values) h body is = absurd body
-enum_facts types declared lower scope (declarations.Extension d) (enum_body base flags values) h body is = absurd body
-enum_facts types declared lower scope (declarations.Identifier d) (enum_body base flags values) h body is = absurd body
+enum_facts types declared lower scope (decls.Table d) (enum_body base flags values) h body is = absurd body
+enum_facts types declared lower scope (decls.Struct d) (enum_body base flags values) h body is = absurd body
+enum_facts types declared lower scope (decls.Union d) (enum_body base flags values) h body is = absurd body
 
 there : {X : Type 0} (xs : List X) (i : ℕ) → i < length xs → (x : X) × (slice_get xs i ≡ Some x)
 there [] i h = absurd (omega arith)
@@ -92,7 +87,7 @@ enums_kept o S g sound e named =
 -- ---- marks
 
 -- `required` isn't written at a scalar
-no_required : (declared : List Name) (attributes : List AttributeUse) (b : Bool) → has_attribute Required attributes ≡ b → metadata_faults declared ScalarField [] attributes ≡ [] → b ≡ false
+no_required : (declared : List Name) (attributes : List Attribute) (b : Bool) → has_attribute Required attributes ≡ b → metadata_faults declared ScalarField [] attributes ≡ [] → b ≡ false
 unfolding may_stand
 no_required declared attributes false has h = refl
 no_required declared attributes true has h = let x = noted_stands declared ScalarField [] attributes Required h has in absurd (true≢false (sym x.1))

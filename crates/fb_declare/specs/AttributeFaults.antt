@@ -4,11 +4,11 @@ use Rattle.std.specs.Prelude.{◌||◌, ◌++◌, not, Bool, true, false, List, 
 use Rattle.std.specs.List.{list_any, starts_with}
 use Rattle.std.specs.Bool.{nat_eq}
 use Rattle.std.specs.Str.{bytes_eq}
-use Rattle.fb_syntax.specs.declared.declarations.AttributeUse.{AttributeUse}
+use Rattle.fb_syntax.specs.declared.declarations.Attribute.{Attribute}
 use Rattle.fb_syntax.specs.declared.declarations.AttributeValue.{AttributeValue}
 use Rattle.fb_syntax.specs.declared.declarations.AttributeValue.TheVariants.{Integer}
 use Rattle.fb_schema.specs.Schema.{Name}
-use Rattle.fb_meaning.specs.Attributes.{integer_of, spelling, known_attribute, is_alignment}
+use Rattle.fb_meaning.specs.Attributes.{spelling, known_attribute, is_alignment}
 use Rattle.fb_declare.specs.declared.faults.SchemaFault.{SchemaFault}
 use Rattle.fb_declare.specs.declared.faults.SchemaFault.TheVariants.{BadAttribute, UnknownAttribute, Unsupported}
 use Rattle.fb_meaning.specs.declared.attributes.Known.{Known}
@@ -37,7 +37,7 @@ may_stand TableField Id (Some (Integer n)) = true
 may_stand TableField Required None = true
 may_stand ScalarField Deprecated None = true
 may_stand TableField Deprecated None = true
-may_stand (Struct natural) ForceAlign (Some (Integer n)) = is_alignment natural (integer_of n)
+may_stand (Struct natural) ForceAlign (Some (Integer n)) = is_alignment natural n.value
 may_stand Enum BitFlags None = true
 may_stand Table OriginalOrder None = true
 may_stand (Struct natural) OriginalOrder None = true
@@ -55,23 +55,23 @@ noted seen (Some k) = if list_any (is_known k) seen then seen else seen ++ k ∷
 abbrev pub is_bad_attribute : Place → List Known → Known → Option AttributeValue → Bool
 is_bad_attribute place seen k value = not (may_stand place k value) || list_any (is_known k) seen
 
-abbrev pub faults_of_known : Place → List Known → AttributeUse → Known → List SchemaFault
+abbrev pub faults_of_known : Place → List Known → Attribute → Known → List SchemaFault
 faults_of_known place seen a k = if is_bad_attribute place seen k a.value then BadAttribute a.name.at ∷ [] else []
 
-abbrev pub faults_of_other : List Name → AttributeUse → List SchemaFault
+abbrev pub faults_of_other : List Name → Attribute → List SchemaFault
 faults_of_other declared a = if list_any (bytes_eq a.name.bytes) declared then [] else UnknownAttribute a.name.at ∷ []
 
-abbrev pub faults_by_name : List Name → Place → List Known → AttributeUse → Option Known → List SchemaFault
+abbrev pub faults_by_name : List Name → Place → List Known → Attribute → Option Known → List SchemaFault
 faults_by_name declared place seen a (Some k) = faults_of_known place seen a k
 faults_by_name declared place seen a None = faults_of_other declared a
 
 -- the faults of one attribute behind others
-unfoldable pub attribute_faults : List Name → Place → List Known → AttributeUse → List SchemaFault
+unfoldable pub attribute_faults : List Name → Place → List Known → Attribute → List SchemaFault
 attribute_faults declared place seen a = let known = known_attribute a.name.bytes in
     if is_left_out a.name.bytes || is_force_align_of_field place known then Unsupported a.name.at ∷ [] else
     faults_by_name declared place seen a known
 
-unfoldable pub metadata_faults : List Name → Place → List Known → List AttributeUse → List SchemaFault
+unfoldable pub metadata_faults : List Name → Place → List Known → List Attribute → List SchemaFault
 metadata_faults declared place seen [] = []
 metadata_faults declared place seen (a ∷ rest) = attribute_faults declared place seen a
     ++ metadata_faults declared place (noted seen (known_attribute a.name.bytes)) rest

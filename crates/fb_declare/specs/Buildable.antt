@@ -1,18 +1,17 @@
 -- Types whose declarations give a body.
 use Rattle.std.specs.Prelude.{ℕ, ◌≡◌, false, List, Option, Some, slice_get}
-use Rattle.fb_syntax.specs.declared.declarations.Declaration.{Declaration}
-use Rattle.fb_syntax.specs.declared.declarations.Declaration.TheVariants as declarations
+use Rattle.fb_syntax.specs.declared.declarations.TypeDecl.{TypeDecl}
+use Rattle.fb_syntax.specs.declared.declarations.TypeDecl.TheVariants as decls
 use Rattle.fb_schema.specs.Schema.{Name}
 use Rattle.fb_meaning.specs.Outline.{TypeRead}
 use Rattle.fb_meaning.specs.SlotsRead.{are_ids_wrong}
 
 -- a table whose ids are right, or another type
-abbrev pub IsBuildable : List TypeRead → Option Name → Declaration → Type 0
-IsBuildable types scope (declarations.Table t) = are_ids_wrong types scope t.fields ≡ false
-IsBuildable types scope (declarations.Struct s) = Unit {0}
-IsBuildable types scope (declarations.Enum e) = Unit {0}
-IsBuildable types scope (declarations.Union u) = Unit {0}
-IsBuildable types scope _ = ⊥
+abbrev pub IsBuildable : List TypeRead → Option Name → TypeDecl → Type 0
+IsBuildable types scope (decls.Table t) = are_ids_wrong types scope t.fields ≡ false
+IsBuildable types scope (decls.Struct s) = Unit {0}
+IsBuildable types scope (decls.Enum e) = Unit {0}
+IsBuildable types scope (decls.Union u) = Unit {0}
 
 abbrev pub AreBuildable : List TypeRead → Type 0
 AreBuildable types = (t : ℕ) (r : TypeRead) → slice_get types t ≡ Some r → IsBuildable types r.scope r.declaration

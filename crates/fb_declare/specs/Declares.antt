@@ -4,8 +4,8 @@ use Rattle.std.specs.Prelude.{ℕ, ◌≡◌, List, [], Option, None, Some, map}
 use Rattle.std.specs.List.{AllZip, Contains}
 use Rattle.std.specs.Option.{option_map}
 use Rattle.fb_syntax.specs.DeclsRead.{DeclsRead}
-use Rattle.fb_syntax.specs.declared.declarations.Declaration.{Declaration}
-use Rattle.fb_syntax.specs.declared.declarations.Declaration.TheVariants as declarations
+use Rattle.fb_syntax.specs.declared.declarations.TypeDecl.{TypeDecl}
+use Rattle.fb_syntax.specs.declared.declarations.TypeDecl.TheVariants as decls
 use Rattle.fb_schema.specs.Schema.{Name, DeclaredBody, table_body, struct_body, enum_body, union_body, DeclaredType, DeclaredSchema}
 use Rattle.fb_meaning.specs.Outline.{TypeRead, RootRead, Outline, outline_of, name_of_type}
 use Rattle.fb_meaning.specs.Meaning.{meaning_of}
@@ -17,11 +17,11 @@ use Rattle.fb_declare.specs.TypeFaults.{faults_of}
 use Rattle.fb_declare.specs.declared.faults.SchemaFault.{SchemaFault}
 
 -- what a declaration gives
-abbrev pub HasBody : List TypeRead → Option Name → Declaration → DeclaredBody → Type 0
-HasBody types scope (declarations.Table t) (table_body slots) = AreInPlace (slots_read types scope t.fields) slots
-HasBody types scope (declarations.Struct s) (struct_body parts force) = (parts ≡ parts_from types scope 0 s.fields) × (force ≡ forced_align 0 s.attributes)
-HasBody types scope (declarations.Enum e) (enum_body base flags values) = (base ≡ base_or_ubyte (underlying types scope e)) × (flags ≡ has_flags e) × (values ≡ values_read types scope e)
-HasBody types scope (declarations.Union u) (union_body members) = members ≡ map (member_read types scope) u.members
+abbrev pub HasBody : List TypeRead → Option Name → TypeDecl → DeclaredBody → Type 0
+HasBody types scope (decls.Table t) (table_body slots) = AreInPlace (slots_read types scope t.fields) slots
+HasBody types scope (decls.Struct s) (struct_body parts force) = (parts ≡ parts_from types scope 0 s.fields) × (force ≡ forced_align 0 s.attributes)
+HasBody types scope (decls.Enum e) (enum_body base flags values) = (base ≡ base_or_ubyte (underlying types scope e)) × (flags ≡ has_flags e) × (values ≡ values_read types scope e)
+HasBody types scope (decls.Union u) (union_body members) = members ≡ map (member_read types scope) u.members
 HasBody types scope _ _ = ⊥
 
 pub record IsType (types : List TypeRead) (r : TypeRead) (t : DeclaredType) : Type 0 where

@@ -7,8 +7,8 @@ use Rattle.fb_syntax.specs.FieldRead.{FieldRead}
 use Rattle.fb_syntax.specs.TypesRead.{TableRead, EnumRead, UnionRead}
 use Rattle.fb_syntax.specs.DeclsRead.{DeclsRead}
 use Rattle.fb_syntax.specs.declared.declarations.UnionMember.{UnionMember}
-use Rattle.fb_syntax.specs.declared.declarations.Declaration.{Declaration}
-use Rattle.fb_syntax.specs.declared.declarations.Declaration.TheVariants as declarations
+use Rattle.fb_syntax.specs.declared.declarations.TypeDecl.{TypeDecl}
+use Rattle.fb_syntax.specs.declared.declarations.TypeDecl.TheVariants as decls
 use Rattle.fb_schema.specs.Schema.{Name}
 use Rattle.fb_schema.specs.WellDeclared.{is_unsigned}
 use Rattle.fb_meaning.specs.Outline.{TypeRead, Outline, outline_of, word_of, located_name}
@@ -102,12 +102,11 @@ union_faults types declared scope u =
     ++ names_again [] (map member_name u.members)
     ++ members_faults types scope 0 u.members
 
-abbrev pub declaration_faults : List TypeRead → List Name → List ℕ → Option Name → Declaration → List SchemaFault
-declaration_faults types declared lower scope (declarations.Table t) = table_faults types declared scope t
-declaration_faults types declared lower scope (declarations.Struct s) = struct_faults types declared scope lower s
-declaration_faults types declared lower scope (declarations.Enum e) = enum_faults types declared scope e
-declaration_faults types declared lower scope (declarations.Union u) = union_faults types declared scope u
-declaration_faults types declared lower scope _ = []
+abbrev pub declaration_faults : List TypeRead → List Name → List ℕ → Option Name → TypeDecl → List SchemaFault
+declaration_faults types declared lower scope (decls.Table t) = table_faults types declared scope t
+declaration_faults types declared lower scope (decls.Struct s) = struct_faults types declared scope lower s
+declaration_faults types declared lower scope (decls.Enum e) = enum_faults types declared scope e
+declaration_faults types declared lower scope (decls.Union u) = union_faults types declared scope u
 
 -- the faults of a type, where these are the alignments of the types before it
 unfoldable pub type_faults : List TypeRead → List Name → List ℕ → TypeRead → List SchemaFault

@@ -11,8 +11,8 @@ ghost use Rattle.fb_declare.specs.DeclaredNames.{names_declared};
 
 use crate::declared_names::DeclaredNames;
 use crate::faults::{SchemaFault, earlier};
-use fb_meaning::{Known, integer_of, is_alignment, known_attribute};
-use fb_syntax::{AttributeUse, AttributeValue};
+use fb_meaning::{Known, is_alignment, known_attribute};
+use fb_syntax::{Attribute, AttributeValue};
 use std::alloc::{AllocError, Global};
 
 /// What an attribute stands on, as far as that decides whether it may. A struct has the alignment
@@ -48,7 +48,7 @@ fn is_left_out(name: &str) -> bool
 
 /// Whether a known attribute may stand at a place with a value.
 #[tactic(auto, unfolding(crate::specs::AttributeFaults::may_stand))]
-fn may_stand(place: Place, known: Known, value: Option<&AttributeValue>) -> bool
+fn may_stand(place: Place, known: Known, value: Option<&AttributeValue<'_>>) -> bool
     ensures { result ≡ may_stand place known (option_copied value.entry) }
 {
     match (place, known, value) {
@@ -57,7 +57,7 @@ fn may_stand(place: Place, known: Known, value: Option<&AttributeValue>) -> bool
         (Place::TableField, Known::Required, None) => true,
         (Place::ScalarField | Place::TableField, Known::Deprecated, None) => true,
         (Place::Struct(natural), Known::ForceAlign, Some(AttributeValue::Integer(number))) => {
-            is_alignment(natural, integer_of(number))
+            is_alignment(natural, number.value())
         }
         (Place::Enum, Known::BitFlags, None) => true,
         (Place::Table | Place::Struct(_), Known::OriginalOrder, None) => true,
@@ -88,11 +88,11 @@ fn has_seen(seen: &[Known], known: Known) -> bool
 }
 
 /// Adds an attribute to those seen, if it is known and not there.
-fn note(seen: &mut Vec<Known>, attribute: &AttributeUse) -> Result<(), AllocError>
+fn note(seen: &mut Vec<Known>, attribute: &Attribute<'_>) -> Result<(), AllocError>
     ensures { OnOk result
         (seen.new.items ≡ noted seen.old.items (known_attribute attribute.now.name.bytes)) }
 {
-    match known_attribute(attribute.name.text.as_str()) {
+    match known_attribute(attribute.name.text) {
         Some(known) if !has_seen(seen.as_slice(), known) => {
             seen.push(known)?;
             Ok(())
@@ -107,13 +107,13 @@ fn attribute_fault(
     declared: DeclaredNames<'_, '_>,
     place: Place,
     seen: &[Known],
-    attribute: &AttributeUse,
+    attribute: &Attribute<'_>,
 ) -> Option<SchemaFault>
     ensures { result ≡ least_of
         (attribute_faults (names_declared declared.entry) place seen.now attribute.now) }
 {
     let at = attribute.name.at;
-    let name = attribute.name.text.as_str();
+    let name = attribute.name.text;
     let known = known_attribute(name);
     if is_left_out(name) || is_force_align_of_field(place, known) {
         return Some(SchemaFault::Unsupported(at));
@@ -136,7 +136,7 @@ pub(crate) fn metadata_fault(
     alloc: Global,
     declared: DeclaredNames<'_, '_>,
     place: Place,
-    attributes: &[AttributeUse],
+    attributes: &[Attribute<'_>],
 ) -> Result<Option<SchemaFault>, AllocError>
     ensures { IfOk result (λ f. f ≡ least_of
         (metadata_faults (names_declared declared.entry) place [] attributes.now)) }

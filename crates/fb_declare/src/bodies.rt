@@ -3,7 +3,7 @@ ghost use Rattle.std.specs.Prelude.{◌≡◌, List, Option, IfOk, map, string_b
 ghost use Rattle.std.specs.List.{AllZip};
 ghost use Rattle.std.specs.Option.{option_copied};
 ghost use Rattle.fb_schema.specs.Seen.{body_seen, type_seen};
-ghost use Rattle.fb_syntax.specs.declared.declarations.Declaration.TheVariants as Declaration;
+ghost use Rattle.fb_syntax.specs.declared.declarations.TypeDecl.TheVariants as TypeDecl;
 ghost use Rattle.fb_schema.specs.Schema.{Name};
 ghost use Rattle.fb_meaning.specs.Outline.{TypeRead};
 ghost use Rattle.fb_meaning.specs.MembersRead.{member_read};
@@ -15,29 +15,29 @@ use fb_meaning::{
     table_slots, underlying, values_read,
 };
 use fb_schema::{Base, Body, TypeId, TypeInfo};
-use fb_syntax::{Declaration, EnumDeclaration, TableDeclaration, UnionDeclaration, UnionMember};
+use fb_syntax::{EnumDecl, TableDecl, TypeDecl, UnionDecl, UnionMember};
 use std::alloc::{AllocError, Global};
 
 fn member_read(
-    types: TypesRead<'_, '_, '_>,
+    types: TypesRead<'_, '_, '_, '_>,
     alloc: Global,
     scope: Option<&str>,
-    member: &UnionMember,
+    member: &UnionMember<'_>,
 ) -> Result<(String, TypeId), AllocError>
     ensures { IfOk result (λ m. (string_bytes m.0, m.1.0)
         ≡ member_read types.entry.types.now (option_copied scope.entry) member.now) }
 {
     let name = member_name(alloc, member)?;
-    let meaning = types.meaning(scope, member.table.text.as_str());
+    let meaning = types.meaning(scope, member.table.as_str());
     let table = table_of(meaning).unwrap_or(TypeId(0));
     Ok((name.text, table))
 }
 
 fn members_read(
-    types: TypesRead<'_, '_, '_>,
+    types: TypesRead<'_, '_, '_, '_>,
     alloc: Global,
     scope: Option<&str>,
-    read: &UnionDeclaration,
+    read: &UnionDecl<'_>,
 ) -> Result<Vec<(String, TypeId)>, AllocError>
     ensures { IfOk result (λ v. map (λ m. (string_bytes m.0, m.1.0)) v.items
         ≡ map (member_read types.entry.types.now (option_copied scope.entry)) read.now.members) }
@@ -50,21 +50,21 @@ fn members_read(
 }
 
 fn struct_body(
-    types: TypesRead<'_, '_, '_>,
+    types: TypesRead<'_, '_, '_, '_>,
     alloc: Global,
     scope: Option<&str>,
-    read: &TableDeclaration,
+    read: &TableDecl<'_>,
 ) -> Result<Body, AllocError>
     ensures { IfOk result (λ b. HasBody types.entry.types.now (option_copied scope.entry)
-        (Declaration.Struct read.now) (body_seen b)) }
+        (TypeDecl.Struct read.now) (body_seen b)) }
 {
     let parts = parts_read(types, alloc, scope, read.fields.as_slice())?;
     Ok(Body::Struct(parts, forced_align(0, read.attributes.as_slice())))
 }
 
-fn enum_body(alloc: Global, read: &EnumDeclaration) -> Result<Body, AllocError>
+fn enum_body(alloc: Global, read: &EnumDecl<'_>) -> Result<Body, AllocError>
     ensures { (types : List TypeRead) (scope : Option Name) → IfOk result
-        (λ b. HasBody types scope (Declaration.Enum read.now) (body_seen b)) }
+        (λ b. HasBody types scope (TypeDecl.Enum read.now) (body_seen b)) }
 {
     let base = underlying(read).unwrap_or(Base::U8);
     let values = values_read(alloc, read)?;
@@ -72,54 +72,53 @@ fn enum_body(alloc: Global, read: &EnumDeclaration) -> Result<Body, AllocError>
 }
 
 fn table_body(
-    types: TypesRead<'_, '_, '_>,
+    types: TypesRead<'_, '_, '_, '_>,
     alloc: Global,
     scope: Option<&str>,
-    read: &TableDeclaration,
+    read: &TableDecl<'_>,
 ) -> Result<Body, AllocError>
-    requires { IsBuildable types.types.now (option_copied scope) (Declaration.Table read.now) }
+    requires { IsBuildable types.types.now (option_copied scope) (TypeDecl.Table read.now) }
     ensures { IfOk result (λ b. HasBody types.entry.types.now (option_copied scope.entry)
-        (Declaration.Table read.now) (body_seen b)) }
+        (TypeDecl.Table read.now) (body_seen b)) }
 {
     let slots = table_slots(types, alloc, scope, read.fields.as_slice())?;
     Ok(Body::Table(slots))
 }
 
 fn union_body(
-    types: TypesRead<'_, '_, '_>,
+    types: TypesRead<'_, '_, '_, '_>,
     alloc: Global,
     scope: Option<&str>,
-    read: &UnionDeclaration,
+    read: &UnionDecl<'_>,
 ) -> Result<Body, AllocError>
     ensures { IfOk result (λ b. HasBody types.entry.types.now (option_copied scope.entry)
-        (Declaration.Union read.now) (body_seen b)) }
+        (TypeDecl.Union read.now) (body_seen b)) }
 {
     Ok(Body::Union(members_read(types, alloc, scope, read)?))
 }
 
 fn body_of(
-    types: TypesRead<'_, '_, '_>,
+    types: TypesRead<'_, '_, '_, '_>,
     alloc: Global,
     scope: Option<&str>,
-    declaration: &Declaration,
+    declaration: &TypeDecl<'_>,
 ) -> Result<Body, AllocError>
     requires { IsBuildable types.types.now (option_copied scope) declaration.now }
     ensures { IfOk result (λ b. HasBody types.entry.types.now (option_copied scope.entry)
         declaration.now (body_seen b)) }
 {
     match declaration {
-        Declaration::Table(read) => table_body(types, alloc, scope, read),
-        Declaration::Struct(read) => struct_body(types, alloc, scope, read),
-        Declaration::Enum(read) => enum_body(alloc, read),
-        Declaration::Union(read) => union_body(types, alloc, scope, read),
-        _ => unreachable!(),
+        TypeDecl::Table(read) => table_body(types, alloc, scope, read),
+        TypeDecl::Struct(read) => struct_body(types, alloc, scope, read),
+        TypeDecl::Enum(read) => enum_body(alloc, read),
+        TypeDecl::Union(read) => union_body(types, alloc, scope, read),
     }
 }
 
 fn type_of(
-    types: TypesRead<'_, '_, '_>,
+    types: TypesRead<'_, '_, '_, '_>,
     alloc: Global,
-    read: &TypeRead<'_>,
+    read: &TypeRead<'_, '_>,
 ) -> Result<TypeInfo, AllocError>
     requires { IsBuildable types.types.now read.now.scope read.now.declaration }
     ensures { IfOk result (λ t. IsType types.entry.types.now read.now (type_seen t)) }
@@ -131,7 +130,7 @@ fn type_of(
 
 /// The types that the declarations give. The only error is a refused allocation.
 pub(crate) fn types_of(
-    types: TypesRead<'_, '_, '_>,
+    types: TypesRead<'_, '_, '_, '_>,
     alloc: Global,
 ) -> Result<Vec<TypeInfo>, AllocError>
     requires { AreBuildable types.types.now }

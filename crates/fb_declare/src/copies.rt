@@ -1,15 +1,16 @@
 //! Copies of parts of the text.
 ghost use Rattle.std.specs.Prelude.{◌≡◌, IfOk};
 
+use fb_meaning::LocatedName;
 use fb_syntax::Text;
 use std::alloc::{AllocError, Global};
 
 /// A copy of a part of the text. The only error is a refused allocation.
-pub(crate) fn copy_of(alloc: Global, text: &Text) -> Result<Text, AllocError>
+pub(crate) fn copy_of(alloc: Global, text: &Text<'_>) -> Result<LocatedName, AllocError>
     ensures { IfOk result (λ t. t ≡ text.now) }
 {
-    Ok(Text {
-        text: String::from_str(alloc, text.text.as_str())?,
+    Ok(LocatedName {
+        text: String::from_str(alloc, text.text)?,
         at: text.at,
     })
 }

@@ -3,7 +3,7 @@ ghost use Rattle.std.specs.Prelude.{◌≡◌, ◌≢◌, [], IfOk, IfErr, OnOk,
 ghost use Rattle.std.specs.Option.{ForSome, option_copied, option_map};
 ghost use Rattle.fb_declare.specs.declared.faults.SchemaFault.TheVariants.{Memory};
 ghost use Rattle.fb_declare.specs.Faults.{least_of};
-ghost use Rattle.fb_declare.specs.Found.{outline_found, DeclareTypes};
+ghost use Rattle.fb_declare.specs.Found.{outline_found};
 ghost use Rattle.fb_meaning.specs.Outline.{located_name};
 ghost use Rattle.fb_declare.specs.TypeFaults.{faults_of_outline, faults_of};
 ghost use Rattle.fb_declare.specs.Declares.{root_table, Gives, Declares, Stands};
@@ -16,13 +16,14 @@ use crate::name_places::NamePlaces;
 use crate::names_again::names_again;
 use crate::type_faults::{identifier_fault, root_fault, types_fault};
 use fb_meaning::{
-    Outline, RootRead, TypeRead, TypesRead, ValueNumbers, WordPlaces, located_name, table_of,
+    LocatedName, Outline, RootRead, TypeRead, TypesRead, ValueNumbers, WordPlaces, located_name,
+    table_of,
 };
 use fb_schema::{Schema, TypeId};
 use fb_syntax::{Decls, Text};
 use std::alloc::{AllocError, Global};
 
-fn located_names(alloc: Global, types: &[TypeRead<'_>]) -> Result<Vec<Text>, AllocError>
+fn located_names(alloc: Global, types: &[TypeRead<'_, '_>]) -> Result<Vec<LocatedName>, AllocError>
     ensures { IfOk result (λ names. names.items ≡ map located_name types.now) }
 {
     let mut names = Vec::with_capacity(alloc, types.len())?;
@@ -33,7 +34,7 @@ fn located_names(alloc: Global, types: &[TypeRead<'_>]) -> Result<Vec<Text>, All
 }
 
 /// The number of the root's table.
-fn root_table(types: TypesRead<'_, '_, '_>, root: Option<&RootRead<'_>>) -> Option<TypeId>
+fn root_table(types: TypesRead<'_, '_, '_, '_>, root: Option<&RootRead<'_, '_>>) -> Option<TypeId>
     ensures { option_map (λ n. n.0) result
         ≡ root_table types.entry.types.now (option_copied root.entry) }
 {
@@ -41,11 +42,11 @@ fn root_table(types: TypesRead<'_, '_, '_>, root: Option<&RootRead<'_>>) -> Opti
         return None;
     };
     let name = root.name;
-    let meaning = types.meaning(root.scope, name.text.as_str());
+    let meaning = types.meaning(root.scope, name.as_str());
     table_of(meaning)
 }
 
-fn identifier_of(identifier: Option<&Text>) -> Option<[u8; 4]>
+fn identifier_of(identifier: Option<&Text<'_>>) -> Option<[u8; 4]>
     requires { ForSome (option_copied identifier) (λ t. length t.bytes ≡ 4) }
     ensures { result ≡ option_map (λ t. t.bytes) (option_copied identifier.entry) }
 {
@@ -57,8 +58,8 @@ fn identifier_of(identifier: Option<&Text>) -> Option<[u8; 4]>
 #[tactic(auto, using(crate::proofs::Least::least_of_append), unfolding(crate::specs::TypeFaults::faults_of_outline))]
 fn least_fault(
     alloc: Global,
-    found: Found<'_, '_, '_>,
-    names: &[Text],
+    found: Found<'_, '_, '_, '_>,
+    names: &[LocatedName],
 ) -> Result<Option<SchemaFault>, AllocError>
     requires { names.now ≡ map located_name found.types.types.now }
     ensures { IfOk result (λ f. f ≡ least_of (faults_of_outline (outline_found found.entry))) }
@@ -73,9 +74,8 @@ fn least_fault(
 }
 
 /// The schema that an outline with no fault gives.
-fn schema_found(alloc: Global, found: Found<'_, '_, '_>) -> Result<Schema, AllocError>
-    requires sound { faults_of_outline (outline_found found) ≡ [] }
-    requires types { DeclareTypes found.types.types.now }
+fn schema_found(alloc: Global, found: Found<'_, '_, '_, '_>) -> Result<Schema, AllocError>
+    requires { faults_of_outline (outline_found found) ≡ [] }
     ensures { IfOk result (Gives (outline_found found.entry)) }
 {
     let Some(root) = root_table(found.types, found.root) else {
@@ -89,11 +89,10 @@ fn schema_found(alloc: Global, found: Found<'_, '_, '_>) -> Result<Schema, Alloc
 /// its types.
 fn schema_or_fault(
     alloc: Global,
-    found: Found<'_, '_, '_>,
-    names: &[Text],
+    found: Found<'_, '_, '_, '_>,
+    names: &[LocatedName],
 ) -> Result<Schema, SchemaFault>
     requires names { names.now ≡ map located_name found.types.types.now }
-    requires types { DeclareTypes found.types.types.now }
     ensures sound { OnOk result (faults_of_outline (outline_found found.entry) ≡ []) }
     ensures given { IfOk result (Gives (outline_found found.entry)) }
     ensures least { IfErr result (λ f. f ≢ Memory
@@ -106,15 +105,14 @@ fn schema_or_fault(
 }
 
 /// The schema that an outline gives, or the least of its faults, where its types are found by name.
-fn declare_types<'t, 'd, 'n>(
+fn declare_types<'t, 'd, 's, 'n>(
     alloc: Global,
-    outline: &'t Outline<'d>,
-    types: TypesRead<'t, 'd, 'n>,
-    names: &[Text],
+    outline: &'t Outline<'d, 's>,
+    types: TypesRead<'t, 'd, 's, 'n>,
+    names: &[LocatedName],
 ) -> Result<Schema, SchemaFault>
     requires same { types.types.now ≡ outline.now.types }
     requires names { names.now ≡ map located_name outline.now.types }
-    requires types { DeclareTypes outline.now.types }
     ensures sound { OnOk result (faults_of_outline outline.now ≡ []) }
     ensures given { IfOk result (Gives outline.now) }
     ensures least { IfErr result (λ f. f ≢ Memory → least_of (faults_of_outline outline.now) ≡ Some f) }
@@ -134,8 +132,7 @@ fn declare_types<'t, 'd, 'n>(
 }
 
 /// The schema that an outline gives, or the least of its faults.
-fn declare_outline(alloc: Global, outline: &Outline<'_>) -> Result<Schema, SchemaFault>
-    requires types { DeclareTypes outline.now.types }
+fn declare_outline(alloc: Global, outline: &Outline<'_, '_>) -> Result<Schema, SchemaFault>
     ensures sound { OnOk result (faults_of_outline outline.now ≡ []) }
     ensures given { IfOk result (Gives outline.now) }
     ensures least { IfErr result (λ f. f ≢ Memory → least_of (faults_of_outline outline.now) ≡ Some f) }
@@ -156,7 +153,7 @@ fn declare_outline(alloc: Global, outline: &Outline<'_>) -> Result<Schema, Schem
 ///
 /// A refusal tells the fault of least offset and, there, of the lowest number; `Memory` is a
 /// refused allocation. The rules are those of "Writing a schema".
-pub fn declare(alloc: Global, decls: &Decls) -> Result<Schema, SchemaFault>
+pub fn declare(alloc: Global, decls: &Decls<'_>) -> Result<Schema, SchemaFault>
     ensures declared { IfOk result (Declares decls.now) }
     ensures fault { IfErr result (λ f. f ≢ Memory → Stands decls.now f) }
     ensures least { IfErr result (λ f. f ≢ Memory → least_of (faults_of decls.now) ≡ Some f) }

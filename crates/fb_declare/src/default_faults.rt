@@ -9,17 +9,18 @@ use fb_meaning::Given;
 use fb_syntax::DefaultValue;
 
 /// Where a default stands.
-fn default_at(default: &DefaultValue) -> u64
+fn default_at(default: &DefaultValue<'_>) -> u64
     ensures { result ≡ default_at default.now }
 {
     match default {
-        DefaultValue::Integer(text) | DefaultValue::Name(text) => text.at,
+        DefaultValue::Integer(number) => number.at(),
+        DefaultValue::Name(name) => name.at(),
     }
 }
 
 /// The fault of a default that gives nothing.
 #[tactic(auto, unfolding(crate::specs::FaultRows::bad_default, crate::specs::Faults::least_of))]
-pub(crate) fn bad_default(default: Option<&DefaultValue>, given: Given) -> Option<SchemaFault>
+pub(crate) fn bad_default(default: Option<&DefaultValue<'_>>, given: Given) -> Option<SchemaFault>
     ensures { result ≡ least_of (bad_default (option_copied default.entry) given) }
 {
     match default {
@@ -33,7 +34,7 @@ pub(crate) fn bad_default(default: Option<&DefaultValue>, given: Given) -> Optio
 
 /// A default in a struct.
 #[tactic(auto, unfolding(crate::specs::FaultRows::default_in_struct, crate::specs::Faults::least_of))]
-pub(crate) fn default_in_struct(default: Option<&DefaultValue>) -> Option<SchemaFault>
+pub(crate) fn default_in_struct(default: Option<&DefaultValue<'_>>) -> Option<SchemaFault>
     ensures { result ≡ least_of (default_in_struct (option_copied default.entry)) }
 {
     default.map(|default| SchemaFault::BadDefault(default_at(default)))

@@ -13,9 +13,9 @@ use crate::declared_names::DeclaredNames;
 use crate::faults::{SchemaFault, earlier, when};
 use crate::names_again::names_again;
 use crate::value_faults::bad_values;
-use fb_meaning::{Meaning, TypesRead, has_flags, integer_type};
+use fb_meaning::{LocatedName, Meaning, TypesRead, has_flags, integer_type};
 use fb_schema::Base;
-use fb_syntax::{EnumDeclaration, EnumValue, Text};
+use fb_syntax::{EnumDecl, EnumValue};
 use std::alloc::{AllocError, Global};
 
 /// The fault of the type under an enum.
@@ -48,7 +48,7 @@ fn place_of_enum(base: Option<Base>) -> Place
     }
 }
 
-fn value_names(alloc: Global, values: &[EnumValue]) -> Result<Vec<Text>, AllocError>
+fn value_names(alloc: Global, values: &[EnumValue<'_>]) -> Result<Vec<LocatedName>, AllocError>
     ensures { IfOk result (λ names. names.items ≡ map (λ v. v.name) values.now) }
 {
     let mut names = Vec::with_capacity(alloc, values.len())?;
@@ -61,19 +61,19 @@ fn value_names(alloc: Global, values: &[EnumValue]) -> Result<Vec<Text>, AllocEr
 /// The least fault of an enum. The only error is a refused allocation.
 #[tactic(auto, using(crate::proofs::Least::least_of_append), unfolding(crate::specs::TypeFaults::enum_faults))]
 pub(crate) fn enum_fault(
-    types: TypesRead<'_, '_, '_>,
+    types: TypesRead<'_, '_, '_, '_>,
     alloc: Global,
     declared: DeclaredNames<'_, '_>,
     scope: Option<&str>,
-    read: &EnumDeclaration,
+    read: &EnumDecl<'_>,
 ) -> Result<Option<SchemaFault>, AllocError>
     ensures { IfOk result (λ f. f ≡ least_of (enum_faults types.entry.types.now
         (names_declared declared.entry) (option_copied scope.entry) read.now)) }
 {
     let values = read.values.as_slice();
-    let meaning = types.meaning(scope, read.underlying.text.as_str());
+    let meaning = types.meaning(scope, read.underlying.as_str());
     let base = integer_type(meaning);
-    let under = underlying_fault(meaning, read.underlying.at);
+    let under = underlying_fault(meaning, read.underlying.at());
     let place = place_of_enum(base);
     let marks = metadata_fault(alloc, declared, place, read.attributes.as_slice())?;
     let names = value_names(alloc, values)?;

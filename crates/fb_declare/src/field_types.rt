@@ -22,12 +22,12 @@ pub(crate) fn use_fault(meaning: Meaning, at: u64) -> Option<SchemaFault>
 }
 
 #[tactic(auto, unfolding(crate::specs::Faults::least_of))]
-fn union_vector(kind: &FieldType, meaning: Meaning) -> Option<SchemaFault>
+fn union_vector(kind: &FieldType<'_>, meaning: Meaning) -> Option<SchemaFault>
     ensures { result ≡ least_of (union_vector kind.now meaning) }
 {
     match (kind, meaning) {
         (FieldType::Many(_, name), Meaning::Known(Kind::Union(_))) => {
-            Some(SchemaFault::Unsupported(name.at))
+            Some(SchemaFault::Unsupported(name.at()))
         }
         _ => None,
     }
@@ -35,17 +35,17 @@ fn union_vector(kind: &FieldType, meaning: Meaning) -> Option<SchemaFault>
 
 /// What is wrong with the type of a table's field.
 #[tactic(auto, using(crate::proofs::Least::least_of_append))]
-pub(crate) fn table_field_type(kind: &FieldType, meaning: Meaning) -> Option<SchemaFault>
+pub(crate) fn table_field_type(kind: &FieldType<'_>, meaning: Meaning) -> Option<SchemaFault>
     ensures { result ≡ least_of (table_field_type kind.now meaning) }
 {
     earlier(
-        use_fault(meaning, type_name(kind).at),
+        use_fault(meaning, type_name(kind).at()),
         union_vector(kind, meaning),
     )
 }
 
 #[tactic(auto, unfolding(crate::specs::FaultRows::part_faults, crate::specs::Faults::least_of))]
-fn part_fault(number: usize, kind: &FieldType, meaning: Meaning) -> Option<SchemaFault>
+fn part_fault(number: usize, kind: &FieldType<'_>, meaning: Meaning) -> Option<SchemaFault>
     ensures { result ≡ least_of (part_faults number kind.now meaning) }
 {
     match (kind, meaning) {
@@ -53,9 +53,9 @@ fn part_fault(number: usize, kind: &FieldType, meaning: Meaning) -> Option<Schem
         (FieldType::One(_), Meaning::Known(Kind::Scalar(_) | Kind::Enum(_))) => None,
         (FieldType::One(name), Meaning::Known(Kind::Struct(TypeId(part)))) => when(
             number as u64 <= part,
-            SchemaFault::IncompleteStruct(name.at),
+            SchemaFault::IncompleteStruct(name.at()),
         ),
-        (FieldType::One(name), Meaning::Known(_)) => Some(SchemaFault::BadMember(name.at)),
+        (FieldType::One(name), Meaning::Known(_)) => Some(SchemaFault::BadMember(name.at())),
         (FieldType::One(_), Meaning::Float | Meaning::Unknown) => None,
     }
 }
@@ -64,13 +64,13 @@ fn part_fault(number: usize, kind: &FieldType, meaning: Meaning) -> Option<Schem
 #[tactic(auto, using(crate::proofs::Least::least_of_append))]
 pub(crate) fn struct_field_type(
     number: usize,
-    kind: &FieldType,
+    kind: &FieldType<'_>,
     meaning: Meaning,
 ) -> Option<SchemaFault>
     ensures { result ≡ least_of (struct_field_type number kind.now meaning) }
 {
     earlier(
-        use_fault(meaning, type_name(kind).at),
+        use_fault(meaning, type_name(kind).at()),
         part_fault(number, kind, meaning),
     )
 }

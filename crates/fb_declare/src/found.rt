@@ -5,10 +5,10 @@ use fb_syntax::Text;
 
 /// What a text declares, with its types and attributes found by name.
 #[derive(Clone, Copy)]
-pub(crate) struct Found<'t, 'd, 'n> {
-    pub types: TypesRead<'t, 'd, 'n>,
-    pub declared: DeclaredNames<'t, 'd>,
-    pub root: Option<&'t RootRead<'d>>,
-    pub identifier: Option<&'d Text>,
+pub(crate) struct Found<'t, 'd, 's, 'n> {
+    pub types: TypesRead<'t, 'd, 's, 'n>,
+    pub declared: DeclaredNames<'t, 's>,
+    pub root: Option<&'t RootRead<'d, 's>>,
+    pub identifier: Option<&'d Text<'s>>,
     pub text_len: u64,
 }

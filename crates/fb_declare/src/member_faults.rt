@@ -5,10 +5,9 @@ ghost use Rattle.fb_declare.specs.FaultRows.{none_name, bad_member, member_fault
 
 use crate::faults::{SchemaFault, earlier, when};
 use crate::field_types::use_fault;
-use fb_meaning::{Meaning, is_table};
-use fb_syntax::Text;
+use fb_meaning::{LocatedName, Meaning, is_table};
 
-fn none_name(name: &Text) -> Option<SchemaFault>
+fn none_name(name: &LocatedName) -> Option<SchemaFault>
     ensures { result ≡ least_of (none_name name.now) }
 {
     let is_none = name.text.as_str() == "NONE";
@@ -27,7 +26,7 @@ fn bad_member(before: usize, meaning: Meaning, at: u64) -> Option<SchemaFault>
 #[tactic(auto, using(crate::proofs::Least::least_of_append), unfolding(crate::specs::FaultRows::member_faults))]
 pub(crate) fn member_fault(
     before: usize,
-    name: &Text,
+    name: &LocatedName,
     at: u64,
     meaning: Meaning,
 ) -> Option<SchemaFault>

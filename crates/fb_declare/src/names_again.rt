@@ -5,11 +5,14 @@ ghost use Rattle.fb_declare.specs.FaultRows.{names_again};
 
 use crate::faults::{SchemaFault, earlier, when};
 use crate::name_places::NamePlaces;
-use fb_syntax::Text;
+use fb_meaning::LocatedName;
 use std::alloc::{AllocError, Global};
 
 /// The least fault of names that have to differ. The only error is a refused allocation.
-pub(crate) fn names_again(alloc: Global, names: &[Text]) -> Result<Option<SchemaFault>, AllocError>
+pub(crate) fn names_again(
+    alloc: Global,
+    names: &[LocatedName],
+) -> Result<Option<SchemaFault>, AllocError>
     ensures { IfOk result (λ f. f ≡ least_of (names_again [] names.now)) }
 {
     let mut seen = NamePlaces::new(alloc);

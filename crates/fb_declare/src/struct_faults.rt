@@ -13,11 +13,11 @@ use crate::default_faults::default_in_struct;
 use crate::faults::{SchemaFault, earlier, when};
 use crate::field_types::struct_field_type;
 use crate::names_again::names_again;
-use fb_meaning::{TypesRead, natural_align, type_name};
-use fb_syntax::{Field, TableDeclaration, Text};
+use fb_meaning::{LocatedName, TypesRead, natural_align, type_name};
+use fb_syntax::{Field, TableDecl};
 use std::alloc::{AllocError, Global};
 
-fn field_names(alloc: Global, fields: &[Field]) -> Result<Vec<Text>, AllocError>
+fn field_names(alloc: Global, fields: &[Field<'_>]) -> Result<Vec<LocatedName>, AllocError>
     ensures { IfOk result (λ names. names.items ≡ map (λ f. f.name) fields.now) }
 {
     let mut names = Vec::with_capacity(alloc, fields.len())?;
@@ -29,17 +29,17 @@ fn field_names(alloc: Global, fields: &[Field]) -> Result<Vec<Text>, AllocError>
 
 #[tactic(auto, using(crate::proofs::Least::least_of_append), unfolding(crate::specs::TypeFaults::struct_field_faults))]
 fn field_fault(
-    types: TypesRead<'_, '_, '_>,
+    types: TypesRead<'_, '_, '_, '_>,
     alloc: Global,
     declared: DeclaredNames<'_, '_>,
     scope: Option<&str>,
     number: usize,
-    field: &Field,
+    field: &Field<'_>,
 ) -> Result<Option<SchemaFault>, AllocError>
     ensures { IfOk result (λ f. f ≡ least_of (struct_field_faults types.entry.types.now
         (names_declared declared.entry) (option_copied scope.entry) number field.now)) }
 {
-    let meaning = types.meaning(scope, type_name(&field.kind).text.as_str());
+    let meaning = types.meaning(scope, type_name(&field.kind).as_str());
     let type_fault = struct_field_type(number, &field.kind, meaning);
     let fault = earlier(type_fault, default_in_struct(field.default.as_ref()));
     let attributes = field.attributes.as_slice();
@@ -50,12 +50,12 @@ fn field_fault(
 }
 
 fn fields_fault(
-    types: TypesRead<'_, '_, '_>,
+    types: TypesRead<'_, '_, '_, '_>,
     alloc: Global,
     declared: DeclaredNames<'_, '_>,
     scope: Option<&str>,
     number: usize,
-    fields: &[Field],
+    fields: &[Field<'_>],
 ) -> Result<Option<SchemaFault>, AllocError>
     ensures { IfOk result (λ f. f ≡ least_of (flat_map (struct_field_faults types.entry.types.now
         (names_declared declared.entry) (option_copied scope.entry) number) fields.now)) }
@@ -70,7 +70,7 @@ fn fields_fault(
     Ok(least)
 }
 
-fn is_empty(fields: &[Field]) -> bool
+fn is_empty(fields: &[Field<'_>]) -> bool
     ensures { result ≡ is_empty_list fields.now }
 {
     fields.is_empty()
@@ -80,12 +80,12 @@ fn is_empty(fields: &[Field]) -> bool
 /// error is a refused allocation.
 #[tactic(auto, using(crate::proofs::Least::least_of_append), unfolding(crate::specs::TypeFaults::struct_faults))]
 pub(crate) fn struct_fault(
-    types: TypesRead<'_, '_, '_>,
+    types: TypesRead<'_, '_, '_, '_>,
     alloc: Global,
     declared: DeclaredNames<'_, '_>,
     scope: Option<&str>,
     lower: &[u16],
-    read: &TableDeclaration,
+    read: &TableDecl<'_>,
 ) -> Result<Option<SchemaFault>, AllocError>
     ensures { IfOk result (λ f. f ≡ least_of (struct_faults types.entry.types.now
         (names_declared declared.entry) (option_copied scope.entry) lower.now read.now)) }

@@ -13,26 +13,28 @@ use crate::default_faults::bad_default;
 use crate::faults::{SchemaFault, earlier, when};
 use crate::field_types::table_field_type;
 use crate::names_again::names_again;
-use fb_meaning::{Meaning, TypesRead, are_ids_wrong, given_by, name_of_code, union_of};
+use fb_meaning::{
+    LocatedName, Meaning, TypesRead, are_ids_wrong, given_by, name_of_code, union_of,
+};
 use fb_schema::Kind;
-use fb_syntax::{Field, FieldType, TableDeclaration, Text};
+use fb_syntax::{Field, FieldType, TableDecl};
 use std::alloc::{AllocError, Global};
 
 /// Adds the names that a field takes: a union's code has one.
 fn push_names(
-    types: TypesRead<'_, '_, '_>,
+    types: TypesRead<'_, '_, '_, '_>,
     alloc: Global,
     scope: Option<&str>,
-    field: &Field,
-    names: &mut Vec<Text>,
+    field: &Field<'_>,
+    names: &mut Vec<LocatedName>,
 ) -> Result<(), AllocError>
     ensures { OnOk result (names.new.items ≡ names.old.items
         ++ names_of_field types.entry.types.now (option_copied scope.entry) field.now) }
 {
     let meaning = types.meaning_in(scope, &field.kind);
     if union_of(&field.kind, meaning).is_some() {
-        names.push(Text {
-            text: name_of_code(alloc, field.name.text.as_str())?,
+        names.push(LocatedName {
+            text: name_of_code(alloc, field.name.text)?,
             at: field.name.at,
         })?;
     }
@@ -41,11 +43,11 @@ fn push_names(
 }
 
 fn field_names(
-    types: TypesRead<'_, '_, '_>,
+    types: TypesRead<'_, '_, '_, '_>,
     alloc: Global,
     scope: Option<&str>,
-    fields: &[Field],
-) -> Result<Vec<Text>, AllocError>
+    fields: &[Field<'_>],
+) -> Result<Vec<LocatedName>, AllocError>
     ensures { IfOk result (λ names. names.items
         ≡ flat_map (names_of_field types.entry.types.now (option_copied scope.entry)) fields.now) }
 {
@@ -57,7 +59,7 @@ fn field_names(
 }
 
 /// The place of a field's attributes: a scalar or enum can't be required.
-fn place_of_field(kind: &FieldType, meaning: Meaning) -> Place
+fn place_of_field(kind: &FieldType<'_>, meaning: Meaning) -> Place
     ensures { result ≡ place_of_field kind.now meaning }
 {
     match (kind, meaning) {
@@ -68,11 +70,11 @@ fn place_of_field(kind: &FieldType, meaning: Meaning) -> Place
 
 #[tactic(auto, using(crate::proofs::Least::least_of_append), unfolding(crate::specs::TypeFaults::table_field_faults))]
 fn field_fault(
-    types: TypesRead<'_, '_, '_>,
+    types: TypesRead<'_, '_, '_, '_>,
     alloc: Global,
     declared: DeclaredNames<'_, '_>,
     scope: Option<&str>,
-    field: &Field,
+    field: &Field<'_>,
 ) -> Result<Option<SchemaFault>, AllocError>
     ensures { IfOk result (λ f. f ≡ least_of (table_field_faults types.entry.types.now
         (names_declared declared.entry) (option_copied scope.entry) field.now)) }
@@ -88,11 +90,11 @@ fn field_fault(
 }
 
 fn fields_fault(
-    types: TypesRead<'_, '_, '_>,
+    types: TypesRead<'_, '_, '_, '_>,
     alloc: Global,
     declared: DeclaredNames<'_, '_>,
     scope: Option<&str>,
-    fields: &[Field],
+    fields: &[Field<'_>],
 ) -> Result<Option<SchemaFault>, AllocError>
     ensures { IfOk result (λ f. f ≡ least_of (flat_map (table_field_faults types.entry.types.now
         (names_declared declared.entry) (option_copied scope.entry)) fields.now)) }
@@ -107,11 +109,11 @@ fn fields_fault(
 /// The least fault of a table. The only error is a refused allocation.
 #[tactic(auto, using(crate::proofs::Least::least_of_append), unfolding(crate::specs::TypeFaults::table_faults))]
 pub(crate) fn table_fault(
-    types: TypesRead<'_, '_, '_>,
+    types: TypesRead<'_, '_, '_, '_>,
     alloc: Global,
     declared: DeclaredNames<'_, '_>,
     scope: Option<&str>,
-    read: &TableDeclaration,
+    read: &TableDecl<'_>,
 ) -> Result<Option<SchemaFault>, AllocError>
     ensures { IfOk result (λ f. f ≡ least_of (table_faults types.entry.types.now
         (names_declared declared.entry) (option_copied scope.entry) read.now)) }

@@ -2,10 +2,8 @@
 ghost use Rattle.std.specs.Prelude.{◌≡◌, ◌++◌, [], IfOk};
 ghost use Rattle.std.specs.List.{list_all};
 ghost use Rattle.std.specs.Option.{option_copied};
-ghost use Rattle.fb_syntax.specs.Located.{Located};
 ghost use Rattle.fb_declare.specs.Faults.{least_of};
 ghost use Rattle.fb_declare.specs.DeclaredNames.{names_declared};
-ghost use Rattle.fb_meaning.specs.Outline.{word_of};
 ghost use Rattle.fb_declare.specs.FaultRows.{reserved_name, use_faults, bad_root, root_faults, is_printable};
 ghost use Rattle.fb_declare.specs.FaultRows.{is_identifier, identifier_faults};
 ghost use Rattle.fb_declare.specs.TypeFaults.{declaration_faults, type_faults, faults_of_types};
@@ -17,70 +15,58 @@ use crate::field_types::use_fault;
 use crate::struct_faults::struct_fault;
 use crate::table_faults::table_fault;
 use crate::union_faults::union_fault;
-use fb_meaning::{Meaning, RootRead, TypeRead, TypesRead, align_of_read, is_reserved, is_table};
-use fb_syntax::{Declaration, Text};
+use fb_meaning::{
+    Meaning, RootRead, TypeRead, TypesRead, align_of_read, is_reserved, is_table, word_of,
+};
+use fb_syntax::{Text, TypeDecl};
 use std::alloc::{AllocError, Global};
 
 /// A type whose name is that of a basic or float type.
-fn reserved_name(name: &str, at: u64) -> Option<SchemaFault>
-    ensures { result ≡ least_of (reserved_name (record { bytes = name.now; at = at })) }
+fn reserved_name(name: &Text<'_>) -> Option<SchemaFault>
+    ensures { result ≡ least_of (reserved_name name.now) }
 {
-    when(is_reserved(name), SchemaFault::DuplicateName(at))
-}
-
-fn reserved_word(declaration: &Declaration) -> Option<SchemaFault>
-    ensures { result ≡ least_of (reserved_name (word_of declaration.now)) }
-{
-    match declaration {
-        Declaration::Table(read) | Declaration::Struct(read) => {
-            reserved_name(read.name.text.as_str(), read.name.at)
-        }
-        Declaration::Enum(read) => reserved_name(read.name.text.as_str(), read.name.at),
-        Declaration::Union(read) => reserved_name(read.name.text.as_str(), read.name.at),
-        _ => reserved_name("", 0),
-    }
+    when(is_reserved(name.text), SchemaFault::DuplicateName(name.at))
 }
 
 #[tactic(auto, unfolding(crate::specs::Faults::least_of))]
 fn declaration_fault(
-    types: TypesRead<'_, '_, '_>,
+    types: TypesRead<'_, '_, '_, '_>,
     alloc: Global,
     declared: DeclaredNames<'_, '_>,
     lower: &[u16],
     scope: Option<&str>,
-    declaration: &Declaration,
+    declaration: &TypeDecl<'_>,
 ) -> Result<Option<SchemaFault>, AllocError>
     ensures { IfOk result (λ f. f ≡ least_of (declaration_faults types.entry.types.now
         (names_declared declared.entry) lower.now (option_copied scope.entry) declaration.now)) }
 {
     match declaration {
-        Declaration::Table(read) => table_fault(types, alloc, declared, scope, read),
-        Declaration::Struct(read) => struct_fault(types, alloc, declared, scope, lower, read),
-        Declaration::Enum(read) => enum_fault(types, alloc, declared, scope, read),
-        Declaration::Union(read) => union_fault(types, alloc, declared, scope, read),
-        _ => Ok(None),
+        TypeDecl::Table(read) => table_fault(types, alloc, declared, scope, read),
+        TypeDecl::Struct(read) => struct_fault(types, alloc, declared, scope, lower, read),
+        TypeDecl::Enum(read) => enum_fault(types, alloc, declared, scope, read),
+        TypeDecl::Union(read) => union_fault(types, alloc, declared, scope, read),
     }
 }
 
 #[tactic(auto, using(crate::proofs::Least::least_of_append), unfolding(crate::specs::TypeFaults::type_faults))]
 fn type_fault(
-    types: TypesRead<'_, '_, '_>,
+    types: TypesRead<'_, '_, '_, '_>,
     alloc: Global,
     declared: DeclaredNames<'_, '_>,
     lower: &[u16],
-    read: &TypeRead<'_>,
+    read: &TypeRead<'_, '_>,
 ) -> Result<Option<SchemaFault>, AllocError>
     ensures { IfOk result (λ f. f ≡ least_of
         (type_faults types.entry.types.now (names_declared declared.entry) lower.now read.now)) }
 {
-    let reserved = reserved_word(read.declaration);
+    let reserved = reserved_name(word_of(read.declaration));
     let fault = declaration_fault(types, alloc, declared, lower, read.scope, read.declaration)?;
     Ok(earlier(reserved, fault))
 }
 
 /// The least fault of the types. The only error is a refused allocation.
 pub(crate) fn types_fault(
-    types: TypesRead<'_, '_, '_>,
+    types: TypesRead<'_, '_, '_, '_>,
     alloc: Global,
     declared: DeclaredNames<'_, '_>,
 ) -> Result<Option<SchemaFault>, AllocError>
@@ -109,9 +95,9 @@ fn root_use_fault(meaning: Meaning, at: u64) -> Option<SchemaFault>
 /// The least fault of the root.
 #[tactic(auto, unfolding(crate::specs::FaultRows::root_faults, crate::specs::Faults::least_of))]
 pub(crate) fn root_fault(
-    types: TypesRead<'_, '_, '_>,
+    types: TypesRead<'_, '_, '_, '_>,
     text_len: u64,
-    root: Option<&RootRead<'_>>,
+    root: Option<&RootRead<'_, '_>>,
 ) -> Option<SchemaFault>
     ensures { result
         ≡ least_of (root_faults types.entry.types.now text_len (option_copied root.entry)) }
@@ -120,8 +106,8 @@ pub(crate) fn root_fault(
         return Some(SchemaFault::BadRoot(text_len));
     };
     let name = root.name;
-    let meaning = types.meaning(root.scope, name.text.as_str());
-    root_use_fault(meaning, name.at)
+    let meaning = types.meaning(root.scope, name.as_str());
+    root_use_fault(meaning, name.at())
 }
 
 fn is_printable(byte: u8) -> bool
@@ -144,7 +130,7 @@ fn is_identifier(text: &[u8]) -> bool
 
 /// A file identifier that isn't four printable bytes.
 #[tactic(auto, unfolding(crate::specs::FaultRows::identifier_faults, crate::specs::Faults::least_of))]
-pub(crate) fn identifier_fault(identifier: Option<&Text>) -> Option<SchemaFault>
+pub(crate) fn identifier_fault(identifier: Option<&Text<'_>>) -> Option<SchemaFault>
     ensures { result ≡ least_of (identifier_faults (option_copied identifier.entry)) }
 {
     let text = identifier?;

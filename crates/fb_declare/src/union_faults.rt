@@ -13,11 +13,11 @@ use crate::declared_names::DeclaredNames;
 use crate::faults::{SchemaFault, earlier};
 use crate::member_faults::member_fault;
 use crate::names_again::names_again;
-use fb_meaning::{TypesRead, member_name};
-use fb_syntax::{Text, UnionDeclaration, UnionMember};
+use fb_meaning::{LocatedName, TypesRead, member_name};
+use fb_syntax::{UnionDecl, UnionMember};
 use std::alloc::{AllocError, Global};
 
-fn member_names(alloc: Global, members: &[UnionMember]) -> Result<Vec<Text>, AllocError>
+fn member_names(alloc: Global, members: &[UnionMember<'_>]) -> Result<Vec<LocatedName>, AllocError>
     ensures { IfOk result (λ names. names.items ≡ map member_name members.now) }
 {
     let mut names = Vec::with_capacity(alloc, members.len())?;
@@ -28,26 +28,26 @@ fn member_names(alloc: Global, members: &[UnionMember]) -> Result<Vec<Text>, All
 }
 
 fn fault_of_member(
-    types: TypesRead<'_, '_, '_>,
+    types: TypesRead<'_, '_, '_, '_>,
     alloc: Global,
     scope: Option<&str>,
     before: usize,
-    member: &UnionMember,
+    member: &UnionMember<'_>,
 ) -> Result<Option<SchemaFault>, AllocError>
     ensures { IfOk result (λ f. f ≡ least_of (member_faults before (member_name member.now) member.now.table.at
         (meaning_of types.entry.types.now (option_copied scope.entry) member.now.table.bytes))) }
 {
     let name = member_name(alloc, member)?;
-    let meaning = types.meaning(scope, member.table.text.as_str());
-    Ok(member_fault(before, &name, member.table.at, meaning))
+    let meaning = types.meaning(scope, member.table.as_str());
+    Ok(member_fault(before, &name, member.table.at(), meaning))
 }
 
 #[tactic(auto, using(crate::proofs::Least::least_of_append), unfolding(crate::specs::TypeFaults::members_faults))]
 fn members_fault(
-    types: TypesRead<'_, '_, '_>,
+    types: TypesRead<'_, '_, '_, '_>,
     alloc: Global,
     scope: Option<&str>,
-    members: &[UnionMember],
+    members: &[UnionMember<'_>],
 ) -> Result<Option<SchemaFault>, AllocError>
     ensures { IfOk result (λ f. f ≡ least_of
         (members_faults types.entry.types.now (option_copied scope.entry) 0 members.now)) }
@@ -62,11 +62,11 @@ fn members_fault(
 /// The least fault of a union. The only error is a refused allocation.
 #[tactic(auto, using(crate::proofs::Least::least_of_append), unfolding(crate::specs::TypeFaults::union_faults))]
 pub(crate) fn union_fault(
-    types: TypesRead<'_, '_, '_>,
+    types: TypesRead<'_, '_, '_, '_>,
     alloc: Global,
     declared: DeclaredNames<'_, '_>,
     scope: Option<&str>,
-    read: &UnionDeclaration,
+    read: &UnionDecl<'_>,
 ) -> Result<Option<SchemaFault>, AllocError>
     ensures { IfOk result (λ f. f ≡ least_of (union_faults types.entry.types.now
         (names_declared declared.entry) (option_copied scope.entry) read.now)) }

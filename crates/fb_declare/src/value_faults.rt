@@ -45,7 +45,7 @@ pub(crate) fn bad_values(
     alloc: Global,
     base: Option<Base>,
     flags: bool,
-    values: &[EnumValue],
+    values: &[EnumValue<'_>],
 ) -> Result<Option<SchemaFault>, AllocError>
     ensures { IfOk result (λ f. f ≡ least_of (bad_values base flags [] (pos 0) values.now)) }
 {

@@ -2,8 +2,8 @@
 use Rattle.std.proofs.Common.{◌≡◌, ℕ, Bool, true, false, List, Option, None, Some, refl, if◌then◌else◌, slice_get}
 use Rattle.std.specs.Option.{option_and_then}
 use Rattle.fb_syntax.specs.TypesRead.{EnumRead}
-use Rattle.fb_syntax.specs.declared.declarations.Declaration.{Declaration}
-use Rattle.fb_syntax.specs.declared.declarations.Declaration.TheVariants as declarations
+use Rattle.fb_syntax.specs.declared.declarations.TypeDecl.{TypeDecl}
+use Rattle.fb_syntax.specs.declared.declarations.TypeDecl.TheVariants as decls
 use Rattle.fb_schema.specs.Schema.{Name}
 use Rattle.fb_schema.specs.declared.kinds.Base.{Base}
 use Rattle.fb_schema.specs.declared.kinds.Kind.TheVariants.{Scalar, Text}
@@ -15,12 +15,11 @@ use Rattle.fb_meaning.specs.BasicTypes.{basic_type, is_text_type, is_float_type}
 use Rattle.fb_meaning.specs.Meaning.{use_of, use_of_read, use_of_type, or_scalar, meaning_of}
 use Rattle.fb_meaning.specs.EnumsRead.{integer_type, underlying}
 
-no_declared : (t : ℕ) (d : Declaration) → integer_type (use_of t d) ≡ None
-no_declared t (declarations.Table d) = refl
-no_declared t (declarations.Struct d) = refl
-no_declared t (declarations.Enum d) = refl
-no_declared t (declarations.Union d) = refl
-no_declared t _ = refl
+no_declared : (t : ℕ) (d : TypeDecl) → integer_type (use_of t d) ≡ None
+no_declared t (decls.Table d) = refl
+no_declared t (decls.Struct d) = refl
+no_declared t (decls.Enum d) = refl
+no_declared t (decls.Union d) = refl
 
 no_read : (t : ℕ) (r : Option TypeRead) → integer_type (use_of_read t r) ≡ None
 no_read t None = refl

@@ -5,10 +5,8 @@ pub mod ValuesFrom
 pub mod Written
 pub mod Behind
 pub mod NumberNamed
-pub mod IdsBelow
 pub mod PlacesTaken
 pub mod InOrder
-pub mod IntegerFound
 pub mod IntegerAlone
 pub mod Numbers
 pub mod ReadingsOf

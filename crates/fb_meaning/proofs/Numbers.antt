@@ -4,8 +4,8 @@ use Rattle.std.proofs.lemmas.Bool.Decides.{nat_tests, eqb_tells}
 use Rattle.std.specs.Option.{option_or}
 use Rattle.std.specs.Str.{bytes_eq}
 use Rattle.fb_syntax.specs.TypesRead.{EnumRead}
-use Rattle.fb_syntax.specs.declared.declarations.Declaration.{Declaration}
-use Rattle.fb_syntax.specs.declared.declarations.Declaration.TheVariants as declarations
+use Rattle.fb_syntax.specs.declared.declarations.TypeDecl.{TypeDecl}
+use Rattle.fb_syntax.specs.declared.declarations.TypeDecl.TheVariants as decls
 use Rattle.fb_schema.specs.Schema.{Name}
 use Rattle.fb_meaning.specs.Outline.{TypeRead}
 use Rattle.fb_meaning.specs.EnumsRead.{values_in}
@@ -76,6 +76,6 @@ noted_all found t n past = by (nat_lt t n) (λ b. past (above t n b))
     by false none = sym (none refl)
 
 -- a type that is no enum has no values
-pub no_values : (types : List TypeRead) (scope : Option Name) (d : Declaration) → ((e : EnumRead) → d ≢ declarations.Enum e) → values_in types scope d ≡ []
-no_values types scope (declarations.Enum e) other = absurd (other e refl)
+pub no_values : (types : List TypeRead) (scope : Option Name) (d : TypeDecl) → ((e : EnumRead) → d ≢ decls.Enum e) → values_in types scope d ≡ []
+no_values types scope (decls.Enum e) other = absurd (other e refl)
 no_values types scope _ other = refl

@@ -4,18 +4,12 @@ use Rattle.std.specs.Prelude.{ℕ, ◌==◌, ◌&&◌, Bool, false, List, [], �
 use Rattle.std.specs.List.{list_any, find}
 use Rattle.std.specs.Option.{option_and_then}
 use Rattle.std.specs.Str.{bytes_eq}
-use Rattle.fb_syntax.specs.Located.{Located}
-use Rattle.fb_syntax.specs.Integers.{is_integer, magnitude, signed_value, greatest_magnitude}
-use Rattle.fb_syntax.specs.declared.declarations.AttributeUse.{AttributeUse}
+use Rattle.fb_syntax.specs.declared.declarations.Attribute.{Attribute}
 use Rattle.fb_syntax.specs.declared.declarations.AttributeValue.{AttributeValue}
 use Rattle.fb_syntax.specs.declared.declarations.AttributeValue.TheVariants.{Integer}
 use Rattle.fb_schema.specs.Schema.{Name}
 use Rattle.fb_meaning.specs.declared.attributes.Known.{Known}
 use Rattle.fb_meaning.specs.declared.attributes.Known.TheVariants.{Id, Required, Deprecated, ForceAlign, BitFlags, OriginalOrder}
-
--- the value of an integer of the text; what is no integer counts as 0
-unfoldable pub integer_of : Located → ℤ
-integer_of t = if is_integer t.bytes && nat_le (magnitude t.bytes) greatest_magnitude then signed_value t.bytes else pos 0
 
 abbrev pub spelling : Known → Name
 spelling Id = codes "id"
@@ -40,16 +34,16 @@ is_alignment least (pos n) = list_any (λ a. a == n) (1 ∷ 2 ∷ 4 ∷ 8 ∷ 16
 is_alignment least (negsuc n) = false
 
 -- the first attribute of a name
-abbrev pub attribute_called : Known → List AttributeUse → Option AttributeUse
+abbrev pub attribute_called : Known → List Attribute → Option Attribute
 attribute_called k attributes = find (λ a. bytes_eq a.name.bytes (spelling k)) attributes
 
-abbrev pub has_attribute : Known → List AttributeUse → Bool
+abbrev pub has_attribute : Known → List Attribute → Bool
 has_attribute k attributes = list_any (λ a. bytes_eq a.name.bytes (spelling k)) attributes
 
 abbrev pub integer_value_in : Option AttributeValue → Option ℤ
-integer_value_in (Some (Integer n)) = Some (integer_of n)
+integer_value_in (Some (Integer n)) = Some n.value
 integer_value_in _ = None
 
 -- the integer that the first attribute of a name has
-unfoldable pub number_called : Known → List AttributeUse → Option ℤ
+unfoldable pub number_called : Known → List Attribute → Option ℤ
 number_called k attributes = option_and_then (λ a. integer_value_in a.value) (attribute_called k attributes)

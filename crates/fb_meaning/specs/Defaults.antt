@@ -11,7 +11,6 @@ use Rattle.fb_schema.specs.Schema.{Name}
 use Rattle.fb_meaning.specs.Outline.{TypeRead}
 use Rattle.fb_schema.specs.Ranges.{holds}
 use Rattle.fb_meaning.specs.Meaning.{meaning_in}
-use Rattle.fb_meaning.specs.Attributes.{integer_of}
 use Rattle.fb_meaning.specs.EnumsRead.{underlying_at, value_at}
 use Rattle.fb_schema.specs.declared.kinds.Base.{Base}
 use Rattle.fb_schema.specs.declared.kinds.Base.TheVariants.{Bool as Boolean}
@@ -50,9 +49,9 @@ enum_named None name = null_or_wrong name
 
 -- what a default gives to one value; where the type is at fault, nothing is said of the default
 unfoldable pub given_to : List TypeRead → Meaning → DefaultValue → Given
-given_to types (Known (Scalar base)) (Integer t) = number_within base (integer_of t)
+given_to types (Known (Scalar base)) (Integer t) = number_within base t.value
 given_to types (Known (Scalar base)) (Named t) = scalar_named base t.bytes
-given_to types (Known (Enum e)) (Integer t) = enum_number (underlying_at types e.0) (integer_of t)
+given_to types (Known (Enum e)) (Integer t) = enum_number (underlying_at types e.0) t.value
 given_to types (Known (Enum e)) (Named t) = enum_named (value_at types e.0 t.bytes) t.bytes
 given_to types (Known _) _ = Wrong
 given_to types Float _ = Number (pos 0)

@@ -8,14 +8,14 @@ use Rattle.std.specs.Str.{bytes_eq}
 use Rattle.fb_syntax.specs.Signs.{dot}
 use Rattle.fb_syntax.specs.TypesRead.{EnumRead}
 use Rattle.fb_syntax.specs.declared.declarations.EnumValue.{EnumValue}
-use Rattle.fb_syntax.specs.declared.declarations.Declaration.{Declaration}
-use Rattle.fb_syntax.specs.declared.declarations.Declaration.TheVariants as declarations
+use Rattle.fb_syntax.specs.declared.declarations.TypeDecl.{TypeDecl}
+use Rattle.fb_syntax.specs.declared.declarations.TypeDecl.TheVariants as decls
 use Rattle.fb_schema.specs.Schema.{Name}
 use Rattle.fb_schema.specs.Alignments.{base_size}
 use Rattle.fb_meaning.specs.Outline.{TypeRead, full_name}
 use Rattle.fb_schema.specs.Ranges.{holds}
 use Rattle.fb_meaning.specs.Meaning.{meaning_of}
-use Rattle.fb_meaning.specs.Attributes.{integer_of, has_attribute}
+use Rattle.fb_meaning.specs.Attributes.{has_attribute}
 use Rattle.fb_schema.specs.declared.kinds.Base.{Base}
 use Rattle.fb_schema.specs.declared.kinds.Base.TheVariants.{Bool as Boolean, U8}
 use Rattle.fb_schema.specs.declared.kinds.Kind.TheVariants.{Scalar}
@@ -33,8 +33,8 @@ integer_type _ = None
 abbrev pub underlying : List TypeRead → Option Name → EnumRead → Option Base
 underlying types scope e = integer_type (meaning_of types scope e.underlying.bytes)
 
-abbrev pub underlying_in : List TypeRead → Option Name → Declaration → Option Base
-underlying_in types scope (declarations.Enum e) = underlying types scope e
+abbrev pub underlying_in : List TypeRead → Option Name → TypeDecl → Option Base
+underlying_in types scope (decls.Enum e) = underlying types scope e
 underlying_in types scope _ = None
 
 abbrev pub underlying_of_read : List TypeRead → Option TypeRead → Option Base
@@ -50,7 +50,7 @@ has_flags e = has_attribute BitFlags e.attributes
 
 -- the number that is written for a value, or else the next one
 abbrev pub written_number : ℤ → EnumValue → ℤ
-written_number next v = option_map_or integer_of v.number next
+written_number next v = option_map_or (λ n. n.value) v.number next
 
 -- The first value is 0 where no number is written, a later one the one before plus one.
 abbrev pub written_numbers : ℤ → List EnumValue → List ℤ
@@ -91,8 +91,8 @@ values_from base flags next (v ∷ vs) = let n = written_number next v in
 abbrev pub values_read : List TypeRead → Option Name → EnumRead → List (Name × ℤ)
 values_read types scope e = values_from (base_or_ubyte (underlying types scope e)) (has_flags e) (pos 0) e.values
 
-abbrev pub values_in : List TypeRead → Option Name → Declaration → List (Name × ℤ)
-values_in types scope (declarations.Enum e) = values_read types scope e
+abbrev pub values_in : List TypeRead → Option Name → TypeDecl → List (Name × ℤ)
+values_in types scope (decls.Enum e) = values_read types scope e
 values_in types scope _ = []
 
 abbrev pub values_of_read : List TypeRead → Option TypeRead → List (Name × ℤ)
@@ -121,8 +121,8 @@ value_named scope e values name = option_or (number_named values name)
     (option_or (option_and_then (number_named values) (behind e.name.bytes name))
     (option_and_then (number_named values) (behind (full_name scope e.name.bytes) name)))
 
-abbrev pub value_in : List TypeRead → Option Name → Declaration → Name → Option ℤ
-value_in types scope (declarations.Enum e) name = value_named scope e (values_read types scope e) name
+abbrev pub value_in : List TypeRead → Option Name → TypeDecl → Name → Option ℤ
+value_in types scope (decls.Enum e) name = value_named scope e (values_read types scope e) name
 value_in types scope _ name = None
 
 abbrev pub value_of_read : List TypeRead → Option TypeRead → Name → Option ℤ

@@ -4,8 +4,8 @@ use Rattle.std.specs.Prelude.{ℕ, List, Option, None, Some, slice_get, if◌the
 use Rattle.fb_syntax.specs.Located.{Located}
 use Rattle.fb_syntax.specs.declared.declarations.FieldType.{FieldType}
 use Rattle.fb_syntax.specs.declared.declarations.FieldType.TheVariants.{One, Many}
-use Rattle.fb_syntax.specs.declared.declarations.Declaration.{Declaration}
-use Rattle.fb_syntax.specs.declared.declarations.Declaration.TheVariants as declarations
+use Rattle.fb_syntax.specs.declared.declarations.TypeDecl.{TypeDecl}
+use Rattle.fb_syntax.specs.declared.declarations.TypeDecl.TheVariants as decls
 use Rattle.fb_schema.specs.Schema.{Name}
 use Rattle.fb_meaning.specs.Outline.{TypeRead}
 use Rattle.fb_meaning.specs.Scopes.{type_meant}
@@ -16,12 +16,11 @@ use Rattle.fb_meaning.specs.declared.meanings.Meaning.{Meaning}
 use Rattle.fb_meaning.specs.declared.meanings.Meaning.TheVariants.{Known, Float, Unknown}
 
 -- a use of the type of a number
-abbrev pub use_of : ℕ → Declaration → Meaning
-use_of t (declarations.Table d) = Known (Table (record { 0 = t }))
-use_of t (declarations.Struct d) = Known (Struct (record { 0 = t }))
-use_of t (declarations.Enum d) = Known (Enum (record { 0 = t }))
-use_of t (declarations.Union d) = Known (Union (record { 0 = t }))
-use_of t _ = Unknown
+abbrev pub use_of : ℕ → TypeDecl → Meaning
+use_of t (decls.Table d) = Known (Table (record { 0 = t }))
+use_of t (decls.Struct d) = Known (Struct (record { 0 = t }))
+use_of t (decls.Enum d) = Known (Enum (record { 0 = t }))
+use_of t (decls.Union d) = Known (Union (record { 0 = t }))
 
 abbrev pub use_of_read : ℕ → Option TypeRead → Meaning
 use_of_read t None = Unknown

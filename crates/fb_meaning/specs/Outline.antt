@@ -5,14 +5,17 @@ use Rattle.std.specs.Option.{option_map, option_or}
 use Rattle.fb_syntax.specs.Located.{Located}
 use Rattle.fb_syntax.specs.Signs.{dot}
 use Rattle.fb_syntax.specs.DeclsRead.{DeclsRead}
+use Rattle.fb_syntax.specs.declared.declarations.TypeDecl.{TypeDecl}
+use Rattle.fb_syntax.specs.declared.declarations.TypeDecl.TheVariants.{Table, Struct, Enum, Union}
+use Rattle.fb_syntax.specs.declared.declarations.Directive.TheVariants.{RootType, FileIdentifier}
 use Rattle.fb_syntax.specs.declared.declarations.Declaration.{Declaration}
-use Rattle.fb_syntax.specs.declared.declarations.Declaration.TheVariants.{Namespace, Attribute, Table, Struct, Enum, Union, Root, Extension, Identifier}
+use Rattle.fb_syntax.specs.declared.declarations.Declaration.TheVariants as declarations
 use Rattle.fb_schema.specs.Schema.{Name}
 
 -- a table, struct, enum or union, and the namespace in force
 pub record TypeRead : Type 0 where
   pub scope : Option Name
-  pub declaration : Declaration
+  pub declaration : TypeDecl
 
 -- the name of the root's type, and the namespace in force
 pub record RootRead : Type 0 where
@@ -25,33 +28,27 @@ scope_named n = option_map (λ t. t.bytes) n
 -- the types, with the namespace that is in force at first
 abbrev pub types_in : Option Name → List Declaration → List TypeRead
 types_in scope [] = []
-types_in scope (Namespace n ∷ ds) = types_in (scope_named n) ds
-types_in scope (Table t ∷ ds) = record { scope = scope; declaration = Table t } ∷ types_in scope ds
-types_in scope (Struct t ∷ ds) = record { scope = scope; declaration = Struct t } ∷ types_in scope ds
-types_in scope (Enum e ∷ ds) = record { scope = scope; declaration = Enum e } ∷ types_in scope ds
-types_in scope (Union u ∷ ds) = record { scope = scope; declaration = Union u } ∷ types_in scope ds
-types_in scope (Attribute a ∷ ds) = types_in scope ds
-types_in scope (Root r ∷ ds) = types_in scope ds
-types_in scope (Extension e ∷ ds) = types_in scope ds
-types_in scope (Identifier i ∷ ds) = types_in scope ds
+types_in scope (declarations.Namespace n ∷ ds) = types_in (scope_named n) ds
+types_in scope (declarations.Type t ∷ ds) = record { scope = scope; declaration = t } ∷ types_in scope ds
+types_in scope (_ ∷ ds) = types_in scope ds
 
 -- the attributes that the text declares
 abbrev pub attributes_in : List Declaration → List Name
 attributes_in [] = []
-attributes_in (Attribute a ∷ ds) = a.bytes ∷ attributes_in ds
+attributes_in (declarations.Attribute a ∷ ds) = a.bytes ∷ attributes_in ds
 attributes_in (_ ∷ ds) = attributes_in ds
 
 -- the last root
 abbrev pub root_in : Option Name → List Declaration → Option RootRead
 root_in scope [] = None
-root_in scope (Namespace n ∷ ds) = root_in (scope_named n) ds
-root_in scope (Root r ∷ ds) = option_or (root_in scope ds) (Some (record { scope = scope; name = r }))
+root_in scope (declarations.Namespace n ∷ ds) = root_in (scope_named n) ds
+root_in scope (declarations.Directive (RootType r) ∷ ds) = option_or (root_in scope ds) (Some (record { scope = scope; name = r }))
 root_in scope (_ ∷ ds) = root_in scope ds
 
 -- the last file identifier
 abbrev pub identifier_in : List Declaration → Option Located
 identifier_in [] = None
-identifier_in (Identifier i ∷ ds) = option_or (identifier_in ds) (Some i)
+identifier_in (declarations.Directive (FileIdentifier i) ∷ ds) = option_or (identifier_in ds) (Some i)
 identifier_in (_ ∷ ds) = identifier_in ds
 
 pub record Outline : Type 0 where
@@ -71,12 +68,11 @@ outline_of d = record {
 }
 
 -- a type's name as it is declared
-abbrev pub word_of : Declaration → Located
+abbrev pub word_of : TypeDecl → Located
 word_of (Table t) = t.name
 word_of (Struct t) = t.name
 word_of (Enum e) = e.name
 word_of (Union u) = u.name
-word_of _ = record { bytes = []; at = 0 }
 
 -- a name inside a namespace
 abbrev pub inside : Name → Name → Name

@@ -6,9 +6,9 @@ use Rattle.fb_syntax.specs.FieldRead.{FieldRead}
 use Rattle.fb_syntax.specs.TypesRead.{TableRead}
 use Rattle.fb_syntax.specs.declared.declarations.FieldType.{FieldType}
 use Rattle.fb_syntax.specs.declared.declarations.FieldType.TheVariants.{One}
-use Rattle.fb_syntax.specs.declared.declarations.AttributeUse.{AttributeUse}
-use Rattle.fb_syntax.specs.declared.declarations.Declaration.{Declaration}
-use Rattle.fb_syntax.specs.declared.declarations.Declaration.TheVariants as declarations
+use Rattle.fb_syntax.specs.declared.declarations.Attribute.{Attribute}
+use Rattle.fb_syntax.specs.declared.declarations.TypeDecl.{TypeDecl}
+use Rattle.fb_syntax.specs.declared.declarations.TypeDecl.TheVariants as decls
 use Rattle.fb_schema.specs.Schema.{Name, DeclaredField}
 use Rattle.fb_schema.specs.Alignments.{base_size, greatest_in}
 use Rattle.fb_meaning.specs.Outline.{TypeRead}
@@ -40,7 +40,7 @@ alignment_in least (pos n) = if is_alignment least (pos n) then Some n else None
 alignment_in least (negsuc n) = None
 
 -- the alignment that `force_align` names, if that is a right one
-unfoldable pub forced_align : ℕ → List AttributeUse → Option ℕ
+unfoldable pub forced_align : ℕ → List Attribute → Option ℕ
 forced_align least attributes = option_and_then (alignment_in least) (number_called ForceAlign attributes)
 
 -- the alignment of a struct with these types before it
@@ -48,8 +48,8 @@ abbrev pub align_of_struct : List TypeRead → Option Name → List ℕ → Tabl
 align_of_struct types scope lower s = let natural = natural_align types scope lower s.fields in
     unwrap_or (forced_align natural s.attributes) natural
 
-abbrev pub align_of_declaration : List TypeRead → Option Name → List ℕ → Declaration → ℕ
-align_of_declaration types scope lower (declarations.Struct s) = align_of_struct types scope lower s
+abbrev pub align_of_declaration : List TypeRead → Option Name → List ℕ → TypeDecl → ℕ
+align_of_declaration types scope lower (decls.Struct s) = align_of_struct types scope lower s
 align_of_declaration types scope lower _ = 0
 
 -- the alignment of a type, 0 of what is no struct

@@ -1,10 +1,12 @@
 //! Attributes that need no declaration, and the integers that they have.
-ghost use Rattle.std.specs.Prelude.{◌≡◌};
+ghost use Rattle.std.specs.Prelude.{◌≡◌, ◌≤◌, IfSome};
+ghost use Rattle.std.specs.Int.RustNames.{unsigned_abs};
+ghost use Rattle.fb_syntax.specs.Integers.{greatest_magnitude};
 ghost use Rattle.std.specs.Option.{option_copied};
-ghost use Rattle.fb_meaning.specs.Attributes.{spelling, known_attribute, integer_of, is_alignment, has_attribute};
+ghost use Rattle.fb_meaning.specs.Attributes.{spelling, known_attribute, is_alignment, has_attribute};
 ghost use Rattle.fb_meaning.specs.Attributes.{attribute_called, number_called};
 
-use fb_syntax::{AttributeUse, AttributeValue, Text, integer_value};
+use fb_syntax::{Attribute, AttributeValue};
 
 /// The attributes that need no declaration.
 #[derive(Clone, Copy, Debug, PartialEq, Eq, Drop)]
@@ -48,13 +50,6 @@ pub fn known_attribute(name: &str) -> Option<Known>
     }
 }
 
-/// The value of an integer of the text; what is no integer counts as 0.
-pub fn integer_of(text: &Text) -> i128
-    ensures { result ≡ integer_of text.now }
-{
-    integer_value(text.text.as_str()).unwrap_or(0)
-}
-
 /// Whether a number is a power of two from the least alignment to 256.
 pub fn is_alignment(least: u16, number: i128) -> bool
     ensures { result ≡ is_alignment least number }
@@ -68,26 +63,34 @@ pub fn is_alignment(least: u16, number: i128) -> bool
 }
 
 /// Whether one of the attributes is this known one.
-pub(crate) fn has_attribute(known: Known, attributes: &[AttributeUse]) -> bool
+pub(crate) fn has_attribute(known: Known, attributes: &[Attribute<'_>]) -> bool
     ensures { result ≡ has_attribute known attributes.now }
 {
-    attributes.iter().any(|attribute| attribute.name.text.as_str() == known.spelling())
+    attributes
+        .iter()
+        .any(|attribute| attribute.name.text == known.spelling())
 }
 
-fn attribute_called(known: Known, attributes: &[AttributeUse]) -> Option<&AttributeUse>
+fn attribute_called<'a, 's>(
+    known: Known,
+    attributes: &'a [Attribute<'s>],
+) -> Option<&'a Attribute<'s>>
     ensures { option_copied result ≡ attribute_called known attributes.now }
 {
-    attributes.iter().find(|attribute| attribute.name.text.as_str() == known.spelling())
+    attributes
+        .iter()
+        .find(|attribute| attribute.name.text == known.spelling())
 }
 
 /// The integer that the first attribute of a name has.
 #[tactic(auto, unfolding(crate::specs::Attributes::number_called))]
-pub(crate) fn number_called(known: Known, attributes: &[AttributeUse]) -> Option<i128>
-    ensures { result ≡ number_called known attributes.now }
+pub(crate) fn number_called(known: Known, attributes: &[Attribute<'_>]) -> Option<i128>
+    ensures number { result ≡ number_called known attributes.now }
+    ensures small { IfSome result (λ n. unsigned_abs n ≤ greatest_magnitude) }
 {
     let called = attribute_called(known, attributes)?;
     match &called.value {
-        Some(AttributeValue::Integer(number)) => Some(integer_of(number)),
+        Some(AttributeValue::Integer(number)) => Some(number.value()),
         _ => None,
     }
 }

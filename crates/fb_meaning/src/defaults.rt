@@ -4,7 +4,6 @@ ghost use Rattle.std.specs.Option.{option_copied};
 ghost use Rattle.fb_meaning.specs.Defaults.{number_within, null_or_wrong, boolean_named, scalar_named, enum_number};
 ghost use Rattle.fb_meaning.specs.Defaults.{enum_named, given_to, given_by};
 
-use crate::attributes::integer_of;
 use crate::enums::underlying_at;
 use crate::meanings::Meaning;
 use crate::types_read::TypesRead;
@@ -80,24 +79,24 @@ fn enum_named(number: Option<i128>, name: &str) -> Given
 /// What a default gives to one value of a type.
 #[tactic(auto, unfolding(crate::specs::Defaults::given_to))]
 pub(crate) fn given_to(
-    types: TypesRead<'_, '_, '_>,
+    types: TypesRead<'_, '_, '_, '_>,
     meaning: Meaning,
-    default: &DefaultValue,
+    default: &DefaultValue<'_>,
 ) -> Given
     ensures { result ≡ given_to types.entry.types.now meaning default.now }
 {
     match (meaning, default) {
         (Meaning::Known(Kind::Scalar(base)), DefaultValue::Integer(number)) => {
-            number_within(base, integer_of(number))
+            number_within(base, number.value())
         }
         (Meaning::Known(Kind::Scalar(base)), DefaultValue::Name(name)) => {
-            scalar_named(base, name.text.as_str())
+            scalar_named(base, name.as_str())
         }
         (Meaning::Known(Kind::Enum(id)), DefaultValue::Integer(number)) => {
-            enum_number(underlying_at(types, id.0 as usize), integer_of(number))
+            enum_number(underlying_at(types, id.0 as usize), number.value())
         }
         (Meaning::Known(Kind::Enum(id)), DefaultValue::Name(name)) => {
-            let name = name.text.as_str();
+            let name = name.as_str();
             enum_named(value_at(types, id.0 as usize, name), name)
         }
         (Meaning::Known(_), _) => Given::Wrong,
@@ -107,10 +106,10 @@ pub(crate) fn given_to(
 
 /// What a table's field of a type is given.
 pub fn given_by(
-    types: TypesRead<'_, '_, '_>,
-    kind: &FieldType,
+    types: TypesRead<'_, '_, '_, '_>,
+    kind: &FieldType<'_>,
     meaning: Meaning,
-    default: Option<&DefaultValue>,
+    default: Option<&DefaultValue<'_>>,
 ) -> Given
     ensures { result
         ≡ given_by types.entry.types.now kind.now meaning (option_copied default.entry) }

@@ -1,6 +1,8 @@
 //! The slots that the ids of fields name.
-ghost use Rattle.std.specs.Prelude.{◌≡◌, ◌<◌, ◌-◌, ◌++◌, ◌^◌, [], ◌∷◌, IfOk, IfSome};
-ghost use Rattle.std.specs.Prelude.{IsSome, map, true, false, pos, ◌<ℤ◌};
+ghost use Rattle.std.specs.Prelude.{◌≡◌, ◌<◌, ◌≤◌, ◌-◌, ◌++◌, ◌^◌, [], ◌∷◌, IfOk, IfSome};
+ghost use Rattle.std.specs.Prelude.{IsSome, map, true, false};
+ghost use Rattle.std.specs.Int.RustNames.{unsigned_abs};
+ghost use Rattle.fb_syntax.specs.Integers.{greatest_magnitude};
 ghost use Rattle.std.specs.Option.{option_copied, is_some, ForSome};
 ghost use Rattle.fb_meaning.specs.SlotsRead.{union_in, first_slot, slot_by_id, numbers_by_id, have_ids};
 ghost use Rattle.fb_meaning.specs.SlotsRead.{have_all_ids, are_places, are_ids_wrong, slots_by_id, slots_read};
@@ -14,7 +16,11 @@ use fb_schema::{FieldInfo, TypeId};
 use fb_syntax::Field;
 use std::alloc::{AllocError, Global};
 
-fn union_in(types: TypesRead<'_, '_, '_>, scope: Option<&str>, field: &Field) -> Option<TypeId>
+fn union_in(
+    types: TypesRead<'_, '_, '_, '_>,
+    scope: Option<&str>,
+    field: &Field<'_>,
+) -> Option<TypeId>
     ensures { result
         ≡ union_in types.entry.types.now (option_copied scope.entry) field.now }
 {
@@ -24,7 +30,7 @@ fn union_in(types: TypesRead<'_, '_, '_>, scope: Option<&str>, field: &Field) ->
 
 /// The first slot of a field by its id, which is that of its value.
 fn first_slot(union: Option<TypeId>, id: Option<i128>) -> Option<u64>
-    requires { ForSome id (λ n. n <ℤ pos (2 ^ 64)) }
+    requires { ForSome id (λ n. unsigned_abs n ≤ greatest_magnitude) }
     ensures slot { result ≡ first_slot union id }
     ensures room { IsSome union → IfSome result (λ s. s < 2 ^ 64 - 1) }
 {
@@ -36,8 +42,12 @@ fn first_slot(union: Option<TypeId>, id: Option<i128>) -> Option<u64>
 }
 
 /// The first slot of a field by its id.
-#[tactic(auto, using(crate::proofs::IdsBelow::number_called_below), unfolding(crate::specs::SlotsRead::slot_by_id))]
-fn slot_by_id(types: TypesRead<'_, '_, '_>, scope: Option<&str>, field: &Field) -> Option<u64>
+#[tactic(auto, unfolding(crate::specs::SlotsRead::slot_by_id))]
+fn slot_by_id(
+    types: TypesRead<'_, '_, '_, '_>,
+    scope: Option<&str>,
+    field: &Field<'_>,
+) -> Option<u64>
     ensures slot { result
         ≡ slot_by_id types.entry.types.now (option_copied scope.entry) field.now }
     ensures room { IsSome (union_in types.entry.types.now (option_copied scope.entry) field.now)
@@ -51,9 +61,9 @@ fn slot_by_id(types: TypesRead<'_, '_, '_>, scope: Option<&str>, field: &Field) 
 /// Adds the numbers of the slots that a field takes by its id; says whether it has one.
 #[tactic(auto, unfolding(crate::specs::SlotsRead::slots_of_field))]
 fn push_numbers(
-    types: TypesRead<'_, '_, '_>,
+    types: TypesRead<'_, '_, '_, '_>,
     scope: Option<&str>,
-    field: &Field,
+    field: &Field<'_>,
     numbers: &mut Vec<u64>,
 ) -> Result<bool, AllocError>
     ensures named { IfOk result (λ b. b ≡ is_some
@@ -73,10 +83,10 @@ fn push_numbers(
 
 /// The numbers of the slots that fields take by their ids, if each has one.
 fn numbers_by_id(
-    types: TypesRead<'_, '_, '_>,
+    types: TypesRead<'_, '_, '_, '_>,
     alloc: Global,
     scope: Option<&str>,
-    fields: &[Field],
+    fields: &[Field<'_>],
 ) -> Result<Option<Vec<u64>>, AllocError>
     ensures named { IfOk result (λ o. is_some o
         ≡ have_all_ids types.entry.types.now (option_copied scope.entry) fields.now) }
@@ -107,7 +117,7 @@ fn are_places(alloc: Global, numbers: &[u64]) -> Result<bool, AllocError>
     Ok(true)
 }
 
-fn have_ids(fields: &[Field]) -> bool
+fn have_ids(fields: &[Field<'_>]) -> bool
     ensures { result ≡ have_ids fields.now }
 {
     fields.iter().any(|field| has_attribute(Known::Id, field.attributes.as_slice()))
@@ -117,10 +127,10 @@ fn have_ids(fields: &[Field]) -> bool
 /// allocation.
 #[tactic(auto, unfolding(crate::specs::SlotsRead::are_ids_wrong))]
 pub fn are_ids_wrong(
-    types: TypesRead<'_, '_, '_>,
+    types: TypesRead<'_, '_, '_, '_>,
     alloc: Global,
     scope: Option<&str>,
-    fields: &[Field],
+    fields: &[Field<'_>],
 ) -> Result<bool, AllocError>
     ensures { IfOk result
         (λ w. w ≡ are_ids_wrong types.entry.types.now (option_copied scope.entry) fields.now) }
@@ -137,10 +147,10 @@ pub fn are_ids_wrong(
 /// The slots of fields by their ids, in the order of declaration; without an id a field takes
 /// those from 0 on.
 fn slots_by_id(
-    types: TypesRead<'_, '_, '_>,
+    types: TypesRead<'_, '_, '_, '_>,
     alloc: Global,
     scope: Option<&str>,
-    fields: &[Field],
+    fields: &[Field<'_>],
 ) -> Result<Vec<FieldInfo>, AllocError>
     ensures { IfOk result (λ v. map field_seen v.items
         ≡ slots_by_id types.entry.types.now (option_copied scope.entry) fields.now) }
@@ -155,10 +165,10 @@ fn slots_by_id(
 
 /// The slots of a table, each at the place of its number. The only error is a refused allocation.
 pub fn table_slots(
-    types: TypesRead<'_, '_, '_>,
+    types: TypesRead<'_, '_, '_, '_>,
     alloc: Global,
     scope: Option<&str>,
-    fields: &[Field],
+    fields: &[Field<'_>],
 ) -> Result<Vec<FieldInfo>, AllocError>
     requires { are_ids_wrong types.types.now (option_copied scope) fields.now ≡ false }
     ensures { IfOk result (λ v. AreInPlace

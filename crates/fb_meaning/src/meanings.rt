@@ -3,7 +3,7 @@ ghost use Rattle.std.specs.Prelude.{◌≡◌};
 ghost use Rattle.fb_meaning.specs.Meaning.{type_name};
 
 use fb_schema::Kind;
-use fb_syntax::{FieldType, Text};
+use fb_syntax::{DottedName, FieldType};
 
 /// A type of the language or of the text, a float type, which is left out, or nothing that is known.
 #[derive(Clone, Copy, Debug, PartialEq, Eq, Drop)]
@@ -14,7 +14,7 @@ pub enum Meaning {
 }
 
 /// The name in a field's type.
-pub fn type_name(kind: &FieldType) -> &Text
+pub fn type_name<'d, 's>(kind: &'d FieldType<'s>) -> &'d DottedName<'s>
     ensures { result.now ≡ type_name kind.now }
 {
     match kind {

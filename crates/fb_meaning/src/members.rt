@@ -3,9 +3,10 @@ ghost use Rattle.std.specs.Prelude.{◌≡◌, IfOk, is_some, string_bytes};
 ghost use Rattle.std.specs.Option.{option_map};
 ghost use Rattle.fb_meaning.specs.MembersRead.{with_underscores, member_name, table_of};
 
+use crate::located_names::LocatedName;
 use crate::meanings::Meaning;
 use fb_schema::{Kind, TypeId};
-use fb_syntax::{Text, UnionMember};
+use fb_syntax::UnionMember;
 use std::alloc::{AllocError, Global};
 
 /// The table of a use.
@@ -41,15 +42,15 @@ fn with_underscores(alloc: Global, name: &str) -> Result<String, AllocError>
 }
 
 /// The name of a member: its alias or that of its table. The only error is a refused allocation.
-pub fn member_name(alloc: Global, member: &UnionMember) -> Result<Text, AllocError>
+pub fn member_name(alloc: Global, member: &UnionMember<'_>) -> Result<LocatedName, AllocError>
     ensures { IfOk result (λ n. n ≡ member_name member.now) }
 {
     let (text, at) = match &member.alias {
-        Some(alias) => (String::from_str(alloc, alias.text.as_str())?, alias.at),
+        Some(alias) => (String::from_str(alloc, alias.text)?, alias.at),
         None => (
-            with_underscores(alloc, member.table.text.as_str())?,
-            member.table.at,
+            with_underscores(alloc, member.table.as_str())?,
+            member.table.at(),
         ),
     };
-    Ok(Text { text, at })
+    Ok(LocatedName { text, at })
 }

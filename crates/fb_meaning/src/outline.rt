@@ -2,18 +2,19 @@
 ghost use Rattle.std.specs.Prelude.{◌≡◌, IfOk, None, string_bytes};
 ghost use Rattle.fb_meaning.specs.Outline.{outline_of, scope_named, word_of, name_of_type, located_name};
 
-use fb_syntax::{Declaration, Decls, Text};
+use crate::located_names::LocatedName;
+use fb_syntax::{Declaration, Decls, Directive, DottedName, Text, TypeDecl};
 use std::alloc::{AllocError, Global};
 use std::marker::Model;
 
 /// A table, struct, enum or union, and the namespace in force.
 #[derive(Drop)]
-pub struct TypeRead<'d> {
+pub struct TypeRead<'d, 's> {
     pub scope: Option<&'d str>,
-    pub declaration: &'d Declaration,
+    pub declaration: &'d TypeDecl<'s>,
 }
 
-impl<'d> Model for TypeRead<'d> {
+impl<'d, 's> Model for TypeRead<'d, 's> {
     ghost use Rattle.std.specs.Option.{option_copied};
     ghost use Rattle.fb_meaning.specs.Outline.{TypeRead as Read};
 
@@ -24,12 +25,12 @@ impl<'d> Model for TypeRead<'d> {
 
 /// The name of the root's type, and the namespace in force.
 #[derive(Drop)]
-pub struct RootRead<'d> {
+pub struct RootRead<'d, 's> {
     pub scope: Option<&'d str>,
-    pub name: &'d Text,
+    pub name: &'d DottedName<'s>,
 }
 
-impl<'d> Model for RootRead<'d> {
+impl<'d, 's> Model for RootRead<'d, 's> {
     ghost use Rattle.std.specs.Option.{option_copied};
     ghost use Rattle.fb_meaning.specs.Outline.{RootRead as Read};
 
@@ -40,15 +41,15 @@ impl<'d> Model for RootRead<'d> {
 
 /// What a schema text declares, sorted by kind.
 #[derive(Drop)]
-pub struct Outline<'d> {
-    pub types: Vec<TypeRead<'d>>,
-    pub attributes: Vec<&'d str>,
-    pub root: Option<RootRead<'d>>,
-    pub identifier: Option<&'d Text>,
+pub struct Outline<'d, 's> {
+    pub types: Vec<TypeRead<'d, 's>>,
+    pub attributes: Vec<&'s str>,
+    pub root: Option<RootRead<'d, 's>>,
+    pub identifier: Option<&'d Text<'s>>,
     pub text_len: u64,
 }
 
-impl<'d> Model for Outline<'d> {
+impl<'d, 's> Model for Outline<'d, 's> {
     ghost use Rattle.std.specs.Prelude.{map};
     ghost use Rattle.std.specs.Option.{option_copied};
     ghost use Rattle.fb_meaning.specs.Outline.{Outline as Outlined};
@@ -64,9 +65,9 @@ impl<'d> Model for Outline<'d> {
     } };
 }
 
-impl<'d> Outline<'d> {
+impl<'d, 's> Outline<'d, 's> {
     /// What the text declares. The only error is a refused allocation.
-    pub fn of(alloc: Global, decls: &'d Decls) -> Result<Outline<'d>, AllocError>
+    pub fn of(alloc: Global, decls: &'d Decls<'s>) -> Result<Outline<'d, 's>, AllocError>
         ensures { IfOk result (λ o. o ≡ outline_of decls.now) }
     {
         let mut outline = Outline {
@@ -79,14 +80,18 @@ impl<'d> Outline<'d> {
         let mut scope = None;
         for declaration in decls.declarations() {
             match declaration {
-                Declaration::Namespace(name) => scope = name
-                    .as_ref()
-                    .map(|name| name.text.as_str()),
-                Declaration::Attribute(name) => outline.attributes.push(name.text.as_str())?,
-                Declaration::Root(name) => outline.root = Some(RootRead { scope, name }),
-                Declaration::Identifier(text) => outline.identifier = Some(text),
-                Declaration::Extension(_) => {}
-                _ => outline.types.push(TypeRead { scope, declaration })?,
+                Declaration::Namespace(name) => scope = name.as_ref().map(|name| name.as_str()),
+                Declaration::Type(declaration) => {
+                    outline.types.push(TypeRead { scope, declaration })?;
+                }
+                Declaration::Attribute(name) => outline.attributes.push(name.text)?,
+                Declaration::Directive(Directive::RootType(name)) => {
+                    outline.root = Some(RootRead { scope, name });
+                }
+                Declaration::Directive(Directive::FileIdentifier(text)) => {
+                    outline.identifier = Some(text);
+                }
+                Declaration::Directive(Directive::FileExtension(_)) => {}
             }
         }
         Ok(outline)
@@ -94,10 +99,10 @@ impl<'d> Outline<'d> {
 }
 
 /// The name of a type with its namespace. The only error is a refused allocation.
-pub fn name_of_type(alloc: Global, read: &TypeRead<'_>) -> Result<String, AllocError>
+pub fn name_of_type(alloc: Global, read: &TypeRead<'_, '_>) -> Result<String, AllocError>
     ensures { IfOk result (λ s. string_bytes s ≡ name_of_type read.now) }
 {
-    let word = word_of(read.declaration);
+    let word = word_of(read.declaration).text;
     let Some(scope) = read.scope else {
         return String::from_str(alloc, word);
     };
@@ -107,34 +112,23 @@ pub fn name_of_type(alloc: Global, read: &TypeRead<'_>) -> Result<String, AllocE
     Ok(name)
 }
 
-fn word_of(declaration: &Declaration) -> &str
-    ensures { result.now ≡ (word_of declaration.now).bytes }
+/// A type's name as it is declared.
+pub fn word_of<'d, 's>(declaration: &'d TypeDecl<'s>) -> &'d Text<'s>
+    ensures { result.now ≡ word_of declaration.now }
 {
     match declaration {
-        Declaration::Table(read) | Declaration::Struct(read) => read.name.text.as_str(),
-        Declaration::Enum(read) => read.name.text.as_str(),
-        Declaration::Union(read) => read.name.text.as_str(),
-        _ => "",
-    }
-}
-
-fn word_at(declaration: &Declaration) -> u64
-    ensures { result ≡ (word_of declaration.now).at }
-{
-    match declaration {
-        Declaration::Table(read) | Declaration::Struct(read) => read.name.at,
-        Declaration::Enum(read) => read.name.at,
-        Declaration::Union(read) => read.name.at,
-        _ => 0,
+        TypeDecl::Table(read) | TypeDecl::Struct(read) => &read.name,
+        TypeDecl::Enum(read) => &read.name,
+        TypeDecl::Union(read) => &read.name,
     }
 }
 
 /// The full name of a type, and where its own name stands. The only error is a refused allocation.
-pub fn located_name(alloc: Global, read: &TypeRead<'_>) -> Result<Text, AllocError>
+pub fn located_name(alloc: Global, read: &TypeRead<'_, '_>) -> Result<LocatedName, AllocError>
     ensures { IfOk result (λ t. t ≡ located_name read.now) }
 {
-    Ok(Text {
+    Ok(LocatedName {
         text: name_of_type(alloc, read)?,
-        at: word_at(read.declaration),
+        at: word_of(read.declaration).at,
     })
 }

@@ -17,7 +17,7 @@ use fb_syntax::{Field, FieldType};
 use std::alloc::{AllocError, Global};
 
 /// The union of a union's use.
-pub fn union_of(kind: &FieldType, meaning: Meaning) -> Option<TypeId>
+pub fn union_of(kind: &FieldType<'_>, meaning: Meaning) -> Option<TypeId>
     ensures { result ≡ union_of kind.now meaning }
 {
     match (kind, meaning) {
@@ -27,9 +27,9 @@ pub fn union_of(kind: &FieldType, meaning: Meaning) -> Option<TypeId>
 }
 
 fn value_slot(
-    types: TypesRead<'_, '_, '_>,
+    types: TypesRead<'_, '_, '_, '_>,
     alloc: Global,
-    field: &Field,
+    field: &Field<'_>,
     meaning: Meaning,
     slot: u64,
 ) -> Result<FieldInfo, AllocError>
@@ -43,7 +43,7 @@ fn value_slot(
         Given::Null | Given::Wrong => 0,
     };
     Ok(FieldInfo {
-        name: String::from_str(alloc, field.name.text.as_str())?,
+        name: String::from_str(alloc, field.name.text)?,
         shape: shape_of(&field.kind, meaning),
         default,
         optional: matches!(given, Given::Null),
@@ -64,14 +64,14 @@ pub fn name_of_code(alloc: Global, name: &str) -> Result<String, AllocError>
 
 fn code_slot(
     alloc: Global,
-    field: &Field,
+    field: &Field<'_>,
     union: TypeId,
     slot: u64,
 ) -> Result<FieldInfo, AllocError>
     ensures { IfOk result (λ f. field_seen f ≡ code_slot field.now union slot) }
 {
     Ok(FieldInfo {
-        name: name_of_code(alloc, field.name.text.as_str())?,
+        name: name_of_code(alloc, field.name.text)?,
         shape: Shape::One(Kind::Code(union)),
         default: 0,
         optional: false,
@@ -84,10 +84,10 @@ fn code_slot(
 /// Adds the slots of a field from this one on: a union's code comes before its value.
 #[tactic(auto, unfolding(crate::specs::SlotsRead::slots_of_field))]
 pub(crate) fn push_slots(
-    types: TypesRead<'_, '_, '_>,
+    types: TypesRead<'_, '_, '_, '_>,
     alloc: Global,
     scope: Option<&str>,
-    field: &Field,
+    field: &Field<'_>,
     slot: u64,
     slots: &mut Vec<FieldInfo>,
 ) -> Result<(), AllocError>
@@ -111,10 +111,10 @@ pub(crate) fn push_slots(
 /// allocation.
 #[tactic(auto, unfolding(crate::specs::SlotsRead::slots_in_order))]
 pub(crate) fn slots_in_order(
-    types: TypesRead<'_, '_, '_>,
+    types: TypesRead<'_, '_, '_, '_>,
     alloc: Global,
     scope: Option<&str>,
-    fields: &[Field],
+    fields: &[Field<'_>],
 ) -> Result<Vec<FieldInfo>, AllocError>
     ensures { IfOk result (λ v. map field_seen v.items
         ≡ slots_in_order types.entry.types.now (option_copied scope.entry) 0 fields.now) }

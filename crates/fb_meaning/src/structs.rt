@@ -14,7 +14,7 @@ use crate::meanings::{Meaning, type_name};
 use crate::outline::TypeRead;
 use crate::types_read::TypesRead;
 use fb_schema::{Base, FieldInfo, Kind, Shape, TypeId};
-use fb_syntax::{AttributeUse, Declaration, Field, FieldType, TableDeclaration};
+use fb_syntax::{Attribute, Field, FieldType, TableDecl, TypeDecl};
 use std::alloc::{AllocError, Global};
 
 /// The kind of a use; a type at fault stands as a text.
@@ -28,7 +28,7 @@ fn kind_or_text(meaning: Meaning) -> Kind
 }
 
 /// The shape of a field of this type.
-pub(crate) fn shape_of(kind: &FieldType, meaning: Meaning) -> Shape
+pub(crate) fn shape_of(kind: &FieldType<'_>, meaning: Meaning) -> Shape
     ensures { result ≡ shape_of kind.now meaning }
 {
     match kind {
@@ -38,7 +38,12 @@ pub(crate) fn shape_of(kind: &FieldType, meaning: Meaning) -> Shape
 }
 
 /// The alignment that a field of a struct needs; 0 for a type at fault.
-fn align_by(types: TypesRead<'_, '_, '_>, lower: &[u16], kind: &FieldType, meaning: Meaning) -> u16
+fn align_by(
+    types: TypesRead<'_, '_, '_, '_>,
+    lower: &[u16],
+    kind: &FieldType<'_>,
+    meaning: Meaning,
+) -> u16
     ensures { result ≡ align_by types.entry.types.now lower.now kind.now meaning }
 {
     match (kind, meaning) {
@@ -54,12 +59,17 @@ fn align_by(types: TypesRead<'_, '_, '_>, lower: &[u16], kind: &FieldType, meani
 }
 
 #[tactic(auto, unfolding(crate::specs::StructsRead::align_in))]
-fn align_in(types: TypesRead<'_, '_, '_>, scope: Option<&str>, lower: &[u16], field: &Field) -> u16
+fn align_in(
+    types: TypesRead<'_, '_, '_, '_>,
+    scope: Option<&str>,
+    lower: &[u16],
+    field: &Field<'_>,
+) -> u16
     ensures { result
         ≡ align_in types.entry.types.now (option_copied scope.entry) lower.now field.now }
 {
     let kind = &field.kind;
-    let meaning = types.meaning(scope, type_name(kind).text.as_str());
+    let meaning = types.meaning(scope, type_name(kind).as_str());
     align_by(types, lower, kind, meaning)
 }
 
@@ -67,10 +77,10 @@ fn align_in(types: TypesRead<'_, '_, '_>, scope: Option<&str>, lower: &[u16], fi
 /// types before it.
 #[tactic(auto, unfolding(crate::specs::StructsRead::natural_align))]
 pub fn natural_align(
-    types: TypesRead<'_, '_, '_>,
+    types: TypesRead<'_, '_, '_, '_>,
     scope: Option<&str>,
     lower: &[u16],
-    fields: &[Field],
+    fields: &[Field<'_>],
 ) -> u16
     ensures { result
         ≡ natural_align types.entry.types.now (option_copied scope.entry) lower.now fields.now }
@@ -94,17 +104,17 @@ fn alignment_in(least: u16, number: i128) -> Option<u16>
 
 /// The alignment that `force_align` names, if it is a power of two from the least one to 256.
 #[tactic(auto, unfolding(crate::specs::StructsRead::forced_align))]
-pub fn forced_align(least: u16, attributes: &[AttributeUse]) -> Option<u16>
+pub fn forced_align(least: u16, attributes: &[Attribute<'_>]) -> Option<u16>
     ensures { result ≡ forced_align least attributes.now }
 {
     alignment_in(least, number_called(Known::ForceAlign, attributes)?)
 }
 
 fn align_of_struct(
-    types: TypesRead<'_, '_, '_>,
+    types: TypesRead<'_, '_, '_, '_>,
     scope: Option<&str>,
     lower: &[u16],
-    read: &TableDeclaration,
+    read: &TableDecl<'_>,
 ) -> u16
     ensures { result
         ≡ align_of_struct types.entry.types.now (option_copied scope.entry) lower.now read.now }
@@ -115,28 +125,32 @@ fn align_of_struct(
 
 /// The alignment of a type, 0 of what is no struct.
 #[tactic(auto, unfolding(crate::specs::StructsRead::align_of_read))]
-pub fn align_of_read(types: TypesRead<'_, '_, '_>, lower: &[u16], read: &TypeRead<'_>) -> u16
+pub fn align_of_read(
+    types: TypesRead<'_, '_, '_, '_>,
+    lower: &[u16],
+    read: &TypeRead<'_, '_>,
+) -> u16
     ensures { result ≡ align_of_read types.entry.types.now lower.now read.now }
 {
     match read.declaration {
-        Declaration::Struct(declared) => align_of_struct(types, read.scope, lower, declared),
+        TypeDecl::Struct(declared) => align_of_struct(types, read.scope, lower, declared),
         _ => 0,
     }
 }
 
 fn part_read(
-    types: TypesRead<'_, '_, '_>,
+    types: TypesRead<'_, '_, '_, '_>,
     alloc: Global,
     scope: Option<&str>,
-    field: &Field,
+    field: &Field<'_>,
     number: u64,
 ) -> Result<FieldInfo, AllocError>
     ensures { IfOk result
         (λ f. field_seen f ≡ part_read types.entry.types.now (option_copied scope.entry) field.now number) }
 {
-    let meaning = types.meaning(scope, type_name(&field.kind).text.as_str());
+    let meaning = types.meaning(scope, type_name(&field.kind).as_str());
     Ok(FieldInfo {
-        name: String::from_str(alloc, field.name.text.as_str())?,
+        name: String::from_str(alloc, field.name.text)?,
         shape: shape_of(&field.kind, meaning),
         default: 0,
         optional: false,
@@ -149,10 +163,10 @@ fn part_read(
 /// The fields of a struct with their numbers. The only error is a refused allocation.
 #[tactic(auto, unfolding(crate::specs::StructsRead::parts_from))]
 pub fn parts_read(
-    types: TypesRead<'_, '_, '_>,
+    types: TypesRead<'_, '_, '_, '_>,
     alloc: Global,
     scope: Option<&str>,
-    fields: &[Field],
+    fields: &[Field<'_>],
 ) -> Result<Vec<FieldInfo>, AllocError>
     ensures { IfOk result (λ v. map field_seen v.items
         ≡ parts_from types.entry.types.now (option_copied scope.entry) 0 fields.now) }

@@ -10,28 +10,29 @@ ghost use Rattle.fb_meaning.specs.ValueNumbers.{IndexesValues};
 
 use crate::basic_types::{basic_type, is_float_type, is_text_type};
 use crate::candidates::{Candidate, longer};
+use crate::located_names::LocatedName;
 use crate::meanings::{Meaning, type_name};
 use crate::outline::TypeRead;
 use crate::readings::is_reading;
 use crate::value_numbers::ValueNumbers;
 use crate::word_places::{WordPlaces, last_word};
 use fb_schema::{Kind, TypeId};
-use fb_syntax::{Declaration, FieldType, Text};
+use fb_syntax::{FieldType, TypeDecl};
 
 /// The types of a text and their full names by their numbers, their numbers by the last words of
 /// these names, and the numbers of the values of enums.
 #[derive(Clone, Copy)]
-pub struct TypesRead<'t, 'd, 'n> {
-    pub types: &'t [TypeRead<'d>],
-    pub names: &'n [Text],
+pub struct TypesRead<'t, 'd, 's, 'n> {
+    pub types: &'t [TypeRead<'d, 's>],
+    pub names: &'n [LocatedName],
     pub words: &'t WordPlaces<'n>,
-    pub values: &'t ValueNumbers<'d>,
+    pub values: &'t ValueNumbers<'s>,
     ghost named: { map (λ n. n.bytes) names.now ≡ names_of_types types.now },
     ghost worded: { IndexesWords words.now (names_of_types types.now) },
     ghost numbered: { IndexesValues values.now types.now },
 }
 
-impl TypesRead<'_, '_, '_> {
+impl TypesRead<'_, '_, '_, '_> {
     /// One candidate more for what a name means, if the full name of this type is one that the name
     /// may stand for.
     fn with_type(
@@ -77,11 +78,10 @@ impl TypesRead<'_, '_, '_> {
         };
         let id = TypeId(number as u64);
         match read.declaration {
-            Declaration::Table(_) => Meaning::Known(Kind::Table(id)),
-            Declaration::Struct(_) => Meaning::Known(Kind::Struct(id)),
-            Declaration::Enum(_) => Meaning::Known(Kind::Enum(id)),
-            Declaration::Union(_) => Meaning::Known(Kind::Union(id)),
-            _ => Meaning::Unknown,
+            TypeDecl::Table(_) => Meaning::Known(Kind::Table(id)),
+            TypeDecl::Struct(_) => Meaning::Known(Kind::Struct(id)),
+            TypeDecl::Enum(_) => Meaning::Known(Kind::Enum(id)),
+            TypeDecl::Union(_) => Meaning::Known(Kind::Union(id)),
         }
     }
 
@@ -107,10 +107,10 @@ impl TypesRead<'_, '_, '_> {
     }
 
     /// What the name in a field's type means.
-    pub fn meaning_in(self, scope: Option<&str>, kind: &FieldType) -> Meaning
+    pub fn meaning_in(self, scope: Option<&str>, kind: &FieldType<'_>) -> Meaning
         ensures { result
             ≡ meaning_in self.entry.types.now (option_copied scope.entry) kind.now }
     {
-        self.meaning(scope, type_name(kind).text.as_str())
+        self.meaning(scope, type_name(kind).as_str())
     }
 }

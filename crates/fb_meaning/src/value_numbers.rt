@@ -8,26 +8,26 @@ ghost use Rattle.fb_meaning.specs.ValueNumbers.{number_in, NotesNumber, NotesVal
 use crate::enums::{has_flags, underlying, value_number, written_number};
 use crate::outline::TypeRead;
 use fb_schema::Base;
-use fb_syntax::{Declaration, EnumDeclaration};
+use fb_syntax::{EnumDecl, TypeDecl};
 use indexmap::IndexMap;
 use std::alloc::{AllocError, Global};
 
 /// Of each enum, by the number of its type, the number of the first value of each name.
 #[derive(Drop)]
-pub struct ValueNumbers<'d> {
-    numbers: IndexMap<(usize, &'d [u8]), i128>,
+pub struct ValueNumbers<'s> {
+    numbers: IndexMap<(usize, &'s [u8]), i128>,
 }
 
-impl<'d> ValueNumbers<'d> {
+impl<'s> ValueNumbers<'s> {
     /// The numbers of the values of all enums. The only error is a refused allocation.
-    pub fn of(alloc: Global, types: &[TypeRead<'d>]) -> Result<ValueNumbers<'d>, AllocError>
+    pub fn of(alloc: Global, types: &[TypeRead<'_, 's>]) -> Result<ValueNumbers<'s>, AllocError>
         ensures { IfOk result (λ v. IndexesValues v types.now) }
     {
         let mut index = ValueNumbers {
             numbers: IndexMap::new(alloc),
         };
         for (type_number, read) in types.iter().enumerate() {
-            if let Declaration::Enum(declaration) = read.declaration {
+            if let TypeDecl::Enum(declaration) = read.declaration {
                 index.note_values(type_number, declaration)?;
             }
         }
@@ -35,11 +35,7 @@ impl<'d> ValueNumbers<'d> {
     }
 
     /// Notes the numbers of the values of an enum.
-    fn note_values(
-        &mut self,
-        type_number: usize,
-        read: &'d EnumDeclaration,
-    ) -> Result<(), AllocError>
+    fn note_values(&mut self, type_number: usize, read: &EnumDecl<'s>) -> Result<(), AllocError>
         ensures { (types : List TypeRead) (scope : Option Name) → OnOk result
             (NotesValues self.old self.new type_number (values_read types scope read.now)) }
     {
@@ -56,7 +52,7 @@ impl<'d> ValueNumbers<'d> {
     }
 
     /// Notes the number of a name that has none yet in an enum.
-    fn note(&mut self, type_number: usize, name: &'d [u8], number: i128) -> Result<(), AllocError>
+    fn note(&mut self, type_number: usize, name: &'s [u8], number: i128) -> Result<(), AllocError>
         ensures { OnOk result (NotesNumber self.old self.new type_number name.now number) }
     {
         let key = (type_number, name);

@@ -3,7 +3,7 @@ ghost use Rattle.std.specs.Prelude.{◌≡◌, IfOk, map};
 ghost use Rattle.fb_meaning.specs.Words.{last_word};
 ghost use Rattle.fb_meaning.specs.WordPlaces.{first_in, next_in, IndexesWords};
 
-use fb_syntax::Text;
+use crate::located_names::LocatedName;
 use indexmap::IndexMap;
 use std::alloc::{AllocError, Global};
 
@@ -16,7 +16,7 @@ pub struct WordPlaces<'n> {
 
 impl<'n> WordPlaces<'n> {
     /// The places of the last words of these names. The only error is a refused allocation.
-    pub fn of(alloc: Global, names: &'n [Text]) -> Result<WordPlaces<'n>, AllocError>
+    pub fn of(alloc: Global, names: &'n [LocatedName]) -> Result<WordPlaces<'n>, AllocError>
         ensures { IfOk result (λ p. IndexesWords p (map (λ n. n.bytes) names.now)) }
     {
         let mut index = WordPlaces {

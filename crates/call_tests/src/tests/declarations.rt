@@ -1,7 +1,7 @@
 //! Declarations in one line, each text with its offset.
 use fb_syntax::{
-    AttributeUse, AttributeValue, Declaration, Decls, DefaultValue, EnumDeclaration, EnumValue,
-    Field, FieldType, TableDeclaration, Text, UnionDeclaration, UnionMember,
+    Attribute, AttributeValue, Declaration, Decls, DefaultValue, Directive, DottedName, EnumDecl,
+    EnumValue, Field, FieldType, Number, TableDecl, Text, TypeDecl, UnionDecl, UnionMember,
 };
 use std::alloc::{AllocError, Global};
 
@@ -24,49 +24,67 @@ impl Line {
         }
     }
 
-    fn text(&mut self, before: &str, text: &Text) {
+    fn located(&mut self, before: &str, text: &str, at: u64) {
         self.push(before);
-        self.push(text.text.as_str());
+        self.push(text);
         self.push("@");
-        self.number(text.at);
+        self.number(at);
     }
 
-    fn attribute(&mut self, attribute: &AttributeUse) {
+    fn text(&mut self, before: &str, text: &Text<'_>) {
+        self.located(before, text.text, text.at);
+    }
+
+    fn name(&mut self, before: &str, name: &DottedName<'_>) {
+        self.located(before, name.as_str(), name.at());
+    }
+
+    fn integer(&mut self, before: &str, number: Number) {
+        self.push(before);
+        let value = number.value();
+        if write!(&mut self.text, "{value}").is_err() {
+            self.is_whole = false;
+        }
+        self.push("@");
+        self.number(number.at());
+    }
+
+    fn attribute(&mut self, attribute: &Attribute<'_>) {
         self.text(" (", &attribute.name);
         match &attribute.value {
             None => {}
-            Some(AttributeValue::Integer(value)) => self.text(": integer ", value),
+            Some(AttributeValue::Integer(value)) => self.integer(": integer ", *value),
             Some(AttributeValue::Word(value)) => self.text(": word ", value),
             Some(AttributeValue::Quoted(value)) => self.text(": quoted ", value),
         }
         self.push(")");
     }
 
-    fn attributes(&mut self, attributes: &[AttributeUse]) {
+    fn attributes(&mut self, attributes: &[Attribute<'_>]) {
         for attribute in attributes {
             self.attribute(attribute);
         }
     }
 
-    fn field(&mut self, field: &Field) {
+    fn field(&mut self, field: &Field<'_>) {
         self.text("; ", &field.name);
         match &field.kind {
-            FieldType::One(name) => self.text(": ", name),
+            FieldType::One(name) => self.name(": ", name),
             FieldType::Many(at, name) => {
                 self.push(": [@");
                 self.number(*at);
-                self.text(" ", name);
+                self.name(" ", name);
             }
         }
         match &field.default {
             None => {}
-            Some(DefaultValue::Integer(value)) => self.text(" = integer ", value),
-            Some(DefaultValue::Name(value)) => self.text(" = name ", value),
+            Some(DefaultValue::Integer(value)) => self.integer(" = integer ", *value),
+            Some(DefaultValue::Name(value)) => self.name(" = name ", value),
         }
         self.attributes(field.attributes.as_slice());
     }
 
-    fn table(&mut self, before: &str, table: &TableDeclaration) {
+    fn table(&mut self, before: &str, table: &TableDecl<'_>) {
         self.text(before, &table.name);
         self.attributes(table.attributes.as_slice());
         for field in &table.fields {
@@ -74,32 +92,32 @@ impl Line {
         }
     }
 
-    fn value(&mut self, value: &EnumValue) {
+    fn value(&mut self, value: &EnumValue<'_>) {
         self.text("; ", &value.name);
         if let Some(number) = &value.number {
-            self.text(" = ", number);
+            self.integer(" = ", *number);
         }
     }
 
-    fn enumeration(&mut self, declared: &EnumDeclaration) {
+    fn enumeration(&mut self, declared: &EnumDecl<'_>) {
         self.text("enum ", &declared.name);
-        self.text(": ", &declared.underlying);
+        self.name(": ", &declared.underlying);
         self.attributes(declared.attributes.as_slice());
         for value in &declared.values {
             self.value(value);
         }
     }
 
-    fn member(&mut self, member: &UnionMember) {
+    fn member(&mut self, member: &UnionMember<'_>) {
         if let Some(alias) = &member.alias {
             self.text("; ", alias);
-            self.text(": ", &member.table);
+            self.name(": ", &member.table);
         } else {
-            self.text("; ", &member.table);
+            self.name("; ", &member.table);
         }
     }
 
-    fn union(&mut self, declared: &UnionDeclaration) {
+    fn union(&mut self, declared: &UnionDecl<'_>) {
         self.text("union ", &declared.name);
         self.attributes(declared.attributes.as_slice());
         for member in &declared.members {
@@ -107,24 +125,27 @@ impl Line {
         }
     }
 
-    fn declaration(&mut self, declared: &Declaration) {
+    fn declaration(&mut self, declared: &Declaration<'_>) {
         match declared {
             Declaration::Namespace(None) => self.push("namespace"),
-            Declaration::Namespace(Some(name)) => self.text("namespace ", name),
+            Declaration::Namespace(Some(name)) => self.name("namespace ", name),
             Declaration::Attribute(name) => self.text("attribute ", name),
-            Declaration::Table(declared) => self.table("table ", declared),
-            Declaration::Struct(declared) => self.table("struct ", declared),
-            Declaration::Enum(declared) => self.enumeration(declared),
-            Declaration::Union(declared) => self.union(declared),
-            Declaration::Root(name) => self.text("root ", name),
-            Declaration::Extension(name) => self.text("extension ", name),
-            Declaration::Identifier(name) => self.text("identifier ", name),
+            Declaration::Type(TypeDecl::Table(declared)) => self.table("table ", declared),
+            Declaration::Type(TypeDecl::Struct(declared)) => self.table("struct ", declared),
+            Declaration::Type(TypeDecl::Enum(declared)) => self.enumeration(declared),
+            Declaration::Type(TypeDecl::Union(declared)) => self.union(declared),
+            Declaration::Directive(Directive::RootType(name)) => self.name("root ", name),
+            Declaration::Directive(Directive::FileExtension(name)) => self.text("extension ", name),
+            Declaration::Directive(Directive::FileIdentifier(name)) => self.text(
+                "identifier ",
+                name,
+            ),
         }
     }
 }
 
 /// The declarations, with a bar behind each, and the text's length.
-pub(super) fn shown(alloc: Global, decls: &Decls) -> Result<String, AllocError> {
+pub(super) fn shown(alloc: Global, decls: &Decls<'_>) -> Result<String, AllocError> {
     let mut line = Line {
         text: String::new(alloc),
         is_whole: true,

@@ -35,7 +35,7 @@ const PARTS: &[(&str, &str)] = &[
     ("table T { v:[N.S]; }", "table T@6; v@10: [@12 N.S@13 | 20"),
     (
         "table T { a:int = +5; }",
-        "table T@6; a@10: int@12 = integer +5@18 | 23",
+        "table T@6; a@10: int@12 = integer 5@18 | 23",
     ),
     (
         "table T { a:E = E.A; }",
@@ -47,7 +47,7 @@ const PARTS: &[(&str, &str)] = &[
     ),
     (
         "enum E:int (bit_flags) { A, B = 0x3, }",
-        "enum E@5: int@7 (bit_flags@12); A@25; B@28 = 0x3@32 | 38",
+        "enum E@5: int@7 (bit_flags@12); A@25; B@28 = 3@32 | 38",
     ),
     (
         "union U { A, b:N.B, N.C, }",
@@ -95,19 +95,19 @@ const INTEGERS: &[(&str, &str)] = &[
     ("enum E:int { A = 0 }", "enum E@5: int@7; A@13 = 0@17 | 20"),
     (
         "enum E:int { A = 007 }",
-        "enum E@5: int@7; A@13 = 007@17 | 22",
+        "enum E@5: int@7; A@13 = 7@17 | 22",
     ),
     (
         "enum E:int { A = 0xaF }",
-        "enum E@5: int@7; A@13 = 0xaF@17 | 23",
+        "enum E@5: int@7; A@13 = 175@17 | 23",
     ),
     (
         "enum E:int { A = +0XFf }",
-        "enum E@5: int@7; A@13 = +0XFf@17 | 24",
+        "enum E@5: int@7; A@13 = 255@17 | 24",
     ),
     (
         "enum E:int { A = -0x0 }",
-        "enum E@5: int@7; A@13 = -0x0@17 | 23",
+        "enum E@5: int@7; A@13 = 0@17 | 23",
     ),
     (
         "enum E:int { A = 18446744073709551615 }",
@@ -119,7 +119,7 @@ const INTEGERS: &[(&str, &str)] = &[
     ),
     (
         "enum E:int { A = 0xFFFFFFFFFFFFFFFF }",
-        "enum E@5: int@7; A@13 = 0xFFFFFFFFFFFFFFFF@17 | 37",
+        "enum E@5: int@7; A@13 = 18446744073709551615@17 | 37",
     ),
 ];
 

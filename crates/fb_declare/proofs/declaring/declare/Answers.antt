@@ -1,15 +1,11 @@
-use Rattle.std.proofs.Common.{◌≢◌, ◌∙◌, ap, sym, subst, None}
+use Rattle.std.proofs.Common.{◌≢◌, ◌∙◌, ap, sym}
 use Rattle.std.proofs.lemmas.Result.{IfErr-weaker}
 use Rattle.fb_declare.specs.TypeFaults.{faults_of_outline, faults_of}
 use Rattle.fb_declare.specs.Declares.{Stands}
 use Rattle.fb_declare.specs.declared.faults.SchemaFault.TheVariants.{Memory}
-use Rattle.fb_declare.specs.Found.{DeclareTypes}
 use Rattle.fb_declare.specs.Faults.{least_of}
-use Rattle.fb_declare.proofs.Building.{least-some, types_only}
+use Rattle.fb_declare.proofs.Building.{least-some}
 use Rattle.fb_declare.proofs.declaring.declare.Goals as goal
-
-pub declare_outline-requires : goal.declare_outline-requires
-declare_outline-requires c = record { types = subst (λ o. DeclareTypes o.types) (sym c.in_ok-outline.ensures) (types_only None c.args.decls.now.declarations) }
 
 pub returns-clause-fault : goal.returns-clause-fault
 returns-clause-fault c =

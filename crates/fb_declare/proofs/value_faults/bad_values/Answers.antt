@@ -10,7 +10,7 @@ use Rattle.fb_declare.specs.declared.faults.SchemaFault.TheVariants.{BadEnumValu
 use Rattle.fb_meaning.specs.EnumsRead.{written_number}
 use Rattle.fb_declare.specs.Faults.{earlier, least_of}
 use Rattle.fb_declare.specs.FaultRows.{when, is_out_of_range, bad_values}
-use Rattle.fb_meaning.proofs.Written.{written-near, next-near, next-sum, sum-fits}
+use Rattle.fb_meaning.proofs.Written.{next-near, next-sum, sum-fits}
 use Rattle.fb_declare.proofs.BadValues.{bad_values-at, bad_values-end}
 use Rattle.fb_declare.proofs.LeastMet.{met-more, met-all}
 use Rattle.fb_declare.proofs.value_faults.bad_values.Goals as goal
@@ -19,7 +19,7 @@ pub overflow_add-next : goal.overflow_add-next
 overflow_add-next c =
     let i = c.loop-value.value-index in
     let n = c.written_number-number.result in
-    let near : unsigned_abs n ≤ greatest_magnitude + i = rw c.written_number-number.ensures (written-near (to_z w128 c.loop-value.next-bits) c.value-item.result i c.loop-value.invariant.near) in
+    let near : unsigned_abs n ≤ greatest_magnitude + i = c.written_number-number.ensures.near i c.loop-value.invariant.near in
     sum-fits n i near (omega arith)
 
 pub loop-value-preserved : goal.loop-value-preserved
@@ -28,18 +28,18 @@ loop-value-preserved c =
     let n = c.written_number-number.result in
     let v = c.value-item.result in
     let next = to_z w128 c.loop-value.next-bits in
-    let near : unsigned_abs n ≤ greatest_magnitude + i = rw c.written_number-number.ensures (written-near next v i c.loop-value.invariant.near) in
+    let near : unsigned_abs n ≤ greatest_magnitude + i = c.written_number-number.ensures.near i c.loop-value.invariant.near in
     let sum = next-sum n i near (omega arith) in
     let fits : FitsSigned w128 n = search rules in
     let base = c.args.base in let flags = c.args.flags in let met = c.loop-value.met.keys in
     let w = written_number next v in
-    let is : to_z w128 (of_z w128 n) ≡ w = to_z-of_z w128 n fits ∙ c.written_number-number.ensures in
+    let is : to_z w128 (of_z w128 n) ≡ w = to_z-of_z w128 n fits ∙ c.written_number-number.ensures.number in
     let at = ap (λ x. x.name.at) c.value.view_is in
     let fault : c.in_ok-bad_value.field-0 ≡ least_of (when (is_out_of_range base flags w || list_any (int_eq w) met) (BadEnumValue v.name.at)) =
     c.in_ok-bad_value.ensures.fault ∙ (λ j. least_of (when (is_out_of_range base flags (is j) || list_any (int_eq (is j)) met) (BadEnumValue (at j)))) in
     let keys : c.bad_value.new.met.keys ≡ insert_key int_eq met w = c.in_ok-bad_value.ensures.met ∙ ap (insert_key int_eq met) is in
     record {
-      least = rw (c.earlier-least.ensures, fault, keys, sum, c.written_number-number.ensures)
+      least = rw (c.earlier-least.ensures, fault, keys, sum, c.written_number-number.ensures.number)
           (met-more c.loop-value.least (when (is_out_of_range base flags w || list_any (int_eq w) met) (BadEnumValue v.name.at)) (bad_values base flags (insert_key int_eq met w) (w +ℤ pos 1) (drop (i + 1) c.args.values.now))
           ∙ ap (λ fs. earlier c.loop-value.least (least_of fs)) (sym (bad_values-at base flags met next c.args.values.now i v c.loop-value-test.true c.value-item.is))
           ∙ c.loop-value.invariant.least);

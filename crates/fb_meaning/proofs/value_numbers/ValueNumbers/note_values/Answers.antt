@@ -7,7 +7,7 @@ use Rattle.std.proofs.lemmas.Int.{to_z-of_z}
 use Rattle.fb_syntax.specs.Integers.{greatest_magnitude}
 use Rattle.fb_meaning.specs.EnumsRead.{value_number, written_number, values_from, number_named, base_or_ubyte, underlying, values_read}
 use Rattle.fb_meaning.specs.ValueNumbers.{number_in}
-use Rattle.fb_meaning.proofs.Written.{written-near, next-near, next-sum, sum-fits}
+use Rattle.fb_meaning.proofs.Written.{next-near, next-sum, sum-fits}
 use Rattle.fb_meaning.proofs.NumberNamed.{number_named-at, number_named-end}
 use Rattle.fb_meaning.proofs.Numbers.{noted_value, none_left}
 use Rattle.fb_meaning.proofs.value_numbers.ValueNumbers.note_values.Goals as goal
@@ -16,7 +16,7 @@ pub overflow_add-next : goal.overflow_add-next
 overflow_add-next c =
     let i = c.loop-value.value-index in
     let n = c.written_number-number.result in
-    let near : unsigned_abs n ≤ greatest_magnitude + i = rw c.written_number-number.ensures (written-near (to_z w128 c.loop-value.next-bits) c.value-item.result i c.loop-value.invariant.near) in
+    let near : unsigned_abs n ≤ greatest_magnitude + i = c.written_number-number.ensures.near i c.loop-value.invariant.near in
     sum-fits n i near (omega arith)
 
 pub loop-value-preserved : goal.loop-value-preserved
@@ -28,16 +28,16 @@ loop-value-preserved c =
     let flags = c.has_flags-flags.result in
     let values = c.as_slice-value-items.result.now in
     let next = to_z w128 c.loop-value.next-bits in
-    let near : unsigned_abs n ≤ greatest_magnitude + i = rw c.written_number-number.ensures (written-near next v i c.loop-value.invariant.near) in
+    let near : unsigned_abs n ≤ greatest_magnitude + i = c.written_number-number.ensures.near i c.loop-value.invariant.near in
     let sum = next-sum n i near (omega arith) in
     let fits : FitsSigned w128 n = search rules in
     let number_fits : FitsSigned w128 c.value_number.result = search rules in
-    let number : to_z w128 (of_z w128 c.value_number.result) ≡ value_number base flags (written_number next v) = to_z-of_z w128 c.value_number.result number_fits ∙ c.value_number.ensures ∙ ap (value_number base flags) (to_z-of_z w128 n fits ∙ c.written_number-number.ensures) in
+    let number : to_z w128 (of_z w128 c.value_number.result) ≡ value_number base flags (written_number next v) = to_z-of_z w128 c.value_number.result number_fits ∙ c.value_number.ensures ∙ ap (value_number base flags) (to_z-of_z w128 n fits ∙ c.written_number-number.ensures.number) in
     let text : c.as_bytes-name.result.now ≡ v.name.bytes = c.as_bytes-name.ensures.value ∙ ap (λ x. x.name.bytes) c.value.view_is in
     let later = values_from base flags (written_number next v +ℤ pos 1) (drop (i + 1) values) in
     record {
       left = λ u other. let at = u == c.args.type_number in
-          rw (sum, c.written_number-number.ensures, c.in_ok-note.ensures u other, text, number)
+          rw (sum, c.written_number-number.ensures.number, c.in_ok-note.ensures u other, text, number)
           (noted_value (number_in c.loop-value.self u other) at (bytes_eq other v.name.bytes) (value_number base flags (written_number next v)) (number_named later other)
           ∙ ap (λ o. option_or (number_in c.loop-value.self u other) (if at then o else None)) (sym (number_named-at base flags next values i v other (bytes_eq other v.name.bytes) c.loop-value-test.true c.value-item.is refl))
           ∙ c.loop-value.invariant.left u other);

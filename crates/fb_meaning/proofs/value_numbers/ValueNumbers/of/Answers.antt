@@ -1,7 +1,7 @@
 use Rattle.std.proofs.Common.{◌≡◌, ◌==◌, ◌∙◌, ◌≢◌, ℕ, length, refl, sym, ap, arith, None}
 use Rattle.std.proofs.lemmas.Option.{slice_get_read, slice_get_past}
 use Rattle.fb_syntax.specs.TypesRead.{EnumRead}
-use Rattle.fb_syntax.specs.declared.declarations.Declaration.TheVariants as declarations
+use Rattle.fb_syntax.specs.declared.declarations.TypeDecl.TheVariants as decls
 use Rattle.fb_meaning.specs.EnumsRead.{number_named, values_read, values_in, values_of_read, values_at}
 use Rattle.fb_meaning.specs.ValueNumbers.{number_in}
 use Rattle.fb_meaning.proofs.NumberNamed.{number_named-nil}
@@ -21,12 +21,12 @@ loop-type_number-preserved c = λ t name.
     elim c.match-read.branch [
       | in-Enum+in_ok-note_values w ↦
           let e = w.in-Enum.declaration in
-          let declared : read.declaration ≡ declarations.Enum e = ap (λ r. r.declaration) (sym c.read.view_is) ∙ w.in-Enum.is in
+          let declared : read.declaration ≡ decls.Enum e = ap (λ r. r.declaration) (sym c.read.view_is) ∙ w.in-Enum.is in
           ap (λ i. number_in i t name) w.index-is
           ∙ w.in_ok-note_values.ensures types read.scope t name
           ∙ noted_enum found noted (number_named (values_read types read.scope e) name) t n before (ap (λ vs. number_named vs name) (here ∙ ap (values_in types read.scope) declared))
       | in_default w ↦
-          let other : (e : EnumRead) → read.declaration ≢ declarations.Enum e = λ e same. w.in_default.not-Enum e (ap (λ r. r.declaration) c.read.view_is ∙ same) in
+          let other : (e : EnumRead) → read.declaration ≢ decls.Enum e = λ e same. w.in_default.not-Enum e (ap (λ r. r.declaration) c.read.view_is ∙ same) in
           ap (λ i. number_in i t name) w.index-is
           ∙ sym (none_left noted (t == n))
           ∙ noted_enum found noted None t n before (ap (λ vs. number_named vs name) (here ∙ no_values types read.scope read.declaration other) ∙ number_named-nil name)
