@@ -25,5 +25,4 @@ pub mod FaultNumbers
 pub mod Made
 pub mod Builders
 pub mod FieldsLaid
-pub mod UncoveredBytesAreZero
 pub mod ExampleBuffersHaveSlack
