@@ -8,9 +8,9 @@ use Rattle.fb_json.proofs.tree.+tree.Given as goal
 
 abbrev pub invariant-items-loop-element : goal.invariant-items-loop-element
 invariant-items-loop-element l =
-    items_meant l.source.layout.now l.source.unknown (items_view l.elements.items) l.kind l.place l.levels l.fn.left
+    items_meant l.source.layout.now l.source.unknown (items_view l.elements) l.kind l.place l.levels l.fn.left
     ≡ after (map view l.found.items)
-    (items_meant l.source.layout.now l.source.unknown (items_view (drop l.element-index l.elements.items)) l.kind
+    (items_meant l.source.layout.now l.source.unknown (items_view (drop l.element-index l.elements)) l.kind
     l.place l.levels l.left)
 
 abbrev pub invariant-entries-loop-k : goal.invariant-entries-loop-k
