@@ -30,7 +30,7 @@ lay_reference-requires-clause-whole c =
 pub returns-clause-holds : goal.returns-clause-holds
 returns-clause-holds c most raw deep small =
     let L = c.args.layout.now in
-    let d = a_table c.args.table.0 (entries_view c.args.entries.now.items) in
+    let d = a_table c.args.table.0 (entries_view c.args.entries.now) in
     let table = c.lay_table-place.new.builder.tail in
     let tail = c.lay_identifier.new.out in
     let end = c.lay_reference.new.out in
@@ -52,7 +52,7 @@ returns-clause-holds c most raw deep small =
 pub returns-clause-old_slots : goal.returns-clause-old_slots
 returns-clause-old_slots c =
     let L = c.args.layout.now in
-    let d = a_table c.args.table.0 (entries_view c.args.entries.now.items) in
+    let d = a_table c.args.table.0 (entries_view c.args.entries.now) in
     let table = c.lay_table-place.new.builder.tail in
     let tail = c.lay_identifier.new.out in
     let end = c.lay_reference.new.out in
@@ -68,7 +68,7 @@ pub returns-clause-covered : goal.returns-clause-covered
 returns-clause-covered c =
     let L = c.args.layout.now in
     let t = c.args.table.0 in
-    let d = a_table t (entries_view c.args.entries.now.items) in
+    let d = a_table t (entries_view c.args.entries.now) in
     let table = c.lay_table-place.new.builder.tail in
     let tail = c.lay_identifier.new.out in
     let end = c.lay_reference.new.out in

@@ -11,7 +11,7 @@ invariant-lay_struct-loop-k l = record {
       (struct_at l.layout l.structure.0).size;
   lies : LieFrom l.layout l.out.bytes l.behind (drop (length l.fields - l.k) (parts_of l.layout l.structure.0))
       (drop (length l.fields - l.k) (struct_at l.layout l.structure.0).offsets)
-      (parts_view (drop (length l.fields - l.k) l.parts.items));
+      (parts_view (drop (length l.fields - l.k) l.parts));
   pads : PadsFrom l.layout l.out.bytes l.structure.0 l.behind;
   free : l.out.free + (struct_at l.layout l.structure.0).size ≡ l.fn.out.free + l.behind;
   most : l.out.most ≡ l.fn.out.most;
