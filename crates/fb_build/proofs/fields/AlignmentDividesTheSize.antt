@@ -16,8 +16,8 @@ use Rattle.fb_layout.specs.Laid.{code_kind, text_kind, StoredShape, one_of, vect
 use Rattle.fb_layout.specs.Laid.{struct_at, align_of}
 use Rattle.fb_layout.specs.Widths.{inline_size, inline_align, greatest}
 use Rattle.fb_layout.specs.WellMade.{IsWellMade}
-use Rattle.fb_layout.proofs.AlignmentsArePowersOfTwo.{base_aligned, struct_aligned, kind_multiple}
-use Rattle.fb_layout.proofs.EachFieldTakesAByte.{struct_filled}
+use Rattle.fb_layout.proofs.sizes.AlignmentsArePowersOfTwo.{base_aligned, struct_aligned, kind_multiple}
+use Rattle.fb_layout.proofs.sizes.EachFieldTakesAByte.{struct_filled}
 use Rattle.fb_value.specs.Num.{divides}
 use Rattle.fb_build.specs.Fields.{IsStructThere, IsElement, IsSimple}
 use Rattle.fb_build.specs.Needs.{IsSliced}

@@ -24,9 +24,9 @@ use Rattle.fb_value.specs.Tails.{from_end, LiesInTail, OldInTail}
 use Rattle.fb_build.specs.Tails.{TailSeen, Grows, LaidInTail}
 use Rattle.fb_build.specs.Fields.{SlotFits, StoredFits, member_target, scalar_in, number_in, from, is_stored, differs}
 use Rattle.fb_build.specs.Fields.{IsDefault, TargetEnd, StoredEnd, EntryEnd, EntriesEnd, sort_for, target_for}
-use Rattle.fb_value.proofs.RulesHoldOneByOne.{hold, no_rules}
+use Rattle.fb_value.proofs.rules.RulesHoldOneByOne.{hold, no_rules}
 use Rattle.fb_build.proofs.numbers.NumberReadsBack.{num_first}
-use Rattle.fb_value.proofs.TailsAreKeptInFront.{front_shown, old_shown}
+use Rattle.fb_value.proofs.tails.TailsAreKeptInFront.{front_shown, old_shown}
 use Rattle.fb_build.specs.CoveredTails.{IsTightInTail, TightInTail, InlineInTail}
 use Rattle.fb_build.specs.Stored.{IsBit}
 use Rattle.fb_build.specs.InlineBytes.{IsTightInline, EachInline, EachInlineAt}

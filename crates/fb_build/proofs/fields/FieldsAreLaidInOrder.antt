@@ -6,7 +6,7 @@ use Rattle.fb_layout.specs.Sizes.{IsAlignment}
 use Rattle.fb_layout.specs.Widths.{inline_size, inline_align}
 use Rattle.fb_value.specs.Datum.{Datum}
 use Rattle.fb_value.specs.Num.{Bytes, divides}
-use Rattle.fb_value.proofs.TailsAreKeptInFront.{through}
+use Rattle.fb_value.proofs.tails.TailsAreKeptInFront.{through}
 use Rattle.fb_build.specs.Tails.{TailSeen, Grows}
 use Rattle.fb_build.specs.Fields.{AreKnown, EntriesEnd, StoredEnd, is_stored, fields_size, stored_align}
 use Rattle.fb_build.specs.FieldOrder.{LinksNext, before, SameOfStored, AreLinked, link_in, size_from}

@@ -12,14 +12,14 @@ use Rattle.fb_schema.specs.WellDeclared.{IsPart}
 use Rattle.fb_schema.specs.declared.types.FieldInfo.{FieldInfo}
 use Rattle.fb_layout.specs.Laid.{LaidSchema, StoredKind, one_of, kind_in, stored_shape, parts_of, struct_at, size_of}
 use Rattle.fb_layout.specs.WellMade.{StandInOrder, IsWellMade}
-use Rattle.fb_layout.proofs.ExactSizesAreRight.{struct_told, body_told}
+use Rattle.fb_layout.proofs.sizes.ExactSizesAreRight.{struct_told, body_told}
 use Rattle.fb_value.specs.Datum.{Datum, Parts, no_parts, more_parts}
 use Rattle.fb_value.specs.Fits.{Fits, PartsFit}
 use Rattle.fb_value.specs.Lies.{LiesInline, LiesParts}
 use Rattle.fb_value.specs.Num.{Bytes}
 use Rattle.fb_value.specs.View.{view, parts_view}
 use Rattle.fb_value.specs.declared.values.Value.{Value}
-use Rattle.fb_value.proofs.SameBytesHoldTheSameFurtherOn.{inline_lies}
+use Rattle.fb_value.proofs.tails.SameBytesHoldTheSameFurtherOn.{inline_lies}
 use Rattle.fb_build.specs.InlineBytes.{IsTightInline, EachInlineIn, EachFieldIn}
 use Rattle.fb_build.specs.Tails.{TailSeen, Grows}
 use Rattle.fb_build.proofs.covered.TightStructStaysTightFurtherOn.{inline_moved}

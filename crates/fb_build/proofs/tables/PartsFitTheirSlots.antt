@@ -15,7 +15,7 @@ use Rattle.fb_value.specs.Room.{room, parts_room, entries_room}
 use Rattle.fb_value.specs.Num.{Bytes}
 use Rattle.fb_value.specs.View.{view, parts_view, entries_view}
 use Rattle.fb_value.specs.declared.values.Value.{Value}
-use Rattle.fb_value.proofs.ValueFitsPartByPart.{entries_count as fits_long}
+use Rattle.fb_value.proofs.types.ValueFitsPartByPart.{entries_count as fits_long}
 use Rattle.fb_build.specs.Tails.{TailSeen, Grows}
 use Rattle.fb_build.specs.Fields.{IsSimple, IsElement, SlotFits, is_stored, stored_here, coded, TargetEnd, target_for}
 use Rattle.fb_build.specs.Fields.{EntryEnd, slots_seen, entries_seen}
@@ -34,7 +34,7 @@ use Rattle.fb_build.proofs.vectors.VectorHasItsElements.{parts_next}
 use Rattle.fb_build.specs.Items.{ItemsKnown}
 use Rattle.fb_layout.specs.Laid.{StoredKind, kind_in, align_of}
 use Rattle.fb_layout.specs.Widths.{greatest}
-use Rattle.fb_layout.proofs.AlignmentsArePowersOfTwo.{slot_below}
+use Rattle.fb_layout.proofs.sizes.AlignmentsArePowersOfTwo.{slot_below}
 use Rattle.fb_build.proofs.fields.SlotStoresItsEntry.{by_index, same_some, slots_long, entries_long}
 
 entry_fits : (L : LaidSchema) (fs : List Slot) (es : List (Option Value)) → EntriesFit L fs (entries_view es)

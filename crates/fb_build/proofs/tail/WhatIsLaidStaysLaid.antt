@@ -14,7 +14,7 @@ use Rattle.fb_value.specs.Tails.{LiesInTail}
 use Rattle.fb_build.specs.Ends.{StandsEnd}
 use Rattle.fb_layout.specs.Sizes.{IsAlignment}
 use Rattle.fb_build.specs.Tails.{TailSeen, Grows, LaidInTail}
-use Rattle.fb_value.proofs.TailsAreKeptInFront.{front_shown, multiple_shown, old_shown, through}
+use Rattle.fb_value.proofs.tails.TailsAreKeptInFront.{front_shown, multiple_shown, old_shown, through}
 use Rattle.fb_build.proofs.covered.TightStructStaysTightFurtherOn.{inline_front_shown}
 use Rattle.fb_build.proofs.covered.TightTableStaysTightFurtherOn.{tight_front_shown}
 

@@ -13,7 +13,7 @@ use Rattle.fb_value.specs.Num.{Bytes}
 use Rattle.fb_value.specs.Places.{slot_number, part_place, table_part}
 use Rattle.fb_value.specs.Lies.{LiesInline, LiesItems, Lies}
 use Rattle.fb_value.specs.Nth.{nth_entry}
-use Rattle.fb_value.proofs.EachPartLiesInItsPlace.{entry_lies_shown}
+use Rattle.fb_value.proofs.held.EachPartLiesInItsPlace.{entry_lies_shown}
 use Rattle.fb_read.specs.Kinds.{base_wanted, structure_wanted, rank}
 use Rattle.fb_read.specs.Stored.{number_entry}
 use Rattle.fb_read.specs.Views.{entry_of, number_in, text_in, table_in, struct_in, vector_in, member_in}

@@ -11,8 +11,8 @@ use Rattle.fb_value.specs.Num.{Bytes}
 use Rattle.fb_value.specs.Lies.{LiesInline, LiesParts}
 use Rattle.fb_value.specs.View.{view, parts_view}
 use Rattle.fb_value.specs.declared.values.Value.{Value}
-use Rattle.fb_value.proofs.StoredKindsAreResolved.{LowerParts, resolved}
-use Rattle.fb_value.proofs.EachPartLiesInItsPlace.{parts_long}
+use Rattle.fb_value.proofs.types.StoredKindsAreResolved.{LowerParts, resolved}
+use Rattle.fb_value.proofs.held.EachPartLiesInItsPlace.{parts_long}
 use Rattle.fb_read.specs.Kinds.{rank}
 use Rattle.fb_read.proofs.items.PartsLieInTheirPlaces.{field_kind, kind_there, kinds_long}
 use Rattle.fb_read.specs.Tails.{parts_from}

@@ -13,7 +13,7 @@ use Rattle.fb_value.specs.Lies.{LiesInline, LiesAt, LiesItems, LiesSlots}
 use Rattle.fb_value.specs.Nth.{nth_entry, LiesInSlot, slot_place}
 use Rattle.fb_value.specs.View.{view}
 use Rattle.fb_value.specs.declared.values.Value.{Value}
-use Rattle.fb_value.proofs.EachPartLiesInItsPlace.{entry_lies_shown, element_lies_shown}
+use Rattle.fb_value.proofs.held.EachPartLiesInItsPlace.{entry_lies_shown, element_lies_shown}
 use Rattle.fb_read.specs.Values.{elements_named}
 use Rattle.fb_read.specs.Visits.{slot_seen, slots_seen}
 use Rattle.fb_read.specs.Tails.{entries_from, parts_from}

@@ -10,7 +10,7 @@ use Rattle.fb_value.specs.Lies.{Lies}
 use Rattle.fb_value.specs.Places.{part_place, table_part}
 use Rattle.fb_value.specs.Faults.{fault_from}
 use Rattle.fb_value.specs.Holds.{Holds, Refuses, header_fault, checked_identifier, root_place}
-use Rattle.fb_value.proofs.BytesHoldAValueOrAFault.{outcome_shown}
+use Rattle.fb_value.proofs.held.BytesHoldAValueOrAFault.{outcome_shown}
 use Rattle.fb_read.specs.Visits.{outcome, visit}
 
 err_told : (o : Option ReadFault) (n : ℕ) (f : ReadFault) → outcome o n ≡ Err f → o ≡ Some f

@@ -14,7 +14,7 @@ use Rattle.fb_value.specs.Places.{inline_place, named_slots, target_of, slot_num
 use Rattle.fb_value.specs.Rules.{fault_by}
 use Rattle.fb_value.specs.Lies.{LiesInline, LiesParts, Element, Lies, LiesAt, LiesItems, LiesSlots}
 use Rattle.fb_value.specs.Nth.{nth_entry, nth_part, LiesInSlot, slot_place}
-use Rattle.fb_value.proofs.EachPartLiesInItsPlace.{entry_lies_shown, element_lies_shown}
+use Rattle.fb_value.proofs.held.EachPartLiesInItsPlace.{entry_lies_shown, element_lies_shown}
 use Rattle.fb_read.specs.Tails.{entries_from, parts_from}
 use Rattle.fb_read.specs.Walks.{entered_in}
 use Rattle.fb_read.specs.Visits.{slot_seen, slots_seen}

@@ -3,8 +3,8 @@ use Rattle.std.proofs.lemmas.List.{length-map}
 use Rattle.std.specs.Vec.{with_items}
 use Rattle.fb_value.specs.Room.{room_of}
 use Rattle.fb_value.specs.View.{view}
-use Rattle.fb_value.proofs.EachVariantHasItsView.{view-Fields}
-use Rattle.fb_value.proofs.NestingIsBoundedByDepth.{nesting_of_depth_shown, root_fits}
+use Rattle.fb_value.proofs.types.EachVariantHasItsView.{view-Fields}
+use Rattle.fb_value.proofs.types.NestingIsBoundedByDepth.{nesting_of_depth_shown, root_fits}
 use Rattle.fb_build.specs.Needs.{need}
 use Rattle.fb_build.specs.Vtables.{VtablesKnown}
 use Rattle.fb_build.proofs.vtables.KeyHasTheBytes.{different}

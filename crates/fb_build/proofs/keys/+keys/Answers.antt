@@ -1,6 +1,6 @@
 use Rattle.std.proofs.Common.{◌≡◌, ◌<◌, ◌≤◌, ◌∙◌, true, false, subst, get_or, length, sym, arith, rules}
 use Rattle.std.proofs.lemmas.List.{drop_all}
-use Rattle.fb_value.proofs.EachVariantHasItsView.{view-Fields, view-Items, view-Member, count-parts_view}
+use Rattle.fb_value.proofs.types.EachVariantHasItsView.{view-Fields, view-Items, view-Member, count-parts_view}
 use Rattle.fb_build.proofs.tables.PartsFitTheirSlots.{count_is, needs_one, needs_item, whole_at}
 use Rattle.fb_layout.specs.Laid.{slots_of}
 use Rattle.fb_value.specs.View.{view, parts_view, entries_view}

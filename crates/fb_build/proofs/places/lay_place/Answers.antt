@@ -10,7 +10,7 @@ use Rattle.fb_value.specs.Places.{part_place}
 use Rattle.fb_build.specs.Tails.{LaidInTail}
 use Rattle.fb_value.specs.View.{view, parts_view}
 use Rattle.fb_value.specs.Wanted.{struct_wanted}
-use Rattle.fb_value.proofs.EachVariantHasItsView.{view-Fixed}
+use Rattle.fb_value.proofs.types.EachVariantHasItsView.{view-Fixed}
 use Rattle.fb_build.proofs.fields.FieldHasItsValue.{reference_known}
 use Rattle.fb_build.proofs.tail.WhatIsLaidStaysLaid.{grown_long}
 use Rattle.fb_build.proofs.tail.MultiplesAdd.{sum_divides}

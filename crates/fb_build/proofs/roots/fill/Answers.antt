@@ -1,6 +1,6 @@
 use Rattle.std.proofs.Common.{◌≡◌, ◌+◌, ◌%◌, ◌∙◌, true, Some, ap, length, arith}
 use Rattle.std.proofs.lemmas.Bool.{eq-eqb, eqb-true}
-use Rattle.fb_value.proofs.TailsAreKeptInFront.{through}
+use Rattle.fb_value.proofs.tails.TailsAreKeptInFront.{through}
 use Rattle.fb_value.specs.Datum.{a_table}
 use Rattle.fb_value.specs.Num.{Bytes, divides}
 use Rattle.fb_value.specs.View.{entries_view}
@@ -9,7 +9,7 @@ use Rattle.fb_build.proofs.roots.TailWithItsRootIsABuffer.{whole_old}
 use Rattle.std.proofs.Common.{ℕ, ◌-◌, [], subst, append-nil}
 use Rattle.fb_value.specs.Lies.{LiesAt}
 use Rattle.fb_value.specs.Places.{part_place, ref_place, table_part}
-use Rattle.fb_value.proofs.TailsAreKeptInFront.{whole_shown}
+use Rattle.fb_value.proofs.tails.TailsAreKeptInFront.{whole_shown}
 use Rattle.fb_build.specs.Builders.{vtables_in}
 use Rattle.fb_build.specs.CoveredTails.{parts_in_tail}
 use Rattle.fb_build.specs.Made.{IsMade}

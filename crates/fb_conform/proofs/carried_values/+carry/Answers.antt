@@ -5,7 +5,7 @@ use Rattle.fb_layout.specs.Laid.{slot_of, slots_of}
 use Rattle.fb_value.specs.Datum.{a_table}
 use Rattle.fb_value.specs.View.{view, entries_view}
 use Rattle.fb_value.specs.declared.values.Value.{Value}
-use Rattle.fb_value.proofs.EachVariantHasItsView.{view-Fields}
+use Rattle.fb_value.proofs.types.EachVariantHasItsView.{view-Fields}
 use Rattle.fb_conform.specs.Carry.{carry_slots}
 use Rattle.fb_conform.proofs.carried_values.EntriesAreCarriedInOrder.{SoFar, one_carried, one_default, all_done, all_parts}
 use Rattle.fb_conform.proofs.carried_values.+carry.Goals as goal

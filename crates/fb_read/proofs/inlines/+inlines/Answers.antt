@@ -1,7 +1,7 @@
 use Rattle.std.proofs.Common.{◌≡◌, ◌≤◌, ◌<◌, ◌∙◌, length, Some, sym, ap, arith}
 use Rattle.fb_schema.specs.declared.types.FieldInfo.{FieldInfo}
 use Rattle.fb_layout.specs.Laid.{stored_kind}
-use Rattle.fb_value.proofs.EachVariantHasItsView.{view-Fixed}
+use Rattle.fb_value.proofs.types.EachVariantHasItsView.{view-Fixed}
 use Rattle.fb_read.specs.Kinds.{rank}
 use Rattle.fb_read.proofs.items.PartsLieInTheirPlaces.{field_kind, field_within, field_there}
 use Rattle.fb_read.proofs.read_tables.OneValueMore.{parts_grown, parts_entered_more}

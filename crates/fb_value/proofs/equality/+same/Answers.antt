@@ -1,6 +1,6 @@
 use Rattle.std.proofs.Common.{◌<◌, length, arith}
 use Rattle.std.proofs.lemmas.Bool.{false≢true}
-use Rattle.fb_value.proofs.EachVariantHasItsView.{view-Fields}
+use Rattle.fb_value.proofs.types.EachVariantHasItsView.{view-Fields}
 use Rattle.fb_value.proofs.equality.EqualViewsHaveEqualParts.{parts_alike, entries_alike, parts_long, entries_long}
 use Rattle.fb_value.proofs.equality.+same.Goals as goal
 

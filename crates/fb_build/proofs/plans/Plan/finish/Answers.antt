@@ -5,7 +5,7 @@ use Rattle.fb_value.specs.Counts.{cells, depth}
 use Rattle.fb_value.specs.Holds.{Holds}
 use Rattle.fb_value.specs.OldSlots.{OnlyOld}
 use Rattle.fb_value.specs.View.{view, entries_view}
-use Rattle.fb_value.proofs.EachVariantHasItsView.{view-Fields}
+use Rattle.fb_value.proofs.types.EachVariantHasItsView.{view-Fields}
 use Rattle.fb_build.specs.Covered.{Covered, EndsAligned}
 use Rattle.fb_build.proofs.plans.Plan.finish.Goals as goal
 

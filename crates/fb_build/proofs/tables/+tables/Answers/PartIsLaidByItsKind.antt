@@ -3,7 +3,7 @@ use Rattle.std.proofs.Common.{◌≡◌, rules}
 use Rattle.fb_layout.specs.Laid.{stored_shape}
 use Rattle.fb_value.specs.View.{view}
 use Rattle.fb_value.specs.declared.values.Value.{the_lemmas}
-use Rattle.fb_value.proofs.EachVariantHasItsView.{view-Member, view-Fields}
+use Rattle.fb_value.proofs.types.EachVariantHasItsView.{view-Member, view-Fields}
 use Rattle.fb_build.proofs.tables.EachSlotAddsItsParts.{member_parts}
 use Rattle.fb_build.proofs.tables.+tables.Goals as goal
 

@@ -5,7 +5,7 @@ use Rattle.fb_schema.specs.Seen.{field_seen}
 use Rattle.fb_layout.specs.Laid.{slot_of}
 use Rattle.fb_value.specs.View.{view}
 use Rattle.fb_value.specs.declared.values.Value.{Value, the_lemmas}
-use Rattle.fb_value.proofs.EachVariantHasItsView.{view-Number}
+use Rattle.fb_value.proofs.types.EachVariantHasItsView.{view-Number}
 use Rattle.fb_build.specs.Fields.{stored_seen, slots_seen}
 use Rattle.fb_build.proofs.builder.BuildsFollowEachOther.{builds_nothing, builds_then}
 use Rattle.fb_build.proofs.fields.SlotStoresItsEntry.{slots_at, entries_at, stored_next, slots_long, entries_long}

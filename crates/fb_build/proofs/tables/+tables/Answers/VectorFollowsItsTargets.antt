@@ -3,7 +3,7 @@ use Rattle.std.proofs.Common.{◌≡◌, ◌<◌, ◌-◌, ◌∙◌, true, fals
 use Rattle.std.proofs.Common.{ap, subst, length, map, arith, rules}
 use Rattle.fb_value.specs.View.{view, parts_view}
 use Rattle.fb_value.specs.declared.values.Value.{the_lemmas}
-use Rattle.fb_value.proofs.EachVariantHasItsView.{count-parts_view}
+use Rattle.fb_value.proofs.types.EachVariantHasItsView.{count-parts_view}
 use Rattle.fb_build.proofs.builder.BuildsFollowEachOther.{builds_nothing, builds_then}
 use Rattle.fb_build.proofs.tables.PartsFitTheirSlots.{part_fits, target_end, each_at, whole_at, needs_item, item_room}
 use Rattle.fb_build.proofs.tables.PartsFitTheirSlots.{item_passed, none_wait}
