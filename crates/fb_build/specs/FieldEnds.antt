@@ -1,6 +1,6 @@
 -- Where each stored field of a table stands, and the vtable that tells it.
 -- From the FlatBuffers documentation, "FlatBuffer Internals": Tables. In which order fields stand is this project's
--- own: from the table's end on by falling alignment, those of one alignment in the order of their slots.
+-- own: from the table's end on by descending alignment, those of one alignment in the order of their slots.
 use Rattle.std.specs.Prelude.{ℕ, suc, ◌+◌, ◌≡◌, ◌==◌, ◌&&◌, Bool, true, if◌then◌else◌, List, [], ◌∷◌, take, Option}
 use Rattle.std.specs.Prelude.{Some, slice_get, slice_index}
 use Rattle.fb_layout.specs.Laid.{LaidSchema, Slot}
