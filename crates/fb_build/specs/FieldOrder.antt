@@ -1,10 +1,10 @@
 -- In which order the stored fields of a table are laid, and how their slots are linked in it.
 -- From the FlatBuffers documentation, "FlatBuffer Internals": Tables. The order is this project's own: by descending
 -- alignment, fields of one alignment in the order of their slots.
-use Rattle.std.specs.Prelude.{ℕ, suc, ◌+◌, ◌*◌, ◌<◌, ◌≤◌, ◌≡◌, ◌⊎◌, ◌&&◌, Bool, true, false, cond, nat_lt, List, ◌∷◌}
-use Rattle.std.specs.Prelude.{Option, Some, slice_get, slice_index, if◌then◌else◌}
+use Rattle.std.specs.Prelude.{ℕ, ◌+◌, ◌*◌, ◌<◌, ◌≤◌, ◌≡◌, ◌⊎◌, Bool, true, false, cond, nat_lt, List}
+use Rattle.std.specs.Prelude.{Option, Some, slice_get, slice_index}
 use Rattle.fb_layout.specs.Laid.{LaidSchema, Slot}
-use Rattle.fb_layout.specs.Widths.{inline_size, inline_align}
+use Rattle.fb_layout.specs.Widths.{inline_align}
 use Rattle.fb_value.specs.Datum.{Datum}
 use Rattle.fb_value.specs.Num.{Bytes}
 use Rattle.fb_build.specs.Fields.{is_stored, above, from}
@@ -49,12 +49,6 @@ pub record AreLinked (L : LaidSchema) (fs : List Slot) (xs : List (Option Datum)
     : Type 0 where
   pub begin : LinksNext L (λ k f. false) fs xs first
   pub each : (k a : ℕ) → IsStoredAt L a fs xs k → LinksNext L (before L a (k + 1)) fs xs (link_in links k)
-
--- what the slots from k on take that are stored and pass a test
-abbrev pub size_from : LaidSchema → (ℕ → Slot → Bool) → ℕ → List Slot → List (Option Datum) → ℕ
-size_from L laid k (f ∷ fs) (x ∷ xs) =
-    (if is_stored f x && laid k f then inline_size L f.shape else 0) + size_from L laid (suc k) fs xs
-size_from L laid k _ _ = 0
 
 -- ---- while the slots below m are linked, those of each alignment for themselves
 

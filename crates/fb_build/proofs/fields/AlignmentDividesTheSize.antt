@@ -20,9 +20,13 @@ use Rattle.fb_layout.proofs.sizes.AlignmentsArePowersOfTwo.{base_aligned, struct
 use Rattle.fb_layout.proofs.sizes.EachFieldTakesAByte.{struct_filled}
 use Rattle.fb_value.specs.Num.{divides}
 use Rattle.fb_build.specs.Fields.{IsStructThere, IsElement, IsSimple}
-use Rattle.fb_build.specs.Needs.{IsSliced}
 use Rattle.fb_build.proofs.tail.WhatIsLaidStaysLaid.{four_power, self_divides}
 use Rattle.fb_build.proofs.tail.MultiplesAdd.{times_divides}
+use Rattle.fb_layout.specs.Laid.{slots_of}
+
+-- what the slots of all tables hold is known
+abbrev pub IsSliced : LaidSchema → Type 0
+IsSliced L = (t k : ℕ) (f : Slot) → slice_get (slots_of L t) k ≡ Some f → IsSimple L f.shape
 
 pub struct_there : (L : LaidSchema) → IsWellMade L → (s : ℕ) → IsTrue (is_struct (body_at L.schema s))
     → IsStructThere L s

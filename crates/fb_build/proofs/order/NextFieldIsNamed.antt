@@ -8,10 +8,11 @@ use Rattle.fb_layout.specs.Widths.{inline_size, inline_align}
 use Rattle.fb_value.specs.Datum.{Datum}
 use Rattle.fb_build.specs.Fields.{is_stored, size_at, size_above, fields_size, stored_align, above, from}
 use Rattle.fb_build.specs.FieldEnds.{stored_end}
-use Rattle.fb_build.specs.FieldOrder.{before, SameOfStored, NamesNextSlot, LinksNext, size_from}
+use Rattle.fb_build.specs.FieldOrder.{before, SameOfStored, NamesNextSlot, LinksNext}
 use Rattle.fb_build.proofs.fields.SlotStoresItsEntry.{same_some, in_mapped}
 use Rattle.fb_build.proofs.fields.FieldEndsBehindThoseBefore.{own_end}
 use Rattle.fb_build.proofs.order.LaidFieldsTakeTheirSizes.{size_retested, size_before, size_part}
+use Rattle.fb_build.proofs.order.LaidFieldsTakeTheirSizes.{size_from}
 
 -- a link names a slot
 pub link_low : (L : LaidSchema) (laid : ℕ → Slot → Bool) (fs : List Slot) (xs : List (Option Datum)) (link : ℕ)

@@ -62,14 +62,6 @@ first_more L a first m fs xs h = record {
   none = h.none;
 }
 
--- before any slot is seen
-pub list_begins : (L : LaidSchema) (a first last : ℕ) (fs : List Slot) (xs : List (Option Datum)) (links : Bytes)
-    → first ≡ 0 → IsList L a fs xs links first last 0
-list_begins L a first last fs xs links is = record {
-  begin = inl (is, none_yet L a 0 fs xs);
-  each = λ j under at. absurd (omega (arith, under));
-}
-
 -- slot m isn't stored at this alignment
 pub list_passed : (L : LaidSchema) (a first last m : ℕ) (fs : List Slot) (xs : List (Option Datum)) (links : Bytes)
     → (IsStoredAt L a fs xs m → ⊥) → IsList L a fs xs links first last m → IsList L a fs xs links first last (m + 1)

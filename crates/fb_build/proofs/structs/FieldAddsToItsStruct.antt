@@ -24,7 +24,15 @@ use Rattle.fb_build.specs.InlineBytes.{IsTightInline, EachInlineIn, EachFieldIn}
 use Rattle.fb_build.specs.Tails.{TailSeen, Grows}
 use Rattle.fb_build.proofs.covered.TightStructStaysTightFurtherOn.{inline_moved}
 use Rattle.fb_build.proofs.vectors.VectorHasItsElements.{parts_next}
-use Rattle.fb_build.specs.Structs.{IsInline, kinds_seen, LieFrom}
+use Rattle.fb_build.specs.Structs.{IsInline, kinds_seen}
+
+-- The fields of these offsets lie in a tail that begins at the offset `base`, and have nothing to spare.
+abbrev pub LieFrom : LaidSchema → Bytes → ℕ → List StoredKind → List ℕ → Parts → Type 0
+LieFrom L b base (kind ∷ kinds) (o ∷ os) (more_parts d ds) =
+    (base ≤ o) × LiesInline L b kind (o - base) d × EachInlineIn L (IsTightInline L b) kind (o - base) d
+    × LieFrom L b base kinds os ds
+LieFrom L b base [] _ no_parts = Unit {0}
+LieFrom L b base _ _ _ = ⊥
 
 -- bytes in front keep what stands inline
 pub inline_kept : (L : LaidSchema) (front b : Bytes) (kind : StoredKind) (p : ℕ) (d : Datum) → LiesInline L b kind p d

@@ -88,9 +88,6 @@ power_some n p = rw p.is (pow_pos p.exponent)
 pub four_power : IsAlignment 4
 four_power = record { exponent = 2; few = omega arith; is = refl }
 
-pub eight_power : IsAlignment 8
-eight_power = record { exponent = 3; few = omega arith; is = refl }
-
 pub then_grows : (a b c : TailSeen) → Grows a b → Grows b c → Grows a c
 then_grows a b c g h = record {
   front = h.front ++ g.front;

@@ -22,10 +22,6 @@ ok_told None n m e = refl
 ok_told (Some g) n m e = cc
 
 module _ (L : LaidSchema) (most : Bounds) (raw : Bool) (b : Bytes) (made : IsWellMade L) where
-  -- refused by the header
-  pub refused_front : (f : ReadFault) → header_fault b (checked_identifier L raw) ≡ Some f → Refuses L most raw b f
-  refused_front f fails = outcome_shown L most raw b (Some f) made (rw fails refl)
-
   -- refused behind a header that keeps its rules
   pub refused_root : (f : ReadFault) → header_fault b (checked_identifier L raw) ≡ None
       → visit L b most (root_place L) 0 0 ≡ Err f → Refuses L most raw b f

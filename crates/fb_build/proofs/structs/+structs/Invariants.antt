@@ -2,7 +2,8 @@ use Rattle.std.proofs.Common.{◌≡◌, ◌+◌, ◌-◌, length, drop, slice_i
 use Rattle.fb_layout.specs.Laid.{parts_of, struct_at}
 use Rattle.fb_value.specs.View.{parts_view}
 use Rattle.fb_build.specs.Tails.{Grows}
-use Rattle.fb_build.specs.Structs.{LieFrom, PadsFrom}
+use Rattle.fb_build.proofs.structs.FieldAddsToItsStruct.{LieFrom}
+use Rattle.fb_build.proofs.structs.StructPaddingIsZero.{PadsFrom}
 use Rattle.fb_build.proofs.structs.+structs.Given as goal
 
 abbrev pub invariant-lay_struct-loop-k : goal.invariant-lay_struct-loop-k
