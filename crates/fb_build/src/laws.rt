@@ -3,6 +3,7 @@ ghost use Rattle.fb_build.specs.CoveredLaws.{CoveredByItsValue, ZeroOutside, Few
 ghost use Rattle.fb_build.specs.CoveredTails.{TightKeptInFront, ReachedKeptInFront, InlineKeptInFront};
 ghost use Rattle.fb_build.specs.CoveredSteps.{RunsKeptByMore, ChunksJoin, MadeInFront, OnceWhereDistinct};
 ghost use Rattle.fb_build.specs.CoveredSteps.{MadeWhole, CoveredWhole};
+ghost use Rattle.fb_build.specs.ExampleBuffersAreCovered.{ExamplesAreCovered};
 ghost use Rattle.fb_build.specs.ExampleBuffersHaveSlack.{ExamplesHaveSlack};
 ghost use Rattle.fb_build.specs.Taken.{ZeroIsComputed};
 
@@ -19,6 +20,11 @@ pub fn zero_outside()
 /// Bytes in no piece are fewer, one behind the other, than the greatest alignment.
 pub fn few_outside()
     ensures { FewOutside }
+{}
+
+/// Worked buffers are covered, and end at a multiple of their greatest alignment.
+pub fn examples_are_covered()
+    ensures { ExamplesAreCovered }
 {}
 
 /// A buffer that holds its value isn't covered where it has slack: an example for each kind.
