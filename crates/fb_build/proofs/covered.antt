@@ -11,8 +11,10 @@ pub mod PartsStayAsLaid
 pub mod ReachedPartsAreListed
 pub mod ReachedVtablesAreInside
 pub mod ReferenceLeadsThereFurtherOn
+pub mod SlackIsNotCovered
 pub mod TestsTellWhatIsCovered
 pub mod TightStructStaysTightFurtherOn
 pub mod TightTableStaysTightFurtherOn
 pub mod TightTailIsCovered
+pub mod UncoveredBytesAreZero
 pub mod ZeroOutsideIsComputed

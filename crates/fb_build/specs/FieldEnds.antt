@@ -1,6 +1,6 @@
 -- Where each stored field of a table stands, and the vtable that tells it.
 -- From the FlatBuffers documentation, "FlatBuffer Internals": Tables. In which order fields stand is this project's
--- own: from the table's end on by falling alignment, those of one alignment in the order of their slots.
+-- own: from the table's end on by descending alignment, those of one alignment in the order of their slots.
 use Rattle.std.specs.Prelude.{ℕ, suc, ◌+◌, ◌≡◌, ◌==◌, ◌&&◌, Bool, true, if◌then◌else◌, List, [], ◌∷◌, take, Option}
 use Rattle.std.specs.Prelude.{Some, slice_get, slice_index}
 use Rattle.fb_layout.specs.Laid.{LaidSchema, Slot}
@@ -47,8 +47,3 @@ table_vtable L fs xs = vtable_bytes (table_size L fs xs) (table_size L fs xs) (u
 abbrev pub AreCounted : LaidSchema → ℕ → (ℕ → Slot → Bool) → List Slot → List (Option Datum) → List ℕ → Type 0
 AreCounted L base laid fs xs ends = (k : ℕ) (f : Slot) (x : Option Datum) → slice_get fs k ≡ Some f
     → slice_get xs k ≡ Some x → (is_stored f x && laid k f) ≡ true → slice_index ends k ≡ base + stored_end L fs xs k f
-
--- the same from 0 on, and all others have 0
-abbrev pub ArePlaced : LaidSchema → (ℕ → Slot → Bool) → List Slot → List (Option Datum) → List ℕ → Type 0
-ArePlaced L placed fs xs ends = (k : ℕ) (f : Slot) (x : Option Datum) → slice_get fs k ≡ Some f
-    → slice_get xs k ≡ Some x → slice_index ends k ≡ (if is_stored f x && placed k f then stored_end L fs xs k f else 0)

@@ -1,10 +1,10 @@
 -- In which order the stored fields of a table are laid, and how their slots are linked in it.
--- From the FlatBuffers documentation, "FlatBuffer Internals": Tables. The order is this project's own: by falling
+-- From the FlatBuffers documentation, "FlatBuffer Internals": Tables. The order is this project's own: by descending
 -- alignment, fields of one alignment in the order of their slots.
-use Rattle.std.specs.Prelude.{ℕ, suc, ◌+◌, ◌*◌, ◌<◌, ◌≤◌, ◌≡◌, ◌⊎◌, ◌&&◌, Bool, true, false, cond, nat_lt, List, ◌∷◌}
-use Rattle.std.specs.Prelude.{Option, Some, slice_get, slice_index, if◌then◌else◌}
+use Rattle.std.specs.Prelude.{ℕ, ◌+◌, ◌*◌, ◌<◌, ◌≤◌, ◌≡◌, ◌⊎◌, Bool, true, false, cond, nat_lt, List}
+use Rattle.std.specs.Prelude.{Option, Some, slice_get, slice_index}
 use Rattle.fb_layout.specs.Laid.{LaidSchema, Slot}
-use Rattle.fb_layout.specs.Widths.{inline_size, inline_align}
+use Rattle.fb_layout.specs.Widths.{inline_align}
 use Rattle.fb_value.specs.Datum.{Datum}
 use Rattle.fb_value.specs.Num.{Bytes}
 use Rattle.fb_build.specs.Fields.{is_stored, above, from}
@@ -27,8 +27,8 @@ abbrev pub SameOfStored : (ℕ → Slot → Bool) → (ℕ → Slot → Bool) �
 SameOfStored t u fs xs = (k : ℕ) (f : Slot) (x : Option Datum) → slice_get fs k ≡ Some f → slice_get xs k ≡ Some x
     → is_stored f x ≡ true → t k f ≡ u k f
 
--- A link names a slot, one up: the next one behind all those that pass a test.
-pub record IsNext (L : LaidSchema) (laid : ℕ → Slot → Bool) (fs : List Slot) (xs : List (Option Datum))
+-- A link is a slot plus one: the next slot behind all those that pass a test.
+pub record NamesNextSlot (L : LaidSchema) (laid : ℕ → Slot → Bool) (fs : List Slot) (xs : List (Option Datum))
     (link : ℕ) : Type 0 where
   pub slot : ℕ
   pub is : link ≡ slot + 1
@@ -38,7 +38,7 @@ pub record IsNext (L : LaidSchema) (laid : ℕ → Slot → Bool) (fs : List Slo
 
 -- Or it is 0, and all that is stored passes.
 abbrev pub LinksNext : LaidSchema → (ℕ → Slot → Bool) → List Slot → List (Option Datum) → ℕ → Type 0
-LinksNext L laid fs xs link = ((link ≡ 0) × SameOfStored laid (λ k f. true) fs xs) ⊎ IsNext L laid fs xs link
+LinksNext L laid fs xs link = ((link ≡ 0) × SameOfStored laid (λ k f. true) fs xs) ⊎ NamesNextSlot L laid fs xs link
 
 -- the link of slot k, in two bytes
 abbrev pub link_in : Bytes → ℕ → ℕ
@@ -49,12 +49,6 @@ pub record AreLinked (L : LaidSchema) (fs : List Slot) (xs : List (Option Datum)
     : Type 0 where
   pub begin : LinksNext L (λ k f. false) fs xs first
   pub each : (k a : ℕ) → IsStoredAt L a fs xs k → LinksNext L (before L a (k + 1)) fs xs (link_in links k)
-
--- what the slots from k on take that are stored and pass a test
-abbrev pub size_from : LaidSchema → (ℕ → Slot → Bool) → ℕ → List Slot → List (Option Datum) → ℕ
-size_from L laid k (f ∷ fs) (x ∷ xs) =
-    (if is_stored f x && laid k f then inline_size L f.shape else 0) + size_from L laid (suc k) fs xs
-size_from L laid k _ _ = 0
 
 -- ---- while the slots below m are linked, those of each alignment for themselves
 
@@ -85,7 +79,7 @@ pub record IsFollowed (L : LaidSchema) (a : ℕ) (fs : List Slot) (xs : List (Op
   pub there : IsStoredAt L a fs xs slot
   pub none : NoneStoredAt L a fs xs (j + 1) slot
 
--- The slots below m that are stored at an alignment: the first and the last, one up, and each links to the next.
+-- The slots below m that are stored at an alignment: the first and the last, plus one, and each links to the next.
 pub record IsList (L : LaidSchema) (a : ℕ) (fs : List Slot) (xs : List (Option Datum)) (links : Bytes)
     (first last m : ℕ) : Type 0 where
   pub begin : ((first ≡ 0) × NoneStoredAt L a fs xs 0 m) ⊎ (IsFirst L a fs xs first m × IsLast L a fs xs last m)

@@ -111,10 +111,6 @@ number_in _ = pos 0
 abbrev pub number_of_datum : Datum → ℤ
 number_of_datum d = number_in (Some d)
 
--- a number that isn't stored
-abbrev pub IsDefault : Slot → Datum → Type 0
-IsDefault f d = (f.required ≡ false) × (n : ℤ) × (f.if_absent ≡ Some n) × (d ≡ a_number n)
-
 abbrev pub differs : Option ℤ → ℤ → Bool
 differs None n = true
 differs (Some k) n = not (int_eq k n)

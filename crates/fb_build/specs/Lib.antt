@@ -25,5 +25,5 @@ pub mod FaultNumbers
 pub mod Made
 pub mod Builders
 pub mod FieldsLaid
-pub mod UncoveredBytesAreZero
+pub mod ExampleBuffersAreCovered
 pub mod ExampleBuffersHaveSlack

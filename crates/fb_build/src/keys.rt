@@ -113,31 +113,30 @@ pub(crate) fn add_table(
     known: &mut IndexSet<Vec<u8>>,
     layout: &Layout,
     table: TypeId,
-    entries: &Vec<Option<Value>>,
+    entries: &[Option<Value>],
     ends: &mut [u32],
     scratch: &mut [u8],
 ) -> Result<usize, BuildFault>
-    requires small { entries_count (entries_view entries.now.items)
-        + entries_need (entries_view entries.now.items) ≤ 2147483647 }
-    requires fits { EntriesFit layout.now (slots_of layout.now table.0) (entries_view entries.now.items) }
-    requires whole { entries_whole (entries_view entries.now.items) ≡ true }
+    requires small { entries_count (entries_view entries.now)
+        + entries_need (entries_view entries.now) ≤ 2147483647 }
+    requires fits { EntriesFit layout.now (slots_of layout.now table.0) (entries_view entries.now) }
+    requires whole { entries_whole (entries_view entries.now) ≡ true }
     requires many { 32765 ≤ length ends.old }
     requires long { 65534 ≤ length scratch.old }
-    ensures need { IfOk result (λ n. n ≡ entries_count (entries_view entries.now.items)
-        + entries_need (entries_view entries.now.items)) }
+    ensures need { IfOk result (λ n. n ≡ entries_count (entries_view entries.now)
+        + entries_need (entries_view entries.now)) }
     ensures known { OnOk result (VtablesKnown layout.now (map (λ k. k.items) known.new.keys)
-        (a_table table.0 (entries_view entries.now.items))) }
+        (a_table table.0 (entries_view entries.now))) }
     ensures kept { OnOk result (AreKept (map (λ k. k.items) known.old.keys) (map (λ k. k.items) known.new.keys)) }
     ensures long { length scratch.new ≡ length scratch.old }
     ensures each { length ends.new ≡ length ends.old }
     ensures fault { IfErr result (λ e. e ≡ Memory) }
 {
     let _schema = layout.schema(); // its contract: the layout is well made
-    let slots = entries.as_slice();
-    add_vtable(alloc, known, layout, table, slots, ends, scratch)?;
+    add_vtable(alloc, known, layout, table, entries, ends, scratch)?;
     let mut most = 0;
-    for k in 0..entries.len() {
-        let own = add_entry(alloc, known, layout, &entries[k], ends, scratch)?;
+    for entry in entries {
+        let own = add_entry(alloc, known, layout, entry, ends, scratch)?;
         most = own.max(most);
     }
     Ok(entries.len() + most)
@@ -219,20 +218,20 @@ fn add_items(
     alloc: Global,
     known: &mut IndexSet<Vec<u8>>,
     layout: &Layout,
-    items: &Vec<Value>,
+    items: &[Value],
     ends: &mut [u32],
     scratch: &mut [u8],
 ) -> Result<usize, BuildFault>
-    requires small { count (parts_view items.now.items) + parts_need (parts_view items.now.items)
+    requires small { count (parts_view items.now) + parts_need (parts_view items.now)
         ≤ 2147483647 }
-    requires fits { EachFitsSomewhere layout.now (parts_view items.now.items) }
-    requires whole { parts_whole (parts_view items.now.items) ≡ true }
+    requires fits { EachFitsSomewhere layout.now (parts_view items.now) }
+    requires whole { parts_whole (parts_view items.now) ≡ true }
     requires many { 32765 ≤ length ends.old }
     requires long { 65534 ≤ length scratch.old }
-    ensures need { IfOk result (λ n. n ≡ count (parts_view items.now.items)
-        + parts_need (parts_view items.now.items)) }
+    ensures need { IfOk result (λ n. n ≡ count (parts_view items.now)
+        + parts_need (parts_view items.now)) }
     ensures known { OnOk result (PartsVtablesKnown layout.now (map (λ k. k.items) known.new.keys)
-        (parts_view items.now.items)) }
+        (parts_view items.now)) }
     ensures kept { OnOk result (AreKept (map (λ k. k.items) known.old.keys) (map (λ k. k.items) known.new.keys)) }
     ensures long { length scratch.new ≡ length scratch.old }
     ensures each { length ends.new ≡ length ends.old }

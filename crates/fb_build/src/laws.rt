@@ -3,6 +3,8 @@ ghost use Rattle.fb_build.specs.CoveredLaws.{CoveredByItsValue, ZeroOutside, Few
 ghost use Rattle.fb_build.specs.CoveredTails.{TightKeptInFront, ReachedKeptInFront, InlineKeptInFront};
 ghost use Rattle.fb_build.specs.CoveredSteps.{RunsKeptByMore, ChunksJoin, MadeInFront, OnceWhereDistinct};
 ghost use Rattle.fb_build.specs.CoveredSteps.{MadeWhole, CoveredWhole};
+ghost use Rattle.fb_build.specs.ExampleBuffersAreCovered.{ExamplesAreCovered};
+ghost use Rattle.fb_build.specs.ExampleBuffersHaveSlack.{ExamplesHaveSlack};
 ghost use Rattle.fb_build.specs.Taken.{ZeroIsComputed};
 
 /// A buffer is covered by the value that it encodes.
@@ -18,6 +20,16 @@ pub fn zero_outside()
 /// Bytes in no piece are fewer, one behind the other, than the greatest alignment.
 pub fn few_outside()
     ensures { FewOutside }
+{}
+
+/// Worked buffers are covered, and end at a multiple of their greatest alignment.
+pub fn examples_are_covered()
+    ensures { ExamplesAreCovered }
+{}
+
+/// A buffer that holds its value isn't covered where it has slack: an example for each kind.
+pub fn examples_have_slack()
+    ensures { ExamplesHaveSlack }
 {}
 
 /// Whether bytes that nothing takes are 0 can be computed.

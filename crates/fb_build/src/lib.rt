@@ -24,8 +24,9 @@ mod vtables;
 pub use buffers::{build, plan};
 pub use faults::BuildFault;
 pub use laws::{
-    chunks_join, covered_by_its_value, covered_whole, few_outside, inline_kept_in_front,
-    made_in_front, made_whole, once_where_distinct, reached_is_listed, reached_kept_in_front,
-    runs_kept_by_more, tight_kept_in_front, zero_is_computed, zero_outside,
+    chunks_join, covered_by_its_value, covered_whole, examples_are_covered, examples_have_slack,
+    few_outside, inline_kept_in_front, made_in_front, made_whole, once_where_distinct,
+    reached_is_listed, reached_kept_in_front, runs_kept_by_more, tight_kept_in_front,
+    zero_is_computed, zero_outside,
 };
 pub use plans::Plan;

@@ -12,7 +12,7 @@ use fb_value::Value;
 // An alignment is 1, 2, 4 .. 256.
 const ALIGNMENTS: usize = 9;
 
-/// The slot to which slot k links, one up; 0 for none. A link takes two bytes, as a slot does in a
+/// The slot to which slot k links, plus one; 0 for none. A link takes two bytes, as a slot does in a
 /// vtable: all of them fit where the longest vtable does.
 pub(crate) fn link_at(links: &[u8], k: usize) -> usize
     requires within { 2 * k + 1 < length links.now }
@@ -21,7 +21,7 @@ pub(crate) fn link_at(links: &[u8], k: usize) -> usize
     links[2 * k] as usize + 256 * links[2 * k + 1] as usize
 }
 
-/// Links slot k to another, one up; to none by 0.
+/// Sets the link of slot k: another slot plus one, or 0 for none.
 fn put_link(links: &mut [u8], k: usize, link: usize)
     requires within { 2 * k + 1 < length links.old }
     requires small { link < 65536 }
@@ -33,8 +33,8 @@ fn put_link(links: &mut [u8], k: usize, link: usize)
     links[2 * k + 1] = (link / 256) as u8;
 }
 
-/// Which power of two an alignment is.
-fn class_of(align: u32) -> usize
+/// The binary logarithm of an alignment, which is a power of two.
+fn log2_of(align: u32) -> usize
     requires power { IsAlignment align }
     ensures power { 2 ^ result ≡ align }
     ensures low { result ≤ 8 }
@@ -67,19 +67,19 @@ fn list_fields(
         let entry = &entries[k];
         let code = code_at(entries, k + 1);
         if is_stored(layout, slot, code, entry) {
-            let class = class_of(slot_align(layout, slot.shape));
-            if firsts[class] == 0 {
-                firsts[class] = k + 1;
+            let log2 = log2_of(slot_align(layout, slot.shape));
+            if firsts[log2] == 0 {
+                firsts[log2] = k + 1;
             } else {
-                put_link(links, lasts[class] - 1, k + 1);
+                put_link(links, lasts[log2] - 1, k + 1);
             }
-            lasts[class] = k + 1;
+            lasts[log2] = k + 1;
         }
     }
 }
 
-/// Links the stored slots of a table in the order in which their fields are laid, by falling alignment,
-/// and returns the first of them, one up; 0 for none.
+/// Links the stored slots of a table in the order in which their fields are laid, by descending
+/// alignment, and returns the first of them, plus one; 0 for none.
 pub(crate) fn order_fields(
     layout: &Layout,
     slots: &[FieldInfo],
@@ -100,10 +100,10 @@ pub(crate) fn order_fields(
     list_fields(layout, slots, entries, links, &mut firsts, &mut lasts);
     // The list of the lowest alignment ends them all; each other one goes on with those below.
     let mut next = 0;
-    for class in 0..ALIGNMENTS {
-        if firsts[class] != 0 {
-            put_link(links, lasts[class] - 1, next);
-            next = firsts[class];
+    for log2 in 0..ALIGNMENTS {
+        if firsts[log2] != 0 {
+            put_link(links, lasts[log2] - 1, next);
+            next = firsts[log2];
         }
     }
     next

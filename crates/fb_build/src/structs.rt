@@ -20,14 +20,14 @@ use fb_value::Value;
 
 /// Lays the fields of a struct from the last to the first, with the zeros behind each.
 #[cycle(structs)]
-pub(crate) fn lay_struct(out: &mut Tail, layout: &Layout, structure: TypeId, parts: &Vec<Value>)
+pub(crate) fn lay_struct(out: &mut Tail, layout: &Layout, structure: TypeId, parts: &[Value])
     requires there { IsTrue (is_struct (body_at layout.now.schema structure.0)) }
-    requires fits { PartsFit layout.now (parts_of layout.now structure.0) (parts_view parts.now.items) }
+    requires fits { PartsFit layout.now (parts_of layout.now structure.0) (parts_view parts.now) }
     requires room { (struct_at layout.now structure.0).size ≤ out.old.free }
     ensures lies { LiesParts layout.now out.new.bytes (parts_of layout.now structure.0)
-        (struct_at layout.now structure.0).offsets 0 (parts_view parts.now.items) }
+        (struct_at layout.now structure.0).offsets 0 (parts_view parts.now) }
     ensures inline { EachInlineIn layout.now (IsTightInline layout.now out.new.bytes)
-        (struct_kind structure.0) 0 (a_struct (parts_view parts.now.items)) }
+        (struct_kind structure.0) 0 (a_struct (parts_view parts.now)) }
     ensures free { out.new.free + (struct_at layout.now structure.0).size ≡ out.old.free }
     ensures most { out.new.most ≡ out.old.most }
     ensures grows { Grows out.old out.new }

@@ -38,26 +38,26 @@ pub(crate) fn lay_table(
     builder: &mut Builder,
     layout: &Layout,
     table: TypeId,
-    entries: &Vec<Option<Value>>,
+    entries: &[Option<Value>],
     pending: &mut [u32],
 ) -> u32
-    requires fits { EntriesFit layout.now (slots_of layout.now table.0) (entries_view entries.now.items) }
-    requires whole { entries_whole (entries_view entries.now.items) ≡ true }
+    requires fits { EntriesFit layout.now (slots_of layout.now table.0) (entries_view entries.now) }
+    requires whole { entries_whole (entries_view entries.now) ≡ true }
     requires room { table_room layout.now table.0 + entries_room layout.now (slots_of layout.now table.0)
-        (entries_view entries.now.items) ≤ builder.old.tail.free }
-    requires pending { entries_count (entries_view entries.now.items)
-        + entries_need (entries_view entries.now.items) ≤ length pending.old }
+        (entries_view entries.now) ≤ builder.old.tail.free }
+    requires pending { entries_count (entries_view entries.now)
+        + entries_need (entries_view entries.now) ≤ length pending.old }
     requires vtables { VtablesKnown layout.now (vtables_in builder.old)
-        (a_table table.0 (entries_view entries.now.items)) }
+        (a_table table.0 (entries_view entries.now)) }
     requires ready { IsBuilder builder.old }
     ensures lies { LaidInTail layout.now builder.new.tail.most builder.new.tail.bytes (part_place (table_part table.0))
-        result (a_table table.0 (entries_view entries.now.items)) }
+        result (a_table table.0 (entries_view entries.now)) }
     ensures adds { BuildsParts layout.now builder.old builder.new (parts_in_tail layout.now builder.new.tail.bytes
-        (table_part table.0) result (a_table table.0 (entries_view entries.now.items))) }
+        (table_part table.0) result (a_table table.0 (entries_view entries.now))) }
     ensures builds { Builds layout.now builder.old builder.new }
     ensures spent { builder.old.tail.free ≤ builder.new.tail.free
         + (table_room layout.now table.0 + entries_room layout.now (slots_of layout.now table.0)
-        (entries_view entries.now.items)) }
+        (entries_view entries.now)) }
 {
     let _schema = layout.schema(); // its contract: the layout is well made
     let slots = layout.slots_of(table);
@@ -67,11 +67,11 @@ pub(crate) fn lay_table(
         &mut builder.tail,
         layout,
         slots,
-        entries.as_slice(),
+        entries,
         builder.scratch.as_mut_slice(),
         ends,
     );
-    close_table(builder, layout, table, entries.as_slice(), start, ends)
+    close_table(builder, layout, table, entries, start, ends)
 }
 
 /// Lays what the references of a table name, and keeps their end-counts.
@@ -80,27 +80,27 @@ fn lay_targets(
     builder: &mut Builder,
     layout: &Layout,
     slots: &[FieldInfo],
-    entries: &Vec<Option<Value>>,
+    entries: &[Option<Value>],
     ends: &mut [u32],
     pending: &mut [u32],
 )
     requires each { length ends.old ≡ length slots.now }
-    requires fits { TableKnown layout.now (slots_seen layout.now slots.now) (entries_seen entries.now.items) }
+    requires fits { TableKnown layout.now (slots_seen layout.now slots.now) (entries_seen entries.now) }
     requires room { entries_room layout.now (slots_seen layout.now slots.now)
-        (entries_view entries.now.items) ≤ builder.old.tail.free }
-    requires pending { entries_need (entries_view entries.now.items) ≤ length pending.old }
+        (entries_view entries.now) ≤ builder.old.tail.free }
+    requires pending { entries_need (entries_view entries.now) ≤ length pending.old }
     requires vtables { EntriesVtablesKnown layout.now (vtables_in builder.old)
-        (entries_view entries.now.items) }
+        (entries_view entries.now) }
     requires ready { IsBuilder builder.old }
     ensures each { length ends.new ≡ length slots.now }
     ensures state { EntriesEnd layout.now 0 builder.new.tail.most builder.new.tail.bytes (λ k f. false)
-        (slots_seen layout.now slots.now) (stored_seen layout.now slots.now entries.now.items) ends.new }
+        (slots_seen layout.now slots.now) (stored_seen layout.now slots.now entries.now) ends.new }
     ensures adds { BuildsParts layout.now builder.old builder.new (ends_parts layout.now builder.new.tail.bytes
-        (named_fields (slots_seen layout.now slots.now) (stored_seen layout.now slots.now entries.now.items))
+        (named_fields (slots_seen layout.now slots.now) (stored_seen layout.now slots.now entries.now))
         ends.new) }
     ensures builds { Builds layout.now builder.old builder.new }
     ensures spent { builder.old.tail.free ≤ builder.new.tail.free
-        + entries_room layout.now (slots_seen layout.now slots.now) (entries_view entries.now.items) }
+        + entries_room layout.now (slots_seen layout.now slots.now) (entries_view entries.now) }
 {
     for k in 0..slots.len() {
         ends[k] = lay_target(builder, layout, &slots[k], &entries[k], pending);
@@ -189,35 +189,35 @@ fn lay_items(
     builder: &mut Builder,
     layout: &Layout,
     kind: Kind,
-    items: &Vec<Value>,
+    items: &[Value],
     pending: &mut [u32],
 ) -> u32
     requires fits { PartFits layout.now (vector_of (kind_seen layout.now kind))
-        (a_vector (parts_view items.now.items)) }
-    requires whole { parts_whole (parts_view items.now.items) ≡ true }
+        (a_vector (parts_view items.now)) }
+    requires whole { parts_whole (parts_view items.now) ≡ true }
     requires room { vector_room layout.now (kind_seen layout.now kind)
-        (count (parts_view items.now.items)) + parts_room layout.now (kind_seen layout.now kind)
-        (parts_view items.now.items) ≤ builder.old.tail.free }
-    requires pending { need (a_vector (parts_view items.now.items)) ≤ length pending.old }
+        (count (parts_view items.now)) + parts_room layout.now (kind_seen layout.now kind)
+        (parts_view items.now) ≤ builder.old.tail.free }
+    requires pending { need (a_vector (parts_view items.now)) ≤ length pending.old }
     requires vtables { PartsVtablesKnown layout.now (vtables_in builder.old)
-        (parts_view items.now.items) }
+        (parts_view items.now) }
     requires ready { IsBuilder builder.old }
     ensures lies { LaidInTail layout.now builder.new.tail.most builder.new.tail.bytes
         (part_place (vector_part (kind_seen layout.now kind))) result
-        (a_vector (parts_view items.now.items)) }
+        (a_vector (parts_view items.now)) }
     ensures adds { BuildsParts layout.now builder.old builder.new (parts_in_tail layout.now builder.new.tail.bytes
-        (vector_part (kind_seen layout.now kind)) result (a_vector (parts_view items.now.items))) }
+        (vector_part (kind_seen layout.now kind)) result (a_vector (parts_view items.now))) }
     ensures builds { Builds layout.now builder.old builder.new }
     ensures spent { builder.old.tail.free ≤ builder.new.tail.free
-        + (vector_room layout.now (kind_seen layout.now kind) (count (parts_view items.now.items))
-        + parts_room layout.now (kind_seen layout.now kind) (parts_view items.now.items)) }
+        + (vector_room layout.now (kind_seen layout.now kind) (count (parts_view items.now))
+        + parts_room layout.now (kind_seen layout.now kind) (parts_view items.now)) }
 {
-    if !waits(items.as_slice()) {
-        return close_vector(&mut builder.tail, layout, kind, items.as_slice(), &[]);
+    if !waits(items) {
+        return close_vector(&mut builder.tail, layout, kind, items, &[]);
     }
     let (ends, rest) = pending.split_at_mut(items.len());
     lay_item_targets(builder, layout, kind, items, ends, rest);
-    close_vector(&mut builder.tail, layout, kind, items.as_slice(), ends)
+    close_vector(&mut builder.tail, layout, kind, items, ends)
 }
 
 /// Lays what the elements of a vector name, and keeps their end-counts.
@@ -226,28 +226,28 @@ fn lay_item_targets(
     builder: &mut Builder,
     layout: &Layout,
     kind: Kind,
-    items: &Vec<Value>,
+    items: &[Value],
     ends: &mut [u32],
     pending: &mut [u32],
 )
-    requires each { length ends.old ≡ length items.now.items }
+    requires each { length ends.old ≡ length items.now }
     requires fits { PartFits layout.now (vector_of (kind_seen layout.now kind))
-        (a_vector (parts_view items.now.items)) }
-    requires whole { parts_whole (parts_view items.now.items) ≡ true }
-    requires room { parts_room layout.now (kind_seen layout.now kind) (parts_view items.now.items)
+        (a_vector (parts_view items.now)) }
+    requires whole { parts_whole (parts_view items.now) ≡ true }
+    requires room { parts_room layout.now (kind_seen layout.now kind) (parts_view items.now)
         ≤ builder.old.tail.free }
-    requires pending { parts_need (parts_view items.now.items) ≤ length pending.old }
+    requires pending { parts_need (parts_view items.now) ≤ length pending.old }
     requires vtables { PartsVtablesKnown layout.now (vtables_in builder.old)
-        (parts_view items.now.items) }
+        (parts_view items.now) }
     requires ready { IsBuilder builder.old }
-    ensures each { length ends.new ≡ length items.now.items }
+    ensures each { length ends.new ≡ length items.now }
     ensures state { TargetsEnd layout.now builder.new.tail.most builder.new.tail.bytes (kind_seen layout.now kind)
-        (map view items.now.items) ends.new }
+        (map view items.now) ends.new }
     ensures adds { BuildsParts layout.now builder.old builder.new (ends_parts layout.now builder.new.tail.bytes
-        (named_items (kind_seen layout.now kind) (map view items.now.items)) ends.new) }
+        (named_items (kind_seen layout.now kind) (map view items.now)) ends.new) }
     ensures builds { Builds layout.now builder.old builder.new }
     ensures spent { builder.old.tail.free ≤ builder.new.tail.free + parts_room layout.now (kind_seen layout.now kind)
-        (parts_view items.now.items) }
+        (parts_view items.now) }
 {
     for k in 0..items.len() {
         ends[k] = lay_part(builder, layout, Shape::One(kind), &items[k], pending);

@@ -74,19 +74,18 @@ fn carry_entries(
     alloc: Global,
     versions: Versions,
     slots: &[FieldInfo],
-    entries: &Vec<Option<Value>>,
+    entries: &[Option<Value>],
 ) -> Result<Vec<Option<Value>>, AllocError>
     ensures { IfOk result (λ carried. entries_view carried.items
         ≡ carry_slots versions.entry.before.now versions.entry.after.now
         (map (slot_of versions.entry.after.now.schema) (map field_seen slots.now))
-        (entries_view entries.now.items)) }
+        (entries_view entries.now)) }
 {
     let mut carried = Vec::with_capacity(alloc, slots.len())?;
-    for i in 0..slots.len() {
-        let entry = if i < entries.len() {
-            carry_entry(alloc, versions, &slots[i], &entries[i])?
-        } else {
-            default_entry(&slots[i])
+    for (i, slot) in slots.iter().enumerate() {
+        let entry = match entries.get(i) {
+            Some(entry) => carry_entry(alloc, versions, slot, entry)?,
+            None => default_entry(slot),
         };
         carried.push(entry)?;
     }

@@ -1,5 +1,5 @@
 -- What reading a tree gives: a value and the cells that are left, or the fault.
-use Rattle.std.specs.Prelude.{◌≡◌, ℕ, ◌-◌, ◌++◌, List, Option, None, Some, Result, Ok, Err, nat_lt, if◌then◌else◌}
+use Rattle.std.specs.Prelude.{◌≡◌, ℕ, ◌-◌, Option, None, Some, Result, Ok, Err, nat_lt, if◌then◌else◌}
 use Rattle.fb_json.specs.declared.faults.Place.{Place}
 use Rattle.fb_json.specs.declared.faults.JsonFault.{JsonFault}
 use Rattle.fb_json.specs.declared.faults.JsonFault.TheVariants.{TooManyCells, Memory}
@@ -30,8 +30,3 @@ Counted A = Result (A × ℕ) JsonFault
 -- n cells are spent
 abbrev pub spent : ℕ → Place → ℕ → Result ℕ JsonFault
 spent n at left = if nat_lt left n then Err (TooManyCells at) else Ok (left - n)
-
--- these in front of the later ones
-abbrev pub after : {A : Type 0} → List A → Counted (List A) → Counted (List A)
-after front (Err e) = Err e
-after front (Ok x) = Ok (front ++ x.0, x.1)

@@ -46,7 +46,7 @@ fn value(
 #[tactic(auto, unfolding(crate::specs::Meant::vector_meant))]
 fn vector(
     source: Source,
-    elements: &Vec<Json>,
+    elements: &[Json],
     shape: Shape,
     place: Place,
     levels: u8,
@@ -54,8 +54,8 @@ fn vector(
 ) -> Result<(Value, u32), JsonFault>
     ensures { Gives (λ x. (view x.0, x.1)) result
         (vector_meant
-        (items_meant source.entry.layout.now source.entry.unknown (items_view elements.now.items))
-        (length elements.now.items) shape place levels left) }
+        (items_meant source.entry.layout.now source.entry.unknown (items_view elements.now))
+        (length elements.now) shape place levels left) }
 {
     let Shape::Many(kind) = shape else {
         return Err(JsonFault::WrongShape(place));
@@ -71,14 +71,14 @@ fn vector(
 #[cycle(tree)]
 fn items(
     source: Source,
-    elements: &Vec<Json>,
+    elements: &[Json],
     kind: Kind,
     place: Place,
     levels: u8,
     left: u32,
 ) -> Result<(Vec<Value>, u32), JsonFault>
     ensures { Gives (λ x. (map view x.0.items, x.1)) result
-        (items_meant source.entry.layout.now source.entry.unknown (items_view elements.now.items)
+        (items_meant source.entry.layout.now source.entry.unknown (items_view elements.now)
         kind place levels left) }
 {
     let mut found = Vec::with_capacity(source.alloc, elements.len())?;

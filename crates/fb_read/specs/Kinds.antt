@@ -1,5 +1,5 @@
 -- What the values of a kind are.
-use Rattle.std.specs.Prelude.{ℕ, suc, Bool, true, false, Option, None, Some}
+use Rattle.std.specs.Prelude.{ℕ, Bool, true, false, Option, None, Some}
 use Rattle.fb_schema.specs.declared.kinds.Base.{Base}
 use Rattle.fb_layout.specs.Laid.{StoredKind, scalar_kind, struct_kind, table_kind, text_kind}
 
@@ -18,8 +18,3 @@ table_wanted _ = None
 abbrev pub is_text : StoredKind → Bool
 is_text text_kind = true
 is_text _ = false
-
--- Structs rank above those that stand in them.
-abbrev pub rank : StoredKind → ℕ
-rank (struct_kind s) = suc s
-rank _ = 0

@@ -46,14 +46,14 @@ fn same_parts(first: &[Value], second: &[Value]) -> bool
 }
 
 #[cycle(same)]
-fn same_entries(first: &Vec<Option<Value>>, second: &Vec<Option<Value>>) -> bool
-    ensures { IsTrue result ↔ (entries_view first.now.items ≡ entries_view second.now.items) }
+fn same_entries(first: &[Option<Value>], second: &[Option<Value>]) -> bool
+    ensures { IsTrue result ↔ (entries_view first.now ≡ entries_view second.now) }
 {
     if first.len() != second.len() {
         return false;
     }
-    for i in 0..first.len() {
-        if !same_entry(&first[i], &second[i]) {
+    for (i, entry) in first.iter().enumerate() {
+        if !same_entry(entry, &second[i]) {
             return false;
         }
     }

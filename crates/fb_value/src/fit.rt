@@ -106,14 +106,14 @@ fn parts_fit(layout: &Layout, fields: &[FieldInfo], parts: &[Value]) -> bool
 }
 
 #[cycle(fits)]
-fn entries_fit(layout: &Layout, slots: &[FieldInfo], entries: &Vec<Option<Value>>) -> bool
-    ensures { IsTrue result ↔ EntriesFit layout.now (slots_seen layout.now slots.now) (entries_view entries.now.items) }
+fn entries_fit(layout: &Layout, slots: &[FieldInfo], entries: &[Option<Value>]) -> bool
+    ensures { IsTrue result ↔ EntriesFit layout.now (slots_seen layout.now slots.now) (entries_view entries.now) }
 {
     if slots.len() != entries.len() {
         return false;
     }
-    for i in 0..slots.len() {
-        if !entry_fits(layout, &slots[i], &entries[i]) {
+    for (i, entry) in entries.iter().enumerate() {
+        if !entry_fits(layout, &slots[i], entry) {
             return false;
         }
     }

@@ -93,9 +93,9 @@ fn room_in_parts(layout: &Layout, kind: Kind, parts: &[Value]) -> usize
 }
 
 #[cycle(room)]
-fn room_in_entries(layout: &Layout, slots: &[FieldInfo], entries: &Vec<Option<Value>>) -> usize
+fn room_in_entries(layout: &Layout, slots: &[FieldInfo], entries: &[Option<Value>]) -> usize
     ensures { result ≡ at_most_usize
-        (entries_room layout.now (slots_seen layout.now slots.now) (entries_view entries.now.items)) }
+        (entries_room layout.now (slots_seen layout.now slots.now) (entries_view entries.now)) }
 {
     let mut total = 0usize;
     for i in 0..slots.len().min(entries.len()) {

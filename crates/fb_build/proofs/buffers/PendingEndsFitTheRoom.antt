@@ -8,9 +8,10 @@ use Rattle.fb_value.specs.Datum.{no_parts, more_parts, SlotEntries, no_entries, 
 use Rattle.fb_value.specs.Fits.{Fits, EachFits, EntriesFit}
 use Rattle.fb_value.specs.Room.{room, parts_room, entries_room, table_room}
 use Rattle.fb_build.specs.Fields.{IsSimple}
-use Rattle.fb_build.specs.Needs.{first_waits, need, parts_need, entries_count, entries_need, IsSliced}
+use Rattle.fb_build.specs.Needs.{first_waits, need, parts_need, entries_count, entries_need}
 use Rattle.fb_build.proofs.vectors.VectorHasItsElements.{element_padded}
 use Rattle.fb_build.proofs.fields.AlignmentDividesTheSize.{element_simple}
+use Rattle.fb_build.proofs.fields.AlignmentDividesTheSize.{IsSliced}
 
 fits_count : (L : LaidSchema) (fs : List Slot) (es : SlotEntries) → EntriesFit L fs es → entries_count es ≡ length fs
 fits_count L [] no_entries h = refl

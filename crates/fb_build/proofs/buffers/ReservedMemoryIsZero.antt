@@ -5,8 +5,9 @@ use Rattle.fb_layout.specs.Laid.{LaidSchema, one_of, table_kind}
 use Rattle.fb_value.specs.Datum.{Datum}
 use Rattle.fb_value.specs.Fits.{Fits}
 use Rattle.fb_value.specs.Room.{room_of}
-use Rattle.fb_build.specs.Needs.{need, IsSliced}
+use Rattle.fb_build.specs.Needs.{need}
 use Rattle.fb_build.proofs.buffers.PendingEndsFitTheRoom.{need_room}
+use Rattle.fb_build.proofs.fields.AlignmentDividesTheSize.{IsSliced}
 
 pub zero_at : (n i : ℕ) → slice_index (replicate n 0) i ≡ 0
 zero_at zero i = refl

@@ -13,7 +13,7 @@ use Rattle.fb_build.specs.Covered.{Chunk, piece_chunk, zeros_chunk, chunk_bytes,
 use Rattle.fb_build.specs.Covered.{RunsAreShort}
 use Rattle.fb_build.specs.CoveredTails.{part_further, piece_further}
 use Rattle.fb_build.specs.CoveredSteps.{RunsKeptByMore, ChunksJoin, MadeInFront}
-use Rattle.fb_value.proofs.SameBytesReadTheSameFurtherOn.{number_moved}
+use Rattle.fb_value.proofs.tails.SameBytesReadTheSameFurtherOn.{number_moved}
 
 pub runs_under : (most more : ℕ) (cs : List Chunk) → most ≤ more → RunsAreShort most cs → RunsAreShort more cs
 runs_under most more [] low h = tt

@@ -53,9 +53,6 @@ split_at n (m ∷ ms) h =
 
 -- ---- without one number
 
-not_itself : (n m : ℕ) → is_among n (m ∷ []) ≡ true → n ≡ m
-not_itself n m h = elim (or_cases (n == m) false h) [ inl e ↦ eqb-true n m e | inr f ↦ absurd (false≢true f) ]
-
 without_among : (x n : ℕ) (us vs : List ℕ) → (n ≡ x → ⊥) → is_among n (us ++ x ∷ vs) ≡ true
     → is_among n (us ++ vs) ≡ true
 without_among x n us vs ne h =

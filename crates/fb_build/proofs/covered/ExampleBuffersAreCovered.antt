@@ -1,7 +1,7 @@
 -- Worked buffers that are covered.
 use Rattle.std.specs.Prelude.{[], ◌∷◌, pos, refl}
 use Rattle.std.proofs.Common.{lit≤, inl, inr}
-use Rattle.fb_value.specs.Num.{Bytes, num}
+use Rattle.fb_value.specs.Num.{num}
 use Rattle.fb_value.specs.Places.{slot_number, named_slots}
 use Rattle.fb_value.specs.Rules.{first_failing, fault_by}
 use Rattle.fb_value.specs.Lies.{LiesAt}
@@ -15,6 +15,7 @@ use Rattle.fb_build.specs.Stored.{stored_from}
 use Rattle.fb_build.specs.Taken.{are_zero_unless}
 use Rattle.fb_build.specs.Pieces.{whole_header, whole_part, whole_vtable, each_once}
 use Rattle.fb_build.specs.Covered.{piece_chunk, zeros_chunk, Covered, EndsAligned}
+use Rattle.fb_build.specs.ExampleBuffersAreCovered.{empty_bytes}
 use Rattle.fb_build.proofs.covered.TestsTellWhatIsCovered.{one_vtable, three_tables, two_vtables, table_padded}
 use Rattle.fb_build.proofs.covered.TestsTellWhatIsCovered.{table_coded}
 
@@ -51,12 +52,8 @@ seven_covered = (
   },
 )
 
--- a table without slots, and its vtable of two numbers
-abbrev pub empty_bytes : Bytes
-empty_bytes = 8 ∷ 0 ∷ 0 ∷ 0 ∷ 4 ∷ 0 ∷ 4 ∷ 0 ∷ 4 ∷ 0 ∷ 0 ∷ 0 ∷ []
-
 -- The default is there.
-pub empty_lies : LiesAt one_int empty_bytes (root_place one_int).sort 0 (one_number 0)
+empty_lies : LiesAt one_int empty_bytes (root_place one_int).sort 0 (one_number 0)
 unfolding num slot_number named_slots first_failing fault_by
 empty_lies = (refl, (refl, refl, ((pos 0, refl, refl), tt)))
 

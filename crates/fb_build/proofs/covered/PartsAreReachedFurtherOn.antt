@@ -11,12 +11,12 @@ use Rattle.fb_value.specs.Places.{Target, table_part, member_part, text_part, ve
 use Rattle.fb_value.specs.Places.{inline_place, code_place, unknown_place, Place, slot_number, named_slots, target_of}
 use Rattle.fb_value.specs.Rules.{Aligned, fault_by, KeepsBy}
 use Rattle.fb_value.specs.Lies.{BehindBy, EntryBy, PresentEntryBy, ElementBy, LiesBy, LiesItemsBy, LiesSlotsBy}
-use Rattle.fb_value.proofs.RulesHoldOneByOne.{rule_held}
-use Rattle.fb_value.proofs.SameBytesReadTheSameFurtherOn.{moved}
+use Rattle.fb_value.proofs.rules.RulesHoldOneByOne.{rule_held}
+use Rattle.fb_value.proofs.tails.SameBytesReadTheSameFurtherOn.{moved}
 use Rattle.fb_build.specs.Pieces.{PartAt, reached_behind, reached_named, reached_element, reached, reached_items}
 use Rattle.fb_build.specs.Pieces.{reached_entries}
 use Rattle.fb_build.specs.CoveredTails.{part_further}
-use Rattle.fb_value.proofs.SameBytesReadTheSameFurtherOn.{number_moved, vtable_moved, slot_moved, all_named}
+use Rattle.fb_value.proofs.tails.SameBytesReadTheSameFurtherOn.{number_moved, vtable_moved, slot_moved, all_named}
 
 -- a table's vtable isn't before the bytes
 pub table_inside : (al : Aligned) (L : LaidSchema) (b : Bytes) (t p : ℕ) → KeepsBy al L b (part_place (table_part t)) p

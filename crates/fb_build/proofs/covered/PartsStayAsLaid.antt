@@ -9,7 +9,7 @@ use Rattle.fb_value.specs.Places.{table_part, text_part, vector_part, part_place
 use Rattle.fb_value.specs.Rules.{Aligned, KeepsBy}
 use Rattle.fb_build.specs.Stored.{StoredSlot}
 use Rattle.fb_build.specs.Made.{StaysInFront}
-use Rattle.fb_value.proofs.SameBytesReadTheSameFurtherOn.{number_moved, vtable_moved}
+use Rattle.fb_value.proofs.tails.SameBytesReadTheSameFurtherOn.{number_moved, vtable_moved}
 use Rattle.fb_build.proofs.covered.PartsAreReachedFurtherOn.{table_inside, table_slots}
 use Rattle.fb_build.proofs.covered.ReachedVtablesAreInside.{table_size}
 use Rattle.fb_build.proofs.covered.TightTableStaysTightFurtherOn.{stored_moved}

@@ -13,7 +13,7 @@ use Rattle.fb_value.specs.Places.{target_of}
 use Rattle.fb_value.specs.Lies.{IsCode, EntryAt, Element, Lies, LiesItems, LiesSlots, LiesAt}
 use Rattle.fb_value.specs.Reached.{Path, Names, Leads}
 use Rattle.fb_value.specs.Holds.{root_place}
-use Rattle.fb_value.proofs.StepsLeadForward.{same_place}
+use Rattle.fb_value.proofs.reached.StepsLeadForward.{same_place}
 use Rattle.fb_build.specs.Pieces.{PartAt, reached_behind, reached_named, reached_element, reached, reached_items}
 use Rattle.fb_build.specs.Pieces.{reached_entries, reached_parts}
 use Rattle.fb_build.specs.CoveredLaws.{listed_as, ReachedIsListed}

@@ -14,7 +14,7 @@ use Rattle.fb_value.specs.Tails.{from_end}
 use Rattle.fb_build.specs.Pieces.{PartAt, reached_behind, reached_named, reached_element, reached, reached_items}
 use Rattle.fb_build.specs.Pieces.{reached_entries, part_size, tables_vtables, part_piece}
 use Rattle.fb_build.specs.CoveredTails.{part_further, piece_further, parts_in_tail, ReachedKeptInFront}
-use Rattle.fb_value.proofs.SameBytesReadTheSameFurtherOn.{number_moved, number_from, vtable_moved}
+use Rattle.fb_value.proofs.tails.SameBytesReadTheSameFurtherOn.{number_moved, number_from, vtable_moved}
 use Rattle.fb_build.proofs.covered.PartsAreReachedFurtherOn.{table_inside, reached_further}
 
 -- of a table, its vtable isn't before the bytes

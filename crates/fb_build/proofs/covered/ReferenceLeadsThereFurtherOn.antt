@@ -10,7 +10,7 @@ use Rattle.fb_value.specs.Places.{Target}
 use Rattle.fb_build.specs.Tails.{TailSeen, Grows}
 use Rattle.fb_build.specs.Fields.{scalar_in, target_for}
 use Rattle.fb_build.specs.Made.{LeadsEnd, LeadsTo}
-use Rattle.fb_value.proofs.SameBytesReadTheSameFurtherOn.{number_moved}
+use Rattle.fb_value.proofs.tails.SameBytesReadTheSameFurtherOn.{number_moved}
 
 end_grown : (front s : Bytes) (e t : ℕ) → LeadsEnd s e t → LeadsEnd (front ++ s) e t
 end_grown front s e t h =

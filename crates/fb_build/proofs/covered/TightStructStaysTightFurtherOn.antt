@@ -12,12 +12,12 @@ use Rattle.fb_value.specs.Places.{inline_place, code_place, unknown_place, Place
 use Rattle.fb_value.specs.Rules.{Aligned}
 use Rattle.fb_value.specs.Lies.{BehindBy, EntryBy, PresentEntryBy, ElementBy, LiesBy, LiesItemsBy, LiesSlotsBy}
 use Rattle.fb_value.specs.Tails.{from_end}
-use Rattle.fb_value.proofs.SameBytesReadTheSameFurtherOn.{moved}
+use Rattle.fb_value.proofs.tails.SameBytesReadTheSameFurtherOn.{moved}
 use Rattle.fb_build.specs.Stored.{IsBit}
 use Rattle.fb_build.specs.InlineBytes.{PadsStructWithZeros, IsTightInline, EachInlineIn, EachFieldIn, EachInlineNamed}
 use Rattle.fb_build.specs.InlineBytes.{EachInlineElement, EachInline, EachInlineItem, EachInlineEntry, EachInlineAt}
 use Rattle.fb_build.specs.CoveredTails.{InlineKeptInFront}
-use Rattle.fb_value.proofs.SameBytesReadTheSameFurtherOn.{number_moved, vtable_moved, slot_moved, all_named}
+use Rattle.fb_value.proofs.tails.SameBytesReadTheSameFurtherOn.{number_moved, vtable_moved, slot_moved, all_named}
 use Rattle.fb_build.proofs.covered.PartsAreReachedFurtherOn.{table_inside}
 
 module _ (L : LaidSchema) (al : Aligned) (b c : Bytes) (k : ℕ) (bytes : (i : ℕ)

@@ -10,10 +10,10 @@ use Rattle.fb_value.specs.Num.{Bytes, num, scalar_of}
 use Rattle.fb_value.specs.Places.{vtable, slot_number, code_at}
 use Rattle.fb_value.specs.EachTable.{EachTableAt}
 use Rattle.fb_value.specs.Tails.{from_end}
-use Rattle.fb_value.proofs.SameBytesHoldTheSameFurtherOn.{each_at_moved}
+use Rattle.fb_value.proofs.tails.SameBytesHoldTheSameFurtherOn.{each_at_moved}
 use Rattle.fb_build.specs.Stored.{StoredSlot, stored_from, stored_of, stored_number, NoneIsDefault, IsBit, HoldsBit}
 use Rattle.fb_build.specs.Stored.{AllHoldBits, CodesItsMembers, IsTightTable}
-use Rattle.fb_value.proofs.SameBytesReadTheSameFurtherOn.{still_inside, number_moved, number_from, vtable_moved}
+use Rattle.fb_value.proofs.tails.SameBytesReadTheSameFurtherOn.{still_inside, number_moved, number_from, vtable_moved}
 use Rattle.fb_build.specs.CoveredTails.{IsTightInTail, TightKeptInFront}
 
 module _ (L : LaidSchema) (b c : Bytes) (k : ℕ) (bytes : (i : ℕ) → slice_index c (k + i) ≡ slice_index b i) where

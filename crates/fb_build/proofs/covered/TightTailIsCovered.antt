@@ -8,14 +8,14 @@ use Rattle.fb_value.specs.Num.{Bytes, num}
 use Rattle.fb_value.specs.Places.{table_part, part_place}
 use Rattle.fb_value.specs.EachTable.{EachTable}
 use Rattle.fb_value.specs.Tails.{from_end}
-use Rattle.fb_value.proofs.SameBytesHoldTheSameFurtherOn.{each_at_moved}
+use Rattle.fb_value.proofs.tails.SameBytesHoldTheSameFurtherOn.{each_at_moved}
 use Rattle.fb_build.specs.Stored.{IsTightTable}
 use Rattle.fb_build.specs.InlineBytes.{IsTightInline, EachInline}
 use Rattle.fb_build.specs.Pieces.{is_among, reached, reached_parts, tables_vtables}
 use Rattle.fb_build.specs.Covered.{vtable_at, EqualVtablesAreOne}
 use Rattle.fb_build.specs.CoveredTails.{parts_in_tail, IsTightInTail}
 use Rattle.fb_build.specs.CoveredSteps.{CoveredWhole}
-use Rattle.fb_value.proofs.SameBytesReadTheSameFurtherOn.{number_moved}
+use Rattle.fb_value.proofs.tails.SameBytesReadTheSameFurtherOn.{number_moved}
 use Rattle.fb_build.proofs.covered.TightTableStaysTightFurtherOn.{tight_further_on}
 use Rattle.fb_build.proofs.covered.TightStructStaysTightFurtherOn.{inline_front_shown}
 use Rattle.fb_build.proofs.covered.ReachedVtablesAreInside.{reached_front_shown}

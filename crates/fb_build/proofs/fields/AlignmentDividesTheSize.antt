@@ -16,13 +16,17 @@ use Rattle.fb_layout.specs.Laid.{code_kind, text_kind, StoredShape, one_of, vect
 use Rattle.fb_layout.specs.Laid.{struct_at, align_of}
 use Rattle.fb_layout.specs.Widths.{inline_size, inline_align, greatest}
 use Rattle.fb_layout.specs.WellMade.{IsWellMade}
-use Rattle.fb_layout.proofs.AlignmentsArePowersOfTwo.{base_aligned, struct_aligned, kind_multiple}
-use Rattle.fb_layout.proofs.EachFieldTakesAByte.{struct_filled}
+use Rattle.fb_layout.proofs.sizes.AlignmentsArePowersOfTwo.{base_aligned, struct_aligned, kind_multiple}
+use Rattle.fb_layout.proofs.sizes.EachFieldTakesAByte.{struct_filled}
 use Rattle.fb_value.specs.Num.{divides}
 use Rattle.fb_build.specs.Fields.{IsStructThere, IsElement, IsSimple}
-use Rattle.fb_build.specs.Needs.{IsSliced}
 use Rattle.fb_build.proofs.tail.WhatIsLaidStaysLaid.{four_power, self_divides}
 use Rattle.fb_build.proofs.tail.MultiplesAdd.{times_divides}
+use Rattle.fb_layout.specs.Laid.{slots_of}
+
+-- what the slots of all tables hold is known
+abbrev pub IsSliced : LaidSchema → Type 0
+IsSliced L = (t k : ℕ) (f : Slot) → slice_get (slots_of L t) k ≡ Some f → IsSimple L f.shape
 
 pub struct_there : (L : LaidSchema) → IsWellMade L → (s : ℕ) → IsTrue (is_struct (body_at L.schema s))
     → IsStructThere L s

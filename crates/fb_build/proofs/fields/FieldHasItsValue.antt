@@ -11,7 +11,7 @@ use Rattle.fb_schema.specs.declared.kinds.Base.TheVariants as the_base
 use Rattle.fb_schema.specs.Alignments.{base_size}
 use Rattle.fb_layout.specs.Laid.{LaidSchema, Slot, scalar_kind, struct_kind, table_kind, union_kind, code_kind}
 use Rattle.fb_layout.specs.Laid.{text_kind, StoredShape, one_of, vector_of}
-use Rattle.fb_layout.specs.Widths.{inline_size, inline_align}
+use Rattle.fb_layout.specs.Widths.{inline_align}
 use Rattle.fb_value.specs.Wanted.{struct_wanted}
 use Rattle.fb_schema.specs.WellDeclared.{InRange}
 use Rattle.fb_value.specs.Datum.{Datum, a_number, a_text, a_vector, a_struct, a_table, a_member, an_unknown}
@@ -22,17 +22,21 @@ use Rattle.fb_value.specs.Lies.{LiesBy}
 use Rattle.fb_value.specs.EachTable.{EachTable, EachTableAt, IsOldTable}
 use Rattle.fb_value.specs.Tails.{from_end, LiesInTail, OldInTail}
 use Rattle.fb_build.specs.Tails.{TailSeen, Grows, LaidInTail}
-use Rattle.fb_build.specs.Fields.{SlotFits, StoredFits, member_target, scalar_in, number_in, from, is_stored, differs}
-use Rattle.fb_build.specs.Fields.{IsDefault, TargetEnd, StoredEnd, EntryEnd, EntriesEnd, sort_for, target_for}
-use Rattle.fb_value.proofs.RulesHoldOneByOne.{hold, no_rules}
+use Rattle.fb_build.specs.Fields.{SlotFits, member_target, scalar_in, number_in, from, is_stored, differs}
+use Rattle.fb_build.specs.Fields.{TargetEnd, StoredEnd, EntryEnd, EntriesEnd, sort_for, target_for}
+use Rattle.fb_value.proofs.rules.RulesHoldOneByOne.{hold, no_rules}
 use Rattle.fb_build.proofs.numbers.NumberReadsBack.{num_first}
-use Rattle.fb_value.proofs.TailsAreKeptInFront.{front_shown, old_shown}
+use Rattle.fb_value.proofs.tails.TailsAreKeptInFront.{front_shown, old_shown}
 use Rattle.fb_build.specs.CoveredTails.{IsTightInTail, TightInTail, InlineInTail}
 use Rattle.fb_build.specs.Stored.{IsBit}
 use Rattle.fb_build.specs.InlineBytes.{IsTightInline, EachInline, EachInlineAt}
 use Rattle.fb_build.proofs.covered.TightStructStaysTightFurtherOn.{inline_front_shown}
 use Rattle.fb_build.proofs.covered.TightTableStaysTightFurtherOn.{tight_front_shown}
 use Rattle.fb_build.proofs.tail.WhatIsLaidStaysLaid.{laid_grown}
+
+-- a number that isn't stored
+abbrev pub IsDefault : Slot → Datum → Type 0
+IsDefault f d = (f.required ≡ false) × (n : ℤ) × (f.if_absent ≡ Some n) × (d ≡ a_number n)
 
 -- a number that was laid last
 pub scalar_end : (L : LaidSchema) (m : ℕ) (base : Base) (n : ℤ) (s : Bytes) (rest : ℕ)
@@ -234,37 +238,6 @@ now_laid L low m s a f x e at is lies =
     no_both true a b = cc
     no_both false a b = cc
 
--- a number takes its own size
-number_size : (L : LaidSchema) (shape : StoredShape) (base : Base) → scalar_in shape ≡ Some base
-    → inline_size L shape ≡ base_size base
-number_size L (one_of (scalar_kind b)) base e = let same : b ≡ base = cc in ap base_size same
-number_size L (one_of (struct_kind s)) base e = cc
-number_size L (one_of (table_kind t)) base e = cc
-number_size L (one_of (union_kind u)) base e = cc
-number_size L (one_of (code_kind u)) base e = let same : the_base.U8 ≡ base = cc in ap base_size same
-number_size L (one_of text_kind) base e = cc
-number_size L (vector_of kind) base e = cc
-
-pub number_known : (L : LaidSchema) (f : Slot) (x : Option Datum) (base : Base) → is_stored f x ≡ true
-    → scalar_in f.shape ≡ Some base → StoredFits L f x
-    → InRange base (number_in x) × (base_size base ≡ inline_align L f.shape) × (inline_size L f.shape ≡ base_size base)
-number_known L f None base is scalar fits = cc
-number_known L f (Some d) base is scalar fits =
-    let known = number_fits L f.shape base d scalar fits.1 in
-    (known.range, sym known.align, number_size L f.shape base scalar)
-
-pub number_laid : (L : LaidSchema) (low : ℕ) (m : ℕ) (s : Bytes) (f : Slot) (x : Option Datum) (base : Base)
-    → is_stored f x ≡ true → scalar_in f.shape ≡ Some base → StoredFits L f x → low < length s
-    → LaidInTail L m s (inline_place (scalar_kind base)) (length s) (a_number (number_in x))
-    → StoredEnd L low m s true f x (length s)
-number_laid L low m s f None base is scalar fits some lies = cc
-number_laid L low m s f (Some d) base is scalar fits some lies =
-    let known = number_fits L f.shape base d scalar fits.1 in (
-      some,
-      rw known.sort (subst (λ (y : Datum). LaidInTail L m s (inline_place (scalar_kind base)) (length s) y)
-          (sym known.is) lies),
-    )
-
 -- a number that was laid last, for a slot of its shape
 pub number_element : (L : LaidSchema) (m : ℕ) (s : Bytes) (shape : StoredShape) (base : Base) (d : Datum)
     → scalar_in shape ≡ Some base → SlotFits L shape d
@@ -275,27 +248,10 @@ number_element L m s shape base d scalar fits lies =
     rw known.sort (subst (λ (y : Datum). LaidInTail L m s (inline_place (scalar_kind base)) (length s) y) (sym known.is)
     lies)
 
-pub place_laid : (L : LaidSchema) (low m : ℕ) (s : Bytes) (f : Slot) (x : Option Datum) (d : Datum) → x ≡ Some d
-    → low < length s → LaidInTail L m s (sort_for f.shape d) (length s) d → StoredEnd L low m s true f x (length s)
-place_laid L low m s f x d e some lies = rw e (some, lies)
-
--- what the place of a stored slot names lies already
-pub place_target : (L : LaidSchema) (m : ℕ) (s : Bytes) (f : Slot) (x : Option Datum) (d : Datum) (e : ℕ) → x ≡ Some d
-    → StoredEnd L 0 m s false f x e → TargetEnd L m s (target_for f.shape d) e d
-place_target L m s f x d e same h = rw same at h
-
 pub more_divides : (a n k : ℕ) → divides a n ≡ true → k ≡ n + a → divides a k ≡ true
 more_divides a n k h e =
     let one : n + a ≡ n + a * 1 = omega arith in
     eq-eqb _ _ (ap (λ x. x % a) (e ∙ one) ∙ add-mul-mod_self_left n a 1 ∙ eqb-true _ _ h)
-
--- under tests that say the same
-pub entries_tested : (L : LaidSchema) (low : ℕ) (m : ℕ) (s : Bytes)
-    (t u : ℕ → Slot → Bool) (fs : List Slot) (xs : List (Option Datum)) (ends : List ℕ)
-    → ((k : ℕ) (f : Slot) → slice_get fs k ≡ Some f → t k f ≡ u k f)
-    → EntriesEnd L low m s t fs xs ends → EntriesEnd L low m s u fs xs ends
-entries_tested L low m s t u fs xs ends same h k f x at there =
-    subst (λ (b : Bool). EntryEnd L low m s b f x (slice_index ends k)) (same k f at) (h k f x at there)
 
 pub entries_grown : (L : LaidSchema) (low : ℕ) (a b : TailSeen)
     (t : ℕ → Slot → Bool) (fs : List Slot) (xs : List (Option Datum)) (ends : List ℕ) → Grows a b

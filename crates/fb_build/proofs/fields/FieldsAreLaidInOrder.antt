@@ -6,10 +6,10 @@ use Rattle.fb_layout.specs.Sizes.{IsAlignment}
 use Rattle.fb_layout.specs.Widths.{inline_size, inline_align}
 use Rattle.fb_value.specs.Datum.{Datum}
 use Rattle.fb_value.specs.Num.{Bytes, divides}
-use Rattle.fb_value.proofs.TailsAreKeptInFront.{through}
+use Rattle.fb_value.proofs.tails.TailsAreKeptInFront.{through}
 use Rattle.fb_build.specs.Tails.{TailSeen, Grows}
 use Rattle.fb_build.specs.Fields.{AreKnown, EntriesEnd, StoredEnd, is_stored, fields_size, stored_align}
-use Rattle.fb_build.specs.FieldOrder.{LinksNext, before, SameOfStored, AreLinked, link_in, size_from}
+use Rattle.fb_build.specs.FieldOrder.{LinksNext, before, SameOfStored, AreLinked, link_in}
 use Rattle.fb_build.specs.FieldsLaid.{AreSlotsLaid}
 use Rattle.fb_build.specs.Made.{FieldLeads, FieldsLead}
 use Rattle.fb_build.proofs.tail.WhatIsLaidStaysLaid.{power_divides, grown_long}
@@ -22,6 +22,7 @@ use Rattle.fb_build.proofs.fields.SlotStoresItsEntry.{passed_laid, whole_step}
 use Rattle.fb_build.proofs.order.LaidFieldsTakeTheirSizes.{size_retested, size_all, size_none}
 use Rattle.fb_build.proofs.order.NextFieldIsNamed.{IsNamed, waits, still_waits, end_of_next, size_of_next}
 use Rattle.fb_build.proofs.order.NextFieldIsNamed.{lower_behind, align_least}
+use Rattle.fb_build.proofs.order.LaidFieldsTakeTheirSizes.{size_from}
 
 -- Where references lead once what passes a test is laid.
 abbrev pub LeadSoFar : Bytes → (ℕ → Slot → Bool) → List Slot → List (Option Datum) → List ℕ → List ℕ → Type 0

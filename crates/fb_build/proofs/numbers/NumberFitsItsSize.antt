@@ -37,17 +37,6 @@ fits_wide the_base.U64 (negsuc n) h = record { sfits = omega (arith, ints, h) }
 pub same_wide : (base : Base) (n : ℤ) → InRange base n → to_z w128 (of_z w128 n) ≡ n
 same_wide base n h = to_z-of_z {w = w128} {z = n} (fits_wide base n h)
 
-pub size_some : (base : Base) → 0 < base_size base
-size_some the_base.Bool = omega arith
-size_some the_base.I8 = omega arith
-size_some the_base.U8 = omega arith
-size_some the_base.I16 = omega arith
-size_some the_base.U16 = omega arith
-size_some the_base.I32 = omega arith
-size_some the_base.U32 = omega arith
-size_some the_base.I64 = omega arith
-size_some the_base.U64 = omega arith
-
 -- a number reads from the bytes that were laid for it
 pub number_reads : (base : Base) (n bits : ℕ) (s rest : Bytes) → base_size base ≡ n → bits < 256 ^ base_size base
     → s ≡ little_bytes n bits ++ rest → num s 0 (base_size base) ≡ bits

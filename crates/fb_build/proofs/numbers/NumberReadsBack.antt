@@ -1,5 +1,5 @@
 -- Numbers that stand in a tail.
-use Rattle.std.proofs.Common.{◌≡◌, ℕ, ◌+◌, ◌-◌, ◌^◌, ◌<◌, ◌++◌, [], length, refl, ap, sym, ◌∙◌, arith, length-append}
+use Rattle.std.proofs.Common.{◌≡◌, ℕ, ◌+◌, ◌-◌, ◌^◌, ◌<◌, ◌++◌, length, ap, sym, ◌∙◌, arith, length-append}
 use Rattle.std.proofs.Math.Seq.{drop-append-add}
 use Rattle.byteorder.specs.Endian.{little_bytes, little_number}
 use Rattle.byteorder.specs.Numbers.{little_number-reads_back}
@@ -23,7 +23,3 @@ num_standing s e xs h p n =
     let long = ap length h.split ∙ length-append h.before (xs ++ h.behind) in
     let at : (length s - e) + p ≡ length h.before + p = omega (arith, long, h.at) in
     rw at (ap (λ b. num b (length h.before + p) n) h.split ∙ num_behind h.before (xs ++ h.behind) p n)
-
--- what was laid last
-pub stands_first : (xs rest : Bytes) → StandsEnd (xs ++ rest) (length (xs ++ rest)) xs
-stands_first xs rest = record { within = omega arith; behind = rest; before = []; split = refl; at = refl }

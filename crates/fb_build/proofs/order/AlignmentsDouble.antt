@@ -51,8 +51,8 @@ under_all n p = let less : 2 ^ p.exponent < 2 ^ 9 = pow_below p.exponent 9 (omeg
 pub powers_differ : (c d : ℕ) → c < d → 2 ^ c ≡ 2 ^ d → ⊥
 powers_differ c d less same = let below : 2 ^ c < 2 ^ d = pow_below c d less in omega (arith, below, same)
 
-pub same_class : (c d : ℕ) → (c ≡ d → ⊥) → 2 ^ c ≡ 2 ^ d → ⊥
-same_class c d ne same = by_case (lower c d) (lower d c)
+pub powers_apart : (c d : ℕ) → (c ≡ d → ⊥) → 2 ^ c ≡ 2 ^ d → ⊥
+powers_apart c d ne same = by_case (lower c d) (lower d c)
   where
     by_case : (c ≤ d) ⊎ (d < c) → (d ≤ c) ⊎ (c < d) → ⊥
     by_case (inl low) (inl high) = ne (omega (arith, low, high))
@@ -60,8 +60,8 @@ same_class c d ne same = by_case (lower c d) (lower d c)
     by_case (inr less) other = powers_differ d c less (sym same)
 
 -- how many zeros a power ends with
-pub power_class : (n : ℕ) → (p : IsAlignment n) → trailing_zeros w32 n ≡ p.exponent
-power_class n p = by_case (by_index (trailing_zeros w32 n) p.exponent)
+pub zeros_of_power : (n : ℕ) → (p : IsAlignment n) → trailing_zeros w32 n ≡ p.exponent
+zeros_of_power n p = by_case (by_index (trailing_zeros w32 n) p.exponent)
   where
     some : 0 < n
     some = rw p.is (pow_pos p.exponent)

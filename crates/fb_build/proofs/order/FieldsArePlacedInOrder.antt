@@ -6,12 +6,18 @@ use Rattle.fb_layout.specs.Widths.{inline_size, inline_align}
 use Rattle.fb_value.specs.Datum.{Datum}
 use Rattle.fb_value.specs.Num.{Bytes}
 use Rattle.fb_build.specs.Fields.{AreKnown, is_stored, fields_size}
-use Rattle.fb_build.specs.FieldEnds.{stored_end, field_ends, ArePlaced}
-use Rattle.fb_build.specs.FieldOrder.{before, SameOfStored, LinksNext, AreLinked, link_in, size_from}
+use Rattle.fb_build.specs.FieldEnds.{stored_end, field_ends}
+use Rattle.fb_build.specs.FieldOrder.{before, SameOfStored, LinksNext, AreLinked, link_in}
 use Rattle.fb_build.proofs.fields.FieldEndsBehindThoseBefore.{Placed, end_put, end_retested}
 use Rattle.fb_build.proofs.order.LaidFieldsTakeTheirSizes.{size_retested, size_all, size_none}
 use Rattle.fb_build.proofs.order.NextFieldIsNamed.{IsNamed, end_of_next, size_of_next}
 use Rattle.fb_build.proofs.vtables.VtableHasTheDefinedBytes.{placed_list}
+use Rattle.fb_build.proofs.order.LaidFieldsTakeTheirSizes.{size_from}
+
+-- Slots that are stored and pass a test have their end-counts, and all others have 0.
+abbrev pub ArePlaced : LaidSchema → (ℕ → Slot → Bool) → List Slot → List (Option Datum) → List ℕ → Type 0
+ArePlaced L placed fs xs ends = (k : ℕ) (f : Slot) (x : Option Datum) → slice_get fs k ≡ Some f
+    → slice_get xs k ≡ Some x → slice_index ends k ≡ (if is_stored f x && placed k f then stored_end L fs xs k f else 0)
 
 -- The fields before the slot that a link names are placed, and end there.
 pub record ArePlacedUpTo (L : LaidSchema) (fs : List Slot) (xs : List (Option Datum)) (ends : List ℕ) (end link : ℕ)

@@ -7,7 +7,13 @@ use Rattle.fb_layout.specs.Laid.{LaidSchema, Slot}
 use Rattle.fb_layout.specs.Widths.{inline_size, inline_align}
 use Rattle.fb_value.specs.Datum.{Datum}
 use Rattle.fb_build.specs.Fields.{is_stored, size_if_at, size_at, size_above, fields_size}
-use Rattle.fb_build.specs.FieldOrder.{before, SameOfStored, size_from}
+use Rattle.fb_build.specs.FieldOrder.{before, SameOfStored}
+
+-- what the slots from k on take that are stored and pass a test
+abbrev pub size_from : LaidSchema → (ℕ → Slot → Bool) → ℕ → List Slot → List (Option Datum) → ℕ
+size_from L laid k (f ∷ fs) (x ∷ xs) =
+    (if is_stored f x && laid k f then inline_size L f.shape else 0) + size_from L laid (suc k) fs xs
+size_from L laid k _ _ = 0
 
 one_same : (s p q : Bool) (z : ℕ) → (s ≡ true → p ≡ q) → (if s && p then z else 0) ≡ (if s && q then z else 0)
 one_same true p q z h = ap (λ (b : Bool). if b then z else 0) (h refl)

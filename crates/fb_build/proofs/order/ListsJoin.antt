@@ -1,4 +1,4 @@
--- The lists of slots of each alignment, joined from the lowest one up, are in the order of fields.
+-- The lists of slots of each alignment, joined from the lowest alignment to the greatest, are in the order of fields.
 use Rattle.std.proofs.Common.{◌≡◌, ℕ, ◌+◌, ◌<◌, ◌≤◌, ◌-◌, ◌^◌, ◌⊎◌, inl, inr, ◌==◌, Bool, true, false, cond, nat_lt}
 use Rattle.std.proofs.Common.{nat_le, List, length, Option, refl, sym, ◌∙◌, subst, arith}
 use Rattle.std.proofs.lemmas.Bool.{lt-ltb, eqb-true}

@@ -8,10 +8,11 @@ use Rattle.fb_layout.specs.Widths.{inline_size, inline_align}
 use Rattle.fb_value.specs.Datum.{Datum}
 use Rattle.fb_build.specs.Fields.{is_stored, size_at, size_above, fields_size, stored_align, above, from}
 use Rattle.fb_build.specs.FieldEnds.{stored_end}
-use Rattle.fb_build.specs.FieldOrder.{before, SameOfStored, IsNext, LinksNext, size_from}
+use Rattle.fb_build.specs.FieldOrder.{before, SameOfStored, NamesNextSlot, LinksNext}
 use Rattle.fb_build.proofs.fields.SlotStoresItsEntry.{same_some, in_mapped}
 use Rattle.fb_build.proofs.fields.FieldEndsBehindThoseBefore.{own_end}
 use Rattle.fb_build.proofs.order.LaidFieldsTakeTheirSizes.{size_retested, size_before, size_part}
+use Rattle.fb_build.proofs.order.LaidFieldsTakeTheirSizes.{size_from}
 
 -- a link names a slot
 pub link_low : (L : LaidSchema) (laid : ℕ → Slot → Bool) (fs : List Slot) (xs : List (Option Datum)) (link : ℕ)
@@ -141,7 +142,7 @@ none_aligned L fs xs none =
     omega (arith, low)
 
 pub first_aligned : (L : LaidSchema) (fs : List Slot) (xs : List (Option Datum)) (link : ℕ)
-    → (next : IsNext L (λ k f. false) fs xs link) → stored_align L fs xs ≡ next.align
+    → (next : NamesNextSlot L (λ k f. false) fs xs link) → stored_align L fs xs ≡ next.align
 first_aligned L fs xs link next =
     let low = align_most L next.align fs xs
     (λ k f x fk xk is. lower_behind L next.align next.slot k f (sym (next.behind k f x fk xk is))) in
@@ -150,7 +151,7 @@ first_aligned L fs xs link next =
     omega (arith, low, high, next.there.at)
 
 pub first_align_is : (L : LaidSchema) (fs : List Slot) (xs : List (Option Datum)) (link k : ℕ) (f : Slot)
-    → IsNext L (λ k f. false) fs xs link → link ≡ k + 1 → slice_get fs k ≡ Some f
+    → NamesNextSlot L (λ k f. false) fs xs link → link ≡ k + 1 → slice_get fs k ≡ Some f
     → stored_align L fs xs ≡ inline_align L f.shape
 first_align_is L fs xs link k f next e fk =
     let at : next.slot ≡ k = omega (arith, next.is, e) in

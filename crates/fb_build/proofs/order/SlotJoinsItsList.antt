@@ -10,7 +10,7 @@ use Rattle.fb_build.specs.Fields.{is_stored}
 use Rattle.fb_build.specs.FieldOrder.{IsStoredAt, NoneStoredAt, IsFirst, IsLast, IsFollowed, IsList, link_in}
 use Rattle.fb_build.proofs.tail.WhatIsLaidStaysLaid.{lower}
 use Rattle.fb_build.proofs.fields.SlotStoresItsEntry.{by_index, same_some}
-use Rattle.fb_build.proofs.order.AlignmentsDouble.{same_class}
+use Rattle.fb_build.proofs.order.AlignmentsDouble.{powers_apart}
 
 -- a slot has one alignment
 pub one_align : (L : LaidSchema) (a b k : ℕ) (fs : List Slot) (xs : List (Option Datum)) → IsStoredAt L a fs xs k
@@ -60,14 +60,6 @@ first_more L a first m fs xs h = record {
   under = omega (arith, h.under);
   there = h.there;
   none = h.none;
-}
-
--- before any slot is seen
-pub list_begins : (L : LaidSchema) (a first last : ℕ) (fs : List Slot) (xs : List (Option Datum)) (links : Bytes)
-    → first ≡ 0 → IsList L a fs xs links first last 0
-list_begins L a first last fs xs links is = record {
-  begin = inl (is, none_yet L a 0 fs xs);
-  each = λ j under at. absurd (omega (arith, under));
 }
 
 -- slot m isn't stored at this alignment
@@ -131,7 +123,7 @@ list_opened L a first last m fs xs links is own h = by_begin h.begin
         by_slot j under at (inl past) = inl (λ i over low there. omega (arith, past, over, low))
         by_slot j under at (inr low) = absurd (none.1 j (omega arith) low at)
 
--- the last slot of a list, one up, where there is one
+-- the last slot of a list, plus one, where there is one
 pub the_last : (L : LaidSchema) (a first last m : ℕ) (fs : List Slot) (xs : List (Option Datum)) (links : Bytes)
     → (first ≡ 0 → ⊥) → IsList L a fs xs links first last m → IsLast L a fs xs last m
 the_last L a first last m fs xs links some h = elim h.begin [
@@ -215,41 +207,41 @@ abbrev pub AreLists : LaidSchema → List Slot → List (Option Datum) → Bytes
 AreLists L fs xs links firsts lasts m =
     (c : ℕ) → c ≤ 8 → IsList L (2 ^ c) fs xs links (slice_index firsts c) (slice_index lasts c) m
 
-pub slot_opens : (L : LaidSchema) (class m : ℕ) (fs : List Slot) (xs : List (Option Datum)) (links : Bytes)
-    (firsts lasts : List ℕ) → class ≤ 8 → class < length firsts → class < length lasts → slice_index firsts class ≡ 0
-    → IsStoredAt L (2 ^ class) fs xs m → AreLists L fs xs links firsts lasts m
-    → AreLists L fs xs links (slice_set firsts class (m + 1)) (slice_set lasts class (m + 1)) (m + 1)
-slot_opens L class m fs xs links firsts lasts few in_firsts in_lasts none own lists d low = by_class (by_index d class)
+pub slot_opens : (L : LaidSchema) (log2 m : ℕ) (fs : List Slot) (xs : List (Option Datum)) (links : Bytes)
+    (firsts lasts : List ℕ) → log2 ≤ 8 → log2 < length firsts → log2 < length lasts → slice_index firsts log2 ≡ 0
+    → IsStoredAt L (2 ^ log2) fs xs m → AreLists L fs xs links firsts lasts m
+    → AreLists L fs xs links (slice_set firsts log2 (m + 1)) (slice_set lasts log2 (m + 1)) (m + 1)
+slot_opens L log2 m fs xs links firsts lasts few in_firsts in_lasts none own lists d low = by_log2 (by_index d log2)
   where
-    by_class : (d ≡ class) ⊎ (d ≡ class → ⊥) → IsList L (2 ^ d) fs xs links
-        (slice_index (slice_set firsts class (m + 1)) d) (slice_index (slice_set lasts class (m + 1)) d) (m + 1)
-    by_class (inl same) =
-        rw (same, get_or-set_same firsts class (m + 1) 0 in_firsts, get_or-set_same lasts class (m + 1) 0 in_lasts)
-        (list_opened L (2 ^ class) (slice_index firsts class) (slice_index lasts class) m fs xs links none own
-        (lists class few))
-    by_class (inr ne) =
-        rw (get_or-set_other firsts class d (m + 1) 0 ne, get_or-set_other lasts class d (m + 1) 0 ne)
+    by_log2 : (d ≡ log2) ⊎ (d ≡ log2 → ⊥) → IsList L (2 ^ d) fs xs links
+        (slice_index (slice_set firsts log2 (m + 1)) d) (slice_index (slice_set lasts log2 (m + 1)) d) (m + 1)
+    by_log2 (inl same) =
+        rw (same, get_or-set_same firsts log2 (m + 1) 0 in_firsts, get_or-set_same lasts log2 (m + 1) 0 in_lasts)
+        (list_opened L (2 ^ log2) (slice_index firsts log2) (slice_index lasts log2) m fs xs links none own
+        (lists log2 few))
+    by_log2 (inr ne) =
+        rw (get_or-set_other firsts log2 d (m + 1) 0 ne, get_or-set_other lasts log2 d (m + 1) 0 ne)
         (list_passed L (2 ^ d) (slice_index firsts d) (slice_index lasts d) m fs xs links
-        (λ at. same_class d class ne (one_align L (2 ^ d) (2 ^ class) m fs xs at own)) (lists d low))
+        (λ at. powers_apart d log2 ne (one_align L (2 ^ d) (2 ^ log2) m fs xs at own)) (lists d low))
 
-pub slot_follows : (L : LaidSchema) (class m : ℕ) (fs : List Slot) (xs : List (Option Datum)) (links new : Bytes)
-    (firsts lasts : List ℕ) → class ≤ 8 → class < length lasts → (slice_index firsts class ≡ 0 → ⊥)
-    → IsStoredAt L (2 ^ class) fs xs m → link_in new (slice_index lasts class - 1) ≡ m + 1
-    → ((j : ℕ) → (j ≡ slice_index lasts class - 1 → ⊥) → link_in new j ≡ link_in links j)
-    → AreLists L fs xs links firsts lasts m → AreLists L fs xs new firsts (slice_set lasts class (m + 1)) (m + 1)
-slot_follows L class m fs xs links new firsts lasts few in_lasts some own linked others lists d low =
-    by_class (by_index d class)
+pub slot_follows : (L : LaidSchema) (log2 m : ℕ) (fs : List Slot) (xs : List (Option Datum)) (links new : Bytes)
+    (firsts lasts : List ℕ) → log2 ≤ 8 → log2 < length lasts → (slice_index firsts log2 ≡ 0 → ⊥)
+    → IsStoredAt L (2 ^ log2) fs xs m → link_in new (slice_index lasts log2 - 1) ≡ m + 1
+    → ((j : ℕ) → (j ≡ slice_index lasts log2 - 1 → ⊥) → link_in new j ≡ link_in links j)
+    → AreLists L fs xs links firsts lasts m → AreLists L fs xs new firsts (slice_set lasts log2 (m + 1)) (m + 1)
+slot_follows L log2 m fs xs links new firsts lasts few in_lasts some own linked others lists d low =
+    by_log2 (by_index d log2)
   where
-    by_class : (d ≡ class) ⊎ (d ≡ class → ⊥) → IsList L (2 ^ d) fs xs new (slice_index firsts d)
-        (slice_index (slice_set lasts class (m + 1)) d) (m + 1)
-    by_class (inl same) =
-        rw (same, get_or-set_same lasts class (m + 1) 0 in_lasts)
-        (list_grown L (2 ^ class) (slice_index firsts class) (slice_index lasts class) m fs xs links new some own linked
-        others (lists class few))
-    by_class (inr ne) =
-        rw (get_or-set_other lasts class d (m + 1) 0 ne)
+    by_log2 : (d ≡ log2) ⊎ (d ≡ log2 → ⊥) → IsList L (2 ^ d) fs xs new (slice_index firsts d)
+        (slice_index (slice_set lasts log2 (m + 1)) d) (m + 1)
+    by_log2 (inl same) =
+        rw (same, get_or-set_same lasts log2 (m + 1) 0 in_lasts)
+        (list_grown L (2 ^ log2) (slice_index firsts log2) (slice_index lasts log2) m fs xs links new some own linked
+        others (lists log2 few))
+    by_log2 (inr ne) =
+        rw (get_or-set_other lasts log2 d (m + 1) 0 ne)
         (list_passed L (2 ^ d) (slice_index firsts d) (slice_index lasts d) m fs xs new
-        (λ at. same_class d class ne (one_align L (2 ^ d) (2 ^ class) m fs xs at own))
+        (λ at. powers_apart d log2 ne (one_align L (2 ^ d) (2 ^ log2) m fs xs at own))
         (list_kept L (2 ^ d) (slice_index firsts d) (slice_index lasts d) m fs xs links new
-        (λ j at. others j (not_last L (2 ^ class) (2 ^ d) (slice_index firsts class) (slice_index lasts class) j m fs xs
-        links some (lists class few) at (λ e. same_class class d (λ back. ne (sym back)) e))) (lists d low)))
+        (λ j at. others j (not_last L (2 ^ log2) (2 ^ d) (slice_index firsts log2) (slice_index lasts log2) j m fs xs
+        links some (lists log2 few) at (λ e. powers_apart log2 d (λ back. ne (sym back)) e))) (lists d low)))

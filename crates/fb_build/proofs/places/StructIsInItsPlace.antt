@@ -13,7 +13,7 @@ use Rattle.fb_value.specs.Places.{inline_place}
 use Rattle.fb_value.specs.Rules.{fault_by, KeepsBy}
 use Rattle.fb_value.specs.Tails.{from_end}
 use Rattle.fb_value.specs.Wanted.{struct_wanted}
-use Rattle.fb_value.proofs.RulesHoldOneByOne.{hold, no_rules}
+use Rattle.fb_value.proofs.rules.RulesHoldOneByOne.{hold, no_rules}
 use Rattle.fb_build.specs.InlineBytes.{IsTightInline, EachInlineIn}
 use Rattle.fb_build.specs.Tails.{LaidInTail}
 use Rattle.fb_build.specs.Fields.{IsSimple, SlotFits, target_for, sort_for}

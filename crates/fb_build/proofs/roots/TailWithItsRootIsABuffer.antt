@@ -16,8 +16,8 @@ use Rattle.fb_value.specs.Holds.{Holds, header_fault, checked_identifier}
 use Rattle.fb_value.specs.Tails.{LiesInTail}
 use Rattle.fb_value.specs.EachTable.{EachTableAt, IsOldTable}
 use Rattle.fb_value.specs.OldSlots.{OnlyOld}
-use Rattle.fb_value.proofs.EachTableIsReached.{only_old_shown}
-use Rattle.fb_value.proofs.TailsAreKeptInFront.{whole_shown}
+use Rattle.fb_value.proofs.reached.EachTableIsReached.{only_old_shown}
+use Rattle.fb_value.proofs.tails.TailsAreKeptInFront.{whole_shown}
 use Rattle.fb_build.specs.Tails.{TailSeen, Grows, LaidInTail}
 use Rattle.fb_build.proofs.tail.WhatIsLaidStaysLaid.{laid_grown}
 use Rattle.fb_build.specs.Ends.{BeginsWith}

@@ -12,19 +12,27 @@ use Rattle.fb_schema.specs.WellDeclared.{IsPart}
 use Rattle.fb_schema.specs.declared.types.FieldInfo.{FieldInfo}
 use Rattle.fb_layout.specs.Laid.{LaidSchema, StoredKind, one_of, kind_in, stored_shape, parts_of, struct_at, size_of}
 use Rattle.fb_layout.specs.WellMade.{StandInOrder, IsWellMade}
-use Rattle.fb_layout.proofs.ExactSizesAreRight.{struct_told, body_told}
+use Rattle.fb_layout.proofs.sizes.ExactSizesAreRight.{struct_told, body_told}
 use Rattle.fb_value.specs.Datum.{Datum, Parts, no_parts, more_parts}
 use Rattle.fb_value.specs.Fits.{Fits, PartsFit}
 use Rattle.fb_value.specs.Lies.{LiesInline, LiesParts}
 use Rattle.fb_value.specs.Num.{Bytes}
 use Rattle.fb_value.specs.View.{view, parts_view}
 use Rattle.fb_value.specs.declared.values.Value.{Value}
-use Rattle.fb_value.proofs.SameBytesHoldTheSameFurtherOn.{inline_lies}
+use Rattle.fb_value.proofs.tails.SameBytesHoldTheSameFurtherOn.{inline_lies}
 use Rattle.fb_build.specs.InlineBytes.{IsTightInline, EachInlineIn, EachFieldIn}
 use Rattle.fb_build.specs.Tails.{TailSeen, Grows}
 use Rattle.fb_build.proofs.covered.TightStructStaysTightFurtherOn.{inline_moved}
 use Rattle.fb_build.proofs.vectors.VectorHasItsElements.{parts_next}
-use Rattle.fb_build.specs.Structs.{IsInline, kinds_seen, LieFrom}
+use Rattle.fb_build.specs.Structs.{IsInline, kinds_seen}
+
+-- The fields of these offsets lie in a tail that begins at the offset `base`, and have nothing to spare.
+abbrev pub LieFrom : LaidSchema → Bytes → ℕ → List StoredKind → List ℕ → Parts → Type 0
+LieFrom L b base (kind ∷ kinds) (o ∷ os) (more_parts d ds) =
+    (base ≤ o) × LiesInline L b kind (o - base) d × EachInlineIn L (IsTightInline L b) kind (o - base) d
+    × LieFrom L b base kinds os ds
+LieFrom L b base [] _ no_parts = Unit {0}
+LieFrom L b base _ _ _ = ⊥
 
 -- bytes in front keep what stands inline
 pub inline_kept : (L : LaidSchema) (front b : Bytes) (kind : StoredKind) (p : ℕ) (d : Datum) → LiesInline L b kind p d

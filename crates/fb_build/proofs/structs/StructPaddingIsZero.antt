@@ -6,10 +6,15 @@ use Rattle.std.proofs.lemmas.List.{get_or-append_right, get_or_append_left, get_
 use Rattle.fb_layout.specs.Laid.{LaidSchema, StoredKind, parts_of, struct_at, size_of}
 use Rattle.fb_value.specs.Num.{Bytes}
 use Rattle.fb_build.specs.InlineBytes.{PadsStructWithZeros, is_in_part}
-use Rattle.fb_build.specs.Structs.{PadsFrom}
 use Rattle.fb_build.specs.Tails.{TailSeen, Grows}
 use Rattle.fb_build.proofs.tail.WhatIsLaidStaysLaid.{lower}
 use Rattle.fb_build.proofs.tail.PaddingIsZero.{zeros_long}
+use Rattle.std.proofs.Common.{false}
+
+-- In a tail that begins at the offset `base` of a struct, the bytes that no field takes are 0.
+abbrev pub PadsFrom : LaidSchema → Bytes → ℕ → ℕ → Type 0
+PadsFrom L b s base = (i : ℕ) → base ≤ i → i < (struct_at L s).size
+    → is_in_part L (parts_of L s) (struct_at L s).offsets i ≡ false → slice_index b (i - base) ≡ 0
 
 -- a byte behind some zeros, or one of them
 pub zeros_read : (n : ℕ) (a : Bytes) (i : ℕ) → (n ≤ i → slice_index a (i - n) ≡ 0)

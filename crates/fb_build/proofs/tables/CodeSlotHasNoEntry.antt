@@ -16,7 +16,7 @@ use Rattle.fb_value.specs.Tails.{from_end}
 use Rattle.fb_build.specs.Fields.{stored_here, stored_in, code_in, next_code, is_stored}
 use Rattle.fb_build.specs.CoveredTails.{IsTightInTail}
 use Rattle.fb_build.specs.InlineBytes.{IsTightInline, EachInline, EachInlineNamed}
-use Rattle.fb_value.proofs.RulesHoldOneByOne.{hold, no_rules}
+use Rattle.fb_value.proofs.rules.RulesHoldOneByOne.{hold, no_rules}
 
 pub entry_from : (al : Aligned) (L : LaidSchema) (b : Bytes) (sort : Sort) (p : ℕ) (d : Datum)
     (lies : Sort → ℕ → Type 0) → BehindBy al L b sort p lies → EntryBy al L b sort p d lies

@@ -118,10 +118,3 @@ items_reached L s kind p (v ∷ items) targets el leads =
     (λ k d is. let at : p + suc k * z ≡ (p + z) + k * z = omega arith in
     rw (first_dropped targets k, ← at) (leads (suc k) d is)) in
     rw (one, rest) refl
-
--- elements that are numbers or structs have no parts
-pub none_named : (L : LaidSchema) (s : Bytes) (xs : List (Option NamedPart)) (ends : List ℕ)
-    → ((k : ℕ) (x : Option NamedPart) → slice_get xs k ≡ Some x → x ≡ None) → ends_parts L s xs ends ≡ []
-none_named L s [] ends none = refl
-none_named L s (x ∷ xs) ends none =
-    rw (none 0 x refl, none_named L s xs (drop 1 ends) (λ k y is. none (suc k) y is)) refl

@@ -15,18 +15,17 @@ use Rattle.fb_value.specs.Room.{room, parts_room, entries_room}
 use Rattle.fb_value.specs.Num.{Bytes}
 use Rattle.fb_value.specs.View.{view, parts_view, entries_view}
 use Rattle.fb_value.specs.declared.values.Value.{Value}
-use Rattle.fb_value.proofs.ValueFitsPartByPart.{entries_count as fits_long}
+use Rattle.fb_value.proofs.types.ValueFitsPartByPart.{entries_count as fits_long}
 use Rattle.fb_build.specs.Tails.{TailSeen, Grows}
-use Rattle.fb_build.specs.Fields.{IsSimple, IsElement, SlotFits, is_stored, stored_here, coded, TargetEnd, target_for}
+use Rattle.fb_build.specs.Fields.{IsSimple, IsElement, SlotFits, stored_here, coded, TargetEnd, target_for}
 use Rattle.fb_build.specs.Fields.{EntryEnd, slots_seen, entries_seen}
-use Rattle.fb_build.specs.Parts.{PartFits, PartEnd, MemberEnd, TableKnown}
+use Rattle.fb_build.specs.Parts.{PartFits, PartEnd, TableKnown}
 use Rattle.fb_schema.specs.Schema.{body_at, slots_in}
 use Rattle.fb_layout.specs.WellMade.{IsWellMade}
 use Rattle.fb_build.proofs.fields.AlignmentDividesTheSize.{all_known}
 use Rattle.fb_value.specs.Counts.{is_whole, parts_whole, entries_whole}
 use Rattle.fb_build.proofs.fields.NumbersHaveDefaults.{slots_default}
 use Rattle.fb_build.proofs.fields.CodeIsBeforeItsUnion.{slots_paired, stored_known, entry_whole}
-use Rattle.fb_build.proofs.tables.CodeSlotHasNoEntry.{no_code_entry}
 use Rattle.fb_build.specs.Needs.{first_waits, need, parts_need, entries_count, entries_need, entry_need}
 use Rattle.std.proofs.lemmas.Bool.{and_parts}
 use Rattle.fb_build.proofs.fields.FieldHasItsValue.{entry_grown, target_grown}
@@ -34,7 +33,7 @@ use Rattle.fb_build.proofs.vectors.VectorHasItsElements.{parts_next}
 use Rattle.fb_build.specs.Items.{ItemsKnown}
 use Rattle.fb_layout.specs.Laid.{StoredKind, kind_in, align_of}
 use Rattle.fb_layout.specs.Widths.{greatest}
-use Rattle.fb_layout.proofs.AlignmentsArePowersOfTwo.{slot_below}
+use Rattle.fb_layout.proofs.sizes.AlignmentsArePowersOfTwo.{slot_below}
 use Rattle.fb_build.proofs.fields.SlotStoresItsEntry.{by_index, same_some, slots_long, entries_long}
 
 entry_fits : (L : LaidSchema) (fs : List Slot) (es : List (Option Value)) → EntriesFit L fs (entries_view es)
@@ -172,22 +171,6 @@ part_fits L (one_of text_kind) (a_member c d) simple low h = absurd h
 part_fits L (vector_of kind) (a_member c d) simple low h = absurd h
 part_fits L shape (an_unknown c) simple low h = tt
 
-pub member_end : (L : LaidSchema) (m : ℕ) (s : Bytes) (shape : StoredShape) (c : ℕ) (d : Datum) (e : ℕ)
-    → PartEnd L m s shape d e → MemberEnd L m s c d e
-member_end L m s shape c (a_number n) e h = tt
-member_end L m s shape c (a_text b) e h = tt
-member_end L m s shape c (a_vector ds) e h = tt
-member_end L m s shape c (a_struct ds) e h = tt
-member_end L m s shape c (a_table t es) e h =
-    record {
-      lies = record { within = h.lies.within; lies = (refl, h.lies.lies) };
-      old = h.old;
-      tight = h.tight;
-      inline = h.inline;
-    }
-member_end L m s shape c (a_member k d) e h = tt
-member_end L m s shape c (an_unknown k) e h = tt
-
 pub target_end : (L : LaidSchema) (m : ℕ) (s : Bytes) (shape : StoredShape) (d : Datum) (e : ℕ) → IsSimple L shape
     → Fits L shape d → PartEnd L m s shape d e → TargetEnd L m s (target_for shape d) e d
 target_end L m s (one_of (scalar_kind b)) d e simple fits h = tt
@@ -228,17 +211,6 @@ target_end L m s (vector_of kind) (a_table t es) e simple fits h = absurd fits
 target_end L m s (vector_of kind) (a_member c d) e simple fits h = absurd fits
 target_end L m s (vector_of kind) (an_unknown c) e simple fits h = absurd fits
 
--- what isn't stored has no part
-unstored_end : (L : LaidSchema) (m : ℕ) (s : Bytes) (shape : StoredShape) (f : Slot) (d : Datum) (e : ℕ)
-    → is_stored f (Some d) ≡ false → PartEnd L m s shape d e → e ≡ 0
-unstored_end L m s shape f (a_number n) e out h = h
-unstored_end L m s shape f (a_text b) e out h = cc
-unstored_end L m s shape f (a_vector ds) e out h = cc
-unstored_end L m s shape f (a_struct ds) e out h = cc
-unstored_end L m s shape f (a_table t es) e out h = cc
-unstored_end L m s shape f (a_member c d) e out h = cc
-unstored_end L m s shape f (an_unknown c) e out h = cc
-
 coded_target : (L : LaidSchema) (m : ℕ) (s : Bytes) (f : Slot) (u : ℕ) (code : Option ℕ)
     → f.shape ≡ one_of (code_kind u) → EntryEnd L 0 m s false f (coded code) 0
 coded_target L m s f u None is = record { stored = λ yes. cc; absent = λ out. refl }
@@ -259,26 +231,6 @@ no_target L m s f code = by_shape f.shape refl
     by_shape (one_of (code_kind u)) is = coded_target L m s f u code is
     by_shape (one_of text_kind) is = nothing
     by_shape (vector_of kind) is = nothing
-
-pub some_target : (L : LaidSchema) (m : ℕ) (s : Bytes) (f : Slot) (code : Option ℕ) (d : Datum) (e : ℕ)
-    → IsSimple L f.shape → Fits L f.shape d → PartEnd L m s f.shape d e
-    → EntryEnd L 0 m s false f (stored_here f.shape code (Some d)) e
-some_target L m s f code d e simple fits h = by_shape f.shape refl
-  where
-    own : EntryEnd L 0 m s false f (Some d) e
-    own = record {
-      stored = λ yes. target_end L m s f.shape d e simple fits h;
-      absent = λ out. unstored_end L m s f.shape f d e out h;
-    }
-
-    by_shape : (shape : StoredShape) → f.shape ≡ shape → EntryEnd L 0 m s false f (stored_here shape code (Some d)) e
-    by_shape (one_of (scalar_kind b)) is = own
-    by_shape (one_of (struct_kind t)) is = own
-    by_shape (one_of (table_kind t)) is = own
-    by_shape (one_of (union_kind u)) is = own
-    by_shape (one_of (code_kind u)) is = absurd (no_code_entry L u d (rw is at fits))
-    by_shape (one_of text_kind) is = own
-    by_shape (vector_of kind) is = own
 
 -- ---- the elements of a vector
 

@@ -14,7 +14,7 @@ use Rattle.fb_value.specs.Tails.{LiesInTail}
 use Rattle.fb_build.specs.Ends.{StandsEnd}
 use Rattle.fb_layout.specs.Sizes.{IsAlignment}
 use Rattle.fb_build.specs.Tails.{TailSeen, Grows, LaidInTail}
-use Rattle.fb_value.proofs.TailsAreKeptInFront.{front_shown, multiple_shown, old_shown, through}
+use Rattle.fb_value.proofs.tails.TailsAreKeptInFront.{front_shown, multiple_shown, old_shown, through}
 use Rattle.fb_build.proofs.covered.TightStructStaysTightFurtherOn.{inline_front_shown}
 use Rattle.fb_build.proofs.covered.TightTableStaysTightFurtherOn.{tight_front_shown}
 
@@ -87,9 +87,6 @@ power_some n p = rw p.is (pow_pos p.exponent)
 
 pub four_power : IsAlignment 4
 four_power = record { exponent = 2; few = omega arith; is = refl }
-
-pub eight_power : IsAlignment 8
-eight_power = record { exponent = 3; few = omega arith; is = refl }
 
 pub then_grows : (a b c : TailSeen) → Grows a b → Grows b c → Grows a c
 then_grows a b c g h = record {

@@ -15,7 +15,7 @@ use Rattle.fb_value.specs.Places.{part_place, text_part}
 use Rattle.fb_value.specs.Rules.{Aligned, fault_by, KeepsBy}
 use Rattle.fb_value.specs.Lies.{LiesBy}
 use Rattle.fb_value.specs.Tails.{from_end}
-use Rattle.fb_value.proofs.RulesHoldOneByOne.{hold, no_rules}
+use Rattle.fb_value.proofs.rules.RulesHoldOneByOne.{hold, no_rules}
 use Rattle.fb_build.specs.Tails.{LaidInTail}
 use Rattle.fb_build.proofs.numbers.NumberReadsBack.{num_first}
 

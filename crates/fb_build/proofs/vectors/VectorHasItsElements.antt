@@ -26,9 +26,9 @@ use Rattle.fb_build.specs.InlineBytes.{EachInlineAt}
 use Rattle.fb_build.specs.CoveredTails.{IsTightInTail}
 use Rattle.fb_build.proofs.covered.TightStructStaysTightFurtherOn.{items_moved as inline_moved}
 use Rattle.fb_build.proofs.covered.TightTableStaysTightFurtherOn.{tight_further_on}
-use Rattle.fb_value.proofs.RulesHoldOneByOne.{hold, no_rules}
-use Rattle.fb_value.proofs.SameBytesHoldTheSameFurtherOn.{items_lie, each_items}
-use Rattle.fb_value.proofs.TailsAreKeptInFront.{through, from_other_end}
+use Rattle.fb_value.proofs.rules.RulesHoldOneByOne.{hold, no_rules}
+use Rattle.fb_value.proofs.tails.SameBytesHoldTheSameFurtherOn.{items_lie, each_items}
+use Rattle.fb_value.proofs.tails.TailsAreKeptInFront.{through, from_other_end}
 use Rattle.fb_build.proofs.tail.WhatIsLaidStaysLaid.{four_power, power_max, left_divides, right_divides}
 use Rattle.fb_build.proofs.tail.MultiplesAdd.{times_divides}
 use Rattle.fb_build.proofs.fields.AlignmentDividesTheSize.{element_simple, simple_aligned, simple_multiple, simple_some}

@@ -9,8 +9,8 @@ use Rattle.fb_value.specs.Places.{part_place, table_part, vtable, slot_number, n
 use Rattle.fb_value.specs.Rules.{Aligned, fault_by, KeepsBy, has_vtable_by, first_missing}
 use Rattle.fb_value.specs.Lies.{LiesBy, LiesSlotsBy}
 use Rattle.fb_build.specs.TableBytes.{way_to}
-use Rattle.fb_value.proofs.RulesHoldOneByOne.{hold, no_rules}
-use Rattle.fb_value.proofs.SameBytesHoldTheSameFurtherOn.{six_from}
+use Rattle.fb_value.proofs.rules.RulesHoldOneByOne.{hold, no_rules}
+use Rattle.fb_value.proofs.tails.SameBytesHoldTheSameFurtherOn.{six_from}
 
 way_back : (t : Bool) (p q : ℕ) → nat_lt p q ≡ t → p < 2 ^ 31 → q < 2 ^ 31
     → (nat_lt (cond t (2 ^ 32 - (q - p)) (p - q)) (2 ^ 31) ≡ not t)

@@ -1,5 +1,5 @@
 -- A place that keeps its rules keeps them under a schema that agrees.
-use Rattle.std.proofs.Common.{◌≡◌, ℕ, suc, ◌<◌, ◌||◌, Bool, true, false, List, [], ◌∷◌, Option, None, Some, is_some}
+use Rattle.std.proofs.Common.{◌≡◌, ℕ, suc, ◌<◌, List, [], ◌∷◌}
 use Rattle.std.proofs.Common.{refl}
 use Rattle.fb_value.specs.Num.{Bytes}
 use Rattle.fb_layout.specs.Laid.{LaidSchema, Slot, StoredKind, scalar_kind, struct_kind, table_kind, union_kind}
@@ -31,12 +31,6 @@ missing_moved to n b p k [] (g ∷ gs) grown = rw grown.0 (missing_moved to n b 
 missing_moved to n b p k (f ∷ fs) (g ∷ gs) grown =
     rw (missing_same to n b p k f g grown.0, missing_moved to n b p (suc k) fs gs grown.1) refl
 missing_moved to n b p k (f ∷ fs) [] grown = absurd grown
-
-or_moved : (x : Bool) (o o2 : Option ℕ) → ((t : ℕ) → o ≡ Some t → (u : ℕ) × (o2 ≡ Some u)) → (x || is_some o) ≡ true
-    → (x || is_some o2) ≡ true
-or_moved true o o2 known e = refl
-or_moved false None o2 known e = cc
-or_moved false (Some t) o2 known e = rw (known t refl).1 refl
 
 module _ (A B : LaidSchema) (agrees : Agrees A B) where
   pub size_moved : (kind : StoredKind) → KnownKind (types_in A) kind

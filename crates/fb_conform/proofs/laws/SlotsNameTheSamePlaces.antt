@@ -9,7 +9,7 @@ use Rattle.fb_layout.specs.Laid.{text_kind, StoredShape, one_of, vector_of, memb
 use Rattle.fb_value.specs.Places.{member_part, Sort, ref_place, unknown_place, Place, named_slot, named_union}
 use Rattle.fb_value.specs.Places.{next_required, is_present, slot_number}
 use Rattle.fb_value.specs.Rules.{is_union}
-use Rattle.fb_value.proofs.StepsLeadForward.{if_there}
+use Rattle.fb_value.proofs.reached.StepsLeadForward.{if_there}
 use Rattle.fb_conform.specs.Twins.{to_new}
 use Rattle.fb_conform.proofs.laws.OldTypesByTheirNewNumbers.{moved_shape, moved_sort, moved_place, KnownShape}
 use Rattle.fb_conform.proofs.laws.OldTypesByTheirNewNumbers.{KnownSort}

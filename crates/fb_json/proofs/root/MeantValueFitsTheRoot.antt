@@ -24,7 +24,7 @@ use Rattle.std.proofs.lemmas.Option.{slice_get-get_or}
 use Rattle.fb_json.specs.Means.{ScalarMeans, EnumMeans, AbsentMeans, AbsentAt, PresentAs, PresentMeans, member_called}
 use Rattle.fb_json.specs.Means.{MeansAs, MemberMeans, PartsMean, EachMeans, SlotsMean, Means}
 use Rattle.fb_json.proofs.root.NamedNumberIsInRange.{told_in_range}
-use Rattle.fb_json.proofs.ValueTextsAreUtf8.{HasUtf8, HaveUtf8, EntriesHaveUtf8}
+use Rattle.fb_json.proofs.texts.ValueTextsAreUtf8.{HasUtf8, HaveUtf8, EntriesHaveUtf8}
 
 -- ---- numbers
 

@@ -14,8 +14,13 @@ use Rattle.fb_json.specs.declared.faults.JsonFault.{JsonFault}
 use Rattle.fb_json.specs.declared.faults.JsonFault.TheVariants.{WrongShape, NotWhole, OutOfRange, UnknownName}
 use Rattle.fb_json.specs.declared.faults.JsonFault.TheVariants.{UnknownMember, MissingMember, MissingRequired}
 use Rattle.fb_json.specs.declared.faults.JsonFault.TheVariants.{UnionMismatch, TooDeep, TooManyCells, Memory}
-use Rattle.fb_json.specs.Outcome.{◌>>=◌, Fails, Counted, after}
+use Rattle.fb_json.specs.Outcome.{◌>>=◌, Fails, Counted}
 use Rattle.fb_json.specs.Meant.{Look, slot_place, code_after, entry_meant, slots_meant, part_meant, parts_meant, count}
+
+-- these in front of the later ones
+abbrev pub after : {A : Type 0} → List A → Counted (List A) → Counted (List A)
+after front (Err e) = Err e
+after front (Ok x) = Ok (front ++ x.0, x.1)
 
 pub fails_is : {Y : Type 0} (e : JsonFault) (whole : Result Y JsonFault) → whole ≡ Err e → Fails e whole
 fails_is Memory whole h = tt

@@ -20,7 +20,7 @@ use Rattle.fb_layout.specs.Known.{no_table, type_sizes, if_sized, tables_from}
 use Rattle.fb_layout.proofs.structs.KindsTakeTheirExactSizes.{with_structs, if_small, struct_small, small-told}
 use Rattle.fb_layout.proofs.structs.KindsTakeTheirExactSizes.{large-told}
 use Rattle.fb_layout.proofs.tables.OneTypeMore.{tables_from-nil, tables_from-cons}
-use Rattle.fb_layout.proofs.NarrowTablesAreKnown.{slot_size, slot_align, table_taken, table_small}
+use Rattle.fb_layout.proofs.slots.NarrowTablesAreKnown.{slot_size, slot_align, table_taken, table_small}
 
 -- the sizes of a type as a table
 abbrev pub table_at : LaidSchema → ℕ → TableSizes

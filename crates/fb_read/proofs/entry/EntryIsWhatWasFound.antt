@@ -1,25 +1,24 @@
 -- What an entry is, by what was found of it.
-use Rattle.std.proofs.Common.{◌≡◌, ◌≤◌, ◌∷◌, [], ℕ, zero, suc, ◌+◌, ◌*◌, ◌<◌, length, map, drop, slice_get, Bool, true}
+use Rattle.std.proofs.Common.{◌≡◌, ◌≤◌, ◌∷◌, [], ℕ, zero, suc, ◌<◌, length, map, drop, slice_get, Bool, true}
 use Rattle.std.proofs.Common.{false, nat_le, List, Option, None, Some, ℤ, refl, ap, arith}
 use Rattle.std.proofs.lemmas.Bool.{leb-true}
 use Rattle.std.proofs.lemmas.Bool.Decides.{nat_tests}
 use Rattle.fb_schema.specs.Seen.{field_seen}
 use Rattle.fb_schema.specs.declared.types.FieldInfo.{FieldInfo}
 use Rattle.fb_schema.specs.Schema.{DeclaredSchema, body_at, slots_in}
-use Rattle.fb_layout.specs.Laid.{LaidSchema, Slot, slot_of, slots_of, StoredKind, scalar_kind, struct_kind, union_kind}
-use Rattle.fb_layout.specs.Laid.{code_kind, size_of}
-use Rattle.fb_value.specs.Datum.{Datum, a_number, a_text, a_vector, a_struct, a_table, a_member, Parts, count}
+use Rattle.fb_layout.specs.Laid.{LaidSchema, Slot, slot_of, slots_of, StoredKind, scalar_kind, struct_kind}
+use Rattle.fb_value.specs.Datum.{Datum, a_number, a_text, a_vector, a_struct, a_table, a_member, Parts}
 use Rattle.fb_value.specs.Num.{Bytes}
 use Rattle.fb_value.specs.Places.{slot_number, part_place, table_part}
-use Rattle.fb_value.specs.Lies.{LiesInline, LiesItems, Lies}
+use Rattle.fb_value.specs.Lies.{LiesInline, Lies}
 use Rattle.fb_value.specs.Nth.{nth_entry}
-use Rattle.fb_value.proofs.EachPartLiesInItsPlace.{entry_lies_shown}
-use Rattle.fb_read.specs.Kinds.{base_wanted, structure_wanted, rank}
+use Rattle.fb_value.proofs.held.EachPartLiesInItsPlace.{entry_lies_shown}
+use Rattle.fb_read.specs.Kinds.{base_wanted, structure_wanted}
 use Rattle.fb_read.specs.Stored.{number_entry}
 use Rattle.fb_read.specs.Views.{entry_of, number_in, text_in, table_in, struct_in, vector_in, member_in}
-use Rattle.fb_read.proofs.items.PartsLieInTheirPlaces.{no_union, no_code, item_there}
 use Rattle.fb_read.proofs.places.AbsentSlotNamesNoPlace.{unset_place}
 use Rattle.fb_read.proofs.stored.StoredIsTheEntry.{absent_stored}
+use Rattle.fb_read.proofs.inlines.StructFieldsRankLower.{rank}
 
 pub number_told : (o : Option Datum) (n : ℤ) → number_in o ≡ Some n → o ≡ Some (a_number n)
 number_told (Some (a_number m)) n e = let is : m ≡ n = cc in rw is refl
@@ -63,16 +62,6 @@ nothing_inline L b _ q _ none e lies = lies
 pub rank_told : (kind : StoredKind) (s t : ℕ) → structure_wanted kind ≡ Some t → rank kind ≤ s → t < s
 rank_told (struct_kind x) s t e low = let is : x ≡ t = cc in omega (arith, is, low)
 rank_told _ s t e low = cc
-
--- No vector has elements that are unions or codes.
-module _ (L : LaidSchema) (b : Bytes) (u p n i : ℕ) (less : i < n) where
-  pub no_union_item : (ds : Parts) → (count ds ≡ n) × LiesItems L b (union_kind u) p ds → ⊥
-  no_union_item ds shows = let found = item_there L b (union_kind u) p n i less ds shows in
-      no_union L b u (p + i * size_of L (union_kind u)) found.0 found.2
-
-  pub no_code_item : (ds : Parts) → (count ds ≡ n) × LiesItems L b (code_kind u) p ds → ⊥
-  no_code_item ds shows = let found = item_there L b (code_kind u) p n i less ds shows in
-      no_code L b u (p + i * size_of L (code_kind u)) found.0 found.2
 
 -- ---- slots that the vtable has no number for
 

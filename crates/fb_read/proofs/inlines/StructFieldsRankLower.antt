@@ -11,12 +11,16 @@ use Rattle.fb_value.specs.Num.{Bytes}
 use Rattle.fb_value.specs.Lies.{LiesInline, LiesParts}
 use Rattle.fb_value.specs.View.{view, parts_view}
 use Rattle.fb_value.specs.declared.values.Value.{Value}
-use Rattle.fb_value.proofs.StoredKindsAreResolved.{LowerParts, resolved}
-use Rattle.fb_value.proofs.EachPartLiesInItsPlace.{parts_long}
-use Rattle.fb_read.specs.Kinds.{rank}
+use Rattle.fb_value.proofs.types.StoredKindsAreResolved.{LowerParts, resolved}
+use Rattle.fb_value.proofs.held.EachPartLiesInItsPlace.{parts_long}
 use Rattle.fb_read.proofs.items.PartsLieInTheirPlaces.{field_kind, kind_there, kinds_long}
 use Rattle.fb_read.specs.Tails.{parts_from}
 use Rattle.fb_read.proofs.read_tables.OneValueMore.{parts_before, parts_whole}
+
+-- Structs rank above those that stand in them.
+abbrev pub rank : StoredKind → ℕ
+rank (struct_kind s) = suc s
+rank _ = 0
 
 -- a part of a struct ranks below it
 rank_lower : (s : ℕ) (ks : List StoredKind) (os : List ℕ) (k : ℕ) (kind : StoredKind) → LowerParts s ks os

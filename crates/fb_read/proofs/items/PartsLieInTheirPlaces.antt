@@ -16,7 +16,7 @@ use Rattle.fb_value.specs.Num.{Bytes, num, scalar_of}
 use Rattle.fb_value.specs.Places.{table_part, text_part, ref_place, part_place, target_of}
 use Rattle.fb_value.specs.Lies.{LiesInline, LiesParts, Element, Lies, LiesItems}
 use Rattle.fb_value.specs.Nth.{nth_part}
-use Rattle.fb_value.proofs.EachPartLiesInItsPlace.{element_lies_shown, part_lies_shown}
+use Rattle.fb_value.proofs.held.EachPartLiesInItsPlace.{element_lies_shown, part_lies_shown}
 use Rattle.fb_value.specs.Rules.{Keeps}
 use Rattle.std.proofs.Math.Nat.{mul-le-mul_left}
 use Rattle.fb_read.proofs.view.ViewHasAVtable.{sure_of}

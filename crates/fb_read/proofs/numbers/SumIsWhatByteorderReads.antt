@@ -4,7 +4,7 @@ use Rattle.std.proofs.Common.{add-zero, pow-suc, length-drop}
 use Rattle.std.proofs.lemmas.List.{get_or-drop, take_all}
 use Rattle.byteorder.specs.Endian.{little_from, little_number}
 use Rattle.std.proofs.lemmas.Bool.Decides.{nat_tests}
-use Rattle.std.specs.Int.{w8, w16, w32, w64, cast_signed}
+use Rattle.std.specs.Int.{w16, w32, w64, cast_signed}
 use Rattle.fb_value.specs.Num.{Bytes, num, signed}
 
 -- the lowest byte, and the others
@@ -36,9 +36,6 @@ num_in_slice b p n =
 -- two's complement, as this project and as std write it
 pub signed_is : (x : ℕ) → cast_signed w32 x ≡ signed 4 x
 signed_is x = grind (arith, nat_tests)
-
-pub signed_is_8 : (x : ℕ) → cast_signed w8 x ≡ signed 1 x
-signed_is_8 x = grind (arith, nat_tests)
 
 pub signed_is_16 : (x : ℕ) → cast_signed w16 x ≡ signed 2 x
 signed_is_16 x = grind (arith, nat_tests)

@@ -1,19 +1,19 @@
 -- A value that is made of others is what lies there.
 use Rattle.std.proofs.Common.{◌≡◌, ℕ, suc, ◌+◌, ◌*◌, ◌<◌, List, [], ◌∷◌, ◌++◌, length, drop, slice_index_or, Option}
-use Rattle.std.proofs.Common.{None, Some, option_map, refl, sym, ◌∙◌, arith}
+use Rattle.std.proofs.Common.{None, Some, option_map, refl, ◌∙◌, arith}
 use Rattle.fb_schema.specs.declared.types.FieldInfo.{FieldInfo}
 use Rattle.fb_layout.specs.Laid.{LaidSchema, Slot, StoredKind, slots_of, size_of}
 use Rattle.fb_value.specs.Datum.{Datum, a_number, a_text, a_vector, a_struct, a_table, a_member, an_unknown, Parts}
 use Rattle.fb_value.specs.Datum.{SlotEntries, no_entries, absent_entry, present_entry, count}
 use Rattle.fb_value.specs.Num.{Bytes, num}
-use Rattle.fb_value.specs.Places.{Target, table_part, member_part, vector_part, ref_place, part_place, named_slots}
+use Rattle.fb_value.specs.Places.{Target, table_part, member_part, ref_place, part_place, named_slots}
 use Rattle.fb_value.specs.Places.{target_of, named_vector}
 use Rattle.fb_value.specs.Rules.{fault_by}
 use Rattle.fb_value.specs.Lies.{LiesInline, LiesAt, LiesItems, LiesSlots}
 use Rattle.fb_value.specs.Nth.{nth_entry, LiesInSlot, slot_place}
 use Rattle.fb_value.specs.View.{view}
 use Rattle.fb_value.specs.declared.values.Value.{Value}
-use Rattle.fb_value.proofs.EachPartLiesInItsPlace.{entry_lies_shown, element_lies_shown}
+use Rattle.fb_value.proofs.held.EachPartLiesInItsPlace.{entry_lies_shown, element_lies_shown}
 use Rattle.fb_read.specs.Values.{elements_named}
 use Rattle.fb_read.specs.Visits.{slot_seen, slots_seen}
 use Rattle.fb_read.specs.Tails.{entries_from, parts_from}
@@ -35,18 +35,6 @@ module _ (L : LaidSchema) (b : Bytes) where
   table_is t p es known (a_struct ds) lies = absurd lies
   table_is t p es known (a_member c d) lies = absurd lies
   table_is t p es known (an_unknown c) lies = absurd lies
-
-  -- a vector of its elements
-  pub vector_is : (kind : StoredKind) (p n : ℕ) (ds : Parts) → n ≡ num b p 4
-      → ((others : Parts) → count others ≡ n → LiesItems L b kind (p + 4) others → ds ≡ others) → (d : Datum)
-      → LiesAt L b (part_place (vector_part kind)) p d → a_vector ds ≡ d
-  vector_is kind p n ds is known (a_vector others) lies = rw (known others (lies.1 ∙ sym is) lies.2) refl
-  vector_is kind p n ds is known (a_table t es) lies = absurd lies
-  vector_is kind p n ds is known (a_text bytes) lies = absurd lies
-  vector_is kind p n ds is known (a_number m) lies = absurd lies
-  vector_is kind p n ds is known (a_struct es) lies = absurd lies
-  vector_is kind p n ds is known (a_member c d) lies = absurd lies
-  vector_is kind p n ds is known (an_unknown c) lies = absurd lies
 
   -- a union's member of its table
   pub member_is : (c t p : ℕ) (v : Datum) → ((d : Datum) → LiesAt L b (ref_place (table_part t)) p d → v ≡ d)

@@ -18,7 +18,7 @@ use Rattle.fb_value.specs.declared.faults.ReadFault.TheVariants.{Memory}
 use Rattle.fb_value.specs.declared.values.Value.{Value}
 use Rattle.fb_value.specs.View.{view}
 use Rattle.fb_value.specs.Fits.{FitsRoot}
-use Rattle.fb_value.proofs.HeldValueFitsTheRoot.{fits_where_held_shown}
+use Rattle.fb_value.proofs.held.HeldValueFitsTheRoot.{fits_where_held_shown}
 use Rattle.fb_read.specs.Memory.{PartIsReached}
 use Rattle.fb_read.specs.Values.{Gives}
 use Rattle.fb_read.specs.Visits.{visit}

@@ -10,7 +10,7 @@ use Rattle.fb_value.specs.Lies.{Lies}
 use Rattle.fb_value.specs.Places.{part_place, table_part}
 use Rattle.fb_value.specs.Faults.{fault_from}
 use Rattle.fb_value.specs.Holds.{Holds, Refuses, header_fault, checked_identifier, root_place}
-use Rattle.fb_value.proofs.BytesHoldAValueOrAFault.{outcome_shown}
+use Rattle.fb_value.proofs.held.BytesHoldAValueOrAFault.{outcome_shown}
 use Rattle.fb_read.specs.Visits.{outcome, visit}
 
 err_told : (o : Option ReadFault) (n : ℕ) (f : ReadFault) → outcome o n ≡ Err f → o ≡ Some f
@@ -22,10 +22,6 @@ ok_told None n m e = refl
 ok_told (Some g) n m e = cc
 
 module _ (L : LaidSchema) (most : Bounds) (raw : Bool) (b : Bytes) (made : IsWellMade L) where
-  -- refused by the header
-  pub refused_front : (f : ReadFault) → header_fault b (checked_identifier L raw) ≡ Some f → Refuses L most raw b f
-  refused_front f fails = outcome_shown L most raw b (Some f) made (rw fails refl)
-
   -- refused behind a header that keeps its rules
   pub refused_root : (f : ReadFault) → header_fault b (checked_identifier L raw) ≡ None
       → visit L b most (root_place L) 0 0 ≡ Err f → Refuses L most raw b f

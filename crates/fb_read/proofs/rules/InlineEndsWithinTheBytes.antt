@@ -5,7 +5,7 @@ use Rattle.fb_layout.specs.Laid.{LaidSchema, StoredKind, size_of}
 use Rattle.fb_value.specs.Num.{Bytes}
 use Rattle.fb_value.specs.Places.{inline_place}
 use Rattle.fb_value.specs.Rules.{Keeps, fault_by}
-use Rattle.fb_value.proofs.RulesHoldOneByOne.{rule_held}
+use Rattle.fb_value.proofs.rules.RulesHoldOneByOne.{rule_held}
 
 pub inline_within : (L : LaidSchema) (b : Bytes) (kind : StoredKind) (p : ℕ) → Keeps L b (inline_place kind) p
     → p + size_of L kind ≤ length b

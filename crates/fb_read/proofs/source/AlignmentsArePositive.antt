@@ -2,7 +2,7 @@
 use Rattle.std.proofs.Common.{◌<◌, ◌≤◌, ◌^◌, arith}
 use Rattle.fb_layout.specs.Laid.{LaidSchema, StoredKind, size_of, align_of}
 use Rattle.fb_layout.specs.WellMade.{IsWellMade}
-use Rattle.fb_layout.proofs.AlignmentsArePowersOfTwo.{positive_shown, sizes_shown}
+use Rattle.fb_layout.proofs.sizes.AlignmentsArePowersOfTwo.{positive_shown, sizes_shown}
 
 pub aligned_known : (L : LaidSchema) → IsWellMade L → (kind : StoredKind) → 1 ≤ align_of L kind
 aligned_known L made kind = let positive = positive_shown L kind made in omega (arith, positive)

@@ -15,7 +15,7 @@ use Rattle.fb_value.specs.Places.{table_part, member_part, text_part, vector_par
 use Rattle.fb_value.specs.Places.{Place, named_slots}
 use Rattle.fb_value.specs.Lies.{LiesInline, LiesParts, Lies, LiesItems, LiesSlots}
 use Rattle.fb_value.specs.Nth.{nth_entry, slot_place, LiesInSlot}
-use Rattle.fb_value.proofs.EachPartLiesInItsPlace.{entry_lies_shown}
+use Rattle.fb_value.proofs.held.EachPartLiesInItsPlace.{entry_lies_shown}
 use Rattle.fb_read.specs.declared.stored.Stored.{Stored}
 use Rattle.fb_read.specs.declared.stored.Stored.TheVariants.{Absent, Unknown, Number, Fixed, Text, Table, Member}
 use Rattle.fb_read.specs.declared.stored.Stored.TheVariants.{Vector}

@@ -20,9 +20,9 @@ use Rattle.fb_value.specs.Places.{Target, table_part, member_part, text_part, ve
 use Rattle.fb_value.specs.Places.{inline_place}
 use Rattle.fb_value.specs.Rules.{Keeps, fault_by}
 use Rattle.fb_value.specs.Lies.{Lies, LiesItems}
-use Rattle.fb_value.proofs.RulesHoldOneByOne.{rule_held}
-use Rattle.fb_value.proofs.CellsAreThoseReached.{text_length}
-use Rattle.fb_value.proofs.NumbersAreInTheirRange.{utf8_whole}
+use Rattle.fb_value.proofs.rules.RulesHoldOneByOne.{rule_held}
+use Rattle.fb_value.proofs.reached.CellsAreThoseReached.{text_length}
+use Rattle.fb_value.proofs.held.NumbersAreInTheirRange.{utf8_whole}
 use Rattle.fb_read.specs.declared.stored.Stored.{Stored}
 use Rattle.fb_read.specs.Stored.{StoredAs, text_place_of, table_place_of, member_place_of}
 use Rattle.fb_read.specs.Stored.{vector_place_of, struct_place_of, number_place_of}

@@ -4,17 +4,17 @@ use Rattle.std.proofs.Common.{drop, slice_index_or, Option, None, Some, Result, 
 use Rattle.std.proofs.lemmas.Bool.{leb-true}
 use Rattle.std.proofs.lemmas.Bool.Decides.{nat_tests}
 use Rattle.fb_layout.specs.Laid.{LaidSchema, Slot, StoredKind, scalar_kind, struct_kind, table_kind, text_kind}
-use Rattle.fb_layout.specs.Laid.{slots_of, parts_of, struct_at, size_of}
+use Rattle.fb_layout.specs.Laid.{parts_of, struct_at, size_of}
 use Rattle.fb_value.specs.Datum.{Datum, a_number, a_text, a_vector, a_struct, a_table, a_member, an_unknown, Parts}
 use Rattle.fb_value.specs.Datum.{no_parts, more_parts, SlotEntries, no_entries, absent_entry, present_entry, count}
 use Rattle.fb_value.specs.Counts.{entered, parts_entered, entries_entered}
 use Rattle.fb_value.specs.Num.{Bytes, num}
-use Rattle.fb_value.specs.Places.{Target, table_part, member_part, text_part, vector_part, ref_place, part_place}
+use Rattle.fb_value.specs.Places.{Target, table_part, member_part, vector_part, ref_place, part_place}
 use Rattle.fb_value.specs.Places.{inline_place, named_slots, target_of, slot_number}
 use Rattle.fb_value.specs.Rules.{fault_by}
 use Rattle.fb_value.specs.Lies.{LiesInline, LiesParts, Element, Lies, LiesAt, LiesItems, LiesSlots}
 use Rattle.fb_value.specs.Nth.{nth_entry, nth_part, LiesInSlot, slot_place}
-use Rattle.fb_value.proofs.EachPartLiesInItsPlace.{entry_lies_shown, element_lies_shown}
+use Rattle.fb_value.proofs.held.EachPartLiesInItsPlace.{entry_lies_shown, element_lies_shown}
 use Rattle.fb_read.specs.Tails.{entries_from, parts_from}
 use Rattle.fb_read.specs.Walks.{entered_in}
 use Rattle.fb_read.specs.Visits.{slot_seen, slots_seen}
@@ -47,30 +47,6 @@ mutual
   fields_entered L b (k ∷ ks) (o ∷ os) p (more_parts d ds) lies =
       omega (arith, inline_entered L b k (p + o) d lies.0, fields_entered L b ks os p ds lies.1)
   fields_entered L b _ _ p _ lies = absurd lies
-
--- a text is one
-pub text_entered : (L : LaidSchema) (b : Bytes) (p : ℕ) (d : Datum) → LiesAt L b (part_place text_part) p d
-    → entered d ≡ 1
-text_entered L b p (a_text bytes) lies = refl
-text_entered L b p (a_number n) lies = absurd lies
-text_entered L b p (a_vector ds) lies = absurd lies
-text_entered L b p (a_struct ds) lies = absurd lies
-text_entered L b p (a_table t es) lies = absurd lies
-text_entered L b p (a_member c d) lies = absurd lies
-text_entered L b p (an_unknown c) lies = absurd lies
-
--- a table and what its entries have
-pub table_entered : (L : LaidSchema) (b : Bytes) (t p old new : ℕ)
-    → ((es : SlotEntries) → LiesSlots L b (slots_of L t) (named_slots L b p 0 (slots_of L t)) es
-    → new ≡ (old + 1) + entries_entered es)
-    → (d : Datum) → LiesAt L b (part_place (table_part t)) p d → new ≡ old + entered d
-table_entered L b t p old new known (a_table type es) lies = let is = known es lies.2 in omega (arith, is)
-table_entered L b t p old new known (a_text bytes) lies = absurd lies
-table_entered L b t p old new known (a_number n) lies = absurd lies
-table_entered L b t p old new known (a_vector ds) lies = absurd lies
-table_entered L b t p old new known (a_struct ds) lies = absurd lies
-table_entered L b t p old new known (a_member c d) lies = absurd lies
-table_entered L b t p old new known (an_unknown c) lies = absurd lies
 
 -- a vector and what its elements have
 pub vector_entered : (L : LaidSchema) (b : Bytes) (kind : StoredKind) (p n old new : ℕ) → n ≡ num b p 4
@@ -111,13 +87,6 @@ pub inline_slot_entered : (L : LaidSchema) (b : Bytes) (f : Slot) (kind : Stored
     → LiesInSlot L b f (Some (record { sort = inline_place kind; at = q })) o → entered_in o ≡ 0
 inline_slot_entered L b f kind q None lies = refl
 inline_slot_entered L b f kind q (Some d) lies = inline_entered L b kind q d lies.1
-
--- a slot that names a reference has what lies behind it
-pub ref_slot_entered : (L : LaidSchema) (b : Bytes) (f : Slot) (X : Target) (q old new : ℕ) (o : Option Datum)
-    → ((d : Datum) → LiesAt L b (ref_place X) q d → new ≡ old + entered d)
-    → LiesInSlot L b f (Some (record { sort = ref_place X; at = q })) o → new ≡ old + entered_in o
-ref_slot_entered L b f X q old new None known lies = absurd lies
-ref_slot_entered L b f X q old new (Some d) known lies = known d lies
 
 -- a member has what its table has
 pub member_slot_entered : (L : LaidSchema) (b : Bytes) (f : Slot) (c t q old new : ℕ) (o : Option Datum)

@@ -14,8 +14,8 @@ use Rattle.fb_value.specs.Places.{target_of, named_vector}
 use Rattle.fb_value.specs.Rules.{Keeps, fault_at, fault_by, first_failing}
 use Rattle.fb_value.specs.Faults.{own_cells, own_tables, sum_over, all, or_else, limit_rules, limited_fault}
 use Rattle.fb_value.specs.Faults.{first_among, fault_from}
-use Rattle.fb_value.proofs.ComputedFaultIsTheLeast.{all_is}
-use Rattle.fb_value.proofs.FaultOfAPlaceByOneStep.{fault_from_is}
+use Rattle.fb_value.proofs.rules.ComputedFaultIsTheLeast.{all_is}
+use Rattle.fb_value.proofs.rules.FaultOfAPlaceByOneStep.{fault_from_is}
 use Rattle.fb_value.specs.Nth.{slot_place}
 use Rattle.fb_read.specs.Visits.{outcome, visit, visit_each, visit_entry, union_place}
 

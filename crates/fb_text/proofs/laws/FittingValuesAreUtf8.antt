@@ -4,7 +4,7 @@ use Rattle.fb_layout.specs.Laid.{LaidSchema, Slot, StoredKind, scalar_kind, stru
 use Rattle.fb_layout.specs.Laid.{text_kind, StoredShape, one_of, vector_of, slots_of, parts_of}
 use Rattle.fb_value.specs.Datum.{Datum, a_number, a_text, a_vector, a_struct, a_table, a_member, an_unknown, Parts}
 use Rattle.fb_value.specs.Datum.{no_parts, more_parts, SlotEntries, no_entries, absent_entry, present_entry}
-use Rattle.fb_json.proofs.ValueTextsAreUtf8.{HasUtf8, HaveUtf8, EntriesHaveUtf8}
+use Rattle.fb_json.proofs.texts.ValueTextsAreUtf8.{HasUtf8, HaveUtf8, EntriesHaveUtf8}
 use Rattle.fb_value.specs.Fits.{Fits, PartsFit, EachFits, EntriesFit, FitsKind, FitsRoot, kind_of_type}
 
 module _ (L : LaidSchema) where

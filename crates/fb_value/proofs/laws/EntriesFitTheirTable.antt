@@ -19,7 +19,7 @@ use Rattle.fb_value.specs.Lies.{LiesSlots}
 use Rattle.fb_value.specs.Fits.{EntriesFit}
 use Rattle.fb_value.specs.Entries.{EntryFits}
 use Rattle.fb_value.specs.Nth.{nth_entry, slot_place, LiesInSlot}
-use Rattle.fb_value.proofs.EachPartLiesInItsPlace.{entry_lies_shown}
+use Rattle.fb_value.proofs.held.EachPartLiesInItsPlace.{entry_lies_shown}
 use Rattle.fb_value.proofs.laws.EntryFitsItsSlot.{KnownFit, Needs, marks_of, gone_marks, none_place, live_entry}
 use Rattle.fb_value.proofs.laws.EntryFitsItsSlot.{missing_none, table_whole, present_where_needed, code_needed}
 use Rattle.fb_value.proofs.laws.EntryFitsItsSlot.{code_keeps, next_there}

@@ -21,8 +21,8 @@ use Rattle.fb_value.specs.Lies.{Lies}
 use Rattle.fb_value.specs.Fits.{Fits}
 use Rattle.fb_value.specs.Entries.{EntryFits}
 use Rattle.fb_value.specs.Nth.{LiesInSlot}
-use Rattle.fb_value.proofs.RulesHoldOneByOne.{rule_held}
-use Rattle.fb_value.proofs.NumbersAreInTheirRange.{byte_small}
+use Rattle.fb_value.proofs.rules.RulesHoldOneByOne.{rule_held}
+use Rattle.fb_value.proofs.held.NumbersAreInTheirRange.{byte_small}
 
 -- what lies at a place is what the place is for
 abbrev pub SortFits : LaidSchema → Sort → Datum → Type 0

@@ -9,7 +9,7 @@ use Rattle.fb_value.specs.Rules.{first_failing, fault_by}
 use Rattle.fb_value.specs.OldSlots.{is_in_use, OnlyOld}
 use Rattle.fb_value.specs.ExampleLayouts.{one_int}
 use Rattle.fb_value.specs.ExampleTables.{seven_bytes, one_number, seven_held}
-use Rattle.fb_value.proofs.EachTableIsReached.{only_old_shown}
+use Rattle.fb_value.proofs.reached.EachTableIsReached.{only_old_shown}
 
 -- Behind the end of its vtable a table has no number.
 no_later : (k : ℕ) → is_in_use (slice_get (slots_of one_int 0) k) ≡ false → slot_number seven_bytes 12 k ≡ 0

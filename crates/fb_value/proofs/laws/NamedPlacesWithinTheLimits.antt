@@ -14,9 +14,9 @@ use Rattle.fb_value.specs.Lies.{EntryAt, Behind, IsCode, AbsentEntry, PresentEnt
 use Rattle.fb_value.specs.Bounds.{Bounds}
 use Rattle.fb_value.specs.Faults.{own_cells, own_tables, all, or_else, limit_rules, limited_fault, first_among}
 use Rattle.fb_value.specs.Faults.{first_fault}
-use Rattle.fb_value.proofs.RulesHoldOneByOne.{rule_held, hold, no_rules}
-use Rattle.fb_value.proofs.ComputedFaultIsTheLeast.{Enough, enough_below, or_none}
-use Rattle.fb_value.proofs.CellsAreThoseReached.{unknown_keeps, entry_cells, part_cells, code_cells}
+use Rattle.fb_value.proofs.rules.RulesHoldOneByOne.{rule_held, hold, no_rules}
+use Rattle.fb_value.proofs.rules.ComputedFaultIsTheLeast.{Enough, enough_below, or_none}
+use Rattle.fb_value.proofs.reached.CellsAreThoseReached.{unknown_keeps, entry_cells, part_cells, code_cells}
 
 -- so many tables and cells more are within the limits
 unfoldable pub IsWithin : Bounds → ℕ → ℕ → ℕ → ℕ → Type 0

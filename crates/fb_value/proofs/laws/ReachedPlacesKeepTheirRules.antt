@@ -11,7 +11,7 @@ use Rattle.fb_value.specs.Places.{target_of}
 use Rattle.fb_value.specs.Rules.{Keeps, first_failing, fault_by}
 use Rattle.fb_value.specs.Lies.{IsCode, EntryAt, Element, Lies, LiesItems, LiesSlots, LiesAt}
 use Rattle.fb_value.specs.Reached.{Path, Names, Leads, AllKeep}
-use Rattle.fb_value.proofs.StepsLeadForward.{same_place}
+use Rattle.fb_value.proofs.reached.StepsLeadForward.{same_place}
 
 -- a place without a value of its own
 IsBare : LaidSchema → Bytes → Sort → ℕ → Type 0

@@ -18,9 +18,9 @@ use Rattle.fb_value.specs.Lies.{Lies}
 use Rattle.fb_value.specs.Laws.{ValueOfPlace, ValueWhereLies}
 use Rattle.fb_value.proofs.laws.ValueHasLevels.{height}
 use Rattle.fb_value.proofs.laws.ComputedValueLies.{sound}
-use Rattle.fb_value.proofs.LyingValueIsComputed.{complete}
-use Rattle.fb_value.proofs.StoredKindsAreResolved.{LowerParts, resolved, IsGood}
-use Rattle.fb_value.proofs.StepsLeadForward.{steps_up}
+use Rattle.fb_value.proofs.held.LyingValueIsComputed.{complete}
+use Rattle.fb_value.proofs.types.StoredKindsAreResolved.{LowerParts, resolved, IsGood}
+use Rattle.fb_value.proofs.reached.StepsLeadForward.{steps_up}
 use Rattle.fb_value.proofs.laws.ValueLiesWhereAllKeep.{part_within, slots_good}
 
 -- What is read only where no rule fails is the same where it is the same there.

@@ -16,7 +16,7 @@ use Rattle.fb_value.specs.Datum.{no_entries, count}
 use Rattle.fb_value.specs.View.{view, parts_view, entries_view}
 use Rattle.fb_value.specs.Room.{table_room, vector_room, room, parts_room, entries_room}
 use Rattle.fb_value.specs.declared.values.Value.{Value, Items, Fields}
-use Rattle.fb_value.proofs.EachVariantHasItsView.{view-Items, view-Fields, count-parts_view}
+use Rattle.fb_value.proofs.types.EachVariantHasItsView.{view-Items, view-Fields, count-parts_view}
 
 -- the slots of some fields
 abbrev pub slots_seen : LaidSchema → List FieldInfo → List Slot

@@ -3,8 +3,8 @@ use Rattle.std.proofs.lemmas.List.{length-map}
 use Rattle.std.specs.Vec.{with_items}
 use Rattle.fb_value.specs.Room.{room_of}
 use Rattle.fb_value.specs.View.{view}
-use Rattle.fb_value.proofs.EachVariantHasItsView.{view-Fields}
-use Rattle.fb_value.proofs.NestingIsBoundedByDepth.{nesting_of_depth_shown, root_fits}
+use Rattle.fb_value.proofs.types.EachVariantHasItsView.{view-Fields}
+use Rattle.fb_value.proofs.types.NestingIsBoundedByDepth.{nesting_of_depth_shown, root_fits}
 use Rattle.fb_build.specs.Needs.{need}
 use Rattle.fb_build.specs.Vtables.{VtablesKnown}
 use Rattle.fb_build.proofs.vtables.KeyHasTheBytes.{different}
@@ -22,26 +22,29 @@ add_table-requires-clause-small c =
     let fits = (root_fits L _ c.schema-schema.ensures.made).0 c.requires.fits in
     let within = need_within L (view c.args.value.now) (all_known c.args.layout.now c.schema-schema.ensures.made) fits
     c.in-Some.ensures.0 in
-    rw (c.in-Fields.is, view-Fields c.in-Fields.table c.in-Fields.entries) at within
+    let small = rw (c.in-Fields.is, view-Fields c.in-Fields.table c.in-Fields.entries) at within in
+    rw c.deref.ensures.value small
 
 pub add_table-requires-clause-fits : goal.add_table-requires-clause-fits
 add_table-requires-clause-fits c =
     let L = c.args.layout.now in
     let fits = (root_fits L _ c.schema-schema.ensures.made).0 c.requires.fits in
     let own = rw (c.in-Fields.is, view-Fields c.in-Fields.table c.in-Fields.entries) at fits in
-    rw own.0 own.1
+    rw (c.deref.ensures.value, own.0) own.1
 
 pub add_table-requires-clause-whole : goal.add_table-requires-clause-whole
 add_table-requires-clause-whole c =
-    rw (c.in-Fields.is, view-Fields c.in-Fields.table c.in-Fields.entries) at c.requires.whole
+    let whole = rw (c.in-Fields.is, view-Fields c.in-Fields.table c.in-Fields.entries) at c.requires.whole in
+    rw c.deref.ensures.value whole
 
 pub invariant_of-result : goal.invariant_of-result
 invariant_of-result c =
     let L = c.args.layout.now in
     let block = c.in_ok-block.ensures.items_if_clones_equal (λ y h. h) in
     let places = c.in_ok-places.ensures.items_if_clones_equal (λ y h. h) in
+    let needed = rw c.deref.ensures.value at c.in_ok-waiting.ensures.need in
     let counts : need (view c.args.value.now) ≡ c.in_ok-waiting.waiting =
-    rw (c.in-Fields.is, view-Fields c.in-Fields.table c.in-Fields.entries) (sym c.in_ok-waiting.ensures.need) in
+    rw (c.in-Fields.is, view-Fields c.in-Fields.table c.in-Fields.entries) (sym needed) in
     let scratch = with_items c.in_ok-scratch.scratch c.add_table.new.scratch in
     let bytes : length scratch.items ≡ 65534 = omega (arith, scratch.ok.0, c.in_ok-scratch.ensures.len) in
     let enough : need (view c.args.value.now) ≤ length c.in_ok-pending.pending.items =
@@ -51,7 +54,8 @@ invariant_of-result c =
     long_in _ _ block ∙ c.in-Some.ensures.1 in
     let short : length c.in_ok-block.block.items ≤ 2147483647 = omega (arith, long, c.in-Some.ensures.0) in
     let known : VtablesKnown L (map (λ k. k.items) c.add_table.new.known.keys) (view c.args.value.now) =
-    rw (c.in-Fields.is, view-Fields c.in-Fields.table c.in-Fields.entries) c.in_ok-waiting.ensures.known in
+    rw (c.in-Fields.is, view-Fields c.in-Fields.table c.in-Fields.entries)
+    (rw c.deref.ensures.value at c.in_ok-waiting.ensures.known) in
     record {
       fits = (root_fits L _ c.schema-schema.ensures.made).0 c.requires.fits;
       whole = c.requires.whole;

@@ -1,6 +1,6 @@
-use Rattle.std.proofs.Common.{◌≡◌, ◌<◌, ◌≤◌, ◌∙◌, true, false, subst, get_or, length, sym, ap, arith, rules}
+use Rattle.std.proofs.Common.{◌≡◌, ◌<◌, ◌≤◌, ◌∙◌, true, false, subst, get_or, length, sym, arith, rules}
 use Rattle.std.proofs.lemmas.List.{drop_all}
-use Rattle.fb_value.proofs.EachVariantHasItsView.{view-Fields, view-Items, view-Member, count-parts_view}
+use Rattle.fb_value.proofs.types.EachVariantHasItsView.{view-Fields, view-Items, view-Member, count-parts_view}
 use Rattle.fb_build.proofs.tables.PartsFitTheirSlots.{count_is, needs_one, needs_item, whole_at}
 use Rattle.fb_layout.specs.Laid.{slots_of}
 use Rattle.fb_value.specs.View.{view, parts_view, entries_view}
@@ -20,29 +20,30 @@ use Rattle.fb_build.proofs.vtables.EachVtableIsAKey.{vector_somewhere}
 use Rattle.fb_build.proofs.keys.+keys.Goals as goal
 
 pub add_tables-returns-in-Fields-clause-need : goal.add_tables-returns-in-Fields-clause-need
-add_tables-returns-in-Fields-clause-need t c = rw (c.in-Fields.is, view-Fields) c.add_table.ensures.need
+add_tables-returns-in-Fields-clause-need t c =
+    rw (c.in-Fields.is, view-Fields) (rw c.deref.ensures.value at c.add_table.ensures.need)
 
 pub add_table-returns-clause-need : goal.add_table-returns-clause-need
 add_table-returns-clause-need t c =
-    let done = rw (drop_all c.loop-k.k c.args.entries.now.items (omega arith)) at c.loop-k.invariant.most in
-    let count = count_is c.args.entries.now.items in
+    let done = rw (drop_all c.loop-entry.entry-index c.args.entries.now (omega arith)) at c.loop-entry.invariant.most in
+    let count = count_is c.args.entries.now in
     omega (arith, done, count)
 
 pub add_items-returns-clause-need : goal.add_items-returns-clause-need
 add_items-returns-clause-need t c =
-    let done = rw (drop_all c.loop-item.item-index c.args.items.now.items
+    let done = rw (drop_all c.loop-item.item-index c.args.items.now
     (omega arith)) at c.loop-item.invariant.most in
-    let count = count-parts_view c.args.items.now.items in
+    let count = count-parts_view c.args.items.now in
     omega (arith, done, count)
 
 pub add_table-add_entry-requires : goal.add_table-add_entry-requires
 add_table-add_entry-requires t c =
-    let es = c.args.entries.now.items in
-    let k = c.loop-k.k in
-    let o = c.index.result.now in
-    let at : o ≡ get_or es k o = c.index.ensures in
-    let low : k < length es = omega (arith, c.loop-k-test.true, c.len-k-end.ensures) in
-    let inv = c.loop-k.invariant in
+    let es = c.args.entries.now in
+    let k = c.loop-entry.entry-index in
+    let o = c.entry-item.result in
+    let at : o ≡ get_or es k o = c.entry-item.is in
+    let low : k < length es = omega (arith, c.loop-entry-test.true) in
+    let inv = c.loop-entry.invariant in
     let made = c.schema-schema.ensures.made in
     let one = needs_one es k o low at in (
       search (rules, the_lemmas),
@@ -62,14 +63,14 @@ add_table-add_entry-requires t c =
       ),
     )
 
-pub add_table-loop-k-preserved : goal.add_table-loop-k-preserved
-add_table-loop-k-preserved t c =
-    let es = c.args.entries.now.items in
-    let k = c.loop-k.k in
-    let o = c.index.result.now in
-    let at : o ≡ get_or es k o = c.index.ensures in
-    let low : k < length es = omega (arith, c.loop-k-test.true, c.len-k-end.ensures) in
-    let inv = c.loop-k.invariant in
+pub add_table-loop-entry-preserved : goal.add_table-loop-entry-preserved
+add_table-loop-entry-preserved t c =
+    let es = c.args.entries.now in
+    let k = c.loop-entry.entry-index in
+    let o = c.entry-item.result in
+    let at : o ≡ get_or es k o = c.entry-item.is in
+    let low : k < length es = omega (arith, c.loop-entry-test.true) in
+    let inv = c.loop-entry.invariant in
     let now = c.in_ok-own.ensures in
     let step = needs_step es k o low at in
     record {
@@ -82,25 +83,20 @@ add_table-loop-k-preserved t c =
 
 pub add_table-returns-clause-known : goal.add_table-returns-clause-known
 add_table-returns-clause-known t c =
-    let es = c.args.entries.now.items in
-    let inv = c.loop-k.invariant in (
-      key_kept c.args.layout.now _ _ inv.kept _ (rw c.as_slice-slots.ensures.value at c.in_ok-add_vtable.ensures.key),
+    let es = c.args.entries.now in
+    let inv = c.loop-entry.invariant in (
+      key_kept c.args.layout.now _ _ inv.kept _ c.in_ok-add_vtable.ensures.key,
       entries_known c.args.layout.now _ es
-          (λ k v low is. inv.known k v (omega (arith, low, c.loop-k-test.false, c.len-k-end.ensures)) is),
+          (λ k v low is. inv.known k v (omega (arith, low, c.loop-entry-test.false)) is),
     )
 
 pub add_items-add_tables-requires : goal.add_items-add_tables-requires
 add_items-add_tables-requires t c =
-    let vs = c.args.items.now.items in
+    let vs = c.args.items.now in
     let k = c.loop-item.item-index in
     let v = c.item-item.result in
-    let at : v ≡ get_or vs k v = cc (c.item-item.is, c.deref-item-items.ensures.value) in
-    let low : k < length vs = omega (
-      arith,
-      c.loop-item-test.true,
-      c.deref-item-items.ensures.len,
-      ap length c.deref-item-items.ensures.value,
-    ) in
+    let at : v ≡ get_or vs k v = c.item-item.is in
+    let low : k < length vs = omega (arith, c.loop-item-test.true) in
     let inv = c.loop-item.invariant in
     let there = views_at vs k v low at in
     let one = needs_item vs k (view v) there in (
@@ -119,16 +115,11 @@ add_items-add_tables-requires t c =
 
 pub add_items-loop-item-preserved : goal.add_items-loop-item-preserved
 add_items-loop-item-preserved t c =
-    let vs = c.args.items.now.items in
+    let vs = c.args.items.now in
     let k = c.loop-item.item-index in
     let v = c.item-item.result in
-    let at : v ≡ get_or vs k v = cc (c.item-item.is, c.deref-item-items.ensures.value) in
-    let low : k < length vs = omega (
-      arith,
-      c.loop-item-test.true,
-      c.deref-item-items.ensures.len,
-      ap length c.deref-item-items.ensures.value,
-    ) in
+    let at : v ≡ get_or vs k v = c.item-item.is in
+    let low : k < length vs = omega (arith, c.loop-item-test.true) in
     let inv = c.loop-item.invariant in
     let now = c.in_ok-own.ensures in
     let step = parts_needs_step vs k v low at in
@@ -142,16 +133,10 @@ add_items-loop-item-preserved t c =
 
 pub add_items-returns-clause-known : goal.add_items-returns-clause-known
 add_items-returns-clause-known t c =
-    let vs = c.args.items.now.items in
+    let vs = c.args.items.now in
     parts_known c.args.layout.now _ vs
     (λ k v low is. c.loop-item.invariant.known k v
-    (omega (
-      arith,
-      low,
-      c.loop-item-test.false,
-      c.deref-item-items.ensures.len,
-      ap length c.deref-item-items.ensures.value,
-    )) is)
+    (omega (arith, low, c.loop-item-test.false)) is)
 
 pub add_tables-add_table-requires : goal.add_tables-add_table-requires
 add_tables-add_table-requires t c =
@@ -161,10 +146,10 @@ add_tables-add_table-requires t c =
     let whole = rw (c.in-Fields.is, view-Fields c.in-Fields.table es) at c.requires.whole in (
       search (rules, the_lemmas),
       (
-        small,
+        rw c.deref.ensures.value small,
         (
-          table_somewhere c.args.layout.now c.in-Fields.table.0 (entries_view es.items) fits,
-          (whole, (c.requires.many, c.requires.long)),
+          rw c.deref.ensures.value (table_somewhere c.args.layout.now c.in-Fields.table.0 (entries_view es.items) fits),
+          (rw c.deref.ensures.value whole, (c.requires.many, c.requires.long)),
         ),
       ),
     )
@@ -173,7 +158,7 @@ pub add_tables-add_tables-requires : goal.add_tables-add_tables-requires
 add_tables-add_tables-requires t c =
     let m = c.in-Member.member in
     let code = c.in-Member.field-0 in
-    let is : view m.value ≡ view c.deref.result.now = cc in
+    let is : view m.value ≡ view c.deref-in-Member.result.now = cc in
     let small : need (view m.value) ≤ 2147483647 = rw (c.in-Member.is, view-Member code m) at c.requires.small in
     let fits = rw (c.in-Member.is, view-Member code m) at c.requires.fits in
     let whole : is_whole (view m.value) ≡ true = rw (c.in-Member.is, view-Member code m) at c.requires.whole in (
@@ -190,7 +175,8 @@ add_tables-add_tables-requires t c =
 
 pub add_tables-returns-in-Fields-clause-known : goal.add_tables-returns-in-Fields-clause-known
 add_tables-returns-in-Fields-clause-known t c =
-    rw (c.in-Fields.is, view-Fields c.in-Fields.table c.in-Fields.entries) c.add_table.ensures.known
+    rw (c.in-Fields.is, view-Fields c.in-Fields.table c.in-Fields.entries)
+    (rw c.deref.ensures.value at c.add_table.ensures.known)
 
 pub add_tables-returns-else-waits-clause-known : goal.add_tables-returns-else-waits-clause-known
 add_tables-returns-else-waits-clause-known t c =

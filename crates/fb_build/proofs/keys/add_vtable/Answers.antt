@@ -12,7 +12,7 @@ use Rattle.fb_build.specs.Vtables.{IsKey, vtable_of}
 use Rattle.fb_build.proofs.vtables.KeyHasTheBytes.{key_more, kept_more, none_among}
 use Rattle.fb_build.proofs.vtables.VtableHasTheDefinedBytes.{planned_is_of, ends_small, offset_low}
 use Rattle.fb_build.proofs.vtables.EachVtableIsAKey.{listed}
-use Rattle.fb_layout.proofs.NarrowTablesAreKnown.{ceil-is}
+use Rattle.fb_layout.proofs.slots.NarrowTablesAreKnown.{ceil-is}
 use Rattle.fb_build.specs.Fields.{stored_in, entries_seen, fields_size}
 use Rattle.fb_build.proofs.fields.SlotStoresItsEntry.{slots_long, entries_long}
 use Rattle.fb_build.proofs.tables.PartsFitTheirSlots.{known_of, slots_are}

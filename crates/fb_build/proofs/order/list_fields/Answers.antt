@@ -7,12 +7,12 @@ use Rattle.fb_build.specs.FieldOrder.{IsStoredAt}
 use Rattle.fb_build.proofs.fields.AlignmentDividesTheSize.{simple_aligned}
 use Rattle.fb_build.proofs.fields.SlotStoresItsEntry.{slots_at, stored_at}
 use Rattle.fb_build.proofs.order.SlotJoinsItsList.{list_passed, unstored, slot_opens, slot_follows}
-use Rattle.fb_build.proofs.order.list_fields.Goals.{then-is_stored, then-firsts-class-eq0, else-firsts-class-eq0}
+use Rattle.fb_build.proofs.order.list_fields.Goals.{then-is_stored, then-firsts-log2-eq0, else-firsts-log2-eq0}
 use Rattle.fb_build.proofs.order.list_fields.Goals.{else-is_stored}
 use Rattle.fb_build.proofs.order.list_fields.Goals as goal
 
-pub class_of-class-requires : goal.class_of-class-requires
-class_of-class-requires c =
+pub log2_of-log2-requires : goal.log2_of-log2-requires
+log2_of-log2-requires c =
     let L = c.args.layout.now in
     let k = c.loop-k.k in
     let f = slot_of L.schema (field_seen c.index-slots-k.result) in
@@ -37,33 +37,33 @@ loop-k-preserved c =
     let inv = c.loop-k.invariant in
     elim c.if-is_stored.branch [
       | then-is_stored w ↦
-          let class = w.class_of-class.result in
-          let own : IsStoredAt L (2 ^ class) fs xs k = record {
+          let log2 = w.log2_of-log2.result in
+          let own : IsStoredAt L (2 ^ log2) fs xs k = record {
             field = f;
             entry = x;
             is = fk;
             has = xk;
             stored = sym c.is_stored.ensures ∙ w.if-is_stored.true;
-            at = sym w.slot_align.ensures ∙ sym w.class_of-class.ensures.power;
+            at = sym w.slot_align.ensures ∙ sym w.log2_of-log2.ensures.power;
           } in
-          elim w.if-firsts-class-eq0.branch [
-            | then-firsts-class-eq0 v ↦ record {
+          elim w.if-firsts-log2-eq0.branch [
+            | then-firsts-log2-eq0 v ↦ record {
               long = rw (w.links-is, v.links-is) inv.long;
               all_firsts = c.if-is_stored.array_long;
               all_lasts = c.if-is_stored.array_long2;
               lists = rw (w.links-is, w.firsts-is, w.lasts-is, v.links-is, v.firsts-is)
-                  (slot_opens L class k fs xs _ _ _ w.class_of-class.ensures.low
-                  (omega (arith, inv.all_firsts, w.class_of-class.ensures.low))
-                  (omega (arith, inv.all_lasts, w.class_of-class.ensures.low)) v.if-firsts-class-eq0.true own
+                  (slot_opens L log2 k fs xs _ _ _ w.log2_of-log2.ensures.low
+                  (omega (arith, inv.all_firsts, w.log2_of-log2.ensures.low))
+                  (omega (arith, inv.all_lasts, w.log2_of-log2.ensures.low)) v.if-firsts-log2-eq0.true own
                   inv.lists);
             }
-            | else-firsts-class-eq0 v ↦ record {
+            | else-firsts-log2-eq0 v ↦ record {
               long = rw (w.links-is, v.links-is) (v.put_link.ensures.long ∙ inv.long);
               all_firsts = c.if-is_stored.array_long;
               all_lasts = c.if-is_stored.array_long2;
               lists = rw (w.links-is, w.firsts-is, w.lasts-is, v.links-is, v.firsts-is)
-                  (slot_follows L class k fs xs _ _ _ _ w.class_of-class.ensures.low
-                  (omega (arith, inv.all_lasts, w.class_of-class.ensures.low)) v.if-firsts-class-eq0.false own
+                  (slot_follows L log2 k fs xs _ _ _ _ w.log2_of-log2.ensures.low
+                  (omega (arith, inv.all_lasts, w.log2_of-log2.ensures.low)) v.if-firsts-log2-eq0.false own
                   v.put_link.ensures.there v.put_link.ensures.others inv.lists);
             }
           ]

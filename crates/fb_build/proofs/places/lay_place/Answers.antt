@@ -1,13 +1,16 @@
-use Rattle.std.proofs.Common.{◌≡◌, ◌+◌, ◌∙◌, true, Some, None, option_map, length, ap, sym, arith}
+use Rattle.std.proofs.Common.{◌≡◌, ◌+◌, ◌∙◌, true, Some, None, List, option_map, length, ap, subst, sym, arith}
 use Rattle.fb_schema.specs.declared.kinds.TypeId.{TypeId}
-use Rattle.fb_layout.specs.Laid.{stored_shape}
+use Rattle.fb_layout.specs.Laid.{struct_kind, stored_shape}
+use Rattle.fb_value.specs.Datum.{a_struct}
+use Rattle.fb_value.specs.declared.values.Value.{Value}
+use Rattle.fb_build.specs.InlineBytes.{IsTightInline, EachInlineIn}
 use Rattle.fb_layout.specs.Widths.{inline_size, inline_align}
 use Rattle.fb_value.specs.Num.{divides}
 use Rattle.fb_value.specs.Places.{part_place}
 use Rattle.fb_build.specs.Tails.{LaidInTail}
 use Rattle.fb_value.specs.View.{view, parts_view}
 use Rattle.fb_value.specs.Wanted.{struct_wanted}
-use Rattle.fb_value.proofs.EachVariantHasItsView.{view-Fixed}
+use Rattle.fb_value.proofs.types.EachVariantHasItsView.{view-Fixed}
 use Rattle.fb_build.proofs.fields.FieldHasItsValue.{reference_known}
 use Rattle.fb_build.proofs.tail.WhatIsLaidStaysLaid.{grown_long}
 use Rattle.fb_build.proofs.tail.MultiplesAdd.{sum_divides}
@@ -30,9 +33,11 @@ returns-in-Fixed-clause-lies c =
     omega (arith, grown, c.lay_struct.ensures.free, slot.size)) in
     let whole : divides (inline_align L shape) (length n.bytes) ≡ true =
     sum_divides _ _ _ _ c.requires.whole (simple_multiple L shape c.requires.simple) long in
+    let inline = subst (λ (vs : List Value). EachInlineIn L (IsTightInline L n.bytes) (struct_kind c.in-Some.structure.0)
+    0 (a_struct (parts_view vs))) c.deref.ensures.value c.lay_struct.ensures.inline in
     rw (c.in-Fixed.is, view-Fixed c.in-Fixed.parts)
     (struct_end L n.most n.bytes shape c.in-Some.structure.0 (parts_view c.in-Fixed.parts.items) wanted
-    c.lay_struct.ensures.lies c.lay_struct.ensures.inline whole (rw c.lay_struct.ensures.most c.requires.wide)
+    (rw c.deref.ensures.value at c.lay_struct.ensures.lies) inline whole (rw c.lay_struct.ensures.most c.requires.wide)
     (omega (arith, long)))
 
 pub returns-in-None-clause-lies : goal.returns-in-None-clause-lies

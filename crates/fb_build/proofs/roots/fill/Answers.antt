@@ -1,6 +1,6 @@
 use Rattle.std.proofs.Common.{◌≡◌, ◌+◌, ◌%◌, ◌∙◌, true, Some, ap, length, arith}
 use Rattle.std.proofs.lemmas.Bool.{eq-eqb, eqb-true}
-use Rattle.fb_value.proofs.TailsAreKeptInFront.{through}
+use Rattle.fb_value.proofs.tails.TailsAreKeptInFront.{through}
 use Rattle.fb_value.specs.Datum.{a_table}
 use Rattle.fb_value.specs.Num.{Bytes, divides}
 use Rattle.fb_value.specs.View.{entries_view}
@@ -9,7 +9,7 @@ use Rattle.fb_build.proofs.roots.TailWithItsRootIsABuffer.{whole_old}
 use Rattle.std.proofs.Common.{ℕ, ◌-◌, [], subst, append-nil}
 use Rattle.fb_value.specs.Lies.{LiesAt}
 use Rattle.fb_value.specs.Places.{part_place, ref_place, table_part}
-use Rattle.fb_value.proofs.TailsAreKeptInFront.{whole_shown}
+use Rattle.fb_value.proofs.tails.TailsAreKeptInFront.{whole_shown}
 use Rattle.fb_build.specs.Builders.{vtables_in}
 use Rattle.fb_build.specs.CoveredTails.{parts_in_tail}
 use Rattle.fb_build.specs.Made.{IsMade}
@@ -30,7 +30,7 @@ lay_reference-requires-clause-whole c =
 pub returns-clause-holds : goal.returns-clause-holds
 returns-clause-holds c most raw deep small =
     let L = c.args.layout.now in
-    let d = a_table c.args.table.0 (entries_view c.args.entries.now.items) in
+    let d = a_table c.args.table.0 (entries_view c.args.entries.now) in
     let table = c.lay_table-place.new.builder.tail in
     let tail = c.lay_identifier.new.out in
     let end = c.lay_reference.new.out in
@@ -52,7 +52,7 @@ returns-clause-holds c most raw deep small =
 pub returns-clause-old_slots : goal.returns-clause-old_slots
 returns-clause-old_slots c =
     let L = c.args.layout.now in
-    let d = a_table c.args.table.0 (entries_view c.args.entries.now.items) in
+    let d = a_table c.args.table.0 (entries_view c.args.entries.now) in
     let table = c.lay_table-place.new.builder.tail in
     let tail = c.lay_identifier.new.out in
     let end = c.lay_reference.new.out in
@@ -68,7 +68,7 @@ pub returns-clause-covered : goal.returns-clause-covered
 returns-clause-covered c =
     let L = c.args.layout.now in
     let t = c.args.table.0 in
-    let d = a_table t (entries_view c.args.entries.now.items) in
+    let d = a_table t (entries_view c.args.entries.now) in
     let table = c.lay_table-place.new.builder.tail in
     let tail = c.lay_identifier.new.out in
     let end = c.lay_reference.new.out in

@@ -12,7 +12,7 @@ lay_struct-loop-k-init t c =
     let L = c.args.layout.now in
     let s = c.args.structure.0 in
     let fields = c.parts_of-fields.result.now in
-    let items = c.args.parts.now.items in
+    let items = c.args.parts.now in
     let known = struct_known L s fields items c.schema-schema.ensures.made c.requires.there
     c.parts_of-fields.ensures.parts c.requires.fits in
     record {
@@ -31,7 +31,7 @@ lay_struct-overflow_sub-behind t c =
     let L = c.args.layout.now in
     let s = c.args.structure.0 in
     let fields = c.parts_of-fields.result.now in
-    let items = c.args.parts.now.items in
+    let items = c.args.parts.now in
     let k = c.loop-k.k in
     let kind = stored_kind L.schema c.kind_in-kind.result in
     let known = struct_known L s fields items c.schema-schema.ensures.made c.requires.there
@@ -41,21 +41,21 @@ lay_struct-overflow_sub-behind t c =
     let before = ends_before L s (length fields) k items known c.loop-k-test.true kind at in
     omega (arith, before, c.loop-k.invariant.begins, c.offset_of-offset.ensures, c.size_of.ensures)
 
-pub lay_struct-index-requires : goal.lay_struct-index-requires
-lay_struct-index-requires t c =
+pub lay_struct-bounds-parts-i : goal.lay_struct-bounds-parts-i
+lay_struct-bounds-parts-i t c =
     let L = c.args.layout.now in
     let fields = c.parts_of-fields.result.now in
-    let items = c.args.parts.now.items in
+    let items = c.args.parts.now in
     let known = struct_known L c.args.structure.0 fields items c.schema-schema.ensures.made c.requires.there
     c.parts_of-fields.ensures.parts c.requires.fits in
-    omega (arith, known.long, c.loop-k-test.true, c.args.parts.now.ok.0)
+    omega (arith, known.long, c.loop-k-test.true)
 
 pub lay_struct-lay_inline-requires : goal.lay_struct-lay_inline-requires
 lay_struct-lay_inline-requires t c =
     let L = c.args.layout.now in
     let s = c.args.structure.0 in
     let fields = c.parts_of-fields.result.now in
-    let items = c.args.parts.now.items in
+    let items = c.args.parts.now in
     let k = c.loop-k.k in
     let i = length fields - 1 - k in
     let kind = stored_kind L.schema c.kind_in-kind.result in
@@ -68,8 +68,8 @@ lay_struct-lay_inline-requires t c =
       (
         known.inline i kind at,
         (
-          part_fits_at L (parts_of L s) items i kind c.index.result.now
-              c.requires.fits at (omega (arith, known.long, c.loop-k-test.true)) c.index.ensures,
+          part_fits_at L (parts_of L s) items i kind c.index-parts-i.result
+              c.requires.fits at (omega (arith, known.long, c.loop-k-test.true)) c.index-parts-i.is,
           omega (
             arith,
             before,
@@ -89,7 +89,7 @@ lay_struct-loop-k-preserved t c =
     let L = c.args.layout.now in
     let s = c.args.structure.0 in
     let fields = c.parts_of-fields.result.now in
-    let items = c.args.parts.now.items in
+    let items = c.args.parts.now in
     let k = c.loop-k.k in
     let n = length fields in
     let kind = stored_kind L.schema c.kind_in-kind.result in
@@ -107,7 +107,7 @@ lay_struct-loop-k-preserved t c =
     omega (arith, before, inv.begins, offset, c.size_of.ensures, c.take_zeros.ensures.free, now.free) in
     let under : slice_index (struct_at L s).offsets (n - 1 - k) ≤ c.loop-k.behind = omega (arith, before, inv.begins) in
     let lies = one_laid L s n k items known c.loop-k-test.true kind at c.loop-k.out c.lay_inline.new.out c.loop-k.behind
-    c.index.result.now c.index.ensures grows spent under now.lies now.inline inv.lies in
+    c.index-parts-i.result c.index-parts-i.is grows spent under now.lies now.inline inv.lies in
     let pads = pads_more L s c.loop-k.out c.take_zeros.new.self c.lay_inline.new.out c.loop-k.behind (n - 1 - k) _
     (slice_index (struct_at L s).offsets (n - 1 - k)) kind at (omega (arith, known.offsets, c.loop-k-test.true))
     refl c.take_zeros.ensures.bytes (omega (arith, before, inv.begins, offset, c.size_of.ensures)) now.grows
@@ -125,7 +125,7 @@ pub lay_struct-returns-clause-lies : goal.lay_struct-returns-clause-lies
 lay_struct-returns-clause-lies t c =
     let fields = c.parts_of-fields.result.now in
     whole_from c.args.layout.now c.loop-k.out c.take_zeros-2.new.self c.loop-k.behind c.args.structure.0 (length fields)
-    c.loop-k.k c.args.parts.now.items c.loop-k-test.false c.take_zeros-2.ensures.grows
+    c.loop-k.k c.args.parts.now c.loop-k-test.false c.take_zeros-2.ensures.grows
     (omega (arith, c.take_zeros-2.ensures.free)) c.loop-k.invariant.lies
 
 pub lay_struct-returns-clause-inline : goal.lay_struct-returns-clause-inline
@@ -136,7 +136,7 @@ lay_struct-returns-clause-inline t c =
       pads_whole L s c.loop-k.out.bytes c.take_zeros-2.new.self.bytes c.loop-k.behind c.take_zeros-2.ensures.bytes
           c.loop-k.invariant.pads,
       whole_tight L c.loop-k.out c.take_zeros-2.new.self c.loop-k.behind s (length fields) c.loop-k.k
-          c.args.parts.now.items c.loop-k-test.false c.take_zeros-2.ensures.grows
+          c.args.parts.now c.loop-k-test.false c.take_zeros-2.ensures.grows
           (omega (arith, c.take_zeros-2.ensures.free)) c.loop-k.invariant.lies,
     )
 

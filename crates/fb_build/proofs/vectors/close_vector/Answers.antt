@@ -8,8 +8,8 @@ use Rattle.fb_layout.specs.Laid.{stored_kind, one_of, size_of, align_of}
 use Rattle.fb_value.specs.Num.{num, divides}
 use Rattle.fb_value.specs.Places.{vector_part}
 use Rattle.fb_value.specs.View.{view, parts_view}
-use Rattle.fb_value.proofs.EachVariantHasItsView.{count-parts_view}
-use Rattle.fb_value.proofs.TailsAreKeptInFront.{through}
+use Rattle.fb_value.proofs.types.EachVariantHasItsView.{count-parts_view}
+use Rattle.fb_value.proofs.tails.TailsAreKeptInFront.{through}
 use Rattle.fb_build.proofs.fields.FieldHasItsValue.{target_grown}
 use Rattle.fb_build.proofs.tail.WhatIsLaidStaysLaid.{then_grows, grown_long}
 use Rattle.fb_build.proofs.vectors.VectorHasItsElements.{element_padded, without_items, times_least, vector_end}

@@ -7,7 +7,7 @@ use Rattle.fb_value.specs.Num.{Bytes, divides}
 use Rattle.fb_build.specs.Fields.{stored_in, stored_align, entries_seen}
 use Rattle.fb_build.specs.TableBytes.{VtableEnd, vtable_bytes, offset_from}
 use Rattle.fb_build.proofs.tail.WhatIsLaidStaysLaid.{four_power, then_grows, grown_long}
-use Rattle.fb_value.proofs.TailsAreKeptInFront.{through}
+use Rattle.fb_value.proofs.tails.TailsAreKeptInFront.{through}
 use Rattle.fb_build.proofs.vtables.VtableIsLaidOnce.{shared_grown}
 use Rattle.fb_build.proofs.vtables.EndsAreWithinTheTable.{ends_under, ends_high, offset_small}
 use Rattle.fb_build.proofs.vtables.ClosedTableHasItsValue.{vtable_told, vtable_long, vtable_at, table_read, table_end}

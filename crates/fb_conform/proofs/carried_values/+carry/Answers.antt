@@ -1,18 +1,20 @@
 use Rattle.std.proofs.Common.{◌+◌, List, Option, refl, subst, ap, sym, ◌∙◌, arith, length, map, option_map}
-use Rattle.std.proofs.lemmas.Option.{slice_get_read, slice_get_past}
+use Rattle.std.proofs.lemmas.Option.{slice_get_read}
+use Rattle.fb_schema.proofs.Got.{got}
 use Rattle.fb_layout.specs.Laid.{slot_of, slots_of}
 use Rattle.fb_value.specs.Datum.{a_table}
 use Rattle.fb_value.specs.View.{view, entries_view}
 use Rattle.fb_value.specs.declared.values.Value.{Value}
-use Rattle.fb_value.proofs.EachVariantHasItsView.{view-Fields}
+use Rattle.fb_value.proofs.types.EachVariantHasItsView.{view-Fields}
 use Rattle.fb_conform.specs.Carry.{carry_slots}
 use Rattle.fb_conform.proofs.carried_values.EntriesAreCarriedInOrder.{SoFar, one_carried, one_default, all_done, all_parts}
 use Rattle.fb_conform.proofs.carried_values.+carry.Goals as goal
-use Rattle.fb_conform.proofs.carried_values.+carry.Goals.{carry_entries-then-i-len+in_ok-entry, carry_entries-else-i-len}
+use Rattle.fb_conform.proofs.carried_values.+carry.Goals.{carry_entries-in-Some+in_ok-entry-in-Some}
+use Rattle.fb_conform.proofs.carried_values.+carry.Goals.{carry_entries-in-None}
 
 pub carry_entries-returns : goal.carry_entries-returns
 carry_entries-returns t c =
-    all_done c.args.versions.before.now c.args.versions.after.now c.args.slots.now c.args.entries.now.items c.loop-i.i
+    all_done c.args.versions.before.now c.args.versions.after.now c.args.slots.now c.args.entries.now c.loop-i.i
     c.loop-i.carried.items (grind (arith, c.loop-i-test.false)) c.loop-i.invariant
 
 pub carry_parts-returns : goal.carry_parts-returns
@@ -26,21 +28,18 @@ carry_entries-loop-i-preserved t c =
     let A = c.args.versions.before.now in
     let B = c.args.versions.after.now in
     let slots = c.args.slots.now in
-    let es = c.args.entries.now.items in
+    let es = c.args.entries.now in
     let i = c.loop-i.i in
+    let slot = slice_get_read slots (length slots) i c.index-slots-i.result refl c.loop-i-test.true c.index-slots-i.is in
+    let there = got es i c.get.result c.get.ensures.lookup.0 c.get.ensures.lookup.1 in
     subst (λ (xs : List (Option Value)). SoFar A B slots es (i + 1) xs) (sym c.in_ok-push.ensures.items)
-    (elim c.if-i-len.branch [
-      | carry_entries-then-i-len+in_ok-entry w ↦ one_carried A B slots es i w.index-slots-i.result w.index.result.now
-          c.if-i-len.entry c.loop-i.carried.items
-          (slice_get_read slots (length slots) i w.index-slots-i.result refl c.loop-i-test.true w.index-slots-i.is)
-          (slice_get_read es (length es) i w.index.result.now refl (grind (arith, w.if-i-len.true, c.len.ensures))
-          w.index.ensures)
-          (ap (option_map view) w.entry-is ∙ w.in_ok-entry.ensures) c.loop-i.invariant
-      | carry_entries-else-i-len w ↦ one_default A B slots es i w.index-slots-i-else-i-len.result c.if-i-len.entry
-          c.loop-i.carried.items
-          (slice_get_read slots (length slots) i w.index-slots-i-else-i-len.result refl c.loop-i-test.true
-          w.index-slots-i-else-i-len.is)
-          (slice_get_past es i (grind (arith, w.if-i-len.false, c.len.ensures)))
+    (elim c.match-get.branch [
+      | carry_entries-in-Some+in_ok-entry-in-Some w ↦ one_carried A B slots es i c.index-slots-i.result
+          w.in-Some.entry.now c.match-get.entry c.loop-i.carried.items slot
+          (sym there ∙ ap (option_map (λ x. x.now)) w.in-Some.is)
+          (ap (option_map view) w.entry-is ∙ w.in_ok-entry-in-Some.ensures) c.loop-i.invariant
+      | carry_entries-in-None w ↦ one_default A B slots es i c.index-slots-i.result c.match-get.entry
+          c.loop-i.carried.items slot (sym there ∙ ap (option_map (λ x. x.now)) w.in-None.is)
           (ap (option_map view) w.entry-is ∙ w.default_entry-entry.ensures B.schema) c.loop-i.invariant
     ])
 
@@ -56,7 +55,7 @@ carry_in-returns-in_ok-carry_entries-in-Fields t c =
       view-Fields c.new_number-new_id.result c.in_ok-carry_entries-in-Fields.field-0,
     )
     (ap (a_table c.new_number-new_id.result.0)
-    (c.in_ok-carry_entries-in-Fields.ensures
+    (rw c.deref-in-Fields.ensures.value at c.in_ok-carry_entries-in-Fields.ensures
     ∙ ap (λ fs. carry_slots A B (map (slot_of B.schema) fs) (entries_view entries.items))
     c.slots_of-slots.ensures.slots)
     ∙ ap (λ u. a_table u (carry_slots A B (slots_of B u) (entries_view entries.items))) c.new_number-new_id.ensures)

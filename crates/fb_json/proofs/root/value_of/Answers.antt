@@ -10,7 +10,7 @@ use Rattle.fb_json.specs.Meant.{type_place}
 use Rattle.fb_json.specs.Outcome.{Fails}
 use Rattle.fb_json.proofs.root.RootMeaningDecides.{failed, means_root, none_root, refuses_root, first_root, root_object}
 use Rattle.fb_json.proofs.root.RootMeaningDecides.{root_other, may_lack}
-use Rattle.fb_json.proofs.ValueTextsAreUtf8.{value_utf8}
+use Rattle.fb_json.proofs.texts.ValueTextsAreUtf8.{value_utf8}
 use Rattle.fb_json.proofs.root.MeantValueFitsTheRoot.{root_fitted}
 use Rattle.fb_json.proofs.laws.MeantValueIsWhole.{meant_whole}
 use Rattle.fb_json.proofs.root.value_of.Goals as goal

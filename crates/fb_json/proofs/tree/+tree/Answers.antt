@@ -100,7 +100,7 @@ part-returns-in-None t c =
 
 pub value-returns-in-Array : goal.value-returns-in-Array
 value-returns-in-Array t c = rw (c.in-Array.is, view-Array c.in-Array.elements, counted c.in-Array.elements.items)
-    c.vector.ensures
+    (rw c.deref.ensures.value at c.vector.ensures)
 
 pub entry-returns-in-Some : goal.entry-returns-in-Some
 entry-returns-in-Some t c =

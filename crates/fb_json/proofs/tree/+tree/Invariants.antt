@@ -2,15 +2,15 @@ use Rattle.std.proofs.Common.{◌≡◌, map, drop, option_map}
 use Rattle.serde_json.specs.View.{items_view, members_view}
 use Rattle.fb_schema.specs.Seen.{field_seen}
 use Rattle.fb_value.specs.View.{view}
-use Rattle.fb_json.specs.Outcome.{after}
 use Rattle.fb_json.specs.Meant.{items_meant, slots_meant, parts_meant, look}
+use Rattle.fb_json.proofs.tree.OneSlotOrFieldMore.{after}
 use Rattle.fb_json.proofs.tree.+tree.Given as goal
 
 abbrev pub invariant-items-loop-element : goal.invariant-items-loop-element
 invariant-items-loop-element l =
-    items_meant l.source.layout.now l.source.unknown (items_view l.elements.items) l.kind l.place l.levels l.fn.left
+    items_meant l.source.layout.now l.source.unknown (items_view l.elements) l.kind l.place l.levels l.fn.left
     ≡ after (map view l.found.items)
-    (items_meant l.source.layout.now l.source.unknown (items_view (drop l.element-index l.elements.items)) l.kind
+    (items_meant l.source.layout.now l.source.unknown (items_view (drop l.element-index l.elements)) l.kind
     l.place l.levels l.left)
 
 abbrev pub invariant-entries-loop-k : goal.invariant-entries-loop-k

@@ -1,7 +1,7 @@
 use Rattle.std.proofs.Common.{ℕ, subst, arith}
 use Rattle.fb_layout.specs.Sizes.{IsLeastMultiple}
 use Rattle.fb_layout.proofs.laws.NextMultipleIsTheLeast.{next-least}
-use Rattle.fb_layout.proofs.NarrowTablesAreKnown.{ceil-is}
+use Rattle.fb_layout.proofs.slots.NarrowTablesAreKnown.{ceil-is}
 use Rattle.fb_layout.proofs.laws.least_multiple_of_four.Goals as goal
 
 pub returns : goal.returns

@@ -1,4 +1,4 @@
-use Rattle.fb_layout.proofs.AlignmentsArePowersOfTwo.{multiples_shown}
+use Rattle.fb_layout.proofs.sizes.AlignmentsArePowersOfTwo.{multiples_shown}
 use Rattle.fb_layout.proofs.laws.sizes_are_multiples.Goals as goal
 
 pub returns : goal.returns

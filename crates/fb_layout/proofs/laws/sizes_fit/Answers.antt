@@ -1,4 +1,4 @@
-use Rattle.fb_layout.proofs.AlignmentsArePowersOfTwo.{sizes_shown}
+use Rattle.fb_layout.proofs.sizes.AlignmentsArePowersOfTwo.{sizes_shown}
 use Rattle.fb_layout.proofs.laws.sizes_fit.Goals as goal
 
 pub returns : goal.returns

@@ -1,4 +1,4 @@
-use Rattle.fb_layout.proofs.EachFieldTakesAByte.{few_shown}
+use Rattle.fb_layout.proofs.sizes.EachFieldTakesAByte.{few_shown}
 use Rattle.fb_layout.proofs.laws.structs_have_few_parts.Goals as goal
 
 pub returns : goal.returns

@@ -7,7 +7,7 @@ use Rattle.fb_layout.specs.Known.{no_table, sizes_seen, known_from, tables_from,
 use Rattle.fb_layout.proofs.layouts.LayoutIsWellMadeOrRefused.{refused_for, made_for}
 use Rattle.fb_layout.proofs.laws.SchemaHasOneLayout.{no_layout}
 use Rattle.fb_layout.proofs.layouts.SizesOrTheFirstFault.{table_at}
-use Rattle.fb_layout.proofs.RequiredSlotsAreNumbered.{small_numbers}
+use Rattle.fb_layout.proofs.slots.RequiredSlotsAreNumbered.{small_numbers}
 use Rattle.fb_layout.proofs.layouts.lay.Goals as goal
 
 pub returns-in-Err-clause-fault : goal.returns-in-Err-clause-fault

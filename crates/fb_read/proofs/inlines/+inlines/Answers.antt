@@ -1,12 +1,12 @@
 use Rattle.std.proofs.Common.{◌≡◌, ◌≤◌, ◌<◌, ◌∙◌, length, Some, sym, ap, arith}
 use Rattle.fb_schema.specs.declared.types.FieldInfo.{FieldInfo}
 use Rattle.fb_layout.specs.Laid.{stored_kind}
-use Rattle.fb_value.proofs.EachVariantHasItsView.{view-Fixed}
-use Rattle.fb_read.specs.Kinds.{rank}
+use Rattle.fb_value.proofs.types.EachVariantHasItsView.{view-Fixed}
 use Rattle.fb_read.proofs.items.PartsLieInTheirPlaces.{field_kind, field_within, field_there}
 use Rattle.fb_read.proofs.read_tables.OneValueMore.{parts_grown, parts_entered_more}
 use Rattle.fb_read.proofs.inlines.StructFieldsRankLower.{field_rank, fields_whole, found_same, found_none}
 use Rattle.fb_read.proofs.inlines.+inlines.Goals.{read_struct-in-Some+in_ok-push, read_struct-in_default}
+use Rattle.fb_read.proofs.inlines.StructFieldsRankLower.{rank}
 use Rattle.fb_read.proofs.inlines.+inlines.Goals as goal
 
 pub read_struct-read_inline-requires : goal.read_struct-read_inline-requires

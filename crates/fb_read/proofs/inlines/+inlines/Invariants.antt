@@ -4,9 +4,9 @@ use Rattle.fb_value.specs.Datum.{Parts}
 use Rattle.fb_value.specs.Counts.{parts_entered}
 use Rattle.fb_value.specs.Lies.{LiesParts}
 use Rattle.fb_value.specs.View.{parts_view}
-use Rattle.fb_read.specs.Kinds.{rank}
 use Rattle.fb_read.specs.Tails.{parts_from}
 use Rattle.fb_read.proofs.read_tables.OneValueMore.{parts_before}
+use Rattle.fb_read.proofs.inlines.StructFieldsRankLower.{rank}
 use Rattle.fb_read.proofs.inlines.+inlines.Given as goal
 
 abbrev pub decreases-read_inline : goal.decreases-read_inline

@@ -5,7 +5,7 @@ use Rattle.fb_value.specs.Bounds.{Bounds}
 use Rattle.fb_value.specs.Num.{num}
 use Rattle.fb_value.specs.Places.{table_part, vector_part, target_of}
 use Rattle.fb_value.specs.View.{view, entries_view}
-use Rattle.fb_value.proofs.EachVariantHasItsView.{view-Fields, view-Member}
+use Rattle.fb_value.proofs.types.EachVariantHasItsView.{view-Fields, view-Member}
 use Rattle.fb_read.specs.Values.{led_to}
 use Rattle.fb_read.specs.Visits.{slot_seen, slots_seen}
 use Rattle.fb_read.proofs.read_tables.OneValueMore.{parts_entered_more, parts_whole, entries_entered_more}

@@ -4,7 +4,7 @@ use Rattle.fb_layout.specs.Required.{required_slots}
 use Rattle.fb_value.specs.Num.{Bytes}
 use Rattle.fb_value.specs.Missing.{is_missing_slot}
 use Rattle.fb_value.specs.Rules.{first_missing}
-use Rattle.fb_value.proofs.FirstMissingSlotIsRequired.{first_shown}
+use Rattle.fb_value.proofs.rules.FirstMissingSlotIsRequired.{first_shown}
 use Rattle.fb_read.specs.Visits.{slots_seen, first_unset}
 use Rattle.fb_read.proofs.rules.missing_slot.Goals as goal
 

@@ -6,7 +6,7 @@ use Rattle.fb_value.specs.Datum.{a_vector, a_struct, a_table}
 use Rattle.fb_value.specs.Nth.{nth_part, nth_entry}
 use Rattle.fb_value.specs.View.{view, parts_view, entries_view}
 use Rattle.fb_value.specs.declared.values.Value.{Value}
-use Rattle.fb_value.proofs.EachVariantHasItsView.{view-Items, view-Fixed, view-Fields}
+use Rattle.fb_value.proofs.types.EachVariantHasItsView.{view-Items, view-Fixed, view-Fields}
 use Rattle.fb_text.proofs.owned.PartsAreLighter.{part_viewed, entry_viewed, entry_past, part_light, entry_light}
 use Rattle.fb_text.proofs.owned.PartsAreLighter.{copied_view}
 use Rattle.fb_text.proofs.owned.child_of.Goals as goal

@@ -3,7 +3,7 @@ use Rattle.std.proofs.Common.{arith}
 use Rattle.fb_value.specs.Datum.{count}
 use Rattle.fb_value.specs.View.{view, parts_view, entries_view}
 use Rattle.fb_value.specs.declared.values.Value.{Value}
-use Rattle.fb_value.proofs.EachVariantHasItsView.{view-Items, view-Fixed, view-Fields, count-parts_view}
+use Rattle.fb_value.proofs.types.EachVariantHasItsView.{view-Items, view-Fixed, view-Fields, count-parts_view}
 use Rattle.fb_read.specs.Tails.{entries_from}
 use Rattle.fb_text.specs.Unnamed.{first_in_entries}
 use Rattle.fb_text.proofs.unnamed.OneEntryMore.{parts_end}

@@ -1,5 +1,5 @@
 use Rattle.std.proofs.Common.{length, ap, sym, ◌∙◌}
-use Rattle.fb_value.proofs.EachVariantHasItsView.{view-Items, count-parts_view}
+use Rattle.fb_value.proofs.types.EachVariantHasItsView.{view-Items, count-parts_view}
 use Rattle.fb_text.proofs.owned.items_of.Goals as goal
 
 pub returns-in-Items-clause-count : goal.returns-in-Items-clause-count

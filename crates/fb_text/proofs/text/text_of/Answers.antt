@@ -2,7 +2,7 @@ use Rattle.std.proofs.Common.{◌≡◌, ℕ, true, false, Some, IsUtf8, refl, a
 use Rattle.fb_schema.specs.Schema.{DeclaredSchema}
 use Rattle.fb_value.specs.View.{view}
 use Rattle.fb_json.specs.Meant.{type_place}
-use Rattle.fb_json.proofs.ValueTextsAreUtf8.{value_utf8}
+use Rattle.fb_json.proofs.texts.ValueTextsAreUtf8.{value_utf8}
 use Rattle.fb_text.specs.Texts.{json_text}
 use Rattle.fb_text.specs.Unnamed.{first_unnamed}
 use Rattle.fb_text.proofs.NamesAreUtf8.{schema_utf8}

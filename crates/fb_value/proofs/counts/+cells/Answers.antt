@@ -1,7 +1,7 @@
 use Rattle.std.proofs.Common.{◌+◌, ◌<◌, ◌^◌, ℕ, arith}
 use Rattle.std.proofs.lemmas.List.{drop_all}
 use Rattle.std.proofs.lemmas.Grind.{common_steps}
-use Rattle.fb_value.proofs.EachVariantHasItsView.{view-Items, view-Fields, count-parts_view}
+use Rattle.fb_value.proofs.types.EachVariantHasItsView.{view-Items, view-Fields, count-parts_view}
 use Rattle.fb_value.specs.View.{entries_view}
 use Rattle.fb_value.specs.Counts.{entries_cells}
 use Rattle.fb_value.proofs.counts.+cells.Goals as goal

@@ -1,6 +1,6 @@
 use Rattle.std.proofs.Common.{◌<◌, length, arith}
 use Rattle.std.proofs.lemmas.Bool.{false≢true}
-use Rattle.fb_value.proofs.EachVariantHasItsView.{view-Fields}
+use Rattle.fb_value.proofs.types.EachVariantHasItsView.{view-Fields}
 use Rattle.fb_value.proofs.equality.EqualViewsHaveEqualParts.{parts_alike, entries_alike, parts_long, entries_long}
 use Rattle.fb_value.proofs.equality.+same.Goals as goal
 
@@ -20,10 +20,10 @@ same_parts-returns-then-first-second t c = (
   λ e. absurd (omega (arith, parts_long c.args.first.now c.args.second.now e)),
 )
 
-pub same_entries-returns-then-len : goal.same_entries-returns-then-len
-same_entries-returns-then-len t c = (
+pub same_entries-returns-then-first-second : goal.same_entries-returns-then-first-second
+same_entries-returns-then-first-second t c = (
   (λ bad. absurd (false≢true bad)),
-  λ e. absurd (omega (arith, entries_long c.args.first.now.items c.args.second.now.items e)),
+  λ e. absurd (omega (arith, entries_long c.args.first.now c.args.second.now e)),
 )
 
 pub same_parts-returns-then-not-same_in : goal.same_parts-returns-then-not-same_in
@@ -40,19 +40,19 @@ same_parts-returns-then-not-same_in t c =
 
 pub same_entries-returns-then-not-same_entry : goal.same_entries-returns-then-not-same_entry
 same_entries-returns-then-not-same_entry t c =
-    let xs = c.args.first.now.items in
-    let ys = c.args.second.now.items in
+    let xs = c.args.first.now in
+    let ys = c.args.second.now in
     let h : c.loop-i.i < length xs = omega arith in
     let k : c.loop-i.i < length ys = omega arith in (
       (λ bad. absurd (false≢true bad)),
-      λ e. let alike = entries_alike xs ys c.loop-i.i c.index.result.now
-          c.index-in-loop-i.result.now e h k in
+      λ e. let alike = entries_alike xs ys c.loop-i.i c.index-first-i.result
+          c.index-second-i.result e h k in
           grind (
             arith,
             alike,
             c.same_entry.ensures,
-            c.index.ensures,
-            c.index-in-loop-i.ensures,
+            c.index-first-i.is,
+            c.index-second-i.is,
             c.if-not-same_entry.true,
           ),
     )

@@ -3,9 +3,9 @@ use Rattle.std.proofs.lemmas.List.{length-map}
 use Rattle.std.proofs.lemmas.Bool.{false≢true}
 use Rattle.fb_layout.specs.Laid.{stored_shape}
 use Rattle.fb_value.specs.View.{parts_view, entries_view}
-use Rattle.fb_value.proofs.EachVariantHasItsView.{view-Fixed, view-Fields}
+use Rattle.fb_value.proofs.types.EachVariantHasItsView.{view-Fixed, view-Fields}
 use Rattle.fb_value.proofs.rooms.RoomIsThatOfTheParts.{slots_seen}
-use Rattle.fb_value.proofs.ValueFitsPartByPart.{kinds_seen, parts_count, entries_count, struct_fits, table_fits}
+use Rattle.fb_value.proofs.types.ValueFitsPartByPart.{kinds_seen, parts_count, entries_count, struct_fits, table_fits}
 use Rattle.fb_value.proofs.fit.+fits.Goals as goal
 
 pub parts_fit-returns-then-fields-parts : goal.parts_fit-returns-then-fields-parts
@@ -16,11 +16,11 @@ parts_fit-returns-then-fields-parts t c = (
       absurd (omega arith)),
 )
 
-pub entries_fit-returns-then-slots-len : goal.entries_fit-returns-then-slots-len
-entries_fit-returns-then-slots-len t c = (
+pub entries_fit-returns-then-slots-entries : goal.entries_fit-returns-then-slots-entries
+entries_fit-returns-then-slots-entries t c = (
   (λ bad. absurd (false≢true bad)),
   (λ h. let long = simp length-map
-      at (entries_count c.args.layout.now (slots_seen c.args.layout.now c.args.slots.now) c.args.entries.now.items h)
+      at (entries_count c.args.layout.now (slots_seen c.args.layout.now c.args.slots.now) c.args.entries.now h)
       in absurd (omega arith)),
 )
 
@@ -38,7 +38,7 @@ fits_in-returns-then-is_table t c =
     let fits = table_fits L (stored_shape L.schema c.args.shape) c.in-Fields.owner.0
     (entries_view c.in-Fields.entries.items) in
     let wanted = (c.is_table.ensures L.schema).0 c.if-is_table.true in
-    let own = rw c.slots_of.ensures.slots at c.entries_fit.ensures in
+    let own = rw (c.slots_of.ensures.slots, c.deref-then-is_table.ensures.value) at c.entries_fit.ensures in
     rw (c.in-Fields.is, view-Fields c.in-Fields.owner c.in-Fields.entries) (
       (λ yes. fits.1 (wanted, own.0 yes)),
       (λ h. own.1 (fits.0 h).1),

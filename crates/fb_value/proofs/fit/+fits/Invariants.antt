@@ -1,9 +1,9 @@
-use Rattle.std.proofs.Common.{◌↔◌, drop}
+use Rattle.std.proofs.Common.{◌↔◌, ◌+◌, ◌*◌, drop}
 use Rattle.fb_layout.specs.Laid.{stored_kind}
 use Rattle.fb_value.specs.View.{parts_view, entries_view}
 use Rattle.fb_value.specs.Fits.{PartsFit, EachFits, EntriesFit}
 use Rattle.fb_value.proofs.rooms.RoomIsThatOfTheParts.{slots_seen}
-use Rattle.fb_value.proofs.ValueFitsPartByPart.{kinds_seen}
+use Rattle.fb_value.proofs.types.ValueFitsPartByPart.{kinds_seen}
 use Rattle.fb_value.proofs.fit.+fits.Given as goal
 
 abbrev pub invariant-each_fits-loop-item : goal.invariant-each_fits-loop-item
@@ -17,5 +17,21 @@ invariant-parts_fit-loop-i l = PartsFit l.layout (kinds_seen l.layout (drop l.i 
 
 abbrev pub invariant-entries_fit-loop-i : goal.invariant-entries_fit-loop-i
 invariant-entries_fit-loop-i l = EntriesFit l.layout (slots_seen l.layout (drop l.i l.slots))
-    (entries_view (drop l.i l.entries.items)) ↔ EntriesFit l.layout (slots_seen l.layout l.slots)
-    (entries_view l.entries.items)
+    (entries_view (drop l.i l.entries)) ↔ EntriesFit l.layout (slots_seen l.layout l.slots)
+    (entries_view l.entries)
+
+-- The depth goes down, and at one depth a caller ranks above what it calls.
+abbrev pub decreases-fits_in : goal.decreases-fits_in
+decreases-fits_in l = 3 * goal.size-fits_in l
+
+abbrev pub decreases-each_fits : goal.decreases-each_fits
+decreases-each_fits l = 3 * goal.size-each_fits l + 1
+
+abbrev pub decreases-parts_fit : goal.decreases-parts_fit
+decreases-parts_fit l = 3 * goal.size-parts_fit l + 1
+
+abbrev pub decreases-entry_fits : goal.decreases-entry_fits
+decreases-entry_fits l = 3 * goal.size-entry_fits l + 1
+
+abbrev pub decreases-entries_fit : goal.decreases-entries_fit
+decreases-entries_fit l = 3 * goal.size-entries_fit l + 2

@@ -1,4 +1,4 @@
-use Rattle.fb_value.proofs.EachTableIsReached.{reached_shown}
+use Rattle.fb_value.proofs.reached.EachTableIsReached.{reached_shown}
 use Rattle.fb_value.proofs.laws.each_table_reached.Goals as goal
 
 pub returns : goal.returns

@@ -1,4 +1,4 @@
-use Rattle.fb_value.proofs.HeldValueFitsTheRoot.{fits_where_held_shown}
+use Rattle.fb_value.proofs.held.HeldValueFitsTheRoot.{fits_where_held_shown}
 use Rattle.fb_value.proofs.laws.fits_where_held.Goals as goal
 
 pub returns : goal.returns

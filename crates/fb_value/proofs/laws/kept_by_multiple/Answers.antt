@@ -1,4 +1,4 @@
-use Rattle.fb_value.proofs.TailsAreKeptInFront.{multiple_shown}
+use Rattle.fb_value.proofs.tails.TailsAreKeptInFront.{multiple_shown}
 use Rattle.fb_value.proofs.laws.kept_by_multiple.Goals as goal
 
 pub returns : goal.returns

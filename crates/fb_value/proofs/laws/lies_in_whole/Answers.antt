@@ -1,4 +1,4 @@
-use Rattle.fb_value.proofs.TailsAreKeptInFront.{whole_shown}
+use Rattle.fb_value.proofs.tails.TailsAreKeptInFront.{whole_shown}
 use Rattle.fb_value.proofs.laws.lies_in_whole.Goals as goal
 
 pub returns : goal.returns

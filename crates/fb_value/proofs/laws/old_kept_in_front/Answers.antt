@@ -1,4 +1,4 @@
-use Rattle.fb_value.proofs.TailsAreKeptInFront.{old_shown}
+use Rattle.fb_value.proofs.tails.TailsAreKeptInFront.{old_shown}
 use Rattle.fb_value.proofs.laws.old_kept_in_front.Goals as goal
 
 pub returns : goal.returns

@@ -1,4 +1,4 @@
-use Rattle.fb_value.proofs.BytesHoldAValueOrAFault.{value_or_fault_shown}
+use Rattle.fb_value.proofs.held.BytesHoldAValueOrAFault.{value_or_fault_shown}
 use Rattle.fb_value.proofs.laws.value_or_fault.Goals as goal
 
 pub returns : goal.returns

@@ -1,4 +1,4 @@
-use Rattle.fb_value.proofs.BytesHoldAValueOrAFault.{value_where_all_keep_shown}
+use Rattle.fb_value.proofs.held.BytesHoldAValueOrAFault.{value_where_all_keep_shown}
 use Rattle.fb_value.proofs.laws.value_where_all_keep.Goals as goal
 
 pub returns : goal.returns

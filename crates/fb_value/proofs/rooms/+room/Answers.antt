@@ -20,10 +20,11 @@ room_in-returns-in-Fields t c =
     c.in-Fields.entries slots c.in-Fields.is c.slots_of-slots.ensures.slots in
     let own = c.room_of_table-own.ensures ∙ own_known L c.in-Fields.owner slots (length slots)
     c.slots_of-slots.ensures.slots refl in
-    rw known (omega (arith, own, c.room_in_entries.ensures, c.saturating_add-in-Fields.ensures))
+    let inner = rw c.deref-in-Fields.ensures.value at c.room_in_entries.ensures in
+    rw known (omega (arith, own, inner, c.saturating_add-in-Fields.ensures))
 
 pub room_in_entries-returns : goal.room_in_entries-returns
 room_in_entries-returns t c =
-    let done = rw (room_end c.args.layout.now c.args.slots.now c.args.entries.now.items c.loop-i.i (omega arith))
+    let done = rw (room_end c.args.layout.now c.args.slots.now c.args.entries.now c.loop-i.i (omega arith))
     at c.loop-i.invariant.1 in
     omega (arith, done, c.loop-i.invariant.0)

@@ -1,4 +1,4 @@
-use Rattle.std.proofs.Common.{◌≡◌, ◌+◌, ◌<◌, ◌^◌, drop, map}
+use Rattle.std.proofs.Common.{◌≡◌, ◌+◌, ◌*◌, ◌<◌, ◌^◌, drop, map}
 use Rattle.fb_schema.specs.Seen.{field_seen}
 use Rattle.fb_layout.specs.Laid.{stored_kind, slot_of}
 use Rattle.fb_value.specs.UpTo.{at_most_usize}
@@ -15,6 +15,19 @@ invariant-room_in_parts-loop-part l = (l.total < 2 ^ 64)
 abbrev pub invariant-room_in_entries-loop-i : goal.invariant-room_in_entries-loop-i
 invariant-room_in_entries-loop-i l = (l.total < 2 ^ 64)
     × (at_most_usize (l.total + entries_room l.layout
-    (map (slot_of l.layout.schema) (map field_seen (drop l.i l.slots))) (entries_view (drop l.i l.entries.items)))
+    (map (slot_of l.layout.schema) (map field_seen (drop l.i l.slots))) (entries_view (drop l.i l.entries)))
     ≡ at_most_usize (entries_room l.layout (map (slot_of l.layout.schema) (map field_seen l.slots))
-    (entries_view l.entries.items)))
+    (entries_view l.entries)))
+
+-- The depth goes down, and at one depth a caller ranks above what it calls.
+abbrev pub decreases-room_in : goal.decreases-room_in
+decreases-room_in l = 3 * goal.size-room_in l
+
+abbrev pub decreases-room_in_parts : goal.decreases-room_in_parts
+decreases-room_in_parts l = 3 * goal.size-room_in_parts l + 1
+
+abbrev pub decreases-room_in_entry : goal.decreases-room_in_entry
+decreases-room_in_entry l = 3 * goal.size-room_in_entry l + 1
+
+abbrev pub decreases-room_in_entries : goal.decreases-room_in_entries
+decreases-room_in_entries l = 3 * goal.size-room_in_entries l + 2

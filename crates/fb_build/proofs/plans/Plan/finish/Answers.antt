@@ -5,14 +5,14 @@ use Rattle.fb_value.specs.Counts.{cells, depth}
 use Rattle.fb_value.specs.Holds.{Holds}
 use Rattle.fb_value.specs.OldSlots.{OnlyOld}
 use Rattle.fb_value.specs.View.{view, entries_view}
-use Rattle.fb_value.proofs.EachVariantHasItsView.{view-Fields}
+use Rattle.fb_value.proofs.types.EachVariantHasItsView.{view-Fields}
 use Rattle.fb_build.specs.Covered.{Covered, EndsAligned}
 use Rattle.fb_build.proofs.plans.Plan.finish.Goals as goal
 
 pub fill-requires-clause-pending : goal.fill-requires-clause-pending
 fill-requires-clause-pending c =
     let pending = rw (c.in-Fields.is, view-Fields c.in-Fields.table c.in-Fields.entries) at c.self.invariant.pending in
-    omega (arith, pending, c.as_mut_slice.ensures.len)
+    rw c.deref.ensures.value (omega (arith, pending, c.as_mut_slice.ensures.len))
 
 pub returns-clause-holds : goal.returns-clause-holds
 returns-clause-holds c most raw deep small =
@@ -23,7 +23,7 @@ returns-clause-holds c most raw deep small =
     let deep2 = subst (λ (d : Datum). depth d ≤ most.depth) (sym value) deep in
     let small2 = subst (λ (d : Datum). cells d ≤ most.cells) (sym value) small in
     let holds = subst (λ (d : Datum). Holds c.self.inside.layout.now most raw c.fill.result.items d) value
-    (c.fill.ensures.holds most raw deep2 small2) in
+    (rw c.deref.ensures.value at c.fill.ensures.holds most raw deep2 small2) in
     subst (λ (L : LaidSchema). Holds L most raw c.fill.result.items (view c.args.self.value)) layout holds
 
 pub returns-clause-old_slots : goal.returns-clause-old_slots
@@ -32,7 +32,8 @@ returns-clause-old_slots c = subst (λ (L : LaidSchema). OnlyOld L c.fill.result
 
 pub fill-requires-clause-vtables : goal.fill-requires-clause-vtables
 fill-requires-clause-vtables c =
-    rw (c.in-Fields.is, view-Fields c.in-Fields.table c.in-Fields.entries) at c.self.invariant.known
+    let known = rw (c.in-Fields.is, view-Fields c.in-Fields.table c.in-Fields.entries) at c.self.invariant.known in
+    rw c.deref.ensures.value known
 
 pub returns-clause-covered : goal.returns-clause-covered
 returns-clause-covered c = subst (λ (L : LaidSchema). Covered L c.fill.result.items) (ap (λ p. p.layout) c.self.view_is)

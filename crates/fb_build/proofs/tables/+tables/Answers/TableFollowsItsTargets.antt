@@ -28,7 +28,7 @@ room_left old f1 f2 er sr fs n room len start a b d e f =
 pub ends_are_pending : goal.lay_table-split_at_mut-ends-requires
 ends_are_pending t c =
     let L = c.args.layout.now in
-    let es = c.args.entries.now.items in
+    let es = c.args.entries.now in
     let slots = c.slots_of-slots.result.now in
     let known = known_of L c.args.table.0 es c.schema-schema.ensures.made c.requires.fits c.requires.whole in
     let seen = slots_are L c.args.table.0 slots c.slots_of-slots.ensures.slots in
@@ -38,7 +38,7 @@ ends_are_pending t c =
 pub targets_fit : goal.lay_table-lay_targets-requires
 targets_fit t c =
     let L = c.args.layout.now in
-    let es = c.args.entries.now.items in
+    let es = c.args.entries.now in
     let slots = c.slots_of-slots.result.now in
     let known = known_of L c.args.table.0 es c.schema-schema.ensures.made c.requires.fits c.requires.whole in
     let seen = slots_are L c.args.table.0 slots c.slots_of-slots.ensures.slots in
@@ -55,21 +55,21 @@ targets_fit t c =
 pub entries_are_slots : goal.lay_table-lay_fields-start-requires-clause-long
 entries_are_slots t c =
     let L = c.args.layout.now in
-    let es = c.args.entries.now.items in
+    let es = c.args.entries.now in
     let slots = c.slots_of-slots.result.now in
     let known = known_of L c.args.table.0 es c.schema-schema.ensures.made c.requires.fits c.requires.whole in
     let seen = slots_are L c.args.table.0 slots c.slots_of-slots.ensures.slots in
     let many = slots_many L c.args.table.0 slots es seen known in
-    omega (arith, many, ap length c.as_slice.ensures.value)
+    omega (arith, many)
 
 pub fields_have_room : goal.lay_table-lay_fields-start-requires-clause-room
 fields_have_room t c =
     let L = c.args.layout.now in
-    let es = c.args.entries.now.items in
+    let es = c.args.entries.now in
     let known = known_of L c.args.table.0 es c.schema-schema.ensures.made c.requires.fits c.requires.whole in
     let seen = slots_are L c.args.table.0 c.slots_of-slots.result.now c.slots_of-slots.ensures.slots in
     let spent = rw seen at c.lay_targets.ensures.spent in
-    rw (seen, c.as_slice.ensures.value)
+    rw seen
     (omega (
       arith,
       spent,
@@ -80,10 +80,10 @@ fields_have_room t c =
 pub fields_are_narrow : goal.lay_table-close_table-requires-clause-narrow
 fields_are_narrow t c =
     let L = c.args.layout.now in
-    let es = c.args.entries.now.items in
+    let es = c.args.entries.now in
     let known = known_of L c.args.table.0 es c.schema-schema.ensures.made c.requires.fits c.requires.whole in
     let seen = slots_are L c.args.table.0 c.slots_of-slots.result.now c.slots_of-slots.ensures.slots in
-    let size = rw (seen, c.as_slice.ensures.value) at c.lay_fields-start.ensures.laid.size in
+    let size = rw seen at c.lay_fields-start.ensures.laid.size in
     omega (
       arith,
       size,
@@ -94,13 +94,13 @@ fields_are_narrow t c =
 pub vtable_has_room : goal.lay_table-close_table-requires-clause-room
 vtable_has_room t c =
     let L = c.args.layout.now in
-    let es = c.args.entries.now.items in
+    let es = c.args.entries.now in
     let known = known_of L c.args.table.0 es c.schema-schema.ensures.made c.requires.fits c.requires.whole in
     let seen = slots_are L c.args.table.0 c.slots_of-slots.result.now c.slots_of-slots.ensures.slots in
     let n : length c.lay_fields-start.new.ends ≡ length (slots_of L c.args.table.0) =
     c.lay_fields-start.ensures.laid.slots.each ∙ ap length seen in
-    let size = rw (seen, c.as_slice.ensures.value) at c.lay_fields-start.ensures.laid.size in
-    let spent = rw (seen, c.as_slice.ensures.value) at c.lay_fields-start.ensures.spent in
+    let size = rw seen at c.lay_fields-start.ensures.laid.size in
+    let spent = rw seen at c.lay_fields-start.ensures.spent in
     let before = rw seen at c.lay_targets.ensures.spent in
     rw n (room_left _ _ _ _ _ _ _ _ _ _ c.requires.room before spent size
     (table_fits_room L c.args.table.0 (stored_in (slots_of L c.args.table.0) (entries_seen es)) known.known))
@@ -108,13 +108,13 @@ vtable_has_room t c =
 pub table_keeps_to_its_room : goal.lay_table-returns-clause-spent
 table_keeps_to_its_room t c =
     let L = c.args.layout.now in
-    let es = c.args.entries.now.items in
+    let es = c.args.entries.now in
     let known = known_of L c.args.table.0 es c.schema-schema.ensures.made c.requires.fits c.requires.whole in
     let seen = slots_are L c.args.table.0 c.slots_of-slots.result.now c.slots_of-slots.ensures.slots in
     let n : length c.lay_fields-start.new.ends ≡ length (slots_of L c.args.table.0) =
     c.lay_fields-start.ensures.laid.slots.each ∙ ap length seen in
-    let size = rw (seen, c.as_slice.ensures.value) at c.lay_fields-start.ensures.laid.size in
-    let spent = rw (seen, c.as_slice.ensures.value) at c.lay_fields-start.ensures.spent in
+    let size = rw seen at c.lay_fields-start.ensures.laid.size in
+    let spent = rw seen at c.lay_fields-start.ensures.spent in
     let before = rw seen at c.lay_targets.ensures.spent in
     let last = rw n at c.close_table.ensures.spent in
     spent_all _ _ _ _ _ _ _ _ _ _ _ before spent last size
@@ -123,7 +123,7 @@ table_keeps_to_its_room t c =
 pub table_adds_its_parts : goal.lay_table-returns-clause-adds
 table_adds_its_parts t c =
     let L = c.args.layout.now in
-    let es = c.args.entries.now.items in
+    let es = c.args.entries.now in
     let known = known_of L c.args.table.0 es c.schema-schema.ensures.made c.requires.fits c.requires.whole in
     let seen = slots_are L c.args.table.0 c.slots_of-slots.result.now c.slots_of-slots.ensures.slots in
     let fs = slots_of L c.args.table.0 in
@@ -133,10 +133,10 @@ table_adds_its_parts t c =
     let targets = c.lay_targets.new.ends in
     let first = rw seen at c.lay_targets.ensures.adds in
     let state = rw seen at c.lay_targets.ensures.state in
-    let front = rw (seen, c.as_slice.ensures.value) at c.lay_fields-start.ensures.front in
-    let lead = rw (seen, c.as_slice.ensures.value) at c.lay_fields-start.ensures.leads in
-    let closed = rw c.as_slice-2.ensures.value at c.close_table.ensures.adds in
-    let reached = rw c.as_slice-2.ensures.value at c.close_table.ensures.leads in
+    let front = rw seen at c.lay_fields-start.ensures.front in
+    let lead = rw seen at c.lay_fields-start.ensures.leads in
+    let closed = c.close_table.ensures.adds in
+    let reached = c.close_table.ensures.leads in
     let grows = then_grows _ _ _ c.lay_fields-start.ensures.grows c.close_table.ensures.builds.grows in
     let whole = reached targets lead in
     subst (λ (ps : List PartAt). Adds L c.args.builder.now.tail c.args.builder.now.places.items n

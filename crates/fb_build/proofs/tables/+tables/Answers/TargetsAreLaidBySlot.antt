@@ -5,7 +5,7 @@ use Rattle.fb_schema.specs.Seen.{field_seen}
 use Rattle.fb_layout.specs.Laid.{slot_of}
 use Rattle.fb_value.specs.View.{view}
 use Rattle.fb_value.specs.declared.values.Value.{Value, the_lemmas}
-use Rattle.fb_value.proofs.EachVariantHasItsView.{view-Number}
+use Rattle.fb_value.proofs.types.EachVariantHasItsView.{view-Number}
 use Rattle.fb_build.specs.Fields.{stored_seen, slots_seen}
 use Rattle.fb_build.proofs.builder.BuildsFollowEachOther.{builds_nothing, builds_then}
 use Rattle.fb_build.proofs.fields.SlotStoresItsEntry.{slots_at, entries_at, stored_next, slots_long, entries_long}
@@ -65,7 +65,7 @@ next_target_fits t c =
     let k = c.loop-k.k in
     let L = c.args.layout.now in
     let inv = c.loop-k.invariant in
-    let es = c.args.entries.now.items in
+    let es = c.args.entries.now in
     let low : k < length es = omega (
       arith,
       c.loop-k-test.true,
@@ -74,15 +74,15 @@ next_target_fits t c =
       c.requires.fits.long,
     ) in
     let fk = slots_at L c.args.slots.now k c.index-slots-k.result c.loop-k-test.true c.index-slots-k.is in
-    let xk = entries_at es k c.index.result.now low (is_default es k c.index.result.now low c.index.ensures) in
+    let xk = entries_at es k c.index-entries-k.result low (is_default es k c.index-entries-k.result low c.index-entries-k.is) in
     let whole = c.requires.fits.whole k _ xk in
     let simple = (c.requires.fits.known.each k _ _ fk
-    (stored_next L c.args.slots.now es k c.index-slots-k.result c.index.result.now c.loop-k-test.true low
-    c.index-slots-k.is (is_default es k c.index.result.now low c.index.ensures))).0 in
+    (stored_next L c.args.slots.now es k c.index-slots-k.result c.index-entries-k.result c.loop-k-test.true low
+    c.index-slots-k.is (is_default es k c.index-entries-k.result low c.index-entries-k.is))).0 in
     let own = c.requires.fits.fits k _ _ fk xk in
-    let step = room_step L k c.args.slots.now es c.index-slots-k.result c.index.result.now c.loop-k-test.true low
-    c.index-slots-k.is (is_default es k c.index.result.now low c.index.ensures) in
-    let one = needs_one es k c.index.result.now low (is_default es k c.index.result.now low c.index.ensures) in
+    let step = room_step L k c.args.slots.now es c.index-slots-k.result c.index-entries-k.result c.loop-k-test.true low
+    c.index-slots-k.is (is_default es k c.index-entries-k.result low c.index-entries-k.is) in
+    let one = needs_one es k c.index-entries-k.result low (is_default es k c.index-entries-k.result low c.index-entries-k.is) in
     let low2 = c.requires.fits.known.low k _ fk in (
       search (rules, the_lemmas),
       (
@@ -98,7 +98,7 @@ next_target_fits t c =
                 (
                   omega (arith, one, inv.room_for, c.requires.pending),
                   (
-                    rw inv.builds.same (entry_known L _ es k c.index.result.now low c.index.ensures c.requires.vtables),
+                    rw inv.builds.same (entry_known L _ es k c.index-entries-k.result low c.index-entries-k.is c.requires.vtables),
                     inv.builds.ready,
                   ),
                 ),
@@ -115,7 +115,7 @@ next_target_laid t c =
     let L = c.args.layout.now in
     let inv = c.loop-k.invariant in
     let now = c.lay_target.ensures in
-    let es = c.args.entries.now.items in
+    let es = c.args.entries.now in
     let low : k < length es = omega (
       arith,
       c.loop-k-test.true,
@@ -124,11 +124,11 @@ next_target_laid t c =
       c.requires.fits.long,
     ) in
     let fk = slots_at L c.args.slots.now k c.index-slots-k.result c.loop-k-test.true c.index-slots-k.is in
-    let xk = entries_at es k c.index.result.now low (is_default es k c.index.result.now low c.index.ensures) in
-    let yk = stored_next L c.args.slots.now es k c.index-slots-k.result c.index.result.now c.loop-k-test.true low
-    c.index-slots-k.is (is_default es k c.index.result.now low c.index.ensures) in
-    let step = room_step L k c.args.slots.now es c.index-slots-k.result c.index.result.now c.loop-k-test.true low
-    c.index-slots-k.is (is_default es k c.index.result.now low c.index.ensures) in
+    let xk = entries_at es k c.index-entries-k.result low (is_default es k c.index-entries-k.result low c.index-entries-k.is) in
+    let yk = stored_next L c.args.slots.now es k c.index-slots-k.result c.index-entries-k.result c.loop-k-test.true low
+    c.index-slots-k.is (is_default es k c.index-entries-k.result low c.index-entries-k.is) in
+    let step = room_step L k c.args.slots.now es c.index-slots-k.result c.index-entries-k.result c.loop-k-test.true low
+    c.index-slots-k.is (is_default es k c.index-entries-k.result low c.index-entries-k.is) in
     record {
       each = search rules;
       room_for = search rules;
@@ -156,7 +156,7 @@ pub targets_add_their_parts : goal.lay_targets-returns-clause-adds
 targets_add_their_parts t c =
     let L = c.args.layout.now in
     let fs = slots_seen L c.args.slots.now in
-    let xs = stored_seen L c.args.slots.now c.args.entries.now.items in
+    let xs = stored_seen L c.args.slots.now c.args.entries.now in
     let ns = named_fields fs xs in
     let long = named_fields_long fs xs in
     let all : take c.loop-k.k ns ≡ ns =

@@ -3,7 +3,7 @@ use Rattle.std.proofs.Common.{◌≡◌, ◌<◌, ◌-◌, ◌∙◌, true, fals
 use Rattle.std.proofs.Common.{ap, subst, length, map, arith, rules}
 use Rattle.fb_value.specs.View.{view, parts_view}
 use Rattle.fb_value.specs.declared.values.Value.{the_lemmas}
-use Rattle.fb_value.proofs.EachVariantHasItsView.{count-parts_view}
+use Rattle.fb_value.proofs.types.EachVariantHasItsView.{count-parts_view}
 use Rattle.fb_build.proofs.builder.BuildsFollowEachOther.{builds_nothing, builds_then}
 use Rattle.fb_build.proofs.tables.PartsFitTheirSlots.{part_fits, target_end, each_at, whole_at, needs_item, item_room}
 use Rattle.fb_build.proofs.tables.PartsFitTheirSlots.{item_passed, none_wait}
@@ -26,14 +26,14 @@ use Rattle.fb_build.proofs.tables.+tables.Goals as goal
 
 pub item_targets_fit : goal.lay_items-lay_item_targets-requires
 item_targets_fit t c =
-    let items = c.args.items.now.items in
+    let items = c.args.items.now in
     let is : first_waits (parts_view items) ≡ true =
-    rw c.as_slice.ensures.value at (sym c.waits.ensures ∙ c.if-not-waits.false) in
+    (sym c.waits.ensures ∙ c.if-not-waits.false) in
     let pending = rw is at c.requires.pending in
     let n = count-parts_view items in (
       search rules,
       (
-        omega (arith, c.split_at_mut-ends.ensures.front_len, c.len.ensures),
+        omega (arith, c.split_at_mut-ends.ensures.front_len),
         (
           c.requires.fits,
           (
@@ -41,7 +41,7 @@ item_targets_fit t c =
             (
               omega (arith, c.requires.room),
               (
-                omega (arith, n, pending, c.split_at_mut-ends.ensures.back_len, c.len.ensures),
+                omega (arith, n, pending, c.split_at_mut-ends.ensures.back_len),
                 (c.requires.vtables, c.requires.ready),
               ),
             ),
@@ -53,11 +53,11 @@ item_targets_fit t c =
 pub nothing_waits : goal.lay_items-close_vector-requires-clause-targets
 nothing_waits t c k d at =
     let L = c.args.layout.now in
-    let items = c.args.items.now.items in
+    let items = c.args.items.now in
     let none : first_waits (parts_view items) ≡ false =
-    rw c.as_slice.ensures.value at (sym c.waits.ensures ∙ c.if-not-waits.true) in
+    (sym c.waits.ensures ∙ c.if-not-waits.true) in
     none_wait L c.args.builder.now.tail.most c.args.builder.now.tail.bytes (stored_kind L.schema c.args.kind) items
-    c.requires.fits.0 c.requires.fits.1 none k d (rw c.as_slice-then-not-waits.ensures.value at at) []
+    c.requires.fits.0 c.requires.fits.1 none k d at []
 
 pub no_item_yet : goal.lay_item_targets-loop-k-init
 no_item_yet t c = record {
@@ -75,13 +75,13 @@ next_item_fits t c =
     let kind = stored_kind L.schema c.args.kind in
     let k = c.loop-k.k in
     let inv = c.loop-k.invariant in
-    let items = c.args.items.now.items in
-    let v = c.index.result.now in
-    let low : k < length items = omega (arith, c.loop-k-test.true, c.len-k-end.ensures) in
-    let at = views_at items k v low c.index.ensures in
+    let items = c.args.items.now in
+    let v = c.index-items-k.result in
+    let low : k < length items = omega (arith, c.loop-k-test.true) in
+    let at = views_at items k v low c.index-items-k.is in
     let simple = element_simple L kind c.requires.fits.0 in
     let fits = each_at L kind items k (view v) c.requires.fits.1 at in
-    let step = item_room L kind items k v low c.index.ensures in
+    let step = item_room L kind items k v low c.index-items-k.is in
     let one = needs_item items k (view v) at in (
       search (rules, the_lemmas),
       (
@@ -93,7 +93,7 @@ next_item_fits t c =
             (
               omega (arith, one, inv.room_for, c.requires.pending),
               (
-                rw inv.builds.same (part_known L _ items k v low c.index.ensures c.requires.vtables),
+                rw inv.builds.same (part_known L _ items k v low c.index-items-k.is c.requires.vtables),
                 inv.builds.ready,
               ),
             ),
@@ -109,13 +109,13 @@ next_item_laid t c =
     let k = c.loop-k.k in
     let inv = c.loop-k.invariant in
     let now = c.lay_part.ensures in
-    let items = c.args.items.now.items in
-    let v = c.index.result.now in
-    let low : k < length items = omega (arith, c.loop-k-test.true, c.len-k-end.ensures) in
-    let at = views_at items k v low c.index.ensures in
+    let items = c.args.items.now in
+    let v = c.index-items-k.result in
+    let low : k < length items = omega (arith, c.loop-k-test.true) in
+    let at = views_at items k v low c.index-items-k.is in
     let simple = element_simple L kind c.requires.fits.0 in
     let fits = each_at L kind items k (view v) c.requires.fits.1 at in
-    let step = item_room L kind items k v low c.index.ensures in
+    let step = item_room L kind items k v low c.index-items-k.is in
     let target = target_end L c.lay_part.new.builder.tail.most c.lay_part.new.builder.tail.bytes (one_of kind) (view v)
     c.lay_part.result
     simple fits now.state in
@@ -144,7 +144,7 @@ pub items_add_their_parts : goal.lay_item_targets-returns-clause-adds
 items_add_their_parts t c =
     let L = c.args.layout.now in
     let kind = stored_kind L.schema c.args.kind in
-    let items = c.args.items.now.items in
+    let items = c.args.items.now in
     let xs = named_items kind (map view items) in
     let views : length (map view items) ≡ length items = length-map items view in
     let named : length xs ≡ length (map view items) = length-map (map view items) _ in
@@ -157,11 +157,11 @@ pub vector_adds_itself : goal.lay_items-returns-then-not-waits-clause-adds
 vector_adds_itself t c =
     let L = c.args.layout.now in
     let kind = stored_kind L.schema c.args.kind in
-    let items = c.args.items.now.items in
+    let items = c.args.items.now in
     let n = c.close_vector.new.out in
     let none : first_waits (parts_view items) ≡ false =
-    rw c.as_slice.ensures.value at (sym c.waits.ensures ∙ c.if-not-waits.true) in
-    let leads = rw c.as_slice-then-not-waits.ensures.value at c.close_vector.ensures.leads in
+    (sym c.waits.ensures ∙ c.if-not-waits.true) in
+    let leads = c.close_vector.ensures.leads in
     let own : PartAt = record { target = vector_part kind; at = length n.bytes - c.close_vector.result } in
     let alone : parts_in_tail L n.bytes (vector_part kind) c.close_vector.result (a_vector (parts_view items))
     ≡ own ∷ [] =
@@ -174,10 +174,10 @@ pub vector_adds_its_parts : goal.lay_items-returns-clause-adds
 vector_adds_its_parts t c =
     let L = c.args.layout.now in
     let kind = stored_kind L.schema c.args.kind in
-    let items = c.args.items.now.items in
+    let items = c.args.items.now in
     let o = c.lay_item_targets.new.builder.tail in
     let n = c.close_vector-2.new.out in
-    let leads = rw c.as_slice-2.ensures.value at c.close_vector-2.ensures.leads in
+    let leads = c.close_vector-2.ensures.leads in
     subst (λ (zs : List PartAt). Adds L c.args.builder.now.tail c.args.builder.now.places.items n
     c.lay_item_targets.new.builder.places.items zs) (sym leads)
     (adds_with L c.args.builder.now.tail o n c.args.builder.now.places.items

@@ -1,5 +1,5 @@
 use Rattle.fb_layout.specs.Held.{layout_seen}
-use Rattle.fb_layout.proofs.EachFieldTakesAByte.{few_held}
+use Rattle.fb_layout.proofs.sizes.EachFieldTakesAByte.{few_held}
 use Rattle.fb_layout.proofs.layouts.Layout.parts_of.Goals as goal
 
 pub returns-clause-few : goal.returns-clause-few

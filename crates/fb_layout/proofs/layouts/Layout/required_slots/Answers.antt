@@ -2,7 +2,7 @@ use Rattle.std.proofs.Common.{ℕ, List, map, Vec, Global, refl, ◌∙◌, ap}
 use Rattle.std.proofs.lemmas.Option.{slice_get_read}
 use Rattle.fb_layout.specs.Held.{layout_seen}
 use Rattle.fb_layout.specs.Required.{required_slots}
-use Rattle.fb_layout.proofs.RequiredSlotsAreNumbered.{past, numbers_at, no_numbers_at, numbers_required}
+use Rattle.fb_layout.proofs.slots.RequiredSlotsAreNumbered.{past, numbers_at, no_numbers_at, numbers_required}
 use Rattle.fb_layout.proofs.layouts.Layout.required_slots.Goals as goal
 
 abbrev items_of : Vec ℕ Global → List ℕ

@@ -14,10 +14,10 @@ use Rattle.fb_value.specs.Lies.{LiesInline, LiesParts, Element, Lies, LiesItems}
 use Rattle.fb_value.specs.Fits.{Fits, PartsFit, EachFits}
 use Rattle.fb_value.specs.Nth.{nth_entry}
 use Rattle.fb_value.specs.Laws.{FitsWhereHeld}
-use Rattle.fb_value.proofs.RulesHoldOneByOne.{rule_held}
-use Rattle.fb_value.proofs.CellsAreThoseReached.{text_length}
-use Rattle.fb_value.proofs.NestingIsBoundedByDepth.{root_fits}
-use Rattle.fb_value.proofs.NumbersAreInTheirRange.{number_ranges, utf8_whole}
+use Rattle.fb_value.proofs.rules.RulesHoldOneByOne.{rule_held}
+use Rattle.fb_value.proofs.reached.CellsAreThoseReached.{text_length}
+use Rattle.fb_value.proofs.types.NestingIsBoundedByDepth.{root_fits}
+use Rattle.fb_value.proofs.held.NumbersAreInTheirRange.{number_ranges, utf8_whole}
 use Rattle.fb_value.proofs.laws.EntryFitsItsSlot.{SortFits, KnownFit}
 use Rattle.fb_value.proofs.laws.EntriesFitTheirTable.{table_fits}
 

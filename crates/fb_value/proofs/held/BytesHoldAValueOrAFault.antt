@@ -11,9 +11,9 @@ use Rattle.fb_value.specs.Reached.{Path, Leads, AllKeep}
 use Rattle.fb_value.specs.Faults.{or_else, limited_fault, FaultFrom, fault_from}
 use Rattle.fb_value.specs.Holds.{header_fault, checked_identifier, root_place, computed_fault}
 use Rattle.fb_value.specs.Laws.{ValueWhereAllKeep, HeldOrFault, ValueOrFault}
-use Rattle.fb_value.proofs.ComputedFaultIsTheLeast.{from_none, from_some}
+use Rattle.fb_value.proofs.rules.ComputedFaultIsTheLeast.{from_none, from_some}
 use Rattle.fb_value.proofs.laws.ReachedPlacesKeepTheirRules.{lies_all_keep}
-use Rattle.fb_value.proofs.StoredKindsAreResolved.{resolved}
+use Rattle.fb_value.proofs.types.StoredKindsAreResolved.{resolved}
 use Rattle.fb_value.proofs.laws.ValueLiesWhereAllKeep.{all_keep_lies}
 use Rattle.fb_value.proofs.laws.NoFaultWithinTheLimits.{root_sure}
 

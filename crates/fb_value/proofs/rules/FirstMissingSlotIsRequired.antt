@@ -2,7 +2,7 @@
 use Rattle.std.proofs.Common.{◌≡◌, ℕ, suc, ◌+◌, ◌&&◌, Bool, true, false, cond, List, [], ◌∷◌, Option, Some, find}
 use Rattle.std.proofs.Common.{slice_get, refl, ap, sym, ◌∙◌, arith}
 use Rattle.fb_layout.specs.Laid.{Slot, slots_of}
-use Rattle.fb_layout.proofs.RequiredSlotsAreNumbered.{required_from, required_in_order}
+use Rattle.fb_layout.proofs.slots.RequiredSlotsAreNumbered.{required_from, required_in_order}
 use Rattle.fb_value.specs.Num.{Bytes}
 use Rattle.fb_value.specs.Rules.{first_missing}
 use Rattle.fb_value.specs.Missing.{is_missing_slot, FirstMissing}

@@ -13,7 +13,7 @@ use Rattle.fb_value.specs.Lies.{LiesAtBy}
 use Rattle.fb_value.specs.Tails.{from_end}
 use Rattle.fb_value.specs.EachTable.{EachTableAt, IsOldTable}
 use Rattle.fb_value.specs.TailLaws.{KeptInFront, KeptByMultiple, LiesInWhole, OldKeptInFront}
-use Rattle.fb_value.proofs.SameBytesHoldTheSameFurtherOn.{at_moved, each_at_moved}
+use Rattle.fb_value.proofs.tails.SameBytesHoldTheSameFurtherOn.{at_moved, each_at_moved}
 
 zero_rest : (a n : ℕ) → divides a n ≡ true → n % a ≡ 0
 zero_rest a n h = eqb-true _ _ h

@@ -16,9 +16,9 @@ use Rattle.fb_value.specs.Lies.{EntryAt, LiesInline, LiesParts, Behind, IsCode, 
 use Rattle.fb_value.specs.Lies.{Lies, LiesItems, LiesSlots, LiesAt}
 use Rattle.fb_value.specs.Faults.{own_cells, sum_over, if_kept, all}
 use Rattle.std.proofs.lemmas.Bool.{leb-true, and_parts}
-use Rattle.fb_value.proofs.RulesHoldOneByOne.{rule_held}
+use Rattle.fb_value.proofs.rules.RulesHoldOneByOne.{rule_held}
 use Rattle.fb_value.proofs.laws.ReachedPlacesKeepTheirRules.{lies_keeps}
-use Rattle.fb_value.proofs.ComputedFaultIsTheLeast.{all_is}
+use Rattle.fb_value.proofs.rules.ComputedFaultIsTheLeast.{all_is}
 use Rattle.fb_value.specs.Laws.{CellsOfPlace, CellsOfValue}
 
 -- Where no rule fails, the cells count.

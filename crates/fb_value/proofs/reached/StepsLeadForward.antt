@@ -9,7 +9,7 @@ use Rattle.fb_value.specs.Places.{Target, table_part, member_part, text_part, ve
 use Rattle.fb_value.specs.Places.{inline_place, code_place, unknown_place, Place, named, named_slots, named_slot}
 use Rattle.fb_value.specs.Places.{named_union, named_elements, slot_number, is_present, code_at}
 use Rattle.fb_value.specs.Rules.{Keeps, fault_by}
-use Rattle.fb_value.proofs.RulesHoldOneByOne.{rule_held}
+use Rattle.fb_value.proofs.rules.RulesHoldOneByOne.{rule_held}
 
 -- An entry names one place.
 pub same_place : (x y : Place) → Some (Some x) ≡ Some (Some y) → x ≡ y

@@ -10,7 +10,7 @@ use Rattle.fb_value.specs.Reached.{Path, ComesBefore}
 use Rattle.fb_value.specs.Bounds.{Bounds}
 use Rattle.fb_value.specs.Faults.{own_cells, own_tables, sum_over, if_kept, all_within, levels, all, or_else}
 use Rattle.fb_value.specs.Faults.{limited_fault, FaultFrom, LeastFrom, first_among, first_fault, fault_from}
-use Rattle.fb_value.proofs.StepsLeadForward.{keeps_within, steps_up}
+use Rattle.fb_value.proofs.reached.StepsLeadForward.{keeps_within, steps_up}
 use Rattle.fb_value.specs.Laws.{IsFirstFault, FaultOfLeastPath}
 
 -- so many levels are enough at p

@@ -8,7 +8,7 @@ use Rattle.fb_value.specs.Places.{Place, named}
 use Rattle.fb_value.specs.Bounds.{Bounds}
 use Rattle.fb_value.specs.Faults.{own_cells, own_tables, all, levels, or_else, limited_fault, first_among, first_fault}
 use Rattle.fb_value.specs.Faults.{fault_from}
-use Rattle.fb_value.proofs.ComputedFaultIsTheLeast.{Enough, enough_below, levels_enough, limited_none}
+use Rattle.fb_value.proofs.rules.ComputedFaultIsTheLeast.{Enough, enough_below, levels_enough, limited_none}
 
 -- What comes second is the same where the first is nothing.
 pub or_same : {A : Type 0} (o r s : Option A) → (o ≡ None → r ≡ s) → or_else o r ≡ or_else o s

@@ -14,7 +14,7 @@ use Rattle.fb_value.specs.Holds.{root_place}
 use Rattle.fb_value.specs.OldSlots.{table_of}
 use Rattle.fb_value.specs.EachTable.{EachElement, EachTable, EachItem, EachEntry, EachTableAt, IsOldTable}
 use Rattle.fb_value.specs.EachTable.{EachTableReached, OnlyOldByTables}
-use Rattle.fb_value.proofs.StepsLeadForward.{same_place}
+use Rattle.fb_value.proofs.reached.StepsLeadForward.{same_place}
 
 -- a code, or the value of one that no member has: it names nothing
 NamesNothing : Sort → Type 0

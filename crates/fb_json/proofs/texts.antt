@@ -1,0 +1,2 @@
+-- The texts of a value.
+pub mod ValueTextsAreUtf8

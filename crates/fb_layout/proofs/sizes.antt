@@ -1,0 +1,4 @@
+-- Sizes and alignments.
+pub mod AlignmentsArePowersOfTwo
+pub mod EachFieldTakesAByte
+pub mod ExactSizesAreRight

@@ -1,0 +1,3 @@
+-- The slots of tables.
+pub mod NarrowTablesAreKnown
+pub mod RequiredSlotsAreNumbered

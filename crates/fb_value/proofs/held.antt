@@ -1,0 +1,6 @@
+-- What bytes hold: the value that lies in them, and where.
+pub mod BytesHoldAValueOrAFault
+pub mod EachPartLiesInItsPlace
+pub mod HeldValueFitsTheRoot
+pub mod LyingValueIsComputed
+pub mod NumbersAreInTheirRange

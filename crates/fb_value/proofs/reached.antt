@@ -1,0 +1,4 @@
+-- What is reached from a place.
+pub mod CellsAreThoseReached
+pub mod EachTableIsReached
+pub mod StepsLeadForward

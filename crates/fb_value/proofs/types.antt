@@ -1,0 +1,5 @@
+-- Values and their types.
+pub mod EachVariantHasItsView
+pub mod NestingIsBoundedByDepth
+pub mod StoredKindsAreResolved
+pub mod ValueFitsPartByPart
