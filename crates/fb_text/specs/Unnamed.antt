@@ -1,6 +1,6 @@
 -- The first union, in the order of printing, whose code names no member.
 -- From the FlatBuffers documentation, "Evolution": a reader may know fewer members of a union than a writer.
-use Rattle.std.specs.Prelude.{ℕ, zero, suc, min, ◌+◌, ◌≡◌, true, false, Option, None, Some}
+use Rattle.std.specs.Prelude.{ℕ, zero, min, ◌+◌, ◌≡◌, true, false, Option, None, Some}
 use Rattle.std.specs.Option.{option_or}
 use Rattle.fb_value.specs.Datum.{Datum, a_number, a_text, a_vector, a_struct, a_table, a_member, an_unknown, Parts}
 use Rattle.fb_value.specs.Datum.{no_parts, more_parts, SlotEntries, no_entries, absent_entry, present_entry}

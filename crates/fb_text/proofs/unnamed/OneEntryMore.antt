@@ -1,7 +1,6 @@
 -- The first union without a name, one entry after another.
 use Rattle.std.proofs.Common.{◌≡◌, ℕ, zero, suc, ◌+◌, ◌≤◌, List, [], ◌∷◌, slice_get, ℤ, Bool, true, false, Option, None}
 use Rattle.std.proofs.Common.{Some, refl, sym, ap, ◌∙◌, add-one, arith}
-use Rattle.std.specs.Prelude.{min}
 use Rattle.std.specs.Option.{option_or, is_some}
 use Rattle.fb_layout.specs.Laid.{LaidSchema, StoredKind, scalar_kind, struct_kind, table_kind, text_kind, union_kind}
 use Rattle.fb_layout.specs.Laid.{code_kind, Slot, parts_of, struct_at, size_of}

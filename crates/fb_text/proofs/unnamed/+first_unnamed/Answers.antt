@@ -1,5 +1,4 @@
-use Rattle.std.proofs.Common.{◌≡◌, suc, ◌+◌, false, sym, ap, ◌∙◌}
-use Rattle.fb_text.specs.Printed.{first_in_entry}
+use Rattle.std.proofs.Common.{◌+◌, sym, ◌∙◌}
 use Rattle.fb_text.specs.Unnamed.{nth_child, unnamed_from}
 use Rattle.fb_text.proofs.unnamed.OneEntryMore.{children_step, from_first, found_first, found_later}
 use Rattle.fb_text.proofs.unnamed.+first_unnamed.Goals as goal
