@@ -100,6 +100,8 @@ impl<W: Write> Noted<W> {
     }
 
     /// Writes what waits on the page. After a failure nothing is written.
+    #[cold]
+    #[inline(never)]
     fn write_page(&mut self)
         ensures adds { Prints W.contents self.old self.new [] }
         ensures empty { pending (page_of self.new) ≡ [] }
@@ -114,6 +116,8 @@ impl<W: Write> Noted<W> {
     }
 
     /// Adds a piece where no bytes wait: to the page where it has room, and else to the writer.
+    #[cold]
+    #[inline(never)]
     fn put_first(&mut self, piece: &[u8])
         requires { pending (page_of self.old) ≡ [] }
         ensures { Prints W.contents self.old self.new piece.now }
@@ -131,6 +135,7 @@ impl<W: Write> Noted<W> {
     }
 
     /// Adds a piece of a text. What waits is written where the piece has no room behind it.
+    #[inline]
     #[tactic(auto, using(crate::proofs::noted::PiecesAddUp::added_then))]
     pub(crate) fn put(&mut self, piece: &[u8])
         ensures { Prints W.contents self.old self.new piece.now }
@@ -144,6 +149,7 @@ impl<W: Write> Noted<W> {
     }
 
     /// The same of a piece that is a `str`.
+    #[inline]
     pub(crate) fn put_str(&mut self, piece: &str)
         ensures { Prints W.contents self.old self.new piece.now }
     {

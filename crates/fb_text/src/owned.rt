@@ -133,6 +133,11 @@ impl Shown for ValueEntry<'_> {
     }
 
     #[inline]
+    fn is_searched(&self, _i: usize) -> bool {
+        true
+    }
+
+    #[inline]
     fn child(self, i: usize) -> Self {
         match self.0 {
             Some(value) => ValueEntry(child_of(value, i)),

@@ -5,7 +5,7 @@ ghost use Rattle.fb_layout.specs.Laid.{LaidSchema};
 ghost use Rattle.fb_value.specs.Datum.{Datum, Parts, SlotEntries, count, a_vector, a_table};
 ghost use Rattle.fb_value.specs.Nth.{nth_entry};
 ghost use Rattle.fb_json.specs.declared.faults.Place.{Place};
-ghost use Rattle.fb_text.specs.Printed.{is_entry_printed};
+ghost use Rattle.fb_text.specs.Printed.{is_entry_printed, first_in_entry};
 ghost use Rattle.fb_text.specs.Shown.{IsTop, HasWeight};
 ghost use Rattle.fb_text.specs.Unnamed.{nth_child, unnamed_from};
 
@@ -62,6 +62,11 @@ pub(crate) trait Shown: Copy {
         ensures heavy { 0 < result → 0 < weight self.now }
         ensures behind { (L : LaidSchema) (o : Option Datum) (at : Place) → shows self.now L o
             → unnamed_from at o result ≡ None };
+
+    /// Whether a child may be such a union or have one in it, by its type.
+    fn is_searched(&self, i: usize) -> bool
+        ensures { (L : LaidSchema) (o : Option Datum) (at : Place) → shows self.now L o → result ≡ false
+            → first_in_entry at (nth_child o i) ≡ None };
 
     /// The entry in a slot of a table, an element of a vector, a field of a struct, or the member of a union,
     /// which is number 0.

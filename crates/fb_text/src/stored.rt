@@ -1,11 +1,23 @@
 //! Values in buffers, as a printer reads them.
 
+ghost use Rattle.std.specs.Prelude.{◌≡◌};
+ghost use Rattle.fb_text.specs.Unnamed.{may_have_unions};
+
 use crate::shown::{Found, Shown};
 use fb_read::Entry;
-use fb_schema::Kind;
+use fb_schema::{Kind, Shape};
+
+/// Whether what is stored under a shape may be a union or have one in it.
+fn may_have_unions(shape: Shape) -> bool
+    ensures { result ≡ may_have_unions shape }
+{
+    match shape {
+        Shape::One(Kind::Table(_) | Kind::Union(_)) | Shape::Many(Kind::Table(_)) => true,
+        _ => false,
+    }
+}
 
 impl Shown for Entry<'_> {
-    ghost use Rattle.std.specs.Prelude.{◌≡◌};
     ghost use Rattle.fb_read.specs.Weights.{ShowsEntry};
     ghost use Rattle.fb_text.specs.Stored.{entry_weight, len_in};
 
@@ -58,6 +70,18 @@ impl Shown for Entry<'_> {
             Entry::Fixed(_) => 0,
             Entry::Absent | Entry::Number(_) | Entry::Text(_) | Entry::Unknown(_) => 0,
         }
+    }
+
+    #[inline]
+    fn is_searched(&self, i: usize) -> bool {
+        let Entry::Table(view) = self else {
+            return true;
+        };
+        let slots = view.layout().slots_of(view.type_id());
+        if i >= slots.len() {
+            return true;
+        }
+        may_have_unions(slots[i].shape)
     }
 
     #[inline]

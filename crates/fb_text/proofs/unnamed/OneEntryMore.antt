@@ -147,7 +147,7 @@ mutual
       rw (← inline_named L b k (p + o) at d lies.0) (fields_named L b ks os p at ds lies.1)
   fields_named L b _ _ p at _ lies = absurd lies
 
-text_named : (L : LaidSchema) (b : Bytes) (p : ℕ) (at : Place) (d : Datum) → Lies L b (part_place text_part) p d
+pub text_named : (L : LaidSchema) (b : Bytes) (p : ℕ) (at : Place) (d : Datum) → Lies L b (part_place text_part) p d
     → None ≡ first_unnamed at d
 text_named L b p at (a_text bytes) lies = refl
 text_named L b p at _ lies = absurd lies
