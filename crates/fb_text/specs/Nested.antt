@@ -62,8 +62,8 @@ IsAt shows L defaults indent t ds here es behind =
 abbrev pub left_text : {S : Type 0} → LaidSchema → Bool → List ℕ → StructCursor S → Parts → List ℕ
 left_text L defaults indent here es = fields_text L defaults indent here.structure es here.depth here.next here.some
 
--- The printer goes on at a struct in the outermost: once the rest of its text and all text behind it are added too, a whole
--- text was added.
+-- The printer goes on at a struct in the outermost: once the rest of its text and all text behind it are added too, a
+-- whole text was added.
 abbrev pub GoesOn : {S : Type 0} → (S → LaidSchema → Option Datum → Type 0) → LaidSchema → Bool → List ℕ → TypeId
     → Parts → StructCursor S → State → State → List ℕ → Type 0
 GoesOn shows L defaults indent t ds here old new text =
@@ -76,14 +76,14 @@ abbrev pub IsNext : {S : Type 0} → (S → LaidSchema → Option Datum → Type
 IsNext shows L defaults indent t ds None old new text = Adds old new text
 IsNext shows L defaults indent t ds (Some here) old new text = GoesOn shows L defaults indent t ds here old new text
 
--- What a call of the printer for a part of a struct relies on to end: the struct has a weight, no more than the outermost
--- has, and the structs around it can be counted.
+-- What printing goes by that it ends: the struct has a weight, no more than the outermost has, and the structs around
+-- it can be counted.
 pub record IsBounded {S : Type 0} (weight : S → ℕ) (outer : S) (here : StructCursor S) : Type 0 where
   pub heavy : 0 < weight here.shown
   pub light : weight here.shown ≤ weight outer
   pub few : here.depth + here.left < 2 ^ 64 - 1
 
--- A number that falls with each step of the printer in a struct: a field printed, a struct begun or ended. A struct has
--- fewer than 65,536 fields, so that neither what begins nor what ends outweighs them.
+-- A number that falls with each step: by one for a field. A struct that is begun takes 400,000 from it and adds
+-- 200,000, which the struct's end takes; neither adds more than 65,536 for the fields that are next.
 abbrev pub steps_left : {S : Type 0} → StructCursor S → ℕ
 steps_left here = here.left * 400000 + (here.depth * 200000 + (65536 - here.next))

@@ -210,7 +210,7 @@ fn put_fields<W: Write, S: Shown>(
     here: &mut StructCursor<S>,
 ) -> bool
     requires { IsBounded S.weight here.old.shown here.old }
-    ensures inside { IsBounded S.weight here.old.shown here.new }
+    ensures bounded { IsBounded S.weight here.old.shown here.new }
     ensures on { steps_left here.new ≤ steps_left here.old }
     ensures begun { IsTrue result → steps_left here.new < steps_left here.old }
     ensures ended { result ≡ false
@@ -237,7 +237,7 @@ fn put_fields<W: Write, S: Shown>(
             enter(style.layout, here, structure, part);
             return true;
         }
-        here.some = put_part(out, style, &inner, here.some, field, part, found);
+        here.some = put_field(out, style, &inner, here.some, field, part, found);
         here.next += 1;
     }
     false
@@ -245,7 +245,7 @@ fn put_fields<W: Write, S: Shown>(
 
 /// Adds a struct's field, if it has something, and says whether there is a field now.
 #[cycle(print)]
-fn put_part<W: Write, S: Shown>(
+fn put_field<W: Write, S: Shown>(
     out: &mut Noted<W>,
     style: Style,
     inner: &Indent,
@@ -268,8 +268,8 @@ fn put_part<W: Write, S: Shown>(
     true
 }
 
-/// Adds the end of a struct in one whose type is told and where it is read. Returns where the struct
-/// around it goes on; nothing where there is none.
+/// Adds the end of a struct. Returns where the struct around it goes on; nothing where there is none.
+/// The outermost struct's type is told, and where it is read.
 fn put_struct_end<W: Write, S: Shown>(
     out: &mut Noted<W>,
     layout: &Layout,
@@ -279,9 +279,9 @@ fn put_struct_end<W: Write, S: Shown>(
     here: StructCursor<S>,
 ) -> Option<StructCursor<S>>
     requires heavy { 0 < S.weight shown }
-    requires inside { IsBounded S.weight shown here }
+    requires bounded { IsBounded S.weight shown here }
     requires end { length (parts_in (body_at layout.now.schema here.structure.0)) ≤ here.next }
-    ensures inside { IfSome result (λ parent. IsBounded S.weight shown parent) }
+    ensures bounded { IfSome result (λ parent. IsBounded S.weight shown parent) }
     ensures fewer { IfSome result (λ parent. steps_left parent < steps_left here) }
     ensures text { (defaults : Bool) (ds es : Parts) (behind : List ℕ)
         → S.shows shown layout.now (Some (a_struct ds))

@@ -1,16 +1,14 @@
 -- A slot that has no table, union or vector of tables has no union without a name.
 use Rattle.std.proofs.Common.{◌≡◌, ℕ, ◌+◌, List, Bool, true, false, Option, None, Some, refl, if◌then◌else◌}
-use Rattle.fb_schema.specs.declared.kinds.Kind.{Kind}
 use Rattle.fb_schema.specs.declared.kinds.Kind.TheVariants.{Scalar, Enum, Struct, Table, Union, Code, Text}
 use Rattle.fb_schema.specs.declared.kinds.Shape.{Shape}
 use Rattle.fb_schema.specs.declared.kinds.Shape.TheVariants.{One, Many}
-use Rattle.fb_schema.specs.Schema.{body_at, base_in}
 use Rattle.fb_layout.specs.Laid.{LaidSchema, Slot, StoredKind, scalar_kind, struct_kind, code_kind, one_of, stored_kind}
 use Rattle.fb_layout.specs.Laid.{stored_shape}
 use Rattle.fb_value.specs.Datum.{Datum, a_vector}
-use Rattle.fb_value.specs.Num.{Bytes, num}
-use Rattle.fb_value.specs.Places.{Sort, ref_place, part_place, inline_place, text_part, vector_part, sort_of, is_present}
-use Rattle.fb_value.specs.Places.{slot_number, named_slot}
+use Rattle.fb_value.specs.Num.{Bytes}
+use Rattle.fb_value.specs.Places.{Sort, ref_place, part_place, inline_place, text_part, vector_part, sort_of}
+use Rattle.fb_value.specs.Places.{is_present, slot_number, named_slot}
 use Rattle.fb_value.specs.Lies.{Lies, EntryAt}
 use Rattle.fb_value.specs.Nth.{LiesInSlot}
 use Rattle.fb_json.specs.declared.faults.Place.{Place}
@@ -27,8 +25,9 @@ module _ (L : LaidSchema) (b : Bytes) (at : Place) (f : Slot) where
   -- a slot whose place, if it names one, has no such union
   place_named : (deprecated present : Bool) (sort : Sort) (q : ℕ) (o : Option Datum)
       → ((d : Datum) → EntryAt L b sort q d (λ s r. Lies L b s r d) → None ≡ first_unnamed at d)
-      → LiesInSlot L b f (if deprecated then None else (if present then Some (record { sort = sort; at = q }) else None))
-      o → None ≡ first_in_entry at o
+      → LiesInSlot L b f
+      (if deprecated then None else (if present then Some (record { sort = sort; at = q }) else None)) o
+      → None ≡ first_in_entry at o
   place_named deprecated present sort q None named lies = refl
   place_named true present sort q (Some d) named lies = rw lies.2 refl
   place_named false true sort q (Some d) named lies = named d lies

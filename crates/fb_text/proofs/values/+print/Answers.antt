@@ -47,9 +47,9 @@ put_struct-loop-structure-init g t c =
 pub put_struct-loop-structure-preserved-then-put_fields : goal.put_struct-loop-structure-preserved-then-put_fields
 put_struct-loop-structure-preserved-then-put_fields g t c = record {
   bounded = record {
-    heavy = c.put_fields.ensures.inside.heavy;
-    light = omega (arith, c.put_fields.ensures.inside.light, c.loop-structure.invariant.bounded.light);
-    few = c.put_fields.ensures.inside.few;
+    heavy = c.put_fields.ensures.bounded.heavy;
+    light = omega (arith, c.put_fields.ensures.bounded.light, c.loop-structure.invariant.bounded.light);
+    few = c.put_fields.ensures.bounded.few;
   };
   goes = λ ds shows.
       let (es, behind, at, more) = c.loop-structure.invariant.goes ds shows in
@@ -59,7 +59,7 @@ put_struct-loop-structure-preserved-then-put_fields g t c = record {
 
 pub put_struct-loop-structure-preserved : goal.put_struct-loop-structure-preserved
 put_struct-loop-structure-preserved g t c = record {
-  bounded = c.in-Some.ensures.inside;
+  bounded = c.in-Some.ensures.bounded;
   goes = λ ds shows.
       let (es, behind, at, more) = c.loop-structure.invariant.goes ds shows in
       let (fs, rest, on, next) = c.put_fields.ensures.text c.args.structure ds es behind at in
@@ -95,17 +95,17 @@ put_fields-loop-fields-preserved g t c =
     let next : k + 1 ≡ suc k = omega arith in
     let shown = ap (λ (h : StructCursor g.row.S.Denot). h.shown) c.loop-fields.invariant.same in
     record {
-      same = ap (λ (h : StructCursor g.row.S.Denot). record h { next = k + 1; some = c.put_part-here.result })
+      same = ap (λ (h : StructCursor g.row.S.Denot). record h { next = k + 1; some = c.put_field-here.result })
           c.loop-fields.invariant.same;
       on = omega (arith, c.loop-fields.invariant.on);
       text = λ es behind end shows adds.
           let part = rw c.from-k.ensures at (c.child-part.ensures.shows L (Some (a_struct es)) (rw shown shows)) in
           let top = c.find-found.ensures.top L (nth_part es k) part in
-          let text = rw (c.deeper-inner.ensures, one) at (c.put_part-here.ensures.text (nth_part es k) part top) in
+          let text = rw (c.deeper-inner.ensures, one) at (c.put_field-here.ensures.text (nth_part es k) part top) in
           c.loop-fields.invariant.text es behind end shows
           (added_as (fields_next L c.args.style.defaults (blanks c.args.indent.now) first.structure es first.depth k
           here.some behind (field_seen x) there)
-          (then text (rw (next, c.put_part-here.ensures.some (nth_part es k) top) at adds)));
+          (then text (rw (next, c.put_field-here.ensures.some (nth_part es k) top) at adds)));
     }
 
 pub put_fields-returns-clause-text : goal.put_fields-returns-clause-text

@@ -15,8 +15,8 @@ decreases-put_value g l = 8 * g.S.Shown.weight l.shown + 3
 abbrev pub decreases-put_found : goal.decreases-put_found
 decreases-put_found g l = 8 * g.S.Shown.weight l.shown + 2
 
-abbrev pub decreases-put_part : goal.decreases-put_part
-decreases-put_part g l = 8 * g.S.Shown.weight l.shown + 4
+abbrev pub decreases-put_field : goal.decreases-put_field
+decreases-put_field g l = 8 * g.S.Shown.weight l.shown + 4
 
 abbrev pub decreases-put_fields : goal.decreases-put_fields
 decreases-put_fields g l = 8 * g.S.Shown.weight l.here.now.shown
