@@ -159,8 +159,8 @@ fn inner_at<S: Shown>(layout: &Layout, here: StructCursor<S>, byte: u32) -> Stru
     }
 }
 
-/// The struct around one, behind the field that has that one: the way leads by its bytes down from the
-/// outermost, of which the type is told and where it is read.
+/// The struct around one, behind the field that has that one. It is found by its bytes, from the outermost
+/// struct down, which has the type `structure` and is read from `shown`.
 pub(crate) fn parent_of<S: Shown>(
     layout: &Layout,
     structure: TypeId,

@@ -269,7 +269,7 @@ fn put_field<W: Write, S: Shown>(
 }
 
 /// Adds the end of a struct. Returns where the struct around it goes on; nothing where there is none.
-/// The outermost struct's type is told, and where it is read.
+/// The outermost struct has the type `structure` and is read from `shown`.
 fn put_struct_end<W: Write, S: Shown>(
     out: &mut Noted<W>,
     layout: &Layout,
