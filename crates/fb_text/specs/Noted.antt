@@ -1,12 +1,16 @@
 -- What a writer that remembers its last write is seen as.
 use Rattle.std.specs.Prelude.{◌≡◌, ℕ, Bool, Result, Ok, Err, ⊤}
 use Rattle.fb_text.specs.declared.noted.Noted.{Noted}
+use Rattle.fb_text.specs.declared.pages.Page.{Page}
 
 abbrev pub write_failed : {W : Type 0} → Noted W → Bool
 write_failed n = n.failed
 
 abbrev pub writer_of : {W : Type 0} → Noted W → W
 writer_of n = n.inner
+
+abbrev pub page_of : {W : Type 0} → Noted W → Page
+page_of n = n.page
 
 -- a write failed, or took none of its bytes
 abbrev pub TookNone : {E : Type 0} → Result ℕ E → Type 0

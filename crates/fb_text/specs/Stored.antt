@@ -18,10 +18,3 @@ entry_weight (Vector items) = 2 * items_weight items
 abbrev pub len_in : Entry → ℕ
 len_in (Vector items) = items.len
 len_in _ = 0
-
--- how many of the parts in it may have a union: slots by their numbers, which have 16 bits
-abbrev pub children_in : Entry → ℕ
-children_in (Table view) = 65536
-children_in (Member code view) = 1
-children_in (Vector items) = items.len
-children_in _ = 0

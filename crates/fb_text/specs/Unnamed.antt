@@ -1,7 +1,10 @@
 -- The first union, in the order of printing, whose code names no member.
 -- From the FlatBuffers documentation, "Evolution": a reader may know fewer members of a union than a writer.
-use Rattle.std.specs.Prelude.{ℕ, zero, suc, min, ◌+◌, ◌≡◌, true, false, Option, None, Some}
+use Rattle.std.specs.Prelude.{ℕ, zero, min, ◌+◌, ◌≡◌, Bool, true, false, Option, None, Some}
 use Rattle.std.specs.Option.{option_or}
+use Rattle.fb_schema.specs.declared.kinds.Kind.TheVariants.{Table, Union}
+use Rattle.fb_schema.specs.declared.kinds.Shape.{Shape}
+use Rattle.fb_schema.specs.declared.kinds.Shape.TheVariants.{One, Many}
 use Rattle.fb_value.specs.Datum.{Datum, a_number, a_text, a_vector, a_struct, a_table, a_member, an_unknown, Parts}
 use Rattle.fb_value.specs.Datum.{no_parts, more_parts, SlotEntries, no_entries, absent_entry, present_entry}
 use Rattle.fb_value.specs.Counts.{is_whole}
@@ -58,6 +61,13 @@ unnamed_from at (Some (a_struct ds)) i = first_in_parts at (parts_from i ds)
 unnamed_from at (Some (a_table type es)) i = first_in_entries type i (entries_from i es)
 unnamed_from at (Some (a_member c d)) zero = first_unnamed at d
 unnamed_from at _ i = None
+
+-- what is stored under a shape: tables and unions may have such a union in them, and vectors of tables
+abbrev pub may_have_unions : Shape → Bool
+may_have_unions (One (Table t)) = true
+may_have_unions (One (Union u)) = true
+may_have_unions (Many (Table t)) = true
+may_have_unions _ = false
 
 -- A value with such a union is refused, with its place. Memory is told only of a value without.
 abbrev pub IsRefused : Place → Datum → TextFault → Type 0

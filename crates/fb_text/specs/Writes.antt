@@ -1,12 +1,11 @@
--- What a piece of a text does to a page and to the writer below it.
+-- What a piece of a text does to the page that it waits on and to the writer below.
 use Rattle.std.specs.Prelude.{ℕ, ◌≡◌, ◌++◌, ◌<◌, ◌-◌, ◌^◌, min, List, length, take, Bool, true, false, Option, Result}
 use Rattle.std.specs.Prelude.{Ok, Err}
 use Rattle.std.specs.Io.KnownBytes.{Appends}
 use Rattle.fb_text.specs.declared.faults.WriteFault.{WriteFault}
 use Rattle.fb_text.specs.declared.faults.WriteFault.TheVariants.{NoMemberName, WriteFailed}
 use Rattle.fb_text.specs.declared.noted.Noted.{Noted}
-use Rattle.fb_text.specs.declared.pages.Page.{Page}
-use Rattle.fb_text.specs.Noted.{write_failed, writer_of}
+use Rattle.fb_text.specs.Noted.{write_failed, writer_of, page_of}
 use Rattle.fb_text.specs.Pages.{pending, written_before}
 
 -- the bytes that a writer has, if they are known, whether its last write failed, what waits on the page, and how many
@@ -17,13 +16,13 @@ pub record State : Type 0 where
   pub waits : List ℕ
   pub written : ℕ
 
-abbrev pub state_of : {W : Type 0} → (W → Option (List ℕ)) → Page → Noted W → State
-state_of contents page out =
+abbrev pub state_of : {W : Type 0} → (W → Option (List ℕ)) → Noted W → State
+state_of contents out =
     record {
       known = contents (writer_of out);
       failed = write_failed out;
-      waits = pending page;
-      written = written_before page;
+      waits = pending (page_of out);
+      written = written_before (page_of out);
     }
 
 -- a count of bytes, which stops at the greatest one
@@ -51,6 +50,10 @@ pub record Stands (start : Option (List ℕ)) (s : State) (text : List ℕ) : Ty
 -- A piece is added to whatever text stands.
 pub record Adds (old new : State) (piece : List ℕ) : Type 0 where
   pub adds : (start : Option (List ℕ)) (text : List ℕ) → Stands start old text → Stands start new (text ++ piece)
+
+-- What prints to a writer adds a piece.
+abbrev pub Prints : {W : Type 0} → (W → Option (List ℕ)) → Noted W → Noted W → List ℕ → Type 0
+Prints contents old new piece = Adds (state_of contents old) (state_of contents new) piece
 
 -- All of a text was written behind the bytes of the start, or a write failed behind the first bytes of it.
 abbrev pub IsWritten : {A : Type 0} → Option (List ℕ) → Option (List ℕ) → List ℕ → Result A WriteFault → Type 0

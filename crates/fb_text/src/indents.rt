@@ -4,13 +4,13 @@
 #[derive(Clone, Copy)]
 pub(crate) enum Indent<'a> {
     Levels(u64),
-    /// So many levels further than another, where no `u64` has the sum.
-    Further(&'a Indent<'a>, u64),
+    /// So many levels deeper than another, where no `u64` has the sum.
+    Deeper(&'a Indent<'a>, u64),
 }
 
 impl Indent<'_> {
     ghost use Rattle.std.specs.Prelude.{◌≡◌, []};
-    ghost use Rattle.fb_text.specs.Indents.{blanks, further};
+    ghost use Rattle.fb_text.specs.Indents.{blanks, deeper};
     ghost use Rattle.fb_text.specs.Texts.{inside};
 
     /// No blanks.
@@ -20,19 +20,19 @@ impl Indent<'_> {
         Indent::Levels(0)
     }
 
-    /// So many levels further.
+    /// So many levels deeper.
     #[inline]
     pub(crate) fn deeper(&self, levels: u64) -> Indent<'_>
-        ensures { blanks result ≡ further levels (blanks self.now) }
+        ensures { blanks result ≡ deeper levels (blanks self.now) }
     {
         match self {
             Indent::Levels(outer) if *outer <= u64::MAX - levels => Indent::Levels(*outer + levels),
-            _ => Indent::Further(self, levels),
+            _ => Indent::Deeper(self, levels),
         }
     }
 
-    /// One level further.
-    pub(crate) fn inner(&self) -> Indent<'_>
+    /// One level deeper.
+    pub(crate) fn inside(&self) -> Indent<'_>
         ensures { blanks result ≡ inside (blanks self.now) }
     {
         self.deeper(1)

@@ -17,7 +17,6 @@ mod stored;
 mod text;
 mod unnamed;
 mod values;
-mod writing;
 
 pub use faults::{TextFault, WriteFault};
 pub use laws::texts_are_utf8;

@@ -7,12 +7,11 @@ ghost use Rattle.fb_text.specs.Indents.{blanks};
 ghost use Rattle.fb_text.specs.Texts.{code_text, has_code, member_name};
 ghost use Rattle.fb_text.specs.Printed.{is_entry_printed};
 ghost use Rattle.fb_text.specs.Shown.{IsTop};
-ghost use Rattle.fb_text.specs.Writes.{state_of, Adds};
+ghost use Rattle.fb_text.specs.Writes.{Prints};
 
 use crate::indents::Indent;
 use crate::lines::{put_member_line, put_name};
 use crate::noted::Noted;
-use crate::pages::Page;
 use crate::shown::Found;
 use fb_schema::{FieldInfo, Kind, Schema, Shape, TypeId};
 use std::io::Write;
@@ -55,27 +54,24 @@ fn member_name(schema: &Schema, union: TypeId, code: u8) -> &str
 
 /// Adds a union's code in front of its member, and says whether there is a member now.
 pub(crate) fn put_code<W: Write>(
-    page: &mut Page,
     out: &mut Noted<W>,
     schema: &Schema,
     indent: &Indent,
     some: bool,
-    name: &str,
-    shape: Shape,
+    slot: &FieldInfo,
     found: Found,
 ) -> bool
-    ensures text { (d : Datum) → IsTop found.entry (Some d)
-        → Adds (state_of W.contents page.old out.old) (state_of W.contents page.new out.new)
-        (code_text schema.now (blanks indent.now) some name.now shape d) }
-    ensures some { (d : Datum) → IsTop found.entry (Some d) → result ≡ (some || has_code shape d) }
+    ensures text { (d : Datum) → IsTop found.entry (Some d) → Prints W.contents out.old out.new
+        (code_text schema.now (blanks indent.now) some (field_seen slot.now).name slot.now.shape d) }
+    ensures some { (d : Datum) → IsTop found.entry (Some d) → result ≡ (some || has_code slot.now.shape d) }
 {
     let Found::Member(code) = found else {
         return some;
     };
-    let Shape::One(Kind::Union(union)) = shape else {
+    let Shape::One(Kind::Union(union)) = slot.shape else {
         return some;
     };
-    put_member_line(page, out, indent, some, name, true);
-    put_name(page, out, member_name(schema, union, code));
+    put_member_line(out, indent, some, slot.name.as_str(), true);
+    put_name(out, member_name(schema, union, code));
     true
 }

@@ -16,7 +16,7 @@ use fb_schema::{Kind, Shape, TypeId};
 
 /// A struct in another, or that one itself, and which of its fields is printed next.
 #[derive(Clone, Copy)]
-pub(crate) struct Nested<S> {
+pub(crate) struct StructCursor<S> {
     pub structure: TypeId,
     pub shown: S,
     /// How many structs are around it.
@@ -31,8 +31,8 @@ pub(crate) struct Nested<S> {
     pub left: u64,
 }
 
-/// A struct before its first field.
-pub(crate) fn outermost<S: Shown>(structure: TypeId, shown: S) -> Nested<S>
+/// A struct that is in no other, before its first field.
+pub(crate) fn outermost<S: Shown>(structure: TypeId, shown: S) -> StructCursor<S>
     ensures { result ≡ record {
       structure = structure;
       shown = shown;
@@ -43,7 +43,7 @@ pub(crate) fn outermost<S: Shown>(structure: TypeId, shown: S) -> Nested<S>
       left = 2 ^ 64 - 2;
     } }
 {
-    Nested {
+    StructCursor {
         structure,
         shown,
         depth: 0,
@@ -54,35 +54,36 @@ pub(crate) fn outermost<S: Shown>(structure: TypeId, shown: S) -> Nested<S>
     }
 }
 
-/// The struct in the next field, before its first field.
-pub(crate) fn entered<S: Shown>(
+/// Moves to the struct in the next field, before its first field.
+pub(crate) fn enter<S: Shown>(
     layout: &Layout,
-    here: Nested<S>,
+    here: &mut StructCursor<S>,
     structure: TypeId,
-    part: S,
-) -> Nested<S>
-    requires some { 0 < here.left }
-    requires few { here.depth + here.left < 2 ^ 64 }
-    ensures { result ≡ record {
+    shown: S,
+)
+    requires some { 0 < here.old.left }
+    requires few { here.old.depth + here.old.left < 2 ^ 64 }
+    ensures { here.new ≡ record {
       structure = structure;
-      shown = part;
-      depth = here.depth + 1;
-      at = min (here.at + slice_index (struct_at layout.now here.structure.0).offsets here.next) (2 ^ 32 - 1);
+      shown = shown;
+      depth = here.old.depth + 1;
+      at = min (here.old.at + slice_index (struct_at layout.now here.old.structure.0).offsets here.old.next)
+          (2 ^ 32 - 1);
       next = 0;
       some = false;
-      left = here.left - 1;
+      left = here.old.left - 1;
     } }
 {
     let offset = layout.offset_of(here.structure, here.next);
-    Nested {
+    *here = StructCursor {
         structure,
-        shown: part,
+        shown,
         depth: here.depth + 1,
         at: here.at.saturating_add(offset),
         next: 0,
         some: false,
         left: here.left - 1,
-    }
+    };
 }
 
 /// The type of the struct that was found in a field, if one was.
@@ -126,7 +127,7 @@ fn field_at(layout: &Layout, structure: TypeId, byte: u32) -> u16
 
 /// The struct in the field that has a byte, counted from the begin of the outermost; the struct
 /// itself where there is none.
-fn inner_at<S: Shown>(layout: &Layout, here: Nested<S>, byte: u32) -> Nested<S>
+fn inner_at<S: Shown>(layout: &Layout, here: StructCursor<S>, byte: u32) -> StructCursor<S>
     requires { 0 < S.weight here.shown }
     ensures heavy { 0 < S.weight result.shown }
     ensures light { S.weight result.shown ≤ S.weight here.shown }
@@ -144,9 +145,9 @@ fn inner_at<S: Shown>(layout: &Layout, here: Nested<S>, byte: u32) -> Nested<S>
     if k >= fields.len() {
         return here;
     }
-    let part = here.shown.part(next);
+    let part = here.shown.child(k);
     match struct_in(fields[k].shape, part.find()) {
-        Some(structure) => Nested {
+        Some(structure) => StructCursor {
             structure,
             shown: part,
             at: here
@@ -158,35 +159,34 @@ fn inner_at<S: Shown>(layout: &Layout, here: Nested<S>, byte: u32) -> Nested<S>
     }
 }
 
-/// The struct around one, behind the field that has that one: the way leads by its bytes from the
-/// outermost down.
+/// The struct around one, behind the field that has that one. It is found by its bytes, from the outermost
+/// struct down, which has the type `structure` and is read from `shown`.
 pub(crate) fn parent_of<S: Shown>(
     layout: &Layout,
-    outermost: Nested<S>,
-    inner: Nested<S>,
-) -> Nested<S>
+    structure: TypeId,
+    shown: S,
+    inner: StructCursor<S>,
+) -> StructCursor<S>
     requires nested { 0 < inner.depth }
-    requires first { outermost.at ≡ 0 }
-    requires heavy { 0 < S.weight outermost.shown }
+    requires heavy { 0 < S.weight shown }
     ensures heavy { 0 < S.weight result.shown }
-    ensures light { S.weight result.shown ≤ S.weight outermost.shown }
+    ensures light { S.weight result.shown ≤ S.weight shown }
     ensures up { result.depth + 1 ≡ inner.depth }
     ensures left { result.left ≡ inner.left }
     ensures parent { (defaults : Bool) (indent : List ℕ) (ds es : Parts) (behind : List ℕ)
-        → S.shows outermost.shown layout.now (Some (a_struct ds))
-        → StandsIn layout.now defaults indent outermost.structure ds inner.depth inner.at
-        inner.structure es behind
+        → S.shows shown layout.now (Some (a_struct ds))
+        → StandsIn layout.now defaults indent structure ds inner.depth inner.at inner.structure es behind
         → (around : Parts) × (rest : List ℕ)
-        × IsAt S.shows layout.now defaults indent outermost.structure ds result around rest
+        × IsAt S.shows layout.now defaults indent structure ds result around rest
         × (behind ≡ left_text layout.now defaults indent result around ++ rest) }
 {
     let _schema = layout.schema(); // its contract: the layout is well made
-    let mut here = outermost;
+    let mut here = outermost(structure, shown);
     for _level in 0..inner.depth - 1 {
         here = inner_at(layout, here, inner.at);
     }
     let field = field_at(layout, here.structure, inner.at.saturating_sub(here.at));
-    Nested {
+    StructCursor {
         depth: inner.depth - 1,
         next: field + 1,
         some: true,

@@ -1,20 +1,62 @@
-//! A writer that remembers whether its last write failed.
-ghost use Rattle.std.specs.Prelude.{◌≡◌, ◌↔◌, ◌<◌, [], length, false, IsTrue};
+//! A writer that remembers whether its last write failed, and the page on which a text is collected for it.
+ghost use Rattle.std.specs.Prelude.{◌≡◌, ◌↔◌, ◌<◌, [], length, take, false, true, IsTrue};
 ghost use Rattle.std.specs.Io.{WritesAtMost};
-ghost use Rattle.std.specs.Io.KnownBytes.{WriteAppends, Keeps};
+ghost use Rattle.std.specs.Io.KnownBytes.{Appends, WriteAppends, Keeps};
+ghost use Rattle.fb_text.specs.Noted.{TookNone};
 
+use crate::faults::WriteFault;
+use crate::pages::Page;
 use std::io;
 use std::io::Write;
 
+/// Calls a writer once, and notes whether that failed or took none of the bytes.
+fn write_once<W: Write>(inner: &mut W, failed: &mut bool, bytes: &[u8]) -> io::Result<usize>
+    ensures bound { WritesAtMost result bytes.now }
+    ensures bytes { WriteAppends (W.contents inner.old) (W.contents inner.new) result bytes.now }
+    ensures failed { 0 < length bytes.now → (IsTrue failed.new ↔ TookNone result) }
+    ensures still { bytes.now ≡ [] → failed.new ≡ failed.old }
+{
+    let answer = inner.write(bytes);
+    if !bytes.is_empty() {
+        *failed = !matches!(&answer, Ok(1..));
+    }
+    answer
+}
+
+/// Writes bytes from their first to their last, until a write fails. Returns how many were written.
+fn write_bytes<W: Write>(inner: &mut W, failed: &mut bool, bytes: &[u8]) -> usize
+    requires { failed.old ≡ false }
+    ensures all { failed.new ≡ false → (result ≡ length bytes.now)
+        × Appends (W.contents inner.old) (W.contents inner.new) bytes.now }
+    ensures some { failed.new ≡ true → (result < length bytes.now)
+        × Appends (W.contents inner.old) (W.contents inner.new) (take result bytes.now) }
+{
+    let mut at = 0usize;
+    while at < bytes.len() {
+        match write_once(inner, failed, &bytes[at..]) {
+            Ok(n) if n > 0 => at += n,
+            _ => return at,
+        }
+    }
+    at
+}
+
 /// A writer that remembers whether its last write failed or took none of its bytes.
+///
+/// It has room for a page, so that a text that is printed to it is written in few large pieces.
 #[derive(Drop)]
 pub struct Noted<W: Write> {
     inner: W,
     failed: bool,
+    page: Page,
 }
 
 impl<W: Write> Noted<W> {
-    ghost use Rattle.fb_text.specs.Noted.{write_failed, writer_of};
+    ghost use Rattle.std.specs.Prelude.{ℕ, List, Option, IsErr};
+    ghost use Rattle.fb_text.specs.Noted.{write_failed, writer_of, page_of};
+    ghost use Rattle.fb_text.specs.Pages.{pending, written_before};
+    ghost use Rattle.fb_text.specs.Printed.{IfUnnamed};
+    ghost use Rattle.fb_text.specs.Writes.{state_of, Stands, IsWritten, Prints};
 
     /// A writer over another, whose bytes are that one's.
     pub fn over(inner: W) -> Noted<W>
@@ -24,6 +66,7 @@ impl<W: Write> Noted<W> {
         Noted {
             inner,
             failed: false,
+            page: Page::new(),
         }
     }
 
@@ -31,7 +74,11 @@ impl<W: Write> Noted<W> {
     pub fn into_inner(self) -> W
         ensures { result ≡ writer_of self }
     {
-        let Noted { inner, failed: _ } = self;
+        let Noted {
+            inner,
+            failed: _,
+            page: _,
+        } = self;
         inner
     }
 
@@ -41,10 +88,92 @@ impl<W: Write> Noted<W> {
     {
         self.failed
     }
+
+    /// Begins a text: none of its bytes wait, and none were written.
+    pub(crate) fn begin(&mut self)
+        ensures pending { pending (page_of self.new) ≡ [] }
+        ensures written { written_before (page_of self.new) ≡ 0 }
+        ensures same { writer_of self.new ≡ writer_of self.old }
+        ensures still { write_failed self.new ≡ write_failed self.old }
+    {
+        self.page.restart(0);
+    }
+
+    /// Writes what waits on the page. After a failure nothing is written.
+    #[cold]
+    #[inline(never)]
+    fn write_page(&mut self)
+        ensures adds { Prints W.contents self.old self.new [] }
+        ensures empty { pending (page_of self.new) ≡ [] }
+    {
+        let before = self.page.written();
+        if self.failed {
+            self.page.restart(before);
+            return;
+        }
+        let written = write_bytes(&mut self.inner, &mut self.failed, self.page.pending());
+        self.page.restart(before.saturating_add(written as u64));
+    }
+
+    /// Adds a piece where no bytes wait: to the page where it has room, and else to the writer.
+    #[cold]
+    #[inline(never)]
+    fn put_first(&mut self, piece: &[u8])
+        requires { pending (page_of self.old) ≡ [] }
+        ensures { Prints W.contents self.old self.new piece.now }
+    {
+        if self.page.has_room(piece.len()) {
+            self.page.add(piece);
+            return;
+        }
+        if self.failed {
+            return;
+        }
+        let before = self.page.written();
+        let written = write_bytes(&mut self.inner, &mut self.failed, piece);
+        self.page.restart(before.saturating_add(written as u64));
+    }
+
+    /// Adds a piece of a text. What waits is written where the piece has no room behind it.
+    #[inline]
+    #[tactic(auto, using(crate::proofs::noted::PiecesAddUp::added_then))]
+    pub(crate) fn put(&mut self, piece: &[u8])
+        ensures { Prints W.contents self.old self.new piece.now }
+    {
+        if self.page.has_room(piece.len()) {
+            self.page.add(piece);
+            return;
+        }
+        self.write_page();
+        self.put_first(piece);
+    }
+
+    /// The same of a piece that is a `str`.
+    #[inline]
+    pub(crate) fn put_str(&mut self, piece: &str)
+        ensures { Prints W.contents self.old self.new piece.now }
+    {
+        self.put(piece.as_bytes());
+    }
+
+    /// Writes what waits, and returns whether all of a text was written.
+    pub(crate) fn finish(&mut self) -> Result<(), WriteFault>
+        ensures written { (start : Option (List ℕ)) (text : List ℕ)
+            → Stands start (state_of W.contents self.old) text
+            → IsWritten start (W.contents (writer_of self.new)) text result }
+        ensures failed { IsErr result ↔ IsTrue (write_failed self.new) }
+        ensures named { IfUnnamed result ⊥ }
+    {
+        self.write_page();
+        if self.failed {
+            return Err(WriteFault::WriteFailed(self.page.written()));
+        }
+        Ok(())
+    }
 }
 
 impl<W: Write> Write for Noted<W> {
-    ghost use Rattle.fb_text.specs.Noted.{write_failed, writer_of, TookNone};
+    ghost use Rattle.fb_text.specs.Noted.{write_failed, writer_of};
 
     ghost contents = { λ n. W.contents (writer_of n) };
 
@@ -56,11 +185,7 @@ impl<W: Write> Write for Noted<W> {
             → (IsTrue (write_failed self.new) ↔ TookNone result) }
         ensures still { buf.now ≡ [] → write_failed self.new ≡ write_failed self.old }
     {
-        let answer = self.inner.write(buf);
-        if !buf.is_empty() {
-            self.failed = !matches!(&answer, Ok(1..));
-        }
-        answer
+        write_once(&mut self.inner, &mut self.failed, buf)
     }
 
     fn flush(&mut self) -> io::Result<()>

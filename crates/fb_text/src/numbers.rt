@@ -7,80 +7,59 @@ ghost use Rattle.fb_schema.specs.Schema.{body_at};
 ghost use Rattle.fb_schema.specs.Found.{name_numbered};
 ghost use Rattle.fb_text.specs.Texts.{bits_of, is_odd, has_name, are_named, are_flags};
 ghost use Rattle.fb_text.specs.Texts.{bit_text, bits_text, flags_text, enum_text, number_text};
-ghost use Rattle.fb_text.specs.Writes.{state_of, Adds};
+ghost use Rattle.fb_text.specs.Writes.{Prints};
 
-use crate::lines::{put_name, put_str};
+use crate::lines::put_name;
 use crate::noted::Noted;
-use crate::pages::Page;
 use fb_json::has_flags;
 use fb_schema::{Base, Kind, Schema, TypeId};
 use itoa::Buffer;
 use std::io::Write;
 
-fn put_digits<W: Write>(page: &mut Page, out: &mut Noted<W>, number: i128)
-    ensures { Adds (state_of W.contents page.old out.old) (state_of W.contents page.new out.new)
-        (signed_decimal number) }
+fn put_digits<W: Write>(out: &mut Noted<W>, number: i128)
+    ensures { Prints W.contents out.old out.new (signed_decimal number) }
 {
-    put_str(page, out, Buffer::new().format(number));
+    out.put_str(Buffer::new().format(number));
 }
 
 /// Adds a number of a kind.
-pub(crate) fn put_number<W: Write>(
-    page: &mut Page,
-    out: &mut Noted<W>,
-    schema: &Schema,
-    kind: Kind,
-    number: i128,
-)
-    ensures { Adds (state_of W.contents page.old out.old) (state_of W.contents page.new out.new)
-        (number_text schema.now kind number) }
+pub(crate) fn put_number<W: Write>(out: &mut Noted<W>, schema: &Schema, kind: Kind, number: i128)
+    ensures { Prints W.contents out.old out.new (number_text schema.now kind number) }
 {
     match kind {
-        Kind::Scalar(Base::Bool) => put_str(page, out, if number == 0 { "false" } else { "true" }),
-        Kind::Enum(enumeration) => put_enum(page, out, schema, enumeration, number),
-        _ => put_digits(page, out, number),
+        Kind::Scalar(Base::Bool) => out.put_str(if number == 0 { "false" } else { "true" }),
+        Kind::Enum(enumeration) => put_enum(out, schema, enumeration, number),
+        _ => put_digits(out, number),
     }
 }
 
 /// Adds the name of an enum's number, or the number.
-fn put_enum<W: Write>(
-    page: &mut Page,
-    out: &mut Noted<W>,
-    schema: &Schema,
-    enumeration: TypeId,
-    number: i128,
-)
-    ensures { Adds (state_of W.contents page.old out.old) (state_of W.contents page.new out.new)
+fn put_enum<W: Write>(out: &mut Noted<W>, schema: &Schema, enumeration: TypeId, number: i128)
+    ensures { Prints W.contents out.old out.new
         (enum_text (body_at schema.now enumeration.0) number) }
 {
     if has_flags(schema, enumeration) {
-        return put_flags(page, out, schema, enumeration, number);
+        return put_flags(out, schema, enumeration, number);
     }
     match schema.name_of_number(enumeration, number) {
-        Some(name) => put_name(page, out, name),
-        None => put_digits(page, out, number),
+        Some(name) => put_name(out, name),
+        None => put_digits(out, number),
     }
 }
 
 /// Adds the names of a number's bits, where it has bits and each has a name, or the number.
-#[tactic(auto, using(crate::proofs::writing::PiecesAddUp::added_then))]
-fn put_flags<W: Write>(
-    page: &mut Page,
-    out: &mut Noted<W>,
-    schema: &Schema,
-    enumeration: TypeId,
-    number: i128,
-)
-    ensures { Adds (state_of W.contents page.old out.old) (state_of W.contents page.new out.new)
+#[tactic(auto, using(crate::proofs::noted::PiecesAddUp::added_then))]
+fn put_flags<W: Write>(out: &mut Noted<W>, schema: &Schema, enumeration: TypeId, number: i128)
+    ensures { Prints W.contents out.old out.new
         (flags_text (body_at schema.now enumeration.0) number) }
 {
     let bits = bits_of(number);
     if !are_flags(schema, enumeration, bits) {
-        return put_digits(page, out, number);
+        return put_digits(out, number);
     }
-    put_str(page, out, "\"");
-    put_bits(page, out, schema, enumeration, 64, 1, bits, false);
-    put_str(page, out, "\"");
+    out.put_str("\"");
+    put_bits(out, schema, enumeration, 64, 1, bits, false);
+    out.put_str("\"");
 }
 
 /// The bits of a number; a negative one has none here.
@@ -139,9 +118,8 @@ fn bit_name(schema: &Schema, enumeration: TypeId, bit: u128) -> &str
 }
 
 /// Adds the name of a number's lowest bit, if it is set.
-#[tactic(auto, using(crate::proofs::writing::PiecesAddUp::added_then, crate::proofs::writing::PiecesAddUp::added_none))]
+#[tactic(auto, using(crate::proofs::noted::PiecesAddUp::added_then, crate::proofs::noted::PiecesAddUp::added_none))]
 fn put_bit<W: Write>(
-    page: &mut Page,
     out: &mut Noted<W>,
     schema: &Schema,
     enumeration: TypeId,
@@ -150,14 +128,14 @@ fn put_bit<W: Write>(
     some: bool,
 )
     requires { bit < 2 ^ 127 }
-    ensures { Adds (state_of W.contents page.old out.old) (state_of W.contents page.new out.new)
+    ensures { Prints W.contents out.old out.new
         (bit_text (name_numbered (body_at schema.now enumeration.0)) bit bits some) }
 {
     if bits % 2 != 1 {
         return;
     }
-    put_str(page, out, gap(some));
-    put_str(page, out, bit_name(schema, enumeration, bit));
+    out.put_str(gap(some));
+    out.put_str(bit_name(schema, enumeration, bit));
 }
 
 /// Whether there is a name before those behind the lowest bit.
@@ -169,7 +147,6 @@ fn is_more(some: bool, bits: u128) -> bool
 
 /// Adds the names of so many of a number's bits, with a blank between two.
 fn put_bits<W: Write>(
-    page: &mut Page,
     out: &mut Noted<W>,
     schema: &Schema,
     enumeration: TypeId,
@@ -179,16 +156,15 @@ fn put_bits<W: Write>(
     some: bool,
 )
     requires { bit * 2 ^ left ≤ 2 ^ 64 }
-    ensures { Adds (state_of W.contents page.old out.old) (state_of W.contents page.new out.new)
+    ensures { Prints W.contents out.old out.new
         (bits_text (name_numbered (body_at schema.now enumeration.0)) left bit bits some) }
 {
     if left == 0 || bits == 0 {
         return;
     }
-    put_bit(page, out, schema, enumeration, bit, bits, some);
+    put_bit(out, schema, enumeration, bit, bits, some);
     let some = is_more(some, bits);
     put_bits(
-        page,
         out,
         schema,
         enumeration,

@@ -1,10 +1,10 @@
 //! Values in memory, as a printer reads them.
-ghost use Rattle.std.specs.Prelude.{◌≡◌, ℕ, ◌<◌, ◌^◌, Some, None, length, option_map};
+ghost use Rattle.std.specs.Prelude.{◌≡◌, ℕ, ◌<◌, Some, None, option_map};
 ghost use Rattle.fb_json.specs.declared.faults.Place.{Place};
 ghost use Rattle.fb_text.specs.Unnamed.{nth_child, unnamed_from};
-ghost use Rattle.fb_value.specs.Datum.{Datum, Parts, SlotEntries, a_vector, a_struct, a_table, a_member};
-ghost use Rattle.fb_value.specs.View.{view, parts_view, entries_view};
-ghost use Rattle.fb_text.specs.Shown.{IsTop, HasWeight, size, parts_size, entries_size, size_in, count_in};
+ghost use Rattle.fb_value.specs.Datum.{SlotEntries, a_table};
+ghost use Rattle.fb_value.specs.View.{view, entries_view};
+ghost use Rattle.fb_text.specs.Shown.{IsTop, HasWeight, size, size_in, count_in};
 
 use crate::shown::{Found, Shown};
 use fb_value::Value;
@@ -27,8 +27,7 @@ fn top_of(value: &Value) -> Found<'_>
 
 /// The entries of a table; none of another value.
 fn entries_of(value: &Value) -> &[Option<Value>]
-    ensures all { (t : ℕ) (es : SlotEntries) → view value.now ≡ a_table t es → es ≡ entries_view result.now }
-    ensures lighter { entries_size (entries_view result.now) < size (view value.now) }
+    ensures { (t : ℕ) (es : SlotEntries) → view value.now ≡ a_table t es → es ≡ entries_view result.now }
 {
     match value {
         Value::Fields(_, entries) => entries.as_slice(),
@@ -36,38 +35,13 @@ fn entries_of(value: &Value) -> &[Option<Value>]
     }
 }
 
-/// The fields of a struct; none of another value.
-fn fields_of(value: &Value) -> &[Value]
-    ensures all { (ds : Parts) → view value.now ≡ a_struct ds → ds ≡ parts_view result.now }
-    ensures lighter { parts_size (parts_view result.now) < size (view value.now) }
+/// How many elements a vector has; none are in another value.
+fn count_of(value: &Value) -> usize
+    ensures { result ≡ count_in (Some (view value.now)) }
 {
     match value {
-        Value::Fixed(parts) => parts.as_slice(),
-        _ => &[],
-    }
-}
-
-/// The elements of a vector; none of another value.
-fn items_of(value: &Value) -> &[Value]
-    ensures all { (ds : Parts) → view value.now ≡ a_vector ds → ds ≡ parts_view result.now }
-    ensures count { length result.now ≡ count_in (Some (view value.now)) }
-    ensures lighter { parts_size (parts_view result.now) < size (view value.now) }
-{
-    match value {
-        Value::Items(items) => items.as_slice(),
-        _ => &[],
-    }
-}
-
-/// The member of a union; none of another value.
-fn member_of(value: &Value) -> Option<&Value>
-    ensures known { (code : ℕ) (d : Datum) → view value.now ≡ a_member code d
-        → option_map (λ v. view v.now) result ≡ Some d }
-    ensures lighter { size_in (option_map (λ v. view v.now) result) < size (view value.now) }
-{
-    match value {
-        Value::Member(_, member) => Some(member),
-        _ => None,
+        Value::Items(items) => items.len(),
+        _ => 0,
     }
 }
 
@@ -118,29 +92,19 @@ pub(crate) struct ValueEntry<'a>(pub Option<&'a Value>);
 
 impl Shown for ValueEntry<'_> {
     ghost use Rattle.std.specs.Prelude.{◌≡◌, ◌^◌};
-    ghost use Rattle.fb_text.specs.Shown.{datum_of, size_in, count_in};
+    ghost use Rattle.fb_text.specs.Shown.{datum_of, size_in};
 
     ghost shows = { λ e L o. o ≡ datum_of e };
 
     ghost weight = { λ e. size_in (datum_of e) };
 
-    ghost items = { λ e. count_in (datum_of e) };
-
-    ghost children = { λ _. 2 ^ 64 };
+    ghost width = { λ _. 2 ^ 64 };
 
     #[inline]
     fn find(&self) -> Found<'_> {
         match self.0 {
             Some(value) => top_of(value),
             None => Found::Absent,
-        }
-    }
-
-    #[inline]
-    fn member(self) -> Self {
-        match self.0 {
-            Some(value) => ValueEntry(member_of(value)),
-            None => ValueEntry(None),
         }
     }
 
@@ -153,37 +117,10 @@ impl Shown for ValueEntry<'_> {
     }
 
     #[inline]
-    fn slot(self, slot: u16) -> Self {
-        let Some(value) = self.0 else {
-            return ValueEntry(None);
-        };
-        match entries_of(value).get(usize::from(slot)) {
-            Some(entry) => ValueEntry(lent(entry)),
-            None => ValueEntry(None),
-        }
-    }
-
-    #[inline]
-    fn part(self, field: u16) -> Self {
-        match self.0 {
-            Some(value) => ValueEntry(fields_of(value).get(usize::from(field))),
-            None => ValueEntry(None),
-        }
-    }
-
-    #[inline]
     fn count(self) -> usize {
         match self.0 {
-            Some(value) => items_of(value).len(),
+            Some(value) => count_of(value),
             None => 0,
-        }
-    }
-
-    #[inline]
-    fn item(self, i: usize) -> Self {
-        match self.0 {
-            Some(value) => ValueEntry(Some(&items_of(value)[i])),
-            None => ValueEntry(None),
         }
     }
 
@@ -193,6 +130,11 @@ impl Shown for ValueEntry<'_> {
             Some(value) => children_of(value),
             None => 0,
         }
+    }
+
+    #[inline]
+    fn is_searched(&self, _i: usize) -> bool {
+        true
     }
 
     #[inline]

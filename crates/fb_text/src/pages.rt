@@ -6,7 +6,7 @@ ghost use Rattle.fb_text.specs.declared.pages.TheConstants.{CAPACITY};
 const CAPACITY: usize = 65_536;
 
 /// Bytes of a text that wait to be written, so that a writer gets few large pieces, and how many
-/// were written before. They are on the stack.
+/// were written before. They take no allocation.
 #[derive(Drop)]
 pub(crate) struct Page {
     bytes: [u8; CAPACITY],

@@ -4,22 +4,19 @@ ghost use Rattle.std.specs.List.{prefix_len};
 ghost use Rattle.std.specs.Char.{digit_char};
 ghost use Rattle.json.specs.Print.{quoted, escape, escape_byte};
 ghost use Rattle.fb_text.specs.Escapes.{is_plain};
-ghost use Rattle.fb_text.specs.Writes.{state_of, Adds};
+ghost use Rattle.fb_text.specs.Writes.{Prints};
 
 use crate::noted::Noted;
-use crate::pages::Page;
-use crate::writing::put;
 use std::io::Write;
 
 /// Adds a text in quotes, escaped.
-#[tactic(auto, using(crate::proofs::writing::PiecesAddUp::added_then))]
-pub(crate) fn put_quoted<W: Write>(page: &mut Page, out: &mut Noted<W>, content: &str)
-    ensures { Adds (state_of W.contents page.old out.old) (state_of W.contents page.new out.new)
-        (quoted content.now) }
+#[tactic(auto, using(crate::proofs::noted::PiecesAddUp::added_then))]
+pub(crate) fn put_quoted<W: Write>(out: &mut Noted<W>, content: &str)
+    ensures { Prints W.contents out.old out.new (quoted content.now) }
 {
-    put(page, out, b"\"");
-    put_escaped(page, out, content.as_bytes());
-    put(page, out, b"\"");
+    out.put(b"\"");
+    put_escaped(out, content.as_bytes());
+    out.put(b"\"");
 }
 
 /// Whether a byte is written in a JSON string as it is.
@@ -38,18 +35,17 @@ fn plain_run(text: &[u8]) -> usize
 }
 
 /// Adds bytes of a text without its quotes: each stretch without escapes in one piece.
-fn put_escaped<W: Write>(page: &mut Page, out: &mut Noted<W>, content: &[u8])
-    ensures { Adds (state_of W.contents page.old out.old) (state_of W.contents page.new out.new)
-        (escape content.now) }
+fn put_escaped<W: Write>(out: &mut Noted<W>, content: &[u8])
+    ensures { Prints W.contents out.old out.new (escape content.now) }
 {
     let mut left = content;
     while !left.is_empty() {
         let (plain, behind) = left.split_at(plain_run(left));
-        put(page, out, plain);
+        out.put(plain);
         let Some((byte, rest)) = behind.split_first() else {
             return;
         };
-        put_escape(page, out, *byte);
+        put_escape(out, *byte);
         left = rest;
     }
 }
@@ -67,23 +63,22 @@ fn digit(number: u8) -> u8
 }
 
 /// Adds the escape of a byte that isn't written as it is.
-#[tactic(auto, using(crate::proofs::writing::PiecesAddUp::added_then), unfolding(json::specs::Print::escape_byte))]
-fn put_escape<W: Write>(page: &mut Page, out: &mut Noted<W>, byte: u8)
+#[tactic(auto, using(crate::proofs::noted::PiecesAddUp::added_then), unfolding(json::specs::Print::escape_byte))]
+fn put_escape<W: Write>(out: &mut Noted<W>, byte: u8)
     requires { is_plain byte ≡ false }
-    ensures { Adds (state_of W.contents page.old out.old) (state_of W.contents page.new out.new)
-        (escape_byte byte) }
+    ensures { Prints W.contents out.old out.new (escape_byte byte) }
 {
     match byte {
-        b'"' => put(page, out, b"\\\""),
-        b'\\' => put(page, out, b"\\\\"),
-        0x08 => put(page, out, b"\\b"),
-        0x0c => put(page, out, b"\\f"),
-        b'\n' => put(page, out, b"\\n"),
-        b'\r' => put(page, out, b"\\r"),
-        b'\t' => put(page, out, b"\\t"),
+        b'"' => out.put(b"\\\""),
+        b'\\' => out.put(b"\\\\"),
+        0x08 => out.put(b"\\b"),
+        0x0c => out.put(b"\\f"),
+        b'\n' => out.put(b"\\n"),
+        b'\r' => out.put(b"\\r"),
+        b'\t' => out.put(b"\\t"),
         _ => {
-            put(page, out, b"\\u00");
-            put(page, out, &[digit(byte / 16), digit(byte % 16)]);
+            out.put(b"\\u00");
+            out.put(&[digit(byte / 16), digit(byte % 16)]);
         }
     }
 }

@@ -1,21 +1,31 @@
 //! Values in buffers, as a printer reads them.
 
+ghost use Rattle.std.specs.Prelude.{◌≡◌};
+ghost use Rattle.fb_text.specs.Unnamed.{may_have_unions};
+
 use crate::shown::{Found, Shown};
 use fb_read::Entry;
-use fb_schema::Kind;
+use fb_schema::{Kind, Shape};
+
+/// Whether what is stored under a shape may be a union or have one in it.
+fn may_have_unions(shape: Shape) -> bool
+    ensures { result ≡ may_have_unions shape }
+{
+    match shape {
+        Shape::One(Kind::Table(_) | Kind::Union(_)) | Shape::Many(Kind::Table(_)) => true,
+        _ => false,
+    }
+}
 
 impl Shown for Entry<'_> {
-    ghost use Rattle.std.specs.Prelude.{◌≡◌};
     ghost use Rattle.fb_read.specs.Weights.{ShowsEntry};
-    ghost use Rattle.fb_text.specs.Stored.{entry_weight, len_in, children_in};
+    ghost use Rattle.fb_text.specs.Stored.{entry_weight, len_in};
 
     ghost shows = { λ e L o. ShowsEntry L e o };
 
     ghost weight = { entry_weight };
 
-    ghost items = { len_in };
-
-    ghost children = { children_in };
+    ghost width = { len_in };
 
     #[inline]
     fn find(&self) -> Found<'_> {
@@ -32,14 +42,6 @@ impl Shown for Entry<'_> {
     }
 
     #[inline]
-    fn member(self) -> Self {
-        match self {
-            Entry::Member(_, view) => Entry::Table(view),
-            _ => Entry::Absent,
-        }
-    }
-
-    #[inline]
     fn printed_slots(self, defaults: bool, all: usize) -> usize {
         match self {
             Entry::Table(_) if defaults => all,
@@ -49,34 +51,10 @@ impl Shown for Entry<'_> {
     }
 
     #[inline]
-    fn slot(self, slot: u16) -> Self {
-        match self {
-            Entry::Table(view) => view.slot(slot),
-            _ => Entry::Absent,
-        }
-    }
-
-    #[inline]
-    fn part(self, field: u16) -> Self {
-        match self {
-            Entry::Fixed(view) => view.part(field),
-            _ => Entry::Absent,
-        }
-    }
-
-    #[inline]
     fn count(self) -> usize {
         match self {
             Entry::Vector(items) => items.count() as usize,
             _ => 0,
-        }
-    }
-
-    #[inline]
-    fn item(self, i: usize) -> Self {
-        match self {
-            Entry::Vector(items) => items.item(i as u32),
-            _ => Entry::Absent,
         }
     }
 
@@ -95,12 +73,37 @@ impl Shown for Entry<'_> {
     }
 
     #[inline]
+    fn is_searched(&self, i: usize) -> bool {
+        let Entry::Table(view) = self else {
+            return true;
+        };
+        let slots = view.layout().slots_of(view.type_id());
+        if i >= slots.len() {
+            return true;
+        }
+        may_have_unions(slots[i].shape)
+    }
+
+    #[inline]
     fn child(self, i: usize) -> Self {
         match self {
             Entry::Table(view) => view.slot(i as u16),
-            Entry::Member(_, view) => Entry::Table(view),
-            Entry::Vector(items) => items.item(i as u32),
-            _ => Entry::Absent,
+            Entry::Fixed(view) => view.part(i as u16),
+            Entry::Vector(items) => {
+                if i < items.count() as usize {
+                    items.item(i as u32)
+                } else {
+                    Entry::Absent
+                }
+            }
+            Entry::Member(_, view) => {
+                if i == 0 {
+                    Entry::Table(view)
+                } else {
+                    Entry::Absent
+                }
+            }
+            Entry::Absent | Entry::Number(_) | Entry::Text(_) | Entry::Unknown(_) => Entry::Absent,
         }
     }
 }

@@ -13,14 +13,11 @@ ghost use Rattle.fb_text.specs.Writes.{IsWritten};
 
 use crate::faults::{TextFault, WriteFault};
 use crate::indents::Indent;
-use crate::lines::put_str;
 use crate::noted::Noted;
 use crate::owned::ValueEntry;
-use crate::pages::Page;
 use crate::shown::Shown;
 use crate::unnamed::first_unnamed;
 use crate::values::{Style, put_value};
-use crate::writing::finish;
 use fb_json::Place;
 use fb_layout::Layout;
 use fb_read::{Entry, View};
@@ -42,11 +39,11 @@ fn write_root<W: Write, S: Shown>(
     ensures failed { IsErr result ↔ IsTrue (write_failed out.new) }
     ensures named { IfUnnamed result ⊥ }
 {
-    let mut page = Page::new();
+    out.begin();
     let shape = Shape::One(Kind::Table(style.layout.schema().root()));
-    put_value(&mut page, out, style, &Indent::edge(), shape, shown);
-    put_str(&mut page, out, "\n");
-    finish(&mut page, out)
+    put_value(out, style, &Indent::edge(), shape, shown);
+    out.put_str("\n");
+    out.finish()
 }
 
 /// Writes the JSON text of a table. `defaults` includes fields with default values.

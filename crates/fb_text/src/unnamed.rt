@@ -32,6 +32,9 @@ pub(crate) fn first_unnamed<S: Shown>(place: Place, shown: S) -> Option<Place>
         return Some(place);
     }
     for i in 0..shown.searched() {
+        if !shown.is_searched(i) {
+            continue;
+        }
         let unnamed = first_unnamed(place_in(place, found, i), shown.child(i));
         if unnamed.is_some() {
             return unnamed;

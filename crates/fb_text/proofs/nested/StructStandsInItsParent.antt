@@ -1,5 +1,5 @@
--- The way from the outermost struct down to one that stands in it, and one step further or less.
-use Rattle.std.proofs.Common.{◌≡◌, ℕ, zero, suc, ◌+◌, ◌<◌, ◌≤◌, ◌++◌, List, [], drop, Bool, true, Some, slice_get}
+-- The way from the outermost struct down to one that stands in it, and one step more or less.
+use Rattle.std.proofs.Common.{◌≡◌, ℕ, zero, suc, ◌+◌, ◌<◌, ◌≤◌, ◌++◌, List, [], drop, Bool, true}
 use Rattle.std.proofs.Common.{slice_index, refl, sym, ap, subst, ◌∙◌, append_assoc, append-nil, arith}
 use Rattle.fb_schema.specs.declared.kinds.TypeId.{TypeId}
 use Rattle.fb_schema.specs.Schema.{body_at, parts_in}
@@ -7,10 +7,10 @@ use Rattle.fb_layout.specs.Laid.{LaidSchema, struct_at}
 use Rattle.fb_layout.specs.WellMade.{IsWellMade}
 use Rattle.fb_value.specs.Datum.{Parts}
 use Rattle.fb_read.specs.Tails.{parts_from}
-use Rattle.fb_text.specs.Indents.{further}
+use Rattle.fb_text.specs.Indents.{deeper}
 use Rattle.fb_text.specs.Texts.{inside, parts_text}
 use Rattle.fb_text.specs.Nested.{HasStruct, fields_text, StandsIn}
-use Rattle.fb_text.proofs.indents.LevelsAddUp.{inside_further}
+use Rattle.fb_text.proofs.indents.LevelsAddUp.{inside_deeper}
 use Rattle.fb_text.proofs.nested.FieldHasItsBytes.{is_filled, ends_within}
 
 module _ (L : LaidSchema) (defaults : Bool) where
@@ -18,7 +18,7 @@ module _ (L : LaidSchema) (defaults : Bool) where
   pub outermost_stands : (indent : List ℕ) (t : TypeId) (ds : Parts) → StandsIn L defaults indent t ds 0 0 t ds []
   outermost_stands indent t ds = (refl, refl, refl, refl)
 
-  -- one step further down
+  -- one step down
   pub stands_deeper : (indent : List ℕ) (t : TypeId) (ds : Parts) (depth at : ℕ) (u : TypeId) (es : Parts)
       (behind : List ℕ) (k : ℕ) (s : TypeId) (inner : Parts) → StandsIn L defaults indent t ds depth at u es behind
       → HasStruct L u es k s inner
@@ -53,10 +53,10 @@ module _ (L : LaidSchema) (defaults : Bool) where
 
   -- a level's text is the same from wherever it is told
   level_text : (indent : List ℕ) (t : TypeId) (ds : Parts) (depth k : ℕ)
-      → fields_text L defaults (further depth indent) t ds 0 k true ≡ fields_text L defaults indent t ds depth k true
+      → fields_text L defaults (deeper depth indent) t ds 0 k true ≡ fields_text L defaults indent t ds depth k true
   level_text indent t ds depth k =
-      ap (λ (inner : List ℕ). parts_text L defaults inner (further depth indent) true
-      (drop k (parts_in (body_at L.schema t.0))) (parts_from k ds)) (inside_further depth indent)
+      ap (λ (inner : List ℕ). parts_text L defaults inner (deeper depth indent) true
+      (drop k (parts_in (body_at L.schema t.0))) (parts_from k ds)) (inside_deeper depth indent)
 
   module _ (made : IsWellMade L) where
     -- it begins within the outermost
@@ -89,7 +89,7 @@ pub record OnTheWay (L : LaidSchema) (defaults : Bool) (indent : List ℕ) (t : 
   pub rest : List ℕ
   pub shown : P parts
   pub above : StandsIn L defaults indent t ds depth at v parts rest
-  pub below : StandsIn L defaults (further depth indent) v parts left more u es text
+  pub below : StandsIn L defaults (deeper depth indent) v parts left more u es text
   pub begin : byte ≡ at + more
   pub whole : behind ≡ text ++ rest
 
@@ -132,7 +132,7 @@ module _ (L : LaidSchema) (defaults : Bool) (indent : List ℕ) (t : TypeId) (ds
         shown = shown;
         above = rw (type, place) deeper;
         below = rw type (subst (λ (i : List ℕ). StandsIn L defaults i x inner left more u es text)
-            (inside_further depth indent) rest);
+            (inside_deeper depth indent) rest);
         begin = omega (arith, w.begin, begin, place);
         whole = w.whole ∙ (ap (λ (l : List ℕ). l ++ w.rest)
             (whole ∙ ap (λ (l : List ℕ). text ++ l) (level_text L defaults indent v w.parts depth (suc k)))
@@ -153,6 +153,6 @@ module _ (L : LaidSchema) (defaults : Bool) (indent : List ℕ) (t : TypeId) (ds
             (subst (λ (ms : Parts). HasStruct L v w.parts k x ms) parts child),
         omega (arith, w.begin, begin, none),
         w.whole ∙ ap (λ (l : List ℕ). l ++ w.rest)
-            (whole ∙ (ap (λ (l : List ℕ). l ++ fields_text L defaults (further depth indent) v w.parts 0 (suc k) true)
+            (whole ∙ (ap (λ (l : List ℕ). l ++ fields_text L defaults (deeper depth indent) v w.parts 0 (suc k) true)
             empty ∙ level_text L defaults indent v w.parts depth (suc k))),
       )

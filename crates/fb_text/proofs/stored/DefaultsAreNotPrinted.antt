@@ -9,7 +9,7 @@ use Rattle.fb_value.specs.Datum.{Datum}
 use Rattle.fb_read.specs.Stored.{number_entry}
 use Rattle.fb_text.specs.Printed.{is_entry_printed}
 
-mapped_there : (S : DeclaredSchema) (fs : List DeclaredField) (k : ℕ) (f : DeclaredField) → slice_get fs k ≡ Some f
+pub mapped_there : (S : DeclaredSchema) (fs : List DeclaredField) (k : ℕ) (f : DeclaredField) → slice_get fs k ≡ Some f
     → slice_get (map (slot_of S) fs) k ≡ Some (slot_of S f)
 mapped_there S [] k f e = cc
 mapped_there S (g ∷ fs) zero f e = let is : g ≡ f = cc in rw is refl

@@ -1,7 +1,6 @@
 -- The first union without a name, one entry after another.
 use Rattle.std.proofs.Common.{◌≡◌, ℕ, zero, suc, ◌+◌, ◌≤◌, List, [], ◌∷◌, slice_get, ℤ, Bool, true, false, Option, None}
 use Rattle.std.proofs.Common.{Some, refl, sym, ap, ◌∙◌, add-one, arith}
-use Rattle.std.specs.Prelude.{min}
 use Rattle.std.specs.Option.{option_or, is_some}
 use Rattle.fb_layout.specs.Laid.{LaidSchema, StoredKind, scalar_kind, struct_kind, table_kind, text_kind, union_kind}
 use Rattle.fb_layout.specs.Laid.{code_kind, Slot, parts_of, struct_at, size_of}
@@ -148,7 +147,7 @@ mutual
       rw (← inline_named L b k (p + o) at d lies.0) (fields_named L b ks os p at ds lies.1)
   fields_named L b _ _ p at _ lies = absurd lies
 
-text_named : (L : LaidSchema) (b : Bytes) (p : ℕ) (at : Place) (d : Datum) → Lies L b (part_place text_part) p d
+pub text_named : (L : LaidSchema) (b : Bytes) (p : ℕ) (at : Place) (d : Datum) → Lies L b (part_place text_part) p d
     → None ≡ first_unnamed at d
 text_named L b p at (a_text bytes) lies = refl
 text_named L b p at _ lies = absurd lies

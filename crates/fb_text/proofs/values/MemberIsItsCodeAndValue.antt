@@ -12,7 +12,7 @@ use Rattle.fb_text.specs.declared.faults.WriteFault.{WriteFault}
 use Rattle.fb_text.specs.declared.faults.WriteFault.TheVariants.{NoMemberName, WriteFailed}
 use Rattle.fb_text.specs.Printed.{is_entry_printed, slot_text, named_text, IfUnnamed}
 use Rattle.fb_text.specs.Writes.{State, Adds}
-use Rattle.fb_text.proofs.writing.PiecesAddUp.{added_then}
+use Rattle.fb_text.proofs.noted.PiecesAddUp.{added_then}
 
 -- field k of a type, as the schema has it
 pub seen_there : (xs : List FieldInfo) (k : ℕ) (x : FieldInfo) → k < length xs → x ≡ slice_index_or xs k x

@@ -1,5 +1,5 @@
 use Rattle.std.proofs.Common.{◌≡◌, ◌+◌, ◌-◌, ◌≤◌, arith}
-use Rattle.fb_text.proofs.writing.PiecesAddUp.{then, added_as}
+use Rattle.fb_text.proofs.noted.PiecesAddUp.{then, added_as}
 use Rattle.fb_text.proofs.indents.LevelsAddUp.{levels_joined, blanks_front}
 use Rattle.fb_text.proofs.lines.put_levels.Goals as goal
 

@@ -2,7 +2,7 @@ use Rattle.std.proofs.Common.{◌≡◌, ℕ, List, [], ◌++◌, Bool, true, fa
 use Rattle.std.proofs.Common.{append_assoc, rules}
 use Rattle.fb_text.specs.Texts.{line, member_line}
 use Rattle.fb_text.specs.Indents.{blanks}
-use Rattle.fb_text.proofs.writing.PiecesAddUp.{then as joined, added_as}
+use Rattle.fb_text.proofs.noted.PiecesAddUp.{then as joined, added_as}
 use Rattle.fb_text.proofs.lines.put_member_line.Goals as goal
 
 behind_name : (is_code : Bool)

@@ -1,7 +1,6 @@
-use Rattle.std.proofs.Common.{◌≡◌, ℕ, ◌+◌, ◌-◌, ◌^◌, ◌<◌, ◌≤◌, List, length, map, Option, None, Some, slice_get}
-use Rattle.std.proofs.Common.{slice_index, slice_index_or, refl, sym, ap, subst, ◌∙◌, arith}
+use Rattle.std.proofs.Common.{◌≡◌, ℕ, ◌+◌, ◌-◌, ◌^◌, ◌<◌, List, length, map, Option, None, Some, slice_get}
+use Rattle.std.proofs.Common.{slice_index, slice_index_or, sym, ap, subst, ◌∙◌, arith}
 use Rattle.std.proofs.lemmas.Option.{slice_get_within}
-use Rattle.fb_schema.specs.declared.kinds.TypeId.{TypeId}
 use Rattle.fb_schema.specs.declared.types.FieldInfo.{FieldInfo}
 use Rattle.fb_schema.specs.Schema.{DeclaredField, body_at, parts_in}
 use Rattle.fb_schema.specs.Seen.{field_seen}
@@ -54,8 +53,8 @@ returns-in-Some-clause-inner g c ds k u es more shown has less begin =
     let field = field_is fields _ next k x has.field c.parts_of-fields.ensures.parts same within is has.there in
     let shape = ap (λ (f : FieldInfo). f.shape) (sym c.index-fields-k.is)
     ∙ (ap (λ (f : DeclaredField). f.shape) field ∙ has.shape) in
-    let part = subst (λ (o : Option Datum). g.S.Shown.shows c.part-part.result L o) (ap (nth_part ds) same ∙ has.part)
-    (c.part-part.ensures.shows L ds shown) in
+    let part = subst (λ (o : Option Datum). g.S.Shown.shows c.child-part.result L o) (ap (nth_part ds) same ∙ has.part)
+    (rw c.from-k.ensures at (c.child-part.ensures.shows L (Some (a_struct ds)) shown)) in
     let found : Some c.in-Some.structure ≡ Some u = c.in-Some.ensures.known u es shape (c.find.ensures.top L _ part) in
     let offset : slice_index (struct_at L t.0).offsets next ≡ slice_index (struct_at L t.0).offsets k =
     ap (slice_index (struct_at L t.0).offsets) same in
@@ -82,7 +81,7 @@ returns-in-None-clause-inner g c ds k u es more shown has less begin =
     let field = field_is fields _ next k x has.field c.parts_of-fields.ensures.parts same within is has.there in
     let shape = ap (λ (f : FieldInfo). f.shape) (sym c.index-fields-k.is)
     ∙ (ap (λ (f : DeclaredField). f.shape) field ∙ has.shape) in
-    let part = subst (λ (o : Option Datum). g.S.Shown.shows c.part-part.result L o) (ap (nth_part ds) same ∙ has.part)
-    (c.part-part.ensures.shows L ds shown) in
+    let part = subst (λ (o : Option Datum). g.S.Shown.shows c.child-part.result L o) (ap (nth_part ds) same ∙ has.part)
+    (rw c.from-k.ensures at (c.child-part.ensures.shows L (Some (a_struct ds)) shown)) in
     let found : None ≡ Some u = c.in-None.ensures.known u es shape (c.find.ensures.top L _ part) in
     absurd (cc)

@@ -4,7 +4,7 @@ use Rattle.fb_schema.specs.Found.{name_numbered}
 use Rattle.fb_text.specs.Texts.{is_odd, bit_text, bits_text}
 use Rattle.fb_text.proofs.numbers.BitDoubles.{doubled}
 use Rattle.fb_text.proofs.numbers.NoBitsHaveNoNames.{no_places, no_bits}
-use Rattle.fb_text.proofs.writing.PiecesAddUp.{added_none, added_as, then}
+use Rattle.fb_text.proofs.noted.PiecesAddUp.{added_none, added_as, then}
 use Rattle.fb_text.proofs.numbers.+put_bits.Goals.{then-left-eq0-via-then-left-eq0}
 use Rattle.fb_text.proofs.numbers.+put_bits.Goals.{then-left-eq0-via-else-left-eq0+then-bits-eq0}
 use Rattle.fb_text.proofs.numbers.+put_bits.Goals as goal

@@ -1,6 +1,6 @@
 use Rattle.std.proofs.Common.{◌≡◌, true, refl}
 use Rattle.fb_text.specs.Texts.{is_odd}
-use Rattle.fb_text.proofs.writing.PiecesAddUp.{then}
+use Rattle.fb_text.proofs.noted.PiecesAddUp.{then}
 use Rattle.fb_text.proofs.numbers.put_bit.Goals as goal
 
 pub returns : goal.returns

@@ -1,11 +1,7 @@
-use Rattle.std.proofs.Common.{◌≡◌, ◌<◌, ◌≤◌, Bor, List, Option, None, Some, option_map, ℕ, sym, ap, ◌∙◌, arith, is_some}
-use Rattle.std.proofs.Common.{length, nat_lt, get_or}
-use Rattle.std.specs.Option.{option_copied, IfSome}
+use Rattle.std.proofs.Common.{None, Some, sym, ap, ◌∙◌, arith}
+use Rattle.std.specs.Option.{option_copied}
 use Rattle.fb_schema.proofs.Got.{got_of}
-use Rattle.fb_value.specs.Datum.{a_vector, a_struct, a_table}
-use Rattle.fb_value.specs.Nth.{nth_part, nth_entry}
 use Rattle.fb_value.specs.View.{view, parts_view, entries_view}
-use Rattle.fb_value.specs.declared.values.Value.{Value}
 use Rattle.fb_value.proofs.types.EachVariantHasItsView.{view-Items, view-Fixed, view-Fields}
 use Rattle.fb_text.proofs.owned.PartsAreLighter.{part_viewed, entry_viewed, entry_past, part_light, entry_light}
 use Rattle.fb_text.proofs.owned.PartsAreLighter.{copied_view}

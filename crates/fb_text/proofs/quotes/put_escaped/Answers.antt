@@ -1,7 +1,7 @@
 use Rattle.std.proofs.Common.{◌≡◌, ◌==◌, ◌∷◌, [], true, List, ℕ, length, subst, sym, refl, ◌∙◌, arith}
 use Rattle.std.proofs.lemmas.Bool.Decides.{nat_tests}
 use Rattle.json.specs.Print.{escape}
-use Rattle.fb_text.proofs.writing.PiecesAddUp.{added_none, added_as, then}
+use Rattle.fb_text.proofs.noted.PiecesAddUp.{added_none, added_as, then}
 use Rattle.fb_text.proofs.quotes.EscapeGoesByStretches.{stops, step, last}
 use Rattle.fb_text.proofs.quotes.put_escaped.Goals as goal
 

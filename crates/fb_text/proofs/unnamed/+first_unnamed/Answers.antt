@@ -1,6 +1,7 @@
-use Rattle.std.proofs.Common.{◌≡◌, suc, ◌+◌, false, sym, ap, ◌∙◌}
-use Rattle.fb_text.specs.Printed.{first_in_entry}
-use Rattle.fb_text.specs.Unnamed.{nth_child, unnamed_from}
+use Rattle.std.proofs.Common.{◌+◌, Option, ap, sym, ◌∙◌}
+use Rattle.std.specs.Option.{option_or}
+use Rattle.fb_json.specs.declared.faults.Place.{Place}
+use Rattle.fb_text.specs.Unnamed.{child_place, nth_child, unnamed_from}
 use Rattle.fb_text.proofs.unnamed.OneEntryMore.{children_step, from_first, found_first, found_later}
 use Rattle.fb_text.proofs.unnamed.+first_unnamed.Goals as goal
 
@@ -22,4 +23,11 @@ loop-i-preserved g t c L o shows =
     let place = c.place_in.ensures o (c.find-found.ensures.top L o shows) in
     let found = rw place at (c.first_unnamed-unnamed.ensures L (nth_child o i) (c.child.ensures.shows L o shows)) in
     sym (found_later _ (unnamed_from c.args.place o (i + 1)) _ found (sym c.is_some.ensures ∙ c.if-is_some.false))
+    ∙ (sym (children_step c.args.place o i) ∙ c.loop-i.invariant L o shows)
+
+pub loop-i-preserved-then-not-is_searched : goal.loop-i-preserved-then-not-is_searched
+loop-i-preserved-then-not-is_searched g t c L o shows =
+    let i = c.loop-i.i in
+    let none = c.is_searched.ensures L o (child_place c.args.place o i) shows c.if-not-is_searched.true in
+    ap (λ (p : Option Place). option_or p (unnamed_from c.args.place o (i + 1))) (sym none)
     ∙ (sym (children_step c.args.place o i) ∙ c.loop-i.invariant L o shows)

@@ -8,7 +8,7 @@ use Rattle.fb_text.proofs.owned.ValueEntryShown.printed_slots.Goals as goal
 pub returns-in-Some-clause-behind : goal.returns-in-Some-clause-behind
 returns-in-Some-clause-behind c L t es k f shows all past there =
     let entries = c.entries_of.result.now in
-    let is = c.entries_of.ensures.all t es (seen_there c.args.self.0 c.in-Some.value (a_table t es) c.in-Some.is shows)
+    let is = c.entries_of.ensures t es (seen_there c.args.self.0 c.in-Some.value (a_table t es) c.in-Some.is shows)
     in
     let within = there_within _ k f there in
     let behind : length entries ≤ k = omega (arith, within, all, past, c.min.ensures) in

@@ -1,6 +1,6 @@
 use Rattle.std.proofs.Common.{refl}
-use Rattle.fb_text.proofs.writing.PiecesAddUp.{added_waiting}
-use Rattle.fb_text.proofs.writing.put.Goals as goal
+use Rattle.fb_text.proofs.noted.PiecesAddUp.{added_waiting}
+use Rattle.fb_text.proofs.noted.Noted.put.Goals as goal
 
 pub returns-then-has_room : goal.returns-then-has_room
 returns-then-has_room g c =

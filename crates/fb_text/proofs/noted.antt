@@ -1,4 +1,4 @@
--- What the proofs of src/writing.rt use.
+-- What the proofs of src/noted.rt use.
 pub mod FrontGrows
 pub mod WrittenStands
 pub mod PiecesAddUp

@@ -1,9 +1,9 @@
 -- What adds a piece.
 use Rattle.std.proofs.Common.{◌≡◌, ℕ, ◌+◌, ◌<◌, [], List, ◌++◌, Option, Bool, true, false, length, take, sym, ap, subst}
-use Rattle.std.proofs.Common.{◌∙◌, arith, append_assoc, append-nil, length-append, refl}
+use Rattle.std.proofs.Common.{◌∙◌, arith, append_assoc, append-nil, length-append, refl, true≢false}
 use Rattle.std.specs.Io.KnownBytes.{Appends}
 use Rattle.fb_text.specs.Writes.{State, Sent, Stands, IsLeft, Adds, counted}
-use Rattle.fb_text.proofs.writing.WrittenStands.{all_written, some_written}
+use Rattle.fb_text.proofs.noted.WrittenStands.{all_written, some_written}
 
 -- one piece and then another
 pub added_then : (a b c : State) (one two : List ℕ) → Adds a b one → Adds b c two → Adds a c (one ++ two)
@@ -66,6 +66,11 @@ module _ (a b : State) (piece bytes : List ℕ) (was : a.failed ≡ false) (wait
       → (b.failed ≡ true → (m : ℕ) × (m < length bytes) × Appends a.known b.known (take m bytes)
       × (b.written ≡ counted (a.written + m))) → Adds a b piece
   added_written all some = record { adds = by_failure b.failed refl all some }
+
+-- Once a write failed, anything is added: it will never be written.
+pub added_failed : (a : State) (piece : List ℕ) → a.failed ≡ true → Adds a a piece
+added_failed a piece failed =
+    added_waiting a a piece refl refl refl (λ fine. absurd (true≢false (sym failed ∙ fine)))
 
 pub added_none : (a : State) → Adds a a []
 added_none a = added_waiting a a [] refl refl refl (λ _. sym (append-nil a.waits))

@@ -1,8 +1,8 @@
 use Rattle.std.proofs.Common.{rules, subst}
 use Rattle.std.proofs.KnownBytes.{Appends-trans}
 use Rattle.std.specs.Io.KnownBytes.{Appends}
-use Rattle.fb_text.proofs.writing.FrontGrows.{front_grows}
-use Rattle.fb_text.proofs.writing.write_bytes.Goals as goal
+use Rattle.fb_text.proofs.noted.FrontGrows.{front_grows}
+use Rattle.fb_text.proofs.noted.write_bytes.Goals as goal
 
 pub loop-at-preserved : goal.loop-at-preserved
 loop-at-preserved g c =
