@@ -1,2 +1,1 @@
-pub mod NamesAreUtf8
-pub mod TextIsUtf8
+-- Lemmas are below the modules that they serve: proofs/nested/ has those of src/nested.rt.

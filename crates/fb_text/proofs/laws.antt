@@ -1,2 +1,4 @@
 -- What the proofs of src/laws.rt use.
 pub mod FittingValuesAreUtf8
+pub mod NamesAreUtf8
+pub mod TextIsUtf8

@@ -5,9 +5,9 @@ use Rattle.fb_json.specs.Meant.{type_place}
 use Rattle.fb_json.proofs.texts.ValueTextsAreUtf8.{value_utf8}
 use Rattle.fb_text.specs.Texts.{json_text}
 use Rattle.fb_text.specs.Unnamed.{first_unnamed}
-use Rattle.fb_text.proofs.NamesAreUtf8.{schema_utf8}
+use Rattle.fb_text.proofs.laws.NamesAreUtf8.{schema_utf8}
 use Rattle.fb_text.proofs.text.TextIsPrintedWhole.{written_items}
-use Rattle.fb_text.proofs.TextIsUtf8.{text_utf8}
+use Rattle.fb_text.proofs.laws.TextIsUtf8.{text_utf8}
 use Rattle.fb_text.proofs.text.WholeWhereEachUnionIsNamed.{named_whole, unnamed_part}
 use Rattle.fb_text.proofs.text.text_of.Goals as goal
 
