@@ -6,7 +6,7 @@ use Rattle.fb_syntax.specs.Located.{Located}
 use Rattle.fb_schema.specs.Schema.{Name}
 use Rattle.fb_declare.specs.declared.faults.SchemaFault.TheVariants.{DuplicateName}
 use Rattle.fb_declare.specs.FaultRows.{names_again, is_among, when}
-use Rattle.fb_meaning.proofs.Steps.{drop-more, drop-end, take-more, list_any-snoc}
+use Rattle.fb_resolve.proofs.Steps.{drop-more, drop-end, take-more, list_any-snoc}
 
 names_again-cons : (earlier_names rest : List Located) (n : Located) → names_again earlier_names (n ∷ rest) ≡ when (is_among n.bytes earlier_names) (DuplicateName n.at) ++ names_again (earlier_names ++ n ∷ []) rest
 unfolding names_again

@@ -20,17 +20,17 @@ use Rattle.fb_schema.specs.declared.kinds.Kind.TheVariants.{Scalar, Enum, Struct
 use Rattle.fb_schema.specs.Schema.{Name, DeclaredBody, table_body, struct_body, enum_body, union_body, DeclaredType, DeclaredSchema, body_in, body_at, parts_in, base_in, force_align_in, is_struct, is_enum}
 use Rattle.fb_schema.specs.Alignments.{base_size, greatest_in, part_align, natural_align_in, AreAligned}
 use Rattle.fb_schema.specs.WellDeclared.{Names, KindNames}
-use Rattle.fb_meaning.specs.declared.meanings.Meaning.{Meaning}
-use Rattle.fb_meaning.specs.declared.meanings.Meaning.TheVariants.{Known, Float, Unknown}
-use Rattle.fb_meaning.specs.declared.attributes.Known.TheVariants.{ForceAlign}
+use Rattle.fb_resolve.specs.declared.meanings.Meaning.{Meaning}
+use Rattle.fb_resolve.specs.declared.meanings.Meaning.TheVariants.{Known, Float, Unknown}
+use Rattle.fb_resolve.specs.declared.attributes.Known.TheVariants.{ForceAlign}
 use Rattle.fb_declare.specs.declared.attribute_faults.Place.TheVariants as places
-use Rattle.fb_meaning.specs.Outline.{TypeRead, Outline, word_of}
-use Rattle.fb_meaning.specs.Meaning.{meaning_in, type_name}
-use Rattle.fb_meaning.specs.Attributes.{is_alignment, attribute_called, integer_value_in, number_called}
+use Rattle.fb_resolve.specs.Outline.{TypeRead, Outline, word_of}
+use Rattle.fb_resolve.specs.Meaning.{meaning_in, type_name}
+use Rattle.fb_resolve.specs.Attributes.{is_alignment, attribute_called, integer_value_in, number_called}
 use Rattle.fb_declare.specs.AttributeFaults.{may_stand, metadata_faults}
-use Rattle.fb_meaning.specs.EnumsRead.{underlying, underlying_in, underlying_of_read, underlying_at, base_or_ubyte}
-use Rattle.fb_meaning.specs.SlotsRead.{shape_of}
-use Rattle.fb_meaning.specs.StructsRead.{align_by, align_in, natural_align, alignment_in, forced_align, align_of_struct, align_of_declaration, align_of_read, parts_from}
+use Rattle.fb_resolve.specs.EnumsRead.{underlying, underlying_in, underlying_of_read, underlying_at, base_or_ubyte}
+use Rattle.fb_resolve.specs.SlotsRead.{shape_of}
+use Rattle.fb_resolve.specs.StructsRead.{align_by, align_in, natural_align, alignment_in, forced_align, align_of_struct, align_of_declaration, align_of_read, parts_from}
 use Rattle.fb_declare.specs.FaultRows.{struct_field_type, reserved_name}
 use Rattle.fb_declare.specs.TypeFaults.{struct_field_faults, struct_faults, enum_faults, declaration_faults, type_faults, faults_of_types}
 use Rattle.fb_declare.specs.Declares.{HasBody, Gives}

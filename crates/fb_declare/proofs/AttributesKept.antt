@@ -6,12 +6,12 @@ use Rattle.fb_syntax.specs.declared.declarations.Attribute.{Attribute}
 use Rattle.fb_schema.specs.Schema.{Name}
 use Rattle.fb_declare.specs.declared.faults.SchemaFault.{SchemaFault}
 use Rattle.fb_declare.specs.declared.faults.SchemaFault.TheVariants.{Unsupported}
-use Rattle.fb_meaning.specs.declared.attributes.Known.{Known}
-use Rattle.fb_meaning.specs.declared.attributes.Known.TheVariants.{Id, Required, Deprecated, ForceAlign, BitFlags, OriginalOrder}
+use Rattle.fb_resolve.specs.declared.attributes.Known.{Known}
+use Rattle.fb_resolve.specs.declared.attributes.Known.TheVariants.{Id, Required, Deprecated, ForceAlign, BitFlags, OriginalOrder}
 use Rattle.fb_declare.specs.declared.attribute_faults.Place.{Place}
-use Rattle.fb_meaning.specs.Attributes.{spelling, known_attribute, attribute_called, has_attribute}
+use Rattle.fb_resolve.specs.Attributes.{spelling, known_attribute, attribute_called, has_attribute}
 use Rattle.fb_declare.specs.AttributeFaults.{is_left_out, is_force_align_of_field, may_stand, noted, faults_of_known, faults_by_name, attribute_faults, metadata_faults}
-use Rattle.fb_meaning.proofs.Bytes.{bytes_eq-equal}
+use Rattle.fb_resolve.proofs.Bytes.{bytes_eq-equal}
 use Rattle.fb_declare.proofs.NoFaults.{both_empty}
 
 -- a known attribute is known by its spelling

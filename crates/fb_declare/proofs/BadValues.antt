@@ -7,9 +7,9 @@ use Rattle.indexmap.specs.IndexSet.{insert_key}
 use Rattle.fb_syntax.specs.declared.declarations.EnumValue.{EnumValue}
 use Rattle.fb_schema.specs.declared.kinds.Base.{Base}
 use Rattle.fb_declare.specs.declared.faults.SchemaFault.TheVariants.{BadEnumValue}
-use Rattle.fb_meaning.specs.EnumsRead.{written_number}
+use Rattle.fb_resolve.specs.EnumsRead.{written_number}
 use Rattle.fb_declare.specs.FaultRows.{when, is_out_of_range, bad_values}
-use Rattle.fb_meaning.proofs.Steps.{drop-more, drop-end, list_any-snoc}
+use Rattle.fb_resolve.proofs.Steps.{drop-more, drop-end, list_any-snoc}
 
 -- two lists have the same numbers
 abbrev SameNumbers : List ℤ → List ℤ → Type 0

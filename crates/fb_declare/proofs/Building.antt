@@ -8,11 +8,11 @@ use Rattle.fb_declare.specs.declared.faults.SchemaFault.{SchemaFault}
 use Rattle.fb_declare.specs.declared.faults.SchemaFault.TheVariants.{BadIds, BadRoot}
 use Rattle.fb_declare.specs.declared.attribute_faults.Place.TheVariants as places
 use Rattle.fb_declare.specs.Faults.{comes_before, earlier, least_of}
-use Rattle.fb_meaning.specs.Outline.{Outline, TypeRead, RootRead, word_of, names_of_types, located_name}
-use Rattle.fb_meaning.specs.Meaning.{meaning_of}
+use Rattle.fb_resolve.specs.Outline.{Outline, TypeRead, RootRead, word_of, names_of_types, located_name}
+use Rattle.fb_resolve.specs.Meaning.{meaning_of}
 use Rattle.fb_declare.specs.AttributeFaults.{metadata_faults}
-use Rattle.fb_meaning.specs.SlotsRead.{are_ids_wrong}
-use Rattle.fb_meaning.specs.MembersRead.{table_of}
+use Rattle.fb_resolve.specs.SlotsRead.{are_ids_wrong}
+use Rattle.fb_resolve.specs.MembersRead.{table_of}
 use Rattle.fb_declare.specs.FaultRows.{when, names_again, reserved_name, use_faults, bad_root, root_faults, identifier_faults}
 use Rattle.fb_declare.specs.TypeFaults.{names_of_field, table_field_faults, table_faults, declaration_faults, type_faults, faults_of_types, faults_of_outline}
 use Rattle.fb_declare.specs.Declares.{root_table}

@@ -15,14 +15,14 @@ use Rattle.fb_schema.specs.declared.kinds.Base.{Base}
 use Rattle.fb_schema.specs.declared.kinds.Base.TheVariants.{Bool as Boolean, I8, U8, I16, U16, I32, U32, I64, U64}
 use Rattle.fb_schema.specs.declared.kinds.TypeId.{TypeId}
 use Rattle.fb_schema.specs.declared.kinds.Kind.TheVariants.{Scalar, Enum}
-use Rattle.fb_meaning.specs.Outline.{TypeRead, full_name}
+use Rattle.fb_resolve.specs.Outline.{TypeRead, full_name}
 use Rattle.fb_schema.specs.Ranges.{holds}
-use Rattle.fb_meaning.specs.EnumsRead.{underlying_at, value_at, number_named, value_named, behind}
-use Rattle.fb_meaning.specs.Defaults.{number_within, null_or_wrong, scalar_named, enum_number, enum_named, given_to, given_by}
-use Rattle.fb_meaning.specs.SlotsRead.{number_given, is_null}
-use Rattle.fb_meaning.specs.declared.meanings.Meaning.TheVariants.{Known}
-use Rattle.fb_meaning.specs.declared.defaults.Given.{Given}
-use Rattle.fb_meaning.specs.declared.defaults.Given.TheVariants.{Number, Null, Wrong}
+use Rattle.fb_resolve.specs.EnumsRead.{underlying_at, value_at, number_named, value_named, behind}
+use Rattle.fb_resolve.specs.Defaults.{number_within, null_or_wrong, scalar_named, enum_number, enum_named, given_to, given_by}
+use Rattle.fb_resolve.specs.SlotsRead.{number_given, is_null}
+use Rattle.fb_resolve.specs.declared.meanings.Meaning.TheVariants.{Known}
+use Rattle.fb_resolve.specs.declared.defaults.Given.{Given}
+use Rattle.fb_resolve.specs.declared.defaults.Given.TheVariants.{Number, Null, Wrong}
 use Rattle.fb_declare.proofs.EnumsKept.{held_in_range}
 
 -- 0 is in the range of each basic type

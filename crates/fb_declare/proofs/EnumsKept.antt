@@ -20,15 +20,15 @@ use Rattle.fb_schema.specs.Alignments.{base_size}
 use Rattle.fb_schema.specs.WellDeclared.{IsBetween, InRange, is_unsigned, IsFlag, IsEnumBody}
 use Rattle.fb_declare.specs.declared.faults.SchemaFault.{SchemaFault}
 use Rattle.fb_declare.specs.declared.faults.SchemaFault.TheVariants.{BadEnumValue, Unsupported}
-use Rattle.fb_meaning.specs.declared.meanings.Meaning.{Meaning}
-use Rattle.fb_meaning.specs.declared.meanings.Meaning.TheVariants.{Known, Float, Unknown}
-use Rattle.fb_meaning.specs.declared.attributes.Known.TheVariants.{BitFlags}
+use Rattle.fb_resolve.specs.declared.meanings.Meaning.{Meaning}
+use Rattle.fb_resolve.specs.declared.meanings.Meaning.TheVariants.{Known, Float, Unknown}
+use Rattle.fb_resolve.specs.declared.attributes.Known.TheVariants.{BitFlags}
 use Rattle.fb_declare.specs.declared.attribute_faults.Place.TheVariants as places
-use Rattle.fb_meaning.specs.Outline.{TypeRead}
+use Rattle.fb_resolve.specs.Outline.{TypeRead}
 use Rattle.fb_schema.specs.Ranges.{is_between, holds}
-use Rattle.fb_meaning.specs.Meaning.{meaning_of}
+use Rattle.fb_resolve.specs.Meaning.{meaning_of}
 use Rattle.fb_declare.specs.AttributeFaults.{may_stand, metadata_faults}
-use Rattle.fb_meaning.specs.EnumsRead.{integer_type, underlying, has_flags, written_number, written_numbers, value_number, may_be_written, base_or_ubyte, values_from, values_read}
+use Rattle.fb_resolve.specs.EnumsRead.{integer_type, underlying, has_flags, written_number, written_numbers, value_number, may_be_written, base_or_ubyte, values_from, values_read}
 use Rattle.fb_declare.specs.FaultRows.{when, names_again, underlying_faults, is_out_of_range, bad_values}
 use Rattle.fb_declare.specs.TypeFaults.{place_of_enum, enum_faults}
 use Rattle.fb_declare.proofs.NoFaults.{both_empty, EachNew, all_apart, apart_by, keys_apart, names_apart}

@@ -8,13 +8,13 @@ use Rattle.std.proofs.lemmas.List.Elements.{All-cons, All-nil, All-contains}
 use Rattle.std.proofs.lemmas.List.Kept.{AllPairs-cons}
 use Rattle.fb_syntax.specs.Located.{Located}
 use Rattle.fb_schema.specs.Schema.{Name}
-use Rattle.fb_meaning.specs.Outline.{TypeRead}
-use Rattle.fb_meaning.specs.StructsRead.{align_of_read}
+use Rattle.fb_resolve.specs.Outline.{TypeRead}
+use Rattle.fb_resolve.specs.StructsRead.{align_of_read}
 use Rattle.fb_declare.specs.FaultRows.{when, is_among, names_again}
 use Rattle.fb_declare.specs.TypeFaults.{type_faults, faults_of_types}
 use Rattle.fb_declare.specs.declared.faults.SchemaFault.{SchemaFault}
-use Rattle.fb_meaning.proofs.Bytes.{bytes_eq-refl}
-use Rattle.fb_meaning.proofs.Steps.{list_any-snoc}
+use Rattle.fb_resolve.proofs.Bytes.{bytes_eq-refl}
+use Rattle.fb_resolve.proofs.Steps.{list_any-snoc}
 
 -- of joined lists that are empty, each is
 pub none_left : {X : Type 0} (xs ys : List X) → xs ++ ys ≡ [] → xs ≡ []

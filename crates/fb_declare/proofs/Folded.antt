@@ -5,13 +5,13 @@ use Rattle.fb_syntax.specs.declared.declarations.UnionMember.{UnionMember}
 use Rattle.fb_schema.specs.Schema.{Name}
 use Rattle.fb_declare.specs.declared.faults.SchemaFault.{SchemaFault}
 use Rattle.fb_declare.specs.Faults.{earlier, least_of}
-use Rattle.fb_meaning.specs.Outline.{TypeRead}
-use Rattle.fb_meaning.specs.Meaning.{meaning_of}
-use Rattle.fb_meaning.specs.MembersRead.{member_name}
+use Rattle.fb_resolve.specs.Outline.{TypeRead}
+use Rattle.fb_resolve.specs.Meaning.{meaning_of}
+use Rattle.fb_resolve.specs.MembersRead.{member_name}
 use Rattle.fb_declare.specs.FaultRows.{member_faults}
 use Rattle.fb_declare.specs.TypeFaults.{members_faults, type_faults, faults_of_types}
-use Rattle.fb_meaning.specs.StructsRead.{align_of_read}
-use Rattle.fb_meaning.proofs.Steps.{drop-more, drop-end}
+use Rattle.fb_resolve.specs.StructsRead.{align_of_read}
+use Rattle.fb_resolve.proofs.Steps.{drop-more, drop-end}
 use Rattle.fb_declare.proofs.LeastMet.{met-more, met-all}
 
 -- the next element

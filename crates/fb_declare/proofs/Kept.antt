@@ -11,15 +11,15 @@ use Rattle.fb_syntax.specs.declared.declarations.TypeDecl.TheVariants as decls
 use Rattle.fb_schema.specs.Schema.{Name, DeclaredBody, table_body, struct_body, enum_body, union_body, DeclaredType, DeclaredSchema, is_table}
 use Rattle.fb_schema.specs.WellDeclared.{Names, IsUnionBody, IsBody, IsDeclared}
 use Rattle.fb_schema.specs.declared.kinds.Kind.TheVariants.{Scalar, Enum, Struct, Table, Union, Code, Text}
-use Rattle.fb_meaning.specs.Outline.{TypeRead, RootRead, Outline, located_name}
-use Rattle.fb_meaning.specs.Meaning.{meaning_of}
-use Rattle.fb_meaning.specs.MembersRead.{table_of}
+use Rattle.fb_resolve.specs.Outline.{TypeRead, RootRead, Outline, located_name}
+use Rattle.fb_resolve.specs.Meaning.{meaning_of}
+use Rattle.fb_resolve.specs.MembersRead.{table_of}
 use Rattle.fb_declare.specs.FaultRows.{names_again, root_faults, is_identifier, identifier_faults, is_printable}
 use Rattle.fb_declare.specs.TypeFaults.{declaration_faults, faults_of_types, faults_of_outline}
 use Rattle.fb_declare.specs.Declares.{HasBody, IsType, root_table, Gives}
 use Rattle.fb_declare.specs.declared.faults.SchemaFault.TheVariants.{BadIdentifier}
-use Rattle.fb_meaning.specs.declared.meanings.Meaning.{Meaning}
-use Rattle.fb_meaning.specs.declared.meanings.Meaning.TheVariants.{Known, Float, Unknown}
+use Rattle.fb_resolve.specs.declared.meanings.Meaning.{Meaning}
+use Rattle.fb_resolve.specs.declared.meanings.Meaning.TheVariants.{Known, Float, Unknown}
 use Rattle.fb_declare.proofs.AlignmentsKept.{aligns, are_aligned, aligns_before, declaration_right}
 use Rattle.fb_declare.proofs.EnumsKept.{enum_kept}
 use Rattle.fb_declare.proofs.FaultFree.{none_left, none_right, when-none, length-aligns_from}

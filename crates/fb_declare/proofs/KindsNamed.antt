@@ -10,13 +10,13 @@ use Rattle.fb_schema.specs.WellDeclared.{Names, KindNames}
 use Rattle.fb_schema.specs.declared.kinds.Base.{Base}
 use Rattle.fb_schema.specs.declared.kinds.Kind.{Kind}
 use Rattle.fb_schema.specs.declared.kinds.Kind.TheVariants.{Code, Text}
-use Rattle.fb_meaning.specs.Outline.{TypeRead, Outline}
-use Rattle.fb_meaning.specs.Scopes.{type_meant}
-use Rattle.fb_meaning.specs.BasicTypes.{basic_type, is_text_type, is_float_type}
-use Rattle.fb_meaning.specs.Meaning.{use_of, use_of_read, use_of_type, or_scalar, meaning_of}
+use Rattle.fb_resolve.specs.Outline.{TypeRead, Outline}
+use Rattle.fb_resolve.specs.Scopes.{type_meant}
+use Rattle.fb_resolve.specs.BasicTypes.{basic_type, is_text_type, is_float_type}
+use Rattle.fb_resolve.specs.Meaning.{use_of, use_of_read, use_of_type, or_scalar, meaning_of}
 use Rattle.fb_declare.specs.Declares.{HasBody, IsType, Gives}
-use Rattle.fb_meaning.specs.declared.meanings.Meaning.{Meaning}
-use Rattle.fb_meaning.specs.declared.meanings.Meaning.TheVariants.{Known, Float, Unknown}
+use Rattle.fb_resolve.specs.declared.meanings.Meaning.{Meaning}
+use Rattle.fb_resolve.specs.declared.meanings.Meaning.TheVariants.{Known, Float, Unknown}
 
 -- two lists that go together: what stands at a place of one, and of the other
 pub zip_at_left : {A B : Type 0} (R : A → B → Type 0) (xs : List A) (ys : List B) → AllZip R xs ys → (t : ℕ) (x : A) → slice_get xs t ≡ Some x → (y : B) × (slice_get ys t ≡ Some y) × R x y

@@ -1,12 +1,12 @@
 -- The faults of attributes, one attribute at a time.
 use Rattle.std.proofs.Common.{◌≡◌, ℕ, ◌+◌, ◌<◌, ◌≤◌, ◌++◌, List, [], ◌∷◌, length, get_or, drop, refl, sym, ◌∙◌, ap}
 use Rattle.fb_syntax.specs.declared.declarations.Attribute.{Attribute}
-use Rattle.fb_meaning.specs.declared.attributes.Known.{Known}
+use Rattle.fb_resolve.specs.declared.attributes.Known.{Known}
 use Rattle.fb_declare.specs.declared.attribute_faults.Place.{Place}
 use Rattle.fb_schema.specs.Schema.{Name}
-use Rattle.fb_meaning.specs.Attributes.{known_attribute}
+use Rattle.fb_resolve.specs.Attributes.{known_attribute}
 use Rattle.fb_declare.specs.AttributeFaults.{attribute_faults, metadata_faults, noted}
-use Rattle.fb_meaning.proofs.Steps.{drop-more, drop-end}
+use Rattle.fb_resolve.proofs.Steps.{drop-more, drop-end}
 
 metadata_faults-nil : (declared : List Name) (place : Place) (seen : List Known) → metadata_faults declared place seen [] ≡ []
 unfolding metadata_faults

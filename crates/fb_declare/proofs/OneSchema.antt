@@ -9,8 +9,8 @@ use Rattle.fb_syntax.specs.DeclsRead.{DeclsRead}
 use Rattle.fb_syntax.specs.declared.declarations.TypeDecl.{TypeDecl}
 use Rattle.fb_syntax.specs.declared.declarations.TypeDecl.TheVariants as decls
 use Rattle.fb_schema.specs.Schema.{Name, DeclaredField, DeclaredBody, table_body, struct_body, enum_body, union_body, DeclaredType, DeclaredSchema}
-use Rattle.fb_meaning.specs.Outline.{TypeRead, Outline, outline_of}
-use Rattle.fb_meaning.specs.SlotsRead.{slots_read, AreInPlace}
+use Rattle.fb_resolve.specs.Outline.{TypeRead, Outline, outline_of}
+use Rattle.fb_resolve.specs.SlotsRead.{slots_read, AreInPlace}
 use Rattle.fb_declare.specs.Declares.{HasBody, IsType, Gives, Declares}
 
 -- The slot at a place stands there in each order.

@@ -14,13 +14,13 @@ use Rattle.fb_schema.specs.declared.kinds.TypeId.{TypeId}
 use Rattle.fb_schema.specs.declared.kinds.Kind.{Kind}
 use Rattle.fb_schema.specs.declared.kinds.Kind.TheVariants.{Scalar, Enum, Struct, Table, Union, Code, Text}
 use Rattle.fb_schema.specs.declared.kinds.Shape.TheVariants.{One}
-use Rattle.fb_meaning.specs.Outline.{TypeRead}
-use Rattle.fb_meaning.specs.Meaning.{meaning_in}
-use Rattle.fb_meaning.specs.SlotsRead.{union_of, union_in, shape_of, value_slot, code_slot, slots_by_union, slots_of_field, slots_in_order, slot_by_id, slots_by_id, have_ids, slots_read, AreInPlace}
+use Rattle.fb_resolve.specs.Outline.{TypeRead}
+use Rattle.fb_resolve.specs.Meaning.{meaning_in}
+use Rattle.fb_resolve.specs.SlotsRead.{union_of, union_in, shape_of, value_slot, code_slot, slots_by_union, slots_of_field, slots_in_order, slot_by_id, slots_by_id, have_ids, slots_read, AreInPlace}
 use Rattle.fb_declare.specs.FaultRows.{names_again}
 use Rattle.fb_declare.specs.TypeFaults.{names_by_union, names_of_field}
-use Rattle.fb_meaning.specs.declared.meanings.Meaning.{Meaning}
-use Rattle.fb_meaning.specs.declared.meanings.Meaning.TheVariants.{Known, Float, Unknown}
+use Rattle.fb_resolve.specs.declared.meanings.Meaning.{Meaning}
+use Rattle.fb_resolve.specs.declared.meanings.Meaning.TheVariants.{Known, Float, Unknown}
 use Rattle.fb_declare.proofs.KindsNamed.{MeansIn, IsNoCode}
 use Rattle.fb_declare.proofs.NoFaults.{names_apart}
 use Rattle.fb_declare.proofs.Reordered.{AllDiffer, AllDiffer-permutation}

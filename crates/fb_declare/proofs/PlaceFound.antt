@@ -4,7 +4,7 @@ use Rattle.std.specs.List.{list_any}
 use Rattle.std.specs.Option.{option_map}
 use Rattle.std.specs.Str.{bytes_eq}
 use Rattle.fb_schema.specs.Schema.{Name}
-use Rattle.fb_meaning.specs.Scopes.{place_of}
+use Rattle.fb_resolve.specs.Scopes.{place_of}
 
 one_name : (b : Bool) (o : Option ℕ) → is_some (if b then Some 0 else option_map suc o) ≡ b || is_some o
 one_name true o = refl

@@ -3,7 +3,7 @@ use Rattle.std.proofs.Common.{◌≡◌, ◌<◌, ◌+◌, ℕ, zero, suc, Bool,
 use Rattle.std.specs.Option.{option_or, option_map}
 use Rattle.std.specs.Str.{bytes_eq}
 use Rattle.fb_schema.specs.Schema.{Name}
-use Rattle.fb_meaning.specs.Scopes.{place_of}
+use Rattle.fb_resolve.specs.Scopes.{place_of}
 
 one_more : (b : Bool) (o : Option ℕ) (c : Bool) (n : ℕ) → (if b then Some 0 else option_map suc (option_or o (if c then Some n else None))) ≡ option_or (if b then Some 0 else option_map suc o) (if c then Some (suc n) else None)
 one_more true o c n = refl

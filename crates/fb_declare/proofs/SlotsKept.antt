@@ -7,8 +7,8 @@ use Rattle.std.proofs.lemmas.List.Sorted.{Contains-permutation, IsPermutation-sy
 use Rattle.std.proofs.lemmas.Option.{get_or_from_slice_get, slice_get_within}
 use Rattle.fb_syntax.specs.FieldRead.{FieldRead}
 use Rattle.fb_schema.specs.Schema.{Name, DeclaredField}
-use Rattle.fb_meaning.specs.Outline.{TypeRead}
-use Rattle.fb_meaning.specs.SlotsRead.{slots_of_field, slots_in_order, slot_by_id, slots_by_id, have_ids, slots_read, AreInPlace}
+use Rattle.fb_resolve.specs.Outline.{TypeRead}
+use Rattle.fb_resolve.specs.SlotsRead.{slots_of_field, slots_in_order, slot_by_id, slots_by_id, have_ids, slots_read, AreInPlace}
 
 -- a slot is one of a field's, all of whose slots are there
 pub record IsFrom (types : List TypeRead) (scope : Option Name) (fs : List FieldRead) (all : List DeclaredField) (p : DeclaredField) : Type 0 where

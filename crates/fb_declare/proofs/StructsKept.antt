@@ -18,16 +18,16 @@ use Rattle.fb_schema.specs.Schema.{Name, DeclaredField, DeclaredSchema}
 use Rattle.fb_schema.specs.WellDeclared.{KindNames, IsPart, IsPlain, IsForceAlign, IsStructBody, names_of}
 use Rattle.fb_declare.specs.declared.faults.SchemaFault.{SchemaFault}
 use Rattle.fb_declare.specs.declared.faults.SchemaFault.TheVariants.{EmptyStruct, IncompleteStruct}
-use Rattle.fb_meaning.specs.declared.meanings.Meaning.{Meaning}
-use Rattle.fb_meaning.specs.declared.meanings.Meaning.TheVariants.{Known, Float, Unknown}
-use Rattle.fb_meaning.specs.declared.attributes.Known.TheVariants.{ForceAlign}
+use Rattle.fb_resolve.specs.declared.meanings.Meaning.{Meaning}
+use Rattle.fb_resolve.specs.declared.meanings.Meaning.TheVariants.{Known, Float, Unknown}
+use Rattle.fb_resolve.specs.declared.attributes.Known.TheVariants.{ForceAlign}
 use Rattle.fb_declare.specs.declared.attribute_faults.Place.TheVariants as places
-use Rattle.fb_meaning.specs.Outline.{TypeRead, Outline}
-use Rattle.fb_meaning.specs.Meaning.{meaning_of, meaning_in, type_name}
-use Rattle.fb_meaning.specs.Attributes.{is_alignment, number_called}
+use Rattle.fb_resolve.specs.Outline.{TypeRead, Outline}
+use Rattle.fb_resolve.specs.Meaning.{meaning_of, meaning_in, type_name}
+use Rattle.fb_resolve.specs.Attributes.{is_alignment, number_called}
 use Rattle.fb_declare.specs.AttributeFaults.{metadata_faults}
-use Rattle.fb_meaning.specs.SlotsRead.{shape_of}
-use Rattle.fb_meaning.specs.StructsRead.{natural_align, alignment_in, forced_align, part_read, parts_from}
+use Rattle.fb_resolve.specs.SlotsRead.{shape_of}
+use Rattle.fb_resolve.specs.StructsRead.{natural_align, alignment_in, forced_align, part_read, parts_from}
 use Rattle.fb_declare.specs.FaultRows.{when, names_again, use_faults, part_faults, struct_field_type, default_in_struct}
 use Rattle.fb_declare.specs.TypeFaults.{is_empty_list, struct_field_faults, struct_faults}
 use Rattle.fb_declare.specs.Declares.{Gives}

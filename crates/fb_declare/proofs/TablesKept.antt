@@ -16,23 +16,23 @@ use Rattle.fb_schema.specs.declared.kinds.Base.{Base}
 use Rattle.fb_schema.specs.declared.kinds.TypeId.{TypeId}
 use Rattle.fb_schema.specs.declared.kinds.Kind.{Kind}
 use Rattle.fb_schema.specs.declared.kinds.Kind.TheVariants.{Scalar, Enum, Struct, Table, Union, Code, Text}
-use Rattle.fb_meaning.specs.Outline.{TypeRead, Outline}
-use Rattle.fb_meaning.specs.Meaning.{meaning_in, type_name}
-use Rattle.fb_meaning.specs.Attributes.{has_attribute}
+use Rattle.fb_resolve.specs.Outline.{TypeRead, Outline}
+use Rattle.fb_resolve.specs.Meaning.{meaning_in, type_name}
+use Rattle.fb_resolve.specs.Attributes.{has_attribute}
 use Rattle.fb_declare.specs.AttributeFaults.{may_stand, metadata_faults}
-use Rattle.fb_meaning.specs.EnumsRead.{underlying_in, underlying_of_read, underlying_at, value_in, value_of_read, value_at, base_or_ubyte, values_read}
-use Rattle.fb_meaning.specs.Defaults.{given_to, given_by, given_in}
-use Rattle.fb_meaning.specs.SlotsRead.{union_of, shape_of, number_given, is_null, value_slot, slots_read, AreInPlace, are_ids_wrong}
+use Rattle.fb_resolve.specs.EnumsRead.{underlying_in, underlying_of_read, underlying_at, value_in, value_of_read, value_at, base_or_ubyte, values_read}
+use Rattle.fb_resolve.specs.Defaults.{given_to, given_by, given_in}
+use Rattle.fb_resolve.specs.SlotsRead.{union_of, shape_of, number_given, is_null, value_slot, slots_read, AreInPlace, are_ids_wrong}
 use Rattle.fb_declare.specs.FaultRows.{when, names_again, use_faults, union_vector, table_field_type, bad_default}
 use Rattle.fb_declare.specs.TypeFaults.{names_of_field, place_of_field, table_field_faults, table_faults, declaration_faults, faults_of_types}
 use Rattle.fb_declare.specs.Declares.{HasBody, Gives}
-use Rattle.fb_meaning.specs.declared.attributes.Known.TheVariants.{Required, Deprecated}
+use Rattle.fb_resolve.specs.declared.attributes.Known.TheVariants.{Required, Deprecated}
 use Rattle.fb_declare.specs.declared.attribute_faults.Place.TheVariants as places
 use Rattle.fb_declare.specs.declared.attribute_faults.Place.TheVariants.{ScalarField}
-use Rattle.fb_meaning.specs.declared.defaults.Given.TheVariants.{Wrong}
+use Rattle.fb_resolve.specs.declared.defaults.Given.TheVariants.{Wrong}
 use Rattle.fb_declare.specs.declared.faults.SchemaFault.TheVariants.{BadIds}
-use Rattle.fb_meaning.specs.declared.meanings.Meaning.{Meaning}
-use Rattle.fb_meaning.specs.declared.meanings.Meaning.TheVariants.{Known, Float, Unknown}
+use Rattle.fb_resolve.specs.declared.meanings.Meaning.{Meaning}
+use Rattle.fb_resolve.specs.declared.meanings.Meaning.TheVariants.{Known, Float, Unknown}
 use Rattle.fb_declare.proofs.AlignmentsKept.{declaration_right}
 use Rattle.fb_declare.proofs.AttributesKept.{noted_stands}
 use Rattle.fb_declare.proofs.DefaultsKept.{scalar_default, enum_default, value_found, null_is_zero}

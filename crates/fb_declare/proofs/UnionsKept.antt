@@ -13,17 +13,17 @@ use Rattle.fb_schema.specs.declared.kinds.Kind.TheVariants.{Table}
 use Rattle.fb_schema.specs.Schema.{Name, DeclaredSchema, is_table}
 use Rattle.fb_schema.specs.WellDeclared.{Names, KindNames, IsUnionBody}
 use Rattle.fb_declare.specs.declared.faults.SchemaFault.TheVariants.{DuplicateName, BadMember}
-use Rattle.fb_meaning.specs.declared.meanings.Meaning.{Meaning}
-use Rattle.fb_meaning.specs.declared.meanings.Meaning.TheVariants.{Known}
+use Rattle.fb_resolve.specs.declared.meanings.Meaning.{Meaning}
+use Rattle.fb_resolve.specs.declared.meanings.Meaning.TheVariants.{Known}
 use Rattle.fb_declare.specs.declared.attribute_faults.Place.TheVariants as places
-use Rattle.fb_meaning.specs.Outline.{TypeRead, Outline}
-use Rattle.fb_meaning.specs.Meaning.{meaning_of}
+use Rattle.fb_resolve.specs.Outline.{TypeRead, Outline}
+use Rattle.fb_resolve.specs.Meaning.{meaning_of}
 use Rattle.fb_declare.specs.AttributeFaults.{metadata_faults}
-use Rattle.fb_meaning.specs.MembersRead.{member_name, table_of, member_read}
+use Rattle.fb_resolve.specs.MembersRead.{member_name, table_of, member_read}
 use Rattle.fb_declare.specs.FaultRows.{names_again, none_name, use_faults, bad_member, member_faults}
 use Rattle.fb_declare.specs.TypeFaults.{members_faults, union_faults}
 use Rattle.fb_declare.specs.Declares.{Gives}
-use Rattle.fb_meaning.proofs.Bytes.{bytes_eq-refl}
+use Rattle.fb_resolve.proofs.Bytes.{bytes_eq-refl}
 use Rattle.fb_declare.proofs.FaultFree.{none_left, none_right, when-none}
 use Rattle.fb_declare.proofs.NoFaults.{both_empty, apart_by, names_apart}
 use Rattle.fb_declare.proofs.KindsNamed.{kind_named}

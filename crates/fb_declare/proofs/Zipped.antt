@@ -1,7 +1,7 @@
 -- Lists that agree place by place, one more place at a time.
 use Rattle.std.proofs.Common.{◌≡◌, ◌<◌, ◌≤◌, ◌+◌, ◌++◌, ℕ, zero, suc, List, [], ◌∷◌, length, take, get_or, map, refl, ap, sym, subst, arith}
 use Rattle.std.specs.List.{AllZip}
-use Rattle.fb_meaning.proofs.Steps.{take-more}
+use Rattle.fb_resolve.proofs.Steps.{take-more}
 
 AllZip-snoc : {A B : Type 0} (R : A → B → Type 0) (xs : List A) (ys : List B) (x : A) (y : B) → AllZip R xs ys → R x y → AllZip R (xs ++ x ∷ []) (ys ++ y ∷ [])
 AllZip-snoc R [] [] x y h r = (r, h)

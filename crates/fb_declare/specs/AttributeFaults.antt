@@ -8,11 +8,11 @@ use Rattle.fb_syntax.specs.declared.declarations.Attribute.{Attribute}
 use Rattle.fb_syntax.specs.declared.declarations.AttributeValue.{AttributeValue}
 use Rattle.fb_syntax.specs.declared.declarations.AttributeValue.TheVariants.{Integer}
 use Rattle.fb_schema.specs.Schema.{Name}
-use Rattle.fb_meaning.specs.Attributes.{spelling, known_attribute, is_alignment}
+use Rattle.fb_resolve.specs.Attributes.{spelling, known_attribute, is_alignment}
 use Rattle.fb_declare.specs.declared.faults.SchemaFault.{SchemaFault}
 use Rattle.fb_declare.specs.declared.faults.SchemaFault.TheVariants.{BadAttribute, UnknownAttribute, Unsupported}
-use Rattle.fb_meaning.specs.declared.attributes.Known.{Known}
-use Rattle.fb_meaning.specs.declared.attributes.Known.TheVariants.{Id, Required, Deprecated, ForceAlign, BitFlags, OriginalOrder}
+use Rattle.fb_resolve.specs.declared.attributes.Known.{Known}
+use Rattle.fb_resolve.specs.declared.attributes.Known.TheVariants.{Id, Required, Deprecated, ForceAlign, BitFlags, OriginalOrder}
 use Rattle.fb_declare.specs.declared.attribute_faults.Place.{Place}
 use Rattle.fb_declare.specs.declared.attribute_faults.Place.TheVariants.{Table, Struct, Enum, ScalarField, TableField, StructField}
 

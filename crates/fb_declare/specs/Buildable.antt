@@ -3,8 +3,8 @@ use Rattle.std.specs.Prelude.{ℕ, ◌≡◌, false, List, Option, Some, slice_g
 use Rattle.fb_syntax.specs.declared.declarations.TypeDecl.{TypeDecl}
 use Rattle.fb_syntax.specs.declared.declarations.TypeDecl.TheVariants as decls
 use Rattle.fb_schema.specs.Schema.{Name}
-use Rattle.fb_meaning.specs.Outline.{TypeRead}
-use Rattle.fb_meaning.specs.SlotsRead.{are_ids_wrong}
+use Rattle.fb_resolve.specs.Outline.{TypeRead}
+use Rattle.fb_resolve.specs.SlotsRead.{are_ids_wrong}
 
 -- a table whose ids are right, or another type
 abbrev pub IsBuildable : List TypeRead → Option Name → TypeDecl → Type 0

@@ -7,12 +7,12 @@ use Rattle.fb_syntax.specs.DeclsRead.{DeclsRead}
 use Rattle.fb_syntax.specs.declared.declarations.TypeDecl.{TypeDecl}
 use Rattle.fb_syntax.specs.declared.declarations.TypeDecl.TheVariants as decls
 use Rattle.fb_schema.specs.Schema.{Name, DeclaredBody, table_body, struct_body, enum_body, union_body, DeclaredType, DeclaredSchema}
-use Rattle.fb_meaning.specs.Outline.{TypeRead, RootRead, Outline, outline_of, name_of_type}
-use Rattle.fb_meaning.specs.Meaning.{meaning_of}
-use Rattle.fb_meaning.specs.EnumsRead.{underlying, base_or_ubyte, has_flags, values_read}
-use Rattle.fb_meaning.specs.SlotsRead.{slots_read, AreInPlace}
-use Rattle.fb_meaning.specs.StructsRead.{parts_from, forced_align}
-use Rattle.fb_meaning.specs.MembersRead.{member_read, table_of}
+use Rattle.fb_resolve.specs.Outline.{TypeRead, RootRead, Outline, outline_of, name_of_type}
+use Rattle.fb_resolve.specs.Meaning.{meaning_of}
+use Rattle.fb_resolve.specs.EnumsRead.{underlying, base_or_ubyte, has_flags, values_read}
+use Rattle.fb_resolve.specs.SlotsRead.{slots_read, AreInPlace}
+use Rattle.fb_resolve.specs.StructsRead.{parts_from, forced_align}
+use Rattle.fb_resolve.specs.MembersRead.{member_read, table_of}
 use Rattle.fb_declare.specs.TypeFaults.{faults_of}
 use Rattle.fb_declare.specs.declared.faults.SchemaFault.{SchemaFault}
 

@@ -12,17 +12,17 @@ use Rattle.fb_syntax.specs.declared.declarations.DefaultValue.{DefaultValue}
 use Rattle.fb_syntax.specs.declared.declarations.DefaultValue.TheVariants.{Integer, Name as Named}
 use Rattle.fb_syntax.specs.declared.declarations.EnumValue.{EnumValue}
 use Rattle.fb_schema.specs.Schema.{Name}
-use Rattle.fb_meaning.specs.Outline.{TypeRead, RootRead}
-use Rattle.fb_meaning.specs.BasicTypes.{is_reserved}
-use Rattle.fb_meaning.specs.Meaning.{meaning_of, type_name}
-use Rattle.fb_meaning.specs.EnumsRead.{may_be_written, written_number, integer_type}
-use Rattle.fb_meaning.specs.MembersRead.{table_of}
+use Rattle.fb_resolve.specs.Outline.{TypeRead, RootRead}
+use Rattle.fb_resolve.specs.BasicTypes.{is_reserved}
+use Rattle.fb_resolve.specs.Meaning.{meaning_of, type_name}
+use Rattle.fb_resolve.specs.EnumsRead.{may_be_written, written_number, integer_type}
+use Rattle.fb_resolve.specs.MembersRead.{table_of}
 use Rattle.fb_schema.specs.declared.kinds.Base.{Base}
 use Rattle.fb_schema.specs.declared.kinds.Kind.TheVariants.{Scalar, Enum, Struct, Union}
-use Rattle.fb_meaning.specs.declared.meanings.Meaning.{Meaning}
-use Rattle.fb_meaning.specs.declared.meanings.Meaning.TheVariants.{Known, Float, Unknown}
-use Rattle.fb_meaning.specs.declared.defaults.Given.{Given}
-use Rattle.fb_meaning.specs.declared.defaults.Given.TheVariants.{Wrong}
+use Rattle.fb_resolve.specs.declared.meanings.Meaning.{Meaning}
+use Rattle.fb_resolve.specs.declared.meanings.Meaning.TheVariants.{Known, Float, Unknown}
+use Rattle.fb_resolve.specs.declared.defaults.Given.{Given}
+use Rattle.fb_resolve.specs.declared.defaults.Given.TheVariants.{Wrong}
 use Rattle.fb_declare.specs.declared.faults.SchemaFault.{SchemaFault}
 use Rattle.fb_declare.specs.declared.faults.SchemaFault.TheVariants.{DuplicateName, UnknownType, BadDefault, IncompleteStruct, Unsupported, BadEnumValue, BadMember, BadRoot, BadIdentifier}
 

@@ -1,6 +1,6 @@
 -- A text's outline, with its types and attributes found by name.
 use Rattle.std.specs.Option.{option_copied}
-use Rattle.fb_meaning.specs.Outline.{Outline}
+use Rattle.fb_resolve.specs.Outline.{Outline}
 use Rattle.fb_declare.specs.DeclaredNames.{names_declared}
 use Rattle.fb_declare.specs.declared.found.Found.{Found}
 

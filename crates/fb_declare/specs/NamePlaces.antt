@@ -4,7 +4,7 @@ use Rattle.std.specs.HashMap.{get_by}
 use Rattle.std.specs.Option.{option_or}
 use Rattle.std.specs.Str.{bytes_eq}
 use Rattle.fb_schema.specs.Schema.{Name}
-use Rattle.fb_meaning.specs.Scopes.{place_of}
+use Rattle.fb_resolve.specs.Scopes.{place_of}
 use Rattle.fb_declare.specs.declared.name_places.NamePlaces.{NamePlaces}
 
 -- the place that a name has in an index

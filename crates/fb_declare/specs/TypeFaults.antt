@@ -11,22 +11,22 @@ use Rattle.fb_syntax.specs.declared.declarations.TypeDecl.{TypeDecl}
 use Rattle.fb_syntax.specs.declared.declarations.TypeDecl.TheVariants as decls
 use Rattle.fb_schema.specs.Schema.{Name}
 use Rattle.fb_schema.specs.WellDeclared.{is_unsigned}
-use Rattle.fb_meaning.specs.Outline.{TypeRead, Outline, outline_of, word_of, located_name}
-use Rattle.fb_meaning.specs.Meaning.{meaning_of, meaning_in}
+use Rattle.fb_resolve.specs.Outline.{TypeRead, Outline, outline_of, word_of, located_name}
+use Rattle.fb_resolve.specs.Meaning.{meaning_of, meaning_in}
 use Rattle.fb_declare.specs.AttributeFaults.{metadata_faults}
-use Rattle.fb_meaning.specs.EnumsRead.{underlying, has_flags}
-use Rattle.fb_meaning.specs.Defaults.{given_in}
-use Rattle.fb_meaning.specs.SlotsRead.{union_in, name_of_code, are_ids_wrong}
-use Rattle.fb_meaning.specs.StructsRead.{natural_align, align_of_read}
-use Rattle.fb_meaning.specs.MembersRead.{member_name}
+use Rattle.fb_resolve.specs.EnumsRead.{underlying, has_flags}
+use Rattle.fb_resolve.specs.Defaults.{given_in}
+use Rattle.fb_resolve.specs.SlotsRead.{union_in, name_of_code, are_ids_wrong}
+use Rattle.fb_resolve.specs.StructsRead.{natural_align, align_of_read}
+use Rattle.fb_resolve.specs.MembersRead.{member_name}
 use Rattle.fb_declare.specs.FaultRows.{when, names_again, reserved_name, table_field_type, struct_field_type, bad_default, default_in_struct, underlying_faults, bad_values, member_faults, root_faults, identifier_faults}
 use Rattle.fb_schema.specs.declared.kinds.Base.{Base}
 use Rattle.fb_schema.specs.declared.kinds.TypeId.{TypeId}
 use Rattle.fb_schema.specs.declared.kinds.Kind.TheVariants.{Scalar, Enum}
 use Rattle.fb_syntax.specs.declared.declarations.FieldType.{FieldType}
 use Rattle.fb_syntax.specs.declared.declarations.FieldType.TheVariants.{One}
-use Rattle.fb_meaning.specs.declared.meanings.Meaning.{Meaning}
-use Rattle.fb_meaning.specs.declared.meanings.Meaning.TheVariants.{Known}
+use Rattle.fb_resolve.specs.declared.meanings.Meaning.{Meaning}
+use Rattle.fb_resolve.specs.declared.meanings.Meaning.TheVariants.{Known}
 use Rattle.fb_declare.specs.declared.attribute_faults.Place.{Place}
 use Rattle.fb_declare.specs.declared.attribute_faults.Place.TheVariants as places
 use Rattle.fb_declare.specs.declared.faults.SchemaFault.{SchemaFault}

@@ -3,7 +3,7 @@ ghost use Rattle.std.specs.Prelude.{◌≡◌, codes, IfOk, OnOk, []};
 ghost use Rattle.std.specs.List.{list_any, starts_with};
 ghost use Rattle.std.specs.Bool.{nat_eq};
 ghost use Rattle.std.specs.Option.{option_copied};
-ghost use Rattle.fb_meaning.specs.Attributes.{known_attribute};
+ghost use Rattle.fb_resolve.specs.Attributes.{known_attribute};
 ghost use Rattle.fb_declare.specs.AttributeFaults.{is_left_out, may_stand, is_force_align_of_field, is_known};
 ghost use Rattle.fb_declare.specs.AttributeFaults.{noted, attribute_faults, metadata_faults};
 ghost use Rattle.fb_declare.specs.Faults.{least_of};
@@ -11,7 +11,7 @@ ghost use Rattle.fb_declare.specs.DeclaredNames.{names_declared};
 
 use crate::declared_names::DeclaredNames;
 use crate::faults::{SchemaFault, earlier};
-use fb_meaning::{Known, is_alignment, known_attribute};
+use fb_resolve::{Known, is_alignment, known_attribute};
 use fb_syntax::{Attribute, AttributeValue};
 use std::alloc::{AllocError, Global};
 

@@ -5,12 +5,12 @@ ghost use Rattle.std.specs.Option.{option_copied};
 ghost use Rattle.fb_schema.specs.Seen.{body_seen, type_seen};
 ghost use Rattle.fb_syntax.specs.declared.declarations.TypeDecl.TheVariants as TypeDecl;
 ghost use Rattle.fb_schema.specs.Schema.{Name};
-ghost use Rattle.fb_meaning.specs.Outline.{TypeRead};
-ghost use Rattle.fb_meaning.specs.MembersRead.{member_read};
+ghost use Rattle.fb_resolve.specs.Outline.{TypeRead};
+ghost use Rattle.fb_resolve.specs.MembersRead.{member_read};
 ghost use Rattle.fb_declare.specs.Declares.{HasBody, IsType};
 ghost use Rattle.fb_declare.specs.Buildable.{IsBuildable, AreBuildable};
 
-use fb_meaning::{
+use fb_resolve::{
     TypeRead, TypesRead, forced_align, has_flags, member_name, name_of_type, parts_read, table_of,
     table_slots, underlying, values_read,
 };

@@ -1,7 +1,7 @@
 //! Copies of parts of the text.
 ghost use Rattle.std.specs.Prelude.{◌≡◌, IfOk};
 
-use fb_meaning::LocatedName;
+use fb_resolve::LocatedName;
 use fb_syntax::Text;
 use std::alloc::{AllocError, Global};
 

@@ -4,7 +4,7 @@ ghost use Rattle.std.specs.Option.{ForSome, option_copied, option_map};
 ghost use Rattle.fb_declare.specs.declared.faults.SchemaFault.TheVariants.{Memory};
 ghost use Rattle.fb_declare.specs.Faults.{least_of};
 ghost use Rattle.fb_declare.specs.Found.{outline_found};
-ghost use Rattle.fb_meaning.specs.Outline.{located_name};
+ghost use Rattle.fb_resolve.specs.Outline.{located_name};
 ghost use Rattle.fb_declare.specs.TypeFaults.{faults_of_outline, faults_of};
 ghost use Rattle.fb_declare.specs.Declares.{root_table, Gives, Declares, Stands};
 
@@ -15,7 +15,7 @@ use crate::found::Found;
 use crate::name_places::NamePlaces;
 use crate::names_again::names_again;
 use crate::type_faults::{identifier_fault, root_fault, types_fault};
-use fb_meaning::{
+use fb_resolve::{
     LocatedName, Outline, RootRead, TypeRead, TypesRead, ValueNumbers, WordPlaces, located_name,
     table_of,
 };

@@ -5,7 +5,7 @@ ghost use Rattle.fb_declare.specs.Faults.{least_of};
 ghost use Rattle.fb_declare.specs.FaultRows.{default_at, bad_default, default_in_struct};
 
 use crate::faults::{SchemaFault, when};
-use fb_meaning::Given;
+use fb_resolve::Given;
 use fb_syntax::DefaultValue;
 
 /// Where a default stands.

@@ -13,7 +13,7 @@ use crate::declared_names::DeclaredNames;
 use crate::faults::{SchemaFault, earlier, when};
 use crate::names_again::names_again;
 use crate::value_faults::bad_values;
-use fb_meaning::{LocatedName, Meaning, TypesRead, has_flags, integer_type};
+use fb_resolve::{LocatedName, Meaning, TypesRead, has_flags, integer_type};
 use fb_schema::Base;
 use fb_syntax::{EnumDecl, EnumValue};
 use std::alloc::{AllocError, Global};

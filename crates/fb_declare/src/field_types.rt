@@ -5,7 +5,7 @@ ghost use Rattle.fb_declare.specs.FaultRows.{use_faults, union_vector, table_fie
 ghost use Rattle.fb_declare.specs.FaultRows.{struct_field_type};
 
 use crate::faults::{SchemaFault, earlier, when};
-use fb_meaning::{Meaning, type_name};
+use fb_resolve::{Meaning, type_name};
 use fb_schema::{Kind, TypeId};
 use fb_syntax::FieldType;
 

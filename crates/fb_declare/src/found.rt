@@ -1,6 +1,6 @@
 //! A text's outline, with its types and attributes found by name.
 use crate::declared_names::DeclaredNames;
-use fb_meaning::{RootRead, TypesRead};
+use fb_resolve::{RootRead, TypesRead};
 use fb_syntax::Text;
 
 /// What a text declares, with its types and attributes found by name.

@@ -5,7 +5,7 @@ ghost use Rattle.fb_declare.specs.FaultRows.{none_name, bad_member, member_fault
 
 use crate::faults::{SchemaFault, earlier, when};
 use crate::field_types::use_fault;
-use fb_meaning::{LocatedName, Meaning, is_table};
+use fb_resolve::{LocatedName, Meaning, is_table};
 
 fn none_name(name: &LocatedName) -> Option<SchemaFault>
     ensures { result ≡ least_of (none_name name.now) }

@@ -5,7 +5,7 @@ ghost use Rattle.fb_declare.specs.FaultRows.{names_again};
 
 use crate::faults::{SchemaFault, earlier, when};
 use crate::name_places::NamePlaces;
-use fb_meaning::LocatedName;
+use fb_resolve::LocatedName;
 use std::alloc::{AllocError, Global};
 
 /// The least fault of names that have to differ. The only error is a refused allocation.

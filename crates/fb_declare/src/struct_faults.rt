@@ -13,7 +13,7 @@ use crate::default_faults::default_in_struct;
 use crate::faults::{SchemaFault, earlier, when};
 use crate::field_types::struct_field_type;
 use crate::names_again::names_again;
-use fb_meaning::{LocatedName, TypesRead, natural_align, type_name};
+use fb_resolve::{LocatedName, TypesRead, natural_align, type_name};
 use fb_syntax::{Field, TableDecl};
 use std::alloc::{AllocError, Global};
 

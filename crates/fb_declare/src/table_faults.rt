@@ -13,7 +13,7 @@ use crate::default_faults::bad_default;
 use crate::faults::{SchemaFault, earlier, when};
 use crate::field_types::table_field_type;
 use crate::names_again::names_again;
-use fb_meaning::{
+use fb_resolve::{
     LocatedName, Meaning, TypesRead, are_ids_wrong, given_by, name_of_code, union_of,
 };
 use fb_schema::Kind;

@@ -15,7 +15,7 @@ use crate::field_types::use_fault;
 use crate::struct_faults::struct_fault;
 use crate::table_faults::table_fault;
 use crate::union_faults::union_fault;
-use fb_meaning::{
+use fb_resolve::{
     Meaning, RootRead, TypeRead, TypesRead, align_of_read, is_reserved, is_table, word_of,
 };
 use fb_syntax::{Text, TypeDecl};

@@ -3,8 +3,8 @@ ghost use Rattle.std.specs.Prelude.{◌≡◌, [], IfOk, map};
 ghost use Rattle.std.specs.Option.{option_copied};
 ghost use Rattle.fb_declare.specs.Faults.{least_of};
 ghost use Rattle.fb_declare.specs.DeclaredNames.{names_declared};
-ghost use Rattle.fb_meaning.specs.MembersRead.{member_name};
-ghost use Rattle.fb_meaning.specs.Meaning.{meaning_of};
+ghost use Rattle.fb_resolve.specs.MembersRead.{member_name};
+ghost use Rattle.fb_resolve.specs.Meaning.{meaning_of};
 ghost use Rattle.fb_declare.specs.FaultRows.{member_faults};
 ghost use Rattle.fb_declare.specs.TypeFaults.{members_faults, union_faults};
 
@@ -13,7 +13,7 @@ use crate::declared_names::DeclaredNames;
 use crate::faults::{SchemaFault, earlier};
 use crate::member_faults::member_fault;
 use crate::names_again::names_again;
-use fb_meaning::{LocatedName, TypesRead, member_name};
+use fb_resolve::{LocatedName, TypesRead, member_name};
 use fb_syntax::{UnionDecl, UnionMember};
 use std::alloc::{AllocError, Global};
 

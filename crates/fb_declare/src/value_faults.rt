@@ -7,7 +7,7 @@ ghost use Rattle.fb_declare.specs.Faults.{least_of};
 ghost use Rattle.fb_declare.specs.FaultRows.{when, is_out_of_range, bad_values};
 
 use crate::faults::{SchemaFault, earlier, when};
-use fb_meaning::{may_be_written, written_number};
+use fb_resolve::{may_be_written, written_number};
 use fb_schema::Base;
 use fb_syntax::EnumValue;
 use indexmap::IndexSet;

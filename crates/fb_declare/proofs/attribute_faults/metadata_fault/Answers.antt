@@ -1,5 +1,5 @@
 use Rattle.std.proofs.Common.{◌∙◌, ◌+◌, drop, sym, ap}
-use Rattle.fb_meaning.specs.Attributes.{known_attribute}
+use Rattle.fb_resolve.specs.Attributes.{known_attribute}
 use Rattle.fb_declare.specs.AttributeFaults.{attribute_faults, metadata_faults, noted}
 use Rattle.fb_declare.specs.DeclaredNames.{names_declared}
 use Rattle.fb_declare.specs.Faults.{earlier, least_of}

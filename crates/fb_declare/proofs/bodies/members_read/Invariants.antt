@@ -1,6 +1,6 @@
 use Rattle.std.proofs.Common.{◌≡◌, ◌++◌, map, drop, string_bytes}
 use Rattle.std.specs.Option.{option_copied}
-use Rattle.fb_meaning.specs.MembersRead.{member_read}
+use Rattle.fb_resolve.specs.MembersRead.{member_read}
 use Rattle.fb_declare.proofs.bodies.members_read.Given as goal
 
 abbrev pub invariant-loop-member : goal.invariant-loop-member

@@ -1,8 +1,8 @@
 use Rattle.std.proofs.Common.{◌∙◌, List, map, ap, sym, subst}
-use Rattle.fb_meaning.specs.Outline.{names_of_types}
+use Rattle.fb_resolve.specs.Outline.{names_of_types}
 use Rattle.fb_schema.specs.Schema.{Name}
-use Rattle.fb_meaning.specs.WordPlaces.{IndexesWords}
-use Rattle.fb_meaning.specs.EnumsRead.{number_named, values_at}
+use Rattle.fb_resolve.specs.WordPlaces.{IndexesWords}
+use Rattle.fb_resolve.specs.EnumsRead.{number_named, values_at}
 use Rattle.fb_declare.proofs.Building.{located_bytes}
 use Rattle.fb_declare.proofs.declaring.declare_outline.Goals as goal
 

@@ -1,5 +1,5 @@
 use Rattle.std.proofs.Common.{◌≡◌, ◌++◌, map, drop}
-use Rattle.fb_meaning.specs.Outline.{located_name}
+use Rattle.fb_resolve.specs.Outline.{located_name}
 use Rattle.fb_declare.proofs.declaring.located_names.Given as goal
 
 abbrev pub invariant-loop-read : goal.invariant-loop-read

@@ -1,5 +1,5 @@
 use Rattle.std.proofs.Common.{◌≡◌, ◌++◌, map, drop}
-use Rattle.fb_meaning.specs.MembersRead.{member_name}
+use Rattle.fb_resolve.specs.MembersRead.{member_name}
 use Rattle.fb_declare.proofs.union_faults.member_names.Given as goal
 
 abbrev pub invariant-loop-member : goal.invariant-loop-member

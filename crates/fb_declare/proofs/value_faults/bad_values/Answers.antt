@@ -7,10 +7,10 @@ use Rattle.std.proofs.lemmas.Int.{to_z-of_z}
 use Rattle.indexmap.specs.IndexSet.{insert_key}
 use Rattle.fb_syntax.specs.Integers.{greatest_magnitude}
 use Rattle.fb_declare.specs.declared.faults.SchemaFault.TheVariants.{BadEnumValue}
-use Rattle.fb_meaning.specs.EnumsRead.{written_number}
+use Rattle.fb_resolve.specs.EnumsRead.{written_number}
 use Rattle.fb_declare.specs.Faults.{earlier, least_of}
 use Rattle.fb_declare.specs.FaultRows.{when, is_out_of_range, bad_values}
-use Rattle.fb_meaning.proofs.Written.{next-near, next-sum, sum-fits}
+use Rattle.fb_resolve.proofs.Written.{next-near, next-sum, sum-fits}
 use Rattle.fb_declare.proofs.BadValues.{bad_values-at, bad_values-end}
 use Rattle.fb_declare.proofs.LeastMet.{met-more, met-all}
 use Rattle.fb_declare.proofs.value_faults.bad_values.Goals as goal

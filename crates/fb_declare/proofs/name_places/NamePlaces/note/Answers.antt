@@ -1,5 +1,5 @@
 use Rattle.std.proofs.Common.{◌≡◌, ◌∙◌, sym, ap}
-use Rattle.fb_meaning.proofs.Bytes.{bytes_eq-equal, bytes_eq-sym, noted_once, none_of_some}
+use Rattle.fb_resolve.proofs.Bytes.{bytes_eq-equal, bytes_eq-sym, noted_once, none_of_some}
 use Rattle.fb_declare.specs.NamePlaces.{place_in}
 use Rattle.std.specs.Str.{bytes_eq}
 use Rattle.std.specs.Option.{option_or}

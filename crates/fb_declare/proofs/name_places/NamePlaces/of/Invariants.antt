@@ -1,6 +1,6 @@
 use Rattle.std.proofs.Common.{◌≡◌, ℕ, List, take, map}
 use Rattle.fb_declare.specs.NamePlaces.{place_in}
-use Rattle.fb_meaning.specs.Scopes.{place_of}
+use Rattle.fb_resolve.specs.Scopes.{place_of}
 use Rattle.fb_declare.proofs.name_places.NamePlaces.of.Given as goal
 
 abbrev pub invariant-loop-place : goal.invariant-loop-place

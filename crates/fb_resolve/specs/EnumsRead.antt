@@ -1,0 +1,134 @@
+-- The numbers of an enum's values, and what the name of a value means.
+-- From the FlatBuffers documentation, "Writing a schema": Enums, Attributes (`bit_flags`).
+use Rattle.std.specs.Prelude.{ℕ, ◌==◌, ◌*◌, ◌^◌, ◌&&◌, Bool, true, false, List, [], ◌∷◌, length, drop, Option, None, Some, ℤ, pos, negsuc, ◌+ℤ◌, slice_get, if◌then◌else◌, nat_lt}
+use Rattle.std.specs.List.{find, starts_with}
+use Rattle.std.specs.Option.{option_map, option_map_or, option_or, option_and_then, unwrap_or}
+use Rattle.std.specs.Bool.{nat_eq}
+use Rattle.std.specs.Str.{bytes_eq}
+use Rattle.fb_syntax.specs.Signs.{dot}
+use Rattle.fb_syntax.specs.TypesRead.{EnumRead}
+use Rattle.fb_syntax.specs.declared.declarations.EnumValue.{EnumValue}
+use Rattle.fb_syntax.specs.declared.declarations.TypeDecl.{TypeDecl}
+use Rattle.fb_syntax.specs.declared.declarations.TypeDecl.TheVariants as decls
+use Rattle.fb_schema.specs.Schema.{Name}
+use Rattle.fb_schema.specs.Alignments.{base_size}
+use Rattle.fb_resolve.specs.Outline.{TypeRead, full_name}
+use Rattle.fb_schema.specs.Ranges.{holds}
+use Rattle.fb_resolve.specs.Meaning.{meaning_of}
+use Rattle.fb_resolve.specs.Attributes.{has_attribute}
+use Rattle.fb_schema.specs.declared.kinds.Base.{Base}
+use Rattle.fb_schema.specs.declared.kinds.Base.TheVariants.{Bool as Boolean, U8}
+use Rattle.fb_schema.specs.declared.kinds.Kind.TheVariants.{Scalar}
+use Rattle.fb_resolve.specs.declared.meanings.Meaning.{Meaning}
+use Rattle.fb_resolve.specs.declared.meanings.Meaning.TheVariants.{Known}
+use Rattle.fb_resolve.specs.declared.attributes.Known.TheVariants.{BitFlags}
+
+-- an integer type, which a `bool` isn't
+abbrev pub integer_type : Meaning → Option Base
+integer_type (Known (Scalar Boolean)) = None
+integer_type (Known (Scalar base)) = Some base
+integer_type _ = None
+
+-- the underlying type of an enum, if it is an integer type
+abbrev pub underlying : List TypeRead → Option Name → EnumRead → Option Base
+underlying types scope e = integer_type (meaning_of types scope e.underlying.bytes)
+
+abbrev pub underlying_in : List TypeRead → Option Name → TypeDecl → Option Base
+underlying_in types scope (decls.Enum e) = underlying types scope e
+underlying_in types scope _ = None
+
+abbrev pub underlying_of_read : List TypeRead → Option TypeRead → Option Base
+underlying_of_read types None = None
+underlying_of_read types (Some r) = underlying_in types r.scope r.declaration
+
+-- the underlying type of the enum of a number
+abbrev pub underlying_at : List TypeRead → ℕ → Option Base
+underlying_at types t = underlying_of_read types (slice_get types t)
+
+abbrev pub has_flags : EnumRead → Bool
+has_flags e = has_attribute BitFlags e.attributes
+
+-- the number that is written for a value, or else the next one
+abbrev pub written_number : ℤ → EnumValue → ℤ
+written_number next v = option_map_or (λ n. n.value) v.number next
+
+-- The first value is 0 where no number is written, a later one the one before plus one.
+abbrev pub written_numbers : ℤ → List EnumValue → List ℤ
+written_numbers next [] = []
+written_numbers next (v ∷ vs) = written_number next v ∷ written_numbers (written_number next v +ℤ pos 1) vs
+
+abbrev pub bits_of : Base → ℕ
+bits_of base = 8 * base_size base
+
+-- with `bit_flags` a written number is that of a bit
+abbrev pub is_bit_of : Base → ℤ → Bool
+is_bit_of base (pos n) = nat_lt n (bits_of base)
+is_bit_of base (negsuc n) = false
+
+abbrev pub power_of : ℤ → ℤ
+power_of (pos n) = pos (2 ^ n)
+power_of (negsuc n) = negsuc n
+
+-- the number that a value has where this one is written
+abbrev pub value_number : Base → Bool → ℤ → ℤ
+value_number base flags n = if flags && is_bit_of base n then power_of n else n
+
+-- whether a number may be written in an enum over this type
+abbrev pub may_be_written : Base → Bool → ℤ → Bool
+may_be_written base true n = is_bit_of base n
+may_be_written base false n = holds base n
+
+-- an enum whose underlying type is at fault has the numbers of an `ubyte`
+abbrev pub base_or_ubyte : Option Base → Base
+base_or_ubyte b = unwrap_or b U8
+
+-- the values with their numbers, from this one on
+unfoldable pub values_from : Base → Bool → ℤ → List EnumValue → List (Name × ℤ)
+values_from base flags next [] = []
+values_from base flags next (v ∷ vs) = let n = written_number next v in
+    (v.name.bytes, value_number base flags n) ∷ values_from base flags (n +ℤ pos 1) vs
+
+abbrev pub values_read : List TypeRead → Option Name → EnumRead → List (Name × ℤ)
+values_read types scope e = values_from (base_or_ubyte (underlying types scope e)) (has_flags e) (pos 0) e.values
+
+abbrev pub values_in : List TypeRead → Option Name → TypeDecl → List (Name × ℤ)
+values_in types scope (decls.Enum e) = values_read types scope e
+values_in types scope _ = []
+
+abbrev pub values_of_read : List TypeRead → Option TypeRead → List (Name × ℤ)
+values_of_read types None = []
+values_of_read types (Some r) = values_in types r.scope r.declaration
+
+-- the values of the enum of a number; none of another type
+abbrev pub values_at : List TypeRead → ℕ → List (Name × ℤ)
+values_at types t = values_of_read types (slice_get types t)
+
+-- the number of the first value of a name
+unfoldable pub number_named : List (Name × ℤ) → Name → Option ℤ
+number_named values name = option_map (λ v. v.1) (find (λ v. bytes_eq name v.0) values)
+
+abbrev pub behind_dot : Name → Option Name
+behind_dot [] = None
+behind_dot (c ∷ cs) = if c == dot then Some cs else None
+
+-- what stands behind a name and a dot
+unfoldable pub behind : Name → Name → Option Name
+behind prefix name = if starts_with nat_eq name prefix then behind_dot (drop (length prefix) name) else None
+
+-- what the name of a value means: alone, or behind the enum's declared or full name and a dot
+abbrev pub value_named : Option Name → EnumRead → List (Name × ℤ) → Name → Option ℤ
+value_named scope e values name = option_or (number_named values name)
+    (option_or (option_and_then (number_named values) (behind e.name.bytes name))
+    (option_and_then (number_named values) (behind (full_name scope e.name.bytes) name)))
+
+abbrev pub value_in : List TypeRead → Option Name → TypeDecl → Name → Option ℤ
+value_in types scope (decls.Enum e) name = value_named scope e (values_read types scope e) name
+value_in types scope _ name = None
+
+abbrev pub value_of_read : List TypeRead → Option TypeRead → Name → Option ℤ
+value_of_read types None name = None
+value_of_read types (Some r) name = value_in types r.scope r.declaration name
+
+-- the number of the value that a name means in the enum of a number
+unfoldable pub value_at : List TypeRead → ℕ → Name → Option ℤ
+value_at types t name = value_of_read types (slice_get types t) name

@@ -1,0 +1,55 @@
+-- What the name of a type means where it is used.
+-- From the FlatBuffers documentation, "Writing a schema": Types, Namespaces.
+use Rattle.std.specs.Prelude.{ℕ, List, Option, None, Some, slice_get, if◌then◌else◌}
+use Rattle.fb_syntax.specs.Located.{Located}
+use Rattle.fb_syntax.specs.declared.declarations.FieldType.{FieldType}
+use Rattle.fb_syntax.specs.declared.declarations.FieldType.TheVariants.{One, Many}
+use Rattle.fb_syntax.specs.declared.declarations.TypeDecl.{TypeDecl}
+use Rattle.fb_syntax.specs.declared.declarations.TypeDecl.TheVariants as decls
+use Rattle.fb_schema.specs.Schema.{Name}
+use Rattle.fb_resolve.specs.Outline.{TypeRead}
+use Rattle.fb_resolve.specs.Scopes.{type_meant}
+use Rattle.fb_resolve.specs.BasicTypes.{basic_type, is_text_type, is_float_type}
+use Rattle.fb_schema.specs.declared.kinds.Base.{Base}
+use Rattle.fb_schema.specs.declared.kinds.Kind.TheVariants.{Scalar, Enum, Struct, Table, Union, Text}
+use Rattle.fb_resolve.specs.declared.meanings.Meaning.{Meaning}
+use Rattle.fb_resolve.specs.declared.meanings.Meaning.TheVariants.{Known, Float, Unknown}
+
+-- a use of the type of a number
+abbrev pub use_of : ℕ → TypeDecl → Meaning
+use_of t (decls.Table d) = Known (Table (record { 0 = t }))
+use_of t (decls.Struct d) = Known (Struct (record { 0 = t }))
+use_of t (decls.Enum d) = Known (Enum (record { 0 = t }))
+use_of t (decls.Union d) = Known (Union (record { 0 = t }))
+
+abbrev pub use_of_read : ℕ → Option TypeRead → Meaning
+use_of_read t None = Unknown
+use_of_read t (Some r) = use_of t r.declaration
+
+abbrev pub use_of_type : List TypeRead → Option ℕ → Meaning
+use_of_type types None = Unknown
+use_of_type types (Some t) = use_of_read t (slice_get types t)
+
+abbrev pub or_scalar : Option Base → Meaning → Meaning
+or_scalar (Some base) m = Known (Scalar base)
+or_scalar None m = m
+
+-- A basic type's name is always that; any other names a type of an enclosing namespace.
+unfoldable pub meaning_of : List TypeRead → Option Name → Name → Meaning
+meaning_of types scope name = or_scalar (basic_type name)
+    (if is_text_type name then Known Text else
+    if is_float_type name then Float else
+    use_of_type types (type_meant types scope name))
+
+abbrev pub type_name : FieldType → Located
+type_name (One n) = n
+type_name (Many at n) = n
+
+-- where a field's type begins
+abbrev pub type_at : FieldType → ℕ
+type_at (One n) = n.at
+type_at (Many at n) = at
+
+-- what the name in a field's type means
+abbrev pub meaning_in : List TypeRead → Option Name → FieldType → Meaning
+meaning_in types scope kind = meaning_of types scope (type_name kind).bytes

@@ -1,0 +1,142 @@
+-- The slots that a table's fields take.
+-- From the FlatBuffers documentation, "Writing a schema": Tables, Unions, Attributes (`id`, `required`, `deprecated`).
+use Rattle.std.specs.Prelude.{ℕ, suc, ◌+◌, ◌==◌, ◌≡◌, ◌++◌, ◌&&◌, not, Bool, true, false, List, [], ◌∷◌, length, map, Option, None, Some, ℤ, pos, codes, slice_get, if◌then◌else◌, nat_lt}
+use Rattle.std.specs.List.{list_any, list_all, flat_map}
+use Rattle.std.specs.List.Sorted.{IsPermutation}
+use Rattle.std.specs.Option.{is_some, unwrap_or}
+use Rattle.fb_syntax.specs.FieldRead.{FieldRead}
+use Rattle.fb_syntax.specs.declared.declarations.FieldType.{FieldType}
+use Rattle.fb_syntax.specs.declared.declarations.FieldType.TheVariants as types_read
+use Rattle.fb_schema.specs.Schema.{Name, DeclaredField}
+use Rattle.fb_resolve.specs.Outline.{TypeRead}
+use Rattle.fb_resolve.specs.Meaning.{meaning_in}
+use Rattle.fb_resolve.specs.Attributes.{has_attribute, number_called}
+use Rattle.fb_resolve.specs.Defaults.{given_by}
+use Rattle.fb_schema.specs.declared.kinds.TypeId.{TypeId}
+use Rattle.fb_schema.specs.declared.kinds.Kind.{Kind}
+use Rattle.fb_schema.specs.declared.kinds.Kind.TheVariants.{Union, Code, Text}
+use Rattle.fb_schema.specs.declared.kinds.Shape.{Shape}
+use Rattle.fb_schema.specs.declared.kinds.Shape.TheVariants.{One, Many}
+use Rattle.fb_resolve.specs.declared.meanings.Meaning.{Meaning}
+use Rattle.fb_resolve.specs.declared.meanings.Meaning.TheVariants.{Known}
+use Rattle.fb_resolve.specs.declared.attributes.Known.TheVariants.{Id, Required, Deprecated}
+use Rattle.fb_resolve.specs.declared.defaults.Given.{Given}
+use Rattle.fb_resolve.specs.declared.defaults.Given.TheVariants.{Number, Null}
+
+-- the union of a union's use
+abbrev pub union_of : FieldType → Meaning → Option TypeId
+union_of (types_read.One n) (Known (Union u)) = Some u
+union_of _ _ = None
+
+abbrev pub union_in : List TypeRead → Option Name → FieldRead → Option TypeId
+union_in types scope f = union_of f.kind (meaning_in types scope f.kind)
+
+-- a type at fault stands as a text
+abbrev pub kind_or_text : Meaning → Kind
+kind_or_text (Known kind) = kind
+kind_or_text _ = Text
+
+abbrev pub shape_of : FieldType → Meaning → Shape
+shape_of (types_read.One n) m = One (kind_or_text m)
+shape_of (types_read.Many at n) m = Many (kind_or_text m)
+
+abbrev pub number_given : Given → ℤ
+number_given (Number n) = n
+number_given _ = pos 0
+
+abbrev pub is_null : Given → Bool
+is_null Null = true
+is_null _ = false
+
+-- the slot of the value of a field of this type
+abbrev pub value_slot_of : List TypeRead → FieldRead → Meaning → ℕ → DeclaredField
+value_slot_of types f m slot = record {
+  name = f.name.bytes;
+  shape = shape_of f.kind m;
+  default = number_given (given_by types f.kind m f.default);
+  optional = is_null (given_by types f.kind m f.default);
+  required = has_attribute Required f.attributes;
+  deprecated = has_attribute Deprecated f.attributes;
+  slot = slot;
+}
+
+abbrev pub value_slot : List TypeRead → Option Name → FieldRead → ℕ → DeclaredField
+value_slot types scope f slot = value_slot_of types f (meaning_in types scope f.kind) slot
+
+-- of a union field `x`, the name of its code
+abbrev pub name_of_code : Name → Name
+name_of_code name = name ++ codes "_type"
+
+-- the slot of a union's code
+abbrev pub code_slot : FieldRead → TypeId → ℕ → DeclaredField
+code_slot f u slot = record {
+  name = name_of_code f.name.bytes;
+  shape = One (Code u);
+  default = pos 0;
+  optional = false;
+  required = false;
+  deprecated = has_attribute Deprecated f.attributes;
+  slot = slot;
+}
+
+abbrev pub slots_by_union : List TypeRead → Option Name → FieldRead → Option TypeId → ℕ → List DeclaredField
+slots_by_union types scope f None slot = value_slot types scope f slot ∷ []
+slots_by_union types scope f (Some u) slot = code_slot f u slot ∷ value_slot types scope f (slot + 1) ∷ []
+
+-- the slots of a field, from this one on: a union's code comes before its value
+unfoldable pub slots_of_field : List TypeRead → Option Name → FieldRead → ℕ → List DeclaredField
+slots_of_field types scope f slot = slots_by_union types scope f (union_in types scope f) slot
+
+-- without ids the slots are numbered in the order of declaration
+unfoldable pub slots_in_order : List TypeRead → Option Name → ℕ → List FieldRead → List DeclaredField
+slots_in_order types scope slot [] = []
+slots_in_order types scope slot (f ∷ fs) = slots_of_field types scope f slot
+    ++ slots_in_order types scope (slot + length (slots_of_field types scope f slot)) fs
+
+-- A field's id is that of its value, so a union's first slot is the one before it.
+abbrev pub first_slot : Option TypeId → Option ℤ → Option ℕ
+first_slot None (Some (pos n)) = Some n
+first_slot (Some u) (Some (pos (suc n))) = Some n
+first_slot _ _ = None
+
+-- the first slot of a field by its id
+unfoldable pub slot_by_id : List TypeRead → Option Name → FieldRead → Option ℕ
+slot_by_id types scope f = first_slot (union_in types scope f) (number_called Id f.attributes)
+
+abbrev pub slots_by_id : List TypeRead → Option Name → List FieldRead → List DeclaredField
+slots_by_id types scope fs = flat_map (λ f. slots_of_field types scope f (unwrap_or (slot_by_id types scope f) 0)) fs
+
+abbrev pub have_ids : List FieldRead → Bool
+have_ids fs = list_any (λ f. has_attribute Id f.attributes) fs
+
+-- the slots of a table, in the order of declaration
+abbrev pub slots_read : List TypeRead → Option Name → List FieldRead → List DeclaredField
+slots_read types scope fs = if have_ids fs then slots_by_id types scope fs else slots_in_order types scope 0 fs
+
+-- The same slots stand at the places of their numbers.
+pub record AreInPlace (read placed : List DeclaredField) : Type 0 where
+  pub same : IsPermutation read placed
+  pub slots : (k : ℕ) (f : DeclaredField) → slice_get placed k ≡ Some f → f.slot ≡ k
+
+-- each number is below the count and differs from those before it, of which these are the first
+unfoldable pub take_new_places : ℕ → List ℕ → List ℕ → Bool
+take_new_places count taken [] = true
+take_new_places count taken (n ∷ ns) = (nat_lt n count && not (list_any (λ m. m == n) taken)) && take_new_places count (taken ++ n ∷ []) ns
+
+-- the numbers are 0, 1, .. without gap or repeat, in any order
+abbrev pub are_places : List ℕ → Bool
+are_places ns = take_new_places (length ns) [] ns
+
+abbrev pub have_all_ids : List TypeRead → Option Name → List FieldRead → Bool
+have_all_ids types scope fs = list_all (λ f. is_some (slot_by_id types scope f)) fs
+
+abbrev pub numbers_by_id : List TypeRead → Option Name → List FieldRead → List ℕ
+numbers_by_id types scope fs = map (λ s. s.slot) (slots_by_id types scope fs)
+
+-- All fields have ids, and these name each slot once.
+abbrev pub are_ids_right : List TypeRead → Option Name → List FieldRead → Bool
+are_ids_right types scope fs = have_all_ids types scope fs && are_places (numbers_by_id types scope fs)
+
+-- the slots' numbers aren't as they have to be
+unfoldable pub are_ids_wrong : List TypeRead → Option Name → List FieldRead → Bool
+are_ids_wrong types scope fs = have_ids fs && not (are_ids_right types scope fs)

@@ -1,0 +1,141 @@
+//! The numbers of an enum's values, and what the name of a value means.
+ghost use Rattle.std.specs.Prelude.{◌≡◌, ◌≤◌, ◌+◌, ℕ, List, Option, IfOk, pos, map, string_bytes};
+ghost use Rattle.std.specs.Int.RustNames.{unsigned_abs};
+ghost use Rattle.fb_syntax.specs.Integers.{greatest_magnitude};
+ghost use Rattle.fb_schema.specs.Schema.{Name};
+ghost use Rattle.fb_resolve.specs.Outline.{TypeRead};
+ghost use Rattle.fb_resolve.specs.EnumsRead.{integer_type, underlying, underlying_at, has_flags, bits_of};
+ghost use Rattle.fb_resolve.specs.EnumsRead.{is_bit_of, value_number, may_be_written, written_number, values_from};
+ghost use Rattle.fb_resolve.specs.EnumsRead.{values_read};
+
+use crate::attributes::{Known, has_attribute};
+use crate::basic_types::basic_type;
+use crate::meanings::Meaning;
+use crate::types_read::TypesRead;
+use fb_schema::{Base, Kind};
+use fb_syntax::{EnumDecl, EnumValue, TypeDecl};
+use std::alloc::{AllocError, Global};
+
+/// An integer type, which a `bool` isn't.
+pub fn integer_type(meaning: Meaning) -> Option<Base>
+    ensures { result ≡ integer_type meaning }
+{
+    match meaning {
+        Meaning::Known(Kind::Scalar(Base::Bool)) => None,
+        Meaning::Known(Kind::Scalar(base)) => Some(base),
+        _ => None,
+    }
+}
+
+/// The underlying type of an enum, if it is an integer type. Its name alone tells, whatever types
+/// the text declares.
+#[tactic(auto, using(crate::proofs::IntegerAlone::underlying_alone))]
+pub fn underlying(read: &EnumDecl<'_>) -> Option<Base>
+    ensures { (types : List TypeRead) (scope : Option Name)
+        → result ≡ underlying types scope read.now }
+{
+    let base = basic_type(read.underlying.as_str())?;
+    integer_type(Meaning::Known(Kind::Scalar(base)))
+}
+
+/// The underlying type of the enum of a number.
+pub(crate) fn underlying_at(types: TypesRead<'_, '_, '_, '_>, number: usize) -> Option<Base>
+    ensures { result ≡ underlying_at types.entry.types.now number }
+{
+    match types.types.get(number)?.declaration {
+        TypeDecl::Enum(declaration) => underlying(declaration),
+        _ => None,
+    }
+}
+
+/// Whether an enum has the mark `bit_flags`.
+pub fn has_flags(read: &EnumDecl<'_>) -> bool
+    ensures { result ≡ has_flags read.now }
+{
+    has_attribute(Known::BitFlags, read.attributes.as_slice())
+}
+
+fn bits_of(base: Base) -> u8
+    ensures bits { result ≡ bits_of base }
+    ensures few { result ≤ 64 }
+{
+    match base {
+        Base::Bool | Base::I8 | Base::U8 => 8,
+        Base::I16 | Base::U16 => 16,
+        Base::I32 | Base::U32 => 32,
+        Base::I64 | Base::U64 => 64,
+    }
+}
+
+/// Whether a number is that of a bit of a type.
+fn is_bit_of(base: Base, number: i128) -> bool
+    ensures { result ≡ is_bit_of base number }
+{
+    match u128::try_from(number) {
+        Ok(bit) => bit < u128::from(bits_of(base)),
+        Err(_) => false,
+    }
+}
+
+/// The number that a value has where this one is written.
+pub(crate) fn value_number(base: Base, flags: bool, number: i128) -> i128
+    ensures { result ≡ value_number base flags number }
+{
+    match u128::try_from(number) {
+        Ok(bit) if flags && bit < u128::from(bits_of(base)) => 1 << bit,
+        _ => number,
+    }
+}
+
+/// Whether a number may be written in an enum over a type.
+pub fn may_be_written(base: Base, flags: bool, number: i128) -> bool
+    ensures { result ≡ may_be_written base flags number }
+{
+    if flags {
+        is_bit_of(base, number)
+    } else {
+        base.holds(number)
+    }
+}
+
+/// The number that is written for a value, or else the next one.
+pub fn written_number(next: i128, value: &EnumValue<'_>) -> i128
+    ensures number { result ≡ written_number next value.now }
+    ensures near { (past : ℕ) → unsigned_abs next ≤ greatest_magnitude + past
+        → unsigned_abs result ≤ greatest_magnitude + past }
+{
+    match &value.number {
+        Some(number) => number.value(),
+        None => next,
+    }
+}
+
+/// The values with their numbers. The only error is a refused allocation.
+fn values_from(
+    alloc: Global,
+    base: Base,
+    flags: bool,
+    values: &[EnumValue<'_>],
+) -> Result<Vec<(String, i128)>, AllocError>
+    ensures { IfOk result (λ r. map (λ v. (string_bytes v.0, v.1)) r.items
+        ≡ values_from base flags (pos 0) values.now) }
+{
+    let mut read = Vec::new(alloc);
+    let mut next = 0;
+    for value in values {
+        let number = written_number(next, value);
+        let name = String::from_str(alloc, value.name.text)?;
+        read.push((name, value_number(base, flags, number)))?;
+        next = number + 1;
+    }
+    Ok(read)
+}
+
+/// The values of an enum with their numbers. The only error is a refused allocation.
+pub fn values_read(alloc: Global, read: &EnumDecl<'_>) -> Result<Vec<(String, i128)>, AllocError>
+    ensures { (types : List TypeRead) (scope : Option Name) → IfOk result
+        (λ r. map (λ v. (string_bytes v.0, v.1)) r.items ≡ values_read types scope read.now) }
+{
+    let base = underlying(read).unwrap_or(Base::U8);
+    values_from(alloc, base, has_flags(read), read.values.as_slice())
+}

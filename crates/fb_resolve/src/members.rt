@@ -1,0 +1,56 @@
+//! Members of unions.
+ghost use Rattle.std.specs.Prelude.{◌≡◌, IfOk, is_some, string_bytes};
+ghost use Rattle.std.specs.Option.{option_map};
+ghost use Rattle.fb_resolve.specs.MembersRead.{with_underscores, member_name, table_of};
+
+use crate::located_names::LocatedName;
+use crate::meanings::Meaning;
+use fb_schema::{Kind, TypeId};
+use fb_syntax::UnionMember;
+use std::alloc::{AllocError, Global};
+
+/// The table of a use.
+pub fn table_of(meaning: Meaning) -> Option<TypeId>
+    ensures { option_map (λ t. t.0) result ≡ table_of meaning }
+{
+    match meaning {
+        Meaning::Known(Kind::Table(table)) => Some(table),
+        _ => None,
+    }
+}
+
+/// Whether a use is that of a table.
+pub fn is_table(meaning: Meaning) -> bool
+    ensures { result ≡ is_some (table_of meaning) }
+{
+    matches!(meaning, Meaning::Known(Kind::Table(_)))
+}
+
+/// A table's name with underscores for dots.
+fn with_underscores(alloc: Global, name: &str) -> Result<String, AllocError>
+    ensures { IfOk result (λ s. string_bytes s ≡ with_underscores name.now) }
+{
+    let mut underscored = String::new(alloc);
+    let mut rest = name;
+    while let Some((word, behind)) = rest.split_once('.') {
+        underscored.push_str(word)?;
+        underscored.push_str("_")?;
+        rest = behind;
+    }
+    underscored.push_str(rest)?;
+    Ok(underscored)
+}
+
+/// The name of a member: its alias or that of its table. The only error is a refused allocation.
+pub fn member_name(alloc: Global, member: &UnionMember<'_>) -> Result<LocatedName, AllocError>
+    ensures { IfOk result (λ n. n ≡ member_name member.now) }
+{
+    let (text, at) = match &member.alias {
+        Some(alias) => (String::from_str(alloc, alias.text)?, alias.at),
+        None => (
+            with_underscores(alloc, member.table.as_str())?,
+            member.table.at(),
+        ),
+    };
+    Ok(LocatedName { text, at })
+}

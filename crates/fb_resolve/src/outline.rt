@@ -1,0 +1,134 @@
+//! What a schema text declares, each type with the namespace that it stands in.
+ghost use Rattle.std.specs.Prelude.{◌≡◌, IfOk, None, string_bytes};
+ghost use Rattle.fb_resolve.specs.Outline.{outline_of, scope_named, word_of, name_of_type, located_name};
+
+use crate::located_names::LocatedName;
+use fb_syntax::{Declaration, Decls, Directive, DottedName, Text, TypeDecl};
+use std::alloc::{AllocError, Global};
+use std::marker::Model;
+
+/// A table, struct, enum or union, and the namespace in force.
+#[derive(Drop)]
+pub struct TypeRead<'d, 's> {
+    pub scope: Option<&'d str>,
+    pub declaration: &'d TypeDecl<'s>,
+}
+
+impl<'d, 's> Model for TypeRead<'d, 's> {
+    ghost use Rattle.std.specs.Option.{option_copied};
+    ghost use Rattle.fb_resolve.specs.Outline.{TypeRead as Read};
+
+    ghost Value = { Read };
+
+    ghost view = { λ t. record { scope = option_copied t.scope; declaration = t.declaration.now } };
+}
+
+/// The name of the root's type, and the namespace in force.
+#[derive(Drop)]
+pub struct RootRead<'d, 's> {
+    pub scope: Option<&'d str>,
+    pub name: &'d DottedName<'s>,
+}
+
+impl<'d, 's> Model for RootRead<'d, 's> {
+    ghost use Rattle.std.specs.Option.{option_copied};
+    ghost use Rattle.fb_resolve.specs.Outline.{RootRead as Read};
+
+    ghost Value = { Read };
+
+    ghost view = { λ r. record { scope = option_copied r.scope; name = r.name.now } };
+}
+
+/// What a schema text declares, sorted by kind.
+#[derive(Drop)]
+pub struct Outline<'d, 's> {
+    pub types: Vec<TypeRead<'d, 's>>,
+    pub attributes: Vec<&'s str>,
+    pub root: Option<RootRead<'d, 's>>,
+    pub identifier: Option<&'d Text<'s>>,
+    pub text_len: u64,
+}
+
+impl<'d, 's> Model for Outline<'d, 's> {
+    ghost use Rattle.std.specs.Prelude.{map};
+    ghost use Rattle.std.specs.Option.{option_copied};
+    ghost use Rattle.fb_resolve.specs.Outline.{Outline as Outlined};
+
+    ghost Value = { Outlined };
+
+    ghost view = { λ o. record {
+      types = o.types.items;
+      attributes = map (λ a. a.now) o.attributes.items;
+      root = o.root;
+      identifier = option_copied o.identifier;
+      text_len = o.text_len;
+    } };
+}
+
+impl<'d, 's> Outline<'d, 's> {
+    /// What the text declares. The only error is a refused allocation.
+    pub fn of(alloc: Global, decls: &'d Decls<'s>) -> Result<Outline<'d, 's>, AllocError>
+        ensures { IfOk result (λ o. o ≡ outline_of decls.now) }
+    {
+        let mut outline = Outline {
+            types: Vec::new(alloc),
+            attributes: Vec::new(alloc),
+            root: None,
+            identifier: None,
+            text_len: decls.text_len(),
+        };
+        let mut scope = None;
+        for declaration in decls.declarations() {
+            match declaration {
+                Declaration::Namespace(name) => scope = name.as_ref().map(|name| name.as_str()),
+                Declaration::Type(declaration) => {
+                    outline.types.push(TypeRead { scope, declaration })?;
+                }
+                Declaration::Attribute(name) => outline.attributes.push(name.text)?,
+                Declaration::Directive(Directive::RootType(name)) => {
+                    outline.root = Some(RootRead { scope, name });
+                }
+                Declaration::Directive(Directive::FileIdentifier(text)) => {
+                    outline.identifier = Some(text);
+                }
+                Declaration::Directive(Directive::FileExtension(_)) => {}
+            }
+        }
+        Ok(outline)
+    }
+}
+
+/// The name of a type with its namespace. The only error is a refused allocation.
+pub fn name_of_type(alloc: Global, read: &TypeRead<'_, '_>) -> Result<String, AllocError>
+    ensures { IfOk result (λ s. string_bytes s ≡ name_of_type read.now) }
+{
+    let word = word_of(read.declaration).text;
+    let Some(scope) = read.scope else {
+        return String::from_str(alloc, word);
+    };
+    let mut name = String::from_str(alloc, scope)?;
+    name.push_str(".")?;
+    name.push_str(word)?;
+    Ok(name)
+}
+
+/// A type's name as it is declared.
+pub fn word_of<'d, 's>(declaration: &'d TypeDecl<'s>) -> &'d Text<'s>
+    ensures { result.now ≡ word_of declaration.now }
+{
+    match declaration {
+        TypeDecl::Table(read) | TypeDecl::Struct(read) => &read.name,
+        TypeDecl::Enum(read) => &read.name,
+        TypeDecl::Union(read) => &read.name,
+    }
+}
+
+/// The full name of a type, and where its own name stands. The only error is a refused allocation.
+pub fn located_name(alloc: Global, read: &TypeRead<'_, '_>) -> Result<LocatedName, AllocError>
+    ensures { IfOk result (λ t. t ≡ located_name read.now) }
+{
+    Ok(LocatedName {
+        text: name_of_type(alloc, read)?,
+        at: word_of(read.declaration).at,
+    })
+}

@@ -1,0 +1,128 @@
+//! The slots that the fields of a table take.
+ghost use Rattle.std.specs.Prelude.{◌≡◌, ◌<◌, ◌-◌, ◌++◌, ◌^◌, IfOk, OnOk, IsSome, map};
+ghost use Rattle.std.specs.Prelude.{string_bytes};
+ghost use Rattle.std.specs.Option.{option_copied};
+ghost use Rattle.fb_schema.specs.Seen.{field_seen};
+ghost use Rattle.fb_resolve.specs.Meaning.{meaning_in};
+ghost use Rattle.fb_resolve.specs.SlotsRead.{union_of, union_in, value_slot_of, name_of_code, code_slot};
+ghost use Rattle.fb_resolve.specs.SlotsRead.{slots_of_field, slots_in_order};
+
+use crate::attributes::{Known, has_attribute, number_called};
+use crate::defaults::{Given, given_by};
+use crate::meanings::Meaning;
+use crate::structs::shape_of;
+use crate::types_read::TypesRead;
+use fb_schema::{FieldInfo, Kind, Shape, TypeId};
+use fb_syntax::{Field, FieldType};
+use std::alloc::{AllocError, Global};
+
+/// The union of a union's use.
+pub fn union_of(kind: &FieldType<'_>, meaning: Meaning) -> Option<TypeId>
+    ensures { result ≡ union_of kind.now meaning }
+{
+    match (kind, meaning) {
+        (FieldType::One(_), Meaning::Known(Kind::Union(union))) => Some(union),
+        _ => None,
+    }
+}
+
+fn value_slot(
+    types: TypesRead<'_, '_, '_, '_>,
+    alloc: Global,
+    field: &Field<'_>,
+    meaning: Meaning,
+    slot: u64,
+) -> Result<FieldInfo, AllocError>
+    ensures { IfOk result
+        (λ f. field_seen f ≡ value_slot_of types.entry.types.now field.now meaning slot) }
+{
+    let default = field.default.as_ref();
+    let given = given_by(types, &field.kind, meaning, default);
+    let default = match given {
+        Given::Number(number) => number,
+        Given::Null | Given::Wrong => 0,
+    };
+    Ok(FieldInfo {
+        name: String::from_str(alloc, field.name.text)?,
+        shape: shape_of(&field.kind, meaning),
+        default,
+        optional: matches!(given, Given::Null),
+        required: has_attribute(Known::Required, field.attributes.as_slice()),
+        deprecated: has_attribute(Known::Deprecated, field.attributes.as_slice()),
+        slot,
+    })
+}
+
+/// Of a union field `x`, the name of its code.
+pub fn name_of_code(alloc: Global, name: &str) -> Result<String, AllocError>
+    ensures { IfOk result (λ s. string_bytes s ≡ name_of_code name.now) }
+{
+    let mut code = String::from_str(alloc, name)?;
+    code.push_str("_type")?;
+    Ok(code)
+}
+
+fn code_slot(
+    alloc: Global,
+    field: &Field<'_>,
+    union: TypeId,
+    slot: u64,
+) -> Result<FieldInfo, AllocError>
+    ensures { IfOk result (λ f. field_seen f ≡ code_slot field.now union slot) }
+{
+    Ok(FieldInfo {
+        name: name_of_code(alloc, field.name.text)?,
+        shape: Shape::One(Kind::Code(union)),
+        default: 0,
+        optional: false,
+        required: false,
+        deprecated: has_attribute(Known::Deprecated, field.attributes.as_slice()),
+        slot,
+    })
+}
+
+/// Adds the slots of a field from this one on: a union's code comes before its value.
+#[tactic(auto, unfolding(crate::specs::SlotsRead::slots_of_field))]
+pub(crate) fn push_slots(
+    types: TypesRead<'_, '_, '_, '_>,
+    alloc: Global,
+    scope: Option<&str>,
+    field: &Field<'_>,
+    slot: u64,
+    slots: &mut Vec<FieldInfo>,
+) -> Result<(), AllocError>
+    requires { IsSome (union_in types.types.now (option_copied scope) field.now)
+        → slot < 2 ^ 64 - 1 }
+    ensures { OnOk result (map field_seen slots.new.items ≡ map field_seen slots.old.items
+        ++ slots_of_field types.entry.types.now (option_copied scope.entry) field.now slot) }
+{
+    let meaning = types.meaning_in(scope, &field.kind);
+    match union_of(&field.kind, meaning) {
+        Some(union) => {
+            slots.push(code_slot(alloc, field, union, slot)?)?;
+            slots.push(value_slot(types, alloc, field, meaning, slot + 1)?)?;
+        }
+        None => slots.push(value_slot(types, alloc, field, meaning, slot)?)?,
+    }
+    Ok(())
+}
+
+/// The slots of a table without ids, in the order of declaration. The only error is a refused
+/// allocation.
+#[tactic(auto, unfolding(crate::specs::SlotsRead::slots_in_order))]
+pub(crate) fn slots_in_order(
+    types: TypesRead<'_, '_, '_, '_>,
+    alloc: Global,
+    scope: Option<&str>,
+    fields: &[Field<'_>],
+) -> Result<Vec<FieldInfo>, AllocError>
+    ensures { IfOk result (λ v. map field_seen v.items
+        ≡ slots_in_order types.entry.types.now (option_copied scope.entry) 0 fields.now) }
+{
+    let mut slots = Vec::with_capacity(alloc, fields.len())?;
+    for field in fields {
+        let slot = slots.len() as u64;
+        push_slots(types, alloc, scope, field, slot, &mut slots)?;
+    }
+    Ok(slots)
+}

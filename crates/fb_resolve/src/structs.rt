@@ -1,0 +1,179 @@
+//! Fields and alignments of structs.
+ghost use Rattle.std.specs.Prelude.{◌≡◌, ◌≤◌, IfOk, Some, map};
+ghost use Rattle.std.specs.Option.{option_copied, option_map_or};
+ghost use Rattle.fb_schema.specs.Alignments.{base_size};
+ghost use Rattle.fb_schema.specs.Seen.{field_seen};
+ghost use Rattle.fb_resolve.specs.StructsRead.{align_by, align_in, natural_align, alignment_in, forced_align};
+ghost use Rattle.fb_resolve.specs.StructsRead.{align_of_struct, align_of_read, part_read, parts_from};
+ghost use Rattle.fb_resolve.specs.SlotsRead.{kind_or_text, shape_of};
+ghost use Rattle.fb_resolve.specs.Meaning.{meaning_in};
+
+use crate::attributes::{Known, is_alignment, number_called};
+use crate::enums::underlying_at;
+use crate::meanings::{Meaning, type_name};
+use crate::outline::TypeRead;
+use crate::types_read::TypesRead;
+use fb_schema::{Base, FieldInfo, Kind, Shape, TypeId};
+use fb_syntax::{Attribute, Field, FieldType, TableDecl, TypeDecl};
+use std::alloc::{AllocError, Global};
+
+/// The kind of a use; a type at fault stands as a text.
+fn kind_or_text(meaning: Meaning) -> Kind
+    ensures { result ≡ kind_or_text meaning }
+{
+    match meaning {
+        Meaning::Known(kind) => kind,
+        Meaning::Float | Meaning::Unknown => Kind::Text,
+    }
+}
+
+/// The shape of a field of this type.
+pub(crate) fn shape_of(kind: &FieldType<'_>, meaning: Meaning) -> Shape
+    ensures { result ≡ shape_of kind.now meaning }
+{
+    match kind {
+        FieldType::One(_) => Shape::One(kind_or_text(meaning)),
+        FieldType::Many(_, _) => Shape::Many(kind_or_text(meaning)),
+    }
+}
+
+/// The alignment that a field of a struct needs; 0 for a type at fault.
+fn align_by(
+    types: TypesRead<'_, '_, '_, '_>,
+    lower: &[u16],
+    kind: &FieldType<'_>,
+    meaning: Meaning,
+) -> u16
+    ensures { result ≡ align_by types.entry.types.now lower.now kind.now meaning }
+{
+    match (kind, meaning) {
+        (FieldType::One(_), Meaning::Known(Kind::Scalar(base))) => base.size(),
+        (FieldType::One(_), Meaning::Known(Kind::Enum(TypeId(number)))) => {
+            underlying_at(types, number as usize).map_or(0, Base::size)
+        }
+        (FieldType::One(_), Meaning::Known(Kind::Struct(TypeId(number)))) => {
+            lower.get(number as usize).copied().unwrap_or(0)
+        }
+        _ => 0,
+    }
+}
+
+#[tactic(auto, unfolding(crate::specs::StructsRead::align_in))]
+fn align_in(
+    types: TypesRead<'_, '_, '_, '_>,
+    scope: Option<&str>,
+    lower: &[u16],
+    field: &Field<'_>,
+) -> u16
+    ensures { result
+        ≡ align_in types.entry.types.now (option_copied scope.entry) lower.now field.now }
+{
+    let kind = &field.kind;
+    let meaning = types.meaning(scope, type_name(kind).as_str());
+    align_by(types, lower, kind, meaning)
+}
+
+/// The greatest alignment that the fields of a struct need, where these are the alignments of the
+/// types before it.
+#[tactic(auto, unfolding(crate::specs::StructsRead::natural_align))]
+pub fn natural_align(
+    types: TypesRead<'_, '_, '_, '_>,
+    scope: Option<&str>,
+    lower: &[u16],
+    fields: &[Field<'_>],
+) -> u16
+    ensures { result
+        ≡ natural_align types.entry.types.now (option_copied scope.entry) lower.now fields.now }
+{
+    let mut natural = 0;
+    for field in fields {
+        natural = natural.max(align_in(types, scope, lower, field));
+    }
+    natural
+}
+
+fn alignment_in(least: u16, number: i128) -> Option<u16>
+    ensures { result ≡ alignment_in least number }
+{
+    if is_alignment(least, number) {
+        u16::try_from(number).ok()
+    } else {
+        None
+    }
+}
+
+/// The alignment that `force_align` names, if it is a power of two from the least one to 256.
+#[tactic(auto, unfolding(crate::specs::StructsRead::forced_align))]
+pub fn forced_align(least: u16, attributes: &[Attribute<'_>]) -> Option<u16>
+    ensures { result ≡ forced_align least attributes.now }
+{
+    alignment_in(least, number_called(Known::ForceAlign, attributes)?)
+}
+
+fn align_of_struct(
+    types: TypesRead<'_, '_, '_, '_>,
+    scope: Option<&str>,
+    lower: &[u16],
+    read: &TableDecl<'_>,
+) -> u16
+    ensures { result
+        ≡ align_of_struct types.entry.types.now (option_copied scope.entry) lower.now read.now }
+{
+    let natural = natural_align(types, scope, lower, read.fields.as_slice());
+    forced_align(natural, read.attributes.as_slice()).unwrap_or(natural)
+}
+
+/// The alignment of a type, 0 of what is no struct.
+#[tactic(auto, unfolding(crate::specs::StructsRead::align_of_read))]
+pub fn align_of_read(
+    types: TypesRead<'_, '_, '_, '_>,
+    lower: &[u16],
+    read: &TypeRead<'_, '_>,
+) -> u16
+    ensures { result ≡ align_of_read types.entry.types.now lower.now read.now }
+{
+    match read.declaration {
+        TypeDecl::Struct(declared) => align_of_struct(types, read.scope, lower, declared),
+        _ => 0,
+    }
+}
+
+fn part_read(
+    types: TypesRead<'_, '_, '_, '_>,
+    alloc: Global,
+    scope: Option<&str>,
+    field: &Field<'_>,
+    number: u64,
+) -> Result<FieldInfo, AllocError>
+    ensures { IfOk result
+        (λ f. field_seen f ≡ part_read types.entry.types.now (option_copied scope.entry) field.now number) }
+{
+    let meaning = types.meaning(scope, type_name(&field.kind).as_str());
+    Ok(FieldInfo {
+        name: String::from_str(alloc, field.name.text)?,
+        shape: shape_of(&field.kind, meaning),
+        default: 0,
+        optional: false,
+        required: false,
+        deprecated: false,
+        slot: number,
+    })
+}
+
+/// The fields of a struct with their numbers. The only error is a refused allocation.
+#[tactic(auto, unfolding(crate::specs::StructsRead::parts_from))]
+pub fn parts_read(
+    types: TypesRead<'_, '_, '_, '_>,
+    alloc: Global,
+    scope: Option<&str>,
+    fields: &[Field<'_>],
+) -> Result<Vec<FieldInfo>, AllocError>
+    ensures { IfOk result (λ v. map field_seen v.items
+        ≡ parts_from types.entry.types.now (option_copied scope.entry) 0 fields.now) }
+{
+    let mut parts = Vec::with_capacity(alloc, fields.len())?;
+    for (number, field) in fields.iter().enumerate() {
+        parts.push(part_read(types, alloc, scope, field, number as u64)?)?;
+    }
+    Ok(parts)
+}
