@@ -1,6 +1,8 @@
 -- The places of names by their last words, each found in one step.
 use Rattle.std.specs.Prelude.{ℕ, suc, ◌≡◌, ◌+◌, List, Option, None, Some, map, drop, slice_get, slice_index_or}
-use Rattle.std.specs.HashMap.{get_by}
+use Rattle.std.specs.BTreeMap.{get_by}
+use Rattle.std.specs.Cmp.Lexicographic.{slice_cmp}
+use Rattle.std.specs.Ordering.{nat_cmp}
 use Rattle.std.specs.Option.{option_map}
 use Rattle.std.specs.Str.{bytes_eq}
 use Rattle.fb_schema.specs.Schema.{Name}
@@ -10,7 +12,7 @@ use Rattle.fb_resolve.specs.declared.word_places.WordPlaces.{WordPlaces}
 
 -- the first place that an index has for a word
 abbrev pub first_in : WordPlaces → Name → Option ℕ
-first_in index word = get_by (λ k. bytes_eq word k.now) index.first
+first_in index word = get_by (λ k. slice_cmp nat_cmp word k.now) index.first
 
 -- the place that an index has behind a place
 abbrev pub next_in : WordPlaces → ℕ → Option ℕ

@@ -4,13 +4,13 @@ ghost use Rattle.fb_resolve.specs.Words.{last_word};
 ghost use Rattle.fb_resolve.specs.WordPlaces.{first_in, next_in, IndexesWords};
 
 use crate::located_names::LocatedName;
-use indexmap::IndexMap;
 use std::alloc::{AllocError, Global};
+use std::collections::BTreeMap;
 
 /// The places of names by their last words: the first of each, and the next behind each.
 #[derive(Drop)]
 pub struct WordPlaces<'n> {
-    first: IndexMap<&'n [u8], usize>,
+    first: BTreeMap<&'n [u8], usize>,
     next: Vec<Option<usize>>,
 }
 
@@ -20,7 +20,7 @@ impl<'n> WordPlaces<'n> {
         ensures { IfOk result (λ p. IndexesWords p (map (λ n. n.bytes) names.now)) }
     {
         let mut index = WordPlaces {
-            first: IndexMap::new(alloc),
+            first: BTreeMap::new(alloc),
             next: vec![in alloc; None; names.len()]?,
         };
         for place in (0..names.len()).rev() {

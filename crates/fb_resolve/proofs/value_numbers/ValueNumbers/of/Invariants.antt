@@ -1,7 +1,9 @@
-use Rattle.std.proofs.Common.{◌≡◌, ℕ, List, None, nat_lt, if◌then◌else◌}
-use Rattle.fb_resolve.specs.EnumsRead.{values_at, number_named}
-use Rattle.fb_resolve.specs.ValueNumbers.{number_in}
+use Rattle.std.proofs.Common.{◌≡◌, ℕ, length}
+use Rattle.fb_resolve.proofs.Numbers.{HaveNumbers}
 use Rattle.fb_resolve.proofs.value_numbers.ValueNumbers.of.Given as goal
 
-abbrev pub invariant-loop-type_number : goal.invariant-loop-type_number
-invariant-loop-type_number l = (t : ℕ) (name : List ℕ) → number_in l.index t name ≡ (if nat_lt t l.type_number then number_named (values_at l.types t) name else None)
+abbrev pub invariant-loop-read : goal.invariant-loop-read
+invariant-loop-read l = record {
+  long : length l.numbers.items ≡ l.read-index;
+  each : HaveNumbers l.types l.numbers.items;
+}

@@ -2,6 +2,7 @@ use Rattle.std.proofs.Common.{◌≡◌, ◌<◌, ◌-◌, ◌∙◌, suc, None,
 use Rattle.std.specs.Option.{option_map}
 use Rattle.std.specs.Str.{bytes_eq}
 use Rattle.std.proofs.lemmas.List.{length-map}
+use Rattle.std.proofs.lemmas.Map.Text.{is_eq-slice_cmp}
 use Rattle.std.proofs.lemmas.Option.{slice_get-map, slice_get-get_or}
 use Rattle.fb_schema.specs.Schema.{Name}
 use Rattle.fb_resolve.specs.declared.word_places.WordPlaces.{WordPlaces}
@@ -37,7 +38,8 @@ loop-place-preserved c =
     let word : c.last_word-word.result.now ≡ last_word name = c.last_word-word.ensures ∙ ap last_word (c.as_bytes.ensures.value ∙ ap (λ n. n.bytes) (c.name.view_is ∙ c.index-names-place.is)) in
     places-more (first_in index) _ index.next.items place k (map (λ n. n.bytes) names) name c.in_ok-index.field-0 c.loop-place.invariant one_on at
     (c.in_ok-index.ensures.old ∙ ap (first_in index) word)
-    (λ other. c.in_ok-index.ensures.updates.0 (record { ref_ptr = (0, 0); now = other }) ∙ ap (λ w. cond (bytes_eq w other) (Some k) (first_in index other)) word)
+    (λ other. c.in_ok-index.ensures.updates.0 (record { ref_ptr = (0, 0); now = other })
+    ∙ ap (λ b. cond b (Some k) (first_in index other)) (is_eq-slice_cmp c.last_word-word.result.now other) ∙ ap (λ w. cond (bytes_eq w other) (Some k) (first_in index other)) word)
 
 pub returns : goal.returns
 returns c =
