@@ -1,6 +1,8 @@
 -- Names of a text, each found in one step.
 use Rattle.std.specs.Prelude.{ℕ, ◌≡◌, List, Option, None, Some, if◌then◌else◌}
-use Rattle.std.specs.HashMap.{get_by}
+use Rattle.std.specs.BTreeMap.{get_by}
+use Rattle.std.specs.Cmp.Lexicographic.{slice_cmp}
+use Rattle.std.specs.Ordering.{nat_cmp}
 use Rattle.std.specs.Option.{option_or}
 use Rattle.std.specs.Str.{bytes_eq}
 use Rattle.fb_schema.specs.Schema.{Name}
@@ -9,7 +11,7 @@ use Rattle.fb_declare.specs.declared.name_places.NamePlaces.{NamePlaces}
 
 -- the place that a name has in an index
 abbrev pub place_in : NamePlaces → Name → Option ℕ
-place_in index name = get_by (λ k. bytes_eq name k.now) index.places
+place_in index name = get_by (λ k. slice_cmp nat_cmp name k.now) index.places
 
 -- an index with the place of a name that had none
 abbrev pub Notes : NamePlaces → NamePlaces → Name → ℕ → Type 0

@@ -131,6 +131,29 @@ fn declare_types<'t, 'd, 's, 'n>(
     schema_or_fault(alloc, found, names)
 }
 
+/// The schema that an outline gives, or the least of its faults, where these are the full names of
+/// its types.
+fn declare_named<'n>(
+    alloc: Global,
+    outline: &Outline<'_, '_>,
+    names: &'n [LocatedName],
+) -> Result<Schema, SchemaFault>
+    requires { names.now ≡ map located_name outline.now.types }
+    ensures sound { OnOk result (faults_of_outline outline.now ≡ []) }
+    ensures given { IfOk result (Gives outline.now) }
+    ensures least { IfErr result (λ f. f ≢ Memory → least_of (faults_of_outline outline.now) ≡ Some f) }
+{
+    let words = WordPlaces::of(alloc, names)?;
+    let values = ValueNumbers::of(alloc, outline.types.as_slice())?;
+    let types = TypesRead {
+        types: outline.types.as_slice(),
+        names,
+        words: &words,
+        values: &values,
+    };
+    declare_types(alloc, outline, types, names)
+}
+
 /// The schema that an outline gives, or the least of its faults.
 fn declare_outline(alloc: Global, outline: &Outline<'_, '_>) -> Result<Schema, SchemaFault>
     ensures sound { OnOk result (faults_of_outline outline.now ≡ []) }
@@ -138,15 +161,7 @@ fn declare_outline(alloc: Global, outline: &Outline<'_, '_>) -> Result<Schema, S
     ensures least { IfErr result (λ f. f ≢ Memory → least_of (faults_of_outline outline.now) ≡ Some f) }
 {
     let names = located_names(alloc, outline.types.as_slice())?;
-    let words = WordPlaces::of(alloc, names.as_slice())?;
-    let values = ValueNumbers::of(alloc, outline.types.as_slice())?;
-    let types = TypesRead {
-        types: outline.types.as_slice(),
-        names: names.as_slice(),
-        words: &words,
-        values: &values,
-    };
-    declare_types(alloc, outline, types, names.as_slice())
+    declare_named(alloc, outline, names.as_slice())
 }
 
 /// The schema that declarations give.

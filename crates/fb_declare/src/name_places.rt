@@ -3,13 +3,15 @@ ghost use Rattle.std.specs.Prelude.{◌≡◌, IfOk, OnOk, None, is_some, map};
 ghost use Rattle.fb_schema.specs.Schema.{Name};
 ghost use Rattle.fb_declare.specs.NamePlaces.{place_in, Notes, Indexes};
 
-use indexmap::IndexMap;
 use std::alloc::{AllocError, Global};
+use std::collections::BTreeMap;
 
 /// The first place of each name in a list of names.
+///
+/// No names make it slow, whoever chose them: it doesn't hash.
 #[derive(Drop)]
 pub struct NamePlaces<'n> {
-    places: IndexMap<&'n [u8], usize>,
+    places: BTreeMap<&'n [u8], usize>,
 }
 
 impl<'n> NamePlaces<'n> {
@@ -18,7 +20,7 @@ impl<'n> NamePlaces<'n> {
         ensures { (name : Name) → place_in result name ≡ None }
     {
         NamePlaces {
-            places: IndexMap::new(alloc),
+            places: BTreeMap::new(alloc),
         }
     }
 

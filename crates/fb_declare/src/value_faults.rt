@@ -1,8 +1,7 @@
 //! The numbers of an enum's values that are at fault.
-ghost use Rattle.std.specs.Prelude.{◌≡◌, IfOk, pos, ◌||◌, OnOk, []};
+ghost use Rattle.std.specs.Prelude.{◌≡◌, ℤ, IfOk, pos, ◌||◌, OnOk, []};
 ghost use Rattle.std.specs.List.{list_any};
 ghost use Rattle.std.specs.Ordering.{int_eq};
-ghost use Rattle.indexmap.specs.IndexSet.{insert_key};
 ghost use Rattle.fb_declare.specs.Faults.{least_of};
 ghost use Rattle.fb_declare.specs.FaultRows.{when, is_out_of_range, bad_values};
 
@@ -10,8 +9,8 @@ use crate::faults::{SchemaFault, earlier, when};
 use fb_resolve::{may_be_written, written_number};
 use fb_schema::Base;
 use fb_syntax::EnumValue;
-use indexmap::IndexSet;
 use std::alloc::{AllocError, Global};
+use std::collections::BTreeSet;
 
 fn is_out_of_range(base: Option<Base>, flags: bool, number: i128) -> bool
     ensures { result ≡ is_out_of_range base flags number }
@@ -24,7 +23,7 @@ fn is_out_of_range(base: Option<Base>, flags: bool, number: i128) -> bool
 
 /// The fault of the value at an offset, whose number is met from now on.
 fn bad_value(
-    met: &mut IndexSet<i128>,
+    met: &mut BTreeSet<i128>,
     base: Option<Base>,
     flags: bool,
     number: i128,
@@ -33,7 +32,8 @@ fn bad_value(
     ensures fault { IfOk result (λ f. f ≡ least_of (when
         (is_out_of_range base flags number || list_any (int_eq number) met.old.keys)
         (SchemaFault.BadEnumValue at))) }
-    ensures met { OnOk result (met.new.keys ≡ insert_key int_eq met.old.keys number) }
+    ensures met { OnOk result ((n : ℤ) → list_any (int_eq n) met.new.keys
+        ≡ (list_any (int_eq n) met.old.keys || int_eq n number)) }
 {
     let is_new = met.insert(number)?;
     let is_bad = is_out_of_range(base, flags, number) || !is_new;
@@ -50,7 +50,7 @@ pub(crate) fn bad_values(
     ensures { IfOk result (λ f. f ≡ least_of (bad_values base flags [] (pos 0) values.now)) }
 {
     let mut least = None;
-    let mut met = IndexSet::new(alloc);
+    let mut met = BTreeSet::new(alloc);
     let mut next = 0;
     for value in values {
         let number = written_number(next, value);
