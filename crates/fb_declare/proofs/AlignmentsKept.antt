@@ -26,11 +26,13 @@ use Rattle.fb_resolve.specs.declared.attributes.Known.TheVariants.{ForceAlign}
 use Rattle.fb_declare.specs.declared.attribute_faults.Place.TheVariants as places
 use Rattle.fb_resolve.specs.Outline.{TypeRead, Outline, word_of}
 use Rattle.fb_resolve.specs.Meaning.{meaning_in, type_name}
+use Rattle.fb_resolve.specs.ResolvedType.{ResolvedType}
+use Rattle.fb_resolve.specs.Resolved.{resolved_field, resolved_fields, resolved_table, resolved_enum, resolved_declaration, resolved_type, resolved_types}
 use Rattle.fb_resolve.specs.Attributes.{is_alignment, attribute_called, integer_value_in, number_called}
 use Rattle.fb_declare.specs.AttributeFaults.{may_stand, metadata_faults}
 use Rattle.fb_resolve.specs.EnumsRead.{underlying, underlying_in, underlying_of_read, underlying_at, base_or_ubyte}
 use Rattle.fb_resolve.specs.SlotsRead.{shape_of}
-use Rattle.fb_resolve.specs.StructsRead.{align_by, align_in, natural_align, alignment_in, forced_align, align_of_struct, align_of_declaration, align_of_read, parts_from}
+use Rattle.fb_resolve.specs.StructsRead.{align_by, align_in, natural_align, alignment_in, forced_align, align_of_struct, align_of_declaration, align_of_type, parts_from}
 use Rattle.fb_declare.specs.FaultRows.{struct_field_type, reserved_name}
 use Rattle.fb_declare.specs.TypeFaults.{struct_field_faults, struct_faults, enum_faults, declaration_faults, type_faults, faults_of_types}
 use Rattle.fb_declare.specs.Declares.{HasBody, Gives}
@@ -39,35 +41,36 @@ use Rattle.fb_declare.proofs.EnumsKept.{enum_base}
 use Rattle.fb_declare.proofs.FaultFree.{none_left, none_right, none_of_type, aligns_from}
 use Rattle.fb_declare.proofs.KindsNamed.{kind_named, read_from_type}
 use Rattle.fb_declare.proofs.StructsKept.{alignments, alignment_right, struct_right, field_type_right, part_right}
+use Rattle.fb_declare.proofs.Meant.{resolved_at}
 
 -- the alignments before a type are kept
-aligns-front : (types : List TypeRead) (lower : List ℕ) (rs : List TypeRead) (j : ℕ) → j < length lower → slice_index (aligns_from types lower rs) j ≡ slice_index lower j
+aligns-front : (types : List TypeRead) (lower : List ℕ) (rs : List ResolvedType) (j : ℕ) → j < length lower → slice_index (aligns_from types lower rs) j ≡ slice_index lower j
 aligns-front types lower [] j within = refl
 aligns-front types lower (r ∷ rs) j within =
-    aligns-front types (lower ++ align_of_read types lower r ∷ []) rs j (omega (arith, length_push lower (align_of_read types lower r)))
-    ∙ get_or_append_left lower (align_of_read types lower r ∷ []) 0 j within
+    aligns-front types (lower ++ align_of_type types lower r ∷ []) rs j (omega (arith, length_push lower (align_of_type types lower r)))
+    ∙ get_or_append_left lower (align_of_type types lower r ∷ []) 0 j within
 
 -- the alignment of a type among those of all
-aligns-at : (types : List TypeRead) (lower : List ℕ) (rs : List TypeRead) (t : ℕ) (r : TypeRead) → slice_get rs t ≡ Some r
-    → slice_index (aligns_from types lower rs) (length lower + t) ≡ align_of_read types (aligns_from types lower (take t rs)) r
+aligns-at : (types : List TypeRead) (lower : List ℕ) (rs : List ResolvedType) (t : ℕ) (r : ResolvedType) → slice_get rs t ≡ Some r
+    → slice_index (aligns_from types lower rs) (length lower + t) ≡ align_of_type types (aligns_from types lower (take t rs)) r
 aligns-at types lower [] t r e = absurd (none-some r e)
 aligns-at types lower (q ∷ rs) zero r e =
-    let own : ℕ = align_of_read types lower q in
+    let own : ℕ = align_of_type types lower q in
     let sum : length lower + 0 ≡ length lower = omega arith in
     ap (slice_index (aligns_from types (lower ++ own ∷ []) rs)) sum
     ∙ (aligns-front types (lower ++ own ∷ []) rs (length lower) (omega (arith, length_push lower own))
-    ∙ (get_or_push lower own 0 (length lower) refl ∙ ap (align_of_read types lower) (same_Some q r e)))
+    ∙ (get_or_push lower own 0 (length lower) refl ∙ ap (align_of_type types lower) (same_Some q r e)))
 aligns-at types lower (q ∷ rs) (suc t) r e =
-    let own : ℕ = align_of_read types lower q in
+    let own : ℕ = align_of_type types lower q in
     let sum : length lower + suc t ≡ length (lower ++ own ∷ []) + t = omega (arith, length_push lower own) in
     ap (slice_index (aligns_from types (lower ++ own ∷ []) rs)) sum ∙ aligns-at types (lower ++ own ∷ []) rs t r e
 
 -- those before a type among those of all
-aligns-below : (types : List TypeRead) (lower : List ℕ) (rs : List TypeRead) (t j : ℕ) → j < length (aligns_from types lower (take t rs))
+aligns-below : (types : List TypeRead) (lower : List ℕ) (rs : List ResolvedType) (t j : ℕ) → j < length (aligns_from types lower (take t rs))
     → slice_index (aligns_from types lower rs) j ≡ slice_index (aligns_from types lower (take t rs)) j
 aligns-below types lower rs zero j within = aligns-front types lower rs j within
 aligns-below types lower [] (suc t) j within = refl
-aligns-below types lower (q ∷ rs) (suc t) j within = aligns-below types (lower ++ align_of_read types lower q ∷ []) rs t j within
+aligns-below types lower (q ∷ rs) (suc t) j within = aligns-below types (lower ++ align_of_type types lower q ∷ []) rs t j within
 
 -- ---- `force_align`
 
@@ -110,8 +113,8 @@ forced_right declared natural attributes h = forced_called natural (attribute_ca
 -- ---- what the schema's bodies come from
 
 -- a struct's body comes from a struct
-struct_from : (types : List TypeRead) (scope : Option Name) (d : TypeDecl) (body : DeclaredBody) → HasBody types scope d body → IsTrue (is_struct body)
-    → (s : TableRead) × (d ≡ decls.Struct s) × (body ≡ struct_body (parts_from types scope 0 s.fields) (forced_align 0 s.attributes))
+struct_from : (types : List TypeRead) (scope : Option Name) (d : TypeDecl) (body : DeclaredBody) → HasBody types (resolved_declaration types scope d) body → IsTrue (is_struct body)
+    → (s : TableRead) × (d ≡ decls.Struct s) × (body ≡ struct_body (parts_from 0 (resolved_fields types scope s.fields)) (forced_align 0 s.attributes))
 struct_from types scope d (table_body fs) h is = absurd (false≢true is)
 struct_from types scope d (enum_body base flags values) h is = absurd (false≢true is)
 struct_from types scope d (union_body members) h is = absurd (false≢true is)
@@ -119,7 +122,7 @@ struct_from types scope (decls.Struct s) (struct_body parts force) h is = (s, re
 struct_from types scope _ (struct_body parts force) h is = absurd h
 
 -- an enum's body comes from an enum
-enum_from : (types : List TypeRead) (scope : Option Name) (d : TypeDecl) (body : DeclaredBody) → HasBody types scope d body → IsTrue (is_enum body)
+enum_from : (types : List TypeRead) (scope : Option Name) (d : TypeDecl) (body : DeclaredBody) → HasBody types (resolved_declaration types scope d) body → IsTrue (is_enum body)
     → (e : EnumRead) × (d ≡ decls.Enum e) × (base_in body ≡ base_or_ubyte (underlying types scope e))
 enum_from types scope d (table_body fs) h is = absurd (false≢true is)
 enum_from types scope d (struct_body parts force) h is = absurd (false≢true is)
@@ -137,25 +140,25 @@ body_there S test t fails passes = by (slice_get S.types t) refl
 
 -- ---- the types of an outline with no fault
 
-module _ (o : Outline) (S : DeclaredSchema) (gives : Gives o S) (none : faults_of_types o.types o.attributes [] o.types ≡ []) where
+module _ (o : Outline) (S : DeclaredSchema) (gives : Gives o S) (none : faults_of_types o.types o.attributes [] (resolved_types o.types) ≡ []) where
   -- the alignments of all types
   abbrev pub aligns : List ℕ
-  aligns = aligns_from o.types [] o.types
+  aligns = aligns_from o.types [] (resolved_types o.types)
 
   -- those of the types before one
   abbrev pub aligns_before : ℕ → List ℕ
-  aligns_before t = aligns_from o.types [] (take t o.types)
+  aligns_before t = aligns_from o.types [] (take t (resolved_types o.types))
 
   -- no declaration has a fault
-  pub declaration_right : (t : ℕ) (r : TypeRead) → slice_get o.types t ≡ Some r → declaration_faults o.types o.attributes (aligns_before t) r.scope r.declaration ≡ []
+  pub declaration_right : (t : ℕ) (r : TypeRead) → slice_get o.types t ≡ Some r → declaration_faults o.types o.attributes (aligns_before t) (resolved_declaration o.types r.scope r.declaration) ≡ []
   unfolding type_faults
-  declaration_right t r at = none_right (reserved_name (word_of r.declaration)) (declaration_faults o.types o.attributes (aligns_before t) r.scope r.declaration) (none_of_type o.types o.attributes [] o.types none t r at)
+  declaration_right t r at = none_right (reserved_name (word_of r.declaration)) (declaration_faults o.types o.attributes (aligns_before t) (resolved_declaration o.types r.scope r.declaration)) (none_of_type o.types o.attributes [] (resolved_types o.types) none t (resolved_type o.types r) (resolved_at o.types t r at))
 
   -- an enum's size is that of the type under it
   enum_size_by : (t : ℕ) (type : DeclaredType) (r : TypeRead) (e : EnumRead) → slice_get S.types t ≡ Some type → slice_get o.types t ≡ Some r
       → r.declaration ≡ decls.Enum e → base_in type.body ≡ base_or_ubyte (underlying o.types r.scope e) → base_size (base_in (body_at S t)) ≡ option_map_or base_size (underlying_at o.types t) 0
   enum_size_by t type r e there at is base =
-      let right : enum_faults o.types o.attributes r.scope e ≡ [] = subst (λ (d : TypeDecl). declaration_faults o.types o.attributes (aligns_before t) r.scope d ≡ []) is (declaration_right t r at) in
+      let right : enum_faults o.attributes (resolved_enum o.types r.scope e) ≡ [] = subst (λ (d : TypeDecl). declaration_faults o.types o.attributes (aligns_before t) (resolved_declaration o.types r.scope d) ≡ []) is (declaration_right t r at) in
       let found = enum_base o.types o.attributes r.scope e right in
       ap (λ b. base_size (base_in (body_in b))) there
       ∙ (ap base_size (base ∙ ap base_or_ubyte found.1)
@@ -182,13 +185,13 @@ module _ (o : Outline) (S : DeclaredSchema) (gives : Gives o S) (none : faults_o
 
   -- the same of all fields of a struct
   part_sizes : (scope : Option Name) (lower : List ℕ) → ((j : ℕ) → j < length lower → slice_index aligns j ≡ slice_index lower j) → (k : ℕ) (fs : List FieldRead)
-      → flat_map (struct_field_faults o.types o.attributes scope (length lower)) fs ≡ [] → map (λ f. part_align S aligns f.shape) (parts_from o.types scope k fs) ≡ map (align_in o.types scope lower) fs
+      → flat_map (struct_field_faults o.attributes (length lower)) (resolved_fields o.types scope fs) ≡ [] → map (λ f. part_align S aligns f.shape) (parts_from k (resolved_fields o.types scope fs)) ≡ map (align_in o.types lower) (resolved_fields o.types scope fs)
   unfolding parts_from align_in
   part_sizes scope lower below k [] h = refl
   part_sizes scope lower below k (f ∷ fs) h =
-      let own : struct_field_faults o.types o.attributes scope (length lower) f ≡ [] = none_left (struct_field_faults o.types o.attributes scope (length lower) f) (flat_map (struct_field_faults o.types o.attributes scope (length lower)) fs) h in
-      let rest : flat_map (struct_field_faults o.types o.attributes scope (length lower)) fs ≡ [] = none_right (struct_field_faults o.types o.attributes scope (length lower) f) (flat_map (struct_field_faults o.types o.attributes scope (length lower)) fs) h in
-      let size = part_size lower below f.kind (meaning_in o.types scope f.kind) (kind_named o S gives scope (type_name f.kind).bytes) (field_type_right o.types o.attributes scope (length lower) f own) in
+      let own : struct_field_faults o.attributes (length lower) (resolved_field o.types scope f) ≡ [] = none_left (struct_field_faults o.attributes (length lower) (resolved_field o.types scope f)) (flat_map (struct_field_faults o.attributes (length lower)) (resolved_fields o.types scope fs)) h in
+      let rest : flat_map (struct_field_faults o.attributes (length lower)) (resolved_fields o.types scope fs) ≡ [] = none_right (struct_field_faults o.attributes (length lower) (resolved_field o.types scope f)) (flat_map (struct_field_faults o.attributes (length lower)) (resolved_fields o.types scope fs)) h in
+      let size = part_size lower below f.kind (meaning_in o.types scope f.kind) (kind_named o S gives scope (type_name f.kind).bytes) (field_type_right o.attributes (length lower) (resolved_field o.types scope f) own) in
       let sizes = part_sizes scope lower below (k + 1) fs rest in
       λ i. size i ∷ sizes i
 
@@ -196,22 +199,22 @@ module _ (o : Outline) (S : DeclaredSchema) (gives : Gives o S) (none : faults_o
   record IsStructAt (s : ℕ) : Type 0 where
     pub scope : Option Name
     pub read : TableRead
-    pub body : body_at S s ≡ struct_body (parts_from o.types scope 0 read.fields) (forced_align 0 read.attributes)
-    pub right : struct_faults o.types o.attributes scope (aligns_before s) read ≡ []
-    pub align : slice_index aligns s ≡ align_of_struct o.types scope (aligns_before s) read
+    pub body : body_at S s ≡ struct_body (parts_from 0 (resolved_fields o.types scope read.fields)) (forced_align 0 read.attributes)
+    pub right : struct_faults o.types o.attributes (aligns_before s) (resolved_table o.types scope read) ≡ []
+    pub align : slice_index aligns s ≡ align_of_struct o.types (aligns_before s) (resolved_table o.types scope read)
 
   -- a struct that is declared is known so
   struct_at_by : (s : ℕ) (type : DeclaredType) (r : TypeRead) (d : TableRead) → slice_get S.types s ≡ Some type → slice_get o.types s ≡ Some r → r.declaration ≡ decls.Struct d
-      → type.body ≡ struct_body (parts_from o.types r.scope 0 d.fields) (forced_align 0 d.attributes) → IsStructAt s
-  unfolding align_of_read
+      → type.body ≡ struct_body (parts_from 0 (resolved_fields o.types r.scope d.fields)) (forced_align 0 d.attributes) → IsStructAt s
+  unfolding align_of_type
   struct_at_by s type r d there at is body =
       let place : s ≡ 0 + s = omega arith in
       record {
         scope = r.scope;
         read = d;
         body = ap body_in there ∙ body;
-        right = subst (λ (d : TypeDecl). declaration_faults o.types o.attributes (aligns_before s) r.scope d ≡ []) is (declaration_right s r at);
-        align = ap (slice_index aligns) place ∙ (aligns-at o.types [] o.types s r at ∙ ap (align_of_declaration o.types r.scope (aligns_before s)) is);
+        right = subst (λ (d : TypeDecl). declaration_faults o.types o.attributes (aligns_before s) (resolved_declaration o.types r.scope d) ≡ []) is (declaration_right s r at);
+        align = ap (slice_index aligns) place ∙ (aligns-at o.types [] (resolved_types o.types) s (resolved_type o.types r) (resolved_at o.types s r at) ∙ ap (λ d. align_of_declaration o.types (aligns_before s) (resolved_declaration o.types r.scope d)) is);
       }
 
   -- and so is each struct of the schema
@@ -223,14 +226,14 @@ module _ (o : Outline) (S : DeclaredSchema) (gives : Gives o S) (none : faults_o
       struct_at_by s there.0 read.0 from.0 there.1 read.1 from.1 from.2
 
   -- a struct's natural alignment in the schema is the one that is declared
-  natural_same : (s : ℕ) (at : IsStructAt s) → natural_align_in S aligns s ≡ natural_align o.types at.scope (aligns_before s) at.read.fields
+  natural_same : (s : ℕ) (at : IsStructAt s) → natural_align_in S aligns s ≡ natural_align o.types (aligns_before s) (resolved_fields o.types at.scope at.read.fields)
   unfolding natural_align
   natural_same s at = ap (λ b. greatest_in (map (λ f. part_align S aligns f.shape) (parts_in b))) at.body
-      ∙ ap greatest_in (part_sizes at.scope (aligns_before s) (aligns-below o.types [] o.types s) 0 at.read.fields (struct_right o.types o.attributes at.scope (aligns_before s) at.read at.right).fields)
+      ∙ ap greatest_in (part_sizes at.scope (aligns_before s) (aligns-below o.types [] (resolved_types o.types) s) 0 at.read.fields (struct_right o.types o.attributes at.scope (aligns_before s) at.read at.right).fields)
 
   -- its `force_align` is right
-  struct_forced : (s : ℕ) (at : IsStructAt s) → IsForced (natural_align o.types at.scope (aligns_before s) at.read.fields) (forced_align (natural_align o.types at.scope (aligns_before s) at.read.fields) at.read.attributes) (forced_align 0 at.read.attributes)
-  struct_forced s at = forced_right o.attributes (natural_align o.types at.scope (aligns_before s) at.read.fields) at.read.attributes (struct_right o.types o.attributes at.scope (aligns_before s) at.read at.right).metadata
+  struct_forced : (s : ℕ) (at : IsStructAt s) → IsForced (natural_align o.types (aligns_before s) (resolved_fields o.types at.scope at.read.fields)) (forced_align (natural_align o.types (aligns_before s) (resolved_fields o.types at.scope at.read.fields)) at.read.attributes) (forced_align 0 at.read.attributes)
+  struct_forced s at = forced_right o.attributes (natural_align o.types (aligns_before s) (resolved_fields o.types at.scope at.read.fields)) at.read.attributes (struct_right o.types o.attributes at.scope (aligns_before s) at.read at.right).metadata
 
   -- The structs are aligned as they are declared.
   pub are_aligned : AreAligned S aligns
@@ -238,6 +241,6 @@ module _ (o : Outline) (S : DeclaredSchema) (gives : Gives o S) (none : faults_o
     forced = λ s is a e. let at = struct_at s is in
         subst (λ (n : ℕ). n ≤ a) (sym (natural_same s at)) ((struct_forced s at).enough a (sym (ap force_align_in at.body) ∙ e));
     each = λ s is. let at = struct_at s is in
-        at.align ∙ (ap (λ forced. unwrap_or forced (natural_align o.types at.scope (aligns_before s) at.read.fields)) ((struct_forced s at).same ∙ sym (ap force_align_in at.body))
+        at.align ∙ (ap (λ forced. unwrap_or forced (natural_align o.types (aligns_before s) (resolved_fields o.types at.scope at.read.fields))) ((struct_forced s at).same ∙ sym (ap force_align_in at.body))
         ∙ ap (λ n. unwrap_or (force_align_in (body_at S s)) n) (sym (natural_same s at)));
   }

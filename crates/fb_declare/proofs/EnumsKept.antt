@@ -34,6 +34,7 @@ use Rattle.fb_declare.specs.TypeFaults.{place_of_enum, enum_faults}
 use Rattle.fb_declare.proofs.NoFaults.{both_empty, EachNew, all_apart, apart_by, keys_apart, names_apart}
 use Rattle.fb_declare.proofs.FaultFree.{when-none}
 use Rattle.fb_declare.proofs.AttributesKept.{noted_stands}
+use Rattle.fb_resolve.specs.Resolved.{resolved_enum}
 
 -- no enum is one of `bool`
 not_boolean : (m : Meaning) → base_or_ubyte (integer_type m) ≢ Boolean
@@ -180,7 +181,7 @@ pub record IsEnumRight (types : List TypeRead) (declared : List Name) (scope : O
   pub numbers : bad_values (underlying types scope e) (has_flags e) [] (pos 0) e.values ≡ []
 
 -- an enum with no fault has none in its parts
-pub enum_right : (types : List TypeRead) (declared : List Name) (scope : Option Name) (e : EnumRead) → enum_faults types declared scope e ≡ [] → IsEnumRight types declared scope e
+pub enum_right : (types : List TypeRead) (declared : List Name) (scope : Option Name) (e : EnumRead) → enum_faults declared (resolved_enum types scope e) ≡ [] → IsEnumRight types declared scope e
 unfolding enum_faults
 enum_right types declared scope e h =
     let type_faults : List SchemaFault = underlying_faults (meaning_of types scope e.underlying.bytes) e.underlying.at in
@@ -197,11 +198,11 @@ unsigned_under : (declared : List Name) (base : Base) (e : EnumRead) → metadat
 unsigned_under declared base e h is = let stands = noted_stands declared (place_of_enum (Some base)) [] e.attributes BitFlags h is in flags_unsigned (is_unsigned base) stands.0.value stands.1
 
 -- the base of an enum with no fault
-pub enum_base : (types : List TypeRead) (declared : List Name) (scope : Option Name) (e : EnumRead) → enum_faults types declared scope e ≡ [] → (base : Base) × (underlying types scope e ≡ Some base)
+pub enum_base : (types : List TypeRead) (declared : List Name) (scope : Option Name) (e : EnumRead) → enum_faults declared (resolved_enum types scope e) ≡ [] → (base : Base) × (underlying types scope e ≡ Some base)
 enum_base types declared scope e h = integer_under (meaning_of types scope e.underlying.bytes) e.underlying.at (enum_right types declared scope e h).type
 
 -- an enum with no fault has a right body
-pub enum_kept : (types : List TypeRead) (declared : List Name) (scope : Option Name) (e : EnumRead) → enum_faults types declared scope e ≡ []
+pub enum_kept : (types : List TypeRead) (declared : List Name) (scope : Option Name) (e : EnumRead) → enum_faults declared (resolved_enum types scope e) ≡ []
     → IsEnumBody (base_or_ubyte (underlying types scope e)) (has_flags e) (values_read types scope e)
 enum_kept types declared scope e h =
     let right = enum_right types declared scope e h in
@@ -214,6 +215,6 @@ enum_kept types declared scope e h =
     (subst (λ (o : Option Base). bad_values o (has_flags e) [] (pos 0) e.values ≡ []) found.1 right.numbers))
 
 -- each value of an enum with no fault is in its range
-pub enum_in_range : (types : List TypeRead) (declared : List Name) (scope : Option Name) (e : EnumRead) → enum_faults types declared scope e ≡ []
+pub enum_in_range : (types : List TypeRead) (declared : List Name) (scope : Option Name) (e : EnumRead) → enum_faults declared (resolved_enum types scope e) ≡ []
     → All (λ v. InRange (base_or_ubyte (underlying types scope e)) v.1) (values_read types scope e)
 enum_in_range types declared scope e h = (enum_kept types declared scope e h).ranges

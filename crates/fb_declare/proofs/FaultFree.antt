@@ -9,7 +9,8 @@ use Rattle.std.proofs.lemmas.List.Kept.{AllPairs-cons}
 use Rattle.fb_syntax.specs.Located.{Located}
 use Rattle.fb_schema.specs.Schema.{Name}
 use Rattle.fb_resolve.specs.Outline.{TypeRead}
-use Rattle.fb_resolve.specs.StructsRead.{align_of_read}
+use Rattle.fb_resolve.specs.ResolvedType.{ResolvedType}
+use Rattle.fb_resolve.specs.StructsRead.{align_of_type}
 use Rattle.fb_declare.specs.FaultRows.{when, is_among, names_again}
 use Rattle.fb_declare.specs.TypeFaults.{type_faults, faults_of_types}
 use Rattle.fb_declare.specs.declared.faults.SchemaFault.{SchemaFault}
@@ -45,26 +46,26 @@ when-none true fault h = cc
 when-none false fault h = refl
 
 -- the alignments of some types, behind those of the types before them
-abbrev pub aligns_from : List TypeRead → List ℕ → List TypeRead → List ℕ
+abbrev pub aligns_from : List TypeRead → List ℕ → List ResolvedType → List ℕ
 aligns_from types lower [] = lower
-aligns_from types lower (r ∷ rs) = aligns_from types (lower ++ align_of_read types lower r ∷ []) rs
+aligns_from types lower (r ∷ rs) = aligns_from types (lower ++ align_of_type types lower r ∷ []) rs
 
-pub length-aligns_from : (types : List TypeRead) (lower : List ℕ) (rs : List TypeRead) → length (aligns_from types lower rs) ≡ length lower + length rs
+pub length-aligns_from : (types : List TypeRead) (lower : List ℕ) (rs : List ResolvedType) → length (aligns_from types lower rs) ≡ length lower + length rs
 length-aligns_from types lower [] = omega arith
 length-aligns_from types lower (r ∷ rs) =
-    let longer = length-append lower (align_of_read types lower r ∷ []) in
-    let rest = length-aligns_from types (lower ++ align_of_read types lower r ∷ []) rs in
+    let longer = length-append lower (align_of_type types lower r ∷ []) in
+    let rest = length-aligns_from types (lower ++ align_of_type types lower r ∷ []) rs in
     omega arith
 
 -- Where no type is at fault, none is by the alignments of the types before it.
-pub none_of_type : (types : List TypeRead) (declared : List Name) (lower : List ℕ) (rs : List TypeRead) → faults_of_types types declared lower rs ≡ []
-    → (t : ℕ) (r : TypeRead) → slice_get rs t ≡ Some r → type_faults types declared (aligns_from types lower (take t rs)) r ≡ []
+pub none_of_type : (types : List TypeRead) (declared : List Name) (lower : List ℕ) (rs : List ResolvedType) → faults_of_types types declared lower rs ≡ []
+    → (t : ℕ) (r : ResolvedType) → slice_get rs t ≡ Some r → type_faults types declared (aligns_from types lower (take t rs)) r ≡ []
 unfolding faults_of_types
 none_of_type types declared lower [] h t r e = cc
 none_of_type types declared lower (q ∷ rs) h zero r e = let same : q ≡ r = cc in
-    ap (type_faults types declared lower) (sym same) ∙ none_left (type_faults types declared lower q) (faults_of_types types declared (lower ++ align_of_read types lower q ∷ []) rs) h
+    ap (type_faults types declared lower) (sym same) ∙ none_left (type_faults types declared lower q) (faults_of_types types declared (lower ++ align_of_type types lower q ∷ []) rs) h
 none_of_type types declared lower (q ∷ rs) h (suc t) r e =
-    none_of_type types declared (lower ++ align_of_read types lower q ∷ []) rs (none_right (type_faults types declared lower q) (faults_of_types types declared (lower ++ align_of_read types lower q ∷ []) rs) h) t r e
+    none_of_type types declared (lower ++ align_of_type types lower q ∷ []) rs (none_right (type_faults types declared lower q) (faults_of_types types declared (lower ++ align_of_type types lower q ∷ []) rs) h) t r e
 
 -- No name that follows is among those before.
 none_among : (before ns : List Located) → names_again before ns ≡ [] → All (λ n. is_among n.bytes before ≡ false) ns

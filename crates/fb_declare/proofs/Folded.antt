@@ -6,11 +6,13 @@ use Rattle.fb_schema.specs.Schema.{Name}
 use Rattle.fb_declare.specs.declared.faults.SchemaFault.{SchemaFault}
 use Rattle.fb_declare.specs.Faults.{earlier, least_of}
 use Rattle.fb_resolve.specs.Outline.{TypeRead}
+use Rattle.fb_resolve.specs.ResolvedFields.{ResolvedMember}
+use Rattle.fb_resolve.specs.ResolvedType.{ResolvedType}
 use Rattle.fb_resolve.specs.Meaning.{meaning_of}
 use Rattle.fb_resolve.specs.MembersRead.{member_name}
 use Rattle.fb_declare.specs.FaultRows.{member_faults}
 use Rattle.fb_declare.specs.TypeFaults.{members_faults, type_faults, faults_of_types}
-use Rattle.fb_resolve.specs.StructsRead.{align_of_read}
+use Rattle.fb_resolve.specs.StructsRead.{align_of_type}
 use Rattle.fb_resolve.proofs.Steps.{drop-more, drop-end}
 use Rattle.fb_declare.proofs.LeastMet.{met-more, met-all}
 
@@ -26,48 +28,48 @@ pub met-end : {X : Type 0} (g : X → List SchemaFault) (met : Option SchemaFaul
     → earlier met (least_of (flat_map g (drop i xs))) ≡ met
 met-end g met xs i h = ap (λ ys. earlier met (least_of (flat_map g ys))) (drop-end xs i h) ∙ met-all met
 
-members_faults-nil : (types : List TypeRead) (scope : Option Name) (before : ℕ) → members_faults types scope before [] ≡ []
+members_faults-nil : (before : ℕ) → members_faults before [] ≡ []
 unfolding members_faults
-members_faults-nil types scope before = refl
+members_faults-nil before = refl
 
-members_faults-cons : (types : List TypeRead) (scope : Option Name) (before : ℕ) (m : UnionMember) (ms : List UnionMember)
-    → members_faults types scope before (m ∷ ms) ≡ member_faults before (member_name m) m.table.at (meaning_of types scope m.table.bytes) ++ members_faults types scope (before + 1) ms
+members_faults-cons : (before : ℕ) (m : ResolvedMember) (ms : List ResolvedMember)
+    → members_faults before (m ∷ ms) ≡ member_faults before (member_name m.member) m.member.table.at m.meaning ++ members_faults (before + 1) ms
 unfolding members_faults
-members_faults-cons types scope before m ms = refl
+members_faults-cons before m ms = refl
 
 -- the next member of a union
-pub met-member : (types : List TypeRead) (scope : Option Name) (met : Option SchemaFault) (ms : List UnionMember) (i : ℕ) (m : UnionMember) → i < length ms → m ≡ get_or ms i m
-    → earlier (earlier met (least_of (member_faults i (member_name m) m.table.at (meaning_of types scope m.table.bytes)))) (least_of (members_faults types scope (i + 1) (drop (i + 1) ms)))
-    ≡ earlier met (least_of (members_faults types scope i (drop i ms)))
-met-member types scope met ms i m h e = met-more met (member_faults i (member_name m) m.table.at (meaning_of types scope m.table.bytes)) (members_faults types scope (i + 1) (drop (i + 1) ms))
-    ∙ ap (λ fs. earlier met (least_of fs)) (sym (members_faults-cons types scope i m (drop (i + 1) ms)))
-    ∙ ap (λ n. earlier met (least_of (members_faults types scope i (n ∷ drop (i + 1) ms)))) e
-    ∙ ap (λ r. earlier met (least_of (members_faults types scope i r))) (sym (drop-more ms i m h))
+pub met-member : (met : Option SchemaFault) (ms : List ResolvedMember) (i : ℕ) (m : ResolvedMember) → i < length ms → m ≡ get_or ms i m
+    → earlier (earlier met (least_of (member_faults i (member_name m.member) m.member.table.at m.meaning))) (least_of (members_faults (i + 1) (drop (i + 1) ms)))
+    ≡ earlier met (least_of (members_faults i (drop i ms)))
+met-member met ms i m h e = met-more met (member_faults i (member_name m.member) m.member.table.at m.meaning) (members_faults (i + 1) (drop (i + 1) ms))
+    ∙ ap (λ fs. earlier met (least_of fs)) (sym (members_faults-cons i m (drop (i + 1) ms)))
+    ∙ ap (λ n. earlier met (least_of (members_faults i (n ∷ drop (i + 1) ms)))) e
+    ∙ ap (λ r. earlier met (least_of (members_faults i r))) (sym (drop-more ms i m h))
 
-pub met-members : (types : List TypeRead) (scope : Option Name) (met : Option SchemaFault) (ms : List UnionMember) (i : ℕ) → length ms ≤ i
-    → earlier met (least_of (members_faults types scope i (drop i ms))) ≡ met
-met-members types scope met ms i h = ap (λ r. earlier met (least_of (members_faults types scope i r))) (drop-end ms i h)
-    ∙ ap (λ fs. earlier met (least_of fs)) (members_faults-nil types scope i) ∙ met-all met
+pub met-members : (met : Option SchemaFault) (ms : List ResolvedMember) (i : ℕ) → length ms ≤ i
+    → earlier met (least_of (members_faults i (drop i ms))) ≡ met
+met-members met ms i h = ap (λ r. earlier met (least_of (members_faults i r))) (drop-end ms i h)
+    ∙ ap (λ fs. earlier met (least_of fs)) (members_faults-nil i) ∙ met-all met
 
 faults_of_types-nil : (types : List TypeRead) (declared : List Name) (lower : List ℕ) → faults_of_types types declared lower [] ≡ []
 unfolding faults_of_types
 faults_of_types-nil types declared lower = refl
 
-faults_of_types-cons : (types : List TypeRead) (declared : List Name) (lower : List ℕ) (r : TypeRead) (rs : List TypeRead)
-    → faults_of_types types declared lower (r ∷ rs) ≡ type_faults types declared lower r ++ faults_of_types types declared (lower ++ align_of_read types lower r ∷ []) rs
+faults_of_types-cons : (types : List TypeRead) (declared : List Name) (lower : List ℕ) (r : ResolvedType) (rs : List ResolvedType)
+    → faults_of_types types declared lower (r ∷ rs) ≡ type_faults types declared lower r ++ faults_of_types types declared (lower ++ align_of_type types lower r ∷ []) rs
 unfolding faults_of_types
 faults_of_types-cons types declared lower r rs = refl
 
 -- the next type
-pub met-type : (types : List TypeRead) (declared : List Name) (lower : List ℕ) (met : Option SchemaFault) (rs : List TypeRead) (i : ℕ) (r : TypeRead) → i < length rs → r ≡ get_or rs i r
-    → earlier (earlier met (least_of (type_faults types declared lower r))) (least_of (faults_of_types types declared (lower ++ align_of_read types lower r ∷ []) (drop (i + 1) rs)))
+pub met-type : (types : List TypeRead) (declared : List Name) (lower : List ℕ) (met : Option SchemaFault) (rs : List ResolvedType) (i : ℕ) (r : ResolvedType) → i < length rs → r ≡ get_or rs i r
+    → earlier (earlier met (least_of (type_faults types declared lower r))) (least_of (faults_of_types types declared (lower ++ align_of_type types lower r ∷ []) (drop (i + 1) rs)))
     ≡ earlier met (least_of (faults_of_types types declared lower (drop i rs)))
-met-type types declared lower met rs i r h e = met-more met (type_faults types declared lower r) (faults_of_types types declared (lower ++ align_of_read types lower r ∷ []) (drop (i + 1) rs))
+met-type types declared lower met rs i r h e = met-more met (type_faults types declared lower r) (faults_of_types types declared (lower ++ align_of_type types lower r ∷ []) (drop (i + 1) rs))
     ∙ ap (λ fs. earlier met (least_of fs)) (sym (faults_of_types-cons types declared lower r (drop (i + 1) rs)))
     ∙ ap (λ q. earlier met (least_of (faults_of_types types declared lower (q ∷ drop (i + 1) rs)))) e
     ∙ ap (λ q. earlier met (least_of (faults_of_types types declared lower q))) (sym (drop-more rs i r h))
 
-pub met-types : (types : List TypeRead) (declared : List Name) (lower : List ℕ) (met : Option SchemaFault) (rs : List TypeRead) (i : ℕ) → length rs ≤ i
+pub met-types : (types : List TypeRead) (declared : List Name) (lower : List ℕ) (met : Option SchemaFault) (rs : List ResolvedType) (i : ℕ) → length rs ≤ i
     → earlier met (least_of (faults_of_types types declared lower (drop i rs))) ≡ met
 met-types types declared lower met rs i h = ap (λ q. earlier met (least_of (faults_of_types types declared lower q))) (drop-end rs i h)
     ∙ ap (λ fs. earlier met (least_of fs)) (faults_of_types-nil types declared lower) ∙ met-all met

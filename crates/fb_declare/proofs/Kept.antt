@@ -3,7 +3,7 @@ use Rattle.std.proofs.Common.{◌≡◌, ◌≢◌, ℕ, ◌==◌, ◌++◌, not
 use Rattle.std.specs.List.{AllZip, list_all, slice_get}
 use Rattle.std.specs.Option.{option_map, ForSome}
 use Rattle.std.proofs.lemmas.Bool.{and_parts, eqb-true, not-false}
-use Rattle.std.proofs.lemmas.List.{length-take-le}
+use Rattle.std.proofs.lemmas.List.{length-take-le, length-map}
 use Rattle.std.proofs.lemmas.Option.{none-some, slice_get_within}
 use Rattle.fb_syntax.specs.Located.{Located}
 use Rattle.fb_syntax.specs.declared.declarations.TypeDecl.{TypeDecl}
@@ -23,15 +23,16 @@ use Rattle.fb_resolve.specs.declared.meanings.Meaning.TheVariants.{Known, Float,
 use Rattle.fb_declare.proofs.AlignmentsKept.{aligns, are_aligned, aligns_before, declaration_right}
 use Rattle.fb_declare.proofs.EnumsKept.{enum_kept}
 use Rattle.fb_declare.proofs.FaultFree.{none_left, none_right, when-none, length-aligns_from}
-use Rattle.fb_declare.proofs.KindsNamed.{MeansIn, means_in, read_from_type}
+use Rattle.fb_declare.proofs.KindsNamed.{MeansIn, means_in, read_from_type, each_given}
 use Rattle.fb_declare.proofs.NoFaults.{names_apart, apart_by}
 use Rattle.fb_declare.proofs.StructsKept.{struct_kept}
 use Rattle.fb_declare.proofs.TablesKept.{enums_kept, table_right, table_kept}
 use Rattle.fb_declare.proofs.UnionsKept.{union_kept}
+use Rattle.fb_resolve.specs.Resolved.{resolved_declaration, resolved_type, resolved_types, meaning_of_root}
 
 -- ---- names
 
-names_given : (types rs : List TypeRead) (ts : List DeclaredType) → AllZip (IsType types) rs ts → map (λ n. n.bytes) (map located_name rs) ≡ map (λ t. t.name) ts
+names_given : (types rs : List TypeRead) (ts : List DeclaredType) → AllZip (λ r t. IsType types (resolved_type types r) t) rs ts → map (λ n. n.bytes) (map located_name rs) ≡ map (λ t. t.name) ts
 names_given types [] [] z = refl
 names_given types [] (t ∷ ts) z = absurd z
 names_given types (r ∷ rs) [] z = absurd z
@@ -39,7 +40,7 @@ names_given types (r ∷ rs) (t ∷ ts) z = let first = sym z.0.name in let rest
 
 -- The types have different names.
 pub type_names_differ : (o : Outline) (S : DeclaredSchema) → Gives o S → names_again [] (map located_name o.types) ≡ [] → AllPairs (λ a b. a.name ≢ b.name) S.types
-type_names_differ o S g h = apart_by (λ t. t.name) S.types (subst (λ ns. AllPairs (λ a b. a ≢ b) ns) (names_given o.types o.types S.types g.types) (names_apart (map located_name o.types) h))
+type_names_differ o S g h = apart_by (λ t. t.name) S.types (subst (λ ns. AllPairs (λ a b. a ≢ b) ns) (names_given o.types o.types S.types (each_given o S g)) (names_apart (map located_name o.types) h))
 
 -- ---- the root and the identifier
 
@@ -71,17 +72,18 @@ identifier_kept (Some t) h id e =
 
 -- ---- bodies
 
-module _ (o : Outline) (S : DeclaredSchema) (g : Gives o S) (none : faults_of_types o.types o.attributes [] o.types ≡ []) where
+module _ (o : Outline) (S : DeclaredSchema) (g : Gives o S) (none : faults_of_types o.types o.attributes [] (resolved_types o.types) ≡ []) where
   -- the types before one are as many as its number
   length-before : (t : ℕ) (r : TypeRead) → slice_get o.types t ≡ Some r → length (aligns_before o S g none t) ≡ t
   length-before t r at =
       let within = slice_get_within o.types t r at in
-      let all = length-aligns_from o.types [] (take t o.types) in
-      let taken = length-take-le t o.types (omega arith) in
+      let many = length-map o.types (resolved_type o.types) in
+      let all = length-aligns_from o.types [] (take t (resolved_types o.types)) in
+      let taken = length-take-le t (resolved_types o.types) (omega arith) in
       omega arith
 
-  body_kept : (t : ℕ) (scope : Option Name) (d : TypeDecl) (b : DeclaredBody) → length (aligns_before o S g none t) ≡ t → declaration_faults o.types o.attributes (aligns_before o S g none t) scope d ≡ []
-      → HasBody o.types scope d b → IsBody S t b
+  body_kept : (t : ℕ) (scope : Option Name) (d : TypeDecl) (b : DeclaredBody) → length (aligns_before o S g none t) ≡ t → declaration_faults o.types o.attributes (aligns_before o S g none t) (resolved_declaration o.types scope d) ≡ []
+      → HasBody o.types (resolved_declaration o.types scope d) b → IsBody S t b
   body_kept t scope (decls.Table d) (table_body slots) len h body = table_kept o S g (enums_kept o S g none) scope d (table_right o.types o.attributes scope d h) slots body
   body_kept t scope (decls.Struct d) (struct_body parts force) len h body =
       subst (λ b. IsBody S t b) (sym (λ i. struct_body (body.0 i) (body.1 i))) (struct_kept o S g scope (aligns_before o S g none t) d h t len)
@@ -101,15 +103,15 @@ module _ (o : Outline) (S : DeclaredSchema) (g : Gives o S) (none : faults_of_ty
 -- what is empty where an outline has no fault
 pub record IsOutlineRight (o : Outline) : Type 0 where
   pub names : names_again [] (map located_name o.types) ≡ []
-  pub types : faults_of_types o.types o.attributes [] o.types ≡ []
+  pub types : faults_of_types o.types o.attributes [] (resolved_types o.types) ≡ []
   pub identifier : identifier_faults o.identifier ≡ []
 
 pub outline_right : (o : Outline) → faults_of_outline o ≡ [] → IsOutlineRight o
 unfolding faults_of_outline
 outline_right o h =
     let names = names_again [] (map located_name o.types) in
-    let types = faults_of_types o.types o.attributes [] o.types in
-    let root = root_faults o.types o.text_len o.root in
+    let types = faults_of_types o.types o.attributes [] (resolved_types o.types) in
+    let root = root_faults o.text_len o.root (meaning_of_root o.types o.root) in
     let both = none_left (names ++ types) root (none_left (names ++ types ++ root) (identifier_faults o.identifier) h) in
     record {
       names = none_left names types both;

@@ -1,5 +1,5 @@
 -- What the uses of names mean in the schema that an outline gives.
-use Rattle.std.proofs.Common.{◌≡◌, ℕ, zero, suc, Bool, true, false, List, [], ◌∷◌, length, refl, ap, sym, subst, Option, None, Some, IsTrue, if◌then◌else◌}
+use Rattle.std.proofs.Common.{◌≡◌, ℕ, zero, suc, Bool, true, false, List, [], ◌∷◌, length, map, refl, ap, sym, subst, Option, None, Some, IsTrue, if◌then◌else◌}
 use Rattle.std.specs.List.{slice_get, AllZip}
 use Rattle.std.proofs.lemmas.Option.{slice_get_within, none-some}
 use Rattle.fb_syntax.specs.TypesRead.{TableRead, EnumRead, UnionRead}
@@ -17,6 +17,7 @@ use Rattle.fb_resolve.specs.Meaning.{use_of, use_of_read, use_of_type, or_scalar
 use Rattle.fb_declare.specs.Declares.{HasBody, IsType, Gives}
 use Rattle.fb_resolve.specs.declared.meanings.Meaning.{Meaning}
 use Rattle.fb_resolve.specs.declared.meanings.Meaning.TheVariants.{Known, Float, Unknown}
+use Rattle.fb_resolve.specs.Resolved.{resolved_declaration, resolved_type}
 
 -- two lists that go together: what stands at a place of one, and of the other
 pub zip_at_left : {A B : Type 0} (R : A → B → Type 0) (xs : List A) (ys : List B) → AllZip R xs ys → (t : ℕ) (x : A) → slice_get xs t ≡ Some x → (y : B) × (slice_get ys t ≡ Some y) × R x y
@@ -39,39 +40,49 @@ zip_length R [] (y ∷ ys) z = absurd z
 zip_length R (x ∷ xs) [] z = absurd z
 zip_length R (x ∷ xs) (y ∷ ys) z = ap suc (zip_length R xs ys z.1)
 
+zip_of_map : {A B C : Type 0} (R : B → C → Type 0) (f : A → B) (xs : List A) (ys : List C) → AllZip R (map f xs) ys → AllZip (λ x y. R (f x) y) xs ys
+zip_of_map R f [] [] z = z
+zip_of_map R f [] (y ∷ ys) z = z
+zip_of_map R f (x ∷ xs) [] z = z
+zip_of_map R f (x ∷ xs) (y ∷ ys) z = (z.0, zip_of_map R f xs ys z.1)
+
+-- each declaration gives a type
+pub each_given : (o : Outline) (S : DeclaredSchema) → Gives o S → AllZip (λ r t. IsType o.types (resolved_type o.types r) t) o.types S.types
+each_given o S g = zip_of_map (IsType o.types) (resolved_type o.types) o.types S.types g.types
+
 -- a type of the schema, and what declares it
 pub type_from_read : (o : Outline) (S : DeclaredSchema) → Gives o S → (t : ℕ) (r : TypeRead) → slice_get o.types t ≡ Some r
-    → (type : DeclaredType) × (slice_get S.types t ≡ Some type) × IsType o.types r type
-type_from_read o S g t r e = zip_at_left (IsType o.types) o.types S.types g.types t r e
+    → (type : DeclaredType) × (slice_get S.types t ≡ Some type) × IsType o.types (resolved_type o.types r) type
+type_from_read o S g t r e = zip_at_left (λ r t. IsType o.types (resolved_type o.types r) t) o.types S.types (each_given o S g) t r e
 
 pub read_from_type : (o : Outline) (S : DeclaredSchema) → Gives o S → (t : ℕ) (type : DeclaredType) → slice_get S.types t ≡ Some type
-    → (r : TypeRead) × (slice_get o.types t ≡ Some r) × IsType o.types r type
-read_from_type o S g t type e = zip_at_right (IsType o.types) o.types S.types g.types t type e
+    → (r : TypeRead) × (slice_get o.types t ≡ Some r) × IsType o.types (resolved_type o.types r) type
+read_from_type o S g t type e = zip_at_right (λ r t. IsType o.types (resolved_type o.types r) t) o.types S.types (each_given o S g) t type e
 
 -- a body that passes a test where it is declared
 names_at : (S : DeclaredSchema) (test : DeclaredBody → Bool) (t : ℕ) (type : DeclaredType) → slice_get S.types t ≡ Some type → IsTrue (test type.body) → Names test S t
 names_at S test t type e h = (slice_get_within S.types t type e, subst (λ o. IsTrue (test (body_in o))) (sym e) h)
 
 -- the body that each declaration has
-is_table_from : (types : List TypeRead) (scope : Option Name) (d : TableRead) (b : DeclaredBody) → HasBody types scope (decls.Table d) b → IsTrue (is_table b)
+is_table_from : (types : List TypeRead) (scope : Option Name) (d : TableRead) (b : DeclaredBody) → HasBody types (resolved_declaration types scope (decls.Table d)) b → IsTrue (is_table b)
 is_table_from types scope d (table_body fs) h = refl
 is_table_from types scope d (struct_body fs a) h = absurd h
 is_table_from types scope d (enum_body b f vs) h = absurd h
 is_table_from types scope d (union_body ms) h = absurd h
 
-is_struct_from : (types : List TypeRead) (scope : Option Name) (d : TableRead) (b : DeclaredBody) → HasBody types scope (decls.Struct d) b → IsTrue (is_struct b)
+is_struct_from : (types : List TypeRead) (scope : Option Name) (d : TableRead) (b : DeclaredBody) → HasBody types (resolved_declaration types scope (decls.Struct d)) b → IsTrue (is_struct b)
 is_struct_from types scope d (table_body fs) h = absurd h
 is_struct_from types scope d (struct_body fs a) h = refl
 is_struct_from types scope d (enum_body b f vs) h = absurd h
 is_struct_from types scope d (union_body ms) h = absurd h
 
-is_enum_from : (types : List TypeRead) (scope : Option Name) (d : EnumRead) (b : DeclaredBody) → HasBody types scope (decls.Enum d) b → IsTrue (is_enum b)
+is_enum_from : (types : List TypeRead) (scope : Option Name) (d : EnumRead) (b : DeclaredBody) → HasBody types (resolved_declaration types scope (decls.Enum d)) b → IsTrue (is_enum b)
 is_enum_from types scope d (table_body fs) h = absurd h
 is_enum_from types scope d (struct_body fs a) h = absurd h
 is_enum_from types scope d (enum_body b f vs) h = refl
 is_enum_from types scope d (union_body ms) h = absurd h
 
-is_union_from : (types : List TypeRead) (scope : Option Name) (d : UnionRead) (b : DeclaredBody) → HasBody types scope (decls.Union d) b → IsTrue (is_union b)
+is_union_from : (types : List TypeRead) (scope : Option Name) (d : UnionRead) (b : DeclaredBody) → HasBody types (resolved_declaration types scope (decls.Union d)) b → IsTrue (is_union b)
 is_union_from types scope d (table_body fs) h = absurd h
 is_union_from types scope d (struct_body fs a) h = absurd h
 is_union_from types scope d (enum_body b f vs) h = absurd h
@@ -88,7 +99,7 @@ MeansIn S (Known kind) = KindNames S kind × IsNoCode kind
 MeansIn S Float = Unit {0}
 MeansIn S Unknown = Unit {0}
 
-means_use : (S : DeclaredSchema) (types : List TypeRead) (scope : Option Name) (t : ℕ) (type : DeclaredType) (d : TypeDecl) → slice_get S.types t ≡ Some type → HasBody types scope d type.body → MeansIn S (use_of t d)
+means_use : (S : DeclaredSchema) (types : List TypeRead) (scope : Option Name) (t : ℕ) (type : DeclaredType) (d : TypeDecl) → slice_get S.types t ≡ Some type → HasBody types (resolved_declaration types scope d) type.body → MeansIn S (use_of t d)
 means_use S types scope t type (decls.Table d) e h = (names_at S is_table t type e (is_table_from types scope d type.body h), tt)
 means_use S types scope t type (decls.Struct d) e h = (names_at S is_struct t type e (is_struct_from types scope d type.body h), tt)
 means_use S types scope t type (decls.Enum d) e h = (names_at S is_enum t type e (is_enum_from types scope d type.body h), tt)

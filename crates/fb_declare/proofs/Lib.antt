@@ -23,3 +23,4 @@ pub mod Zipped
 pub mod Building
 pub mod OneSchema
 pub mod Places
+pub mod Meant

@@ -5,17 +5,16 @@ use Rattle.std.specs.Option.{unwrap_or}
 use Rattle.std.proofs.lemmas.List.{map-append}
 use Rattle.std.proofs.lemmas.List.Sorted.{IsPermutation-map}
 use Rattle.std.proofs.lemmas.Option.{slice_get-get_or}
-use Rattle.fb_syntax.specs.FieldRead.{FieldRead}
 use Rattle.fb_syntax.specs.declared.declarations.FieldType.{FieldType}
 use Rattle.fb_syntax.specs.declared.declarations.FieldType.TheVariants as types_read
-use Rattle.fb_schema.specs.Schema.{Name, DeclaredField, DeclaredSchema}
+use Rattle.fb_schema.specs.Schema.{DeclaredField, DeclaredSchema}
 use Rattle.fb_schema.specs.WellDeclared.{IsUnionPair, UnionsPaired, names_of}
 use Rattle.fb_schema.specs.declared.kinds.TypeId.{TypeId}
 use Rattle.fb_schema.specs.declared.kinds.Kind.{Kind}
 use Rattle.fb_schema.specs.declared.kinds.Kind.TheVariants.{Scalar, Enum, Struct, Table, Union, Code, Text}
 use Rattle.fb_schema.specs.declared.kinds.Shape.TheVariants.{One}
 use Rattle.fb_resolve.specs.Outline.{TypeRead}
-use Rattle.fb_resolve.specs.Meaning.{meaning_in}
+use Rattle.fb_resolve.specs.ResolvedFields.{ResolvedField}
 use Rattle.fb_resolve.specs.SlotsRead.{union_of, union_in, shape_of, value_slot, code_slot, slots_by_union, slots_of_field, slots_in_order, slot_by_id, slots_by_id, have_ids, slots_read, AreInPlace}
 use Rattle.fb_declare.specs.FaultRows.{names_again}
 use Rattle.fb_declare.specs.TypeFaults.{names_by_union, names_of_field}
@@ -60,10 +59,10 @@ union_from_shape (types_read.Many at n) m u e = cc
 -- ---- the slots of one field
 
 -- a field's slot is its value, or the code of its union, or that union's value behind the code
-pub data SlotCase (types : List TypeRead) (scope : Option Name) (f : FieldRead) (slot : ℕ) (p : DeclaredField) : Type 0 where
-  alone : union_in types scope f ≡ None → p ≡ value_slot types scope f slot → SlotCase types scope f slot p
-  coded : (u : TypeId) → union_in types scope f ≡ Some u → p ≡ code_slot f u slot → SlotCase types scope f slot p
-  valued : (u : TypeId) → union_in types scope f ≡ Some u → p ≡ value_slot types scope f (slot + 1) → SlotCase types scope f slot p
+pub data SlotCase (types : List TypeRead) (f : ResolvedField) (slot : ℕ) (p : DeclaredField) : Type 0 where
+  alone : union_in f ≡ None → p ≡ value_slot types f slot → SlotCase types f slot p
+  coded : (u : TypeId) → union_in f ≡ Some u → p ≡ code_slot f.field u slot → SlotCase types f slot p
+  valued : (u : TypeId) → union_in f ≡ Some u → p ≡ value_slot types f (slot + 1) → SlotCase types f slot p
 
 one_of : {X : Type 0} (a p : X) → Contains (a ∷ []) p → p ≡ a
 one_of a p (zero, less, is) = sym is
@@ -74,28 +73,28 @@ two_of a b p (zero, less, is) = inl (sym is)
 two_of a b p (suc zero, less, is) = inr (sym is)
 two_of a b p (suc (suc k), less, is) = absurd (omega arith)
 
-two_cases : (types : List TypeRead) (scope : Option Name) (f : FieldRead) (slot : ℕ) (p : DeclaredField) (u : TypeId) → union_in types scope f ≡ Some u
-    → (p ≡ code_slot f u slot) ⊎ (p ≡ value_slot types scope f (slot + 1)) → SlotCase types scope f slot p
-two_cases types scope f slot p u e (inl h) = coded u e h
-two_cases types scope f slot p u e (inr h) = valued u e h
+two_cases : (types : List TypeRead) (f : ResolvedField) (slot : ℕ) (p : DeclaredField) (u : TypeId) → union_in f ≡ Some u
+    → (p ≡ code_slot f.field u slot) ⊎ (p ≡ value_slot types f (slot + 1)) → SlotCase types f slot p
+two_cases types f slot p u e (inl h) = coded u e h
+two_cases types f slot p u e (inr h) = valued u e h
 
-union_cases : (types : List TypeRead) (scope : Option Name) (f : FieldRead) (slot : ℕ) (p : DeclaredField) (u : Option TypeId) → union_in types scope f ≡ u
-    → Contains (slots_by_union types scope f u slot) p → SlotCase types scope f slot p
-union_cases types scope f slot p None e c = alone e (one_of (value_slot types scope f slot) p c)
-union_cases types scope f slot p (Some u) e c = two_cases types scope f slot p u e (two_of (code_slot f u slot) (value_slot types scope f (slot + 1)) p c)
+union_cases : (types : List TypeRead) (f : ResolvedField) (slot : ℕ) (p : DeclaredField) (u : Option TypeId) → union_in f ≡ u
+    → Contains (slots_by_union types f u slot) p → SlotCase types f slot p
+union_cases types f slot p None e c = alone e (one_of (value_slot types f slot) p c)
+union_cases types f slot p (Some u) e c = two_cases types f slot p u e (two_of (code_slot f.field u slot) (value_slot types f (slot + 1)) p c)
 
-pub slot_cases : (types : List TypeRead) (scope : Option Name) (f : FieldRead) (slot : ℕ) (p : DeclaredField) → Contains (slots_of_field types scope f slot) p → SlotCase types scope f slot p
+pub slot_cases : (types : List TypeRead) (f : ResolvedField) (slot : ℕ) (p : DeclaredField) → Contains (slots_of_field types f slot) p → SlotCase types f slot p
 unfolding slots_of_field
-slot_cases types scope f slot p c = union_cases types scope f slot p (union_in types scope f) refl c
+slot_cases types f slot p c = union_cases types f slot p (union_in f) refl c
 
 -- both slots of a union are there
-code_there : (types : List TypeRead) (scope : Option Name) (f : FieldRead) (slot : ℕ) (u : TypeId) → union_in types scope f ≡ Some u → Contains (slots_of_field types scope f slot) (code_slot f u slot)
+code_there : (types : List TypeRead) (f : ResolvedField) (slot : ℕ) (u : TypeId) → union_in f ≡ Some u → Contains (slots_of_field types f slot) (code_slot f.field u slot)
 unfolding slots_of_field
-code_there types scope f slot u e = subst (λ o. Contains (slots_by_union types scope f o slot) (code_slot f u slot)) (sym e) (0, omega arith, refl)
+code_there types f slot u e = subst (λ o. Contains (slots_by_union types f o slot) (code_slot f.field u slot)) (sym e) (0, omega arith, refl)
 
-value_there : (types : List TypeRead) (scope : Option Name) (f : FieldRead) (slot : ℕ) (u : TypeId) → union_in types scope f ≡ Some u → Contains (slots_of_field types scope f slot) (value_slot types scope f (slot + 1))
+value_there : (types : List TypeRead) (f : ResolvedField) (slot : ℕ) (u : TypeId) → union_in f ≡ Some u → Contains (slots_of_field types f slot) (value_slot types f (slot + 1))
 unfolding slots_of_field
-value_there types scope f slot u e = subst (λ o. Contains (slots_by_union types scope f o slot) (value_slot types scope f (slot + 1))) (sym e) (1, omega arith, refl)
+value_there types f slot u e = subst (λ o. Contains (slots_by_union types f o slot) (value_slot types f (slot + 1))) (sym e) (1, omega arith, refl)
 
 -- ---- pairs
 
@@ -105,90 +104,90 @@ at_its_place slots places q c =
     let here = slice_get-get_or slots c.0 q c.1 ∙ ap Some c.2 in
     ap (slice_get slots) (places c.0 q here) ∙ here
 
-pair_of : (types : List TypeRead) (scope : Option Name) (f : FieldRead) (slot : ℕ) (u : TypeId) → union_in types scope f ≡ Some u → IsUnionPair (code_slot f u slot) (value_slot types scope f (slot + 1)) u
-pair_of types scope f slot u e = record {
+pair_of : (types : List TypeRead) (f : ResolvedField) (slot : ℕ) (u : TypeId) → union_in f ≡ Some u → IsUnionPair (code_slot f.field u slot) (value_slot types f (slot + 1)) u
+pair_of types f slot u e = record {
   named = refl;
   code = refl;
-  value = union_shape f.kind (meaning_in types scope f.kind) u e;
+  value = union_shape f.field.kind f.meaning u e;
   marks = refl;
 }
 
 -- the slots of a table whose types mean what they should
-module _ (S : DeclaredSchema) (types : List TypeRead) (scope : Option Name) (means : (k : FieldType) → MeansIn S (meaning_in types scope k))
-    (fs : List FieldRead) (slots : List DeclaredField) (placed : AreInPlace (slots_read types scope fs) slots) where
-  follows : (k : ℕ) (p : DeclaredField) (u : TypeId) → slice_get slots k ≡ Some p → p.shape ≡ One (Code u) → (x : IsFrom types scope fs slots p) → SlotCase types scope x.field x.slot p
+module _ (S : DeclaredSchema) (types : List TypeRead) (fs : List ResolvedField) (means : (f : ResolvedField) → Contains fs f → MeansIn S f.meaning)
+    (slots : List DeclaredField) (placed : AreInPlace (slots_read types fs) slots) where
+  follows : (k : ℕ) (p : DeclaredField) (u : TypeId) → slice_get slots k ≡ Some p → p.shape ≡ One (Code u) → (x : IsFrom types fs slots p) → SlotCase types x.field x.slot p
       → (g : DeclaredField) × (slice_get slots (suc k) ≡ Some g) × IsUnionPair p g u
-  follows k p u at shape x (alone e same) = absurd (value_no_code S x.field.kind (meaning_in types scope x.field.kind) u (means x.field.kind) (sym (ap (λ q. q.shape) same) ∙ shape))
-  follows k p u at shape x (valued v e same) = absurd (value_no_code S x.field.kind (meaning_in types scope x.field.kind) u (means x.field.kind) (sym (ap (λ q. q.shape) same) ∙ shape))
+  follows k p u at shape x (alone e same) = absurd (value_no_code S x.field.field.kind x.field.meaning u (means x.field x.among) (sym (ap (λ q. q.shape) same) ∙ shape))
+  follows k p u at shape x (valued v e same) = absurd (value_no_code S x.field.field.kind x.field.meaning u (means x.field x.among) (sym (ap (λ q. q.shape) same) ∙ shape))
   follows k p u at shape x (coded v e same) =
-      let g = value_slot types scope x.field (x.slot + 1) in
+      let g = value_slot types x.field (x.slot + 1) in
       let codes_same : One (Code v) ≡ One (Code u) = sym (ap (λ q. q.shape) same) ∙ shape in
       let ids : v ≡ u = cc in
       let slot : x.slot ≡ k = sym (ap (λ q. q.slot) same) ∙ placed.slots k p at in
       let next : x.slot + 1 ≡ suc k = omega arith in (
         g,
-        sym (ap (slice_get slots) next) ∙ at_its_place slots placed.slots g (x.whole g (value_there types scope x.field x.slot v e)),
-        subst (λ q. IsUnionPair q g u) (sym same) (subst (λ w. IsUnionPair (code_slot x.field v x.slot) g w) ids (pair_of types scope x.field x.slot v e)),
+        sym (ap (slice_get slots) next) ∙ at_its_place slots placed.slots g (x.whole g (value_there types x.field x.slot v e)),
+        subst (λ q. IsUnionPair q g u) (sym same) (subst (λ w. IsUnionPair (code_slot x.field.field v x.slot) g w) ids (pair_of types x.field x.slot v e)),
       )
 
-  leads : (k : ℕ) (p : DeclaredField) (u : TypeId) → slice_get slots k ≡ Some p → p.shape ≡ One (Union u) → (x : IsFrom types scope fs slots p) → SlotCase types scope x.field x.slot p
+  leads : (k : ℕ) (p : DeclaredField) (u : TypeId) → slice_get slots k ≡ Some p → p.shape ≡ One (Union u) → (x : IsFrom types fs slots p) → SlotCase types x.field x.slot p
       → (j : ℕ) × (f : DeclaredField) × (k ≡ suc j) × (slice_get slots j ≡ Some f) × IsUnionPair f p u
   leads k p u at shape x (alone e same) =
-      let is = union_from_shape x.field.kind (meaning_in types scope x.field.kind) u (sym (ap (λ q. q.shape) same) ∙ shape) in cc
+      let is = union_from_shape x.field.field.kind x.field.meaning u (sym (ap (λ q. q.shape) same) ∙ shape) in cc
   leads k p u at shape x (coded v e same) = let codes_same : One (Code v) ≡ One (Union u) = sym (ap (λ q. q.shape) same) ∙ shape in cc
   leads k p u at shape x (valued v e same) =
-      let f = code_slot x.field v x.slot in
-      let is = union_from_shape x.field.kind (meaning_in types scope x.field.kind) u (sym (ap (λ q. q.shape) same) ∙ shape) in
+      let f = code_slot x.field.field v x.slot in
+      let is = union_from_shape x.field.field.kind x.field.meaning u (sym (ap (λ q. q.shape) same) ∙ shape) in
       let ids : v ≡ u = cc in
       let slot : x.slot + 1 ≡ k = sym (ap (λ q. q.slot) same) ∙ placed.slots k p at in (
         x.slot,
         f,
         omega arith,
-        at_its_place slots placed.slots f (x.whole f (code_there types scope x.field x.slot v e)),
-        subst (λ q. IsUnionPair f q u) (sym same) (subst (λ w. IsUnionPair f (value_slot types scope x.field (x.slot + 1)) w) ids (pair_of types scope x.field x.slot v e)),
+        at_its_place slots placed.slots f (x.whole f (code_there types x.field x.slot v e)),
+        subst (λ q. IsUnionPair f q u) (sym same) (subst (λ w. IsUnionPair f (value_slot types x.field (x.slot + 1)) w) ids (pair_of types x.field x.slot v e)),
       )
 
   -- A union's code stands right before its value.
   pub unions_paired : UnionsPaired slots
   unions_paired = record {
-    followed = λ k p u at shape. let x = slot_placed types scope fs slots placed k p at in follows k p u at shape x (slot_cases types scope x.field x.slot p x.here);
-    led = λ k p u at shape. let x = slot_placed types scope fs slots placed k p at in leads k p u at shape x (slot_cases types scope x.field x.slot p x.here);
+    followed = λ k p u at shape. let x = slot_placed types fs slots placed k p at in follows k p u at shape x (slot_cases types x.field x.slot p x.here);
+    led = λ k p u at shape. let x = slot_placed types fs slots placed k p at in leads k p u at shape x (slot_cases types x.field x.slot p x.here);
   }
 
 -- ---- names
 
-names-by_union : (types : List TypeRead) (scope : Option Name) (f : FieldRead) (slot : ℕ) (u : Option TypeId) → names_of (slots_by_union types scope f u slot) ≡ map (λ n. n.bytes) (names_by_union f u)
-names-by_union types scope f slot None = refl
-names-by_union types scope f slot (Some u) = refl
+names-by_union : (types : List TypeRead) (f : ResolvedField) (slot : ℕ) (u : Option TypeId) → names_of (slots_by_union types f u slot) ≡ map (λ n. n.bytes) (names_by_union f.field u)
+names-by_union types f slot None = refl
+names-by_union types f slot (Some u) = refl
 
-names-of_field : (types : List TypeRead) (scope : Option Name) (f : FieldRead) (slot : ℕ) → names_of (slots_of_field types scope f slot) ≡ map (λ n. n.bytes) (names_of_field types scope f)
+names-of_field : (types : List TypeRead) (f : ResolvedField) (slot : ℕ) → names_of (slots_of_field types f slot) ≡ map (λ n. n.bytes) (names_of_field f)
 unfolding slots_of_field
-names-of_field types scope f slot = names-by_union types scope f slot (union_in types scope f)
+names-of_field types f slot = names-by_union types f slot (union_in f)
 
-names-more : (types : List TypeRead) (scope : Option Name) (f : FieldRead) (fs : List FieldRead) (slot : ℕ) (rest : List DeclaredField) → names_of rest ≡ map (λ n. n.bytes) (flat_map (names_of_field types scope) fs)
-    → names_of (slots_of_field types scope f slot ++ rest) ≡ map (λ n. n.bytes) (flat_map (names_of_field types scope) (f ∷ fs))
-names-more types scope f fs slot rest e =
-    map-append (λ s. s.name) (slots_of_field types scope f slot) rest
-    ∙ ap (λ ns. ns ++ names_of rest) (names-of_field types scope f slot)
-    ∙ ap (λ ns. map (λ n. n.bytes) (names_of_field types scope f) ++ ns) e
-    ∙ sym (map-append (λ n. n.bytes) (names_of_field types scope f) (flat_map (names_of_field types scope) fs))
+names-more : (types : List TypeRead) (f : ResolvedField) (fs : List ResolvedField) (slot : ℕ) (rest : List DeclaredField) → names_of rest ≡ map (λ n. n.bytes) (flat_map (names_of_field) fs)
+    → names_of (slots_of_field types f slot ++ rest) ≡ map (λ n. n.bytes) (flat_map (names_of_field) (f ∷ fs))
+names-more types f fs slot rest e =
+    map-append (λ s. s.name) (slots_of_field types f slot) rest
+    ∙ ap (λ ns. ns ++ names_of rest) (names-of_field types f slot)
+    ∙ ap (λ ns. map (λ n. n.bytes) (names_of_field f) ++ ns) e
+    ∙ sym (map-append (λ n. n.bytes) (names_of_field f) (flat_map (names_of_field) fs))
 
-names-in_order : (types : List TypeRead) (scope : Option Name) (slot : ℕ) (fs : List FieldRead) → names_of (slots_in_order types scope slot fs) ≡ map (λ n. n.bytes) (flat_map (names_of_field types scope) fs)
+names-in_order : (types : List TypeRead) (slot : ℕ) (fs : List ResolvedField) → names_of (slots_in_order types slot fs) ≡ map (λ n. n.bytes) (flat_map (names_of_field) fs)
 unfolding slots_in_order
-names-in_order types scope slot [] = refl
-names-in_order types scope slot (f ∷ fs) = names-more types scope f fs slot _ (names-in_order types scope (slot + length (slots_of_field types scope f slot)) fs)
+names-in_order types slot [] = refl
+names-in_order types slot (f ∷ fs) = names-more types f fs slot _ (names-in_order types (slot + length (slots_of_field types f slot)) fs)
 
-names-by_id : (types : List TypeRead) (scope : Option Name) (fs : List FieldRead) → names_of (slots_by_id types scope fs) ≡ map (λ n. n.bytes) (flat_map (names_of_field types scope) fs)
-names-by_id types scope [] = refl
-names-by_id types scope (f ∷ fs) = names-more types scope f fs (unwrap_or (slot_by_id types scope f) 0) _ (names-by_id types scope fs)
+names-by_id : (types : List TypeRead) (fs : List ResolvedField) → names_of (slots_by_id types fs) ≡ map (λ n. n.bytes) (flat_map (names_of_field) fs)
+names-by_id types [] = refl
+names-by_id types (f ∷ fs) = names-more types f fs (unwrap_or (slot_by_id f) 0) _ (names-by_id types fs)
 
-names-by_test : (types : List TypeRead) (scope : Option Name) (fs : List FieldRead) (b : Bool) → names_of (if b then slots_by_id types scope fs else slots_in_order types scope 0 fs) ≡ map (λ n. n.bytes) (flat_map (names_of_field types scope) fs)
-names-by_test types scope fs true = names-by_id types scope fs
-names-by_test types scope fs false = names-in_order types scope 0 fs
+names-by_test : (types : List TypeRead) (fs : List ResolvedField) (b : Bool) → names_of (if b then slots_by_id types fs else slots_in_order types 0 fs) ≡ map (λ n. n.bytes) (flat_map (names_of_field) fs)
+names-by_test types fs true = names-by_id types fs
+names-by_test types fs false = names-in_order types 0 fs
 
 -- The names of a table's slots differ.
-pub slot_names_differ : (types : List TypeRead) (scope : Option Name) (fs : List FieldRead) (slots : List DeclaredField) → AreInPlace (slots_read types scope fs) slots
-    → names_again [] (flat_map (names_of_field types scope) fs) ≡ [] → AllDiffer (names_of slots)
-slot_names_differ types scope fs slots placed h =
-    AllDiffer-permutation (names_of (slots_read types scope fs)) (names_of slots) (IsPermutation-map (λ s. s.name) (slots_read types scope fs) slots placed.same)
-    (subst (λ ns. AllDiffer ns) (sym (names-by_test types scope fs (have_ids fs))) (names_apart (flat_map (names_of_field types scope) fs) h))
+pub slot_names_differ : (types : List TypeRead) (fs : List ResolvedField) (slots : List DeclaredField) → AreInPlace (slots_read types fs) slots
+    → names_again [] (flat_map (names_of_field) fs) ≡ [] → AllDiffer (names_of slots)
+slot_names_differ types fs slots placed h =
+    AllDiffer-permutation (names_of (slots_read types fs)) (names_of slots) (IsPermutation-map (λ s. s.name) (slots_read types fs) slots placed.same)
+    (subst (λ ns. AllDiffer ns) (sym (names-by_test types fs (have_ids fs))) (names_apart (flat_map (names_of_field) fs) h))

@@ -23,7 +23,9 @@ use Rattle.fb_resolve.specs.declared.meanings.Meaning.TheVariants.{Known, Float,
 use Rattle.fb_resolve.specs.declared.attributes.Known.TheVariants.{ForceAlign}
 use Rattle.fb_declare.specs.declared.attribute_faults.Place.TheVariants as places
 use Rattle.fb_resolve.specs.Outline.{TypeRead, Outline}
-use Rattle.fb_resolve.specs.Meaning.{meaning_of, meaning_in, type_name}
+use Rattle.fb_resolve.specs.Meaning.{meaning_of}
+use Rattle.fb_resolve.specs.ResolvedFields.{ResolvedField}
+use Rattle.fb_resolve.specs.Resolved.{resolved_fields, resolved_table}
 use Rattle.fb_resolve.specs.Attributes.{is_alignment, number_called}
 use Rattle.fb_declare.specs.AttributeFaults.{metadata_faults}
 use Rattle.fb_resolve.specs.SlotsRead.{shape_of}
@@ -34,6 +36,7 @@ use Rattle.fb_declare.specs.Declares.{Gives}
 use Rattle.fb_declare.proofs.FaultFree.{none_left, none_right, none_at, when-none}
 use Rattle.fb_declare.proofs.NoFaults.{both_empty, names_apart}
 use Rattle.fb_declare.proofs.KindsNamed.{kind_named}
+use Rattle.fb_declare.proofs.Meant.{meant_at}
 
 -- the alignments that may be forced
 abbrev pub alignments : List ℕ
@@ -94,78 +97,77 @@ part_right S t (One n) Unknown named h = absurd (grind (arith, h))
 part_right S t (Many at n) m named h = absurd (grind (arith, none_right (use_faults m n.at) (part_faults t (Many at n) m) h))
 
 -- what is read of a part
-pub part_at : (types : List TypeRead) (scope : Option Name) (n : ℕ) (fs : List FieldRead) (k : ℕ) (p : DeclaredField) → slice_get (parts_from types scope n fs) k ≡ Some p
-    → (f : FieldRead) × (slice_get fs k ≡ Some f) × (p ≡ part_read types scope f (n + k))
+pub part_at : (n : ℕ) (fs : List ResolvedField) (k : ℕ) (p : DeclaredField) → slice_get (parts_from n fs) k ≡ Some p
+    → (f : ResolvedField) × (slice_get fs k ≡ Some f) × (p ≡ part_read f (n + k))
 unfolding parts_from
-part_at types scope n [] k p e = absurd (none-some p e)
-part_at types scope n (f ∷ fs) zero p e = let same : part_read types scope f n ≡ p = cc in let sum : n ≡ n + 0 = omega arith in (f, refl, sym same ∙ ap (part_read types scope f) sum)
-part_at types scope n (f ∷ fs) (suc k) p e = let rest = part_at types scope (n + 1) fs k p e in let sum : n + 1 + k ≡ n + suc k = omega arith in (rest.0, rest.1, rest.2 ∙ ap (part_read types scope rest.0) sum)
+part_at n [] k p e = absurd (none-some p e)
+part_at n (f ∷ fs) zero p e = let same : part_read f n ≡ p = cc in let sum : n ≡ n + 0 = omega arith in (f, refl, sym same ∙ ap (part_read f) sum)
+part_at n (f ∷ fs) (suc k) p e = let rest = part_at (n + 1) fs k p e in let sum : n + 1 + k ≡ n + suc k = omega arith in (rest.0, rest.1, rest.2 ∙ ap (part_read rest.0) sum)
 
 -- the parts have the names of the fields
-names_of_parts : (types : List TypeRead) (scope : Option Name) (n : ℕ) (fs : List FieldRead) → map (λ n. n.bytes) (map (λ f. f.name) fs) ≡ names_of (parts_from types scope n fs)
+names_of_parts : (types : List TypeRead) (scope : Option Name) (n : ℕ) (fs : List FieldRead) → map (λ n. n.bytes) (map (λ f. f.name) fs) ≡ names_of (parts_from n (resolved_fields types scope fs))
 unfolding parts_from
 names_of_parts types scope n [] = refl
 names_of_parts types scope n (f ∷ fs) = ap (λ names. f.name.bytes ∷ names) (names_of_parts types scope (n + 1) fs)
 
 -- where there are fields there are parts
-some_parts : (types : List TypeRead) (scope : Option Name) (fs : List FieldRead) → is_empty_list fs ≡ false → 0 < length (parts_from types scope 0 fs)
+some_parts : (types : List TypeRead) (scope : Option Name) (fs : List FieldRead) → is_empty_list fs ≡ false → 0 < length (parts_from 0 (resolved_fields types scope fs))
 unfolding parts_from
 some_parts types scope [] h = absurd (true≢false h)
 some_parts types scope (f ∷ fs) h = omega arith
 
 -- what is empty where a struct has no fault
 pub record IsStructRight (types : List TypeRead) (declared : List Name) (scope : Option Name) (lower : List ℕ) (s : TableRead) : Type 0 where
-  pub metadata : metadata_faults declared (places.Struct (natural_align types scope lower s.fields)) [] s.attributes ≡ []
+  pub metadata : metadata_faults declared (places.Struct (natural_align types lower (resolved_fields types scope s.fields))) [] s.attributes ≡ []
   pub some : is_empty_list s.fields ≡ false
   pub names : names_again [] (map (λ f. f.name) s.fields) ≡ []
-  pub fields : flat_map (struct_field_faults types declared scope (length lower)) s.fields ≡ []
+  pub fields : flat_map (struct_field_faults declared (length lower)) (resolved_fields types scope s.fields) ≡ []
 
 -- a struct with no fault has none in its parts
-pub struct_right : (types : List TypeRead) (declared : List Name) (scope : Option Name) (lower : List ℕ) (s : TableRead) → struct_faults types declared scope lower s ≡ []
+pub struct_right : (types : List TypeRead) (declared : List Name) (scope : Option Name) (lower : List ℕ) (s : TableRead) → struct_faults types declared lower (resolved_table types scope s) ≡ []
     → IsStructRight types declared scope lower s
 unfolding struct_faults
 struct_right types declared scope lower s h =
-    let attribute_faults : List SchemaFault = metadata_faults declared (places.Struct (natural_align types scope lower s.fields)) [] s.attributes in
+    let attribute_faults : List SchemaFault = metadata_faults declared (places.Struct (natural_align types lower (resolved_fields types scope s.fields))) [] s.attributes in
     let empty_faults : List SchemaFault = when (is_empty_list s.fields) (EmptyStruct s.name.at) in
     let name_faults : List SchemaFault = names_again [] (map (λ f. f.name) s.fields) in
-    let field_faults : List SchemaFault = flat_map (struct_field_faults types declared scope (length lower)) s.fields in
+    let field_faults : List SchemaFault = flat_map (struct_field_faults declared (length lower)) (resolved_fields types scope s.fields) in
     let a = both_empty (attribute_faults ++ empty_faults ++ name_faults) field_faults h in
     let b = both_empty (attribute_faults ++ empty_faults) name_faults a.0 in
     let c = both_empty attribute_faults empty_faults b.0 in
     record { metadata = c.0; some = when-none (is_empty_list s.fields) (EmptyStruct s.name.at) c.1; names = b.1; fields = a.1 }
 
 -- the type of a struct's field with no fault
-pub field_type_right : (types : List TypeRead) (declared : List Name) (scope : Option Name) (t : ℕ) (f : FieldRead) → struct_field_faults types declared scope t f ≡ []
-    → struct_field_type t f.kind (meaning_in types scope f.kind) ≡ []
+pub field_type_right : (declared : List Name) (t : ℕ) (f : ResolvedField) → struct_field_faults declared t f ≡ [] → struct_field_type t f.field.kind f.meaning ≡ []
 unfolding struct_field_faults
-field_type_right types declared scope t f h =
-    let kind_faults : List SchemaFault = struct_field_type t f.kind (meaning_in types scope f.kind) in
-    let default_faults : List SchemaFault = default_in_struct f.default in
-    none_left kind_faults default_faults (none_left (kind_faults ++ default_faults) (metadata_faults declared places.StructField [] f.attributes) h)
+field_type_right declared t f h =
+    let kind_faults : List SchemaFault = struct_field_type t f.field.kind f.meaning in
+    let default_faults : List SchemaFault = default_in_struct f.field.default in
+    none_left kind_faults default_faults (none_left (kind_faults ++ default_faults) (metadata_faults declared places.StructField [] f.field.attributes) h)
 
 -- a struct with no fault has a right body, where each known use names a type
 pub struct_kept_by : (S : DeclaredSchema) (types : List TypeRead) (declared : List Name) (scope : Option Name) → ((name : Name) (k : Kind) → meaning_of types scope name ≡ Known k → KindNames S k)
-    → (lower : List ℕ) (s : TableRead) → struct_faults types declared scope lower s ≡ [] → IsStructBody S (length lower) (parts_from types scope 0 s.fields) (forced_align 0 s.attributes)
+    → (lower : List ℕ) (s : TableRead) → struct_faults types declared lower (resolved_table types scope s) ≡ [] → IsStructBody S (length lower) (parts_from 0 (resolved_fields types scope s.fields)) (forced_align 0 s.attributes)
 struct_kept_by S types declared scope named lower s h =
     let right = struct_right types declared scope lower s h in
     record {
       some = some_parts types scope s.fields right.some;
       aligned = forced_aligned 0 s.attributes;
-      slots = λ k p e. let f = part_at types scope 0 s.fields k p e in ap (λ q. q.slot) f.2 ∙ omega arith;
+      slots = λ k p e. let f = part_at 0 (resolved_fields types scope s.fields) k p e in ap (λ q. q.slot) f.2 ∙ omega arith;
       names = subst (AllPairs (λ a b. a ≢ b)) (names_of_parts types scope 0 s.fields) (names_apart (map (λ f. f.name) s.fields) right.names);
-      parts = λ k p e. let f = part_at types scope 0 s.fields k p e in part_kept right.fields k f.0 f.1 p f.2;
+      parts = λ k p e. let f = part_at 0 (resolved_fields types scope s.fields) k p e in part_kept right.fields k f.0 f.1 p f.2;
     }
   where
-    part_kept : flat_map (struct_field_faults types declared scope (length lower)) s.fields ≡ [] → (k : ℕ) (f : FieldRead) → slice_get s.fields k ≡ Some f → (p : DeclaredField) → p ≡ part_read types scope f (0 + k)
+    part_kept : flat_map (struct_field_faults declared (length lower)) (resolved_fields types scope s.fields) ≡ [] → (k : ℕ) (f : ResolvedField) → slice_get (resolved_fields types scope s.fields) k ≡ Some f → (p : DeclaredField) → p ≡ part_read f (0 + k)
         → IsPart S (length lower) p.shape × IsPlain p
     part_kept none k f at p e = subst (λ (q : DeclaredField). IsPart S (length lower) q.shape × IsPlain q) (sym e) (
-      part_right S (length lower) f.kind (meaning_in types scope f.kind) (named (type_name f.kind).bytes)
-          (field_type_right types declared scope (length lower) f (none_at (struct_field_faults types declared scope (length lower)) s.fields none k f at)),
+      part_right S (length lower) f.field.kind f.meaning (meant_at (λ m. (k : Kind) → m ≡ Known k → KindNames S k) types scope named s.fields k f at)
+          (field_type_right declared (length lower) f (none_at (struct_field_faults declared (length lower)) (resolved_fields types scope s.fields) none k f at)),
       (refl, refl, refl, refl),
     )
 
 -- in the schema that an outline gives
-pub struct_kept : (o : Outline) (S : DeclaredSchema) → Gives o S → (scope : Option Name) (lower : List ℕ) (s : TableRead) → struct_faults o.types o.attributes scope lower s ≡ []
-    → (t : ℕ) → length lower ≡ t → IsStructBody S t (parts_from o.types scope 0 s.fields) (forced_align 0 s.attributes)
-struct_kept o S gives scope lower s h t e = subst (λ (t : ℕ). IsStructBody S t (parts_from o.types scope 0 s.fields) (forced_align 0 s.attributes)) e
+pub struct_kept : (o : Outline) (S : DeclaredSchema) → Gives o S → (scope : Option Name) (lower : List ℕ) (s : TableRead) → struct_faults o.types o.attributes lower (resolved_table o.types scope s) ≡ []
+    → (t : ℕ) → length lower ≡ t → IsStructBody S t (parts_from 0 (resolved_fields o.types scope s.fields)) (forced_align 0 s.attributes)
+struct_kept o S gives scope lower s h t e = subst (λ (t : ℕ). IsStructBody S t (parts_from 0 (resolved_fields o.types scope s.fields)) (forced_align 0 s.attributes)) e
     (struct_kept_by S o.types o.attributes scope (kind_named o S gives scope) lower s h)

@@ -17,7 +17,8 @@ use Rattle.fb_schema.specs.declared.kinds.TypeId.{TypeId}
 use Rattle.fb_schema.specs.declared.kinds.Kind.{Kind}
 use Rattle.fb_schema.specs.declared.kinds.Kind.TheVariants.{Scalar, Enum, Struct, Table, Union, Code, Text}
 use Rattle.fb_resolve.specs.Outline.{TypeRead, Outline}
-use Rattle.fb_resolve.specs.Meaning.{meaning_in, type_name}
+use Rattle.fb_resolve.specs.ResolvedFields.{ResolvedField}
+use Rattle.fb_resolve.specs.Resolved.{resolved_fields, resolved_table, resolved_declaration, resolved_types}
 use Rattle.fb_resolve.specs.Attributes.{has_attribute}
 use Rattle.fb_declare.specs.AttributeFaults.{may_stand, metadata_faults}
 use Rattle.fb_resolve.specs.EnumsRead.{underlying_in, underlying_of_read, underlying_at, value_in, value_of_read, value_at, base_or_ubyte, values_read}
@@ -41,6 +42,7 @@ use Rattle.fb_declare.proofs.FaultFree.{none_left, none_right, none_contained, a
 use Rattle.fb_declare.proofs.KindsNamed.{MeansIn, means_in, read_from_type}
 use Rattle.fb_declare.proofs.PairsKept.{SlotCase, alone, coded, valued, slot_cases, unions_paired, slot_names_differ}
 use Rattle.fb_declare.proofs.SlotsKept.{slot_placed}
+use Rattle.fb_declare.proofs.Meant.{meant_among}
 
 -- ---- the enums that fields name
 
@@ -48,7 +50,7 @@ use Rattle.fb_declare.proofs.SlotsKept.{slot_placed}
 abbrev IsEnumKept : List TypeRead → Option Base → (Name → Option ℤ) → DeclaredBody → Type 0
 IsEnumKept types under value body = (under ≡ Some (base_in body)) × ((name : Name) → IfSome (value name) (InRange (base_in body)))
 
-enum_facts : (types : List TypeRead) (declared : List Name) (lower : List ℕ) (scope : Option Name) (d : TypeDecl) (b : DeclaredBody) → declaration_faults types declared lower scope d ≡ [] → HasBody types scope d b
+enum_facts : (types : List TypeRead) (declared : List Name) (lower : List ℕ) (scope : Option Name) (d : TypeDecl) (b : DeclaredBody) → declaration_faults types declared lower (resolved_declaration types scope d) ≡ [] → HasBody types (resolved_declaration types scope d) b
     → IsTrue (is_enum b) → IsEnumKept types (underlying_in types scope d) (value_in types scope d) b
 enum_facts types declared lower scope d (table_body fs) h body is = cc
 enum_facts types declared lower scope d (struct_body fs a) h body is = cc
@@ -72,12 +74,12 @@ there (x ∷ xs) (suc i) h = there xs i (omega arith)
 abbrev pub AreEnumsKept : List TypeRead → DeclaredSchema → Type 0
 AreEnumsKept types S = (e : ℕ) → Names is_enum S e → IsEnumKept types (underlying_at types e) (value_at types e) (body_at S e)
 
-pub enums_kept : (o : Outline) (S : DeclaredSchema) → Gives o S → faults_of_types o.types o.attributes [] o.types ≡ [] → AreEnumsKept o.types S
+pub enums_kept : (o : Outline) (S : DeclaredSchema) → Gives o S → faults_of_types o.types o.attributes [] (resolved_types o.types) ≡ [] → AreEnumsKept o.types S
 unfolding value_at
 enums_kept o S g sound e named =
     let found = there S.types e named.0 in
     let read = read_from_type o S g e found.0 found.1 in
-    let lower = aligns_from o.types [] (take e o.types) in
+    let lower = aligns_from o.types [] (take e (resolved_types o.types)) in
     let right = declaration_right o S g sound e read.0 read.1 in
     let is : IsTrue (is_enum found.0.body) = subst (λ t. IsTrue (is_enum (body_in t))) found.1 named.1 in
     subst (λ r. IsEnumKept o.types (underlying_of_read o.types r) (value_of_read o.types r) (body_at S e)) (sym read.1)
@@ -163,49 +165,49 @@ union_named S (types_read.Many at n) m u h e = cc
 
 -- what is empty where a table has no fault
 pub record IsTableRight (types : List TypeRead) (declared : List Name) (scope : Option Name) (t : TableRead) : Type 0 where
-  pub names : names_again [] (flat_map (names_of_field types scope) t.fields) ≡ []
-  pub fields : flat_map (table_field_faults types declared scope) t.fields ≡ []
+  pub names : names_again [] (flat_map names_of_field (resolved_fields types scope t.fields)) ≡ []
+  pub fields : flat_map (table_field_faults types declared) (resolved_fields types scope t.fields) ≡ []
 
-pub table_right : (types : List TypeRead) (declared : List Name) (scope : Option Name) (t : TableRead) → table_faults types declared scope t ≡ [] → IsTableRight types declared scope t
+pub table_right : (types : List TypeRead) (declared : List Name) (scope : Option Name) (t : TableRead) → table_faults types declared (resolved_table types scope t) ≡ [] → IsTableRight types declared scope t
 unfolding table_faults
 table_right types declared scope t h =
-    let marks = metadata_faults declared places.Table [] t.attributes ++ when (are_ids_wrong types scope t.fields) (BadIds t.name.at) in
-    let names = names_again [] (flat_map (names_of_field types scope) t.fields) in
-    let fields = flat_map (table_field_faults types declared scope) t.fields in
+    let marks = metadata_faults declared places.Table [] t.attributes ++ when (are_ids_wrong (resolved_fields types scope t.fields)) (BadIds t.name.at) in
+    let names = names_again [] (flat_map names_of_field (resolved_fields types scope t.fields)) in
+    let fields = flat_map (table_field_faults types declared) (resolved_fields types scope t.fields) in
     record {
       names = none_right marks names (none_left (marks ++ names) fields h);
       fields = none_right (marks ++ names) fields h;
     }
 
 -- a field with no fault has a right type and right attributes
-field_right : (types : List TypeRead) (declared : List Name) (scope : Option Name) (f : FieldRead) → table_field_faults types declared scope f ≡ []
-    → (table_field_type f.kind (meaning_in types scope f.kind) ≡ []) × (metadata_faults declared (place_of_field f.kind (meaning_in types scope f.kind)) [] f.attributes ≡ [])
+field_right : (types : List TypeRead) (declared : List Name) (f : ResolvedField) → table_field_faults types declared f ≡ []
+    → (table_field_type f.field.kind f.meaning ≡ []) × (metadata_faults declared (place_of_field f.field.kind f.meaning) [] f.field.attributes ≡ [])
 unfolding table_field_faults
-field_right types declared scope f h =
-    let type = table_field_type f.kind (meaning_in types scope f.kind) in
-    let default = bad_default f.default (given_in types scope f) in
-    let marks = metadata_faults declared (place_of_field f.kind (meaning_in types scope f.kind)) [] f.attributes in
+field_right types declared f h =
+    let type = table_field_type f.field.kind f.meaning in
+    let default = bad_default f.field.default (given_in types f) in
+    let marks = metadata_faults declared (place_of_field f.field.kind f.meaning) [] f.field.attributes in
     (none_left type default (none_left (type ++ default) marks h), none_right (type ++ default) marks h)
 
 module _ (o : Outline) (S : DeclaredSchema) (g : Gives o S) (enums : AreEnumsKept o.types S) (scope : Option Name) (t : TableRead) (right : IsTableRight o.types o.attributes scope t) where
-  means : (k : FieldType) → MeansIn S (meaning_in o.types scope k)
-  means k = means_in o S g scope (type_name k).bytes
+  means : (f : ResolvedField) → Contains (resolved_fields o.types scope t.fields) f → MeansIn S f.meaning
+  means f among = meant_among (MeansIn S) o.types scope (means_in o S g scope) t.fields f among
 
-  value_of_field : (f : FieldRead) → Contains t.fields f → (slot : ℕ) → IsSlotRight S (value_slot o.types scope f slot)
+  value_of_field : (f : ResolvedField) → Contains (resolved_fields o.types scope t.fields) f → (slot : ℕ) → IsSlotRight S (value_slot o.types f slot)
   value_of_field f among slot =
-      let none = field_right o.types o.attributes scope f (none_contained (table_field_faults o.types o.attributes scope) t.fields right.fields f among) in
-      value_right S o.types o.attributes f slot f.kind (meaning_in o.types scope f.kind) enums (means f.kind) none.0 none.1
+      let none = field_right o.types o.attributes f (none_contained (table_field_faults o.types o.attributes) (resolved_fields o.types scope t.fields) right.fields f among) in
+      value_right S o.types o.attributes f.field slot f.field.kind f.meaning enums (means f among) none.0 none.1
 
-  slot_right : (p : DeclaredField) (f : FieldRead) (slot : ℕ) → Contains t.fields f → SlotCase o.types scope f slot p → IsSlotRight S p
+  slot_right : (p : DeclaredField) (f : ResolvedField) (slot : ℕ) → Contains (resolved_fields o.types scope t.fields) f → SlotCase o.types f slot p → IsSlotRight S p
   slot_right p f slot among (alone e same) = subst (λ q. IsSlotRight S q) (sym same) (value_of_field f among slot)
-  slot_right p f slot among (coded u e same) = subst (λ q. IsSlotRight S q) (sym same) (union_named S f.kind (meaning_in o.types scope f.kind) u (means f.kind) e, ((refl, refl), refl))
+  slot_right p f slot among (coded u e same) = subst (λ q. IsSlotRight S q) (sym same) (union_named S f.field.kind f.meaning u (means f among) e, ((refl, refl), refl))
   slot_right p f slot among (valued u e same) = subst (λ q. IsSlotRight S q) (sym same) (value_of_field f among (slot + 1))
 
   -- Its slots, in their places, are a table's.
-  pub table_kept : (slots : List DeclaredField) → AreInPlace (slots_read o.types scope t.fields) slots → IsTableBody S slots
-  table_kept slots placed = record {
+  pub table_kept : (slots : List DeclaredField) → AreInPlace (slots_read o.types (resolved_fields o.types scope t.fields)) slots → IsTableBody S slots
+  table_kept slots placed = let fields = resolved_fields o.types scope t.fields in record {
     slots = placed.slots;
-    names = slot_names_differ o.types scope t.fields slots placed right.names;
-    shapes = λ k p at. let x = slot_placed o.types scope t.fields slots placed k p at in slot_right p x.field x.slot x.among (slot_cases o.types scope x.field x.slot p x.here);
-    unions = unions_paired S o.types scope means t.fields slots placed;
+    names = slot_names_differ o.types fields slots placed right.names;
+    shapes = λ k p at. let x = slot_placed o.types fields slots placed k p at in slot_right p x.field x.slot x.among (slot_cases o.types x.field x.slot p x.here);
+    unions = unions_paired S o.types fields means slots placed;
   }

@@ -27,6 +27,7 @@ use Rattle.fb_resolve.proofs.Bytes.{bytes_eq-refl}
 use Rattle.fb_declare.proofs.FaultFree.{none_left, none_right, when-none}
 use Rattle.fb_declare.proofs.NoFaults.{both_empty, apart_by, names_apart}
 use Rattle.fb_declare.proofs.KindsNamed.{kind_named}
+use Rattle.fb_resolve.specs.Resolved.{resolved_member, resolved_members, resolved_union}
 
 -- a member's name and table
 
@@ -49,7 +50,7 @@ pub record IsMember (S : DeclaredSchema) (before : ℕ) (m : Name × ℕ) : Type
 -- a member with no fault is right
 member_right : (S : DeclaredSchema) (types : List TypeRead) (scope : Option Name) (before : ℕ) (m : UnionMember)
     → ((k : Kind) → meaning_of types scope m.table.bytes ≡ Known k → KindNames S k) → member_faults before (member_name m) m.table.at (meaning_of types scope m.table.bytes) ≡ []
-    → IsMember S before (member_read types scope m)
+    → IsMember S before (member_read (resolved_member types scope m))
 unfolding member_faults
 member_right S types scope before m named h =
     let meant : Meaning = meaning_of types scope m.table.bytes in
@@ -63,41 +64,41 @@ member_right S types scope before m named h =
 
 -- the faults of one member more
 members-cons : (types : List TypeRead) (scope : Option Name) (before : ℕ) (m : UnionMember) (ms : List UnionMember)
-    → members_faults types scope before (m ∷ ms) ≡ member_faults before (member_name m) m.table.at (meaning_of types scope m.table.bytes) ++ members_faults types scope (before + 1) ms
+    → members_faults before (resolved_members types scope (m ∷ ms)) ≡ member_faults before (member_name m) m.table.at (meaning_of types scope m.table.bytes) ++ members_faults (before + 1) (resolved_members types scope ms)
 unfolding members_faults
 members-cons types scope before m ms = refl
 
 -- the members of a union, where each known use names a type
 module _ (S : DeclaredSchema) (types : List TypeRead) (scope : Option Name) (named : (name : Name) (k : Kind) → meaning_of types scope name ≡ Known k → KindNames S k) where
   -- members with no fault are few and right
-  members_right : (before : ℕ) (ms : List UnionMember) → before ≤ 255 → members_faults types scope before ms ≡ []
-      → (before + length ms ≤ 255) × All (λ m. (m.0 ≢ codes "NONE") × Names is_table S m.1) (map (member_read types scope) ms)
+  members_right : (before : ℕ) (ms : List UnionMember) → before ≤ 255 → members_faults before (resolved_members types scope ms) ≡ []
+      → (before + length ms ≤ 255) × All (λ m. (m.0 ≢ codes "NONE") × Names is_table S m.1) (map member_read (resolved_members types scope ms))
   members_right before [] few h = (omega arith, All-nil (λ m. (m.0 ≢ codes "NONE") × Names is_table S m.1))
   members_right before (m ∷ ms) few h =
-      let parts = both_empty (member_faults before (member_name m) m.table.at (meaning_of types scope m.table.bytes)) (members_faults types scope (before + 1) ms) (sym (members-cons types scope before m ms) ∙ h) in
-      let is : IsMember S before (member_read types scope m) = member_right S types scope before m (named m.table.bytes) parts.0 in
+      let parts = both_empty (member_faults before (member_name m) m.table.at (meaning_of types scope m.table.bytes)) (members_faults (before + 1) (resolved_members types scope ms)) (sym (members-cons types scope before m ms) ∙ h) in
+      let is : IsMember S before (member_read (resolved_member types scope m)) = member_right S types scope before m (named m.table.bytes) parts.0 in
       let rest = members_right (before + 1) ms (omega (arith, is.few)) parts.1 in
-      (omega (arith, rest.0), All-cons (λ m. (m.0 ≢ codes "NONE") × Names is_table S m.1) (member_read types scope m) (map (member_read types scope) ms) (is.not_none, is.table) rest.1)
+      (omega (arith, rest.0), All-cons (λ m. (m.0 ≢ codes "NONE") × Names is_table S m.1) (member_read (resolved_member types scope m)) (map member_read (resolved_members types scope ms)) (is.not_none, is.table) rest.1)
 
   -- a union with no fault has a right body
-  pub union_kept_by : (declared : List Name) (u : UnionRead) → union_faults types declared scope u ≡ [] → IsUnionBody S (map (member_read types scope) u.members)
+  pub union_kept_by : (declared : List Name) (u : UnionRead) → union_faults declared (resolved_union types scope u) ≡ [] → IsUnionBody S (map member_read (resolved_members types scope u.members))
   unfolding union_faults
   union_kept_by declared u h =
-      let a = both_empty (metadata_faults declared places.Union [] u.attributes ++ names_again [] (map member_name u.members)) (members_faults types scope 0 u.members) h in
+      let a = both_empty (metadata_faults declared places.Union [] u.attributes ++ names_again [] (map member_name u.members)) (members_faults 0 (resolved_members types scope u.members)) h in
       let names = names_apart (map member_name u.members) (none_right (metadata_faults declared places.Union [] u.attributes) (names_again [] (map member_name u.members)) a.0) in
       let members = members_right 0 u.members (omega arith) a.1 in
       record {
-        few = omega (arith, members.0, length-map u.members (member_read types scope));
+        few = omega (arith, members.0, length-map (resolved_members types scope u.members) member_read, length-map u.members (resolved_member types scope));
         no_none = λ k d within. (members.1 k d within).0;
-        names = apart_by (λ m. m.0) (map (member_read types scope) u.members) (subst (AllPairs (λ a b. a ≢ b)) (same_names u.members) names);
+        names = apart_by (λ m. m.0) (map member_read (resolved_members types scope u.members)) (subst (AllPairs (λ a b. a ≢ b)) (same_names u.members) names);
         tables = λ k d within. (members.1 k d within).1;
       }
     where
-      same_names : (ms : List UnionMember) → map (λ n. n.bytes) (map member_name ms) ≡ map (λ m. m.0) (map (member_read types scope) ms)
+      same_names : (ms : List UnionMember) → map (λ n. n.bytes) (map member_name ms) ≡ map (λ m. m.0) (map member_read (resolved_members types scope ms))
       same_names [] = refl
       same_names (m ∷ ms) = ap (λ names. (member_name m).bytes ∷ names) (same_names ms)
 
 -- in the schema that an outline gives
-pub union_kept : (o : Outline) (S : DeclaredSchema) → Gives o S → (scope : Option Name) (u : UnionRead) → union_faults o.types o.attributes scope u ≡ []
-    → IsUnionBody S (map (member_read o.types scope) u.members)
+pub union_kept : (o : Outline) (S : DeclaredSchema) → Gives o S → (scope : Option Name) (u : UnionRead) → union_faults o.attributes (resolved_union o.types scope u) ≡ []
+    → IsUnionBody S (map member_read (resolved_members o.types scope u.members))
 union_kept o S gives scope u h = union_kept_by S o.types scope (kind_named o S gives scope) o.attributes u h

@@ -12,9 +12,9 @@ use Rattle.fb_syntax.specs.declared.declarations.DefaultValue.{DefaultValue}
 use Rattle.fb_syntax.specs.declared.declarations.DefaultValue.TheVariants.{Integer, Name as Named}
 use Rattle.fb_syntax.specs.declared.declarations.EnumValue.{EnumValue}
 use Rattle.fb_schema.specs.Schema.{Name}
-use Rattle.fb_resolve.specs.Outline.{TypeRead, RootRead}
+use Rattle.fb_resolve.specs.Outline.{RootRead}
 use Rattle.fb_resolve.specs.BasicTypes.{is_reserved}
-use Rattle.fb_resolve.specs.Meaning.{meaning_of, type_name}
+use Rattle.fb_resolve.specs.Meaning.{type_name}
 use Rattle.fb_resolve.specs.EnumsRead.{may_be_written, written_number, integer_type}
 use Rattle.fb_resolve.specs.MembersRead.{table_of}
 use Rattle.fb_schema.specs.declared.kinds.Base.{Base}
@@ -119,10 +119,9 @@ member_faults before name at m = none_name name ++ use_faults m at ++ bad_member
 abbrev pub bad_root : Meaning → ℕ → List SchemaFault
 bad_root m at = when (is_none (table_of m)) (BadRoot at)
 
-unfoldable pub root_faults : List TypeRead → ℕ → Option RootRead → List SchemaFault
-root_faults types text_len None = BadRoot text_len ∷ []
-root_faults types text_len (Some r) = let m = meaning_of types r.scope r.name.bytes in
-    use_faults m r.name.at ++ bad_root m r.name.at
+unfoldable pub root_faults : ℕ → Option RootRead → Meaning → List SchemaFault
+root_faults text_len None m = BadRoot text_len ∷ []
+root_faults text_len (Some r) m = use_faults m r.name.at ++ bad_root m r.name.at
 
 abbrev pub is_printable : ℕ → Bool
 is_printable c = nat_le 32 c && nat_le c 126

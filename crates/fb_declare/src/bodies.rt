@@ -1,130 +1,111 @@
 //! What the declarations of types give.
-ghost use Rattle.std.specs.Prelude.{◌≡◌, List, Option, IfOk, map, string_bytes};
+ghost use Rattle.std.specs.Prelude.{◌≡◌, IfOk, map, string_bytes};
 ghost use Rattle.std.specs.List.{AllZip};
-ghost use Rattle.std.specs.Option.{option_copied};
 ghost use Rattle.fb_schema.specs.Seen.{body_seen, type_seen};
-ghost use Rattle.fb_syntax.specs.declared.declarations.TypeDecl.TheVariants as TypeDecl;
-ghost use Rattle.fb_schema.specs.Schema.{Name};
-ghost use Rattle.fb_resolve.specs.Outline.{TypeRead};
+ghost use Rattle.fb_resolve.specs.declared.resolved.ResolvedDecl.TheVariants as ResolvedDecl;
 ghost use Rattle.fb_resolve.specs.MembersRead.{member_read};
 ghost use Rattle.fb_declare.specs.Declares.{HasBody, IsType};
 ghost use Rattle.fb_declare.specs.Buildable.{IsBuildable, AreBuildable};
 
 use fb_resolve::{
-    TypeRead, TypesRead, forced_align, has_flags, member_name, name_of_type, parts_read, table_of,
-    table_slots, underlying, values_read,
+    ResolvedDecl, ResolvedEnum, ResolvedMember, ResolvedTable, ResolvedType, ResolvedUnion,
+    TypesRead, forced_align, has_flags, integer_type, member_read, name_of_type, parts_read,
+    table_slots, values_over,
 };
 use fb_schema::{Base, Body, TypeId, TypeInfo};
-use fb_syntax::{EnumDecl, TableDecl, TypeDecl, UnionDecl, UnionMember};
 use std::alloc::{AllocError, Global};
 
-fn member_read(
-    types: TypesRead<'_, '_, '_, '_>,
-    alloc: Global,
-    scope: Option<&str>,
-    member: &UnionMember<'_>,
-) -> Result<(String, TypeId), AllocError>
-    ensures { IfOk result (λ m. (string_bytes m.0, m.1.0)
-        ≡ member_read types.entry.types.now (option_copied scope.entry) member.now) }
-{
-    let name = member_name(alloc, member)?;
-    let meaning = types.meaning(scope, member.table.as_str());
-    let table = table_of(meaning).unwrap_or(TypeId(0));
-    Ok((name.text, table))
-}
-
 fn members_read(
-    types: TypesRead<'_, '_, '_, '_>,
     alloc: Global,
-    scope: Option<&str>,
-    read: &UnionDecl<'_>,
+    members: &[ResolvedMember<'_, '_>],
 ) -> Result<Vec<(String, TypeId)>, AllocError>
     ensures { IfOk result (λ v. map (λ m. (string_bytes m.0, m.1.0)) v.items
-        ≡ map (member_read types.entry.types.now (option_copied scope.entry)) read.now.members) }
+        ≡ map member_read members.now) }
 {
-    let mut members = Vec::with_capacity(alloc, read.members.len())?;
-    for member in read.members.as_slice() {
-        members.push(member_read(types, alloc, scope, member)?)?;
+    let mut read = Vec::with_capacity(alloc, members.len())?;
+    for member in members {
+        read.push(member_read(alloc, member)?)?;
     }
-    Ok(members)
+    Ok(read)
 }
 
 fn struct_body(
     types: TypesRead<'_, '_, '_, '_>,
     alloc: Global,
-    scope: Option<&str>,
-    read: &TableDecl<'_>,
+    resolved: &ResolvedTable<'_, '_>,
 ) -> Result<Body, AllocError>
-    ensures { IfOk result (λ b. HasBody types.entry.types.now (option_copied scope.entry)
-        (TypeDecl.Struct read.now) (body_seen b)) }
+    ensures { IfOk result
+        (λ b. HasBody types.entry.types.now (ResolvedDecl.Struct resolved.now) (body_seen b)) }
 {
-    let parts = parts_read(types, alloc, scope, read.fields.as_slice())?;
-    Ok(Body::Struct(parts, forced_align(0, read.attributes.as_slice())))
+    let declared = resolved.declared;
+    let parts = parts_read(alloc, resolved.fields.as_slice())?;
+    Ok(Body::Struct(parts, forced_align(0, declared.attributes.as_slice())))
 }
 
-fn enum_body(alloc: Global, read: &EnumDecl<'_>) -> Result<Body, AllocError>
-    ensures { (types : List TypeRead) (scope : Option Name) → IfOk result
-        (λ b. HasBody types scope (TypeDecl.Enum read.now) (body_seen b)) }
+fn enum_body(
+    types: TypesRead<'_, '_, '_, '_>,
+    alloc: Global,
+    resolved: &ResolvedEnum<'_, '_>,
+) -> Result<Body, AllocError>
+    ensures { IfOk result
+        (λ b. HasBody types.entry.types.now (ResolvedDecl.Enum resolved.now) (body_seen b)) }
 {
-    let base = underlying(read).unwrap_or(Base::U8);
-    let values = values_read(alloc, read)?;
-    Ok(Body::Enum(base, has_flags(read), values))
+    let under = integer_type(resolved.underlying);
+    let values = values_over(alloc, under, resolved.declared)?;
+    let base = under.unwrap_or(Base::U8);
+    Ok(Body::Enum(base, has_flags(resolved.declared), values))
 }
 
 fn table_body(
     types: TypesRead<'_, '_, '_, '_>,
     alloc: Global,
-    scope: Option<&str>,
-    read: &TableDecl<'_>,
+    resolved: &ResolvedTable<'_, '_>,
 ) -> Result<Body, AllocError>
-    requires { IsBuildable types.types.now (option_copied scope) (TypeDecl.Table read.now) }
-    ensures { IfOk result (λ b. HasBody types.entry.types.now (option_copied scope.entry)
-        (TypeDecl.Table read.now) (body_seen b)) }
+    requires { IsBuildable (ResolvedDecl.Table resolved.now) }
+    ensures { IfOk result
+        (λ b. HasBody types.entry.types.now (ResolvedDecl.Table resolved.now) (body_seen b)) }
 {
-    let slots = table_slots(types, alloc, scope, read.fields.as_slice())?;
-    Ok(Body::Table(slots))
+    Ok(Body::Table(table_slots(types, alloc, resolved.fields.as_slice())?))
 }
 
 fn union_body(
     types: TypesRead<'_, '_, '_, '_>,
     alloc: Global,
-    scope: Option<&str>,
-    read: &UnionDecl<'_>,
+    resolved: &ResolvedUnion<'_, '_>,
 ) -> Result<Body, AllocError>
-    ensures { IfOk result (λ b. HasBody types.entry.types.now (option_copied scope.entry)
-        (TypeDecl.Union read.now) (body_seen b)) }
+    ensures { IfOk result
+        (λ b. HasBody types.entry.types.now (ResolvedDecl.Union resolved.now) (body_seen b)) }
 {
-    Ok(Body::Union(members_read(types, alloc, scope, read)?))
+    Ok(Body::Union(members_read(alloc, resolved.members.as_slice())?))
 }
 
 fn body_of(
     types: TypesRead<'_, '_, '_, '_>,
     alloc: Global,
-    scope: Option<&str>,
-    declaration: &TypeDecl<'_>,
+    declaration: &ResolvedDecl<'_, '_>,
 ) -> Result<Body, AllocError>
-    requires { IsBuildable types.types.now (option_copied scope) declaration.now }
-    ensures { IfOk result (λ b. HasBody types.entry.types.now (option_copied scope.entry)
-        declaration.now (body_seen b)) }
+    requires { IsBuildable declaration.now }
+    ensures { IfOk result
+        (λ b. HasBody types.entry.types.now declaration.now (body_seen b)) }
 {
     match declaration {
-        TypeDecl::Table(read) => table_body(types, alloc, scope, read),
-        TypeDecl::Struct(read) => struct_body(types, alloc, scope, read),
-        TypeDecl::Enum(read) => enum_body(alloc, read),
-        TypeDecl::Union(read) => union_body(types, alloc, scope, read),
+        ResolvedDecl::Table(table) => table_body(types, alloc, table),
+        ResolvedDecl::Struct(table) => struct_body(types, alloc, table),
+        ResolvedDecl::Enum(resolved) => enum_body(types, alloc, resolved),
+        ResolvedDecl::Union(union) => union_body(types, alloc, union),
     }
 }
 
 fn type_of(
     types: TypesRead<'_, '_, '_, '_>,
     alloc: Global,
-    read: &TypeRead<'_, '_>,
+    resolved: &ResolvedType<'_, '_, '_>,
 ) -> Result<TypeInfo, AllocError>
-    requires { IsBuildable types.types.now read.now.scope read.now.declaration }
-    ensures { IfOk result (λ t. IsType types.entry.types.now read.now (type_seen t)) }
+    requires { IsBuildable resolved.now.declaration }
+    ensures { IfOk result (λ t. IsType types.entry.types.now resolved.now (type_seen t)) }
 {
-    let name = name_of_type(alloc, read)?;
-    let body = body_of(types, alloc, read.scope, read.declaration)?;
+    let name = name_of_type(alloc, resolved.read)?;
+    let body = body_of(types, alloc, &resolved.declaration)?;
     Ok(TypeInfo { name, body })
 }
 
@@ -132,13 +113,14 @@ fn type_of(
 pub(crate) fn types_of(
     types: TypesRead<'_, '_, '_, '_>,
     alloc: Global,
+    resolved: &[ResolvedType<'_, '_, '_>],
 ) -> Result<Vec<TypeInfo>, AllocError>
-    requires { AreBuildable types.types.now }
-    ensures { IfOk result (λ v. AllZip (IsType types.entry.types.now)
-        types.entry.types.now (map type_seen v.items)) }
+    requires { AreBuildable resolved.now }
+    ensures { IfOk result
+        (λ v. AllZip (IsType types.entry.types.now) resolved.now (map type_seen v.items)) }
 {
-    let mut made = Vec::with_capacity(alloc, types.types.len())?;
-    for read in types.types {
+    let mut made = Vec::with_capacity(alloc, resolved.len())?;
+    for read in resolved {
         made.push(type_of(types, alloc, read)?)?;
     }
     Ok(made)

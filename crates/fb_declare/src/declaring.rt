@@ -6,7 +6,7 @@ ghost use Rattle.fb_declare.specs.Faults.{least_of};
 ghost use Rattle.fb_declare.specs.Found.{outline_found};
 ghost use Rattle.fb_resolve.specs.Outline.{located_name};
 ghost use Rattle.fb_declare.specs.TypeFaults.{faults_of_outline, faults_of};
-ghost use Rattle.fb_declare.specs.Declares.{root_table, Gives, Declares, Stands};
+ghost use Rattle.fb_declare.specs.Declares.{Gives, Declares, Stands};
 
 use crate::bodies::types_of;
 use crate::declared_names::DeclaredNames;
@@ -16,10 +16,9 @@ use crate::name_places::NamePlaces;
 use crate::names_again::names_again;
 use crate::type_faults::{identifier_fault, root_fault, types_fault};
 use fb_resolve::{
-    LocatedName, Outline, RootRead, TypeRead, TypesRead, ValueNumbers, WordPlaces, located_name,
-    table_of,
+    LocatedName, Outline, TypeRead, TypesRead, ValueNumbers, WordPlaces, located_name, table_of,
 };
-use fb_schema::{Schema, TypeId};
+use fb_schema::Schema;
 use fb_syntax::{Decls, Text};
 use std::alloc::{AllocError, Global};
 
@@ -31,19 +30,6 @@ fn located_names(alloc: Global, types: &[TypeRead<'_, '_>]) -> Result<Vec<Locate
         names.push(located_name(alloc, read)?)?;
     }
     Ok(names)
-}
-
-/// The number of the root's table.
-fn root_table(types: TypesRead<'_, '_, '_, '_>, root: Option<&RootRead<'_, '_>>) -> Option<TypeId>
-    ensures { option_map (λ n. n.0) result
-        ≡ root_table types.entry.types.now (option_copied root.entry) }
-{
-    let Some(root) = root else {
-        return None;
-    };
-    let name = root.name;
-    let meaning = types.meaning(root.scope, name.as_str());
-    table_of(meaning)
 }
 
 fn identifier_of(identifier: Option<&Text<'_>>) -> Option<[u8; 4]>
@@ -58,15 +44,15 @@ fn identifier_of(identifier: Option<&Text<'_>>) -> Option<[u8; 4]>
 #[tactic(auto, using(crate::proofs::Least::least_of_append), unfolding(crate::specs::TypeFaults::faults_of_outline))]
 fn least_fault(
     alloc: Global,
-    found: Found<'_, '_, '_, '_>,
+    found: Found<'_, '_, '_, '_, '_>,
     names: &[LocatedName],
 ) -> Result<Option<SchemaFault>, AllocError>
     requires { names.now ≡ map located_name found.types.types.now }
     ensures { IfOk result (λ f. f ≡ least_of (faults_of_outline (outline_found found.entry))) }
 {
     let again = names_again(alloc, names)?;
-    let types = types_fault(found.types, alloc, found.declared)?;
-    let root = root_fault(found.types, found.text_len, found.root);
+    let types = types_fault(found.types, alloc, found.declared, found.resolved)?;
+    let root = root_fault(found.text_len, found.root, found.root_meaning);
     Ok(earlier(
         earlier(earlier(again, types), root),
         identifier_fault(found.identifier),
@@ -74,14 +60,14 @@ fn least_fault(
 }
 
 /// The schema that an outline with no fault gives.
-fn schema_found(alloc: Global, found: Found<'_, '_, '_, '_>) -> Result<Schema, AllocError>
+fn schema_found(alloc: Global, found: Found<'_, '_, '_, '_, '_>) -> Result<Schema, AllocError>
     requires { faults_of_outline (outline_found found) ≡ [] }
     ensures { IfOk result (Gives (outline_found found.entry)) }
 {
-    let Some(root) = root_table(found.types, found.root) else {
+    let Some(root) = table_of(found.root_meaning) else {
         unreachable!()
     };
-    let types = types_of(found.types, alloc)?;
+    let types = types_of(found.types, alloc, found.resolved)?;
     Schema::new(alloc, types, root, identifier_of(found.identifier))
 }
 
@@ -89,7 +75,7 @@ fn schema_found(alloc: Global, found: Found<'_, '_, '_, '_>) -> Result<Schema, A
 /// its types.
 fn schema_or_fault(
     alloc: Global,
-    found: Found<'_, '_, '_, '_>,
+    found: Found<'_, '_, '_, '_, '_>,
     names: &[LocatedName],
 ) -> Result<Schema, SchemaFault>
     requires names { names.now ≡ map located_name found.types.types.now }
@@ -118,13 +104,17 @@ fn declare_types<'t, 'd, 's, 'n>(
     ensures least { IfErr result (λ f. f ≢ Memory → least_of (faults_of_outline outline.now) ≡ Some f) }
 {
     let attributes = NamePlaces::of(alloc, outline.attributes.as_slice())?;
+    let resolved = types.resolve(alloc)?;
+    let root = outline.root.as_ref();
     let found = Found {
         types,
+        resolved: resolved.as_slice(),
         declared: DeclaredNames {
             names: outline.attributes.as_slice(),
             places: &attributes,
         },
-        root: outline.root.as_ref(),
+        root,
+        root_meaning: types.meaning_of_root(root),
         identifier: outline.identifier,
         text_len: outline.text_len,
     };

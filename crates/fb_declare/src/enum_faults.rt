@@ -1,6 +1,5 @@
 //! What is wrong with an enum.
 ghost use Rattle.std.specs.Prelude.{◌≡◌, IfOk, map, []};
-ghost use Rattle.std.specs.Option.{option_copied};
 ghost use Rattle.fb_schema.specs.WellDeclared.{is_unsigned};
 ghost use Rattle.fb_declare.specs.Faults.{least_of};
 ghost use Rattle.fb_declare.specs.FaultRows.{underlying_faults};
@@ -13,9 +12,9 @@ use crate::declared_names::DeclaredNames;
 use crate::faults::{SchemaFault, earlier, when};
 use crate::names_again::names_again;
 use crate::value_faults::bad_values;
-use fb_resolve::{LocatedName, Meaning, TypesRead, has_flags, integer_type};
+use fb_resolve::{LocatedName, Meaning, ResolvedEnum, has_flags, integer_type};
 use fb_schema::Base;
-use fb_syntax::{EnumDecl, EnumValue};
+use fb_syntax::EnumValue;
 use std::alloc::{AllocError, Global};
 
 /// The fault of the type under an enum.
@@ -61,17 +60,16 @@ fn value_names(alloc: Global, values: &[EnumValue<'_>]) -> Result<Vec<LocatedNam
 /// The least fault of an enum. The only error is a refused allocation.
 #[tactic(auto, using(crate::proofs::Least::least_of_append), unfolding(crate::specs::TypeFaults::enum_faults))]
 pub(crate) fn enum_fault(
-    types: TypesRead<'_, '_, '_, '_>,
     alloc: Global,
     declared: DeclaredNames<'_, '_>,
-    scope: Option<&str>,
-    read: &EnumDecl<'_>,
+    resolved: &ResolvedEnum<'_, '_>,
 ) -> Result<Option<SchemaFault>, AllocError>
-    ensures { IfOk result (λ f. f ≡ least_of (enum_faults types.entry.types.now
-        (names_declared declared.entry) (option_copied scope.entry) read.now)) }
+    ensures { IfOk result
+        (λ f. f ≡ least_of (enum_faults (names_declared declared.entry) resolved.now)) }
 {
+    let read = resolved.declared;
+    let meaning = resolved.underlying;
     let values = read.values.as_slice();
-    let meaning = types.meaning(scope, read.underlying.as_str());
     let base = integer_type(meaning);
     let under = underlying_fault(meaning, read.underlying.at());
     let place = place_of_enum(base);

@@ -1,7 +1,6 @@
 //! What is wrong with a struct.
 ghost use Rattle.std.specs.Prelude.{◌≡◌, [], IfOk, length, map};
 ghost use Rattle.std.specs.List.{flat_map};
-ghost use Rattle.std.specs.Option.{option_copied};
 ghost use Rattle.fb_declare.specs.Faults.{least_of};
 ghost use Rattle.fb_declare.specs.DeclaredNames.{names_declared};
 ghost use Rattle.fb_declare.specs.TypeFaults.{struct_field_faults, is_empty_list, struct_faults};
@@ -13,8 +12,8 @@ use crate::default_faults::default_in_struct;
 use crate::faults::{SchemaFault, earlier, when};
 use crate::field_types::struct_field_type;
 use crate::names_again::names_again;
-use fb_resolve::{LocatedName, TypesRead, natural_align, type_name};
-use fb_syntax::{Field, TableDecl};
+use fb_resolve::{LocatedName, ResolvedField, ResolvedTable, TypesRead, natural_align};
+use fb_syntax::Field;
 use std::alloc::{AllocError, Global};
 
 fn field_names(alloc: Global, fields: &[Field<'_>]) -> Result<Vec<LocatedName>, AllocError>
@@ -29,18 +28,16 @@ fn field_names(alloc: Global, fields: &[Field<'_>]) -> Result<Vec<LocatedName>, 
 
 #[tactic(auto, using(crate::proofs::Least::least_of_append), unfolding(crate::specs::TypeFaults::struct_field_faults))]
 fn field_fault(
-    types: TypesRead<'_, '_, '_, '_>,
     alloc: Global,
     declared: DeclaredNames<'_, '_>,
-    scope: Option<&str>,
     number: usize,
-    field: &Field<'_>,
+    resolved: &ResolvedField<'_, '_>,
 ) -> Result<Option<SchemaFault>, AllocError>
-    ensures { IfOk result (λ f. f ≡ least_of (struct_field_faults types.entry.types.now
-        (names_declared declared.entry) (option_copied scope.entry) number field.now)) }
+    ensures { IfOk result (λ f. f ≡ least_of
+        (struct_field_faults (names_declared declared.entry) number resolved.now)) }
 {
-    let meaning = types.meaning(scope, type_name(&field.kind).as_str());
-    let type_fault = struct_field_type(number, &field.kind, meaning);
+    let field = resolved.field;
+    let type_fault = struct_field_type(number, &field.kind, resolved.meaning);
     let fault = earlier(type_fault, default_in_struct(field.default.as_ref()));
     let attributes = field.attributes.as_slice();
     Ok(earlier(
@@ -50,22 +47,17 @@ fn field_fault(
 }
 
 fn fields_fault(
-    types: TypesRead<'_, '_, '_, '_>,
     alloc: Global,
     declared: DeclaredNames<'_, '_>,
-    scope: Option<&str>,
     number: usize,
-    fields: &[Field<'_>],
+    fields: &[ResolvedField<'_, '_>],
 ) -> Result<Option<SchemaFault>, AllocError>
-    ensures { IfOk result (λ f. f ≡ least_of (flat_map (struct_field_faults types.entry.types.now
-        (names_declared declared.entry) (option_copied scope.entry) number) fields.now)) }
+    ensures { IfOk result (λ f. f ≡ least_of
+        (flat_map (struct_field_faults (names_declared declared.entry) number) fields.now)) }
 {
     let mut least = None;
     for field in fields {
-        least = earlier(
-            least,
-            field_fault(types, alloc, declared, scope, number, field)?,
-        );
+        least = earlier(least, field_fault(alloc, declared, number, field)?);
     }
     Ok(least)
 }
@@ -83,21 +75,24 @@ pub(crate) fn struct_fault(
     types: TypesRead<'_, '_, '_, '_>,
     alloc: Global,
     declared: DeclaredNames<'_, '_>,
-    scope: Option<&str>,
     lower: &[u16],
-    read: &TableDecl<'_>,
+    resolved: &ResolvedTable<'_, '_>,
 ) -> Result<Option<SchemaFault>, AllocError>
     ensures { IfOk result (λ f. f ≡ least_of (struct_faults types.entry.types.now
-        (names_declared declared.entry) (option_copied scope.entry) lower.now read.now)) }
+        (names_declared declared.entry) lower.now resolved.now)) }
 {
-    let fields = read.fields.as_slice();
-    let place = Place::Struct(natural_align(types, scope, lower, fields));
+    let read = resolved.declared;
+    let fields = resolved.fields.as_slice();
+    let place = Place::Struct(natural_align(types, lower, fields));
     let marks = metadata_fault(alloc, declared, place, read.attributes.as_slice())?;
-    let empty = when(is_empty(fields), SchemaFault::EmptyStruct(read.name.at));
-    let names = field_names(alloc, fields)?;
+    let empty = when(
+        is_empty(read.fields.as_slice()),
+        SchemaFault::EmptyStruct(read.name.at),
+    );
+    let names = field_names(alloc, read.fields.as_slice())?;
     let again = names_again(alloc, names.as_slice())?;
     Ok(earlier(
         earlier(earlier(marks, empty), again),
-        fields_fault(types, alloc, declared, scope, lower.len(), fields)?,
+        fields_fault(alloc, declared, lower.len(), fields)?,
     ))
 }

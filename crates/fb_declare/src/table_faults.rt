@@ -1,7 +1,6 @@
 //! What is wrong with a table.
 ghost use Rattle.std.specs.Prelude.{◌≡◌, ◌++◌, [], IfOk, OnOk};
 ghost use Rattle.std.specs.List.{flat_map};
-ghost use Rattle.std.specs.Option.{option_copied};
 ghost use Rattle.fb_declare.specs.Faults.{least_of};
 ghost use Rattle.fb_declare.specs.DeclaredNames.{names_declared};
 ghost use Rattle.fb_declare.specs.TypeFaults.{names_of_field, place_of_field, table_field_faults, table_faults};
@@ -14,25 +13,24 @@ use crate::faults::{SchemaFault, earlier, when};
 use crate::field_types::table_field_type;
 use crate::names_again::names_again;
 use fb_resolve::{
-    LocatedName, Meaning, TypesRead, are_ids_wrong, given_by, name_of_code, union_of,
+    LocatedName, Meaning, ResolvedField, ResolvedTable, TypesRead, are_ids_wrong, given_by,
+    name_of_code, union_in,
 };
 use fb_schema::Kind;
-use fb_syntax::{Field, FieldType, TableDecl};
+use fb_syntax::FieldType;
 use std::alloc::{AllocError, Global};
 
 /// Adds the names that a field takes: a union's code has one.
 fn push_names(
-    types: TypesRead<'_, '_, '_, '_>,
     alloc: Global,
-    scope: Option<&str>,
-    field: &Field<'_>,
+    resolved: &ResolvedField<'_, '_>,
     names: &mut Vec<LocatedName>,
 ) -> Result<(), AllocError>
-    ensures { OnOk result (names.new.items ≡ names.old.items
-        ++ names_of_field types.entry.types.now (option_copied scope.entry) field.now) }
+    ensures { OnOk result
+        (names.new.items ≡ names.old.items ++ names_of_field resolved.now) }
 {
-    let meaning = types.meaning_in(scope, &field.kind);
-    if union_of(&field.kind, meaning).is_some() {
+    let field = resolved.field;
+    if union_in(resolved).is_some() {
         names.push(LocatedName {
             text: name_of_code(alloc, field.name.text)?,
             at: field.name.at,
@@ -43,17 +41,14 @@ fn push_names(
 }
 
 fn field_names(
-    types: TypesRead<'_, '_, '_, '_>,
     alloc: Global,
-    scope: Option<&str>,
-    fields: &[Field<'_>],
+    fields: &[ResolvedField<'_, '_>],
 ) -> Result<Vec<LocatedName>, AllocError>
-    ensures { IfOk result (λ names. names.items
-        ≡ flat_map (names_of_field types.entry.types.now (option_copied scope.entry)) fields.now) }
+    ensures { IfOk result (λ names. names.items ≡ flat_map names_of_field fields.now) }
 {
     let mut names = Vec::with_capacity(alloc, fields.len())?;
     for field in fields {
-        push_names(types, alloc, scope, field, &mut names)?;
+        push_names(alloc, field, &mut names)?;
     }
     Ok(names)
 }
@@ -73,15 +68,15 @@ fn field_fault(
     types: TypesRead<'_, '_, '_, '_>,
     alloc: Global,
     declared: DeclaredNames<'_, '_>,
-    scope: Option<&str>,
-    field: &Field<'_>,
+    resolved: &ResolvedField<'_, '_>,
 ) -> Result<Option<SchemaFault>, AllocError>
     ensures { IfOk result (λ f. f ≡ least_of (table_field_faults types.entry.types.now
-        (names_declared declared.entry) (option_copied scope.entry) field.now)) }
+        (names_declared declared.entry) resolved.now)) }
 {
+    let field = resolved.field;
+    let meaning = resolved.meaning;
     let kind = &field.kind;
     let default = field.default.as_ref();
-    let meaning = types.meaning_in(scope, kind);
     let given = given_by(types, kind, meaning, default);
     let fault = earlier(table_field_type(kind, meaning), bad_default(default, given));
     let place = place_of_field(kind, meaning);
@@ -93,15 +88,14 @@ fn fields_fault(
     types: TypesRead<'_, '_, '_, '_>,
     alloc: Global,
     declared: DeclaredNames<'_, '_>,
-    scope: Option<&str>,
-    fields: &[Field<'_>],
+    fields: &[ResolvedField<'_, '_>],
 ) -> Result<Option<SchemaFault>, AllocError>
     ensures { IfOk result (λ f. f ≡ least_of (flat_map (table_field_faults types.entry.types.now
-        (names_declared declared.entry) (option_copied scope.entry)) fields.now)) }
+        (names_declared declared.entry)) fields.now)) }
 {
     let mut least = None;
     for field in fields {
-        least = earlier(least, field_fault(types, alloc, declared, scope, field)?);
+        least = earlier(least, field_fault(types, alloc, declared, field)?);
     }
     Ok(least)
 }
@@ -112,20 +106,20 @@ pub(crate) fn table_fault(
     types: TypesRead<'_, '_, '_, '_>,
     alloc: Global,
     declared: DeclaredNames<'_, '_>,
-    scope: Option<&str>,
-    read: &TableDecl<'_>,
+    resolved: &ResolvedTable<'_, '_>,
 ) -> Result<Option<SchemaFault>, AllocError>
-    ensures { IfOk result (λ f. f ≡ least_of (table_faults types.entry.types.now
-        (names_declared declared.entry) (option_copied scope.entry) read.now)) }
+    ensures { IfOk result (λ f. f ≡ least_of
+        (table_faults types.entry.types.now (names_declared declared.entry) resolved.now)) }
 {
-    let fields = read.fields.as_slice();
+    let read = resolved.declared;
+    let fields = resolved.fields.as_slice();
     let marks = metadata_fault(alloc, declared, Place::Table, read.attributes.as_slice())?;
-    let are_wrong = are_ids_wrong(types, alloc, scope, fields)?;
+    let are_wrong = are_ids_wrong(alloc, fields)?;
     let ids = when(are_wrong, SchemaFault::BadIds(read.name.at));
-    let names = field_names(types, alloc, scope, fields)?;
+    let names = field_names(alloc, fields)?;
     let again = names_again(alloc, names.as_slice())?;
     Ok(earlier(
         earlier(earlier(marks, ids), again),
-        fields_fault(types, alloc, declared, scope, fields)?,
+        fields_fault(types, alloc, declared, fields)?,
     ))
 }

@@ -16,9 +16,10 @@ use crate::struct_faults::struct_fault;
 use crate::table_faults::table_fault;
 use crate::union_faults::union_fault;
 use fb_resolve::{
-    Meaning, RootRead, TypeRead, TypesRead, align_of_read, is_reserved, is_table, word_of,
+    Meaning, ResolvedDecl, ResolvedType, RootRead, TypesRead, align_of_type, is_reserved, is_table,
+    word_of,
 };
-use fb_syntax::{Text, TypeDecl};
+use fb_syntax::Text;
 use std::alloc::{AllocError, Global};
 
 /// A type whose name is that of a basic or float type.
@@ -34,17 +35,16 @@ fn declaration_fault(
     alloc: Global,
     declared: DeclaredNames<'_, '_>,
     lower: &[u16],
-    scope: Option<&str>,
-    declaration: &TypeDecl<'_>,
+    declaration: &ResolvedDecl<'_, '_>,
 ) -> Result<Option<SchemaFault>, AllocError>
     ensures { IfOk result (λ f. f ≡ least_of (declaration_faults types.entry.types.now
-        (names_declared declared.entry) lower.now (option_copied scope.entry) declaration.now)) }
+        (names_declared declared.entry) lower.now declaration.now)) }
 {
     match declaration {
-        TypeDecl::Table(read) => table_fault(types, alloc, declared, scope, read),
-        TypeDecl::Struct(read) => struct_fault(types, alloc, declared, scope, lower, read),
-        TypeDecl::Enum(read) => enum_fault(types, alloc, declared, scope, read),
-        TypeDecl::Union(read) => union_fault(types, alloc, declared, scope, read),
+        ResolvedDecl::Table(table) => table_fault(types, alloc, declared, table),
+        ResolvedDecl::Struct(table) => struct_fault(types, alloc, declared, lower, table),
+        ResolvedDecl::Enum(resolved) => enum_fault(alloc, declared, resolved),
+        ResolvedDecl::Union(union) => union_fault(alloc, declared, union),
     }
 }
 
@@ -54,13 +54,14 @@ fn type_fault(
     alloc: Global,
     declared: DeclaredNames<'_, '_>,
     lower: &[u16],
-    read: &TypeRead<'_, '_>,
+    resolved: &ResolvedType<'_, '_, '_>,
 ) -> Result<Option<SchemaFault>, AllocError>
-    ensures { IfOk result (λ f. f ≡ least_of
-        (type_faults types.entry.types.now (names_declared declared.entry) lower.now read.now)) }
+    ensures { IfOk result (λ f. f ≡ least_of (type_faults types.entry.types.now
+        (names_declared declared.entry) lower.now resolved.now)) }
 {
+    let read = resolved.read;
     let reserved = reserved_name(word_of(read.declaration));
-    let fault = declaration_fault(types, alloc, declared, lower, read.scope, read.declaration)?;
+    let fault = declaration_fault(types, alloc, declared, lower, &resolved.declaration)?;
     Ok(earlier(reserved, fault))
 }
 
@@ -69,16 +70,17 @@ pub(crate) fn types_fault(
     types: TypesRead<'_, '_, '_, '_>,
     alloc: Global,
     declared: DeclaredNames<'_, '_>,
+    resolved: &[ResolvedType<'_, '_, '_>],
 ) -> Result<Option<SchemaFault>, AllocError>
     ensures { IfOk result (λ f. f ≡ least_of (faults_of_types types.entry.types.now
-        (names_declared declared.entry) [] types.entry.types.now)) }
+        (names_declared declared.entry) [] resolved.now)) }
 {
     let mut least = None;
-    let mut lower = Vec::with_capacity(alloc, types.types.len())?;
-    for read in types.types {
+    let mut lower = Vec::with_capacity(alloc, resolved.len())?;
+    for read in resolved {
         let fault = type_fault(types, alloc, declared, lower.as_slice(), read)?;
         least = earlier(least, fault);
-        let align = align_of_read(types, lower.as_slice(), read);
+        let align = align_of_type(types, lower.as_slice(), read);
         lower.push(align)?;
     }
     Ok(least)
@@ -95,18 +97,16 @@ fn root_use_fault(meaning: Meaning, at: u64) -> Option<SchemaFault>
 /// The least fault of the root.
 #[tactic(auto, unfolding(crate::specs::FaultRows::root_faults, crate::specs::Faults::least_of))]
 pub(crate) fn root_fault(
-    types: TypesRead<'_, '_, '_, '_>,
     text_len: u64,
     root: Option<&RootRead<'_, '_>>,
+    meaning: Meaning,
 ) -> Option<SchemaFault>
-    ensures { result
-        ≡ least_of (root_faults types.entry.types.now text_len (option_copied root.entry)) }
+    ensures { result ≡ least_of (root_faults text_len (option_copied root.entry) meaning) }
 {
     let Some(root) = root else {
         return Some(SchemaFault::BadRoot(text_len));
     };
     let name = root.name;
-    let meaning = types.meaning(root.scope, name.as_str());
     root_use_fault(meaning, name.at())
 }
 

@@ -1,20 +1,21 @@
 -- Slots that stand at the places of their numbers.
 use Rattle.std.proofs.Common.{◌≡◌, ◌==◌, ◌≢◌, ℕ, zero, suc, ◌≤◌, ◌<◌, ◌+◌, Bool, true, false, cond, ◌&&◌, ◌||◌, not, List, [], ◌∷◌, ◌++◌, length, get_or, refl, sym, ap, ◌∙◌, arith, nat_lt, append_assoc, add-zero, zero-add, lit≤, map, Option, None, Some, slice_get, inl, inr}
 use Rattle.std.proofs.lemmas.Bool.{eq-eqb, ltb-true}
-use Rattle.std.proofs.lemmas.List.{append-nil, length-map, get_or-map, get_or_default}
+use Rattle.std.proofs.lemmas.List.{append-nil, map-append, length-map, get_or-map, get_or_default}
 use Rattle.std.proofs.lemmas.List.Sums.{sum_by-append, sum_by-cons}
 use Rattle.std.proofs.lemmas.List.Sorted.{sum_by-IsPermutation, All-permutation, length_permutation, IsPermutation-refl, IsPermutation-map}
 use Rattle.std.proofs.lemmas.Option.{none-some, slice_get_within, get_or_from_slice_get}
 use Rattle.std.proofs.lemmas.Bool.Decides.{eqb_tells}
 use Rattle.std.specs.List.{list_any, sum_by, All}
+use Rattle.std.specs.Option.{unwrap_or}
 use Rattle.std.specs.List.Sorted.{IsPermutation, IsNonDecreasingBy}
-use Rattle.fb_syntax.specs.FieldRead.{FieldRead}
-use Rattle.fb_schema.specs.Schema.{Name, DeclaredField}
+use Rattle.fb_schema.specs.Schema.{DeclaredField}
 use Rattle.fb_schema.specs.Seen.{field_seen}
 use Rattle.fb_schema.specs.declared.types.FieldInfo.{FieldInfo}
 use Rattle.fb_schema.specs.declared.kinds.TypeId.{TypeId}
 use Rattle.fb_resolve.specs.Outline.{TypeRead}
-use Rattle.fb_resolve.specs.SlotsRead.{union_in, slots_by_union, slots_of_field, slots_in_order, slots_by_id, numbers_by_id, have_ids, have_all_ids, slots_read, AreInPlace, take_new_places, are_places, are_ids_wrong}
+use Rattle.fb_resolve.specs.ResolvedFields.{ResolvedField}
+use Rattle.fb_resolve.specs.SlotsRead.{union_in, slots_by_union, slots_of_field, slots_in_order, slot_by_id, slots_by_id, numbers_by_union, numbers_by_id, have_ids, have_all_ids, slots_read, AreInPlace, take_new_places, are_places, are_ids_wrong}
 use Rattle.fb_resolve.proofs.PlacesTaken.{take_new_places-cons}
 
 -- how often a number occurs
@@ -139,6 +140,19 @@ in_place read placed right same up = record {
       ∙ places_at (map (λ x. x.slot) read) (map (λ x. x.slot) placed) right (IsPermutation-map (λ x. x.slot) read placed same) (rises-map (λ n. n) (λ x. x.slot) placed up) k (rw (length-map placed (λ x. x.slot)) h);
 }
 
+numbers-by_union : (types : List TypeRead) (f : ResolvedField) (slot : ℕ) (u : Option TypeId) → map (λ s. s.slot) (slots_by_union types f u slot) ≡ numbers_by_union slot u
+numbers-by_union types f slot None = refl
+numbers-by_union types f slot (Some u) = refl
+
+-- the slots that fields take by their ids have the numbers that they name
+numbers_of_slots : (types : List TypeRead) (fs : List ResolvedField) → map (λ s. s.slot) (slots_by_id types fs) ≡ numbers_by_id fs
+unfolding slots_of_field
+numbers_of_slots types [] = refl
+numbers_of_slots types (f ∷ fs) = let slot = unwrap_or (slot_by_id f) 0 in
+    map-append (λ s. s.slot) (slots_by_union types f (union_in f) slot) (slots_by_id types fs)
+    ∙ ap (λ ns. ns ++ map (λ s. s.slot) (slots_by_id types fs)) (numbers-by_union types f slot (union_in f))
+    ∙ ap (λ ns. numbers_by_union slot (union_in f) ++ ns) (numbers_of_slots types fs)
+
 right_ids : (ids all places : Bool) → ids ≡ true → ids && not (all && places) ≡ false → places ≡ true
 right_ids true true true is e = refl
 right_ids true true false is e = cc
@@ -146,14 +160,14 @@ right_ids true false places is e = cc
 right_ids false all places is e = cc
 
 -- slots by their ids, sorted by their numbers
-pub placed_by_id : (types : List TypeRead) (scope : Option Name) (fs : List FieldRead) (before slots : List FieldInfo)
-    → have_ids fs ≡ true → are_ids_wrong types scope fs ≡ false → map field_seen before ≡ slots_by_id types scope fs → IsPermutation before slots → IsNonDecreasingBy (λ f. f.slot) slots
-    → AreInPlace (slots_read types scope fs) (map field_seen slots)
+pub placed_by_id : (types : List TypeRead) (fs : List ResolvedField) (before slots : List FieldInfo)
+    → have_ids fs ≡ true → are_ids_wrong fs ≡ false → map field_seen before ≡ slots_by_id types fs → IsPermutation before slots → IsNonDecreasingBy (λ f. f.slot) slots
+    → AreInPlace (slots_read types fs) (map field_seen slots)
 unfolding are_ids_wrong
-placed_by_id types scope fs before slots ids right read same up =
-    let places = right_ids (have_ids fs) (have_all_ids types scope fs) (are_places (numbers_by_id types scope fs)) ids right in
-    let moved : IsPermutation (slots_by_id types scope fs) (map field_seen slots) = rw (← read) (IsPermutation-map field_seen before slots same) in
-    rw ids (in_place (slots_by_id types scope fs) (map field_seen slots) places moved (rises-map (λ s. s.slot) field_seen slots up))
+placed_by_id types fs before slots ids right read same up =
+    let places = right_ids (have_ids fs) (have_all_ids fs) (are_places (numbers_by_id fs)) ids right in
+    let moved : IsPermutation (slots_by_id types fs) (map field_seen slots) = rw (← read) (IsPermutation-map field_seen before slots same) in
+    rw ids (in_place (slots_by_id types fs) (map field_seen slots) (ap are_places (numbers_of_slots types fs) ∙ places) moved (rises-map (λ s. s.slot) field_seen slots up))
 
 -- each slot has the number behind that of the one before
 AreNumbered : ℕ → List DeclaredField → Type 0
@@ -167,19 +181,19 @@ numbered-append next (x ∷ xs) ys here later =
     let same : next + length (x ∷ xs) ≡ (next + 1) + length xs = omega arith in
     (here.0, numbered-append (next + 1) xs ys here.1 (rw same at later))
 
-numbered_field : (types : List TypeRead) (scope : Option Name) (f : FieldRead) (slot : ℕ) → AreNumbered slot (slots_of_field types scope f slot)
+numbered_field : (types : List TypeRead) (f : ResolvedField) (slot : ℕ) → AreNumbered slot (slots_of_field types f slot)
 unfolding slots_of_field AreNumbered
-numbered_field types scope f slot = by (union_in types scope f)
+numbered_field types f slot = by (union_in f)
   where
-    by : (union : Option TypeId) → AreNumbered slot (slots_by_union types scope f union slot)
+    by : (union : Option TypeId) → AreNumbered slot (slots_by_union types f union slot)
     by None = (refl, tt)
     by (Some u) = (refl, (refl, tt))
 
-numbered_in_order : (types : List TypeRead) (scope : Option Name) (slot : ℕ) (fs : List FieldRead) → AreNumbered slot (slots_in_order types scope slot fs)
+numbered_in_order : (types : List TypeRead) (slot : ℕ) (fs : List ResolvedField) → AreNumbered slot (slots_in_order types slot fs)
 unfolding slots_in_order AreNumbered
-numbered_in_order types scope slot [] = tt
-numbered_in_order types scope slot (f ∷ fs) = let here = slots_of_field types scope f slot in
-    numbered-append slot here (slots_in_order types scope (slot + length here) fs) (numbered_field types scope f slot) (numbered_in_order types scope (slot + length here) fs)
+numbered_in_order types slot [] = tt
+numbered_in_order types slot (f ∷ fs) = let here = slots_of_field types f slot in
+    numbered-append slot here (slots_in_order types (slot + length here) fs) (numbered_field types f slot) (numbered_in_order types (slot + length here) fs)
 
 numbered_at : (ss : List DeclaredField) (next k : ℕ) (s : DeclaredField) → AreNumbered next ss → slice_get ss k ≡ Some s → s.slot ≡ next + k
 unfolding AreNumbered
@@ -188,9 +202,9 @@ numbered_at (x ∷ xs) next zero s numbered e = let same : x ≡ s = cc in ap (�
 numbered_at (x ∷ xs) next (suc k) s numbered e = omega (arith, numbered_at xs (next + 1) k s numbered.1 e)
 
 -- slots without ids
-pub placed_in_order : (types : List TypeRead) (scope : Option Name) (fs : List FieldRead) (slots : List FieldInfo)
-    → have_ids fs ≡ false → map field_seen slots ≡ slots_in_order types scope 0 fs → AreInPlace (slots_read types scope fs) (map field_seen slots)
-placed_in_order types scope fs slots ids read = rw (ids, read) (record {
-  same = IsPermutation-refl (slots_in_order types scope 0 fs);
-  slots = λ k s e. numbered_at (slots_in_order types scope 0 fs) 0 k s (numbered_in_order types scope 0 fs) e ∙ zero-add k;
+pub placed_in_order : (types : List TypeRead) (fs : List ResolvedField) (slots : List FieldInfo)
+    → have_ids fs ≡ false → map field_seen slots ≡ slots_in_order types 0 fs → AreInPlace (slots_read types fs) (map field_seen slots)
+placed_in_order types fs slots ids read = rw (ids, read) (record {
+  same = IsPermutation-refl (slots_in_order types 0 fs);
+  slots = λ k s e. numbered_at (slots_in_order types 0 fs) 0 k s (numbered_in_order types 0 fs) e ∙ zero-add k;
 })

@@ -2,7 +2,6 @@
 -- From the FlatBuffers documentation, "Writing a schema": Tables, Enums; "Optional scalars".
 use Rattle.std.specs.Prelude.{List, Option, None, Some, ℤ, pos, codes, if◌then◌else◌}
 use Rattle.std.specs.Str.{bytes_eq}
-use Rattle.fb_syntax.specs.FieldRead.{FieldRead}
 use Rattle.fb_syntax.specs.declared.declarations.FieldType.{FieldType}
 use Rattle.fb_syntax.specs.declared.declarations.FieldType.TheVariants.{One, Many}
 use Rattle.fb_syntax.specs.declared.declarations.DefaultValue.{DefaultValue}
@@ -10,7 +9,7 @@ use Rattle.fb_syntax.specs.declared.declarations.DefaultValue.TheVariants.{Integ
 use Rattle.fb_schema.specs.Schema.{Name}
 use Rattle.fb_resolve.specs.Outline.{TypeRead}
 use Rattle.fb_schema.specs.Ranges.{holds}
-use Rattle.fb_resolve.specs.Meaning.{meaning_in}
+use Rattle.fb_resolve.specs.ResolvedFields.{ResolvedField}
 use Rattle.fb_resolve.specs.EnumsRead.{underlying_at, value_at}
 use Rattle.fb_schema.specs.declared.kinds.Base.{Base}
 use Rattle.fb_schema.specs.declared.kinds.Base.TheVariants.{Bool as Boolean}
@@ -63,5 +62,5 @@ given_by types kind m None = Number (pos 0)
 given_by types (One n) m (Some d) = given_to types m d
 given_by types (Many at n) m (Some d) = Wrong
 
-abbrev pub given_in : List TypeRead → Option Name → FieldRead → Given
-given_in types scope f = given_by types f.kind (meaning_in types scope f.kind) f.default
+abbrev pub given_in : List TypeRead → ResolvedField → Given
+given_in types r = given_by types r.field.kind r.meaning r.field.default

@@ -2,6 +2,9 @@ pub mod Outline
 pub mod Scopes
 pub mod BasicTypes
 pub mod Meaning
+pub mod ResolvedFields
+pub mod ResolvedType
+pub mod Resolved
 pub mod Attributes
 pub mod EnumsRead
 pub mod Defaults

@@ -6,8 +6,7 @@ use Rattle.fb_syntax.specs.Located.{Located}
 use Rattle.fb_syntax.specs.Signs.{dot}
 use Rattle.fb_syntax.specs.declared.declarations.UnionMember.{UnionMember}
 use Rattle.fb_schema.specs.Schema.{Name}
-use Rattle.fb_resolve.specs.Outline.{TypeRead}
-use Rattle.fb_resolve.specs.Meaning.{meaning_of}
+use Rattle.fb_resolve.specs.ResolvedFields.{ResolvedMember}
 use Rattle.fb_schema.specs.declared.kinds.Kind.TheVariants.{Table}
 use Rattle.fb_resolve.specs.declared.meanings.Meaning.{Meaning}
 use Rattle.fb_resolve.specs.declared.meanings.Meaning.TheVariants.{Known}
@@ -32,9 +31,6 @@ abbrev pub table_of : Meaning → Option ℕ
 table_of (Known (Table t)) = Some t.0
 table_of _ = None
 
-abbrev pub member_table : List TypeRead → Option Name → UnionMember → Option ℕ
-member_table types scope m = table_of (meaning_of types scope m.table.bytes)
-
 -- a member's name and its table; a member at fault stands as type 0
-abbrev pub member_read : List TypeRead → Option Name → UnionMember → Name × ℕ
-member_read types scope m = ((member_name m).bytes, unwrap_or (member_table types scope m) 0)
+abbrev pub member_read : ResolvedMember → Name × ℕ
+member_read r = ((member_name r.member).bytes, unwrap_or (table_of r.meaning) 0)

@@ -9,7 +9,7 @@ use Rattle.fb_syntax.specs.declared.declarations.FieldType.{FieldType}
 use Rattle.fb_syntax.specs.declared.declarations.FieldType.TheVariants as types_read
 use Rattle.fb_schema.specs.Schema.{Name, DeclaredField}
 use Rattle.fb_resolve.specs.Outline.{TypeRead}
-use Rattle.fb_resolve.specs.Meaning.{meaning_in}
+use Rattle.fb_resolve.specs.ResolvedFields.{ResolvedField}
 use Rattle.fb_resolve.specs.Attributes.{has_attribute, number_called}
 use Rattle.fb_resolve.specs.Defaults.{given_by}
 use Rattle.fb_schema.specs.declared.kinds.TypeId.{TypeId}
@@ -28,8 +28,8 @@ abbrev pub union_of : FieldType → Meaning → Option TypeId
 union_of (types_read.One n) (Known (Union u)) = Some u
 union_of _ _ = None
 
-abbrev pub union_in : List TypeRead → Option Name → FieldRead → Option TypeId
-union_in types scope f = union_of f.kind (meaning_in types scope f.kind)
+abbrev pub union_in : ResolvedField → Option TypeId
+union_in r = union_of r.field.kind r.meaning
 
 -- a type at fault stands as a text
 abbrev pub kind_or_text : Meaning → Kind
@@ -60,8 +60,8 @@ value_slot_of types f m slot = record {
   slot = slot;
 }
 
-abbrev pub value_slot : List TypeRead → Option Name → FieldRead → ℕ → DeclaredField
-value_slot types scope f slot = value_slot_of types f (meaning_in types scope f.kind) slot
+abbrev pub value_slot : List TypeRead → ResolvedField → ℕ → DeclaredField
+value_slot types r slot = value_slot_of types r.field r.meaning slot
 
 -- of a union field `x`, the name of its code
 abbrev pub name_of_code : Name → Name
@@ -79,19 +79,19 @@ code_slot f u slot = record {
   slot = slot;
 }
 
-abbrev pub slots_by_union : List TypeRead → Option Name → FieldRead → Option TypeId → ℕ → List DeclaredField
-slots_by_union types scope f None slot = value_slot types scope f slot ∷ []
-slots_by_union types scope f (Some u) slot = code_slot f u slot ∷ value_slot types scope f (slot + 1) ∷ []
+abbrev pub slots_by_union : List TypeRead → ResolvedField → Option TypeId → ℕ → List DeclaredField
+slots_by_union types r None slot = value_slot types r slot ∷ []
+slots_by_union types r (Some u) slot = code_slot r.field u slot ∷ value_slot types r (slot + 1) ∷ []
 
 -- the slots of a field, from this one on: a union's code comes before its value
-unfoldable pub slots_of_field : List TypeRead → Option Name → FieldRead → ℕ → List DeclaredField
-slots_of_field types scope f slot = slots_by_union types scope f (union_in types scope f) slot
+unfoldable pub slots_of_field : List TypeRead → ResolvedField → ℕ → List DeclaredField
+slots_of_field types r slot = slots_by_union types r (union_in r) slot
 
 -- without ids the slots are numbered in the order of declaration
-unfoldable pub slots_in_order : List TypeRead → Option Name → ℕ → List FieldRead → List DeclaredField
-slots_in_order types scope slot [] = []
-slots_in_order types scope slot (f ∷ fs) = slots_of_field types scope f slot
-    ++ slots_in_order types scope (slot + length (slots_of_field types scope f slot)) fs
+unfoldable pub slots_in_order : List TypeRead → ℕ → List ResolvedField → List DeclaredField
+slots_in_order types slot [] = []
+slots_in_order types slot (r ∷ rs) = slots_of_field types r slot
+    ++ slots_in_order types (slot + length (slots_of_field types r slot)) rs
 
 -- A field's id is that of its value, so a union's first slot is the one before it.
 abbrev pub first_slot : Option TypeId → Option ℤ → Option ℕ
@@ -100,18 +100,21 @@ first_slot (Some u) (Some (pos (suc n))) = Some n
 first_slot _ _ = None
 
 -- the first slot of a field by its id
-unfoldable pub slot_by_id : List TypeRead → Option Name → FieldRead → Option ℕ
-slot_by_id types scope f = first_slot (union_in types scope f) (number_called Id f.attributes)
+unfoldable pub slot_by_id : ResolvedField → Option ℕ
+slot_by_id r = first_slot (union_in r) (number_called Id r.field.attributes)
 
-abbrev pub slots_by_id : List TypeRead → Option Name → List FieldRead → List DeclaredField
-slots_by_id types scope fs = flat_map (λ f. slots_of_field types scope f (unwrap_or (slot_by_id types scope f) 0)) fs
+abbrev pub slots_by_id : List TypeRead → List ResolvedField → List DeclaredField
+slots_by_id types rs = flat_map (λ r. slots_of_field types r (unwrap_or (slot_by_id r) 0)) rs
 
-abbrev pub have_ids : List FieldRead → Bool
-have_ids fs = list_any (λ f. has_attribute Id f.attributes) fs
+abbrev pub has_id : ResolvedField → Bool
+has_id r = has_attribute Id r.field.attributes
+
+abbrev pub have_ids : List ResolvedField → Bool
+have_ids rs = list_any has_id rs
 
 -- the slots of a table, in the order of declaration
-abbrev pub slots_read : List TypeRead → Option Name → List FieldRead → List DeclaredField
-slots_read types scope fs = if have_ids fs then slots_by_id types scope fs else slots_in_order types scope 0 fs
+abbrev pub slots_read : List TypeRead → List ResolvedField → List DeclaredField
+slots_read types rs = if have_ids rs then slots_by_id types rs else slots_in_order types 0 rs
 
 -- The same slots stand at the places of their numbers.
 pub record AreInPlace (read placed : List DeclaredField) : Type 0 where
@@ -127,16 +130,21 @@ take_new_places count taken (n ∷ ns) = (nat_lt n count && not (list_any (λ m.
 abbrev pub are_places : List ℕ → Bool
 are_places ns = take_new_places (length ns) [] ns
 
-abbrev pub have_all_ids : List TypeRead → Option Name → List FieldRead → Bool
-have_all_ids types scope fs = list_all (λ f. is_some (slot_by_id types scope f)) fs
+abbrev pub have_all_ids : List ResolvedField → Bool
+have_all_ids rs = list_all (λ r. is_some (slot_by_id r)) rs
 
-abbrev pub numbers_by_id : List TypeRead → Option Name → List FieldRead → List ℕ
-numbers_by_id types scope fs = map (λ s. s.slot) (slots_by_id types scope fs)
+-- the numbers of the slots that a field takes by its id
+abbrev pub numbers_by_union : ℕ → Option TypeId → List ℕ
+numbers_by_union slot None = slot ∷ []
+numbers_by_union slot (Some u) = slot ∷ (slot + 1) ∷ []
+
+abbrev pub numbers_by_id : List ResolvedField → List ℕ
+numbers_by_id rs = flat_map (λ r. numbers_by_union (unwrap_or (slot_by_id r) 0) (union_in r)) rs
 
 -- All fields have ids, and these name each slot once.
-abbrev pub are_ids_right : List TypeRead → Option Name → List FieldRead → Bool
-are_ids_right types scope fs = have_all_ids types scope fs && are_places (numbers_by_id types scope fs)
+abbrev pub are_ids_right : List ResolvedField → Bool
+are_ids_right rs = have_all_ids rs && are_places (numbers_by_id rs)
 
 -- the slots' numbers aren't as they have to be
-unfoldable pub are_ids_wrong : List TypeRead → Option Name → List FieldRead → Bool
-are_ids_wrong types scope fs = have_ids fs && not (are_ids_right types scope fs)
+unfoldable pub are_ids_wrong : List ResolvedField → Bool
+are_ids_wrong rs = have_ids rs && not (are_ids_right rs)

@@ -2,17 +2,16 @@
 -- From the FlatBuffers documentation, "Writing a schema": Structs, Attributes (`force_align`); "FlatBuffer Internals": Structs.
 use Rattle.std.specs.Prelude.{ℕ, ◌+◌, false, List, [], ◌∷◌, map, Option, None, Some, ℤ, pos, negsuc, slice_index, if◌then◌else◌}
 use Rattle.std.specs.Option.{option_map_or, unwrap_or, option_and_then}
-use Rattle.fb_syntax.specs.FieldRead.{FieldRead}
-use Rattle.fb_syntax.specs.TypesRead.{TableRead}
 use Rattle.fb_syntax.specs.declared.declarations.FieldType.{FieldType}
 use Rattle.fb_syntax.specs.declared.declarations.FieldType.TheVariants.{One}
 use Rattle.fb_syntax.specs.declared.declarations.Attribute.{Attribute}
-use Rattle.fb_syntax.specs.declared.declarations.TypeDecl.{TypeDecl}
-use Rattle.fb_syntax.specs.declared.declarations.TypeDecl.TheVariants as decls
-use Rattle.fb_schema.specs.Schema.{Name, DeclaredField}
+use Rattle.fb_schema.specs.Schema.{DeclaredField}
 use Rattle.fb_schema.specs.Alignments.{base_size, greatest_in}
 use Rattle.fb_resolve.specs.Outline.{TypeRead}
-use Rattle.fb_resolve.specs.Meaning.{meaning_in}
+use Rattle.fb_resolve.specs.ResolvedFields.{ResolvedField, ResolvedTable}
+use Rattle.fb_resolve.specs.ResolvedType.{ResolvedType}
+use Rattle.fb_resolve.specs.declared.resolved.ResolvedDecl.{ResolvedDecl}
+use Rattle.fb_resolve.specs.declared.resolved.ResolvedDecl.TheVariants as resolved
 use Rattle.fb_resolve.specs.Attributes.{is_alignment, number_called}
 use Rattle.fb_resolve.specs.EnumsRead.{underlying_at}
 use Rattle.fb_resolve.specs.SlotsRead.{shape_of}
@@ -29,11 +28,11 @@ align_by types lower (One n) (Known (Enum e)) = option_map_or base_size (underly
 align_by types lower (One n) (Known (Struct t)) = slice_index lower t.0
 align_by types lower _ _ = 0
 
-unfoldable pub align_in : List TypeRead → Option Name → List ℕ → FieldRead → ℕ
-align_in types scope lower f = align_by types lower f.kind (meaning_in types scope f.kind)
+unfoldable pub align_in : List TypeRead → List ℕ → ResolvedField → ℕ
+align_in types lower r = align_by types lower r.field.kind r.meaning
 
-unfoldable pub natural_align : List TypeRead → Option Name → List ℕ → List FieldRead → ℕ
-natural_align types scope lower fs = greatest_in (map (align_in types scope lower) fs)
+unfoldable pub natural_align : List TypeRead → List ℕ → List ResolvedField → ℕ
+natural_align types lower rs = greatest_in (map (align_in types lower) rs)
 
 abbrev pub alignment_in : ℕ → ℤ → Option ℕ
 alignment_in least (pos n) = if is_alignment least (pos n) then Some n else None
@@ -44,23 +43,23 @@ unfoldable pub forced_align : ℕ → List Attribute → Option ℕ
 forced_align least attributes = option_and_then (alignment_in least) (number_called ForceAlign attributes)
 
 -- the alignment of a struct with these types before it
-abbrev pub align_of_struct : List TypeRead → Option Name → List ℕ → TableRead → ℕ
-align_of_struct types scope lower s = let natural = natural_align types scope lower s.fields in
-    unwrap_or (forced_align natural s.attributes) natural
+abbrev pub align_of_struct : List TypeRead → List ℕ → ResolvedTable → ℕ
+align_of_struct types lower s = let natural = natural_align types lower s.fields in
+    unwrap_or (forced_align natural s.declared.attributes) natural
 
-abbrev pub align_of_declaration : List TypeRead → Option Name → List ℕ → TypeDecl → ℕ
-align_of_declaration types scope lower (decls.Struct s) = align_of_struct types scope lower s
-align_of_declaration types scope lower _ = 0
+abbrev pub align_of_declaration : List TypeRead → List ℕ → ResolvedDecl → ℕ
+align_of_declaration types lower (resolved.Struct s) = align_of_struct types lower s
+align_of_declaration types lower _ = 0
 
 -- the alignment of a type, 0 of what is no struct
-unfoldable pub align_of_read : List TypeRead → List ℕ → TypeRead → ℕ
-align_of_read types lower r = align_of_declaration types r.scope lower r.declaration
+unfoldable pub align_of_type : List TypeRead → List ℕ → ResolvedType → ℕ
+align_of_type types lower r = align_of_declaration types lower r.declaration
 
 -- a field of a struct, with its number
-abbrev pub part_read : List TypeRead → Option Name → FieldRead → ℕ → DeclaredField
-part_read types scope f k = record {
-  name = f.name.bytes;
-  shape = shape_of f.kind (meaning_in types scope f.kind);
+abbrev pub part_read : ResolvedField → ℕ → DeclaredField
+part_read r k = record {
+  name = r.field.name.bytes;
+  shape = shape_of r.field.kind r.meaning;
   default = pos 0;
   optional = false;
   required = false;
@@ -69,6 +68,6 @@ part_read types scope f k = record {
 }
 
 -- the fields of a struct, with their numbers from this one on
-unfoldable pub parts_from : List TypeRead → Option Name → ℕ → List FieldRead → List DeclaredField
-parts_from types scope k [] = []
-parts_from types scope k (f ∷ fs) = part_read types scope f k ∷ parts_from types scope (k + 1) fs
+unfoldable pub parts_from : ℕ → List ResolvedField → List DeclaredField
+parts_from k [] = []
+parts_from k (r ∷ rs) = part_read r k ∷ parts_from (k + 1) rs

@@ -6,7 +6,7 @@ ghost use Rattle.fb_schema.specs.Schema.{Name};
 ghost use Rattle.fb_resolve.specs.Outline.{TypeRead};
 ghost use Rattle.fb_resolve.specs.EnumsRead.{integer_type, underlying, underlying_at, has_flags, bits_of};
 ghost use Rattle.fb_resolve.specs.EnumsRead.{is_bit_of, value_number, may_be_written, written_number, values_from};
-ghost use Rattle.fb_resolve.specs.EnumsRead.{values_read};
+ghost use Rattle.fb_resolve.specs.EnumsRead.{values_over};
 
 use crate::attributes::{Known, has_attribute};
 use crate::basic_types::basic_type;
@@ -131,11 +131,15 @@ fn values_from(
     Ok(read)
 }
 
-/// The values of an enum with their numbers. The only error is a refused allocation.
-pub fn values_read(alloc: Global, read: &EnumDecl<'_>) -> Result<Vec<(String, i128)>, AllocError>
-    ensures { (types : List TypeRead) (scope : Option Name) → IfOk result
-        (λ r. map (λ v. (string_bytes v.0, v.1)) r.items ≡ values_read types scope read.now) }
+/// The values of an enum over a type, with their numbers. The only error is a refused allocation.
+pub fn values_over(
+    alloc: Global,
+    base: Option<Base>,
+    read: &EnumDecl<'_>,
+) -> Result<Vec<(String, i128)>, AllocError>
+    ensures { IfOk result
+        (λ r. map (λ v. (string_bytes v.0, v.1)) r.items ≡ values_over base read.now) }
 {
-    let base = underlying(read).unwrap_or(Base::U8);
+    let base = base.unwrap_or(Base::U8);
     values_from(alloc, base, has_flags(read), read.values.as_slice())
 }

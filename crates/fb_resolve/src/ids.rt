@@ -3,30 +3,19 @@ ghost use Rattle.std.specs.Prelude.{◌≡◌, ◌<◌, ◌≤◌, ◌-◌, ◌+
 ghost use Rattle.std.specs.Prelude.{IsSome, map, true, false};
 ghost use Rattle.std.specs.Int.RustNames.{unsigned_abs};
 ghost use Rattle.fb_syntax.specs.Integers.{greatest_magnitude};
-ghost use Rattle.std.specs.Option.{option_copied, is_some, ForSome};
-ghost use Rattle.fb_resolve.specs.SlotsRead.{union_in, first_slot, slot_by_id, numbers_by_id, have_ids};
+ghost use Rattle.std.specs.Option.{is_some, ForSome};
+ghost use Rattle.fb_resolve.specs.SlotsRead.{union_in, first_slot, slot_by_id, numbers_by_id, has_id};
+ghost use Rattle.fb_resolve.specs.SlotsRead.{have_ids};
 ghost use Rattle.fb_resolve.specs.SlotsRead.{have_all_ids, are_places, are_ids_wrong, slots_by_id, slots_read};
 ghost use Rattle.fb_resolve.specs.SlotsRead.{AreInPlace};
 ghost use Rattle.fb_schema.specs.Seen.{field_seen};
 
 use crate::attributes::{Known, has_attribute, number_called};
-use crate::slots::{push_slots, slots_in_order, union_of};
+use crate::resolved::ResolvedField;
+use crate::slots::{push_slots, slots_in_order, union_in};
 use crate::types_read::TypesRead;
 use fb_schema::{FieldInfo, TypeId};
-use fb_syntax::Field;
 use std::alloc::{AllocError, Global};
-
-fn union_in(
-    types: TypesRead<'_, '_, '_, '_>,
-    scope: Option<&str>,
-    field: &Field<'_>,
-) -> Option<TypeId>
-    ensures { result
-        ≡ union_in types.entry.types.now (option_copied scope.entry) field.now }
-{
-    let meaning = types.meaning_in(scope, &field.kind);
-    union_of(&field.kind, meaning)
-}
 
 /// The first slot of a field by its id, which is that of its value.
 fn first_slot(union: Option<TypeId>, id: Option<i128>) -> Option<u64>
@@ -43,39 +32,29 @@ fn first_slot(union: Option<TypeId>, id: Option<i128>) -> Option<u64>
 
 /// The first slot of a field by its id.
 #[tactic(auto, unfolding(crate::specs::SlotsRead::slot_by_id))]
-fn slot_by_id(
-    types: TypesRead<'_, '_, '_, '_>,
-    scope: Option<&str>,
-    field: &Field<'_>,
-) -> Option<u64>
-    ensures slot { result
-        ≡ slot_by_id types.entry.types.now (option_copied scope.entry) field.now }
-    ensures room { IsSome (union_in types.entry.types.now (option_copied scope.entry) field.now)
-        → IfSome result (λ s. s < 2 ^ 64 - 1) }
+fn slot_by_id(resolved: &ResolvedField<'_, '_>) -> Option<u64>
+    ensures slot { result ≡ slot_by_id resolved.now }
+    ensures room { IsSome (union_in resolved.now) → IfSome result (λ s. s < 2 ^ 64 - 1) }
 {
-    let union = union_in(types, scope, field);
+    let field = resolved.field;
     let id = number_called(Known::Id, field.attributes.as_slice());
-    first_slot(union, id)
+    first_slot(union_in(resolved), id)
 }
 
 /// Adds the numbers of the slots that a field takes by its id; says whether it has one.
-#[tactic(auto, unfolding(crate::specs::SlotsRead::slots_of_field))]
 fn push_numbers(
-    types: TypesRead<'_, '_, '_, '_>,
-    scope: Option<&str>,
-    field: &Field<'_>,
+    resolved: &ResolvedField<'_, '_>,
     numbers: &mut Vec<u64>,
 ) -> Result<bool, AllocError>
-    ensures named { IfOk result (λ b. b ≡ is_some
-        (slot_by_id types.entry.types.now (option_copied scope.entry) field.now)) }
+    ensures named { IfOk result (λ b. b ≡ is_some (slot_by_id resolved.now)) }
     ensures numbers { result ≡ Ok true → numbers.new.items ≡ numbers.old.items
-        ++ numbers_by_id types.entry.types.now (option_copied scope.entry) (field.now ∷ []) }
+        ++ numbers_by_id (resolved.now ∷ []) }
 {
-    let Some(first) = slot_by_id(types, scope, field) else {
+    let Some(first) = slot_by_id(resolved) else {
         return Ok(false);
     };
     numbers.push(first)?;
-    if union_in(types, scope, field).is_some() {
+    if union_in(resolved).is_some() {
         numbers.push(first + 1)?;
     }
     Ok(true)
@@ -83,19 +62,15 @@ fn push_numbers(
 
 /// The numbers of the slots that fields take by their ids, if each has one.
 fn numbers_by_id(
-    types: TypesRead<'_, '_, '_, '_>,
     alloc: Global,
-    scope: Option<&str>,
-    fields: &[Field<'_>],
+    fields: &[ResolvedField<'_, '_>],
 ) -> Result<Option<Vec<u64>>, AllocError>
-    ensures named { IfOk result (λ o. is_some o
-        ≡ have_all_ids types.entry.types.now (option_copied scope.entry) fields.now) }
-    ensures numbers { IfOk result (λ o. IfSome o (λ v. v.items
-        ≡ numbers_by_id types.entry.types.now (option_copied scope.entry) fields.now)) }
+    ensures named { IfOk result (λ o. is_some o ≡ have_all_ids fields.now) }
+    ensures numbers { IfOk result (λ o. IfSome o (λ v. v.items ≡ numbers_by_id fields.now)) }
 {
     let mut numbers = Vec::with_capacity(alloc, fields.len())?;
     for field in fields {
-        if !push_numbers(types, scope, field, &mut numbers)? {
+        if !push_numbers(field, &mut numbers)? {
             return Ok(None);
         }
     }
@@ -117,28 +92,29 @@ fn are_places(alloc: Global, numbers: &[u64]) -> Result<bool, AllocError>
     Ok(true)
 }
 
-fn have_ids(fields: &[Field<'_>]) -> bool
+fn has_id(resolved: &ResolvedField<'_, '_>) -> bool
+    ensures { result ≡ has_id resolved.now }
+{
+    let field = resolved.field;
+    has_attribute(Known::Id, field.attributes.as_slice())
+}
+
+fn have_ids(fields: &[ResolvedField<'_, '_>]) -> bool
     ensures { result ≡ have_ids fields.now }
 {
-    fields.iter().any(|field| has_attribute(Known::Id, field.attributes.as_slice()))
+    fields.iter().any(|field| has_id(field))
 }
 
 /// Whether fields have ids that do not name each slot of theirs once. The only error is a refused
 /// allocation.
 #[tactic(auto, unfolding(crate::specs::SlotsRead::are_ids_wrong))]
-pub fn are_ids_wrong(
-    types: TypesRead<'_, '_, '_, '_>,
-    alloc: Global,
-    scope: Option<&str>,
-    fields: &[Field<'_>],
-) -> Result<bool, AllocError>
-    ensures { IfOk result
-        (λ w. w ≡ are_ids_wrong types.entry.types.now (option_copied scope.entry) fields.now) }
+pub fn are_ids_wrong(alloc: Global, fields: &[ResolvedField<'_, '_>]) -> Result<bool, AllocError>
+    ensures { IfOk result (λ w. w ≡ are_ids_wrong fields.now) }
 {
     if !have_ids(fields) {
         return Ok(false);
     }
-    match numbers_by_id(types, alloc, scope, fields)? {
+    match numbers_by_id(alloc, fields)? {
         Some(numbers) => Ok(!are_places(alloc, numbers.as_slice())?),
         None => Ok(true),
     }
@@ -149,16 +125,15 @@ pub fn are_ids_wrong(
 fn slots_by_id(
     types: TypesRead<'_, '_, '_, '_>,
     alloc: Global,
-    scope: Option<&str>,
-    fields: &[Field<'_>],
+    fields: &[ResolvedField<'_, '_>],
 ) -> Result<Vec<FieldInfo>, AllocError>
-    ensures { IfOk result (λ v. map field_seen v.items
-        ≡ slots_by_id types.entry.types.now (option_copied scope.entry) fields.now) }
+    ensures { IfOk result
+        (λ v. map field_seen v.items ≡ slots_by_id types.entry.types.now fields.now) }
 {
     let mut slots = Vec::with_capacity(alloc, fields.len())?;
     for field in fields {
-        let first = slot_by_id(types, scope, field).unwrap_or(0);
-        push_slots(types, alloc, scope, field, first, &mut slots)?;
+        let first = slot_by_id(field).unwrap_or(0);
+        push_slots(types, alloc, field, first, &mut slots)?;
     }
     Ok(slots)
 }
@@ -167,18 +142,16 @@ fn slots_by_id(
 pub fn table_slots(
     types: TypesRead<'_, '_, '_, '_>,
     alloc: Global,
-    scope: Option<&str>,
-    fields: &[Field<'_>],
+    fields: &[ResolvedField<'_, '_>],
 ) -> Result<Vec<FieldInfo>, AllocError>
-    requires { are_ids_wrong types.types.now (option_copied scope) fields.now ≡ false }
-    ensures { IfOk result (λ v. AreInPlace
-        (slots_read types.entry.types.now (option_copied scope.entry) fields.now)
+    requires { are_ids_wrong fields.now ≡ false }
+    ensures { IfOk result (λ v. AreInPlace (slots_read types.entry.types.now fields.now)
         (map field_seen v.items)) }
 {
     if !have_ids(fields) {
-        return slots_in_order(types, alloc, scope, fields);
+        return slots_in_order(types, alloc, fields);
     }
-    let mut slots = slots_by_id(types, alloc, scope, fields)?;
+    let mut slots = slots_by_id(types, alloc, fields)?;
     slots.sort_by_key(|slot| slot.slot)?;
     Ok(slots)
 }

@@ -12,6 +12,7 @@ mod meanings;
 mod members;
 mod outline;
 mod readings;
+mod resolved;
 mod slots;
 mod structs;
 mod types_read;
@@ -22,14 +23,18 @@ mod word_places;
 pub use attributes::{Known, is_alignment, known_attribute};
 pub use basic_types::is_reserved;
 pub use defaults::{Given, given_by};
-pub use enums::{has_flags, integer_type, may_be_written, underlying, values_read, written_number};
+pub use enums::{has_flags, integer_type, may_be_written, underlying, values_over, written_number};
 pub use ids::{are_ids_wrong, table_slots};
 pub use located_names::LocatedName;
 pub use meanings::{Meaning, type_name};
-pub use members::{is_table, member_name, table_of};
+pub use members::{is_table, member_name, member_read, table_of};
 pub use outline::{Outline, RootRead, TypeRead, located_name, name_of_type, word_of};
-pub use slots::{name_of_code, union_of};
-pub use structs::{align_of_read, forced_align, natural_align, parts_read};
+pub use resolved::{
+    ResolvedDecl, ResolvedEnum, ResolvedField, ResolvedMember, ResolvedTable, ResolvedType,
+    ResolvedUnion,
+};
+pub use slots::{name_of_code, union_in};
+pub use structs::{align_of_type, forced_align, natural_align, parts_read};
 pub use types_read::TypesRead;
 pub use value_numbers::ValueNumbers;
 pub use word_places::WordPlaces;

@@ -1,10 +1,11 @@
 //! Members of unions.
 ghost use Rattle.std.specs.Prelude.{◌≡◌, IfOk, is_some, string_bytes};
 ghost use Rattle.std.specs.Option.{option_map};
-ghost use Rattle.fb_resolve.specs.MembersRead.{with_underscores, member_name, table_of};
+ghost use Rattle.fb_resolve.specs.MembersRead.{with_underscores, member_name, table_of, member_read};
 
 use crate::located_names::LocatedName;
 use crate::meanings::Meaning;
+use crate::resolved::ResolvedMember;
 use fb_schema::{Kind, TypeId};
 use fb_syntax::UnionMember;
 use std::alloc::{AllocError, Global};
@@ -53,4 +54,17 @@ pub fn member_name(alloc: Global, member: &UnionMember<'_>) -> Result<LocatedNam
         ),
     };
     Ok(LocatedName { text, at })
+}
+
+/// A member's name and its table; a member at fault stands as type 0. The only error is a refused
+/// allocation.
+pub fn member_read(
+    alloc: Global,
+    resolved: &ResolvedMember<'_, '_>,
+) -> Result<(String, TypeId), AllocError>
+    ensures { IfOk result (λ m. (string_bytes m.0, m.1.0) ≡ member_read resolved.now) }
+{
+    let name = member_name(alloc, resolved.member)?;
+    let table = table_of(resolved.meaning).unwrap_or(TypeId(0));
+    Ok((name.text, table))
 }

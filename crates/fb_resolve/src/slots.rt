@@ -1,15 +1,14 @@
 //! The slots that the fields of a table take.
 ghost use Rattle.std.specs.Prelude.{◌≡◌, ◌<◌, ◌-◌, ◌++◌, ◌^◌, IfOk, OnOk, IsSome, map};
 ghost use Rattle.std.specs.Prelude.{string_bytes};
-ghost use Rattle.std.specs.Option.{option_copied};
 ghost use Rattle.fb_schema.specs.Seen.{field_seen};
-ghost use Rattle.fb_resolve.specs.Meaning.{meaning_in};
-ghost use Rattle.fb_resolve.specs.SlotsRead.{union_of, union_in, value_slot_of, name_of_code, code_slot};
+ghost use Rattle.fb_resolve.specs.SlotsRead.{union_of, union_in, value_slot, name_of_code, code_slot};
 ghost use Rattle.fb_resolve.specs.SlotsRead.{slots_of_field, slots_in_order};
 
 use crate::attributes::{Known, has_attribute, number_called};
 use crate::defaults::{Given, given_by};
 use crate::meanings::Meaning;
+use crate::resolved::ResolvedField;
 use crate::structs::shape_of;
 use crate::types_read::TypesRead;
 use fb_schema::{FieldInfo, Kind, Shape, TypeId};
@@ -17,7 +16,7 @@ use fb_syntax::{Field, FieldType};
 use std::alloc::{AllocError, Global};
 
 /// The union of a union's use.
-pub fn union_of(kind: &FieldType<'_>, meaning: Meaning) -> Option<TypeId>
+fn union_of(kind: &FieldType<'_>, meaning: Meaning) -> Option<TypeId>
     ensures { result ≡ union_of kind.now meaning }
 {
     match (kind, meaning) {
@@ -29,13 +28,14 @@ pub fn union_of(kind: &FieldType<'_>, meaning: Meaning) -> Option<TypeId>
 fn value_slot(
     types: TypesRead<'_, '_, '_, '_>,
     alloc: Global,
-    field: &Field<'_>,
-    meaning: Meaning,
+    resolved: &ResolvedField<'_, '_>,
     slot: u64,
 ) -> Result<FieldInfo, AllocError>
     ensures { IfOk result
-        (λ f. field_seen f ≡ value_slot_of types.entry.types.now field.now meaning slot) }
+        (λ f. field_seen f ≡ value_slot types.entry.types.now resolved.now slot) }
 {
+    let field = resolved.field;
+    let meaning = resolved.meaning;
     let default = field.default.as_ref();
     let given = given_by(types, &field.kind, meaning, default);
     let default = match given {
@@ -81,28 +81,33 @@ fn code_slot(
     })
 }
 
+/// The union of a union's field.
+pub fn union_in(resolved: &ResolvedField<'_, '_>) -> Option<TypeId>
+    ensures { result ≡ union_in resolved.now }
+{
+    let field = resolved.field;
+    union_of(&field.kind, resolved.meaning)
+}
+
 /// Adds the slots of a field from this one on: a union's code comes before its value.
 #[tactic(auto, unfolding(crate::specs::SlotsRead::slots_of_field))]
 pub(crate) fn push_slots(
     types: TypesRead<'_, '_, '_, '_>,
     alloc: Global,
-    scope: Option<&str>,
-    field: &Field<'_>,
+    resolved: &ResolvedField<'_, '_>,
     slot: u64,
     slots: &mut Vec<FieldInfo>,
 ) -> Result<(), AllocError>
-    requires { IsSome (union_in types.types.now (option_copied scope) field.now)
-        → slot < 2 ^ 64 - 1 }
+    requires { IsSome (union_in resolved.now) → slot < 2 ^ 64 - 1 }
     ensures { OnOk result (map field_seen slots.new.items ≡ map field_seen slots.old.items
-        ++ slots_of_field types.entry.types.now (option_copied scope.entry) field.now slot) }
+        ++ slots_of_field types.entry.types.now resolved.now slot) }
 {
-    let meaning = types.meaning_in(scope, &field.kind);
-    match union_of(&field.kind, meaning) {
+    match union_in(resolved) {
         Some(union) => {
-            slots.push(code_slot(alloc, field, union, slot)?)?;
-            slots.push(value_slot(types, alloc, field, meaning, slot + 1)?)?;
+            slots.push(code_slot(alloc, resolved.field, union, slot)?)?;
+            slots.push(value_slot(types, alloc, resolved, slot + 1)?)?;
         }
-        None => slots.push(value_slot(types, alloc, field, meaning, slot)?)?,
+        None => slots.push(value_slot(types, alloc, resolved, slot)?)?,
     }
     Ok(())
 }
@@ -113,16 +118,15 @@ pub(crate) fn push_slots(
 pub(crate) fn slots_in_order(
     types: TypesRead<'_, '_, '_, '_>,
     alloc: Global,
-    scope: Option<&str>,
-    fields: &[Field<'_>],
+    fields: &[ResolvedField<'_, '_>],
 ) -> Result<Vec<FieldInfo>, AllocError>
-    ensures { IfOk result (λ v. map field_seen v.items
-        ≡ slots_in_order types.entry.types.now (option_copied scope.entry) 0 fields.now) }
+    ensures { IfOk result
+        (λ v. map field_seen v.items ≡ slots_in_order types.entry.types.now 0 fields.now) }
 {
     let mut slots = Vec::with_capacity(alloc, fields.len())?;
     for field in fields {
         let slot = slots.len() as u64;
-        push_slots(types, alloc, scope, field, slot, &mut slots)?;
+        push_slots(types, alloc, field, slot, &mut slots)?;
     }
     Ok(slots)
 }

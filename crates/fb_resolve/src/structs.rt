@@ -1,20 +1,19 @@
 //! Fields and alignments of structs.
 ghost use Rattle.std.specs.Prelude.{◌≡◌, ◌≤◌, IfOk, Some, map};
-ghost use Rattle.std.specs.Option.{option_copied, option_map_or};
+ghost use Rattle.std.specs.Option.{option_map_or};
 ghost use Rattle.fb_schema.specs.Alignments.{base_size};
 ghost use Rattle.fb_schema.specs.Seen.{field_seen};
 ghost use Rattle.fb_resolve.specs.StructsRead.{align_by, align_in, natural_align, alignment_in, forced_align};
-ghost use Rattle.fb_resolve.specs.StructsRead.{align_of_struct, align_of_read, part_read, parts_from};
+ghost use Rattle.fb_resolve.specs.StructsRead.{align_of_struct, align_of_type, part_read, parts_from};
 ghost use Rattle.fb_resolve.specs.SlotsRead.{kind_or_text, shape_of};
-ghost use Rattle.fb_resolve.specs.Meaning.{meaning_in};
 
 use crate::attributes::{Known, is_alignment, number_called};
 use crate::enums::underlying_at;
-use crate::meanings::{Meaning, type_name};
-use crate::outline::TypeRead;
+use crate::meanings::Meaning;
+use crate::resolved::{ResolvedDecl, ResolvedField, ResolvedTable, ResolvedType};
 use crate::types_read::TypesRead;
 use fb_schema::{Base, FieldInfo, Kind, Shape, TypeId};
-use fb_syntax::{Attribute, Field, FieldType, TableDecl, TypeDecl};
+use fb_syntax::{Attribute, FieldType};
 use std::alloc::{AllocError, Global};
 
 /// The kind of a use; a type at fault stands as a text.
@@ -61,16 +60,13 @@ fn align_by(
 #[tactic(auto, unfolding(crate::specs::StructsRead::align_in))]
 fn align_in(
     types: TypesRead<'_, '_, '_, '_>,
-    scope: Option<&str>,
     lower: &[u16],
-    field: &Field<'_>,
+    resolved: &ResolvedField<'_, '_>,
 ) -> u16
-    ensures { result
-        ≡ align_in types.entry.types.now (option_copied scope.entry) lower.now field.now }
+    ensures { result ≡ align_in types.entry.types.now lower.now resolved.now }
 {
-    let kind = &field.kind;
-    let meaning = types.meaning(scope, type_name(kind).as_str());
-    align_by(types, lower, kind, meaning)
+    let field = resolved.field;
+    align_by(types, lower, &field.kind, resolved.meaning)
 }
 
 /// The greatest alignment that the fields of a struct need, where these are the alignments of the
@@ -78,16 +74,14 @@ fn align_in(
 #[tactic(auto, unfolding(crate::specs::StructsRead::natural_align))]
 pub fn natural_align(
     types: TypesRead<'_, '_, '_, '_>,
-    scope: Option<&str>,
     lower: &[u16],
-    fields: &[Field<'_>],
+    fields: &[ResolvedField<'_, '_>],
 ) -> u16
-    ensures { result
-        ≡ natural_align types.entry.types.now (option_copied scope.entry) lower.now fields.now }
+    ensures { result ≡ natural_align types.entry.types.now lower.now fields.now }
 {
     let mut natural = 0;
     for field in fields {
-        natural = natural.max(align_in(types, scope, lower, field));
+        natural = natural.max(align_in(types, lower, field));
     }
     natural
 }
@@ -112,46 +106,42 @@ pub fn forced_align(least: u16, attributes: &[Attribute<'_>]) -> Option<u16>
 
 fn align_of_struct(
     types: TypesRead<'_, '_, '_, '_>,
-    scope: Option<&str>,
     lower: &[u16],
-    read: &TableDecl<'_>,
+    resolved: &ResolvedTable<'_, '_>,
 ) -> u16
-    ensures { result
-        ≡ align_of_struct types.entry.types.now (option_copied scope.entry) lower.now read.now }
+    ensures { result ≡ align_of_struct types.entry.types.now lower.now resolved.now }
 {
-    let natural = natural_align(types, scope, lower, read.fields.as_slice());
-    forced_align(natural, read.attributes.as_slice()).unwrap_or(natural)
+    let natural = natural_align(types, lower, resolved.fields.as_slice());
+    let declared = resolved.declared;
+    forced_align(natural, declared.attributes.as_slice()).unwrap_or(natural)
 }
 
 /// The alignment of a type, 0 of what is no struct.
-#[tactic(auto, unfolding(crate::specs::StructsRead::align_of_read))]
-pub fn align_of_read(
+#[tactic(auto, unfolding(crate::specs::StructsRead::align_of_type))]
+pub fn align_of_type(
     types: TypesRead<'_, '_, '_, '_>,
     lower: &[u16],
-    read: &TypeRead<'_, '_>,
+    resolved: &ResolvedType<'_, '_, '_>,
 ) -> u16
-    ensures { result ≡ align_of_read types.entry.types.now lower.now read.now }
+    ensures { result ≡ align_of_type types.entry.types.now lower.now resolved.now }
 {
-    match read.declaration {
-        TypeDecl::Struct(declared) => align_of_struct(types, read.scope, lower, declared),
+    match &resolved.declaration {
+        ResolvedDecl::Struct(table) => align_of_struct(types, lower, table),
         _ => 0,
     }
 }
 
 fn part_read(
-    types: TypesRead<'_, '_, '_, '_>,
     alloc: Global,
-    scope: Option<&str>,
-    field: &Field<'_>,
+    resolved: &ResolvedField<'_, '_>,
     number: u64,
 ) -> Result<FieldInfo, AllocError>
-    ensures { IfOk result
-        (λ f. field_seen f ≡ part_read types.entry.types.now (option_copied scope.entry) field.now number) }
+    ensures { IfOk result (λ f. field_seen f ≡ part_read resolved.now number) }
 {
-    let meaning = types.meaning(scope, type_name(&field.kind).as_str());
+    let field = resolved.field;
     Ok(FieldInfo {
         name: String::from_str(alloc, field.name.text)?,
-        shape: shape_of(&field.kind, meaning),
+        shape: shape_of(&field.kind, resolved.meaning),
         default: 0,
         optional: false,
         required: false,
@@ -163,17 +153,14 @@ fn part_read(
 /// The fields of a struct with their numbers. The only error is a refused allocation.
 #[tactic(auto, unfolding(crate::specs::StructsRead::parts_from))]
 pub fn parts_read(
-    types: TypesRead<'_, '_, '_, '_>,
     alloc: Global,
-    scope: Option<&str>,
-    fields: &[Field<'_>],
+    fields: &[ResolvedField<'_, '_>],
 ) -> Result<Vec<FieldInfo>, AllocError>
-    ensures { IfOk result (λ v. map field_seen v.items
-        ≡ parts_from types.entry.types.now (option_copied scope.entry) 0 fields.now) }
+    ensures { IfOk result (λ v. map field_seen v.items ≡ parts_from 0 fields.now) }
 {
     let mut parts = Vec::with_capacity(alloc, fields.len())?;
     for (number, field) in fields.iter().enumerate() {
-        parts.push(part_read(types, alloc, scope, field, number as u64)?)?;
+        parts.push(part_read(alloc, field, number as u64)?)?;
     }
     Ok(parts)
 }

@@ -7,6 +7,6 @@ use Rattle.fb_declare.proofs.bodies.types_of.Goals as goal
 
 pub loop-read-preserved : goal.loop-read-preserved
 loop-read-preserved c =
-    let types = c.args.types.types.now in
-    subst (λ items. AllZip (IsType types) (take (c.loop-read.read-index + 1) types) (map type_seen items)) (sym c.in_ok-push.ensures.items)
-    (zipped-more (IsType types) type_seen types c.loop-read.made.items c.loop-read.read-index c.read-item.result c.in_ok-type_of.field-0 c.loop-read-test.true c.read-item.is c.loop-read.invariant c.in_ok-type_of.ensures)
+    let types = c.args.types.types.now in let rs = c.args.resolved.now in
+    subst (λ items. AllZip (IsType types) (take (c.loop-read.read-index + 1) rs) (map type_seen items)) (sym c.in_ok-push.ensures.items)
+    (zipped-more (IsType types) type_seen rs c.loop-read.made.items c.loop-read.read-index c.read-item.result c.in_ok-type_of.field-0 c.loop-read-test.true c.read-item.is c.loop-read.invariant c.in_ok-type_of.ensures)

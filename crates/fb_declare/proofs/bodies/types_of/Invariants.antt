@@ -5,5 +5,4 @@ use Rattle.fb_declare.specs.Declares.{IsType}
 use Rattle.fb_declare.proofs.bodies.types_of.Given as goal
 
 abbrev pub invariant-loop-read : goal.invariant-loop-read
-invariant-loop-read l = let types = l.types.types.now in
-    AllZip (IsType types) (take l.read-index types) (map type_seen l.made.items)
+invariant-loop-read l = AllZip (IsType l.types.types.now) (take l.read-index l.resolved) (map type_seen l.made.items)

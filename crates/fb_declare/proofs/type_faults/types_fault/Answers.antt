@@ -5,11 +5,11 @@ use Rattle.fb_declare.proofs.type_faults.types_fault.Goals as goal
 
 pub loop-read-preserved : goal.loop-read-preserved
 loop-read-preserved c =
-    let reads = c.args.types.types.now in
-    rw (c.earlier-least.ensures, c.in_ok-fault.ensures, c.in_ok-push.ensures.items, c.align_of_read-align.ensures, c.as_slice.ensures.value, c.as_slice-in-loop-read.ensures.value)
-    (met-type reads (names_declared c.args.declared) c.loop-read.lower.items c.loop-read.least reads c.loop-read.read-index c.read-item.result c.loop-read-test.true c.read-item.is ∙ c.loop-read.invariant)
+    let types = c.args.types.types.now in let reads = c.args.resolved.now in
+    rw (c.earlier-least.ensures, c.in_ok-fault.ensures, c.in_ok-push.ensures.items, c.align_of_type-align.ensures, c.as_slice.ensures.value, c.as_slice-in-loop-read.ensures.value)
+    (met-type types (names_declared c.args.declared) c.loop-read.lower.items c.loop-read.least reads c.loop-read.read-index c.read-item.result c.loop-read-test.true c.read-item.is ∙ c.loop-read.invariant)
 
 pub returns : goal.returns
 returns c =
-    let reads = c.args.types.types.now in
-    sym (met-types reads (names_declared c.args.declared) c.loop-read.lower.items c.loop-read.least reads c.loop-read.read-index (omega (arith, c.loop-read-test.false))) ∙ c.loop-read.invariant
+    let types = c.args.types.types.now in let reads = c.args.resolved.now in
+    sym (met-types types (names_declared c.args.declared) c.loop-read.lower.items c.loop-read.least reads c.loop-read.read-index (omega (arith, c.loop-read-test.false))) ∙ c.loop-read.invariant

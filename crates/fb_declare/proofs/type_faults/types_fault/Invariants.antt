@@ -5,5 +5,5 @@ use Rattle.fb_declare.specs.TypeFaults.{faults_of_types}
 use Rattle.fb_declare.proofs.type_faults.types_fault.Given as goal
 
 abbrev pub invariant-loop-read : goal.invariant-loop-read
-invariant-loop-read l = let reads = l.types.types.now in let faults = faults_of_types reads (names_declared l.declared) in
+invariant-loop-read l = let reads = l.resolved in let faults = faults_of_types l.types.types.now (names_declared l.declared) in
     earlier l.least (least_of (faults l.lower.items (drop l.read-index reads))) ≡ least_of (faults [] reads)

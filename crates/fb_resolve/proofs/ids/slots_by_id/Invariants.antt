@@ -1,9 +1,8 @@
 use Rattle.std.proofs.Common.{◌≡◌, ◌++◌, map, drop}
-use Rattle.std.specs.Option.{option_copied}
 use Rattle.fb_schema.specs.Seen.{field_seen}
 use Rattle.fb_resolve.specs.SlotsRead.{slots_by_id}
 use Rattle.fb_resolve.proofs.ids.slots_by_id.Given as goal
 
 abbrev pub invariant-loop-field : goal.invariant-loop-field
-invariant-loop-field l = let types = l.types.types.now in let scope = option_copied l.scope in
-    map field_seen l.slots.items ++ slots_by_id types scope (drop l.field-index l.fields) ≡ slots_by_id types scope l.fields
+invariant-loop-field l = let types = l.types.types.now in
+    map field_seen l.slots.items ++ slots_by_id types (drop l.field-index l.fields) ≡ slots_by_id types l.fields

@@ -1,9 +1,8 @@
 use Rattle.std.proofs.Common.{◌≡◌, max, map, drop}
-use Rattle.std.specs.Option.{option_copied}
 use Rattle.fb_schema.specs.Alignments.{greatest_in}
 use Rattle.fb_resolve.specs.StructsRead.{align_in}
 use Rattle.fb_resolve.proofs.structs.natural_align.Given as goal
 
 abbrev pub invariant-loop-field : goal.invariant-loop-field
-invariant-loop-field l = let align = align_in l.types.types.now (option_copied l.scope) l.lower in
+invariant-loop-field l = let align = align_in l.types.types.now l.lower in
     max l.natural (greatest_in (map align (drop l.field-index l.fields))) ≡ greatest_in (map align l.fields)

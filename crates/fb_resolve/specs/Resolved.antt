@@ -1,0 +1,57 @@
+-- The types of a text with what the names in them mean.
+-- From the FlatBuffers documentation, "Writing a schema": Types, Namespaces.
+use Rattle.std.specs.Prelude.{List, map, Option, None, Some}
+use Rattle.fb_syntax.specs.FieldRead.{FieldRead}
+use Rattle.fb_syntax.specs.TypesRead.{TableRead, EnumRead, UnionRead}
+use Rattle.fb_syntax.specs.declared.declarations.UnionMember.{UnionMember}
+use Rattle.fb_syntax.specs.declared.declarations.TypeDecl.{TypeDecl}
+use Rattle.fb_syntax.specs.declared.declarations.TypeDecl.TheVariants as decls
+use Rattle.fb_schema.specs.Schema.{Name}
+use Rattle.fb_resolve.specs.Outline.{TypeRead, RootRead}
+use Rattle.fb_resolve.specs.Meaning.{meaning_of, meaning_in}
+use Rattle.fb_resolve.specs.ResolvedFields.{ResolvedField, ResolvedTable, ResolvedEnum, ResolvedMember, ResolvedUnion}
+use Rattle.fb_resolve.specs.ResolvedType.{ResolvedType}
+use Rattle.fb_resolve.specs.declared.meanings.Meaning.{Meaning}
+use Rattle.fb_resolve.specs.declared.meanings.Meaning.TheVariants.{Unknown}
+use Rattle.fb_resolve.specs.declared.resolved.ResolvedDecl.{ResolvedDecl}
+use Rattle.fb_resolve.specs.declared.resolved.ResolvedDecl.TheVariants.{Table, Struct, Enum, Union}
+
+abbrev pub resolved_field : List TypeRead → Option Name → FieldRead → ResolvedField
+resolved_field types scope f = record { field = f; meaning = meaning_in types scope f.kind }
+
+abbrev pub resolved_fields : List TypeRead → Option Name → List FieldRead → List ResolvedField
+resolved_fields types scope fs = map (resolved_field types scope) fs
+
+abbrev pub resolved_table : List TypeRead → Option Name → TableRead → ResolvedTable
+resolved_table types scope t = record { declared = t; fields = resolved_fields types scope t.fields }
+
+abbrev pub resolved_enum : List TypeRead → Option Name → EnumRead → ResolvedEnum
+resolved_enum types scope e = record { declared = e; underlying = meaning_of types scope e.underlying.bytes }
+
+abbrev pub resolved_member : List TypeRead → Option Name → UnionMember → ResolvedMember
+resolved_member types scope m = record { member = m; meaning = meaning_of types scope m.table.bytes }
+
+abbrev pub resolved_members : List TypeRead → Option Name → List UnionMember → List ResolvedMember
+resolved_members types scope ms = map (resolved_member types scope) ms
+
+abbrev pub resolved_union : List TypeRead → Option Name → UnionRead → ResolvedUnion
+resolved_union types scope u = record { declared = u; members = resolved_members types scope u.members }
+
+-- a declaration whose names mean what they do inside a namespace
+abbrev pub resolved_declaration : List TypeRead → Option Name → TypeDecl → ResolvedDecl
+resolved_declaration types scope (decls.Table t) = Table (resolved_table types scope t)
+resolved_declaration types scope (decls.Struct s) = Struct (resolved_table types scope s)
+resolved_declaration types scope (decls.Enum e) = Enum (resolved_enum types scope e)
+resolved_declaration types scope (decls.Union u) = Union (resolved_union types scope u)
+
+abbrev pub resolved_type : List TypeRead → TypeRead → ResolvedType
+resolved_type types r = record { read = r; declaration = resolved_declaration types r.scope r.declaration }
+
+-- all types of a text
+abbrev pub resolved_types : List TypeRead → List ResolvedType
+resolved_types types = map (resolved_type types) types
+
+-- what the root's name means; nothing that is known where there is no root
+abbrev pub meaning_of_root : List TypeRead → Option RootRead → Meaning
+meaning_of_root types None = Unknown
+meaning_of_root types (Some r) = meaning_of types r.scope r.name.bytes
