@@ -1,5 +1,5 @@
 -- The values of an enum whose number is at fault, one value at a time.
-use Rattle.std.proofs.Common.{cond, ◌≡◌, ℕ, ◌+◌, ◌<◌, ◌≤◌, ◌++◌, ◌||◌, List, [], ◌∷◌, length, get_or, drop, Bool, true, false, ℤ, ◌+ℤ◌, pos, Option, refl, sym, ◌∙◌, ap, if◌then◌else◌, arith}
+use Rattle.std.proofs.Common.{cond, ◌≡◌, ℕ, ◌+◌, ◌<◌, ◌≤◌, ◌++◌, ◌||◌, List, [], ◌∷◌, length, get_or, drop, Bool, true, false, ℤ, ◌+ℤ◌, pos, Option, refl, sym, ◌∙◌, ap}
 use Rattle.std.specs.List.{list_any}
 use Rattle.std.specs.Bool.{one_answer}
 use Rattle.std.specs.Ordering.{int_eq}
@@ -9,7 +9,7 @@ use Rattle.fb_schema.specs.declared.kinds.Base.{Base}
 use Rattle.fb_declare.specs.declared.faults.SchemaFault.TheVariants.{BadEnumValue}
 use Rattle.fb_resolve.specs.EnumsRead.{written_number}
 use Rattle.fb_declare.specs.FaultRows.{when, is_out_of_range, bad_values}
-use Rattle.fb_resolve.proofs.Steps.{drop-more, drop-end, list_any-snoc}
+use Rattle.fb_resolve.proofs.Steps.{drop-more, drop-end}
 
 bad_values-nil : (base : Option Base) (flags : Bool) (met : List ℤ) (next : ℤ) → bad_values base flags met next [] ≡ []
 unfolding bad_values

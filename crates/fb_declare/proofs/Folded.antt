@@ -1,14 +1,12 @@
 -- The least fault of each element's faults, one element at a time.
 use Rattle.std.proofs.Common.{◌≡◌, ◌<◌, ◌≤◌, ◌+◌, ◌++◌, ℕ, List, [], ◌∷◌, length, drop, get_or, refl, ap, sym, ◌∙◌, Option}
 use Rattle.std.specs.List.{flat_map}
-use Rattle.fb_syntax.specs.declared.declarations.UnionMember.{UnionMember}
 use Rattle.fb_schema.specs.Schema.{Name}
 use Rattle.fb_declare.specs.declared.faults.SchemaFault.{SchemaFault}
 use Rattle.fb_declare.specs.Faults.{earlier, least_of}
 use Rattle.fb_resolve.specs.Outline.{TypeRead}
 use Rattle.fb_resolve.specs.ResolvedFields.{ResolvedMember}
 use Rattle.fb_resolve.specs.ResolvedType.{ResolvedType}
-use Rattle.fb_resolve.specs.Meaning.{meaning_of}
 use Rattle.fb_resolve.specs.MembersRead.{member_name}
 use Rattle.fb_declare.specs.FaultRows.{member_faults}
 use Rattle.fb_declare.specs.TypeFaults.{members_faults, type_faults, faults_of_types}

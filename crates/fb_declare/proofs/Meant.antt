@@ -1,5 +1,5 @@
 -- What holds of all meanings holds of those of resolved fields.
-use Rattle.std.proofs.Common.{◌≡◌, ℕ, zero, suc, List, [], ◌∷◌, length, get_or, Option, Some, subst, ap, sym, ◌∙◌}
+use Rattle.std.proofs.Common.{◌≡◌, ℕ, zero, suc, List, [], ◌∷◌, Option, Some, subst, ap, ◌∙◌}
 use Rattle.std.specs.List.{slice_get, Contains}
 use Rattle.std.specs.Option.{option_map}
 use Rattle.std.proofs.lemmas.Option.{none-some, same_Some, slice_get-map, slice_get-get_or}
@@ -8,7 +8,6 @@ use Rattle.fb_schema.specs.Schema.{Name}
 use Rattle.fb_resolve.specs.Outline.{TypeRead}
 use Rattle.fb_resolve.specs.Meaning.{meaning_of, type_name}
 use Rattle.fb_resolve.specs.ResolvedFields.{ResolvedField}
-use Rattle.fb_resolve.specs.ResolvedType.{ResolvedType}
 use Rattle.fb_resolve.specs.Resolved.{resolved_field, resolved_fields, resolved_type, resolved_types}
 use Rattle.fb_resolve.specs.declared.meanings.Meaning.{Meaning}
 

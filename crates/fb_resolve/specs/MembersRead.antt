@@ -1,6 +1,6 @@
 -- The members of a union as it is declared.
 -- From the FlatBuffers documentation, "Writing a schema": Unions.
-use Rattle.std.specs.Prelude.{ℕ, ◌==◌, List, map, Option, None, Some, if◌then◌else◌}
+use Rattle.std.specs.Prelude.{ℕ, ◌==◌, map, Option, None, Some, if◌then◌else◌}
 use Rattle.std.specs.Option.{unwrap_or}
 use Rattle.fb_syntax.specs.Located.{Located}
 use Rattle.fb_syntax.specs.Signs.{dot}

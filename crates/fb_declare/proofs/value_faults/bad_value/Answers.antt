@@ -1,4 +1,4 @@
-use Rattle.std.proofs.Common.{FitsSigned, rules, ◌≡◌, ◌||◌, ◌∙◌, ℤ, Bool, true, false, cond, refl, sym, ap}
+use Rattle.std.proofs.Common.{FitsSigned, rules, ◌||◌, ◌∙◌, true, cond, ap}
 use Rattle.std.specs.Int.{w128}
 use Rattle.std.specs.List.{list_any}
 use Rattle.std.proofs.lemmas.Int.{to_z-of_z}

@@ -1,4 +1,4 @@
-use Rattle.std.proofs.Common.{to_z, of_z, ◌≡◌, ◌∙◌, sym, ap, Some, cond, FitsSigned, rules}
+use Rattle.std.proofs.Common.{to_z, of_z, ◌∙◌, sym, ap, Some, cond, FitsSigned, rules}
 use Rattle.std.specs.Int.{w128}
 use Rattle.std.specs.Str.{bytes_eq}
 use Rattle.std.proofs.lemmas.Int.{to_z-of_z}

@@ -1,4 +1,4 @@
-use Rattle.std.proofs.Common.{◌≡◌, ◌∙◌, sym, ap}
+use Rattle.std.proofs.Common.{◌∙◌, sym, ap}
 use Rattle.std.specs.Map.{lookup}
 use Rattle.fb_resolve.specs.EnumsRead.{number_named}
 use Rattle.fb_resolve.proofs.NumberNamed.{number_named-nil}

@@ -1,4 +1,4 @@
-use Rattle.std.proofs.Common.{◌≡◌, ℕ, length}
+use Rattle.std.proofs.Common.{◌≡◌, length}
 use Rattle.fb_resolve.proofs.Numbers.{HaveNumbers}
 use Rattle.fb_resolve.proofs.value_numbers.ValueNumbers.of.Given as goal
 
