@@ -106,7 +106,7 @@ forced_called natural (Some a) stands = forced_value natural a.value (stands a r
 
 -- the `force_align` of a struct with no fault
 pub forced_right : (declared : List Name) (natural : ℕ) (attributes : List Attribute) → metadata_faults declared (places.Struct natural) [] attributes ≡ []
-    → IsForced natural (forced_align natural attributes) (forced_align 0 attributes)
+    → IsForced natural (forced_align natural (number_called ForceAlign attributes)) (forced_align 0 (number_called ForceAlign attributes))
 unfolding forced_align number_called
 forced_right declared natural attributes h = forced_called natural (attribute_called ForceAlign attributes) (λ a is. called_stands declared (places.Struct natural) [] attributes ForceAlign a h is)
 
@@ -114,7 +114,7 @@ forced_right declared natural attributes h = forced_called natural (attribute_ca
 
 -- a struct's body comes from a struct
 struct_from : (types : List TypeRead) (scope : Option Name) (d : TypeDecl) (body : DeclaredBody) → HasBody types (resolved_declaration types scope d) body → IsTrue (is_struct body)
-    → (s : TableRead) × (d ≡ decls.Struct s) × (body ≡ struct_body (parts_from 0 (resolved_fields types scope s.fields)) (forced_align 0 s.attributes))
+    → (s : TableRead) × (d ≡ decls.Struct s) × (body ≡ struct_body (parts_from 0 (resolved_fields types scope s.fields)) (forced_align 0 (number_called ForceAlign s.attributes)))
 struct_from types scope d (table_body fs) h is = absurd (false≢true is)
 struct_from types scope d (enum_body base flags values) h is = absurd (false≢true is)
 struct_from types scope d (union_body members) h is = absurd (false≢true is)
@@ -199,13 +199,13 @@ module _ (o : Outline) (S : DeclaredSchema) (gives : Gives o S) (none : faults_o
   record IsStructAt (s : ℕ) : Type 0 where
     pub scope : Option Name
     pub read : TableRead
-    pub body : body_at S s ≡ struct_body (parts_from 0 (resolved_fields o.types scope read.fields)) (forced_align 0 read.attributes)
+    pub body : body_at S s ≡ struct_body (parts_from 0 (resolved_fields o.types scope read.fields)) (forced_align 0 (number_called ForceAlign read.attributes))
     pub right : struct_faults o.types o.attributes (aligns_before s) (resolved_table o.types scope read) ≡ []
     pub align : slice_index aligns s ≡ align_of_struct o.types (aligns_before s) (resolved_table o.types scope read)
 
   -- a struct that is declared is known so
   struct_at_by : (s : ℕ) (type : DeclaredType) (r : TypeRead) (d : TableRead) → slice_get S.types s ≡ Some type → slice_get o.types s ≡ Some r → r.declaration ≡ decls.Struct d
-      → type.body ≡ struct_body (parts_from 0 (resolved_fields o.types r.scope d.fields)) (forced_align 0 d.attributes) → IsStructAt s
+      → type.body ≡ struct_body (parts_from 0 (resolved_fields o.types r.scope d.fields)) (forced_align 0 (number_called ForceAlign d.attributes)) → IsStructAt s
   unfolding align_of_type
   struct_at_by s type r d there at is body =
       let place : s ≡ 0 + s = omega arith in
@@ -232,7 +232,10 @@ module _ (o : Outline) (S : DeclaredSchema) (gives : Gives o S) (none : faults_o
       ∙ ap greatest_in (part_sizes at.scope (aligns_before s) (aligns-below o.types [] (resolved_types o.types) s) 0 at.read.fields (struct_right o.types o.attributes at.scope (aligns_before s) at.read at.right).fields)
 
   -- its `force_align` is right
-  struct_forced : (s : ℕ) (at : IsStructAt s) → IsForced (natural_align o.types (aligns_before s) (resolved_fields o.types at.scope at.read.fields)) (forced_align (natural_align o.types (aligns_before s) (resolved_fields o.types at.scope at.read.fields)) at.read.attributes) (forced_align 0 at.read.attributes)
+  struct_forced : (s : ℕ) (at : IsStructAt s)
+      → IsForced (natural_align o.types (aligns_before s) (resolved_fields o.types at.scope at.read.fields))
+      (forced_align (natural_align o.types (aligns_before s) (resolved_fields o.types at.scope at.read.fields)) (number_called ForceAlign at.read.attributes))
+      (forced_align 0 (number_called ForceAlign at.read.attributes))
   struct_forced s at = forced_right o.attributes (natural_align o.types (aligns_before s) (resolved_fields o.types at.scope at.read.fields)) at.read.attributes (struct_right o.types o.attributes at.scope (aligns_before s) at.read at.right).metadata
 
   -- The structs are aligned as they are declared.

@@ -1,5 +1,5 @@
--- What holds of all meanings holds of those of resolved fields.
-use Rattle.std.proofs.Common.{◌≡◌, ℕ, zero, suc, List, [], ◌∷◌, Option, Some, subst, ap, ◌∙◌}
+-- What holds of all meanings holds of those of resolved fields, whose attributes are read from their own.
+use Rattle.std.proofs.Common.{◌≡◌, ℕ, zero, suc, List, [], ◌∷◌, Option, Some, refl, subst, ap, ◌∙◌}
 use Rattle.std.specs.List.{slice_get, Contains}
 use Rattle.std.specs.Option.{option_map}
 use Rattle.std.proofs.lemmas.Option.{none-some, same_Some, slice_get-map, slice_get-get_or}
@@ -7,6 +7,7 @@ use Rattle.fb_syntax.specs.FieldRead.{FieldRead}
 use Rattle.fb_schema.specs.Schema.{Name}
 use Rattle.fb_resolve.specs.Outline.{TypeRead}
 use Rattle.fb_resolve.specs.Meaning.{meaning_of, type_name}
+use Rattle.fb_resolve.specs.Attributes.{field_attributes}
 use Rattle.fb_resolve.specs.ResolvedFields.{ResolvedField}
 use Rattle.fb_resolve.specs.Resolved.{resolved_field, resolved_fields, resolved_type, resolved_types}
 use Rattle.fb_resolve.specs.declared.meanings.Meaning.{Meaning}
@@ -22,6 +23,20 @@ meant_at P types scope h (g ∷ fs) (suc k) f e = meant_at P types scope h fs k 
 pub meant_among : (P : Meaning → Type 0) (types : List TypeRead) (scope : Option Name) → ((name : Name) → P (meaning_of types scope name)) → (fs : List FieldRead) (f : ResolvedField)
     → Contains (resolved_fields types scope fs) f → P f.meaning
 meant_among P types scope h fs f c = meant_at P types scope h fs c.0 f (slice_get-get_or (resolved_fields types scope fs) c.0 f c.1 ∙ ap Some c.2)
+
+-- what the attributes of a resolved field say is read from its own
+attributes_at : (types : List TypeRead) (scope : Option Name) (fs : List FieldRead) (k : ℕ) (f : ResolvedField)
+    → slice_get (resolved_fields types scope fs) k ≡ Some f → f.attributes ≡ field_attributes f.field.attributes
+attributes_at types scope [] k f e = absurd (none-some f e)
+attributes_at types scope (g ∷ fs) zero f e =
+    subst (λ (r : ResolvedField). r.attributes ≡ field_attributes r.field.attributes)
+    (same_Some (resolved_field types scope g) f e) refl
+attributes_at types scope (g ∷ fs) (suc k) f e = attributes_at types scope fs k f e
+
+pub attributes_among : (types : List TypeRead) (scope : Option Name) (fs : List FieldRead) (f : ResolvedField)
+    → Contains (resolved_fields types scope fs) f → f.attributes ≡ field_attributes f.field.attributes
+attributes_among types scope fs f c =
+    attributes_at types scope fs c.0 f (slice_get-get_or (resolved_fields types scope fs) c.0 f c.1 ∙ ap Some c.2)
 
 -- the type at a place, resolved
 pub resolved_at : (types : List TypeRead) (t : ℕ) (r : TypeRead) → slice_get types t ≡ Some r → slice_get (resolved_types types) t ≡ Some (resolved_type types r)

@@ -61,7 +61,7 @@ union_from_shape (types_read.Many at n) m u e = cc
 -- a field's slot is its value, or the code of its union, or that union's value behind the code
 pub data SlotCase (types : List TypeRead) (f : ResolvedField) (slot : ℕ) (p : DeclaredField) : Type 0 where
   alone : union_in f ≡ None → p ≡ value_slot types f slot → SlotCase types f slot p
-  coded : (u : TypeId) → union_in f ≡ Some u → p ≡ code_slot f.field u slot → SlotCase types f slot p
+  coded : (u : TypeId) → union_in f ≡ Some u → p ≡ code_slot f u slot → SlotCase types f slot p
   valued : (u : TypeId) → union_in f ≡ Some u → p ≡ value_slot types f (slot + 1) → SlotCase types f slot p
 
 one_of : {X : Type 0} (a p : X) → Contains (a ∷ []) p → p ≡ a
@@ -74,23 +74,23 @@ two_of a b p (suc zero, less, is) = inr (sym is)
 two_of a b p (suc (suc k), less, is) = absurd (omega arith)
 
 two_cases : (types : List TypeRead) (f : ResolvedField) (slot : ℕ) (p : DeclaredField) (u : TypeId) → union_in f ≡ Some u
-    → (p ≡ code_slot f.field u slot) ⊎ (p ≡ value_slot types f (slot + 1)) → SlotCase types f slot p
+    → (p ≡ code_slot f u slot) ⊎ (p ≡ value_slot types f (slot + 1)) → SlotCase types f slot p
 two_cases types f slot p u e (inl h) = coded u e h
 two_cases types f slot p u e (inr h) = valued u e h
 
 union_cases : (types : List TypeRead) (f : ResolvedField) (slot : ℕ) (p : DeclaredField) (u : Option TypeId) → union_in f ≡ u
     → Contains (slots_by_union types f u slot) p → SlotCase types f slot p
 union_cases types f slot p None e c = alone e (one_of (value_slot types f slot) p c)
-union_cases types f slot p (Some u) e c = two_cases types f slot p u e (two_of (code_slot f.field u slot) (value_slot types f (slot + 1)) p c)
+union_cases types f slot p (Some u) e c = two_cases types f slot p u e (two_of (code_slot f u slot) (value_slot types f (slot + 1)) p c)
 
 pub slot_cases : (types : List TypeRead) (f : ResolvedField) (slot : ℕ) (p : DeclaredField) → Contains (slots_of_field types f slot) p → SlotCase types f slot p
 unfolding slots_of_field
 slot_cases types f slot p c = union_cases types f slot p (union_in f) refl c
 
 -- both slots of a union are there
-code_there : (types : List TypeRead) (f : ResolvedField) (slot : ℕ) (u : TypeId) → union_in f ≡ Some u → Contains (slots_of_field types f slot) (code_slot f.field u slot)
+code_there : (types : List TypeRead) (f : ResolvedField) (slot : ℕ) (u : TypeId) → union_in f ≡ Some u → Contains (slots_of_field types f slot) (code_slot f u slot)
 unfolding slots_of_field
-code_there types f slot u e = subst (λ o. Contains (slots_by_union types f o slot) (code_slot f.field u slot)) (sym e) (0, omega arith, refl)
+code_there types f slot u e = subst (λ o. Contains (slots_by_union types f o slot) (code_slot f u slot)) (sym e) (0, omega arith, refl)
 
 value_there : (types : List TypeRead) (f : ResolvedField) (slot : ℕ) (u : TypeId) → union_in f ≡ Some u → Contains (slots_of_field types f slot) (value_slot types f (slot + 1))
 unfolding slots_of_field
@@ -104,7 +104,7 @@ at_its_place slots places q c =
     let here = slice_get-get_or slots c.0 q c.1 ∙ ap Some c.2 in
     ap (slice_get slots) (places c.0 q here) ∙ here
 
-pair_of : (types : List TypeRead) (f : ResolvedField) (slot : ℕ) (u : TypeId) → union_in f ≡ Some u → IsUnionPair (code_slot f.field u slot) (value_slot types f (slot + 1)) u
+pair_of : (types : List TypeRead) (f : ResolvedField) (slot : ℕ) (u : TypeId) → union_in f ≡ Some u → IsUnionPair (code_slot f u slot) (value_slot types f (slot + 1)) u
 pair_of types f slot u e = record {
   named = refl;
   code = refl;
@@ -127,7 +127,7 @@ module _ (S : DeclaredSchema) (types : List TypeRead) (fs : List ResolvedField) 
       let next : x.slot + 1 ≡ suc k = omega arith in (
         g,
         sym (ap (slice_get slots) next) ∙ at_its_place slots placed.slots g (x.whole g (value_there types x.field x.slot v e)),
-        subst (λ q. IsUnionPair q g u) (sym same) (subst (λ w. IsUnionPair (code_slot x.field.field v x.slot) g w) ids (pair_of types x.field x.slot v e)),
+        subst (λ q. IsUnionPair q g u) (sym same) (subst (λ w. IsUnionPair (code_slot x.field v x.slot) g w) ids (pair_of types x.field x.slot v e)),
       )
 
   leads : (k : ℕ) (p : DeclaredField) (u : TypeId) → slice_get slots k ≡ Some p → p.shape ≡ One (Union u) → (x : IsFrom types fs slots p) → SlotCase types x.field x.slot p
@@ -136,7 +136,7 @@ module _ (S : DeclaredSchema) (types : List TypeRead) (fs : List ResolvedField) 
       let is = union_from_shape x.field.field.kind x.field.meaning u (sym (ap (λ q. q.shape) same) ∙ shape) in cc
   leads k p u at shape x (coded v e same) = let codes_same : One (Code v) ≡ One (Union u) = sym (ap (λ q. q.shape) same) ∙ shape in cc
   leads k p u at shape x (valued v e same) =
-      let f = code_slot x.field.field v x.slot in
+      let f = code_slot x.field v x.slot in
       let is = union_from_shape x.field.field.kind x.field.meaning u (sym (ap (λ q. q.shape) same) ∙ shape) in
       let ids : v ≡ u = cc in
       let slot : x.slot + 1 ≡ k = sym (ap (λ q. q.slot) same) ∙ placed.slots k p at in (

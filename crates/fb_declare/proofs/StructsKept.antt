@@ -9,7 +9,6 @@ use Rattle.std.proofs.lemmas.List.Folds.{Any-from_list_any}
 use Rattle.std.proofs.lemmas.Option.{none-some, same_Some}
 use Rattle.fb_syntax.specs.FieldRead.{FieldRead}
 use Rattle.fb_syntax.specs.TypesRead.{TableRead}
-use Rattle.fb_syntax.specs.declared.declarations.Attribute.{Attribute}
 use Rattle.fb_syntax.specs.declared.declarations.FieldType.{FieldType}
 use Rattle.fb_syntax.specs.declared.declarations.FieldType.TheVariants.{One, Many}
 use Rattle.fb_schema.specs.declared.kinds.Kind.{Kind}
@@ -78,9 +77,9 @@ aligned_at least (Some (pos n)) = aligned_if least n (is_alignment least (pos n)
 aligned_at least (Some (negsuc n)) = λ a is. absurd (none-some a is)
 
 -- a right `force_align` is a power of two
-pub forced_aligned : (least : ℕ) (attributes : List Attribute) → ForSome (forced_align least attributes) IsForceAlign
+pub forced_aligned : (least : ℕ) (number : Option ℤ) → ForSome (forced_align least number) IsForceAlign
 unfolding forced_align
-forced_aligned least attributes = aligned_at least (number_called ForceAlign attributes)
+forced_aligned least number = aligned_at least number
 
 -- a field of a struct with no fault is of a scalar, an enum or a lower struct
 pub part_right : (S : DeclaredSchema) (t : ℕ) (kind : FieldType) (m : Meaning) → ((k : Kind) → m ≡ Known k → KindNames S k) → struct_field_type t kind m ≡ [] → IsPart S t (shape_of kind m)
@@ -147,12 +146,12 @@ field_type_right declared t f h =
 
 -- a struct with no fault has a right body, where each known use names a type
 pub struct_kept_by : (S : DeclaredSchema) (types : List TypeRead) (declared : List Name) (scope : Option Name) → ((name : Name) (k : Kind) → meaning_of types scope name ≡ Known k → KindNames S k)
-    → (lower : List ℕ) (s : TableRead) → struct_faults types declared lower (resolved_table types scope s) ≡ [] → IsStructBody S (length lower) (parts_from 0 (resolved_fields types scope s.fields)) (forced_align 0 s.attributes)
+    → (lower : List ℕ) (s : TableRead) → struct_faults types declared lower (resolved_table types scope s) ≡ [] → IsStructBody S (length lower) (parts_from 0 (resolved_fields types scope s.fields)) (forced_align 0 (number_called ForceAlign s.attributes))
 struct_kept_by S types declared scope named lower s h =
     let right = struct_right types declared scope lower s h in
     record {
       some = some_parts types scope s.fields right.some;
-      aligned = forced_aligned 0 s.attributes;
+      aligned = forced_aligned 0 (number_called ForceAlign s.attributes);
       slots = λ k p e. let f = part_at 0 (resolved_fields types scope s.fields) k p e in ap (λ q. q.slot) f.2 ∙ omega arith;
       names = subst (AllPairs (λ a b. a ≢ b)) (names_of_parts types scope 0 s.fields) (names_apart (map (λ f. f.name) s.fields) right.names);
       parts = λ k p e. let f = part_at 0 (resolved_fields types scope s.fields) k p e in part_kept right.fields k f.0 f.1 p f.2;
@@ -168,6 +167,6 @@ struct_kept_by S types declared scope named lower s h =
 
 -- in the schema that an outline gives
 pub struct_kept : (o : Outline) (S : DeclaredSchema) → Gives o S → (scope : Option Name) (lower : List ℕ) (s : TableRead) → struct_faults o.types o.attributes lower (resolved_table o.types scope s) ≡ []
-    → (t : ℕ) → length lower ≡ t → IsStructBody S t (parts_from 0 (resolved_fields o.types scope s.fields)) (forced_align 0 s.attributes)
-struct_kept o S gives scope lower s h t e = subst (λ (t : ℕ). IsStructBody S t (parts_from 0 (resolved_fields o.types scope s.fields)) (forced_align 0 s.attributes)) e
+    → (t : ℕ) → length lower ≡ t → IsStructBody S t (parts_from 0 (resolved_fields o.types scope s.fields)) (forced_align 0 (number_called ForceAlign s.attributes))
+struct_kept o S gives scope lower s h t e = subst (λ (t : ℕ). IsStructBody S t (parts_from 0 (resolved_fields o.types scope s.fields)) (forced_align 0 (number_called ForceAlign s.attributes))) e
     (struct_kept_by S o.types o.attributes scope (kind_named o S gives scope) lower s h)

@@ -27,7 +27,8 @@ use Rattle.fb_resolve.specs.SlotsRead.{union_of, shape_of, number_given, is_null
 use Rattle.fb_declare.specs.FaultRows.{when, names_again, use_faults, union_vector, table_field_type, bad_default}
 use Rattle.fb_declare.specs.TypeFaults.{names_of_field, place_of_field, table_field_faults, table_faults, declaration_faults, faults_of_types}
 use Rattle.fb_declare.specs.Declares.{HasBody, Gives}
-use Rattle.fb_resolve.specs.declared.attributes.Known.TheVariants.{Required, Deprecated}
+use Rattle.fb_resolve.specs.declared.attributes.FieldAttributes.{FieldAttributes}
+use Rattle.fb_resolve.specs.declared.attributes.Known.TheVariants.{Required}
 use Rattle.fb_declare.specs.declared.attribute_faults.Place.TheVariants as places
 use Rattle.fb_declare.specs.declared.attribute_faults.Place.TheVariants.{ScalarField}
 use Rattle.fb_resolve.specs.declared.defaults.Given.TheVariants.{Wrong}
@@ -42,7 +43,7 @@ use Rattle.fb_declare.proofs.FaultFree.{none_left, none_right, none_contained, a
 use Rattle.fb_declare.proofs.KindsNamed.{MeansIn, means_in, read_from_type}
 use Rattle.fb_declare.proofs.PairsKept.{SlotCase, alone, coded, valued, slot_cases, unions_paired, slot_names_differ}
 use Rattle.fb_declare.proofs.SlotsKept.{slot_placed}
-use Rattle.fb_declare.proofs.Meant.{meant_among}
+use Rattle.fb_declare.proofs.Meant.{meant_among, attributes_among}
 
 -- ---- the enums that fields name
 
@@ -94,15 +95,15 @@ unfolding may_stand
 no_required declared attributes false has h = refl
 no_required declared attributes true has h = let x = noted_stands declared ScalarField [] attributes Required h has in absurd (true≢false (sym x.1))
 
--- the slot of a field's value, by what its type means
-abbrev slot_with : List TypeRead → FieldRead → FieldType → Meaning → ℕ → DeclaredField
-slot_with types f k m slot = record {
+-- the slot of a field's value, by what its type means and its attributes say
+abbrev slot_with : List TypeRead → FieldRead → FieldAttributes → FieldType → Meaning → ℕ → DeclaredField
+slot_with types f a k m slot = record {
   name = f.name.bytes;
   shape = shape_of k m;
   default = number_given (given_by types k m f.default);
   optional = is_null (given_by types k m f.default);
-  required = has_attribute Required f.attributes;
-  deprecated = has_attribute Deprecated f.attributes;
+  required = a.required;
+  deprecated = a.deprecated;
   slot = slot;
 }
 
@@ -129,24 +130,25 @@ may_be_element S at n Text h none = tt
 abbrev IsSlotRight : DeclaredSchema → DeclaredField → Type 0
 IsSlotRight S p = IsShape S p.shape × MarksFit S p p.shape
 
-value_right : (S : DeclaredSchema) (types : List TypeRead) (declared : List Name) (f : FieldRead) (slot : ℕ) (k : FieldType) (m : Meaning) → AreEnumsKept types S → MeansIn S m
-    → table_field_type k m ≡ [] → metadata_faults declared (place_of_field k m) [] f.attributes ≡ [] → IsSlotRight S (slot_with types f k m slot)
+value_right : (S : DeclaredSchema) (types : List TypeRead) (declared : List Name) (f : FieldRead) (a : FieldAttributes) → has_attribute Required f.attributes ≡ a.required
+    → (slot : ℕ) (k : FieldType) (m : Meaning) → AreEnumsKept types S → MeansIn S m
+    → table_field_type k m ≡ [] → metadata_faults declared (place_of_field k m) [] f.attributes ≡ [] → IsSlotRight S (slot_with types f a k m slot)
 unfolding use_faults given_to
-value_right S types declared f slot (types_read.One n) (Known (Scalar base)) enums h type marks =
-    (tt, (scalar_default types n base f.default, null_is_zero (given_by types (types_read.One n) (Known (Scalar base)) f.default), no_required declared f.attributes (has_attribute Required f.attributes) refl marks))
-value_right S types declared f slot (types_read.One n) (Known (Enum e)) enums h type marks =
+value_right S types declared f a has slot (types_read.One n) (Known (Scalar base)) enums h type marks =
+    (tt, (scalar_default types n base f.default, null_is_zero (given_by types (types_read.One n) (Known (Scalar base)) f.default), no_required declared f.attributes a.required has marks))
+value_right S types declared f a has slot (types_read.One n) (Known (Enum e)) enums h type marks =
     let kept = enums e.0 h.0 in
-    (h.0, (enum_default types n e (base_in (body_at S e.0)) f.default kept.0 kept.1, null_is_zero (given_by types (types_read.One n) (Known (Enum e)) f.default), no_required declared f.attributes (has_attribute Required f.attributes) refl marks))
-value_right S types declared f slot (types_read.One n) (Known (Struct t)) enums h type marks = (h.0, none_given types n (Known (Struct t)) f.default (λ v. refl))
-value_right S types declared f slot (types_read.One n) (Known (Table t)) enums h type marks = (h.0, none_given types n (Known (Table t)) f.default (λ v. refl))
-value_right S types declared f slot (types_read.One n) (Known (Union t)) enums h type marks = (h.0, none_given types n (Known (Union t)) f.default (λ v. refl))
-value_right S types declared f slot (types_read.One n) (Known (Code t)) enums h type marks = absurd h.1
-value_right S types declared f slot (types_read.One n) (Known Text) enums h type marks = (h.0, none_given types n (Known Text) f.default (λ v. refl))
-value_right S types declared f slot (types_read.One n) Float enums h type marks = cc
-value_right S types declared f slot (types_read.One n) Unknown enums h type marks = cc
-value_right S types declared f slot (types_read.Many at n) (Known kind) enums h type marks = ((h.0, may_be_element S at n kind h type), none_of_vector types at n (Known kind) f.default)
-value_right S types declared f slot (types_read.Many at n) Float enums h type marks = cc
-value_right S types declared f slot (types_read.Many at n) Unknown enums h type marks = cc
+    (h.0, (enum_default types n e (base_in (body_at S e.0)) f.default kept.0 kept.1, null_is_zero (given_by types (types_read.One n) (Known (Enum e)) f.default), no_required declared f.attributes a.required has marks))
+value_right S types declared f a has slot (types_read.One n) (Known (Struct t)) enums h type marks = (h.0, none_given types n (Known (Struct t)) f.default (λ v. refl))
+value_right S types declared f a has slot (types_read.One n) (Known (Table t)) enums h type marks = (h.0, none_given types n (Known (Table t)) f.default (λ v. refl))
+value_right S types declared f a has slot (types_read.One n) (Known (Union t)) enums h type marks = (h.0, none_given types n (Known (Union t)) f.default (λ v. refl))
+value_right S types declared f a has slot (types_read.One n) (Known (Code t)) enums h type marks = absurd h.1
+value_right S types declared f a has slot (types_read.One n) (Known Text) enums h type marks = (h.0, none_given types n (Known Text) f.default (λ v. refl))
+value_right S types declared f a has slot (types_read.One n) Float enums h type marks = cc
+value_right S types declared f a has slot (types_read.One n) Unknown enums h type marks = cc
+value_right S types declared f a has slot (types_read.Many at n) (Known kind) enums h type marks = ((h.0, may_be_element S at n kind h type), none_of_vector types at n (Known kind) f.default)
+value_right S types declared f a has slot (types_read.Many at n) Float enums h type marks = cc
+value_right S types declared f a has slot (types_read.Many at n) Unknown enums h type marks = cc
 
 -- ---- the whole table
 
@@ -196,7 +198,8 @@ module _ (o : Outline) (S : DeclaredSchema) (g : Gives o S) (enums : AreEnumsKep
   value_of_field : (f : ResolvedField) → Contains (resolved_fields o.types scope t.fields) f → (slot : ℕ) → IsSlotRight S (value_slot o.types f slot)
   value_of_field f among slot =
       let none = field_right o.types o.attributes f (none_contained (table_field_faults o.types o.attributes) (resolved_fields o.types scope t.fields) right.fields f among) in
-      value_right S o.types o.attributes f.field slot f.field.kind f.meaning enums (means f among) none.0 none.1
+      let has = sym (ap (λ a. a.required) (attributes_among o.types scope t.fields f among)) in
+      value_right S o.types o.attributes f.field f.attributes has slot f.field.kind f.meaning enums (means f among) none.0 none.1
 
   slot_right : (p : DeclaredField) (f : ResolvedField) (slot : ℕ) → Contains (resolved_fields o.types scope t.fields) f → SlotCase o.types f slot p → IsSlotRight S p
   slot_right p f slot among (alone e same) = subst (λ q. IsSlotRight S q) (sym same) (value_of_field f among slot)

@@ -10,7 +10,7 @@ use Rattle.fb_resolve.specs.Resolved.{resolved_types, meaning_of_root}
 use Rattle.fb_resolve.specs.ResolvedType.{ResolvedType}
 use Rattle.fb_resolve.specs.declared.resolved.ResolvedDecl.{ResolvedDecl}
 use Rattle.fb_resolve.specs.declared.resolved.ResolvedDecl.TheVariants as resolved
-use Rattle.fb_resolve.specs.EnumsRead.{integer_type, base_or_ubyte, has_flags, values_over}
+use Rattle.fb_resolve.specs.EnumsRead.{integer_type, base_or_ubyte, values_over}
 use Rattle.fb_resolve.specs.SlotsRead.{slots_read, AreInPlace}
 use Rattle.fb_resolve.specs.StructsRead.{parts_from, forced_align}
 use Rattle.fb_resolve.specs.MembersRead.{member_read, table_of}
@@ -20,9 +20,9 @@ use Rattle.fb_declare.specs.declared.faults.SchemaFault.{SchemaFault}
 -- what a declaration gives
 abbrev pub HasBody : List TypeRead → ResolvedDecl → DeclaredBody → Type 0
 HasBody types (resolved.Table t) (table_body slots) = AreInPlace (slots_read types t.fields) slots
-HasBody types (resolved.Struct s) (struct_body parts force) = (parts ≡ parts_from 0 s.fields) × (force ≡ forced_align 0 s.declared.attributes)
+HasBody types (resolved.Struct s) (struct_body parts force) = (parts ≡ parts_from 0 s.fields) × (force ≡ forced_align 0 s.force_align)
 HasBody types (resolved.Enum e) (enum_body base flags values) = let under = integer_type e.underlying in
-    (base ≡ base_or_ubyte under) × (flags ≡ has_flags e.declared) × (values ≡ values_over under e.declared)
+    (base ≡ base_or_ubyte under) × (flags ≡ e.bit_flags) × (values ≡ values_over under e.bit_flags e.declared.values)
 HasBody types (resolved.Union u) (union_body members) = members ≡ map member_read u.members
 HasBody types _ _ = ⊥
 

@@ -14,7 +14,7 @@ use Rattle.fb_resolve.specs.Resolved.{resolved_types, meaning_of_root}
 use Rattle.fb_resolve.specs.declared.resolved.ResolvedDecl.{ResolvedDecl}
 use Rattle.fb_resolve.specs.declared.resolved.ResolvedDecl.TheVariants as resolved
 use Rattle.fb_declare.specs.AttributeFaults.{metadata_faults}
-use Rattle.fb_resolve.specs.EnumsRead.{integer_type, has_flags}
+use Rattle.fb_resolve.specs.EnumsRead.{integer_type}
 use Rattle.fb_resolve.specs.Defaults.{given_in}
 use Rattle.fb_resolve.specs.SlotsRead.{union_in, name_of_code, are_ids_wrong}
 use Rattle.fb_resolve.specs.StructsRead.{natural_align, align_of_type}
@@ -87,7 +87,7 @@ enum_faults declared e = let base = integer_type e.underlying in
     underlying_faults e.underlying e.declared.underlying.at
     ++ metadata_faults declared (place_of_enum base) [] e.declared.attributes
     ++ names_again [] (map (λ v. v.name) e.declared.values)
-    ++ bad_values base (has_flags e.declared) [] (pos 0) e.declared.values
+    ++ bad_values base e.bit_flags [] (pos 0) e.declared.values
 
 -- the faults of members with so many before them
 unfoldable pub members_faults : ℕ → List ResolvedMember → List SchemaFault

@@ -9,8 +9,8 @@ ghost use Rattle.fb_declare.specs.Buildable.{IsBuildable, AreBuildable};
 
 use fb_resolve::{
     ResolvedDecl, ResolvedEnum, ResolvedMember, ResolvedTable, ResolvedType, ResolvedUnion,
-    TypesRead, forced_align, has_flags, integer_type, member_read, name_of_type, parts_read,
-    table_slots, values_over,
+    TypesRead, forced_align, integer_type, member_read, name_of_type, parts_read, table_slots,
+    values_over,
 };
 use fb_schema::{Base, Body, TypeId, TypeInfo};
 use std::alloc::{AllocError, Global};
@@ -30,20 +30,19 @@ fn members_read(
 }
 
 fn struct_body(
-    types: TypesRead<'_, '_, '_, '_>,
+    types: TypesRead<'_, '_, '_>,
     alloc: Global,
     resolved: &ResolvedTable<'_, '_>,
 ) -> Result<Body, AllocError>
     ensures { IfOk result
         (λ b. HasBody types.entry.types.now (ResolvedDecl.Struct resolved.now) (body_seen b)) }
 {
-    let declared = resolved.declared;
     let parts = parts_read(alloc, resolved.fields.as_slice())?;
-    Ok(Body::Struct(parts, forced_align(0, declared.attributes.as_slice())))
+    Ok(Body::Struct(parts, forced_align(0, resolved.force_align)))
 }
 
 fn enum_body(
-    types: TypesRead<'_, '_, '_, '_>,
+    types: TypesRead<'_, '_, '_>,
     alloc: Global,
     resolved: &ResolvedEnum<'_, '_>,
 ) -> Result<Body, AllocError>
@@ -51,13 +50,15 @@ fn enum_body(
         (λ b. HasBody types.entry.types.now (ResolvedDecl.Enum resolved.now) (body_seen b)) }
 {
     let under = integer_type(resolved.underlying);
-    let values = values_over(alloc, under, resolved.declared)?;
+    let declared = resolved.declared;
+    let flags = resolved.bit_flags;
+    let values = values_over(alloc, under, flags, declared.values.as_slice())?;
     let base = under.unwrap_or(Base::U8);
-    Ok(Body::Enum(base, has_flags(resolved.declared), values))
+    Ok(Body::Enum(base, flags, values))
 }
 
 fn table_body(
-    types: TypesRead<'_, '_, '_, '_>,
+    types: TypesRead<'_, '_, '_>,
     alloc: Global,
     resolved: &ResolvedTable<'_, '_>,
 ) -> Result<Body, AllocError>
@@ -69,7 +70,7 @@ fn table_body(
 }
 
 fn union_body(
-    types: TypesRead<'_, '_, '_, '_>,
+    types: TypesRead<'_, '_, '_>,
     alloc: Global,
     resolved: &ResolvedUnion<'_, '_>,
 ) -> Result<Body, AllocError>
@@ -80,7 +81,7 @@ fn union_body(
 }
 
 fn body_of(
-    types: TypesRead<'_, '_, '_, '_>,
+    types: TypesRead<'_, '_, '_>,
     alloc: Global,
     declaration: &ResolvedDecl<'_, '_>,
 ) -> Result<Body, AllocError>
@@ -97,7 +98,7 @@ fn body_of(
 }
 
 fn type_of(
-    types: TypesRead<'_, '_, '_, '_>,
+    types: TypesRead<'_, '_, '_>,
     alloc: Global,
     resolved: &ResolvedType<'_, '_, '_>,
 ) -> Result<TypeInfo, AllocError>
@@ -111,7 +112,7 @@ fn type_of(
 
 /// The types that the declarations give. The only error is a refused allocation.
 pub(crate) fn types_of(
-    types: TypesRead<'_, '_, '_, '_>,
+    types: TypesRead<'_, '_, '_>,
     alloc: Global,
     resolved: &[ResolvedType<'_, '_, '_>],
 ) -> Result<Vec<TypeInfo>, AllocError>

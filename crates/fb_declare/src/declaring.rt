@@ -4,7 +4,7 @@ ghost use Rattle.std.specs.Option.{ForSome, option_copied, option_map};
 ghost use Rattle.fb_declare.specs.declared.faults.SchemaFault.TheVariants.{Memory};
 ghost use Rattle.fb_declare.specs.Faults.{least_of};
 ghost use Rattle.fb_declare.specs.Found.{outline_found};
-ghost use Rattle.fb_resolve.specs.Outline.{located_name};
+ghost use Rattle.fb_resolve.specs.Outline.{outline_of, located_name};
 ghost use Rattle.fb_declare.specs.TypeFaults.{faults_of_outline, faults_of};
 ghost use Rattle.fb_declare.specs.Declares.{Gives, Declares, Stands};
 
@@ -16,7 +16,7 @@ use crate::name_places::NamePlaces;
 use crate::names_again::names_again;
 use crate::type_faults::{identifier_fault, root_fault, types_fault};
 use fb_resolve::{
-    LocatedName, Outline, TypeRead, TypesRead, ValueNumbers, WordPlaces, located_name, table_of,
+    LocatedName, Outline, Resolved, TypeRead, TypesRead, ValueNumbers, located_name, table_of,
 };
 use fb_schema::Schema;
 use fb_syntax::{Decls, Text};
@@ -44,7 +44,7 @@ fn identifier_of(identifier: Option<&Text<'_>>) -> Option<[u8; 4]>
 #[tactic(auto, using(crate::proofs::Least::least_of_append), unfolding(crate::specs::TypeFaults::faults_of_outline))]
 fn least_fault(
     alloc: Global,
-    found: Found<'_, '_, '_, '_, '_>,
+    found: Found<'_, '_, '_, '_>,
     names: &[LocatedName],
 ) -> Result<Option<SchemaFault>, AllocError>
     requires { names.now ≡ map located_name found.types.types.now }
@@ -60,7 +60,7 @@ fn least_fault(
 }
 
 /// The schema that an outline with no fault gives.
-fn schema_found(alloc: Global, found: Found<'_, '_, '_, '_, '_>) -> Result<Schema, AllocError>
+fn schema_found(alloc: Global, found: Found<'_, '_, '_, '_>) -> Result<Schema, AllocError>
     requires { faults_of_outline (outline_found found) ≡ [] }
     ensures { IfOk result (Gives (outline_found found.entry)) }
 {
@@ -75,7 +75,7 @@ fn schema_found(alloc: Global, found: Found<'_, '_, '_, '_, '_>) -> Result<Schem
 /// its types.
 fn schema_or_fault(
     alloc: Global,
-    found: Found<'_, '_, '_, '_, '_>,
+    found: Found<'_, '_, '_, '_>,
     names: &[LocatedName],
 ) -> Result<Schema, SchemaFault>
     requires names { names.now ≡ map located_name found.types.types.now }
@@ -90,68 +90,54 @@ fn schema_or_fault(
     Ok(schema_found(alloc, found)?)
 }
 
-/// The schema that an outline gives, or the least of its faults, where its types are found by name.
-fn declare_types<'t, 'd, 's, 'n>(
+/// The schema that the outline of a text gives, or the least of its faults, where these are the full
+/// names of its types.
+fn declare_named<'t, 'd, 's>(
     alloc: Global,
+    decls: &'d Decls<'s>,
     outline: &'t Outline<'d, 's>,
-    types: TypesRead<'t, 'd, 's, 'n>,
     names: &[LocatedName],
 ) -> Result<Schema, SchemaFault>
-    requires same { types.types.now ≡ outline.now.types }
+    requires outline { outline.now ≡ outline_of decls.now }
     requires names { names.now ≡ map located_name outline.now.types }
     ensures sound { OnOk result (faults_of_outline outline.now ≡ []) }
     ensures given { IfOk result (Gives outline.now) }
     ensures least { IfErr result (λ f. f ≢ Memory → least_of (faults_of_outline outline.now) ≡ Some f) }
 {
     let attributes = NamePlaces::of(alloc, outline.attributes.as_slice())?;
-    let resolved = types.resolve(alloc)?;
-    let root = outline.root.as_ref();
+    let values = ValueNumbers::of(alloc, outline.types.as_slice())?;
+    let resolved = Resolved::of(alloc, decls, outline)?;
     let found = Found {
-        types,
-        resolved: resolved.as_slice(),
+        types: TypesRead {
+            types: outline.types.as_slice(),
+            values: &values,
+        },
+        resolved: resolved.types.as_slice(),
         declared: DeclaredNames {
             names: outline.attributes.as_slice(),
             places: &attributes,
         },
-        root,
-        root_meaning: types.meaning_of_root(root),
+        root: outline.root.as_ref(),
+        root_meaning: resolved.root,
         identifier: outline.identifier,
         text_len: outline.text_len,
     };
     schema_or_fault(alloc, found, names)
 }
 
-/// The schema that an outline gives, or the least of its faults, where these are the full names of
-/// its types.
-fn declare_named<'n>(
+/// The schema that the outline of a text gives, or the least of its faults.
+fn declare_outline<'d, 's>(
     alloc: Global,
-    outline: &Outline<'_, '_>,
-    names: &'n [LocatedName],
+    decls: &'d Decls<'s>,
+    outline: &Outline<'d, 's>,
 ) -> Result<Schema, SchemaFault>
-    requires { names.now ≡ map located_name outline.now.types }
-    ensures sound { OnOk result (faults_of_outline outline.now ≡ []) }
-    ensures given { IfOk result (Gives outline.now) }
-    ensures least { IfErr result (λ f. f ≢ Memory → least_of (faults_of_outline outline.now) ≡ Some f) }
-{
-    let words = WordPlaces::of(alloc, names)?;
-    let values = ValueNumbers::of(alloc, outline.types.as_slice())?;
-    let types = TypesRead {
-        types: outline.types.as_slice(),
-        names,
-        words: &words,
-        values: &values,
-    };
-    declare_types(alloc, outline, types, names)
-}
-
-/// The schema that an outline gives, or the least of its faults.
-fn declare_outline(alloc: Global, outline: &Outline<'_, '_>) -> Result<Schema, SchemaFault>
+    requires { outline.now ≡ outline_of decls.now }
     ensures sound { OnOk result (faults_of_outline outline.now ≡ []) }
     ensures given { IfOk result (Gives outline.now) }
     ensures least { IfErr result (λ f. f ≢ Memory → least_of (faults_of_outline outline.now) ≡ Some f) }
 {
     let names = located_names(alloc, outline.types.as_slice())?;
-    declare_named(alloc, outline, names.as_slice())
+    declare_named(alloc, decls, outline, names.as_slice())
 }
 
 /// The schema that declarations give.
@@ -164,5 +150,5 @@ pub fn declare(alloc: Global, decls: &Decls<'_>) -> Result<Schema, SchemaFault>
     ensures least { IfErr result (λ f. f ≢ Memory → least_of (faults_of decls.now) ≡ Some f) }
 {
     let outline = Outline::of(alloc, decls)?;
-    declare_outline(alloc, &outline)
+    declare_outline(alloc, decls, &outline)
 }

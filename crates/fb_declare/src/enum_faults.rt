@@ -12,7 +12,7 @@ use crate::declared_names::DeclaredNames;
 use crate::faults::{SchemaFault, earlier, when};
 use crate::names_again::names_again;
 use crate::value_faults::bad_values;
-use fb_resolve::{LocatedName, Meaning, ResolvedEnum, has_flags, integer_type};
+use fb_resolve::{LocatedName, Meaning, ResolvedEnum, integer_type};
 use fb_schema::Base;
 use fb_syntax::EnumValue;
 use std::alloc::{AllocError, Global};
@@ -76,6 +76,6 @@ pub(crate) fn enum_fault(
     let marks = metadata_fault(alloc, declared, place, read.attributes.as_slice())?;
     let names = value_names(alloc, values)?;
     let again = names_again(alloc, names.as_slice())?;
-    let numbers = bad_values(alloc, base, has_flags(read), values)?;
+    let numbers = bad_values(alloc, base, resolved.bit_flags, values)?;
     Ok(earlier(earlier(earlier(under, marks), again), numbers))
 }

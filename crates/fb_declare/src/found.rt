@@ -10,8 +10,8 @@ use fb_syntax::Text;
 /// What a text declares, with its types and attributes found by name, and what each name of a type
 /// means.
 #[derive(Clone, Copy)]
-pub(crate) struct Found<'f, 't, 'd, 's, 'n> {
-    pub types: TypesRead<'t, 'd, 's, 'n>,
+pub(crate) struct Found<'f, 't, 'd, 's> {
+    pub types: TypesRead<'t, 'd, 's>,
     pub resolved: &'f [ResolvedType<'t, 'd, 's>],
     pub declared: DeclaredNames<'f, 's>,
     pub root: Option<&'t RootRead<'d, 's>>,

@@ -72,7 +72,7 @@ fn is_empty(fields: &[Field<'_>]) -> bool
 /// error is a refused allocation.
 #[tactic(auto, using(crate::proofs::Least::least_of_append), unfolding(crate::specs::TypeFaults::struct_faults))]
 pub(crate) fn struct_fault(
-    types: TypesRead<'_, '_, '_, '_>,
+    types: TypesRead<'_, '_, '_>,
     alloc: Global,
     declared: DeclaredNames<'_, '_>,
     lower: &[u16],

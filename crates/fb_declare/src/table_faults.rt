@@ -65,7 +65,7 @@ fn place_of_field(kind: &FieldType<'_>, meaning: Meaning) -> Place
 
 #[tactic(auto, using(crate::proofs::Least::least_of_append), unfolding(crate::specs::TypeFaults::table_field_faults))]
 fn field_fault(
-    types: TypesRead<'_, '_, '_, '_>,
+    types: TypesRead<'_, '_, '_>,
     alloc: Global,
     declared: DeclaredNames<'_, '_>,
     resolved: &ResolvedField<'_, '_>,
@@ -85,7 +85,7 @@ fn field_fault(
 }
 
 fn fields_fault(
-    types: TypesRead<'_, '_, '_, '_>,
+    types: TypesRead<'_, '_, '_>,
     alloc: Global,
     declared: DeclaredNames<'_, '_>,
     fields: &[ResolvedField<'_, '_>],
@@ -103,7 +103,7 @@ fn fields_fault(
 /// The least fault of a table. The only error is a refused allocation.
 #[tactic(auto, using(crate::proofs::Least::least_of_append), unfolding(crate::specs::TypeFaults::table_faults))]
 pub(crate) fn table_fault(
-    types: TypesRead<'_, '_, '_, '_>,
+    types: TypesRead<'_, '_, '_>,
     alloc: Global,
     declared: DeclaredNames<'_, '_>,
     resolved: &ResolvedTable<'_, '_>,

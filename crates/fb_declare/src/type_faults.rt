@@ -31,7 +31,7 @@ fn reserved_name(name: &Text<'_>) -> Option<SchemaFault>
 
 #[tactic(auto, unfolding(crate::specs::Faults::least_of))]
 fn declaration_fault(
-    types: TypesRead<'_, '_, '_, '_>,
+    types: TypesRead<'_, '_, '_>,
     alloc: Global,
     declared: DeclaredNames<'_, '_>,
     lower: &[u16],
@@ -50,7 +50,7 @@ fn declaration_fault(
 
 #[tactic(auto, using(crate::proofs::Least::least_of_append), unfolding(crate::specs::TypeFaults::type_faults))]
 fn type_fault(
-    types: TypesRead<'_, '_, '_, '_>,
+    types: TypesRead<'_, '_, '_>,
     alloc: Global,
     declared: DeclaredNames<'_, '_>,
     lower: &[u16],
@@ -67,7 +67,7 @@ fn type_fault(
 
 /// The least fault of the types. The only error is a refused allocation.
 pub(crate) fn types_fault(
-    types: TypesRead<'_, '_, '_, '_>,
+    types: TypesRead<'_, '_, '_>,
     alloc: Global,
     declared: DeclaredNames<'_, '_>,
     resolved: &[ResolvedType<'_, '_, '_>],

@@ -2,6 +2,7 @@ pub mod Outcome
 pub mod EnumTexts
 pub mod Leaves
 pub mod Meant
+pub mod MarkedSlots
 pub mod Means
 pub mod Laws
 pub mod Breaks

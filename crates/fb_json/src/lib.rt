@@ -7,6 +7,7 @@ mod enums;
 mod faults;
 mod laws;
 mod leaves;
+mod marks;
 mod members;
 mod root;
 mod scalars;

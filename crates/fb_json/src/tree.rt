@@ -1,9 +1,11 @@
 //! Values of trees under their types.
-ghost use Rattle.std.specs.Prelude.{◌≡◌, ◌≤◌, Some, false, IfErr, map, length, option_map};
+ghost use Rattle.std.specs.Prelude.{◌≡◌, ◌≤◌, Some, None, false, IfErr, map, length, option_map};
+ghost use Rattle.serde_json.specs.Find.{get_member};
 ghost use Rattle.serde_json.specs.View.{view as tree_view, items_view, members_view};
 ghost use Rattle.fb_schema.specs.Seen.{field_seen};
 ghost use Rattle.fb_layout.specs.Laid.{member_by_code};
 ghost use Rattle.fb_value.specs.View.{view};
+ghost use Rattle.fb_json.specs.MarkedSlots.{MarkNames};
 ghost use Rattle.fb_json.specs.Outcome.{Gives};
 ghost use Rattle.fb_json.specs.Refuses.{LeavesRoom};
 ghost use Rattle.fb_json.specs.Meant.{meant, items_meant, vector_meant, object_meant, table_meant, struct_meant};
@@ -14,6 +16,7 @@ use crate::absent::{is_null, without};
 use crate::codes::code_after;
 use crate::faults::{JsonFault, Place};
 use crate::leaves::leaf;
+use crate::marks::{is_marked, marks_of};
 use crate::members::known;
 use crate::source::Source;
 use fb_schema::{FieldInfo, Kind, Shape, TypeId};
@@ -140,20 +143,25 @@ pub(crate) fn table(
     }
     known(source, owner, members)?;
     let slots = source.layout.slots_of(owner);
-    let (entries, left) = entries(source, members, owner, slots, levels - 1, left - 1)?;
+    let marks = marks_of(source, owner, slots, members)?;
+    let marks = marks.as_slice();
+    let (entries, left) = entries(source, members, owner, slots, marks, levels - 1, left - 1)?;
     Ok((Value::Fields(owner, entries), left))
 }
 
+/// Only of marked slots a member is looked for.
 #[cycle(tree)]
 fn entries(
     source: Source,
     members: &Map<String, Json>,
     owner: TypeId,
     slots: &[FieldInfo],
+    marks: &[bool],
     levels: u8,
     left: u32,
 ) -> Result<(Vec<Option<Value>>, u32), JsonFault>
-    requires { length slots.now ≤ 32765 }
+    requires few { length slots.now ≤ 32765 }
+    requires marks { MarkNames (map field_seen slots.now) marks.now (members_view members.now.entries) }
     ensures { let L = source.entry.layout.now in
         Gives (λ x. (map (option_map view) x.0.items, x.1)) result
         (slots_meant L (look L source.entry.unknown (members_view members.now.entries)) owner.0
@@ -167,8 +175,9 @@ fn entries(
             owner,
             slot: Some(k as u16),
         };
-        code = code_after(source, members, slot, place, code)?;
-        let (entry, rest) = entry(source, members, slot, place, code, levels, left)?;
+        let marked = is_marked(marks, k);
+        code = code_after(source, members, slot, place, code, marked)?;
+        let (entry, rest) = entry(source, members, slot, place, code, marked, levels, left)?;
         found.push(entry)?;
         left = rest;
     }
@@ -183,9 +192,12 @@ fn entry(
     slot: &FieldInfo,
     place: Place,
     code: u8,
+    marked: bool,
     levels: u8,
     left: u32,
 ) -> Result<(Option<Value>, u32), JsonFault>
+    requires { marked ≡ false
+        → get_member (field_seen slot.now).name (members_view members.now.entries) ≡ None }
     ensures { let L = source.entry.layout.now in
         Gives (λ x. (option_map view x.0, x.1)) result
         (entry_meant L (look L source.entry.unknown (members_view members.now.entries))
@@ -193,6 +205,9 @@ fn entry(
 {
     if slot.deprecated {
         return Ok((None, left));
+    }
+    if !marked {
+        return without(slot, place, code, left);
     }
     match members.get(slot.name.as_str()) {
         Some(tree) => found(source, slot, tree, place, code, levels, left),

@@ -12,7 +12,7 @@ use crate::entry::Entry;
 use crate::fixed_view::FixedView;
 use crate::items::Items;
 use crate::numbers::{number_at, u32_at};
-use crate::places::{stored_slots, text_behind, vtable_of};
+use crate::places::{next_stored, stored_slots, text_behind, vtable_of};
 use crate::stored::{Stored, stored_in};
 use crate::walk::TableAt;
 use fb_layout::Layout;
@@ -238,5 +238,18 @@ impl<'a> View<'a> {
     {
         let slots = self.layout.slots_of(self.table);
         stored_slots(self.bytes, self.at, self.vtable(), slots.len()) as u16
+    }
+
+    /// The first slot, from a slot on, that has something stored; the end where none before it has. Those
+    /// that it passes by have nothing but their defaults.
+    pub fn next_stored(self, from: usize, end: usize) -> usize
+        requires within { from ≤ end }
+        ensures from { from ≤ result }
+        ensures within { result ≤ end }
+        ensures unset { (d : Datum) (k : ℕ) (s : Slot) → Shows self.entry d → from ≤ k → k < result
+            → slice_get (slots_of self.entry.layout.now self.entry.table.0) k ≡ Some s
+            → entry_of d k ≡ number_entry s.if_absent }
+    {
+        next_stored(self.bytes, self.at, self.vtable(), from, end)
     }
 }

@@ -97,10 +97,10 @@ pub fn visit_code(
     Ok(())
 }
 
-/// Whether nothing is to visit at a number's slot: it is absent, or keeps its rules. Most slots are such,
-/// and a walk that passes by them at once makes no result for each.
+/// Whether nothing is to visit at a slot: it is absent, or a number that keeps its rules. Most slots are
+/// such, and a walk that passes by them at once makes no result for each.
 #[inline(always)]
-pub fn is_settled_number(source: &Source, field: &FieldInfo, table: TableAt, slot: usize) -> bool
+pub fn is_settled(source: &Source, field: &FieldInfo, table: TableAt, slot: usize) -> bool
     requires vtable { HasVtable source.now.bytes.now table }
     requires held { 6 + 2 * slot ≤ num source.now.bytes.now table.vtable_at 2 }
     requires few { slot < 2 ^ 15 }
@@ -111,6 +111,10 @@ pub fn is_settled_number(source: &Source, field: &FieldInfo, table: TableAt, slo
         → EntersSlot source.now (slot_place source.now.layout.now source.now.bytes.now table.at slot fs
         (slot_seen source.now.layout.now field.now)) n n }
 {
+    let offset = held_slot(source.bytes, table.at, table.vtable_at, slot);
+    if offset == 0 {
+        return true;
+    }
     if field.deprecated {
         return false;
     }
@@ -120,8 +124,7 @@ pub fn is_settled_number(source: &Source, field: &FieldInfo, table: TableAt, slo
     let Some(base) = base_of(source.layout, kind) else {
         return false;
     };
-    let offset = held_slot(source.bytes, table.at, table.vtable_at, slot);
-    offset == 0 || check_number(source.bytes, table.at + offset, base).is_ok()
+    check_number(source.bytes, table.at + offset, base).is_ok()
 }
 
 /// Whether the first of some slots is required.

@@ -17,7 +17,7 @@ use crate::places::{follow, held_slot, stored_slots};
 use crate::reference::Reference;
 use crate::rules::{enter_table, open_vector, union_code};
 use crate::source::Source;
-use crate::visit_leaves::{is_settled_number, visit_code, visit_inline, visit_text_behind};
+use crate::visit_leaves::{is_settled, visit_code, visit_inline, visit_text_behind};
 use crate::walk::{TableAt, Walk};
 use fb_schema::{FieldInfo, Kind, Shape, TypeId};
 use fb_value::ReadFault;
@@ -102,7 +102,7 @@ fn visit_slots(
     let present = stored_slots(source.bytes, table.at, table.vtable_at, slots.len());
     for slot in 0..present {
         let field = &slots[slot];
-        if is_settled_number(source, field, table, slot) {
+        if is_settled(source, field, table, slot) {
             continue;
         }
         let (_before, later) = slots.split_at(slot + 1);

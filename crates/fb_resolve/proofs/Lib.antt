@@ -9,8 +9,5 @@ pub mod PlacesTaken
 pub mod InOrder
 pub mod IntegerAlone
 pub mod Numbers
-pub mod ReadingsOf
-pub mod MeantAmong
-pub mod Searching
-pub mod LastWords
-pub mod WordsFrom
+pub mod UsesKept
+pub mod PathsKept

@@ -8,6 +8,7 @@ use Rattle.fb_syntax.specs.declared.declarations.Attribute.{Attribute}
 use Rattle.fb_syntax.specs.declared.declarations.AttributeValue.{AttributeValue}
 use Rattle.fb_syntax.specs.declared.declarations.AttributeValue.TheVariants.{Integer}
 use Rattle.fb_schema.specs.Schema.{Name}
+use Rattle.fb_resolve.specs.declared.attributes.FieldAttributes.{FieldAttributes}
 use Rattle.fb_resolve.specs.declared.attributes.Known.{Known}
 use Rattle.fb_resolve.specs.declared.attributes.Known.TheVariants.{Id, Required, Deprecated, ForceAlign, BitFlags, OriginalOrder}
 
@@ -47,3 +48,21 @@ integer_value_in _ = None
 -- the integer that the first attribute of a name has
 unfoldable pub number_called : Known → List Attribute → Option ℤ
 number_called k attributes = option_and_then (λ a. integer_value_in a.value) (attribute_called k attributes)
+
+-- a number from 0 on
+abbrev pub natural_in : ℤ → Option ℕ
+natural_in (pos n) = Some n
+natural_in (negsuc n) = None
+
+-- the number from 0 on that the first `id` has
+abbrev pub id_in : List Attribute → Option ℕ
+id_in attributes = option_and_then natural_in (number_called Id attributes)
+
+-- what the attributes of a field say of its slots
+abbrev pub field_attributes : List Attribute → FieldAttributes
+field_attributes attributes = record {
+  id = id_in attributes;
+  has_id = has_attribute Id attributes;
+  required = has_attribute Required attributes;
+  deprecated = has_attribute Deprecated attributes;
+}

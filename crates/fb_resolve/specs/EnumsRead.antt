@@ -89,11 +89,11 @@ values_from base flags next (v ∷ vs) = let n = written_number next v in
     (v.name.bytes, value_number base flags n) ∷ values_from base flags (n +ℤ pos 1) vs
 
 -- the values of an enum over a type
-abbrev pub values_over : Option Base → EnumRead → List (Name × ℤ)
-values_over base e = values_from (base_or_ubyte base) (has_flags e) (pos 0) e.values
+abbrev pub values_over : Option Base → Bool → List EnumValue → List (Name × ℤ)
+values_over base flags values = values_from (base_or_ubyte base) flags (pos 0) values
 
 abbrev pub values_read : List TypeRead → Option Name → EnumRead → List (Name × ℤ)
-values_read types scope e = values_over (underlying types scope e) e
+values_read types scope e = values_over (underlying types scope e) (has_flags e) e.values
 
 abbrev pub values_in : List TypeRead → Option Name → TypeDecl → List (Name × ℤ)
 values_in types scope (decls.Enum e) = values_read types scope e

@@ -12,6 +12,6 @@ pub mod SlotsRead
 pub mod StructsRead
 pub mod MembersRead
 pub mod ValueNumbers
-pub mod Words
-pub mod WordPlaces
-pub mod Candidates
+pub mod Uses
+pub mod Paths
+pub mod Scope

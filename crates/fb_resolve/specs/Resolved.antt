@@ -1,5 +1,5 @@
--- The types of a text with what the names in them mean.
--- From the FlatBuffers documentation, "Writing a schema": Types, Namespaces.
+-- The types of a text with what the names and attributes in them mean.
+-- From the FlatBuffers documentation, "Writing a schema": Types, Namespaces, Attributes.
 use Rattle.std.specs.Prelude.{List, map, Option, None, Some}
 use Rattle.fb_syntax.specs.FieldRead.{FieldRead}
 use Rattle.fb_syntax.specs.TypesRead.{TableRead, EnumRead, UnionRead}
@@ -9,24 +9,39 @@ use Rattle.fb_syntax.specs.declared.declarations.TypeDecl.TheVariants as decls
 use Rattle.fb_schema.specs.Schema.{Name}
 use Rattle.fb_resolve.specs.Outline.{TypeRead, RootRead}
 use Rattle.fb_resolve.specs.Meaning.{meaning_of, meaning_in}
+use Rattle.fb_resolve.specs.Attributes.{number_called, field_attributes}
+use Rattle.fb_resolve.specs.EnumsRead.{has_flags}
 use Rattle.fb_resolve.specs.ResolvedFields.{ResolvedField, ResolvedTable, ResolvedEnum, ResolvedMember, ResolvedUnion}
 use Rattle.fb_resolve.specs.ResolvedType.{ResolvedType}
+use Rattle.fb_resolve.specs.declared.attributes.Known.TheVariants.{ForceAlign}
 use Rattle.fb_resolve.specs.declared.meanings.Meaning.{Meaning}
 use Rattle.fb_resolve.specs.declared.meanings.Meaning.TheVariants.{Unknown}
 use Rattle.fb_resolve.specs.declared.resolved.ResolvedDecl.{ResolvedDecl}
 use Rattle.fb_resolve.specs.declared.resolved.ResolvedDecl.TheVariants.{Table, Struct, Enum, Union}
 
 abbrev pub resolved_field : List TypeRead → Option Name → FieldRead → ResolvedField
-resolved_field types scope f = record { field = f; meaning = meaning_in types scope f.kind }
+resolved_field types scope f = record {
+  field = f;
+  meaning = meaning_in types scope f.kind;
+  attributes = field_attributes f.attributes;
+}
 
 abbrev pub resolved_fields : List TypeRead → Option Name → List FieldRead → List ResolvedField
 resolved_fields types scope fs = map (resolved_field types scope) fs
 
 abbrev pub resolved_table : List TypeRead → Option Name → TableRead → ResolvedTable
-resolved_table types scope t = record { declared = t; fields = resolved_fields types scope t.fields }
+resolved_table types scope t = record {
+  declared = t;
+  fields = resolved_fields types scope t.fields;
+  force_align = number_called ForceAlign t.attributes;
+}
 
 abbrev pub resolved_enum : List TypeRead → Option Name → EnumRead → ResolvedEnum
-resolved_enum types scope e = record { declared = e; underlying = meaning_of types scope e.underlying.bytes }
+resolved_enum types scope e = record {
+  declared = e;
+  underlying = meaning_of types scope e.underlying.bytes;
+  bit_flags = has_flags e;
+}
 
 abbrev pub resolved_member : List TypeRead → Option Name → UnionMember → ResolvedMember
 resolved_member types scope m = record { member = m; meaning = meaning_of types scope m.table.bytes }

@@ -1,24 +1,28 @@
--- Fields, members and underlying types with what their types' names mean.
-use Rattle.std.specs.Prelude.{List}
+-- Fields, members and underlying types with what their types' names mean and their attributes say.
+use Rattle.std.specs.Prelude.{Bool, List, Option, ℤ}
 use Rattle.fb_syntax.specs.FieldRead.{FieldRead}
 use Rattle.fb_syntax.specs.TypesRead.{TableRead, EnumRead, UnionRead}
 use Rattle.fb_syntax.specs.declared.declarations.UnionMember.{UnionMember}
+use Rattle.fb_resolve.specs.declared.attributes.FieldAttributes.{FieldAttributes}
 use Rattle.fb_resolve.specs.declared.meanings.Meaning.{Meaning}
 
--- a field, and what the name in its type means
+-- a field, what the name in its type means, and what its attributes say
 pub record ResolvedField : Type 0 where
   pub field : FieldRead
   pub meaning : Meaning
+  pub attributes : FieldAttributes
 
--- a table or struct with its fields
+-- a table or struct with its fields, and the integer that its first `force_align` has
 pub record ResolvedTable : Type 0 where
   pub declared : TableRead
   pub fields : List ResolvedField
+  pub force_align : Option ℤ
 
--- an enum, and what its underlying type's name means
+-- an enum, what its underlying type's name means, and whether it has `bit_flags`
 pub record ResolvedEnum : Type 0 where
   pub declared : EnumRead
   pub underlying : Meaning
+  pub bit_flags : Bool
 
 -- a member of a union, and what its table's name means
 pub record ResolvedMember : Type 0 where

@@ -4,14 +4,12 @@ use Rattle.std.specs.Prelude.{ℕ, suc, ◌+◌, ◌==◌, ◌≡◌, ◌++◌, 
 use Rattle.std.specs.List.{list_any, list_all, flat_map}
 use Rattle.std.specs.List.Sorted.{IsPermutation}
 use Rattle.std.specs.Option.{is_some, unwrap_or}
-use Rattle.fb_syntax.specs.FieldRead.{FieldRead}
 use Rattle.fb_syntax.specs.declared.declarations.FieldType.{FieldType}
 use Rattle.fb_syntax.specs.declared.declarations.FieldType.TheVariants as types_read
 use Rattle.fb_schema.specs.Schema.{Name, DeclaredField}
 use Rattle.fb_resolve.specs.Outline.{TypeRead}
 use Rattle.fb_resolve.specs.ResolvedFields.{ResolvedField}
-use Rattle.fb_resolve.specs.Attributes.{has_attribute, number_called}
-use Rattle.fb_resolve.specs.Defaults.{given_by}
+use Rattle.fb_resolve.specs.Defaults.{given_in}
 use Rattle.fb_schema.specs.declared.kinds.TypeId.{TypeId}
 use Rattle.fb_schema.specs.declared.kinds.Kind.{Kind}
 use Rattle.fb_schema.specs.declared.kinds.Kind.TheVariants.{Union, Code, Text}
@@ -19,7 +17,6 @@ use Rattle.fb_schema.specs.declared.kinds.Shape.{Shape}
 use Rattle.fb_schema.specs.declared.kinds.Shape.TheVariants.{One, Many}
 use Rattle.fb_resolve.specs.declared.meanings.Meaning.{Meaning}
 use Rattle.fb_resolve.specs.declared.meanings.Meaning.TheVariants.{Known}
-use Rattle.fb_resolve.specs.declared.attributes.Known.TheVariants.{Id, Required, Deprecated}
 use Rattle.fb_resolve.specs.declared.defaults.Given.{Given}
 use Rattle.fb_resolve.specs.declared.defaults.Given.TheVariants.{Number, Null}
 
@@ -48,40 +45,37 @@ abbrev pub is_null : Given → Bool
 is_null Null = true
 is_null _ = false
 
--- the slot of the value of a field of this type
-abbrev pub value_slot_of : List TypeRead → FieldRead → Meaning → ℕ → DeclaredField
-value_slot_of types f m slot = record {
-  name = f.name.bytes;
-  shape = shape_of f.kind m;
-  default = number_given (given_by types f.kind m f.default);
-  optional = is_null (given_by types f.kind m f.default);
-  required = has_attribute Required f.attributes;
-  deprecated = has_attribute Deprecated f.attributes;
+-- the slot of a field's value
+abbrev pub value_slot : List TypeRead → ResolvedField → ℕ → DeclaredField
+value_slot types r slot = record {
+  name = r.field.name.bytes;
+  shape = shape_of r.field.kind r.meaning;
+  default = number_given (given_in types r);
+  optional = is_null (given_in types r);
+  required = r.attributes.required;
+  deprecated = r.attributes.deprecated;
   slot = slot;
 }
-
-abbrev pub value_slot : List TypeRead → ResolvedField → ℕ → DeclaredField
-value_slot types r slot = value_slot_of types r.field r.meaning slot
 
 -- of a union field `x`, the name of its code
 abbrev pub name_of_code : Name → Name
 name_of_code name = name ++ codes "_type"
 
 -- the slot of a union's code
-abbrev pub code_slot : FieldRead → TypeId → ℕ → DeclaredField
-code_slot f u slot = record {
-  name = name_of_code f.name.bytes;
+abbrev pub code_slot : ResolvedField → TypeId → ℕ → DeclaredField
+code_slot r u slot = record {
+  name = name_of_code r.field.name.bytes;
   shape = One (Code u);
   default = pos 0;
   optional = false;
   required = false;
-  deprecated = has_attribute Deprecated f.attributes;
+  deprecated = r.attributes.deprecated;
   slot = slot;
 }
 
 abbrev pub slots_by_union : List TypeRead → ResolvedField → Option TypeId → ℕ → List DeclaredField
 slots_by_union types r None slot = value_slot types r slot ∷ []
-slots_by_union types r (Some u) slot = code_slot r.field u slot ∷ value_slot types r (slot + 1) ∷ []
+slots_by_union types r (Some u) slot = code_slot r u slot ∷ value_slot types r (slot + 1) ∷ []
 
 -- the slots of a field, from this one on: a union's code comes before its value
 unfoldable pub slots_of_field : List TypeRead → ResolvedField → ℕ → List DeclaredField
@@ -94,23 +88,20 @@ slots_in_order types slot (r ∷ rs) = slots_of_field types r slot
     ++ slots_in_order types (slot + length (slots_of_field types r slot)) rs
 
 -- A field's id is that of its value, so a union's first slot is the one before it.
-abbrev pub first_slot : Option TypeId → Option ℤ → Option ℕ
-first_slot None (Some (pos n)) = Some n
-first_slot (Some u) (Some (pos (suc n))) = Some n
+abbrev pub first_slot : Option TypeId → Option ℕ → Option ℕ
+first_slot None (Some n) = Some n
+first_slot (Some u) (Some (suc n)) = Some n
 first_slot _ _ = None
 
 -- the first slot of a field by its id
 unfoldable pub slot_by_id : ResolvedField → Option ℕ
-slot_by_id r = first_slot (union_in r) (number_called Id r.field.attributes)
+slot_by_id r = first_slot (union_in r) r.attributes.id
 
 abbrev pub slots_by_id : List TypeRead → List ResolvedField → List DeclaredField
 slots_by_id types rs = flat_map (λ r. slots_of_field types r (unwrap_or (slot_by_id r) 0)) rs
 
-abbrev pub has_id : ResolvedField → Bool
-has_id r = has_attribute Id r.field.attributes
-
 abbrev pub have_ids : List ResolvedField → Bool
-have_ids rs = list_any has_id rs
+have_ids rs = list_any (λ r. r.attributes.has_id) rs
 
 -- the slots of a table, in the order of declaration
 abbrev pub slots_read : List TypeRead → List ResolvedField → List DeclaredField

@@ -4,7 +4,6 @@ use Rattle.std.specs.Prelude.{ℕ, ◌+◌, false, List, [], ◌∷◌, map, Opt
 use Rattle.std.specs.Option.{option_map_or, unwrap_or, option_and_then}
 use Rattle.fb_syntax.specs.declared.declarations.FieldType.{FieldType}
 use Rattle.fb_syntax.specs.declared.declarations.FieldType.TheVariants.{One}
-use Rattle.fb_syntax.specs.declared.declarations.Attribute.{Attribute}
 use Rattle.fb_schema.specs.Schema.{DeclaredField}
 use Rattle.fb_schema.specs.Alignments.{base_size, greatest_in}
 use Rattle.fb_resolve.specs.Outline.{TypeRead}
@@ -12,13 +11,12 @@ use Rattle.fb_resolve.specs.ResolvedFields.{ResolvedField, ResolvedTable}
 use Rattle.fb_resolve.specs.ResolvedType.{ResolvedType}
 use Rattle.fb_resolve.specs.declared.resolved.ResolvedDecl.{ResolvedDecl}
 use Rattle.fb_resolve.specs.declared.resolved.ResolvedDecl.TheVariants as resolved
-use Rattle.fb_resolve.specs.Attributes.{is_alignment, number_called}
+use Rattle.fb_resolve.specs.Attributes.{is_alignment}
 use Rattle.fb_resolve.specs.EnumsRead.{underlying_at}
 use Rattle.fb_resolve.specs.SlotsRead.{shape_of}
 use Rattle.fb_schema.specs.declared.kinds.Kind.TheVariants.{Scalar, Enum, Struct}
 use Rattle.fb_resolve.specs.declared.meanings.Meaning.{Meaning}
 use Rattle.fb_resolve.specs.declared.meanings.Meaning.TheVariants.{Known}
-use Rattle.fb_resolve.specs.declared.attributes.Known.TheVariants.{ForceAlign}
 
 -- The alignment that a field of a struct needs, where these are the alignments of the types before
 -- it; 0 for a type at fault.
@@ -38,14 +36,14 @@ abbrev pub alignment_in : ℕ → ℤ → Option ℕ
 alignment_in least (pos n) = if is_alignment least (pos n) then Some n else None
 alignment_in least (negsuc n) = None
 
--- the alignment that `force_align` names, if that is a right one
-unfoldable pub forced_align : ℕ → List Attribute → Option ℕ
-forced_align least attributes = option_and_then (alignment_in least) (number_called ForceAlign attributes)
+-- the alignment that the integer of a `force_align` names, if that is a right one
+unfoldable pub forced_align : ℕ → Option ℤ → Option ℕ
+forced_align least number = option_and_then (alignment_in least) number
 
 -- the alignment of a struct with these types before it
 abbrev pub align_of_struct : List TypeRead → List ℕ → ResolvedTable → ℕ
 align_of_struct types lower s = let natural = natural_align types lower s.fields in
-    unwrap_or (forced_align natural s.declared.attributes) natural
+    unwrap_or (forced_align natural s.force_align) natural
 
 abbrev pub align_of_declaration : List TypeRead → List ℕ → ResolvedDecl → ℕ
 align_of_declaration types lower (resolved.Struct s) = align_of_struct types lower s

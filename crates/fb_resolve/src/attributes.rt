@@ -4,7 +4,7 @@ ghost use Rattle.std.specs.Int.RustNames.{unsigned_abs};
 ghost use Rattle.fb_syntax.specs.Integers.{greatest_magnitude};
 ghost use Rattle.std.specs.Option.{option_copied};
 ghost use Rattle.fb_resolve.specs.Attributes.{spelling, known_attribute, is_alignment, has_attribute};
-ghost use Rattle.fb_resolve.specs.Attributes.{attribute_called, number_called};
+ghost use Rattle.fb_resolve.specs.Attributes.{attribute_called, number_called, id_in, field_attributes};
 
 use fb_syntax::{Attribute, AttributeValue};
 
@@ -62,6 +62,17 @@ pub fn is_alignment(least: u16, number: i128) -> bool
     }
 }
 
+/// What the attributes of a field say of its slots.
+#[derive(Clone, Copy, Debug, PartialEq, Eq, Drop)]
+pub struct FieldAttributes {
+    /// The number that its first `id` has, if that is from 0 on.
+    pub id: Option<u64>,
+    /// Whether it has an `id`, of whatever value.
+    pub has_id: bool,
+    pub required: bool,
+    pub deprecated: bool,
+}
+
 /// Whether one of the attributes is this known one.
 pub(crate) fn has_attribute(known: Known, attributes: &[Attribute<'_>]) -> bool
     ensures { result ≡ has_attribute known attributes.now }
@@ -92,5 +103,33 @@ pub(crate) fn number_called(known: Known, attributes: &[Attribute<'_>]) -> Optio
     match &called.value {
         Some(AttributeValue::Integer(number)) => Some(number.value()),
         _ => None,
+    }
+}
+
+/// The number from 0 on that the first `id` has.
+fn id_in(attributes: &[Attribute<'_>]) -> Option<u64>
+    ensures { result ≡ id_in attributes.now }
+{
+    u64::try_from(number_called(Known::Id, attributes)?).ok()
+}
+
+/// What the attributes of a field say of its slots.
+#[tactic(auto, unfolding(crate::specs::Attributes::number_called))]
+pub(crate) fn field_attributes(attributes: &[Attribute<'_>]) -> FieldAttributes
+    ensures { result ≡ field_attributes attributes.now }
+{
+    if attributes.is_empty() {
+        return FieldAttributes {
+            id: None,
+            has_id: false,
+            required: false,
+            deprecated: false,
+        };
+    }
+    FieldAttributes {
+        id: id_in(attributes),
+        has_id: has_attribute(Known::Id, attributes),
+        required: has_attribute(Known::Required, attributes),
+        deprecated: has_attribute(Known::Deprecated, attributes),
     }
 }

@@ -79,7 +79,7 @@ fn enum_named(number: Option<i128>, name: &str) -> Given
 /// What a default gives to one value of a type.
 #[tactic(auto, unfolding(crate::specs::Defaults::given_to))]
 pub(crate) fn given_to(
-    types: TypesRead<'_, '_, '_, '_>,
+    types: TypesRead<'_, '_, '_>,
     meaning: Meaning,
     default: &DefaultValue<'_>,
 ) -> Given
@@ -106,7 +106,7 @@ pub(crate) fn given_to(
 
 /// What a table's field of a type is given.
 pub fn given_by(
-    types: TypesRead<'_, '_, '_, '_>,
+    types: TypesRead<'_, '_, '_>,
     kind: &FieldType<'_>,
     meaning: Meaning,
     default: Option<&DefaultValue<'_>>,

@@ -39,7 +39,7 @@ pub fn underlying(read: &EnumDecl<'_>) -> Option<Base>
 }
 
 /// The underlying type of the enum of a number.
-pub(crate) fn underlying_at(types: TypesRead<'_, '_, '_, '_>, number: usize) -> Option<Base>
+pub(crate) fn underlying_at(types: TypesRead<'_, '_, '_>, number: usize) -> Option<Base>
     ensures { result ≡ underlying_at types.entry.types.now number }
 {
     match types.types.get(number)?.declaration {
@@ -49,7 +49,7 @@ pub(crate) fn underlying_at(types: TypesRead<'_, '_, '_, '_>, number: usize) -> 
 }
 
 /// Whether an enum has the mark `bit_flags`.
-pub fn has_flags(read: &EnumDecl<'_>) -> bool
+pub(crate) fn has_flags(read: &EnumDecl<'_>) -> bool
     ensures { result ≡ has_flags read.now }
 {
     has_attribute(Known::BitFlags, read.attributes.as_slice())
@@ -131,15 +131,17 @@ fn values_from(
     Ok(read)
 }
 
-/// The values of an enum over a type, with their numbers. The only error is a refused allocation.
+/// The values of an enum over a type, with `bit_flags` or without, and their numbers. The only
+/// error is a refused allocation.
 pub fn values_over(
     alloc: Global,
     base: Option<Base>,
-    read: &EnumDecl<'_>,
+    flags: bool,
+    values: &[EnumValue<'_>],
 ) -> Result<Vec<(String, i128)>, AllocError>
     ensures { IfOk result
-        (λ r. map (λ v. (string_bytes v.0, v.1)) r.items ≡ values_over base read.now) }
+        (λ r. map (λ v. (string_bytes v.0, v.1)) r.items ≡ values_over base flags values.now) }
 {
     let base = base.unwrap_or(Base::U8);
-    values_from(alloc, base, has_flags(read), read.values.as_slice())
+    values_from(alloc, base, flags, values)
 }

@@ -1,16 +1,12 @@
 //! The slots that the ids of fields name.
-ghost use Rattle.std.specs.Prelude.{◌≡◌, ◌<◌, ◌≤◌, ◌-◌, ◌++◌, ◌^◌, [], ◌∷◌, IfOk, IfSome};
+ghost use Rattle.std.specs.Prelude.{◌≡◌, ◌<◌, ◌-◌, ◌++◌, ◌^◌, [], ◌∷◌, IfOk, IfSome};
 ghost use Rattle.std.specs.Prelude.{IsSome, map, true, false};
-ghost use Rattle.std.specs.Int.RustNames.{unsigned_abs};
-ghost use Rattle.fb_syntax.specs.Integers.{greatest_magnitude};
-ghost use Rattle.std.specs.Option.{is_some, ForSome};
-ghost use Rattle.fb_resolve.specs.SlotsRead.{union_in, first_slot, slot_by_id, numbers_by_id, has_id};
-ghost use Rattle.fb_resolve.specs.SlotsRead.{have_ids};
+ghost use Rattle.std.specs.Option.{is_some};
+ghost use Rattle.fb_resolve.specs.SlotsRead.{union_in, first_slot, slot_by_id, numbers_by_id, have_ids};
 ghost use Rattle.fb_resolve.specs.SlotsRead.{have_all_ids, are_places, are_ids_wrong, slots_by_id, slots_read};
 ghost use Rattle.fb_resolve.specs.SlotsRead.{AreInPlace};
 ghost use Rattle.fb_schema.specs.Seen.{field_seen};
 
-use crate::attributes::{Known, has_attribute, number_called};
 use crate::resolved::ResolvedField;
 use crate::slots::{push_slots, slots_in_order, union_in};
 use crate::types_read::TypesRead;
@@ -18,15 +14,13 @@ use fb_schema::{FieldInfo, TypeId};
 use std::alloc::{AllocError, Global};
 
 /// The first slot of a field by its id, which is that of its value.
-fn first_slot(union: Option<TypeId>, id: Option<i128>) -> Option<u64>
-    requires { ForSome id (λ n. unsigned_abs n ≤ greatest_magnitude) }
+fn first_slot(union: Option<TypeId>, id: Option<u64>) -> Option<u64>
     ensures slot { result ≡ first_slot union id }
     ensures room { IsSome union → IfSome result (λ s. s < 2 ^ 64 - 1) }
 {
-    let id = u64::try_from(id?).ok()?;
     match union {
-        None => Some(id),
-        Some(_) => id.checked_sub(1),
+        None => id,
+        Some(_) => id?.checked_sub(1),
     }
 }
 
@@ -36,9 +30,7 @@ fn slot_by_id(resolved: &ResolvedField<'_, '_>) -> Option<u64>
     ensures slot { result ≡ slot_by_id resolved.now }
     ensures room { IsSome (union_in resolved.now) → IfSome result (λ s. s < 2 ^ 64 - 1) }
 {
-    let field = resolved.field;
-    let id = number_called(Known::Id, field.attributes.as_slice());
-    first_slot(union_in(resolved), id)
+    first_slot(union_in(resolved), resolved.attributes.id)
 }
 
 /// Adds the numbers of the slots that a field takes by its id; says whether it has one.
@@ -92,17 +84,10 @@ fn are_places(alloc: Global, numbers: &[u64]) -> Result<bool, AllocError>
     Ok(true)
 }
 
-fn has_id(resolved: &ResolvedField<'_, '_>) -> bool
-    ensures { result ≡ has_id resolved.now }
-{
-    let field = resolved.field;
-    has_attribute(Known::Id, field.attributes.as_slice())
-}
-
 fn have_ids(fields: &[ResolvedField<'_, '_>]) -> bool
     ensures { result ≡ have_ids fields.now }
 {
-    fields.iter().any(|field| has_id(field))
+    fields.iter().any(|field| field.attributes.has_id)
 }
 
 /// Whether fields have ids that do not name each slot of theirs once. The only error is a refused
@@ -123,7 +108,7 @@ pub fn are_ids_wrong(alloc: Global, fields: &[ResolvedField<'_, '_>]) -> Result<
 /// The slots of fields by their ids, in the order of declaration; without an id a field takes
 /// those from 0 on.
 fn slots_by_id(
-    types: TypesRead<'_, '_, '_, '_>,
+    types: TypesRead<'_, '_, '_>,
     alloc: Global,
     fields: &[ResolvedField<'_, '_>],
 ) -> Result<Vec<FieldInfo>, AllocError>
@@ -140,7 +125,7 @@ fn slots_by_id(
 
 /// The slots of a table, each at the place of its number. The only error is a refused allocation.
 pub fn table_slots(
-    types: TypesRead<'_, '_, '_, '_>,
+    types: TypesRead<'_, '_, '_>,
     alloc: Global,
     fields: &[ResolvedField<'_, '_>],
 ) -> Result<Vec<FieldInfo>, AllocError>

@@ -3,7 +3,6 @@
 
 mod attributes;
 mod basic_types;
-mod candidates;
 mod defaults;
 mod enums;
 mod ids;
@@ -11,24 +10,26 @@ mod located_names;
 mod meanings;
 mod members;
 mod outline;
-mod readings;
+mod paths;
+mod resolve;
 mod resolved;
+mod scope;
 mod slots;
 mod structs;
 mod types_read;
 mod value_names;
 mod value_numbers;
-mod word_places;
 
-pub use attributes::{Known, is_alignment, known_attribute};
+pub use attributes::{FieldAttributes, Known, is_alignment, known_attribute};
 pub use basic_types::is_reserved;
 pub use defaults::{Given, given_by};
-pub use enums::{has_flags, integer_type, may_be_written, underlying, values_over, written_number};
+pub use enums::{integer_type, may_be_written, underlying, values_over, written_number};
 pub use ids::{are_ids_wrong, table_slots};
 pub use located_names::LocatedName;
 pub use meanings::{Meaning, type_name};
 pub use members::{is_table, member_name, member_read, table_of};
 pub use outline::{Outline, RootRead, TypeRead, located_name, name_of_type, word_of};
+pub use resolve::Resolved;
 pub use resolved::{
     ResolvedDecl, ResolvedEnum, ResolvedField, ResolvedMember, ResolvedTable, ResolvedType,
     ResolvedUnion,
@@ -37,4 +38,3 @@ pub use slots::{name_of_code, union_in};
 pub use structs::{align_of_type, forced_align, natural_align, parts_read};
 pub use types_read::TypesRead;
 pub use value_numbers::ValueNumbers;
-pub use word_places::WordPlaces;

@@ -5,14 +5,13 @@ ghost use Rattle.fb_schema.specs.Seen.{field_seen};
 ghost use Rattle.fb_resolve.specs.SlotsRead.{union_of, union_in, value_slot, name_of_code, code_slot};
 ghost use Rattle.fb_resolve.specs.SlotsRead.{slots_of_field, slots_in_order};
 
-use crate::attributes::{Known, has_attribute, number_called};
 use crate::defaults::{Given, given_by};
 use crate::meanings::Meaning;
 use crate::resolved::ResolvedField;
 use crate::structs::shape_of;
 use crate::types_read::TypesRead;
 use fb_schema::{FieldInfo, Kind, Shape, TypeId};
-use fb_syntax::{Field, FieldType};
+use fb_syntax::FieldType;
 use std::alloc::{AllocError, Global};
 
 /// The union of a union's use.
@@ -26,7 +25,7 @@ fn union_of(kind: &FieldType<'_>, meaning: Meaning) -> Option<TypeId>
 }
 
 fn value_slot(
-    types: TypesRead<'_, '_, '_, '_>,
+    types: TypesRead<'_, '_, '_>,
     alloc: Global,
     resolved: &ResolvedField<'_, '_>,
     slot: u64,
@@ -47,8 +46,8 @@ fn value_slot(
         shape: shape_of(&field.kind, meaning),
         default,
         optional: matches!(given, Given::Null),
-        required: has_attribute(Known::Required, field.attributes.as_slice()),
-        deprecated: has_attribute(Known::Deprecated, field.attributes.as_slice()),
+        required: resolved.attributes.required,
+        deprecated: resolved.attributes.deprecated,
         slot,
     })
 }
@@ -64,19 +63,20 @@ pub fn name_of_code(alloc: Global, name: &str) -> Result<String, AllocError>
 
 fn code_slot(
     alloc: Global,
-    field: &Field<'_>,
+    resolved: &ResolvedField<'_, '_>,
     union: TypeId,
     slot: u64,
 ) -> Result<FieldInfo, AllocError>
-    ensures { IfOk result (λ f. field_seen f ≡ code_slot field.now union slot) }
+    ensures { IfOk result (λ f. field_seen f ≡ code_slot resolved.now union slot) }
 {
+    let field = resolved.field;
     Ok(FieldInfo {
         name: name_of_code(alloc, field.name.text)?,
         shape: Shape::One(Kind::Code(union)),
         default: 0,
         optional: false,
         required: false,
-        deprecated: has_attribute(Known::Deprecated, field.attributes.as_slice()),
+        deprecated: resolved.attributes.deprecated,
         slot,
     })
 }
@@ -92,7 +92,7 @@ pub fn union_in(resolved: &ResolvedField<'_, '_>) -> Option<TypeId>
 /// Adds the slots of a field from this one on: a union's code comes before its value.
 #[tactic(auto, unfolding(crate::specs::SlotsRead::slots_of_field))]
 pub(crate) fn push_slots(
-    types: TypesRead<'_, '_, '_, '_>,
+    types: TypesRead<'_, '_, '_>,
     alloc: Global,
     resolved: &ResolvedField<'_, '_>,
     slot: u64,
@@ -104,7 +104,7 @@ pub(crate) fn push_slots(
 {
     match union_in(resolved) {
         Some(union) => {
-            slots.push(code_slot(alloc, resolved.field, union, slot)?)?;
+            slots.push(code_slot(alloc, resolved, union, slot)?)?;
             slots.push(value_slot(types, alloc, resolved, slot + 1)?)?;
         }
         None => slots.push(value_slot(types, alloc, resolved, slot)?)?,
@@ -116,7 +116,7 @@ pub(crate) fn push_slots(
 /// allocation.
 #[tactic(auto, unfolding(crate::specs::SlotsRead::slots_in_order))]
 pub(crate) fn slots_in_order(
-    types: TypesRead<'_, '_, '_, '_>,
+    types: TypesRead<'_, '_, '_>,
     alloc: Global,
     fields: &[ResolvedField<'_, '_>],
 ) -> Result<Vec<FieldInfo>, AllocError>

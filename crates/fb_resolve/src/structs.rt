@@ -7,13 +7,13 @@ ghost use Rattle.fb_resolve.specs.StructsRead.{align_by, align_in, natural_align
 ghost use Rattle.fb_resolve.specs.StructsRead.{align_of_struct, align_of_type, part_read, parts_from};
 ghost use Rattle.fb_resolve.specs.SlotsRead.{kind_or_text, shape_of};
 
-use crate::attributes::{Known, is_alignment, number_called};
+use crate::attributes::is_alignment;
 use crate::enums::underlying_at;
 use crate::meanings::Meaning;
 use crate::resolved::{ResolvedDecl, ResolvedField, ResolvedTable, ResolvedType};
 use crate::types_read::TypesRead;
 use fb_schema::{Base, FieldInfo, Kind, Shape, TypeId};
-use fb_syntax::{Attribute, FieldType};
+use fb_syntax::FieldType;
 use std::alloc::{AllocError, Global};
 
 /// The kind of a use; a type at fault stands as a text.
@@ -38,7 +38,7 @@ pub(crate) fn shape_of(kind: &FieldType<'_>, meaning: Meaning) -> Shape
 
 /// The alignment that a field of a struct needs; 0 for a type at fault.
 fn align_by(
-    types: TypesRead<'_, '_, '_, '_>,
+    types: TypesRead<'_, '_, '_>,
     lower: &[u16],
     kind: &FieldType<'_>,
     meaning: Meaning,
@@ -58,11 +58,7 @@ fn align_by(
 }
 
 #[tactic(auto, unfolding(crate::specs::StructsRead::align_in))]
-fn align_in(
-    types: TypesRead<'_, '_, '_, '_>,
-    lower: &[u16],
-    resolved: &ResolvedField<'_, '_>,
-) -> u16
+fn align_in(types: TypesRead<'_, '_, '_>, lower: &[u16], resolved: &ResolvedField<'_, '_>) -> u16
     ensures { result ≡ align_in types.entry.types.now lower.now resolved.now }
 {
     let field = resolved.field;
@@ -73,7 +69,7 @@ fn align_in(
 /// types before it.
 #[tactic(auto, unfolding(crate::specs::StructsRead::natural_align))]
 pub fn natural_align(
-    types: TypesRead<'_, '_, '_, '_>,
+    types: TypesRead<'_, '_, '_>,
     lower: &[u16],
     fields: &[ResolvedField<'_, '_>],
 ) -> u16
@@ -96,30 +92,30 @@ fn alignment_in(least: u16, number: i128) -> Option<u16>
     }
 }
 
-/// The alignment that `force_align` names, if it is a power of two from the least one to 256.
+/// The alignment that the integer of a `force_align` names, if it is a power of two from the least
+/// one to 256.
 #[tactic(auto, unfolding(crate::specs::StructsRead::forced_align))]
-pub fn forced_align(least: u16, attributes: &[Attribute<'_>]) -> Option<u16>
-    ensures { result ≡ forced_align least attributes.now }
+pub fn forced_align(least: u16, number: Option<i128>) -> Option<u16>
+    ensures { result ≡ forced_align least number }
 {
-    alignment_in(least, number_called(Known::ForceAlign, attributes)?)
+    alignment_in(least, number?)
 }
 
 fn align_of_struct(
-    types: TypesRead<'_, '_, '_, '_>,
+    types: TypesRead<'_, '_, '_>,
     lower: &[u16],
     resolved: &ResolvedTable<'_, '_>,
 ) -> u16
     ensures { result ≡ align_of_struct types.entry.types.now lower.now resolved.now }
 {
     let natural = natural_align(types, lower, resolved.fields.as_slice());
-    let declared = resolved.declared;
-    forced_align(natural, declared.attributes.as_slice()).unwrap_or(natural)
+    forced_align(natural, resolved.force_align).unwrap_or(natural)
 }
 
 /// The alignment of a type, 0 of what is no struct.
 #[tactic(auto, unfolding(crate::specs::StructsRead::align_of_type))]
 pub fn align_of_type(
-    types: TypesRead<'_, '_, '_, '_>,
+    types: TypesRead<'_, '_, '_>,
     lower: &[u16],
     resolved: &ResolvedType<'_, '_, '_>,
 ) -> u16

@@ -8,11 +8,7 @@ use crate::types_read::TypesRead;
 use fb_syntax::{EnumDecl, TypeDecl};
 
 /// The number of the value of a name, which may be missing, in the enum of a number.
-fn number_behind(
-    types: TypesRead<'_, '_, '_, '_>,
-    number: usize,
-    name: Option<&[u8]>,
-) -> Option<i128>
+fn number_behind(types: TypesRead<'_, '_, '_>, number: usize, name: Option<&[u8]>) -> Option<i128>
     ensures { result ≡ option_and_then (number_named (values_at types.entry.types.now number))
         (option_copied name.entry) }
 {
@@ -64,7 +60,7 @@ fn behind_full_name<'n>(scope: Option<&str>, declared: &[u8], name: &'n [u8]) ->
 
 /// The number of the value that a name means in an enum, of which this is the type's number.
 fn value_named(
-    types: TypesRead<'_, '_, '_, '_>,
+    types: TypesRead<'_, '_, '_>,
     number: usize,
     scope: Option<&str>,
     read: &EnumDecl<'_>,
@@ -82,7 +78,7 @@ fn value_named(
 
 /// The number of the value that a name means in the enum of a number.
 #[tactic(auto, unfolding(crate::specs::EnumsRead::value_at))]
-pub(crate) fn value_at(types: TypesRead<'_, '_, '_, '_>, number: usize, name: &str) -> Option<i128>
+pub(crate) fn value_at(types: TypesRead<'_, '_, '_>, number: usize, name: &str) -> Option<i128>
     ensures { result ≡ value_at types.entry.types.now number name.now }
 {
     let read = types.types.get(number)?;

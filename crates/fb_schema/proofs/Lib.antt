@@ -6,3 +6,4 @@ pub mod Got
 pub mod LastDot
 pub mod SearchedByHalves
 pub mod IndexesOfTypes
+pub mod Dots

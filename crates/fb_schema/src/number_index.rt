@@ -1,5 +1,6 @@
 //! Numbers that are found in few steps.
-ghost use Rattle.std.specs.Prelude.{◌≡◌, ◌≢◌, map, position, slice_get, get_or, pos, option_map, AllPairs, IfOk, Some, true};
+ghost use Rattle.std.specs.Prelude.{◌≡◌, ◌≢◌, map, position, slice_get, get_or, pos, option_map};
+ghost use Rattle.std.specs.Prelude.{AllPairs, IfOk, Some, true};
 ghost use Rattle.std.specs.Ordering.{int_eq};
 ghost use Rattle.fb_schema.specs.Indexed.{IndexesNumbers};
 

@@ -2,7 +2,8 @@
 ghost use Rattle.std.specs.Prelude.{◌≡◌, ◌≤◌, ◌<◌, ◌+◌, ◌*◌, ◌↔◌, length};
 ghost use Rattle.std.specs.Prelude.{MatchOption, IsTrue, IsSome, IfSome};
 ghost use Rattle.fb_syntax.specs.Integers.{is_integer, is_prefixed, without_sign, digit_value, digits_value};
-ghost use Rattle.fb_syntax.specs.Integers.{magnitude, is_negative, signed_value, number_of, greatest_magnitude, IsInteger};
+ghost use Rattle.fb_syntax.specs.Integers.{magnitude, is_negative, signed_value, number_of};
+ghost use Rattle.fb_syntax.specs.Integers.{greatest_magnitude, IsInteger};
 ghost use Rattle.fb_syntax.specs.scan.NumberLen.{number_len};
 
 use crate::bytes::{digit_run, hex_run, is_hex, is_sign};

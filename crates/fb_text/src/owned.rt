@@ -117,6 +117,11 @@ impl Shown for ValueEntry<'_> {
     }
 
     #[inline]
+    fn next_printed(self, _defaults: bool, from: usize, _end: usize) -> usize {
+        from
+    }
+
+    #[inline]
     fn count(self) -> usize {
         match self.0 {
             Some(value) => count_of(value),
@@ -130,6 +135,11 @@ impl Shown for ValueEntry<'_> {
             Some(value) => children_of(value),
             None => 0,
         }
+    }
+
+    #[inline]
+    fn next_searched(&self, from: usize, _end: usize) -> usize {
+        from
     }
 
     #[inline]

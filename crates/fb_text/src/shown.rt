@@ -50,6 +50,16 @@ pub(crate) trait Shown: Copy {
             → slice_get (slots_in (body_at L.schema t)) k ≡ Some f
             → is_entry_printed defaults f (nth_entry es k) ≡ false };
 
+    /// The first of a table's slots, from a slot on, that may be printed; the end where none before it is.
+    fn next_printed(self, defaults: bool, from: usize, end: usize) -> usize
+        requires within { from ≤ end }
+        ensures from { from ≤ result }
+        ensures within { result ≤ end }
+        ensures unprinted { (L : LaidSchema) (t : ℕ) (es : SlotEntries) (k : ℕ) (f : DeclaredField)
+            → shows self L (Some (a_table t es)) → from ≤ k → k < result
+            → slice_get (slots_in (body_at L.schema t)) k ≡ Some f
+            → is_entry_printed defaults f (nth_entry es k) ≡ false };
+
     /// How many elements a vector has.
     fn count(self) -> usize
         ensures few { result ≤ width self }
@@ -62,6 +72,15 @@ pub(crate) trait Shown: Copy {
         ensures heavy { 0 < result → 0 < weight self.now }
         ensures behind { (L : LaidSchema) (o : Option Datum) (at : Place) → shows self.now L o
             → unnamed_from at o result ≡ None };
+
+    /// The first child, from a child on, where something is stored; the end where none before it has. None that
+    /// it passes by is such a union or has one in it.
+    fn next_searched(&self, from: usize, end: usize) -> usize
+        requires within { from ≤ end }
+        ensures from { from ≤ result }
+        ensures within { result ≤ end }
+        ensures named { (L : LaidSchema) (o : Option Datum) (at : Place) (k : ℕ) → shows self.now L o → from ≤ k
+            → k < result → first_in_entry at (nth_child o k) ≡ None };
 
     /// Whether a child may be such a union or have one in it, by its type.
     fn is_searched(&self, i: usize) -> bool

@@ -51,6 +51,14 @@ impl Shown for Entry<'_> {
     }
 
     #[inline]
+    fn next_printed(self, defaults: bool, from: usize, end: usize) -> usize {
+        match self {
+            Entry::Table(view) if !defaults => view.next_stored(from, end),
+            _ => from,
+        }
+    }
+
+    #[inline]
     fn count(self) -> usize {
         match self {
             Entry::Vector(items) => items.count() as usize,
@@ -69,6 +77,14 @@ impl Shown for Entry<'_> {
             },
             Entry::Fixed(_) => 0,
             Entry::Absent | Entry::Number(_) | Entry::Text(_) | Entry::Unknown(_) => 0,
+        }
+    }
+
+    #[inline]
+    fn next_searched(&self, from: usize, end: usize) -> usize {
+        match self {
+            Entry::Table(view) => view.next_stored(from, end),
+            _ => from,
         }
     }
 

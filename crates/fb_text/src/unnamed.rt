@@ -31,14 +31,16 @@ pub(crate) fn first_unnamed<S: Shown>(place: Place, shown: S) -> Option<Place>
     if let Found::Unknown = found {
         return Some(place);
     }
-    for i in 0..shown.searched() {
-        if !shown.is_searched(i) {
-            continue;
+    let end = shown.searched();
+    let mut i = shown.next_searched(0, end);
+    while i < end {
+        if shown.is_searched(i) {
+            let unnamed = first_unnamed(place_in(place, found, i), shown.child(i));
+            if unnamed.is_some() {
+                return unnamed;
+            }
         }
-        let unnamed = first_unnamed(place_in(place, found, i), shown.child(i));
-        if unnamed.is_some() {
-            return unnamed;
-        }
+        i = shown.next_searched(i + 1, end);
     }
     None
 }

@@ -133,11 +133,14 @@ fn put_table<W: Write, S: Shown>(
     let slots = style.layout.slots_of(owner);
     out.put_str("{");
     let mut some = false;
-    for k in 0..shown.printed_slots(style.defaults, slots.len()) {
+    let end = shown.printed_slots(style.defaults, slots.len());
+    let mut k = shown.next_printed(style.defaults, 0, end);
+    while k < end {
         if out.failed() {
             return; // no more of it is written
         }
         some = put_member(out, style, &inner, some, &slots[k], shown.child(k));
+        k = shown.next_printed(style.defaults, k + 1, end);
     }
     put_closing(out, indent, some);
     out.put_str("}");

@@ -1,8 +1,9 @@
 -- One slot, field or element after the other, as a loop does.
 use Rattle.std.proofs.Common.{◌≡◌, ◌∙◌, ℕ, suc, ◌+◌, ◌<◌, ◌≤◌, List, [], ◌∷◌, ◌++◌, length, map, drop, get_or, Option}
-use Rattle.std.proofs.Common.{Result, Ok, Err, refl, ap, sym, subst, add-one}
+use Rattle.std.proofs.Common.{Some, option_map, slice_get, Result, Ok, Err, refl, ap, sym, subst, add-one}
 use Rattle.std.proofs.Math.Seq.{drop-cons}
 use Rattle.std.proofs.lemmas.List.{drop_all, append_assoc, append-nil}
+use Rattle.std.proofs.lemmas.Option.{slice_get-map, slice_get-get_or}
 use Rattle.serde_json.specs.declared.value.Value.{Value as Json}
 use Rattle.serde_json.specs.View.{items_view}
 use Rattle.fb_schema.specs.declared.types.FieldInfo.{FieldInfo}
@@ -59,6 +60,13 @@ drop_at : {A : Type 0} (xs : List A) (k : ℕ) (x : A) → k < length xs → x �
     → drop k xs ≡ x ∷ drop (k + 1) xs
 drop_at xs k x h is = let there : drop k xs ≡ get_or xs k x ∷ drop (k + 1) xs = rw (add-one, drop-cons xs k x) refl in
     there ∙ ap (λ y. y ∷ drop (k + 1) xs) (sym is)
+
+-- what is declared of the slot at a place
+pub slot_at : (slots : List FieldInfo) (k : ℕ) (f : FieldInfo) → k < length slots → f ≡ get_or slots k f
+    → slice_get (map field_seen slots) k ≡ Some (field_seen f)
+slot_at slots k f within is =
+    slice_get-map field_seen slots k
+    ∙ ap (option_map field_seen) (slice_get-get_or slots k f within ∙ ap Some (sym is))
 
 module _ (L : LaidSchema) (look : Look) (t : ℕ) (slots : List FieldInfo) (k : ℕ) (f : FieldInfo)
     (within : k < length slots) (is : f ≡ get_or slots k f) where

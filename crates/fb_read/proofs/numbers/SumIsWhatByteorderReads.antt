@@ -8,7 +8,7 @@ use Rattle.std.specs.Int.{w16, w32, w64, cast_signed}
 use Rattle.fb_value.specs.Num.{Bytes, num, signed}
 
 -- the lowest byte, and the others
-lowest : (b : Bytes) (p n : ℕ) → num b p (suc n) ≡ slice_index b p + 256 * num b (p + 1) n
+pub lowest : (b : Bytes) (p n : ℕ) → num b p (suc n) ≡ slice_index b p + 256 * num b (p + 1) n
 unfolding num
 lowest b p zero = rw add-zero (omega arith)
 lowest b p (suc n) =

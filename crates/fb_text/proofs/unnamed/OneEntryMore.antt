@@ -1,5 +1,6 @@
 -- The first union without a name, one entry after another.
-use Rattle.std.proofs.Common.{◌≡◌, ℕ, zero, suc, ◌+◌, ◌≤◌, List, [], ◌∷◌, slice_get, ℤ, Bool, true, false, Option, None}
+use Rattle.std.proofs.Common.{◌≡◌, ℕ, zero, suc, ◌+◌, ◌<◌, ◌≤◌, List, [], ◌∷◌, slice_get, ℤ, Bool, true}
+use Rattle.std.proofs.Common.{false, Option, None}
 use Rattle.std.proofs.Common.{Some, refl, sym, ap, ◌∙◌, add-one, arith}
 use Rattle.std.specs.Option.{option_or, is_some}
 use Rattle.fb_layout.specs.Laid.{LaidSchema, StoredKind, scalar_kind, struct_kind, table_kind, text_kind, union_kind}
@@ -61,6 +62,20 @@ entries_end L b t j (suc k) (f ∷ fs) (x ∷ xs) (present_entry d es) lies unse
     entries_end L b t j k fs xs es lies.1 (λ i s past there. unset (suc i) s (omega (arith, past)) there)
 entries_end L b t j k _ _ _ lies unset = absurd lies
 
+-- a slot that has its default alone
+pub unset_named : (L : LaidSchema) (b : Bytes) (at : Place) (k : ℕ) (fs : List Slot) (xs : List (Option Spot))
+    (es : SlotEntries) → LiesSlots L b fs xs es
+    → ((s : Slot) → slice_get fs k ≡ Some s → nth_entry es k ≡ number_entry s.if_absent)
+    → None ≡ first_in_entry at (nth_entry es k)
+unset_named L b at k [] [] no_entries lies unset = refl
+unset_named L b at zero (f ∷ fs) (x ∷ xs) es lies unset =
+    number_named at (nth_entry es zero) f.if_absent (unset f refl)
+unset_named L b at (suc k) (f ∷ fs) (x ∷ xs) (absent_entry es) lies unset =
+    unset_named L b at k fs xs es lies.1 unset
+unset_named L b at (suc k) (f ∷ fs) (x ∷ xs) (present_entry d es) lies unset =
+    unset_named L b at k fs xs es lies.1 unset
+unset_named L b at k _ _ _ lies unset = absurd lies
+
 pub parts_end : (at : Place) (i : ℕ) (ds : Parts) → count ds ≤ i → None ≡ first_in_parts at (parts_from i ds)
 parts_end at zero no_parts past = refl
 parts_end at (suc i) no_parts past = refl
@@ -99,6 +114,16 @@ children_step at o i = rw add-one (step o i)
     step (Some (a_member c d)) zero = or_nothing (first_unnamed at d)
     step (Some (a_member c d)) (suc k) = refl
     step (Some (an_unknown c)) k = refl
+
+-- children that have none, passed by
+pub children_skip : (at : Place) (o : Option Datum) (n i j : ℕ) → i + n ≡ j
+    → ((k : ℕ) → i ≤ k → k < j → first_in_entry (child_place at o k) (nth_child o k) ≡ None)
+    → unnamed_from at o j ≡ unnamed_from at o i
+children_skip at o zero i j sum none = let same : i ≡ j = omega (arith, sum) in rw same refl
+children_skip at o (suc n) i j sum none =
+    let here = none i (omega arith) (omega (arith, sum)) in
+    children_skip at o n (i + 1) j (omega (arith, sum)) (λ k past less. none k (omega (arith, past)) less)
+    ∙ (ap (λ (p : Option Place). option_or p (unnamed_from at o (i + 1))) (sym here) ∙ sym (children_step at o i))
 
 found_unknown : (found : Found) (code : ℕ) → IsTop found (Some (an_unknown code)) → found ≡ Unknown
 found_unknown Absent code top = cc

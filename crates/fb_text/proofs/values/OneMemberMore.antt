@@ -1,6 +1,7 @@
 -- The text of a list of members, fields or elements, one by one.
-use Rattle.std.proofs.Common.{◌≡◌, ℕ, zero, suc, ◌≤◌, ◌++◌, ◌||◌, List, [], ◌∷◌, length, drop, slice_get, Bool, true}
-use Rattle.std.proofs.Common.{false, Some, refl, sym, subst, ◌∙◌, append_assoc, arith}
+use Rattle.std.proofs.Common.{◌≡◌, ℕ, zero, suc, ◌+◌, ◌<◌, ◌≤◌, ◌++◌, ◌||◌, List, [], ◌∷◌, length, drop}
+use Rattle.std.proofs.Common.{slice_get, Bool, true}
+use Rattle.std.proofs.Common.{false, Option, None, Some, refl, sym, subst, ◌∙◌, append_assoc, arith}
 use Rattle.std.specs.Prelude.{codes, is_some}
 use Rattle.fb_schema.specs.declared.kinds.Kind.{Kind}
 use Rattle.fb_schema.specs.declared.kinds.Shape.{Shape}
@@ -18,6 +19,11 @@ use Rattle.fb_text.specs.Printed.{is_entry_printed, slot_text, part_text}
 or_false : (some : Bool) → (some || false) ≡ some
 or_false true = refl
 or_false false = refl
+
+field_there : (fs : List DeclaredField) (k : ℕ) → k < length fs → (f : DeclaredField) × (slice_get fs k ≡ Some f)
+field_there [] k less = absurd (omega (arith, less))
+field_there (f ∷ fs) zero less = (f, refl)
+field_there (f ∷ fs) (suc k) less = field_there fs k (omega (arith, less))
 
 module _ (L : LaidSchema) (defaults : Bool) (inner indent : List ℕ) where
   -- where no entries are left the bracket is closed
@@ -74,6 +80,34 @@ module _ (L : LaidSchema) (defaults : Bool) (inner indent : List ℕ) where
       members_behind some fs es k (λ j g past there. none (suc j) g (omega (arith, past)) there)
   members_behind some (f ∷ fs) (present_entry d es) (suc k) none =
       members_behind some fs es k (λ j g past there. none (suc j) g (omega (arith, past)) there)
+
+  unprinted_text : (some : Bool) (f : DeclaredField) (o : Option Datum) (fs : List DeclaredField) (es : SlotEntries)
+      → is_entry_printed defaults f o ≡ false → members_text L defaults inner indent some fs es
+      ≡ slot_text L defaults inner some f o ++ members_text L defaults inner indent
+      (some || is_entry_printed defaults f o) fs es
+  unprinted_text some f None fs es plain = rw (or_false some) refl
+  unprinted_text some f (Some d) fs es plain =
+      subst (λ (p : Bool). members_text L defaults inner indent some fs es ≡ entry_text L.schema p inner some f.name
+      f.shape d (value_text L defaults inner f.shape d) ++ members_text L defaults inner indent (some || p) fs es)
+      (sym plain)
+      (subst (λ (q : Bool). members_text L defaults inner indent some fs es
+      ≡ members_text L defaults inner indent q fs es) (sym (or_false some)) refl)
+
+  -- slots that aren't printed, passed by
+  pub members_skip : (some : Bool) (fs : List DeclaredField) (es : SlotEntries) (n k j : ℕ) → k + n ≡ j
+      → j ≤ length fs
+      → ((i : ℕ) (f : DeclaredField) → k ≤ i → i < j → slice_get fs i ≡ Some f
+      → is_entry_printed defaults f (nth_entry es i) ≡ false)
+      → members_text L defaults inner indent some (drop j fs) (entries_from j es)
+      ≡ members_text L defaults inner indent some (drop k fs) (entries_from k es)
+  members_skip some fs es zero k j sum within none = let same : k ≡ j = omega (arith, sum) in rw same refl
+  members_skip some fs es (suc n) k j sum within none =
+      let here = field_there fs k (omega (arith, sum, within)) in
+      let plain = none k here.0 (omega arith) (omega (arith, sum)) here.1 in
+      members_skip some fs es n (suc k) j (omega (arith, sum)) within
+      (λ i f past less there. none i f (omega (arith, past)) less there)
+      ∙ (unprinted_text some here.0 (nth_entry es k) (drop (suc k) fs) (entries_from (suc k) es) plain
+      ∙ members_step some fs es k here.0 here.1)
 
   parts_none : (some : Bool) (fs : List DeclaredField)
       → parts_text L defaults inner indent some fs no_parts ≡ closing indent some ++ codes "}"

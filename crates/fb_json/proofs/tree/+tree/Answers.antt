@@ -1,4 +1,4 @@
-use Rattle.std.proofs.Common.{◌≡◌, ◌∙◌, ◌++◌, ◌∷◌, ◌≤◌, [], refl, sym, length, map, option_map, arith}
+use Rattle.std.proofs.Common.{rules, ◌≡◌, ◌∙◌, ◌++◌, ◌∷◌, ◌≤◌, [], refl, sym, length, map, option_map, arith}
 use Rattle.std.proofs.lemmas.Result.{err_from_is_err_and}
 use Rattle.std.proofs.lemmas.List.{map_push}
 use Rattle.serde_json.specs.View.{members_view}
@@ -6,11 +6,25 @@ use Rattle.serde_json.proofs.Views.{view-Array}
 use Rattle.fb_schema.specs.Seen.{field_seen}
 use Rattle.fb_value.specs.View.{view}
 use Rattle.fb_json.specs.Meant.{look, slot_place, entry_meant, part_meant}
-use Rattle.fb_json.proofs.members.MapFindsTheMembers.{found_some, found_none}
-use Rattle.fb_json.proofs.tree.OneSlotOrFieldMore.{fails_is, fails_by, slots_next, slots_untold, slots_ungiven}
+use Rattle.fb_json.proofs.members.MapFindsTheMembers.{found_some, found_none, looked_none}
+use Rattle.fb_json.proofs.tree.OneSlotOrFieldMore.{slot_at, fails_is, fails_by, slots_next, slots_untold, slots_ungiven}
 use Rattle.fb_json.proofs.tree.OneSlotOrFieldMore.{slots_end, parts_next, parts_ungiven, parts_end, counted}
 use Rattle.fb_json.proofs.tree.EntryIsWhatTheLookUpFinds.{entry_none, entry_some}
 use Rattle.fb_json.proofs.tree.+tree.Goals as goal
+
+pub entries-code_after-requires : goal.entries-code_after-requires
+entries-code_after-requires t c unmarked =
+    c.requires.marks c.loop-k.k (field_seen c.index-slots-k.result)
+    (slot_at c.args.slots.now c.loop-k.k c.index-slots-k.result c.loop-k-test.true c.index-slots-k.is)
+    (sym c.is_marked-marked.ensures ∙ unmarked)
+
+pub entries-entry-requires : goal.entries-entry-requires
+entries-entry-requires t c = (
+  search rules,
+  λ unmarked. c.requires.marks c.loop-k.k (field_seen c.index-slots-k.result)
+      (slot_at c.args.slots.now c.loop-k.k c.index-slots-k.result c.loop-k-test.true c.index-slots-k.is)
+      (sym c.is_marked-marked.ensures ∙ unmarked),
+)
 
 pub entries-returns-in_err-code : goal.entries-returns-in_err-code
 entries-returns-in_err-code t c =
@@ -115,5 +129,13 @@ entry-returns-in-None t c =
     let L = c.args.source.layout.now in
     let seen = found_none L c.args.source.unknown _ _ c.args.members.now c.get.result c.as_str.ensures.value
     c.get.ensures.value c.in-None.is in
+    rw (entry_none L _ (field_seen c.args.slot.now) c.args.place c.args.code c.args.levels c.args.left c.if-slot.false
+    seen) (c.without-in-None.ensures L c.args.levels)
+
+pub entry-returns-then-not-marked : goal.entry-returns-then-not-marked
+entry-returns-then-not-marked t c =
+    let L = c.args.source.layout.now in
+    let seen = looked_none L c.args.source.unknown (members_view c.args.members.now.entries)
+    (field_seen c.args.slot.now).name (c.requires c.if-not-marked.true) in
     rw (entry_none L _ (field_seen c.args.slot.now) c.args.place c.args.code c.args.levels c.args.left c.if-slot.false
     seen) (c.without.ensures L c.args.levels)

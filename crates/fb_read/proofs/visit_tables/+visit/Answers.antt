@@ -271,15 +271,15 @@ visit_slot-returns-in-One-Struct-clause-each t c =
     inline_slot_entered L b f (struct_kind c.in-One-Struct.structure.0) (c.args.table.at
     + c.held_slot-offset.result) o (rw named at lies) in omega (arith, free))
 
-pub visit_slots-loop-slot-preserved-then-is_settled_number : goal.visit_slots-loop-slot-preserved-then-is_settled_number
-visit_slots-loop-slot-preserved-then-is_settled_number t c =
+pub visit_slots-loop-slot-preserved-then-is_settled : goal.visit_slots-loop-slot-preserved-then-is_settled
+visit_slots-loop-slot-preserved-then-is_settled t c =
     let L = c.args.source.now.layout.now in
     let b = c.args.source.now.bytes.now in
     let most : Bounds = record { depth = c.args.source.now.most_depth; cells = c.args.source.now.most_cells } in
     let rest = slots_seen L (drop (c.loop-slot.slot + 1) c.args.slots.now) in
-    let fine = c.is_settled_number.ensures.visit c.if-is_settled_number.true rest c.args.tables c.loop-slot.walk.spent
+    let fine = c.is_settled.ensures.visit c.if-is_settled.true rest c.args.tables c.loop-slot.walk.spent
     in
-    let still = c.is_settled_number.ensures.each c.if-is_settled_number.true rest c.loop-slot.walk.ticks in
+    let still = c.is_settled.ensures.each c.if-is_settled.true rest c.loop-slot.walk.ticks in
     let less : c.loop-slot.slot < length c.args.slots.now =
     omega (arith, c.loop-slot-test.true, c.stored_slots-present.ensures.few) in
     record {

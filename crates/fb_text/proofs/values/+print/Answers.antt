@@ -1,5 +1,6 @@
-use Rattle.std.proofs.Common.{◌≡◌, suc, true, min, ◌+◌, ◌-◌, ◌^◌, ◌<◌, ◌++◌, [], slice_index, slice_index_or}
-use Rattle.std.proofs.Common.{append-nil, Option, Some, length, map, sym, subst, ap, ◌∙◌, add-one, arith}
+use Rattle.std.proofs.Common.{◌≡◌, suc, true, false, min, ◌+◌, ◌-◌, ◌^◌, ◌<◌, ◌≤◌, ◌++◌, []}
+use Rattle.std.proofs.Common.{slice_index, slice_index_or, append-nil, Option, Some, length, map, sym, subst, ap}
+use Rattle.std.proofs.Common.{◌∙◌, add-one, arith}
 use Rattle.fb_schema.specs.Schema.{body_at, slots_in}
 use Rattle.fb_schema.specs.Seen.{field_seen}
 use Rattle.fb_value.specs.Datum.{Datum, a_table, a_member, a_struct, a_vector, count}
@@ -13,7 +14,7 @@ use Rattle.fb_text.proofs.noted.PiecesAddUp.{then, added_as, added_failed}
 use Rattle.fb_text.proofs.nested.StructStandsInItsParent.{outermost_stands, stands_deeper, few_bytes}
 use Rattle.fb_text.proofs.values.NestedStructIsAField.{fields_next}
 use Rattle.fb_text.proofs.values.NestedStructIsAField.{struct_first}
-use Rattle.fb_text.proofs.values.OneMemberMore.{members_step, members_behind, items_step, items_end}
+use Rattle.fb_text.proofs.values.OneMemberMore.{members_skip, members_step, members_behind, items_step, items_end}
 use Rattle.fb_text.proofs.values.OneMemberMore.{table_text}
 use Rattle.fb_text.proofs.values.MemberIsItsCodeAndValue.{seen_there, seen_long, part_there, entry_added}
 use Rattle.fb_text.proofs.values.+print.Goals as goal
@@ -148,38 +149,6 @@ put_fields-returns-in-loop-fields-clause-text g t c root ds es behind at =
           (then line (then c.put_str.ensures adds))),
     )
 
-pub put_table-loop-k-preserved : goal.put_table-loop-k-preserved
-put_table-loop-k-preserved g t c es lies end rest =
-    let L = c.args.style.layout.now in
-    let k = c.loop-k.k in
-    let there = nth_entry es k in
-    let f = field_seen c.index-slots-k.result in
-    let fs = map field_seen c.slots_of-slots.result.now in
-    let shows = c.child.ensures.shows L (Some (a_table c.args.owner.0 es)) lies in
-    let less : k < length c.slots_of-slots.result.now =
-    omega (arith, c.loop-k-test.true, c.printed_slots-k-end.ensures.few) in
-    let step = members_step L c.args.style.defaults (blanks c.inside-inner.result) (blanks c.args.indent.now)
-    c.loop-k.some fs es k f
-    (seen_there c.slots_of-slots.result.now k c.index-slots-k.result less c.index-slots-k.is) in
-    c.loop-k.invariant es lies end
-    (added_as step (then (c.put_member-some.ensures.text there shows)
-    (rw (c.put_member-some.ensures.some there shows, add-one) at rest)))
-
-pub put_table-returns : goal.put_table-returns
-put_table-returns g t c shape es lies =
-    let L = c.args.style.layout.now in
-    let fs = map field_seen c.slots_of-slots.result.now in
-    let seen : fs ≡ slots_in (body_at L.schema c.args.owner.0) = c.slots_of-slots.ensures.slots in
-    let long : length c.slots_of-slots.result.now ≡ length (slots_in (body_at L.schema c.args.owner.0)) =
-    sym (seen_long c.slots_of-slots.result.now) ∙ ap length seen in
-    let end = members_behind L c.args.style.defaults (blanks c.inside-inner.result) (blanks c.args.indent.now)
-    c.loop-k.some fs es c.loop-k.k
-    (λ j f past there. c.printed_slots-k-end.ensures.behind L c.args.owner.0 es j f lies long
-    (omega (arith, past, c.loop-k-test.false)) (rw seen at there)) in
-    let all = c.loop-k.invariant es lies _ (added_as end (then c.put_closing.ensures c.put_str-2.ensures)) in
-    added_as (table_text L c.args.style.defaults (blanks c.inside-inner.result) (blanks c.args.indent.now) shape
-    c.args.owner.0 es) (then c.put_str.ensures (rw (c.inside-inner.ensures, seen) at all))
-
 pub put_found-returns-in-Table : goal.put_found-returns-in-Table
 put_found-returns-in-Table g t c d shows found =
     let top = rw c.in-Table.is at found in
@@ -199,13 +168,74 @@ put_vector-returns-then-failed g t c ds lies =
     let left = added_failed _ _ (sym c.failed.ensures ∙ c.if-failed.true) in
     then c.put_str.ensures (rw c.inside-inner.ensures at (c.loop-i.invariant ds lies _ left))
 
+pub put_table-loop-k-init : goal.put_table-loop-k-init
+put_table-loop-k-init g t c = record {
+  within = c.next_printed-k.ensures.within;
+  text = λ es lies end rest.
+      let L = c.args.style.layout.now in
+      let slots = c.slots_of-slots.result.now in
+      let fs = map field_seen slots in
+      let seen : fs ≡ slots_in (body_at L.schema c.args.owner.0) = c.slots_of-slots.ensures.slots in
+      let k = c.next_printed-k.result in
+      let within : k ≤ length fs =
+      omega (arith, c.next_printed-k.ensures.within, c.printed_slots-end.ensures.few, seen_long slots) in
+      added_as (members_skip L c.args.style.defaults (blanks c.inside-inner.result) (blanks c.args.indent.now) false fs
+      es k 0 k (omega arith) within
+      (λ i f low past there. c.next_printed-k.ensures.unprinted L c.args.owner.0 es i f lies low past
+      (rw seen at there))) rest;
+}
+
+pub put_table-loop-k-preserved : goal.put_table-loop-k-preserved
+put_table-loop-k-preserved g t c = record {
+  within = c.next_printed-k-in-loop-k.ensures.within;
+  text = λ es lies end rest.
+      let L = c.args.style.layout.now in
+      let slots = c.slots_of-slots.result.now in
+      let fs = map field_seen slots in
+      let seen : fs ≡ slots_in (body_at L.schema c.args.owner.0) = c.slots_of-slots.ensures.slots in
+      let k = c.loop-k.k in
+      let next = c.next_printed-k-in-loop-k.result in
+      let inner = blanks c.inside-inner.result in
+      let there = nth_entry es k in
+      let f = field_seen c.index-slots-k.result in
+      let shows = c.child.ensures.shows L (Some (a_table c.args.owner.0 es)) lies in
+      let less : k < length slots = omega (arith, c.loop-k-test.true, c.printed_slots-end.ensures.few) in
+      let far : suc k + (next - suc k) ≡ next = omega (arith, c.next_printed-k-in-loop-k.ensures.from) in
+      let within : next ≤ length fs =
+      omega (arith, c.next_printed-k-in-loop-k.ensures.within, c.printed_slots-end.ensures.few, seen_long slots) in
+      let skip = members_skip L c.args.style.defaults inner (blanks c.args.indent.now) c.put_member-some.result fs es
+      (next - suc k) (suc k) next far within
+      (λ i g low past found. c.next_printed-k-in-loop-k.ensures.unprinted L c.args.owner.0 es i g lies
+      (omega (arith, low)) past (rw seen at found)) in
+      let step = members_step L c.args.style.defaults inner (blanks c.args.indent.now) c.loop-k.some fs es k f
+      (seen_there slots k c.index-slots-k.result less c.index-slots-k.is) in
+      c.loop-k.invariant.text es lies end
+      (added_as step (then (c.put_member-some.ensures.text there shows)
+      (rw (c.put_member-some.ensures.some there shows) at (added_as skip rest))));
+}
+
+pub put_table-returns : goal.put_table-returns
+put_table-returns g t c shape es lies =
+    let L = c.args.style.layout.now in
+    let fs = map field_seen c.slots_of-slots.result.now in
+    let seen : fs ≡ slots_in (body_at L.schema c.args.owner.0) = c.slots_of-slots.ensures.slots in
+    let long : length c.slots_of-slots.result.now ≡ length (slots_in (body_at L.schema c.args.owner.0)) =
+    sym (seen_long c.slots_of-slots.result.now) ∙ ap length seen in
+    let end = members_behind L c.args.style.defaults (blanks c.inside-inner.result) (blanks c.args.indent.now)
+    c.loop-k.some fs es c.loop-k.k
+    (λ j f past there. c.printed_slots-end.ensures.behind L c.args.owner.0 es j f lies long
+    (omega (arith, past, c.loop-k-test.false)) (rw seen at there)) in
+    let all = c.loop-k.invariant.text es lies _ (added_as end (then c.put_closing.ensures c.put_str-2.ensures)) in
+    added_as (table_text L c.args.style.defaults (blanks c.inside-inner.result) (blanks c.args.indent.now) shape
+    c.args.owner.0 es) (then c.put_str.ensures (rw (c.inside-inner.ensures, seen) at all))
+
 pub put_table-returns-then-failed : goal.put_table-returns-then-failed
 put_table-returns-then-failed g t c shape es lies =
     let L = c.args.style.layout.now in
     let left = added_failed _ _ (sym c.failed.ensures ∙ c.if-failed.true) in
     added_as (table_text L c.args.style.defaults (blanks c.inside-inner.result) (blanks c.args.indent.now) shape
     c.args.owner.0 es) (then c.put_str.ensures
-    (rw (c.inside-inner.ensures, c.slots_of-slots.ensures.slots) at (c.loop-k.invariant es lies _ left)))
+    (rw (c.inside-inner.ensures, c.slots_of-slots.ensures.slots) at (c.loop-k.invariant.text es lies _ left)))
 
 pub put_vector-loop-i-preserved : goal.put_vector-loop-i-preserved
 put_vector-loop-i-preserved g t c ds lies end rest =

@@ -35,14 +35,19 @@ decreases-put_vector g l = 8 * g.S.Shown.weight l.shown
 
 -- What adds the rest adds, with what was added, all of it.
 abbrev pub invariant-put_table-loop-k : goal.invariant-put_table-loop-k
-invariant-put_table-loop-k g l =
-    (es : SlotEntries) → g.S.Shown.shows l.shown l.style.layout.now (Some (a_table l.fn.owner.0 es)) → (end : State)
-    → Adds (state_of g.W.Write.contents l.out) end
-    (members_text l.style.layout.now l.style.defaults (blanks l.inner) (blanks l.indent) l.some
-    (drop l.k (map field_seen l.slots)) (entries_from l.k es))
-    → Adds (state_of g.W.Write.contents l.initial.out) end
-    (members_text l.style.layout.now l.style.defaults (blanks l.inner) (blanks l.indent) false (map field_seen l.slots)
-    es)
+invariant-put_table-loop-k g l = record {
+  within : l.k ≤ l.end;
+  text : (es : SlotEntries) → g.S.Shown.shows l.shown l.style.layout.now (Some (a_table l.fn.owner.0 es))
+      → (end : State) → Adds (state_of g.W.Write.contents l.out) end
+      (members_text l.style.layout.now l.style.defaults (blanks l.inner) (blanks l.indent) l.some
+      (drop l.k (map field_seen l.slots)) (entries_from l.k es))
+      → Adds (state_of g.W.Write.contents l.initial.out) end
+      (members_text l.style.layout.now l.style.defaults (blanks l.inner) (blanks l.indent) false
+      (map field_seen l.slots) es);
+}
+
+abbrev pub decreases-put_table-loop-k : goal.decreases-put_table-loop-k
+decreases-put_table-loop-k g l = l.end - l.k
 
 abbrev pub invariant-put_struct-loop-structure : goal.invariant-put_struct-loop-structure
 invariant-put_struct-loop-structure g l = record {

@@ -1,0 +1,2 @@
+-- What the proofs of src/marks.rt use.
+pub mod NamedSlotIsMarked

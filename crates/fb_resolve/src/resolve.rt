@@ -1,0 +1,226 @@
+//! Each name and attribute in the declarations of types looked up once.
+ghost use Rattle.std.specs.Prelude.{◌≡◌, IfOk};
+ghost use Rattle.std.specs.List.{AllZip};
+ghost use Rattle.std.specs.Option.{ForSome, option_copied};
+ghost use Rattle.std.specs.Prelude.{All};
+ghost use Rattle.fb_scopes.specs.Scopes.{tree_of, names_of, AreScopes};
+ghost use Rattle.fb_resolve.specs.Outline.{outline_of};
+ghost use Rattle.fb_resolve.specs.Scopes.{words_of_scope, paths_of_types};
+ghost use Rattle.fb_resolve.specs.Uses.{uses_of_fields, uses_of_members, uses_of, IsUse, AreUses};
+ghost use Rattle.fb_resolve.specs.Paths.{IsPath};
+ghost use Rattle.fb_resolve.specs.Scope.{IsScope};
+ghost use Rattle.fb_resolve.specs.Resolved.{resolved_fields, resolved_table, resolved_enum, resolved_members};
+ghost use Rattle.fb_resolve.specs.Resolved.{resolved_union, resolved_declaration, resolved_types};
+ghost use Rattle.fb_resolve.specs.Resolved.{meaning_of_root};
+
+use crate::attributes::{Known, field_attributes, number_called};
+use crate::enums::has_flags;
+use crate::meanings::Meaning;
+use crate::outline::{Outline, RootRead, TypeRead};
+use crate::paths::Paths;
+use crate::resolved::{
+    ResolvedDecl, ResolvedEnum, ResolvedField, ResolvedMember, ResolvedTable, ResolvedType,
+    ResolvedUnion,
+};
+use crate::scope::Scope;
+use fb_scopes::Scopes;
+use fb_syntax::{Decls, EnumDecl, Field, TableDecl, TypeDecl, UnionDecl, UnionMember};
+use std::alloc::{AllocError, Global};
+
+impl<'t, 'd, 's> Scope<'_, 't, 'd, 's> {
+    fn resolved_fields(
+        self,
+        alloc: Global,
+        fields: &'d [Field<'s>],
+    ) -> Result<Vec<ResolvedField<'d, 's>>, AllocError>
+        requires scope { IsScope self }
+        requires used { AreUses (names_of self.scopes.now) (uses_of_fields fields.now) }
+        ensures { IfOk result (λ v. v.items
+            ≡ resolved_fields self.entry.types.now (option_copied self.entry.name) fields.now) }
+    {
+        let mut resolved = Vec::with_capacity(alloc, fields.len())?;
+        for field in fields {
+            let meaning = self.meaning_in(&field.kind);
+            let attributes = field_attributes(field.attributes.as_slice());
+            resolved.push(ResolvedField {
+                field,
+                meaning,
+                attributes,
+            })?;
+        }
+        Ok(resolved)
+    }
+
+    fn resolved_table(
+        self,
+        alloc: Global,
+        declared: &'d TableDecl<'s>,
+    ) -> Result<ResolvedTable<'d, 's>, AllocError>
+        requires scope { IsScope self }
+        requires used { AreUses (names_of self.scopes.now) (uses_of_fields declared.now.fields) }
+        ensures { IfOk result (λ t. t
+            ≡ resolved_table self.entry.types.now (option_copied self.entry.name) declared.now) }
+    {
+        let fields = self.resolved_fields(alloc, declared.fields.as_slice())?;
+        let force_align = number_called(Known::ForceAlign, declared.attributes.as_slice());
+        Ok(ResolvedTable {
+            declared,
+            fields,
+            force_align,
+        })
+    }
+
+    fn resolved_enum(self, declared: &'d EnumDecl<'s>) -> ResolvedEnum<'d, 's>
+        requires scope { IsScope self }
+        requires used { IsUse (names_of self.scopes.now) declared.now.underlying.bytes }
+        ensures { result
+            ≡ resolved_enum self.entry.types.now (option_copied self.entry.name) declared.now }
+    {
+        let underlying = self.meaning(declared.underlying.as_str());
+        ResolvedEnum {
+            declared,
+            underlying,
+            bit_flags: has_flags(declared),
+        }
+    }
+
+    fn resolved_members(
+        self,
+        alloc: Global,
+        members: &'d [UnionMember<'s>],
+    ) -> Result<Vec<ResolvedMember<'d, 's>>, AllocError>
+        requires scope { IsScope self }
+        requires used { AreUses (names_of self.scopes.now) (uses_of_members members.now) }
+        ensures { IfOk result (λ v. v.items
+            ≡ resolved_members self.entry.types.now (option_copied self.entry.name) members.now) }
+    {
+        let mut resolved = Vec::with_capacity(alloc, members.len())?;
+        for member in members {
+            let meaning = self.meaning(member.table.as_str());
+            resolved.push(ResolvedMember { member, meaning })?;
+        }
+        Ok(resolved)
+    }
+
+    fn resolved_union(
+        self,
+        alloc: Global,
+        declared: &'d UnionDecl<'s>,
+    ) -> Result<ResolvedUnion<'d, 's>, AllocError>
+        requires scope { IsScope self }
+        requires used { AreUses (names_of self.scopes.now) (uses_of_members declared.now.members) }
+        ensures { IfOk result (λ u. u
+            ≡ resolved_union self.entry.types.now (option_copied self.entry.name) declared.now) }
+    {
+        let members = self.resolved_members(alloc, declared.members.as_slice())?;
+        Ok(ResolvedUnion { declared, members })
+    }
+
+    fn resolved_declaration(
+        self,
+        alloc: Global,
+        declaration: &'d TypeDecl<'s>,
+    ) -> Result<ResolvedDecl<'d, 's>, AllocError>
+        requires scope { IsScope self }
+        requires used { AreUses (names_of self.scopes.now) (uses_of declaration.now) }
+        ensures { IfOk result (λ d. d
+            ≡ resolved_declaration self.entry.types.now (option_copied self.entry.name)
+            declaration.now) }
+    {
+        Ok(match declaration {
+            TypeDecl::Table(table) => ResolvedDecl::Table(self.resolved_table(alloc, table)?),
+            TypeDecl::Struct(table) => ResolvedDecl::Struct(self.resolved_table(alloc, table)?),
+            TypeDecl::Enum(declared) => ResolvedDecl::Enum(self.resolved_enum(declared)),
+            TypeDecl::Union(union) => ResolvedDecl::Union(self.resolved_union(alloc, union)?),
+        })
+    }
+}
+
+/// Each type with what the names in its declaration mean, where these are the numbers of the paths
+/// of their namespaces.
+fn resolved_types<'t, 'd, 's>(
+    alloc: Global,
+    types: &'t [TypeRead<'d, 's>],
+    scopes: &Scopes<'d>,
+    numbers: &[usize],
+) -> Result<Vec<ResolvedType<'t, 'd, 's>>, AllocError>
+    requires scopes { AreScopes scopes.now (paths_of_types types.now) }
+    requires numbers { AllZip (λ n r. IsPath (tree_of scopes.now) n (words_of_scope r.scope))
+        numbers.now types.now }
+    requires uses { All (λ r. AreUses (names_of scopes.now) (uses_of r.declaration)) types.now }
+    ensures { IfOk result (λ v. v.items ≡ resolved_types types.now) }
+{
+    let mut resolved = Vec::with_capacity(alloc, types.len())?;
+    for (number, read) in types.iter().enumerate() {
+        let scope = Scope {
+            types,
+            scopes,
+            path: numbers[number],
+            name: read.scope,
+        };
+        let declaration = scope.resolved_declaration(alloc, read.declaration)?;
+        resolved.push(ResolvedType { read, declaration })?;
+    }
+    Ok(resolved)
+}
+
+/// What the root's name means, where this is the number of its namespace's path; nothing that is
+/// known where there is no root.
+fn meaning_of_root<'d>(
+    types: &[TypeRead<'d, '_>],
+    scopes: &Scopes<'d>,
+    number: usize,
+    root: Option<&RootRead<'d, '_>>,
+) -> Meaning
+    requires scopes { AreScopes scopes.now (paths_of_types types.now) }
+    requires number { ForSome (option_copied root)
+        (λ r. IsPath (tree_of scopes.now) number (words_of_scope r.scope)) }
+    requires used { ForSome (option_copied root) (λ r. IsUse (names_of scopes.now) r.name.bytes) }
+    ensures { result ≡ meaning_of_root types.now (option_copied root.entry) }
+{
+    let Some(root) = root else {
+        return Meaning::Unknown;
+    };
+    let scope = Scope {
+        types,
+        scopes,
+        path: number,
+        name: root.scope,
+    };
+    let name = root.name;
+    scope.meaning(name.as_str())
+}
+
+/// The types of a text, and what each name in them and the root's mean.
+#[derive(Drop)]
+pub struct Resolved<'t, 'd, 's> {
+    pub types: Vec<ResolvedType<'t, 'd, 's>>,
+    pub root: Meaning,
+}
+
+impl<'t, 'd, 's> Resolved<'t, 'd, 's> {
+    /// The types of the text of this outline. The only error is a refused allocation.
+    pub fn of(
+        alloc: Global,
+        decls: &'d Decls<'s>,
+        outline: &'t Outline<'d, 's>,
+    ) -> Result<Resolved<'t, 'd, 's>, AllocError>
+        requires { outline.now ≡ outline_of decls.now }
+        ensures types { IfOk result (λ r. r.types.items ≡ resolved_types outline.now.types) }
+        ensures root { IfOk result (λ r. r.root ≡ meaning_of_root outline.now.types outline.now.root) }
+    {
+        let Paths {
+            tree,
+            used,
+            scopes: numbers,
+            full_names,
+            root,
+        } = Paths::of(alloc, decls)?;
+        let scopes = Scopes::of(alloc, tree, used, full_names.as_slice())?;
+        let types = outline.types.as_slice();
+        Ok(Resolved {
+            types: resolved_types(alloc, types, &scopes, numbers.as_slice())?,
+            root: meaning_of_root(types, &scopes, root, outline.root.as_ref()),
+        })
+    }
+}

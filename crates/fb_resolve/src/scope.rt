@@ -1,0 +1,84 @@
+//! What the names of types mean inside a namespace.
+ghost use Rattle.std.specs.Prelude.{◌≡◌, slice_get};
+ghost use Rattle.std.specs.Option.{option_copied};
+ghost use Rattle.fb_scopes.specs.Scopes.{names_of, IsUsed};
+ghost use Rattle.fb_resolve.specs.Scopes.{type_meant};
+ghost use Rattle.fb_resolve.specs.Meaning.{type_name, use_of_read, meaning_of, meaning_in};
+ghost use Rattle.fb_resolve.specs.Uses.{IsUse};
+ghost use Rattle.fb_resolve.specs.Scope.{IsScope};
+
+use crate::basic_types::{basic_type, is_float_type, is_text_type};
+use crate::meanings::{Meaning, type_name};
+use crate::outline::TypeRead;
+use fb_schema::{Kind, TypeId};
+use fb_scopes::Scopes;
+use fb_syntax::{FieldType, TypeDecl};
+
+/// A namespace, by its name and by the number of its path, and the types that names may mean in it.
+#[derive(Clone, Copy)]
+pub(crate) struct Scope<'f, 't, 'd, 's> {
+    pub types: &'t [TypeRead<'d, 's>],
+    pub scopes: &'f Scopes<'d>,
+    pub path: usize,
+    pub name: Option<&'d str>,
+}
+
+impl<'d> Scope<'_, '_, 'd, '_> {
+    /// A use of the type of a number.
+    fn use_of(self, number: usize) -> Meaning
+        ensures { result ≡ use_of_read number (slice_get self.entry.types.now number) }
+    {
+        let Some(read) = self.types.get(number) else {
+            return Meaning::Unknown;
+        };
+        let id = TypeId(number as u64);
+        match read.declaration {
+            TypeDecl::Table(_) => Meaning::Known(Kind::Table(id)),
+            TypeDecl::Struct(_) => Meaning::Known(Kind::Struct(id)),
+            TypeDecl::Enum(_) => Meaning::Known(Kind::Enum(id)),
+            TypeDecl::Union(_) => Meaning::Known(Kind::Union(id)),
+        }
+    }
+
+    /// The number of the type that a used name means.
+    fn type_meant(self, name: &'d str) -> Option<usize>
+        requires scope { IsScope self }
+        requires used { IsUsed (names_of self.scopes.now) name.now }
+        ensures { result ≡ type_meant self.entry.types.now (option_copied self.entry.name) name.now }
+    {
+        self.scopes.meant(self.path, name)
+    }
+
+    /// What a type's name means.
+    #[tactic(auto, unfolding(crate::specs::Meaning::meaning_of))]
+    pub(crate) fn meaning(self, name: &'d str) -> Meaning
+        requires scope { IsScope self }
+        requires used { IsUse (names_of self.scopes.now) name.now }
+        ensures { result
+            ≡ meaning_of self.entry.types.now (option_copied self.entry.name) name.now }
+    {
+        if let Some(base) = basic_type(name) {
+            return Meaning::Known(Kind::Scalar(base));
+        }
+        if is_text_type(name) {
+            return Meaning::Known(Kind::Text);
+        }
+        if is_float_type(name) {
+            return Meaning::Float;
+        }
+        match self.type_meant(name) {
+            Some(number) => self.use_of(number),
+            None => Meaning::Unknown,
+        }
+    }
+
+    /// What the name in a field's type means.
+    pub(crate) fn meaning_in(self, kind: &'d FieldType<'_>) -> Meaning
+        requires scope { IsScope self }
+        requires used { IsUse (names_of self.scopes.now) (type_name kind.now).bytes }
+        ensures { result
+            ≡ meaning_in self.entry.types.now (option_copied self.entry.name) kind.now }
+    {
+        self.meaning(type_name(kind).as_str())
+    }
+}

@@ -1,0 +1,53 @@
+-- A path put together word by word.
+use Rattle.std.proofs.Common.{IfOk, IfSome, IfNone, Result, Ok, Err, None, ◌≡◌, ◌≢◌, ◌<◌, ℕ, List, [], ◌∷◌, ◌++◌, length, get_or, slice_get, reverse, Option, Some, refl, sym, ap, ◌∙◌, append_assoc}
+use Rattle.std.proofs.lemmas.List.{reverse-append}
+use Rattle.std.proofs.lemmas.Option.{get_or_from_slice_get, slice_get_within}
+use Rattle.fb_scopes.specs.Words.{Name, Path}
+use Rattle.fb_scopes.specs.declared.path_tree.PathTree.{PathTree}
+use Rattle.fb_scopes.specs.PathTree.{paths, child_of, IsTree}
+use Rattle.fb_scopes.proofs.Outward.{beginning}
+
+-- a path that has a number, and the words that are left, make up the whole
+pub record IsLeft (ps : List Path) (path : ℕ) (rest whole : Path) : Type 0 where
+  pub inside : path < length ps
+  pub left : get_or ps path [] ++ rest ≡ whole
+
+-- at first all is left
+pub left_first : (ps : List Path) (path : ℕ) (words : Path) → path < length ps → IsLeft ps path words (get_or ps path [] ++ words)
+left_first ps path words inside = record { inside = inside; left = refl }
+
+-- one word more
+pub left_more : (ps new : List Path) (path n : ℕ) (word : Name) (rest more whole : Path) → IsLeft ps path rest whole → rest ≡ word ∷ more → slice_get new n ≡ Some (child_of ps path word) → IsLeft new n more whole
+left_more ps new path n word rest more whole is e at = record {
+  inside = slice_get_within new n (child_of ps path word) at;
+  left = ap (λ p. p ++ more) (get_or_from_slice_get new n (child_of ps path word) [] at) ∙ append_assoc (get_or ps path []) (word ∷ []) more ∙ ap (λ r. get_or ps path [] ++ r) (sym e) ∙ is.left;
+}
+
+-- the last word
+pub left_last : (ps new : List Path) (path n : ℕ) (word : Name) (rest whole : Path) → IsLeft ps path rest whole → rest ≡ word ∷ [] → slice_get new n ≡ Some (child_of ps path word) → slice_get new n ≡ Some whole
+left_last ps new path n word rest whole is e at = at ∙ ap (λ p. Some p) (ap (λ r. get_or ps path [] ++ r) (sym e) ∙ is.left)
+
+-- the words of what is left, the last one first
+pub reversed_last : (front : Path) (word : Name) (rest : Path) → rest ≡ front ++ word ∷ [] → reverse rest ≡ word ∷ reverse front
+reversed_last front word rest e = ap reverse e ∙ reverse-append front (word ∷ [])
+
+-- what holds of a result's value, told in another way
+pub if_ok : {T E : Type 0} {P Q : T → Type 0} (r : Result T E) → ((x : T) → P x → Q x) → IfOk r P → IfOk r Q
+if_ok (Ok x) f h = f x h
+if_ok (Err e) f h = tt
+
+pub if_some : {T : Type 0} {P Q : T → Type 0} (o : Option T) → ((x : T) → P x → Q x) → IfSome o P → IfSome o Q
+if_some (Some x) f h = f x h
+if_some None f h = tt
+
+pub if_none : {T P Q : Type 0} (o : Option T) → (P → Q) → IfNone o P → IfNone o Q
+if_none None f h = f h
+if_none (Some x) f h = tt
+
+-- where a word is missing, so is the whole
+pub left_missing : (tree : PathTree) → IsTree tree → (path : ℕ) (word : Name) (rest more whole : Path) → IsLeft (paths tree) path rest whole → rest ≡ word ∷ more
+    → ((n : ℕ) → slice_get (paths tree) n ≢ Some (child_of (paths tree) path word)) → (n : ℕ) → slice_get (paths tree) n ≢ Some whole
+left_missing tree is path word rest more whole left e missing n at =
+    let p = get_or (paths tree) path [] in
+    let begins = beginning tree is (p ++ word ∷ []) more n (at ∙ ap (λ q. Some q) (sym left.left ∙ ap (λ r. p ++ r) e ∙ sym (append_assoc p (word ∷ []) more))) in
+    missing begins.0 begins.1

@@ -1,0 +1,16 @@
+use Rattle.std.proofs.Common.{reverse, length}
+use denote.Text.{Utf8}
+use denote.Shadow.{shadow}
+use Rattle.fb_scopes.specs.Words.{words}
+use Rattle.fb_scopes.specs.PathTree.{paths}
+use Rattle.fb_scopes.proofs.PathsLeft.{IsLeft}
+use Rattle.fb_scopes.proofs.path_tree.PathTree.find_reversed.Given as goal
+
+abbrev pub invariant-loop-before : goal.invariant-loop-before
+invariant-loop-before l = record {
+  text : shadow (Utf8 l.rest);
+  left : IsLeft (paths l.self) l.path (reverse (words l.rest)) (reverse (words l.name));
+}
+
+abbrev pub decreases-loop-before : goal.decreases-loop-before
+decreases-loop-before l = length l.rest

@@ -1,0 +1,5 @@
+pub mod Words
+pub mod PathTree
+pub mod Maps
+pub mod NamedTypes
+pub mod Scopes

@@ -1,0 +1,102 @@
+//! The types that each path has for names, as numbers, where paths share most of what they have.
+ghost use Rattle.std.specs.Prelude.{◌≡◌, ◌<◌, ◌≤◌, ◌==◌, ◌&&◌, ℕ, IfOk, OnOk, None, Some, if◌then◌else◌};
+ghost use Rattle.std.specs.Option.{option_or};
+ghost use Rattle.fb_scopes.specs.NamedTypes.{noted_at, path_count, name_count, AreNoted, HasRoom};
+
+use crate::maps::Maps;
+use std::alloc::{AllocError, Global};
+
+/// Of each path and name a type's number, or none.
+#[derive(Drop)]
+pub(crate) struct NamedTypes {
+    maps: Maps,
+    /// The map of each path.
+    tops: Vec<usize>,
+}
+
+impl NamedTypes {
+    /// Nothing at so many paths, for so many names. The only error is a refused allocation.
+    pub(crate) fn new(alloc: Global, paths: usize, names: usize) -> Result<NamedTypes, AllocError>
+        ensures room { IfOk result (λ t. HasRoom t paths names) }
+        ensures empty { IfOk result (λ t. (p n : ℕ) → noted_at t p n ≡ None) }
+    {
+        let maps = Maps::new(alloc, names)?;
+        let tops = vec![in alloc; 0; paths]?;
+        Ok(NamedTypes { maps, tops })
+    }
+
+    /// What is noted for a name at a path.
+    pub(crate) fn get(&self, path: usize, name: usize) -> Option<usize>
+        requires noted { AreNoted self.now }
+        requires path { path < path_count self.now }
+        ensures { result ≡ noted_at self.now path name }
+    {
+        self.maps.get(self.tops[path], name)
+    }
+
+    /// Notes a number for a name at a path, where none is noted yet. The only error is a refused allocation.
+    pub(crate) fn note(&mut self, path: usize, name: usize, number: usize) -> Result<(), AllocError>
+        requires noted { AreNoted self.now }
+        requires path { path < path_count self.now }
+        requires name { name < name_count self.now }
+        requires number { number < usize.MAX }
+        ensures kept { OnOk result (AreNoted self.new) }
+        ensures paths { OnOk result (path_count self.new ≡ path_count self.old) }
+        ensures names { OnOk result (name_count self.new ≡ name_count self.old) }
+        ensures noted { OnOk result ((p n : ℕ) → noted_at self.new p n
+            ≡ option_or (noted_at self.old p n) (if p == path && n == name then Some number else None)) }
+    {
+        let top = self.tops[path];
+        if self.maps.get(top, name).is_none() {
+            self.tops[path] = self.maps.insert(top, name, number)?;
+        }
+        Ok(())
+    }
+
+    /// Notes at a path all that is noted at another and not at it. The only error is a refused allocation.
+    pub(crate) fn inherit(&mut self, path: usize, outer: usize) -> Result<(), AllocError>
+        requires noted { AreNoted self.now }
+        requires path { path < path_count self.now }
+        requires outer { outer < path_count self.now }
+        ensures kept { OnOk result (AreNoted self.new) }
+        ensures paths { OnOk result (path_count self.new ≡ path_count self.old) }
+        ensures names { OnOk result (name_count self.new ≡ name_count self.old) }
+        ensures noted { OnOk result ((p n : ℕ) → noted_at self.new p n
+            ≡ (if p == path then option_or (noted_at self.old path n) (noted_at self.old outer n)
+            else noted_at self.old p n)) }
+    {
+        self.tops[path] = self.maps.over(self.tops[path], self.tops[outer])?;
+        Ok(())
+    }
+}
+
+#[cfg(test)]
+mod tests {
+    use super::NamedTypes;
+    use std::test::Fail;
+
+    #[test]
+    fn the_first_number_noted_stands(rt: HostRuntime) -> Result<(), Fail> {
+        let mut types = NamedTypes::new(rt.alloc(), 2, 3)?;
+        types.note(1, 2, 7)?;
+        types.note(1, 2, 8)?;
+        assert_eq!(rt; types.get(1, 2), Some(7));
+        assert_eq!(rt; types.get(1, 0), None);
+        assert_eq!(rt; types.get(0, 2), None);
+        Ok(())
+    }
+
+    #[test]
+    fn a_path_inherits_what_it_has_not(rt: HostRuntime) -> Result<(), Fail> {
+        let mut types = NamedTypes::new(rt.alloc(), 2, 3)?;
+        types.note(0, 0, 5)?;
+        types.note(0, 1, 6)?;
+        types.note(1, 1, 9)?;
+        types.inherit(1, 0)?;
+        assert_eq!(rt; types.get(1, 0), Some(5));
+        assert_eq!(rt; types.get(1, 1), Some(9));
+        assert_eq!(rt; types.get(0, 1), Some(6));
+        assert_eq!(rt; types.get(1, 2), None);
+        Ok(())
+    }
+}

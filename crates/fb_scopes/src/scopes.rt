@@ -1,0 +1,156 @@
+//! Which type each used name means in each namespace.
+ghost use Rattle.std.specs.Prelude.{◌≡◌, ◌<◌, ◌≤◌, ◌+◌, ◌++◌, All, List, map, [], IfSome, IfNone, IfOk, OnOk};
+ghost use Rattle.std.specs.Prelude.{None, Some, ℕ, length, get_or, if◌then◌else◌};
+ghost use Rattle.std.specs.Option.{option_or};
+ghost use Rattle.fb_scopes.specs.PathTree.{paths, IsTree};
+ghost use Rattle.fb_scopes.specs.NamedTypes.{noted_at, path_count, name_count, AreNoted, HasRoom};
+ghost use Rattle.fb_scopes.specs.Scopes.{paths_at, tree_of, names_of, IsUsed, AreScopes};
+ghost use Rattle.fb_scopes.specs.Words.{words, Path, named, same_path, place_of_path, meant_inside};
+
+use crate::named_types::NamedTypes;
+use crate::path_tree::PathTree;
+use std::alloc::{AllocError, Global};
+
+/// The types of a text, found by the names that mean them in each namespace.
+#[derive(Drop)]
+pub struct Scopes<'d> {
+    tree: PathTree<'d>,
+    used: PathTree<'d>,
+    noted: NamedTypes,
+}
+
+impl<'d> Scopes<'d> {
+    /// The types of these full names, where `tree` has the paths of namespaces and types, and `used`
+    /// the names that are used, each from its last word on. The only error is a refused allocation.
+    pub fn of(
+        alloc: Global,
+        tree: PathTree<'d>,
+        used: PathTree<'d>,
+        full_names: &[usize],
+    ) -> Result<Scopes<'d>, AllocError>
+        requires tree { IsTree tree }
+        requires used { IsTree used }
+        requires full_names { All (λ n. n < length (paths tree)) full_names.now }
+        ensures scopes { IfOk result (λ s. AreScopes s (paths_at tree.entry full_names.now)) }
+        ensures tree { IfOk result (λ s. tree_of s ≡ tree.entry) }
+        ensures names { IfOk result (λ s. names_of s ≡ used.entry) }
+    {
+        let mut noted = NamedTypes::new(alloc, tree.len(), used.len())?;
+        note_types(&tree, &used, &mut noted, full_names)?;
+        inherit_all(&tree, &mut noted)?;
+        Ok(Scopes { tree, used, noted })
+    }
+
+    /// The number of the type that a used name means inside a namespace.
+    pub fn meant(&self, path: usize, name: &'d str) -> Option<usize>
+        requires path { path < length (paths (tree_of self.now)) }
+        requires used { IsUsed (names_of self.now) name.now }
+        requires scopes { (types : List Path) × AreScopes self.now types }
+        ensures { (types : List Path) → AreScopes self.now types
+            → result ≡ meant_inside types (get_or (paths (tree_of self.now)) path []) (words name.now) }
+    {
+        let Some(number) = self.used.find_reversed(name) else {
+            unreachable!()
+        };
+        self.noted.get(path, number)
+    }
+}
+
+/// The full name of a path and a name behind it, with the path's last word in the name instead; none
+/// where no such name is used.
+fn outward<'d>(
+    tree: &PathTree<'d>,
+    used: &PathTree<'d>,
+    path: usize,
+    name: usize,
+) -> Option<(usize, usize)>
+    requires tree { IsTree tree.now }
+    requires used { IsTree used.now }
+    requires path { path < length (paths tree.now) }
+    requires name { name < length (paths used.now) }
+    ensures path { IfSome result (λ r. r.0 < path) }
+    ensures name { IfSome result (λ r. r.1 < length (paths used.now)) }
+    ensures same { IfSome result (λ r. named (paths tree.now) (paths used.now) r.0 r.1
+        ≡ named (paths tree.now) (paths used.now) path name) }
+    ensures shorter { IfSome result (λ r. length (get_or (paths tree.now) r.0 []) + 1
+        ≡ length (get_or (paths tree.now) path [])) }
+    ensures last { IfNone result ((p n : ℕ) → p < length (paths tree.now) → n < length (paths used.now)
+        → named (paths tree.now) (paths used.now) p n ≡ named (paths tree.now) (paths used.now) path name
+        → length (get_or (paths tree.now) path []) ≤ length (get_or (paths tree.now) p [])) }
+{
+    let (outer, word) = tree.last(path)?;
+    let longer = used.child(name, word)?;
+    Some((outer, longer))
+}
+
+/// Notes a type for each used name that means it from some path, where none is noted yet.
+fn note_type<'d>(
+    tree: &PathTree<'d>,
+    used: &PathTree<'d>,
+    noted: &mut NamedTypes,
+    full_name: usize,
+    number: usize,
+) -> Result<(), AllocError>
+    requires tree { IsTree tree.now }
+    requires used { IsTree used.now }
+    requires room { HasRoom noted.now (length (paths tree.now)) (length (paths used.now)) }
+    requires full_name { full_name < length (paths tree.now) }
+    requires number { number < usize.MAX }
+    ensures room { OnOk result (HasRoom noted.new (length (paths tree.now)) (length (paths used.now))) }
+    ensures noted { OnOk result ((p n : ℕ) → p < length (paths tree.now) → n < length (paths used.now)
+        → noted_at noted.new p n ≡ option_or (noted_at noted.old p n)
+        (if same_path (named (paths tree.now) (paths used.now) p n) (get_or (paths tree.now) full_name [])
+        then Some number else None)) }
+{
+    let mut next = Some((full_name, 0));
+    while let Some((path, name)) = next {
+        noted.note(path, name, number)?;
+        next = outward(tree, used, path, name);
+    }
+    Ok(())
+}
+
+/// Notes for each path and used name the first type whose full name they are together.
+fn note_types<'d>(
+    tree: &PathTree<'d>,
+    used: &PathTree<'d>,
+    noted: &mut NamedTypes,
+    full_names: &[usize],
+) -> Result<(), AllocError>
+    requires tree { IsTree tree.now }
+    requires used { IsTree used.now }
+    requires room { HasRoom noted.now (length (paths tree.now)) (length (paths used.now)) }
+    requires full_names { All (λ n. n < length (paths tree.now)) full_names.now }
+    requires empty { (p n : ℕ) → noted_at noted.now p n ≡ None }
+    ensures room { OnOk result (HasRoom noted.new (length (paths tree.now)) (length (paths used.now))) }
+    ensures noted { OnOk result ((p n : ℕ) → p < length (paths tree.now) → n < length (paths used.now)
+        → noted_at noted.new p n ≡ place_of_path (map (λ f. get_or (paths tree.now) f []) full_names.now)
+        (named (paths tree.now) (paths used.now) p n)) }
+{
+    for (number, full_name) in full_names.iter().enumerate() {
+        note_type(tree, used, noted, *full_name, number)?;
+    }
+    Ok(())
+}
+
+/// Notes at each path also what is noted at the paths that it begins with, the longest first.
+fn inherit_all(tree: &PathTree<'_>, noted: &mut NamedTypes) -> Result<(), AllocError>
+    requires tree { IsTree tree.now }
+    requires room { path_count noted.now ≡ length (paths tree.now) }
+    requires noted { AreNoted noted.now }
+    ensures kept { OnOk result (AreNoted noted.new) }
+    ensures paths { OnOk result (path_count noted.new ≡ path_count noted.old) }
+    ensures names { OnOk result (name_count noted.new ≡ name_count noted.old) }
+    ensures inherited { (types : List Path) (rest : Path) (n : ℕ)
+        → ((p : ℕ) → p < length (paths tree.now) → noted_at noted.old p n ≡ place_of_path types (get_or (paths tree.now) p [] ++ rest))
+        → OnOk result ((p : ℕ) → p < length (paths tree.now)
+        → noted_at noted.new p n ≡ meant_inside types (get_or (paths tree.now) p []) rest) }
+{
+    for path in 1..tree.len() {
+        let Some((outer, _word)) = tree.last(path) else {
+            unreachable!()
+        };
+        noted.inherit(path, outer)?;
+    }
+    Ok(())
+}
