@@ -104,8 +104,3 @@ pub same_outline : (types : List TypeRead) (attributes : List Name) (root : Opti
     → types ≡ o.types → attributes ≡ o.attributes → root ≡ o.root → identifier ≡ o.identifier → text_len ≡ o.text_len
     → record { types = types; attributes = attributes; root = root; identifier = identifier; text_len = text_len } ≡ o
 same_outline types attributes root identifier text_len o t a r d n = λ i. record { types = t i; attributes = a i; root = r i; identifier = d i; text_len = n i }
-
--- the full names where they stand, and alone
-pub located_bytes : (types : List TypeRead) → map (λ n. n.bytes) (map located_name types) ≡ names_of_types types
-located_bytes [] = refl
-located_bytes (r ∷ rs) = ap (λ names. (located_name r).bytes ∷ names) (located_bytes rs)

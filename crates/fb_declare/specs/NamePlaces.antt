@@ -1,4 +1,4 @@
--- Names of a text, each found in one step.
+-- The first place of each name of a text.
 use Rattle.std.specs.Prelude.{ℕ, ◌≡◌, List, Option, None, Some, if◌then◌else◌}
 use Rattle.std.specs.BTreeMap.{get_by}
 use Rattle.std.specs.Cmp.Lexicographic.{slice_cmp}

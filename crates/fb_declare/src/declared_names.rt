@@ -4,7 +4,7 @@ ghost use Rattle.fb_declare.specs.NamePlaces.{Indexes};
 
 use crate::name_places::NamePlaces;
 
-/// The names of attributes that a text declares, each found in one step.
+/// The names of attributes that a text declares, with an index of them.
 #[derive(Clone, Copy)]
 pub(crate) struct DeclaredNames<'t, 'd> {
     pub names: &'t [&'d str],

@@ -1,4 +1,4 @@
-//! Names of a text, each found in one step.
+//! The first place of each name of a text.
 ghost use Rattle.std.specs.Prelude.{◌≡◌, IfOk, OnOk, None, is_some, map};
 ghost use Rattle.fb_schema.specs.Schema.{Name};
 ghost use Rattle.fb_declare.specs.NamePlaces.{place_in, Notes, Indexes};

@@ -1,7 +1,9 @@
 //! Many persistent maps from numbers to numbers, which share what they have in common.
-ghost use Rattle.std.specs.Prelude.{◌≡◌, ◌+◌, ◌^◌, ◌<◌, ◌≤◌, ◌==◌, ◌++◌, ℕ, [], ◌∷◌, length, slice_get, IfOk, OnErr, None, Some, if◌then◌else◌};
+ghost use Rattle.std.specs.Prelude.{◌≡◌, ◌+◌, ◌^◌, ◌<◌, ◌≤◌, ◌==◌, ◌++◌, ℕ, [], ◌∷◌, length, slice_get};
+ghost use Rattle.std.specs.Prelude.{IfOk, OnErr, None, Some, if◌then◌else◌};
 ghost use Rattle.std.specs.Option.{option_or};
-ghost use Rattle.fb_scopes.specs.Maps.{empty_fork, found_or, part, with_part, found_in, value_in, IsMapIn, IsMap, AreMaps, KeepsForks, KeepsMaps};
+ghost use Rattle.fb_scopes.specs.Maps.{empty_fork, found_or, part, with_part, found_in, value_in};
+ghost use Rattle.fb_scopes.specs.Maps.{IsMapIn, IsMap, AreMaps, KeepsForks, KeepsMaps};
 
 use std::alloc::{AllocError, Global};
 

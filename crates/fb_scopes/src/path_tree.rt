@@ -1,6 +1,6 @@
 //! Paths of words, each with a number.
-ghost use Rattle.std.specs.Prelude.{◌≡◌, ◌≢◌, ◌<◌, ◌++◌, [], ◌∷◌, ℕ, IfSome, IfNone, IfOk, OnOk, Some, length, slice_get};
-ghost use Rattle.std.specs.Prelude.{get_or, reverse};
+ghost use Rattle.std.specs.Prelude.{◌≡◌, ◌≢◌, ◌<◌, ◌++◌, [], ◌∷◌, ℕ, length, slice_get, get_or, reverse};
+ghost use Rattle.std.specs.Prelude.{IfSome, IfNone, IfOk, OnOk, Some};
 ghost use Rattle.fb_scopes.specs.Words.{words};
 ghost use Rattle.fb_scopes.specs.PathTree.{paths, child_of, IsTree, KeepsPaths};
 
@@ -41,8 +41,10 @@ impl<'t> PathTree<'t> {
     pub(crate) fn child(&self, path: usize, word: &'t str) -> Option<usize>
         requires tree { IsTree self.now }
         requires inside { path < length (paths self.now) }
-        ensures found { IfSome result (λ n. slice_get (paths self.now) n ≡ Some (child_of (paths self.now) path word.now)) }
-        ensures missing { IfNone result ((n : ℕ) → slice_get (paths self.now) n ≢ Some (child_of (paths self.now) path word.now)) }
+        ensures found { IfSome result
+            (λ n. slice_get (paths self.now) n ≡ Some (child_of (paths self.now) path word.now)) }
+        ensures missing { IfNone result
+            ((n : ℕ) → slice_get (paths self.now) n ≢ Some (child_of (paths self.now) path word.now)) }
     {
         self.children.get(&(path, word)).copied()
     }
@@ -52,7 +54,8 @@ impl<'t> PathTree<'t> {
         requires tree { IsTree self.now }
         requires inside { path < length (paths self.now) }
         ensures before { IfSome result (λ l. l.0 < path) }
-        ensures word { IfSome result (λ l. slice_get (paths self.now) path ≡ Some (child_of (paths self.now) l.0 l.1.now)) }
+        ensures word { IfSome result
+            (λ l. slice_get (paths self.now) path ≡ Some (child_of (paths self.now) l.0 l.1.now)) }
         ensures empty { IfNone result (path ≡ 0) }
     {
         Some(self.links[path.checked_sub(1)?])
@@ -65,7 +68,8 @@ impl<'t> PathTree<'t> {
         requires inside { path < length (paths self.now) }
         ensures tree { OnOk result (IsTree self.new) }
         ensures kept { OnOk result (KeepsPaths self.old self.new) }
-        ensures child { IfOk result (λ n. slice_get (paths self.new) n ≡ Some (child_of (paths self.old) path word.now)) }
+        ensures child { IfOk result
+            (λ n. slice_get (paths self.new) n ≡ Some (child_of (paths self.old) path word.now)) }
     {
         if let Some(number) = self.child(path, word) {
             return Ok(number);
@@ -83,7 +87,8 @@ impl<'t> PathTree<'t> {
         requires inside { path < length (paths self.now) }
         ensures tree { OnOk result (IsTree self.new) }
         ensures kept { OnOk result (KeepsPaths self.old self.new) }
-        ensures path { IfOk result (λ n. slice_get (paths self.new) n ≡ Some (get_or (paths self.old) path [] ++ words name.now)) }
+        ensures path { IfOk result
+            (λ n. slice_get (paths self.new) n ≡ Some (get_or (paths self.old) path [] ++ words name.now)) }
     {
         let mut path = path;
         let mut rest = name;

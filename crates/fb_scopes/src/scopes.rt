@@ -142,7 +142,8 @@ fn inherit_all(tree: &PathTree<'_>, noted: &mut NamedTypes) -> Result<(), AllocE
     ensures paths { OnOk result (path_count noted.new ≡ path_count noted.old) }
     ensures names { OnOk result (name_count noted.new ≡ name_count noted.old) }
     ensures inherited { (types : List Path) (rest : Path) (n : ℕ)
-        → ((p : ℕ) → p < length (paths tree.now) → noted_at noted.old p n ≡ place_of_path types (get_or (paths tree.now) p [] ++ rest))
+        → ((p : ℕ) → p < length (paths tree.now)
+        → noted_at noted.old p n ≡ place_of_path types (get_or (paths tree.now) p [] ++ rest))
         → OnOk result ((p : ℕ) → p < length (paths tree.now)
         → noted_at noted.new p n ≡ meant_inside types (get_or (paths tree.now) p []) rest) }
 {
