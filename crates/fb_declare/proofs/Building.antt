@@ -11,7 +11,7 @@ use Rattle.fb_declare.specs.declared.faults.SchemaFault.{SchemaFault}
 use Rattle.fb_declare.specs.declared.faults.SchemaFault.TheVariants.{BadIds, BadRoot}
 use Rattle.fb_declare.specs.declared.attribute_faults.Place.TheVariants as places
 use Rattle.fb_declare.specs.Faults.{comes_before, earlier, least_of}
-use Rattle.fb_resolve.specs.Outline.{Outline, TypeRead, RootRead, word_of, names_of_types, located_name}
+use Rattle.fb_resolve.specs.Outline.{Outline, TypeRead, RootRead, word_of, located_name}
 use Rattle.fb_declare.specs.AttributeFaults.{metadata_faults}
 use Rattle.fb_resolve.specs.SlotsRead.{are_ids_wrong}
 use Rattle.fb_resolve.specs.MembersRead.{table_of}
