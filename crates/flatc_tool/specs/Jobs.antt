@@ -22,7 +22,7 @@ use Rattle.fb_text.specs.Texts.{json_text}
 use Rattle.fb_text.specs.Unnamed.{IsRefused as IsUnnamed}
 use Rattle.fb_build.specs.Covered.{Covered, EndsAligned}
 use Rattle.fb_build.specs.declared.faults.BuildFault.TheVariants as the_build
-use Rattle.flatc_tool.specs.SchemaTexts.{IsAccepted, IsRefused, IsWant}
+use Rattle.flatc_tool.specs.SchemaTexts.{IsRefused, IsWant, OfLayout}
 use Rattle.flatc_tool.specs.JsonText.{IsTree}
 use Rattle.flatc_tool.specs.declared.faults.ToolFault.{ToolFault}
 use Rattle.flatc_tool.specs.declared.faults.ToolFault.TheVariants.{Schema, Json, Build, Read, Text, Older, Newer}
@@ -38,79 +38,89 @@ JsonMeans L most unknown json v = (t : Data) × IsTree json t × Means L most un
 abbrev pub most_room : ℕ
 most_room = 2147483647
 
--- The bytes of a JSON text: exactly the value that it means lies in them, only slots in use have something, each byte
--- belongs to the value or is one of few zeros, and they are no longer than its room.
-pub record IsBinary (schema json : List ℕ) (most : Bounds) (unknown : Bool) (b : Bytes) : Type 0 where
-  pub layout : LaidSchema
-  pub accepted : IsAccepted schema layout
+-- The bytes of a JSON text under a layout: exactly the value that it means lies in them, only slots in use have
+-- something, each byte belongs to the value or is one of few zeros, and they are no longer than its room.
+pub record IsBinaryOf (L : LaidSchema) (json : List ℕ) (most : Bounds) (unknown : Bool) (b : Bytes) : Type 0 where
   pub value : Datum
-  pub means : JsonMeans layout most unknown json value
-  pub fits : FitsRoot layout value
-  pub small : room_of layout value ≤ most_room
-  pub holds : (raw : Bool) → Holds layout most raw b value
-  pub only : (raw : Bool) (v : Datum) → Holds layout most raw b v → v ≡ value
-  pub old_slots : OnlyOld layout b
-  pub covered : Covered layout b
-  pub aligned : EndsAligned layout b
-  pub short : length b ≤ room_of layout value
+  pub means : JsonMeans L most unknown json value
+  pub fits : FitsRoot L value
+  pub small : room_of L value ≤ most_room
+  pub holds : (raw : Bool) → Holds L most raw b value
+  pub only : (raw : Bool) (v : Datum) → Holds L most raw b v → v ≡ value
+  pub old_slots : OnlyOld L b
+  pub covered : Covered L b
+  pub aligned : EndsAligned L b
+  pub short : length b ≤ room_of L value
 
--- an accepted schema under which the JSON means a value that isn't too big
-pub record MayBeBinary (schema json : List ℕ) (most : Bounds) (unknown : Bool) : Type 0 where
-  pub layout : LaidSchema
-  pub accepted : IsAccepted schema layout
+-- the bytes of a JSON text under a schema text
+abbrev pub IsBinary : List ℕ → List ℕ → Bounds → Bool → Bytes → Type 0
+IsBinary schema json most unknown b = OfLayout schema (λ L. IsBinaryOf L json most unknown b)
+
+-- the JSON means a value that isn't too big
+pub record MayBeBinaryOf (L : LaidSchema) (json : List ℕ) (most : Bounds) (unknown : Bool) : Type 0 where
   pub value : Datum
-  pub means : JsonMeans layout most unknown json value
-  pub small : room_of layout value ≤ most_room
+  pub means : JsonMeans L most unknown json value
+  pub small : room_of L value ≤ most_room
+
+-- an accepted schema under which it does
+abbrev pub MayBeBinary : List ℕ → List ℕ → Bounds → Bool → Type 0
+MayBeBinary schema json most unknown = OfLayout schema (λ L. MayBeBinaryOf L json most unknown)
 
 -- The tree breaks the rule, and means nothing. Memory is asked for only where a table may follow.
 abbrev pub TreeRefused : LaidSchema → Bounds → Bool → Data → JsonFault → Type 0
 TreeRefused L most unknown t the_json.Memory = refused_trees.MayLackMemory most t the_json.Memory
 TreeRefused L most unknown t f = refused_trees.Refuses L most unknown t f × ((v : Datum) → ¬ Means L most unknown t v)
 
--- The refusal of the first layer that refuses, in the order schema, JSON text, value, size.
+-- The refusal of the first layer that refuses, in the order JSON text, value, size.
 -- Where a layer wants memory, the layers before it have passed; `Memory` alone is of the reading of the JSON text.
+abbrev pub BinaryRefusedOf : LaidSchema → List ℕ → Bounds → Bool → ToolFault → Type 0
+BinaryRefusedOf L json most unknown BadJson = (t : Data) → ¬ IsTree json t
+BinaryRefusedOf L json most unknown (Json f) = (t : Data) × IsTree json t × TreeRefused L most unknown t f
+BinaryRefusedOf L json most unknown (Build the_build.TooBig) =
+    (v : Datum) × JsonMeans L most unknown json v × (most_room < room_of L v)
+BinaryRefusedOf L json most unknown (Build the_build.Memory) = MayBeBinaryOf L json most unknown
+BinaryRefusedOf L json most unknown Memory = Unit {0}
+BinaryRefusedOf L json most unknown _ = ⊥
+
+-- The refusal of the schema, which is looked at first, or one under its layout.
 abbrev pub BinaryRefused : List ℕ → List ℕ → Bounds → Bool → ToolFault → Type 0
 BinaryRefused schema json most unknown (Schema f) = IsRefused schema f
-BinaryRefused schema json most unknown BadJson = (L : LaidSchema) × IsAccepted schema L × ((t : Data) → ¬ IsTree json t)
-BinaryRefused schema json most unknown (Json f) = (L : LaidSchema) × IsAccepted schema L × (t : Data) × IsTree json t
-    × TreeRefused L most unknown t f
-BinaryRefused schema json most unknown (Build the_build.TooBig) = (L : LaidSchema) × IsAccepted schema L × (v : Datum)
-    × JsonMeans L most unknown json v × (most_room < room_of L v)
-BinaryRefused schema json most unknown (Build the_build.Memory) = MayBeBinary schema json most unknown
-BinaryRefused schema json most unknown Memory = (L : LaidSchema) × IsAccepted schema L
-BinaryRefused schema json most unknown _ = ⊥
+BinaryRefused schema json most unknown f = OfLayout schema (λ L. BinaryRefusedOf L json most unknown f)
 
 -- ---- a buffer to JSON
 
--- The text of the value that the bytes hold. It has no code that the schema doesn't know.
-pub record IsText (schema : List ℕ) (b : Bytes) (most : Bounds) (raw defaults : Bool) (text : List ℕ) : Type 0 where
-  pub layout : LaidSchema
-  pub accepted : IsAccepted schema layout
+-- The text of the value that the bytes hold under a layout. It has no code that the schema doesn't know.
+pub record IsTextOf (L : LaidSchema) (b : Bytes) (most : Bounds) (raw defaults : Bool) (text : List ℕ) : Type 0 where
   pub value : Datum
-  pub holds : Holds layout most raw b value
+  pub holds : Holds L most raw b value
   pub whole : is_whole value ≡ true
-  pub spelled : text ≡ json_text layout defaults value
+  pub spelled : text ≡ json_text L defaults value
 
--- an accepted schema under which the bytes hold a value whose codes it knows
-pub record MayBeText (schema : List ℕ) (b : Bytes) (most : Bounds) (raw : Bool) : Type 0 where
-  pub layout : LaidSchema
-  pub accepted : IsAccepted schema layout
+-- the text of the value that the bytes hold under a schema text
+abbrev pub IsText : List ℕ → Bytes → Bounds → Bool → Bool → List ℕ → Type 0
+IsText schema b most raw defaults text = OfLayout schema (λ L. IsTextOf L b most raw defaults text)
+
+-- the bytes hold a value whose codes the schema knows
+pub record MayBeTextOf (L : LaidSchema) (b : Bytes) (most : Bounds) (raw : Bool) : Type 0 where
   pub value : Datum
-  pub holds : Holds layout most raw b value
+  pub holds : Holds L most raw b value
   pub whole : is_whole value ≡ true
 
--- the least fault of the bytes
-abbrev pub BytesRefused : List ℕ → Bytes → Bounds → Bool → ReadFault → Type 0
-BytesRefused schema b most raw f = (L : LaidSchema) × IsAccepted schema L × Refuses L most raw b f
+-- an accepted schema under which they do
+abbrev pub MayBeText : List ℕ → Bytes → Bounds → Bool → Type 0
+MayBeText schema b most raw = OfLayout schema (λ L. MayBeTextOf L b most raw)
 
--- The refusal of the schema, the least fault of the bytes, or the first code in the value that has no name.
--- Memory is asked for only for the schema, and for the text of a whole value.
+-- The least fault of the bytes, or the first code in the value that has no name.
+-- Memory is asked for only for the text of a whole value.
+abbrev pub TextRefusedOf : LaidSchema → Bytes → Bounds → Bool → ToolFault → Type 0
+TextRefusedOf L b most raw (Read f) = Refuses L most raw b f
+TextRefusedOf L b most raw (Text f) = (v : Datum) × Holds L most raw b v × IsUnnamed (type_place L.schema.root) v f
+TextRefusedOf L b most raw _ = ⊥
+
+-- The refusal of the schema, which is looked at first, or one under its layout.
 abbrev pub TextRefused : List ℕ → Bytes → Bounds → Bool → ToolFault → Type 0
 TextRefused schema b most raw (Schema f) = IsRefused schema f
-TextRefused schema b most raw (Read f) = BytesRefused schema b most raw f
-TextRefused schema b most raw (Text f) = (L : LaidSchema) × IsAccepted schema L × (v : Datum) × Holds L most raw b v
-    × IsUnnamed (type_place L.schema.root) v f
-TextRefused schema b most raw _ = ⊥
+TextRefused schema b most raw f = OfLayout schema (λ L. TextRefusedOf L b most raw f)
 
 -- ---- memory
 

@@ -14,3 +14,4 @@ pub mod Heard
 pub mod Checks
 pub mod Prints
 pub mod Evolution
+pub mod Options

@@ -6,35 +6,43 @@ use Rattle.fb_layout.specs.Laid.{LaidSchema}
 use Rattle.fb_value.specs.Bounds.{Bounds}
 use Rattle.fb_value.specs.Datum.{Datum}
 use Rattle.fb_value.specs.Num.{Bytes}
-use Rattle.fb_value.specs.Holds.{Holds}
+use Rattle.fb_value.specs.Holds.{Holds, Refuses}
 use Rattle.fb_text.specs.declared.faults.TextFault.TheVariants as the_text
 use Rattle.fb_json.specs.Meant.{type_place}
 use Rattle.fb_text.specs.Unnamed.{IsRefused as IsUnnamed}
 use Rattle.fb_text.specs.Writes.{counted}
 use Rattle.fb_text.specs.declared.faults.WriteFault.TheVariants.{NoMemberName, WriteFailed}
-use Rattle.flatc_tool.specs.SchemaTexts.{IsAccepted, IsRefused}
-use Rattle.flatc_tool.specs.Jobs.{IsText, BytesRefused, IsNotMemory}
+use Rattle.flatc_tool.specs.SchemaTexts.{IsRefused, OfLayout}
+use Rattle.flatc_tool.specs.Jobs.{IsTextOf, IsNotMemory}
 use Rattle.flatc_tool.specs.declared.faults.ToolFault.{ToolFault}
 use Rattle.flatc_tool.specs.declared.faults.ToolFault.TheVariants.{Schema, Read, Text, Write}
 
--- All of the text of the bytes, which is UTF-8, was written behind the bytes of the start.
-abbrev pub IsSent : List ℕ → Bytes → Bounds → Bool → Bool → Option (List ℕ) → Option (List ℕ) → Type 0
-IsSent schema b most raw defaults start known = (text : List ℕ) × IsText schema b most raw defaults text × IsUtf8 text
+-- All of the text of the bytes under a layout, which is UTF-8, was written behind the bytes of the start.
+abbrev pub IsSentOf : LaidSchema → Bytes → Bounds → Bool → Bool → Option (List ℕ) → Option (List ℕ) → Type 0
+IsSentOf L b most raw defaults start known = (text : List ℕ) × IsTextOf L b most raw defaults text × IsUtf8 text
     × Appends start known text
 
--- The refusal of the schema, the least fault of the bytes, or the first union's code without a name; else a write
--- failed behind
--- the first bytes of the text, as many as it counts.
+-- the same under a schema text
+abbrev pub IsSent : List ℕ → Bytes → Bounds → Bool → Bool → Option (List ℕ) → Option (List ℕ) → Type 0
+IsSent schema b most raw defaults start known = OfLayout schema (λ L. IsSentOf L b most raw defaults start known)
+
+-- The least fault of the bytes, or the first union's code without a name; else a write failed behind the first bytes
+-- of the text, as many as it counts.
+abbrev pub PrintRefusedOf : LaidSchema → Bytes → Bounds → Bool → Bool → Option (List ℕ) → Option (List ℕ) → ToolFault
+    → Type 0
+PrintRefusedOf L b most raw defaults start known (Read f) = Refuses L most raw b f
+PrintRefusedOf L b most raw defaults start known (Write (NoMemberName at)) =
+    (v : Datum) × Holds L most raw b v × IsUnnamed (type_place L.schema.root) v (the_text.NoMemberName at)
+PrintRefusedOf L b most raw defaults start known (Write (WriteFailed n)) =
+    (text : List ℕ) × IsTextOf L b most raw defaults text × (m : ℕ) × (m < length text)
+    × Appends start known (take m text) × (n ≡ counted m)
+PrintRefusedOf L b most raw defaults start known _ = ⊥
+
+-- The refusal of the schema, which is looked at first, or one under its layout.
 abbrev pub PrintRefused : List ℕ → Bytes → Bounds → Bool → Bool → Option (List ℕ) → Option (List ℕ) → ToolFault → Type 0
 PrintRefused schema b most raw defaults start known (Schema f) = IsRefused schema f
-PrintRefused schema b most raw defaults start known (Read f) = BytesRefused schema b most raw f
-PrintRefused schema b most raw defaults start known (Write (NoMemberName at)) =
-    (L : LaidSchema) × IsAccepted schema L × (v : Datum) × Holds L most raw b v × IsUnnamed (type_place L.schema.root) v
-    (the_text.NoMemberName at)
-PrintRefused schema b most raw defaults start known (Write (WriteFailed n)) =
-    (text : List ℕ) × IsText schema b most raw defaults text × (m : ℕ) × (m < length text)
-    × Appends start known (take m text) × (n ≡ counted m)
-PrintRefused schema b most raw defaults start known _ = ⊥
+PrintRefused schema b most raw defaults start known f =
+    OfLayout schema (λ L. PrintRefusedOf L b most raw defaults start known f)
 
 -- a failed write is told exactly where the last write failed
 abbrev pub TellsFailure : {A : Type 0} → Bool → Result A ToolFault → Type 0

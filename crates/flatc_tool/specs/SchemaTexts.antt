@@ -25,9 +25,11 @@ pub record IsAccepted (text : List ℕ) (L : LaidSchema) : Type 0 where
   pub declared : Declares decls L.schema
   pub made : IsWellMade L
 
--- what holds of every schema text with this layout
-abbrev pub ForEachText : LaidSchema → (List ℕ → Type 0) → Type 0
-ForEachText L P = (text : List ℕ) → IsAccepted text L → P text
+-- The text has a layout, and this holds of it.
+pub record OfLayout (text : List ℕ) (P : LaidSchema → Type 0) : Type 0 where
+  pub layout : LaidSchema
+  pub accepted : IsAccepted text layout
+  pub has : P layout
 
 -- What a refusal by tokens or grammar says: whether the bytes are UTF-8 is looked at before all else.
 abbrev pub IsSyntaxRefused : List ℕ → SyntaxFault → Type 0

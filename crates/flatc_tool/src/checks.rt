@@ -2,32 +2,13 @@
 ghost use Rattle.std.specs.Prelude.{OnOk, IfErr, option_map};
 ghost use Rattle.flatc_tool.specs.Checks.{IsSound, CheckRefused};
 ghost use Rattle.flatc_tool.specs.Jobs.{IsNotMemory};
-ghost use Rattle.flatc_tool.specs.SchemaTexts.{ForEachText};
 
 use crate::faults::ToolFault;
 use crate::laws::layer_laws;
 use crate::schema_layouts::schema_of;
-use fb_layout::Layout;
 use fb_read::{Entries, verify};
 use fb_value::Limits;
 use std::alloc::Global;
-
-/// Whether bytes hold a value under a layout.
-fn check_bytes(layout: &Layout, bytes: &[u8], limits: Limits, raw: bool) -> Result<(), ToolFault>
-    ensures sound { OnOk result (ForEachText layout.now (λ schema.
-        IsSound schema (Some bytes.now) limits raw)) }
-    ensures refused { IfErr result (λ f. ForEachText layout.now (λ schema.
-        CheckRefused schema (Some bytes.now) limits raw f)) }
-    ensures exact { IfErr result (λ f. ForEachText layout.now (λ schema.
-        ¬ IsSound schema (Some bytes.now) limits raw)) }
-{
-    layer_laws();
-    let mut entries = Entries::new();
-    match verify(layout, bytes, limits, raw, &mut entries) {
-        Ok(_) => Ok(()),
-        Err(fault) => Err(ToolFault::Read(fault)),
-    }
-}
 
 /// Whether a schema text is accepted and, where there are bytes, they hold a value under it.
 ///
@@ -52,8 +33,11 @@ pub fn check(
         Ok(layout) => layout,
         Err(fault) => return Err(ToolFault::Schema(fault)),
     };
-    match bytes {
-        None => Ok(()),
-        Some(bytes) => check_bytes(&layout, bytes, limits, raw),
+    let Some(bytes) = bytes else {
+        return Ok(());
+    };
+    match verify(&layout, bytes, limits, raw, &mut Entries::new()) {
+        Ok(_view) => Ok(()),
+        Err(fault) => Err(ToolFault::Read(fault)),
     }
 }

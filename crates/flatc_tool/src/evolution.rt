@@ -2,32 +2,12 @@
 ghost use Rattle.std.specs.Prelude.{OnOk, IfErr};
 ghost use Rattle.flatc_tool.specs.Evolution.{TextsConform, ConformRefused};
 ghost use Rattle.flatc_tool.specs.Jobs.{IsNotMemory};
-ghost use Rattle.flatc_tool.specs.SchemaTexts.{ForEachText};
 
 use crate::faults::ToolFault;
 use crate::laws::layer_laws;
 use crate::schema_layouts::schema_of;
 use fb_conform::conform;
-use fb_layout::Layout;
 use std::alloc::Global;
-
-/// Whether a new schema text conforms to an old layout.
-fn conform_to(alloc: Global, was: &Layout, new: &[u8]) -> Result<(), ToolFault>
-    ensures conforms { OnOk result (ForEachText was.now (λ old. TextsConform old new.now)) }
-    ensures refused { IfErr result (λ f. ForEachText was.now (λ old. ConformRefused old new.now f)) }
-    ensures exact { IfErr result (λ f. IsNotMemory f
-        → ForEachText was.now (λ old. ¬ TextsConform old new.now)) }
-{
-    layer_laws();
-    let is = match schema_of(alloc, new) {
-        Ok(layout) => layout,
-        Err(fault) => return Err(ToolFault::Newer(fault)),
-    };
-    match conform(was, &is) {
-        Ok(()) => Ok(()),
-        Err(breach) => Err(ToolFault::Breach(breach)),
-    }
-}
 
 /// Whether a new schema text conforms to an old one: new programs then read what old ones wrote, and
 /// old programs what new ones write.
@@ -44,5 +24,12 @@ pub fn conform_texts(alloc: Global, old: &[u8], new: &[u8]) -> Result<(), ToolFa
         Ok(layout) => layout,
         Err(fault) => return Err(ToolFault::Older(fault)),
     };
-    conform_to(alloc, &was, new)
+    let is = match schema_of(alloc, new) {
+        Ok(layout) => layout,
+        Err(fault) => return Err(ToolFault::Newer(fault)),
+    };
+    match conform(&was, &is) {
+        Ok(()) => Ok(()),
+        Err(breach) => Err(ToolFault::Breach(breach)),
+    }
 }

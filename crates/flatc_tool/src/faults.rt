@@ -1,4 +1,5 @@
 //! Why the tool refuses.
+use crate::names::name_of;
 use crate::schema_layouts::SchemaTextFault;
 use fb_build::BuildFault;
 use fb_conform::Breach;
@@ -51,6 +52,7 @@ impl ToolFault {
     ghost use Rattle.std.specs.Prelude.{◌≡◌, option_map};
     ghost use Rattle.flatc_tool.specs.FaultNumbers.{number_of, offset_of};
     ghost use Rattle.flatc_tool.specs.FaultPlaces.{place_of, owner_of, slot_of, written_of};
+    ghost use Rattle.flatc_tool.specs.FaultNames.{name_of};
 
     /// The fault's number; no other fault has it.
     pub fn number(self) -> u8
@@ -73,6 +75,13 @@ impl ToolFault {
         }
     }
 
+    /// The fault's name: that of its variant in the layer that refuses.
+    pub fn name(self) -> &'static str
+        ensures { result.now ≡ name_of self }
+    {
+        name_of(self)
+    }
+
     /// Its offset in the schema text or the buffer, in bytes from the start, if it has such a
     /// place.
     pub fn offset(self) -> Option<u64>
@@ -87,7 +96,8 @@ impl ToolFault {
         }
     }
 
-    fn place(self) -> Option<Place>
+    /// The declared place that a fault of JSON or of printing is in: a type, and a slot or none.
+    pub fn place(self) -> Option<Place>
         ensures { result ≡ place_of self }
     {
         match self {

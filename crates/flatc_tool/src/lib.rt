@@ -1,37 +1,44 @@
 //! The tool's jobs over texts and bytes.
 #![tactic(auto)]
 
+mod buffers;
 mod checks;
 mod evolution;
 mod faults;
 mod headline;
 mod heard;
 mod jobs;
+mod json_texts;
 mod laws;
 mod lines;
 mod names;
+mod options;
 mod prints;
 mod reports;
 mod schema_layouts;
 
+pub use buffers::encode;
 pub use checks::check;
 pub use evolution::conform_texts;
 pub use faults::ToolFault;
-pub use fb_build::BuildFault;
-pub use fb_conform::Breach;
+pub use fb_build::{BuildFault, build};
+pub use fb_conform::{Breach, carry, conform};
 pub use fb_declare::SchemaFault;
 pub use fb_json::{JsonFault, Place};
 pub use fb_layout::{Layout, LayoutFault};
+pub use fb_read::{Entries, Entry, FixedView, Items, View, read, verify};
 pub use fb_schema::TypeId;
 pub use fb_syntax::SyntaxFault;
 pub use fb_text::{Noted, TextFault, WriteFault};
-pub use fb_value::{Limits, ReadFault};
+pub use fb_value::{Limits, ReadFault, Value};
 pub use headline::{
     chains_carry, chains_conform, json_is_carried, old_programs_read, others_are_refused,
 };
 pub use heard::{Heard, take_all};
 pub use jobs::to_binary;
+pub use json_texts::{decode, decode_to};
 pub use lines::fault_line;
+pub use options::{DecodeOptions, EncodeOptions};
 pub use prints::{print_to, to_json};
 pub use reports::report;
 pub use schema_layouts::{SchemaTextFault, schema_of};

@@ -3,7 +3,6 @@ ghost use Rattle.std.specs.Prelude.{◌≡◌, ◌++◌, IfOk, OnOk, string_byte
 ghost use Rattle.flatc_tool.specs.FaultLines.{line_of, noted, side_of};
 
 use crate::faults::ToolFault;
-use crate::names::name_of;
 use itoa::Buffer;
 use std::alloc::{AllocError, Global};
 
@@ -37,7 +36,7 @@ pub fn fault_line(alloc: Global, fault: &ToolFault) -> Result<String, AllocError
     let mut line = String::from_str(alloc, side_of(fault))?;
     line.push_str(Buffer::new().format(fault.number()))?;
     line.push_str(" ")?;
-    line.push_str(name_of(*fault))?;
+    line.push_str(fault.name())?;
     push_noted(&mut line, " at ", fault.offset())?;
     push_noted(&mut line, " in type ", fault.owner().map(|owner| owner.0))?;
     push_noted(&mut line, " slot ", fault.slot().map(u64::from))?;

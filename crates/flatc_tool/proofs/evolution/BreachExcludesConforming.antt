@@ -1,5 +1,5 @@
 -- Where a breach stands, the new schema doesn't conform.
-use Rattle.std.proofs.Common.{List, ℕ, IfErr, Result, Ok, Err, subst}
+use Rattle.std.proofs.Common.{List, ℕ, subst}
 use Rattle.fb_layout.specs.Laid.{LaidSchema}
 use Rattle.fb_conform.specs.declared.breaches.Breach.{Breach}
 use Rattle.fb_conform.specs.Conforms.{Conforms}
@@ -7,8 +7,6 @@ use Rattle.fb_conform.specs.Order.{IsFirst}
 use Rattle.flatc_tool.specs.LayerLaws.{LayerLaws}
 use Rattle.flatc_tool.specs.SchemaTexts.{IsAccepted}
 use Rattle.flatc_tool.specs.Evolution.{TextsConform}
-use Rattle.flatc_tool.specs.Jobs.{IsNotMemory}
-use Rattle.flatc_tool.specs.declared.faults.ToolFault.{ToolFault}
 use Rattle.flatc_tool.proofs.schema_layouts.SchemaTextHasOneLayout.{same_accepted}
 
 -- the layouts of texts that conform do so
@@ -21,10 +19,3 @@ conforms_at laws old new A B was is texts =
 pub breach_excludes : (laws : LayerLaws) (old new : List ℕ) (A B : LaidSchema) (b : Breach) → IsAccepted old A
     → IsAccepted new B → IsFirst A B b → TextsConform old new → ⊥
 breach_excludes laws old new A B b was is breach texts = breach.stands (conforms_at laws old new A B was is texts b)
-
--- what a comparison under the old layout excludes, under its text
-pub exact_at : {A : Type 0} (old new : List ℕ) (L : LaidSchema) → IsAccepted old L → (r : Result A ToolFault)
-    → IfErr r (λ f. IsNotMemory f → (text : List ℕ) → IsAccepted text L → ¬ TextsConform text new)
-    → IfErr r (λ f. IsNotMemory f → ¬ TextsConform old new)
-exact_at old new L accepted (Ok x) exact = tt
-exact_at old new L accepted (Err f) exact = λ rule. exact rule old accepted

@@ -1,6 +1,5 @@
 -- What holds of the tool's answers together.
 use Rattle.std.proofs.Common.{◌≡◌, ℕ, List, Bool, true, Option, None, Some, Result, Ok, Err, ap, ◌∙◌, subst}
-use Rattle.fb_build.specs.Covered.{Covered}
 use Rattle.fb_layout.specs.Laid.{LaidSchema}
 use Rattle.fb_value.specs.declared.faults.ReadFault.{ReadFault}
 use Rattle.fb_value.specs.Bounds.{Bounds}
@@ -18,7 +17,7 @@ use Rattle.fb_conform.specs.Conforms.{Conforms}
 use Rattle.fb_conform.specs.Carry.{carry}
 use Rattle.flatc_tool.specs.LayerLaws.{LayerLaws}
 use Rattle.flatc_tool.specs.SchemaTexts.{IsAccepted}
-use Rattle.flatc_tool.specs.Jobs.{JsonMeans, IsBinary, IsText, TextRefused, IsNotMemory}
+use Rattle.flatc_tool.specs.Jobs.{JsonMeans, IsBinaryOf, IsBinary, IsTextOf, IsText, TextRefused, IsNotMemory}
 use Rattle.flatc_tool.specs.Checks.{CheckRefused}
 use Rattle.flatc_tool.specs.Prints.{PrintRefused}
 use Rattle.flatc_tool.specs.Evolution.{TextsConform}
@@ -31,7 +30,7 @@ use Rattle.flatc_tool.specs.declared.faults.ToolFault.TheVariants.{Older, Newer,
 use Rattle.flatc_tool.specs.declared.faults.ToolFault.TheVariants.{BadJson, Memory}
 use Rattle.flatc_tool.proofs.evolution.BreachExcludesConforming.{conforms_at}
 use Rattle.flatc_tool.proofs.schema_layouts.SchemaTextHasOneLayout.{same_accepted, refused_excludes}
-use Rattle.flatc_tool.proofs.jobs.RefusalExcludesABuffer.{same_value}
+use Rattle.flatc_tool.proofs.buffers.RefusalExcludesABuffer.{same_value}
 
 -- ---- what the calls return for bytes that hold a value
 
@@ -40,16 +39,15 @@ module _ (laws : LayerLaws) (schema : List ℕ) (b : Bytes) (most : Bounds) (raw
   one_text : (defaults : Bool) (text : List ℕ) → IsText schema b most raw defaults text → text ≡ json_text L defaults v
   one_text defaults text is =
       let same = same_accepted laws schema is.layout L is.accepted accepted in
-      let there = subst (λ (K : LaidSchema). Holds K most raw b is.value) same is.holds in
-      let one = laws.one_value L most raw b is.value v there holds in
-      is.spelled ∙ (ap (λ (K : LaidSchema). json_text K defaults is.value) same
-      ∙ ap (λ (w : Datum). json_text L defaults w) one)
+      let here = subst (λ (K : LaidSchema). IsTextOf K b most raw defaults text) same is.has in
+      let one = laws.one_value L most raw b here.value v here.holds holds in
+      here.spelled ∙ ap (λ (w : Datum). json_text L defaults w) one
 
   text_answer : is_whole v ≡ true → (defaults : Bool) (r : Result (List ℕ) ToolFault)
       → TextAnswer schema b most raw defaults r → IsTextOrMemory (json_text L defaults v) r
   text_answer whole defaults (Ok text) is = one_text defaults text is
   text_answer whole defaults (Err f) answer =
-      λ rule. answer.1 rule (record { layout = L; accepted = accepted; value = v; holds = holds; whole = whole })
+      λ rule. answer.1 rule (record { layout = L; accepted = accepted; has = record { value = v; holds = holds; whole = whole } })
 
   pub there : is_whole v ≡ true → HoldsAndPrints schema b most raw L v
   there whole = record { holds = holds; printed = text_answer whole }
@@ -71,23 +69,21 @@ module _ (laws : LayerLaws) (schema : List ℕ) (b : Bytes) (most : Bounds) (raw
 module _ (laws : LayerLaws) (schema json : List ℕ) (most : Bounds) (unknown : Bool) (b : Bytes)
     (made : IsBinary schema json most unknown b) (L : LaidSchema) (accepted : IsAccepted schema L) (v : Datum)
     (means : JsonMeans L most unknown json v) where
-  layout : made.layout ≡ L
-  layout = same_accepted laws schema made.layout L made.accepted accepted
+  here : IsBinaryOf L json most unknown b
+  here = subst (λ (K : LaidSchema). IsBinaryOf K json most unknown b)
+      (same_accepted laws schema made.layout L made.accepted accepted) made.has
 
-  value : made.value ≡ v
-  value = same_value laws L most unknown json made.value v
-      (subst (λ (K : LaidSchema). JsonMeans K most unknown json made.value) layout made.means) means
+  value : here.value ≡ v
+  value = same_value laws L most unknown json here.value v here.means means
 
   pub held : (raw : Bool) → Holds L most raw b v
-  held raw = subst (λ (w : Datum). Holds L most raw b w) value
-      (subst (λ (K : LaidSchema). Holds K most raw b made.value) layout (made.holds raw))
+  held raw = subst (λ (w : Datum). Holds L most raw b w) value (here.holds raw)
 
   pub fitting : FitsRoot L v
-  fitting = subst (λ (w : Datum). FitsRoot L w) value
-      (subst (λ (K : LaidSchema). FitsRoot K made.value) layout made.fits)
+  fitting = subst (λ (w : Datum). FitsRoot L w) value here.fits
 
   pub in_use : OnlyOld L b
-  in_use = subst (λ (K : LaidSchema). OnlyOld K b) layout made.old_slots
+  in_use = here.old_slots
 
   pub is_known : is_whole v ≡ true
   is_known = laws.meant_is_whole L most unknown means.0 v means.2
@@ -110,7 +106,7 @@ module _ (laws : LayerLaws) (schema json : List ℕ) (most : Bounds) (unknown : 
     here = λ raw. there laws schema b most raw L accepted v (held raw) is_known;
     only = λ raw w other. laws.one_value L most raw b w v other (held raw);
     old_slots = in_use;
-    covered = subst (λ (K : LaidSchema). Covered K b) layout made.covered;
+    covered = here.covered;
     checked = λ raw r answer. check_answer laws schema b most raw L accepted v (held raw) r answer;
     viewed = λ raw r answer. view_answer laws schema b most raw L accepted v (held raw) r answer;
     read = λ raw r answer. value_answer laws schema b most raw L accepted v (held raw) r answer;
@@ -139,19 +135,20 @@ module _ (laws : LayerLaws) (schema : List ℕ) (b : Bytes) (most : Bounds) (raw
 
     answered : (f : ToolFault) → TextRefused schema b most raw f → IsNotMemory f → f ≡ Read fault
     answered (Schema f) refused rule = absurd (refused_excludes laws schema f refused rule L accepted)
-    answered (Read f) refused rule = same_fault f refused.0 refused.1 refused.2.0
-    answered (Text f) refused rule = absurd (none_under refused.0 refused.1 refused.2 refused.3)
-    answered (Json f) refused rule = absurd refused
-    answered (Build f) refused rule = absurd refused
-    answered (Write f) refused rule = absurd refused
-    answered (Breach b) refused rule = absurd refused
-    answered (Older f) refused rule = absurd refused
-    answered (Newer f) refused rule = absurd refused
-    answered FileRead refused rule = absurd refused
-    answered FileWrite refused rule = absurd refused
-    answered FileTooLong refused rule = absurd refused
-    answered BadJson refused rule = absurd refused
-    answered Memory refused rule = absurd refused
+    answered (Read f) refused rule = same_fault f refused.layout refused.accepted refused.has.0
+    answered (Text f) refused rule =
+        absurd (none_under refused.layout refused.accepted refused.has.0 refused.has.1)
+    answered (Json f) refused rule = absurd refused.has
+    answered (Build f) refused rule = absurd refused.has
+    answered (Write f) refused rule = absurd refused.has
+    answered (Breach b) refused rule = absurd refused.has
+    answered (Older f) refused rule = absurd refused.has
+    answered (Newer f) refused rule = absurd refused.has
+    answered FileRead refused rule = absurd refused.has
+    answered FileWrite refused rule = absurd refused.has
+    answered FileTooLong refused rule = absurd refused.has
+    answered BadJson refused rule = absurd refused.has
+    answered Memory refused rule = absurd refused.has
 
     checked : (f : ToolFault) → CheckRefused schema (Some b) most raw f → IsNotMemory f → f ≡ Read fault
     checked (Schema f) refused rule = absurd (refused_excludes laws schema f refused rule L accepted)
@@ -173,34 +170,34 @@ module _ (laws : LayerLaws) (schema : List ℕ) (b : Bytes) (most : Bounds) (raw
         → PrintRefused schema b most raw defaults start known f → IsNotMemory f → f ≡ Read fault
     printed defaults start known (Schema f) refused rule =
         absurd (refused_excludes laws schema f refused rule L accepted)
-    printed defaults start known (Read f) refused rule = same_fault f refused.0 refused.1 refused.2.0
+    printed defaults start known (Read f) refused rule = same_fault f refused.layout refused.accepted refused.has.0
     printed defaults start known (Write (NoMemberName at)) refused rule =
-        absurd (none_under refused.0 refused.1 refused.2 refused.3)
+        absurd (none_under refused.layout refused.accepted refused.has.0 refused.has.1)
     printed defaults start known (Write (WriteFailed n)) refused rule =
-        let is = refused.1 in
-        absurd (none_under is.layout is.accepted is.value is.holds)
-    printed defaults start known (Text f) refused rule = absurd refused
-    printed defaults start known (Json f) refused rule = absurd refused
-    printed defaults start known (Build f) refused rule = absurd refused
-    printed defaults start known (Breach b) refused rule = absurd refused
-    printed defaults start known (Older f) refused rule = absurd refused
-    printed defaults start known (Newer f) refused rule = absurd refused
-    printed defaults start known FileRead refused rule = absurd refused
-    printed defaults start known FileWrite refused rule = absurd refused
-    printed defaults start known FileTooLong refused rule = absurd refused
-    printed defaults start known BadJson refused rule = absurd refused
-    printed defaults start known Memory refused rule = absurd refused
+        let is = refused.has.1 in
+        absurd (none_under refused.layout refused.accepted is.value is.holds)
+    printed defaults start known (Text f) refused rule = absurd refused.has
+    printed defaults start known (Json f) refused rule = absurd refused.has
+    printed defaults start known (Build f) refused rule = absurd refused.has
+    printed defaults start known (Breach b) refused rule = absurd refused.has
+    printed defaults start known (Older f) refused rule = absurd refused.has
+    printed defaults start known (Newer f) refused rule = absurd refused.has
+    printed defaults start known FileRead refused rule = absurd refused.has
+    printed defaults start known FileWrite refused rule = absurd refused.has
+    printed defaults start known FileTooLong refused rule = absurd refused.has
+    printed defaults start known BadJson refused rule = absurd refused.has
+    printed defaults start known Memory refused rule = absurd refused.has
 
   by_outcome : (o : Option ReadFault) → HeldOrFault L most raw b o → NoneLies schema b most raw L
   by_outcome None h = absurd (none h.1.0 h.1.1)
   by_outcome (Some f) h = record {
     fault = f;
     least = h.0;
-    no_text = λ defaults text is. none_under is.layout is.accepted is.value is.holds;
+    no_text = λ defaults text is. none_under is.layout is.accepted is.has.value is.has.holds;
     answered = answered f h.0;
     unsound = λ sound. none_under sound.0 sound.1 sound.2 sound.3;
     checked = checked f h.0;
-    unsent = λ defaults start known sent. none_under sent.1.layout sent.1.accepted sent.1.value sent.1.holds;
+    unsent = λ defaults start known sent. none_under sent.layout sent.accepted sent.has.1.value sent.has.1.holds;
     printed = printed f h.0;
   }
 

@@ -21,7 +21,7 @@ use Rattle.fb_layout.specs.WellMade.{IsSized}
 use Rattle.flatc_tool.specs.declared.schema_layouts.SchemaTextFault.{SchemaTextFault}
 use Rattle.flatc_tool.specs.declared.schema_layouts.SchemaTextFault.TheVariants.{Syntax, Schema, Layout}
 use Rattle.flatc_tool.specs.LayerLaws.{LayerLaws}
-use Rattle.flatc_tool.specs.SchemaTexts.{IsAccepted, IsSyntaxRefused, IsRefused, IsWant}
+use Rattle.flatc_tool.specs.SchemaTexts.{IsAccepted, IsSyntaxRefused, IsRefused, IsWant, OfLayout}
 
 -- a text reads as one list of declarations
 pub one_parse : (laws : LayerLaws) (text : List ℕ) (d e : DeclsRead) → Parses text d → Parses text e → d ≡ e
@@ -96,3 +96,15 @@ refused_excludes laws text (Layout f) refused rule L accepted =
     let schema = laws.one_schema accepted.decls L.schema refused.1 accepted.declared
     (subst (λ (d : DeclsRead). Declares d refused.1) same refused.3) in
     laws.no_layout refused.1 f (refused.4 rule) L schema accepted.made
+
+-- nothing holds of the layout of a text that a layer refuses
+pub refused_has_none : (laws : LayerLaws) (text : List ℕ) (f : SchemaTextFault) (P : LaidSchema → Type 0)
+    → IsRefused text f → ¬ (IsWant f) → ¬ OfLayout text P
+refused_has_none laws text f P refused rule other =
+    refused_excludes laws text f refused rule other.layout other.accepted
+
+-- what doesn't hold of a text's layout holds of no layout of it
+pub none_of_layout : (laws : LayerLaws) (text : List ℕ) (L : LaidSchema) (P : LaidSchema → Type 0)
+    → IsAccepted text L → ¬ P L → ¬ OfLayout text P
+none_of_layout laws text L P accepted none other =
+    none (subst P (same_accepted laws text other.layout L other.accepted accepted) other.has)

@@ -1,6 +1,14 @@
-use Rattle.flatc_tool.proofs.checks.RefusedBytesAreUnsound.{schema_unsound}
+use Rattle.std.proofs.Common.{ap}
+use Rattle.std.specs.Option.{option_map}
+use Rattle.flatc_tool.proofs.checks.RefusedBytesAreUnsound.{schema_unsound, some_unsound}
 use Rattle.flatc_tool.proofs.checks.check.Goals as goal
 
 pub returns-in-Err-clause-exact : goal.returns-in-Err-clause-exact
 returns-in-Err-clause-exact c rule = schema_unsound c.layer_laws.ensures.laws c.args.schema.now _ c.args.limits
     c.args.raw c.in-Err.fault c.in-Err.ensures.refused rule
+
+pub returns-clause-exact : goal.returns-clause-exact
+returns-clause-exact c rule =
+    some_unsound c.layer_laws.ensures.laws c.args.schema.now (option_map (λ b. b.now) c.args.bytes) c.in-Some.bytes.now
+    c.args.limits c.args.raw c.in-Ok.layout c.in-Err-verify.fault (ap (option_map (λ b. b.now)) c.in-Some.is)
+    c.in-Ok.ensures.accepted c.in-Err-verify.ensures.fault

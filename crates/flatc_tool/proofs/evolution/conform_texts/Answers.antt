@@ -1,4 +1,4 @@
-use Rattle.flatc_tool.proofs.evolution.BreachExcludesConforming.{exact_at}
+use Rattle.flatc_tool.proofs.evolution.BreachExcludesConforming.{breach_excludes}
 use Rattle.flatc_tool.proofs.schema_layouts.SchemaTextHasOneLayout.{refused_excludes}
 use Rattle.flatc_tool.proofs.evolution.conform_texts.Goals as goal
 
@@ -6,6 +6,13 @@ pub returns-in-Err-clause-exact : goal.returns-in-Err-clause-exact
 returns-in-Err-clause-exact c rule texts = refused_excludes c.layer_laws.ensures.laws c.args.old.now c.in-Err.fault
     c.in-Err.ensures.refused rule texts.0 texts.2
 
+pub returns-in-Err-schema_of-clause-exact : goal.returns-in-Err-schema_of-clause-exact
+returns-in-Err-schema_of-clause-exact c rule texts =
+    refused_excludes c.layer_laws.ensures.laws c.args.new.now c.in-Err-schema_of.fault
+    c.in-Err-schema_of.ensures.refused rule texts.1 texts.3
+
 pub returns-clause-exact : goal.returns-clause-exact
-returns-clause-exact c = exact_at c.args.old.now c.args.new.now c.in-Ok.layout c.in-Ok.ensures.accepted
-    c.conform_to.result c.conform_to.ensures.exact
+returns-clause-exact c rule =
+    breach_excludes c.layer_laws.ensures.laws c.args.old.now c.args.new.now c.in-Ok.layout c.in-Ok-schema_of.layout
+    c.in-Err-conform.breach c.in-Ok.ensures.accepted c.in-Ok-schema_of.ensures.accepted
+    c.in-Err-conform.ensures.first

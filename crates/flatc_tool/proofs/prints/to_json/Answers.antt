@@ -1,13 +1,16 @@
-use Rattle.std.proofs.Common.{Some, sym, subst}
-use Rattle.flatc_tool.specs.Jobs.{TextRefused}
-use Rattle.flatc_tool.specs.declared.faults.ToolFault.{ToolFault}
-use Rattle.flatc_tool.proofs.prints.PrintedIsTheJsonText.{text_refused}
+use Rattle.std.proofs.lemmas.Result.{IfErr-weaker}
+use Rattle.flatc_tool.specs.Jobs.{MayBeText, MayBeTextOf, IsNotMemory}
+use Rattle.flatc_tool.proofs.schema_layouts.SchemaTextHasOneLayout.{refused_has_none, none_of_layout}
 use Rattle.flatc_tool.proofs.prints.to_json.Goals as goal
 
-pub returns-in-Err-clause-refused : goal.returns-in-Err-clause-refused
-returns-in-Err-clause-refused c =
-    let refused = text_refused c.args.schema.now c.args.bytes.now c.args.limits c.args.raw c.args.defaults
-    (Some c.over-out.result.inner.items) (Some c.print_to.new.out.inner.items) c.in-Err.fault
-    c.in-Err.ensures.refused in
-    subst (λ (f : ToolFault). TextRefused c.args.schema.now c.args.bytes.now c.args.limits c.args.raw f)
-    (sym c.text_fault.ensures) refused
+pub returns-in-Err-clause-exact : goal.returns-in-Err-clause-exact
+returns-in-Err-clause-exact c rule =
+    refused_has_none c.layer_laws.ensures.laws c.args.schema.now c.in-Err.fault _ c.in-Err.ensures.refused rule
+
+pub returns-clause-exact : goal.returns-clause-exact
+returns-clause-exact c =
+    IfErr-weaker c.decode.result _
+    (λ f. IsNotMemory f → ¬ (MayBeText c.args.schema.now c.args.bytes.now c.args.limits c.args.raw))
+    (λ f exact rule. none_of_layout c.layer_laws.ensures.laws c.args.schema.now c.in-Ok.layout
+    (λ L. MayBeTextOf L c.args.bytes.now c.args.limits c.args.raw) c.in-Ok.ensures.accepted (exact rule))
+    c.decode.ensures.exact

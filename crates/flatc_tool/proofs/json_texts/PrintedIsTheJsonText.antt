@@ -1,11 +1,13 @@
 -- What the layers of printing say together.
 use Rattle.std.proofs.Common.{◌≡◌, ℕ, ◌<◌, List, Bool, true, Option, Result, Ok, Err, All, refl, ap, subst}
 use Rattle.fb_layout.specs.Laid.{LaidSchema}
+use Rattle.fb_layout.specs.WellMade.{IsWellMade}
 use Rattle.fb_value.specs.Bounds.{Bounds}
 use Rattle.fb_value.specs.Counts.{is_whole}
 use Rattle.fb_value.specs.Datum.{Datum}
 use Rattle.fb_value.specs.Num.{Bytes}
-use Rattle.fb_value.specs.Holds.{Holds}
+use Rattle.fb_value.specs.declared.faults.ReadFault.{ReadFault}
+use Rattle.fb_value.specs.Holds.{Holds, Refuses}
 use Rattle.fb_json.specs.Meant.{type_place}
 use Rattle.fb_text.specs.Texts.{json_text}
 use Rattle.fb_text.specs.Laws.{TextsAreUtf8}
@@ -13,14 +15,12 @@ use Rattle.fb_text.specs.declared.faults.WriteFault.{WriteFault}
 use Rattle.fb_text.specs.declared.faults.WriteFault.TheVariants.{NoMemberName, WriteFailed}
 use Rattle.fb_text.specs.Printed.{IsPrinted}
 use Rattle.flatc_tool.specs.LayerLaws.{LayerLaws}
-use Rattle.flatc_tool.specs.SchemaTexts.{IsAccepted}
-use Rattle.flatc_tool.specs.Jobs.{IsText, MayBeText, TextRefused}
-use Rattle.flatc_tool.specs.Prints.{IsSent, PrintRefused, IsOfInput, text_fault}
+use Rattle.flatc_tool.specs.Jobs.{IsTextOf, MayBeTextOf, TextRefusedOf}
+use Rattle.flatc_tool.specs.Prints.{IsSentOf, PrintRefusedOf, IsOfInput, text_fault}
 use Rattle.flatc_tool.specs.declared.faults.ToolFault.{ToolFault}
 use Rattle.flatc_tool.specs.declared.faults.ToolFault.TheVariants.{Schema, Json, Build, Read, Text, Write, Breach}
 use Rattle.flatc_tool.specs.declared.faults.ToolFault.TheVariants.{Older, Newer, FileRead, FileWrite, FileTooLong}
 use Rattle.flatc_tool.specs.declared.faults.ToolFault.TheVariants.{BadJson, Memory}
-use Rattle.flatc_tool.proofs.schema_layouts.SchemaTextHasOneLayout.{same_accepted}
 
 -- what a view under layout K and with a root table says is said of the accepted layout
 pub at_layout : (L K : LaidSchema) (table : ℕ) (defaults : Bool) (v : Datum) (start known : Option (List ℕ))
@@ -32,33 +32,31 @@ at_layout L K table defaults v start known r layout root printed =
     subst (λ (M : LaidSchema). IsPrinted (type_place L.schema.root) v (json_text M defaults v) start known r) layout
     here
 
-module _ (laws : LayerLaws) (schema : List ℕ) (b : Bytes) (most : Bounds) (raw defaults : Bool) (L : LaidSchema)
-    (accepted : IsAccepted schema L) (v : Datum) (holds : Holds L most raw b v) (start known : Option (List ℕ)) where
-  text_is : is_whole v ≡ true → IsText schema b most raw defaults (json_text L defaults v)
-  text_is whole = record { layout = L; accepted = accepted; value = v; holds = holds; whole = whole; spelled = refl }
+module _ (laws : LayerLaws) (b : Bytes) (most : Bounds) (raw defaults : Bool) (L : LaidSchema) (v : Datum)
+    (holds : Holds L most raw b v) (start known : Option (List ℕ)) where
+  text_is : is_whole v ≡ true → IsTextOf L b most raw defaults (json_text L defaults v)
+  text_is whole = record { value = v; holds = holds; whole = whole; spelled = refl }
 
-  pub sent : (x : Unit {0}) → TextsAreUtf8 L → All (λ x. x < 256) b
+  pub sent : (x : Unit {0}) → IsWellMade L → TextsAreUtf8 L → All (λ x. x < 256) b
       → IsPrinted (type_place L.schema.root) v (json_text L defaults v) start known (Ok x)
-      → IsSent schema b most raw defaults start known
-  sent x utf8 small printed =
-      let fits = laws.fits_where_held L most raw b v accepted.made small holds in
+      → IsSentOf L b most raw defaults start known
+  sent x made utf8 small printed =
+      let fits = laws.fits_where_held L most raw b v made small holds in
       (json_text L defaults v, text_is printed.0, utf8 defaults v fits, printed.1)
 
   pub unsent : (f : WriteFault)
       → IsPrinted {A = Unit {0}} (type_place L.schema.root) v (json_text L defaults v) start known (Err f)
-      → PrintRefused schema b most raw defaults start known (Write f)
-  unsent (NoMemberName at) printed = (L, accepted, v, holds, printed)
+      → PrintRefusedOf L b most raw defaults start known (Write f)
+  unsent (NoMemberName at) printed = (v, holds, printed)
   unsent (WriteFailed n) printed =
       (json_text L defaults v, text_is printed.0, printed.1, printed.2, printed.3, printed.4)
 
   pub unsent_excludes : (f : WriteFault)
       → IsPrinted {A = Unit {0}} (type_place L.schema.root) v (json_text L defaults v) start known (Err f)
-      → IsOfInput (Write f) → MayBeText schema b most raw → ⊥
+      → IsOfInput (Write f) → MayBeTextOf L b most raw → ⊥
   unsent_excludes (WriteFailed n) printed rule may = rule
   unsent_excludes (NoMemberName at) printed rule may =
-      let layout = same_accepted laws schema may.layout L may.accepted accepted in
-      let there = subst (λ (K : LaidSchema). Holds K most raw b may.value) layout may.holds in
-      let same = laws.one_value L most raw b may.value v there holds in
+      let same = laws.one_value L most raw b may.value v may.holds holds in
       let whole = may.whole in
       let told = printed.0 in
       let is : is_whole may.value ≡ is_whole v = ap is_whole same in
@@ -66,15 +64,15 @@ module _ (laws : LayerLaws) (schema : List ℕ) (b : Bytes) (most : Bounds) (raw
 
 -- ---- printing to memory
 
-module _ (schema : List ℕ) (b : Bytes) (most : Bounds) (raw defaults : Bool) (start known : Option (List ℕ)) where
-  pub text_refused : (f : ToolFault) → PrintRefused schema b most raw defaults start known f
-      → TextRefused schema b most raw (text_fault f)
-  text_refused (Schema f) refused = refused
+module _ (L : LaidSchema) (b : Bytes) (most : Bounds) (raw defaults : Bool) (start known : Option (List ℕ)) where
+  pub text_refused : (f : ToolFault) → PrintRefusedOf L b most raw defaults start known f
+      → TextRefusedOf L b most raw (text_fault f)
   text_refused (Read f) refused = refused
   text_refused (Write (NoMemberName at)) refused = refused
   text_refused (Write (WriteFailed n)) refused =
       let text = refused.1 in
-      (text.layout, text.accepted, text.value, text.holds, text.whole)
+      (text.value, text.holds, text.whole)
+  text_refused (Schema f) refused = absurd refused
   text_refused (Json f) refused = absurd refused
   text_refused (Build f) refused = absurd refused
   text_refused (Text f) refused = absurd refused
@@ -86,3 +84,8 @@ module _ (schema : List ℕ) (b : Bytes) (most : Bounds) (raw defaults : Bool) (
   text_refused FileTooLong refused = absurd refused
   text_refused BadJson refused = absurd refused
   text_refused Memory refused = absurd refused
+
+-- bytes with a fault hold no value, so that they have no text
+pub bytes_exclude : (L : LaidSchema) (b : Bytes) (most : Bounds) (raw : Bool) (f : ReadFault) → Refuses L most raw b f
+    → MayBeTextOf L b most raw → ⊥
+bytes_exclude L b most raw f refuses may = refuses.1 may.value may.holds

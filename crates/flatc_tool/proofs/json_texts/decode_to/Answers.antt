@@ -1,16 +1,15 @@
 use Rattle.std.proofs.Common.{◌<◌, All, Ok, Err, arith}
 use Rattle.std.proofs.lemmas.List.Elements.{All-from_get_or}
 use Rattle.fb_text.specs.Noted.{writer_of}
-use Rattle.flatc_tool.proofs.prints.RefusalExcludesAText.{bytes_exclude}
-use Rattle.flatc_tool.proofs.prints.PrintedIsTheJsonText.{at_layout, sent, unsent, unsent_excludes}
-use Rattle.flatc_tool.proofs.prints.print_under.Goals as goal
+use Rattle.flatc_tool.proofs.json_texts.PrintedIsTheJsonText.{at_layout, bytes_exclude, sent, unsent, unsent_excludes}
+use Rattle.flatc_tool.proofs.json_texts.decode_to.Goals as goal
 
 pub returns-in-Err-clause-exact : goal.returns-in-Err-clause-exact
-returns-in-Err-clause-exact g c rule schema accepted = bytes_exclude c.layer_laws.ensures.laws schema c.args.bytes.now
-    c.args.limits c.args.raw c.args.layout.now accepted c.in-Err.fault c.in-Err.ensures.fault
+returns-in-Err-clause-exact g c rule = bytes_exclude c.args.layout.now c.args.bytes.now c.args.options.now.limits
+    c.args.options.now.raw_binary c.in-Err.fault c.in-Err.ensures.fault
 
 pub returns-in-Ok-write_text-clause-printed : goal.returns-in-Ok-write_text-clause-printed
-returns-in-Ok-write_text-clause-printed g c schema accepted =
+returns-in-Ok-write_text-clause-printed g c =
     let L = c.args.layout.now in
     let held = c.in-Ok.ensures.held in
     let view = c.in-Ok.view in
@@ -19,13 +18,14 @@ returns-in-Ok-write_text-clause-printed g c schema accepted =
     let printed = c.in-Ok-write_text.ensures.printed held.0 (c.in-Ok.ensures.stands held.0 held.1) in
     let small : All (λ x. x < 256) c.args.bytes.now =
     All-from_get_or (λ x. x < 256) c.args.bytes.now 0 (λ i less. (let fits = c.type_inv.bytes i in omega arith)) in
-    let root = at_layout L view.layout.now view.table.0 c.args.defaults held.0 start known (Ok tt)
+    let root = at_layout L view.layout.now view.table.0 c.args.options.now.defaults_json held.0 start known (Ok tt)
     c.in-Ok.ensures.root.0 c.in-Ok.ensures.root.1 printed in
-    sent c.layer_laws.ensures.laws schema c.args.bytes.now c.args.limits c.args.raw c.args.defaults L accepted held.0
-    held.1 start known tt c.texts_are_utf8.ensures small root
+    sent c.layer_laws.ensures.laws c.args.bytes.now c.args.options.now.limits c.args.options.now.raw_binary
+    c.args.options.now.defaults_json L held.0 held.1 start known tt c.schema-schema.ensures.made c.texts_are_utf8.ensures small
+    root
 
 pub returns-in-Err-write_text-clause-refused : goal.returns-in-Err-write_text-clause-refused
-returns-in-Err-write_text-clause-refused g c schema accepted =
+returns-in-Err-write_text-clause-refused g c =
     let L = c.args.layout.now in
     let held = c.in-Ok.ensures.held in
     let view = c.in-Ok.view in
@@ -33,13 +33,13 @@ returns-in-Err-write_text-clause-refused g c schema accepted =
     let start = g.W.Write.contents (writer_of c.args.out.now) in
     let known = g.W.Write.contents (writer_of c.write_text.new.out) in
     let printed = c.in-Err-write_text.ensures.printed held.0 (c.in-Ok.ensures.stands held.0 held.1) in
-    let root = at_layout L view.layout.now view.table.0 c.args.defaults held.0 start known (Err fault)
+    let root = at_layout L view.layout.now view.table.0 c.args.options.now.defaults_json held.0 start known (Err fault)
     c.in-Ok.ensures.root.0 c.in-Ok.ensures.root.1 printed in
-    unsent c.layer_laws.ensures.laws schema c.args.bytes.now c.args.limits c.args.raw c.args.defaults L accepted held.0
-    held.1 start known fault root
+    unsent c.layer_laws.ensures.laws c.args.bytes.now c.args.options.now.limits c.args.options.now.raw_binary
+    c.args.options.now.defaults_json L held.0 held.1 start known fault root
 
 pub returns-in-Err-write_text-clause-exact : goal.returns-in-Err-write_text-clause-exact
-returns-in-Err-write_text-clause-exact g c rule schema accepted =
+returns-in-Err-write_text-clause-exact g c rule =
     let L = c.args.layout.now in
     let held = c.in-Ok.ensures.held in
     let view = c.in-Ok.view in
@@ -47,7 +47,7 @@ returns-in-Err-write_text-clause-exact g c rule schema accepted =
     let start = g.W.Write.contents (writer_of c.args.out.now) in
     let known = g.W.Write.contents (writer_of c.write_text.new.out) in
     let printed = c.in-Err-write_text.ensures.printed held.0 (c.in-Ok.ensures.stands held.0 held.1) in
-    let root = at_layout L view.layout.now view.table.0 c.args.defaults held.0 start known (Err fault)
+    let root = at_layout L view.layout.now view.table.0 c.args.options.now.defaults_json held.0 start known (Err fault)
     c.in-Ok.ensures.root.0 c.in-Ok.ensures.root.1 printed in
-    unsent_excludes c.layer_laws.ensures.laws schema c.args.bytes.now c.args.limits c.args.raw c.args.defaults L
-    accepted held.0 held.1 start known fault root rule
+    unsent_excludes c.layer_laws.ensures.laws c.args.bytes.now c.args.options.now.limits
+    c.args.options.now.raw_binary c.args.options.now.defaults_json L held.0 held.1 start known fault root rule

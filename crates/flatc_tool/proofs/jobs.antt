@@ -1,2 +1,0 @@
--- What the proofs of src/jobs.rt use.
-pub mod RefusalExcludesABuffer

@@ -1,0 +1,2 @@
+-- What the proofs of src/json_texts.rt use.
+pub mod PrintedIsTheJsonText

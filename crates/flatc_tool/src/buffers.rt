@@ -1,0 +1,64 @@
+//! JSON texts made buffers under a layout.
+ghost use Rattle.std.specs.Prelude.{◌≡◌, ◌⊎◌, IfOk, IfErr};
+ghost use Rattle.serde_json.specs.Data.{Data};
+ghost use Rattle.serde_json.specs.View.{view as tree_view};
+ghost use Rattle.flatc_tool.specs.Jobs.{IsBinaryOf, MayBeBinaryOf, BinaryRefusedOf, IsNotMemory};
+ghost use Rattle.flatc_tool.specs.JsonText.{IsTree};
+
+use crate::faults::ToolFault;
+use crate::laws::layer_laws;
+use crate::options::EncodeOptions;
+use fb_build::build;
+use fb_json::value_of;
+use fb_layout::Layout;
+use serde_json::Value as Json;
+use std::alloc::Global;
+
+/// The tree of a JSON text.
+fn tree_of(alloc: Global, json: &[u8]) -> Result<Json, ToolFault>
+    ensures tree { IfOk result (λ v. IsTree json.now (tree_view v)) }
+    ensures refused { IfErr result (λ f. (f ≡ ToolFault.Memory)
+        ⊎ ((f ≡ ToolFault.BadJson) × ((t : Data) → ¬ IsTree json.now t))) }
+{
+    Json::from_slice(alloc, json).map_err(|e| if e.is_memory() {
+        ToolFault::Memory
+    } else {
+        ToolFault::BadJson
+    })
+}
+
+/// The buffer of a JSON text under a layout, which may be kept for any number of texts.
+///
+/// The JSON text is checked first, then the value that it means, then that value's size; the error
+/// is that of the first of these that refuses. The buffer's first bytes are its header: there is no
+/// length in front of it.
+pub fn encode(
+    alloc: Global,
+    layout: &Layout,
+    json: &[u8],
+    options: &EncodeOptions,
+) -> Result<Vec<u8>, ToolFault>
+    ensures binary { IfOk result
+        (λ b. IsBinaryOf layout.now json.now options.now.limits options.now.unknown_json b.items) }
+    ensures refused { IfErr result
+        (BinaryRefusedOf layout.now json.now options.now.limits options.now.unknown_json) }
+    ensures exact { IfErr result (λ f. IsNotMemory f
+        → ¬ MayBeBinaryOf layout.now json.now options.now.limits options.now.unknown_json) }
+{
+    layer_laws();
+    let tree = match tree_of(alloc, json) {
+        Ok(tree) => tree,
+        Err(fault) => return Err(fault),
+    };
+    let limits = options.limits;
+    let _depth = limits.most_depth(); // its contract: at most 127
+    let value = match value_of(alloc, layout, &tree, limits, options.unknown_json) {
+        Ok(value) => value,
+        Err(fault) => return Err(ToolFault::Json(fault)),
+    };
+    drop(tree); // so that it and the buffer don't take memory at once
+    match build(alloc, layout, &value) {
+        Ok(bytes) => Ok(bytes),
+        Err(fault) => Err(ToolFault::Build(fault)),
+    }
+}

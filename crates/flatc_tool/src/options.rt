@@ -1,0 +1,77 @@
+//! How JSON and buffers are read and written.
+ghost use Rattle.std.specs.Prelude.{◌≡◌, false};
+ghost use Rattle.flatc_tool.specs.Options.{usual_limits};
+
+use fb_value::Limits;
+
+/// At most 64 tables within each other, and 100,000,000 cells.
+fn usual_limits() -> Limits
+    ensures { result ≡ usual_limits }
+{
+    let Some(limits) = Limits::new(64, 100_000_000) else {
+        unreachable!()
+    };
+    limits
+}
+
+/// How a JSON text is made a buffer. By default: within the usual limits, and an unknown JSON field
+/// is refused.
+#[derive(Clone, Copy, Debug)]
+pub struct EncodeOptions {
+    /// How deep tables may be nested, and how many cells there may be.
+    pub limits: Limits,
+    /// Ignores unknown JSON fields, as `--unknown-json` does.
+    pub unknown_json: bool,
+}
+
+impl EncodeOptions {
+    /// The usual limits, and unknown JSON fields are refused.
+    pub fn new() -> EncodeOptions
+        ensures limits { result.limits ≡ usual_limits }
+        ensures unknown { result.unknown_json ≡ false }
+    {
+        EncodeOptions {
+            limits: usual_limits(),
+            unknown_json: false,
+        }
+    }
+}
+
+impl Default for EncodeOptions {
+    fn default() -> EncodeOptions {
+        EncodeOptions::new()
+    }
+}
+
+/// How a buffer is made a JSON text. By default: within the usual limits, the file identifier is
+/// checked, and scalars with their default values are left out.
+#[derive(Clone, Copy, Debug)]
+pub struct DecodeOptions {
+    /// How deep tables may be nested, and how many cells there may be.
+    pub limits: Limits,
+    /// Skips the file identifier check, as `--raw-binary` does.
+    pub raw_binary: bool,
+    /// Includes scalars with their default values, as `--defaults-json` does.
+    pub defaults_json: bool,
+}
+
+impl DecodeOptions {
+    /// The usual limits, the file identifier is checked, and default values are left out.
+    pub fn new() -> DecodeOptions
+        ensures limits { result.limits ≡ usual_limits }
+        ensures raw { result.raw_binary ≡ false }
+        ensures defaults { result.defaults_json ≡ false }
+    {
+        DecodeOptions {
+            limits: usual_limits(),
+            raw_binary: false,
+            defaults_json: false,
+        }
+    }
+}
+
+impl Default for DecodeOptions {
+    fn default() -> DecodeOptions {
+        DecodeOptions::new()
+    }
+}
