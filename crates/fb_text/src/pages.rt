@@ -2,8 +2,9 @@
 ghost use Rattle.std.specs.Prelude.{◌≡◌, ◌≤◌, ◌+◌, [], ◌++◌, length, true};
 ghost use Rattle.fb_text.specs.declared.pages.TheConstants.{CAPACITY};
 
-/// How many bytes a page takes: as many as a pipe holds on Linux.
-const CAPACITY: usize = 65_536;
+/// How many bytes a page takes: as many as Rust's `BufWriter` collects. It is set to zero for each
+/// writer, which a larger page would make the most part of printing a short text.
+const CAPACITY: usize = 8_192;
 
 /// Bytes of a text that wait to be written, so that a writer gets few large pieces, and how many
 /// were written before. They take no allocation.
