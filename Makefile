@@ -4,12 +4,14 @@
 # make install    copies it to PREFIX/bin (default /usr/local) as NAME (default flatc)
 # make test       the gate: every proof from nothing, the must-fail edits, the tests, the program
 # make mutations  further edits that the prover has to refuse, outside the gate
+# make soak       a million damaged buffers of schemas made from SEED, and files of gigabytes, outside the gate
 
 PREFIX = /usr/local
 NAME = flatc
 PROGRAM = crates/flatc/out/flatc
+SEED = 1
 
-.PHONY: run try build install test mutations
+.PHONY: run try build install test mutations soak
 
 run: build
 	@tests/example.sh $(PROGRAM)
@@ -31,3 +33,7 @@ test:
 
 mutations: build
 	@python3 tools/mutations.py
+
+soak: build
+	@python3 tools/build.py hostile
+	@python3 tests/soak.py crates/hostile/out/hostile --seed $(SEED) --schemas 2000 --damages 500 --size $(PROGRAM)

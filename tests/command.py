@@ -128,7 +128,6 @@ def jobs():
     row("check with the identifier unchecked", ["check", "--raw-binary", "test.fbs", "other.bin"], 0, b"ok\n")
     row("two dashes before paths", ["check", "--", "one.fbs", "seven.bin"], 0, b"ok\n")
     row("a path that begins with a dash", ["check", "--", "-dash.fbs"], 0, b"ok\n")
-    row("the same path for JSON and OUT", ["binary", "one.fbs", "copy.json", "copy.json"], 0, files={"copy.json": SEVEN})
 
 
 def refusals():
@@ -196,6 +195,8 @@ def files():
     refused("OUT in a missing folder", ["binary", "one.fbs", "seven.json", "missing/out"], b"111 FileWrite")
     refused("OUT is a folder", ["binary", "one.fbs", "seven.json", "folder"], b"111 FileWrite")
     refused("OUT is full", ["binary", "one.fbs", "seven.json", "/dev/full"], b"111 FileWrite")
+    same = {"copy.json": FILES["seven.json"]}
+    refused("the same path for JSON and OUT", ["binary", "one.fbs", "copy.json", "copy.json"], b"111 FileWrite", same)
     unreadable()
     refused("a file over the limit", ["check", "one.fbs", "over"], b"112 FileTooLong")
     refused("a file of the greatest length", ["check", "one.fbs", "longest"], b"55 ZeroOffset at 0")

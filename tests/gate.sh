@@ -1,9 +1,12 @@
 #!/usr/bin/env bash
 # The gate: all that rt ci proves and runs, whether each mutation can still be applied and each edit in not-compiled/
-# is refused, and the built program with words and files. The last line counts all of it: 'N passed, M failed'.
+# is refused, and the built program: with words and files, with what is done to OUT, and where memory, pipes and stack
+# run out; and the calls with growths refused, and some thousand damaged buffers. The last line counts all of it:
+# 'N passed, M failed'.
 set -uo pipefail
 cd "$(dirname "$0")/.."
 program=crates/flatc/out/flatc
+hostile=crates/hostile/out/hostile
 logs=$(mktemp -d)
 trap 'rm -rf "$logs"' EXIT
 status=0
@@ -13,12 +16,20 @@ python3 tools/mutations.py --applies | tee "$logs/mutations" || status=1
 if [ ! -x "$program" ]; then
     make --silent build || status=1
 fi
+if [ ! -x "$hostile" ]; then
+    python3 tools/build.py hostile || status=1
+fi
 python3 tools/mutations.py --not-compiled | tee "$logs/not-compiled" || status=1
-python3 tests/command.py "$program" | tee "$logs/command" || status=1
+for part in command outputs hostile; do
+    python3 "tests/$part.py" "$program" | tee "$logs/$part" || status=1
+done
+for part in growths soak; do
+    python3 "tests/$part.py" "$hostile" | tee "$logs/$part" || status=1
+done
 
 passed=0
 failed=0
-for log in "$logs/ci" "$logs/mutations" "$logs/not-compiled" "$logs/command"; do
+for log in "$logs"/{ci,mutations,not-compiled,command,outputs,hostile,growths,soak}; do
     if [[ $(tail -n 1 "$log") =~ ^([0-9]+)\ passed,\ ([0-9]+)\ failed$ ]]; then
         passed=$((passed + BASH_REMATCH[1]))
         failed=$((failed + BASH_REMATCH[2]))

@@ -1,6 +1,9 @@
 //! The command `flatc`: files and streams round the calls over bytes.
 #![tactic(auto)]
 
+mod outputs;
+
+use crate::outputs::write_out;
 use clap::Error;
 use clap::error::ErrorKind;
 use flatc_cli::{Job, job_of};
@@ -37,11 +40,14 @@ fn limits() -> Limits {
 }
 
 /// A JSON text made a buffer, and the buffer's JSON text.
+#[inline(never)]
 fn example(alloc: Global) -> Result<String, ToolFault> {
     let bytes = to_binary(alloc, SCHEMA, JSON, limits(), false)?;
     to_json(alloc, SCHEMA, bytes.as_slice(), limits(), false, false)
 }
 
+// Reading takes a large buffer of its stack, which is to be free again when the job begins.
+#[inline(never)]
 fn file_of(rt: &HostRuntime, path: &str) -> Result<Vec<u8>, ToolFault> {
     let Ok(file) = fs::open(rt, path) else {
         return Err(ToolFault::FileRead);
@@ -56,16 +62,29 @@ fn write_buffer(
     out: &str,
     unknown: bool,
 ) -> Result<(), ToolFault> {
-    let schema = file_of(rt, schema)?;
-    let json = file_of(rt, json)?;
+    let schema_text = file_of(rt, schema)?;
+    let json_text = file_of(rt, json)?;
     let bytes = to_binary(
         rt.alloc(),
-        schema.as_slice(),
-        json.as_slice(),
+        schema_text.as_slice(),
+        json_text.as_slice(),
         limits(),
         unknown,
     )?;
-    fs::write(rt, out, bytes.as_slice()).map_err(|_| ToolFault::FileWrite)
+    write_out(rt, out, bytes.as_slice(), [schema, json])
+}
+
+// The page that is written at once is as large, so no other job has it in its frame.
+#[inline(never)]
+fn print_bytes(
+    rt: &HostRuntime,
+    schema: &[u8],
+    bytes: &[u8],
+    raw: bool,
+    defaults: bool,
+) -> Result<(), ToolFault> {
+    let mut out = Noted::over(rt.stdout());
+    print_to(rt.alloc(), schema, bytes, limits(), raw, defaults, &mut out)
 }
 
 fn print_buffer(
@@ -77,15 +96,7 @@ fn print_buffer(
 ) -> Result<(), ToolFault> {
     let schema = file_of(rt, schema)?;
     let bytes = file_of(rt, bin)?;
-    print_to(
-        rt.alloc(),
-        schema.as_slice(),
-        bytes.as_slice(),
-        limits(),
-        raw,
-        defaults,
-        &mut Noted::over(rt.stdout()),
-    )
+    print_bytes(rt, schema.as_slice(), bytes.as_slice(), raw, defaults)
 }
 
 fn check_files(
@@ -152,39 +163,64 @@ fn do_job(rt: &HostRuntime, job: &Job) -> Result<&'static str, ToolFault> {
     }
 }
 
-/// Prints what clap says of words that ask for no job, and returns the status.
-fn refuse(rt: &HostRuntime, error: &Error) -> io::Result<u8> {
-    if error.kind() == ErrorKind::OutOfMemory {
-        eprintln!(rt; "114 Memory")?;
-        return Ok(1);
-    }
-    error.print(rt)?;
-    Ok(if error.use_stderr() { USAGE } else { 0 })
+/// Tells that memory ran out, and returns the status.
+fn tell_memory(rt: &HostRuntime) -> u8 {
+    let answer = Err(ToolFault::Memory);
+    report(rt.alloc(), answer, &mut rt.stdout(), &mut rt.stderr())
 }
 
-fn main(rt: HostRuntime) -> io::Result<ExitCode> {
-    let words: Vec<String> = match env::args(&rt) {
-        Ok(words) => words.skip(1).collect(rt.alloc())?,
-        Err(_) => {
-            eprint!(rt; "{NOT_UTF8}")?;
-            return Ok(ExitCode::from(USAGE));
+/// Prints what clap says of words that ask for no job, and returns the status.
+fn refuse(rt: &HostRuntime, error: &Error) -> u8 {
+    if error.kind() == ErrorKind::OutOfMemory {
+        return tell_memory(rt);
+    }
+    match error.print(rt) {
+        Ok(()) => if error.use_stderr() { USAGE } else { 0 },
+        Err(failed) if failed.kind() == io::ErrorKind::OutOfMemory => tell_memory(rt),
+        Err(_) => 1,
+    }
+}
+
+/// Tells why the words can't be read, and returns the status.
+fn refuse_words(rt: &HostRuntime, error: &io::Error) -> u8 {
+    if error.kind() == io::ErrorKind::OutOfMemory {
+        return tell_memory(rt);
+    }
+    let _told = eprint!(rt; "{NOT_UTF8}");
+    USAGE
+}
+
+/// The words of the command line, without the program's name.
+fn words_of(rt: &HostRuntime) -> io::Result<Vec<String>> {
+    Ok(env::args(rt)?.skip(1).collect(rt.alloc())?)
+}
+
+/// Does what the words ask for, and returns the status.
+fn run(rt: &HostRuntime, words: &[String]) -> u8 {
+    match job_of(rt.alloc(), words) {
+        Ok(job) => {
+            let answer = do_job(rt, &job);
+            report(rt.alloc(), answer, &mut rt.stdout(), &mut rt.stderr())
         }
+        Err(error) => refuse(rt, &error),
+    }
+}
+
+/// Shows the example, and returns the status.
+fn show_example(rt: &HostRuntime) -> u8 {
+    let answer = example(rt.alloc());
+    let answer = match &answer {
+        Ok(text) => Ok(text.as_str()),
+        Err(fault) => Err(*fault),
     };
-    let status = if words.is_empty() {
-        let answer = example(rt.alloc());
-        let answer = match &answer {
-            Ok(text) => Ok(text.as_str()),
-            Err(fault) => Err(*fault),
-        };
-        report(rt.alloc(), answer, &mut rt.stdout(), &mut rt.stderr())
-    } else {
-        match job_of(rt.alloc(), words.as_slice()) {
-            Ok(job) => {
-                let answer = do_job(&rt, &job);
-                report(rt.alloc(), answer, &mut rt.stdout(), &mut rt.stderr())
-            }
-            Err(error) => refuse(&rt, &error)?,
-        }
+    report(rt.alloc(), answer, &mut rt.stdout(), &mut rt.stderr())
+}
+
+fn main(rt: HostRuntime) -> ExitCode {
+    let status = match words_of(&rt) {
+        Ok(words) if words.is_empty() => show_example(&rt),
+        Ok(words) => run(&rt, words.as_slice()),
+        Err(error) => refuse_words(&rt, &error),
     };
-    Ok(ExitCode::from(status))
+    ExitCode::from(status)
 }

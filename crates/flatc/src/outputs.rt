@@ -1,0 +1,132 @@
+//! Where a buffer is written to: never over an input, and never half.
+use flatc_tool::ToolFault;
+use std::fs::{self, File, Metadata, OpenOptions, Permissions};
+use std::io::{self, ErrorKind, Write};
+use std::os::unix::fs::{MetadataExt, OpenOptionsExt, PermissionsExt, chown};
+use std::path::{Path, PathBuf};
+use std::process;
+
+// What only its owner may read, until it has the mode of the file that it replaces.
+const PRIVATE: u32 = 0o600;
+
+// What the process's mask leaves of this is the mode of a new file.
+const USUAL: u32 = 0o666;
+
+const PERMISSION_BITS: u32 = 0o777;
+
+// How many names are tried for a file beside another.
+const NAMES: u32 = 1000;
+
+fn refused() -> io::Error {
+    io::Error::from(ErrorKind::PermissionDenied)
+}
+
+/// Whether a path leads to a file.
+fn leads_to(rt: &HostRuntime, path: &str, file: &Metadata) -> bool {
+    match fs::metadata(rt, path) {
+        Ok(found) => found.dev() == file.dev() && found.ino() == file.ino(),
+        Err(_) => false,
+    }
+}
+
+fn is_named_as_text(path: &str) -> bool {
+    path.as_bytes().ends_with(b".json") || path.as_bytes().ends_with(b".fbs")
+}
+
+/// Whether a path that is there leads to what isn't to be lost: an input, or a file that is named
+/// as a JSON text or a schema.
+fn is_guarded(rt: &HostRuntime, out: &str, inputs: [&str; 2]) -> bool {
+    if is_named_as_text(out) {
+        return true;
+    }
+    let [schema, json] = inputs;
+    match fs::metadata(rt, out) {
+        Ok(found) if found.is_file() => {
+            leads_to(rt, schema, &found) || leads_to(rt, json, &found)
+        }
+        _ => false,
+    }
+}
+
+/// A new file in the folder of another, with its path.
+fn create_beside(rt: &HostRuntime, out: &str, mode: u32) -> io::Result<(PathBuf, File)> {
+    let id = process::id(rt.process());
+    for n in 0..NAMES {
+        let name = format!(in rt.alloc(); ".flatc-{id}-{n}.tmp")?;
+        let path = Path::new(out).with_file_name(rt.alloc(), name.as_str())?;
+        let mut options = OpenOptions::new();
+        options.write(true).create_new(true).mode(mode);
+        match options.open(rt, path.as_str()) {
+            Ok(file) => return Ok((path, file)),
+            Err(error) if error.kind() == ErrorKind::AlreadyExists => {}
+            Err(error) => return Err(error),
+        }
+    }
+    Err(io::Error::from(ErrorKind::AlreadyExists))
+}
+
+/// Gives a new file the mode of another, and its owner where that is allowed.
+fn take_over(rt: &HostRuntime, file: &File, path: &str, old: &Metadata) -> io::Result<()> {
+    let _owner = chown(rt, path, Some(old.uid()), Some(old.gid()));
+    file.set_permissions(Permissions::from_mode(old.mode() & PERMISSION_BITS))
+}
+
+fn fill_and_rename(
+    rt: &HostRuntime,
+    (path, mut file): (&str, File),
+    out: &str,
+    bytes: &[u8],
+    old: Option<&Metadata>,
+) -> io::Result<()> {
+    file.write_all(bytes)?;
+    if let Some(old) = old {
+        take_over(rt, &file, path, old)?;
+    }
+    fs::rename(rt, path, out)
+}
+
+/// Writes bytes to a file beside `out`, and renames it, so that a failure leaves `out` as it was.
+fn replace(rt: &HostRuntime, out: &str, bytes: &[u8], old: Option<&Metadata>) -> io::Result<()> {
+    let mode = if old.is_some() { PRIVATE } else { USUAL };
+    let (path, file) = create_beside(rt, out, mode)?;
+    let done = fill_and_rename(rt, (path.as_str(), file), out, bytes, old);
+    if done.is_err() {
+        let _gone = fs::remove_file(rt, path.as_str());
+    }
+    done
+}
+
+fn write(rt: &HostRuntime, out: &str, bytes: &[u8], inputs: [&str; 2]) -> io::Result<()> {
+    let old = match fs::symlink_metadata(rt, out) {
+        Ok(old) => old,
+        Err(error) if error.kind() == ErrorKind::NotFound => return replace(rt, out, bytes, None),
+        Err(error) => return Err(error),
+    };
+    if is_guarded(rt, out, inputs) {
+        return Err(refused());
+    }
+    if !old.is_file() {
+        return fs::write(rt, out, bytes);
+    }
+    // A file that may not be written isn't replaced either.
+    let _writable = OpenOptions::new().write(true).open(rt, out)?;
+    replace(rt, out, bytes, Some(&old))
+}
+
+/// Writes bytes to `out`.
+///
+/// A regular file is replaced whole or left as it was; what else is there, as a device, a pipe or a
+/// link, is written directly. `FileWrite` is returned where that fails, where `out` is one of the
+/// inputs, and where it is there and its name ends in `.json` or `.fbs`.
+pub(crate) fn write_out(
+    rt: &HostRuntime,
+    out: &str,
+    bytes: &[u8],
+    inputs: [&str; 2],
+) -> Result<(), ToolFault> {
+    match write(rt, out, bytes, inputs) {
+        Ok(()) => Ok(()),
+        Err(error) if error.kind() == ErrorKind::OutOfMemory => Err(ToolFault::Memory),
+        Err(_) => Err(ToolFault::FileWrite),
+    }
+}

@@ -1,0 +1,107 @@
+//! The part of a run whose growths may be refused, and what came of a call there.
+use std::io::{self, Write};
+
+/// What came of a call: the right answer, want of memory by the number of its layer, or anything else.
+#[derive(Clone, Copy, PartialEq, Eq, Drop)]
+pub(crate) enum Outcome {
+    Right,
+    /// 0 for an allocation error without a number.
+    Short(u8),
+    Wrong,
+}
+
+impl Outcome {
+    pub(crate) fn of(is_right: bool) -> Outcome {
+        if is_right {
+            Outcome::Right
+        } else {
+            Outcome::Wrong
+        }
+    }
+
+    /// Of a refusal: `Short` for a number of want of memory.
+    pub(crate) fn of_refusal(number: u8) -> Outcome {
+        match number {
+            7 | 23 | 32 | 41 | 64 | 80 | 84 | 114 => Outcome::Short(number),
+            _ => Outcome::Wrong,
+        }
+    }
+}
+
+/// What came of a call while growths may have been refused, and of the same call afterwards.
+pub(crate) type Both = (Outcome, Outcome);
+
+/// From here on growths may be refused, where the run is preloaded with what refuses them. A line that
+/// can't be written shows: no growth is counted then.
+pub(crate) fn arm(rt: &HostRuntime) {
+    let _sent = rt.stdout().write_all(b"armed\n");
+}
+
+/// From here on no growth is refused.
+pub(crate) fn disarm(rt: &HostRuntime) {
+    let _sent = rt.stdout().write_all(b"disarmed\n");
+}
+
+/// A writer that takes all that it is brought, and knows whether it is one of two texts; no memory is
+/// allocated.
+#[derive(Clone, Copy, Drop)]
+pub(crate) struct Matching<'t> {
+    left: Option<&'t [u8]>,
+    other_left: Option<&'t [u8]>,
+}
+
+fn rest_of<'t>(left: Option<&'t [u8]>, bytes: &[u8]) -> Option<&'t [u8]> {
+    match left {
+        Some(left) => left.strip_prefix(bytes),
+        None => None,
+    }
+}
+
+fn is_done(left: Option<&[u8]>) -> bool {
+    match left {
+        Some(left) => left.is_empty(),
+        None => false,
+    }
+}
+
+impl<'t> Matching<'t> {
+    pub(crate) fn one(text: &'t str) -> Matching<'t> {
+        Matching {
+            left: Some(text.as_bytes()),
+            other_left: None,
+        }
+    }
+
+    pub(crate) fn either(text: &'t str, other: &'t str) -> Matching<'t> {
+        Matching {
+            left: Some(text.as_bytes()),
+            other_left: Some(other.as_bytes()),
+        }
+    }
+
+    /// Whether the first text was written, whole.
+    pub(crate) fn is_first(&self) -> bool {
+        is_done(self.left)
+    }
+
+    /// Whether the other text was written, whole.
+    pub(crate) fn is_other(&self) -> bool {
+        is_done(self.other_left)
+    }
+}
+
+impl Write for Matching<'_> {
+    ghost use Rattle.std.specs.Prelude.{None};
+
+    ghost contents = { λ _. None };
+
+    fn write(&mut self, buf: &[u8]) -> io::Result<usize> {
+        self.left = rest_of(self.left, buf);
+        self.other_left = rest_of(self.other_left, buf);
+        Ok(buf.len())
+    }
+
+    fn flush(&mut self) -> io::Result<()> {
+        Ok(())
+    }
+}

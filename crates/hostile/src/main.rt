@@ -1,0 +1,133 @@
+//! `hostile CALL EXAMPLE` makes one call of the crates, while growths of the heap may be refused;
+//! `hostile soak` damages buffers under schemas that it reads; `hostile deep CALL LEVELS` makes a call
+//! on what is nested deep; without words each call is made once on each example.
+#![tactic(auto)]
+
+mod arming;
+mod deep;
+mod dice;
+mod examples;
+mod jobs;
+mod meanings;
+mod memoryless;
+mod schemas;
+mod soak;
+mod values;
+
+use crate::arming::{Both, Outcome};
+use crate::deep::go_deep;
+use crate::examples::{EXAMPLES, Example};
+use crate::jobs::try_job;
+use crate::memoryless::try_memoryless;
+use crate::schemas::try_schema_call;
+use crate::soak::soak;
+use crate::values::try_value_call;
+use std::process::ExitCode;
+use std::{env, io};
+
+const CALLS: &[&str] = &[
+    "parse",
+    "declare",
+    "lay",
+    "schema_of",
+    "copy",
+    "plan",
+    "build",
+    "read",
+    "value_of",
+    "text_of",
+    "carry",
+    "to_binary",
+    "to_json",
+    "print_to",
+    "check",
+    "conform_texts",
+    "take_all",
+    "job_of",
+    "fault_line",
+    "report",
+    "memoryless",
+];
+
+/// What comes of a call; None where there is no such call.
+fn try_call(rt: &HostRuntime, call: &str, example: &Example) -> Option<Both> {
+    if call == "memoryless" {
+        return Some(try_memoryless(rt, example));
+    }
+    if let Some(both) = try_schema_call(rt, call, example) {
+        return Some(both);
+    }
+    if let Some(both) = try_job(rt, call, example) {
+        return Some(both);
+    }
+    try_value_call(rt, call, example)
+}
+
+fn print_outcome(rt: &HostRuntime, outcome: Outcome) -> io::Result<()> {
+    match outcome {
+        Outcome::Right => print!(rt; "right"),
+        Outcome::Short(number) => print!(rt; "memory {number}"),
+        Outcome::Wrong => print!(rt; "wrong"),
+    }
+}
+
+/// Prints what comes of a call, and returns whether it is right in the end.
+fn show(rt: &HostRuntime, call: &str, example: &Example) -> io::Result<bool> {
+    let name = example.name;
+    let Some((first, again)) = try_call(rt, call, example) else {
+        println!(rt; "{call} {name}: no such call")?;
+        return Ok(false);
+    };
+    print!(rt; "{call} {name}: ")?;
+    print_outcome(rt, first)?;
+    print!(rt; ", then ")?;
+    print_outcome(rt, again)?;
+    println!(rt; "")?;
+    Ok(first != Outcome::Wrong && again == Outcome::Right)
+}
+
+/// Each call on each example.
+fn show_all(rt: &HostRuntime) -> io::Result<bool> {
+    let mut all = true;
+    for call in CALLS {
+        for example in EXAMPLES {
+            all = show(rt, call, example)? && all;
+        }
+    }
+    Ok(all)
+}
+
+fn show_one(rt: &HostRuntime, call: &str, name: &str) -> io::Result<bool> {
+    for example in EXAMPLES {
+        if example.name == name {
+            return show(rt, call, example);
+        }
+    }
+    Ok(false)
+}
+
+/// Does what the words ask for, and returns whether all is right.
+fn run(rt: &HostRuntime, words: &[String]) -> io::Result<bool> {
+    match words {
+        [] => show_all(rt),
+        [call, name] => show_one(rt, call.as_str(), name.as_str()),
+        [_, call, levels] => match levels.as_str().parse::<u64>() {
+            Ok(levels) => go_deep(rt, call.as_str(), levels),
+            Err(_) => Ok(false),
+        },
+        _ => {
+            soak(rt)?;
+            Ok(true)
+        }
+    }
+}
+
+fn main(rt: HostRuntime) -> io::Result<ExitCode> {
+    let words: Vec<String> = env::args(&rt)?.skip(1).collect(rt.alloc())?;
+    let is_right = run(&rt, words.as_slice())?;
+    Ok(if is_right {
+        ExitCode::SUCCESS
+    } else {
+        ExitCode::FAILURE
+    })
+}

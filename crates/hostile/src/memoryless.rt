@@ -1,0 +1,148 @@
+//! The calls that take no memory.
+ghost use Rattle.std.specs.Prelude.{◌≡◌, ◌≤◌, true};
+ghost use Rattle.fb_value.specs.View.{view};
+ghost use Rattle.fb_value.specs.Counts.{depth, nesting, is_whole};
+ghost use Rattle.fb_value.specs.Fits.{FitsRoot};
+
+use crate::arming::{Both, Matching, Outcome, arm, disarm};
+use crate::examples::Example;
+use crate::meanings::{limits, meaning};
+use fb_build::{Plan, plan};
+use fb_conform::conform;
+use fb_layout::Layout;
+use fb_read::{Entries, View, verify};
+use fb_schema::TypeId;
+use fb_text::{Noted, write_text};
+use fb_value::{Limits, Value, cells, depth, fits, room, same, whole};
+use flatc_tool::schema_of;
+
+const UNTRIED: Both = (Outcome::Wrong, Outcome::Wrong);
+
+/// The last table of the vector in the first slot, the struct's number in the second, or the member.
+fn are_parts_seen(view: View) -> bool {
+    if let Some(items) = view.items(0) {
+        return items.count() == 2
+            && items
+                .table(1)
+                .is_some_and(|table| table.number(0) == Some(2));
+    }
+    if let Some((code, member)) = view.member(1) {
+        return code == 2 && member.type_id() == TypeId(1) && view.other(1).is_none();
+    }
+    let Some(items) = view.items(1) else {
+        return false;
+    };
+    if items.count() != 2 {
+        return false;
+    }
+    let number = items.fixed(1).map(|part| part.number(0));
+    number == Some(Some(2)) && view.text(0) == Some("hi") && view.number(2) == Some(5)
+}
+
+fn is_absent(view: View) -> bool {
+    view.number(9).is_none() && view.fixed(9).is_none() && view.table(9).is_none()
+}
+
+/// Whether the bytes are verified, each accessor finds its part, and the text is written.
+fn is_read(example: &Example, layout: &Layout) -> bool {
+    let mut entries = Entries::new();
+    let Ok(view) = verify(layout, example.bytes, limits(), false, &mut entries) else {
+        return false;
+    };
+    let mut out = Noted::over(Matching::one(example.text));
+    let is_written = write_text(&view, false, &mut out).is_ok() && !out.failed();
+    let is_text = out.into_inner().is_first();
+    is_written && is_text && are_parts_seen(view) && is_absent(view)
+}
+
+fn is_counted(layout: &Layout, value: &Value) -> bool
+    requires fits { FitsRoot layout.now (view value.now) }
+    requires nests { nesting (view value.now) ≤ 300 }
+{
+    let is_sized = cells(value).is_some()
+        && depth(value).is_some()
+        && room(layout, value).is_some();
+    let is_whole = fits(layout, layout.schema().root(), value) && whole(value);
+    is_sized && is_whole && same(value, value)
+}
+
+/// Whether the calls of a schema and of limits find what they should.
+fn is_found(example: &Example, layout: &Layout) -> bool {
+    let schema = layout.schema();
+    let root = schema.root();
+    let is_named = schema.find("T") == Some(root) && schema.find("X").is_none();
+    let has_none = schema.member_by_code(root, 1).is_none()
+        && schema.name_of_number(root, 1).is_none();
+    let has_no_field = schema.field_by_name(root, "none").is_none();
+    let is_limited = Limits::new(0, 9).is_none() && Limits::new(64, 9).is_some();
+    let is_sized = layout.greatest() == example.align && schema.types().len() == example.types;
+    is_named && has_none && has_no_field && is_limited && is_sized && schema.identifier().is_none()
+}
+
+fn is_all_right(
+    example: &Example,
+    layout: &Layout,
+    newer: &Layout,
+    value: &Value,
+    planned: Plan,
+) -> bool
+    requires fits { FitsRoot layout.now (view value.now) }
+    requires nests { nesting (view value.now) ≤ 300 }
+{
+    let bytes = planned.finish();
+    let is_laid = bytes.as_slice() == example.bytes;
+    let conforms = conform(layout, newer).is_ok();
+    let is_seen = is_read(example, layout) && is_found(example, layout);
+    is_laid && conforms && is_seen && is_counted(layout, value)
+}
+
+fn try_with(
+    rt: &HostRuntime,
+    example: &Example,
+    layout: &Layout,
+    newer: &Layout,
+    value: &Value,
+    arms: bool,
+) -> Outcome
+    requires fits { FitsRoot layout.now (view value.now) }
+    requires whole { is_whole (view value.now) ≡ true }
+    requires deep { depth (view value.now) ≤ 127 }
+    requires nests { nesting (view value.now) ≤ 300 }
+{
+    let Ok(planned) = plan(rt.alloc(), layout, value) else {
+        return Outcome::Wrong;
+    };
+    if arms {
+        arm(rt);
+    }
+    let is_right = is_all_right(example, layout, newer, value, planned);
+    if arms {
+        disarm(rt);
+    }
+    Outcome::of(is_right)
+}
+
+fn try_between(rt: &HostRuntime, example: &Example, layout: &Layout, newer: &Layout) -> Both {
+    match meaning(rt.alloc(), layout, example.json) {
+        Some(value) => {
+            let first = try_with(rt, example, layout, newer, &value, true);
+            (first, try_with(rt, example, layout, newer, &value, false))
+        }
+        None => UNTRIED,
+    }
+}
+
+fn try_under(rt: &HostRuntime, example: &Example, layout: &Layout) -> Both {
+    match schema_of(rt.alloc(), example.newer) {
+        Ok(newer) => try_between(rt, example, layout, &newer),
+        Err(_) => UNTRIED,
+    }
+}
+
+/// What comes of the calls that take no memory.
+pub(crate) fn try_memoryless(rt: &HostRuntime, example: &Example) -> Both {
+    match schema_of(rt.alloc(), example.schema) {
+        Ok(layout) => try_under(rt, example, &layout),
+        Err(_) => UNTRIED,
+    }
+}
