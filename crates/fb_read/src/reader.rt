@@ -31,6 +31,8 @@ use ticks::Ticks;
 ///
 /// `Memory` is returned only where a table, vector or text is reached that keeps its rules and is within
 /// the limits, with no fault at or before it: it may be reported in place of a later fault.
+///
+/// A struct takes some 0.4 KiB of stack for each level of its nesting, and so does its drop.
 #[tactic(auto, using(crate::proofs::source::AlignmentsArePositive::layout_sizes))]
 pub fn read<'a>(
     alloc: Global,

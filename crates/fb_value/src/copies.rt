@@ -7,6 +7,8 @@ use crate::values::Value;
 use std::alloc::{AllocError, Global};
 
 /// The same value in memory of its own.
+///
+/// A struct takes some 0.7 KiB of stack for each level of its nesting.
 pub fn copy(alloc: Global, value: &Value) -> Result<Value, AllocError>
     requires { nesting (view value.now) ≤ 300 }
     ensures { IfOk result (λ copied. view copied ≡ view value.now) }
@@ -15,7 +17,7 @@ pub fn copy(alloc: Global, value: &Value) -> Result<Value, AllocError>
 }
 
 /// The same value in memory of its own, for a caller that walks a value itself and so has bounded its
-/// nesting already.
+/// nesting already. It takes as much stack as `copy`.
 pub fn copy_part(alloc: Global, value: &Value) -> Result<Value, AllocError>
     ensures { IfOk result (λ copied. view copied ≡ view value.now) }
 {

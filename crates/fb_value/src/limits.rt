@@ -26,6 +26,8 @@ impl Model for Limits {
 
 impl Limits {
     /// These limits, exactly where the depth is 1 to 127.
+    ///
+    /// At depth 127 converting JSON to a buffer and printing it takes some 250 KiB of stack.
     pub fn new(depth: u8, cells: u32) -> Option<Limits>
         ensures { SomeIff result ((1 ≤ depth) × (depth ≤ 127)) (record { depth = depth; cells = cells }) }
     {
