@@ -1,9 +1,11 @@
 -- Names that occur again, one more at a time.
-use Rattle.std.proofs.Common.{◌≡◌, ◌<◌, ◌≤◌, ◌+◌, ◌++◌, ◌||◌, ℕ, Bool, true, false, List, [], ◌∷◌, length, take, drop, get_or, refl, ap, sym, ◌∙◌, Option, None, Some, is_some, if◌then◌else◌}
+use Rattle.std.proofs.Common.{◌≡◌, ◌<◌, ◌≤◌, ◌+◌, ◌++◌, ◌||◌, ℕ, zero, suc, Bool, true, false, List, [], ◌∷◌, length, map, take, drop, get_or, refl, ap, sym, ◌∙◌, Option, None, Some, is_some, if◌then◌else◌}
 use Rattle.std.specs.Option.{option_or}
 use Rattle.std.specs.Str.{bytes_eq}
 use Rattle.fb_syntax.specs.Located.{Located}
 use Rattle.fb_schema.specs.Schema.{Name}
+use Rattle.fb_resolve.specs.Outline.{TypeRead, name_of_type, located_name}
+use Rattle.fb_resolve.specs.RepeatedNames.{has_name}
 use Rattle.fb_declare.specs.declared.faults.SchemaFault.TheVariants.{DuplicateName}
 use Rattle.fb_declare.specs.FaultRows.{names_again, is_among, when}
 use Rattle.fb_resolve.proofs.Steps.{drop-more, drop-end, take-more, list_any-snoc}
@@ -44,3 +46,9 @@ is_among-more ns i d name o h e = noted_some o (bytes_eq name (get_or ns i d).by
 pub is_among-at : (ns : List Located) (i : ℕ) (n : Located) (name : Name) (o : Option ℕ) → i < length ns → n ≡ get_or ns i n → is_some o ≡ is_among name (take i ns)
     → is_some (option_or o (if bytes_eq name n.bytes then Some 0 else None)) ≡ is_among name (take (i + 1) ns)
 is_among-at ns i n name o h same e = ap (λ m. is_some (option_or o (if bytes_eq name m.bytes then Some 0 else None))) same ∙ is_among-more ns i n name o h e
+
+-- among the full names of types
+pub is_among-types : (name : Name) (i : ℕ) (types : List TypeRead) → is_among name (take i (map located_name types)) ≡ has_name (take i types) name
+is_among-types name zero types = refl
+is_among-types name (suc i) [] = refl
+is_among-types name (suc i) (r ∷ types) = ap (λ b. bytes_eq name (name_of_type r) || b) (is_among-types name i types)

@@ -22,8 +22,8 @@ use Rattle.fb_schema.specs.Alignments.{base_size, greatest_in, part_align, natur
 use Rattle.fb_schema.specs.WellDeclared.{Names, KindNames}
 use Rattle.fb_resolve.specs.declared.meanings.Meaning.{Meaning}
 use Rattle.fb_resolve.specs.declared.meanings.Meaning.TheVariants.{Known, Float, Unknown}
-use Rattle.fb_resolve.specs.declared.attributes.Known.TheVariants.{ForceAlign}
-use Rattle.fb_declare.specs.declared.attribute_faults.Place.TheVariants as places
+use Rattle.fb_resolve.specs.declared.attributes.BuiltInAttribute.TheVariants.{ForceAlign}
+use Rattle.fb_declare.specs.declared.attribute_faults.AttributeHost.TheVariants as hosts
 use Rattle.fb_resolve.specs.Outline.{TypeRead, Outline, word_of}
 use Rattle.fb_resolve.specs.Meaning.{meaning_in, type_name}
 use Rattle.fb_resolve.specs.ResolvedType.{ResolvedType}
@@ -92,28 +92,28 @@ forced_integer natural (pos n) h = let found = same_alignment natural n h in
 forced_integer natural (negsuc n) h = absurd (false≢true h)
 
 -- of an attribute's value that may stand
-forced_value : (natural : ℕ) (value : Option AttributeValue) → may_stand (places.Struct natural) ForceAlign value ≡ true
+forced_value : (natural : ℕ) (value : Option AttributeValue) → may_stand (hosts.Struct natural) ForceAlign value ≡ true
     → IsForced natural (option_and_then (alignment_in natural) (integer_value_in value)) (option_and_then (alignment_in 0) (integer_value_in value))
 unfolding may_stand
 forced_value natural (Some (Integer n)) h = forced_integer natural n.value h
 forced_value natural value h = absurd (false≢true h)
 
 -- of the first `force_align`, if there is one
-forced_called : (natural : ℕ) (called : Option Attribute) → ((a : Attribute) → called ≡ Some a → may_stand (places.Struct natural) ForceAlign a.value ≡ true)
+forced_called : (natural : ℕ) (called : Option Attribute) → ((a : Attribute) → called ≡ Some a → may_stand (hosts.Struct natural) ForceAlign a.value ≡ true)
     → IsForced natural (option_and_then (alignment_in natural) (option_and_then (λ a. integer_value_in a.value) called)) (option_and_then (alignment_in 0) (option_and_then (λ a. integer_value_in a.value) called))
 forced_called natural None stands = record { same = refl; enough = λ a is. absurd (none-some a is) }
 forced_called natural (Some a) stands = forced_value natural a.value (stands a refl)
 
 -- the `force_align` of a struct with no fault
-pub forced_right : (declared : List Name) (natural : ℕ) (attributes : List Attribute) → metadata_faults declared (places.Struct natural) [] attributes ≡ []
+pub forced_right : (declared : List Name) (natural : ℕ) (attributes : List Attribute) → metadata_faults declared (hosts.Struct natural) [] attributes ≡ []
     → IsForced natural (forced_align natural (number_called ForceAlign attributes)) (forced_align 0 (number_called ForceAlign attributes))
 unfolding forced_align number_called
-forced_right declared natural attributes h = forced_called natural (attribute_called ForceAlign attributes) (λ a is. called_stands declared (places.Struct natural) [] attributes ForceAlign a h is)
+forced_right declared natural attributes h = forced_called natural (attribute_called ForceAlign attributes) (λ a is. called_stands declared (hosts.Struct natural) [] attributes ForceAlign a h is)
 
 -- ---- what the schema's bodies come from
 
 -- a struct's body comes from a struct
-struct_from : (types : List TypeRead) (scope : Option Name) (d : TypeDecl) (body : DeclaredBody) → HasBody types (resolved_declaration types scope d) body → IsTrue (is_struct body)
+struct_from : (types : List TypeRead) (scope : Option Name) (d : TypeDecl) (body : DeclaredBody) → HasBody (resolved_declaration types scope d) body → IsTrue (is_struct body)
     → (s : TableRead) × (d ≡ decls.Struct s) × (body ≡ struct_body (parts_from 0 (resolved_fields types scope s.fields)) (forced_align 0 (number_called ForceAlign s.attributes)))
 struct_from types scope d (table_body fs) h is = absurd (false≢true is)
 struct_from types scope d (enum_body base flags values) h is = absurd (false≢true is)
@@ -122,7 +122,7 @@ struct_from types scope (decls.Struct s) (struct_body parts force) h is = (s, re
 struct_from types scope _ (struct_body parts force) h is = absurd h
 
 -- an enum's body comes from an enum
-enum_from : (types : List TypeRead) (scope : Option Name) (d : TypeDecl) (body : DeclaredBody) → HasBody types (resolved_declaration types scope d) body → IsTrue (is_enum body)
+enum_from : (types : List TypeRead) (scope : Option Name) (d : TypeDecl) (body : DeclaredBody) → HasBody (resolved_declaration types scope d) body → IsTrue (is_enum body)
     → (e : EnumRead) × (d ≡ decls.Enum e) × (base_in body ≡ base_or_ubyte (underlying types scope e))
 enum_from types scope d (table_body fs) h is = absurd (false≢true is)
 enum_from types scope d (struct_body parts force) h is = absurd (false≢true is)

@@ -6,17 +6,17 @@ use Rattle.fb_syntax.specs.declared.declarations.Attribute.{Attribute}
 use Rattle.fb_schema.specs.Schema.{Name}
 use Rattle.fb_declare.specs.declared.faults.SchemaFault.{SchemaFault}
 use Rattle.fb_declare.specs.declared.faults.SchemaFault.TheVariants.{Unsupported}
-use Rattle.fb_resolve.specs.declared.attributes.Known.{Known}
-use Rattle.fb_resolve.specs.declared.attributes.Known.TheVariants.{Id, Required, Deprecated, ForceAlign, BitFlags, OriginalOrder}
-use Rattle.fb_declare.specs.declared.attribute_faults.Place.{Place}
-use Rattle.fb_resolve.specs.Attributes.{spelling, known_attribute, attribute_called, has_attribute}
-use Rattle.fb_declare.specs.AttributeFaults.{is_left_out, is_force_align_of_field, may_stand, noted, faults_of_known, faults_by_name, attribute_faults, metadata_faults}
+use Rattle.fb_resolve.specs.declared.attributes.BuiltInAttribute.{BuiltInAttribute}
+use Rattle.fb_resolve.specs.declared.attributes.BuiltInAttribute.TheVariants.{Id, Required, Deprecated, ForceAlign, BitFlags, OriginalOrder}
+use Rattle.fb_declare.specs.declared.attribute_faults.AttributeHost.{AttributeHost}
+use Rattle.fb_resolve.specs.Attributes.{spelling, built_in_attribute, attribute_called, has_attribute}
+use Rattle.fb_declare.specs.AttributeFaults.{is_left_out, is_force_align_of_field, may_stand, noted, faults_of_built_in, faults_by_name, attribute_faults, metadata_faults}
 use Rattle.fb_resolve.proofs.Bytes.{bytes_eq-equal}
 use Rattle.fb_declare.proofs.NoFaults.{both_empty}
 
 -- a known attribute is known by its spelling
-known_spelling : (k : Known) → known_attribute (spelling k) ≡ Some k
-unfolding known_attribute
+known_spelling : (k : BuiltInAttribute) → built_in_attribute (spelling k) ≡ Some k
+unfolding built_in_attribute
 known_spelling Id = refl
 known_spelling Required = refl
 known_spelling Deprecated = refl
@@ -25,10 +25,10 @@ known_spelling BitFlags = refl
 known_spelling OriginalOrder = refl
 
 -- a known attribute with no fault may stand
-known_stands : (place : Place) (seen : List Known) (a : Attribute) (k : Known) → faults_of_known place seen a k ≡ [] → may_stand place k a.value ≡ true
-known_stands place seen a k h = by (may_stand place k a.value) refl
+known_stands : (host : AttributeHost) (seen : List BuiltInAttribute) (a : Attribute) (k : BuiltInAttribute) → faults_of_built_in host seen a k ≡ [] → may_stand host k a.value ≡ true
+known_stands host seen a k h = by (may_stand host k a.value) refl
   where
-    by : (b : Bool) → may_stand place k a.value ≡ b → b ≡ true
+    by : (b : Bool) → may_stand host k a.value ≡ b → b ≡ true
     by true e = refl
     by false e = absurd (grind (arith, h, e))
 
@@ -38,45 +38,45 @@ not_left_out true fault faults h = absurd (grind arith)
 not_left_out false fault faults h = h
 
 -- an attribute with no fault that is spelled like a known one
-attribute_stands : (declared : List Name) (place : Place) (seen : List Known) (a : Attribute) (k : Known)
-    → attribute_faults declared place seen a ≡ [] → bytes_eq a.name.bytes (spelling k) ≡ true → may_stand place k a.value ≡ true
+attribute_stands : (declared : List Name) (host : AttributeHost) (seen : List BuiltInAttribute) (a : Attribute) (k : BuiltInAttribute)
+    → attribute_faults declared host seen a ≡ [] → bytes_eq a.name.bytes (spelling k) ≡ true → may_stand host k a.value ≡ true
 unfolding attribute_faults
-attribute_stands declared place seen a k h e =
-    let known : known_attribute a.name.bytes ≡ Some k = ap known_attribute (bytes_eq-equal a.name.bytes (spelling k) e) ∙ known_spelling k in
-    let none : faults_by_name declared place seen a (known_attribute a.name.bytes) ≡ [] =
-    not_left_out (is_left_out a.name.bytes || is_force_align_of_field place (known_attribute a.name.bytes)) (Unsupported a.name.at) (faults_by_name declared place seen a (known_attribute a.name.bytes)) h in
-    known_stands place seen a k (sym (ap (faults_by_name declared place seen a) known) ∙ none)
+attribute_stands declared host seen a k h e =
+    let known : built_in_attribute a.name.bytes ≡ Some k = ap built_in_attribute (bytes_eq-equal a.name.bytes (spelling k) e) ∙ known_spelling k in
+    let none : faults_by_name declared host seen a (built_in_attribute a.name.bytes) ≡ [] =
+    not_left_out (is_left_out a.name.bytes || is_force_align_of_field host (built_in_attribute a.name.bytes)) (Unsupported a.name.at) (faults_by_name declared host seen a (built_in_attribute a.name.bytes)) h in
+    known_stands host seen a k (sym (ap (faults_by_name declared host seen a) known) ∙ none)
 
 -- the faults of one attribute more
-metadata-cons : (declared : List Name) (place : Place) (seen : List Known) (a : Attribute) (rest : List Attribute)
-    → metadata_faults declared place seen (a ∷ rest) ≡ attribute_faults declared place seen a ++ metadata_faults declared place (noted seen (known_attribute a.name.bytes)) rest
+metadata-cons : (declared : List Name) (host : AttributeHost) (seen : List BuiltInAttribute) (a : Attribute) (rest : List Attribute)
+    → metadata_faults declared host seen (a ∷ rest) ≡ attribute_faults declared host seen a ++ metadata_faults declared host (noted seen (built_in_attribute a.name.bytes)) rest
 unfolding metadata_faults
-metadata-cons declared place seen a rest = refl
+metadata-cons declared host seen a rest = refl
 
 -- they are empty for it and for the rest
-metadata_parts : (declared : List Name) (place : Place) (seen : List Known) (a : Attribute) (rest : List Attribute) → metadata_faults declared place seen (a ∷ rest) ≡ []
-    → (attribute_faults declared place seen a ≡ []) × (metadata_faults declared place (noted seen (known_attribute a.name.bytes)) rest ≡ [])
-metadata_parts declared place seen a rest h = both_empty (attribute_faults declared place seen a) (metadata_faults declared place (noted seen (known_attribute a.name.bytes)) rest)
-    (sym (metadata-cons declared place seen a rest) ∙ h)
+metadata_parts : (declared : List Name) (host : AttributeHost) (seen : List BuiltInAttribute) (a : Attribute) (rest : List Attribute) → metadata_faults declared host seen (a ∷ rest) ≡ []
+    → (attribute_faults declared host seen a ≡ []) × (metadata_faults declared host (noted seen (built_in_attribute a.name.bytes)) rest ≡ [])
+metadata_parts declared host seen a rest h = both_empty (attribute_faults declared host seen a) (metadata_faults declared host (noted seen (built_in_attribute a.name.bytes)) rest)
+    (sym (metadata-cons declared host seen a rest) ∙ h)
 
 -- the first attribute of a known name may stand
-pub called_stands : (declared : List Name) (place : Place) (seen : List Known) (attributes : List Attribute) (k : Known) (a : Attribute)
-    → metadata_faults declared place seen attributes ≡ [] → attribute_called k attributes ≡ Some a → may_stand place k a.value ≡ true
-called_stands declared place seen [] k a h called = absurd (grind arith)
-called_stands declared place seen (b ∷ rest) k a h called =
-    by (bytes_eq b.name.bytes (spelling k)) refl called (called_stands declared place (noted seen (known_attribute b.name.bytes)) rest k a (metadata_parts declared place seen b rest h).1)
+pub called_stands : (declared : List Name) (host : AttributeHost) (seen : List BuiltInAttribute) (attributes : List Attribute) (k : BuiltInAttribute) (a : Attribute)
+    → metadata_faults declared host seen attributes ≡ [] → attribute_called k attributes ≡ Some a → may_stand host k a.value ≡ true
+called_stands declared host seen [] k a h called = absurd (grind arith)
+called_stands declared host seen (b ∷ rest) k a h called =
+    by (bytes_eq b.name.bytes (spelling k)) refl called (called_stands declared host (noted seen (built_in_attribute b.name.bytes)) rest k a (metadata_parts declared host seen b rest h).1)
   where
-    by : (t : Bool) → bytes_eq b.name.bytes (spelling k) ≡ t → cond t (Some b) (attribute_called k rest) ≡ Some a → (attribute_called k rest ≡ Some a → may_stand place k a.value ≡ true) → may_stand place k a.value ≡ true
-    by true e first later = subst (λ (x : Attribute). may_stand place k x.value ≡ true) (same_Some b a first) (attribute_stands declared place seen b k (metadata_parts declared place seen b rest h).0 e)
+    by : (t : Bool) → bytes_eq b.name.bytes (spelling k) ≡ t → cond t (Some b) (attribute_called k rest) ≡ Some a → (attribute_called k rest ≡ Some a → may_stand host k a.value ≡ true) → may_stand host k a.value ≡ true
+    by true e first later = subst (λ (x : Attribute). may_stand host k x.value ≡ true) (same_Some b a first) (attribute_stands declared host seen b k (metadata_parts declared host seen b rest h).0 e)
     by false e first later = later first
 
 -- if a known name occurs, some attribute of it may stand
-pub noted_stands : (declared : List Name) (place : Place) (seen : List Known) (attributes : List Attribute) (k : Known)
-    → metadata_faults declared place seen attributes ≡ [] → has_attribute k attributes ≡ true → (a : Attribute) × (may_stand place k a.value ≡ true)
-noted_stands declared place seen [] k h has = absurd (grind arith)
-noted_stands declared place seen (b ∷ rest) k h has =
-    by (bytes_eq b.name.bytes (spelling k)) refl has (noted_stands declared place (noted seen (known_attribute b.name.bytes)) rest k (metadata_parts declared place seen b rest h).1)
+pub noted_stands : (declared : List Name) (host : AttributeHost) (seen : List BuiltInAttribute) (attributes : List Attribute) (k : BuiltInAttribute)
+    → metadata_faults declared host seen attributes ≡ [] → has_attribute k attributes ≡ true → (a : Attribute) × (may_stand host k a.value ≡ true)
+noted_stands declared host seen [] k h has = absurd (grind arith)
+noted_stands declared host seen (b ∷ rest) k h has =
+    by (bytes_eq b.name.bytes (spelling k)) refl has (noted_stands declared host (noted seen (built_in_attribute b.name.bytes)) rest k (metadata_parts declared host seen b rest h).1)
   where
-    by : (t : Bool) → bytes_eq b.name.bytes (spelling k) ≡ t → t || has_attribute k rest ≡ true → (has_attribute k rest ≡ true → (a : Attribute) × (may_stand place k a.value ≡ true)) → (a : Attribute) × (may_stand place k a.value ≡ true)
-    by true e has later = (b, attribute_stands declared place seen b k (metadata_parts declared place seen b rest h).0 e)
+    by : (t : Bool) → bytes_eq b.name.bytes (spelling k) ≡ t → t || has_attribute k rest ≡ true → (has_attribute k rest ≡ true → (a : Attribute) × (may_stand host k a.value ≡ true)) → (a : Attribute) × (may_stand host k a.value ≡ true)
+    by true e has later = (b, attribute_stands declared host seen b k (metadata_parts declared host seen b rest h).0 e)
     by false e has later = later has

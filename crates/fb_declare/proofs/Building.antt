@@ -1,5 +1,5 @@
 -- What a schema is built from, where no fault stands; and the fault that is told, where one does.
-use Rattle.std.proofs.Common.{◌≡◌, ◌++◌, ℕ, suc, Bool, true, false, List, [], ◌∷◌, map, take, Contains, Option, None, Some, refl, ap, subst, arith, true≢false, if◌then◌else◌}
+use Rattle.std.proofs.Common.{◌≡◌, ◌++◌, ℕ, suc, Bool, true, false, List, [], ◌∷◌, map, take, Contains, Option, None, Some, refl, subst, arith, true≢false, if◌then◌else◌}
 use Rattle.std.specs.Option.{is_some, is_none}
 use Rattle.fb_resolve.specs.declared.meanings.Meaning.{Meaning}
 use Rattle.fb_resolve.specs.declared.resolved.ResolvedDecl.{ResolvedDecl}
@@ -9,7 +9,7 @@ use Rattle.fb_resolve.specs.Resolved.{resolved_types, meaning_of_root}
 use Rattle.fb_schema.specs.Schema.{Name}
 use Rattle.fb_declare.specs.declared.faults.SchemaFault.{SchemaFault}
 use Rattle.fb_declare.specs.declared.faults.SchemaFault.TheVariants.{BadIds, BadRoot}
-use Rattle.fb_declare.specs.declared.attribute_faults.Place.TheVariants as places
+use Rattle.fb_declare.specs.declared.attribute_faults.AttributeHost.TheVariants as hosts
 use Rattle.fb_declare.specs.Faults.{comes_before, earlier, least_of}
 use Rattle.fb_resolve.specs.Outline.{Outline, TypeRead, RootRead, word_of, located_name}
 use Rattle.fb_declare.specs.AttributeFaults.{metadata_faults}
@@ -18,7 +18,6 @@ use Rattle.fb_resolve.specs.MembersRead.{table_of}
 use Rattle.fb_declare.specs.FaultRows.{when, names_again, reserved_name, use_faults, bad_root, root_faults, identifier_faults}
 use Rattle.fb_declare.specs.TypeFaults.{names_of_field, table_field_faults, table_faults, declaration_faults, type_faults, faults_of_types, faults_of_outline}
 use Rattle.fb_declare.specs.Buildable.{IsBuildable, AreBuildable}
-use Rattle.fb_syntax.specs.Located.{Located}
 use Rattle.fb_declare.proofs.FaultFree.{none_left, none_right, when-none, none_of_type, aligns_from}
 
 -- ---- the fault that is told
@@ -60,10 +59,10 @@ least-some (g ∷ fs) f e = contained_by f g fs (least_of fs) (λ h is. least-so
 buildable_by : (types : List TypeRead) (declared : List Name) (lower : List ℕ) (d : ResolvedDecl) → declaration_faults types declared lower d ≡ [] → IsBuildable d
 unfolding table_faults
 buildable_by types declared lower (resolved.Table t) h =
-    let marks = metadata_faults declared places.Table [] t.declared.attributes in
+    let marks = metadata_faults declared hosts.Table [] t.declared.attributes in
     let ids = when (are_ids_wrong t.fields) (BadIds t.declared.name.at) in
     let names = names_again [] (Rattle.std.specs.List.flat_map names_of_field t.fields) in
-    let fields = Rattle.std.specs.List.flat_map (table_field_faults types declared) t.fields in
+    let fields = Rattle.std.specs.List.flat_map (table_field_faults declared) t.fields in
     when-none (are_ids_wrong t.fields) (BadIds t.declared.name.at) (none_right marks ids (none_left (marks ++ ids) names (none_left (marks ++ ids ++ names) fields h)))
 buildable_by types declared lower (resolved.Struct t) h = tt
 buildable_by types declared lower (resolved.Enum t) h = tt
@@ -98,9 +97,3 @@ root_right o h =
     let types = faults_of_types o.types o.attributes [] (resolved_types o.types) in
     let root = root_faults o.text_len o.root (meaning_of_root o.types o.root) in
     none_right (names ++ types) root (none_left (names ++ types ++ root) (identifier_faults o.identifier) h)
-
--- the parts of an outline make it up
-pub same_outline : (types : List TypeRead) (attributes : List Name) (root : Option RootRead) (identifier : Option Located) (text_len : ℕ) (o : Outline)
-    → types ≡ o.types → attributes ≡ o.attributes → root ≡ o.root → identifier ≡ o.identifier → text_len ≡ o.text_len
-    → record { types = types; attributes = attributes; root = root; identifier = identifier; text_len = text_len } ≡ o
-same_outline types attributes root identifier text_len o t a r d n = λ i. record { types = t i; attributes = a i; root = r i; identifier = d i; text_len = n i }

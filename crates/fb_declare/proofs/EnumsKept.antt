@@ -22,15 +22,15 @@ use Rattle.fb_declare.specs.declared.faults.SchemaFault.{SchemaFault}
 use Rattle.fb_declare.specs.declared.faults.SchemaFault.TheVariants.{BadEnumValue, Unsupported}
 use Rattle.fb_resolve.specs.declared.meanings.Meaning.{Meaning}
 use Rattle.fb_resolve.specs.declared.meanings.Meaning.TheVariants.{Known, Float, Unknown}
-use Rattle.fb_resolve.specs.declared.attributes.Known.TheVariants.{BitFlags}
-use Rattle.fb_declare.specs.declared.attribute_faults.Place.TheVariants as places
+use Rattle.fb_resolve.specs.declared.attributes.BuiltInAttribute.TheVariants.{BitFlags}
+use Rattle.fb_declare.specs.declared.attribute_faults.AttributeHost.TheVariants as hosts
 use Rattle.fb_resolve.specs.Outline.{TypeRead}
 use Rattle.fb_schema.specs.Ranges.{is_between, holds}
 use Rattle.fb_resolve.specs.Meaning.{meaning_of}
 use Rattle.fb_declare.specs.AttributeFaults.{may_stand, metadata_faults}
 use Rattle.fb_resolve.specs.EnumsRead.{integer_type, underlying, has_flags, written_number, written_numbers, value_number, may_be_written, base_or_ubyte, values_from, values_read}
 use Rattle.fb_declare.specs.FaultRows.{when, names_again, underlying_faults, is_out_of_range, bad_values}
-use Rattle.fb_declare.specs.TypeFaults.{place_of_enum, enum_faults}
+use Rattle.fb_declare.specs.TypeFaults.{host_of_enum, enum_faults}
 use Rattle.fb_declare.proofs.NoFaults.{both_empty, EachNew, all_apart, apart_by, keys_apart, names_apart}
 use Rattle.fb_declare.proofs.FaultFree.{when-none}
 use Rattle.fb_declare.proofs.AttributesKept.{noted_stands}
@@ -54,7 +54,7 @@ integer_under Float at h = absurd (grind arith)
 integer_under (Known kind) at h = some_of (integer_type (Known kind)) (when-none (is_none (integer_type (Known kind))) (Unsupported at) h)
 
 -- flags stand on unsigned types alone
-flags_unsigned : (b : Bool) (value : Option AttributeValue) → may_stand (if b then places.Enum else places.SignedEnum) BitFlags value ≡ true → b ≡ true
+flags_unsigned : (b : Bool) (value : Option AttributeValue) → may_stand (if b then hosts.Enum else hosts.SignedEnum) BitFlags value ≡ true → b ≡ true
 unfolding may_stand
 flags_unsigned true value h = refl
 flags_unsigned false value h = absurd (true≢false (sym h))
@@ -176,7 +176,7 @@ module _ (base : Base) (flags : Bool) (vs : List EnumValue) (integers : base ≢
 -- what is empty where an enum has no fault
 pub record IsEnumRight (types : List TypeRead) (declared : List Name) (scope : Option Name) (e : EnumRead) : Type 0 where
   pub type : underlying_faults (meaning_of types scope e.underlying.bytes) e.underlying.at ≡ []
-  pub metadata : metadata_faults declared (place_of_enum (underlying types scope e)) [] e.attributes ≡ []
+  pub metadata : metadata_faults declared (host_of_enum (underlying types scope e)) [] e.attributes ≡ []
   pub names : names_again [] (map (λ v. v.name) e.values) ≡ []
   pub numbers : bad_values (underlying types scope e) (has_flags e) [] (pos 0) e.values ≡ []
 
@@ -185,7 +185,7 @@ pub enum_right : (types : List TypeRead) (declared : List Name) (scope : Option 
 unfolding enum_faults
 enum_right types declared scope e h =
     let type_faults : List SchemaFault = underlying_faults (meaning_of types scope e.underlying.bytes) e.underlying.at in
-    let attribute_faults : List SchemaFault = metadata_faults declared (place_of_enum (underlying types scope e)) [] e.attributes in
+    let attribute_faults : List SchemaFault = metadata_faults declared (host_of_enum (underlying types scope e)) [] e.attributes in
     let name_faults : List SchemaFault = names_again [] (map (λ v. v.name) e.values) in
     let number_faults : List SchemaFault = bad_values (underlying types scope e) (has_flags e) [] (pos 0) e.values in
     let a = both_empty (type_faults ++ attribute_faults ++ name_faults) number_faults h in
@@ -194,8 +194,8 @@ enum_right types declared scope e h =
     record { type = c.0; metadata = c.1; names = b.1; numbers = a.1 }
 
 -- with flags the type under an enum is unsigned
-unsigned_under : (declared : List Name) (base : Base) (e : EnumRead) → metadata_faults declared (place_of_enum (Some base)) [] e.attributes ≡ [] → has_flags e ≡ true → is_unsigned base ≡ true
-unsigned_under declared base e h is = let stands = noted_stands declared (place_of_enum (Some base)) [] e.attributes BitFlags h is in flags_unsigned (is_unsigned base) stands.0.value stands.1
+unsigned_under : (declared : List Name) (base : Base) (e : EnumRead) → metadata_faults declared (host_of_enum (Some base)) [] e.attributes ≡ [] → has_flags e ≡ true → is_unsigned base ≡ true
+unsigned_under declared base e h is = let stands = noted_stands declared (host_of_enum (Some base)) [] e.attributes BitFlags h is in flags_unsigned (is_unsigned base) stands.0.value stands.1
 
 -- the base of an enum with no fault
 pub enum_base : (types : List TypeRead) (declared : List Name) (scope : Option Name) (e : EnumRead) → enum_faults declared (resolved_enum types scope e) ≡ [] → (base : Base) × (underlying types scope e ≡ Some base)
@@ -210,7 +210,7 @@ enum_kept types declared scope e h =
     subst (λ (o : Option Base). IsEnumBody (base_or_ubyte o) (has_flags e) (values_from (base_or_ubyte o) (has_flags e) (pos 0) e.values)) (sym found.1)
     (values_kept found.0 (has_flags e) e.values
     (subst (λ (o : Option Base). base_or_ubyte o ≢ Boolean) found.1 (not_boolean (meaning_of types scope e.underlying.bytes)))
-    (unsigned_under declared found.0 e (subst (λ (o : Option Base). metadata_faults declared (place_of_enum o) [] e.attributes ≡ []) found.1 right.metadata))
+    (unsigned_under declared found.0 e (subst (λ (o : Option Base). metadata_faults declared (host_of_enum o) [] e.attributes ≡ []) found.1 right.metadata))
     right.names
     (subst (λ (o : Option Base). bad_values o (has_flags e) [] (pos 0) e.values ≡ []) found.1 right.numbers))
 

@@ -83,7 +83,7 @@ module _ (o : Outline) (S : DeclaredSchema) (g : Gives o S) (none : faults_of_ty
       omega arith
 
   body_kept : (t : ℕ) (scope : Option Name) (d : TypeDecl) (b : DeclaredBody) → length (aligns_before o S g none t) ≡ t → declaration_faults o.types o.attributes (aligns_before o S g none t) (resolved_declaration o.types scope d) ≡ []
-      → HasBody o.types (resolved_declaration o.types scope d) b → IsBody S t b
+      → HasBody (resolved_declaration o.types scope d) b → IsBody S t b
   body_kept t scope (decls.Table d) (table_body slots) len h body = table_kept o S g (enums_kept o S g none) scope d (table_right o.types o.attributes scope d h) slots body
   body_kept t scope (decls.Struct d) (struct_body parts force) len h body =
       subst (λ b. IsBody S t b) (sym (λ i. struct_body (body.0 i) (body.1 i))) (struct_kept o S g scope (aligns_before o S g none t) d h t len)

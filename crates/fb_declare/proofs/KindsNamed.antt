@@ -1,5 +1,5 @@
 -- What the uses of names mean in the schema that an outline gives.
-use Rattle.std.proofs.Common.{◌≡◌, ℕ, zero, suc, Bool, true, false, List, [], ◌∷◌, length, map, refl, ap, sym, subst, Option, None, Some, IsTrue, if◌then◌else◌}
+use Rattle.std.proofs.Common.{◌≡◌, ℕ, zero, suc, Bool, true, false, List, [], ◌∷◌, map, refl, sym, subst, Option, None, Some, IsTrue, if◌then◌else◌}
 use Rattle.std.specs.List.{slice_get, AllZip}
 use Rattle.std.proofs.lemmas.Option.{slice_get_within, none-some}
 use Rattle.fb_syntax.specs.TypesRead.{TableRead, EnumRead, UnionRead}
@@ -34,12 +34,6 @@ zip_at_right R (x ∷ xs) [] z t y e = absurd z
 zip_at_right R (x ∷ xs) (b ∷ ys) z zero y e = let same : b ≡ y = cc in (x, refl, subst (λ b. R x b) same z.0)
 zip_at_right R (x ∷ xs) (b ∷ ys) z (suc t) y e = zip_at_right R xs ys z.1 t y e
 
-zip_length : {A B : Type 0} (R : A → B → Type 0) (xs : List A) (ys : List B) → AllZip R xs ys → length xs ≡ length ys
-zip_length R [] [] z = refl
-zip_length R [] (y ∷ ys) z = absurd z
-zip_length R (x ∷ xs) [] z = absurd z
-zip_length R (x ∷ xs) (y ∷ ys) z = ap suc (zip_length R xs ys z.1)
-
 zip_of_map : {A B C : Type 0} (R : B → C → Type 0) (f : A → B) (xs : List A) (ys : List C) → AllZip R (map f xs) ys → AllZip (λ x y. R (f x) y) xs ys
 zip_of_map R f [] [] z = z
 zip_of_map R f [] (y ∷ ys) z = z
@@ -64,25 +58,25 @@ names_at : (S : DeclaredSchema) (test : DeclaredBody → Bool) (t : ℕ) (type :
 names_at S test t type e h = (slice_get_within S.types t type e, subst (λ o. IsTrue (test (body_in o))) (sym e) h)
 
 -- the body that each declaration has
-is_table_from : (types : List TypeRead) (scope : Option Name) (d : TableRead) (b : DeclaredBody) → HasBody types (resolved_declaration types scope (decls.Table d)) b → IsTrue (is_table b)
+is_table_from : (types : List TypeRead) (scope : Option Name) (d : TableRead) (b : DeclaredBody) → HasBody (resolved_declaration types scope (decls.Table d)) b → IsTrue (is_table b)
 is_table_from types scope d (table_body fs) h = refl
 is_table_from types scope d (struct_body fs a) h = absurd h
 is_table_from types scope d (enum_body b f vs) h = absurd h
 is_table_from types scope d (union_body ms) h = absurd h
 
-is_struct_from : (types : List TypeRead) (scope : Option Name) (d : TableRead) (b : DeclaredBody) → HasBody types (resolved_declaration types scope (decls.Struct d)) b → IsTrue (is_struct b)
+is_struct_from : (types : List TypeRead) (scope : Option Name) (d : TableRead) (b : DeclaredBody) → HasBody (resolved_declaration types scope (decls.Struct d)) b → IsTrue (is_struct b)
 is_struct_from types scope d (table_body fs) h = absurd h
 is_struct_from types scope d (struct_body fs a) h = refl
 is_struct_from types scope d (enum_body b f vs) h = absurd h
 is_struct_from types scope d (union_body ms) h = absurd h
 
-is_enum_from : (types : List TypeRead) (scope : Option Name) (d : EnumRead) (b : DeclaredBody) → HasBody types (resolved_declaration types scope (decls.Enum d)) b → IsTrue (is_enum b)
+is_enum_from : (types : List TypeRead) (scope : Option Name) (d : EnumRead) (b : DeclaredBody) → HasBody (resolved_declaration types scope (decls.Enum d)) b → IsTrue (is_enum b)
 is_enum_from types scope d (table_body fs) h = absurd h
 is_enum_from types scope d (struct_body fs a) h = absurd h
 is_enum_from types scope d (enum_body b f vs) h = refl
 is_enum_from types scope d (union_body ms) h = absurd h
 
-is_union_from : (types : List TypeRead) (scope : Option Name) (d : UnionRead) (b : DeclaredBody) → HasBody types (resolved_declaration types scope (decls.Union d)) b → IsTrue (is_union b)
+is_union_from : (types : List TypeRead) (scope : Option Name) (d : UnionRead) (b : DeclaredBody) → HasBody (resolved_declaration types scope (decls.Union d)) b → IsTrue (is_union b)
 is_union_from types scope d (table_body fs) h = absurd h
 is_union_from types scope d (struct_body fs a) h = absurd h
 is_union_from types scope d (enum_body b f vs) h = absurd h
@@ -99,7 +93,7 @@ MeansIn S (Known kind) = KindNames S kind × IsNoCode kind
 MeansIn S Float = Unit {0}
 MeansIn S Unknown = Unit {0}
 
-means_use : (S : DeclaredSchema) (types : List TypeRead) (scope : Option Name) (t : ℕ) (type : DeclaredType) (d : TypeDecl) → slice_get S.types t ≡ Some type → HasBody types (resolved_declaration types scope d) type.body → MeansIn S (use_of t d)
+means_use : (S : DeclaredSchema) (types : List TypeRead) (scope : Option Name) (t : ℕ) (type : DeclaredType) (d : TypeDecl) → slice_get S.types t ≡ Some type → HasBody (resolved_declaration types scope d) type.body → MeansIn S (use_of t d)
 means_use S types scope t type (decls.Table d) e h = (names_at S is_table t type e (is_table_from types scope d type.body h), tt)
 means_use S types scope t type (decls.Struct d) e h = (names_at S is_struct t type e (is_struct_from types scope d type.body h), tt)
 means_use S types scope t type (decls.Enum d) e h = (names_at S is_enum t type e (is_enum_from types scope d type.body h), tt)

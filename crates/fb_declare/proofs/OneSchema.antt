@@ -30,8 +30,8 @@ same_slots read [] q a b = sym (nil_from_length q (length_permutation read q b.s
 same_slots read (f ∷ fs) q a b = ext_get_or f (f ∷ fs) q (length_permutation read (f ∷ fs) a.same ∙ sym (length_permutation read q b.same)) (λ k h. same_slot read (f ∷ fs) q a b f k h)
 
 -- A declaration gives one body at most.
-same_body : (types : List TypeRead) (d : ResolvedDecl) (b c : DeclaredBody) → HasBody types d b → HasBody types d c → b ≡ c
-same_body types (resolved.Table t) (table_body p) (table_body q) x y = ap table_body (same_slots (slots_read types t.fields) p q x y)
+same_body : (types : List TypeRead) (d : ResolvedDecl) (b c : DeclaredBody) → HasBody d b → HasBody d c → b ≡ c
+same_body types (resolved.Table t) (table_body p) (table_body q) x y = ap table_body (same_slots (slots_read t.fields) p q x y)
 same_body types (resolved.Table t) (table_body p) _ x y = absurd y
 same_body types (resolved.Struct s) (struct_body ps a) (struct_body qs b) x y = let parts : ps ≡ qs = x.0 ∙ sym y.0 in let force : a ≡ b = x.1 ∙ sym y.1 in cc
 same_body types (resolved.Struct s) (struct_body ps a) _ x y = absurd y

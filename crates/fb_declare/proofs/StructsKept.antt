@@ -19,8 +19,8 @@ use Rattle.fb_declare.specs.declared.faults.SchemaFault.{SchemaFault}
 use Rattle.fb_declare.specs.declared.faults.SchemaFault.TheVariants.{EmptyStruct, IncompleteStruct}
 use Rattle.fb_resolve.specs.declared.meanings.Meaning.{Meaning}
 use Rattle.fb_resolve.specs.declared.meanings.Meaning.TheVariants.{Known, Float, Unknown}
-use Rattle.fb_resolve.specs.declared.attributes.Known.TheVariants.{ForceAlign}
-use Rattle.fb_declare.specs.declared.attribute_faults.Place.TheVariants as places
+use Rattle.fb_resolve.specs.declared.attributes.BuiltInAttribute.TheVariants.{ForceAlign}
+use Rattle.fb_declare.specs.declared.attribute_faults.AttributeHost.TheVariants as hosts
 use Rattle.fb_resolve.specs.Outline.{TypeRead, Outline}
 use Rattle.fb_resolve.specs.Meaning.{meaning_of}
 use Rattle.fb_resolve.specs.ResolvedFields.{ResolvedField}
@@ -117,7 +117,7 @@ some_parts types scope (f ∷ fs) h = omega arith
 
 -- what is empty where a struct has no fault
 pub record IsStructRight (types : List TypeRead) (declared : List Name) (scope : Option Name) (lower : List ℕ) (s : TableRead) : Type 0 where
-  pub metadata : metadata_faults declared (places.Struct (natural_align types lower (resolved_fields types scope s.fields))) [] s.attributes ≡ []
+  pub metadata : metadata_faults declared (hosts.Struct (natural_align types lower (resolved_fields types scope s.fields))) [] s.attributes ≡ []
   pub some : is_empty_list s.fields ≡ false
   pub names : names_again [] (map (λ f. f.name) s.fields) ≡ []
   pub fields : flat_map (struct_field_faults declared (length lower)) (resolved_fields types scope s.fields) ≡ []
@@ -127,7 +127,7 @@ pub struct_right : (types : List TypeRead) (declared : List Name) (scope : Optio
     → IsStructRight types declared scope lower s
 unfolding struct_faults
 struct_right types declared scope lower s h =
-    let attribute_faults : List SchemaFault = metadata_faults declared (places.Struct (natural_align types lower (resolved_fields types scope s.fields))) [] s.attributes in
+    let attribute_faults : List SchemaFault = metadata_faults declared (hosts.Struct (natural_align types lower (resolved_fields types scope s.fields))) [] s.attributes in
     let empty_faults : List SchemaFault = when (is_empty_list s.fields) (EmptyStruct s.name.at) in
     let name_faults : List SchemaFault = names_again [] (map (λ f. f.name) s.fields) in
     let field_faults : List SchemaFault = flat_map (struct_field_faults declared (length lower)) (resolved_fields types scope s.fields) in
@@ -142,7 +142,7 @@ unfolding struct_field_faults
 field_type_right declared t f h =
     let kind_faults : List SchemaFault = struct_field_type t f.field.kind f.meaning in
     let default_faults : List SchemaFault = default_in_struct f.field.default in
-    none_left kind_faults default_faults (none_left (kind_faults ++ default_faults) (metadata_faults declared places.StructField [] f.field.attributes) h)
+    none_left kind_faults default_faults (none_left (kind_faults ++ default_faults) (metadata_faults declared hosts.StructField [] f.field.attributes) h)
 
 -- a struct with no fault has a right body, where each known use names a type
 pub struct_kept_by : (S : DeclaredSchema) (types : List TypeRead) (declared : List Name) (scope : Option Name) → ((name : Name) (k : Kind) → meaning_of types scope name ≡ Known k → KindNames S k)

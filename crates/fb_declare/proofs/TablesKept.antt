@@ -22,15 +22,16 @@ use Rattle.fb_resolve.specs.Resolved.{resolved_fields, resolved_table, resolved_
 use Rattle.fb_resolve.specs.Attributes.{has_attribute}
 use Rattle.fb_declare.specs.AttributeFaults.{may_stand, metadata_faults}
 use Rattle.fb_resolve.specs.EnumsRead.{underlying_in, underlying_of_read, underlying_at, value_in, value_of_read, value_at, base_or_ubyte, values_read}
-use Rattle.fb_resolve.specs.Defaults.{given_to, given_by, given_in}
+use Rattle.fb_resolve.specs.Defaults.{given_to, given_by}
+use Rattle.fb_resolve.specs.declared.defaults.Given.{Given}
 use Rattle.fb_resolve.specs.SlotsRead.{union_of, shape_of, number_given, is_null, value_slot, slots_read, AreInPlace, are_ids_wrong}
 use Rattle.fb_declare.specs.FaultRows.{when, names_again, use_faults, union_vector, table_field_type, bad_default}
-use Rattle.fb_declare.specs.TypeFaults.{names_of_field, place_of_field, table_field_faults, table_faults, declaration_faults, faults_of_types}
+use Rattle.fb_declare.specs.TypeFaults.{names_of_field, host_of_field, table_field_faults, table_faults, declaration_faults, faults_of_types}
 use Rattle.fb_declare.specs.Declares.{HasBody, Gives}
 use Rattle.fb_resolve.specs.declared.attributes.FieldAttributes.{FieldAttributes}
-use Rattle.fb_resolve.specs.declared.attributes.Known.TheVariants.{Required}
-use Rattle.fb_declare.specs.declared.attribute_faults.Place.TheVariants as places
-use Rattle.fb_declare.specs.declared.attribute_faults.Place.TheVariants.{ScalarField}
+use Rattle.fb_resolve.specs.declared.attributes.BuiltInAttribute.TheVariants.{Required}
+use Rattle.fb_declare.specs.declared.attribute_faults.AttributeHost.TheVariants as hosts
+use Rattle.fb_declare.specs.declared.attribute_faults.AttributeHost.TheVariants.{ScalarField}
 use Rattle.fb_resolve.specs.declared.defaults.Given.TheVariants.{Wrong}
 use Rattle.fb_declare.specs.declared.faults.SchemaFault.TheVariants.{BadIds}
 use Rattle.fb_resolve.specs.declared.meanings.Meaning.{Meaning}
@@ -43,7 +44,7 @@ use Rattle.fb_declare.proofs.FaultFree.{none_left, none_right, none_contained, a
 use Rattle.fb_declare.proofs.KindsNamed.{MeansIn, means_in, read_from_type}
 use Rattle.fb_declare.proofs.PairsKept.{SlotCase, alone, coded, valued, slot_cases, unions_paired, slot_names_differ}
 use Rattle.fb_declare.proofs.SlotsKept.{slot_placed}
-use Rattle.fb_declare.proofs.Meant.{meant_among, attributes_among}
+use Rattle.fb_declare.proofs.Meant.{meant_among, attributes_among, given_among}
 
 -- ---- the enums that fields name
 
@@ -51,7 +52,7 @@ use Rattle.fb_declare.proofs.Meant.{meant_among, attributes_among}
 abbrev IsEnumKept : List TypeRead → Option Base → (Name → Option ℤ) → DeclaredBody → Type 0
 IsEnumKept types under value body = (under ≡ Some (base_in body)) × ((name : Name) → IfSome (value name) (InRange (base_in body)))
 
-enum_facts : (types : List TypeRead) (declared : List Name) (lower : List ℕ) (scope : Option Name) (d : TypeDecl) (b : DeclaredBody) → declaration_faults types declared lower (resolved_declaration types scope d) ≡ [] → HasBody types (resolved_declaration types scope d) b
+enum_facts : (types : List TypeRead) (declared : List Name) (lower : List ℕ) (scope : Option Name) (d : TypeDecl) (b : DeclaredBody) → declaration_faults types declared lower (resolved_declaration types scope d) ≡ [] → HasBody (resolved_declaration types scope d) b
     → IsTrue (is_enum b) → IsEnumKept types (underlying_in types scope d) (value_in types scope d) b
 enum_facts types declared lower scope d (table_body fs) h body is = cc
 enum_facts types declared lower scope d (struct_body fs a) h body is = cc
@@ -96,12 +97,12 @@ no_required declared attributes false has h = refl
 no_required declared attributes true has h = let x = noted_stands declared ScalarField [] attributes Required h has in absurd (true≢false (sym x.1))
 
 -- the slot of a field's value, by what its type means and its attributes say
-abbrev slot_with : List TypeRead → FieldRead → FieldAttributes → FieldType → Meaning → ℕ → DeclaredField
-slot_with types f a k m slot = record {
+abbrev slot_with : FieldRead → FieldAttributes → Given → FieldType → Meaning → ℕ → DeclaredField
+slot_with f a given k m slot = record {
   name = f.name.bytes;
   shape = shape_of k m;
-  default = number_given (given_by types k m f.default);
-  optional = is_null (given_by types k m f.default);
+  default = number_given given;
+  optional = is_null given;
   required = a.required;
   deprecated = a.deprecated;
   slot = slot;
@@ -132,7 +133,7 @@ IsSlotRight S p = IsShape S p.shape × MarksFit S p p.shape
 
 value_right : (S : DeclaredSchema) (types : List TypeRead) (declared : List Name) (f : FieldRead) (a : FieldAttributes) → has_attribute Required f.attributes ≡ a.required
     → (slot : ℕ) (k : FieldType) (m : Meaning) → AreEnumsKept types S → MeansIn S m
-    → table_field_type k m ≡ [] → metadata_faults declared (place_of_field k m) [] f.attributes ≡ [] → IsSlotRight S (slot_with types f a k m slot)
+    → table_field_type k m ≡ [] → metadata_faults declared (host_of_field k m) [] f.attributes ≡ [] → IsSlotRight S (slot_with f a (given_by types k m f.default) k m slot)
 unfolding use_faults given_to
 value_right S types declared f a has slot (types_read.One n) (Known (Scalar base)) enums h type marks =
     (tt, (scalar_default types n base f.default, null_is_zero (given_by types (types_read.One n) (Known (Scalar base)) f.default), no_required declared f.attributes a.required has marks))
@@ -168,49 +169,50 @@ union_named S (types_read.Many at n) m u h e = cc
 -- what is empty where a table has no fault
 pub record IsTableRight (types : List TypeRead) (declared : List Name) (scope : Option Name) (t : TableRead) : Type 0 where
   pub names : names_again [] (flat_map names_of_field (resolved_fields types scope t.fields)) ≡ []
-  pub fields : flat_map (table_field_faults types declared) (resolved_fields types scope t.fields) ≡ []
+  pub fields : flat_map (table_field_faults declared) (resolved_fields types scope t.fields) ≡ []
 
-pub table_right : (types : List TypeRead) (declared : List Name) (scope : Option Name) (t : TableRead) → table_faults types declared (resolved_table types scope t) ≡ [] → IsTableRight types declared scope t
+pub table_right : (types : List TypeRead) (declared : List Name) (scope : Option Name) (t : TableRead) → table_faults declared (resolved_table types scope t) ≡ [] → IsTableRight types declared scope t
 unfolding table_faults
 table_right types declared scope t h =
-    let marks = metadata_faults declared places.Table [] t.attributes ++ when (are_ids_wrong (resolved_fields types scope t.fields)) (BadIds t.name.at) in
+    let marks = metadata_faults declared hosts.Table [] t.attributes ++ when (are_ids_wrong (resolved_fields types scope t.fields)) (BadIds t.name.at) in
     let names = names_again [] (flat_map names_of_field (resolved_fields types scope t.fields)) in
-    let fields = flat_map (table_field_faults types declared) (resolved_fields types scope t.fields) in
+    let fields = flat_map (table_field_faults declared) (resolved_fields types scope t.fields) in
     record {
       names = none_right marks names (none_left (marks ++ names) fields h);
       fields = none_right (marks ++ names) fields h;
     }
 
 -- a field with no fault has a right type and right attributes
-field_right : (types : List TypeRead) (declared : List Name) (f : ResolvedField) → table_field_faults types declared f ≡ []
-    → (table_field_type f.field.kind f.meaning ≡ []) × (metadata_faults declared (place_of_field f.field.kind f.meaning) [] f.field.attributes ≡ [])
+field_right : (declared : List Name) (f : ResolvedField) → table_field_faults declared f ≡ []
+    → (table_field_type f.field.kind f.meaning ≡ []) × (metadata_faults declared (host_of_field f.field.kind f.meaning) [] f.field.attributes ≡ [])
 unfolding table_field_faults
-field_right types declared f h =
+field_right declared f h =
     let type = table_field_type f.field.kind f.meaning in
-    let default = bad_default f.field.default (given_in types f) in
-    let marks = metadata_faults declared (place_of_field f.field.kind f.meaning) [] f.field.attributes in
+    let default = bad_default f.field.default f.given in
+    let marks = metadata_faults declared (host_of_field f.field.kind f.meaning) [] f.field.attributes in
     (none_left type default (none_left (type ++ default) marks h), none_right (type ++ default) marks h)
 
 module _ (o : Outline) (S : DeclaredSchema) (g : Gives o S) (enums : AreEnumsKept o.types S) (scope : Option Name) (t : TableRead) (right : IsTableRight o.types o.attributes scope t) where
   means : (f : ResolvedField) → Contains (resolved_fields o.types scope t.fields) f → MeansIn S f.meaning
   means f among = meant_among (MeansIn S) o.types scope (means_in o S g scope) t.fields f among
 
-  value_of_field : (f : ResolvedField) → Contains (resolved_fields o.types scope t.fields) f → (slot : ℕ) → IsSlotRight S (value_slot o.types f slot)
+  value_of_field : (f : ResolvedField) → Contains (resolved_fields o.types scope t.fields) f → (slot : ℕ) → IsSlotRight S (value_slot f slot)
   value_of_field f among slot =
-      let none = field_right o.types o.attributes f (none_contained (table_field_faults o.types o.attributes) (resolved_fields o.types scope t.fields) right.fields f among) in
+      let none = field_right o.attributes f (none_contained (table_field_faults o.attributes) (resolved_fields o.types scope t.fields) right.fields f among) in
       let has = sym (ap (λ a. a.required) (attributes_among o.types scope t.fields f among)) in
-      value_right S o.types o.attributes f.field f.attributes has slot f.field.kind f.meaning enums (means f among) none.0 none.1
+      subst (λ given. IsSlotRight S (slot_with f.field f.attributes given f.field.kind f.meaning slot)) (sym (given_among o.types scope t.fields f among))
+      (value_right S o.types o.attributes f.field f.attributes has slot f.field.kind f.meaning enums (means f among) none.0 none.1)
 
-  slot_right : (p : DeclaredField) (f : ResolvedField) (slot : ℕ) → Contains (resolved_fields o.types scope t.fields) f → SlotCase o.types f slot p → IsSlotRight S p
+  slot_right : (p : DeclaredField) (f : ResolvedField) (slot : ℕ) → Contains (resolved_fields o.types scope t.fields) f → SlotCase f slot p → IsSlotRight S p
   slot_right p f slot among (alone e same) = subst (λ q. IsSlotRight S q) (sym same) (value_of_field f among slot)
   slot_right p f slot among (coded u e same) = subst (λ q. IsSlotRight S q) (sym same) (union_named S f.field.kind f.meaning u (means f among) e, ((refl, refl), refl))
   slot_right p f slot among (valued u e same) = subst (λ q. IsSlotRight S q) (sym same) (value_of_field f among (slot + 1))
 
   -- Its slots, in their places, are a table's.
-  pub table_kept : (slots : List DeclaredField) → AreInPlace (slots_read o.types (resolved_fields o.types scope t.fields)) slots → IsTableBody S slots
+  pub table_kept : (slots : List DeclaredField) → AreInPlace (slots_read (resolved_fields o.types scope t.fields)) slots → IsTableBody S slots
   table_kept slots placed = let fields = resolved_fields o.types scope t.fields in record {
     slots = placed.slots;
-    names = slot_names_differ o.types fields slots placed right.names;
-    shapes = λ k p at. let x = slot_placed o.types fields slots placed k p at in slot_right p x.field x.slot x.among (slot_cases o.types x.field x.slot p x.here);
-    unions = unions_paired S o.types fields means slots placed;
+    names = slot_names_differ fields slots placed right.names;
+    shapes = λ k p at. let x = slot_placed fields slots placed k p at in slot_right p x.field x.slot x.among (slot_cases x.field x.slot p x.here);
+    unions = unions_paired S fields means slots placed;
   }

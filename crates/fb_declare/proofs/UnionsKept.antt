@@ -15,7 +15,7 @@ use Rattle.fb_schema.specs.WellDeclared.{Names, KindNames, IsUnionBody}
 use Rattle.fb_declare.specs.declared.faults.SchemaFault.TheVariants.{DuplicateName, BadMember}
 use Rattle.fb_resolve.specs.declared.meanings.Meaning.{Meaning}
 use Rattle.fb_resolve.specs.declared.meanings.Meaning.TheVariants.{Known}
-use Rattle.fb_declare.specs.declared.attribute_faults.Place.TheVariants as places
+use Rattle.fb_declare.specs.declared.attribute_faults.AttributeHost.TheVariants as hosts
 use Rattle.fb_resolve.specs.Outline.{TypeRead, Outline}
 use Rattle.fb_resolve.specs.Meaning.{meaning_of}
 use Rattle.fb_declare.specs.AttributeFaults.{metadata_faults}
@@ -84,8 +84,8 @@ module _ (S : DeclaredSchema) (types : List TypeRead) (scope : Option Name) (nam
   pub union_kept_by : (declared : List Name) (u : UnionRead) → union_faults declared (resolved_union types scope u) ≡ [] → IsUnionBody S (map member_read (resolved_members types scope u.members))
   unfolding union_faults
   union_kept_by declared u h =
-      let a = both_empty (metadata_faults declared places.Union [] u.attributes ++ names_again [] (map member_name u.members)) (members_faults 0 (resolved_members types scope u.members)) h in
-      let names = names_apart (map member_name u.members) (none_right (metadata_faults declared places.Union [] u.attributes) (names_again [] (map member_name u.members)) a.0) in
+      let a = both_empty (metadata_faults declared hosts.Union [] u.attributes ++ names_again [] (map member_name u.members)) (members_faults 0 (resolved_members types scope u.members)) h in
+      let names = names_apart (map member_name u.members) (none_right (metadata_faults declared hosts.Union [] u.attributes) (names_again [] (map member_name u.members)) a.0) in
       let members = members_right 0 u.members (omega arith) a.1 in
       record {
         few = omega (arith, members.0, length-map (resolved_members types scope u.members) member_read, length-map u.members (resolved_member types scope));

@@ -1,5 +1,5 @@
 -- Lists that agree place by place, one more place at a time.
-use Rattle.std.proofs.Common.{◌≡◌, ◌<◌, ◌≤◌, ◌+◌, ◌++◌, ℕ, zero, suc, List, [], ◌∷◌, length, take, get_or, map, refl, ap, sym, subst, arith}
+use Rattle.std.proofs.Common.{◌≡◌, ◌<◌, ◌+◌, ◌++◌, ℕ, List, [], ◌∷◌, length, take, get_or, map, refl, ap, sym, subst}
 use Rattle.std.specs.List.{AllZip}
 use Rattle.fb_resolve.proofs.Steps.{take-more}
 
@@ -20,9 +20,3 @@ zipped-more R f xs cs i x c h e zipped r =
     subst (λ l. AllZip R l (map f (cs ++ c ∷ []))) (sym (take-more xs i x h))
     (subst (λ l. AllZip R (take i xs ++ get_or xs i x ∷ []) l) (sym (map-snoc f cs c))
     (AllZip-snoc R (take i xs) (map f cs) (get_or xs i x) (f c) zipped (subst (λ y. R y (f c)) e r)))
-
-take-all : {X : Type 0} (xs : List X) (i : ℕ) → length xs ≤ i → take i xs ≡ xs
-take-all [] zero h = refl
-take-all [] (suc i) h = refl
-take-all (x ∷ xs) zero h = absurd (omega arith)
-take-all (x ∷ xs) (suc i) h = ap (λ r. x ∷ r) (take-all xs i (omega arith))

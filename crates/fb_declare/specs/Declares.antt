@@ -18,17 +18,17 @@ use Rattle.fb_declare.specs.TypeFaults.{faults_of}
 use Rattle.fb_declare.specs.declared.faults.SchemaFault.{SchemaFault}
 
 -- what a declaration gives
-abbrev pub HasBody : List TypeRead → ResolvedDecl → DeclaredBody → Type 0
-HasBody types (resolved.Table t) (table_body slots) = AreInPlace (slots_read types t.fields) slots
-HasBody types (resolved.Struct s) (struct_body parts force) = (parts ≡ parts_from 0 s.fields) × (force ≡ forced_align 0 s.force_align)
-HasBody types (resolved.Enum e) (enum_body base flags values) = let under = integer_type e.underlying in
+abbrev pub HasBody : ResolvedDecl → DeclaredBody → Type 0
+HasBody (resolved.Table t) (table_body slots) = AreInPlace (slots_read t.fields) slots
+HasBody (resolved.Struct s) (struct_body parts force) = (parts ≡ parts_from 0 s.fields) × (force ≡ forced_align 0 s.force_align)
+HasBody (resolved.Enum e) (enum_body base flags values) = let under = integer_type e.underlying in
     (base ≡ base_or_ubyte under) × (flags ≡ e.bit_flags) × (values ≡ values_over under e.bit_flags e.declared.values)
-HasBody types (resolved.Union u) (union_body members) = members ≡ map member_read u.members
-HasBody types _ _ = ⊥
+HasBody (resolved.Union u) (union_body members) = members ≡ map member_read u.members
+HasBody _ _ = ⊥
 
 pub record IsType (types : List TypeRead) (r : ResolvedType) (t : DeclaredType) : Type 0 where
   pub name : t.name ≡ name_of_type r.read
-  pub body : HasBody types r.declaration t.body
+  pub body : HasBody r.declaration t.body
 
 -- the number of the root's table
 abbrev pub root_table : List TypeRead → Option RootRead → Option ℕ

@@ -5,5 +5,5 @@ pub mod Declares
 pub mod Faults
 pub mod DeclaredNames
 pub mod Buildable
-pub mod Found
+pub mod ResolvedOutline
 pub mod NamePlaces

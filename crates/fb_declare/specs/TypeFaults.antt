@@ -15,7 +15,6 @@ use Rattle.fb_resolve.specs.declared.resolved.ResolvedDecl.{ResolvedDecl}
 use Rattle.fb_resolve.specs.declared.resolved.ResolvedDecl.TheVariants as resolved
 use Rattle.fb_declare.specs.AttributeFaults.{metadata_faults}
 use Rattle.fb_resolve.specs.EnumsRead.{integer_type}
-use Rattle.fb_resolve.specs.Defaults.{given_in}
 use Rattle.fb_resolve.specs.SlotsRead.{union_in, name_of_code, are_ids_wrong}
 use Rattle.fb_resolve.specs.StructsRead.{natural_align, align_of_type}
 use Rattle.fb_resolve.specs.MembersRead.{member_name}
@@ -27,8 +26,8 @@ use Rattle.fb_syntax.specs.declared.declarations.FieldType.{FieldType}
 use Rattle.fb_syntax.specs.declared.declarations.FieldType.TheVariants.{One}
 use Rattle.fb_resolve.specs.declared.meanings.Meaning.{Meaning}
 use Rattle.fb_resolve.specs.declared.meanings.Meaning.TheVariants.{Known}
-use Rattle.fb_declare.specs.declared.attribute_faults.Place.{Place}
-use Rattle.fb_declare.specs.declared.attribute_faults.Place.TheVariants as places
+use Rattle.fb_declare.specs.declared.attribute_faults.AttributeHost.{AttributeHost}
+use Rattle.fb_declare.specs.declared.attribute_faults.AttributeHost.TheVariants as hosts
 use Rattle.fb_declare.specs.declared.faults.SchemaFault.{SchemaFault}
 use Rattle.fb_declare.specs.declared.faults.SchemaFault.TheVariants.{BadIds, EmptyStruct}
 
@@ -41,29 +40,29 @@ abbrev pub names_of_field : ResolvedField → List Located
 names_of_field r = names_by_union r.field (union_in r)
 
 -- A scalar or enum can't be required. Where the type is at fault `required` is let pass.
-abbrev pub place_of_field : FieldType → Meaning → Place
-place_of_field (One n) (Known (Scalar base)) = places.ScalarField
-place_of_field (One n) (Known (Enum e)) = places.ScalarField
-place_of_field _ _ = places.TableField
+abbrev pub host_of_field : FieldType → Meaning → AttributeHost
+host_of_field (One n) (Known (Scalar base)) = hosts.ScalarField
+host_of_field (One n) (Known (Enum e)) = hosts.ScalarField
+host_of_field _ _ = hosts.TableField
 
-unfoldable pub table_field_faults : List TypeRead → List Name → ResolvedField → List SchemaFault
-table_field_faults types declared r =
+unfoldable pub table_field_faults : List Name → ResolvedField → List SchemaFault
+table_field_faults declared r =
     table_field_type r.field.kind r.meaning
-    ++ bad_default r.field.default (given_in types r)
-    ++ metadata_faults declared (place_of_field r.field.kind r.meaning) [] r.field.attributes
+    ++ bad_default r.field.default r.given
+    ++ metadata_faults declared (host_of_field r.field.kind r.meaning) [] r.field.attributes
 
-unfoldable pub table_faults : List TypeRead → List Name → ResolvedTable → List SchemaFault
-table_faults types declared t =
-    metadata_faults declared places.Table [] t.declared.attributes
+unfoldable pub table_faults : List Name → ResolvedTable → List SchemaFault
+table_faults declared t =
+    metadata_faults declared hosts.Table [] t.declared.attributes
     ++ when (are_ids_wrong t.fields) (BadIds t.declared.name.at)
     ++ names_again [] (flat_map names_of_field t.fields)
-    ++ flat_map (table_field_faults types declared) t.fields
+    ++ flat_map (table_field_faults declared) t.fields
 
 unfoldable pub struct_field_faults : List Name → ℕ → ResolvedField → List SchemaFault
 struct_field_faults declared struct r =
     struct_field_type struct r.field.kind r.meaning
     ++ default_in_struct r.field.default
-    ++ metadata_faults declared places.StructField [] r.field.attributes
+    ++ metadata_faults declared hosts.StructField [] r.field.attributes
 
 abbrev pub is_empty_list : List FieldRead → Bool
 is_empty_list [] = true
@@ -72,20 +71,20 @@ is_empty_list (f ∷ fs) = false
 -- the faults of a struct, where these are the alignments of the types before it
 unfoldable pub struct_faults : List TypeRead → List Name → List ℕ → ResolvedTable → List SchemaFault
 struct_faults types declared lower s =
-    metadata_faults declared (places.Struct (natural_align types lower s.fields)) [] s.declared.attributes
+    metadata_faults declared (hosts.Struct (natural_align types lower s.fields)) [] s.declared.attributes
     ++ when (is_empty_list s.declared.fields) (EmptyStruct s.declared.name.at)
     ++ names_again [] (map (λ f. f.name) s.declared.fields)
     ++ flat_map (struct_field_faults declared (length lower)) s.fields
 
 -- Flags need an unsigned type. Where the type is at fault `bit_flags` is let pass.
-abbrev pub place_of_enum : Option Base → Place
-place_of_enum None = places.Enum
-place_of_enum (Some base) = if is_unsigned base then places.Enum else places.SignedEnum
+abbrev pub host_of_enum : Option Base → AttributeHost
+host_of_enum None = hosts.Enum
+host_of_enum (Some base) = if is_unsigned base then hosts.Enum else hosts.SignedEnum
 
 unfoldable pub enum_faults : List Name → ResolvedEnum → List SchemaFault
 enum_faults declared e = let base = integer_type e.underlying in
     underlying_faults e.underlying e.declared.underlying.at
-    ++ metadata_faults declared (place_of_enum base) [] e.declared.attributes
+    ++ metadata_faults declared (host_of_enum base) [] e.declared.attributes
     ++ names_again [] (map (λ v. v.name) e.declared.values)
     ++ bad_values base e.bit_flags [] (pos 0) e.declared.values
 
@@ -98,12 +97,12 @@ members_faults before (r ∷ rs) =
 
 unfoldable pub union_faults : List Name → ResolvedUnion → List SchemaFault
 union_faults declared u =
-    metadata_faults declared places.Union [] u.declared.attributes
+    metadata_faults declared hosts.Union [] u.declared.attributes
     ++ names_again [] (map member_name u.declared.members)
     ++ members_faults 0 u.members
 
 abbrev pub declaration_faults : List TypeRead → List Name → List ℕ → ResolvedDecl → List SchemaFault
-declaration_faults types declared lower (resolved.Table t) = table_faults types declared t
+declaration_faults types declared lower (resolved.Table t) = table_faults declared t
 declaration_faults types declared lower (resolved.Struct s) = struct_faults types declared lower s
 declaration_faults types declared lower (resolved.Enum e) = enum_faults declared e
 declaration_faults types declared lower (resolved.Union u) = union_faults declared u

@@ -3,22 +3,22 @@ ghost use Rattle.std.specs.Prelude.{◌≡◌, codes, IfOk, OnOk, []};
 ghost use Rattle.std.specs.List.{list_any, starts_with};
 ghost use Rattle.std.specs.Bool.{nat_eq};
 ghost use Rattle.std.specs.Option.{option_copied};
-ghost use Rattle.fb_resolve.specs.Attributes.{known_attribute};
-ghost use Rattle.fb_declare.specs.AttributeFaults.{is_left_out, may_stand, is_force_align_of_field, is_known};
+ghost use Rattle.fb_resolve.specs.Attributes.{built_in_attribute};
+ghost use Rattle.fb_declare.specs.AttributeFaults.{is_left_out, may_stand, is_force_align_of_field, is_same};
 ghost use Rattle.fb_declare.specs.AttributeFaults.{noted, attribute_faults, metadata_faults};
 ghost use Rattle.fb_declare.specs.Faults.{least_of};
 ghost use Rattle.fb_declare.specs.DeclaredNames.{names_declared};
 
 use crate::declared_names::DeclaredNames;
 use crate::faults::{SchemaFault, earlier};
-use fb_resolve::{Known, is_alignment, known_attribute};
+use fb_resolve::{BuiltInAttribute, built_in_attribute, is_alignment};
 use fb_syntax::{Attribute, AttributeValue};
 use std::alloc::{AllocError, Global};
 
 /// What an attribute stands on, as far as that decides whether it may. A struct has the alignment
 /// that its fields need; a field of a table that can't be required is a `ScalarField`.
 #[derive(Clone, Copy, Debug, PartialEq, Eq, Drop)]
-pub(crate) enum Place {
+pub(crate) enum AttributeHost {
     Table,
     Struct(u16),
     Enum,
@@ -46,107 +46,121 @@ fn is_left_out(name: &str) -> bool
     }
 }
 
-/// Whether a known attribute may stand at a place with a value.
+/// Whether a built-in attribute may stand on a host with a value.
 #[tactic(auto, unfolding(crate::specs::AttributeFaults::may_stand))]
-fn may_stand(place: Place, known: Known, value: Option<&AttributeValue<'_>>) -> bool
-    ensures { result ≡ may_stand place known (option_copied value.entry) }
+fn may_stand(
+    host: AttributeHost,
+    built_in: BuiltInAttribute,
+    value: Option<&AttributeValue<'_>>,
+) -> bool
+    ensures { result ≡ may_stand host built_in (option_copied value.entry) }
 {
-    match (place, known, value) {
-        (Place::ScalarField | Place::TableField, Known::Id, Some(AttributeValue::Integer(_))) =>
+    match (host, built_in, value) {
+        (
+            AttributeHost::ScalarField | AttributeHost::TableField,
+            BuiltInAttribute::Id,
+            Some(AttributeValue::Integer(_)),
+        ) => true,
+        (AttributeHost::TableField, BuiltInAttribute::Required, None) => true,
+        (
+            AttributeHost::ScalarField | AttributeHost::TableField,
+            BuiltInAttribute::Deprecated,
+            None,
+        ) => true,
+        (
+            AttributeHost::Struct(natural),
+            BuiltInAttribute::ForceAlign,
+            Some(AttributeValue::Integer(number)),
+        ) => { is_alignment(natural, number.value()) }
+        (AttributeHost::Enum, BuiltInAttribute::BitFlags, None) => true,
+        (AttributeHost::Table | AttributeHost::Struct(_), BuiltInAttribute::OriginalOrder, None) =>
             true,
-        (Place::TableField, Known::Required, None) => true,
-        (Place::ScalarField | Place::TableField, Known::Deprecated, None) => true,
-        (Place::Struct(natural), Known::ForceAlign, Some(AttributeValue::Integer(number))) => {
-            is_alignment(natural, number.value())
-        }
-        (Place::Enum, Known::BitFlags, None) => true,
-        (Place::Table | Place::Struct(_), Known::OriginalOrder, None) => true,
         _ => false,
     }
 }
 
-fn is_force_align_of_field(place: Place, known: Option<Known>) -> bool
-    ensures { result ≡ is_force_align_of_field place known }
+fn is_force_align_of_field(host: AttributeHost, built_in: Option<BuiltInAttribute>) -> bool
+    ensures { result ≡ is_force_align_of_field host built_in }
 {
     let is_field = matches!(
-        place,
-        Place::ScalarField | Place::TableField | Place::StructField
+        host,
+        AttributeHost::ScalarField | AttributeHost::TableField | AttributeHost::StructField
     );
-    is_field && matches!(known, Some(Known::ForceAlign))
+    is_field && matches!(built_in, Some(BuiltInAttribute::ForceAlign))
 }
 
-fn is_known(known: Known, other: Known) -> bool
-    ensures { result ≡ is_known known other }
+fn is_same(built_in: BuiltInAttribute, other: BuiltInAttribute) -> bool
+    ensures { result ≡ is_same built_in other }
 {
-    known == other
+    built_in == other
 }
 
-fn has_seen(seen: &[Known], known: Known) -> bool
-    ensures { result ≡ list_any (is_known known) seen.now }
+fn has_seen(seen: &[BuiltInAttribute], built_in: BuiltInAttribute) -> bool
+    ensures { result ≡ list_any (is_same built_in) seen.now }
 {
-    seen.iter().any(|other| is_known(known, *other))
+    seen.iter().any(|other| is_same(built_in, *other))
 }
 
-/// Adds an attribute to those seen, if it is known and not there.
-fn note(seen: &mut Vec<Known>, attribute: &Attribute<'_>) -> Result<(), AllocError>
+/// Adds an attribute to those seen, if it is built in and not there.
+fn note(seen: &mut Vec<BuiltInAttribute>, attribute: &Attribute<'_>) -> Result<(), AllocError>
     ensures { OnOk result
-        (seen.new.items ≡ noted seen.old.items (known_attribute attribute.now.name.bytes)) }
+        (seen.new.items ≡ noted seen.old.items (built_in_attribute attribute.now.name.bytes)) }
 {
-    match known_attribute(attribute.name.text) {
-        Some(known) if !has_seen(seen.as_slice(), known) => {
-            seen.push(known)?;
+    match built_in_attribute(attribute.name.text) {
+        Some(built_in) if !has_seen(seen.as_slice(), built_in) => {
+            seen.push(built_in)?;
             Ok(())
         }
         _ => Ok(()),
     }
 }
 
-/// What is wrong with an attribute behind others, of which these are known.
+/// What is wrong with an attribute behind others, of which these are built in.
 #[tactic(auto, unfolding(crate::specs::AttributeFaults::attribute_faults, crate::specs::Faults::least_of))]
 fn attribute_fault(
     declared: DeclaredNames<'_, '_>,
-    place: Place,
-    seen: &[Known],
+    host: AttributeHost,
+    seen: &[BuiltInAttribute],
     attribute: &Attribute<'_>,
 ) -> Option<SchemaFault>
     ensures { result ≡ least_of
-        (attribute_faults (names_declared declared.entry) place seen.now attribute.now) }
+        (attribute_faults (names_declared declared.entry) host seen.now attribute.now) }
 {
     let at = attribute.name.at;
     let name = attribute.name.text;
-    let known = known_attribute(name);
-    if is_left_out(name) || is_force_align_of_field(place, known) {
+    let built_in = built_in_attribute(name);
+    if is_left_out(name) || is_force_align_of_field(host, built_in) {
         return Some(SchemaFault::Unsupported(at));
     }
-    let Some(known) = known else {
+    let Some(built_in) = built_in else {
         return if declared.has(name) {
             None
         } else {
             Some(SchemaFault::UnknownAttribute(at))
         };
     };
-    if !may_stand(place, known, attribute.value.as_ref()) || has_seen(seen, known) {
+    if !may_stand(host, built_in, attribute.value.as_ref()) || has_seen(seen, built_in) {
         return Some(SchemaFault::BadAttribute(at));
     }
     None
 }
 
-/// The least fault of the attributes at a place. The only error is a refused allocation.
+/// The least fault of the attributes at a host. The only error is a refused allocation.
 pub(crate) fn metadata_fault(
     alloc: Global,
     declared: DeclaredNames<'_, '_>,
-    place: Place,
+    host: AttributeHost,
     attributes: &[Attribute<'_>],
 ) -> Result<Option<SchemaFault>, AllocError>
     ensures { IfOk result (λ f. f ≡ least_of
-        (metadata_faults (names_declared declared.entry) place [] attributes.now)) }
+        (metadata_faults (names_declared declared.entry) host [] attributes.now)) }
 {
     let mut least = None;
     let mut seen = Vec::new(alloc);
     for attribute in attributes {
         least = earlier(
             least,
-            attribute_fault(declared, place, seen.as_slice(), attribute),
+            attribute_fault(declared, host, seen.as_slice(), attribute),
         );
         note(&mut seen, attribute)?;
     }

@@ -2,25 +2,22 @@
 #![tactic(auto)]
 
 mod attribute_faults;
-mod bodies;
-mod copies;
 mod declared_names;
-mod declaring;
 mod default_faults;
-mod enum_faults;
+mod enums;
 mod faults;
 mod field_types;
-mod found;
 mod laws;
-mod member_faults;
 mod name_places;
 mod names_again;
-mod struct_faults;
-mod table_faults;
-mod type_faults;
-mod union_faults;
-mod value_faults;
+mod resolved_outline;
+mod root;
+mod schema;
+mod structs;
+mod tables;
+mod types;
+mod unions;
 
-pub use declaring::declare;
 pub use faults::SchemaFault;
 pub use laws::one_schema;
+pub use schema::declare;

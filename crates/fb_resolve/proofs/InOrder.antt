@@ -13,7 +13,6 @@ use Rattle.fb_schema.specs.Schema.{DeclaredField}
 use Rattle.fb_schema.specs.Seen.{field_seen}
 use Rattle.fb_schema.specs.declared.types.FieldInfo.{FieldInfo}
 use Rattle.fb_schema.specs.declared.kinds.TypeId.{TypeId}
-use Rattle.fb_resolve.specs.Outline.{TypeRead}
 use Rattle.fb_resolve.specs.ResolvedFields.{ResolvedField}
 use Rattle.fb_resolve.specs.SlotsRead.{union_in, slots_by_union, slots_of_field, slots_in_order, slot_by_id, slots_by_id, numbers_by_union, numbers_by_id, have_ids, have_all_ids, slots_read, AreInPlace, take_new_places, are_places, are_ids_wrong}
 use Rattle.fb_resolve.proofs.PlacesTaken.{take_new_places-cons}
@@ -140,18 +139,18 @@ in_place read placed right same up = record {
       ∙ places_at (map (λ x. x.slot) read) (map (λ x. x.slot) placed) right (IsPermutation-map (λ x. x.slot) read placed same) (rises-map (λ n. n) (λ x. x.slot) placed up) k (rw (length-map placed (λ x. x.slot)) h);
 }
 
-numbers-by_union : (types : List TypeRead) (f : ResolvedField) (slot : ℕ) (u : Option TypeId) → map (λ s. s.slot) (slots_by_union types f u slot) ≡ numbers_by_union slot u
-numbers-by_union types f slot None = refl
-numbers-by_union types f slot (Some u) = refl
+numbers-by_union : (f : ResolvedField) (slot : ℕ) (u : Option TypeId) → map (λ s. s.slot) (slots_by_union f u slot) ≡ numbers_by_union slot u
+numbers-by_union f slot None = refl
+numbers-by_union f slot (Some u) = refl
 
 -- the slots that fields take by their ids have the numbers that they name
-numbers_of_slots : (types : List TypeRead) (fs : List ResolvedField) → map (λ s. s.slot) (slots_by_id types fs) ≡ numbers_by_id fs
+numbers_of_slots : (fs : List ResolvedField) → map (λ s. s.slot) (slots_by_id fs) ≡ numbers_by_id fs
 unfolding slots_of_field
-numbers_of_slots types [] = refl
-numbers_of_slots types (f ∷ fs) = let slot = unwrap_or (slot_by_id f) 0 in
-    map-append (λ s. s.slot) (slots_by_union types f (union_in f) slot) (slots_by_id types fs)
-    ∙ ap (λ ns. ns ++ map (λ s. s.slot) (slots_by_id types fs)) (numbers-by_union types f slot (union_in f))
-    ∙ ap (λ ns. numbers_by_union slot (union_in f) ++ ns) (numbers_of_slots types fs)
+numbers_of_slots [] = refl
+numbers_of_slots (f ∷ fs) = let slot = unwrap_or (slot_by_id f) 0 in
+    map-append (λ s. s.slot) (slots_by_union f (union_in f) slot) (slots_by_id fs)
+    ∙ ap (λ ns. ns ++ map (λ s. s.slot) (slots_by_id fs)) (numbers-by_union f slot (union_in f))
+    ∙ ap (λ ns. numbers_by_union slot (union_in f) ++ ns) (numbers_of_slots fs)
 
 right_ids : (ids all places : Bool) → ids ≡ true → ids && not (all && places) ≡ false → places ≡ true
 right_ids true true true is e = refl
@@ -160,14 +159,14 @@ right_ids true false places is e = cc
 right_ids false all places is e = cc
 
 -- slots by their ids, sorted by their numbers
-pub placed_by_id : (types : List TypeRead) (fs : List ResolvedField) (before slots : List FieldInfo)
-    → have_ids fs ≡ true → are_ids_wrong fs ≡ false → map field_seen before ≡ slots_by_id types fs → IsPermutation before slots → IsNonDecreasingBy (λ f. f.slot) slots
-    → AreInPlace (slots_read types fs) (map field_seen slots)
+pub placed_by_id : (fs : List ResolvedField) (before slots : List FieldInfo)
+    → have_ids fs ≡ true → are_ids_wrong fs ≡ false → map field_seen before ≡ slots_by_id fs → IsPermutation before slots → IsNonDecreasingBy (λ f. f.slot) slots
+    → AreInPlace (slots_read fs) (map field_seen slots)
 unfolding are_ids_wrong
-placed_by_id types fs before slots ids right read same up =
+placed_by_id fs before slots ids right read same up =
     let places = right_ids (have_ids fs) (have_all_ids fs) (are_places (numbers_by_id fs)) ids right in
-    let moved : IsPermutation (slots_by_id types fs) (map field_seen slots) = rw (← read) (IsPermutation-map field_seen before slots same) in
-    rw ids (in_place (slots_by_id types fs) (map field_seen slots) (ap are_places (numbers_of_slots types fs) ∙ places) moved (rises-map (λ s. s.slot) field_seen slots up))
+    let moved : IsPermutation (slots_by_id fs) (map field_seen slots) = rw (← read) (IsPermutation-map field_seen before slots same) in
+    rw ids (in_place (slots_by_id fs) (map field_seen slots) (ap are_places (numbers_of_slots fs) ∙ places) moved (rises-map (λ s. s.slot) field_seen slots up))
 
 -- each slot has the number behind that of the one before
 AreNumbered : ℕ → List DeclaredField → Type 0
@@ -181,19 +180,19 @@ numbered-append next (x ∷ xs) ys here later =
     let same : next + length (x ∷ xs) ≡ (next + 1) + length xs = omega arith in
     (here.0, numbered-append (next + 1) xs ys here.1 (rw same at later))
 
-numbered_field : (types : List TypeRead) (f : ResolvedField) (slot : ℕ) → AreNumbered slot (slots_of_field types f slot)
+numbered_field : (f : ResolvedField) (slot : ℕ) → AreNumbered slot (slots_of_field f slot)
 unfolding slots_of_field AreNumbered
-numbered_field types f slot = by (union_in f)
+numbered_field f slot = by (union_in f)
   where
-    by : (union : Option TypeId) → AreNumbered slot (slots_by_union types f union slot)
+    by : (union : Option TypeId) → AreNumbered slot (slots_by_union f union slot)
     by None = (refl, tt)
     by (Some u) = (refl, (refl, tt))
 
-numbered_in_order : (types : List TypeRead) (slot : ℕ) (fs : List ResolvedField) → AreNumbered slot (slots_in_order types slot fs)
+numbered_in_order : (slot : ℕ) (fs : List ResolvedField) → AreNumbered slot (slots_in_order slot fs)
 unfolding slots_in_order AreNumbered
-numbered_in_order types slot [] = tt
-numbered_in_order types slot (f ∷ fs) = let here = slots_of_field types f slot in
-    numbered-append slot here (slots_in_order types (slot + length here) fs) (numbered_field types f slot) (numbered_in_order types (slot + length here) fs)
+numbered_in_order slot [] = tt
+numbered_in_order slot (f ∷ fs) = let here = slots_of_field f slot in
+    numbered-append slot here (slots_in_order (slot + length here) fs) (numbered_field f slot) (numbered_in_order (slot + length here) fs)
 
 numbered_at : (ss : List DeclaredField) (next k : ℕ) (s : DeclaredField) → AreNumbered next ss → slice_get ss k ≡ Some s → s.slot ≡ next + k
 unfolding AreNumbered
@@ -202,9 +201,9 @@ numbered_at (x ∷ xs) next zero s numbered e = let same : x ≡ s = cc in ap (�
 numbered_at (x ∷ xs) next (suc k) s numbered e = omega (arith, numbered_at xs (next + 1) k s numbered.1 e)
 
 -- slots without ids
-pub placed_in_order : (types : List TypeRead) (fs : List ResolvedField) (slots : List FieldInfo)
-    → have_ids fs ≡ false → map field_seen slots ≡ slots_in_order types 0 fs → AreInPlace (slots_read types fs) (map field_seen slots)
-placed_in_order types fs slots ids read = rw (ids, read) (record {
-  same = IsPermutation-refl (slots_in_order types 0 fs);
-  slots = λ k s e. numbered_at (slots_in_order types 0 fs) 0 k s (numbered_in_order types 0 fs) e ∙ zero-add k;
+pub placed_in_order : (fs : List ResolvedField) (slots : List FieldInfo)
+    → have_ids fs ≡ false → map field_seen slots ≡ slots_in_order 0 fs → AreInPlace (slots_read fs) (map field_seen slots)
+placed_in_order fs slots ids read = rw (ids, read) (record {
+  same = IsPermutation-refl (slots_in_order 0 fs);
+  slots = λ k s e. numbered_at (slots_in_order 0 fs) 0 k s (numbered_in_order 0 fs) e ∙ zero-add k;
 })

@@ -11,3 +11,5 @@ pub mod IntegerAlone
 pub mod Numbers
 pub mod UsesKept
 pub mod PathsKept
+pub mod RepeatedNames
+pub mod BasicTypes

@@ -50,15 +50,6 @@ entry_of (z ∷ xs) x y (suc n) e = ⊎_elim (λ h. inl h) (λ h. inr (ap suc h.
 abbrev pub HaveNumbers : List TypeRead → List (BTreeMap (Bor Name) ℤ) → Type 0
 HaveNumbers types maps = (t : ℕ) (m : BTreeMap (Bor Name) ℤ) → slice_get maps t ≡ Some m → (name : Name) → number_of m name ≡ number_named (values_at types t) name
 
--- a map of the next type more
-pub numbers_more : (types : List TypeRead) (maps : List (BTreeMap (Bor Name) ℤ)) (more : BTreeMap (Bor Name) ℤ) → HaveNumbers types maps
-    → ((name : Name) → number_of more name ≡ number_named (values_at types (length maps)) name) → HaveNumbers types (maps ++ more ∷ [])
-numbers_more types maps more have new t m at = by (entry_of maps more m t at)
-  where
-    by : (slice_get maps t ≡ Some m) ⊎ ((t ≡ length maps) × (more ≡ m)) → (name : Name) → number_of m name ≡ number_named (values_at types t) name
-    by (inl before) name = have t m before name
-    by (inr last) name = ap (λ x. number_of x name) (sym last.1) ∙ new name ∙ ap (λ k. number_named (values_at types k) name) (sym last.0)
-
 -- maps of all types are an index
 pub numbers_all : (types : List TypeRead) (index : ValueNumbers) → length index.numbers.items ≡ length types → HaveNumbers types index.numbers.items → (t : ℕ) (name : Name) → number_in index t name ≡ number_named (values_at types t) name
 numbers_all types index long have t name = ⊎_elim within past (cases_lt t (length index.numbers.items))

@@ -9,10 +9,10 @@ use Rattle.fb_syntax.specs.declared.declarations.AttributeValue.{AttributeValue}
 use Rattle.fb_syntax.specs.declared.declarations.AttributeValue.TheVariants.{Integer}
 use Rattle.fb_schema.specs.Schema.{Name}
 use Rattle.fb_resolve.specs.declared.attributes.FieldAttributes.{FieldAttributes}
-use Rattle.fb_resolve.specs.declared.attributes.Known.{Known}
-use Rattle.fb_resolve.specs.declared.attributes.Known.TheVariants.{Id, Required, Deprecated, ForceAlign, BitFlags, OriginalOrder}
+use Rattle.fb_resolve.specs.declared.attributes.BuiltInAttribute.{BuiltInAttribute}
+use Rattle.fb_resolve.specs.declared.attributes.BuiltInAttribute.TheVariants.{Id, Required, Deprecated, ForceAlign, BitFlags, OriginalOrder}
 
-abbrev pub spelling : Known → Name
+abbrev pub spelling : BuiltInAttribute → Name
 spelling Id = codes "id"
 spelling Required = codes "required"
 spelling Deprecated = codes "deprecated"
@@ -20,8 +20,8 @@ spelling ForceAlign = codes "force_align"
 spelling BitFlags = codes "bit_flags"
 spelling OriginalOrder = codes "original_order"
 
-unfoldable pub known_attribute : Name → Option Known
-known_attribute name =
+unfoldable pub built_in_attribute : Name → Option BuiltInAttribute
+built_in_attribute name =
     if bytes_eq name (spelling Id) then Some Id else
     if bytes_eq name (spelling Required) then Some Required else
     if bytes_eq name (spelling Deprecated) then Some Deprecated else
@@ -35,10 +35,10 @@ is_alignment least (pos n) = list_any (λ a. a == n) (1 ∷ 2 ∷ 4 ∷ 8 ∷ 16
 is_alignment least (negsuc n) = false
 
 -- the first attribute of a name
-abbrev pub attribute_called : Known → List Attribute → Option Attribute
+abbrev pub attribute_called : BuiltInAttribute → List Attribute → Option Attribute
 attribute_called k attributes = find (λ a. bytes_eq a.name.bytes (spelling k)) attributes
 
-abbrev pub has_attribute : Known → List Attribute → Bool
+abbrev pub has_attribute : BuiltInAttribute → List Attribute → Bool
 has_attribute k attributes = list_any (λ a. bytes_eq a.name.bytes (spelling k)) attributes
 
 abbrev pub integer_value_in : Option AttributeValue → Option ℤ
@@ -46,7 +46,7 @@ integer_value_in (Some (Integer n)) = Some n.value
 integer_value_in _ = None
 
 -- the integer that the first attribute of a name has
-unfoldable pub number_called : Known → List Attribute → Option ℤ
+unfoldable pub number_called : BuiltInAttribute → List Attribute → Option ℤ
 number_called k attributes = option_and_then (λ a. integer_value_in a.value) (attribute_called k attributes)
 
 -- a number from 0 on

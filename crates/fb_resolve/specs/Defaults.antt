@@ -9,7 +9,6 @@ use Rattle.fb_syntax.specs.declared.declarations.DefaultValue.TheVariants.{Integ
 use Rattle.fb_schema.specs.Schema.{Name}
 use Rattle.fb_resolve.specs.Outline.{TypeRead}
 use Rattle.fb_schema.specs.Ranges.{holds}
-use Rattle.fb_resolve.specs.ResolvedFields.{ResolvedField}
 use Rattle.fb_resolve.specs.EnumsRead.{underlying_at, value_at}
 use Rattle.fb_schema.specs.declared.kinds.Base.{Base}
 use Rattle.fb_schema.specs.declared.kinds.Base.TheVariants.{Bool as Boolean}
@@ -61,6 +60,3 @@ abbrev pub given_by : List TypeRead → FieldType → Meaning → Option Default
 given_by types kind m None = Number (pos 0)
 given_by types (One n) m (Some d) = given_to types m d
 given_by types (Many at n) m (Some d) = Wrong
-
-abbrev pub given_in : List TypeRead → ResolvedField → Given
-given_in types r = given_by types r.field.kind r.meaning r.field.default

@@ -21,7 +21,7 @@ use Rattle.fb_schema.specs.declared.kinds.Base.TheVariants.{Bool as Boolean, U8}
 use Rattle.fb_schema.specs.declared.kinds.Kind.TheVariants.{Scalar}
 use Rattle.fb_resolve.specs.declared.meanings.Meaning.{Meaning}
 use Rattle.fb_resolve.specs.declared.meanings.Meaning.TheVariants.{Known}
-use Rattle.fb_resolve.specs.declared.attributes.Known.TheVariants.{BitFlags}
+use Rattle.fb_resolve.specs.declared.attributes.BuiltInAttribute.TheVariants.{BitFlags}
 
 -- an integer type, which a `bool` isn't
 abbrev pub integer_type : Meaning → Option Base

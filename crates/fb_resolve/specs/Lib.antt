@@ -15,3 +15,4 @@ pub mod ValueNumbers
 pub mod Uses
 pub mod Paths
 pub mod Scope
+pub mod RepeatedNames

@@ -11,9 +11,10 @@ use Rattle.fb_resolve.specs.Outline.{TypeRead, RootRead}
 use Rattle.fb_resolve.specs.Meaning.{meaning_of, meaning_in}
 use Rattle.fb_resolve.specs.Attributes.{number_called, field_attributes}
 use Rattle.fb_resolve.specs.EnumsRead.{has_flags}
+use Rattle.fb_resolve.specs.Defaults.{given_by}
 use Rattle.fb_resolve.specs.ResolvedFields.{ResolvedField, ResolvedTable, ResolvedEnum, ResolvedMember, ResolvedUnion}
 use Rattle.fb_resolve.specs.ResolvedType.{ResolvedType}
-use Rattle.fb_resolve.specs.declared.attributes.Known.TheVariants.{ForceAlign}
+use Rattle.fb_resolve.specs.declared.attributes.BuiltInAttribute.TheVariants.{ForceAlign}
 use Rattle.fb_resolve.specs.declared.meanings.Meaning.{Meaning}
 use Rattle.fb_resolve.specs.declared.meanings.Meaning.TheVariants.{Unknown}
 use Rattle.fb_resolve.specs.declared.resolved.ResolvedDecl.{ResolvedDecl}
@@ -24,6 +25,7 @@ resolved_field types scope f = record {
   field = f;
   meaning = meaning_in types scope f.kind;
   attributes = field_attributes f.attributes;
+  given = given_by types f.kind (meaning_in types scope f.kind) f.default;
 }
 
 abbrev pub resolved_fields : List TypeRead → Option Name → List FieldRead → List ResolvedField

@@ -4,13 +4,15 @@ use Rattle.fb_syntax.specs.FieldRead.{FieldRead}
 use Rattle.fb_syntax.specs.TypesRead.{TableRead, EnumRead, UnionRead}
 use Rattle.fb_syntax.specs.declared.declarations.UnionMember.{UnionMember}
 use Rattle.fb_resolve.specs.declared.attributes.FieldAttributes.{FieldAttributes}
+use Rattle.fb_resolve.specs.declared.defaults.Given.{Given}
 use Rattle.fb_resolve.specs.declared.meanings.Meaning.{Meaning}
 
--- a field, what the name in its type means, and what its attributes say
+-- a field, what the name in its type means, what its attributes say, and what a table's field is given
 pub record ResolvedField : Type 0 where
   pub field : FieldRead
   pub meaning : Meaning
   pub attributes : FieldAttributes
+  pub given : Given
 
 -- a table or struct with its fields, and the integer that its first `force_align` has
 pub record ResolvedTable : Type 0 where

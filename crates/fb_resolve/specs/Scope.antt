@@ -9,6 +9,6 @@ use Rattle.fb_resolve.specs.declared.scope.Scope.{Scope}
 
 -- the scopes are those of the types, and the number is that of the namespace's path
 pub record IsScope (s : Scope) : Type 0 where
-  pub scopes : AreScopes s.scopes.now (paths_of_types s.types.now)
+  pub scopes : AreScopes s.scopes.now (paths_of_types s.types.types.now)
   pub inside : s.path < length (paths (tree_of s.scopes.now))
   pub named : get_or (paths (tree_of s.scopes.now)) s.path [] ≡ words_of_scope (option_copied s.name)

@@ -7,9 +7,7 @@ use Rattle.std.specs.Option.{is_some, unwrap_or}
 use Rattle.fb_syntax.specs.declared.declarations.FieldType.{FieldType}
 use Rattle.fb_syntax.specs.declared.declarations.FieldType.TheVariants as types_read
 use Rattle.fb_schema.specs.Schema.{Name, DeclaredField}
-use Rattle.fb_resolve.specs.Outline.{TypeRead}
 use Rattle.fb_resolve.specs.ResolvedFields.{ResolvedField}
-use Rattle.fb_resolve.specs.Defaults.{given_in}
 use Rattle.fb_schema.specs.declared.kinds.TypeId.{TypeId}
 use Rattle.fb_schema.specs.declared.kinds.Kind.{Kind}
 use Rattle.fb_schema.specs.declared.kinds.Kind.TheVariants.{Union, Code, Text}
@@ -46,12 +44,12 @@ is_null Null = true
 is_null _ = false
 
 -- the slot of a field's value
-abbrev pub value_slot : List TypeRead → ResolvedField → ℕ → DeclaredField
-value_slot types r slot = record {
+abbrev pub value_slot : ResolvedField → ℕ → DeclaredField
+value_slot r slot = record {
   name = r.field.name.bytes;
   shape = shape_of r.field.kind r.meaning;
-  default = number_given (given_in types r);
-  optional = is_null (given_in types r);
+  default = number_given r.given;
+  optional = is_null r.given;
   required = r.attributes.required;
   deprecated = r.attributes.deprecated;
   slot = slot;
@@ -73,19 +71,19 @@ code_slot r u slot = record {
   slot = slot;
 }
 
-abbrev pub slots_by_union : List TypeRead → ResolvedField → Option TypeId → ℕ → List DeclaredField
-slots_by_union types r None slot = value_slot types r slot ∷ []
-slots_by_union types r (Some u) slot = code_slot r u slot ∷ value_slot types r (slot + 1) ∷ []
+abbrev pub slots_by_union : ResolvedField → Option TypeId → ℕ → List DeclaredField
+slots_by_union r None slot = value_slot r slot ∷ []
+slots_by_union r (Some u) slot = code_slot r u slot ∷ value_slot r (slot + 1) ∷ []
 
 -- the slots of a field, from this one on: a union's code comes before its value
-unfoldable pub slots_of_field : List TypeRead → ResolvedField → ℕ → List DeclaredField
-slots_of_field types r slot = slots_by_union types r (union_in r) slot
+unfoldable pub slots_of_field : ResolvedField → ℕ → List DeclaredField
+slots_of_field r slot = slots_by_union r (union_in r) slot
 
 -- without ids the slots are numbered in the order of declaration
-unfoldable pub slots_in_order : List TypeRead → ℕ → List ResolvedField → List DeclaredField
-slots_in_order types slot [] = []
-slots_in_order types slot (r ∷ rs) = slots_of_field types r slot
-    ++ slots_in_order types (slot + length (slots_of_field types r slot)) rs
+unfoldable pub slots_in_order : ℕ → List ResolvedField → List DeclaredField
+slots_in_order slot [] = []
+slots_in_order slot (r ∷ rs) = slots_of_field r slot
+    ++ slots_in_order (slot + length (slots_of_field r slot)) rs
 
 -- A field's id is that of its value, so a union's first slot is the one before it.
 abbrev pub first_slot : Option TypeId → Option ℕ → Option ℕ
@@ -97,15 +95,15 @@ first_slot _ _ = None
 unfoldable pub slot_by_id : ResolvedField → Option ℕ
 slot_by_id r = first_slot (union_in r) r.attributes.id
 
-abbrev pub slots_by_id : List TypeRead → List ResolvedField → List DeclaredField
-slots_by_id types rs = flat_map (λ r. slots_of_field types r (unwrap_or (slot_by_id r) 0)) rs
+abbrev pub slots_by_id : List ResolvedField → List DeclaredField
+slots_by_id rs = flat_map (λ r. slots_of_field r (unwrap_or (slot_by_id r) 0)) rs
 
 abbrev pub have_ids : List ResolvedField → Bool
 have_ids rs = list_any (λ r. r.attributes.has_id) rs
 
 -- the slots of a table, in the order of declaration
-abbrev pub slots_read : List TypeRead → List ResolvedField → List DeclaredField
-slots_read types rs = if have_ids rs then slots_by_id types rs else slots_in_order types 0 rs
+abbrev pub slots_read : List ResolvedField → List DeclaredField
+slots_read rs = if have_ids rs then slots_by_id rs else slots_in_order 0 rs
 
 -- The same slots stand at the places of their numbers.
 pub record AreInPlace (read placed : List DeclaredField) : Type 0 where

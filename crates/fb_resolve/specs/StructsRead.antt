@@ -40,6 +40,14 @@ alignment_in least (negsuc n) = None
 unfoldable pub forced_align : ℕ → Option ℤ → Option ℕ
 forced_align least number = option_and_then (alignment_in least) number
 
+abbrev pub natural_of_declaration : List TypeRead → List ℕ → ResolvedDecl → ℕ
+natural_of_declaration types lower (resolved.Struct s) = natural_align types lower s.fields
+natural_of_declaration types lower _ = 0
+
+-- the natural alignment of a type, 0 of what is no struct
+abbrev pub natural_of_type : List TypeRead → List ℕ → ResolvedType → ℕ
+natural_of_type types lower r = natural_of_declaration types lower r.declaration
+
 -- the alignment of a struct with these types before it
 abbrev pub align_of_struct : List TypeRead → List ℕ → ResolvedTable → ℕ
 align_of_struct types lower s = let natural = natural_align types lower s.fields in

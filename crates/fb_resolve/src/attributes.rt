@@ -3,14 +3,14 @@ ghost use Rattle.std.specs.Prelude.{◌≡◌, ◌≤◌, IfSome};
 ghost use Rattle.std.specs.Int.RustNames.{unsigned_abs};
 ghost use Rattle.fb_syntax.specs.Integers.{greatest_magnitude};
 ghost use Rattle.std.specs.Option.{option_copied};
-ghost use Rattle.fb_resolve.specs.Attributes.{spelling, known_attribute, is_alignment, has_attribute};
+ghost use Rattle.fb_resolve.specs.Attributes.{spelling, built_in_attribute, is_alignment, has_attribute};
 ghost use Rattle.fb_resolve.specs.Attributes.{attribute_called, number_called, id_in, field_attributes};
 
 use fb_syntax::{Attribute, AttributeValue};
 
 /// The attributes that need no declaration.
 #[derive(Clone, Copy, Debug, PartialEq, Eq, Drop)]
-pub enum Known {
+pub enum BuiltInAttribute {
     Id,
     Required,
     Deprecated,
@@ -19,33 +19,33 @@ pub enum Known {
     OriginalOrder,
 }
 
-impl Known {
+impl BuiltInAttribute {
     fn spelling(self) -> &'static str
         ensures { result.now ≡ spelling self }
     {
         match self {
-            Known::Id => "id",
-            Known::Required => "required",
-            Known::Deprecated => "deprecated",
-            Known::ForceAlign => "force_align",
-            Known::BitFlags => "bit_flags",
-            Known::OriginalOrder => "original_order",
+            BuiltInAttribute::Id => "id",
+            BuiltInAttribute::Required => "required",
+            BuiltInAttribute::Deprecated => "deprecated",
+            BuiltInAttribute::ForceAlign => "force_align",
+            BuiltInAttribute::BitFlags => "bit_flags",
+            BuiltInAttribute::OriginalOrder => "original_order",
         }
     }
 }
 
 /// The attribute of a name that needs no declaration.
-#[tactic(auto, unfolding(crate::specs::Attributes::known_attribute))]
-pub fn known_attribute(name: &str) -> Option<Known>
-    ensures { result ≡ known_attribute name.now }
+#[tactic(auto, unfolding(crate::specs::Attributes::built_in_attribute))]
+pub fn built_in_attribute(name: &str) -> Option<BuiltInAttribute>
+    ensures { result ≡ built_in_attribute name.now }
 {
     match name {
-        "id" => Some(Known::Id),
-        "required" => Some(Known::Required),
-        "deprecated" => Some(Known::Deprecated),
-        "force_align" => Some(Known::ForceAlign),
-        "bit_flags" => Some(Known::BitFlags),
-        "original_order" => Some(Known::OriginalOrder),
+        "id" => Some(BuiltInAttribute::Id),
+        "required" => Some(BuiltInAttribute::Required),
+        "deprecated" => Some(BuiltInAttribute::Deprecated),
+        "force_align" => Some(BuiltInAttribute::ForceAlign),
+        "bit_flags" => Some(BuiltInAttribute::BitFlags),
+        "original_order" => Some(BuiltInAttribute::OriginalOrder),
         _ => None,
     }
 }
@@ -73,33 +73,36 @@ pub struct FieldAttributes {
     pub deprecated: bool,
 }
 
-/// Whether one of the attributes is this known one.
-pub(crate) fn has_attribute(known: Known, attributes: &[Attribute<'_>]) -> bool
-    ensures { result ≡ has_attribute known attributes.now }
+/// Whether one of the attributes is this built-in one.
+pub(crate) fn has_attribute(built_in: BuiltInAttribute, attributes: &[Attribute<'_>]) -> bool
+    ensures { result ≡ has_attribute built_in attributes.now }
 {
     attributes
         .iter()
-        .any(|attribute| attribute.name.text == known.spelling())
+        .any(|attribute| attribute.name.text == built_in.spelling())
 }
 
 fn attribute_called<'a, 's>(
-    known: Known,
+    built_in: BuiltInAttribute,
     attributes: &'a [Attribute<'s>],
 ) -> Option<&'a Attribute<'s>>
-    ensures { option_copied result ≡ attribute_called known attributes.now }
+    ensures { option_copied result ≡ attribute_called built_in attributes.now }
 {
     attributes
         .iter()
-        .find(|attribute| attribute.name.text == known.spelling())
+        .find(|attribute| attribute.name.text == built_in.spelling())
 }
 
 /// The integer that the first attribute of a name has.
 #[tactic(auto, unfolding(crate::specs::Attributes::number_called))]
-pub(crate) fn number_called(known: Known, attributes: &[Attribute<'_>]) -> Option<i128>
-    ensures number { result ≡ number_called known attributes.now }
+pub(crate) fn number_called(
+    built_in: BuiltInAttribute,
+    attributes: &[Attribute<'_>],
+) -> Option<i128>
+    ensures number { result ≡ number_called built_in attributes.now }
     ensures small { IfSome result (λ n. unsigned_abs n ≤ greatest_magnitude) }
 {
-    let called = attribute_called(known, attributes)?;
+    let called = attribute_called(built_in, attributes)?;
     match &called.value {
         Some(AttributeValue::Integer(number)) => Some(number.value()),
         _ => None,
@@ -110,7 +113,7 @@ pub(crate) fn number_called(known: Known, attributes: &[Attribute<'_>]) -> Optio
 fn id_in(attributes: &[Attribute<'_>]) -> Option<u64>
     ensures { result ≡ id_in attributes.now }
 {
-    u64::try_from(number_called(Known::Id, attributes)?).ok()
+    u64::try_from(number_called(BuiltInAttribute::Id, attributes)?).ok()
 }
 
 /// What the attributes of a field say of its slots.
@@ -128,8 +131,8 @@ pub(crate) fn field_attributes(attributes: &[Attribute<'_>]) -> FieldAttributes
     }
     FieldAttributes {
         id: id_in(attributes),
-        has_id: has_attribute(Known::Id, attributes),
-        required: has_attribute(Known::Required, attributes),
-        deprecated: has_attribute(Known::Deprecated, attributes),
+        has_id: has_attribute(BuiltInAttribute::Id, attributes),
+        required: has_attribute(BuiltInAttribute::Required, attributes),
+        deprecated: has_attribute(BuiltInAttribute::Deprecated, attributes),
     }
 }

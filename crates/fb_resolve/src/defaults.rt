@@ -93,7 +93,7 @@ pub(crate) fn given_to(
             scalar_named(base, name.as_str())
         }
         (Meaning::Known(Kind::Enum(id)), DefaultValue::Integer(number)) => {
-            enum_number(underlying_at(types, id.0 as usize), number.value())
+            enum_number(underlying_at(types.types, id.0 as usize), number.value())
         }
         (Meaning::Known(Kind::Enum(id)), DefaultValue::Name(name)) => {
             let name = name.as_str();
@@ -105,7 +105,7 @@ pub(crate) fn given_to(
 }
 
 /// What a table's field of a type is given.
-pub fn given_by(
+pub(crate) fn given_by(
     types: TypesRead<'_, '_, '_>,
     kind: &FieldType<'_>,
     meaning: Meaning,

@@ -8,10 +8,10 @@ ghost use Rattle.fb_resolve.specs.EnumsRead.{integer_type, underlying, underlyin
 ghost use Rattle.fb_resolve.specs.EnumsRead.{is_bit_of, value_number, may_be_written, written_number, values_from};
 ghost use Rattle.fb_resolve.specs.EnumsRead.{values_over};
 
-use crate::attributes::{Known, has_attribute};
+use crate::attributes::{BuiltInAttribute, has_attribute};
 use crate::basic_types::basic_type;
 use crate::meanings::Meaning;
-use crate::types_read::TypesRead;
+use crate::outline::TypeRead;
 use fb_schema::{Base, Kind};
 use fb_syntax::{EnumDecl, EnumValue, TypeDecl};
 use std::alloc::{AllocError, Global};
@@ -39,10 +39,10 @@ pub fn underlying(read: &EnumDecl<'_>) -> Option<Base>
 }
 
 /// The underlying type of the enum of a number.
-pub(crate) fn underlying_at(types: TypesRead<'_, '_, '_>, number: usize) -> Option<Base>
-    ensures { result ≡ underlying_at types.entry.types.now number }
+pub(crate) fn underlying_at(types: &[TypeRead<'_, '_>], number: usize) -> Option<Base>
+    ensures { result ≡ underlying_at types.now number }
 {
-    match types.types.get(number)?.declaration {
+    match types.get(number)?.declaration {
         TypeDecl::Enum(declaration) => underlying(declaration),
         _ => None,
     }
@@ -52,7 +52,7 @@ pub(crate) fn underlying_at(types: TypesRead<'_, '_, '_>, number: usize) -> Opti
 pub(crate) fn has_flags(read: &EnumDecl<'_>) -> bool
     ensures { result ≡ has_flags read.now }
 {
-    has_attribute(Known::BitFlags, read.attributes.as_slice())
+    has_attribute(BuiltInAttribute::BitFlags, read.attributes.as_slice())
 }
 
 fn bits_of(base: Base) -> u8

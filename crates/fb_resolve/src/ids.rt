@@ -9,7 +9,6 @@ ghost use Rattle.fb_schema.specs.Seen.{field_seen};
 
 use crate::resolved::ResolvedField;
 use crate::slots::{push_slots, slots_in_order, union_in};
-use crate::types_read::TypesRead;
 use fb_schema::{FieldInfo, TypeId};
 use std::alloc::{AllocError, Global};
 
@@ -108,35 +107,33 @@ pub fn are_ids_wrong(alloc: Global, fields: &[ResolvedField<'_, '_>]) -> Result<
 /// The slots of fields by their ids, in the order of declaration; without an id a field takes
 /// those from 0 on.
 fn slots_by_id(
-    types: TypesRead<'_, '_, '_>,
     alloc: Global,
     fields: &[ResolvedField<'_, '_>],
 ) -> Result<Vec<FieldInfo>, AllocError>
     ensures { IfOk result
-        (λ v. map field_seen v.items ≡ slots_by_id types.entry.types.now fields.now) }
+        (λ v. map field_seen v.items ≡ slots_by_id fields.now) }
 {
     let mut slots = Vec::with_capacity(alloc, fields.len())?;
     for field in fields {
         let first = slot_by_id(field).unwrap_or(0);
-        push_slots(types, alloc, field, first, &mut slots)?;
+        push_slots(alloc, field, first, &mut slots)?;
     }
     Ok(slots)
 }
 
 /// The slots of a table, each at the place of its number. The only error is a refused allocation.
 pub fn table_slots(
-    types: TypesRead<'_, '_, '_>,
     alloc: Global,
     fields: &[ResolvedField<'_, '_>],
 ) -> Result<Vec<FieldInfo>, AllocError>
     requires { are_ids_wrong fields.now ≡ false }
-    ensures { IfOk result (λ v. AreInPlace (slots_read types.entry.types.now fields.now)
+    ensures { IfOk result (λ v. AreInPlace (slots_read fields.now)
         (map field_seen v.items)) }
 {
     if !have_ids(fields) {
-        return slots_in_order(types, alloc, fields);
+        return slots_in_order(alloc, fields);
     }
-    let mut slots = slots_by_id(types, alloc, fields)?;
+    let mut slots = slots_by_id(alloc, fields)?;
     slots.sort_by_key(|slot| slot.slot)?;
     Ok(slots)
 }

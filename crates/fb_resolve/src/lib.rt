@@ -11,6 +11,7 @@ mod meanings;
 mod members;
 mod outline;
 mod paths;
+mod repeated_names;
 mod resolve;
 mod resolved;
 mod scope;
@@ -20,21 +21,19 @@ mod types_read;
 mod value_names;
 mod value_numbers;
 
-pub use attributes::{FieldAttributes, Known, is_alignment, known_attribute};
+pub use attributes::{BuiltInAttribute, FieldAttributes, built_in_attribute, is_alignment};
 pub use basic_types::is_reserved;
-pub use defaults::{Given, given_by};
-pub use enums::{integer_type, may_be_written, underlying, values_over, written_number};
+pub use defaults::Given;
+pub use enums::{integer_type, may_be_written, values_over, written_number};
 pub use ids::{are_ids_wrong, table_slots};
 pub use located_names::LocatedName;
 pub use meanings::{Meaning, type_name};
 pub use members::{is_table, member_name, member_read, table_of};
-pub use outline::{Outline, RootRead, TypeRead, located_name, name_of_type, word_of};
+pub use outline::{Outline, RootRead, TypeRead, name_of_type, word_of};
 pub use resolve::Resolved;
 pub use resolved::{
     ResolvedDecl, ResolvedEnum, ResolvedField, ResolvedMember, ResolvedTable, ResolvedType,
     ResolvedUnion,
 };
 pub use slots::{name_of_code, union_in};
-pub use structs::{align_of_type, forced_align, natural_align, parts_read};
-pub use types_read::TypesRead;
-pub use value_numbers::ValueNumbers;
+pub use structs::{align_of_type, forced_align, natural_of_type, parts_read};

@@ -1,18 +1,34 @@
-//! Names that are put together from words of the text.
+//! Names of a text, borrowed where they are in it as they are, and else put together.
+ghost use Rattle.std.specs.Prelude.{◌≡◌};
+
+use fb_syntax::Text;
+use std::borrow::CowStr;
 use std::marker::Model;
 
 /// A name, and the offset of its first word.
 #[derive(Debug, Drop)]
-pub struct LocatedName {
-    pub text: String,
+pub struct LocatedName<'t> {
+    pub text: CowStr<'t>,
     pub at: u64,
 }
 
-impl Model for LocatedName {
-    ghost use Rattle.std.specs.Prelude.{string_bytes};
+impl<'t> Model for LocatedName<'t> {
+    ghost use Rattle.std.specs.Cow.{cow_str_bytes};
     ghost use Rattle.fb_syntax.specs.Located.{Located};
 
     ghost Value = { Located };
 
-    ghost view = { λ n. record { bytes = string_bytes n.text; at = n.at } };
+    ghost view = { λ n. record { bytes = cow_str_bytes n.text; at = n.at } };
+}
+
+impl<'t> LocatedName<'t> {
+    /// A name of one word of the text.
+    pub fn of(word: &Text<'t>) -> LocatedName<'t>
+        ensures { result ≡ word.now }
+    {
+        LocatedName {
+            text: CowStr::Borrowed(word.text),
+            at: word.at,
+        }
+    }
 }

@@ -1,6 +1,7 @@
 //! Members of unions.
 ghost use Rattle.std.specs.Prelude.{◌≡◌, IfOk, is_some, string_bytes};
 ghost use Rattle.std.specs.Option.{option_map};
+ghost use Rattle.std.specs.Cow.{cow_str_bytes};
 ghost use Rattle.fb_resolve.specs.MembersRead.{with_underscores, member_name, table_of, member_read};
 
 use crate::located_names::LocatedName;
@@ -9,6 +10,7 @@ use crate::resolved::ResolvedMember;
 use fb_schema::{Kind, TypeId};
 use fb_syntax::UnionMember;
 use std::alloc::{AllocError, Global};
+use std::borrow::CowStr;
 
 /// The table of a use.
 pub fn table_of(meaning: Meaning) -> Option<TypeId>
@@ -42,14 +44,27 @@ fn with_underscores(alloc: Global, name: &str) -> Result<String, AllocError>
     Ok(underscored)
 }
 
+/// A table's name with underscores for dots, borrowed if it has none.
+fn underscored(alloc: Global, name: &str) -> Result<CowStr<'_>, AllocError>
+    ensures { IfOk result (λ s. cow_str_bytes s ≡ with_underscores name.now) }
+{
+    match name.split_once('.') {
+        None => Ok(CowStr::Borrowed(name)),
+        Some(_) => Ok(CowStr::Owned(with_underscores(alloc, name)?)),
+    }
+}
+
 /// The name of a member: its alias or that of its table. The only error is a refused allocation.
-pub fn member_name(alloc: Global, member: &UnionMember<'_>) -> Result<LocatedName, AllocError>
+pub fn member_name<'d>(
+    alloc: Global,
+    member: &'d UnionMember<'_>,
+) -> Result<LocatedName<'d>, AllocError>
     ensures { IfOk result (λ n. n ≡ member_name member.now) }
 {
     let (text, at) = match &member.alias {
-        Some(alias) => (String::from_str(alloc, alias.text)?, alias.at),
+        Some(alias) => (CowStr::Borrowed(alias.text), alias.at),
         None => (
-            with_underscores(alloc, member.table.as_str())?,
+            underscored(alloc, member.table.as_str())?,
             member.table.at(),
         ),
     };
@@ -66,5 +81,5 @@ pub fn member_read(
 {
     let name = member_name(alloc, resolved.member)?;
     let table = table_of(resolved.meaning).unwrap_or(TypeId(0));
-    Ok((name.text, table))
+    Ok((name.text.into_owned(alloc)?, table))
 }

@@ -1,8 +1,7 @@
 //! What a schema text declares, each type with the namespace that it stands in.
 ghost use Rattle.std.specs.Prelude.{◌≡◌, IfOk, None, string_bytes};
-ghost use Rattle.fb_resolve.specs.Outline.{outline_of, scope_named, word_of, name_of_type, located_name};
+ghost use Rattle.fb_resolve.specs.Outline.{outline_of, scope_named, word_of, name_of_type};
 
-use crate::located_names::LocatedName;
 use fb_syntax::{Declaration, Decls, Directive, DottedName, Text, TypeDecl};
 use std::alloc::{AllocError, Global};
 use std::marker::Model;
@@ -106,7 +105,9 @@ pub fn name_of_type(alloc: Global, read: &TypeRead<'_, '_>) -> Result<String, Al
     let Some(scope) = read.scope else {
         return String::from_str(alloc, word);
     };
-    let mut name = String::from_str(alloc, scope)?;
+    let len = scope.len().saturating_add(word.len()).saturating_add(1);
+    let mut name = String::with_capacity(alloc, len)?;
+    name.push_str(scope)?;
     name.push_str(".")?;
     name.push_str(word)?;
     Ok(name)
@@ -121,14 +122,4 @@ pub fn word_of<'d, 's>(declaration: &'d TypeDecl<'s>) -> &'d Text<'s>
         TypeDecl::Enum(read) => &read.name,
         TypeDecl::Union(read) => &read.name,
     }
-}
-
-/// The full name of a type, and where its own name stands. The only error is a refused allocation.
-pub fn located_name(alloc: Global, read: &TypeRead<'_, '_>) -> Result<LocatedName, AllocError>
-    ensures { IfOk result (λ t. t ≡ located_name read.now) }
-{
-    Ok(LocatedName {
-        text: name_of_type(alloc, read)?,
-        at: word_of(read.declaration).at,
-    })
 }

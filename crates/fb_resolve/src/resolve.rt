@@ -8,26 +8,31 @@ ghost use Rattle.fb_resolve.specs.Outline.{outline_of};
 ghost use Rattle.fb_resolve.specs.Scopes.{words_of_scope, paths_of_types};
 ghost use Rattle.fb_resolve.specs.Uses.{uses_of_fields, uses_of_members, uses_of, IsUse, AreUses};
 ghost use Rattle.fb_resolve.specs.Paths.{IsPath};
+ghost use Rattle.fb_resolve.specs.RepeatedNames.{AreRepeats};
 ghost use Rattle.fb_resolve.specs.Scope.{IsScope};
 ghost use Rattle.fb_resolve.specs.Resolved.{resolved_fields, resolved_table, resolved_enum, resolved_members};
 ghost use Rattle.fb_resolve.specs.Resolved.{resolved_union, resolved_declaration, resolved_types};
 ghost use Rattle.fb_resolve.specs.Resolved.{meaning_of_root};
 
-use crate::attributes::{Known, field_attributes, number_called};
+use crate::attributes::{BuiltInAttribute, field_attributes, number_called};
+use crate::defaults::given_by;
 use crate::enums::has_flags;
 use crate::meanings::Meaning;
 use crate::outline::{Outline, RootRead, TypeRead};
 use crate::paths::Paths;
+use crate::repeated_names::repeated_numbers;
 use crate::resolved::{
     ResolvedDecl, ResolvedEnum, ResolvedField, ResolvedMember, ResolvedTable, ResolvedType,
     ResolvedUnion,
 };
 use crate::scope::Scope;
+use crate::types_read::TypesRead;
+use crate::value_numbers::ValueNumbers;
 use fb_scopes::Scopes;
 use fb_syntax::{Decls, EnumDecl, Field, TableDecl, TypeDecl, UnionDecl, UnionMember};
 use std::alloc::{AllocError, Global};
 
-impl<'t, 'd, 's> Scope<'_, 't, 'd, 's> {
+impl<'d, 's> Scope<'_, 'd, 's> {
     fn resolved_fields(
         self,
         alloc: Global,
@@ -36,16 +41,17 @@ impl<'t, 'd, 's> Scope<'_, 't, 'd, 's> {
         requires scope { IsScope self }
         requires used { AreUses (names_of self.scopes.now) (uses_of_fields fields.now) }
         ensures { IfOk result (λ v. v.items
-            ≡ resolved_fields self.entry.types.now (option_copied self.entry.name) fields.now) }
+            ≡ resolved_fields self.entry.types.types.now (option_copied self.entry.name) fields.now) }
     {
         let mut resolved = Vec::with_capacity(alloc, fields.len())?;
         for field in fields {
             let meaning = self.meaning_in(&field.kind);
-            let attributes = field_attributes(field.attributes.as_slice());
+            let default = field.default.as_ref();
             resolved.push(ResolvedField {
                 field,
                 meaning,
-                attributes,
+                attributes: field_attributes(field.attributes.as_slice()),
+                given: given_by(self.types, &field.kind, meaning, default),
             })?;
         }
         Ok(resolved)
@@ -59,10 +65,13 @@ impl<'t, 'd, 's> Scope<'_, 't, 'd, 's> {
         requires scope { IsScope self }
         requires used { AreUses (names_of self.scopes.now) (uses_of_fields declared.now.fields) }
         ensures { IfOk result (λ t. t
-            ≡ resolved_table self.entry.types.now (option_copied self.entry.name) declared.now) }
+            ≡ resolved_table self.entry.types.types.now (option_copied self.entry.name) declared.now) }
     {
         let fields = self.resolved_fields(alloc, declared.fields.as_slice())?;
-        let force_align = number_called(Known::ForceAlign, declared.attributes.as_slice());
+        let force_align = number_called(
+            BuiltInAttribute::ForceAlign,
+            declared.attributes.as_slice(),
+        );
         Ok(ResolvedTable {
             declared,
             fields,
@@ -74,7 +83,7 @@ impl<'t, 'd, 's> Scope<'_, 't, 'd, 's> {
         requires scope { IsScope self }
         requires used { IsUse (names_of self.scopes.now) declared.now.underlying.bytes }
         ensures { result
-            ≡ resolved_enum self.entry.types.now (option_copied self.entry.name) declared.now }
+            ≡ resolved_enum self.entry.types.types.now (option_copied self.entry.name) declared.now }
     {
         let underlying = self.meaning(declared.underlying.as_str());
         ResolvedEnum {
@@ -92,7 +101,7 @@ impl<'t, 'd, 's> Scope<'_, 't, 'd, 's> {
         requires scope { IsScope self }
         requires used { AreUses (names_of self.scopes.now) (uses_of_members members.now) }
         ensures { IfOk result (λ v. v.items
-            ≡ resolved_members self.entry.types.now (option_copied self.entry.name) members.now) }
+            ≡ resolved_members self.entry.types.types.now (option_copied self.entry.name) members.now) }
     {
         let mut resolved = Vec::with_capacity(alloc, members.len())?;
         for member in members {
@@ -110,7 +119,7 @@ impl<'t, 'd, 's> Scope<'_, 't, 'd, 's> {
         requires scope { IsScope self }
         requires used { AreUses (names_of self.scopes.now) (uses_of_members declared.now.members) }
         ensures { IfOk result (λ u. u
-            ≡ resolved_union self.entry.types.now (option_copied self.entry.name) declared.now) }
+            ≡ resolved_union self.entry.types.types.now (option_copied self.entry.name) declared.now) }
     {
         let members = self.resolved_members(alloc, declared.members.as_slice())?;
         Ok(ResolvedUnion { declared, members })
@@ -124,7 +133,7 @@ impl<'t, 'd, 's> Scope<'_, 't, 'd, 's> {
         requires scope { IsScope self }
         requires used { AreUses (names_of self.scopes.now) (uses_of declaration.now) }
         ensures { IfOk result (λ d. d
-            ≡ resolved_declaration self.entry.types.now (option_copied self.entry.name)
+            ≡ resolved_declaration self.entry.types.types.now (option_copied self.entry.name)
             declaration.now) }
     {
         Ok(match declaration {
@@ -141,9 +150,11 @@ impl<'t, 'd, 's> Scope<'_, 't, 'd, 's> {
 fn resolved_types<'t, 'd, 's>(
     alloc: Global,
     types: &'t [TypeRead<'d, 's>],
+    numbered: TypesRead<'_, 'd, 's>,
     scopes: &Scopes<'d>,
     numbers: &[usize],
 ) -> Result<Vec<ResolvedType<'t, 'd, 's>>, AllocError>
+    requires numbered { numbered.types.now ≡ types.now }
     requires scopes { AreScopes scopes.now (paths_of_types types.now) }
     requires numbers { AllZip (λ n r. IsPath (tree_of scopes.now) n (words_of_scope r.scope))
         numbers.now types.now }
@@ -153,7 +164,7 @@ fn resolved_types<'t, 'd, 's>(
     let mut resolved = Vec::with_capacity(alloc, types.len())?;
     for (number, read) in types.iter().enumerate() {
         let scope = Scope {
-            types,
+            types: numbered,
             scopes,
             path: numbers[number],
             name: read.scope,
@@ -167,16 +178,16 @@ fn resolved_types<'t, 'd, 's>(
 /// What the root's name means, where this is the number of its namespace's path; nothing that is
 /// known where there is no root.
 fn meaning_of_root<'d>(
-    types: &[TypeRead<'d, '_>],
+    types: TypesRead<'_, 'd, '_>,
     scopes: &Scopes<'d>,
     number: usize,
     root: Option<&RootRead<'d, '_>>,
 ) -> Meaning
-    requires scopes { AreScopes scopes.now (paths_of_types types.now) }
+    requires scopes { AreScopes scopes.now (paths_of_types types.types.now) }
     requires number { ForSome (option_copied root)
         (λ r. IsPath (tree_of scopes.now) number (words_of_scope r.scope)) }
     requires used { ForSome (option_copied root) (λ r. IsUse (names_of scopes.now) r.name.bytes) }
-    ensures { result ≡ meaning_of_root types.now (option_copied root.entry) }
+    ensures { result ≡ meaning_of_root types.entry.types.now (option_copied root.entry) }
 {
     let Some(root) = root else {
         return Meaning::Unknown;
@@ -195,6 +206,8 @@ fn meaning_of_root<'d>(
 #[derive(Drop)]
 pub struct Resolved<'t, 'd, 's> {
     pub types: Vec<ResolvedType<'t, 'd, 's>>,
+    /// Of each type whether one before it has its full name.
+    pub repeats: Vec<bool>,
     pub root: Meaning,
 }
 
@@ -207,6 +220,7 @@ impl<'t, 'd, 's> Resolved<'t, 'd, 's> {
     ) -> Result<Resolved<'t, 'd, 's>, AllocError>
         requires { outline.now ≡ outline_of decls.now }
         ensures types { IfOk result (λ r. r.types.items ≡ resolved_types outline.now.types) }
+        ensures repeats { IfOk result (λ r. AreRepeats outline.now.types r.repeats.items) }
         ensures root { IfOk result (λ r. r.root ≡ meaning_of_root outline.now.types outline.now.root) }
     {
         let Paths {
@@ -216,11 +230,19 @@ impl<'t, 'd, 's> Resolved<'t, 'd, 's> {
             full_names,
             root,
         } = Paths::of(alloc, decls)?;
-        let scopes = Scopes::of(alloc, tree, used, full_names.as_slice())?;
+        let names = full_names.as_slice();
+        let repeats = repeated_numbers(alloc, names, tree.len())?;
+        let scopes = Scopes::of(alloc, tree, used, names)?;
         let types = outline.types.as_slice();
+        let values = ValueNumbers::of(alloc, types)?;
+        let numbered = TypesRead {
+            types,
+            values: &values,
+        };
         Ok(Resolved {
-            types: resolved_types(alloc, types, &scopes, numbers.as_slice())?,
-            root: meaning_of_root(types, &scopes, root, outline.root.as_ref()),
+            types: resolved_types(alloc, types, numbered, &scopes, numbers.as_slice())?,
+            repeats,
+            root: meaning_of_root(numbered, &scopes, root, outline.root.as_ref()),
         })
     }
 }

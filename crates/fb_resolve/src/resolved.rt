@@ -1,16 +1,19 @@
 //! The types of a text with what the names and attributes in them mean.
 use crate::attributes::FieldAttributes;
+use crate::defaults::Given;
 use crate::meanings::Meaning;
 use crate::outline::TypeRead;
 use fb_syntax::{EnumDecl, Field, TableDecl, UnionDecl, UnionMember};
 use std::marker::Model;
 
-/// A field of a table or struct, what the name in its type means, and what its attributes say.
+/// A field of a table or struct, what the name in its type means, what its attributes say, and what
+/// a table's field is given where none is stored.
 #[derive(Drop)]
 pub struct ResolvedField<'d, 's> {
     pub field: &'d Field<'s>,
     pub meaning: Meaning,
     pub attributes: FieldAttributes,
+    pub given: Given,
 }
 
 impl<'d, 's> Model for ResolvedField<'d, 's> {
@@ -18,7 +21,12 @@ impl<'d, 's> Model for ResolvedField<'d, 's> {
 
     ghost Value = { Resolved };
 
-    ghost view = { λ f. record { field = f.field.now; meaning = f.meaning; attributes = f.attributes } };
+    ghost view = { λ f. record {
+      field = f.field.now;
+      meaning = f.meaning;
+      attributes = f.attributes;
+      given = f.given;
+    } };
 }
 
 /// A table or struct, what its fields mean, and the integer that its first `force_align` has.

@@ -9,26 +9,26 @@ ghost use Rattle.fb_resolve.specs.Scope.{IsScope};
 
 use crate::basic_types::{basic_type, is_float_type, is_text_type};
 use crate::meanings::{Meaning, type_name};
-use crate::outline::TypeRead;
+use crate::types_read::TypesRead;
 use fb_schema::{Kind, TypeId};
 use fb_scopes::Scopes;
 use fb_syntax::{FieldType, TypeDecl};
 
 /// A namespace, by its name and by the number of its path, and the types that names may mean in it.
 #[derive(Clone, Copy)]
-pub(crate) struct Scope<'f, 't, 'd, 's> {
-    pub types: &'t [TypeRead<'d, 's>],
+pub(crate) struct Scope<'f, 'd, 's> {
+    pub types: TypesRead<'f, 'd, 's>,
     pub scopes: &'f Scopes<'d>,
     pub path: usize,
     pub name: Option<&'d str>,
 }
 
-impl<'d> Scope<'_, '_, 'd, '_> {
+impl<'d> Scope<'_, 'd, '_> {
     /// A use of the type of a number.
     fn use_of(self, number: usize) -> Meaning
-        ensures { result ≡ use_of_read number (slice_get self.entry.types.now number) }
+        ensures { result ≡ use_of_read number (slice_get self.entry.types.types.now number) }
     {
-        let Some(read) = self.types.get(number) else {
+        let Some(read) = self.types.types.get(number) else {
             return Meaning::Unknown;
         };
         let id = TypeId(number as u64);
@@ -44,7 +44,7 @@ impl<'d> Scope<'_, '_, 'd, '_> {
     fn type_meant(self, name: &'d str) -> Option<usize>
         requires scope { IsScope self }
         requires used { IsUsed (names_of self.scopes.now) name.now }
-        ensures { result ≡ type_meant self.entry.types.now (option_copied self.entry.name) name.now }
+        ensures { result ≡ type_meant self.entry.types.types.now (option_copied self.entry.name) name.now }
     {
         self.scopes.meant(self.path, name)
     }
@@ -55,7 +55,7 @@ impl<'d> Scope<'_, '_, 'd, '_> {
         requires scope { IsScope self }
         requires used { IsUse (names_of self.scopes.now) name.now }
         ensures { result
-            ≡ meaning_of self.entry.types.now (option_copied self.entry.name) name.now }
+            ≡ meaning_of self.entry.types.types.now (option_copied self.entry.name) name.now }
     {
         if let Some(base) = basic_type(name) {
             return Meaning::Known(Kind::Scalar(base));
@@ -77,7 +77,7 @@ impl<'d> Scope<'_, '_, 'd, '_> {
         requires scope { IsScope self }
         requires used { IsUse (names_of self.scopes.now) (type_name kind.now).bytes }
         ensures { result
-            ≡ meaning_in self.entry.types.now (option_copied self.entry.name) kind.now }
+            ≡ meaning_in self.entry.types.types.now (option_copied self.entry.name) kind.now }
     {
         self.meaning(type_name(kind).as_str())
     }

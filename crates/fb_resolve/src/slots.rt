@@ -5,11 +5,10 @@ ghost use Rattle.fb_schema.specs.Seen.{field_seen};
 ghost use Rattle.fb_resolve.specs.SlotsRead.{union_of, union_in, value_slot, name_of_code, code_slot};
 ghost use Rattle.fb_resolve.specs.SlotsRead.{slots_of_field, slots_in_order};
 
-use crate::defaults::{Given, given_by};
+use crate::defaults::Given;
 use crate::meanings::Meaning;
 use crate::resolved::ResolvedField;
 use crate::structs::shape_of;
-use crate::types_read::TypesRead;
 use fb_schema::{FieldInfo, Kind, Shape, TypeId};
 use fb_syntax::FieldType;
 use std::alloc::{AllocError, Global};
@@ -25,19 +24,16 @@ fn union_of(kind: &FieldType<'_>, meaning: Meaning) -> Option<TypeId>
 }
 
 fn value_slot(
-    types: TypesRead<'_, '_, '_>,
     alloc: Global,
     resolved: &ResolvedField<'_, '_>,
     slot: u64,
 ) -> Result<FieldInfo, AllocError>
     ensures { IfOk result
-        (λ f. field_seen f ≡ value_slot types.entry.types.now resolved.now slot) }
+        (λ f. field_seen f ≡ value_slot resolved.now slot) }
 {
     let field = resolved.field;
     let meaning = resolved.meaning;
-    let default = field.default.as_ref();
-    let given = given_by(types, &field.kind, meaning, default);
-    let default = match given {
+    let default = match resolved.given {
         Given::Number(number) => number,
         Given::Null | Given::Wrong => 0,
     };
@@ -45,7 +41,7 @@ fn value_slot(
         name: String::from_str(alloc, field.name.text)?,
         shape: shape_of(&field.kind, meaning),
         default,
-        optional: matches!(given, Given::Null),
+        optional: matches!(resolved.given, Given::Null),
         required: resolved.attributes.required,
         deprecated: resolved.attributes.deprecated,
         slot,
@@ -56,7 +52,8 @@ fn value_slot(
 pub fn name_of_code(alloc: Global, name: &str) -> Result<String, AllocError>
     ensures { IfOk result (λ s. string_bytes s ≡ name_of_code name.now) }
 {
-    let mut code = String::from_str(alloc, name)?;
+    let mut code = String::with_capacity(alloc, name.len() + "_type".len())?;
+    code.push_str(name)?;
     code.push_str("_type")?;
     Ok(code)
 }
@@ -92,7 +89,6 @@ pub fn union_in(resolved: &ResolvedField<'_, '_>) -> Option<TypeId>
 /// Adds the slots of a field from this one on: a union's code comes before its value.
 #[tactic(auto, unfolding(crate::specs::SlotsRead::slots_of_field))]
 pub(crate) fn push_slots(
-    types: TypesRead<'_, '_, '_>,
     alloc: Global,
     resolved: &ResolvedField<'_, '_>,
     slot: u64,
@@ -100,14 +96,14 @@ pub(crate) fn push_slots(
 ) -> Result<(), AllocError>
     requires { IsSome (union_in resolved.now) → slot < 2 ^ 64 - 1 }
     ensures { OnOk result (map field_seen slots.new.items ≡ map field_seen slots.old.items
-        ++ slots_of_field types.entry.types.now resolved.now slot) }
+        ++ slots_of_field resolved.now slot) }
 {
     match union_in(resolved) {
         Some(union) => {
             slots.push(code_slot(alloc, resolved, union, slot)?)?;
-            slots.push(value_slot(types, alloc, resolved, slot + 1)?)?;
+            slots.push(value_slot(alloc, resolved, slot + 1)?)?;
         }
-        None => slots.push(value_slot(types, alloc, resolved, slot)?)?,
+        None => slots.push(value_slot(alloc, resolved, slot)?)?,
     }
     Ok(())
 }
@@ -116,17 +112,16 @@ pub(crate) fn push_slots(
 /// allocation.
 #[tactic(auto, unfolding(crate::specs::SlotsRead::slots_in_order))]
 pub(crate) fn slots_in_order(
-    types: TypesRead<'_, '_, '_>,
     alloc: Global,
     fields: &[ResolvedField<'_, '_>],
 ) -> Result<Vec<FieldInfo>, AllocError>
     ensures { IfOk result
-        (λ v. map field_seen v.items ≡ slots_in_order types.entry.types.now 0 fields.now) }
+        (λ v. map field_seen v.items ≡ slots_in_order 0 fields.now) }
 {
     let mut slots = Vec::with_capacity(alloc, fields.len())?;
     for field in fields {
         let slot = slots.len() as u64;
-        push_slots(types, alloc, field, slot, &mut slots)?;
+        push_slots(alloc, field, slot, &mut slots)?;
     }
     Ok(slots)
 }

@@ -1,17 +1,18 @@
 //! Fields and alignments of structs.
-ghost use Rattle.std.specs.Prelude.{◌≡◌, ◌≤◌, IfOk, Some, map};
+ghost use Rattle.std.specs.Prelude.{◌≡◌, ◌≤◌, ℕ, List, IfOk, Some, map};
 ghost use Rattle.std.specs.Option.{option_map_or};
 ghost use Rattle.fb_schema.specs.Alignments.{base_size};
 ghost use Rattle.fb_schema.specs.Seen.{field_seen};
 ghost use Rattle.fb_resolve.specs.StructsRead.{align_by, align_in, natural_align, alignment_in, forced_align};
-ghost use Rattle.fb_resolve.specs.StructsRead.{align_of_struct, align_of_type, part_read, parts_from};
+ghost use Rattle.fb_resolve.specs.StructsRead.{natural_of_type, align_of_type, part_read, parts_from};
 ghost use Rattle.fb_resolve.specs.SlotsRead.{kind_or_text, shape_of};
+ghost use Rattle.fb_resolve.specs.Outline.{TypeRead};
 
 use crate::attributes::is_alignment;
 use crate::enums::underlying_at;
 use crate::meanings::Meaning;
-use crate::resolved::{ResolvedDecl, ResolvedField, ResolvedTable, ResolvedType};
-use crate::types_read::TypesRead;
+use crate::outline::TypeRead;
+use crate::resolved::{ResolvedDecl, ResolvedField, ResolvedType};
 use fb_schema::{Base, FieldInfo, Kind, Shape, TypeId};
 use fb_syntax::FieldType;
 use std::alloc::{AllocError, Global};
@@ -38,12 +39,12 @@ pub(crate) fn shape_of(kind: &FieldType<'_>, meaning: Meaning) -> Shape
 
 /// The alignment that a field of a struct needs; 0 for a type at fault.
 fn align_by(
-    types: TypesRead<'_, '_, '_>,
+    types: &[TypeRead<'_, '_>],
     lower: &[u16],
     kind: &FieldType<'_>,
     meaning: Meaning,
 ) -> u16
-    ensures { result ≡ align_by types.entry.types.now lower.now kind.now meaning }
+    ensures { result ≡ align_by types.now lower.now kind.now meaning }
 {
     match (kind, meaning) {
         (FieldType::One(_), Meaning::Known(Kind::Scalar(base))) => base.size(),
@@ -58,8 +59,8 @@ fn align_by(
 }
 
 #[tactic(auto, unfolding(crate::specs::StructsRead::align_in))]
-fn align_in(types: TypesRead<'_, '_, '_>, lower: &[u16], resolved: &ResolvedField<'_, '_>) -> u16
-    ensures { result ≡ align_in types.entry.types.now lower.now resolved.now }
+fn align_in(types: &[TypeRead<'_, '_>], lower: &[u16], resolved: &ResolvedField<'_, '_>) -> u16
+    ensures { result ≡ align_in types.now lower.now resolved.now }
 {
     let field = resolved.field;
     align_by(types, lower, &field.kind, resolved.meaning)
@@ -68,12 +69,8 @@ fn align_in(types: TypesRead<'_, '_, '_>, lower: &[u16], resolved: &ResolvedFiel
 /// The greatest alignment that the fields of a struct need, where these are the alignments of the
 /// types before it.
 #[tactic(auto, unfolding(crate::specs::StructsRead::natural_align))]
-pub fn natural_align(
-    types: TypesRead<'_, '_, '_>,
-    lower: &[u16],
-    fields: &[ResolvedField<'_, '_>],
-) -> u16
-    ensures { result ≡ natural_align types.entry.types.now lower.now fields.now }
+fn natural_align(types: &[TypeRead<'_, '_>], lower: &[u16], fields: &[ResolvedField<'_, '_>]) -> u16
+    ensures { result ≡ natural_align types.now lower.now fields.now }
 {
     let mut natural = 0;
     for field in fields {
@@ -101,28 +98,30 @@ pub fn forced_align(least: u16, number: Option<i128>) -> Option<u16>
     alignment_in(least, number?)
 }
 
-fn align_of_struct(
-    types: TypesRead<'_, '_, '_>,
-    lower: &[u16],
-    resolved: &ResolvedTable<'_, '_>,
-) -> u16
-    ensures { result ≡ align_of_struct types.entry.types.now lower.now resolved.now }
-{
-    let natural = natural_align(types, lower, resolved.fields.as_slice());
-    forced_align(natural, resolved.force_align).unwrap_or(natural)
-}
-
-/// The alignment of a type, 0 of what is no struct.
-#[tactic(auto, unfolding(crate::specs::StructsRead::align_of_type))]
-pub fn align_of_type(
-    types: TypesRead<'_, '_, '_>,
+/// The natural alignment of a type: the greatest that its fields need if it is a struct, where these
+/// are the alignments of the types before it; 0 of another type.
+pub fn natural_of_type(
+    types: &[TypeRead<'_, '_>],
     lower: &[u16],
     resolved: &ResolvedType<'_, '_, '_>,
 ) -> u16
-    ensures { result ≡ align_of_type types.entry.types.now lower.now resolved.now }
+    ensures { result ≡ natural_of_type types.now lower.now resolved.now }
 {
     match &resolved.declaration {
-        ResolvedDecl::Struct(table) => align_of_struct(types, lower, table),
+        ResolvedDecl::Struct(table) => natural_align(types, lower, table.fields.as_slice()),
+        _ => 0,
+    }
+}
+
+/// The alignment of a type of this natural one, 0 of what is no struct.
+#[tactic(auto, unfolding(crate::specs::StructsRead::align_of_type))]
+pub fn align_of_type(natural: u16, resolved: &ResolvedType<'_, '_, '_>) -> u16
+    ensures { (types : List TypeRead) (lower : List ℕ)
+        → natural_of_type types lower resolved.now ≡ natural
+        → result ≡ align_of_type types lower resolved.now }
+{
+    match &resolved.declaration {
+        ResolvedDecl::Struct(table) => forced_align(natural, table.force_align).unwrap_or(natural),
         _ => 0,
     }
 }

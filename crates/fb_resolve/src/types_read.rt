@@ -6,7 +6,7 @@ use crate::value_numbers::ValueNumbers;
 
 /// The types of a text, and the numbers of the values of enums.
 #[derive(Clone, Copy)]
-pub struct TypesRead<'t, 'd, 's> {
+pub(crate) struct TypesRead<'t, 'd, 's> {
     pub types: &'t [TypeRead<'d, 's>],
     pub values: &'t ValueNumbers<'s>,
     ghost numbered: { IndexesValues values.now types.now },

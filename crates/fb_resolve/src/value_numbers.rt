@@ -16,13 +16,16 @@ use std::collections::BTreeMap;
 ///
 /// No names make it slow, whoever chose them: it doesn't hash.
 #[derive(Drop)]
-pub struct ValueNumbers<'s> {
+pub(crate) struct ValueNumbers<'s> {
     numbers: Vec<BTreeMap<&'s [u8], i128>>,
 }
 
 impl<'s> ValueNumbers<'s> {
     /// The numbers of the values of all enums. The only error is a refused allocation.
-    pub fn of(alloc: Global, types: &[TypeRead<'_, 's>]) -> Result<ValueNumbers<'s>, AllocError>
+    pub(crate) fn of(
+        alloc: Global,
+        types: &[TypeRead<'_, 's>],
+    ) -> Result<ValueNumbers<'s>, AllocError>
         ensures { IfOk result (λ v. IndexesValues v types.now) }
     {
         let mut numbers = Vec::with_capacity(alloc, types.len())?;

@@ -5,4 +5,4 @@ use Rattle.fb_declare.specs.Faults.{earlier, least_of}
 use Rattle.fb_declare.proofs.attribute_faults.metadata_fault.Given as goal
 
 abbrev pub invariant-loop-attribute : goal.invariant-loop-attribute
-invariant-loop-attribute l = earlier l.least (least_of (metadata_faults (names_declared l.declared) l.place l.seen.items (drop l.attribute-index l.attributes))) ≡ least_of (metadata_faults (names_declared l.declared) l.place [] l.attributes)
+invariant-loop-attribute l = earlier l.least (least_of (metadata_faults (names_declared l.declared) l.host l.seen.items (drop l.attribute-index l.attributes))) ≡ least_of (metadata_faults (names_declared l.declared) l.host [] l.attributes)

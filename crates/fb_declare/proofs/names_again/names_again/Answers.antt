@@ -10,7 +10,7 @@ use Rattle.fb_declare.proofs.names_again.names_again.Goals as goal
 pub loop-name-preserved : goal.loop-name-preserved
 loop-name-preserved c =
     let ns = c.args.names.now in let i = c.loop-name.name-index in let n = c.name-item.result in
-    let text : c.as_bytes.result.now ≡ n.bytes = c.as_bytes.ensures.value ∙ ap (λ t. t.bytes) c.name.view_is in
+    let text : c.as_bytes.result.now ≡ n.bytes = c.as_bytes.ensures.value ∙ c.as_str.ensures.value ∙ ap (λ t. t.bytes) c.name.view_is in
     let at : c.name.inside.at ≡ n.at = ap (λ t. t.at) c.name.view_is in
     record {
       least = rw (c.earlier-least.ensures, c.when.ensures, c.in_ok-again.ensures.before, text, at, c.loop-name.invariant.seen n.bytes)

@@ -4,5 +4,4 @@ use Rattle.fb_resolve.specs.SlotsRead.{slots_by_id}
 use Rattle.fb_resolve.proofs.ids.slots_by_id.Given as goal
 
 abbrev pub invariant-loop-field : goal.invariant-loop-field
-invariant-loop-field l = let types = l.types.types.now in
-    map field_seen l.slots.items ++ slots_by_id types (drop l.field-index l.fields) ≡ slots_by_id types l.fields
+invariant-loop-field l = map field_seen l.slots.items ++ slots_by_id (drop l.field-index l.fields) ≡ slots_by_id l.fields

@@ -1,11 +1,11 @@
-use Rattle.std.proofs.Common.{rules, ◌≡◌, ◌+◌, ◌++◌, [], ◌∷◌, length, map, drop, get_or, append_assoc, ap, sym, ◌∙◌, arith}
+use Rattle.std.proofs.Common.{rules, ◌≡◌, ◌+◌, ◌++◌, [], ◌∷◌, length, map, drop, get_or, append_assoc, ap, sym, subst, ◌∙◌, arith}
 use Rattle.std.specs.Option.{option_copied}
 use Rattle.std.proofs.lemmas.Option.{slice_get_within, get_or_from_slice_get}
 use Rattle.std.proofs.lemmas.Slice.Zip.{AllZip-long}
 use Rattle.fb_scopes.specs.PathTree.{paths}
-use Rattle.fb_scopes.specs.Scopes.{tree_of}
+use Rattle.fb_scopes.specs.Scopes.{tree_of, AreScopes}
 use Rattle.fb_resolve.specs.Resolved.{resolved_type}
-use Rattle.fb_resolve.specs.Scopes.{words_of_scope}
+use Rattle.fb_resolve.specs.Scopes.{words_of_scope, paths_of_types}
 use Rattle.fb_resolve.specs.Paths.{IsPath}
 use Rattle.fb_resolve.proofs.PathsKept.{zip_at}
 use Rattle.fb_resolve.proofs.Steps.{drop-more}
@@ -25,7 +25,7 @@ resolved_declaration-requires-clause-scope c =
     let there = zip_at (λ n r. IsPath tree n (words_of_scope r.scope)) c.args.numbers.now c.args.types.now i 0 item c.requires.numbers c.loop-number-test.true in
     let scope : words_of_scope (get_or c.args.types.now i item).scope ≡ words_of_scope (option_copied c.read.inside.scope) = grind rules in
     record {
-      scopes = c.requires.scopes;
+      scopes = subst (λ ts. AreScopes c.args.scopes.now (paths_of_types ts)) (sym c.requires.numbered) c.requires.scopes;
       inside = slice_get_within (paths tree) (get_or c.args.numbers.now i 0) (words_of_scope (get_or c.args.types.now i item).scope) there;
       named = get_or_from_slice_get (paths tree) (get_or c.args.numbers.now i 0) (words_of_scope (get_or c.args.types.now i item).scope) [] there ∙ scope;
     }

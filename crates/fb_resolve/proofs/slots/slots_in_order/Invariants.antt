@@ -4,5 +4,4 @@ use Rattle.fb_resolve.specs.SlotsRead.{slots_in_order}
 use Rattle.fb_resolve.proofs.slots.slots_in_order.Given as goal
 
 abbrev pub invariant-loop-field : goal.invariant-loop-field
-invariant-loop-field l = let types = l.types.types.now in
-    map field_seen l.slots.items ++ slots_in_order types (length l.slots.items) (drop l.field-index l.fields) ≡ slots_in_order types 0 l.fields
+invariant-loop-field l = map field_seen l.slots.items ++ slots_in_order (length l.slots.items) (drop l.field-index l.fields) ≡ slots_in_order 0 l.fields

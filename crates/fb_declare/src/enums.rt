@@ -1,0 +1,154 @@
+//! Enums: what is wrong with one, and its body.
+ghost use Rattle.std.specs.Prelude.{◌≡◌, IfOk, map, [], ℤ, pos, ◌||◌, OnOk};
+ghost use Rattle.fb_schema.specs.WellDeclared.{is_unsigned};
+ghost use Rattle.fb_declare.specs.Faults.{least_of};
+ghost use Rattle.fb_declare.specs.FaultRows.{underlying_faults, when, is_out_of_range, bad_values};
+ghost use Rattle.fb_declare.specs.DeclaredNames.{names_declared};
+ghost use Rattle.fb_declare.specs.TypeFaults.{host_of_enum, enum_faults};
+ghost use Rattle.std.specs.List.{list_any};
+ghost use Rattle.std.specs.Ordering.{int_eq};
+ghost use Rattle.fb_schema.specs.Seen.{body_seen};
+ghost use Rattle.fb_declare.specs.Declares.{HasBody};
+ghost use Rattle.fb_resolve.specs.declared.resolved.ResolvedDecl.TheVariants as ResolvedDecl;
+
+use crate::attribute_faults::{AttributeHost, metadata_fault};
+use crate::declared_names::DeclaredNames;
+use crate::faults::{SchemaFault, earlier, when};
+use crate::names_again::names_again;
+use fb_resolve::{
+    LocatedName, Meaning, ResolvedEnum, integer_type, may_be_written, values_over, written_number,
+};
+use fb_schema::{Base, Body};
+use fb_syntax::EnumValue;
+use std::alloc::{AllocError, Global};
+use std::collections::BTreeSet;
+
+/// The fault of the type under an enum.
+#[tactic(auto, unfolding(crate::specs::Faults::least_of))]
+fn underlying_fault(meaning: Meaning, at: u64) -> Option<SchemaFault>
+    ensures { result ≡ least_of (underlying_faults meaning at) }
+{
+    match meaning {
+        Meaning::Unknown => Some(SchemaFault::UnknownType(at)),
+        _ => {
+            let is_missing = integer_type(meaning).is_none();
+            when(is_missing, SchemaFault::Unsupported(at))
+        }
+    }
+}
+
+fn is_unsigned(base: Base) -> bool
+    ensures { result ≡ is_unsigned base }
+{
+    matches!(base, Base::U8 | Base::U16 | Base::U32 | Base::U64)
+}
+
+/// What an enum over a type is to its attributes.
+fn host_of_enum(base: Option<Base>) -> AttributeHost
+    ensures { result ≡ host_of_enum base }
+{
+    match base {
+        Some(base) if !is_unsigned(base) => AttributeHost::SignedEnum,
+        _ => AttributeHost::Enum,
+    }
+}
+
+fn value_names<'s>(
+    alloc: Global,
+    values: &[EnumValue<'s>],
+) -> Result<Vec<LocatedName<'s>>, AllocError>
+    ensures { IfOk result (λ names. names.items ≡ map (λ v. v.name) values.now) }
+{
+    let mut names = Vec::with_capacity(alloc, values.len())?;
+    for value in values {
+        names.push(LocatedName::of(&value.name))?;
+    }
+    Ok(names)
+}
+
+/// The least fault of an enum. The only error is a refused allocation.
+#[tactic(auto, using(crate::proofs::Least::least_of_append), unfolding(crate::specs::TypeFaults::enum_faults))]
+pub(crate) fn enum_fault(
+    alloc: Global,
+    declared: DeclaredNames<'_, '_>,
+    resolved: &ResolvedEnum<'_, '_>,
+) -> Result<Option<SchemaFault>, AllocError>
+    ensures { IfOk result
+        (λ f. f ≡ least_of (enum_faults (names_declared declared.entry) resolved.now)) }
+{
+    let read = resolved.declared;
+    let meaning = resolved.underlying;
+    let values = read.values.as_slice();
+    let base = integer_type(meaning);
+    let under = underlying_fault(meaning, read.underlying.at());
+    let host = host_of_enum(base);
+    let metadata = metadata_fault(alloc, declared, host, read.attributes.as_slice())?;
+    let names = value_names(alloc, values)?;
+    let again = names_again(alloc, names.as_slice())?;
+    let numbers = bad_values(alloc, base, resolved.bit_flags, values)?;
+    Ok(earlier(earlier(earlier(under, metadata), again), numbers))
+}
+
+fn is_out_of_range(base: Option<Base>, flags: bool, number: i128) -> bool
+    ensures { result ≡ is_out_of_range base flags number }
+{
+    match base {
+        Some(base) => !may_be_written(base, flags, number),
+        None => false,
+    }
+}
+
+/// The fault of the value at an offset, whose number is met from now on.
+fn bad_value(
+    met: &mut BTreeSet<i128>,
+    base: Option<Base>,
+    flags: bool,
+    number: i128,
+    at: u64,
+) -> Result<Option<SchemaFault>, AllocError>
+    ensures fault { IfOk result (λ f. f ≡ least_of (when
+        (is_out_of_range base flags number || list_any (int_eq number) met.old.keys)
+        (SchemaFault.BadEnumValue at))) }
+    ensures met { OnOk result ((n : ℤ) → list_any (int_eq n) met.new.keys
+        ≡ (list_any (int_eq n) met.old.keys || int_eq n number)) }
+{
+    let is_new = met.insert(number)?;
+    let is_bad = is_out_of_range(base, flags, number) || !is_new;
+    Ok(when(is_bad, SchemaFault::BadEnumValue(at)))
+}
+
+/// The least fault of the numbers of an enum's values. The only error is a refused allocation.
+pub(crate) fn bad_values(
+    alloc: Global,
+    base: Option<Base>,
+    flags: bool,
+    values: &[EnumValue<'_>],
+) -> Result<Option<SchemaFault>, AllocError>
+    ensures { IfOk result (λ f. f ≡ least_of (bad_values base flags [] (pos 0) values.now)) }
+{
+    let mut least = None;
+    let mut met = BTreeSet::new(alloc);
+    let mut next = 0;
+    for value in values {
+        let number = written_number(next, value);
+        least = earlier(
+            least,
+            bad_value(&mut met, base, flags, number, value.name.at)?,
+        );
+        next = number + 1;
+    }
+    Ok(least)
+}
+
+/// The body that a right one gives. The only error is a refused allocation.
+pub(crate) fn enum_body(alloc: Global, resolved: &ResolvedEnum<'_, '_>) -> Result<Body, AllocError>
+    ensures { IfOk result
+        (λ b. HasBody (ResolvedDecl.Enum resolved.now) (body_seen b)) }
+{
+    let under = integer_type(resolved.underlying);
+    let declared = resolved.declared;
+    let flags = resolved.bit_flags;
+    let values = values_over(alloc, under, flags, declared.values.as_slice())?;
+    let base = under.unwrap_or(Base::U8);
+    Ok(Body::Enum(base, flags, values))
+}

@@ -1,0 +1,64 @@
+//! The root and the file identifier: what is wrong with them.
+ghost use Rattle.std.specs.Prelude.{◌≡◌, ◌++◌};
+ghost use Rattle.std.specs.List.{list_all};
+ghost use Rattle.std.specs.Option.{option_copied};
+ghost use Rattle.fb_declare.specs.Faults.{least_of};
+ghost use Rattle.fb_declare.specs.FaultRows.{use_faults, bad_root, root_faults, is_printable, is_identifier};
+ghost use Rattle.fb_declare.specs.FaultRows.{identifier_faults};
+
+use crate::faults::{SchemaFault, earlier, when};
+use crate::field_types::use_fault;
+use fb_resolve::{Meaning, RootRead, is_table};
+use fb_syntax::Text;
+
+#[tactic(auto, using(crate::proofs::Least::least_of_append))]
+fn root_use_fault(meaning: Meaning, at: u64) -> Option<SchemaFault>
+    ensures { result ≡ least_of (use_faults meaning at ++ bad_root meaning at) }
+{
+    let is_bad = when(!is_table(meaning), SchemaFault::BadRoot(at));
+    earlier(use_fault(meaning, at), is_bad)
+}
+
+/// The least fault of the root.
+#[tactic(auto, unfolding(crate::specs::FaultRows::root_faults, crate::specs::Faults::least_of))]
+pub(crate) fn root_fault(
+    text_len: u64,
+    root: Option<&RootRead<'_, '_>>,
+    meaning: Meaning,
+) -> Option<SchemaFault>
+    ensures { result ≡ least_of (root_faults text_len (option_copied root.entry) meaning) }
+{
+    let Some(root) = root else {
+        return Some(SchemaFault::BadRoot(text_len));
+    };
+    let name = root.name;
+    root_use_fault(meaning, name.at())
+}
+
+fn is_printable(byte: u8) -> bool
+    ensures { result ≡ is_printable byte }
+{
+    32 <= byte && byte <= 126
+}
+
+fn are_printable(text: &[u8]) -> bool
+    ensures { result ≡ list_all is_printable text.now }
+{
+    text.iter().all(|byte| is_printable(*byte))
+}
+
+fn is_identifier(text: &[u8]) -> bool
+    ensures { result ≡ is_identifier text.now }
+{
+    text.len() == 4 && are_printable(text)
+}
+
+/// A file identifier that isn't four printable bytes.
+#[tactic(auto, unfolding(crate::specs::FaultRows::identifier_faults, crate::specs::Faults::least_of))]
+pub(crate) fn identifier_fault(identifier: Option<&Text<'_>>) -> Option<SchemaFault>
+    ensures { result ≡ least_of (identifier_faults (option_copied identifier.entry)) }
+{
+    let text = identifier?;
+    let is_right = is_identifier(text.text.as_bytes());
+    when(!is_right, SchemaFault::BadIdentifier(text.at))
+}

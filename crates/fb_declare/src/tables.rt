@@ -1,0 +1,143 @@
+//! Tables: what is wrong with one, and its body.
+ghost use Rattle.std.specs.Prelude.{◌≡◌, ◌++◌, IfOk, OnOk};
+ghost use Rattle.std.specs.List.{flat_map};
+ghost use Rattle.fb_declare.specs.Faults.{least_of};
+ghost use Rattle.fb_declare.specs.DeclaredNames.{names_declared};
+ghost use Rattle.fb_declare.specs.TypeFaults.{names_of_field, host_of_field, table_field_faults, table_faults};
+ghost use Rattle.fb_schema.specs.Seen.{body_seen};
+ghost use Rattle.fb_declare.specs.Declares.{HasBody};
+ghost use Rattle.fb_declare.specs.Buildable.{IsBuildable};
+ghost use Rattle.fb_resolve.specs.declared.resolved.ResolvedDecl.TheVariants as ResolvedDecl;
+
+use crate::attribute_faults::{AttributeHost, metadata_fault};
+use crate::declared_names::DeclaredNames;
+use crate::default_faults::bad_default;
+use crate::faults::{SchemaFault, earlier, when};
+use crate::field_types::table_field_type;
+use crate::names_again::names_again;
+use fb_resolve::{
+    LocatedName, Meaning, ResolvedField, ResolvedTable, are_ids_wrong, name_of_code, table_slots,
+    union_in,
+};
+use fb_schema::{Body, Kind};
+use fb_syntax::FieldType;
+use std::alloc::{AllocError, Global};
+use std::borrow::CowStr;
+
+/// Adds the names that a field takes: a union's code has one.
+fn push_names<'s>(
+    alloc: Global,
+    resolved: &ResolvedField<'_, 's>,
+    names: &mut Vec<LocatedName<'s>>,
+) -> Result<(), AllocError>
+    ensures { OnOk result
+        (names.new.items ≡ names.old.items ++ names_of_field resolved.now) }
+{
+    let field = resolved.field;
+    if union_in(resolved).is_some() {
+        names.push(LocatedName {
+            text: CowStr::Owned(name_of_code(alloc, field.name.text)?),
+            at: field.name.at,
+        })?;
+    }
+    names.push(LocatedName::of(&field.name))?;
+    Ok(())
+}
+
+fn field_names<'s>(
+    alloc: Global,
+    fields: &[ResolvedField<'_, 's>],
+) -> Result<Vec<LocatedName<'s>>, AllocError>
+    ensures { IfOk result (λ names. names.items ≡ flat_map names_of_field fields.now) }
+{
+    let mut names = Vec::with_capacity(alloc, fields.len())?;
+    for field in fields {
+        push_names(alloc, field, &mut names)?;
+    }
+    Ok(names)
+}
+
+/// The place of a field's attributes: a scalar or enum can't be required.
+fn host_of_field(kind: &FieldType<'_>, meaning: Meaning) -> AttributeHost
+    ensures { result ≡ host_of_field kind.now meaning }
+{
+    match (kind, meaning) {
+        (FieldType::One(_), Meaning::Known(Kind::Scalar(_) | Kind::Enum(_))) =>
+            AttributeHost::ScalarField,
+        _ => AttributeHost::TableField,
+    }
+}
+
+#[tactic(auto, using(crate::proofs::Least::least_of_append), unfolding(crate::specs::TypeFaults::table_field_faults))]
+fn field_fault(
+    alloc: Global,
+    declared: DeclaredNames<'_, '_>,
+    resolved: &ResolvedField<'_, '_>,
+) -> Result<Option<SchemaFault>, AllocError>
+    ensures { IfOk result (λ f. f ≡ least_of (table_field_faults (names_declared declared.entry) resolved.now)) }
+{
+    let field = resolved.field;
+    let meaning = resolved.meaning;
+    let kind = &field.kind;
+    let default = field.default.as_ref();
+    let type_fault = table_field_type(kind, meaning);
+    let fault = earlier(type_fault, bad_default(default, resolved.given));
+    let host = host_of_field(kind, meaning);
+    let attributes = field.attributes.as_slice();
+    Ok(earlier(fault, metadata_fault(alloc, declared, host, attributes)?))
+}
+
+fn fields_fault(
+    alloc: Global,
+    declared: DeclaredNames<'_, '_>,
+    fields: &[ResolvedField<'_, '_>],
+) -> Result<Option<SchemaFault>, AllocError>
+    ensures { IfOk result (λ f. f ≡ least_of
+        (flat_map (table_field_faults (names_declared declared.entry)) fields.now)) }
+{
+    let mut least = None;
+    for field in fields {
+        least = earlier(least, field_fault(alloc, declared, field)?);
+    }
+    Ok(least)
+}
+
+/// The least fault of a table. The only error is a refused allocation.
+#[tactic(auto, using(crate::proofs::Least::least_of_append), unfolding(crate::specs::TypeFaults::table_faults))]
+pub(crate) fn table_fault(
+    alloc: Global,
+    declared: DeclaredNames<'_, '_>,
+    resolved: &ResolvedTable<'_, '_>,
+) -> Result<Option<SchemaFault>, AllocError>
+    ensures { IfOk result (λ f. f ≡ least_of
+        (table_faults (names_declared declared.entry) resolved.now)) }
+{
+    let read = resolved.declared;
+    let fields = resolved.fields.as_slice();
+    let metadata = metadata_fault(
+        alloc,
+        declared,
+        AttributeHost::Table,
+        read.attributes.as_slice(),
+    )?;
+    let are_wrong = are_ids_wrong(alloc, fields)?;
+    let ids = when(are_wrong, SchemaFault::BadIds(read.name.at));
+    let names = field_names(alloc, fields)?;
+    let again = names_again(alloc, names.as_slice())?;
+    Ok(earlier(
+        earlier(earlier(metadata, ids), again),
+        fields_fault(alloc, declared, fields)?,
+    ))
+}
+
+/// The body that a right one gives. The only error is a refused allocation.
+pub(crate) fn table_body(
+    alloc: Global,
+    resolved: &ResolvedTable<'_, '_>,
+) -> Result<Body, AllocError>
+    requires { IsBuildable (ResolvedDecl.Table resolved.now) }
+    ensures { IfOk result
+        (λ b. HasBody (ResolvedDecl.Table resolved.now) (body_seen b)) }
+{
+    Ok(Body::Table(table_slots(alloc, resolved.fields.as_slice())?))
+}

@@ -1,0 +1,134 @@
+//! Types: the least of their faults, and what they give.
+ghost use Rattle.std.specs.Prelude.{◌≡◌, ℕ, List, [], IfOk, length, map};
+ghost use Rattle.fb_resolve.specs.Outline.{TypeRead};
+ghost use Rattle.fb_resolve.specs.StructsRead.{natural_of_declaration, natural_of_type};
+ghost use Rattle.fb_declare.specs.Faults.{least_of};
+ghost use Rattle.fb_declare.specs.DeclaredNames.{names_declared};
+ghost use Rattle.fb_declare.specs.FaultRows.{reserved_name};
+ghost use Rattle.fb_declare.specs.TypeFaults.{declaration_faults, type_faults, faults_of_types};
+ghost use Rattle.std.specs.List.{AllZip};
+ghost use Rattle.fb_schema.specs.Seen.{body_seen, type_seen};
+ghost use Rattle.fb_declare.specs.Declares.{HasBody, IsType};
+ghost use Rattle.fb_declare.specs.Buildable.{IsBuildable, AreBuildable};
+ghost use Rattle.fb_resolve.specs.declared.resolved.ResolvedDecl.TheVariants as ResolvedDecl;
+
+use crate::declared_names::DeclaredNames;
+use crate::enums::{enum_body, enum_fault};
+use crate::faults::{SchemaFault, earlier, when};
+use crate::structs::{struct_body, struct_fault};
+use crate::tables::{table_body, table_fault};
+use crate::unions::{union_body, union_fault};
+use fb_resolve::{
+    ResolvedDecl, ResolvedType, TypeRead, align_of_type, is_reserved, name_of_type,
+    natural_of_type, word_of,
+};
+use fb_schema::{Body, TypeInfo};
+use fb_syntax::Text;
+use std::alloc::{AllocError, Global};
+
+/// A type whose name is that of a basic or float type.
+fn reserved_name(name: &Text<'_>) -> Option<SchemaFault>
+    ensures { result ≡ least_of (reserved_name name.now) }
+{
+    when(is_reserved(name.text), SchemaFault::DuplicateName(name.at))
+}
+
+#[tactic(auto, unfolding(crate::specs::Faults::least_of))]
+fn declaration_fault(
+    alloc: Global,
+    declared: DeclaredNames<'_, '_>,
+    number: usize,
+    natural: u16,
+    declaration: &ResolvedDecl<'_, '_>,
+) -> Result<Option<SchemaFault>, AllocError>
+    ensures { (types : List TypeRead) (lower : List ℕ) → length lower ≡ number
+        → natural_of_declaration types lower declaration.now ≡ natural
+        → IfOk result (λ f. f ≡ least_of
+        (declaration_faults types (names_declared declared.entry) lower declaration.now)) }
+{
+    match declaration {
+        ResolvedDecl::Table(table) => table_fault(alloc, declared, table),
+        ResolvedDecl::Struct(table) => struct_fault(alloc, declared, number, natural, table),
+        ResolvedDecl::Enum(resolved) => enum_fault(alloc, declared, resolved),
+        ResolvedDecl::Union(union) => union_fault(alloc, declared, union),
+    }
+}
+
+/// The least fault of the type of a number and of a natural alignment.
+#[tactic(auto, using(crate::proofs::Least::least_of_append), unfolding(crate::specs::TypeFaults::type_faults))]
+fn type_fault(
+    alloc: Global,
+    declared: DeclaredNames<'_, '_>,
+    number: usize,
+    natural: u16,
+    resolved: &ResolvedType<'_, '_, '_>,
+) -> Result<Option<SchemaFault>, AllocError>
+    ensures { (types : List TypeRead) (lower : List ℕ) → length lower ≡ number
+        → natural_of_type types lower resolved.now ≡ natural
+        → IfOk result (λ f. f ≡ least_of
+        (type_faults types (names_declared declared.entry) lower resolved.now)) }
+{
+    let read = resolved.read;
+    let reserved = reserved_name(word_of(read.declaration));
+    let fault = declaration_fault(alloc, declared, number, natural, &resolved.declaration)?;
+    Ok(earlier(reserved, fault))
+}
+
+/// The least fault of the types. The only error is a refused allocation.
+pub(crate) fn types_fault(
+    alloc: Global,
+    declared: DeclaredNames<'_, '_>,
+    types: &[TypeRead<'_, '_>],
+    resolved: &[ResolvedType<'_, '_, '_>],
+) -> Result<Option<SchemaFault>, AllocError>
+    ensures { IfOk result (λ f. f ≡ least_of (faults_of_types types.now
+        (names_declared declared.entry) [] resolved.now)) }
+{
+    let mut least = None;
+    let mut lower = Vec::with_capacity(alloc, resolved.len())?;
+    for read in resolved {
+        let natural = natural_of_type(types, lower.as_slice(), read);
+        let fault = type_fault(alloc, declared, lower.len(), natural, read)?;
+        least = earlier(least, fault);
+        lower.push(align_of_type(natural, read))?;
+    }
+    Ok(least)
+}
+
+fn body_of(alloc: Global, declaration: &ResolvedDecl<'_, '_>) -> Result<Body, AllocError>
+    requires { IsBuildable declaration.now }
+    ensures { IfOk result
+        (λ b. HasBody declaration.now (body_seen b)) }
+{
+    match declaration {
+        ResolvedDecl::Table(table) => table_body(alloc, table),
+        ResolvedDecl::Struct(table) => struct_body(alloc, table),
+        ResolvedDecl::Enum(resolved) => enum_body(alloc, resolved),
+        ResolvedDecl::Union(union) => union_body(alloc, union),
+    }
+}
+
+fn type_of(alloc: Global, resolved: &ResolvedType<'_, '_, '_>) -> Result<TypeInfo, AllocError>
+    requires { IsBuildable resolved.now.declaration }
+    ensures { (types : List TypeRead) → IfOk result (λ t. IsType types resolved.now (type_seen t)) }
+{
+    let name = name_of_type(alloc, resolved.read)?;
+    let body = body_of(alloc, &resolved.declaration)?;
+    Ok(TypeInfo { name, body })
+}
+
+/// The types that the declarations give. The only error is a refused allocation.
+pub(crate) fn types_of(
+    alloc: Global,
+    resolved: &[ResolvedType<'_, '_, '_>],
+) -> Result<Vec<TypeInfo>, AllocError>
+    requires { AreBuildable resolved.now }
+    ensures { (types : List TypeRead) → IfOk result
+        (λ v. AllZip (IsType types) resolved.now (map type_seen v.items)) }
+{
+    let mut made = Vec::with_capacity(alloc, resolved.len())?;
+    for read in resolved {
+        made.push(type_of(alloc, read)?)?;
+    }
+    Ok(made)
+}

@@ -1,0 +1,141 @@
+//! Unions: what is wrong with one, and its body.
+ghost use Rattle.std.specs.Prelude.{◌≡◌, IfOk, map, string_bytes};
+ghost use Rattle.fb_declare.specs.Faults.{least_of};
+ghost use Rattle.fb_declare.specs.DeclaredNames.{names_declared};
+ghost use Rattle.fb_resolve.specs.MembersRead.{member_name, member_read};
+ghost use Rattle.fb_declare.specs.FaultRows.{member_faults, none_name, bad_member};
+ghost use Rattle.fb_declare.specs.TypeFaults.{members_faults, union_faults};
+ghost use Rattle.fb_schema.specs.Seen.{body_seen};
+ghost use Rattle.fb_declare.specs.Declares.{HasBody};
+ghost use Rattle.fb_resolve.specs.declared.resolved.ResolvedDecl.TheVariants as ResolvedDecl;
+
+use crate::attribute_faults::{AttributeHost, metadata_fault};
+use crate::declared_names::DeclaredNames;
+use crate::faults::{SchemaFault, earlier, when};
+use crate::field_types::use_fault;
+use crate::names_again::names_again;
+use fb_resolve::{
+    LocatedName, Meaning, ResolvedMember, ResolvedUnion, is_table, member_name, member_read,
+};
+use fb_schema::{Body, TypeId};
+use fb_syntax::UnionMember;
+use std::alloc::{AllocError, Global};
+
+fn member_names<'d>(
+    alloc: Global,
+    members: &'d [UnionMember<'_>],
+) -> Result<Vec<LocatedName<'d>>, AllocError>
+    ensures { IfOk result (λ names. names.items ≡ map member_name members.now) }
+{
+    let mut names = Vec::with_capacity(alloc, members.len())?;
+    for member in members {
+        names.push(member_name(alloc, member)?)?;
+    }
+    Ok(names)
+}
+
+fn fault_of_member(
+    alloc: Global,
+    before: usize,
+    resolved: &ResolvedMember<'_, '_>,
+) -> Result<Option<SchemaFault>, AllocError>
+    ensures { IfOk result (λ f. f ≡ least_of (member_faults before
+        (member_name resolved.now.member) resolved.now.member.table.at resolved.now.meaning)) }
+{
+    let member = resolved.member;
+    let name = member_name(alloc, member)?;
+    Ok(member_fault(before, &name, member.table.at(), resolved.meaning))
+}
+
+#[tactic(auto, using(crate::proofs::Least::least_of_append), unfolding(crate::specs::TypeFaults::members_faults))]
+fn members_fault(
+    alloc: Global,
+    members: &[ResolvedMember<'_, '_>],
+) -> Result<Option<SchemaFault>, AllocError>
+    ensures { IfOk result (λ f. f ≡ least_of (members_faults 0 members.now)) }
+{
+    let mut least = None;
+    for (before, member) in members.iter().enumerate() {
+        least = earlier(least, fault_of_member(alloc, before, member)?);
+    }
+    Ok(least)
+}
+
+/// The least fault of a union. The only error is a refused allocation.
+#[tactic(auto, using(crate::proofs::Least::least_of_append), unfolding(crate::specs::TypeFaults::union_faults))]
+pub(crate) fn union_fault(
+    alloc: Global,
+    declared: DeclaredNames<'_, '_>,
+    resolved: &ResolvedUnion<'_, '_>,
+) -> Result<Option<SchemaFault>, AllocError>
+    ensures { IfOk result
+        (λ f. f ≡ least_of (union_faults (names_declared declared.entry) resolved.now)) }
+{
+    let read = resolved.declared;
+    let metadata = metadata_fault(
+        alloc,
+        declared,
+        AttributeHost::Union,
+        read.attributes.as_slice(),
+    )?;
+    let names = member_names(alloc, read.members.as_slice())?;
+    let again = names_again(alloc, names.as_slice())?;
+    Ok(earlier(
+        earlier(metadata, again),
+        members_fault(alloc, resolved.members.as_slice())?,
+    ))
+}
+
+fn none_name(name: &LocatedName<'_>) -> Option<SchemaFault>
+    ensures { result ≡ least_of (none_name name.now) }
+{
+    let is_none = name.text.as_str() == "NONE";
+    when(is_none, SchemaFault::DuplicateName(name.at))
+}
+
+fn bad_member(before: usize, meaning: Meaning, at: u64) -> Option<SchemaFault>
+    ensures { result ≡ least_of (bad_member before meaning at) }
+{
+    let is_bad = !is_table(meaning) || 255 <= before;
+    when(is_bad, SchemaFault::BadMember(at))
+}
+
+/// What is wrong with a member of this name, whose type stands at this offset, with so many
+/// before it.
+#[tactic(auto, using(crate::proofs::Least::least_of_append), unfolding(crate::specs::FaultRows::member_faults))]
+pub(crate) fn member_fault(
+    before: usize,
+    name: &LocatedName<'_>,
+    at: u64,
+    meaning: Meaning,
+) -> Option<SchemaFault>
+    ensures { result ≡ least_of (member_faults before name.now at meaning) }
+{
+    let not_found = earlier(none_name(name), use_fault(meaning, at));
+    earlier(not_found, bad_member(before, meaning, at))
+}
+
+fn members_read(
+    alloc: Global,
+    members: &[ResolvedMember<'_, '_>],
+) -> Result<Vec<(String, TypeId)>, AllocError>
+    ensures { IfOk result (λ v. map (λ m. (string_bytes m.0, m.1.0)) v.items
+        ≡ map member_read members.now) }
+{
+    let mut read = Vec::with_capacity(alloc, members.len())?;
+    for member in members {
+        read.push(member_read(alloc, member)?)?;
+    }
+    Ok(read)
+}
+
+/// The body that a right one gives. The only error is a refused allocation.
+pub(crate) fn union_body(
+    alloc: Global,
+    resolved: &ResolvedUnion<'_, '_>,
+) -> Result<Body, AllocError>
+    ensures { IfOk result
+        (λ b. HasBody (ResolvedDecl.Union resolved.now) (body_seen b)) }
+{
+    Ok(Body::Union(members_read(alloc, resolved.members.as_slice())?))
+}
