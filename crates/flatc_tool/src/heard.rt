@@ -12,7 +12,7 @@ use std::io;
 use std::io::Read;
 
 // How many bytes are asked for at once.
-const CHUNK: usize = 131_072;
+const CHUNK: usize = 32_768;
 
 /// A reader that remembers whether its last read failed.
 #[derive(Drop)]
