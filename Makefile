@@ -5,13 +5,14 @@
 # make test       the gate: every proof from nothing, the must-fail edits, the tests, the program
 # make mutations  further edits that the prover has to refuse, outside the gate
 # make soak       a million damaged buffers of schemas made from SEED, and files of gigabytes, outside the gate
+# make bench      times the program on generated documents, beside Google's flatc where that is installed
 
 PREFIX = /usr/local
 NAME = flatc
 PROGRAM = crates/flatc/out/flatc
 SEED = 1
 
-.PHONY: run try build install test mutations soak
+.PHONY: run try build install test mutations soak bench
 
 run: build
 	@tests/example.sh $(PROGRAM)
@@ -37,3 +38,6 @@ mutations: build
 soak: build
 	@python3 tools/build.py hostile
 	@python3 tests/soak.py crates/hostile/out/hostile --seed $(SEED) --schemas 2000 --damages 500 --size $(PROGRAM)
+
+bench: build
+	@python3 bench/bench.py $(PROGRAM)
