@@ -1,2 +1,3 @@
 -- What the proofs of src/marks.rt use.
+pub mod MemberIsAllowed
 pub mod NamedSlotIsMarked

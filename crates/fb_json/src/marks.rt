@@ -1,11 +1,14 @@
 //! Which slots of a table have a member.
-ghost use Rattle.std.specs.Prelude.{◌≡◌, true, map, get_or, set, IfOk, IfErr};
+ghost use Rattle.std.specs.Prelude.{◌≡◌, ◌||◌, true, map, get_or, set, IfOk};
 ghost use Rattle.serde_json.specs.View.{members_view};
 ghost use Rattle.fb_schema.specs.Schema.{body_at, slots_in};
 ghost use Rattle.fb_schema.specs.Seen.{field_seen};
 ghost use Rattle.fb_json.specs.MarkedSlots.{MarkNames};
+ghost use Rattle.fb_json.specs.Meant.{if_known, names_known, type_place};
+ghost use Rattle.fb_json.specs.Outcome.{Gives};
 
-use crate::faults::JsonFault;
+use crate::faults::{JsonFault, Place};
+use crate::members::is_allowed;
 use crate::source::Source;
 use fb_schema::{FieldInfo, TypeId};
 use serde_json::{Map, Value as Json};
@@ -29,8 +32,8 @@ pub(crate) fn is_marked(marks: &[bool], slot: usize) -> bool
     }
 }
 
-/// A mark for each slot of a table. Each member's name is looked up once, so that a slot without a
-/// member costs no search among the members.
+/// A mark for each slot of a table, where each member has the name of a field in use or any name is let
+/// through. Each member's name is looked up once, so that a slot without a member costs no search.
 pub(crate) fn marks_of(
     source: Source,
     owner: TypeId,
@@ -40,12 +43,19 @@ pub(crate) fn marks_of(
     requires { map field_seen slots.now ≡ slots_in (body_at source.layout.now.schema owner.0) }
     ensures marks { IfOk result (λ marks. MarkNames (map field_seen slots.now) marks.items
         (members_view members.now.entries)) }
-    ensures memory { IfErr result (λ fault. fault ≡ JsonFault.Memory) }
+    ensures known { let body = body_at source.entry.layout.now.schema owner.0 in
+        Gives (λ marks. tt) result (if_known
+        (source.entry.unknown || names_known body (members_view members.now.entries))
+        (type_place owner.0)) }
 {
     let mut marks = vec![in source.alloc; false; slots.len()]?;
     let schema = source.layout.schema();
     for (name, _tree) in members {
-        if let Some(field) = schema.field_by_name(owner, name.as_str()) {
+        let field = schema.field_by_name(owner, name.as_str());
+        if !is_allowed(source.unknown, field) {
+            return Err(JsonFault::UnknownMember(Place { owner, slot: None }));
+        }
+        if let Some(field) = field {
             mark(&mut marks, field.slot as usize);
         }
     }

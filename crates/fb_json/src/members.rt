@@ -22,6 +22,13 @@ fn is_used(field: Option<&FieldInfo>) -> bool
     }
 }
 
+/// Whether a member whose name finds this field may be there. `unknown` lets any name through.
+pub(crate) fn is_allowed(unknown: bool, field: Option<&FieldInfo>) -> bool
+    ensures { result ≡ (unknown || is_used (option_map field_seen (option_copied field.entry))) }
+{
+    unknown || is_used(field)
+}
+
 /// Whether a type has a field of this name that isn't deprecated.
 fn is_known(layout: &Layout, owner: TypeId, name: &str) -> bool
     ensures { result ≡ is_used (field_named (body_at layout.now.schema owner.0) name.now) }

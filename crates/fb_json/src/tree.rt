@@ -12,7 +12,7 @@ ghost use Rattle.fb_json.specs.Meant.{meant, items_meant, vector_meant, object_m
 ghost use Rattle.fb_json.specs.Meant.{look, slots_meant, entry_meant, used_meant, unless_null, as_member};
 ghost use Rattle.fb_json.specs.Meant.{parts_meant, part_meant};
 
-use crate::absent::{is_null, without};
+use crate::absent::{default_of, is_null, without};
 use crate::codes::code_after;
 use crate::faults::{JsonFault, Place};
 use crate::leaves::leaf;
@@ -141,7 +141,6 @@ pub(crate) fn table(
     if left == 0 {
         return Err(JsonFault::TooManyCells(place));
     }
-    known(source, owner, members)?;
     let slots = source.layout.slots_of(owner);
     let marks = marks_of(source, owner, slots, members)?;
     let marks = marks.as_slice();
@@ -176,6 +175,10 @@ fn entries(
             slot: Some(k as u16),
         };
         let marked = is_marked(marks, k);
+        if let Some(number) = default_of(slot, marked) {
+            found.push(Some(number))?;
+            continue;
+        }
         code = code_after(source, members, slot, place, code, marked)?;
         let (entry, rest) = entry(source, members, slot, place, code, marked, levels, left)?;
         found.push(entry)?;

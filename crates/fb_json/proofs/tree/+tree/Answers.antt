@@ -1,4 +1,5 @@
-use Rattle.std.proofs.Common.{rules, ◌≡◌, ◌∙◌, ◌++◌, ◌∷◌, ◌≤◌, [], refl, sym, length, map, option_map, arith}
+use Rattle.std.proofs.Common.{rules, ◌≡◌, ◌∙◌, ◌++◌, ◌∷◌, ◌≤◌, [], Some, Ok, refl, sym, length, map}
+use Rattle.std.proofs.Common.{option_map, arith}
 use Rattle.std.proofs.lemmas.Result.{err_from_is_err_and}
 use Rattle.std.proofs.lemmas.List.{map_push}
 use Rattle.serde_json.specs.View.{members_view}
@@ -48,13 +49,35 @@ entries-returns-in_err-entry t c =
     c.loop-k-test.true c.index-slots-k.is (map (option_map view) c.loop-k.found.items) c.loop-k.code c.args.levels
     c.loop-k.left c.in_ok-code.code _ (sym c.in_ok-code.ensures) h) c.in_err-entry.ensures)
 
+pub entries-loop-k-preserved-in-Some : goal.entries-loop-k-preserved-in-Some
+entries-loop-k-preserved-in-Some t c =
+    let L = c.args.source.layout.now in
+    let f = field_seen c.index-slots-k.result in
+    let place = slot_place c.args.owner.0 c.loop-k.k in
+    let seen = look L c.args.source.unknown (members_view c.args.members.now.entries) in
+    let none = looked_none L c.args.source.unknown (members_view c.args.members.now.entries) f.name
+    (c.requires.marks c.loop-k.k f
+    (slot_at c.args.slots.now c.loop-k.k c.index-slots-k.result c.loop-k-test.true c.index-slots-k.is)
+    (sym c.is_marked-marked.ensures ∙ c.in-Some.ensures.unmarked)) in
+    let entry : entry_meant L seen f place c.loop-k.code c.args.levels c.loop-k.left
+    ≡ Ok (Some (view c.in-Some.number), c.loop-k.left) =
+    entry_none L seen f place c.loop-k.code c.args.levels c.loop-k.left c.in-Some.ensures.used none
+    ∙ c.in-Some.ensures.entry L place c.loop-k.code c.args.levels c.loop-k.left in
+    let e : map (option_map view) c.push.new.self.items
+    ≡ map (option_map view) c.loop-k.found.items ++ Some (view c.in-Some.number) ∷ [] =
+    rw c.in_ok-push.ensures.items (map_push (option_map view) c.loop-k.found.items (Some c.in-Some.number)) in
+    rw e (c.loop-k.invariant ∙ slots_next L seen c.args.owner.0 c.args.slots.now c.loop-k.k c.index-slots-k.result
+    c.loop-k-test.true c.index-slots-k.is (map (option_map view) c.loop-k.found.items) c.loop-k.code c.args.levels
+    c.loop-k.left c.loop-k.code c.loop-k.left (Some (view c.in-Some.number))
+    (c.in-Some.ensures.code L.schema seen place c.loop-k.code) entry)
+
 pub entries-loop-k-preserved : goal.entries-loop-k-preserved
 entries-loop-k-preserved t c =
     let L = c.args.source.layout.now in
     let seen = look L c.args.source.unknown (members_view c.args.members.now.entries) in
-    let e : map (option_map view) c.push.new.self.items ≡ map (option_map view) c.loop-k.found.items ++ option_map view
+    let e : map (option_map view) c.push-in-loop-k.new.self.items ≡ map (option_map view) c.loop-k.found.items ++ option_map view
     c.in_ok-entry.entry ∷ [] =
-    rw c.in_ok-push.ensures.items (map_push _ c.loop-k.found.items c.in_ok-entry.entry) in
+    rw c.in_ok-push-2.ensures.items (map_push _ c.loop-k.found.items c.in_ok-entry.entry) in
     rw e (c.loop-k.invariant ∙ slots_next L seen c.args.owner.0 c.args.slots.now c.loop-k.k c.index-slots-k.result
     c.loop-k-test.true c.index-slots-k.is (map (option_map view) c.loop-k.found.items) c.loop-k.code c.args.levels
     c.loop-k.left c.in_ok-code.code c.in_ok-entry.rest (option_map view c.in_ok-entry.entry)
