@@ -1,15 +1,16 @@
 //! Lays the fields of tables.
-ghost use Rattle.std.specs.Prelude.{ℕ, List, Option, drop, ◌≡◌, ◌≤◌, ◌+◌, length, true, false, max};
+ghost use Rattle.std.specs.Prelude.{ℕ, ℤ, List, Option, Some, drop, ◌≡◌, ◌≤◌, ◌+◌, ◌||◌, length, true, false, max};
+ghost use Rattle.std.specs.Prelude.{option_map};
 ghost use Rattle.fb_layout.specs.Laid.{LaidSchema};
 ghost use Rattle.fb_layout.specs.Widths.{inline_size, inline_align, greatest};
-ghost use Rattle.fb_value.specs.Datum.{Datum};
+ghost use Rattle.fb_value.specs.Datum.{Datum, a_number};
 ghost use Rattle.fb_value.specs.Num.{divides};
 ghost use Rattle.fb_value.specs.Places.{Target, part_place, ref_place};
 ghost use Rattle.fb_value.specs.View.{view};
 ghost use Rattle.fb_build.specs.Made.{LeadsEnd, FieldLeads, FieldsLead, FieldsFront};
 ghost use Rattle.fb_build.specs.Tails.{Grows, LaidInTail};
 ghost use Rattle.fb_build.specs.Fields.{IsSimple, StoredFits, stored_seen, next_code, is_coded};
-ghost use Rattle.fb_build.specs.Fields.{scalar_in, number_in, number_of_datum, is_stored};
+ghost use Rattle.fb_build.specs.Fields.{differs, scalar_in, number_in, number_of_datum, is_stored};
 ghost use Rattle.fb_build.specs.Fields.{StoredEnd, EntriesEnd, AreKnown, stored_align};
 ghost use Rattle.fb_build.specs.Fields.{slots_seen, entries_seen, stored_room};
 ghost use Rattle.fb_build.specs.Fields.{slot_seen, entry_stored, shape_seen};
@@ -68,19 +69,6 @@ pub(crate) fn scalar_base(layout: &Layout, shape: Shape) -> Option<Base>
     }
 }
 
-/// The number of a slot where nothing is stored, if it has one.
-fn if_absent(layout: &Layout, slot: &FieldInfo) -> Option<i128>
-    ensures { result ≡ (slot_seen layout.now slot.now).if_absent }
-{
-    if slot.deprecated || slot.optional || is_code(slot.shape) {
-        return None;
-    }
-    match scalar_base(layout, slot.shape) {
-        Some(_) => Some(slot.default),
-        None => None,
-    }
-}
-
 /// Whether a slot is that of a union's code.
 fn is_code(shape: Shape) -> bool
     ensures { result ≡ is_coded shape }
@@ -127,32 +115,38 @@ pub(crate) fn number_in(value: &Value) -> i128
     }
 }
 
-/// Whether a slot's entry is stored: a number that is the slot's default isn't.
-pub(crate) fn is_stored(
-    layout: &Layout,
-    slot: &FieldInfo,
-    code: Option<u8>,
-    entry: &Option<Value>,
-) -> bool
-    ensures { result ≡ is_stored (slot_seen layout.now slot.now)
-        (entry_stored layout.now slot.now code entry.now) }
+/// Whether a slot's entry is the default of a scalar or enum in use that is neither optional nor required. Of
+/// a slot that is no code, all else that is there is stored.
+fn is_default(slot: &FieldInfo, entry: &Option<Value>) -> bool
+    ensures absent { (L : LaidSchema) (code : Option ℕ) → result ≡ true
+        → is_stored (slot_seen L slot.now) (entry_stored L slot.now code entry.now) ≡ false }
+    ensures stored { (L : LaidSchema) (n : ℤ) → result ≡ false → option_map view entry.now ≡ Some (a_number n)
+        → let f = slot_seen L slot.now in (f.required || differs f.if_absent n) ≡ true }
 {
+    match entry {
+        Some(Value::Number(number)) => {
+            *number == slot.default
+                && !slot.optional
+                && !slot.required
+                && !slot.deprecated
+                && matches!(slot.shape, Shape::One(Kind::Scalar(_) | Kind::Enum(_)))
+        }
+        _ => false,
+    }
+}
+
+/// Whether a slot's entry is stored: a number that is the slot's default isn't.
+pub(crate) fn is_stored(slot: &FieldInfo, code: Option<u8>, entry: &Option<Value>) -> bool
+    ensures { (L : LaidSchema) → result ≡ is_stored (slot_seen L slot.now)
+        (entry_stored L slot.now code entry.now) }
+{
+    if is_default(slot, entry) {
+        return false;
+    }
     if is_code(slot.shape) {
         return code.is_some();
     }
-    match entry {
-        None => false,
-        Some(Value::Number(number)) => {
-            if slot.required && !slot.deprecated {
-                return true;
-            }
-            match if_absent(layout, slot) {
-                Some(absent) => absent != *number,
-                None => true,
-            }
-        }
-        Some(_) => true,
-    }
+    entry.is_some()
 }
 
 /// The bytes that a slot takes in its table.

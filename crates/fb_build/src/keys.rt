@@ -18,7 +18,7 @@ use crate::faults::BuildFault;
 use crate::fields::slot_size;
 use crate::needs::waits;
 use crate::order::{link_at, order_fields};
-use crate::vtables::{index_of, put_vtable};
+use crate::vtables::{put_vtable, recent_with};
 use fb_layout::Layout;
 use fb_schema::{FieldInfo, TypeId};
 use fb_value::Value;
@@ -99,7 +99,7 @@ fn add_vtable(
     let place = end.next_multiple_of(4) + 4;
     let used = put_vtable(scratch, ends, place, place as u16);
     let vtable = &scratch[..4 + 2 * used];
-    if index_of(known, vtable).is_none() {
+    if recent_with(known, vtable).is_none() {
         known.insert(vtable.to_vec(alloc)?)?;
     }
     Ok(())

@@ -66,7 +66,7 @@ fn list_fields(
         let slot = &slots[k];
         let entry = &entries[k];
         let code = code_at(entries, k + 1);
-        if is_stored(layout, slot, code, entry) {
+        if is_stored(slot, code, entry) {
             let log2 = log2_of(slot_align(layout, slot.shape));
             if firsts[log2] == 0 {
                 firsts[log2] = k + 1;

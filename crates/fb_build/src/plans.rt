@@ -72,6 +72,7 @@ impl Plan<'_> {
         let builder = Builder {
             tail: Tail::new(block),
             vtables: known,
+            near: 0,
             places,
             scratch,
         };

@@ -1,8 +1,9 @@
 -- A key that was found.
 use Rattle.std.proofs.Common.{◌≡◌, ℕ, zero, suc, ◌<◌, ◌++◌, ◌||◌, Bool, true, false, Option, None, Some, map, slice_get}
-use Rattle.std.proofs.Common.{get_or, length, List, [], ◌∷◌, refl, ap, sym, ◌∙◌, arith, IfSome}
+use Rattle.std.proofs.Common.{get_or, length, List, [], ◌∷◌, refl, ap, sym, ◌∙◌, arith, IfSome, if◌then◌else◌}
 use Rattle.std.specs.List.{position, list_any, AllByRecursion, IsDistinct}
 use Rattle.std.specs.Str.{bytes_eq}
+use Rattle.std.proofs.lemmas.List.{map-append}
 use Rattle.std.proofs.lemmas.List.Quantifiers.{position-Some}
 use Rattle.std.proofs.lemmas.Slice.Eq.{bytes_eq-Decides}
 use Rattle.fb_build.specs.Vtables.{AreKept, AreDifferent, IsKey}
@@ -63,6 +64,21 @@ none_among f bytes (x ∷ xs) none =
     by_first true e rest = absurd (none 0 (ap (λ y. Some y) (sym ((bytes_eq-Decides bytes (f x)).0 e))))
     by_first false e rest = rw e rest
 
+-- ---- where there is one
+
+key_next : {A : Type 0} (f : A → List ℕ) (bytes : List ℕ) (x : A) (xs : List A) (first rest : Bool)
+    → bytes_eq bytes (f x) ≡ first → (rest ≡ true → IsKey (map f xs) bytes) → (first || rest) ≡ true
+    → IsKey (map f (x ∷ xs)) bytes
+key_next f bytes x xs true rest e later some = (zero, ap (λ y. Some y) (sym ((bytes_eq-Decides bytes (f x)).0 e)))
+key_next f bytes x xs false rest e later some = let key = later some in (suc key.0, key.1)
+
+pub any_key : {A : Type 0} (f : A → List ℕ) (bytes : List ℕ) (xs : List A)
+    → list_any (λ k. bytes_eq bytes (f k)) xs ≡ true → IsKey (map f xs) bytes
+any_key f bytes [] some = cc
+any_key f bytes (x ∷ xs) some =
+    key_next f bytes x xs (bytes_eq bytes (f x)) (list_any (λ k. bytes_eq bytes (f k)) xs) refl (any_key f bytes xs)
+    some
+
 -- ---- distinct keys
 
 no_later : {A : Type 0} (f : A → List ℕ) (x : A) (bytes : List ℕ) (xs : List A) → f x ≡ bytes
@@ -99,3 +115,15 @@ pub key_under : (known : List (List ℕ)) (i : ℕ) (vt : List ℕ) → slice_ge
 key_under [] i vt at = cc
 key_under (x ∷ xs) zero vt at = omega arith
 key_under (x ∷ xs) (suc i) vt at = omega (arith, key_under xs i vt at)
+
+-- after a key was inserted, which leaves the keys alone where they have it
+
+pub inserted_key : {A : Type 0} (f : A → List ℕ) (old : List A) (x : A) (has : Bool)
+    → list_any (λ k. bytes_eq (f x) (f k)) old ≡ has → IsKey (map f (if has then old else old ++ x ∷ [])) (f x)
+inserted_key f old x true has = any_key f (f x) old has
+inserted_key f old x false has = rw map-append (key_more (map f old) (f x))
+
+pub inserted_kept : {A : Type 0} (f : A → List ℕ) (old : List A) (x : A) (has : Bool)
+    → AreKept (map f old) (map f (if has then old else old ++ x ∷ []))
+inserted_kept f old x true = λ i vt at. at
+inserted_kept f old x false = rw map-append (kept_more (map f old) (f x))

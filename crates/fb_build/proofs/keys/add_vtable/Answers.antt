@@ -1,15 +1,13 @@
-use Rattle.std.proofs.Common.{ℕ, ◌≡◌, ◌≤◌, ◌+◌, ◌*◌, ◌++◌, ◌∙◌, Bool, true, false, not, if◌then◌else◌, List, [], ◌∷◌}
-use Rattle.std.proofs.Common.{Option, None, Some, IfSome, length, map, take, slice_get, slice_index, bytes_eq, refl}
-use Rattle.std.proofs.Common.{sym, ap, arith}
-use Rattle.std.specs.List.{list_any}
+use Rattle.std.proofs.Common.{ℕ, ◌≡◌, ◌≤◌, ◌+◌, ◌*◌, ◌∙◌, true, not, List}
+use Rattle.std.proofs.Common.{Option, None, Some, IfSome, length, map, take, slice_get, slice_index, refl}
+use Rattle.std.proofs.Common.{sym, ap, subst, arith}
 use Rattle.std.specs.Option.{is_some}
-use Rattle.std.proofs.lemmas.List.{map-append}
 use Rattle.fb_layout.specs.Laid.{Slot, slots_of}
 use Rattle.fb_value.specs.Datum.{Datum}
 use Rattle.fb_value.specs.View.{entries_view}
 use Rattle.fb_build.specs.FieldEnds.{field_ends, table_size, table_vtable}
 use Rattle.fb_build.specs.Vtables.{IsKey, vtable_of}
-use Rattle.fb_build.proofs.vtables.KeyHasTheBytes.{key_more, kept_more, none_among}
+use Rattle.fb_build.proofs.vtables.KeyHasTheBytes.{inserted_key, inserted_kept}
 use Rattle.fb_build.proofs.vtables.VtableHasTheDefinedBytes.{planned_is_of, ends_small, offset_low}
 use Rattle.fb_build.proofs.vtables.EachVtableIsAKey.{listed}
 use Rattle.fb_layout.proofs.slots.NarrowTablesAreKnown.{ceil-is}
@@ -167,10 +165,6 @@ put_vtable-used-requires-clause-fits c k =
     offset_low (c.next_multiple_of-place.result + 4) (slice_index c.place_fields-end.new.ends k)
     (omega (arith, c.next_multiple_of-place.ensures.value, ceil-is c.place_fields-end.result, size, small))
 
-none_is : (o : Option ℕ) → is_some o ≡ false → o ≡ None
-none_is None is = refl
-none_is (Some n) is = cc
-
 found_at : (known : List (List ℕ)) (vt : List ℕ) (o : Option ℕ) → is_some o ≡ true
     → IfSome o (λ i. slice_get known i ≡ Some vt) → IsKey known vt
 found_at known vt None out there = cc
@@ -206,59 +200,14 @@ returns-in_ok-insert-clause-key c =
     let value = c.in_ok-to_vec.field-0 in
     let bytes : value.items ≡ vtable_of L c.args.table.0 (entries_view es) =
     c.in_ok-to_vec.ensures.items_if_clones_equal (λ x y h. h) ∙ is in
-    let none = none_is c.index_of.result (c.is_none.ensures ∙ ap not c.if-is_none.true) in
-    let absent : list_any (λ k. bytes_eq value.items k.items) old ≡ false =
-    none_among (λ k. k.items) value.items old
-    (λ i there. c.index_of.ensures.absent none (i, there ∙ ap (λ (b : List ℕ). Some b) (bytes ∙ sym is))) in
-    let keys : c.insert.new.self.keys ≡ old ++ value ∷ [] =
-    c.in_ok-insert.ensures.keys ∙ ap (λ (b : Bool). if b then old else old ++ value ∷ []) absent in
-    let seen_keys : map (λ k. k.items) c.insert.new.self.keys
-    ≡ map (λ k. k.items) old ++ vtable_of L c.args.table.0 (entries_view es) ∷ [] =
-    ap (map (λ k. k.items)) keys ∙ (map-append (λ k. k.items) old (value ∷ [])
-    ∙ ap (λ (b : List ℕ). map (λ k. k.items) old ++ b ∷ []) bytes) in
-    rw seen_keys (key_more (map (λ k. k.items) old) (vtable_of L c.args.table.0 (entries_view es)))
+    let key : IsKey (map (λ k. k.items) c.insert.new.self.keys) value.items =
+    rw c.in_ok-insert.ensures.keys (inserted_key (λ k. k.items) old value _ refl) in
+    subst (λ (b : List ℕ). IsKey (map (λ k. k.items) c.insert.new.self.keys) b) bytes key
 
 pub returns-in_ok-insert-clause-kept : goal.returns-in_ok-insert-clause-kept
 returns-in_ok-insert-clause-kept c =
-    let L = c.args.layout.now in
-    let es = c.args.entries.now in
-    let made = c.schema-schema.ensures.made in
-    let known = known_of L c.args.table.0 es made c.requires.fits c.requires.whole in
-    let seen = slots_are L c.args.table.0 c.slots_of-slots.result.now c.slots_of-slots.ensures.slots in
-    let fs = slots_of L c.args.table.0 in
-    let xs = stored_in fs (entries_seen es) in
-    let ends : c.place_fields-end.new.ends ≡ field_ends L fs xs =
-    c.place_fields-end.ensures.ends ∙ ap (λ (gs : List Slot). field_ends L gs (stored_in gs (entries_seen es)))
-    seen in
-    let size : c.place_fields-end.result ≡ fields_size L fs xs =
-    c.place_fields-end.ensures.size ∙ ap (λ (gs : List Slot). fields_size L gs (stored_in gs (entries_seen es)))
-    seen in
-    let small : fields_size L fs xs ≤ 65528 =
-    fields_narrow L c.args.table.0 xs known.known (made.tables c.args.table.0).wide in
-    let place : c.next_multiple_of-place.result + 4 ≡ table_size L fs xs =
-    omega (arith, c.next_multiple_of-place.ensures.value, ceil-is c.place_fields-end.result, size) in
-    let whole : vtable_of L c.args.table.0 (entries_view es) ≡ table_vtable L fs xs =
-    ap (λ (ys : List (Option Datum)). table_vtable L fs (stored_in fs ys)) (listed (entries_seen es)) in
-    let put = c.put_vtable-used.ensures in
-    let is : take (4 + 2 * c.put_vtable-used.result) c.put_vtable-used.new.scratch
-    ≡ vtable_of L c.args.table.0 (entries_view es) =
-    put.there ∙ planned_is_of L fs xs c.place_fields-end.new.ends (c.next_multiple_of-place.result + 4)
-    c.put_vtable-used.result ends place put.within put.rest put.last ∙ sym whole in
-    let old = c.args.known.now.keys in
-    let value = c.in_ok-to_vec.field-0 in
-    let bytes : value.items ≡ vtable_of L c.args.table.0 (entries_view es) =
-    c.in_ok-to_vec.ensures.items_if_clones_equal (λ x y h. h) ∙ is in
-    let none = none_is c.index_of.result (c.is_none.ensures ∙ ap not c.if-is_none.true) in
-    let absent : list_any (λ k. bytes_eq value.items k.items) old ≡ false =
-    none_among (λ k. k.items) value.items old
-    (λ i there. c.index_of.ensures.absent none (i, there ∙ ap (λ (b : List ℕ). Some b) (bytes ∙ sym is))) in
-    let keys : c.insert.new.self.keys ≡ old ++ value ∷ [] =
-    c.in_ok-insert.ensures.keys ∙ ap (λ (b : Bool). if b then old else old ++ value ∷ []) absent in
-    let seen_keys : map (λ k. k.items) c.insert.new.self.keys
-    ≡ map (λ k. k.items) old ++ vtable_of L c.args.table.0 (entries_view es) ∷ [] =
-    ap (map (λ k. k.items)) keys ∙ (map-append (λ k. k.items) old (value ∷ [])
-    ∙ ap (λ (b : List ℕ). map (λ k. k.items) old ++ b ∷ []) bytes) in
-    rw seen_keys (kept_more (map (λ k. k.items) old) (vtable_of L c.args.table.0 (entries_view es)))
+    rw c.in_ok-insert.ensures.keys
+    (inserted_kept (λ k. k.items) c.args.known.now.keys c.in_ok-to_vec.field-0 _)
 
 pub returns-else-is_none-clause-key : goal.returns-else-is_none-clause-key
 returns-else-is_none-clause-key c =
@@ -287,5 +236,5 @@ returns-else-is_none-clause-key c =
     put.there ∙ planned_is_of L fs xs c.place_fields-end.new.ends (c.next_multiple_of-place.result + 4)
     c.put_vtable-used.result ends place put.within put.rest put.last ∙ sym whole in
     rw (← is) (found_at (map (λ k. k.items) c.args.known.now.keys)
-    (take (4 + 2 * c.put_vtable-used.result) c.put_vtable-used.new.scratch) c.index_of.result (c.is_none.ensures
-    ∙ ap not c.if-is_none.false) c.index_of.ensures.found)
+    (take (4 + 2 * c.put_vtable-used.result) c.put_vtable-used.new.scratch) c.recent_with.result (c.is_none.ensures
+    ∙ ap not c.if-is_none.false) c.recent_with.ensures.found)

@@ -43,7 +43,7 @@ loop-k-preserved c =
             entry = x;
             is = fk;
             has = xk;
-            stored = sym c.is_stored.ensures ∙ w.if-is_stored.true;
+            stored = sym (c.is_stored.ensures L) ∙ w.if-is_stored.true;
             at = sym w.slot_align.ensures ∙ sym w.log2_of-log2.ensures.power;
           } in
           elim w.if-firsts-log2-eq0.branch [
@@ -72,7 +72,7 @@ loop-k-preserved c =
         all_firsts = c.if-is_stored.array_long;
         all_lasts = c.if-is_stored.array_long2;
         lists = rw (w.links-is, w.firsts-is, w.lasts-is) (λ d low. list_passed L (2 ^ d) _ _ k fs xs _
-            (λ at. unstored L (2 ^ d) k fs xs f x fk xk (sym c.is_stored.ensures ∙ w.if-is_stored.false) at)
+            (λ at. unstored L (2 ^ d) k fs xs f x fk xk (sym (c.is_stored.ensures L) ∙ w.if-is_stored.false) at)
             (inv.lists d low));
       }
     ]
