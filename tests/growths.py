@@ -4,7 +4,7 @@ calls take on what is nested deep.
 
 usage: tests/growths.py PROGRAM
 
-PROGRAM is built of crates/growths, which makes one call on one example and then the same call again; tests/refuse.c,
+PROGRAM is built of crates/hostile, which makes one call on one example and then the same call again; tests/refuse.c,
 preloaded, refuses growths of the first. The C compiler has to be there (cc, or what CC names). The last line is
 'N passed, M failed'.
 """
@@ -31,6 +31,8 @@ CALLS = {
     "value_of": {80},
     "text_of": {84},
     "carry": {0},
+    "encode": {114, 80, 41},
+    "decode": {84},
     "to_binary": SCHEMA | {114, 80, 41},
     "to_json": SCHEMA | {84},
     "print_to": SCHEMA,

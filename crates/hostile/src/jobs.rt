@@ -6,8 +6,9 @@ use clap::Error;
 use clap::error::ErrorKind;
 use flatc_cli::{Job, job_of};
 use flatc_tool::{
-    Heard, JsonFault, Noted, Place, ToolFault, TypeId, check, conform_texts, fault_line, print_to,
-    report, take_all, to_binary, to_json,
+    DecodeOptions, EncodeOptions, Heard, JsonFault, Noted, Place, ToolFault, TypeId, check,
+    conform_texts, decode, encode, fault_line, print_to, report, schema_of, take_all, to_binary,
+    to_json,
 };
 use std::alloc::{AllocError, Global};
 
@@ -74,6 +75,32 @@ fn of_line(answer: Result<String, AllocError>) -> Outcome {
         Ok(line) => Outcome::of(line.as_str() == LINE),
         Err(_) => Outcome::Short(0),
     }
+}
+
+fn try_encode(rt: &HostRuntime, example: &Example) -> Both {
+    let Ok(layout) = schema_of(rt.alloc(), example.schema) else {
+        return (Outcome::Wrong, Outcome::Wrong);
+    };
+    let options = EncodeOptions::new();
+    arm(rt);
+    let first = encode(rt.alloc(), &layout, example.json, &options);
+    disarm(rt);
+    let first = of_bytes(example.bytes, first);
+    let again = encode(rt.alloc(), &layout, example.json, &options);
+    (first, of_bytes(example.bytes, again))
+}
+
+fn try_decode(rt: &HostRuntime, example: &Example) -> Both {
+    let Ok(layout) = schema_of(rt.alloc(), example.schema) else {
+        return (Outcome::Wrong, Outcome::Wrong);
+    };
+    let options = DecodeOptions::new();
+    arm(rt);
+    let first = decode(rt.alloc(), &layout, example.bytes, &options);
+    disarm(rt);
+    let first = of_text(example.text, first);
+    let again = decode(rt.alloc(), &layout, example.bytes, &options);
+    (first, of_text(example.text, again))
 }
 
 fn try_binary(rt: &HostRuntime, example: &Example) -> Both {
@@ -197,6 +224,8 @@ fn try_report(rt: &HostRuntime) -> Both {
 /// What comes of a call of the tool; None where it is none of these.
 pub(crate) fn try_job(rt: &HostRuntime, call: &str, example: &Example) -> Option<Both> {
     match call {
+        "encode" => Some(try_encode(rt, example)),
+        "decode" => Some(try_decode(rt, example)),
         "to_binary" => Some(try_binary(rt, example)),
         "to_json" => Some(try_json(rt, example)),
         "print_to" => Some(try_print(rt, example)),

@@ -37,6 +37,8 @@ const CALLS: &[&str] = &[
     "value_of",
     "text_of",
     "carry",
+    "encode",
+    "decode",
     "to_binary",
     "to_json",
     "print_to",

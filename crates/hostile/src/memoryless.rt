@@ -14,7 +14,7 @@ use fb_read::{Entries, View, verify};
 use fb_schema::TypeId;
 use fb_text::{Noted, write_text};
 use fb_value::{Limits, Value, cells, depth, fits, room, same, whole};
-use flatc_tool::schema_of;
+use flatc_tool::{DecodeOptions, decode_to, schema_of};
 
 const UNTRIED: Both = (Outcome::Wrong, Outcome::Wrong);
 
@@ -55,6 +55,13 @@ fn is_read(example: &Example, layout: &Layout) -> bool {
     is_written && is_text && are_parts_seen(view) && is_absent(view)
 }
 
+/// Whether the text is written by the call that verifies and prints at once.
+fn is_decoded(example: &Example, layout: &Layout) -> bool {
+    let mut out = Noted::over(Matching::one(example.text));
+    let answer = decode_to(layout, example.bytes, &DecodeOptions::new(), &mut out);
+    answer.is_ok() && !out.failed() && out.into_inner().is_first()
+}
+
 fn is_counted(layout: &Layout, value: &Value) -> bool
     requires fits { FitsRoot layout.now (view value.now) }
     requires nests { nesting (view value.now) ≤ 300 }
@@ -92,7 +99,8 @@ fn is_all_right(
     let bytes = planned.finish();
     let is_laid = bytes.as_slice() == example.bytes;
     let conforms = conform(layout, newer).is_ok();
-    let is_seen = is_read(example, layout) && is_found(example, layout);
+    let is_printed = is_read(example, layout) && is_decoded(example, layout);
+    let is_seen = is_printed && is_found(example, layout);
     is_laid && conforms && is_seen && is_counted(layout, value)
 }
 
