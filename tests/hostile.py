@@ -86,7 +86,9 @@ def refused_growths(tests, library, name, words, out, made):
                 good = is_short_of_memory(done, out) and not os.listdir(name)
                 tests.tell(f"{name} with growth {wish} refused", good, told_of(done))
         if ended == 2:
-            tests.tell(f"the growths of {name}", n == total + 1, f"{n - 1} refused, {total} counted")
+            # the file beside OUT is named by the process's number, and one more digit may be one more growth
+            near = abs(n - 1 - total) <= (1 if makes else 0)
+            tests.tell(f"the growths of {name}", near, f"{n - 1} refused, {total} counted")
             break
     tests.tell(f"{name} goes on where memory is only asked for ahead", absorbed <= ASKED_AHEAD, f"{absorbed}")
     return total
