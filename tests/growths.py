@@ -39,7 +39,7 @@ CALLS = {
     "check": SCHEMA,
     "conform_texts": SCHEMA,
     "take_all": {114},
-    "job_of": {0},
+    "request_of": {0},
     "fault_line": {0},
     "report": {114},
 }

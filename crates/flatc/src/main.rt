@@ -1,26 +1,26 @@
 //! The command `flatc`: files and streams round the calls over bytes.
 #![tactic(auto)]
 
+mod explained;
 mod outputs;
+mod texts;
 
+use crate::explained::{explain_number, explain_refusal, warn};
 use crate::outputs::write_out;
+use crate::texts::Texts;
 use clap::Error;
 use clap::error::ErrorKind;
-use flatc_cli::{Job, job_of};
+use flatc_cli::{Job, Request, request_of};
 use flatc_tool::{
-    Heard, Limits, Noted, ToolFault, check, conform_texts, print_to, report, take_all, to_binary,
-    to_json,
+    Limits, Noted, ToolFault, check, conform_texts, print_to, report, to_binary, to_json,
 };
 use std::alloc::Global;
 use std::process::ExitCode;
-use std::{env, fs, io};
+use std::{env, io};
 
 const SCHEMA: &[u8] = b"table T { a:int; } root_type T;";
 
 const JSON: &[u8] = b"{\"a\":7}";
-
-// The longest file that is read, in bytes.
-const LONGEST: u32 = 2_147_483_647;
 
 const USAGE: u8 = 2;
 
@@ -32,7 +32,7 @@ Usage: flatc <COMMAND>
 For more information, try '--help'.
 ";
 
-fn limits() -> Limits {
+pub(crate) fn limits() -> Limits {
     let Some(limits) = Limits::new(64, 100_000_000) else {
         unreachable!()
     };
@@ -46,32 +46,27 @@ fn example(alloc: Global) -> Result<String, ToolFault> {
     to_json(alloc, SCHEMA, bytes.as_slice(), limits(), false, false)
 }
 
-// Reading takes a large buffer of its stack, which is to be free again when the job begins.
-#[inline(never)]
-fn file_of(rt: &HostRuntime, path: &str) -> Result<Vec<u8>, ToolFault> {
-    let Ok(file) = fs::open(rt, path) else {
-        return Err(ToolFault::FileRead);
-    };
-    take_all(rt.alloc(), &mut Heard::over(file), LONGEST)
-}
-
-fn write_buffer(
+fn write_buffer<'j>(
     rt: &HostRuntime,
-    schema: &str,
-    json: &str,
-    out: &str,
+    texts: &mut Texts<'j>,
+    paths: [&'j str; 3],
     unknown: bool,
 ) -> Result<(), ToolFault> {
-    let schema_text = file_of(rt, schema)?;
-    let json_text = file_of(rt, json)?;
+    let [schema, json, out] = paths;
+    texts.read_schema(rt, schema)?;
+    texts.read_input(rt, json)?;
     let bytes = to_binary(
         rt.alloc(),
-        schema_text.as_slice(),
-        json_text.as_slice(),
+        texts.schema.as_slice(),
+        texts.input.as_slice(),
         limits(),
         unknown,
     )?;
-    write_out(rt, out, bytes.as_slice(), [schema, json])
+    match write_out(rt, out, bytes.as_slice(), [schema, json]) {
+        Ok(()) => Ok(()),
+        Err(error) if error.kind() == io::ErrorKind::OutOfMemory => Err(ToolFault::Memory),
+        Err(error) => Err(texts.fail(out, error, ToolFault::FileWrite)),
+    }
 }
 
 // The page that is written at once is as large, so no other job has it in its frame.
@@ -87,48 +82,51 @@ fn print_bytes(
     print_to(rt.alloc(), schema, bytes, limits(), raw, defaults, &mut out)
 }
 
-fn print_buffer(
+fn print_buffer<'j>(
     rt: &HostRuntime,
-    schema: &str,
-    bin: &str,
+    texts: &mut Texts<'j>,
+    paths: [&'j str; 2],
     raw: bool,
     defaults: bool,
 ) -> Result<(), ToolFault> {
-    let schema = file_of(rt, schema)?;
-    let bytes = file_of(rt, bin)?;
-    print_bytes(rt, schema.as_slice(), bytes.as_slice(), raw, defaults)
+    let [schema, bin] = paths;
+    texts.read_schema(rt, schema)?;
+    texts.read_input(rt, bin)?;
+    print_bytes(rt, texts.schema.as_slice(), texts.input.as_slice(), raw, defaults)
 }
 
-fn check_files(
+fn check_files<'j>(
     rt: &HostRuntime,
-    schema: &str,
-    bin: Option<&str>,
+    texts: &mut Texts<'j>,
+    schema: &'j str,
+    bin: Option<&'j str>,
     raw: bool,
 ) -> Result<(), ToolFault> {
-    let schema = file_of(rt, schema)?;
-    match bin {
-        None => check(rt.alloc(), schema.as_slice(), None, limits(), raw),
-        Some(bin) => {
-            let bytes = file_of(rt, bin)?;
-            check(
-                rt.alloc(),
-                schema.as_slice(),
-                Some(bytes.as_slice()),
-                limits(),
-                raw,
-            )
-        }
+    texts.read_schema(rt, schema)?;
+    if let Some(bin) = bin {
+        texts.read_input(rt, bin)?;
     }
+    let bytes = bin.map(|_| texts.input.as_slice());
+    check(rt.alloc(), texts.schema.as_slice(), bytes, limits(), raw)
 }
 
-fn conform_files(rt: &HostRuntime, old: &str, new: &str) -> Result<(), ToolFault> {
-    let old = file_of(rt, old)?;
-    let new = file_of(rt, new)?;
-    conform_texts(rt.alloc(), old.as_slice(), new.as_slice())
+fn conform_files<'j>(
+    rt: &HostRuntime,
+    texts: &mut Texts<'j>,
+    old: &'j str,
+    new: &'j str,
+) -> Result<(), ToolFault> {
+    texts.read_schema(rt, old)?;
+    texts.read_input(rt, new)?;
+    conform_texts(rt.alloc(), texts.schema.as_slice(), texts.input.as_slice())
 }
 
 /// Does a job, and returns what is printed then.
-fn do_job(rt: &HostRuntime, job: &Job) -> Result<&'static str, ToolFault> {
+fn do_job<'j>(
+    rt: &HostRuntime,
+    job: &'j Job,
+    texts: &mut Texts<'j>,
+) -> Result<&'static str, ToolFault> {
     match job {
         Job::Binary {
             schema,
@@ -136,7 +134,7 @@ fn do_job(rt: &HostRuntime, job: &Job) -> Result<&'static str, ToolFault> {
             out,
             unknown,
         } => {
-            write_buffer(rt, schema.as_str(), json.as_str(), out.as_str(), *unknown)?;
+            write_buffer(rt, texts, [schema.as_str(), json.as_str(), out.as_str()], *unknown)?;
             Ok("")
         }
         Job::Json {
@@ -145,7 +143,7 @@ fn do_job(rt: &HostRuntime, job: &Job) -> Result<&'static str, ToolFault> {
             raw,
             defaults,
         } => {
-            print_buffer(rt, schema.as_str(), bin.as_str(), *raw, *defaults)?;
+            print_buffer(rt, texts, [schema.as_str(), bin.as_str()], *raw, *defaults)?;
             Ok("")
         }
         Job::Check { schema, bin, raw } => {
@@ -153,11 +151,11 @@ fn do_job(rt: &HostRuntime, job: &Job) -> Result<&'static str, ToolFault> {
                 None => None,
                 Some(bin) => Some(bin.as_str()),
             };
-            check_files(rt, schema.as_str(), bin, *raw)?;
+            check_files(rt, texts, schema.as_str(), bin, *raw)?;
             Ok("ok\n")
         }
         Job::Conform { old, new } => {
-            conform_files(rt, old.as_str(), new.as_str())?;
+            conform_files(rt, texts, old.as_str(), new.as_str())?;
             Ok("conforms\n")
         }
     }
@@ -195,13 +193,26 @@ fn words_of(rt: &HostRuntime) -> io::Result<Vec<String>> {
     Ok(env::args(rt)?.skip(1).collect(rt.alloc())?)
 }
 
+/// Does a job, reports what comes of it, and returns the status. A refusal is explained if that is
+/// asked for.
+fn do_and_report(rt: &HostRuntime, job: &Job, explained: bool) -> u8 {
+    let mut texts = Texts::new(rt);
+    let answer = do_job(rt, job, &mut texts);
+    let status = report(rt.alloc(), answer, &mut rt.stdout(), &mut rt.stderr());
+    if explained {
+        match answer {
+            Ok(_) => warn(rt, job, &texts),
+            Err(fault) => explain_refusal(rt, job, &texts, fault),
+        }
+    }
+    status
+}
+
 /// Does what the words ask for, and returns the status.
 fn run(rt: &HostRuntime, words: &[String]) -> u8 {
-    match job_of(rt.alloc(), words) {
-        Ok(job) => {
-            let answer = do_job(rt, &job);
-            report(rt.alloc(), answer, &mut rt.stdout(), &mut rt.stderr())
-        }
+    match request_of(rt.alloc(), words) {
+        Ok(Request::Do(job, explained)) => do_and_report(rt, &job, explained),
+        Ok(Request::Explain(number)) => explain_number(rt, number.as_str()),
         Err(error) => refuse(rt, &error),
     }
 }

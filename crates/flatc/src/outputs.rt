@@ -1,5 +1,4 @@
 //! Where a buffer is written to: never over an input, and never half.
-use flatc_tool::ToolFault;
 use std::fs::{self, File, Metadata, OpenOptions, Permissions};
 use std::io::{self, ErrorKind, Write};
 use std::os::unix::fs::{MetadataExt, OpenOptionsExt, PermissionsExt, chown};
@@ -18,7 +17,7 @@ const PERMISSION_BITS: u32 = 0o777;
 const NAMES: u32 = 1000;
 
 fn refused() -> io::Error {
-    io::Error::from(ErrorKind::PermissionDenied)
+    io::Error::other("it is one of the inputs, or it is there and named .json or .fbs")
 }
 
 /// Whether a path leads to a file.
@@ -52,7 +51,7 @@ fn is_guarded(rt: &HostRuntime, out: &str, inputs: [&str; 2]) -> bool {
 fn create_beside(rt: &HostRuntime, out: &str, mode: u32) -> io::Result<(PathBuf, File)> {
     let id = process::id(rt.process());
     for n in 0..NAMES {
-        let name = format!(in rt.alloc(); ".flatc-{id}-{n}.tmp")?;
+        let name = format!(in rt.alloc(); ".flatc-{id:010}-{n}.tmp")?;
         let path = Path::new(out).with_file_name(rt.alloc(), name.as_str())?;
         let mut options = OpenOptions::new();
         options.write(true).create_new(true).mode(mode);
@@ -96,7 +95,17 @@ fn replace(rt: &HostRuntime, out: &str, bytes: &[u8], old: Option<&Metadata>) ->
     done
 }
 
-fn write(rt: &HostRuntime, out: &str, bytes: &[u8], inputs: [&str; 2]) -> io::Result<()> {
+/// Writes bytes to `out`.
+///
+/// A regular file is replaced whole or left as it was; what else is there, as a device, a pipe or a
+/// link, is written directly. It is an error where that fails, where `out` is one of the inputs, and
+/// where it is there and its name ends in `.json` or `.fbs`.
+pub(crate) fn write_out(
+    rt: &HostRuntime,
+    out: &str,
+    bytes: &[u8],
+    inputs: [&str; 2],
+) -> io::Result<()> {
     let old = match fs::symlink_metadata(rt, out) {
         Ok(old) => old,
         Err(error) if error.kind() == ErrorKind::NotFound => return replace(rt, out, bytes, None),
@@ -111,22 +120,4 @@ fn write(rt: &HostRuntime, out: &str, bytes: &[u8], inputs: [&str; 2]) -> io::Re
     // A file that may not be written isn't replaced either.
     let _writable = OpenOptions::new().write(true).open(rt, out)?;
     replace(rt, out, bytes, Some(&old))
-}
-
-/// Writes bytes to `out`.
-///
-/// A regular file is replaced whole or left as it was; what else is there, as a device, a pipe or a
-/// link, is written directly. `FileWrite` is returned where that fails, where `out` is one of the
-/// inputs, and where it is there and its name ends in `.json` or `.fbs`.
-pub(crate) fn write_out(
-    rt: &HostRuntime,
-    out: &str,
-    bytes: &[u8],
-    inputs: [&str; 2],
-) -> Result<(), ToolFault> {
-    match write(rt, out, bytes, inputs) {
-        Ok(()) => Ok(()),
-        Err(error) if error.kind() == ErrorKind::OutOfMemory => Err(ToolFault::Memory),
-        Err(_) => Err(ToolFault::FileWrite),
-    }
 }

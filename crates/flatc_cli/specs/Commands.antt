@@ -19,16 +19,19 @@ abbrev pub with_flag : App → Text → App
 with_flag a name = with_rule a (flag_rule name)
 
 abbrev pub binary_app : App
-binary_app = with_path (with_path (with_path (with_flag (new_app (codes "binary")) (codes "unknown-json")) (codes "SCHEMA")) (codes "JSON")) (codes "OUT")
+binary_app = with_path (with_path (with_path (with_flag (with_flag (new_app (codes "binary")) (codes "unknown-json")) (codes "explain")) (codes "SCHEMA")) (codes "JSON")) (codes "OUT")
 
 abbrev pub json_app : App
-json_app = with_path (with_path (with_flag (with_flag (new_app (codes "json")) (codes "raw-binary")) (codes "defaults-json")) (codes "SCHEMA")) (codes "BIN")
+json_app = with_path (with_path (with_flag (with_flag (with_flag (new_app (codes "json")) (codes "raw-binary")) (codes "defaults-json")) (codes "explain")) (codes "SCHEMA")) (codes "BIN")
 
 abbrev pub check_app : App
-check_app = with_rule (with_path (with_flag (new_app (codes "check")) (codes "raw-binary")) (codes "SCHEMA")) (path_rule (codes "BIN") false)
+check_app = with_rule (with_path (with_flag (with_flag (new_app (codes "check")) (codes "raw-binary")) (codes "explain")) (codes "SCHEMA")) (path_rule (codes "BIN") false)
 
 abbrev pub conform_app : App
-conform_app = with_path (with_path (new_app (codes "conform")) (codes "OLD")) (codes "NEW")
+conform_app = with_path (with_path (with_flag (new_app (codes "conform")) (codes "explain")) (codes "OLD")) (codes "NEW")
+
+abbrev pub explain_app : App
+explain_app = with_path (new_app (codes "explain")) (codes "NUMBER")
 
 -- words without the program's name, the first of which names a job, and `--version`
 abbrev pub plain_app : App
@@ -37,7 +40,7 @@ plain_app = record (new_app (codes "flatc")) {
 }
 
 abbrev pub flatc_app : App
-flatc_app = with_subcommand (with_subcommand (with_subcommand (with_subcommand plain_app binary_app.top) json_app.top) check_app.top) conform_app.top
+flatc_app = with_subcommand (with_subcommand (with_subcommand (with_subcommand (with_subcommand plain_app binary_app.top) json_app.top) check_app.top) conform_app.top) explain_app.top
 
 -- a command that clap sees as this one, none of whose arguments is global
 abbrev pub HasApp : App → Command → Type 0

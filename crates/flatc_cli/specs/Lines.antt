@@ -1,4 +1,4 @@
--- Which job the matches of a command line are.
+-- What the matches of a command line ask for.
 use Rattle.std.specs.Prelude.{◌≡◌, Bool, false, List, Option, Some, None, codes, String, string_bytes, option_map}
 use Rattle.std.specs.Option.{option_map_or}
 use Rattle.std.specs.Str.{bytes_eq}
@@ -6,6 +6,8 @@ use Rattle.std.specs.declared.alloc.Global.{Global}
 use Rattle.clap.specs.Words.{Row, Text, first_of}
 use Rattle.flatc_cli.specs.declared.job.Job.{Job}
 use Rattle.flatc_cli.specs.declared.job.Job.TheVariants.{Binary, Json, Check, Conform}
+use Rattle.flatc_cli.specs.declared.job.Request.{Request}
+use Rattle.flatc_cli.specs.declared.job.Request.TheVariants.{Do, Explain}
 
 -- the flag was written
 abbrev pub is_set : Text → List Row → Bool
@@ -28,7 +30,12 @@ IsJob name rows (Check schema bin raw) = (name ≡ codes "check")
 IsJob name rows (Conform old new) = (name ≡ codes "conform")
     × IsPath (codes "OLD") rows old × IsPath (codes "NEW") rows new
 
--- the job of a subcommand and its matches
-abbrev pub IsJobOf : Option (Text × List Row) → Job → Type 0
-IsJobOf None job = ⊥
-IsJobOf (Some p) job = IsJob p.0 p.1 job
+-- a job and whether its refusal is explained, or the number of a refusal
+abbrev pub IsRequest : Text → List Row → Request → Type 0
+IsRequest name rows (Do job explained) = IsJob name rows job × (explained ≡ is_set (codes "explain") rows)
+IsRequest name rows (Explain number) = (name ≡ codes "explain") × IsPath (codes "NUMBER") rows number
+
+-- what a subcommand and its matches ask for
+abbrev pub IsRequestOf : Option (Text × List Row) → Request → Type 0
+IsRequestOf None request = ⊥
+IsRequestOf (Some p) request = IsRequest p.0 p.1 request

@@ -2,7 +2,7 @@
 ghost use Rattle.std.specs.Prelude.{◌≡◌, IfOk, true, false, codes};
 ghost use Rattle.clap.specs.Words.{App, rule_of, with_subcommand};
 ghost use Rattle.flatc_cli.specs.Commands.{path_rule, flag_rule, binary_app, json_app, check_app};
-ghost use Rattle.flatc_cli.specs.Commands.{conform_app, plain_app, flatc_app, HasApp};
+ghost use Rattle.flatc_cli.specs.Commands.{conform_app, explain_app, plain_app, flatc_app, HasApp};
 
 use clap::{Arg, ArgAction, Command};
 use std::alloc::{AllocError, Global};
@@ -76,11 +76,26 @@ fn defaults_flag<'a>(alloc: Global) -> Arg<'a>
     flag(alloc, "defaults-json", "Include fields with default values")
 }
 
+fn explain_flag<'a>(alloc: Global) -> Arg<'a>
+    ensures rule { rule_of result ≡ flag_rule (codes "explain") }
+    ensures local { result.global ≡ false }
+{
+    flag(alloc, "explain", "Explain a refusal in further lines")
+}
+
+fn number_word<'a>(alloc: Global) -> Arg<'a>
+    ensures rule { rule_of result ≡ path_rule (codes "NUMBER") true }
+    ensures local { result.global ≡ false }
+{
+    path(alloc, "NUMBER", true, "The number of a refusal")
+}
+
 fn binary_command<'a>(alloc: Global) -> Result<Command<'a>, AllocError>
     ensures { IfOk result (HasApp binary_app) }
 {
     let args = vec![in alloc;
         unknown_flag(alloc),
+        explain_flag(alloc),
         schema_path(alloc),
         json_path(alloc),
         out_path(alloc),
@@ -96,6 +111,7 @@ fn json_command<'a>(alloc: Global) -> Result<Command<'a>, AllocError>
     let args = vec![in alloc;
         raw_flag(alloc),
         defaults_flag(alloc),
+        explain_flag(alloc),
         schema_path(alloc),
         buffer_path(alloc, true),
     ]?;
@@ -109,6 +125,7 @@ fn check_command<'a>(alloc: Global) -> Result<Command<'a>, AllocError>
 {
     let args = vec![in alloc;
         raw_flag(alloc),
+        explain_flag(alloc),
         schema_path(alloc),
         buffer_path(alloc, false),
     ]?;
@@ -121,11 +138,21 @@ fn conform_command<'a>(alloc: Global) -> Result<Command<'a>, AllocError>
     ensures { IfOk result (HasApp conform_app) }
 {
     let args = vec![in alloc;
+        explain_flag(alloc),
         path(alloc, "OLD", true, "The old schema text"),
         path(alloc, "NEW", true, "The new schema text"),
     ]?;
     Command::new(alloc, "conform")
         .about("Check that a new schema reads data of an old one")
+        .args(args)
+}
+
+fn explain_command<'a>(alloc: Global) -> Result<Command<'a>, AllocError>
+    ensures { IfOk result (HasApp explain_app) }
+{
+    let args = vec![in alloc; number_word(alloc)]?;
+    Command::new(alloc, "explain")
+        .about("Explain the number of a refusal")
         .args(args)
 }
 
@@ -152,7 +179,7 @@ fn with_job<'a>(
     command.subcommand(job?)
 }
 
-/// The command with its four jobs.
+/// The command with its four jobs, and what explains a number.
 pub(crate) fn flatc_command<'a>(alloc: Global) -> Result<Command<'a>, AllocError>
     ensures { IfOk result (HasApp flatc_app) }
 {
@@ -160,5 +187,6 @@ pub(crate) fn flatc_command<'a>(alloc: Global) -> Result<Command<'a>, AllocError
     let command = with_job(command, binary_command(alloc))?;
     let command = with_job(command, json_command(alloc))?;
     let command = with_job(command, check_command(alloc))?;
-    with_job(command, conform_command(alloc))
+    let command = with_job(command, conform_command(alloc))?;
+    with_job(command, explain_command(alloc))
 }

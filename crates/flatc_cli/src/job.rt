@@ -1,9 +1,9 @@
-//! The job that a command line asks for.
+//! What a command line asks for: a job, or the page of a number.
 ghost use Rattle.std.specs.Prelude.{◌≡◌, IfOk, IfErr, true, map, option_map, string_bytes, codes};
 ghost use Rattle.clap.specs.Words.{first_of, found_of, kind_of, rows_of, subcommand_of};
 ghost use Rattle.clap.specs.Words.{subcommand_rows_of, takes};
 ghost use Rattle.flatc_cli.specs.Commands.{flatc_app};
-ghost use Rattle.flatc_cli.specs.Lines.{IsJob, IsJobOf, IsPath, is_set};
+ghost use Rattle.flatc_cli.specs.Lines.{IsJob, IsRequestOf, IsPath, is_set};
 
 use crate::commands::flatc_command;
 use clap::error::ErrorKind;
@@ -38,6 +38,15 @@ pub enum Job {
         old: String,
         new: String,
     },
+}
+
+/// What a command line asks for.
+#[derive(Debug, Drop, PartialEq)]
+pub enum Request {
+    /// A job, and whether a refusal is explained.
+    Do(Job, bool),
+    /// What the number of a refusal means, as the line writes it.
+    Explain(String),
 }
 
 /// The first value of an id.
@@ -105,26 +114,33 @@ fn conform_job(alloc: Global, found: &ArgMatches<'_>) -> Result<Job, AllocError>
     })
 }
 
-/// The job that the matches of a command line are.
-fn matched_job(alloc: Global, matches: &ArgMatches<'_>) -> Result<Job, AllocError>
-    ensures { IfOk result (IsJobOf (subcommand_rows_of matches.now)) }
+fn is_explained(found: &ArgMatches<'_>) -> bool
+    ensures { result ≡ is_set (codes "explain") (rows_of (found_of found.now)) }
+{
+    flag_of(found, "explain")
+}
+
+/// What the matches of a command line ask for.
+fn matched_request(alloc: Global, matches: &ArgMatches<'_>) -> Result<Request, AllocError>
+    ensures { IfOk result (IsRequestOf (subcommand_rows_of matches.now)) }
 {
     let (name, found) = matches.subcommand().ok_or(AllocError)?;
     match name {
-        "binary" => binary_job(alloc, found),
-        "json" => json_job(alloc, found),
-        "check" => check_job(alloc, found),
-        "conform" => conform_job(alloc, found),
+        "binary" => Ok(Request::Do(binary_job(alloc, found)?, is_explained(found))),
+        "json" => Ok(Request::Do(json_job(alloc, found)?, is_explained(found))),
+        "check" => Ok(Request::Do(check_job(alloc, found)?, is_explained(found))),
+        "conform" => Ok(Request::Do(conform_job(alloc, found)?, is_explained(found))),
+        "explain" => Ok(Request::Explain(path_of(alloc, found, "NUMBER")?)),
         _ => Err(AllocError),
     }
 }
 
-/// The job that the words ask for, the program's name apart.
+/// What the words ask for, the program's name apart.
 ///
 /// The error is clap's: a usage fault, help or the version that was asked for, or memory that ran
 /// out.
-pub fn job_of(alloc: Global, words: &[String]) -> Result<Job, Error>
-    ensures job { IfOk result (IsJobOf (subcommand_of flatc_app (map string_bytes words.now))) }
+pub fn request_of(alloc: Global, words: &[String]) -> Result<Request, Error>
+    ensures request { IfOk result (IsRequestOf (subcommand_of flatc_app (map string_bytes words.now))) }
     ensures refusal { IfErr result (λ e. takes flatc_app (map string_bytes words.now) ≡ true
         → kind_of e ≡ ErrorKind.OutOfMemory) }
 {
@@ -132,5 +148,5 @@ pub fn job_of(alloc: Global, words: &[String]) -> Result<Job, Error>
         Ok(matches) => matches,
         Err(error) => return Err(error),
     };
-    Ok(matched_job(alloc, &matches)?)
+    Ok(matched_request(alloc, &matches)?)
 }

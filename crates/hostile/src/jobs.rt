@@ -4,7 +4,7 @@ use crate::examples::Example;
 use crate::meanings::limits;
 use clap::Error;
 use clap::error::ErrorKind;
-use flatc_cli::{Job, job_of};
+use flatc_cli::{Job, Request, request_of};
 use flatc_tool::{
     DecodeOptions, EncodeOptions, Heard, JsonFault, Noted, Place, ToolFault, TypeId, check,
     conform_texts, decode, encode, fault_line, print_to, report, schema_of, take_all, to_binary,
@@ -48,20 +48,23 @@ fn of_verdict(answer: Result<(), ToolFault>) -> Outcome {
     }
 }
 
-fn is_asked(job: &Job) -> bool {
-    match job {
-        Job::Check {
-            schema,
-            bin: Some(bin),
-            raw: true,
-        } => schema.as_str() == "s" && bin.as_str() == "b",
+fn is_asked(request: &Request) -> bool {
+    match request {
+        Request::Do(
+            Job::Check {
+                schema,
+                bin: Some(bin),
+                raw: true,
+            },
+            false,
+        ) => schema.as_str() == "s" && bin.as_str() == "b",
         _ => false,
     }
 }
 
-fn of_job(answer: Result<Job, Error>) -> Outcome {
+fn of_request(answer: Result<Request, Error>) -> Outcome {
     match answer {
-        Ok(job) => Outcome::of(is_asked(&job)),
+        Ok(request) => Outcome::of(is_asked(&request)),
         Err(error) => if error.kind() == ErrorKind::OutOfMemory {
             Outcome::Short(0)
         } else {
@@ -181,15 +184,15 @@ fn words(alloc: Global) -> Result<Vec<String>, AllocError> {
     Ok(vec![in alloc; job, raw, schema, bin]?)
 }
 
-fn try_job_of(rt: &HostRuntime) -> Both {
+fn try_request_of(rt: &HostRuntime) -> Both {
     let Ok(words) = words(rt.alloc()) else {
         return (Outcome::Wrong, Outcome::Wrong);
     };
     arm(rt);
-    let first = job_of(rt.alloc(), words.as_slice());
+    let first = request_of(rt.alloc(), words.as_slice());
     disarm(rt);
-    let first = of_job(first);
-    (first, of_job(job_of(rt.alloc(), words.as_slice())))
+    let first = of_request(first);
+    (first, of_request(request_of(rt.alloc(), words.as_slice())))
 }
 
 fn try_line(rt: &HostRuntime) -> Both {
@@ -232,7 +235,7 @@ pub(crate) fn try_job(rt: &HostRuntime, call: &str, example: &Example) -> Option
         "check" => Some(try_check(rt, example)),
         "conform_texts" => Some(try_conform(rt, example)),
         "take_all" => Some(try_take(rt, example)),
-        "job_of" => Some(try_job_of(rt)),
+        "request_of" => Some(try_request_of(rt)),
         "fault_line" => Some(try_line(rt)),
         "report" => Some(try_report(rt)),
         _ => None,

@@ -45,7 +45,7 @@ const CALLS: &[&str] = &[
     "check",
     "conform_texts",
     "take_all",
-    "job_of",
+    "request_of",
     "fault_line",
     "report",
     "memoryless",

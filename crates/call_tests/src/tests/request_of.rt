@@ -1,7 +1,7 @@
-//! Lines of words that ask for jobs.
+//! Lines of words, and what they ask for.
 use clap::Error;
 use clap::error::ErrorKind;
-use flatc_cli::{Job, job_of};
+use flatc_cli::{Job, Request, request_of};
 use std::alloc::{AllocError, Global};
 use std::test::Fail;
 
@@ -12,6 +12,8 @@ const REFUSED: &[&str] = &[
     "what",
     "check s b c",
     "check --what s",
+    "explain",
+    "explain --explain 1",
 ];
 
 const HELP: &[&str] = &["--help", "-h", "json --help", "check -h", "help binary"];
@@ -23,15 +25,15 @@ fn words(alloc: Global, line: &str) -> Result<Vec<String>, AllocError> {
 }
 
 /// What a line asks for.
-fn asked(alloc: Global, line: &str) -> Result<Job, Fail> {
+fn asked(alloc: Global, line: &str) -> Result<Request, Fail> {
     let words = words(alloc, line)?;
-    Ok(job_of(alloc, words.as_slice())?)
+    Ok(request_of(alloc, words.as_slice())?)
 }
 
 /// Why a line asks for no job.
 fn refusal(alloc: Global, line: &str) -> Result<Error, Fail> {
     let words = words(alloc, line)?;
-    match job_of(alloc, words.as_slice()) {
+    match request_of(alloc, words.as_slice()) {
         Ok(_) => Err("a refusal")?,
         Err(error) => Ok(error),
     }
@@ -46,7 +48,7 @@ fn a_line_that_asks_for_a_buffer(rt: HostRuntime) -> Result<(), Fail> {
         out: "o".to_string(alloc)?,
         unknown: true,
     };
-    assert!(rt; asked(alloc, "binary --unknown-json s j o")? == want);
+    assert!(rt; asked(alloc, "binary --unknown-json s j o")? == Request::Do(want, false));
     Ok(())
 }
 
@@ -59,7 +61,7 @@ fn a_line_that_asks_for_a_text(rt: HostRuntime) -> Result<(), Fail> {
         raw: false,
         defaults: true,
     };
-    assert!(rt; asked(alloc, "json --defaults-json s -- -b")? == want);
+    assert!(rt; asked(alloc, "json --defaults-json s -- -b")? == Request::Do(want, false));
     Ok(())
 }
 
@@ -71,7 +73,7 @@ fn a_line_that_asks_for_a_check(rt: HostRuntime) -> Result<(), Fail> {
         bin: None,
         raw: false,
     };
-    assert!(rt; asked(alloc, "check s")? == want);
+    assert!(rt; asked(alloc, "check --explain s")? == Request::Do(want, true));
     Ok(())
 }
 
@@ -82,7 +84,15 @@ fn a_line_that_asks_for_a_comparison(rt: HostRuntime) -> Result<(), Fail> {
         old: "o".to_string(alloc)?,
         new: "n".to_string(alloc)?,
     };
-    assert!(rt; asked(alloc, "conform o n")? == want);
+    assert!(rt; asked(alloc, "conform o n")? == Request::Do(want, false));
+    Ok(())
+}
+
+#[test]
+fn a_line_that_asks_for_a_number(rt: HostRuntime) -> Result<(), Fail> {
+    let alloc = rt.alloc();
+    let want = Request::Explain("73".to_string(alloc)?);
+    assert!(rt; asked(alloc, "explain 73")? == want);
     Ok(())
 }
 

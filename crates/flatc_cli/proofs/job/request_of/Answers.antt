@@ -1,6 +1,6 @@
 use Rattle.std.proofs.Common.{ap, ◌∙◌, map, string_bytes}
 use Rattle.clap.specs.Words.{App, takes}
-use Rattle.flatc_cli.proofs.job.job_of.Goals as goal
+use Rattle.flatc_cli.proofs.job.request_of.Goals as goal
 
 pub returns-in-Err-clause-refusal : goal.returns-in-Err-clause-refusal
 returns-in-Err-clause-refusal c = λ taken.

@@ -1,0 +1,153 @@
+//! What is wrong with a buffer.
+use crate::dumps::push_dump;
+use crate::pages::Page;
+use crate::sources::Source;
+use bstr::ByteSlice;
+use fb_layout::Layout;
+use fb_value::ReadFault;
+use std::alloc::AllocError;
+
+/// The bytes of a number at an offset.
+fn word_at(bytes: &[u8], offset: usize) -> Option<[u8; 4]> {
+    match bytes.get(offset..)? {
+        [a, b, c, d, ..] => Some([*a, *b, *c, *d]),
+        _ => None,
+    }
+}
+
+/// Adds texts, each with a number behind it, and ends the line behind the last text.
+fn push_sentence(page: &mut Page, parts: &[(&str, u64)], rest: &str) -> Result<(), AllocError> {
+    for (text, number) in parts {
+        page.push_str(text)?;
+        page.push_number(*number)?;
+    }
+    page.push_line(rest)
+}
+
+/// Adds what is wrong with a table's vtable.
+fn push_vtable(page: &mut Page, bytes: &[u8], offset: u64) -> Result<(), AllocError> {
+    let table = ("the vtable of the table at ", offset);
+    let end = (", and the buffer ends at ", bytes.len() as u64);
+    let Some(word) = word_at(bytes, offset as usize) else {
+        return push_sentence(page, &[table], " can't be found: the table ends past the buffer");
+    };
+    let place = i128::from(offset) - i128::from(i32::from_le_bytes(word));
+    let Ok(start) = u64::try_from(place) else {
+        return push_sentence(page, &[table], " would be before the buffer");
+    };
+    let start_part = (" would be at ", start);
+    if start % 2 != 0 {
+        return push_sentence(page, &[table, start_part], ", which isn't even");
+    }
+    match bytes.get(start as usize..) {
+        Some([low, high, ..]) => {
+            let size = u16::from_le_bytes([*low, *high]);
+            let size_part = (" and have a size of ", u64::from(size));
+            if size % 2 != 0 || size < 4 {
+                return push_sentence(
+                    page,
+                    &[table, start_part, size_part],
+                    ", where an even number from 4 on is right",
+                );
+            }
+            push_sentence(page, &[table, start_part, size_part, end], "")
+        }
+        _ => push_sentence(page, &[table, start_part, end], ""),
+    }
+}
+
+fn push_identifiers(page: &mut Page, layout: &Layout, bytes: &[u8]) -> Result<(), AllocError> {
+    page.push_str("the file identifier is ")?;
+    page.push_name(bytes.get(4..8).unwrap_or(&[]))?;
+    if let Some(identifier) = layout.schema().identifier() {
+        page.push_str(", the schema's is ")?;
+        page.push_name(&identifier)?;
+    }
+    page.push_line(" (--raw-binary skips this check)")
+}
+
+fn push_byte(page: &mut Page, bytes: &[u8], offset: u64, rest: &str) -> Result<(), AllocError> {
+    match bytes.get(offset as usize) {
+        Some(byte) => push_sentence(
+            page,
+            &[("the byte at ", offset), (" is ", u64::from(*byte))],
+            rest,
+        ),
+        None => push_sentence(page, &[("there is no byte at ", offset)], rest),
+    }
+}
+
+/// Adds a sentence on the rule that a buffer breaks, with the numbers that break it.
+fn push_rule(
+    page: &mut Page,
+    layout: &Layout,
+    bytes: &[u8],
+    fault: ReadFault,
+) -> Result<(), AllocError> {
+    let end = (" ends past the buffer, which ends at ", bytes.len() as u64);
+    match fault {
+        ReadFault::Short(len) => push_sentence(
+            page,
+            &[("the buffer's length is ", len)],
+            ": too short for the root's offset and the file identifier",
+        ),
+        ReadFault::TooLong(most) => {
+            push_sentence(page, &[("the buffer is longer than ", most)], " bytes")
+        }
+        ReadFault::WrongIdentifier(_) => push_identifiers(page, layout, bytes),
+        ReadFault::Misaligned(at) => push_sentence(
+            page,
+            &[("what is stored at ", at)],
+            " must be at a multiple of its alignment, and isn't",
+        ),
+        ReadFault::OutOfBounds(at) => {
+            push_sentence(page, &[("what is stored at ", at), end], "")
+        }
+        ReadFault::ZeroOffset(at) => push_sentence(
+            page,
+            &[("the offset at ", at)],
+            " is 0: it must lead on to a table, string or vector",
+        ),
+        ReadFault::BadVtable(at) => push_vtable(page, bytes, at),
+        ReadFault::MissingRequired(at, slot) => push_sentence(
+            page,
+            &[("the table at ", at), (" has nothing in slot ", u64::from(slot))],
+            ", which is required",
+        ),
+        ReadFault::NoTerminator(at) => {
+            push_byte(page, bytes, at, ", where a string's final 0 must be")
+        }
+        ReadFault::BadUtf8(at) => push_byte(page, bytes, at, ": the string isn't UTF-8 from here on"),
+        ReadFault::UnionMismatch(at) => push_byte(
+            page,
+            bytes,
+            at,
+            ": the union's type says that it has a value, and it has none",
+        ),
+        ReadFault::TooDeep(at) => {
+            push_sentence(page, &[("the table at ", at)], " is nested deeper than 64 levels")
+        }
+        ReadFault::TooManyCells(at) => push_sentence(
+            page,
+            &[("at ", at)],
+            " the buffer has more than 100000000 tables, strings, vectors, elements and bytes of strings",
+        ),
+        ReadFault::Memory => page.push_line("memory ran out while the buffer was read"),
+    }
+}
+
+/// Adds what is wrong with a buffer.
+pub(crate) fn push_buffer_fault(
+    page: &mut Page,
+    layout: &Layout,
+    source: &Source<'_>,
+    fault: ReadFault,
+) -> Result<(), AllocError> {
+    page.push_str(source.path)?;
+    page.push_str(": ")?;
+    push_rule(page, layout, source.bytes, fault)?;
+    match fault.offset() {
+        Some(offset) => push_dump(page, source.bytes, offset as usize),
+        None => Ok(()),
+    }
+}

@@ -1,0 +1,55 @@
+//! Two schema texts that were compared.
+use crate::pages::Page;
+use crate::sides::{Side, Sides};
+use crate::sources::Source;
+use fb_conform::Breach;
+use fb_syntax::parse;
+use flatc_tool::schema_of;
+use std::alloc::AllocError;
+
+/// What to do with two schemas side by side.
+#[derive(Clone, Copy)]
+pub(crate) enum Asked {
+    Breach(Breach),
+    Warnings,
+}
+
+fn push_asked(page: &mut Page, sides: &Sides<'_>, asked: Asked) -> Result<(), AllocError> {
+    match asked {
+        Asked::Breach(breach) => sides.push_breach(page, breach),
+        Asked::Warnings => sides.push_warnings(page),
+    }
+}
+
+/// Adds what is asked of two schema texts; nothing where one is refused.
+pub(crate) fn push_comparison(
+    page: &mut Page,
+    old: &Source<'_>,
+    new: &Source<'_>,
+    asked: Asked,
+) -> Result<(), AllocError> {
+    let (Ok(old_layout), Ok(new_layout)) = (
+        schema_of(page.alloc(), old.bytes),
+        schema_of(page.alloc(), new.bytes),
+    ) else {
+        return Ok(());
+    };
+    let (Ok(old_decls), Ok(new_decls)) =
+        (parse(page.alloc(), old.bytes), parse(page.alloc(), new.bytes))
+    else {
+        return Ok(());
+    };
+    let sides = Sides {
+        old: Side {
+            layout: &old_layout,
+            source: old,
+            decls: &old_decls,
+        },
+        new: Side {
+            layout: &new_layout,
+            source: new,
+            decls: &new_decls,
+        },
+    };
+    push_asked(page, &sides, asked)
+}

@@ -1,0 +1,93 @@
+//! A refusal in sentences.
+use crate::bad_json::push_bad_json;
+use crate::buffer_faults::push_buffer_fault;
+use crate::comparisons::{Asked, push_comparison};
+use crate::pages::Page;
+use crate::schema_faults::push_schema_fault;
+use crate::sources::Source;
+use fb_value::Limits;
+use flatc_tool::{SchemaTextFault, ToolFault, schema_of};
+use std::alloc::{AllocError, Global};
+
+/// A file that couldn't be read or written: its path, and the reason as the system says it.
+#[derive(Clone, Copy, Debug)]
+pub struct FileFailure<'a> {
+    pub path: &'a str,
+    pub reason: &'a str,
+}
+
+/// What a job was done with, as far as it had been read.
+#[derive(Clone, Copy, Debug)]
+pub struct Sources<'a> {
+    /// The schema text; of `conform` the old one.
+    pub schema: Source<'a>,
+    /// The JSON text, the buffer, or the new schema text.
+    pub input: Source<'a>,
+    pub limits: Limits,
+    /// Whether unknown JSON fields are ignored.
+    pub unknown_json: bool,
+    /// Whether the file identifier check is skipped.
+    pub raw_binary: bool,
+    /// The file that a fault of files is about.
+    pub failure: Option<FileFailure<'a>>,
+}
+
+fn push_file(page: &mut Page, failure: Option<FileFailure<'_>>) -> Result<(), AllocError> {
+    let Some(failure) = failure else {
+        return Ok(());
+    };
+    page.push_str(failure.path)?;
+    page.push_str(": ")?;
+    page.push_line(failure.reason)
+}
+
+fn push_explanation(
+    page: &mut Page,
+    fault: ToolFault,
+    sources: &Sources<'_>,
+) -> Result<(), AllocError> {
+    match fault {
+        ToolFault::Schema(fault) | ToolFault::Older(fault) => {
+            push_schema_fault(page, &sources.schema, fault)
+        }
+        ToolFault::Newer(fault) => push_schema_fault(page, &sources.input, fault),
+        ToolFault::BadJson => push_bad_json(page, &sources.input),
+        ToolFault::Read(fault) => match schema_of(page.alloc(), sources.schema.bytes) {
+            Ok(layout) => push_buffer_fault(page, &layout, &sources.input, fault),
+            Err(_) => Ok(()),
+        },
+        ToolFault::Breach(breach) => {
+            push_comparison(page, &sources.schema, &sources.input, Asked::Breach(breach))
+        }
+        ToolFault::FileRead | ToolFault::FileWrite | ToolFault::FileTooLong => {
+            push_file(page, sources.failure)
+        }
+        ToolFault::Memory => page.push_line("memory ran out while a file was read"),
+        _ => Ok(()),
+    }
+}
+
+/// What is wrong and where, in lines of at most 120 columns that each end with a line feed.
+///
+/// What isn't printable is escaped. The sources are those of the job that was refused.
+pub fn explain(
+    alloc: Global,
+    fault: &ToolFault,
+    sources: &Sources<'_>,
+) -> Result<String, AllocError> {
+    let mut page = Page::new(alloc);
+    push_explanation(&mut page, *fault, sources)?;
+    Ok(page.into_text())
+}
+
+/// What may be meant otherwise under a new schema that conforms: a line for each name that stands for
+/// another field or member, since JSON texts go by names.
+pub fn warnings(
+    alloc: Global,
+    old: &Source<'_>,
+    new: &Source<'_>,
+) -> Result<String, AllocError> {
+    let mut page = Page::new(alloc);
+    push_comparison(&mut page, old, new, Asked::Warnings)?;
+    Ok(page.into_text())
+}

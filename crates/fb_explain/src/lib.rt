@@ -1,0 +1,29 @@
+//! What is wrong and where, in sentences for people.
+#![tactic(auto)]
+
+mod bad_json;
+mod breach_fields;
+mod breach_lines;
+mod buffer_faults;
+mod comparisons;
+mod declared;
+mod dumps;
+mod excerpts;
+mod explanations;
+mod fault_pages;
+mod moved_names;
+mod near_names;
+mod pages;
+mod positions;
+mod schema_faults;
+mod schema_tokens;
+mod shapes;
+mod sides;
+mod sources;
+mod unsupported;
+
+
+pub use explanations::{FileFailure, Sources, explain, warnings};
+pub use fault_pages::fault_page;
+pub use positions::Position;
+pub use sources::Source;

@@ -1,0 +1,183 @@
+//! Lines for people, which can't drive a terminal.
+use bstr::decode_utf8;
+use itoa::Buffer;
+use std::alloc::{AllocError, Global};
+use unicode_width::UnicodeWidthChar;
+
+/// How many columns a line has at most.
+pub(crate) const COLUMNS: usize = 120;
+
+// How many columns a tab takes.
+const TAB: usize = 4;
+
+/// Plain lines of at most 120 columns.
+///
+/// What takes no column of its own, as a control character or a mark that turns the direction of
+/// writing, is escaped, and so is each byte that isn't UTF-8.
+#[derive(Drop)]
+pub(crate) struct Page {
+    alloc: Global,
+    text: String,
+    /// How many columns of the last line are taken.
+    column: usize,
+}
+
+/// How many columns a character takes where it can be shown as it is.
+fn plain_width(character: char) -> Option<usize> {
+    match character.width() {
+        Some(width) if width > 0 => Some(width),
+        _ => None,
+    }
+}
+
+/// How many columns a character takes as it is shown, or so many bytes that are none.
+pub(crate) fn shown_width(character: Option<char>, size: usize) -> usize {
+    match character {
+        Some('\t') => TAB,
+        Some(character) => match plain_width(character) {
+            Some(width) => width,
+            None => character.escape_unicode().count(),
+        },
+        None => 4usize.saturating_mul(size),
+    }
+}
+
+impl Page {
+    pub(crate) fn new(alloc: Global) -> Page {
+        Page {
+            alloc,
+            text: String::new(alloc),
+            column: 0,
+        }
+    }
+
+    pub(crate) fn alloc(&self) -> Global {
+        self.alloc
+    }
+
+    /// The lines.
+    pub(crate) fn into_text(self) -> String {
+        self.text
+    }
+
+    /// Ends the line.
+    pub(crate) fn end_line(&mut self) -> Result<(), AllocError> {
+        self.text.push_str("\n")?;
+        self.column = 0;
+        Ok(())
+    }
+
+    /// Adds so many spaces.
+    pub(crate) fn push_spaces(&mut self, count: usize) -> Result<(), AllocError> {
+        for _ in 0..count {
+            self.text.push(' ')?;
+        }
+        self.column = self.column.saturating_add(count);
+        Ok(())
+    }
+
+    /// Goes on in the next line where so many columns aren't left.
+    fn make_room(&mut self, width: usize) -> Result<(), AllocError> {
+        if self.column.saturating_add(width) > COLUMNS {
+            self.end_line()?;
+            self.push_spaces(4)?;
+        }
+        Ok(())
+    }
+
+    /// Adds a character as it is shown.
+    fn push_character(&mut self, character: char) -> Result<(), AllocError> {
+        let width = shown_width(Some(character), 1);
+        self.make_room(width)?;
+        if character == '\t' {
+            return self.push_spaces(TAB);
+        }
+        if plain_width(character).is_some() {
+            self.text.push(character)?;
+        } else {
+            for escaped in character.escape_unicode() {
+                self.text.push(escaped)?;
+            }
+        }
+        self.column = self.column.saturating_add(width);
+        Ok(())
+    }
+
+    /// Adds bytes that are no character.
+    fn push_escaped(&mut self, bytes: &[u8]) -> Result<(), AllocError> {
+        for byte in bytes {
+            self.make_room(4)?;
+            self.text.push_str("\\x")?;
+            push_hex(&mut self.text, *byte)?;
+            self.column = self.column.saturating_add(4);
+        }
+        Ok(())
+    }
+
+    /// Adds a text as it is shown.
+    pub(crate) fn push_shown(&mut self, bytes: &[u8]) -> Result<(), AllocError> {
+        let mut rest = bytes;
+        for _ in 0..bytes.len() {
+            let (character, size) = decode_utf8(rest);
+            match character {
+                Some(character) => self.push_character(character)?,
+                None => self.push_escaped(rest.get(..size).unwrap_or(&[]))?,
+            }
+            rest = rest.get(size..).unwrap_or(&[]);
+            if rest.is_empty() {
+                break;
+            }
+        }
+        Ok(())
+    }
+
+    pub(crate) fn push_str(&mut self, text: &str) -> Result<(), AllocError> {
+        self.push_shown(text.as_bytes())
+    }
+
+    /// Adds a name of the user's in quotes, cut where it is long.
+    pub(crate) fn push_name(&mut self, name: &[u8]) -> Result<(), AllocError> {
+        self.push_str("'")?;
+        self.push_cut(name)?;
+        self.push_str("'")
+    }
+
+    /// Adds the front of a text of the user's.
+    pub(crate) fn push_cut(&mut self, text: &[u8]) -> Result<(), AllocError> {
+        match text.get(..LONGEST_NAME) {
+            Some(front) => {
+                self.push_shown(front)?;
+                self.push_str("...")
+            }
+            None => self.push_shown(text),
+        }
+    }
+
+    pub(crate) fn push_number(&mut self, number: u64) -> Result<(), AllocError> {
+        self.push_str(Buffer::new().format(number))
+    }
+
+    pub(crate) fn push_integer(&mut self, number: i128) -> Result<(), AllocError> {
+        self.push_str(Buffer::new().format(number))
+    }
+
+    /// Adds a line of its own.
+    pub(crate) fn push_line(&mut self, line: &str) -> Result<(), AllocError> {
+        self.push_str(line)?;
+        self.end_line()
+    }
+}
+
+// How many bytes of a name are shown.
+const LONGEST_NAME: usize = 60;
+
+const DIGITS: [char; 16] = [
+    '0', '1', '2', '3', '4', '5', '6', '7', '8', '9', 'a', 'b', 'c', 'd', 'e', 'f',
+];
+
+/// Adds a byte as two hexadecimal digits.
+pub(crate) fn push_hex(text: &mut String, byte: u8) -> Result<(), AllocError> {
+    text.push(DIGITS[usize::from(byte / 16)])?;
+    text.push(DIGITS[usize::from(byte % 16)])?;
+    Ok(())
+}

@@ -1,0 +1,83 @@
+//! What a job reads, kept for an explanation.
+use flatc_tool::{Heard, ToolFault, take_all};
+use std::fs;
+use std::io::{self, Read};
+
+/// The longest file that is read, in bytes.
+const LONGEST: u32 = 2_147_483_647;
+
+/// What a job has read so far, and why a file couldn't be read or written.
+#[derive(Drop)]
+pub(crate) struct Texts<'j> {
+    /// The schema text; of `conform` the old one.
+    pub(crate) schema: Vec<u8>,
+    /// The JSON text, the buffer, or the new schema text.
+    pub(crate) input: Vec<u8>,
+    pub(crate) failure: Option<Failure<'j>>,
+}
+
+/// A file that couldn't be read or written.
+#[derive(Drop)]
+pub(crate) struct Failure<'j> {
+    pub(crate) path: &'j str,
+    pub(crate) reason: io::Error,
+}
+
+/// Why a file that could be opened couldn't be read.
+fn reason_of<R: Read + Drop>(mut from: R) -> io::Error {
+    let mut byte = [0u8; 1];
+    match from.read(&mut byte) {
+        Ok(_) => io::Error::other("a read failed"),
+        Err(error) => error,
+    }
+}
+
+impl<'j> Texts<'j> {
+    pub(crate) fn new(rt: &HostRuntime) -> Texts<'j> {
+        Texts {
+            schema: Vec::new(rt.alloc()),
+            input: Vec::new(rt.alloc()),
+            failure: None,
+        }
+    }
+
+    /// Remembers why a file failed.
+    pub(crate) fn fail(&mut self, path: &'j str, reason: io::Error, fault: ToolFault) -> ToolFault {
+        self.failure = Some(Failure { path, reason });
+        fault
+    }
+
+    // Reading takes a large buffer of its stack, which is to be free again when the job begins.
+    #[inline(never)]
+    fn read(&mut self, rt: &HostRuntime, path: &'j str) -> Result<Vec<u8>, ToolFault> {
+        let file = match fs::open(rt, path) {
+            Ok(file) => file,
+            Err(error) => return Err(self.fail(path, error, ToolFault::FileRead)),
+        };
+        let mut from = Heard::over(file);
+        match take_all(rt.alloc(), &mut from, LONGEST) {
+            Ok(bytes) => Ok(bytes),
+            Err(ToolFault::FileRead) => {
+                let reason = reason_of(from.into_inner());
+                Err(self.fail(path, reason, ToolFault::FileRead))
+            }
+            Err(ToolFault::FileTooLong) => {
+                let reason = io::Error::other("it is longer than 2147483647 bytes");
+                Err(self.fail(path, reason, ToolFault::FileTooLong))
+            }
+            Err(fault) => Err(fault),
+        }
+    }
+
+    /// Reads the schema text.
+    pub(crate) fn read_schema(&mut self, rt: &HostRuntime, path: &'j str) -> Result<(), ToolFault> {
+        self.schema = self.read(rt, path)?;
+        Ok(())
+    }
+
+    /// Reads the JSON text, the buffer or the new schema text.
+    pub(crate) fn read_input(&mut self, rt: &HostRuntime, path: &'j str) -> Result<(), ToolFault> {
+        self.input = self.read(rt, path)?;
+        Ok(())
+    }
+}
