@@ -19,7 +19,7 @@ use crate::rules::{check_code, enter_table, open_vector};
 use crate::source::Source;
 use crate::spot::{Part, Spot};
 use crate::step::Step;
-use crate::stored::{stored_in, Stored};
+use crate::stored::{Stored, stored_in};
 use crate::visit_leaves::{visit_inline, visit_text_behind};
 use crate::visit_tables::{visit_table_behind, visit_vector_behind};
 use crate::walk::{TableAt, Walk};
@@ -296,13 +296,7 @@ fn step_behind(source: &Source, spent: u64, stored: Stored, tables: u8) -> Optio
 }
 
 // The step from what a reference leads to, where that has no fault itself.
-fn step_in_part(
-    source: &Source,
-    walk: &mut Walk,
-    part: Part,
-    at: usize,
-    tables: u8,
-) -> Option<Next>
+fn step_in_part(source: &Source, walk: &mut Walk, part: Part, at: usize, tables: u8) -> Option<Next>
     requires low { at < 2 ^ 33 }
     requires limits { IsWithin source.now tables walk.old }
     requires fails { Fails source.now (Some (place (part_place (target_of_part source.now.layout.now part)) at))

@@ -87,11 +87,10 @@ module _ (L : LaidSchema) (b : Bytes) (most : Bounds) where
   unfolding visit_each
   front_free xs k tables spent after fine =
       let none = none_left (first_among (λ y before. fault_from L b most y tables before) (all L b) spent (take k xs))
-      _ after fine in
-      (
+      _ after fine in (
         λ j y less names. let shorter = take-take j k xs (omega arith) in
-        rw shorter at (among_none (λ y before. fault_from L b most y tables before) (all L b) spent (take k xs) none.0 j
-        y (front_entry xs j k less ∙ names)),
+            rw shorter at (among_none (λ y before. fault_from L b most y tables before) (all L b) spent (take k xs) none.0 j
+            y (front_entry xs j k less ∙ names)),
         none.1,
       )
 

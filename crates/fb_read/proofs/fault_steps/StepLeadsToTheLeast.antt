@@ -84,24 +84,22 @@ pub one_more : (source : Source) (o : Option Place) (tables spent : ℕ) (step :
     → LeadsToLeast source.layout.now source.bytes.now (limits_of source) o tables spent (step ∷ rest) f
 one_more source None tables spent step o2 tables2 spent2 rest f steps leads = absurd steps
 one_more source (Some x) tables spent step None tables2 spent2 rest f steps leads = absurd leads
-one_more source (Some x) tables spent step (Some y) tables2 spent2 rest f steps leads =
-    (
-      one_step source x tables spent step y tables2 spent2 (map number_of rest) f steps leads.0,
-      (steps.of_sort, y, steps.names, leads.1),
-    )
+one_more source (Some x) tables spent step (Some y) tables2 spent2 rest f steps leads = (
+  one_step source x tables spent step y tables2 spent2 (map number_of rest) f steps leads.0,
+  (steps.of_sort, y, steps.names, leads.1),
+)
 
 -- No step is left where the fault is the place's own.
 pub own_end : (source : Source) (o : Option Place) (tables spent : ℕ) → IsFaulty source o tables spent
     → (f : ReadFault) × LeadsToLeast source.layout.now source.bytes.now (limits_of source) o tables spent [] f
 own_end source None tables spent faulty = absurd faulty
-own_end source (Some x) tables spent faulty =
-    (
-      faulty.0,
-      (
-        own_least source.layout.now source.bytes.now (limits_of source) x tables spent faulty.0 faulty.1,
-        tt,
-      ),
-    )
+own_end source (Some x) tables spent faulty = (
+  faulty.0,
+  (
+    own_least source.layout.now source.bytes.now (limits_of source) x tables spent faulty.0 faulty.1,
+    tt,
+  ),
+)
 
 -- What names nothing has the fault itself.
 last_one : (o r : Option ReadFault) (f : ReadFault) → r ≡ None → or_else o r ≡ Some f → o ≡ Some f
@@ -192,8 +190,7 @@ pub member_fails : (source : Source) (c t p tables spent : ℕ)
 unfolding visit
 member_fails source c t p tables spent fails =
     let L = source.layout.now in
-    let b = source.bytes.now in
-    (
+    let b = source.bytes.now in (
       fails.0,
       rw (member_fault L b (limits_of source) c t p tables spent, member_all L b (limits_of source) c t p) at fails.1,
     )

@@ -19,11 +19,7 @@ use fb_value::Limits;
 use std::alloc::{AllocError, Global};
 
 // The steps from the root to the least fault.
-fn steps_from_root(
-    alloc: Global,
-    source: &Source,
-    walk: &mut Walk,
-) -> Result<Vec<Step>, AllocError>
+fn steps_from_root(alloc: Global, source: &Source, walk: &mut Walk) -> Result<Vec<Step>, AllocError>
     requires start { walk.old.spent ≡ 0 }
     requires fails { Fails source.now (Some (root_place source.now.layout.now)) 0 0 }
     ensures { IfOk result (λ steps. (f : ReadFault) × LeadsToLeast source.now.layout.now source.now.bytes.now
@@ -61,6 +57,7 @@ pub fn fault_path(
     if check_front(bytes, identifier_of(layout, raw)).is_err() {
         return Ok(None);
     }
+    let root = layout.schema().root();
     let source = Source {
         layout,
         bytes,
@@ -71,7 +68,7 @@ pub fn fault_path(
         spent: 0,
         ticks: Ticks::new(),
     };
-    let visited = visit_table_behind(&source, &mut walk, layout.schema().root(), 0, 0);
+    let visited = visit_table_behind(&source, &mut walk, root, 0, 0);
     if visited.is_ok() {
         return Ok(None);
     }
