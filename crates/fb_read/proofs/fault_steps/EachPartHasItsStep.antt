@@ -1,13 +1,12 @@
 -- The step from each kind of place, where the place has no fault itself.
-use Rattle.std.proofs.Common.{◌≡◌, ℕ, ◌+◌, ◌<◌, ◌≤◌, List, [], Option, None, Some, Ok, Err, refl, sym, ap, ◌∙◌, arith}
+use Rattle.std.proofs.Common.{◌≡◌, ℕ, ◌+◌, ◌<◌, ◌≤◌, [], Option, None, Some, Ok, refl, sym, ap, ◌∙◌, arith}
 use Rattle.std.proofs.Common.{add-zero}
 use Rattle.fb_schema.specs.declared.kinds.TypeId.{TypeId}
-use Rattle.fb_layout.specs.Laid.{LaidSchema, StoredKind, slots_of}
-use Rattle.fb_value.specs.declared.faults.ReadFault.{ReadFault}
+use Rattle.fb_layout.specs.Laid.{StoredKind, slots_of}
 use Rattle.fb_value.specs.declared.faults.ReadFault.TheVariants.{TooDeep, TooManyCells}
 use Rattle.fb_value.specs.Num.{num}
-use Rattle.fb_value.specs.Places.{Target, table_part, vector_part, ref_place, part_place, Place, named, named_slots}
-use Rattle.fb_value.specs.Places.{named_elements, named_vector, target_of}
+use Rattle.fb_value.specs.Places.{Target, table_part, vector_part, ref_place, part_place, Place, named_slots}
+use Rattle.fb_value.specs.Places.{named_elements, target_of}
 use Rattle.fb_value.specs.Rules.{Keeps, first_failing}
 use Rattle.fb_read.specs.declared.source.Source.{Source}
 use Rattle.fb_read.specs.declared.step.Step.TheVariants.{Reference, Slot, Element}

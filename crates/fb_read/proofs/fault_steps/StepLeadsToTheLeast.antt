@@ -1,5 +1,5 @@
 -- A step to the first place under which there is a fault leads to the least.
-use Rattle.std.proofs.Common.{◌≡◌, ℕ, ◌+◌, ◌<◌, ◌⊎◌, inl, inr, List, [], ◌∷◌, take, map, Option, None, Some, Ok, Err}
+use Rattle.std.proofs.Common.{◌≡◌, ℕ, ◌+◌, ◌<◌, inl, inr, List, [], ◌∷◌, take, map, Option, None, Some, Ok}
 use Rattle.std.proofs.Common.{MatchOption, slice_get, refl, sym, ◌∙◌, subst}
 use Rattle.fb_layout.specs.Laid.{LaidSchema}
 use Rattle.fb_value.specs.declared.faults.ReadFault.{ReadFault}
@@ -9,8 +9,8 @@ use Rattle.fb_value.specs.Places.{Place, named, table_part, member_part, part_pl
 use Rattle.fb_value.specs.Rules.{Keeps, fault_at, fault_by, first_failing}
 use Rattle.fb_value.specs.Reached.{Path, ComesBefore}
 use Rattle.fb_value.specs.Faults.{own_cells, own_tables, sum_over, all, or_else, limit_rules, limited_fault, FaultFrom}
-use Rattle.fb_value.specs.Faults.{first_among, fault_from}
-use Rattle.fb_value.proofs.rules.ComputedFaultIsTheLeast.{or_some, limited_none, same_entry, from_none}
+use Rattle.fb_value.specs.Faults.{fault_from}
+use Rattle.fb_value.proofs.rules.ComputedFaultIsTheLeast.{limited_none, same_entry, from_none}
 use Rattle.fb_value.proofs.rules.FaultOfAPlaceByOneStep.{fault_from_is}
 use Rattle.fb_read.specs.declared.source.Source.{Source}
 use Rattle.fb_read.specs.declared.step.Step.{Step}

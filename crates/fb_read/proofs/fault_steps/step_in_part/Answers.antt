@@ -1,5 +1,5 @@
 use Rattle.std.proofs.Common.{refl}
-use Rattle.fb_value.specs.Places.{table_part, text_part, part_place}
+use Rattle.fb_value.specs.Places.{text_part, part_place}
 use Rattle.fb_read.specs.FaultPaths.{spot_place}
 use Rattle.fb_read.specs.Walks.{place}
 use Rattle.fb_read.proofs.fault_steps.StepLeadsToTheLeast.{member_fails, member_steps, member_faulty, names_nothing}

@@ -1,4 +1,4 @@
-use Rattle.std.proofs.Common.{◌≡◌, ◌+◌, ◌<◌, ◌≤◌, map, sym, ap, arith}
+use Rattle.std.proofs.Common.{◌≡◌, map, ap, arith}
 use Rattle.fb_layout.specs.Laid.{slot_of, slots_of}
 use Rattle.fb_value.specs.Places.{table_part, part_place}
 use Rattle.fb_read.specs.Visits.{slots_seen}

@@ -1,7 +1,6 @@
-use Rattle.std.proofs.Common.{arith, sym, ◌∙◌, ◌≡◌}
+use Rattle.std.proofs.Common.{arith}
 use Rattle.fb_layout.specs.Laid.{stored_kind}
 use Rattle.fb_value.specs.Places.{vector_part, part_place}
-use Rattle.fb_value.specs.Num.{num}
 use Rattle.fb_read.specs.Values.{led_to}
 use Rattle.fb_read.specs.Walks.{place}
 use Rattle.fb_read.proofs.fault_steps.EachPartHasItsStep.{vector_flat, vector_over, vector_steps, vector_done}

@@ -1,4 +1,4 @@
-use Rattle.std.proofs.Common.{ℕ, ◌^◌, ◌-◌, ◌<◌, List, ◌++◌, Some}
+use Rattle.std.proofs.Common.{◌^◌, ◌-◌, ◌<◌, List, ◌++◌, Some}
 use Rattle.fb_value.specs.declared.faults.ReadFault.{ReadFault}
 use Rattle.fb_value.specs.Holds.{root_place}
 use Rattle.fb_read.specs.declared.step.Step.{Step}
