@@ -8,15 +8,16 @@ use Rattle.fb_build.specs.Made.{Adds}
 use Rattle.fb_build.specs.Pieces.{PartAt}
 use Rattle.fb_build.specs.TableBytes.{AreLaid}
 use Rattle.fb_build.specs.Tails.{Grows}
+use Rattle.fb_build.specs.Vtables.{longest_vtable}
 
 -- the vtables of its value
 abbrev pub vtables_in : Builder → List Bytes
 vtables_in b = map (λ k. k.items) b.vtables.keys
 
 -- Each vtable that has a place is in the tail there, and the longest one can be written.
-pub record IsBuilder (b : Builder) : Type 0 where
+pub record IsBuilder (L : LaidSchema) (b : Builder) : Type 0 where
   pub laid : AreLaid (vtables_in b) b.places.items b.tail.bytes
-  pub long : 65534 ≤ length b.scratch.items
+  pub long : longest_vtable L ≤ length b.scratch.items
 
 -- No byte is laid.
 pub record IsFresh (b : Builder) : Type 0 where
@@ -30,7 +31,7 @@ pub record Builds (L : LaidSchema) (a b : Builder) : Type 0 where
   pub same : vtables_in b ≡ vtables_in a
   pub grows : Grows a.tail b.tail
   pub bound : b.tail.most ≤ max a.tail.most (greatest L)
-  pub ready : IsBuilder b
+  pub ready : IsBuilder L b
 
 -- These parts were laid, and the vtables that they are the first to have.
 abbrev pub BuildsParts : LaidSchema → Builder → Builder → List PartAt → Type 0

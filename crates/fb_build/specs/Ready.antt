@@ -8,7 +8,7 @@ use Rattle.fb_value.specs.View.{view}
 use Rattle.fb_build.specs.declared.plans.Plan.TheInside.{Inside}
 use Rattle.fb_build.specs.Needs.{need}
 use Rattle.fb_build.specs.Planned.{Planned}
-use Rattle.fb_build.specs.Vtables.{AreDifferent, VtablesKnown}
+use Rattle.fb_build.specs.Vtables.{AreDifferent, VtablesKnown, longest_vtable}
 
 abbrev pub planned_seen : Inside → Planned
 planned_seen p = record { layout = p.layout.now; value = p.value.now }
@@ -20,7 +20,7 @@ pub record IsReady (p : Inside) : Type 0 where
   pub short : length p.block.items ≤ 2147483647
   pub room : length p.block.items ≡ room_of p.layout.now (view p.value.now)
   pub pending : need (view p.value.now) ≤ length p.pending.items
-  pub scratch : 65534 ≤ length p.scratch.items
+  pub scratch : longest_vtable p.layout.now ≤ length p.scratch.items
   pub none_laid : (i : ℕ) → slice_index p.places.items i ≡ 0
   pub known : VtablesKnown p.layout.now (map (λ k. k.items) p.known.keys) (view p.value.now)
   pub different : AreDifferent (map (λ k. k.items) p.known.keys)

@@ -1,12 +1,17 @@
 -- The vtables of a value's tables, among known ones.
-use Rattle.std.specs.Prelude.{ℕ, ◌≡◌, List, [], ◌∷◌, Option, None, Some, slice_get}
+use Rattle.std.specs.Prelude.{ℕ, ◌≡◌, ◌+◌, ◌*◌, List, [], ◌∷◌, Option, None, Some, slice_get}
 use Rattle.fb_layout.specs.Laid.{LaidSchema, StoredKind, StoredShape, slots_of}
+use Rattle.fb_layout.specs.Widths.{most_slots}
 use Rattle.fb_value.specs.Datum.{Datum, a_vector, a_table, a_member, Parts, no_parts, more_parts, SlotEntries}
 use Rattle.fb_value.specs.Datum.{no_entries, absent_entry, present_entry}
 use Rattle.fb_value.specs.Fits.{Fits, EachFits}
 use Rattle.fb_value.specs.Num.{Bytes}
 use Rattle.fb_build.specs.Fields.{IsElement, IsSimple, stored_in}
 use Rattle.fb_build.specs.FieldEnds.{table_vtable}
+
+-- An upper bound on the length of a vtable: two bytes for each slot behind its first four.
+abbrev pub longest_vtable : LaidSchema → ℕ
+longest_vtable L = 4 + 2 * most_slots L.schema
 
 abbrev pub IsKey : List Bytes → Bytes → Type 0
 IsKey known vtable = (i : ℕ) × (slice_get known i ≡ Some vtable)

@@ -18,12 +18,6 @@ use fb_value::{Value, room};
 use indexmap::IndexSet;
 use std::alloc::Global;
 
-// A vtable has 65,534 bytes at most.
-const LONGEST_VTABLE: usize = 65_534;
-
-// It has two bytes for each slot behind its first four.
-const MOST_SLOTS: usize = 32_765;
-
 /// Takes all the memory that building a value takes, and lays no byte.
 pub fn plan<'v>(alloc: Global, layout: &'v Layout, value: &'v Value) -> Result<Plan<'v>, BuildFault>
     requires fits { FitsRoot layout.now (view value.now) }
@@ -43,8 +37,10 @@ pub fn plan<'v>(alloc: Global, layout: &'v Layout, value: &'v Value) -> Result<P
         unreachable!();
     };
     let block = vec![in alloc; 0u8; room as usize]?;
-    let mut ends = vec![in alloc; 0u32; MOST_SLOTS]?;
-    let mut scratch = vec![in alloc; 0u8; LONGEST_VTABLE]?;
+    // For one table at a time: a count for each slot, and its vtable, two bytes for each slot behind the first four.
+    let slots = layout.most_slots();
+    let mut ends = vec![in alloc; 0u32; slots]?;
+    let mut scratch = vec![in alloc; 0u8; 4 + 2 * slots]?;
     let mut known = IndexSet::new(alloc);
     let waiting = add_table(
         alloc,

@@ -1,5 +1,5 @@
 //! Lays the fields of tables.
-ghost use Rattle.std.specs.Prelude.{ℕ, ℤ, List, Option, Some, drop, ◌≡◌, ◌≤◌, ◌+◌, ◌||◌, length, true, false, max};
+ghost use Rattle.std.specs.Prelude.{ℕ, ℤ, List, Option, Some, drop, ◌≡◌, ◌≤◌, ◌+◌, ◌*◌, ◌||◌, length, true, false, max};
 ghost use Rattle.std.specs.Prelude.{option_map};
 ghost use Rattle.fb_layout.specs.Laid.{LaidSchema};
 ghost use Rattle.fb_layout.specs.Widths.{inline_size, inline_align, greatest};
@@ -231,7 +231,7 @@ pub(crate) fn lay_fields(
         (stored_seen layout.now slots.now entries.now) }
     requires state { EntriesEnd layout.now 0 out.old.most out.old.bytes (λ k f. false)
         (slots_seen layout.now slots.now) (stored_seen layout.now slots.now entries.now) ends.old }
-    requires links { 65534 ≤ length links.old }
+    requires links { 2 * length slots.now ≤ length links.old }
     requires room { stored_room layout.now (slots_seen layout.now slots.now)
         (stored_seen layout.now slots.now entries.now) ≤ out.old.free }
     ensures laid { AreFieldsLaid layout.now out.new (slots_seen layout.now slots.now)

@@ -1,7 +1,7 @@
 //! The distinct vtables of a value, as keys that aren't laid yet.
-ghost use Rattle.std.specs.Prelude.{◌≡◌, ◌≤◌, ◌<◌, ◌+◌, length, map, option_map, slice_set, true, IfOk, IfErr, OnOk};
+ghost use Rattle.std.specs.Prelude.{◌≡◌, ◌≤◌, ◌<◌, ◌+◌, ◌*◌, length, map, option_map, slice_set, true, IfOk, IfErr, OnOk};
 ghost use Rattle.fb_layout.specs.Laid.{slots_of};
-ghost use Rattle.fb_layout.specs.Widths.{inline_size};
+ghost use Rattle.fb_layout.specs.Widths.{inline_size, most_slots};
 ghost use Rattle.fb_value.specs.Counts.{is_whole, parts_whole, entries_whole};
 ghost use Rattle.fb_value.specs.Datum.{a_table, count};
 ghost use Rattle.fb_value.specs.Fits.{EntriesFit};
@@ -10,7 +10,7 @@ ghost use Rattle.fb_build.specs.Fields.{AreKnown, fields_size, shape_seen, slots
 ghost use Rattle.fb_build.specs.FieldEnds.{field_ends};
 ghost use Rattle.fb_build.specs.Needs.{need, parts_need, entries_count, entries_need, entry_need};
 ghost use Rattle.fb_build.specs.Parts.{EntryWhole};
-ghost use Rattle.fb_build.specs.Vtables.{AreKept, FitsSomewhere, IsKey, VtablesKnown, vtable_of};
+ghost use Rattle.fb_build.specs.Vtables.{AreKept, FitsSomewhere, IsKey, VtablesKnown, longest_vtable, vtable_of};
 ghost use Rattle.fb_build.specs.Vtables.{EachFitsSomewhere, EntryFitsSomewhere, EntryVtablesKnown, PartsVtablesKnown};
 ghost use Rattle.fb_build.specs.declared.faults.BuildFault.TheVariants.{Memory};
 
@@ -51,7 +51,7 @@ fn place_fields(
     requires each { length ends.old ≡ length slots.now }
     requires known { AreKnown layout.now (slots_seen layout.now slots.now)
         (stored_seen layout.now slots.now entries.now) }
-    requires links { 65534 ≤ length links.old }
+    requires links { 2 * length slots.now ≤ length links.old }
     requires narrow { fields_size layout.now (slots_seen layout.now slots.now)
         (stored_seen layout.now slots.now entries.now) ≤ 65528 }
     ensures size { result ≡ fields_size layout.now (slots_seen layout.now slots.now)
@@ -83,8 +83,8 @@ fn add_vtable(
 ) -> Result<(), BuildFault>
     requires fits { EntriesFit layout.now (slots_of layout.now table.0) (entries_view entries.now) }
     requires whole { entries_whole (entries_view entries.now) ≡ true }
-    requires many { 32765 ≤ length ends.old }
-    requires long { 65534 ≤ length scratch.old }
+    requires many { most_slots layout.now.schema ≤ length ends.old }
+    requires long { longest_vtable layout.now ≤ length scratch.old }
     ensures key { OnOk result (IsKey (map (λ k. k.items) known.new.keys)
         (vtable_of layout.now table.0 (entries_view entries.now))) }
     ensures kept { OnOk result (AreKept (map (λ k. k.items) known.old.keys) (map (λ k. k.items) known.new.keys)) }
@@ -121,8 +121,8 @@ pub(crate) fn add_table(
         + entries_need (entries_view entries.now) ≤ 2147483647 }
     requires fits { EntriesFit layout.now (slots_of layout.now table.0) (entries_view entries.now) }
     requires whole { entries_whole (entries_view entries.now) ≡ true }
-    requires many { 32765 ≤ length ends.old }
-    requires long { 65534 ≤ length scratch.old }
+    requires many { most_slots layout.now.schema ≤ length ends.old }
+    requires long { longest_vtable layout.now ≤ length scratch.old }
     ensures need { IfOk result (λ n. n ≡ entries_count (entries_view entries.now)
         + entries_need (entries_view entries.now)) }
     ensures known { OnOk result (VtablesKnown layout.now (map (λ k. k.items) known.new.keys)
@@ -156,8 +156,8 @@ fn add_entry(
     requires small { entry_need (option_map view entry.now) ≤ 2147483647 }
     requires fits { EntryFitsSomewhere layout.now (option_map view entry.now) }
     requires whole { EntryWhole (option_map view entry.now) }
-    requires many { 32765 ≤ length ends.old }
-    requires long { 65534 ≤ length scratch.old }
+    requires many { most_slots layout.now.schema ≤ length ends.old }
+    requires long { longest_vtable layout.now ≤ length scratch.old }
     ensures need { IfOk result (λ n. n ≡ entry_need (option_map view entry.now)) }
     ensures known { OnOk result (EntryVtablesKnown layout.now (map (λ k. k.items) known.new.keys)
         (option_map view entry.now)) }
@@ -186,8 +186,8 @@ fn add_tables(
     requires small { need (view value.now) ≤ 2147483647 }
     requires fits { FitsSomewhere layout.now (view value.now) }
     requires whole { is_whole (view value.now) ≡ true }
-    requires many { 32765 ≤ length ends.old }
-    requires long { 65534 ≤ length scratch.old }
+    requires many { most_slots layout.now.schema ≤ length ends.old }
+    requires long { longest_vtable layout.now ≤ length scratch.old }
     ensures need { IfOk result (λ n. n ≡ need (view value.now)) }
     ensures known { OnOk result (VtablesKnown layout.now (map (λ k. k.items) known.new.keys) (view value.now)) }
     ensures kept { OnOk result (AreKept (map (λ k. k.items) known.old.keys) (map (λ k. k.items) known.new.keys)) }
@@ -226,8 +226,8 @@ fn add_items(
         ≤ 2147483647 }
     requires fits { EachFitsSomewhere layout.now (parts_view items.now) }
     requires whole { parts_whole (parts_view items.now) ≡ true }
-    requires many { 32765 ≤ length ends.old }
-    requires long { 65534 ≤ length scratch.old }
+    requires many { most_slots layout.now.schema ≤ length ends.old }
+    requires long { longest_vtable layout.now ≤ length scratch.old }
     ensures need { IfOk result (λ n. n ≡ count (parts_view items.now)
         + parts_need (parts_view items.now)) }
     ensures known { OnOk result (PartsVtablesKnown layout.now (map (λ k. k.items) known.new.keys)

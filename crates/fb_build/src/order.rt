@@ -55,7 +55,7 @@ fn list_fields(
     requires few { length slots.now ≤ 32765 }
     requires known { AreKnown layout.now (slots_seen layout.now slots.now)
         (stored_seen layout.now slots.now entries.now) }
-    requires room { 65534 ≤ length links.old }
+    requires room { 2 * length slots.now ≤ length links.old }
     requires none { (c : ℕ) → slice_index firsts.old c ≡ 0 }
     ensures lists { (c : ℕ) → c ≤ 8 → IsList layout.now (2 ^ c) (slots_seen layout.now slots.now)
         (stored_seen layout.now slots.now entries.now) links.new (slice_index firsts.new c)
@@ -90,7 +90,7 @@ pub(crate) fn order_fields(
     requires few { length slots.now ≤ 32765 }
     requires known { AreKnown layout.now (slots_seen layout.now slots.now)
         (stored_seen layout.now slots.now entries.now) }
-    requires room { 65534 ≤ length links.old }
+    requires room { 2 * length slots.now ≤ length links.old }
     ensures linked { AreLinked layout.now (slots_seen layout.now slots.now)
         (stored_seen layout.now slots.now entries.now) links.new result }
     ensures long { length links.new ≡ length links.old }

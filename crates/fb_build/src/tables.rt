@@ -49,7 +49,7 @@ pub(crate) fn lay_table(
         + entries_need (entries_view entries.now) ≤ length pending.old }
     requires vtables { VtablesKnown layout.now (vtables_in builder.old)
         (a_table table.0 (entries_view entries.now)) }
-    requires ready { IsBuilder builder.old }
+    requires ready { IsBuilder layout.now builder.old }
     ensures lies { LaidInTail layout.now builder.new.tail.most builder.new.tail.bytes (part_place (table_part table.0))
         result (a_table table.0 (entries_view entries.now)) }
     ensures adds { BuildsParts layout.now builder.old builder.new (parts_in_tail layout.now builder.new.tail.bytes
@@ -91,7 +91,7 @@ fn lay_targets(
     requires pending { entries_need (entries_view entries.now) ≤ length pending.old }
     requires vtables { EntriesVtablesKnown layout.now (vtables_in builder.old)
         (entries_view entries.now) }
-    requires ready { IsBuilder builder.old }
+    requires ready { IsBuilder layout.now builder.old }
     ensures each { length ends.new ≡ length slots.now }
     ensures state { EntriesEnd layout.now 0 builder.new.tail.most builder.new.tail.bytes (λ k f. false)
         (slots_seen layout.now slots.now) (stored_seen layout.now slots.now entries.now) ends.new }
@@ -125,7 +125,7 @@ fn lay_target(
         ≤ builder.old.tail.free }
     requires pending { entry_need (option_map view entry.now) ≤ length pending.old }
     requires vtables { EntryVtablesKnown layout.now (vtables_in builder.old) (option_map view entry.now) }
-    requires ready { IsBuilder builder.old }
+    requires ready { IsBuilder layout.now builder.old }
     ensures state { (code : Option ℕ) → EntryEnd layout.now 0 builder.new.tail.most builder.new.tail.bytes false
         (slot_seen layout.now slot.now) (entry_stored layout.now slot.now code entry.now) result }
     ensures adds { (code : Option ℕ) → BuildsParts layout.now builder.old builder.new
@@ -157,7 +157,7 @@ fn lay_part(
     requires room { room layout.now (shape_seen layout.now shape) (view value.now) ≤ builder.old.tail.free }
     requires pending { need (view value.now) ≤ length pending.old }
     requires vtables { VtablesKnown layout.now (vtables_in builder.old) (view value.now) }
-    requires ready { IsBuilder builder.old }
+    requires ready { IsBuilder layout.now builder.old }
     ensures state { PartEnd layout.now builder.new.tail.most builder.new.tail.bytes (shape_seen layout.now shape)
         (view value.now) result }
     ensures adds { BuildsParts layout.now builder.old builder.new (parts_at layout.now builder.new.tail.bytes
@@ -201,7 +201,7 @@ fn lay_items(
     requires pending { need (a_vector (parts_view items.now)) ≤ length pending.old }
     requires vtables { PartsVtablesKnown layout.now (vtables_in builder.old)
         (parts_view items.now) }
-    requires ready { IsBuilder builder.old }
+    requires ready { IsBuilder layout.now builder.old }
     ensures lies { LaidInTail layout.now builder.new.tail.most builder.new.tail.bytes
         (part_place (vector_part (kind_seen layout.now kind))) result
         (a_vector (parts_view items.now)) }
@@ -239,7 +239,7 @@ fn lay_item_targets(
     requires pending { parts_need (parts_view items.now) ≤ length pending.old }
     requires vtables { PartsVtablesKnown layout.now (vtables_in builder.old)
         (parts_view items.now) }
-    requires ready { IsBuilder builder.old }
+    requires ready { IsBuilder layout.now builder.old }
     ensures each { length ends.new ≡ length items.now }
     ensures state { TargetsEnd layout.now builder.new.tail.most builder.new.tail.bytes (kind_seen layout.now kind)
         (map view items.now) ends.new }

@@ -1,3 +1,4 @@
 -- The slots of tables.
+pub mod MostSlotsBoundEachTable
 pub mod NarrowTablesAreKnown
 pub mod RequiredSlotsAreNumbered

@@ -4,7 +4,7 @@ use Rattle.std.specs.Option.{option_map}
 use Rattle.fb_schema.specs.Schema.{slots_in}
 use Rattle.fb_layout.specs.declared.layouts.Layout.TheInside.{Inside}
 use Rattle.fb_layout.specs.Laid.{LaidSchema}
-use Rattle.fb_layout.specs.Widths.{widest, table_align, greatest}
+use Rattle.fb_layout.specs.Widths.{widest, table_align, greatest, most_slots}
 use Rattle.fb_layout.specs.Required.{required_numbers}
 use Rattle.fb_layout.specs.WellMade.{IsWellMade}
 use Rattle.fb_layout.specs.Known.{sizes_seen, no_table, layout_known}
@@ -12,7 +12,8 @@ use Rattle.fb_layout.specs.Known.{sizes_seen, no_table, layout_known}
 abbrev pub layout_seen : Inside → LaidSchema
 layout_seen l = layout_known l.schema (map (option_map sizes_seen) l.structs.items)
 
--- It is well made, and beside it stand the sizes of its tables, their required slots and the greatest alignment.
+-- It is well made, and beside it stand the sizes of its tables, their required slots, the greatest alignment and the
+-- most slots.
 pub record IsLaid (l : Inside) : Type 0 where
   pub made : IsWellMade (layout_seen l)
   pub tables : (t : ℕ)
@@ -21,3 +22,4 @@ pub record IsLaid (l : Inside) : Type 0 where
   pub required : map (λ numbers. numbers.items) l.required.items ≡ map (λ type. required_numbers (slots_in type.body))
       (layout_seen l).schema.types
   pub greatest : l.greatest ≡ greatest (layout_seen l)
+  pub most_slots : l.most_slots ≡ most_slots l.schema

@@ -1,7 +1,7 @@
--- The greatest inline size of a table, and the greatest alignments.
+-- The greatest inline size of a table, the greatest alignments, and the most slots.
 -- From the FlatBuffers documentation, "FlatBuffer Internals": Tables, Structs.
-use Rattle.std.specs.Prelude.{ℕ, ◌+◌, max, map, sum_by, if◌then◌else◌}
-use Rattle.fb_schema.specs.Schema.{DeclaredType, slots_in}
+use Rattle.std.specs.Prelude.{ℕ, ◌+◌, max, length, map, sum_by, if◌then◌else◌}
+use Rattle.fb_schema.specs.Schema.{DeclaredSchema, DeclaredType, slots_in}
 use Rattle.fb_schema.specs.Alignments.{greatest_in}
 use Rattle.fb_layout.specs.Sizes.{ceil4}
 use Rattle.fb_layout.specs.Laid.{LaidSchema, StoredShape, one_of, vector_of, stored_shape, slots_of, kind_in, size_of}
@@ -31,3 +31,7 @@ slots_align L type = greatest_in (map (λ f. align_of L (kind_in (stored_shape L
 -- the greatest of 4 and the alignments of all structs, also unused ones, of all slots and of all elements of vectors
 abbrev pub greatest : LaidSchema → ℕ
 greatest L = max 4 (max (greatest_in (map (λ r. r.align) L.structs)) (greatest_in (map (slots_align L) L.schema.types)))
+
+-- the most slots that a table has
+abbrev pub most_slots : DeclaredSchema → ℕ
+most_slots S = greatest_in (map (λ type. length (slots_in type.body)) S.types)

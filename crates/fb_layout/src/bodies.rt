@@ -2,6 +2,7 @@
 ghost use Rattle.std.specs.Prelude.{◌≡◌, map};
 ghost use Rattle.fb_schema.specs.Schema.{body_at, slots_in, parts_in};
 ghost use Rattle.fb_schema.specs.Seen.{field_seen, body_seen};
+ghost use Rattle.fb_layout.specs.Widths.{most_slots};
 
 use fb_schema::{Body, FieldInfo, Schema, TypeId};
 
@@ -40,4 +41,16 @@ pub(crate) fn parts_at(schema: &Schema, structure: TypeId) -> &[FieldInfo]
         Some(info) => parts_in(&info.body),
         None => &[],
     }
+}
+
+/// The most slots that a table has.
+pub(crate) fn most_slots(schema: &Schema) -> usize
+    ensures { result ≡ most_slots schema.now }
+{
+    let types = schema.types();
+    let mut most = 0;
+    for info in types {
+        most = slots_in(&info.body).len().max(most);
+    }
+    most
 }

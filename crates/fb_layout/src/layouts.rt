@@ -4,12 +4,12 @@ ghost use Rattle.fb_schema.specs.Schema.{body_at, slots_in, parts_in, base_in};
 ghost use Rattle.fb_schema.specs.Seen.{field_seen};
 ghost use Rattle.fb_layout.specs.declared.faults.LayoutFault.TheVariants.{Memory};
 ghost use Rattle.fb_layout.specs.Laid.{LaidSchema, stored_kind, struct_at, size_of, align_of};
-ghost use Rattle.fb_layout.specs.Widths.{widest, table_align, greatest};
+ghost use Rattle.fb_layout.specs.Widths.{widest, table_align, greatest, most_slots};
 ghost use Rattle.fb_layout.specs.WellMade.{IsWellMade};
 ghost use Rattle.fb_layout.specs.Refused.{Refuses};
 ghost use Rattle.fb_layout.specs.Required.{required_slots};
 
-use crate::bodies::{parts_at, slots_at};
+use crate::bodies::{most_slots, parts_at, slots_at};
 use crate::extents::{StructSizes, base_in, extent_of, offsets_in};
 use crate::faults::LayoutFault;
 use crate::greatest::greatest;
@@ -29,6 +29,7 @@ pub struct Layout {
     tables: Vec<TableSizes>,
     required: Vec<Vec<u16>>,
     greatest: u16,
+    most_slots: usize,
 }
 
 impl Model for Layout {
@@ -67,12 +68,14 @@ pub fn lay(alloc: Global, schema: Schema) -> Result<Layout, (LayoutFault, Schema
         return Err((LayoutFault::Memory, schema));
     };
     let greatest = greatest(&schema, structs.as_slice());
+    let most_slots = most_slots(&schema);
     Ok(Layout {
         schema,
         structs,
         tables,
         required,
         greatest,
+        most_slots,
     })
 }
 
@@ -183,5 +186,13 @@ impl Layout {
         ensures { result ≡ greatest self.now }
     {
         u32::from(self.greatest)
+    }
+
+    /// The most slots that a table has.
+    pub fn most_slots(&self) -> usize
+        ensures most { result ≡ most_slots self.now.schema }
+        ensures few { result ≤ 32765 }
+    {
+        self.most_slots
     }
 }

@@ -1,3 +1,4 @@
 -- What the proofs of src/reader.rt use.
+pub mod PathEndsAtTheFault
 pub mod RootValueIsHeld
 pub mod RootVisitDecides

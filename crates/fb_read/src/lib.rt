@@ -3,6 +3,7 @@
 
 mod entries;
 mod entry;
+mod fault_steps;
 mod fixed_view;
 mod header;
 mod inlines;
@@ -16,6 +17,8 @@ mod reader;
 mod reference;
 mod rules;
 mod source;
+mod spot;
+mod step;
 mod stored;
 mod view;
 mod visit_leaves;
@@ -27,5 +30,7 @@ pub use entry::Entry;
 pub use fb_value::ReadFault;
 pub use fixed_view::FixedView;
 pub use items::Items;
+pub use reader::paths::fault_path;
 pub use reader::{read, verify};
+pub use step::Step;
 pub use view::View;

@@ -8,6 +8,7 @@ ghost use Rattle.fb_value.specs.Holds.{Holds, RootKeeps, Refuses};
 ghost use Rattle.fb_read.specs.Memory.{PartIsReached};
 ghost use Rattle.fb_read.specs.Shows.{Shows};
 
+pub(crate) mod paths;
 pub(crate) mod ticks;
 
 use crate::entries::Entries;

@@ -190,7 +190,7 @@ fn visit_union(
 #[inline(always)]
 #[cycle(visit)]
 #[tactic(auto, using(crate::proofs::visit_tables::VisitsOnePlaceAfterAnother::visit_ref))]
-fn visit_vector_behind(
+pub fn visit_vector_behind(
     source: &Source,
     walk: &mut Walk,
     kind: Kind,

@@ -11,9 +11,8 @@ use crate::texts::Texts;
 use clap::Error;
 use clap::error::ErrorKind;
 use flatc_cli::{Job, Request, request_of};
-use flatc_tool::{
-    Limits, Noted, ToolFault, check, conform_texts, print_to, report, to_binary, to_json,
-};
+use flatc_tool::command::report;
+use flatc_tool::{Limits, Noted, ToolFault, check, conform_texts, print_to, to_binary, to_json};
 use std::alloc::Global;
 use std::process::ExitCode;
 use std::{env, io};

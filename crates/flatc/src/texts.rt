@@ -1,5 +1,6 @@
 //! What a job reads, kept for an explanation.
-use flatc_tool::{Heard, ToolFault, take_all};
+use flatc_tool::ToolFault;
+use flatc_tool::command::{Heard, take_all};
 use std::fs;
 use std::io::{self, Read};
 

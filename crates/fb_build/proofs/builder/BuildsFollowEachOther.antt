@@ -9,7 +9,7 @@ use Rattle.fb_build.specs.Tails.{TailSeen, Grows}
 use Rattle.fb_build.proofs.tail.WhatIsLaidStaysLaid.{same_grows, then_grows}
 use Rattle.fb_build.proofs.vtables.VtableIsLaidOnce.{shared_grown}
 
-pub builds_nothing : (L : LaidSchema) (b : Builder) → IsBuilder b → Builds L b b
+pub builds_nothing : (L : LaidSchema) (b : Builder) → IsBuilder L b → Builds L b b
 builds_nothing L b ready = record { same = refl; grows = same_grows b.tail; bound = omega arith; ready = ready }
 
 pub builds_then : (L : LaidSchema) (a b c : Builder) → Builds L a b → Builds L b c → Builds L a c
@@ -22,7 +22,7 @@ builds_then L a b c first next = record {
 
 -- where its tail alone grew
 pub tail_builds : (L : LaidSchema) (b : Builder) (tail : TailSeen) → Grows b.tail tail
-    → tail.most ≤ max b.tail.most (greatest L) → IsBuilder b → Builds L b (record b { tail = tail })
+    → tail.most ≤ max b.tail.most (greatest L) → IsBuilder L b → Builds L b (record b { tail = tail })
 tail_builds L b tail grows bound ready = record {
   same = refl;
   grows = grows;
@@ -32,7 +32,7 @@ tail_builds L b tail grows bound ready = record {
 
 -- where what is written before it is looked up is another, too
 pub scratch_builds : (L : LaidSchema) (b : Builder) (tail : TailSeen) (bytes : List ℕ) → Grows b.tail tail
-    → tail.most ≤ max b.tail.most (greatest L) → IsBuilder b
+    → tail.most ≤ max b.tail.most (greatest L) → IsBuilder L b
     → Builds L b (record b { tail = tail; scratch = with_items b.scratch bytes })
 scratch_builds L b tail bytes grows bound ready = record {
   same = refl;

@@ -32,7 +32,8 @@ use Rattle.fb_build.proofs.fields.FieldHasItsValue.{entry_grown, target_grown}
 use Rattle.fb_build.proofs.vectors.VectorHasItsElements.{parts_next}
 use Rattle.fb_build.specs.Items.{ItemsKnown}
 use Rattle.fb_layout.specs.Laid.{StoredKind, kind_in, align_of}
-use Rattle.fb_layout.specs.Widths.{greatest}
+use Rattle.fb_layout.specs.Widths.{greatest, most_slots}
+use Rattle.fb_layout.proofs.slots.MostSlotsBoundEachTable.{slots_within}
 use Rattle.fb_layout.proofs.sizes.AlignmentsArePowersOfTwo.{slot_below}
 use Rattle.fb_build.proofs.fields.SlotStoresItsEntry.{by_index, same_some, slots_long, entries_long}
 
@@ -74,6 +75,11 @@ known_of L t es made fits whole =
 pub slots_are : (L : LaidSchema) (t : ℕ) (slots : List FieldInfo)
     → map field_seen slots ≡ slots_in (body_at L.schema t) → slots_seen L slots ≡ slots_of L t
 slots_are L t slots same = ap (map (slot_of L.schema)) same
+
+-- no more than the most that a table has
+pub slots_few : (L : LaidSchema) (t : ℕ) (slots : List FieldInfo) → slots_seen L slots ≡ slots_of L t
+    → length slots ≤ most_slots L.schema
+slots_few L t slots seen = let own = slots_within L t in omega (arith, own, ap length seen, slots_long L slots)
 
 -- one for each entry
 pub slots_many : (L : LaidSchema) (t : ℕ) (slots : List FieldInfo) (es : List (Option Value))

@@ -13,11 +13,11 @@ use Rattle.fb_value.specs.Holds.{Holds, Refuses, header_fault, checked_identifie
 use Rattle.fb_value.proofs.held.BytesHoldAValueOrAFault.{outcome_shown}
 use Rattle.fb_read.specs.Visits.{outcome, visit}
 
-err_told : (o : Option ReadFault) (n : ℕ) (f : ReadFault) → outcome o n ≡ Err f → o ≡ Some f
+pub err_told : (o : Option ReadFault) (n : ℕ) (f : ReadFault) → outcome o n ≡ Err f → o ≡ Some f
 err_told None n f e = cc
 err_told (Some g) n f e = let is : g ≡ f = cc in rw is refl
 
-ok_told : (o : Option ReadFault) (n m : ℕ) → outcome o n ≡ Ok m → o ≡ None
+pub ok_told : (o : Option ReadFault) (n m : ℕ) → outcome o n ≡ Ok m → o ≡ None
 ok_told None n m e = refl
 ok_told (Some g) n m e = cc
 

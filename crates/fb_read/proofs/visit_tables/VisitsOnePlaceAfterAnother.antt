@@ -138,11 +138,11 @@ module _ (L : LaidSchema) (b : Bytes) (most : Bounds) where
 
   -- ---- limits
 
-  small_yes : (p cells : ℕ) → cells ≤ most.cells → first_failing ((TooManyCells p, nat_le cells most.cells) ∷ []) ≡ None
+  pub small_yes : (p cells : ℕ) → cells ≤ most.cells → first_failing ((TooManyCells p, nat_le cells most.cells) ∷ []) ≡ None
   unfolding first_failing
   small_yes p cells h = let yes : nat_le cells most.cells ≡ true = le-leb _ _ h in rw yes refl
 
-  small_no : (p cells : ℕ) → most.cells < cells → first_failing ((TooManyCells p, nat_le cells most.cells) ∷ [])
+  pub small_no : (p cells : ℕ) → most.cells < cells → first_failing ((TooManyCells p, nat_le cells most.cells) ∷ [])
       ≡ Some (TooManyCells p)
   unfolding first_failing
   small_no p cells h = let no : nat_le cells most.cells ≡ false = grind (arith, nat_tests) in rw no refl
@@ -181,20 +181,20 @@ module _ (L : LaidSchema) (b : Bytes) (most : Bounds) where
 
   -- ---- tables
 
-  deep_no : (p tables cells : ℕ) → most.depth < tables
+  pub deep_no : (p tables cells : ℕ) → most.depth < tables
       → first_failing ((TooDeep p, nat_le tables most.depth) ∷ (TooManyCells p, nat_le cells most.cells) ∷ [])
       ≡ Some (TooDeep p)
   unfolding first_failing
   deep_no p tables cells h = let no : nat_le tables most.depth ≡ false = grind (arith, nat_tests) in rw no refl
 
-  both_no : (p tables cells : ℕ) → tables ≤ most.depth → most.cells < cells
+  pub both_no : (p tables cells : ℕ) → tables ≤ most.depth → most.cells < cells
       → first_failing ((TooDeep p, nat_le tables most.depth) ∷ (TooManyCells p, nat_le cells most.cells) ∷ [])
       ≡ Some (TooManyCells p)
   unfolding first_failing
   both_no p tables cells h i = let yes : nat_le tables most.depth ≡ true = le-leb _ _ h in
       let no : nat_le cells most.cells ≡ false = grind (arith, nat_tests) in rw (yes, no) refl
 
-  both_yes : (p tables cells : ℕ) → tables ≤ most.depth → cells ≤ most.cells
+  pub both_yes : (p tables cells : ℕ) → tables ≤ most.depth → cells ≤ most.cells
       → first_failing ((TooDeep p, nat_le tables most.depth) ∷ (TooManyCells p, nat_le cells most.cells) ∷ []) ≡ None
   unfolding first_failing
   both_yes p tables cells h i = let yes : nat_le tables most.depth ≡ true = le-leb _ _ h in
@@ -222,13 +222,13 @@ module _ (L : LaidSchema) (b : Bytes) (most : Bounds) where
 
   -- ---- a member is visited at as its table
 
-  member_fault : (c t p tables spent : ℕ) → fault_from L b most (record { sort = part_place (member_part c t); at = p })
+  pub member_fault : (c t p tables spent : ℕ) → fault_from L b most (record { sort = part_place (member_part c t); at = p })
       tables spent ≡ fault_from L b most (record { sort = part_place (table_part t); at = p }) tables spent
   unfolding limited_fault fault_by
   member_fault c t p tables spent = fault_from_is L b most (record { sort = part_place (member_part c t); at = p })
       tables spent ∙ sym (fault_from_is L b most (record { sort = part_place (table_part t); at = p }) tables spent)
 
-  member_all : (c t p : ℕ) → all L b (record { sort = part_place (member_part c t); at = p })
+  pub member_all : (c t p : ℕ) → all L b (record { sort = part_place (member_part c t); at = p })
       ≡ all L b (record { sort = part_place (table_part t); at = p })
   unfolding fault_by
   member_all c t p = all_is L b (record { sort = part_place (member_part c t); at = p })

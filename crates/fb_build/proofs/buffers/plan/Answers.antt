@@ -1,4 +1,4 @@
-use Rattle.std.proofs.Common.{◌≡◌, ◌≤◌, ◌∙◌, sym, length, map, arith}
+use Rattle.std.proofs.Common.{◌≡◌, ◌≤◌, ◌+◌, ◌*◌, ◌∙◌, sym, length, map, arith}
 use Rattle.std.proofs.lemmas.List.{length-map}
 use Rattle.std.specs.Vec.{with_items}
 use Rattle.fb_value.specs.Room.{room_of}
@@ -6,7 +6,7 @@ use Rattle.fb_value.specs.View.{view}
 use Rattle.fb_value.proofs.types.EachVariantHasItsView.{view-Fields}
 use Rattle.fb_value.proofs.types.NestingIsBoundedByDepth.{nesting_of_depth_shown, root_fits}
 use Rattle.fb_build.specs.Needs.{need}
-use Rattle.fb_build.specs.Vtables.{VtablesKnown}
+use Rattle.fb_build.specs.Vtables.{VtablesKnown, longest_vtable}
 use Rattle.fb_build.proofs.vtables.KeyHasTheBytes.{different}
 use Rattle.fb_build.proofs.fields.AlignmentDividesTheSize.{all_known}
 use Rattle.fb_build.proofs.buffers.ReservedMemoryIsZero.{long_in, zeros_in, zero_in, need_within}
@@ -46,10 +46,11 @@ invariant_of-result c =
     let counts : need (view c.args.value.now) ≡ c.in_ok-waiting.waiting =
     rw (c.in-Fields.is, view-Fields c.in-Fields.table c.in-Fields.entries) (sym needed) in
     let scratch = with_items c.in_ok-scratch.scratch c.add_table.new.scratch in
-    let bytes : length scratch.items ≡ 65534 = omega (arith, scratch.ok.0, c.in_ok-scratch.ensures.len) in
+    let bytes : length scratch.items ≡ 4 + 2 * c.most_slots-slots.result =
+    omega (arith, scratch.ok.0, c.in_ok-scratch.ensures.len) in
     let enough : need (view c.args.value.now) ≤ length c.in_ok-pending.pending.items =
     omega (arith, c.in_ok-pending.ensures.len, counts) in
-    let wide : 65534 ≤ length scratch.items = omega (arith, bytes) in
+    let wide : longest_vtable L ≤ length scratch.items = omega (arith, bytes, c.most_slots-slots.ensures.most) in
     let long : length c.in_ok-block.block.items ≡ room_of L (view c.args.value.now) =
     long_in _ _ block ∙ c.in-Some.ensures.1 in
     let short : length c.in_ok-block.block.items ≤ 2147483647 = omega (arith, long, c.in-Some.ensures.0) in

@@ -1,6 +1,7 @@
 use Rattle.std.proofs.Common.{ℕ, ◌≡◌, ◌≤◌, ◌+◌, ◌*◌, ◌∙◌, true, not, List}
 use Rattle.std.proofs.Common.{Option, None, Some, IfSome, length, map, take, slice_get, slice_index, refl}
 use Rattle.std.proofs.Common.{sym, ap, subst, arith}
+use Rattle.std.proofs.lemmas.List.{length-take-le}
 use Rattle.std.specs.Option.{is_some}
 use Rattle.fb_layout.specs.Laid.{Slot, slots_of}
 use Rattle.fb_value.specs.Datum.{Datum}
@@ -13,7 +14,7 @@ use Rattle.fb_build.proofs.vtables.EachVtableIsAKey.{listed}
 use Rattle.fb_layout.proofs.slots.NarrowTablesAreKnown.{ceil-is}
 use Rattle.fb_build.specs.Fields.{stored_in, entries_seen, fields_size}
 use Rattle.fb_build.proofs.fields.SlotStoresItsEntry.{slots_long, entries_long}
-use Rattle.fb_build.proofs.tables.PartsFitTheirSlots.{known_of, slots_are}
+use Rattle.fb_build.proofs.tables.PartsFitTheirSlots.{known_of, slots_are, slots_few}
 use Rattle.fb_build.proofs.tables.TableFitsItsRoom.{fields_narrow}
 use Rattle.fb_build.proofs.keys.add_vtable.Goals as goal
 
@@ -35,6 +36,78 @@ place_fields-end-requires-clause-narrow c =
     let seen = slots_are L c.args.table.0 c.slots_of-slots.result.now c.slots_of-slots.ensures.slots in
     rw seen (fields_narrow L c.args.table.0 (stored_in (slots_of L c.args.table.0) (entries_seen es)) known.known
     (made.tables c.args.table.0).wide)
+
+pub place_fields-end-requires-clause-links : goal.place_fields-end-requires-clause-links
+place_fields-end-requires-clause-links c =
+    let L = c.args.layout.now in
+    let seen = slots_are L c.args.table.0 c.slots_of-slots.result.now c.slots_of-slots.ensures.slots in
+    let few = slots_few L c.args.table.0 c.slots_of-slots.result.now seen in
+    omega (arith, few, c.requires.long)
+
+-- the slots of a table are few enough for what is kept for one table at a time
+pub slice_bounds-ends-end : goal.slice_bounds-ends-end
+slice_bounds-ends-end c =
+    let L = c.args.layout.now in
+    let seen = slots_are L c.args.table.0 c.slots_of-slots.result.now c.slots_of-slots.ensures.slots in
+    let few = slots_few L c.args.table.0 c.slots_of-slots.result.now seen in
+    omega (arith, few, c.requires.many)
+
+pub slice_bounds-ends-end-2 : goal.slice_bounds-ends-end-2
+slice_bounds-ends-end-2 c =
+    let L = c.args.layout.now in
+    let seen = slots_are L c.args.table.0 c.slots_of-slots.result.now c.slots_of-slots.ensures.slots in
+    let few = slots_few L c.args.table.0 c.slots_of-slots.result.now seen in
+    sym (length-take-le (length c.slots_of-slots.result.now) c.args.ends.now (omega (arith, few, c.requires.many)))
+
+pub place_fields-end-requires-clause-each : goal.place_fields-end-requires-clause-each
+place_fields-end-requires-clause-each c =
+    let L = c.args.layout.now in
+    let seen = slots_are L c.args.table.0 c.slots_of-slots.result.now c.slots_of-slots.ensures.slots in
+    let few = slots_few L c.args.table.0 c.slots_of-slots.result.now seen in
+    length-take-le (length c.slots_of-slots.result.now) c.args.ends.now (omega (arith, few, c.requires.many))
+
+pub put_vtable-used-requires-clause-long : goal.put_vtable-used-requires-clause-long
+put_vtable-used-requires-clause-long c =
+    let L = c.args.layout.now in
+    let seen = slots_are L c.args.table.0 c.slots_of-slots.result.now c.slots_of-slots.ensures.slots in
+    let few = slots_few L c.args.table.0 c.slots_of-slots.result.now seen in
+    let own = length-take-le (length c.slots_of-slots.result.now) c.args.ends.now
+    (omega (arith, few, c.requires.many)) in
+    omega (arith, few, own, c.requires.long, c.place_fields-end.ensures.links)
+
+pub slice_bounds-vtable-end : goal.slice_bounds-vtable-end
+slice_bounds-vtable-end c =
+    let L = c.args.layout.now in
+    let seen = slots_are L c.args.table.0 c.slots_of-slots.result.now c.slots_of-slots.ensures.slots in
+    let few = slots_few L c.args.table.0 c.slots_of-slots.result.now seen in
+    let own = length-take-le (length c.slots_of-slots.result.now) c.args.ends.now
+    (omega (arith, few, c.requires.many)) in
+    omega (
+      arith,
+      few,
+      own,
+      c.requires.long,
+      c.place_fields-end.ensures.links,
+      c.put_vtable-used.ensures.within,
+      c.put_vtable-used.ensures.long,
+    )
+
+pub slice_bounds-vtable-end-2 : goal.slice_bounds-vtable-end-2
+slice_bounds-vtable-end-2 c =
+    let L = c.args.layout.now in
+    let seen = slots_are L c.args.table.0 c.slots_of-slots.result.now c.slots_of-slots.ensures.slots in
+    let few = slots_few L c.args.table.0 c.slots_of-slots.result.now seen in
+    let own = length-take-le (length c.slots_of-slots.result.now) c.args.ends.now
+    (omega (arith, few, c.requires.many)) in
+    sym (length-take-le (4 + 2 * c.put_vtable-used.result) c.put_vtable-used.new.scratch (omega (
+      arith,
+      few,
+      own,
+      c.requires.long,
+      c.place_fields-end.ensures.links,
+      c.put_vtable-used.ensures.within,
+      c.put_vtable-used.ensures.long,
+    )))
 
 pub place_fields-end-requires-clause-long : goal.place_fields-end-requires-clause-long
 place_fields-end-requires-clause-long c =

@@ -1,8 +1,9 @@
 use Rattle.std.proofs.Common.{ℕ, ◌≡◌, ◌+◌, ◌-◌, ◌∙◌, true, refl, sym, ap, subst, slice_index, arith}
 use Rattle.std.proofs.lemmas.Bool.{eq-eqb}
 use Rattle.std.specs.Vec.{with_items}
-use Rattle.std.proofs.lemmas.List.{with_items_is}
+use Rattle.std.proofs.lemmas.List.{length-take-le, with_items_is}
 use Rattle.fb_layout.specs.Laid.{slots_of}
+use Rattle.fb_layout.proofs.slots.MostSlotsBoundEachTable.{slots_within}
 use Rattle.fb_value.specs.Num.{Bytes, divides}
 use Rattle.fb_build.specs.Fields.{stored_in, stored_align, entries_seen}
 use Rattle.fb_build.specs.TableBytes.{VtableEnd, vtable_bytes, offset_from}
@@ -16,7 +17,7 @@ use Rattle.std.proofs.Common.{List, Option, Some, Vec, take, ◌*◌}
 use Rattle.fb_value.specs.Datum.{Datum, a_table}
 use Rattle.fb_value.specs.View.{entries_view}
 use Rattle.fb_build.specs.FieldEnds.{table_size, table_vtable}
-use Rattle.fb_build.specs.Vtables.{vtable_of}
+use Rattle.fb_build.specs.Vtables.{longest_vtable, vtable_of}
 use Rattle.fb_build.proofs.vtables.VtableHasTheDefinedBytes.{vtable_is_of}
 use Rattle.fb_build.proofs.vtables.EachVtableIsAKey.{listed}
 use Rattle.fb_build.proofs.tables.TableLeadsToItsTargets.{table_leads}
@@ -49,6 +50,11 @@ put_vtable-slots-requires-clause-under c k =
     let long = grown_long c.args.builder.now.tail c.pad.new.self c.pad.ensures.grows in
     omega (arith, under, long, c.pad.ensures.free, c.count.ensures.exact)
 
+pub put_vtable-slots-requires-clause-long : goal.put_vtable-slots-requires-clause-long
+put_vtable-slots-requires-clause-long c =
+    let few = slots_within c.args.layout.now c.args.table.0 in
+    omega (arith, few, c.requires.laid.slots.each, c.requires.ready.long, ap length c.as_mut_slice-scratch.ensures.value)
+
 pub put_vtable-slots-requires-clause-fits : goal.put_vtable-slots-requires-clause-fits
 put_vtable-slots-requires-clause-fits c k =
     let L = c.args.layout.now in
@@ -59,6 +65,43 @@ put_vtable-slots-requires-clause-fits c k =
     let long = grown_long c.args.builder.now.tail c.pad.new.self c.pad.ensures.grows in
     offset_small (c.count.result + 4) (slice_index c.args.ends.now k) c.args.start high
     (omega (arith, long, c.pad.ensures.free, c.pad.ensures.under, c.count.ensures.exact, c.requires.narrow))
+
+pub slice_bounds-vtable-end : goal.slice_bounds-vtable-end
+slice_bounds-vtable-end c =
+    let few = slots_within c.args.layout.now c.args.table.0 in
+    let as_long : length c.put_vtable-slots.new.scratch ≡ length c.args.builder.now.scratch.items =
+    c.put_vtable-slots.ensures.long ∙ ap length c.as_mut_slice-scratch.ensures.value in
+    let scratch = with_items_is c.args.builder.now.scratch c.put_vtable-slots.new.scratch
+    (omega (arith, as_long, c.args.builder.now.scratch.ok.0)) in
+    sym (length-take-le (4 + 2 * c.put_vtable-slots.result) c.deref.result.now (omega (
+      arith,
+      few,
+      as_long,
+      ap length c.deref.ensures.value,
+      ap length scratch,
+      c.requires.laid.slots.each,
+      c.requires.ready.long,
+      c.put_vtable-slots.ensures.within,
+    )))
+
+pub lay_vtable-requires-clause-even : goal.lay_vtable-requires-clause-even
+lay_vtable-requires-clause-even c =
+    let few = slots_within c.args.layout.now c.args.table.0 in
+    let as_long : length c.put_vtable-slots.new.scratch ≡ length c.args.builder.now.scratch.items =
+    c.put_vtable-slots.ensures.long ∙ ap length c.as_mut_slice-scratch.ensures.value in
+    let scratch = with_items_is c.args.builder.now.scratch c.put_vtable-slots.new.scratch
+    (omega (arith, as_long, c.args.builder.now.scratch.ok.0)) in
+    let long = length-take-le (4 + 2 * c.put_vtable-slots.result) c.deref.result.now (omega (
+      arith,
+      few,
+      as_long,
+      ap length c.deref.ensures.value,
+      ap length scratch,
+      c.requires.laid.slots.each,
+      c.requires.ready.long,
+      c.put_vtable-slots.ensures.within,
+    )) in
+    omega (arith, long)
 
 pub lay_vtable-requires-clause-told : goal.lay_vtable-requires-clause-told
 lay_vtable-requires-clause-told c =
@@ -314,7 +357,8 @@ returns-clause-builds c =
     c.put_vtable-slots.ensures.long ∙ ap length c.as_mut_slice-scratch.ensures.value in
     let scratch = with_items_is c.args.builder.now.scratch c.put_vtable-slots.new.scratch
     (omega (arith, as_long, c.args.builder.now.scratch.ok.0)) in
-    let long : 65534 ≤ length c.put_vtable-slots.new.scratch = omega (arith, as_long, c.requires.ready.long) in
+    let long : longest_vtable c.args.layout.now ≤ length c.put_vtable-slots.new.scratch =
+    omega (arith, as_long, c.requires.ready.long) in
     record {
       same = refl;
       grows = then_grows _ _ _ c.pad.ensures.grows c.lay_vtable.ensures.grows;

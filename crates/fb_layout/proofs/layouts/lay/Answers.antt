@@ -35,6 +35,7 @@ invariant_of-result c =
       required = c.in-Ok-required_of.ensures;
       greatest = c.greatest-greatest.ensures ∙ ap (λ s. greatest (layout_known S (map (option_map sizes_seen) s)))
           c.as_slice-2.ensures.value;
+      most_slots = c.most_slots-most_slots.ensures;
     }
 
 pub returns-clause-made : goal.returns-clause-made

@@ -14,6 +14,11 @@ fill-requires-clause-pending c =
     let pending = rw (c.in-Fields.is, view-Fields c.in-Fields.table c.in-Fields.entries) at c.self.invariant.pending in
     rw c.deref.ensures.value (omega (arith, pending, c.as_mut_slice.ensures.len))
 
+pub fill-requires-clause-room : goal.fill-requires-clause-room
+fill-requires-clause-room c =
+    let room = rw (c.in-Fields.is, view-Fields c.in-Fields.table c.in-Fields.entries) at c.self.invariant.room in
+    rw c.deref.ensures.value (omega (arith, room, c.new.ensures.free))
+
 pub returns-clause-holds : goal.returns-clause-holds
 returns-clause-holds c most raw deep small =
     let layout = ap (λ p. p.layout) c.self.view_is in
