@@ -1,7 +1,7 @@
 #!/usr/bin/env bash
 # The gate: all that rt ci proves and runs, whether each mutation can still be applied and each edit in not-compiled/
-# is refused, and the built program: with words and files, with what is done to OUT, and where memory, pipes and stack
-# run out; and the calls with growths refused, and some thousand damaged buffers. The last line counts all of it:
+# is refused, and the built program: with words and files, with what is done to OUT, where memory, pipes and stack
+# run out, and what it explains; and the calls with growths refused, and some thousand damaged buffers. The last line counts all of it:
 # 'N passed, M failed'.
 set -uo pipefail
 cd "$(dirname "$0")/.."
@@ -20,7 +20,7 @@ if [ ! -x "$hostile" ]; then
     python3 tools/build.py hostile || status=1
 fi
 python3 tools/mutations.py --not-compiled | tee "$logs/not-compiled" || status=1
-for part in command outputs hostile; do
+for part in command outputs hostile explain; do
     python3 "tests/$part.py" "$program" | tee "$logs/$part" || status=1
 done
 for part in growths soak; do
@@ -29,7 +29,7 @@ done
 
 passed=0
 failed=0
-for log in "$logs"/{ci,mutations,not-compiled,command,outputs,hostile,growths,soak}; do
+for log in "$logs"/{ci,mutations,not-compiled,command,outputs,hostile,explain,growths,soak}; do
     if [[ $(tail -n 1 "$log") =~ ^([0-9]+)\ passed,\ ([0-9]+)\ failed$ ]]; then
         passed=$((passed + BASH_REMATCH[1]))
         failed=$((failed + BASH_REMATCH[2]))

@@ -38,7 +38,7 @@ fn push_compared(
     }
 }
 
-impl<'s> Sides<'s> {
+impl<'s, 't> Sides<'s, 't> {
     /// Adds a field's name behind its type's.
     fn push_field_name(&self, page: &mut Page, old: TypeId, name: &str) -> Result<(), AllocError> {
         page.push_cut(type_name(self.old.schema(), old).as_bytes())?;

@@ -1,9 +1,10 @@
 //! What is wrong with a buffer.
+use crate::buffer_paths::push_path;
 use crate::dumps::push_dump;
+use crate::explanations::Sources;
 use crate::pages::Page;
-use crate::sources::Source;
-use bstr::ByteSlice;
 use fb_layout::Layout;
+use fb_read::fault_path;
 use fb_value::ReadFault;
 use std::alloc::AllocError;
 
@@ -136,15 +137,37 @@ fn push_rule(
     }
 }
 
+/// Adds the path to what is wrong behind a buffer's header.
+fn push_fault_path(
+    page: &mut Page,
+    layout: &Layout,
+    sources: &Sources<'_>,
+) -> Result<(), AllocError> {
+    let steps = fault_path(
+        page.alloc(),
+        layout,
+        sources.input.bytes,
+        sources.limits,
+        sources.raw_binary,
+    )?;
+    if let Some(steps) = steps {
+        push_path(page, layout, steps.as_slice())?;
+        page.push_str(": ")?;
+    }
+    Ok(())
+}
+
 /// Adds what is wrong with a buffer.
 pub(crate) fn push_buffer_fault(
     page: &mut Page,
     layout: &Layout,
-    source: &Source<'_>,
+    sources: &Sources<'_>,
     fault: ReadFault,
 ) -> Result<(), AllocError> {
+    let source = &sources.input;
     page.push_str(source.path)?;
     page.push_str(": ")?;
+    push_fault_path(page, layout, sources)?;
     push_rule(page, layout, source.bytes, fault)?;
     match fault.offset() {
         Some(offset) => push_dump(page, source.bytes, offset as usize),

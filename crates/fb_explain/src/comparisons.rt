@@ -14,7 +14,7 @@ pub(crate) enum Asked {
     Warnings,
 }
 
-fn push_asked(page: &mut Page, sides: &Sides<'_>, asked: Asked) -> Result<(), AllocError> {
+fn push_asked(page: &mut Page, sides: &Sides<'_, '_>, asked: Asked) -> Result<(), AllocError> {
     match asked {
         Asked::Breach(breach) => sides.push_breach(page, breach),
         Asked::Warnings => sides.push_warnings(page),
@@ -22,10 +22,10 @@ fn push_asked(page: &mut Page, sides: &Sides<'_>, asked: Asked) -> Result<(), Al
 }
 
 /// Adds what is asked of two schema texts; nothing where one is refused.
-pub(crate) fn push_comparison(
+pub(crate) fn push_comparison<'t>(
     page: &mut Page,
-    old: &Source<'_>,
-    new: &Source<'_>,
+    old: Source<'t>,
+    new: Source<'t>,
     asked: Asked,
 ) -> Result<(), AllocError> {
     let (Ok(old_layout), Ok(new_layout)) = (

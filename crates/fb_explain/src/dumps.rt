@@ -14,7 +14,7 @@ fn push_offset(page: &mut Page, offset: usize) -> Result<(), AllocError> {
     let mut left = offset / 10;
     for _ in 0..OFFSET_DIGITS {
         if left > 0 {
-            digits += 1;
+            digits = digits.saturating_add(1);
             left /= 10;
         }
     }

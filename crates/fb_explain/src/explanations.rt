@@ -2,9 +2,12 @@
 use crate::bad_json::push_bad_json;
 use crate::buffer_faults::push_buffer_fault;
 use crate::comparisons::{Asked, push_comparison};
+use crate::json_faults::push_json_fault;
 use crate::pages::Page;
 use crate::schema_faults::push_schema_fault;
 use crate::sources::Source;
+use crate::union_codes::push_unnamed_member;
+use fb_text::{TextFault, WriteFault};
 use fb_value::Limits;
 use flatc_tool::{SchemaTextFault, ToolFault, schema_of};
 use std::alloc::{AllocError, Global};
@@ -52,12 +55,28 @@ fn push_explanation(
         }
         ToolFault::Newer(fault) => push_schema_fault(page, &sources.input, fault),
         ToolFault::BadJson => push_bad_json(page, &sources.input),
+        ToolFault::Json(fault) => match schema_of(page.alloc(), sources.schema.bytes) {
+            Ok(layout) => push_json_fault(page, &layout, sources, fault),
+            Err(_) => Ok(()),
+        },
+        ToolFault::Text(TextFault::NoMemberName(place))
+        | ToolFault::Write(WriteFault::NoMemberName(place)) => {
+            match schema_of(page.alloc(), sources.schema.bytes) {
+                Ok(layout) => push_unnamed_member(page, &layout, sources, place),
+                Err(_) => Ok(()),
+            }
+        }
+        ToolFault::Write(WriteFault::WriteFailed(written)) => {
+            page.push_str("standard output took no more after ")?;
+            page.push_number(written)?;
+            page.push_line(" bytes")
+        }
         ToolFault::Read(fault) => match schema_of(page.alloc(), sources.schema.bytes) {
-            Ok(layout) => push_buffer_fault(page, &layout, &sources.input, fault),
+            Ok(layout) => push_buffer_fault(page, &layout, sources, fault),
             Err(_) => Ok(()),
         },
         ToolFault::Breach(breach) => {
-            push_comparison(page, &sources.schema, &sources.input, Asked::Breach(breach))
+            push_comparison(page, sources.schema, sources.input, Asked::Breach(breach))
         }
         ToolFault::FileRead | ToolFault::FileWrite | ToolFault::FileTooLong => {
             push_file(page, sources.failure)
@@ -82,10 +101,10 @@ pub fn explain(
 
 /// What may be meant otherwise under a new schema that conforms: a line for each name that stands for
 /// another field or member, since JSON texts go by names.
-pub fn warnings(
+pub fn warnings<'t>(
     alloc: Global,
-    old: &Source<'_>,
-    new: &Source<'_>,
+    old: Source<'t>,
+    new: Source<'t>,
 ) -> Result<String, AllocError> {
     let mut page = Page::new(alloc);
     push_comparison(&mut page, old, new, Asked::Warnings)?;

@@ -5,12 +5,16 @@ mod bad_json;
 mod breach_fields;
 mod breach_lines;
 mod buffer_faults;
+mod buffer_paths;
 mod comparisons;
 mod declared;
 mod dumps;
 mod excerpts;
 mod explanations;
 mod fault_pages;
+mod json_faults;
+mod json_places;
+mod json_rules;
 mod moved_names;
 mod near_names;
 mod pages;
@@ -20,6 +24,7 @@ mod schema_tokens;
 mod shapes;
 mod sides;
 mod sources;
+mod union_codes;
 mod unsupported;
 
 

@@ -5,7 +5,7 @@ use crate::sides::{Sides, Twin};
 use fb_schema::{FieldInfo, TypeId};
 use std::alloc::AllocError;
 
-impl<'s> Sides<'s> {
+impl<'s, 't> Sides<'s, 't> {
     /// Adds a warning where the new field of an old field's name has another slot.
     fn push_moved_field(
         &self,

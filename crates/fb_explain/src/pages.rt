@@ -18,8 +18,8 @@ const TAB: usize = 4;
 pub(crate) struct Page {
     alloc: Global,
     text: String,
-    /// How many columns of the last line are taken.
-    column: usize,
+    /// The line that isn't ended yet.
+    line: String,
 }
 
 /// How many columns a character takes where it can be shown as it is.
@@ -42,12 +42,36 @@ pub(crate) fn shown_width(character: Option<char>, size: usize) -> usize {
     }
 }
 
+/// The length in bytes of the longest front that takes at most so many columns.
+fn fitting_len(line: &str, columns: usize) -> usize {
+    let mut taken = 0usize;
+    for (at, character) in line.char_indices() {
+        taken = taken.saturating_add(shown_width(Some(character), 1));
+        if taken > columns {
+            return at;
+        }
+    }
+    line.len()
+}
+
+/// Where a line is cut: behind its last space that fits, and not before its first words.
+fn cut_len(line: &str, columns: usize) -> usize {
+    let fitting = fitting_len(line, columns);
+    if fitting == line.len() {
+        return fitting;
+    }
+    match line.get(..fitting).and_then(|front| front.rfind(' ')) {
+        Some(space) if space >= columns / 2 => space.saturating_add(1),
+        _ => fitting,
+    }
+}
+
 impl Page {
     pub(crate) fn new(alloc: Global) -> Page {
         Page {
             alloc,
             text: String::new(alloc),
-            column: 0,
+            line: String::new(alloc),
         }
     }
 
@@ -60,56 +84,54 @@ impl Page {
         self.text
     }
 
-    /// Ends the line.
+    /// Ends the line, which goes on in further ones where it is too long.
     pub(crate) fn end_line(&mut self) -> Result<(), AllocError> {
+        let mut rest = self.line.as_str();
+        let mut columns = COLUMNS;
+        for _ in 0..self.line.len() {
+            let cut = cut_len(rest, columns);
+            if cut == rest.len() {
+                break;
+            }
+            self.text.push_str(rest.get(..cut).unwrap_or("").trim_end())?;
+            self.text.push_str("\n    ")?;
+            rest = rest.get(cut..).unwrap_or("");
+            columns = COLUMNS - 4;
+        }
+        self.text.push_str(rest)?;
         self.text.push_str("\n")?;
-        self.column = 0;
+        self.line.clear();
         Ok(())
     }
 
     /// Adds so many spaces.
     pub(crate) fn push_spaces(&mut self, count: usize) -> Result<(), AllocError> {
         for _ in 0..count {
-            self.text.push(' ')?;
-        }
-        self.column = self.column.saturating_add(count);
-        Ok(())
-    }
-
-    /// Goes on in the next line where so many columns aren't left.
-    fn make_room(&mut self, width: usize) -> Result<(), AllocError> {
-        if self.column.saturating_add(width) > COLUMNS {
-            self.end_line()?;
-            self.push_spaces(4)?;
+            self.line.push(' ')?;
         }
         Ok(())
     }
 
     /// Adds a character as it is shown.
     fn push_character(&mut self, character: char) -> Result<(), AllocError> {
-        let width = shown_width(Some(character), 1);
-        self.make_room(width)?;
         if character == '\t' {
             return self.push_spaces(TAB);
         }
         if plain_width(character).is_some() {
-            self.text.push(character)?;
-        } else {
-            for escaped in character.escape_unicode() {
-                self.text.push(escaped)?;
-            }
+            self.line.push(character)?;
+            return Ok(());
         }
-        self.column = self.column.saturating_add(width);
+        for escaped in character.escape_unicode() {
+            self.line.push(escaped)?;
+        }
         Ok(())
     }
 
     /// Adds bytes that are no character.
     fn push_escaped(&mut self, bytes: &[u8]) -> Result<(), AllocError> {
         for byte in bytes {
-            self.make_room(4)?;
-            self.text.push_str("\\x")?;
-            push_hex(&mut self.text, *byte)?;
-            self.column = self.column.saturating_add(4);
+            self.line.push_str("\\x")?;
+            push_hex(&mut self.line, *byte)?;
         }
         Ok(())
     }

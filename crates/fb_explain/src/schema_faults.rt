@@ -132,18 +132,18 @@ fn push_unknown_type(page: &mut Page, decls: &Decls<'_>, token: &[u8]) -> Result
     page.end_line()
 }
 
-/// What an attribute is for.
+/// What is wrong with an attribute, and what it is for.
 fn use_of(attribute: &[u8]) -> &'static str {
     match attribute {
-        b"id" => ": it takes a number, once, on a field of a table",
-        b"deprecated" => ": it goes on a field of a table, once, without a value",
-        b"required" => ": it goes on a table's field that isn't a number or an enum, once, without a value",
+        b"id" => " may not be here: it takes a number, once, on a field of a table",
+        b"deprecated" => " may not be here: it goes on a field of a table, once, without a value",
+        b"required" => " may not be here: it goes on a table's field that isn't a number or an enum, once, without a value",
         b"force_align" => {
-            ": it goes on a struct, once, with a power of two from the struct's own alignment to 256"
+            " may not be here: it goes on a struct, once, with a power of two from the struct's own alignment to 256"
         }
-        b"bit_flags" => ": it goes on an enum over an unsigned type, once, without a value",
-        b"original_order" => ": it goes on a table or struct, once, without a value",
-        _ => "",
+        b"bit_flags" => " may not be here: it goes on an enum over an unsigned type, once, without a value",
+        b"original_order" => " may not be here: it goes on a table or struct, once, without a value",
+        _ => " may not be here",
     }
 }
 
@@ -227,9 +227,7 @@ fn push_schema_sentence(
         }
         SchemaFault::EmptyStruct(_) => push_named(page, "the struct ", token, " has no field"),
         SchemaFault::BadAttribute(_) => {
-            push_named(page, "the attribute ", token, " may not be here")?;
-            page.push_str("  ")?;
-            page.push_line(use_of(token))
+            push_named(page, "the attribute ", token, use_of(token))
         }
         SchemaFault::UnknownAttribute(_) => push_named(
             page,

@@ -97,3 +97,18 @@ pub(crate) fn members_of(schema: &Schema, number: TypeId) -> &[(String, TypeId)]
         None => &[],
     }
 }
+
+/// The numbers of a basic type.
+pub(crate) fn range_of_base(base: Base) -> &'static str {
+    match base {
+        Base::Bool => "0 to 1",
+        Base::I8 => "-128 to 127",
+        Base::U8 => "0 to 255",
+        Base::I16 => "-32768 to 32767",
+        Base::U16 => "0 to 65535",
+        Base::I32 => "-2147483648 to 2147483647",
+        Base::U32 => "0 to 4294967295",
+        Base::I64 => "-9223372036854775808 to 9223372036854775807",
+        Base::U64 => "0 to 18446744073709551615",
+    }
+}

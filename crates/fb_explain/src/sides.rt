@@ -11,13 +11,13 @@ use std::alloc::AllocError;
 
 /// One of two schemas: its layout, its text, and what the text declares.
 #[derive(Clone, Copy)]
-pub(crate) struct Side<'s> {
+pub(crate) struct Side<'s, 't> {
     pub(crate) layout: &'s Layout,
-    pub(crate) source: &'s Source<'s>,
-    pub(crate) decls: &'s Decls<'s>,
+    pub(crate) source: Source<'t>,
+    pub(crate) decls: &'s Decls<'t>,
 }
 
-impl<'s> Side<'s> {
+impl<'s, 't> Side<'s, 't> {
     pub(crate) fn schema(&self) -> &'s Schema {
         self.layout.schema()
     }
@@ -62,9 +62,9 @@ fn offset_of_field(declared: &TypeDecl<'_>, name: &str) -> Option<u64> {
 
 /// A schema and the one that is to follow it.
 #[derive(Clone, Copy)]
-pub(crate) struct Sides<'s> {
-    pub(crate) old: Side<'s>,
-    pub(crate) new: Side<'s>,
+pub(crate) struct Sides<'s, 't> {
+    pub(crate) old: Side<'s, 't>,
+    pub(crate) new: Side<'s, 't>,
 }
 
 /// A type of both schemas, by its number in each.
@@ -74,7 +74,7 @@ pub(crate) struct Twin {
     pub(crate) new: TypeId,
 }
 
-impl<'s> Sides<'s> {
+impl<'s, 't> Sides<'s, 't> {
     /// The type of an old type's full name.
     pub(crate) fn twin(&self, old: TypeId) -> Option<Twin> {
         let new = self.new.schema().find(type_name(self.old.schema(), old))?;

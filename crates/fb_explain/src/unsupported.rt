@@ -92,12 +92,15 @@ fn push_unsupported_token(
     source: &Source<'_>,
     token: Token<'_>,
     before: Before<'_>,
+    offset: usize,
 ) -> Result<(), AllocError> {
-    if let Some(what) = unsupported(token.bytes, before) {
-        push_place(page, source, token.at)?;
-        page.push_line(what)?;
+    match unsupported(token.bytes, before) {
+        Some(what) if token.at != offset => {
+            push_place(page, source, token.at)?;
+            page.push_line(what)
+        }
+        _ => Ok(()),
     }
-    Ok(())
 }
 
 /// Adds all other places at which something isn't supported.
@@ -109,13 +112,13 @@ pub(crate) fn push_others(
     let mut tokens = Tokens::of(source.bytes);
     let mut before = Before::nothing();
     for _ in 0..source.bytes.len() {
-        let Some(token) = tokens.next_token() else {
-            break;
-        };
-        if token.at != offset {
-            push_unsupported_token(page, source, token, before)?;
+        match tokens.next_token() {
+            Some(token) => {
+                push_unsupported_token(page, source, token, before, offset)?;
+                before = before.followed_by(token);
+            }
+            None => break,
         }
-        before = before.followed_by(token);
     }
     Ok(())
 }

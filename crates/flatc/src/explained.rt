@@ -85,7 +85,7 @@ pub(crate) fn warn(rt: &HostRuntime, job: &Job, texts: &Texts<'_>) {
     if let Job::Conform { .. } = job {
         let old = schema_source(job, texts);
         let new = input_source(job, texts);
-        if let Ok(text) = warnings(rt.alloc(), &old, &new) {
+        if let Ok(text) = warnings(rt.alloc(), old, new) {
             let _printed = eprint!(rt; "{text}");
         }
     }

@@ -1,0 +1,259 @@
+//! The rule that a JSON value breaks, with what is there and what would be right.
+use crate::near_names::push_nearest;
+use crate::pages::Page;
+use crate::shapes::{field_at, fields_of, kind_name, members_of, push_shape, range_of_base, type_name, values_of};
+use fb_json::{JsonFault, Place};
+use fb_layout::Layout;
+use fb_schema::{Base, FieldInfo, Kind, Shape, TypeId};
+use std::alloc::AllocError;
+
+/// An offset in a JSON text, and whether the value at a path's end is there, or the object that lacks it.
+#[derive(Clone, Copy)]
+pub(crate) struct Found {
+    pub(crate) offset: usize,
+    pub(crate) is_there: bool,
+}
+
+/// The least name that is no field's of a type.
+pub(crate) fn unknown_name<'n>(
+    layout: &Layout,
+    owner: TypeId,
+    names: &'n [String],
+) -> Option<&'n str> {
+    let fields = fields_of(layout.schema(), owner);
+    names
+        .iter()
+        .map(|name| name.as_str())
+        .filter(|name| !fields.iter().any(|field| !field.deprecated && field.name.as_str() == *name))
+        .min()
+}
+
+fn number_len(text: &str) -> usize {
+    text.bytes()
+        .position(|byte| !byte.is_ascii_alphanumeric() && !matches!(byte, b'+' | b'-' | b'.'))
+        .unwrap_or(text.len())
+}
+
+/// The number, word or text at the front.
+fn token_of(text: &str) -> &str {
+    match text.strip_prefix('"') {
+        Some(rest) => match rest.find('"') {
+            Some(end) => text.get(..end.saturating_add(2)).unwrap_or(text),
+            None => text,
+        },
+        None => text.get(..number_len(text)).unwrap_or(text),
+    }
+}
+
+/// What kind of value is at the front.
+fn kind_of(text: &str) -> &'static str {
+    match text.as_bytes() {
+        [b'"', ..] => "a text",
+        [b'{', ..] => "an object",
+        [b'[', ..] => "an array",
+        [b't' | b'f', ..] => "true or false",
+        [b'n', ..] => "null",
+        _ => "a number",
+    }
+}
+
+/// What kind of value one of a kind is written as.
+fn written_as(kind: Kind) -> &'static str {
+    match kind {
+        Kind::Scalar(Base::Bool) => "true, false, 0 or 1",
+        Kind::Scalar(_) => "a number",
+        Kind::Enum(_) => "a value's name or number",
+        Kind::Struct(_) | Kind::Table(_) | Kind::Union(_) => "an object",
+        Kind::Code(_) => "a member's name or number",
+        Kind::Text => "a text",
+    }
+}
+
+fn push_wrong_shape(
+    page: &mut Page,
+    layout: &Layout,
+    text: &str,
+    field: Option<&FieldInfo>,
+    is_element: bool,
+) -> Result<(), AllocError> {
+    page.push_str(kind_of(text))?;
+    let Some(field) = field else {
+        return page.push_line(" where the root's object must be");
+    };
+    page.push_str(" where ")?;
+    match field.shape {
+        Shape::Many(_) if !is_element => page.push_str("an array")?,
+        Shape::Many(kind) | Shape::One(kind) => page.push_str(written_as(kind))?,
+    }
+    page.push_str(" must be: the field's type is ")?;
+    push_shape(page, layout.schema(), field.shape)?;
+    page.end_line()
+}
+
+fn kind_in(shape: Shape) -> Kind {
+    match shape {
+        Shape::One(kind) | Shape::Many(kind) => kind,
+    }
+}
+
+/// The basic type of a field's numbers.
+fn base_of(layout: &Layout, field: &FieldInfo) -> Option<Base> {
+    match kind_in(field.shape) {
+        Kind::Scalar(base) => Some(base),
+        Kind::Enum(number) => {
+            let declared = layout.schema().types().get(number.0 as usize)?;
+            let (base, _, _) = declared.body.as_enum()?;
+            Some(base)
+        }
+        Kind::Code(_) => Some(Base::U8),
+        _ => None,
+    }
+}
+
+fn push_out_of_range(
+    page: &mut Page,
+    layout: &Layout,
+    text: &str,
+    field: Option<&FieldInfo>,
+) -> Result<(), AllocError> {
+    page.push_cut(token_of(text).as_bytes())?;
+    let Some(field) = field else {
+        return page.push_line(" is out of range");
+    };
+    match base_of(layout, field) {
+        Some(base) => {
+            page.push_str(" isn't in ")?;
+            page.push_str(range_of_base(base))?;
+            page.push_str(", the range of ")?;
+            page.push_str(kind_name(layout.schema(), kind_in(field.shape)))?;
+            page.end_line()
+        }
+        None => page.push_line(" is out of range"),
+    }
+}
+
+fn push_not_whole(page: &mut Page, token: &str) -> Result<(), AllocError> {
+    page.push_cut(token.as_bytes())?;
+    if token.bytes().all(|byte| byte.is_ascii_digit() || byte == b'-') {
+        return page.push_line(" is too large for 64 bits");
+    }
+    page.push_line(" isn't written as a whole number")
+}
+
+/// A text without its quotes.
+fn unquoted(token: &str) -> &str {
+    token.trim_matches('"')
+}
+
+fn push_unknown_name(
+    page: &mut Page,
+    layout: &Layout,
+    text: &str,
+    field: Option<&FieldInfo>,
+) -> Result<(), AllocError> {
+    let Some(field) = field else {
+        return page.push_line("no such name");
+    };
+    let schema = layout.schema();
+    let mut names = Vec::new(page.alloc());
+    let token = unquoted(token_of(text));
+    match kind_in(field.shape) {
+        Kind::Enum(number) => {
+            page.push_str("no value of enum ")?;
+            page.push_cut(type_name(schema, number).as_bytes())?;
+            for (name, _) in values_of(schema, number) {
+                names.push(name.as_str())?;
+            }
+        }
+        Kind::Code(number) | Kind::Union(number) => {
+            page.push_str("no member of union ")?;
+            page.push_cut(type_name(schema, number).as_bytes())?;
+            for (name, _) in members_of(schema, number) {
+                names.push(name.as_str())?;
+            }
+        }
+        _ => page.push_str("nothing")?,
+    }
+    page.push_str(" is called ")?;
+    page.push_name(token.as_bytes())?;
+    push_nearest(page, names.as_slice(), token)?;
+    page.end_line()
+}
+
+fn push_unknown_member(
+    page: &mut Page,
+    layout: &Layout,
+    owner: TypeId,
+    name: Option<&String>,
+) -> Result<(), AllocError> {
+    let schema = layout.schema();
+    let Some(name) = name else {
+        return page.push_line("a member has a name that no field has");
+    };
+    let fields = fields_of(schema, owner);
+    if fields.iter().any(|field| field.deprecated && field.name.as_str() == name.as_str()) {
+        page.push_str("the field ")?;
+        page.push_name(name.as_bytes())?;
+        page.push_str(" of ")?;
+        page.push_cut(type_name(schema, owner).as_bytes())?;
+        return page.push_line(" is deprecated, and isn't written any more");
+    }
+    let mut names = Vec::new(page.alloc());
+    for field in fields {
+        names.push(field.name.as_str())?;
+    }
+    page.push_cut(type_name(schema, owner).as_bytes())?;
+    page.push_str(" has no field called ")?;
+    page.push_name(name.as_bytes())?;
+    push_nearest(page, names.as_slice(), name.as_str())?;
+    page.end_line()
+}
+
+fn push_missing(
+    page: &mut Page,
+    layout: &Layout,
+    place: Place,
+    field: Option<&FieldInfo>,
+    rest: &str,
+) -> Result<(), AllocError> {
+    page.push_cut(type_name(layout.schema(), place.owner).as_bytes())?;
+    page.push_str(" needs the field ")?;
+    page.push_name(field.map_or("?", |field| field.name.as_str()).as_bytes())?;
+    page.push_line(rest)
+}
+
+/// Adds the rule that a value breaks, and ends the line.
+pub(crate) fn push_rule(
+    page: &mut Page,
+    layout: &Layout,
+    text: &str,
+    fault: JsonFault,
+    name: Option<&String>,
+    is_element: bool,
+) -> Result<(), AllocError> {
+    let Some(place) = fault.place() else {
+        return page.push_line("memory ran out while the JSON text was converted");
+    };
+    let field = place
+        .slot
+        .and_then(|slot| field_at(layout.schema(), place.owner, slot));
+    match fault {
+        JsonFault::WrongShape(_) => push_wrong_shape(page, layout, text, field, is_element),
+        JsonFault::NotWhole(_) => push_not_whole(page, token_of(text)),
+        JsonFault::OutOfRange(_) => push_out_of_range(page, layout, text, field),
+        JsonFault::UnknownName(_) => push_unknown_name(page, layout, text, field),
+        JsonFault::UnknownMember(_) => push_unknown_member(page, layout, place.owner, name),
+        JsonFault::MissingMember(_) => {
+            push_missing(page, layout, place, field, ": a struct has all its fields")
+        }
+        JsonFault::MissingRequired(_) => push_missing(page, layout, place, field, ": it is required"),
+        JsonFault::UnionMismatch(_) => page.push_line(
+            "a union needs both its type and its value: this one has one of them alone",
+        ),
+        JsonFault::TooDeep(_) => page.push_line("tables are nested deeper than 64 levels"),
+        JsonFault::TooManyCells(_) => page.push_line(
+            "more than 100000000 tables, strings, vectors, elements and bytes of strings",
+        ),
+        JsonFault::Memory => page.push_line("memory ran out while the JSON text was converted"),
+    }
+}

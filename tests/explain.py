@@ -1,0 +1,439 @@
+#!/usr/bin/env python3
+"""What the built program prints with --explain: each row is a mistake, and the whole of what standard error has then.
+
+usage: tests/explain.py PROGRAM
+
+In a row's text the sign ¦ is before the place that the explanation has to point at. The last line is
+'N passed, M failed'.
+"""
+import os
+import re
+import struct
+import sys
+import textwrap
+
+from harness import ROOT, Tests, program_of, write
+
+MARK = "¦"
+COLUMNS = 120
+COLORS = "enum Color:byte { Red, Green, Blue }\n"
+MONSTER = (
+    COLORS + "struct Pos { x:int; y:int; }\n"
+    "table Spell { cost:uint; }\ntable Weapon { damage:short; }\nunion Equipment { Weapon, Spell }\n"
+    "table Monster {\n  name:string (required);\n  hp:ubyte = 100;\n  color:Color;\n  pos:Pos;\n  weapons:[Weapon];\n"
+    "  equipped:Equipment;\n  old:int (deprecated);\n  big:ulong;\n  ok:bool;\n}\nroot_type Monster;\n"
+)
+
+# A schema text, the fault's number and name, and the sentence.
+SCHEMAS = [
+    ("a byte that isn't UTF-8", b"table T { a:int; }\n// \xc2\xa6\xff\nroot_type T;", "1 NotUtf8",
+     "the text isn't UTF-8 from here on"),
+    ("a byte that no token begins with", "table T { a:¦$int; }", "2 BadByte",
+     "'$' may not be here: no word, number or sign of the language begins with it"),
+    ("a sign before a fraction", "table T { a:int = ¦-.5; }", "2 BadByte",
+     "'-' may not be here: no word, number or sign of the language begins with it"),
+    ("an escape that would drive a terminal", "table T { a:¦\x1b[31mint; }", "2 BadByte",
+     "'\\u{1b}' may not be here: no word, number or sign of the language begins with it"),
+    ("a comment without an end", "table T { a:int; }\n¦/* root_type T;", "3 Unterminated", "this comment has no end"),
+    ("a text that a line's end cuts off", 'table T { a:int; }\nfile_identifier "ABCD;¦\nroot_type T;', "2 BadByte",
+     "'\\u{a}' may not be here: no word, number or sign of the language begins with it"),
+    ("a text that the file's end cuts off", 'attribute ¦"what', "3 Unterminated", "this text has no closing quote"),
+    ("a number of more than 64 bits", "table T { a:ulong = ¦18446744073709551616; }", "4 NumberTooBig",
+     "the number 18446744073709551616 is too large for 64 bits"),
+    ("a missing semicolon", "table T {\n  a:int\n  ¦b:int;\n}", "5 Unexpected", "'b' isn't expected here"),
+    ("a text that ends too early", "table T { a:int;¦", "5 Unexpected",
+     "the text ends here, in the middle of a declaration"),
+    ("an include", '¦include "a.fbs";\ntable T { }', "5 Unexpected",
+     "'include' isn't supported: put all declarations into one text"),
+    ("a service", "table T { }\n¦rpc_service S { }", "5 Unexpected", "services ('rpc_service') aren't supported"),
+    ("an array of a fixed size", "struct S { a:[int¦:3]; }", "5 Unexpected", "fixed-size arrays aren't supported"),
+    ("a default that is a text", 'table T { a:string = ¦"x"; }', "5 Unexpected",
+     "default values of strings aren't supported"),
+    ("a default that is a vector", "table T { a:[int] = ¦[]; }", "5 Unexpected",
+     "default values of vectors aren't supported"),
+    ("a fraction", "table T { a:int = 1¦.5; }", "5 Unexpected", "numbers with a fraction aren't supported"),
+    ("a vector of vectors", "table T { a:[¦[int]]; }", "6 NestedVector",
+     "a vector of vectors isn't supported: put the inner one into a table"),
+    ("a field twice", "table T { hp:int; ¦hp:short; }\nroot_type T;", "10 DuplicateName",
+     "the name 'hp' is taken: it is declared before (a union field 'x' takes 'x_type' too)"),
+    ("a table called int", "table ¦int { a:int; }\nroot_type int;", "10 DuplicateName",
+     "the name 'int' is a basic type's"),
+    ("a member called NONE", "table A { a:int; }\nunion U { ¦NONE: A }\nroot_type A;", "10 DuplicateName",
+     "the name 'NONE' is what an absent union is called, so no member may have it"),
+    ("a mistyped type", "table Monster { a:int; }\ntable T {\n\tenemy:¦Mosnter;\n}\nroot_type T;", "11 UnknownType",
+     "no type is called 'Mosnter'; did you mean 'Monster'?"),
+    ("a type in other letters", "table Monster { a:int; }\ntable T { m:¦monster; }\nroot_type T;", "11 UnknownType",
+     "no type is called 'monster'; did you mean 'Monster'?"),
+    ("a type like no other", "table T { m:¦Unheard; }\nroot_type T;", "11 UnknownType",
+     "no type is called 'Unheard'"),
+    ("a type behind characters of two and three bytes", "/* ä€ */ table T { m:¦Unheard; } // ä\nroot_type T;",
+     "11 UnknownType", "no type is called 'Unheard'"),
+    ("a type behind a byte order mark", "\ufefftable T { m:¦Unheard; }\nroot_type T;", "11 UnknownType",
+     "no type is called 'Unheard'"),
+    ("a line that ends with CR LF", "table T {\r\n  m:¦Unheard;\r\n}\r\nroot_type T;\r\n", "11 UnknownType",
+     "no type is called 'Unheard'"),
+    ("a default out of range", "table Monster {\n  hp:ubyte = ¦300;\n}\nroot_type Monster;", "12 BadDefault",
+     "the default 300 of field 'hp' doesn't fit the type ubyte: 0 to 255"),
+    ("a default of a bool", "table T { b:bool = ¦2; }\nroot_type T;", "12 BadDefault",
+     "the default 2 of field 'b' doesn't fit the type bool: true, false, 0 or 1"),
+    ("a mistyped value as a default", COLORS + "table T { c:Color = ¦Gren; }\nroot_type T;", "12 BadDefault",
+     "the default Gren of field 'c': its type is 'Color', which has no such value; did you mean 'Green'?"),
+    ("a default in a struct", "struct S { a:int = ¦3; }\ntable T { s:S; }\nroot_type T;", "12 BadDefault",
+     "the default 3 of field 'a' may not be here: fields of structs have no defaults"),
+    ("a default of a vector", "table T { a:[int] = ¦3; }\nroot_type T;", "12 BadDefault",
+     "the default 3 of field 'a': it is a vector, and only numbers and enums have a default"),
+    ("a default of a string", "table T { a:string = ¦3; }\nroot_type T;", "12 BadDefault",
+     "the default 3 of field 'a': its type is 'string', and only numbers and enums have a default"),
+    ("an id that is missing", "table ¦T { a:int (id: 0); b:int; }\nroot_type T;", "13 BadIds",
+     "the ids of table 'T' must be 0, 1, 2 and so on, one on each field; a union's is one more than its type's"),
+    ("a struct that is declared later", "struct A { b:¦B; }\nstruct B { x:int; }\ntable T { a:A; }\nroot_type T;",
+     "14 IncompleteStruct", "the struct 'B' must be declared before the struct that has it"),
+    ("a struct without fields", "struct ¦S { }\ntable T { a:int; }\nroot_type T;", "15 EmptyStruct",
+     "the struct 'S' has no field"),
+    ("a required number", "table T { a:int (¦required); }\nroot_type T;", "16 BadAttribute",
+     "the attribute 'required' may not be here: it goes on a table's field that isn't a number or an enum, once, "
+     "without a value"),
+    ("an attribute that isn't declared", "table T { a:int (¦priority: 1); }\nroot_type T;", "17 UnknownAttribute",
+     "the attribute 'priority' isn't declared: add 'attribute NAME;' with its name, or remove it"),
+    ("a vector of unions", "table A { a:int; }\nunion U { A }\ntable T { u:[¦U]; }\nroot_type T;", "18 Unsupported",
+     "'U' isn't supported here: an enum needs an integer type, and a vector's elements can't be unions"),
+    ("force_align on a field", "table T { a:[ubyte] (¦force_align: 8); }\nroot_type T;", "18 Unsupported",
+     "'force_align' on a field isn't supported: it goes on a struct"),
+    ("a value out of range", "enum E:byte { A, ¦B = 200 }\ntable T { e:E; }\nroot_type T;", "19 BadEnumValue",
+     "the value 'B' is outside the enum's type, or its number is another value's"),
+    ("a union of numbers", "union U { ¦int }\ntable T { u:U; }\nroot_type T;", "20 BadMember",
+     "'int' can't be a member of a union: its members are tables, 255 at most"),
+    ("a text in a struct", "struct S { name:¦string; }\ntable T { s:S; }\nroot_type T;", "20 BadMember",
+     "'string' can't be in a struct: its fields are numbers, enums and other structs"),
+    ("no root", "table T { a:int; }¦", "21 BadRoot",
+     "the text has no root: add 'root_type NAME;' with the name of a table"),
+    ("a root that is a struct", "struct S { a:int; }\nroot_type ¦S;", "21 BadRoot",
+     "'S' can't be the root: it isn't a table"),
+    ("an identifier of three letters", 'table T { a:int; }\nroot_type T;\nfile_identifier ¦"ORC";', "22 BadIdentifier",
+     "the file identifier '\"ORC\"' must have four printable ASCII characters"),
+]
+
+# A JSON text that isn't one, and the sentence.
+TEXTS = [
+    ("a comma before a bracket", '{\n  "name": "Orc",\n  "hp": 3,\n¦}\n', "a comma may not be before a closing bracket"),
+    ("a comment", '{ "name": "Orc" ¦// the name\n}', "JSON has no comments"),
+    ("a name without quotes", "{ ¦name: 3 }", "a name is written in double quotes, and so is a text"),
+    ("a text in single quotes", "{ \"name\": ¦'Orc' }", "a text is written in double quotes"),
+    ("a text that ends too early", '{ "name": "Orc",¦', "the text ends here, in the middle of a value"),
+]
+
+# A JSON text under MONSTER's schema, the line's end, the path, and the sentence.
+VALUES = [
+    ("a text for a number", '{ "name": "Orc", "hp": ¦"3" }', "70 WrongShape in type 5 slot 1",
+     "hp: a text where a number must be: the field's type is ubyte"),
+    ("an object for a vector", '{ "name": "Orc", "weapons": ¦{ } }', "70 WrongShape in type 5 slot 4",
+     "weapons: an object where an array must be: the field's type is [Weapon]"),
+    ("a number for an element", '{ "name": "Orc", "weapons": [{ }, ¦7] }', "70 WrongShape in type 5 slot 4",
+     "weapons[1]: a number where an object must be: the field's type is [Weapon]"),
+    ("an array for the root", "¦[]", "70 WrongShape in type 5", "an array where the root's object must be"),
+    ("a fraction", '{ "name": "Orc", "hp": ¦1.5 }', "71 NotWhole in type 5 slot 1",
+     "hp: 1.5 isn't written as a whole number"),
+    ("a number out of range", '{\n  "name": "Orc",\n  "weapons": [\n    { "damage": 1 },\n    { "damage": ¦70000 }\n  ]\n}',
+     "72 OutOfRange in type 3 slot 0",
+     "weapons[1].damage: 70000 isn't in -32768 to 32767, the range of short"),
+    ("a number of more than 64 bits", '{ "name": "Orc", "big": ¦18446744073709551616 }', "71 NotWhole in type 5 slot 8",
+     "big: 18446744073709551616 is too large for 64 bits"),
+    ("a mistyped value", '{ "name": "Orc", "color": ¦"Grean" }', "73 UnknownName in type 5 slot 2",
+     "color: no value of enum Color is called 'Grean'; did you mean 'Green'?"),
+    ("a mistyped member", '{ "name": "Orc", "equipped_type": ¦"Spel", "equipped": { } }',
+     "73 UnknownName in type 5 slot 5", "equipped_type: no member of union Equipment is called 'Spel'; did you mean 'Spell'?"),
+    ("an unknown field", '{ "name": "Orc", "hpp": ¦3 }', "74 UnknownMember in type 5",
+     "Monster has no field called 'hpp'; did you mean 'hp'?"),
+    ("a deprecated field", '{ "name": "Orc", "old": ¦3 }', "74 UnknownMember in type 5",
+     "the field 'old' of Monster is deprecated, and isn't written any more"),
+    ("a field of a struct that is missing", '{ "name": "Orc", "pos": ¦{ "x": 1 } }', "75 MissingMember in type 1 slot 1",
+     "pos.y: Pos needs the field 'y': a struct has all its fields"),
+    ("a required field that is missing", '¦{ "hp": 3 }', "76 MissingRequired in type 5 slot 0",
+     "name: Monster needs the field 'name': it is required"),
+    ("a name that is repeated", '{ "name": "Orc", "hp": 3, "hp": ¦"4" }', "70 WrongShape in type 5 slot 1",
+     "hp: a text where a number must be: the field's type is ubyte"),
+    ("a name with an escape", '{ "name": "Orc", "\\u0068p": ¦"4" }', "70 WrongShape in type 5 slot 1",
+     "hp: a text where a number must be: the field's type is ubyte"),
+    ("a value behind characters of many bytes", '{ "name": "Ork äö€", "hp": ¦"4" }', "70 WrongShape in type 5 slot 1",
+     "hp: a text where a number must be: the field's type is ubyte"),
+]
+
+# Changes of MONSTER's schema, the line, and what follows.
+CHANGES = [
+    ("another default", "hp:ubyte = 100", "hp:ubyte = 90", "97 DefaultChanged in type 5 slot 1",
+     ["Monster.hp: the default was 100 (old.fbs:8), is 90 (new.fbs:8)"]),
+    ("another type", "damage:short", "damage:int", "96 FieldTypeChanged in type 3 slot 0",
+     ["Weapon.damage: the type was short (old.fbs:4), is int (new.fbs:4)"]),
+    ("a field that isn't required any more", "name:string (required)", "name:string",
+     "98 RequiredChanged in type 5 slot 0",
+     ["Monster.name: was required (old.fbs:7), is not required (new.fbs:7)"]),
+    ("a field that is in use again", "old:int (deprecated)", "old:int", "99 DeprecatedTakenBack in type 5 slot 7",
+     ["Monster.old: was deprecated (old.fbs:13), is not deprecated (new.fbs:13)"]),
+    ("a field that is gone", "  ok:bool;\n", "", "95 SlotGone in type 5 slot 9",
+     ["Monster.ok: is gone (old.fbs:15); a field is never removed, but marked (deprecated)"]),
+    ("a new field that is required", "  ok:bool;\n", "  ok:bool;\n  more:string (required);\n",
+     "100 NewRequired in type 5 slot 10", ["Monster.more: is new and required (new.fbs:16); old data doesn't have it"]),
+    ("a type that is gone", "Spell", "Magic", "92 TypeGone in type 2", ["'Spell' is gone (old.fbs:3)"]),
+    ("another root", "root_type Monster", "root_type Weapon", "90 RootChanged",
+     ["the root was 'Monster', is 'Weapon'"]),
+    ("a new identifier", "root_type Monster;", 'root_type Monster; file_identifier "MONS";', "91 IdentifierChanged",
+     ["the file identifier was none, is 'MONS'"]),
+    ("a struct that is a table", "struct Pos", "table Pos", "93 KindChanged in type 1",
+     ["'Pos' was a struct (old.fbs:2), is a table (new.fbs:2)"]),
+    ("a struct that has grown", "y:int;", "y:int; z:int;", "94 StructChanged in type 1",
+     ["'Pos' has fields of other types, or another alignment (old.fbs:2) -> (new.fbs:2)"]),
+    ("values that changed places", "Red, Green, Blue", "Red, Blue, Green", "101 EnumChanged in type 0",
+     ["'Color' has lost a value, or its type or mark changed (old.fbs:1) -> (new.fbs:1)", "  'Green' was 1, is 2",
+      "  'Blue' was 2, is 1"]),
+    ("members that changed places", "{ Weapon, Spell }", "{ Spell, Weapon }", "102 UnionChanged in type 4",
+     ["'Equipment' has lost a member (old.fbs:5) -> (new.fbs:5)", "  member 1 was Weapon, is Spell",
+      "  member 2 was Spell, is Weapon"]),
+]
+
+
+def position(text, offset):
+    """The line and column of an offset, the line's text and what of it is before the offset."""
+    start = text.rfind(b"\n", 0, offset) + 1
+    end = text.find(b"\n", offset)
+    line = text[start : end if end >= 0 else len(text)]
+    front = text[start:offset]
+    if start == 0 and front.startswith(b"\xef\xbb\xbf"):
+        line, front = line[3:], front[3:]
+    return text.count(b"\n", 0, offset) + 1, len(front.decode()) + 1, line.removesuffix(b"\r"), front
+
+
+def shown(piece):
+    """A piece of a line as it is printed: tabs are four spaces, control characters and bad bytes are escaped."""
+    text = piece.decode(errors="surrogateescape").replace("\t", "    ")
+    text = re.sub(r"[\ud800-\udfff]", lambda it: f"\\x{ord(it[0]) - 0xdc00:02x}", text)
+    return re.sub(r"[\x00-\x1f\x7f]", lambda it: f"\\u{{{ord(it[0]):x}}}", text)
+
+
+def excerpt(text, offset):
+    _, _, line, front = position(text, offset)
+    return [f"  {shown(line)}", f"  {' ' * len(shown(front))}^"]
+
+
+def marked(text):
+    """A text without its mark, and the mark's offset."""
+    if isinstance(text, str):
+        text = text.encode()
+    mark = MARK.encode()
+    return text.replace(mark, b""), text.index(mark)
+
+
+def lines(*all_lines):
+    return "".join(f"{line}\n" for line in all_lines).encode()
+
+
+def place(path, text, offset):
+    line, column, _, _ = position(text, offset)
+    return f"{path}:{line}:{column}: "
+
+
+def schemas(tests):
+    for name, text, fault, sentence in SCHEMAS:
+        text, offset = marked(text)
+        write("s.fbs", text)
+        want = lines(
+            f"{fault} at {offset}", *wrap(place("s.fbs", text, offset) + sentence), *excerpt(text, offset)
+        )
+        tests.expect(name, ["check", "--explain", "s.fbs"], 1, err=want)
+        tests.expect(f"{name}, alone", ["check", "s.fbs"], 1, err=lines(f"{fault} at {offset}"))
+
+
+def unsupported(tests):
+    text = b"table T {\n  s:float;\n  n:string (key);\n  x:[double];\n}\nroot_type T;"
+    write("s.fbs", text)
+    want = lines(
+        "18 Unsupported at 14",
+        "s.fbs:2:5: floats aren't supported",
+        "    s:float;",
+        "      ^",
+        "s.fbs:3:13: this attribute isn't supported",
+        "s.fbs:4:6: floats aren't supported",
+    )
+    tests.expect("all that isn't supported", ["check", "--explain", "s.fbs"], 1, err=want)
+
+
+def texts(tests):
+    write("s.fbs", MONSTER.encode())
+    for name, text, sentence in TEXTS:
+        text, offset = marked(text)
+        write("v.json", text)
+        want = lines("113 BadJson", place("v.json", text, offset) + sentence, *excerpt(text, offset))
+        tests.expect(name, ["binary", "--explain", "s.fbs", "v.json", "out.bin"], 1, err=want)
+    write("v.json", b'{"name":"\xff"}')
+    want = lines("113 BadJson", "v.json:1:10: the text isn't UTF-8 from here on", '  {"name":"\\xff"}', "           ^")
+    tests.expect("JSON that isn't UTF-8", ["binary", "--explain", "s.fbs", "v.json", "out.bin"], 1, err=want)
+    write("v.json", b"[" * 200)
+    done = tests.run(["binary", "--explain", "s.fbs", "v.json", "out.bin"])
+    tests.tell("JSON that is nested too deep", b": objects and arrays are nested deeper than 127\n" in done.stderr)
+
+
+def values(tests):
+    write("s.fbs", MONSTER.encode())
+    for name, text, fault, sentence in VALUES:
+        text, offset = marked(text)
+        write("v.json", text)
+        want = lines(fault, *wrap(place("v.json", text, offset) + sentence), *excerpt(text, offset))
+        tests.expect(name, ["binary", "--explain", "s.fbs", "v.json", "out.bin"], 1, err=want)
+        tests.tell(f"{name}: no OUT", not os.path.exists("out.bin"))
+
+
+def changes(tests):
+    write("old.fbs", MONSTER.encode())
+    for name, was, now, fault, sentences in CHANGES:
+        write("new.fbs", MONSTER.replace(was, now).encode())
+        tests.expect(name, ["conform", "--explain", "old.fbs", "new.fbs"], 1, err=lines(fault, *sentences))
+        tests.expect(f"{name}, alone", ["conform", "old.fbs", "new.fbs"], 1, err=lines(fault))
+    moved = MONSTER.replace("  big:ulong;\n", "  more:ulong;\n").replace("  ok:bool;\n", "  ok:bool;\n  big:ulong;\n")
+    write("new.fbs", moved.encode())
+    want = lines(
+        *wrap(
+            "warning: Monster.big was field 8 (old.fbs:14), is field 10 (new.fbs:16): JSON texts of the old schema mean "
+            "another value"
+        )
+    )
+    tests.expect("a name that stands for another field", ["conform", "--explain", "old.fbs", "new.fbs"], 0,
+                 b"conforms\n", want)
+    write("new.fbs", MONSTER.replace("hp:ubyte = 100", "hp:ubyte = 300").encode())
+    done = tests.run(["conform", "--explain", "old.fbs", "new.fbs"])
+    tests.tell("a new text that is refused", done.stderr.startswith(b"new: 12 BadDefault at ") and b"\nnew.fbs:8:14: " in
+               done.stderr, f"{done.stderr!r}")
+    done = tests.run(["conform", "--explain", "new.fbs", "old.fbs"])
+    tests.tell("an old text that is refused", done.stderr.startswith(b"old: 12 BadDefault at ") and b"\nnew.fbs:8:14: "
+               in done.stderr, f"{done.stderr!r}")
+
+
+def row(bytes_, start):
+    """A row of a dump."""
+    part = bytes_[start : start + 16]
+    cells = "".join(f" {byte:02x}" for byte in part)
+    characters = "".join(chr(byte) if 32 <= byte < 127 else "." for byte in part)
+    return f"{start:10} {cells:<48}  {characters}"
+
+
+def dump(bytes_, offset):
+    offset = min(offset, len(bytes_))
+    own = offset - offset % 16
+    rows = [row(bytes_, own - 16)] if own else []
+    rows += [row(bytes_, own), " " * (12 + 3 * (offset % 16)) + "^^"]
+    return rows + ([row(bytes_, 16)] if not own and len(bytes_) > 16 else [])
+
+
+# The table { name: "Orc" } under `table T { name:string (required); } root_type T;`, and what is done to it.
+SOUND = bytes.fromhex("0c000000 0000 0600 0800 0400 06000000 04000000 03000000 4f726300")
+BUFFERS = [
+    ("an empty buffer", lambda b: b"", "50 Short at 0", "the buffer's length is 0: too short for the root's offset and "
+     "the file identifier", 0),
+    ("a root that isn't aligned", lambda b: struct.pack("<I", 13) + b[4:], "53 Misaligned at 13",
+     "the root: what is stored at 13 must be at a multiple of its alignment, and isn't", 13),
+    ("a root past the end", lambda b: struct.pack("<I", 64) + b[4:], "54 OutOfBounds at 64",
+     "the root: what is stored at 64 ends past the buffer, which ends at 28", 64),
+    ("a root that is 0", lambda b: bytes(4) + b[4:], "55 ZeroOffset at 0",
+     "the root: the offset at 0 is 0: it must lead on to a table, string or vector", 0),
+    ("a vtable before the buffer", lambda b: b[:12] + struct.pack("<i", 64) + b[16:], "56 BadVtable at 12",
+     "the root: the vtable of the table at 12 would be before the buffer", 12),
+    ("a vtable of an odd size", lambda b: b[:6] + b"\x05\x00" + b[8:], "56 BadVtable at 12",
+     "the root: the vtable of the table at 12 would be at 6 and have a size of 5, where an even number from 4 on is right",
+     12),
+    ("a required field that is absent", lambda b: b[:10] + b"\x00\x00" + b[12:], "57 MissingRequired at 12 slot 0",
+     "the root: the table at 12 has nothing in slot 0, which is required", 12),
+    ("a string without its end", lambda b: b[:27] + b"!", "58 NoTerminator at 27",
+     "name: the byte at 27 is 33, where a string's final 0 must be", 27),
+    ("a string that isn't UTF-8", lambda b: b[:25] + b"\xff" + b[26:], "59 BadUtf8 at 25",
+     "name: the byte at 25 is 255: the string isn't UTF-8 from here on", 25),
+]
+
+
+def buffers(tests):
+    write("s.fbs", b"table T { name:string (required); } root_type T;")
+    write("b.bin", SOUND)
+    tests.expect("a sound buffer", ["check", "--explain", "s.fbs", "b.bin"], 0, b"ok\n")
+    for name, damage, fault, sentence, offset in BUFFERS:
+        bytes_ = damage(SOUND)
+        write("b.bin", bytes_)
+        wrapped = wrap(f"b.bin: {sentence}")
+        want = lines(fault, *wrapped, *dump(bytes_, offset))
+        tests.expect(name, ["check", "--explain", "s.fbs", "b.bin"], 1, err=want)
+        tests.expect(f"{name}, printed", ["json", "--explain", "s.fbs", "b.bin"], 1, err=want)
+    write("s.fbs", b'table T { name:string (required); } root_type T; file_identifier "ORCS";')
+    write("b.bin", SOUND)
+    want = lines(
+        "52 WrongIdentifier at 4",
+        *wrap(
+            "b.bin: the file identifier is '\\u{0}\\u{0}\\u{6}\\u{0}', the schema's is 'ORCS' "
+            "(--raw-binary skips this check)"
+        ),
+        *dump(SOUND, 4),
+    )
+    tests.expect("another identifier", ["check", "--explain", "s.fbs", "b.bin"], 1, err=want)
+
+
+def wrap(line):
+    """A line that goes on in further ones, set in by four, where it is wider than 120 columns."""
+    return textwrap.wrap(line, COLUMNS, subsequent_indent="    ", break_on_hyphens=False)
+
+
+def files(tests):
+    write("s.fbs", MONSTER.encode())
+    write("v.json", b'{"name":"Orc"}')
+    binary = ["binary", "--explain"]
+    tests.expect("a file that isn't there", [*binary, "s.fbs", "no.json", "o"], 1,
+                 err=lines("110 FileRead", "no.json: No such file or directory (os error 2)"))
+    tests.expect("a schema that isn't there", ["check", "--explain", "no.fbs"], 1,
+                 err=lines("110 FileRead", "no.fbs: No such file or directory (os error 2)"))
+    os.mkdir("folder")
+    tests.expect("a folder", ["check", "--explain", "folder"], 1,
+                 err=lines("110 FileRead", "folder: Is a directory (os error 21)"))
+    tests.expect("OUT in a folder that isn't there", [*binary, "s.fbs", "v.json", "no/o"], 1,
+                 err=lines("111 FileWrite", "no/o: No such file or directory (os error 2)"))
+    tests.expect("OUT is an input", [*binary, "s.fbs", "v.json", "v.json"], 1,
+                 err=lines("111 FileWrite", "v.json: it is one of the inputs, or it is there and named .json or .fbs"))
+
+
+def cuts(tests):
+    """Lines are at most 120 columns wide, whatever the text."""
+    fields = " ".join(f"field_{k}:int;" for k in range(50_000))
+    write("s.fbs", f"table T {{ {fields} last:Missing; {fields} }} root_type T;".encode())
+    done = tests.run(["check", "--explain", "s.fbs"])
+    rows = done.stderr.decode().splitlines()
+    tests.tell("a line of a megabyte", len(rows) == 4 and all(len(it) <= COLUMNS for it in rows), f"{rows!r}"[:300])
+    caret = rows[3].index("^") if len(rows) == 4 else -1
+    tests.tell("the caret in a long line", rows[2][caret:].startswith("Missing;"), f"{rows[2:]!r}")
+    tests.tell("the dots of a long line", rows[2].startswith("  ...") and rows[2].endswith("..."), f"{rows[2:]!r}")
+    write("s.fbs", b"table T { a:" + b"x" * 5000 + b"; } root_type T;")
+    done = tests.run(["check", "--explain", "s.fbs"])
+    tests.tell("a long name", all(len(it) <= COLUMNS for it in done.stderr.decode().splitlines()))
+    tests.tell("a long name is cut", ("'" + "x" * 60 + "...'").encode() in done.stderr, f"{done.stderr!r}"[:300])
+    hostile = bytes(range(1, 256)).replace(b"\n", b"")
+    write("s.fbs", b"table T { a:" + hostile + b"; } root_type T;")
+    done = tests.run(["check", "--explain", "s.fbs"])
+    plain = done.stderr.replace(b"\n", b"")
+    tests.tell("no control character is printed", all(byte >= 32 and byte != 127 for byte in plain))
+
+
+def numbers(tests):
+    """`flatc explain NUMBER` prints what docs/FAULTS.md has."""
+    with open(f"{ROOT}/docs/FAULTS.md", encoding="utf-8") as it:
+        pages = re.split(r"^### ", re.sub(r"^## .*$", "", it.read(), flags=re.M), flags=re.M)[1:]
+    seen = set()
+    for page in pages:
+        head, _, body = page.partition("\n")
+        number = int(head.split()[0])
+        seen.add(number)
+        tests.expect(f"explain {number}", ["explain", str(number)], 0, f"{head}\n{body.strip()}\n".encode())
+    want = {*range(1, 8), *range(10, 24), *range(30, 33), 40, 41, *range(50, 61), *range(62, 65), *range(70, 83), 84}
+    want |= {*range(90, 103), *range(110, 115)}
+    want.discard(83)
+    tests.tell("each number has a page", seen == want, f"{seen ^ want}")
+    for number in sorted(set(range(256)) - want) + ["256", "-1", "x", ""]:
+        done = tests.run(["explain", "--", str(number)])
+        tests.tell(f"no page for {number}", done.returncode == 2 and done.stderr.startswith(b"error: ") and not done.stdout,
+                   f"{done!r}")
+
+
+if __name__ == "__main__":
+    parts = [schemas, unsupported, texts, values, changes, buffers, files, cuts, numbers]
+    sys.exit(Tests("explain", program_of(sys.argv, __doc__)).main(parts))
