@@ -6,6 +6,7 @@ mod conform;
 mod counts;
 mod declarations;
 mod fault_lines;
+mod fault_sentences;
 mod integers;
 mod job_of;
 mod pages;

@@ -21,7 +21,7 @@ pub mod Covered
 pub mod CoveredLaws
 pub mod CoveredTails
 pub mod CoveredSteps
-pub mod FaultNumbers
+pub mod FaultTable
 pub mod Made
 pub mod Builders
 pub mod FieldsLaid

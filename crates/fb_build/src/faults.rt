@@ -15,16 +15,31 @@ pub enum BuildFault {
 
 impl BuildFault {
     ghost use Rattle.std.specs.Prelude.{◌≡◌, None};
-    ghost use Rattle.fb_build.specs.FaultNumbers.{number_of};
+    ghost use Rattle.fb_build.specs.FaultTable.{number_of, name_of};
+
+    // The number and the name.
+    fn row(self) -> (u8, &'static str)
+        ensures number { result.0 ≡ number_of self }
+        ensures name { result.1.now ≡ name_of self }
+    {
+        match self {
+            BuildFault::TooBig => (40, "TooBig"),
+            BuildFault::Memory => (41, "Memory"),
+        }
+    }
 
     /// The fault's number; no other fault has it.
     pub fn number(self) -> u8
         ensures { result ≡ number_of self }
     {
-        match self {
-            BuildFault::TooBig => 40,
-            BuildFault::Memory => 41,
-        }
+        self.row().0
+    }
+
+    /// The fault's name, that of its variant.
+    pub fn name(self) -> &'static str
+        ensures { result.now ≡ name_of self }
+    {
+        self.row().1
     }
 
     /// None: a value's size has no place.

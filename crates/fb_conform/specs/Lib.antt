@@ -1,7 +1,7 @@
 pub mod Twins
 pub mod ByName
 pub mod Conforms
-pub mod BreachNumbers
+pub mod BreachTable
 pub mod Order
 pub mod Told
 pub mod Carry

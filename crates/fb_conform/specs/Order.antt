@@ -4,7 +4,7 @@ use Rattle.std.specs.Prelude.{ℕ, ◌≡◌, ◌+◌, ◌<◌, ◌⊎◌, Optio
 use Rattle.std.specs.Option.{option_map_or}
 use Rattle.fb_layout.specs.Laid.{LaidSchema}
 use Rattle.fb_conform.specs.declared.breaches.Breach.{Breach}
-use Rattle.fb_conform.specs.BreachNumbers.{number_of, type_of, slot_of}
+use Rattle.fb_conform.specs.BreachTable.{number_of, type_of, slot_of}
 use Rattle.fb_conform.specs.Conforms.{Kept, Stands}
 
 -- 0 for the root and the identifier, else one more than the type's number

@@ -12,7 +12,7 @@ pub enum Breach {
     #[error("the root is a type of another name")]
     RootChanged,
     /// One schema has a file identifier and the other not, or they differ.
-    #[error("the file identifier is another")]
+    #[error("the file identifier changed")]
     IdentifierChanged,
     /// No new type has the old one's full name.
     #[error("type {} is gone", .0.0)]
@@ -52,27 +52,42 @@ pub enum Breach {
 
 impl Breach {
     ghost use Rattle.std.specs.Prelude.{◌≡◌};
-    ghost use Rattle.fb_conform.specs.BreachNumbers.{number_of, type_of, slot_of};
+    ghost use Rattle.fb_conform.specs.BreachTable.{number_of, name_of, type_of, slot_of};
+
+    // The number and the name.
+    fn row(self) -> (u8, &'static str)
+        ensures number { result.0 ≡ number_of self }
+        ensures name { result.1.now ≡ name_of self }
+    {
+        match self {
+            Breach::RootChanged => (90, "RootChanged"),
+            Breach::IdentifierChanged => (91, "IdentifierChanged"),
+            Breach::TypeGone(_) => (92, "TypeGone"),
+            Breach::KindChanged(_) => (93, "KindChanged"),
+            Breach::StructChanged(_) => (94, "StructChanged"),
+            Breach::SlotGone(_, _) => (95, "SlotGone"),
+            Breach::FieldTypeChanged(_, _) => (96, "FieldTypeChanged"),
+            Breach::DefaultChanged(_, _) => (97, "DefaultChanged"),
+            Breach::RequiredChanged(_, _) => (98, "RequiredChanged"),
+            Breach::DeprecatedTakenBack(_, _) => (99, "DeprecatedTakenBack"),
+            Breach::NewRequired(_, _) => (100, "NewRequired"),
+            Breach::EnumChanged(_) => (101, "EnumChanged"),
+            Breach::UnionChanged(_) => (102, "UnionChanged"),
+        }
+    }
 
     /// The breach's number; no other breach has it.
     pub fn number(self) -> u8
         ensures { result ≡ number_of self }
     {
-        match self {
-            Breach::RootChanged => 90,
-            Breach::IdentifierChanged => 91,
-            Breach::TypeGone(_) => 92,
-            Breach::KindChanged(_) => 93,
-            Breach::StructChanged(_) => 94,
-            Breach::SlotGone(_, _) => 95,
-            Breach::FieldTypeChanged(_, _) => 96,
-            Breach::DefaultChanged(_, _) => 97,
-            Breach::RequiredChanged(_, _) => 98,
-            Breach::DeprecatedTakenBack(_, _) => 99,
-            Breach::NewRequired(_, _) => 100,
-            Breach::EnumChanged(_) => 101,
-            Breach::UnionChanged(_) => 102,
-        }
+        self.row().0
+    }
+
+    /// The breach's name, that of its variant.
+    pub fn name(self) -> &'static str
+        ensures { result.now ≡ name_of self }
+    {
+        self.row().1
     }
 
     /// The old schema's type that it is in; none for the root and the identifier.

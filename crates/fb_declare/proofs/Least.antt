@@ -1,7 +1,8 @@
 -- The least fault of lists that are joined.
 use Rattle.std.proofs.Common.{◌≡◌, ◌++◌, ◌==◌, ◌&&◌, ◌||◌, nat_lt, ℕ, Bool, true, false, List, [], ◌∷◌, Option, None, Some, refl, ap, sym, ◌∙◌, arith, if◌then◌else◌}
 use Rattle.fb_declare.specs.declared.faults.SchemaFault.{SchemaFault}
-use Rattle.fb_declare.specs.Faults.{at_of, number_of, comes_before, earlier, least_of}
+use Rattle.fb_declare.specs.FaultTable.{number_of}
+use Rattle.fb_declare.specs.Faults.{at_of, comes_before, earlier, least_of}
 
 earlier_none : (f : Option SchemaFault) → earlier f None ≡ f
 earlier_none None = refl

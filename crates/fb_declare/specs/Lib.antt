@@ -2,6 +2,7 @@ pub mod AttributeFaults
 pub mod FaultRows
 pub mod TypeFaults
 pub mod Declares
+pub mod FaultTable
 pub mod Faults
 pub mod DeclaredNames
 pub mod Buildable

@@ -19,17 +19,17 @@ pub enum SchemaFault {
     IncompleteStruct(u64),
     #[error("the struct at {0} has no field")]
     EmptyStruct(u64),
-    #[error("the attribute at {0} may not stand there, or has a wrong value")]
+    #[error("the attribute at {0} may not be there, or has a wrong value")]
     BadAttribute(u64),
     #[error("the attribute at {0} isn't declared")]
     UnknownAttribute(u64),
-    #[error("what stands at {0} isn't supported")]
+    #[error("what is at {0} isn't supported")]
     Unsupported(u64),
     #[error("the enum value at {0} is out of range or occurs again")]
     BadEnumValue(u64),
     #[error("the type at {0} may not be a member there")]
     BadMember(u64),
-    #[error("no table is the root, told at {0}")]
+    #[error("the root type at {0} is missing or no table")]
     BadRoot(u64),
     #[error("the file identifier at {0} is not four printable bytes")]
     BadIdentifier(u64),
@@ -61,9 +61,10 @@ impl<T: Drop> From<AllocFailed<T>> for SchemaFault {
 
 impl SchemaFault {
     ghost use Rattle.std.specs.Prelude.{◌≡◌};
-    ghost use Rattle.fb_declare.specs.Faults.{offset_of, at_of, number_of, comes_before};
+    ghost use Rattle.fb_declare.specs.FaultTable.{number_of, name_of, offset_of};
+    ghost use Rattle.fb_declare.specs.Faults.{at_of, comes_before};
 
-    /// Where it stands, in bytes from the text's start; running out of memory has no place.
+    /// Its offset, in bytes from the text's start; running out of memory has no place.
     pub fn offset(self) -> Option<u64>
         ensures { result ≡ offset_of self }
     {
@@ -92,26 +93,41 @@ impl SchemaFault {
         self.offset().unwrap_or(0)
     }
 
-    /// The fault's number, which tells it from all others.
+    // The number and the name.
+    fn row(self) -> (u8, &'static str)
+        ensures number { result.0 ≡ number_of self }
+        ensures name { result.1.now ≡ name_of self }
+    {
+        match self {
+            SchemaFault::DuplicateName(_) => (10, "DuplicateName"),
+            SchemaFault::UnknownType(_) => (11, "UnknownType"),
+            SchemaFault::BadDefault(_) => (12, "BadDefault"),
+            SchemaFault::BadIds(_) => (13, "BadIds"),
+            SchemaFault::IncompleteStruct(_) => (14, "IncompleteStruct"),
+            SchemaFault::EmptyStruct(_) => (15, "EmptyStruct"),
+            SchemaFault::BadAttribute(_) => (16, "BadAttribute"),
+            SchemaFault::UnknownAttribute(_) => (17, "UnknownAttribute"),
+            SchemaFault::Unsupported(_) => (18, "Unsupported"),
+            SchemaFault::BadEnumValue(_) => (19, "BadEnumValue"),
+            SchemaFault::BadMember(_) => (20, "BadMember"),
+            SchemaFault::BadRoot(_) => (21, "BadRoot"),
+            SchemaFault::BadIdentifier(_) => (22, "BadIdentifier"),
+            SchemaFault::Memory => (23, "Memory"),
+        }
+    }
+
+    /// The fault's number; no other fault has it.
     pub fn number(self) -> u8
         ensures { result ≡ number_of self }
     {
-        match self {
-            SchemaFault::DuplicateName(_) => 10,
-            SchemaFault::UnknownType(_) => 11,
-            SchemaFault::BadDefault(_) => 12,
-            SchemaFault::BadIds(_) => 13,
-            SchemaFault::IncompleteStruct(_) => 14,
-            SchemaFault::EmptyStruct(_) => 15,
-            SchemaFault::BadAttribute(_) => 16,
-            SchemaFault::UnknownAttribute(_) => 17,
-            SchemaFault::Unsupported(_) => 18,
-            SchemaFault::BadEnumValue(_) => 19,
-            SchemaFault::BadMember(_) => 20,
-            SchemaFault::BadRoot(_) => 21,
-            SchemaFault::BadIdentifier(_) => 22,
-            SchemaFault::Memory => 23,
-        }
+        self.row().0
+    }
+
+    /// The fault's name, that of its variant.
+    pub fn name(self) -> &'static str
+        ensures { result.now ≡ name_of self }
+    {
+        self.row().1
     }
 
     fn comes_before(self, other: SchemaFault) -> bool

@@ -8,4 +8,5 @@ pub mod Laws
 pub mod Breaks
 pub mod TreeCounts
 pub mod Refuses
-pub mod FaultNumbers
+pub mod FaultTable
+pub mod PlaceText

@@ -8,5 +8,5 @@ pub mod Refused
 pub mod Required
 pub mod Held
 pub mod OneLayout
-pub mod FaultNumbers
+pub mod FaultTable
 pub mod Laws

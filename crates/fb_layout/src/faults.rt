@@ -19,16 +19,43 @@ pub enum LayoutFault {
 
 impl LayoutFault {
     ghost use Rattle.std.specs.Prelude.{◌≡◌, None};
-    ghost use Rattle.fb_layout.specs.FaultNumbers.{number_of};
+    ghost use Rattle.fb_layout.specs.FaultTable.{number_of, name_of, type_of};
+
+    // The number and the name.
+    fn row(self) -> (u8, &'static str)
+        ensures number { result.0 ≡ number_of self }
+        ensures name { result.1.now ≡ name_of self }
+    {
+        match self {
+            LayoutFault::StructTooBig(_) => (30, "StructTooBig"),
+            LayoutFault::TableTooWide(_) => (31, "TableTooWide"),
+            LayoutFault::Memory => (32, "Memory"),
+        }
+    }
 
     /// The fault's number; no other fault has it.
     pub fn number(self) -> u8
         ensures { result ≡ number_of self }
     {
+        self.row().0
+    }
+
+    /// The fault's name, that of its variant.
+    pub fn name(self) -> &'static str
+        ensures { result.now ≡ name_of self }
+    {
+        self.row().1
+    }
+
+    /// The type that is too large; running out of memory has none.
+    pub fn type_id(self) -> Option<TypeId>
+        ensures { result ≡ type_of self }
+    {
         match self {
-            LayoutFault::StructTooBig(_) => 30,
-            LayoutFault::TableTooWide(_) => 31,
-            LayoutFault::Memory => 32,
+            LayoutFault::StructTooBig(type_id) | LayoutFault::TableTooWide(type_id) => {
+                Some(type_id)
+            }
+            LayoutFault::Memory => None,
         }
     }
 

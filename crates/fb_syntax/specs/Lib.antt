@@ -20,6 +20,6 @@ pub mod Grammar
 pub mod GrammarSchema
 pub mod OneReading
 pub mod Parsed
-pub mod FaultNumbers
+pub mod FaultTable
 pub mod Refusals
 pub mod scan

@@ -9,15 +9,15 @@ use thiserror::Error;
 pub enum SyntaxFault {
     #[error("the text isn't UTF-8 from {0} on")]
     NotUtf8(u64),
-    #[error("no token begins with the byte at {0}, or it may not stand in a quoted text")]
+    #[error("no token begins with the byte at {0}, or it may not be in a quoted text")]
     BadByte(u64),
     #[error("the comment or quoted text from {0} on has no end")]
     Unterminated(u64),
-    #[error("the integer at {0} is too great")]
+    #[error("the integer at {0} is too large")]
     NumberTooBig(u64),
     #[error("the token at {0} is not expected there")]
     Unexpected(u64),
-    #[error("a vector stands inside a vector at {0}")]
+    #[error("the vector at {0} is inside a vector")]
     NestedVector(u64),
     #[error("out of memory")]
     Memory,
@@ -25,24 +25,39 @@ pub enum SyntaxFault {
 
 impl SyntaxFault {
     ghost use Rattle.std.specs.Prelude.{◌≡◌};
-    ghost use Rattle.fb_syntax.specs.FaultNumbers.{number_of, offset_of};
+    ghost use Rattle.fb_syntax.specs.FaultTable.{number_of, name_of, offset_of};
 
-    /// The fault's number, which tells it from all others.
-    pub fn number(self) -> u8
-        ensures { result ≡ number_of self }
+    // The number and the name.
+    fn row(self) -> (u8, &'static str)
+        ensures number { result.0 ≡ number_of self }
+        ensures name { result.1.now ≡ name_of self }
     {
         match self {
-            SyntaxFault::NotUtf8(_) => 1,
-            SyntaxFault::BadByte(_) => 2,
-            SyntaxFault::Unterminated(_) => 3,
-            SyntaxFault::NumberTooBig(_) => 4,
-            SyntaxFault::Unexpected(_) => 5,
-            SyntaxFault::NestedVector(_) => 6,
-            SyntaxFault::Memory => 7,
+            SyntaxFault::NotUtf8(_) => (1, "NotUtf8"),
+            SyntaxFault::BadByte(_) => (2, "BadByte"),
+            SyntaxFault::Unterminated(_) => (3, "Unterminated"),
+            SyntaxFault::NumberTooBig(_) => (4, "NumberTooBig"),
+            SyntaxFault::Unexpected(_) => (5, "Unexpected"),
+            SyntaxFault::NestedVector(_) => (6, "NestedVector"),
+            SyntaxFault::Memory => (7, "Memory"),
         }
     }
 
-    /// Where it stands, in bytes from the text's start; running out of memory has no place.
+    /// The fault's number; no other fault has it.
+    pub fn number(self) -> u8
+        ensures { result ≡ number_of self }
+    {
+        self.row().0
+    }
+
+    /// The fault's name, that of its variant.
+    pub fn name(self) -> &'static str
+        ensures { result.now ≡ name_of self }
+    {
+        self.row().1
+    }
+
+    /// Its offset, in bytes from the text's start; running out of memory has no place.
     pub fn offset(self) -> Option<u64>
         ensures { result ≡ offset_of self }
     {

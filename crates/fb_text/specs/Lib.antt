@@ -9,5 +9,5 @@ pub mod Printed
 pub mod Shown
 pub mod Nested
 pub mod Stored
-pub mod FaultNumbers
+pub mod FaultTable
 pub mod Laws

@@ -8,7 +8,7 @@ use thiserror::Error;
 /// written; the count stops at its greatest value.
 #[derive(Clone, Copy, Debug, PartialEq, Eq, Drop, Error)]
 pub enum WriteFault {
-    #[error("a union's member has no name in the schema, at {0:?}")]
+    #[error("a union's member has no name in the schema, in {0}")]
     NoMemberName(Place),
     #[error("a write failed, {0} bytes behind the start")]
     WriteFailed(u64),
@@ -16,16 +16,31 @@ pub enum WriteFault {
 
 impl WriteFault {
     ghost use Rattle.std.specs.Prelude.{◌≡◌};
-    ghost use Rattle.fb_text.specs.FaultNumbers.{number_of, place_of, written_of};
+    ghost use Rattle.fb_text.specs.FaultTable.{number_of, name_of, place_of, written_of};
+
+    // The number and the name.
+    fn row(self) -> (u8, &'static str)
+        ensures number { result.0 ≡ number_of self }
+        ensures name { result.1.now ≡ name_of self }
+    {
+        match self {
+            WriteFault::NoMemberName(_) => (81, "NoMemberName"),
+            WriteFault::WriteFailed(_) => (82, "WriteFailed"),
+        }
+    }
 
     /// The fault's number; no other fault has it.
     pub fn number(self) -> u8
         ensures { result ≡ number_of self }
     {
-        match self {
-            WriteFault::NoMemberName(_) => 81,
-            WriteFault::WriteFailed(_) => 82,
-        }
+        self.row().0
+    }
+
+    /// The fault's name, that of its variant.
+    pub fn name(self) -> &'static str
+        ensures { result.now ≡ name_of self }
+    {
+        self.row().1
     }
 
     /// The slot of the union without a name; a failed write has no place.
@@ -52,7 +67,7 @@ impl WriteFault {
 /// Why a value has no JSON text. `Memory` is a refused allocation.
 #[derive(Clone, Copy, Debug, PartialEq, Eq, Drop, Error)]
 pub enum TextFault {
-    #[error("a union's member has no name in the schema, at {0:?}")]
+    #[error("a union's member has no name in the schema, in {0}")]
     NoMemberName(Place),
     #[error("out of memory")]
     Memory,
@@ -60,16 +75,31 @@ pub enum TextFault {
 
 impl TextFault {
     ghost use Rattle.std.specs.Prelude.{◌≡◌};
-    ghost use Rattle.fb_text.specs.FaultNumbers.{text_number_of, text_place_of};
+    ghost use Rattle.fb_text.specs.FaultTable.{text_number_of, text_name_of, text_place_of};
+
+    // The number and the name.
+    fn row(self) -> (u8, &'static str)
+        ensures number { result.0 ≡ text_number_of self }
+        ensures name { result.1.now ≡ text_name_of self }
+    {
+        match self {
+            TextFault::NoMemberName(_) => (81, "NoMemberName"),
+            TextFault::Memory => (84, "Memory"),
+        }
+    }
 
     /// The fault's number; no other fault has it.
     pub fn number(self) -> u8
         ensures { result ≡ text_number_of self }
     {
-        match self {
-            TextFault::NoMemberName(_) => 81,
-            TextFault::Memory => 84,
-        }
+        self.row().0
+    }
+
+    /// The fault's name, that of its variant.
+    pub fn name(self) -> &'static str
+        ensures { result.now ≡ text_name_of self }
+    {
+        self.row().1
     }
 
     /// The slot of the union without a name; running out of memory has no place.

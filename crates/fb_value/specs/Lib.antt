@@ -39,4 +39,4 @@ pub mod ExampleNested
 pub mod ExampleFits
 pub mod ExampleOldSlots
 pub mod ExampleShared
-pub mod FaultNumbers
+pub mod FaultTable

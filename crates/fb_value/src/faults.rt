@@ -11,11 +11,11 @@ pub enum ReadFault {
     Short(u64),
     #[error("the buffer is longer than {0} bytes")]
     TooLong(u64),
-    #[error("another file identifier stands at {0}")]
+    #[error("the file identifier at {0} is not the schema's")]
     WrongIdentifier(u64),
     #[error("position {0} is not aligned")]
     Misaligned(u64),
-    #[error("what stands at {0} ends past the buffer")]
+    #[error("what is at {0} ends past the buffer")]
     OutOfBounds(u64),
     #[error("the reference at {0} is 0")]
     ZeroOffset(u64),
@@ -23,9 +23,9 @@ pub enum ReadFault {
     BadVtable(u64),
     #[error("the required slot {1} is missing at {0}")]
     MissingRequired(u64, u16),
-    #[error("the text's end at {0} has no zero byte")]
+    #[error("the string that ends at {0} has no zero byte")]
     NoTerminator(u64),
-    #[error("the text's byte at {0} is not UTF-8")]
+    #[error("the string's byte at {0} is not UTF-8")]
     BadUtf8(u64),
     #[error("the union's code at {0} has no value")]
     UnionMismatch(u64),
@@ -39,28 +39,43 @@ pub enum ReadFault {
 
 impl ReadFault {
     ghost use Rattle.std.specs.Prelude.{◌≡◌};
-    ghost use Rattle.fb_value.specs.FaultNumbers.{number_of, offset_of};
+    ghost use Rattle.fb_value.specs.FaultTable.{number_of, name_of, offset_of};
+
+    // The number and the name.
+    fn row(self) -> (u8, &'static str)
+        ensures number { result.0 ≡ number_of self }
+        ensures name { result.1.now ≡ name_of self }
+    {
+        match self {
+            ReadFault::Short(_) => (50, "Short"),
+            ReadFault::TooLong(_) => (51, "TooLong"),
+            ReadFault::WrongIdentifier(_) => (52, "WrongIdentifier"),
+            ReadFault::Misaligned(_) => (53, "Misaligned"),
+            ReadFault::OutOfBounds(_) => (54, "OutOfBounds"),
+            ReadFault::ZeroOffset(_) => (55, "ZeroOffset"),
+            ReadFault::BadVtable(_) => (56, "BadVtable"),
+            ReadFault::MissingRequired(_, _) => (57, "MissingRequired"),
+            ReadFault::NoTerminator(_) => (58, "NoTerminator"),
+            ReadFault::BadUtf8(_) => (59, "BadUtf8"),
+            ReadFault::UnionMismatch(_) => (60, "UnionMismatch"),
+            ReadFault::TooDeep(_) => (62, "TooDeep"),
+            ReadFault::TooManyCells(_) => (63, "TooManyCells"),
+            ReadFault::Memory => (64, "Memory"),
+        }
+    }
 
     /// The fault's number; no other fault has it.
     pub fn number(self) -> u8
         ensures { result ≡ number_of self }
     {
-        match self {
-            ReadFault::Short(_) => 50,
-            ReadFault::TooLong(_) => 51,
-            ReadFault::WrongIdentifier(_) => 52,
-            ReadFault::Misaligned(_) => 53,
-            ReadFault::OutOfBounds(_) => 54,
-            ReadFault::ZeroOffset(_) => 55,
-            ReadFault::BadVtable(_) => 56,
-            ReadFault::MissingRequired(_, _) => 57,
-            ReadFault::NoTerminator(_) => 58,
-            ReadFault::BadUtf8(_) => 59,
-            ReadFault::UnionMismatch(_) => 60,
-            ReadFault::TooDeep(_) => 62,
-            ReadFault::TooManyCells(_) => 63,
-            ReadFault::Memory => 64,
-        }
+        self.row().0
+    }
+
+    /// The fault's name, that of its variant.
+    pub fn name(self) -> &'static str
+        ensures { result.now ≡ name_of self }
+    {
+        self.row().1
     }
 
     /// Its offset, in bytes from the buffer's start; running out of memory has no place.

@@ -7,10 +7,8 @@ use crate::outputs::write_out;
 use clap::Error;
 use clap::error::ErrorKind;
 use flatc_cli::{Job, job_of};
-use flatc_tool::{
-    Heard, Limits, Noted, ToolFault, check, conform_texts, print_to, report, take_all, to_binary,
-    to_json,
-};
+use flatc_tool::command::{Heard, report, take_all};
+use flatc_tool::{Limits, Noted, ToolFault, check, conform_texts, print_to, to_binary, to_json};
 use std::alloc::Global;
 use std::process::ExitCode;
 use std::{env, fs, io};

@@ -1,13 +1,13 @@
 -- What a fault of the tool says of its place, besides an offset: a declared type, a slot, how much was written.
 use Rattle.std.specs.Prelude.{ℕ, Option, None, Some, option_map}
 use Rattle.std.specs.Option.{option_map_or}
-use Rattle.fb_layout.specs.declared.faults.LayoutFault.TheVariants as the_layout
+use Rattle.fb_layout.specs.FaultTable as layout_faults
 use Rattle.fb_value.specs.declared.faults.ReadFault.TheVariants as the_read
-use Rattle.fb_json.specs.FaultNumbers as json_faults
+use Rattle.fb_json.specs.FaultTable as json_faults
 use Rattle.fb_json.specs.declared.faults.Place.{Place}
-use Rattle.fb_text.specs.FaultNumbers as write_faults
+use Rattle.fb_text.specs.FaultTable as write_faults
 use Rattle.fb_schema.specs.declared.kinds.TypeId.{TypeId}
-use Rattle.fb_conform.specs.BreachNumbers as breaches
+use Rattle.fb_conform.specs.BreachTable as breaches
 use Rattle.flatc_tool.specs.declared.schema_layouts.SchemaTextFault.{SchemaTextFault}
 use Rattle.flatc_tool.specs.declared.schema_layouts.SchemaTextFault.TheVariants.{Layout}
 use Rattle.flatc_tool.specs.declared.faults.ToolFault.{ToolFault}
@@ -22,8 +22,7 @@ place_of (Write f) = write_faults.place_of f
 place_of _ = None
 
 abbrev pub schema_owner_of : SchemaTextFault → Option ℕ
-schema_owner_of (Layout (the_layout.StructTooBig owner)) = Some owner.0
-schema_owner_of (Layout (the_layout.TableTooWide owner)) = Some owner.0
+schema_owner_of (Layout f) = option_map (λ (t : TypeId). t.0) (layout_faults.type_of f)
 schema_owner_of _ = None
 
 -- the number of the type, of two schemas the old one's

@@ -1,6 +1,6 @@
 -- What a reader that remembers its last read is seen as.
 use Rattle.std.specs.Prelude.{Bool}
-use Rattle.flatc_tool.specs.declared.heard.Heard.{Heard}
+use Rattle.flatc_tool.specs.declared.command.heard.Heard.{Heard}
 use Rattle.flatc_tool.specs.declared.faults.ToolFault.{ToolFault}
 use Rattle.flatc_tool.specs.declared.faults.ToolFault.TheVariants.{FileRead, FileTooLong, Memory}
 

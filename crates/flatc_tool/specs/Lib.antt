@@ -5,8 +5,7 @@ pub mod Answers
 pub mod Headline
 pub mod Chains
 pub mod SchemaTexts
-pub mod FaultNumbers
-pub mod FaultNames
+pub mod FaultTable
 pub mod FaultPlaces
 pub mod FaultLines
 pub mod Reports

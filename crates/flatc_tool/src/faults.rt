@@ -1,5 +1,4 @@
 //! Why the tool refuses.
-use crate::names::name_of;
 use crate::schema_layouts::SchemaTextFault;
 use fb_build::BuildFault;
 use fb_conform::Breach;
@@ -50,36 +49,44 @@ pub enum ToolFault {
 
 impl ToolFault {
     ghost use Rattle.std.specs.Prelude.{◌≡◌, option_map};
-    ghost use Rattle.flatc_tool.specs.FaultNumbers.{number_of, offset_of};
+    ghost use Rattle.flatc_tool.specs.FaultTable.{number_of, name_of, offset_of};
     ghost use Rattle.flatc_tool.specs.FaultPlaces.{place_of, owner_of, slot_of, written_of};
-    ghost use Rattle.flatc_tool.specs.FaultNames.{name_of};
+
+    // The number and the name.
+    fn row(self) -> (u8, &'static str)
+        ensures number { result.0 ≡ number_of self }
+        ensures name { result.1.now ≡ name_of self }
+    {
+        match self {
+            ToolFault::Schema(fault) | ToolFault::Older(fault) | ToolFault::Newer(fault) => {
+                (fault.number(), fault.name())
+            }
+            ToolFault::Json(fault) => (fault.number(), fault.name()),
+            ToolFault::Build(fault) => (fault.number(), fault.name()),
+            ToolFault::Read(fault) => (fault.number(), fault.name()),
+            ToolFault::Text(fault) => (fault.number(), fault.name()),
+            ToolFault::Write(fault) => (fault.number(), fault.name()),
+            ToolFault::Breach(breach) => (breach.number(), breach.name()),
+            ToolFault::FileRead => (110, "FileRead"),
+            ToolFault::FileWrite => (111, "FileWrite"),
+            ToolFault::FileTooLong => (112, "FileTooLong"),
+            ToolFault::BadJson => (113, "BadJson"),
+            ToolFault::Memory => (114, "Memory"),
+        }
+    }
 
     /// The fault's number; no other fault has it.
     pub fn number(self) -> u8
         ensures { result ≡ number_of self }
     {
-        match self {
-            ToolFault::Schema(fault) => fault.number(),
-            ToolFault::Json(fault) => fault.number(),
-            ToolFault::Build(fault) => fault.number(),
-            ToolFault::Read(fault) => fault.number(),
-            ToolFault::Text(fault) => fault.number(),
-            ToolFault::Write(fault) => fault.number(),
-            ToolFault::Breach(breach) => breach.number(),
-            ToolFault::Older(fault) | ToolFault::Newer(fault) => fault.number(),
-            ToolFault::FileRead => 110,
-            ToolFault::FileWrite => 111,
-            ToolFault::FileTooLong => 112,
-            ToolFault::BadJson => 113,
-            ToolFault::Memory => 114,
-        }
+        self.row().0
     }
 
     /// The fault's name: that of its variant in the layer that refuses.
     pub fn name(self) -> &'static str
         ensures { result.now ≡ name_of self }
     {
-        name_of(self)
+        self.row().1
     }
 
     /// Its offset in the schema text or the buffer, in bytes from the start, if it has such a

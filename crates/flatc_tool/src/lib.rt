@@ -3,18 +3,15 @@
 
 mod buffers;
 mod checks;
+pub mod command;
 mod evolution;
 mod faults;
 mod headline;
-mod heard;
 mod jobs;
 mod json_texts;
 mod laws;
-mod lines;
-mod names;
 mod options;
 mod prints;
-mod reports;
 mod schema_layouts;
 
 pub use buffers::encode;
@@ -34,11 +31,8 @@ pub use fb_value::{Limits, ReadFault, Value};
 pub use headline::{
     chains_carry, chains_conform, json_is_carried, old_programs_read, others_are_refused,
 };
-pub use heard::{Heard, take_all};
 pub use jobs::to_binary;
 pub use json_texts::{decode, decode_to};
-pub use lines::fault_line;
 pub use options::{DecodeOptions, EncodeOptions};
 pub use prints::{print_to, to_json};
-pub use reports::report;
 pub use schema_layouts::{SchemaTextFault, schema_of};

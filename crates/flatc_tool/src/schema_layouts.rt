@@ -28,7 +28,7 @@ pub enum SchemaTextFault {
 
 impl SchemaTextFault {
     ghost use Rattle.std.specs.Prelude.{◌≡◌, option_map};
-    ghost use Rattle.flatc_tool.specs.FaultNumbers.{schema_number_of, schema_offset_of};
+    ghost use Rattle.flatc_tool.specs.FaultTable.{schema_number_of, schema_name_of, schema_offset_of};
     ghost use Rattle.flatc_tool.specs.FaultPlaces.{schema_owner_of};
 
     /// The fault's number; no other fault has it.
@@ -39,6 +39,17 @@ impl SchemaTextFault {
             SchemaTextFault::Syntax(fault) => fault.number(),
             SchemaTextFault::Schema(fault) => fault.number(),
             SchemaTextFault::Layout(fault) => fault.number(),
+        }
+    }
+
+    /// The fault's name: that of its variant in the layer that refuses.
+    pub fn name(self) -> &'static str
+        ensures { result.now ≡ schema_name_of self }
+    {
+        match self {
+            SchemaTextFault::Syntax(fault) => fault.name(),
+            SchemaTextFault::Schema(fault) => fault.name(),
+            SchemaTextFault::Layout(fault) => fault.name(),
         }
     }
 
@@ -58,8 +69,7 @@ impl SchemaTextFault {
         ensures { option_map (λ owner. owner.0) result ≡ schema_owner_of self }
     {
         match self {
-            SchemaTextFault::Layout(LayoutFault::StructTooBig(owner))
-            | SchemaTextFault::Layout(LayoutFault::TableTooWide(owner)) => Some(owner),
+            SchemaTextFault::Layout(fault) => fault.type_id(),
             _ => None,
         }
     }

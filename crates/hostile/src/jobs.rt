@@ -5,10 +5,10 @@ use crate::meanings::limits;
 use clap::Error;
 use clap::error::ErrorKind;
 use flatc_cli::{Job, job_of};
+use flatc_tool::command::{Heard, fault_line, report, take_all};
 use flatc_tool::{
-    DecodeOptions, EncodeOptions, Heard, JsonFault, Noted, Place, ToolFault, TypeId, check,
-    conform_texts, decode, encode, fault_line, print_to, report, schema_of, take_all, to_binary,
-    to_json,
+    DecodeOptions, EncodeOptions, JsonFault, Noted, Place, ToolFault, TypeId, check, conform_texts,
+    decode, encode, print_to, schema_of, to_binary, to_json,
 };
 use std::alloc::{AllocError, Global};
 

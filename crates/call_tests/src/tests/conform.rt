@@ -1,5 +1,6 @@
 //! An old schema text and a new one.
-use flatc_tool::{conform_texts, fault_line};
+use flatc_tool::command::fault_line;
+use flatc_tool::conform_texts;
 use std::test::Fail;
 
 const OLD: &[u8] = b"table T { a:int = 1; } root_type T;";

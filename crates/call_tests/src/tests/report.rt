@@ -1,7 +1,8 @@
 //! What is reported of an answer.
 use fb_json::{JsonFault, Place};
 use fb_schema::TypeId;
-use flatc_tool::{ToolFault, report};
+use flatc_tool::ToolFault;
+use flatc_tool::command::report;
 
 const TEXT: &str = "{\n  \"a\": 7\n}\n";
 

@@ -1,5 +1,6 @@
 //! Readers that are read to their end.
-use flatc_tool::{Heard, ToolFault, take_all};
+use flatc_tool::ToolFault;
+use flatc_tool::command::{Heard, take_all};
 use std::io;
 use std::io::{ErrorKind, Read};
 use std::test::Fail;

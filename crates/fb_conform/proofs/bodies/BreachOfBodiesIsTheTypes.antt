@@ -11,7 +11,7 @@ use Rattle.fb_conform.specs.declared.breaches.Breach.TheVariants.{KindChanged, S
 use Rattle.fb_conform.specs.declared.breaches.Breach.TheVariants.{FieldTypeChanged, DefaultChanged, RequiredChanged}
 use Rattle.fb_conform.specs.declared.breaches.Breach.TheVariants.{DeprecatedTakenBack, NewRequired, EnumChanged}
 use Rattle.fb_conform.specs.declared.breaches.Breach.TheVariants.{UnionChanged}
-use Rattle.fb_conform.specs.BreachNumbers.{number_of, slot_of}
+use Rattle.fb_conform.specs.BreachTable.{number_of, slot_of}
 use Rattle.fb_conform.specs.ByName.{SameShape}
 use Rattle.fb_conform.specs.Conforms.{SameKind, SameStruct, KeepsValues, KeepsMembers, SameDefault, is_required, Kept}
 use Rattle.fb_conform.specs.Conforms.{Stands}

@@ -9,7 +9,7 @@ use Rattle.fb_conform.specs.declared.breaches.Breach.TheVariants.{RootChanged, I
 use Rattle.fb_conform.specs.declared.breaches.Breach.TheVariants.{StructChanged, SlotGone, FieldTypeChanged}
 use Rattle.fb_conform.specs.declared.breaches.Breach.TheVariants.{DefaultChanged, RequiredChanged, DeprecatedTakenBack}
 use Rattle.fb_conform.specs.declared.breaches.Breach.TheVariants.{NewRequired, EnumChanged, UnionChanged}
-use Rattle.fb_conform.specs.BreachNumbers.{number_of, slot_of}
+use Rattle.fb_conform.specs.BreachTable.{number_of, slot_of}
 use Rattle.fb_conform.specs.ByName.{SameShape}
 use Rattle.fb_conform.specs.Conforms.{SameKind, SameStruct, KeepsValues, KeepsMembers, SameDefault, is_required, Kept}
 use Rattle.fb_conform.specs.Order.{type_place, IsBeforeInType}

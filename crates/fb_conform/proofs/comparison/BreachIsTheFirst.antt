@@ -9,7 +9,7 @@ use Rattle.fb_conform.specs.declared.breaches.Breach.TheVariants.{RootChanged, I
 use Rattle.fb_conform.specs.declared.breaches.Breach.TheVariants.{StructChanged, SlotGone, FieldTypeChanged}
 use Rattle.fb_conform.specs.declared.breaches.Breach.TheVariants.{DefaultChanged, RequiredChanged, DeprecatedTakenBack}
 use Rattle.fb_conform.specs.declared.breaches.Breach.TheVariants.{NewRequired, EnumChanged, UnionChanged}
-use Rattle.fb_conform.specs.BreachNumbers.{number_of}
+use Rattle.fb_conform.specs.BreachTable.{number_of}
 use Rattle.fb_conform.specs.Conforms.{Kept, Conforms}
 use Rattle.fb_conform.specs.Order.{type_place, IsFirst, IsFirstOfType, TellsType}
 use Rattle.fb_conform.specs.Twins.{SameName}

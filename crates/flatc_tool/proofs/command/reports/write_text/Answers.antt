@@ -1,8 +1,8 @@
 use Rattle.std.proofs.Common.{rules, subst}
 use Rattle.std.proofs.KnownBytes.{Appends-trans}
 use Rattle.std.specs.Io.KnownBytes.{Appends}
-use Rattle.flatc_tool.proofs.reports.WriterHasALineOrItsFront.{front_grows}
-use Rattle.flatc_tool.proofs.reports.write_text.Goals as goal
+use Rattle.flatc_tool.proofs.command.reports.WriterHasALineOrItsFront.{front_grows}
+use Rattle.flatc_tool.proofs.command.reports.write_text.Goals as goal
 
 pub loop-at-preserved : goal.loop-at-preserved
 loop-at-preserved g c =

@@ -4,8 +4,8 @@ ghost use Rattle.std.specs.Io.KnownBytes.{Appends};
 ghost use Rattle.flatc_tool.specs.FaultLines.{line_of};
 ghost use Rattle.flatc_tool.specs.Reports.{ended, IsTold};
 
+use crate::command::lines::fault_line;
 use crate::faults::ToolFault;
-use crate::lines::fault_line;
 use std::alloc::{AllocError, Global};
 use std::io::Write;
 

@@ -1,7 +1,7 @@
 use Rattle.std.proofs.Common.{rules, ◌≡◌, length, [], refl}
 use Rattle.std.proofs.KnownBytes.{Consumes-trans, Consumes-all}
-use Rattle.flatc_tool.proofs.heard.ReaderHadWhatItGave.{had_more, grows, no_failure, unfailed}
-use Rattle.flatc_tool.proofs.heard.take_all.Goals as goal
+use Rattle.flatc_tool.proofs.command.heard.ReaderHadWhatItGave.{had_more, grows, no_failure, unfailed}
+use Rattle.flatc_tool.proofs.command.heard.take_all.Goals as goal
 
 pub returns-then-n-eq0-clause-whole : goal.returns-then-n-eq0-clause-whole
 returns-then-n-eq0-clause-whole g c =

@@ -1,7 +1,7 @@
 use Rattle.std.proofs.Common.{◌≡◌, ◌≤◌, length, false}
 use Rattle.std.specs.Io.KnownBytes.{Consumes}
 use Rattle.flatc_tool.specs.Heard.{read_failed, reader_of}
-use Rattle.flatc_tool.proofs.heard.take_all.Given as goal
+use Rattle.flatc_tool.proofs.command.heard.take_all.Given as goal
 
 -- what was found is what the reader has given, a byte a turn at the least, and no read failed
 abbrev pub invariant-loop : goal.invariant-loop

@@ -1,6 +1,6 @@
 use Rattle.std.proofs.Common.{◌≤◌, ◌-◌, length, take}
 use Rattle.std.specs.Io.KnownBytes.{Appends}
-use Rattle.flatc_tool.proofs.reports.write_text.Given as goal
+use Rattle.flatc_tool.proofs.command.reports.write_text.Given as goal
 
 -- the writer has got the bytes up to `at`
 abbrev pub invariant-loop-at : goal.invariant-loop-at

@@ -1,0 +1,2 @@
+-- What the proofs of src/command/heard.rt use.
+pub mod ReaderHadWhatItGave

@@ -1,0 +1,2 @@
+-- What the proofs of src/command/reports.rt use.
+pub mod WriterHasALineOrItsFront

@@ -1,2 +1,0 @@
--- What the proofs of src/heard.rt use.
-pub mod ReaderHadWhatItGave

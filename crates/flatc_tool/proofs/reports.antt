@@ -1,2 +1,0 @@
--- What the proofs of src/reports.rt use.
-pub mod WriterHasALineOrItsFront

@@ -1,0 +1,8 @@
+//! What the command does with files and streams: reads a file, and writes a text or the line of a fault.
+mod heard;
+mod lines;
+mod reports;
+
+pub use heard::{Heard, take_all};
+pub use lines::fault_line;
+pub use reports::report;
