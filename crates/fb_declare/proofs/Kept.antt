@@ -32,7 +32,7 @@ use Rattle.fb_resolve.specs.Resolved.{resolved_declaration, resolved_type, resol
 
 -- ---- names
 
-names_given : (types rs : List TypeRead) (ts : List DeclaredType) → AllZip (λ r t. IsType types (resolved_type types r) t) rs ts → map (λ n. n.bytes) (map located_name rs) ≡ map (λ t. t.name) ts
+names_given : (types rs : List TypeRead) (ts : List DeclaredType) → AllZip (λ r t. IsType (resolved_type types r) t) rs ts → map (λ n. n.bytes) (map located_name rs) ≡ map (λ t. t.name) ts
 names_given types [] [] z = refl
 names_given types [] (t ∷ ts) z = absurd z
 names_given types (r ∷ rs) [] z = absurd z

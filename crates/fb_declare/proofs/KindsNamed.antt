@@ -41,17 +41,17 @@ zip_of_map R f (x ∷ xs) [] z = z
 zip_of_map R f (x ∷ xs) (y ∷ ys) z = (z.0, zip_of_map R f xs ys z.1)
 
 -- each declaration gives a type
-pub each_given : (o : Outline) (S : DeclaredSchema) → Gives o S → AllZip (λ r t. IsType o.types (resolved_type o.types r) t) o.types S.types
-each_given o S g = zip_of_map (IsType o.types) (resolved_type o.types) o.types S.types g.types
+pub each_given : (o : Outline) (S : DeclaredSchema) → Gives o S → AllZip (λ r t. IsType (resolved_type o.types r) t) o.types S.types
+each_given o S g = zip_of_map IsType (resolved_type o.types) o.types S.types g.types
 
 -- a type of the schema, and what declares it
 pub type_from_read : (o : Outline) (S : DeclaredSchema) → Gives o S → (t : ℕ) (r : TypeRead) → slice_get o.types t ≡ Some r
-    → (type : DeclaredType) × (slice_get S.types t ≡ Some type) × IsType o.types (resolved_type o.types r) type
-type_from_read o S g t r e = zip_at_left (λ r t. IsType o.types (resolved_type o.types r) t) o.types S.types (each_given o S g) t r e
+    → (type : DeclaredType) × (slice_get S.types t ≡ Some type) × IsType (resolved_type o.types r) type
+type_from_read o S g t r e = zip_at_left (λ r t. IsType (resolved_type o.types r) t) o.types S.types (each_given o S g) t r e
 
 pub read_from_type : (o : Outline) (S : DeclaredSchema) → Gives o S → (t : ℕ) (type : DeclaredType) → slice_get S.types t ≡ Some type
-    → (r : TypeRead) × (slice_get o.types t ≡ Some r) × IsType o.types (resolved_type o.types r) type
-read_from_type o S g t type e = zip_at_right (λ r t. IsType o.types (resolved_type o.types r) t) o.types S.types (each_given o S g) t type e
+    → (r : TypeRead) × (slice_get o.types t ≡ Some r) × IsType (resolved_type o.types r) type
+read_from_type o S g t type e = zip_at_right (λ r t. IsType (resolved_type o.types r) t) o.types S.types (each_given o S g) t type e
 
 -- a body that passes a test where it is declared
 names_at : (S : DeclaredSchema) (test : DeclaredBody → Bool) (t : ℕ) (type : DeclaredType) → slice_get S.types t ≡ Some type → IsTrue (test type.body) → Names test S t

@@ -26,7 +26,7 @@ HasBody (resolved.Enum e) (enum_body base flags values) = let under = integer_ty
 HasBody (resolved.Union u) (union_body members) = members ≡ map member_read u.members
 HasBody _ _ = ⊥
 
-pub record IsType (types : List TypeRead) (r : ResolvedType) (t : DeclaredType) : Type 0 where
+pub record IsType (r : ResolvedType) (t : DeclaredType) : Type 0 where
   pub name : t.name ≡ name_of_type r.read
   pub body : HasBody r.declaration t.body
 
@@ -35,7 +35,7 @@ abbrev pub root_table : List TypeRead → Option RootRead → Option ℕ
 root_table types root = table_of (meaning_of_root types root)
 
 pub record Gives (o : Outline) (S : DeclaredSchema) : Type 0 where
-  pub types : AllZip (IsType o.types) (resolved_types o.types) S.types
+  pub types : AllZip IsType (resolved_types o.types) S.types
   pub root : Some S.root ≡ root_table o.types o.root
   pub identifier : S.identifier ≡ option_map (λ t. t.bytes) o.identifier
 

@@ -110,7 +110,7 @@ fn body_of(alloc: Global, declaration: &ResolvedDecl<'_, '_>) -> Result<Body, Al
 
 fn type_of(alloc: Global, resolved: &ResolvedType<'_, '_, '_>) -> Result<TypeInfo, AllocError>
     requires { IsBuildable resolved.now.declaration }
-    ensures { (types : List TypeRead) → IfOk result (λ t. IsType types resolved.now (type_seen t)) }
+    ensures { IfOk result (λ t. IsType resolved.now (type_seen t)) }
 {
     let name = name_of_type(alloc, resolved.read)?;
     let body = body_of(alloc, &resolved.declaration)?;
@@ -123,8 +123,7 @@ pub(crate) fn types_of(
     resolved: &[ResolvedType<'_, '_, '_>],
 ) -> Result<Vec<TypeInfo>, AllocError>
     requires { AreBuildable resolved.now }
-    ensures { (types : List TypeRead) → IfOk result
-        (λ v. AllZip (IsType types) resolved.now (map type_seen v.items)) }
+    ensures { IfOk result (λ v. AllZip IsType resolved.now (map type_seen v.items)) }
 {
     let mut made = Vec::with_capacity(alloc, resolved.len())?;
     for read in resolved {

@@ -45,11 +45,6 @@ abbrev pub type_name : FieldType → Located
 type_name (One n) = n
 type_name (Many at n) = n
 
--- where a field's type begins
-abbrev pub type_at : FieldType → ℕ
-type_at (One n) = n.at
-type_at (Many at n) = at
-
 -- what the name in a field's type means
 abbrev pub meaning_in : List TypeRead → Option Name → FieldType → Meaning
 meaning_in types scope kind = meaning_of types scope (type_name kind).bytes

@@ -1,5 +1,5 @@
 -- A path put together word by word.
-use Rattle.std.proofs.Common.{IfOk, IfSome, IfNone, Result, Ok, Err, None, ◌≡◌, ◌≢◌, ◌<◌, ℕ, List, [], ◌∷◌, ◌++◌, length, get_or, slice_get, reverse, Option, Some, refl, sym, ap, ◌∙◌, append_assoc}
+use Rattle.std.proofs.Common.{IfOk, IfSome, IfNone, Result, Ok, Err, None, ◌≡◌, ◌≢◌, ◌<◌, ℕ, List, [], ◌∷◌, ◌++◌, length, get_or, slice_get, reverse, Option, Some, sym, ap, ◌∙◌, append_assoc}
 use Rattle.std.proofs.lemmas.List.{reverse-append}
 use Rattle.std.proofs.lemmas.Option.{get_or_from_slice_get, slice_get_within}
 use Rattle.fb_scopes.specs.Words.{Name, Path}
@@ -11,10 +11,6 @@ use Rattle.fb_scopes.proofs.Outward.{beginning}
 pub record IsLeft (ps : List Path) (path : ℕ) (rest whole : Path) : Type 0 where
   pub inside : path < length ps
   pub left : get_or ps path [] ++ rest ≡ whole
-
--- at first all is left
-pub left_first : (ps : List Path) (path : ℕ) (words : Path) → path < length ps → IsLeft ps path words (get_or ps path [] ++ words)
-left_first ps path words inside = record { inside = inside; left = refl }
 
 -- one word more
 pub left_more : (ps new : List Path) (path n : ℕ) (word : Name) (rest more whole : Path) → IsLeft ps path rest whole → rest ≡ word ∷ more → slice_get new n ≡ Some (child_of ps path word) → IsLeft new n more whole

@@ -1,5 +1,5 @@
 -- The words of a name between its dots.
-use Rattle.std.proofs.Common.{◌≡◌, ℕ, ◌==◌, Bool, true, false, List, [], ◌∷◌, ◌++◌, map, refl, sym, ap, ◌∙◌, arith, if◌then◌else◌}
+use Rattle.std.proofs.Common.{◌≡◌, ℕ, ◌==◌, Bool, true, false, [], ◌∷◌, ◌++◌, refl, sym, ap, ◌∙◌, arith, if◌then◌else◌}
 use Rattle.std.proofs.lemmas.Bool.Decides.{nat_tests}
 use Rattle.fb_scopes.specs.Words.{dot, Name, Path, with_first, words}
 
@@ -64,7 +64,3 @@ inside-cons c cs name false rest = ap (with_first c) rest ∙ with_first-append 
 pub words-inside : (outer name : Name) → words (outer ++ dot ∷ name) ≡ words outer ++ words name
 words-inside [] name = refl
 words-inside (c ∷ cs) name = inside-cons c cs name (c == dot) (words-inside cs name)
-
-pub map_twice : {A B C : Type 0} (f : B → C) (g : A → B) (xs : List A) → map f (map g xs) ≡ map (λ x. f (g x)) xs
-map_twice f g [] = refl
-map_twice f g (x ∷ xs) = ap (λ r. f (g x) ∷ r) (map_twice f g xs)

@@ -1,5 +1,5 @@
 -- A token of a text: its bytes, and what a text's tokens have in common (Grammar).
-use Rattle.std.specs.Prelude.{ℕ, ◌≡◌, ◌≤◌, ◌+◌, ◌-◌, true, List, length, take, drop}
+use Rattle.std.specs.Prelude.{ℕ, ◌≡◌, ◌≤◌, ◌+◌, true, List, length, take, drop}
 use Rattle.fb_syntax.specs.declared.tokens.Token.{Token}
 use Rattle.fb_syntax.specs.declared.faults.SyntaxFault.{SyntaxFault}
 use Rattle.fb_syntax.specs.declared.faults.SyntaxFault.TheVariants.{NotUtf8, BadByte, Unterminated, NumberTooBig, Unexpected, NestedVector, Memory}
@@ -8,10 +8,6 @@ use Rattle.fb_syntax.specs.TokenBytes.{is_token, IsSmall}
 -- the bytes that a token has in its text
 abbrev pub token_bytes : List ℕ → Token → List ℕ
 token_bytes text t = take t.len (drop t.at text)
-
--- what stands between a quoted text's quotes
-abbrev pub quoted_bytes : List ℕ → Token → List ℕ
-quoted_bytes text t = take (t.len - 2) (drop (t.at + 1) text)
 
 -- The token stands in the text, and is spelled there as its kind is.
 pub record IsTokenOf (text : List ℕ) (t : Token) : Type 0 where

@@ -32,7 +32,7 @@ new-requires c =
     let o = outline_of_resolved c.args.outline in
     let S = schema_of c.in_ok-types.types.items c.in-Some.root c.identifier_of.result in
     kept o S c.requires (record {
-      types = subst (λ rs. AllZip (IsType o.types) rs S.types) c.args.outline.meant (c.in_ok-types.ensures o.types);
+      types = subst (λ rs. AllZip IsType rs S.types) c.args.outline.meant c.in_ok-types.ensures;
       root = sym (ap (option_map (λ n. n.0)) c.in-Some.is) ∙ c.table_of.ensures ∙ ap table_of c.args.outline.root_meant;
       identifier = c.identifier_of.ensures;
     })

@@ -6,7 +6,7 @@ use Rattle.fb_declare.proofs.Zipped.{zipped-more}
 use Rattle.fb_declare.proofs.types.types_of.Goals as goal
 
 pub loop-read-preserved : goal.loop-read-preserved
-loop-read-preserved c = λ types.
+loop-read-preserved c =
     let rs = c.args.resolved.now in
-    subst (λ items. AllZip (IsType types) (take (c.loop-read.read-index + 1) rs) (map type_seen items)) (sym c.in_ok-push.ensures.items)
-    (zipped-more (IsType types) type_seen rs c.loop-read.made.items c.loop-read.read-index c.read-item.result c.in_ok-type_of.field-0 c.loop-read-test.true c.read-item.is (c.loop-read.invariant types) (c.in_ok-type_of.ensures types))
+    subst (λ items. AllZip IsType (take (c.loop-read.read-index + 1) rs) (map type_seen items)) (sym c.in_ok-push.ensures.items)
+    (zipped-more IsType type_seen rs c.loop-read.made.items c.loop-read.read-index c.read-item.result c.in_ok-type_of.field-0 c.loop-read-test.true c.read-item.is c.loop-read.invariant c.in_ok-type_of.ensures)

@@ -1,9 +1,8 @@
-use Rattle.std.proofs.Common.{List, map, take}
-use Rattle.fb_resolve.specs.Outline.{TypeRead}
+use Rattle.std.proofs.Common.{map, take}
 use Rattle.std.specs.List.{AllZip}
 use Rattle.fb_schema.specs.Seen.{type_seen}
 use Rattle.fb_declare.specs.Declares.{IsType}
 use Rattle.fb_declare.proofs.types.types_of.Given as goal
 
 abbrev pub invariant-loop-read : goal.invariant-loop-read
-invariant-loop-read l = (types : List TypeRead) → AllZip (IsType types) (take l.read-index l.resolved) (map type_seen l.made.items)
+invariant-loop-read l = AllZip IsType (take l.read-index l.resolved) (map type_seen l.made.items)
