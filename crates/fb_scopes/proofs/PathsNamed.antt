@@ -3,7 +3,7 @@ use Rattle.std.proofs.Common.{◌≡◌, ◌+◌, ◌<◌, ℕ, zero, suc, ◌&&
 use Rattle.std.specs.Bool.{Decides}
 use Rattle.std.specs.Option.{option_or, option_map}
 use Rattle.std.specs.Str.{bytes_eq}
-use Rattle.std.proofs.lemmas.List.{append-nil, map-append, length-map, length-take-le}
+use Rattle.std.proofs.lemmas.List.{map-append, length-map, length-take-le}
 use Rattle.std.proofs.lemmas.Slice.Eq.{bytes_eq-Decides}
 use Rattle.fb_scopes.specs.Words.{Name, last_some, Path, same_path, place_of_path, beginnings, prefixes, meant_inside}
 
@@ -63,13 +63,6 @@ meant_inside-end types scope w path =
     ap (λ bs. last_some (map meant ([] ∷ bs))) (beginnings-end scope w)
     ∙ ap last_some (map-append meant (prefixes scope) ((scope ++ w ∷ []) ∷ []))
     ∙ last_some-end (map meant (prefixes scope)) (meant (scope ++ w ∷ []))
-
--- what a type's own full name means alone, inside itself
-pub meant_inside-own : (types : List Path) (path : Path) (w : Name) (k : ℕ) → place_of_path types (path ++ w ∷ []) ≡ Some k
-    → meant_inside types (path ++ w ∷ []) [] ≡ Some k
-meant_inside-own types path w k e = meant_inside-end types path w []
-    ∙ ap (λ p. option_or (place_of_path types p) (meant_inside types path [])) (append-nil (path ++ w ∷ []))
-    ∙ ap (λ o. option_or o (meant_inside types path [])) e
 
 -- beginnings of one length of the same path are the same
 pub append_inj : (ps qs us vs : Path) → ps ++ us ≡ qs ++ vs → length ps ≡ length qs → (ps ≡ qs) × (us ≡ vs)

@@ -1,16 +1,12 @@
 -- The text of a struct in a struct, and of what stands behind it.
-use Rattle.std.proofs.Common.{◌≡◌, ℕ, suc, ◌++◌, ◌||◌, List, [], Bool, true, false, Option, None, Some, slice_get}
+use Rattle.std.proofs.Common.{◌≡◌, ℕ, suc, ◌++◌, ◌||◌, List, [], Bool, true, false, None, Some, slice_get}
 use Rattle.std.proofs.Common.{is_some, refl, sym, ap, ◌∙◌, append_assoc}
 use Rattle.std.specs.Prelude.{codes}
 use Rattle.fb_schema.specs.declared.kinds.TypeId.{TypeId}
 use Rattle.fb_schema.specs.declared.kinds.Shape.{Shape}
 use Rattle.fb_schema.specs.Schema.{DeclaredField, body_at, parts_in}
 use Rattle.fb_layout.specs.Laid.{LaidSchema}
-use Rattle.fb_value.specs.Datum.{Datum, a_number, a_text, a_vector, a_struct, a_table, a_member, an_unknown, Parts}
-use Rattle.fb_text.specs.declared.shown.Found.{Found}
-use Rattle.fb_text.specs.declared.shown.Found.TheVariants.{Absent, Number, Text, Vector, Struct as StructFound}
-use Rattle.fb_text.specs.declared.shown.Found.TheVariants.{Table as TableFound, Member, Unknown}
-use Rattle.fb_text.specs.Shown.{IsTop}
+use Rattle.fb_value.specs.Datum.{Datum, a_struct, Parts}
 use Rattle.fb_value.specs.Nth.{nth_part}
 use Rattle.fb_text.specs.Indents.{deeper}
 use Rattle.fb_text.specs.Texts.{member_line, value_text, parts_text}
@@ -18,18 +14,6 @@ use Rattle.fb_text.specs.Printed.{part_text}
 use Rattle.fb_text.specs.Nested.{HasStruct, fields_text}
 use Rattle.fb_text.proofs.indents.LevelsAddUp.{inside_deeper}
 use Rattle.fb_text.proofs.values.OneMemberMore.{parts_step}
-
--- what is found somewhere is there
-pub something_found : (found : Found) (o : Option Datum) → IsTop found o → (found ≡ Absent → ⊥)
-    → (d : Datum) × (o ≡ Some d)
-something_found Absent o top not = absurd (not refl)
-something_found (Number n) o top not = (a_number n, top)
-something_found (Text s) o top not = (a_text s.now, top)
-something_found Vector o top not = (a_vector top.0, top.1)
-something_found StructFound o top not = (a_struct top.0, top.1)
-something_found (TableFound t) o top not = (a_table t.0 top.0, top.1)
-something_found (Member code) o top not = (a_member code top.0, top.1)
-something_found Unknown o top not = (an_unknown top.0, top.1)
 
 or_false : (some : Bool) → (some || false) ≡ some
 or_false true = refl
