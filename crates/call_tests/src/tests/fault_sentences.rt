@@ -9,7 +9,9 @@ use fb_syntax::SyntaxFault;
 use fb_text::{TextFault, WriteFault};
 use fb_value::ReadFault;
 use flatc_tool::{SchemaTextFault, ToolFault};
+use std::alloc::Global;
 use std::error::Error;
+use std::process::Abort;
 use std::test::Fail;
 
 const SLOT: Place = Place {
@@ -85,12 +87,7 @@ const SENTENCES: &[(ToolFault, &str)] = &[
     (ToolFault::Memory, "out of memory"),
 ];
 
-fn expect(
-    rt: &impl Abort,
-    alloc: Global,
-    fault: &impl Error,
-    want: &str,
-) -> Result<(), Fail> {
+fn expect(rt: &impl Abort, alloc: Global, fault: &impl Error, want: &str) -> Result<(), Fail> {
     let text = fault.to_string(alloc)?;
     assert_eq!(rt; text.as_str(), want);
     Ok(())
@@ -115,7 +112,12 @@ fn each_layers_fault_is_an_error(rt: HostRuntime) -> Result<(), Fail> {
     expect(&rt, alloc, &BuildFault::Memory, "out of memory")?;
     expect(&rt, alloc, &ReadFault::Memory, "out of memory")?;
     expect(&rt, alloc, &TextFault::Memory, "out of memory")?;
-    expect(&rt, alloc, &WriteFault::WriteFailed(7), "a write failed, 7 bytes behind the start")?;
+    expect(
+        &rt,
+        alloc,
+        &WriteFault::WriteFailed(7),
+        "a write failed, 7 bytes behind the start",
+    )?;
     expect(&rt, alloc, &Breach::TypeGone(TypeId(3)), "type 3 is gone")
 }
 
