@@ -26,7 +26,7 @@ use serde_json::{Map, Value as Json};
 /// What a tree gives under a shape, and the cells that are left. `levels` is how many tables may
 /// stand in one another.
 #[cycle(tree)]
-fn value(
+pub(crate) fn value(
     source: Source,
     tree: &Json,
     shape: Shape,
@@ -189,7 +189,7 @@ fn entries(
 
 #[cycle(tree)]
 #[tactic(auto, unfolding(crate::specs::Meant::entry_meant))]
-fn entry(
+pub(crate) fn entry(
     source: Source,
     members: &Map<String, Json>,
     slot: &FieldInfo,
@@ -220,7 +220,7 @@ fn entry(
 
 /// The entry of a slot in use that has a member, perhaps `null`.
 #[cycle(tree)]
-fn found(
+pub(crate) fn found(
     source: Source,
     slot: &FieldInfo,
     tree: &Json,
