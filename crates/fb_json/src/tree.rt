@@ -187,6 +187,7 @@ fn entries(
     Ok((found, left))
 }
 
+#[inline(always)]
 #[cycle(tree)]
 #[tactic(auto, unfolding(crate::specs::Meant::entry_meant))]
 pub(crate) fn entry(
@@ -219,6 +220,7 @@ pub(crate) fn entry(
 }
 
 /// The entry of a slot in use that has a member, perhaps `null`.
+#[inline(always)]
 #[cycle(tree)]
 pub(crate) fn found(
     source: Source,
@@ -243,6 +245,7 @@ pub(crate) fn found(
 }
 
 /// The entry of a slot in use that has a member.
+#[inline(always)]
 #[cycle(tree)]
 #[tactic(auto, unfolding(crate::specs::Meant::union_meant, crate::specs::Meant::plain_meant))]
 fn with_tree(
