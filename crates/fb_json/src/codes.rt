@@ -75,6 +75,7 @@ fn member_code(
 
 /// The code that a slot has; another slot returns what it was passed. Only for a marked slot is a member
 /// looked for.
+#[inline(always)]
 #[tactic(auto, unfolding(crate::specs::Meant::code_after))]
 pub(crate) fn code_after(
     source: Source,

@@ -9,6 +9,7 @@ mod laws;
 mod leaves;
 mod marks;
 mod members;
+mod owned;
 mod root;
 mod scalars;
 mod source;
@@ -19,4 +20,5 @@ pub use faults::{JsonFault, Place};
 pub use laws::{
     all_that_is_meant, faults_are_broken, limits_are_reached, meant_is_whole, only_what_is_meant,
 };
+pub use owned::value_from;
 pub use root::value_of;

@@ -26,7 +26,7 @@ use serde_json::{Map, Value as Json};
 /// What a tree gives under a shape, and the cells that are left. `levels` is how many tables may
 /// stand in one another.
 #[cycle(tree)]
-fn value(
+pub(crate) fn value(
     source: Source,
     tree: &Json,
     shape: Shape,
@@ -187,9 +187,10 @@ fn entries(
     Ok((found, left))
 }
 
+#[inline(always)]
 #[cycle(tree)]
 #[tactic(auto, unfolding(crate::specs::Meant::entry_meant))]
-fn entry(
+pub(crate) fn entry(
     source: Source,
     members: &Map<String, Json>,
     slot: &FieldInfo,
@@ -219,8 +220,9 @@ fn entry(
 }
 
 /// The entry of a slot in use that has a member, perhaps `null`.
+#[inline(always)]
 #[cycle(tree)]
-fn found(
+pub(crate) fn found(
     source: Source,
     slot: &FieldInfo,
     tree: &Json,
@@ -243,6 +245,7 @@ fn found(
 }
 
 /// The entry of a slot in use that has a member.
+#[inline(always)]
 #[cycle(tree)]
 #[tactic(auto, unfolding(crate::specs::Meant::union_meant, crate::specs::Meant::plain_meant))]
 fn with_tree(

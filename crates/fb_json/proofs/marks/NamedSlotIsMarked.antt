@@ -60,7 +60,7 @@ found_is S seen t name asked o f is same answer found named =
 pub number_is : (g f : DeclaredField) (k : ℕ) → Some g ≡ Some f → f.slot ≡ k → k ≡ g.slot
 number_is g f k same is = let one : g ≡ f = cc in sym is ∙ ap (λ (h : DeclaredField). h.slot) (sym one)
 
-same_bytes : (a b : Name) → slice_cmp nat_cmp a b ≡ Equal → a ≡ b
+pub same_bytes : (a b : Name) → slice_cmp nat_cmp a b ≡ Equal → a ≡ b
 same_bytes a b e = (bytes_eq-Decides a b).0 (sym (is_eq-slice_cmp a b) ∙ ap is_eq e)
 
 -- a member of another name is passed over

@@ -1,0 +1,3 @@
+-- What the proofs of src/owned.rt use.
+pub mod OtherMembersStay
+pub mod SlotsDecideTheTable

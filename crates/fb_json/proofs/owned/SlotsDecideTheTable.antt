@@ -1,0 +1,23 @@
+-- A table fails where its slots do.
+use Rattle.std.proofs.Common.{◌≡◌, ◌<◌, ◌≤◌, ◌-◌, ◌||◌, ℕ, zero, suc, Bool, Ok, Err, refl, subst, arith}
+use Rattle.serde_json.specs.Data.{Members}
+use Rattle.fb_schema.specs.Schema.{body_at, slots_in}
+use Rattle.fb_layout.specs.Laid.{LaidSchema}
+use Rattle.fb_json.specs.declared.faults.Place.{Place}
+use Rattle.fb_json.specs.declared.faults.JsonFault.{JsonFault}
+use Rattle.fb_json.specs.Meant.{Look, if_known, names_known, slots_meant, table_meant, type_place}
+use Rattle.fb_json.proofs.laws.EachStepOfABindSucceeds.{spends}
+
+pub table_fails : (L : LaidSchema) (unknown : Bool) (ms : Members) (look : Look) (t : ℕ) (at : Place)
+    (levels left : ℕ) (fault : JsonFault) → 0 < levels → 1 ≤ left
+    → if_known (unknown || names_known (body_at L.schema t) ms) (type_place t) ≡ Ok tt
+    → slots_meant L look t (slots_in (body_at L.schema t)) 0 0 (levels - 1) (left - 1) ≡ Err fault
+    → table_meant L unknown ms look t at levels left ≡ Err fault
+unfolding table_meant
+table_fails L unknown ms look t at zero left fault some more known fails = absurd (omega (arith, some))
+table_fails L unknown ms look t at (suc levels) left fault some more known fails =
+    let one_less : suc levels - 1 ≡ levels = omega arith in
+    let slots : slots_meant L look t (slots_in (body_at L.schema t)) 0 0 levels (left - 1) ≡ Err fault =
+    subst (λ (n : ℕ). slots_meant L look t (slots_in (body_at L.schema t)) 0 0 n (left - 1) ≡ Err fault) one_less
+    fails in
+    rw (spends 1 at left more, known, slots) refl
