@@ -10,3 +10,4 @@ pub mod TreeCounts
 pub mod Refuses
 pub mod FaultTable
 pub mod PlaceText
+pub mod FaultPaths

@@ -5,14 +5,17 @@ mod absent;
 mod codes;
 mod enums;
 mod faults;
+mod fronts;
 mod laws;
 mod leaves;
 mod marks;
 mod members;
 mod owned;
+mod paths;
 mod root;
 mod scalars;
 mod source;
+mod step;
 mod tree;
 
 pub use enums::has_flags;
@@ -21,4 +24,6 @@ pub use laws::{
     all_that_is_meant, faults_are_broken, limits_are_reached, meant_is_whole, only_what_is_meant,
 };
 pub use owned::value_from;
+pub use paths::fault_path;
 pub use root::value_of;
+pub use step::Step;

@@ -377,7 +377,7 @@ fn parts(
 }
 
 #[cycle(tree)]
-fn part(
+pub(crate) fn part(
     source: Source,
     members: &Map<String, Json>,
     field: &FieldInfo,
