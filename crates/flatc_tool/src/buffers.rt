@@ -9,7 +9,7 @@ use crate::faults::ToolFault;
 use crate::laws::layer_laws;
 use crate::options::EncodeOptions;
 use fb_build::build;
-use fb_json::value_of;
+use fb_json::value_from;
 use fb_layout::Layout;
 use serde_json::Value as Json;
 use std::alloc::Global;
@@ -52,11 +52,10 @@ pub fn encode(
     };
     let limits = options.limits;
     let _depth = limits.most_depth(); // its contract: at most 127
-    let value = match value_of(alloc, layout, &tree, limits, options.unknown_json) {
+    let value = match value_from(alloc, layout, tree, limits, options.unknown_json) {
         Ok(value) => value,
         Err(fault) => return Err(ToolFault::Json(fault)),
     };
-    drop(tree); // so that it and the buffer don't take memory at once
     match build(alloc, layout, &value) {
         Ok(bytes) => Ok(bytes),
         Err(fault) => Err(ToolFault::Build(fault)),

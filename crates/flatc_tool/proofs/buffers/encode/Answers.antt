@@ -14,35 +14,35 @@ returns-in-Err-clause-exact c rule =
     tree_excludes c.layer_laws.ensures.laws c.args.json.now c.args.options.now.limits c.args.options.now.unknown_json
     c.args.layout.now c.in-Err.fault c.in-Err.ensures.refused rule
 
-pub returns-in-Err-value_of-clause-refused : goal.returns-in-Err-value_of-clause-refused
-returns-in-Err-value_of-clause-refused c =
+pub returns-in-Err-value_from-clause-refused : goal.returns-in-Err-value_from-clause-refused
+returns-in-Err-value_from-clause-refused c =
     value_refused c.layer_laws.ensures.laws c.args.json.now c.args.options.now.limits c.args.options.now.unknown_json
-    c.args.layout.now (tree_view c.in-Ok.tree) c.in-Err-value_of.fault c.in-Ok.ensures.tree
-    c.in-Err-value_of.ensures.refuses c.in-Err-value_of.ensures.none c.in-Err-value_of.ensures.memory
+    c.args.layout.now (tree_view c.in-Ok.tree) c.in-Err-value_from.fault c.in-Ok.ensures.tree
+    c.in-Err-value_from.ensures.refuses c.in-Err-value_from.ensures.none c.in-Err-value_from.ensures.memory
 
-pub returns-in-Err-value_of-clause-exact : goal.returns-in-Err-value_of-clause-exact
-returns-in-Err-value_of-clause-exact c rule =
+pub returns-in-Err-value_from-clause-exact : goal.returns-in-Err-value_from-clause-exact
+returns-in-Err-value_from-clause-exact c rule =
     value_excludes c.layer_laws.ensures.laws c.args.json.now c.args.options.now.limits c.args.options.now.unknown_json
-    c.args.layout.now (tree_view c.in-Ok.tree) c.in-Err-value_of.fault c.in-Ok.ensures.tree
-    c.in-Err-value_of.ensures.none rule
+    c.args.layout.now (tree_view c.in-Ok.tree) c.in-Err-value_from.fault c.in-Ok.ensures.tree
+    c.in-Err-value_from.ensures.none rule
 
 pub returns-in-Ok-build-clause-binary : goal.returns-in-Ok-build-clause-binary
 returns-in-Ok-build-clause-binary c =
     binary_made c.layer_laws.ensures.laws c.args.json.now c.args.options.now.limits c.args.options.now.unknown_json
-    c.args.layout.now (view c.in-Ok-value_of.value) c.in-Ok-build.bytes.items
-    (tree_view c.in-Ok.tree, c.in-Ok.ensures.tree, c.in-Ok-value_of.ensures.means) c.in-Ok-value_of.ensures.fits
+    c.args.layout.now (view c.in-Ok-value_from.value) c.in-Ok-build.bytes.items
+    (tree_view c.in-Ok.tree, c.in-Ok.ensures.tree, c.in-Ok-value_from.ensures.means) c.in-Ok-value_from.ensures.fits
     c.in-Ok-build.ensures.small c.in-Ok-build.ensures.holds c.in-Ok-build.ensures.old_slots
     c.in-Ok-build.ensures.covered c.in-Ok-build.ensures.aligned c.in-Ok-build.ensures.short
 
 pub returns-clause-refused : goal.returns-clause-refused
 returns-clause-refused c =
     size_refused c.layer_laws.ensures.laws c.args.json.now c.args.options.now.limits c.args.options.now.unknown_json
-    c.args.layout.now (view c.in-Ok-value_of.value) c.in-Err-build.fault
-    (tree_view c.in-Ok.tree, c.in-Ok.ensures.tree, c.in-Ok-value_of.ensures.means) c.in-Err-build.ensures.memory
+    c.args.layout.now (view c.in-Ok-value_from.value) c.in-Err-build.fault
+    (tree_view c.in-Ok.tree, c.in-Ok.ensures.tree, c.in-Ok-value_from.ensures.means) c.in-Err-build.ensures.memory
     c.in-Err-build.ensures.too_big
 
 pub returns-clause-exact : goal.returns-clause-exact
 returns-clause-exact c rule =
     size_excludes c.layer_laws.ensures.laws c.args.json.now c.args.options.now.limits c.args.options.now.unknown_json
-    c.args.layout.now (view c.in-Ok-value_of.value) c.in-Err-build.fault
-    (tree_view c.in-Ok.tree, c.in-Ok.ensures.tree, c.in-Ok-value_of.ensures.means) c.in-Err-build.ensures.too_big rule
+    c.args.layout.now (view c.in-Ok-value_from.value) c.in-Err-build.fault
+    (tree_view c.in-Ok.tree, c.in-Ok.ensures.tree, c.in-Ok-value_from.ensures.means) c.in-Err-build.ensures.too_big rule
