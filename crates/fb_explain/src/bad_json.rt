@@ -22,7 +22,9 @@ fn offset_of(text: &[u8], line: usize, column: usize) -> usize {
             start = at + 1;
         }
     }
-    start.saturating_add(column.saturating_sub(1)).min(text.len())
+    start
+        .saturating_add(column.saturating_sub(1))
+        .min(text.len())
 }
 
 /// What a reader of JSON mostly wants to know of a place that isn't JSON.
@@ -40,7 +42,8 @@ fn sentence_at(rest: &[u8], before: &[u8]) -> &'static str {
             "a word may only be true, false or null; a text is written in double quotes"
         }
         (_, [b'0'..=b'9' | b'+' | b'-' | b'.', ..]) => "this isn't a number as JSON writes it",
-        (_, [0..=31, ..]) => "a control character isn't allowed here; in a text it is written as an escape",
+        (_, [0..=31, ..]) =>
+            "a control character isn't allowed here; in a text it is written as an escape",
         _ => "this isn't allowed here",
     }
 }

@@ -136,7 +136,11 @@ impl<'s, 't> Sides<'s, 't> {
             Breach::TypeGone(old) => self.push_type(page, old, " is gone"),
             Breach::KindChanged(old) => self.push_kinds(page, old),
             Breach::StructChanged(old) => {
-                self.push_type(page, old, " has fields of other types, or another alignment")
+                self.push_type(
+                    page,
+                    old,
+                    " has fields of other types, or another alignment",
+                )
             }
             Breach::EnumChanged(old) => self.push_enum(page, old),
             Breach::UnionChanged(old) => self.push_union(page, old),

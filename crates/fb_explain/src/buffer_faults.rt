@@ -30,7 +30,11 @@ fn push_vtable(page: &mut Page, bytes: &[u8], offset: u64) -> Result<(), AllocEr
     let table = ("the vtable of the table at ", offset);
     let end = (", and the buffer ends at ", bytes.len() as u64);
     let Some(word) = word_at(bytes, offset as usize) else {
-        return push_sentence(page, &[table], " can't be found: the table ends past the buffer");
+        return push_sentence(
+            page,
+            &[table],
+            " can't be found: the table ends past the buffer",
+        );
     };
     let place = i128::from(offset) - i128::from(i32::from_le_bytes(word));
     let Ok(start) = u64::try_from(place) else {
@@ -112,13 +116,21 @@ fn push_rule(
         ReadFault::BadVtable(at) => push_vtable(page, bytes, at),
         ReadFault::MissingRequired(at, slot) => push_sentence(
             page,
-            &[("the table at ", at), (" has nothing in slot ", u64::from(slot))],
+            &[
+                ("the table at ", at),
+                (" has nothing in slot ", u64::from(slot)),
+            ],
             ", which is required",
         ),
         ReadFault::NoTerminator(at) => {
             push_byte(page, bytes, at, ", where a string's final 0 must be")
         }
-        ReadFault::BadUtf8(at) => push_byte(page, bytes, at, ": the string isn't UTF-8 from here on"),
+        ReadFault::BadUtf8(at) => push_byte(
+            page,
+            bytes,
+            at,
+            ": the string isn't UTF-8 from here on",
+        ),
         ReadFault::UnionMismatch(at) => push_byte(
             page,
             bytes,
@@ -126,7 +138,11 @@ fn push_rule(
             ": the union's type says that it has a value, and it has none",
         ),
         ReadFault::TooDeep(at) => {
-            push_sentence(page, &[("the table at ", at)], " is nested deeper than 64 levels")
+            push_sentence(
+                page,
+                &[("the table at ", at)],
+                " is nested deeper than 64 levels",
+            )
         }
         ReadFault::TooManyCells(at) => push_sentence(
             page,

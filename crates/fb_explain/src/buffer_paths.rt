@@ -32,7 +32,11 @@ fn push_step(
 }
 
 /// Adds a path from the root, as `weapons[2].name`; the root itself is called so.
-pub(crate) fn push_path(page: &mut Page, layout: &Layout, steps: &[Step]) -> Result<(), AllocError> {
+pub(crate) fn push_path(
+    page: &mut Page,
+    layout: &Layout,
+    steps: &[Step],
+) -> Result<(), AllocError> {
     let mut is_first = true;
     for step in steps {
         push_step(page, layout, *step, is_first)?;

@@ -34,9 +34,10 @@ pub(crate) fn push_comparison<'t>(
     ) else {
         return Ok(());
     };
-    let (Ok(old_decls), Ok(new_decls)) =
-        (parse(page.alloc(), old.bytes), parse(page.alloc(), new.bytes))
-    else {
+    let (Ok(old_decls), Ok(new_decls)) = (
+        parse(page.alloc(), old.bytes),
+        parse(page.alloc(), new.bytes),
+    ) else {
         return Ok(());
     };
     let sides = Sides {

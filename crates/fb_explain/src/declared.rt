@@ -82,20 +82,20 @@ pub(crate) fn field_of_default<'d, 't>(decls: &'d Decls<'t>, offset: u64) -> Opt
 
 /// Whether the default at an offset is that of a struct's field.
 pub(crate) fn is_in_a_struct(decls: &Decls<'_>, offset: u64) -> bool {
-    decls.declarations().iter().any(|declaration| match declaration {
-        Declaration::Type(TypeDecl::Struct(declared)) => declared
-            .fields
-            .iter()
-            .any(|field| has_default_at(field, offset)),
-        _ => false,
-    })
+    decls
+        .declarations()
+        .iter()
+        .any(|declaration| match declaration {
+            Declaration::Type(TypeDecl::Struct(declared)) => declared
+                .fields
+                .iter()
+                .any(|field| has_default_at(field, offset)),
+            _ => false,
+        })
 }
 
 /// The field of this name, of a table or struct.
-pub(crate) fn field_named<'d, 't>(
-    declared: &'d TypeDecl<'t>,
-    name: &str,
-) -> Option<&'d Field<'t>> {
+pub(crate) fn field_named<'d, 't>(declared: &'d TypeDecl<'t>, name: &str) -> Option<&'d Field<'t>> {
     fields_of(declared)
         .iter()
         .find(|field| field.name.text == name)
@@ -103,13 +103,16 @@ pub(crate) fn field_named<'d, 't>(
 
 /// Whether a union's member has its type at an offset.
 pub(crate) fn is_in_a_union(decls: &Decls<'_>, offset: u64) -> bool {
-    decls.declarations().iter().any(|declaration| match declaration {
-        Declaration::Type(TypeDecl::Union(declared)) => declared
-            .members
-            .iter()
-            .any(|member| member.table.at() == offset),
-        _ => false,
-    })
+    decls
+        .declarations()
+        .iter()
+        .any(|declaration| match declaration {
+            Declaration::Type(TypeDecl::Union(declared)) => declared
+                .members
+                .iter()
+                .any(|member| member.table.at() == offset),
+            _ => false,
+        })
 }
 
 /// The names of the values of the first enum of this name.

@@ -6,6 +6,7 @@ const ROW: usize = 16;
 
 // The widths of an offset and of a byte with the space before it.
 const OFFSET_DIGITS: usize = 10;
+
 const CELL: usize = 3;
 
 /// Adds an offset, in decimal as all offsets are, on the right of its column.
@@ -33,7 +34,10 @@ fn push_row(page: &mut Page, bytes: &[u8], start: usize) -> Result<(), AllocErro
         push_hex(&mut digits, *byte)?;
         page.push_str(digits.as_str())?;
     }
-    page.push_spaces(CELL.saturating_mul(ROW.saturating_sub(row.len())).saturating_add(2))?;
+    page.push_spaces(
+        CELL.saturating_mul(ROW.saturating_sub(row.len()))
+            .saturating_add(2),
+    )?;
     for byte in row {
         let is_shown = byte.is_ascii_graphic() || *byte == b' ';
         page.push_shown(&[if is_shown { *byte } else { b'.' }])?;
@@ -49,7 +53,11 @@ pub(crate) fn push_dump(page: &mut Page, bytes: &[u8], offset: usize) -> Result<
         push_row(page, bytes, row_before)?;
     }
     push_row(page, bytes, own)?;
-    page.push_spaces(OFFSET_DIGITS.saturating_add(2).saturating_add(CELL.saturating_mul(marked % ROW)))?;
+    page.push_spaces(
+        OFFSET_DIGITS
+            .saturating_add(2)
+            .saturating_add(CELL.saturating_mul(marked % ROW)),
+    )?;
     page.push_line("^^")?;
     if bytes.len().saturating_sub(own) > ROW && own == 0 {
         push_row(page, bytes, own.saturating_add(ROW))?;

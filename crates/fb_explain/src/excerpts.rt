@@ -6,10 +6,12 @@ use std::alloc::AllocError;
 
 // Before the line, and for the dots where a part of it is left out.
 const INDENT: usize = 2;
+
 const DOTS: &str = "...";
 
 // How many columns are shown before the place, and from it on, at most.
 const FRONT_COLUMNS: usize = 60;
+
 const REST_COLUMNS: usize = 50;
 
 /// A part of a line, and how many columns it takes.

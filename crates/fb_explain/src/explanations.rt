@@ -101,11 +101,7 @@ pub fn explain(
 
 /// What may be meant otherwise under a new schema that conforms: a line for each name that stands for
 /// another field or member, since JSON texts go by names.
-pub fn warnings<'t>(
-    alloc: Global,
-    old: Source<'t>,
-    new: Source<'t>,
-) -> Result<String, AllocError> {
+pub fn warnings<'t>(alloc: Global, old: Source<'t>, new: Source<'t>) -> Result<String, AllocError> {
     let mut page = Page::new(alloc);
     push_comparison(&mut page, old, new, Asked::Warnings)?;
     Ok(page.into_text())

@@ -71,10 +71,16 @@ fn offset_of_path(
     for step in steps {
         match step_offset(alloc, layout, rest_of(text, offset), *step)? {
             Some(further) => offset = offset.saturating_add(further),
-            None => return Ok(Found { offset, is_there: false }),
+            None => return Ok(Found {
+                offset,
+                is_there: false,
+            }),
         }
     }
-    Ok(Found { offset, is_there: true })
+    Ok(Found {
+        offset,
+        is_there: true,
+    })
 }
 
 /// The offset of an unknown member's value in the object at an offset, with its name.
@@ -95,7 +101,13 @@ fn unknown_member(
         None => found.offset,
     };
     let name = String::from_str(page.alloc(), name)?;
-    Ok((Some(name), Found { offset, is_there: true }))
+    Ok((
+        Some(name),
+        Found {
+            offset,
+            is_there: true,
+        },
+    ))
 }
 
 fn push_at_path(
@@ -122,7 +134,14 @@ fn push_at_path(
         page.push_str(": ")?;
     }
     let is_element = matches!(steps.last(), Some(Step::Element(_)));
-    push_rule(page, layout, rest_of(text, found.offset), fault, name.as_ref(), is_element)?;
+    push_rule(
+        page,
+        layout,
+        rest_of(text, found.offset),
+        fault,
+        name.as_ref(),
+        is_element,
+    )?;
     push_excerpt(page, sources.input.bytes, found.offset)
 }
 
@@ -136,7 +155,13 @@ pub(crate) fn push_json_fault(
     let Ok(tree) = Value::from_slice(page.alloc(), sources.input.bytes) else {
         return Ok(());
     };
-    match fault_path(page.alloc(), layout, &tree, sources.unknown_json, sources.limits)? {
+    match fault_path(
+        page.alloc(),
+        layout,
+        &tree,
+        sources.unknown_json,
+        sources.limits,
+    )? {
         Some(steps) => push_at_path(page, layout, sources, fault, steps.as_slice()),
         None => Ok(()),
     }

@@ -1,7 +1,9 @@
 //! The rule that a JSON value breaks, with what is there and what would be right.
 use crate::near_names::push_nearest;
 use crate::pages::Page;
-use crate::shapes::{field_at, fields_of, kind_name, members_of, push_shape, range_of_base, type_name, values_of};
+use crate::shapes::{
+    field_at, fields_of, kind_name, members_of, push_shape, range_of_base, type_name, values_of,
+};
 use fb_json::{JsonFault, Place};
 use fb_layout::Layout;
 use fb_schema::{Base, FieldInfo, Kind, Shape, TypeId};
@@ -24,7 +26,9 @@ pub(crate) fn unknown_name<'n>(
     names
         .iter()
         .map(|name| name.as_str())
-        .filter(|name| !fields.iter().any(|field| !field.deprecated && field.name.as_str() == *name))
+        .filter(|name| !fields
+            .iter()
+            .any(|field| !field.deprecated && field.name.as_str() == *name))
         .min()
 }
 
@@ -134,7 +138,10 @@ fn push_out_of_range(
 
 fn push_not_whole(page: &mut Page, token: &str) -> Result<(), AllocError> {
     page.push_cut(token.as_bytes())?;
-    if token.bytes().all(|byte| byte.is_ascii_digit() || byte == b'-') {
+    if token
+        .bytes()
+        .all(|byte| byte.is_ascii_digit() || byte == b'-')
+    {
         return page.push_line(" is too large for 64 bits");
     }
     page.push_line(" isn't written as a whole number")
@@ -246,7 +253,13 @@ pub(crate) fn push_rule(
         JsonFault::MissingMember(_) => {
             push_missing(page, layout, place, field, ": a struct has all its fields")
         }
-        JsonFault::MissingRequired(_) => push_missing(page, layout, place, field, ": it is required"),
+        JsonFault::MissingRequired(_) => push_missing(
+            page,
+            layout,
+            place,
+            field,
+            ": it is required",
+        ),
         JsonFault::UnionMismatch(_) => page.push_line(
             "a union needs both its type and its value: this one has one of them alone",
         ),

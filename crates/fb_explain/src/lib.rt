@@ -27,7 +27,6 @@ mod sources;
 mod union_codes;
 mod unsupported;
 
-
 pub use explanations::{FileFailure, Sources, explain, warnings};
 pub use fault_pages::fault_page;
 pub use positions::Position;

@@ -5,6 +5,7 @@ use strsim::osa_distance;
 
 // How many names are looked through, and how long they may be, in bytes.
 const MOST_NAMES: usize = 10_000;
+
 const LONGEST: usize = 64;
 
 /// How many letters may differ.

@@ -93,7 +93,8 @@ impl Page {
             if cut == rest.len() {
                 break;
             }
-            self.text.push_str(rest.get(..cut).unwrap_or("").trim_end())?;
+            self.text
+                .push_str(rest.get(..cut).unwrap_or("").trim_end())?;
             self.text.push_str("\n    ")?;
             rest = rest.get(cut..).unwrap_or("");
             columns = COLUMNS - 4;

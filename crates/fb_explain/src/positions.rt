@@ -30,7 +30,11 @@ fn begins_character(byte: u8) -> bool
 fn mark_len(text: &[u8]) -> usize
     ensures { result ≡ mark_len text.now }
 {
-    if text.starts_with(BYTE_ORDER_MARK) { 3 } else { 0 }
+    if text.starts_with(BYTE_ORDER_MARK) {
+        3
+    } else {
+        0
+    }
 }
 
 fn front(text: &[u8], offset: usize) -> &[u8]

@@ -1,6 +1,7 @@
 //! What is wrong with a schema text.
 use crate::declared::{
-    field_of_default, is_in_a_struct, is_in_a_union, last_word, name_of, type_at, type_names, value_names,
+    field_of_default, is_in_a_struct, is_in_a_union, last_word, name_of, type_at, type_names,
+    value_names,
 };
 use crate::excerpts::push_excerpt;
 use crate::near_names::push_nearest;
@@ -44,7 +45,9 @@ fn push_syntax_sentence(
         SyntaxFault::NotUtf8(_) => page.push_line("the text isn't UTF-8 from here on"),
         SyntaxFault::BadByte(_) => {
             page.push_name(token)?;
-            page.push_line(" may not be here: no word, number or sign of the language begins with it")
+            page.push_line(
+                " may not be here: no word, number or sign of the language begins with it",
+            )
         }
         SyntaxFault::Unterminated(_) if token.first() == Some(&b'"') => {
             page.push_line("this text has no closing quote")
@@ -137,12 +140,15 @@ fn use_of(attribute: &[u8]) -> &'static str {
     match attribute {
         b"id" => " may not be here: it takes a number, once, on a field of a table",
         b"deprecated" => " may not be here: it goes on a field of a table, once, without a value",
-        b"required" => " may not be here: it goes on a table's field that isn't a number or an enum, once, without a value",
+        b"required" =>
+            " may not be here: it goes on a table's field that isn't a number or an enum, once, without a value",
         b"force_align" => {
             " may not be here: it goes on a struct, once, with a power of two from the struct's own alignment to 256"
         }
-        b"bit_flags" => " may not be here: it goes on an enum over an unsigned type, once, without a value",
-        b"original_order" => " may not be here: it goes on a table or struct, once, without a value",
+        b"bit_flags" =>
+            " may not be here: it goes on an enum over an unsigned type, once, without a value",
+        b"original_order" =>
+            " may not be here: it goes on a table or struct, once, without a value",
         _ => " may not be here",
     }
 }
@@ -191,7 +197,9 @@ fn push_bad_member(
 
 fn push_bad_root(page: &mut Page, token: &[u8]) -> Result<(), AllocError> {
     if token.is_empty() {
-        return page.push_line("the text has no root: add 'root_type NAME;' with the name of a table");
+        return page.push_line(
+            "the text has no root: add 'root_type NAME;' with the name of a table",
+        );
     }
     page.push_name(token)?;
     page.push_line(" can't be the root: it isn't a table")
@@ -223,12 +231,15 @@ fn push_schema_sentence(
             " must be 0, 1, 2 and so on, one on each field; a union's is one more than its type's",
         ),
         SchemaFault::IncompleteStruct(_) => {
-            push_named(page, "the struct ", token, " must be declared before the struct that has it")
+            push_named(
+                page,
+                "the struct ",
+                token,
+                " must be declared before the struct that has it",
+            )
         }
         SchemaFault::EmptyStruct(_) => push_named(page, "the struct ", token, " has no field"),
-        SchemaFault::BadAttribute(_) => {
-            push_named(page, "the attribute ", token, use_of(token))
-        }
+        SchemaFault::BadAttribute(_) => { push_named(page, "the attribute ", token, use_of(token)) }
         SchemaFault::UnknownAttribute(_) => push_named(
             page,
             "the attribute ",
@@ -245,7 +256,12 @@ fn push_schema_sentence(
         SchemaFault::BadMember(_) => push_bad_member(page, decls, token, offset),
         SchemaFault::BadRoot(_) => push_bad_root(page, token),
         SchemaFault::BadIdentifier(_) => {
-            push_named(page, "the file identifier ", token, " must have four printable ASCII characters")
+            push_named(
+                page,
+                "the file identifier ",
+                token,
+                " must have four printable ASCII characters",
+            )
         }
         SchemaFault::Memory => page.push_line("memory ran out while the declarations were checked"),
     }

@@ -67,7 +67,11 @@ pub(crate) fn field_at(schema: &Schema, number: TypeId, slot: u16) -> Option<&Fi
 }
 
 /// Adds a field's default.
-pub(crate) fn push_default(page: &mut Page, schema: &Schema, field: &FieldInfo) -> Result<(), AllocError> {
+pub(crate) fn push_default(
+    page: &mut Page,
+    schema: &Schema,
+    field: &FieldInfo,
+) -> Result<(), AllocError> {
     if field.optional {
         return page.push_str("null");
     }

@@ -41,7 +41,12 @@ impl<'s, 't> Side<'s, 't> {
     }
 
     /// Adds where a field is declared; a union's type is where the union is.
-    pub(crate) fn push_field_line(&self, page: &mut Page, number: TypeId, name: &str) -> Result<(), AllocError> {
+    pub(crate) fn push_field_line(
+        &self,
+        page: &mut Page,
+        number: TypeId,
+        name: &str,
+    ) -> Result<(), AllocError> {
         let Some(declared) = type_at(self.decls, number.0) else {
             return Ok(());
         };

@@ -91,11 +91,7 @@ pub(crate) fn read_shape(source: Source, code: u8, shape: Shape) -> Option<Shape
 {
     match shape {
         Shape::One(Kind::Code(_)) => None,
-        Shape::One(Kind::Union(union)) => match source
-            .layout
-            .schema()
-            .member_by_code(union, code)
-        {
+        Shape::One(Kind::Union(union)) => match source.layout.schema().member_by_code(union, code) {
             Some(table) => Some(Shape::One(Kind::Table(table))),
             None => None,
         },

@@ -1,7 +1,9 @@
 //! The path of a tree's first fault.
 use crate::absent::is_null;
 use crate::faults::{JsonFault, Place};
-use crate::fronts::{first_element, first_field, first_slot, read_shape, table_front, vector_front};
+use crate::fronts::{
+    first_element, first_field, first_slot, read_shape, table_front, vector_front,
+};
 use crate::members::known;
 use crate::source::Source;
 use crate::step::Step;
@@ -22,8 +24,7 @@ fn walk_tree(
     place: Place,
     levels: u8,
     left: u32,
-) -> Result<(), AllocError>
-{
+) -> Result<(), AllocError> {
     match tree {
         Json::Object(members) => walk_object(source, steps, members, shape, place, levels, left),
         Json::Array(elements) => walk_array(source, steps, elements, shape, place, levels, left),
@@ -43,8 +44,7 @@ fn walk_object(
     place: Place,
     levels: u8,
     left: u32,
-) -> Result<(), AllocError>
-{
+) -> Result<(), AllocError> {
     match shape {
         Shape::Many(_) => Ok(()),
         Shape::One(kind) => walk_kind(source, steps, members, kind, place, levels, left),
@@ -60,8 +60,7 @@ fn walk_kind(
     place: Place,
     levels: u8,
     left: u32,
-) -> Result<(), AllocError>
-{
+) -> Result<(), AllocError> {
     match kind {
         Kind::Table(owner) => walk_table(source, steps, members, owner, place, levels, left),
         Kind::Struct(owner) => walk_struct(source, steps, members, owner, place, levels, left),
@@ -82,8 +81,7 @@ fn walk_table(
     place: Place,
     levels: u8,
     left: u32,
-) -> Result<(), AllocError>
-{
+) -> Result<(), AllocError> {
     let cells = match table_front(source, members, owner, place, levels, left) {
         Ok(cells) => cells,
         Err(_) => return Ok(()),
@@ -115,8 +113,7 @@ fn walk_slot(
     code: u8,
     levels: u8,
     left: u32,
-) -> Result<(), AllocError>
-{
+) -> Result<(), AllocError> {
     if slot.deprecated {
         return Ok(());
     }
@@ -144,8 +141,7 @@ fn walk_struct(
     place: Place,
     levels: u8,
     left: u32,
-) -> Result<(), AllocError>
-{
+) -> Result<(), AllocError> {
     if known(source, owner, members).is_err() {
         return Ok(());
     }
@@ -174,8 +170,7 @@ fn walk_field(
     place: Place,
     levels: u8,
     left: u32,
-) -> Result<(), AllocError>
-{
+) -> Result<(), AllocError> {
     match members.get(field.name.as_str()) {
         None => Ok(()),
         Some(tree) => walk_tree(source, steps, tree, field.shape, place, levels, left),
@@ -191,8 +186,7 @@ fn walk_array(
     place: Place,
     levels: u8,
     left: u32,
-) -> Result<(), AllocError>
-{
+) -> Result<(), AllocError> {
     match shape {
         Shape::One(_) => Ok(()),
         Shape::Many(kind) => walk_vector(source, steps, elements, kind, place, levels, left),
@@ -208,8 +202,7 @@ fn walk_vector(
     place: Place,
     levels: u8,
     left: u32,
-) -> Result<(), AllocError>
-{
+) -> Result<(), AllocError> {
     let cells = match vector_front(elements, Shape::Many(kind), place, left) {
         Ok(cells) => cells,
         Err(_) => return Ok(()),
@@ -222,7 +215,15 @@ fn walk_vector(
         return Ok(());
     };
     steps.push(Step::Element(i))?;
-    walk_tree(source, steps, element, Shape::One(kind), place, levels, rest)
+    walk_tree(
+        source,
+        steps,
+        element,
+        Shape::One(kind),
+        place,
+        levels,
+        rest,
+    )
 }
 
 /// The steps from the root to the first fault of a tree; none where it means a value.

@@ -99,9 +99,11 @@ pub(crate) fn explain_number(rt: &HostRuntime, number: &str) -> u8 {
             Err(_) => 1,
         },
         None => {
-            let _printed = eprintln!(rt; "error: no refusal has this number
+            let _printed = eprintln!(rt;
+                "error: no refusal has this number
 
-Usage: flatc explain <NUMBER>");
+Usage: flatc explain <NUMBER>"
+            );
             USAGE
         }
     }

@@ -91,7 +91,13 @@ fn print_buffer<'j>(
     let [schema, bin] = paths;
     texts.read_schema(rt, schema)?;
     texts.read_input(rt, bin)?;
-    print_bytes(rt, texts.schema.as_slice(), texts.input.as_slice(), raw, defaults)
+    print_bytes(
+        rt,
+        texts.schema.as_slice(),
+        texts.input.as_slice(),
+        raw,
+        defaults,
+    )
 }
 
 fn check_files<'j>(
@@ -133,7 +139,12 @@ fn do_job<'j>(
             out,
             unknown,
         } => {
-            write_buffer(rt, texts, [schema.as_str(), json.as_str(), out.as_str()], *unknown)?;
+            write_buffer(
+                rt,
+                texts,
+                [schema.as_str(), json.as_str(), out.as_str()],
+                *unknown,
+            )?;
             Ok("")
         }
         Job::Json {

@@ -25,10 +25,9 @@ loop-i-preserved c = read_next (element_reader c.args.source.layout.now c.args.s
 
 pub returns-clause-first : goal.returns-clause-first
 returns-clause-first c =
-    let long = seen_long view c.args.elements.now in
-    (
+    let long = seen_long view c.args.elements.now in (
       c.loop-i.left,
       read_whole (element_reader c.args.source.layout.now c.args.source.unknown c.args.kind c.args.place c.args.levels)
-      c.loop-i.i (map view c.args.elements.now) c.args.left c.loop-i.left (omega (arith, long, c.loop-i-test.false))
-      c.loop-i.invariant,
+          c.loop-i.i (map view c.args.elements.now) c.args.left c.loop-i.left (omega (arith, long, c.loop-i-test.false))
+          c.loop-i.invariant,
     )

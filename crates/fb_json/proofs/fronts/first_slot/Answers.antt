@@ -33,9 +33,8 @@ pub returns-clause-first : goal.returns-clause-first
 returns-clause-first c =
     let L = c.args.source.layout.now in
     let seen = look L c.args.source.unknown (members_view c.args.members.now.entries) in
-    let long = seen_long field_seen c.args.slots.now in
-    (
+    let long = seen_long field_seen c.args.slots.now in (
       (c.loop-k.code, c.loop-k.left),
       read_whole (slot_reader L seen c.args.owner.0 c.args.levels) c.loop-k.k (map field_seen c.args.slots.now) (0, c.args.left) (c.loop-k.code, c.loop-k.left)
-      (omega (arith, long, c.loop-k-test.false)) c.loop-k.invariant,
+          (omega (arith, long, c.loop-k-test.false)) c.loop-k.invariant,
     )
