@@ -1,6 +1,6 @@
 -- Parts are read one after another, up to the first that is refused.
-use Rattle.std.proofs.Common.{◌≡◌, ◌∙◌, ℕ, zero, suc, ◌+◌, ◌<◌, ◌≤◌, List, [], ◌∷◌, length, map, take, Option, Some}
-use Rattle.std.proofs.Common.{slice_get, get_or, Result, Ok, Err, refl, sym, ap, subst, arith, option_map}
+use Rattle.std.proofs.Common.{◌≡◌, ◌∙◌, ℕ, zero, suc, ◌+◌, ◌<◌, ◌≤◌, List, [], ◌∷◌, length, map, take, Some}
+use Rattle.std.proofs.Common.{slice_get, get_or, Result, Ok, Err, refl, sym, ap, arith, option_map}
 use Rattle.std.proofs.lemmas.List.{take_all}
 use Rattle.std.proofs.lemmas.Option.{slice_get-map, slice_get-get_or}
 use Rattle.fb_json.specs.declared.faults.JsonFault.{JsonFault}
