@@ -190,6 +190,17 @@ CHANGES = [
       "  member 2 was Spell, is Weapon"]),
 ]
 
+# Lines for Google's flatc, and the hint behind the usage error.
+HINTS = [
+    (["-b", "a.fbs", "a.json"], "use: flatc binary SCHEMA JSON OUT"),
+    (["--binary", "a.fbs", "a.json"], "use: flatc binary SCHEMA JSON OUT"),
+    (["--json", "a.fbs", "--", "a.bin"], "use: flatc json SCHEMA BIN"),
+    (["-t", "a.fbs", "--", "a.bin"], "use: flatc json SCHEMA BIN"),
+    (["--conform", "old.fbs", "new.fbs"], "use: flatc conform OLD NEW"),
+    (["-o", "out", "-b", "a.fbs", "a.json"], "OUT is an argument: flatc binary SCHEMA JSON OUT"),
+    (["--cpp", "a.fbs"], "this program converts and checks; for generated code use Google's flatc"),
+]
+
 
 def position(text, offset):
     """The line and column of an offset, the line's text and what of it is before the offset."""
@@ -414,6 +425,17 @@ def cuts(tests):
     tests.tell("no control character is printed", all(byte >= 32 and byte != 127 for byte in plain))
 
 
+def hints(tests):
+    """What to write in place of an option of Google's flatc."""
+    for words, hint in HINTS:
+        done = tests.run(words)
+        good = done.returncode == 2 and done.stderr.startswith(b"error: ") and not done.stdout
+        good = good and done.stderr.endswith(f"\n\nhint: {hint}\n".encode())
+        tests.tell(f"a hint for {' '.join(words)}", good, f"{done.stderr!r}")
+    done = tests.run(["--what"])
+    tests.tell("no hint for an unknown option", done.returncode == 2 and b"hint" not in done.stderr, f"{done.stderr!r}")
+
+
 def numbers(tests):
     """`flatc explain NUMBER` prints what docs/FAULTS.md has."""
     with open(f"{ROOT}/docs/FAULTS.md", encoding="utf-8") as it:
@@ -435,5 +457,5 @@ def numbers(tests):
 
 
 if __name__ == "__main__":
-    parts = [schemas, unsupported, texts, values, changes, buffers, files, cuts, numbers]
+    parts = [schemas, unsupported, texts, values, changes, buffers, files, cuts, hints, numbers]
     sys.exit(Tests("explain", program_of(sys.argv, __doc__)).main(parts))

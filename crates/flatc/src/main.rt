@@ -2,10 +2,12 @@
 #![tactic(auto)]
 
 mod explained;
+mod hints;
 mod outputs;
 mod texts;
 
 use crate::explained::{explain_number, explain_refusal, warn};
+use crate::hints::hint_for;
 use crate::outputs::write_out;
 use crate::texts::Texts;
 use clap::Error;
@@ -178,12 +180,18 @@ fn tell_memory(rt: &HostRuntime) -> u8 {
 }
 
 /// Prints what clap says of words that ask for no job, and returns the status.
-fn refuse(rt: &HostRuntime, error: &Error) -> u8 {
+fn refuse(rt: &HostRuntime, error: &Error, words: &[String]) -> u8 {
     if error.kind() == ErrorKind::OutOfMemory {
         return tell_memory(rt);
     }
     match error.print(rt) {
-        Ok(()) => if error.use_stderr() { USAGE } else { 0 },
+        Ok(()) if error.use_stderr() => {
+            if let Some(hint) = hint_for(words) {
+                let _printed = eprintln!(rt; "\nhint: {hint}");
+            }
+            USAGE
+        }
+        Ok(()) => 0,
         Err(failed) if failed.kind() == io::ErrorKind::OutOfMemory => tell_memory(rt),
         Err(_) => 1,
     }
@@ -223,7 +231,7 @@ fn run(rt: &HostRuntime, words: &[String]) -> u8 {
     match request_of(rt.alloc(), words) {
         Ok(Request::Do(job, explained)) => do_and_report(rt, &job, explained),
         Ok(Request::Explain(number)) => explain_number(rt, number.as_str()),
-        Err(error) => refuse(rt, &error),
+        Err(error) => refuse(rt, &error, words),
     }
 }
 
