@@ -382,6 +382,46 @@ def buffers(tests):
     tests.expect("another identifier", ["check", "--explain", "s.fbs", "b.bin"], 1, err=want)
 
 
+def chain(count):
+    """So many tables in one another, each in the next one's only field."""
+    head = struct.pack("<I", 16) + bytes.fromhex("0600 0800 0400 0400 0400 0000")
+    tables = b"".join(struct.pack("<iI", 12 + 8 * k, 4) for k in range(count - 1))
+    return head + tables + struct.pack("<i", 6 + 8 * (count - 1))
+
+
+def limits(tests):
+    write("s.fbs", b"table N { n:N; } root_type N;")
+    write("b.bin", chain(64))
+    tests.expect("a buffer of 64 levels", ["check", "--explain", "s.fbs", "b.bin"], 0, b"ok\n")
+    write("b.bin", chain(65))
+    path = ".".join(["n"] * 64)
+    want = lines(
+        "62 TooDeep at 528",
+        *wrap(f"b.bin: {path}: the table at 528 is nested deeper than 64 levels"),
+        *dump(chain(65), 528),
+    )
+    tests.expect("a buffer of 65 levels", ["check", "--explain", "s.fbs", "b.bin"], 1, err=want)
+    text = b'{"n":' * 64 + b"{}" + b"}" * 64
+    write("v.json", text)
+    want = lines(
+        "78 TooDeep in type 0 slot 0",
+        *wrap(place("v.json", text, 320) + f"{path}: tables are nested deeper than 64 levels"),
+        "  ..." + (b'{"n":' * 12).decode() + (text[320 : 320 + 50]).decode() + "...",
+        " " * 65 + "^",
+    )
+    tests.expect("JSON of 65 levels", ["binary", "--explain", "s.fbs", "v.json", "out.bin"], 1, err=want)
+
+
+def unnamed(tests):
+    write("s.fbs", b"table A {} table B {} union U { A, B } table T { u:U; } root_type T;")
+    write("b.bin", bytes.fromhex("0c000000 08000c00 07000800 08000000 00000003 08000000 04000400 04000000"))
+    want = lines(
+        "81 NoMemberName in type 3 slot 1",
+        "b.bin: T.u: the union's member is one that the schema doesn't have; U has 'A' 'B'",
+    )
+    tests.expect("a union's code without a member", ["json", "--explain", "s.fbs", "b.bin"], 1, err=want)
+
+
 def wrap(line):
     """A line that goes on in further ones, set in by four, where it is wider than 120 columns."""
     return textwrap.wrap(line, COLUMNS, subsequent_indent="    ", break_on_hyphens=False)
@@ -457,5 +497,5 @@ def numbers(tests):
 
 
 if __name__ == "__main__":
-    parts = [schemas, unsupported, texts, values, changes, buffers, files, cuts, hints, numbers]
+    parts = [schemas, unsupported, texts, values, changes, buffers, limits, unnamed, files, cuts, hints, numbers]
     sys.exit(Tests("explain", program_of(sys.argv, __doc__)).main(parts))

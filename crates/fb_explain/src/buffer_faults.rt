@@ -5,7 +5,7 @@ use crate::explanations::Sources;
 use crate::pages::Page;
 use fb_layout::Layout;
 use fb_read::fault_path;
-use fb_value::ReadFault;
+use fb_value::{Limits, ReadFault};
 use std::alloc::AllocError;
 
 /// The bytes of a number at an offset.
@@ -86,6 +86,7 @@ fn push_byte(page: &mut Page, bytes: &[u8], offset: u64, rest: &str) -> Result<(
 fn push_rule(
     page: &mut Page,
     layout: &Layout,
+    limits: Limits,
     bytes: &[u8],
     fault: ReadFault,
 ) -> Result<(), AllocError> {
@@ -138,17 +139,21 @@ fn push_rule(
             ": the union's type says that it has a value, and it has none",
         ),
         ReadFault::TooDeep(at) => {
+            let depth = u64::from(limits.most_depth());
             push_sentence(
                 page,
-                &[("the table at ", at)],
-                " is nested deeper than 64 levels",
+                &[("the table at ", at), (" is nested deeper than ", depth)],
+                " levels",
             )
         }
-        ReadFault::TooManyCells(at) => push_sentence(
-            page,
-            &[("at ", at)],
-            " the buffer has more than 100000000 tables, strings, vectors, elements and bytes of strings",
-        ),
+        ReadFault::TooManyCells(at) => {
+            let cells = u64::from(limits.most_cells());
+            push_sentence(
+                page,
+                &[("at ", at), (" the buffer has more than ", cells)],
+                " tables, strings, vectors, elements and bytes of strings",
+            )
+        }
         ReadFault::Memory => page.push_line("memory ran out while the buffer was read"),
     }
 }
@@ -184,7 +189,7 @@ pub(crate) fn push_buffer_fault(
     page.push_str(source.path)?;
     page.push_str(": ")?;
     push_fault_path(page, layout, sources)?;
-    push_rule(page, layout, source.bytes, fault)?;
+    push_rule(page, layout, sources.limits, source.bytes, fault)?;
     match fault.offset() {
         Some(offset) => push_dump(page, source.bytes, offset as usize),
         None => Ok(()),

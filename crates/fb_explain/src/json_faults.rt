@@ -137,6 +137,7 @@ fn push_at_path(
     push_rule(
         page,
         layout,
+        sources.limits,
         rest_of(text, found.offset),
         fault,
         name.as_ref(),

@@ -7,6 +7,7 @@ use crate::shapes::{
 use fb_json::{JsonFault, Place};
 use fb_layout::Layout;
 use fb_schema::{Base, FieldInfo, Kind, Shape, TypeId};
+use fb_value::Limits;
 use std::alloc::AllocError;
 
 /// An offset in a JSON text, and whether the value at a path's end is there, or the object that lacks it.
@@ -125,6 +126,7 @@ fn push_out_of_range(
         return page.push_line(" is out of range");
     };
     match base_of(layout, field) {
+        Some(Base::Bool) => page.push_line(" isn't true, false, 0 or 1"),
         Some(base) => {
             page.push_str(" isn't in ")?;
             page.push_str(range_of_base(base))?;
@@ -229,10 +231,17 @@ fn push_missing(
     page.push_line(rest)
 }
 
+fn push_limit(page: &mut Page, front: &str, most: u64, rest: &str) -> Result<(), AllocError> {
+    page.push_str(front)?;
+    page.push_number(most)?;
+    page.push_line(rest)
+}
+
 /// Adds the rule that a value breaks, and ends the line.
 pub(crate) fn push_rule(
     page: &mut Page,
     layout: &Layout,
+    limits: Limits,
     text: &str,
     fault: JsonFault,
     name: Option<&String>,
@@ -263,9 +272,17 @@ pub(crate) fn push_rule(
         JsonFault::UnionMismatch(_) => page.push_line(
             "a union needs both its type and its value: this one has one of them alone",
         ),
-        JsonFault::TooDeep(_) => page.push_line("tables are nested deeper than 64 levels"),
-        JsonFault::TooManyCells(_) => page.push_line(
-            "more than 100000000 tables, strings, vectors, elements and bytes of strings",
+        JsonFault::TooDeep(_) => push_limit(
+            page,
+            "tables are nested deeper than ",
+            u64::from(limits.most_depth()),
+            " levels",
+        ),
+        JsonFault::TooManyCells(_) => push_limit(
+            page,
+            "more than ",
+            u64::from(limits.most_cells()),
+            " tables, strings, vectors, elements and bytes of strings",
         ),
         JsonFault::Memory => page.push_line("memory ran out while the JSON text was converted"),
     }

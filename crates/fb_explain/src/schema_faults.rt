@@ -7,10 +7,12 @@ use crate::excerpts::push_excerpt;
 use crate::near_names::push_nearest;
 use crate::pages::Page;
 use crate::schema_tokens::token_at;
+use crate::shapes::range_of_base;
 use crate::sources::{Source, push_place};
 use crate::unsupported::{is_unsupported_attribute, push_others, unsupported_at};
 use fb_declare::SchemaFault;
 use fb_layout::LayoutFault;
+use fb_schema::Base;
 use fb_syntax::{Decls, Field, FieldType, SyntaxFault, parse};
 use flatc_tool::SchemaTextFault;
 use std::alloc::AllocError;
@@ -66,18 +68,18 @@ fn push_syntax_sentence(
     }
 }
 
-/// The numbers that a basic type has.
-fn range_of(name: &str) -> Option<&'static str> {
+/// The basic type of a name.
+fn base_named(name: &str) -> Option<Base> {
     Some(match name {
-        "bool" => "true, false, 0 or 1",
-        "byte" | "int8" => "-128 to 127",
-        "ubyte" | "uint8" => "0 to 255",
-        "short" | "int16" => "-32768 to 32767",
-        "ushort" | "uint16" => "0 to 65535",
-        "int" | "int32" => "-2147483648 to 2147483647",
-        "uint" | "uint32" => "0 to 4294967295",
-        "long" | "int64" => "-9223372036854775808 to 9223372036854775807",
-        "ulong" | "uint64" => "0 to 18446744073709551615",
+        "bool" => Base::Bool,
+        "byte" | "int8" => Base::I8,
+        "ubyte" | "uint8" => Base::U8,
+        "short" | "int16" => Base::I16,
+        "ushort" | "uint16" => Base::U16,
+        "int" | "int32" => Base::I32,
+        "uint" | "uint32" => Base::U32,
+        "long" | "int64" => Base::I64,
+        "ulong" | "uint64" => Base::U64,
         _ => return None,
     })
 }
@@ -91,11 +93,11 @@ fn push_default_of(
     let FieldType::One(kind) = &field.kind else {
         return page.push_line(": it is a vector, and only numbers and enums have a default");
     };
-    if let Some(range) = range_of(kind.as_str()) {
+    if let Some(base) = base_named(kind.as_str()) {
         page.push_str(" doesn't fit the type ")?;
         page.push_str(kind.as_str())?;
         page.push_str(": ")?;
-        return page.push_line(range);
+        return page.push_line(range_of_base(base));
     }
     page.push_str(": its type is ")?;
     page.push_name(kind.as_str().as_bytes())?;
@@ -176,7 +178,7 @@ fn push_duplicate(page: &mut Page, token: &[u8]) -> Result<(), AllocError> {
     if matches!(token, b"NONE") {
         return page.push_line(" is what an absent union is called, so no member may have it");
     }
-    if range_of(text_of(token)).is_some() || matches!(token, b"string") {
+    if base_named(text_of(token)).is_some() || matches!(token, b"string") {
         return page.push_line(" is a basic type's");
     }
     page.push_line(" is taken: it is declared before (a union field 'x' takes 'x_type' too)")

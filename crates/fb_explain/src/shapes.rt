@@ -105,7 +105,7 @@ pub(crate) fn members_of(schema: &Schema, number: TypeId) -> &[(String, TypeId)]
 /// The numbers of a basic type.
 pub(crate) fn range_of_base(base: Base) -> &'static str {
     match base {
-        Base::Bool => "0 to 1",
+        Base::Bool => "true, false, 0 or 1",
         Base::I8 => "-128 to 127",
         Base::U8 => "0 to 255",
         Base::I16 => "-32768 to 32767",
