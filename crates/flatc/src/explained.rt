@@ -1,6 +1,6 @@
 //! What is printed of a refusal where an explanation is asked for.
 use crate::limits;
-use crate::texts::{Failure, Texts};
+use crate::texts::Texts;
 use fb_explain::{FileFailure, Source, Sources, explain, fault_page, warnings};
 use flatc_cli::Job;
 use flatc_tool::ToolFault;
@@ -46,35 +46,42 @@ fn input_source<'a>(job: &'a Job, texts: &'a Texts<'_>) -> Source<'a> {
     }
 }
 
+fn file_failure<'x>(texts: &'x Texts<'x>) -> Option<FileFailure<'x>> {
+    match &texts.failure {
+        Some(failure) => Some(FileFailure {
+            path: failure.path,
+            reason: failure.reason.as_str(),
+        }),
+        None => None,
+    }
+}
+
 /// The lines that explain a refusal.
-fn explanation(
+fn explanation<'x>(
     rt: &HostRuntime,
-    job: &Job,
-    texts: &Texts<'_>,
+    job: &'x Job,
+    texts: &'x Texts<'x>,
     fault: ToolFault,
 ) -> Result<String, AllocError> {
     let (unknown_json, raw_binary) = flags_of(job);
-    let reason = match &texts.failure {
-        Some(failure) => format!(in rt.alloc(); "{}", failure.reason)?,
-        None => String::new(rt.alloc()),
-    };
-    let failure = texts.failure.as_ref().map(|failure| FileFailure {
-        path: failure.path,
-        reason: reason.as_str(),
-    });
     let sources = Sources {
         schema: schema_source(job, texts),
         input: input_source(job, texts),
         limits: limits(),
         unknown_json,
         raw_binary,
-        failure,
+        failure: file_failure(texts),
     };
     explain(rt.alloc(), &fault, &sources)
 }
 
 /// Prints what explains a refusal; nothing where memory runs out.
-pub(crate) fn explain_refusal(rt: &HostRuntime, job: &Job, texts: &Texts<'_>, fault: ToolFault) {
+pub(crate) fn explain_refusal<'x>(
+    rt: &HostRuntime,
+    job: &'x Job,
+    texts: &'x Texts<'x>,
+    fault: ToolFault,
+) {
     if let Ok(text) = explanation(rt, job, texts, fault) {
         let _printed = eprint!(rt; "{text}");
     }

@@ -66,7 +66,7 @@ fn write_buffer<'j>(
     match write_out(rt, out, bytes.as_slice(), [schema, json]) {
         Ok(()) => Ok(()),
         Err(error) if error.kind() == io::ErrorKind::OutOfMemory => Err(ToolFault::Memory),
-        Err(error) => Err(texts.fail(out, error, ToolFault::FileWrite)),
+        Err(error) => Err(texts.fail(rt, out, &error, ToolFault::FileWrite)),
     }
 }
 

@@ -21,7 +21,8 @@ pub(crate) struct Texts<'j> {
 #[derive(Drop)]
 pub(crate) struct Failure<'j> {
     pub(crate) path: &'j str,
-    pub(crate) reason: io::Error,
+    /// The reason as the system says it.
+    pub(crate) reason: String,
 }
 
 /// Why a file that could be opened couldn't be read.
@@ -42,9 +43,18 @@ impl<'j> Texts<'j> {
         }
     }
 
-    /// Remembers why a file failed.
-    pub(crate) fn fail(&mut self, path: &'j str, reason: io::Error, fault: ToolFault) -> ToolFault {
-        self.failure = Some(Failure { path, reason });
+    /// Remembers why a file failed, where there is memory for that.
+    pub(crate) fn fail(
+        &mut self,
+        rt: &HostRuntime,
+        path: &'j str,
+        error: &io::Error,
+        fault: ToolFault,
+    ) -> ToolFault {
+        self.failure = match format!(in rt.alloc(); "{error}") {
+            Ok(reason) => Some(Failure { path, reason }),
+            Err(_) => None,
+        };
         fault
     }
 
@@ -53,18 +63,18 @@ impl<'j> Texts<'j> {
     fn read(&mut self, rt: &HostRuntime, path: &'j str) -> Result<Vec<u8>, ToolFault> {
         let file = match fs::open(rt, path) {
             Ok(file) => file,
-            Err(error) => return Err(self.fail(path, error, ToolFault::FileRead)),
+            Err(error) => return Err(self.fail(rt, path, &error, ToolFault::FileRead)),
         };
         let mut from = Heard::over(file);
         match take_all(rt.alloc(), &mut from, LONGEST) {
             Ok(bytes) => Ok(bytes),
             Err(ToolFault::FileRead) => {
                 let reason = reason_of(from.into_inner());
-                Err(self.fail(path, reason, ToolFault::FileRead))
+                Err(self.fail(rt, path, &reason, ToolFault::FileRead))
             }
             Err(ToolFault::FileTooLong) => {
                 let reason = io::Error::other("it is longer than 2147483647 bytes");
-                Err(self.fail(path, reason, ToolFault::FileTooLong))
+                Err(self.fail(rt, path, &reason, ToolFault::FileTooLong))
             }
             Err(fault) => Err(fault),
         }
