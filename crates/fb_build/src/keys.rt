@@ -1,5 +1,6 @@
 //! The distinct vtables of a value, as keys that aren't laid yet.
-ghost use Rattle.std.specs.Prelude.{◌≡◌, ◌≤◌, ◌<◌, ◌+◌, ◌*◌, length, map, option_map, slice_set, true, IfOk, IfErr, OnOk};
+ghost use Rattle.std.specs.Prelude.{◌≡◌, ◌≤◌, ◌<◌, ◌+◌, ◌*◌, true, IfOk, IfErr, OnOk};
+ghost use Rattle.std.specs.Prelude.{length, map, option_map, slice_set};
 ghost use Rattle.fb_layout.specs.Laid.{slots_of};
 ghost use Rattle.fb_layout.specs.Widths.{inline_size, most_slots};
 ghost use Rattle.fb_value.specs.Counts.{is_whole, parts_whole, entries_whole};

@@ -1,6 +1,7 @@
 //! Lines and columns of a text.
 ghost use Rattle.std.specs.Prelude.{◌≡◌, ◌+◌, take, drop, count_by};
-ghost use Rattle.fb_explain.specs.Positions.{mark_len, before, is_feed, begins_character, line_at, IsLineStart, IsColumn};
+ghost use Rattle.fb_explain.specs.Positions.{mark_len, before, is_feed, begins_character};
+ghost use Rattle.fb_explain.specs.Positions.{line_at, IsLineStart, IsColumn};
 
 const BYTE_ORDER_MARK: &[u8] = b"\xef\xbb\xbf";
 

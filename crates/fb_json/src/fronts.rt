@@ -2,8 +2,8 @@
 ghost use Rattle.std.specs.Prelude.{◌≡◌, ℕ, ◌<◌, ◌≤◌, length, map, Ok, IfOk, IfSome, MatchOption};
 ghost use Rattle.serde_json.specs.View.{view as tree_view, members_view};
 ghost use Rattle.fb_schema.specs.Seen.{field_seen};
-ghost use Rattle.fb_json.specs.Meant.{look};
-ghost use Rattle.fb_json.specs.FaultPaths.{table_front, vector_front, slot_read, read_shape, IsRefused};
+ghost use Rattle.fb_json.specs.Meant.{look, meant};
+ghost use Rattle.fb_json.specs.FaultPaths.{table_front, vector_front, slot_read, read_shape, rest_of, IsRefused};
 ghost use Rattle.fb_json.specs.FaultPaths.{slot_reader, field_reader, element_reader, AllRead, FirstRefused};
 
 use crate::codes::code_after;
@@ -125,20 +125,20 @@ fn field_read(
     }
 }
 
-/// The cells that are left behind an element; none where it has a fault.
-fn element_read(
+/// The cells that are left behind a tree; none where it has a fault.
+pub(crate) fn tree_read(
     source: Source,
-    element: &Json,
-    kind: Kind,
+    tree: &Json,
+    shape: Shape,
     place: Place,
     levels: u8,
     left: u32,
 ) -> Result<Option<u32>, AllocError>
-    ensures { (i : ℕ) → let given = element_reader source.entry.layout.now source.entry.unknown kind place levels i
-        (tree_view element.now) left in
+    ensures { let given = rest_of (meant source.entry.layout.now source.entry.unknown (tree_view tree.now) shape place
+        levels left) in
         IfOk result (λ read. MatchOption read (IsRefused given) (λ rest. given ≡ Ok rest)) }
 {
-    match value(source, element, Shape::One(kind), place, levels, left) {
+    match value(source, tree, shape, place, levels, left) {
         Ok((_value, rest)) => Ok(Some(rest)),
         Err(JsonFault::Memory) => Err(AllocError),
         Err(_) => Ok(None),
@@ -221,7 +221,7 @@ pub(crate) fn first_element(
 {
     let mut left = left;
     for (i, element) in elements.iter().enumerate() {
-        match element_read(source, element, kind, place, levels, left)? {
+        match tree_read(source, element, Shape::One(kind), place, levels, left)? {
             Some(rest) => left = rest,
             None => return Ok(Some((i, left))),
         }

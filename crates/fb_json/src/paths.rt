@@ -1,13 +1,25 @@
 //! The path of a tree's first fault.
+ghost use Rattle.std.specs.Prelude.{◌≡◌, IfOk, MatchOption, OnOk, Ok};
+ghost use Rattle.serde_json.specs.Data.{object, array};
+ghost use Rattle.serde_json.specs.View.{view as tree_view, members_view, items_view};
+ghost use Rattle.fb_schema.specs.Seen.{field_seen};
+ghost use Rattle.fb_schema.specs.declared.kinds.Kind.TheVariants.{Struct, Table};
+ghost use Rattle.fb_schema.specs.declared.kinds.Shape.TheVariants.{One, Many};
+ghost use Rattle.serde_json.specs.Find.{get_member};
+ghost use Rattle.fb_json.specs.Meant.{meant, look, part_meant};
+ghost use Rattle.fb_json.specs.FaultPaths.{tree_spot, slot_spot, field_spot, slot_read};
+ghost use Rattle.fb_json.specs.FaultPaths.{IsRefused, FindsFirst, LeadsToFirst};
+ghost use Rattle.fb_json.specs.Means.{Means};
+ghost use Rattle.fb_value.specs.Datum.{Datum};
+
 use crate::absent::is_null;
-use crate::faults::{JsonFault, Place};
+use crate::faults::Place;
 use crate::fronts::{
-    first_element, first_field, first_slot, read_shape, table_front, vector_front,
+    first_element, first_field, first_slot, read_shape, table_front, tree_read, vector_front,
 };
 use crate::members::known;
 use crate::source::Source;
 use crate::step::Step;
-use crate::tree::value;
 use fb_layout::Layout;
 use fb_schema::{FieldInfo, Kind, Shape, TypeId};
 use fb_value::Limits;
@@ -24,7 +36,12 @@ fn walk_tree(
     place: Place,
     levels: u8,
     left: u32,
-) -> Result<(), AllocError> {
+) -> Result<(), AllocError>
+    ensures { IsRefused (meant source.entry.layout.now source.entry.unknown (tree_view tree.now)
+        shape place levels left)
+        → OnOk result (FindsFirst source.entry.layout.now source.entry.unknown steps.old.items steps.new.items
+        (tree_spot (tree_view tree.now) shape place levels left)) }
+{
     match tree {
         Json::Object(members) => walk_object(source, steps, members, shape, place, levels, left),
         Json::Array(elements) => walk_array(source, steps, elements, shape, place, levels, left),
@@ -44,7 +61,12 @@ fn walk_object(
     place: Place,
     levels: u8,
     left: u32,
-) -> Result<(), AllocError> {
+) -> Result<(), AllocError>
+    ensures { IsRefused (meant source.entry.layout.now source.entry.unknown (object (members_view members.now.entries))
+        shape place levels left)
+        → OnOk result (FindsFirst source.entry.layout.now source.entry.unknown steps.old.items steps.new.items
+        (tree_spot (object (members_view members.now.entries)) shape place levels left)) }
+{
     match shape {
         Shape::Many(_) => Ok(()),
         Shape::One(kind) => walk_kind(source, steps, members, kind, place, levels, left),
@@ -60,7 +82,12 @@ fn walk_kind(
     place: Place,
     levels: u8,
     left: u32,
-) -> Result<(), AllocError> {
+) -> Result<(), AllocError>
+    ensures { IsRefused (meant source.entry.layout.now source.entry.unknown (object (members_view members.now.entries))
+        (One kind) place levels left)
+        → OnOk result (FindsFirst source.entry.layout.now source.entry.unknown steps.old.items steps.new.items
+        (tree_spot (object (members_view members.now.entries)) (One kind) place levels left)) }
+{
     match kind {
         Kind::Table(owner) => walk_table(source, steps, members, owner, place, levels, left),
         Kind::Struct(owner) => walk_struct(source, steps, members, owner, place, levels, left),
@@ -81,7 +108,12 @@ fn walk_table(
     place: Place,
     levels: u8,
     left: u32,
-) -> Result<(), AllocError> {
+) -> Result<(), AllocError>
+    ensures { IsRefused (meant source.entry.layout.now source.entry.unknown (object (members_view members.now.entries))
+        (One (Table owner)) place levels left)
+        → OnOk result (FindsFirst source.entry.layout.now source.entry.unknown steps.old.items steps.new.items
+        (tree_spot (object (members_view members.now.entries)) (One (Table owner)) place levels left)) }
+{
     let cells = match table_front(source, members, owner, place, levels, left) {
         Ok(cells) => cells,
         Err(_) => return Ok(()),
@@ -113,7 +145,13 @@ fn walk_slot(
     code: u8,
     levels: u8,
     left: u32,
-) -> Result<(), AllocError> {
+) -> Result<(), AllocError>
+    ensures { IsRefused (slot_read source.entry.layout.now (look source.entry.layout.now source.entry.unknown
+        (members_view members.now.entries)) (field_seen slot.now) place code levels left)
+        → OnOk result (FindsFirst source.entry.layout.now source.entry.unknown steps.old.items steps.new.items
+        (slot_spot source.entry.layout.now source.entry.unknown (members_view members.now.entries)
+        (field_seen slot.now) place code levels left)) }
+{
     if slot.deprecated {
         return Ok(());
     }
@@ -141,7 +179,12 @@ fn walk_struct(
     place: Place,
     levels: u8,
     left: u32,
-) -> Result<(), AllocError> {
+) -> Result<(), AllocError>
+    ensures { IsRefused (meant source.entry.layout.now source.entry.unknown (object (members_view members.now.entries))
+        (One (Struct owner)) place levels left)
+        → OnOk result (FindsFirst source.entry.layout.now source.entry.unknown steps.old.items steps.new.items
+        (tree_spot (object (members_view members.now.entries)) (One (Struct owner)) place levels left)) }
+{
     if known(source, owner, members).is_err() {
         return Ok(());
     }
@@ -170,7 +213,13 @@ fn walk_field(
     place: Place,
     levels: u8,
     left: u32,
-) -> Result<(), AllocError> {
+) -> Result<(), AllocError>
+    ensures { IsRefused (part_meant (look source.entry.layout.now source.entry.unknown
+        (members_view members.now.entries) (field_seen field.now).name) (field_seen field.now).shape place levels left)
+        → OnOk result (FindsFirst source.entry.layout.now source.entry.unknown steps.old.items steps.new.items
+        (field_spot (get_member (field_seen field.now).name (members_view members.now.entries))
+        (field_seen field.now).shape place levels left)) }
+{
     match members.get(field.name.as_str()) {
         None => Ok(()),
         Some(tree) => walk_tree(source, steps, tree, field.shape, place, levels, left),
@@ -186,7 +235,12 @@ fn walk_array(
     place: Place,
     levels: u8,
     left: u32,
-) -> Result<(), AllocError> {
+) -> Result<(), AllocError>
+    ensures { IsRefused (meant source.entry.layout.now source.entry.unknown (array (items_view elements.now))
+        shape place levels left)
+        → OnOk result (FindsFirst source.entry.layout.now source.entry.unknown steps.old.items steps.new.items
+        (tree_spot (array (items_view elements.now)) shape place levels left)) }
+{
     match shape {
         Shape::One(_) => Ok(()),
         Shape::Many(kind) => walk_vector(source, steps, elements, kind, place, levels, left),
@@ -202,7 +256,12 @@ fn walk_vector(
     place: Place,
     levels: u8,
     left: u32,
-) -> Result<(), AllocError> {
+) -> Result<(), AllocError>
+    ensures { IsRefused (meant source.entry.layout.now source.entry.unknown (array (items_view elements.now))
+        (Many kind) place levels left)
+        → OnOk result (FindsFirst source.entry.layout.now source.entry.unknown steps.old.items steps.new.items
+        (tree_spot (array (items_view elements.now)) (Many kind) place levels left)) }
+{
     let cells = match vector_front(elements, Shape::Many(kind), place, left) {
         Ok(cells) => cells,
         Err(_) => return Ok(()),
@@ -226,17 +285,21 @@ fn walk_vector(
     )
 }
 
-/// The steps from the root to the first fault of a tree; none where it means a value.
+/// The steps from the root to the first fault of a tree, the one that `value_of` returns; none where the tree
+/// means a value.
 ///
-/// It reads the tree again at each level, and is for a tree that was refused. That the steps lead to the
-/// fault that `value_of` returns is tested and not proved.
+/// It reads the tree again at each level, and is for a tree that was refused.
 pub fn fault_path(
     alloc: Global,
     layout: &Layout,
     tree: &Json,
     unknown: bool,
     limits: Limits,
-) -> Result<Option<Vec<Step>>, AllocError> {
+) -> Result<Option<Vec<Step>>, AllocError>
+    ensures { IfOk result (λ found. MatchOption found
+        ((d : Datum) × Means layout.now limits unknown (tree_view tree.now) d)
+        (λ steps. LeadsToFirst layout.now limits unknown (tree_view tree.now) steps.items)) }
+{
     let source = Source {
         alloc,
         layout,
@@ -246,10 +309,8 @@ pub fn fault_path(
     let shape = Shape::One(Kind::Table(owner));
     let place = Place { owner, slot: None };
     let (depth, cells) = (limits.most_depth(), limits.most_cells());
-    match value(source, tree, shape, place, depth, cells) {
-        Ok(_) => return Ok(None),
-        Err(JsonFault::Memory) => return Err(AllocError),
-        Err(_) => {}
+    if tree_read(source, tree, shape, place, depth, cells)?.is_some() {
+        return Ok(None);
     }
     let mut steps = Vec::new(alloc);
     walk_tree(source, &mut steps, tree, shape, place, depth, cells)?;

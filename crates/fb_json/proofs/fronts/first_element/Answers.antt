@@ -13,7 +13,7 @@ returns-in-None-clause-first c = record {
   part = view c.index-elements-i.result;
   there = seen_at view c.args.elements.now c.loop-i.i c.index-elements-i.result c.loop-i-test.true c.index-elements-i.is;
   before = c.loop-i.invariant;
-  refused = rw c.in-None.is at (c.in_ok-rest.ensures c.loop-i.i);
+  refused = rw c.in-None.is at c.in_ok-rest.ensures;
 }
 
 pub loop-i-preserved : goal.loop-i-preserved
@@ -21,7 +21,7 @@ loop-i-preserved c = read_next (element_reader c.args.source.layout.now c.args.s
     c.args.levels) c.loop-i.i (map view c.args.elements.now) (view c.index-elements-i.result) c.args.left c.loop-i.left
     c.in-Some.rest
     (seen_at view c.args.elements.now c.loop-i.i c.index-elements-i.result c.loop-i-test.true c.index-elements-i.is)
-    c.loop-i.invariant (rw c.in-Some.is at (c.in_ok-rest.ensures c.loop-i.i))
+    c.loop-i.invariant (rw c.in-Some.is at c.in_ok-rest.ensures)
 
 pub returns-clause-first : goal.returns-clause-first
 returns-clause-first c =

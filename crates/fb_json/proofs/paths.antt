@@ -1,0 +1,5 @@
+-- What the proofs of src/paths.rt use.
+pub mod PathGrowsStepByStep
+pub mod RefusedPartIsFound
+pub mod WalkGoesOneStep
+pub mod PathLeadsToItsFault
