@@ -12,7 +12,8 @@ import struct
 import sys
 import textwrap
 
-from harness import ROOT, Tests, program_of, write
+from harness import ROOT, Tests, content, program_of, write
+from hostile import refusing, shim
 
 MARK = "¦"
 COLUMNS = 120
@@ -412,6 +413,43 @@ def limits(tests):
     tests.expect("JSON of 65 levels", ["binary", "--explain", "s.fbs", "v.json", "out.bin"], 1, err=want)
 
 
+def shared_rows():
+    """10,000 times the same table in a vector, which has a vector of 10,000 bytes: 100 million cells in 50 kB."""
+    count = 10_000
+    head = struct.pack("<I", 12) + bytes.fromhex("0000 0600 0800 0400")
+    root = struct.pack("<iI", 6, 4)
+    rows = 20
+    table = rows + 4 + 4 * count + 8
+    offsets = b"".join(struct.pack("<I", table - (rows + 4 + 4 * k)) for k in range(count))
+    vtable = bytes.fromhex("0000 0600 0800 0400")
+    return (head + root + struct.pack("<I", count) + offsets + vtable + struct.pack("<iI", 6, 4)
+            + struct.pack("<I", count) + bytes(count))
+
+
+def cells(tests):
+    write("s.fbs", b"table V { b:[ubyte]; } table T { v:[V]; } root_type T;")
+    write("b.bin", shared_rows())
+    # The root and its vector take 1 + 10,001 of the cells, an element's table and vector 1 + 10,001 too: 9,997 elements
+    # leave 4, of which the next one's table takes 1, and its vector would take 10,001.
+    done = tests.run(["check", "--explain", "s.fbs", "b.bin"])
+    at = 20 + 4 + 4 * 10_000 + 8 + 8
+    want = lines(
+        f"63 TooManyCells at {at}",
+        *wrap(f"b.bin: v[9997].b: at {at} the buffer has more than 100000000 tables, strings, vectors, elements and "
+              "bytes of strings"),
+        *dump(shared_rows(), at),
+    )
+    tests.tell("a buffer of more than 100 million cells", done.stderr == want, f"{done.stderr!r}, not {want!r}")
+    write("s.fbs", b"table T { name:string; } root_type T;")
+    write("v.json", b'{"name":"' + b"x" * 99_999_999 + b'"}')
+    done = tests.run(["binary", "--explain", "s.fbs", "v.json", "out.bin"])
+    rows = done.stderr.decode().splitlines()
+    want = ["79 TooManyCells in type 0 slot 0", "v.json:1:9: name: more than 100000000 tables, strings, vectors, elements "
+            "and bytes of strings"]
+    tests.tell("JSON of more than 100 million cells", rows[:2] == want and rows[2].startswith('  {"name":"xxx')
+               and rows[2].endswith("...") and rows[3] == " " * 10 + "^" and len(rows) == 4, f"{rows!r}"[:500])
+
+
 def unnamed(tests):
     write("s.fbs", b"table A {} table B {} union U { A, B } table T { u:U; } root_type T;")
     write("b.bin", bytes.fromhex("0c000000 08000c00 07000800 08000000 00000003 08000000 04000400 04000000"))
@@ -442,6 +480,49 @@ def files(tests):
                  err=lines("111 FileWrite", "no/o: No such file or directory (os error 2)"))
     tests.expect("OUT is an input", [*binary, "s.fbs", "v.json", "v.json"], 1,
                  err=lines("111 FileWrite", "v.json: it is one of the inputs, or it is there and named .json or .fbs"))
+    tests.expect("OUT is full", [*binary, "s.fbs", "v.json", "/dev/full"], 1,
+                 err=lines("111 FileWrite", "/dev/full: No space left on device (os error 28)"))
+    with open("long.json", "wb") as file:
+        file.truncate(2**31)
+    tests.expect("a file of more than 2 GB", [*binary, "s.fbs", "long.json", "o"], 1,
+                 err=lines("112 FileTooLong", "long.json: it is longer than 2147483647 bytes"))
+    os.remove("long.json")
+    tests.expect("a sound buffer of it", ["binary", "s.fbs", "v.json", "b.bin"], 0)
+    with open("/dev/full", "wb") as full:
+        tests.expect("standard output is full", ["json", "--explain", "s.fbs", "b.bin"], 1, stdout=full, out=None,
+                     err=lines("82 WriteFailed after 0", "standard output took no more after 0 bytes: No space left on "
+                               "device (os error 28)"))
+
+
+# What is said where memory ran out; the numbers that a JSON text made a buffer can end with.
+MEMORY = {
+    7: "the schema was read",
+    23: "the declarations were checked",
+    32: "sizes were worked out",
+    41: "the buffer was built",
+    80: "the JSON text was converted",
+    114: "a file or a JSON text was read",
+}
+
+
+def memory(tests):
+    """Each growth of the heap refused: one alone, so that the explanation has memory, and all from it on."""
+    library = shim()
+    write("s.fbs", MONSTER.encode())
+    write("v.json", b'{"name":"Orc","weapons":[{"damage":3}]}')
+    words = ["binary", "--explain", "s.fbs", "v.json", "out.bin"]
+    met = set()
+    for n in range(1, 5000):
+        done = tests.run(words, env=refusing(library, f"{n}", "count"))
+        if content("count").split()[1] == b"0":
+            break
+        number, _, rest = done.stderr.decode().partition(" ")
+        met.add(number)
+        want = f"Memory\nmemory ran out while {MEMORY.get(int(number)) if number.isdecimal() else None}\n"
+        tests.tell(f"growth {n} refused", rest == want or (number, rest) == ("114", "Memory\n"), f"{done.stderr!r}")
+        done = tests.run(words, env=refusing(library, f"{n}+", "count"))
+        tests.tell(f"growths from {n} on refused", done.stderr == f"{number} Memory\n".encode(), f"{done.stderr!r}")
+    tests.tell("each want of memory was met", met == {str(it) for it in MEMORY}, f"{met}")
 
 
 def cuts(tests):
@@ -497,5 +578,6 @@ def numbers(tests):
 
 
 if __name__ == "__main__":
-    parts = [schemas, unsupported, texts, values, changes, buffers, limits, unnamed, files, cuts, hints, numbers]
+    parts = [schemas, unsupported, texts, values, changes, buffers, limits, cells, unnamed, files, memory, cuts, hints,
+             numbers]
     sys.exit(Tests("explain", program_of(sys.argv, __doc__)).main(parts))

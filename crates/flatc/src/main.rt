@@ -4,11 +4,13 @@
 mod explained;
 mod hints;
 mod outputs;
+mod reasons;
 mod texts;
 
 use crate::explained::{explain_number, explain_refusal, warn};
 use crate::hints::hint_for;
 use crate::outputs::write_out;
+use crate::reasons::Reasoned;
 use crate::texts::Texts;
 use clap::Error;
 use clap::error::ErrorKind;
@@ -74,13 +76,17 @@ fn write_buffer<'j>(
 #[inline(never)]
 fn print_bytes(
     rt: &HostRuntime,
-    schema: &[u8],
-    bytes: &[u8],
+    texts: &mut Texts<'_>,
     raw: bool,
     defaults: bool,
 ) -> Result<(), ToolFault> {
-    let mut out = Noted::over(rt.stdout());
-    print_to(rt.alloc(), schema, bytes, limits(), raw, defaults, &mut out)
+    let mut out = Noted::over(Reasoned::over(rt.stdout()));
+    let (schema, bytes) = (texts.schema.as_slice(), texts.input.as_slice());
+    let answer = print_to(rt.alloc(), schema, bytes, limits(), raw, defaults, &mut out);
+    match (answer, out.into_inner().into_reason()) {
+        (Err(fault), Some(error)) => Err(texts.fail(rt, "standard output", &error, fault)),
+        (answer, _) => answer,
+    }
 }
 
 fn print_buffer<'j>(
@@ -93,13 +99,7 @@ fn print_buffer<'j>(
     let [schema, bin] = paths;
     texts.read_schema(rt, schema)?;
     texts.read_input(rt, bin)?;
-    print_bytes(
-        rt,
-        texts.schema.as_slice(),
-        texts.input.as_slice(),
-        raw,
-        defaults,
-    )
+    print_bytes(rt, texts, raw, defaults)
 }
 
 fn check_files<'j>(

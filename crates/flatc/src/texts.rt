@@ -1,8 +1,9 @@
 //! What a job reads, kept for an explanation.
+use crate::reasons::Reasoned;
 use flatc_tool::ToolFault;
 use flatc_tool::command::{Heard, take_all};
 use std::fs;
-use std::io::{self, Read};
+use std::io;
 
 /// The longest file that is read, in bytes.
 const LONGEST: u32 = 2_147_483_647;
@@ -23,15 +24,6 @@ pub(crate) struct Failure<'j> {
     pub(crate) path: &'j str,
     /// The reason as the system says it.
     pub(crate) reason: String,
-}
-
-/// Why a file that could be opened couldn't be read.
-fn reason_of<R: Read + Drop>(mut from: R) -> io::Error {
-    let mut byte = [0u8; 1];
-    match from.read(&mut byte) {
-        Ok(_) => io::Error::other("a read failed"),
-        Err(error) => error,
-    }
 }
 
 impl<'j> Texts<'j> {
@@ -65,13 +57,13 @@ impl<'j> Texts<'j> {
             Ok(file) => file,
             Err(error) => return Err(self.fail(rt, path, &error, ToolFault::FileRead)),
         };
-        let mut from = Heard::over(file);
+        let mut from = Heard::over(Reasoned::over(file));
         match take_all(rt.alloc(), &mut from, LONGEST) {
             Ok(bytes) => Ok(bytes),
-            Err(ToolFault::FileRead) => {
-                let reason = reason_of(from.into_inner());
-                Err(self.fail(rt, path, &reason, ToolFault::FileRead))
-            }
+            Err(ToolFault::FileRead) => match from.into_inner().into_reason() {
+                Some(error) => Err(self.fail(rt, path, &error, ToolFault::FileRead)),
+                None => Err(ToolFault::FileRead),
+            },
             Err(ToolFault::FileTooLong) => {
                 let reason = io::Error::other("it is longer than 2147483647 bytes");
                 Err(self.fail(rt, path, &reason, ToolFault::FileTooLong))
