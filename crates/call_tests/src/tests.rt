@@ -5,6 +5,7 @@ mod check;
 mod conform;
 mod counts;
 mod declarations;
+mod explanations;
 mod fault_lines;
 mod fault_sentences;
 mod integers;

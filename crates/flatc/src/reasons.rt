@@ -1,4 +1,5 @@
 //! Why a read or a write failed, kept for an explanation.
+ghost use Rattle.std.specs.Prelude.{◌≡◌, Ok, MatchResult, IsErr};
 ghost use Rattle.std.specs.Io.{ReadsAtMost, WritesAtMost};
 ghost use Rattle.std.specs.Io.KnownBytes.{ReadConsumes, WriteAppends, Keeps};
 
@@ -30,7 +31,9 @@ impl<S: Drop> Reasoned<S> {
 }
 
 /// What a call returned, with its error kept.
-fn kept(answer: io::Result<usize>, reason: &mut Option<io::Error>) -> io::Result<usize> {
+fn kept(answer: io::Result<usize>, reason: &mut Option<io::Error>) -> io::Result<usize>
+    ensures { MatchResult result (λ n. answer ≡ Ok n) (λ e. IsErr answer) }
+{
     match answer {
         Ok(count) => Ok(count),
         Err(error) => {
