@@ -1,5 +1,6 @@
 -- What a list of breaches has so far: those that stand below a place, in order.
-use Rattle.std.specs.Prelude.{ℕ, ◌≡◌, ◌<◌, ◌⊎◌, true, false, List, ◌∷◌, [], ◌++◌, Option, None, Some, AllPairs, Contains}
+use Rattle.std.specs.Prelude.{ℕ, ◌≡◌, ◌<◌, ◌⊎◌, true, false, List, ◌∷◌, [], ◌++◌, Option, None, Some, AllPairs}
+use Rattle.std.specs.Prelude.{Contains}
 use Rattle.std.specs.Option.{option_to_list}
 use Rattle.fb_schema.specs.declared.kinds.TypeId.{TypeId}
 use Rattle.fb_schema.specs.Schema.{DeclaredField, DeclaredSchema}
