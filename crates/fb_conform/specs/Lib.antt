@@ -4,6 +4,7 @@ pub mod Conforms
 pub mod BreachTable
 pub mod Order
 pub mod Told
+pub mod Listed
 pub mod Carry
 pub mod CarriedEntries
 pub mod Back

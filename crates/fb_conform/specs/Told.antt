@@ -11,6 +11,11 @@ use Rattle.fb_conform.specs.declared.breaches.Breach.TheVariants.{UnionChanged}
 use Rattle.fb_conform.specs.ByName.{SameShape}
 use Rattle.fb_conform.specs.Conforms.{SameDefault, SameStruct, KeepsValues, KeepsMembers, is_required}
 
+-- of a condition that one breach is about
+abbrev pub TellsOne : Type 0 → Breach → Option Breach → Type 0
+TellsOne P b None = P
+TellsOne P b (Some c) = (c ≡ b) × ¬ P
+
 -- no breach of two fields in one slot stands
 pub record SlotKept (S T : DeclaredSchema) (f g : DeclaredField) : Type 0 where
   pub shape : SameShape S T f.shape g.shape
@@ -90,11 +95,6 @@ abbrev pub TellsTable : DeclaredSchema → DeclaredSchema → ℕ → List Decla
 TellsTable S T t fs gs None = TellsOlds S T t fs gs None × TellsNews t (length fs) gs None
 TellsTable S T t fs gs (Some b) = TellsOlds S T t fs gs (Some b)
     ⊎ (TellsOlds S T t fs gs None × TellsNews t (length fs) gs (Some b))
-
--- of a condition that one breach of a type is about
-abbrev pub TellsOne : Type 0 → Breach → Option Breach → Type 0
-TellsOne P b None = P
-TellsOne P b (Some c) = (c ≡ b) × ¬ P
 
 -- of two types
 abbrev pub TellsBody : LaidSchema → LaidSchema → ℕ → ℕ → DeclaredBody → DeclaredBody → Option Breach → Type 0

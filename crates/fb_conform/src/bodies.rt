@@ -1,11 +1,11 @@
 //! Two types of one full name.
-ghost use Rattle.std.specs.Prelude.{◌≡◌, ◌<◌, length, true, false, None, Some};
-ghost use Rattle.fb_schema.specs.Schema.{body_at};
+ghost use Rattle.std.specs.Prelude.{◌≡◌, ◌↔◌, ◌<◌, length, IsTrue};
+ghost use Rattle.fb_schema.specs.Schema.{body_at, is_table};
 ghost use Rattle.fb_schema.specs.Seen.{body_seen};
 ghost use Rattle.fb_conform.specs.Order.{TellsType};
 ghost use Rattle.fb_conform.specs.Told.{TellsBody};
 
-use crate::breaches::Breach;
+use crate::breaches::{Breach, unless};
 use crate::members::{has_values, keeps_codes, same_numbers};
 use crate::slots::table_breach;
 use crate::structs::same_struct;
@@ -20,15 +20,26 @@ fn body_of(schema: &Schema, type_id: TypeId) -> &Body
     &schema.types()[type_id.0 as usize].body
 }
 
-fn unless(kept: bool, breach: Breach) -> Option<Breach>
-    ensures kept { kept ≡ true → result ≡ None }
-    ensures broken { kept ≡ false → result ≡ Some breach }
+/// Whether two types are both tables.
+pub(crate) fn both_tables(old: &Layout, new: &Layout, type_id: TypeId, twin: TypeId) -> bool
+    requires old { type_id.0 < length old.now.schema.types }
+    requires new { twin.0 < length new.now.schema.types }
+    ensures { IsTrue result ↔ (IsTrue (is_table (body_at old.now.schema type_id.0))
+        × IsTrue (is_table (body_at new.now.schema twin.0))) }
 {
-    if kept { None } else { Some(breach) }
+    match (body_of(old.schema(), type_id), body_of(new.schema(), twin)) {
+        (Body::Table(_), Body::Table(_)) => true,
+        _ => false,
+    }
 }
 
-/// The first breach of two types of one full name.
-fn body_breach(old: &Layout, new: &Layout, type_id: TypeId, twin: TypeId) -> Option<Breach>
+/// The first breach of two types of one full name, and the only one if they aren't both tables.
+pub(crate) fn body_breach(
+    old: &Layout,
+    new: &Layout,
+    type_id: TypeId,
+    twin: TypeId,
+) -> Option<Breach>
     requires old { type_id.0 < length old.now.schema.types }
     requires new { twin.0 < length new.now.schema.types }
     ensures { TellsBody old.now new.now type_id.0 twin.0

@@ -1,4 +1,6 @@
 //! What in a new schema breaks with the old one.
+ghost use Rattle.std.specs.Prelude.{◌≡◌, true, false, None, Some};
+
 use fb_schema::TypeId;
 use thiserror::Error;
 
@@ -50,8 +52,15 @@ pub enum Breach {
     UnionChanged(TypeId),
 }
 
+/// A breach, unless what it is about is kept.
+pub(crate) fn unless(kept: bool, breach: Breach) -> Option<Breach>
+    ensures kept { kept ≡ true → result ≡ None }
+    ensures broken { kept ≡ false → result ≡ Some breach }
+{
+    if kept { None } else { Some(breach) }
+}
+
 impl Breach {
-    ghost use Rattle.std.specs.Prelude.{◌≡◌};
     ghost use Rattle.fb_conform.specs.BreachTable.{number_of, name_of, type_of, slot_of};
 
     // The number and the name.

@@ -10,7 +10,8 @@ use crate::twins::same_name;
 use fb_layout::Layout;
 use fb_schema::TypeId;
 
-fn same_root(old: &Layout, new: &Layout) -> bool
+/// Whether the roots have one full name.
+pub(crate) fn same_root(old: &Layout, new: &Layout) -> bool
     ensures { IsTrue result ↔ SameName old.now.schema new.now.schema
         old.now.schema.root new.now.schema.root }
 {
@@ -19,7 +20,8 @@ fn same_root(old: &Layout, new: &Layout) -> bool
     same_name(was, is, was.root(), is.root())
 }
 
-fn same_identifier(old: &Layout, new: &Layout) -> bool
+/// Whether the schemas have one file identifier, or neither has one.
+pub(crate) fn same_identifier(old: &Layout, new: &Layout) -> bool
     ensures { IsTrue result ↔ (new.now.schema.identifier ≡ old.now.schema.identifier) }
 {
     new.schema().identifier() == old.schema().identifier()

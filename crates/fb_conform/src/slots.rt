@@ -1,11 +1,12 @@
 //! The slots of two tables.
-ghost use Rattle.std.specs.Prelude.{◌≡◌, ◌≤◌, ◌↔◌, IsTrue, length, map, option_map, option_copied};
+ghost use Rattle.std.specs.Prelude.{◌≡◌, ◌≤◌, ◌↔◌, true, IsTrue, length, map, option_map, option_copied};
 ghost use Rattle.fb_schema.specs.Schema.{body_at, slots_in};
 ghost use Rattle.fb_schema.specs.Seen.{field_seen};
 ghost use Rattle.fb_conform.specs.Conforms.{is_number, is_required, SameDefault};
 ghost use Rattle.fb_conform.specs.Told.{TellsSlot, TellsOld, TellsOlds, TellsNews, TellsTable};
+ghost use Rattle.fb_conform.specs.Listed.{TellsEach};
 
-use crate::breaches::Breach;
+use crate::breaches::{Breach, unless};
 use crate::shapes::same_shape;
 use fb_layout::Layout;
 use fb_schema::{FieldInfo, Kind, Schema, Shape, TypeId};
@@ -20,7 +21,7 @@ fn is_number(field: &FieldInfo) -> bool
 }
 
 /// Whether a field is required and in use.
-fn is_required(field: &FieldInfo) -> bool
+pub(crate) fn is_required(field: &FieldInfo) -> bool
     ensures { result ≡ is_required (field_seen field.now) }
 {
     field.required && !field.deprecated
@@ -36,6 +37,53 @@ fn same_default(was: &FieldInfo, is: &FieldInfo) -> bool
     was.default == is.default && was.optional == is.optional
 }
 
+/// Whether two fields are both required and in use, or neither is.
+fn same_required(was: &FieldInfo, is: &FieldInfo) -> bool
+    ensures { IsTrue result ↔ (is_required (field_seen is.now) ≡ is_required (field_seen was.now)) }
+{
+    is_required(is) == is_required(was)
+}
+
+/// Whether a field that was deprecated is it still.
+fn stays_deprecated(was: &FieldInfo, is: &FieldInfo) -> bool
+    ensures { IsTrue result ↔ ((field_seen was.now).deprecated ≡ true
+        → (field_seen is.now).deprecated ≡ true) }
+{
+    is.deprecated || !was.deprecated
+}
+
+/// The breaches of two fields in one slot, by number: each if it stands.
+#[derive(Clone, Copy)]
+pub(crate) struct SlotBreaches {
+    pub shape: Option<Breach>,
+    pub default: Option<Breach>,
+    pub required: Option<Breach>,
+    pub deprecated: Option<Breach>,
+}
+
+/// What of two fields in one slot is a breach.
+pub(crate) fn slot_breaches(
+    old: &Schema,
+    new: &Schema,
+    type_id: TypeId,
+    slot: u16,
+    was: &FieldInfo,
+    is: &FieldInfo,
+) -> SlotBreaches
+    ensures { TellsEach old.now new.now type_id slot (field_seen was.now) (field_seen is.now) result }
+{
+    let shape = same_shape(old, new, was.shape, is.shape);
+    let default = same_default(was, is);
+    let required = same_required(was, is);
+    let deprecated = stays_deprecated(was, is);
+    SlotBreaches {
+        shape: unless(shape, Breach::FieldTypeChanged(type_id, slot)),
+        default: unless(default, Breach::DefaultChanged(type_id, slot)),
+        required: unless(required, Breach::RequiredChanged(type_id, slot)),
+        deprecated: unless(deprecated, Breach::DeprecatedTakenBack(type_id, slot)),
+    }
+}
+
 /// The first breach of two fields in one slot.
 fn slot_breach(
     old: &Schema,
@@ -48,19 +96,12 @@ fn slot_breach(
     ensures { TellsSlot old.now new.now type_id.0 slot
         (field_seen was.now) (field_seen is.now) result }
 {
-    if !same_shape(old, new, was.shape, is.shape) {
-        return Some(Breach::FieldTypeChanged(type_id, slot));
-    }
-    if !same_default(was, is) {
-        return Some(Breach::DefaultChanged(type_id, slot));
-    }
-    if is_required(was) != is_required(is) {
-        return Some(Breach::RequiredChanged(type_id, slot));
-    }
-    if was.deprecated && !is.deprecated {
-        return Some(Breach::DeprecatedTakenBack(type_id, slot));
-    }
-    None
+    let found = slot_breaches(old, new, type_id, slot, was, is);
+    found
+        .shape
+        .or(found.default)
+        .or(found.required)
+        .or(found.deprecated)
 }
 
 /// The first breach of an old slot, which may be gone.

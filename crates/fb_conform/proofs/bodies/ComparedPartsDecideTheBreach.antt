@@ -10,7 +10,7 @@ use Rattle.fb_conform.specs.declared.breaches.Breach.TheVariants.{EnumChanged, U
 use Rattle.fb_conform.specs.Conforms.{CodeKept, KeepsValues, KeepsMembers}
 use Rattle.fb_conform.specs.Told.{TellsOne, TellsBody}
 
-one_told : (P : Type 0) (b : Breach) (kept : Bool) (o : Option Breach) → IsTrue kept ↔ P → (kept ≡ true → o ≡ None)
+pub one_told : (P : Type 0) (b : Breach) (kept : Bool) (o : Option Breach) → IsTrue kept ↔ P → (kept ≡ true → o ≡ None)
     → (kept ≡ false → o ≡ Some b) → TellsOne P b o
 one_told P b true o is none some = subst (λ (x : Option Breach). TellsOne P b x) (sym (none refl)) (is.0 refl)
 one_told P b false o is none some = subst (λ (x : Option Breach). TellsOne P b x) (sym (some refl))

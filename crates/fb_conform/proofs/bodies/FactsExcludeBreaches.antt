@@ -1,8 +1,8 @@
 -- The breaches of one type, from what is known of its two bodies.
-use Rattle.std.proofs.Common.{◌≡◌, ℕ, ◌+◌, ◌<◌, inl, inr, IsTrue, true, false, Option, None, Some, slice_get, refl, sym}
-use Rattle.std.proofs.Common.{ap, subst, arith}
-use Rattle.std.specs.Option.{option_map_or}
-use Rattle.fb_schema.specs.Schema.{DeclaredField, DeclaredBody, DeclaredSchema, body_at, slots_in, is_table}
+use Rattle.std.proofs.Common.{◌≡◌, ◌≢◌, ℕ, ◌+◌, ◌<◌, ◌⊎◌, inl, inr, IsTrue, true, false, [], Option, None, Some}
+use Rattle.std.proofs.Common.{slice_get, refl, sym, ap, subst, ◌∙◌, arith}
+use Rattle.fb_schema.specs.Schema.{DeclaredField, DeclaredBody, table_body, struct_body, enum_body, union_body}
+use Rattle.fb_schema.specs.Schema.{DeclaredSchema, body_at, slots_in, is_table}
 use Rattle.fb_layout.specs.Laid.{LaidSchema}
 use Rattle.fb_conform.specs.declared.breaches.Breach.{Breach}
 use Rattle.fb_conform.specs.declared.breaches.Breach.TheVariants.{RootChanged, IdentifierChanged, TypeGone, KindChanged}
@@ -14,57 +14,80 @@ use Rattle.fb_conform.specs.ByName.{SameShape}
 use Rattle.fb_conform.specs.Conforms.{SameKind, SameStruct, KeepsValues, KeepsMembers, SameDefault, is_required, Kept}
 use Rattle.fb_conform.specs.Order.{type_place, IsBeforeInType}
 use Rattle.fb_conform.specs.Twins.{Twins}
+use Rattle.fb_conform.proofs.bodies.EachBreachHasItsPlace.{place, place_same}
 use Rattle.fb_conform.proofs.twins.TypesAreFoundByTheirNames.{one_twin}
 
--- what is known of two bodies, as far as breaches below a number go
-pub record TypeFacts (A B : LaidSchema) (t u : ℕ) (x y : DeclaredBody) (n : ℕ) : Type 0 where
-  pub kind : 93 < n → SameKind x y
-  pub struct : 94 < n → SameStruct A B t u x y
-  pub values : 101 < n → KeepsValues x y
-  pub members : 102 < n → KeepsMembers A.schema B.schema x y
+-- the numbers below a number, those that are none but it, and all
+abbrev pub Below : ℕ → ℕ → Type 0
+Below n m = m < n
 
-pub record SlotFacts (S T : DeclaredSchema) (x y : DeclaredBody) (k n : ℕ) : Type 0 where
-  pub there : 95 < n → (f : DeclaredField) → IsTrue (is_table y) → slice_get (slots_in x) k ≡ Some f
+abbrev pub Not : ℕ → ℕ → Type 0
+Not n m = m ≢ n
+
+abbrev pub Each : ℕ → Type 0
+Each m = Unit {0}
+
+-- what is known of two bodies, as far as it is about breaches of some numbers
+pub record TypeFacts (A B : LaidSchema) (t u : ℕ) (x y : DeclaredBody) (Q : ℕ → Type 0) : Type 0 where
+  pub kind : Q 93 → SameKind x y
+  pub struct : Q 94 → SameStruct A B t u x y
+  pub values : Q 101 → KeepsValues x y
+  pub members : Q 102 → KeepsMembers A.schema B.schema x y
+
+pub record SlotFacts (S T : DeclaredSchema) (x y : DeclaredBody) (k : ℕ) (Q : ℕ → Type 0) : Type 0 where
+  pub there : Q 95 → (f : DeclaredField) → IsTrue (is_table y) → slice_get (slots_in x) k ≡ Some f
       → (g : DeclaredField) × (slice_get (slots_in y) k ≡ Some g)
-  pub shape : 96 < n → (f g : DeclaredField) → slice_get (slots_in x) k ≡ Some f → slice_get (slots_in y) k ≡ Some g
+  pub shape : Q 96 → (f g : DeclaredField) → slice_get (slots_in x) k ≡ Some f → slice_get (slots_in y) k ≡ Some g
       → SameShape S T f.shape g.shape
-  pub default : 97 < n → (f g : DeclaredField) → slice_get (slots_in x) k ≡ Some f → slice_get (slots_in y) k ≡ Some g
+  pub default : Q 97 → (f g : DeclaredField) → slice_get (slots_in x) k ≡ Some f → slice_get (slots_in y) k ≡ Some g
       → SameDefault f g
-  pub required : 98 < n → (f g : DeclaredField) → slice_get (slots_in x) k ≡ Some f → slice_get (slots_in y) k ≡ Some g
+  pub required : Q 98 → (f g : DeclaredField) → slice_get (slots_in x) k ≡ Some f → slice_get (slots_in y) k ≡ Some g
       → is_required g ≡ is_required f
-  pub deprecated : 99 < n → (f g : DeclaredField) → slice_get (slots_in x) k ≡ Some f
+  pub deprecated : Q 99 → (f g : DeclaredField) → slice_get (slots_in x) k ≡ Some f
       → slice_get (slots_in y) k ≡ Some g → f.deprecated ≡ true → g.deprecated ≡ true
-  pub new : 100 < n → (g : DeclaredField) → IsTrue (is_table x) → slice_get (slots_in x) k ≡ None
+  pub new : Q 100 → (g : DeclaredField) → IsTrue (is_table x) → slice_get (slots_in x) k ≡ None
       → slice_get (slots_in y) k ≡ Some g → is_required g ≡ false
 
-abbrev pub RowFacts : LaidSchema → LaidSchema → ℕ → ℕ → DeclaredBody → DeclaredBody → ℕ → Option ℕ → Type 0
-RowFacts A B t u x y n None = TypeFacts A B t u x y n
-RowFacts A B t u x y n (Some k) = SlotFacts A.schema B.schema x y k n
+abbrev pub RowFacts : LaidSchema → LaidSchema → ℕ → ℕ → DeclaredBody → DeclaredBody → (ℕ → Type 0) → Option ℕ
+    → Type 0
+RowFacts A B t u x y Q None = TypeFacts A B t u x y Q
+RowFacts A B t u x y Q (Some k) = SlotFacts A.schema B.schema x y k Q
 
-abbrev pub place : Option ℕ → ℕ
-place o = option_map_or (λ k. k + 1) o 0
+-- one of two bodies that aren't both tables is none, and has no slots
+abbrev pub NoTable : DeclaredBody → Type 0
+NoTable x = (slots_in x ≡ []) × (IsTrue (is_table x) → ⊥)
 
-place_same : (o p : Option ℕ) → place o ≡ place p → o ≡ p
-place_same None None e = refl
-place_same None (Some k) e = absurd (omega arith)
-place_same (Some j) None e = absurd (omega arith)
-place_same (Some j) (Some k) e = let same : j ≡ k = omega arith in ap Some same
+pub no_table : (x y : DeclaredBody) → (IsTrue (is_table x) → IsTrue (is_table y) → ⊥) → NoTable x ⊎ NoTable y
+no_table (table_body fs) (table_body gs) never = absurd (never refl refl)
+no_table (table_body fs) (struct_body gs n) never = inr (refl, λ (e : false ≡ true). cc)
+no_table (table_body fs) (enum_body c marks others) never = inr (refl, λ (e : false ≡ true). cc)
+no_table (table_body fs) (union_body ns) never = inr (refl, λ (e : false ≡ true). cc)
+no_table (struct_body fs m) y never = inl (refl, λ (e : false ≡ true). cc)
+no_table (enum_body b flags values) y never = inl (refl, λ (e : false ≡ true). cc)
+no_table (union_body ms) y never = inl (refl, λ (e : false ≡ true). cc)
 
--- no breach has a number of 103 or more
-small : (r : Breach) → number_of r < 103
-small RootChanged = omega arith
-small IdentifierChanged = omega arith
-small (TypeGone t) = omega arith
-small (KindChanged t) = omega arith
-small (StructChanged t) = omega arith
-small (SlotGone t k) = omega arith
-small (FieldTypeChanged t k) = omega arith
-small (DefaultChanged t k) = omega arith
-small (RequiredChanged t k) = omega arith
-small (DeprecatedTakenBack t k) = omega arith
-small (NewRequired t k) = omega arith
-small (EnumChanged t) = omega arith
-small (UnionChanged t) = omega arith
+no_slot : (x : DeclaredBody) (k : ℕ) (f : DeclaredField) → slots_in x ≡ [] → slice_get (slots_in x) k ≡ Some f → ⊥
+no_slot x k f none h = let bad : None ≡ Some f = ap (λ xs. slice_get xs k) (sym none) ∙ h in cc
+
+-- so no breach of a slot stands
+pub no_slots : (S T : DeclaredSchema) (x y : DeclaredBody) (k : ℕ) (Q : ℕ → Type 0) → NoTable x ⊎ NoTable y
+    → SlotFacts S T x y k Q
+no_slots S T x y k Q (inl none) = record {
+  there = λ less f table h. absurd (no_slot x k f none.0 h);
+  shape = λ less f g h i. absurd (no_slot x k f none.0 h);
+  default = λ less f g h i. absurd (no_slot x k f none.0 h);
+  required = λ less f g h i. absurd (no_slot x k f none.0 h);
+  deprecated = λ less f g h i. absurd (no_slot x k f none.0 h);
+  new = λ less g table h i. absurd (none.1 table);
+}
+no_slots S T x y k Q (inr none) = record {
+  there = λ less f table h. absurd (none.1 table);
+  shape = λ less f g h i. absurd (no_slot y k g none.0 i);
+  default = λ less f g h i. absurd (no_slot y k g none.0 i);
+  required = λ less f g h i. absurd (no_slot y k g none.0 i);
+  deprecated = λ less f g h i. absurd (no_slot y k g none.0 i);
+  new = λ less g table h i. absurd (no_slot y k g none.0 i);
+}
 
 module _ (A B : LaidSchema) (t u : ℕ) (twins : Twins A.schema B.schema t u) where
   -- the type and its only twin
@@ -81,55 +104,62 @@ module _ (A B : LaidSchema) (t u : ℕ) (twins : Twins A.schema B.schema t u) wh
   abbrev Y : ℕ → DeclaredBody
   Y n = body_at B.schema n
 
-  row_kept : (n : ℕ) (r : Breach) → RowFacts A B t u (X t) (Y u) n (slot_of r) → type_place r ≡ t + 1 → number_of r < n
-      → Kept A B r
-  row_kept n RootChanged facts e less = absurd (omega arith)
-  row_kept n IdentifierChanged facts e less = absurd (omega arith)
-  row_kept n (TypeGone v) facts e less = λ known. let same : v.0 ≡ t = omega (arith, e) in
+  row_kept : (Q : ℕ → Type 0) (r : Breach) → RowFacts A B t u (X t) (Y u) Q (slot_of r) → type_place r ≡ t + 1
+      → Q (number_of r) → Kept A B r
+  row_kept Q RootChanged facts e less = absurd (omega arith)
+  row_kept Q IdentifierChanged facts e less = absurd (omega arith)
+  row_kept Q (TypeGone v) facts e less = λ known. let same : v.0 ≡ t = omega (arith, e) in
       (u, subst (λ (m : ℕ). Twins A.schema B.schema m u) (sym same) twins)
-  row_kept n (KindChanged v) facts e less = λ w other. at_type (λ m w. SameKind (X m) (Y w)) (facts.kind less) v.0 e w
+  row_kept Q (KindChanged v) facts e less = λ w other. at_type (λ m w. SameKind (X m) (Y w)) (facts.kind less) v.0 e w
       other
-  row_kept n (StructChanged v) facts e less =
+  row_kept Q (StructChanged v) facts e less =
       λ w other. at_type (λ m w. SameStruct A B m w (X m) (Y w)) (facts.struct less) v.0 e w other
-  row_kept n (EnumChanged v) facts e less = λ w other. at_type (λ m w. KeepsValues (X m) (Y w)) (facts.values less) v.0
+  row_kept Q (EnumChanged v) facts e less = λ w other. at_type (λ m w. KeepsValues (X m) (Y w)) (facts.values less) v.0
       e w other
-  row_kept n (UnionChanged v) facts e less = λ w other. at_type (λ m w. KeepsMembers A.schema B.schema (X m) (Y w))
+  row_kept Q (UnionChanged v) facts e less = λ w other. at_type (λ m w. KeepsMembers A.schema B.schema (X m) (Y w))
       (facts.members less) v.0 e w other
-  row_kept n (SlotGone v k) facts e less = λ w f other table at.
+  row_kept Q (SlotGone v k) facts e less = λ w f other table at.
       at_type (λ m w. (f : DeclaredField) → IsTrue (is_table (Y w)) → slice_get (slots_in (X m)) k ≡ Some f
       → (g : DeclaredField) × (slice_get (slots_in (Y w)) k ≡ Some g)) (facts.there less) v.0 e w other f table at
-  row_kept n (FieldTypeChanged v k) facts e less = λ f g pair.
+  row_kept Q (FieldTypeChanged v k) facts e less = λ f g pair.
       at_type (λ m w. (f g : DeclaredField) → slice_get (slots_in (X m)) k ≡ Some f → slice_get (slots_in (Y w)) k
       ≡ Some g → SameShape A.schema B.schema f.shape g.shape) (facts.shape less) v.0 e pair.type pair.twins f g
       pair.old pair.new
-  row_kept n (DefaultChanged v k) facts e less = λ f g pair.
+  row_kept Q (DefaultChanged v k) facts e less = λ f g pair.
       at_type (λ m w. (f g : DeclaredField) → slice_get (slots_in (X m)) k ≡ Some f → slice_get (slots_in (Y w)) k
       ≡ Some g → SameDefault f g) (facts.default less) v.0 e pair.type pair.twins f g pair.old pair.new
-  row_kept n (RequiredChanged v k) facts e less = λ f g pair.
+  row_kept Q (RequiredChanged v k) facts e less = λ f g pair.
       at_type (λ m w. (f g : DeclaredField) → slice_get (slots_in (X m)) k ≡ Some f → slice_get (slots_in (Y w)) k
       ≡ Some g → is_required g ≡ is_required f) (facts.required less) v.0 e pair.type pair.twins f g pair.old
       pair.new
-  row_kept n (DeprecatedTakenBack v k) facts e less = λ f g pair.
+  row_kept Q (DeprecatedTakenBack v k) facts e less = λ f g pair.
       at_type (λ m w. (f g : DeclaredField) → slice_get (slots_in (X m)) k ≡ Some f → slice_get (slots_in (Y w)) k
       ≡ Some g → f.deprecated ≡ true → g.deprecated ≡ true) (facts.deprecated less) v.0 e pair.type pair.twins f g
       pair.old pair.new
-  row_kept n (NewRequired v k) facts e less = λ w g other table none there.
+  row_kept Q (NewRequired v k) facts e less = λ w g other table none there.
       at_type (λ m w. (g : DeclaredField) → IsTrue (is_table (X m)) → slice_get (slots_in (X m)) k ≡ None
       → slice_get (slots_in (Y w)) k ≡ Some g → is_required g ≡ false) (facts.new less) v.0 e w other g table none
       there
 
+  -- a breach in one place doesn't stand
+  pub place_kept : (Q : ℕ → Type 0) (o : Option ℕ) → RowFacts A B t u (X t) (Y u) Q o → (r : Breach)
+      → type_place r ≡ t + 1 → place (slot_of r) ≡ place o → Q (number_of r) → Kept A B r
+  place_kept Q o facts r e same among =
+      row_kept Q r (subst (λ (p : Option ℕ). RowFacts A B t u (X t) (Y u) Q p) (sym (place_same (slot_of r) o same))
+      facts) e among
+
   -- no breach of the type stands
-  pub all_kept : ((o : Option ℕ) → RowFacts A B t u (X t) (Y u) 103 o) → (r : Breach) → type_place r ≡ t + 1
+  pub all_kept : ((o : Option ℕ) → RowFacts A B t u (X t) (Y u) Each o) → (r : Breach) → type_place r ≡ t + 1
       → Kept A B r
-  all_kept facts r e = row_kept 103 r (facts (slot_of r)) e (small r)
+  all_kept facts r e = row_kept Each r (facts (slot_of r)) e tt
 
   -- none before a breach stands
-  pub before_kept : (b : Breach) → ((o : Option ℕ) → place o < place (slot_of b) → RowFacts A B t u (X t) (Y u) 103 o)
-      → RowFacts A B t u (X t) (Y u) (number_of b) (slot_of b) → (r : Breach) → type_place r ≡ t + 1
+  pub before_kept : (b : Breach) → ((o : Option ℕ) → place o < place (slot_of b) → RowFacts A B t u (X t) (Y u) Each o)
+      → RowFacts A B t u (X t) (Y u) (Below (number_of b)) (slot_of b) → (r : Breach) → type_place r ≡ t + 1
       → IsBeforeInType r b → Kept A B r
   before_kept b earlier here r e before = elim before [
-    | inl less ↦ row_kept 103 r (earlier (slot_of r) less) e (small r)
-    | inr both ↦ row_kept (number_of b) r
-        (subst (λ (o : Option ℕ). RowFacts A B t u (X t) (Y u) (number_of b) o)
+    | inl less ↦ row_kept Each r (earlier (slot_of r) less) e tt
+    | inr both ↦ row_kept (Below (number_of b)) r
+        (subst (λ (o : Option ℕ). RowFacts A B t u (X t) (Y u) (Below (number_of b)) o)
         (sym (place_same (slot_of r) (slot_of b) both.0)) here) e both.1
   ]

@@ -20,7 +20,7 @@ module _ (A B : LaidSchema) where
   abbrev pub KeptBelow : ℕ → Type 0
   KeptBelow n = (r : Breach) → type_place r < n + 1 → Kept A B r
 
-  numbered : (r : Breach) → 90 ≤ number_of r
+  pub numbered : (r : Breach) → 90 ≤ number_of r
   numbered RootChanged = omega arith
   numbered IdentifierChanged = omega arith
   numbered (TypeGone t) = omega arith
@@ -107,7 +107,7 @@ module _ (A B : LaidSchema) where
   }
 
   -- past the last type there is nothing to keep
-  past_kept : (r : Breach) → length A.schema.types < type_place r → Kept A B r
+  pub past_kept : (r : Breach) → length A.schema.types < type_place r → Kept A B r
   past_kept RootChanged past = absurd (omega (arith, past))
   past_kept IdentifierChanged past = absurd (omega (arith, past))
   past_kept (TypeGone t) past = λ known. absurd (omega (arith, past, known))

@@ -1,0 +1,3 @@
+-- What the proofs of src/listing.rt use.
+pub mod BreachesAreListedInOrder
+pub mod EachPlaceIsListed
