@@ -3,7 +3,6 @@ use crate::excerpts::push_excerpt;
 use crate::pages::Page;
 use crate::sources::{Source, push_place};
 use serde_json::Value;
-use std::alloc::AllocError;
 use std::str;
 
 // No text is a value whose brackets are nested deeper.
@@ -79,19 +78,20 @@ fn depth_of(text: &[u8]) -> usize {
 }
 
 /// Adds where a text isn't JSON, and why.
-pub(crate) fn push_bad_json(page: &mut Page, source: &Source<'_>) -> Result<(), AllocError> {
+pub(crate) fn push_bad_json(page: &mut Page, source: &Source<'_>) {
     let text = source.bytes;
     let Some(offset) = bad_offset(page, text) else {
-        return page.push_line("memory ran out while the JSON text was read");
+        page.push_line("memory ran out while the JSON text was read");
+        return;
     };
-    push_place(page, source, offset)?;
+    push_place(page, source, offset);
     let before = text.get(..offset).unwrap_or(text);
     if str::from_utf8(text).is_err() {
-        page.push_line("the text isn't UTF-8 from here on")?;
+        page.push_line("the text isn't UTF-8 from here on");
     } else if depth_of(before) >= DEEPEST {
-        page.push_line("objects and arrays are nested deeper than 127")?;
+        page.push_line("objects and arrays are nested deeper than 127");
     } else {
-        page.push_line(sentence_at(text.get(offset..).unwrap_or(&[]), before))?;
+        page.push_line(sentence_at(text.get(offset..).unwrap_or(&[]), before));
     }
-    push_excerpt(page, text, offset)
+    push_excerpt(page, text, offset);
 }

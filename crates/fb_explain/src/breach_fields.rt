@@ -3,7 +3,6 @@ use crate::pages::Page;
 use crate::shapes::{field_at, push_default, push_shape, type_name};
 use crate::sides::Sides;
 use fb_schema::{FieldInfo, Schema, TypeId};
-use std::alloc::AllocError;
 
 /// What of a field is compared.
 #[derive(Clone, Copy)]
@@ -22,12 +21,7 @@ fn front_of(compared: Compared) -> &'static str {
     }
 }
 
-fn push_compared(
-    page: &mut Page,
-    schema: &Schema,
-    field: &FieldInfo,
-    compared: Compared,
-) -> Result<(), AllocError> {
+fn push_compared(page: &mut Page, schema: &Schema, field: &FieldInfo, compared: Compared) {
     match compared {
         Compared::Type => push_shape(page, schema, field.shape),
         Compared::Default => push_default(page, schema, field),
@@ -40,11 +34,11 @@ fn push_compared(
 
 impl<'s, 't> Sides<'s, 't> {
     /// Adds a field's name behind its type's.
-    fn push_field_name(&self, page: &mut Page, old: TypeId, name: &str) -> Result<(), AllocError> {
-        page.push_cut(type_name(self.old.schema(), old).as_bytes())?;
-        page.push_str(".")?;
-        page.push_cut(name.as_bytes())?;
-        page.push_str(": ")
+    fn push_field_name(&self, page: &mut Page, old: TypeId, name: &str) {
+        page.push_cut(type_name(self.old.schema(), old).as_bytes());
+        page.push_str(".");
+        page.push_cut(name.as_bytes());
+        page.push_str(": ");
     }
 
     /// Adds what a field was and is.
@@ -54,58 +48,48 @@ impl<'s, 't> Sides<'s, 't> {
         old: TypeId,
         slot: u16,
         compared: Compared,
-    ) -> Result<(), AllocError> {
+    ) {
         let Some(twin) = self.twin(old) else {
-            return Ok(());
+            return;
         };
         let Some(was) = field_at(self.old.schema(), old, slot) else {
-            return Ok(());
+            return;
         };
         let Some(is) = field_at(self.new.schema(), twin.new, slot) else {
-            return Ok(());
+            return;
         };
-        self.push_field_name(page, old, was.name.as_str())?;
-        page.push_str(front_of(compared))?;
-        push_compared(page, self.old.schema(), was, compared)?;
-        self.old.push_field_line(page, old, was.name.as_str())?;
-        page.push_str(", is ")?;
-        push_compared(page, self.new.schema(), is, compared)?;
-        self.new.push_field_line(page, twin.new, is.name.as_str())?;
-        page.end_line()
+        self.push_field_name(page, old, was.name.as_str());
+        page.push_str(front_of(compared));
+        push_compared(page, self.old.schema(), was, compared);
+        self.old.push_field_line(page, old, was.name.as_str());
+        page.push_str(", is ");
+        push_compared(page, self.new.schema(), is, compared);
+        self.new.push_field_line(page, twin.new, is.name.as_str());
+        page.end_line();
     }
 
     /// Adds that a slot is gone.
-    pub(crate) fn push_gone(
-        &self,
-        page: &mut Page,
-        old: TypeId,
-        slot: u16,
-    ) -> Result<(), AllocError> {
+    pub(crate) fn push_gone(&self, page: &mut Page, old: TypeId, slot: u16) {
         let Some(was) = field_at(self.old.schema(), old, slot) else {
-            return Ok(());
+            return;
         };
-        self.push_field_name(page, old, was.name.as_str())?;
-        page.push_str("is gone")?;
-        self.old.push_field_line(page, old, was.name.as_str())?;
-        page.push_line("; a field is never removed, but marked (deprecated)")
+        self.push_field_name(page, old, was.name.as_str());
+        page.push_str("is gone");
+        self.old.push_field_line(page, old, was.name.as_str());
+        page.push_line("; a field is never removed, but marked (deprecated)");
     }
 
     /// Adds that a new field is required.
-    pub(crate) fn push_new_required(
-        &self,
-        page: &mut Page,
-        old: TypeId,
-        slot: u16,
-    ) -> Result<(), AllocError> {
+    pub(crate) fn push_new_required(&self, page: &mut Page, old: TypeId, slot: u16) {
         let Some(twin) = self.twin(old) else {
-            return Ok(());
+            return;
         };
         let Some(is) = field_at(self.new.schema(), twin.new, slot) else {
-            return Ok(());
+            return;
         };
-        self.push_field_name(page, old, is.name.as_str())?;
-        page.push_str("is new and required")?;
-        self.new.push_field_line(page, twin.new, is.name.as_str())?;
-        page.push_line("; old data doesn't have it")
+        self.push_field_name(page, old, is.name.as_str());
+        page.push_str("is new and required");
+        self.new.push_field_line(page, twin.new, is.name.as_str());
+        page.push_line("; old data doesn't have it");
     }
 }

@@ -5,7 +5,6 @@ use crate::shapes::{members_of, type_name, values_of};
 use crate::sides::{Sides, Twin};
 use fb_conform::Breach;
 use fb_schema::{Schema, TypeId};
-use std::alloc::AllocError;
 
 fn kind_of_type(schema: &Schema, number: TypeId) -> &'static str {
     match schema.types().get(number.0 as usize) {
@@ -16,7 +15,7 @@ fn kind_of_type(schema: &Schema, number: TypeId) -> &'static str {
     }
 }
 
-fn push_identifier(page: &mut Page, schema: &Schema) -> Result<(), AllocError> {
+fn push_identifier(page: &mut Page, schema: &Schema) {
     match schema.identifier() {
         Some(identifier) => page.push_name(&identifier),
         None => page.push_str("none"),
@@ -25,46 +24,46 @@ fn push_identifier(page: &mut Page, schema: &Schema) -> Result<(), AllocError> {
 
 impl<'s, 't> Sides<'s, 't> {
     /// Adds a type's name and where each schema declares it.
-    fn push_type(&self, page: &mut Page, old: TypeId, what: &str) -> Result<(), AllocError> {
-        page.push_name(type_name(self.old.schema(), old).as_bytes())?;
-        page.push_str(what)?;
-        self.old.push_type_line(page, old)?;
+    fn push_type(&self, page: &mut Page, old: TypeId, what: &str) {
+        page.push_name(type_name(self.old.schema(), old).as_bytes());
+        page.push_str(what);
+        self.old.push_type_line(page, old);
         if let Some(twin) = self.twin(old) {
-            page.push_str(" ->")?;
-            self.new.push_type_line(page, twin.new)?;
+            page.push_str(" ->");
+            self.new.push_type_line(page, twin.new);
         }
-        page.end_line()
+        page.end_line();
     }
 
-    fn push_root(&self, page: &mut Page) -> Result<(), AllocError> {
+    fn push_root(&self, page: &mut Page) {
         let (old, new) = (self.old.schema(), self.new.schema());
-        page.push_str("the root was ")?;
-        page.push_name(type_name(old, old.root()).as_bytes())?;
-        page.push_str(", is ")?;
-        page.push_name(type_name(new, new.root()).as_bytes())?;
-        page.end_line()
+        page.push_str("the root was ");
+        page.push_name(type_name(old, old.root()).as_bytes());
+        page.push_str(", is ");
+        page.push_name(type_name(new, new.root()).as_bytes());
+        page.end_line();
     }
 
-    fn push_identifiers(&self, page: &mut Page) -> Result<(), AllocError> {
-        page.push_str("the file identifier was ")?;
-        push_identifier(page, self.old.schema())?;
-        page.push_str(", is ")?;
-        push_identifier(page, self.new.schema())?;
-        page.end_line()
+    fn push_identifiers(&self, page: &mut Page) {
+        page.push_str("the file identifier was ");
+        push_identifier(page, self.old.schema());
+        page.push_str(", is ");
+        push_identifier(page, self.new.schema());
+        page.end_line();
     }
 
-    fn push_kinds(&self, page: &mut Page, old: TypeId) -> Result<(), AllocError> {
+    fn push_kinds(&self, page: &mut Page, old: TypeId) {
         let Some(twin) = self.twin(old) else {
-            return Ok(());
+            return;
         };
-        page.push_name(type_name(self.old.schema(), old).as_bytes())?;
-        page.push_str(" was ")?;
-        page.push_str(kind_of_type(self.old.schema(), old))?;
-        self.old.push_type_line(page, old)?;
-        page.push_str(", is ")?;
-        page.push_str(kind_of_type(self.new.schema(), twin.new))?;
-        self.new.push_type_line(page, twin.new)?;
-        page.end_line()
+        page.push_name(type_name(self.old.schema(), old).as_bytes());
+        page.push_str(" was ");
+        page.push_str(kind_of_type(self.old.schema(), old));
+        self.old.push_type_line(page, old);
+        page.push_str(", is ");
+        page.push_str(kind_of_type(self.new.schema(), twin.new));
+        self.new.push_type_line(page, twin.new);
+        page.end_line();
     }
 }
 
@@ -75,61 +74,53 @@ fn code_at(index: usize) -> Option<u8> {
 
 impl<'s, 't> Sides<'s, 't> {
     /// Adds what of an enum is gone or has another number.
-    fn push_enum(&self, page: &mut Page, old: TypeId) -> Result<(), AllocError> {
-        self.push_type(page, old, " has lost a value, or its type or mark changed")?;
+    fn push_enum(&self, page: &mut Page, old: TypeId) {
+        self.push_type(page, old, " has lost a value, or its type or mark changed");
         let Some(twin) = self.twin(old) else {
-            return Ok(());
+            return;
         };
         for (name, number) in values_of(self.old.schema(), old) {
             let is = self.new.schema().number_of_name(twin.new, name.as_str());
             if is != Some(*number) {
-                push_renumbered(page, name.as_str(), *number, is)?;
+                push_renumbered(page, name.as_str(), *number, is);
             }
         }
-        Ok(())
     }
 
     /// Adds a member of a union that is gone or names another table.
-    fn push_member(
-        &self,
-        page: &mut Page,
-        twin: Twin,
-        code: u8,
-        table: TypeId,
-    ) -> Result<(), AllocError> {
+    fn push_member(&self, page: &mut Page, twin: Twin, code: u8, table: TypeId) {
         let was = type_name(self.old.schema(), table);
         let is = match self.new.schema().member_by_code(twin.new, code) {
             Some(table) => type_name(self.new.schema(), table),
             None => "gone",
         };
         if was == is {
-            return Ok(());
+            return;
         }
-        page.push_str("  member ")?;
-        page.push_number(u64::from(code))?;
-        page.push_str(" was ")?;
-        page.push_cut(was.as_bytes())?;
-        page.push_str(", is ")?;
-        page.push_cut(is.as_bytes())?;
-        page.end_line()
+        page.push_str("  member ");
+        page.push_number(u64::from(code));
+        page.push_str(" was ");
+        page.push_cut(was.as_bytes());
+        page.push_str(", is ");
+        page.push_cut(is.as_bytes());
+        page.end_line();
     }
 
     /// Adds what of a union is gone or names another table.
-    fn push_union(&self, page: &mut Page, old: TypeId) -> Result<(), AllocError> {
-        self.push_type(page, old, " has lost a member")?;
+    fn push_union(&self, page: &mut Page, old: TypeId) {
+        self.push_type(page, old, " has lost a member");
         let Some(twin) = self.twin(old) else {
-            return Ok(());
+            return;
         };
         for (index, (_, table)) in members_of(self.old.schema(), old).iter().enumerate() {
             if let Some(code) = code_at(index) {
-                self.push_member(page, twin, code, *table)?;
+                self.push_member(page, twin, code, *table);
             }
         }
-        Ok(())
     }
 
     /// Adds a breach, with what was and what is.
-    pub(crate) fn push_breach(&self, page: &mut Page, breach: Breach) -> Result<(), AllocError> {
+    pub(crate) fn push_breach(&self, page: &mut Page, breach: Breach) {
         match breach {
             Breach::RootChanged => self.push_root(page),
             Breach::IdentifierChanged => self.push_identifiers(page),
@@ -162,22 +153,17 @@ impl<'s, 't> Sides<'s, 't> {
     }
 }
 
-fn push_renumbered(
-    page: &mut Page,
-    name: &str,
-    was: i128,
-    is: Option<i128>,
-) -> Result<(), AllocError> {
-    page.push_str("  ")?;
-    page.push_name(name.as_bytes())?;
-    page.push_str(" was ")?;
-    page.push_integer(was)?;
+fn push_renumbered(page: &mut Page, name: &str, was: i128, is: Option<i128>) {
+    page.push_str("  ");
+    page.push_name(name.as_bytes());
+    page.push_str(" was ");
+    page.push_integer(was);
     match is {
         Some(is) => {
-            page.push_str(", is ")?;
-            page.push_integer(is)?;
+            page.push_str(", is ");
+            page.push_integer(is);
         }
-        None => page.push_str(", is gone")?,
+        None => page.push_str(", is gone"),
     }
-    page.end_line()
+    page.end_line();
 }

@@ -6,7 +6,6 @@ use crate::pages::Page;
 use fb_layout::Layout;
 use fb_read::fault_path;
 use fb_value::{Limits, ReadFault};
-use std::alloc::AllocError;
 
 /// The bytes of a number at an offset.
 fn word_at(bytes: &[u8], offset: usize) -> Option<[u8; 4]> {
@@ -17,43 +16,47 @@ fn word_at(bytes: &[u8], offset: usize) -> Option<[u8; 4]> {
 }
 
 /// Adds texts, each with a number behind it, and ends the line behind the last text.
-fn push_sentence(page: &mut Page, parts: &[(&str, u64)], rest: &str) -> Result<(), AllocError> {
+fn push_sentence(page: &mut Page, parts: &[(&str, u64)], rest: &str) {
     for (text, number) in parts {
-        page.push_str(text)?;
-        page.push_number(*number)?;
+        page.push_str(text);
+        page.push_number(*number);
     }
-    page.push_line(rest)
+    page.push_line(rest);
 }
 
 /// Adds what is wrong with a table's vtable.
-fn push_vtable(page: &mut Page, bytes: &[u8], offset: u64) -> Result<(), AllocError> {
+fn push_vtable(page: &mut Page, bytes: &[u8], offset: u64) {
     let table = ("the vtable of the table at ", offset);
     let end = (", and the buffer ends at ", bytes.len() as u64);
     let Some(word) = word_at(bytes, offset as usize) else {
-        return push_sentence(
+        push_sentence(
             page,
             &[table],
             " can't be found: the table ends past the buffer",
         );
+        return;
     };
     let place = i128::from(offset) - i128::from(i32::from_le_bytes(word));
     let Ok(start) = u64::try_from(place) else {
-        return push_sentence(page, &[table], " would be before the buffer");
+        push_sentence(page, &[table], " would be before the buffer");
+        return;
     };
     let start_part = (" would be at ", start);
     if start % 2 != 0 {
-        return push_sentence(page, &[table, start_part], ", which isn't even");
+        push_sentence(page, &[table, start_part], ", which isn't even");
+        return;
     }
     match bytes.get(start as usize..) {
         Some([low, high, ..]) => {
             let size = u16::from_le_bytes([*low, *high]);
             let size_part = (" and have a size of ", u64::from(size));
             if size % 2 != 0 || size < 4 {
-                return push_sentence(
+                push_sentence(
                     page,
                     &[table, start_part, size_part],
                     ", where an even number from 4 on is right",
                 );
+                return;
             }
             push_sentence(page, &[table, start_part, size_part, end], "")
         }
@@ -61,17 +64,17 @@ fn push_vtable(page: &mut Page, bytes: &[u8], offset: u64) -> Result<(), AllocEr
     }
 }
 
-fn push_identifiers(page: &mut Page, layout: &Layout, bytes: &[u8]) -> Result<(), AllocError> {
-    page.push_str("the file identifier is ")?;
-    page.push_name(bytes.get(4..8).unwrap_or(&[]))?;
+fn push_identifiers(page: &mut Page, layout: &Layout, bytes: &[u8]) {
+    page.push_str("the file identifier is ");
+    page.push_name(bytes.get(4..8).unwrap_or(&[]));
     if let Some(identifier) = layout.schema().identifier() {
-        page.push_str(", the schema's is ")?;
-        page.push_name(&identifier)?;
+        page.push_str(", the schema's is ");
+        page.push_name(&identifier);
     }
-    page.push_line(" (--raw-binary skips this check)")
+    page.push_line(" (--raw-binary skips this check)");
 }
 
-fn push_byte(page: &mut Page, bytes: &[u8], offset: u64, rest: &str) -> Result<(), AllocError> {
+fn push_byte(page: &mut Page, bytes: &[u8], offset: u64, rest: &str) {
     match bytes.get(offset as usize) {
         Some(byte) => push_sentence(
             page,
@@ -83,13 +86,7 @@ fn push_byte(page: &mut Page, bytes: &[u8], offset: u64, rest: &str) -> Result<(
 }
 
 /// Adds a sentence on the rule that a buffer breaks, with the numbers that break it.
-fn push_rule(
-    page: &mut Page,
-    layout: &Layout,
-    limits: Limits,
-    bytes: &[u8],
-    fault: ReadFault,
-) -> Result<(), AllocError> {
+fn push_rule(page: &mut Page, layout: &Layout, limits: Limits, bytes: &[u8], fault: ReadFault) {
     let end = (" ends past the buffer, which ends at ", bytes.len() as u64);
     match fault {
         ReadFault::Short(len) => push_sentence(
@@ -159,23 +156,18 @@ fn push_rule(
 }
 
 /// Adds the path to what is wrong behind a buffer's header.
-fn push_fault_path(
-    page: &mut Page,
-    layout: &Layout,
-    sources: &Sources<'_>,
-) -> Result<(), AllocError> {
+fn push_fault_path(page: &mut Page, layout: &Layout, sources: &Sources<'_>) {
     let steps = fault_path(
         page.alloc(),
         layout,
         sources.input.bytes,
         sources.limits,
         sources.raw_binary,
-    )?;
-    if let Some(steps) = steps {
-        push_path(page, layout, steps.as_slice())?;
-        page.push_str(": ")?;
+    );
+    if let Some(Some(steps)) = page.keep(steps) {
+        push_path(page, layout, steps.as_slice());
+        page.push_str(": ");
     }
-    Ok(())
 }
 
 /// Adds what is wrong with a buffer.
@@ -184,14 +176,13 @@ pub(crate) fn push_buffer_fault(
     layout: &Layout,
     sources: &Sources<'_>,
     fault: ReadFault,
-) -> Result<(), AllocError> {
+) {
     let source = &sources.input;
-    page.push_str(source.path)?;
-    page.push_str(": ")?;
-    push_fault_path(page, layout, sources)?;
-    push_rule(page, layout, sources.limits, source.bytes, fault)?;
-    match fault.offset() {
-        Some(offset) => push_dump(page, source.bytes, offset as usize),
-        None => Ok(()),
+    page.push_str(source.path);
+    page.push_str(": ");
+    push_fault_path(page, layout, sources);
+    push_rule(page, layout, sources.limits, source.bytes, fault);
+    if let Some(offset) = fault.offset() {
+        push_dump(page, source.bytes, offset as usize);
     }
 }

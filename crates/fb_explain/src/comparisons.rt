@@ -5,7 +5,6 @@ use crate::sources::Source;
 use fb_conform::Breach;
 use fb_syntax::parse;
 use flatc_tool::schema_of;
-use std::alloc::AllocError;
 
 /// What to do with two schemas side by side.
 #[derive(Clone, Copy)]
@@ -14,7 +13,7 @@ pub(crate) enum Asked {
     Warnings,
 }
 
-fn push_asked(page: &mut Page, sides: &Sides<'_, '_>, asked: Asked) -> Result<(), AllocError> {
+fn push_asked(page: &mut Page, sides: &Sides<'_, '_>, asked: Asked) {
     match asked {
         Asked::Breach(breach) => sides.push_breach(page, breach),
         Asked::Warnings => sides.push_warnings(page),
@@ -22,23 +21,18 @@ fn push_asked(page: &mut Page, sides: &Sides<'_, '_>, asked: Asked) -> Result<()
 }
 
 /// Adds what is asked of two schema texts; nothing where one is refused.
-pub(crate) fn push_comparison<'t>(
-    page: &mut Page,
-    old: Source<'t>,
-    new: Source<'t>,
-    asked: Asked,
-) -> Result<(), AllocError> {
+pub(crate) fn push_comparison<'t>(page: &mut Page, old: Source<'t>, new: Source<'t>, asked: Asked) {
     let (Ok(old_layout), Ok(new_layout)) = (
         schema_of(page.alloc(), old.bytes),
         schema_of(page.alloc(), new.bytes),
     ) else {
-        return Ok(());
+        return;
     };
     let (Ok(old_decls), Ok(new_decls)) = (
         parse(page.alloc(), old.bytes),
         parse(page.alloc(), new.bytes),
     ) else {
-        return Ok(());
+        return;
     };
     let sides = Sides {
         old: Side {
@@ -52,5 +46,5 @@ pub(crate) fn push_comparison<'t>(
             decls: &new_decls,
         },
     };
-    push_asked(page, &sides, asked)
+    push_asked(page, &sides, asked);
 }

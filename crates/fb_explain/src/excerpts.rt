@@ -2,7 +2,6 @@
 use crate::pages::{Page, shown_width};
 use crate::positions::line_start;
 use bstr::{decode_last_utf8, decode_utf8};
-use std::alloc::AllocError;
 
 // Before the line, and for the dots where a part of it is left out.
 const INDENT: usize = 2;
@@ -69,7 +68,7 @@ fn rest_of_line(text: &[u8]) -> &[u8] {
 }
 
 /// Adds the line of a place, cut round it where it is long, and a caret under the place.
-pub(crate) fn push_excerpt(page: &mut Page, text: &[u8], offset: usize) -> Result<(), AllocError> {
+pub(crate) fn push_excerpt(page: &mut Page, text: &[u8], offset: usize) {
     let before = text.get(..offset).unwrap_or(text);
     let start = line_start(before);
     let front = before.get(start..).unwrap_or(&[]);
@@ -82,17 +81,17 @@ pub(crate) fn push_excerpt(page: &mut Page, text: &[u8], offset: usize) -> Resul
     let left = end_of(front);
     let right = beginning_of(rest);
     let mut caret = INDENT.saturating_add(left.columns);
-    page.push_spaces(INDENT)?;
+    page.push_spaces(INDENT);
     if left.bytes.len() < front.len() {
-        page.push_str(DOTS)?;
+        page.push_str(DOTS);
         caret = caret.saturating_add(DOTS.len());
     }
-    page.push_shown(left.bytes)?;
-    page.push_shown(right.bytes)?;
+    page.push_shown(left.bytes);
+    page.push_shown(right.bytes);
     if right.bytes.len() < rest.len() {
-        page.push_str(DOTS)?;
+        page.push_str(DOTS);
     }
-    page.end_line()?;
-    page.push_spaces(caret)?;
-    page.push_line("^")
+    page.end_line();
+    page.push_spaces(caret);
+    page.push_line("^");
 }

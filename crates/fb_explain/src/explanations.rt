@@ -35,20 +35,16 @@ pub struct Sources<'a> {
     pub failure: Option<FileFailure<'a>>,
 }
 
-fn push_file(page: &mut Page, failure: Option<FileFailure<'_>>) -> Result<(), AllocError> {
+fn push_file(page: &mut Page, failure: Option<FileFailure<'_>>) {
     let Some(failure) = failure else {
-        return Ok(());
+        return;
     };
-    page.push_str(failure.path)?;
-    page.push_str(": ")?;
-    page.push_line(failure.reason)
+    page.push_str(failure.path);
+    page.push_str(": ");
+    page.push_line(failure.reason);
 }
 
-fn push_explanation(
-    page: &mut Page,
-    fault: ToolFault,
-    sources: &Sources<'_>,
-) -> Result<(), AllocError> {
+fn push_explanation(page: &mut Page, fault: ToolFault, sources: &Sources<'_>) {
     match fault {
         ToolFault::Schema(fault) | ToolFault::Older(fault) => {
             push_schema_fault(page, &sources.schema, fault)
@@ -57,23 +53,23 @@ fn push_explanation(
         ToolFault::BadJson => push_bad_json(page, &sources.input),
         ToolFault::Json(fault) => match schema_of(page.alloc(), sources.schema.bytes) {
             Ok(layout) => push_json_fault(page, &layout, sources, fault),
-            Err(_) => Ok(()),
+            Err(_) => {}
         },
         ToolFault::Text(TextFault::NoMemberName(place))
         | ToolFault::Write(WriteFault::NoMemberName(place)) => {
             match schema_of(page.alloc(), sources.schema.bytes) {
                 Ok(layout) => push_unnamed_member(page, &layout, sources, place),
-                Err(_) => Ok(()),
+                Err(_) => {}
             }
         }
         ToolFault::Write(WriteFault::WriteFailed(written)) => {
-            page.push_str("standard output took no more after ")?;
-            page.push_number(written)?;
+            page.push_str("standard output took no more after ");
+            page.push_number(written);
             page.push_line(" bytes")
         }
         ToolFault::Read(fault) => match schema_of(page.alloc(), sources.schema.bytes) {
             Ok(layout) => push_buffer_fault(page, &layout, sources, fault),
-            Err(_) => Ok(()),
+            Err(_) => {}
         },
         ToolFault::Breach(breach) => {
             push_comparison(page, sources.schema, sources.input, Asked::Breach(breach))
@@ -82,7 +78,7 @@ fn push_explanation(
             push_file(page, sources.failure)
         }
         ToolFault::Memory => page.push_line("memory ran out while a file was read"),
-        _ => Ok(()),
+        _ => {}
     }
 }
 
@@ -95,14 +91,14 @@ pub fn explain(
     sources: &Sources<'_>,
 ) -> Result<String, AllocError> {
     let mut page = Page::new(alloc);
-    push_explanation(&mut page, *fault, sources)?;
-    Ok(page.into_text())
+    push_explanation(&mut page, *fault, sources);
+    page.into_text()
 }
 
 /// What may be meant otherwise under a new schema that conforms: a line for each name that stands for
 /// another field or member, since JSON texts go by names.
 pub fn warnings<'t>(alloc: Global, old: Source<'t>, new: Source<'t>) -> Result<String, AllocError> {
     let mut page = Page::new(alloc);
-    push_comparison(&mut page, old, new, Asked::Warnings)?;
-    Ok(page.into_text())
+    push_comparison(&mut page, old, new, Asked::Warnings);
+    page.into_text()
 }

@@ -23,25 +23,24 @@ fn field_name(layout: &Layout, step: Step) -> Option<&str> {
 }
 
 /// Adds a path from the root, as `weapons[2].damage`.
-fn push_path(page: &mut Page, layout: &Layout, steps: &[Step]) -> Result<(), AllocError> {
+fn push_path(page: &mut Page, layout: &Layout, steps: &[Step]) {
     let mut is_first = true;
     for step in steps {
         match step {
             Step::Element(index) => {
-                page.push_str("[")?;
-                page.push_number(*index as u64)?;
-                page.push_str("]")?;
+                page.push_str("[");
+                page.push_number(*index as u64);
+                page.push_str("]");
             }
             _ => {
                 if !is_first {
-                    page.push_str(".")?;
+                    page.push_str(".");
                 }
-                page.push_cut(field_name(layout, *step).unwrap_or("?").as_bytes())?;
+                page.push_cut(field_name(layout, *step).unwrap_or("?").as_bytes());
             }
         }
         is_first = false;
     }
-    Ok(())
 }
 
 /// The offset of what a step leads to, from the offset of what it leads from.
@@ -110,28 +109,43 @@ fn unknown_member(
     ))
 }
 
+/// Where the value at a path's end is, and of an unknown member its name.
+fn found_at(
+    page: &Page,
+    layout: &Layout,
+    text: &str,
+    fault: JsonFault,
+    place: Place,
+    steps: &[Step],
+) -> Result<(Option<String>, Found), AllocError> {
+    let found = offset_of_path(page.alloc(), layout, text, steps)?;
+    match fault {
+        JsonFault::UnknownMember(_) => unknown_member(page, layout, text, found, place),
+        _ => Ok((None, found)),
+    }
+}
+
 fn push_at_path(
     page: &mut Page,
     layout: &Layout,
     sources: &Sources<'_>,
     fault: JsonFault,
     steps: &[Step],
-) -> Result<(), AllocError> {
+) {
     let Ok(text) = str::from_utf8(sources.input.bytes) else {
-        return Ok(());
+        return;
     };
     let Some(place) = fault.place() else {
-        return Ok(());
+        return;
     };
-    let found = offset_of_path(page.alloc(), layout, text, steps)?;
-    let (name, found) = match fault {
-        JsonFault::UnknownMember(_) => unknown_member(page, layout, text, found, place)?,
-        _ => (None, found),
+    let found = found_at(page, layout, text, fault, place, steps);
+    let Some((name, found)) = page.keep(found) else {
+        return;
     };
-    push_place(page, &sources.input, found.offset)?;
+    push_place(page, &sources.input, found.offset);
     if !steps.is_empty() {
-        push_path(page, layout, steps)?;
-        page.push_str(": ")?;
+        push_path(page, layout, steps);
+        page.push_str(": ");
     }
     let is_element = matches!(steps.last(), Some(Step::Element(_)));
     push_rule(
@@ -142,8 +156,8 @@ fn push_at_path(
         fault,
         name.as_ref(),
         is_element,
-    )?;
-    push_excerpt(page, sources.input.bytes, found.offset)
+    );
+    push_excerpt(page, sources.input.bytes, found.offset);
 }
 
 /// Adds what is wrong with a JSON text under a schema.
@@ -152,18 +166,18 @@ pub(crate) fn push_json_fault(
     layout: &Layout,
     sources: &Sources<'_>,
     fault: JsonFault,
-) -> Result<(), AllocError> {
+) {
     let Ok(tree) = Value::from_slice(page.alloc(), sources.input.bytes) else {
-        return Ok(());
+        return;
     };
-    match fault_path(
+    let steps = fault_path(
         page.alloc(),
         layout,
         &tree,
         sources.unknown_json,
         sources.limits,
-    )? {
-        Some(steps) => push_at_path(page, layout, sources, fault, steps.as_slice()),
-        None => Ok(()),
+    );
+    if let Some(Some(steps)) = page.keep(steps) {
+        push_at_path(page, layout, sources, fault, steps.as_slice());
     }
 }

@@ -8,7 +8,7 @@ use fb_json::{JsonFault, Place};
 use fb_layout::Layout;
 use fb_schema::{Base, FieldInfo, Kind, Shape, TypeId};
 use fb_value::Limits;
-use std::alloc::AllocError;
+use std::alloc::{AllocError, Global};
 
 /// An offset in a JSON text, and whether the value at a path's end is there, or the object that lacks it.
 #[derive(Clone, Copy)]
@@ -80,19 +80,20 @@ fn push_wrong_shape(
     text: &str,
     field: Option<&FieldInfo>,
     is_element: bool,
-) -> Result<(), AllocError> {
-    page.push_str(kind_of(text))?;
+) {
+    page.push_str(kind_of(text));
     let Some(field) = field else {
-        return page.push_line(" where the root's object must be");
+        page.push_line(" where the root's object must be");
+        return;
     };
-    page.push_str(" where ")?;
+    page.push_str(" where ");
     match field.shape {
-        Shape::Many(_) if !is_element => page.push_str("an array")?,
-        Shape::Many(kind) | Shape::One(kind) => page.push_str(written_as(kind))?,
+        Shape::Many(_) if !is_element => page.push_str("an array"),
+        Shape::Many(kind) | Shape::One(kind) => page.push_str(written_as(kind)),
     }
-    page.push_str(" must be: the field's type is ")?;
-    push_shape(page, layout.schema(), field.shape)?;
-    page.end_line()
+    page.push_str(" must be: the field's type is ");
+    push_shape(page, layout.schema(), field.shape);
+    page.end_line();
 }
 
 fn kind_in(shape: Shape) -> Kind {
@@ -115,38 +116,52 @@ fn base_of(layout: &Layout, field: &FieldInfo) -> Option<Base> {
     }
 }
 
-fn push_out_of_range(
-    page: &mut Page,
-    layout: &Layout,
-    text: &str,
-    field: Option<&FieldInfo>,
-) -> Result<(), AllocError> {
-    page.push_cut(token_of(text).as_bytes())?;
+fn push_out_of_range(page: &mut Page, layout: &Layout, text: &str, field: Option<&FieldInfo>) {
+    page.push_cut(token_of(text).as_bytes());
     let Some(field) = field else {
-        return page.push_line(" is out of range");
+        page.push_line(" is out of range");
+        return;
     };
     match base_of(layout, field) {
         Some(Base::Bool) => page.push_line(" isn't true, false, 0 or 1"),
         Some(base) => {
-            page.push_str(" isn't in ")?;
-            page.push_str(range_of_base(base))?;
-            page.push_str(", the range of ")?;
-            page.push_str(kind_name(layout.schema(), kind_in(field.shape)))?;
+            page.push_str(" isn't in ");
+            page.push_str(range_of_base(base));
+            page.push_str(", the range of ");
+            page.push_str(kind_name(layout.schema(), kind_in(field.shape)));
             page.end_line()
         }
         None => page.push_line(" is out of range"),
     }
 }
 
-fn push_not_whole(page: &mut Page, token: &str) -> Result<(), AllocError> {
-    page.push_cut(token.as_bytes())?;
+fn push_not_whole(page: &mut Page, token: &str) {
+    page.push_cut(token.as_bytes());
     if token
         .bytes()
         .all(|byte| byte.is_ascii_digit() || byte == b'-')
     {
-        return page.push_line(" is too large for 64 bits");
+        page.push_line(" is too large for 64 bits");
+        return;
     }
-    page.push_line(" isn't written as a whole number")
+    page.push_line(" isn't written as a whole number");
+}
+
+/// The names of an enum's values or of a union's members.
+fn names_in<T>(alloc: Global, named: &[(String, T)]) -> Result<Vec<&str>, AllocError> {
+    let mut names = Vec::new(alloc);
+    for (name, _) in named {
+        names.push(name.as_str())?;
+    }
+    Ok(names)
+}
+
+fn field_names(alloc: Global, fields: &[FieldInfo]) -> Result<Vec<&str>, AllocError> {
+    let mut names = Vec::new(alloc);
+    for field in fields {
+        names.push(field.name.as_str())?;
+    }
+    Ok(names)
 }
 
 /// A text without its quotes.
@@ -154,68 +169,60 @@ fn unquoted(token: &str) -> &str {
     token.trim_matches('"')
 }
 
-fn push_unknown_name(
-    page: &mut Page,
-    layout: &Layout,
-    text: &str,
-    field: Option<&FieldInfo>,
-) -> Result<(), AllocError> {
+fn push_unknown_name(page: &mut Page, layout: &Layout, text: &str, field: Option<&FieldInfo>) {
     let Some(field) = field else {
-        return page.push_line("no such name");
+        page.push_line("no such name");
+        return;
     };
     let schema = layout.schema();
-    let mut names = Vec::new(page.alloc());
     let token = unquoted(token_of(text));
-    match kind_in(field.shape) {
+    let names = match kind_in(field.shape) {
         Kind::Enum(number) => {
-            page.push_str("no value of enum ")?;
-            page.push_cut(type_name(schema, number).as_bytes())?;
-            for (name, _) in values_of(schema, number) {
-                names.push(name.as_str())?;
-            }
+            page.push_str("no value of enum ");
+            page.push_cut(type_name(schema, number).as_bytes());
+            names_in(page.alloc(), values_of(schema, number))
         }
         Kind::Code(number) | Kind::Union(number) => {
-            page.push_str("no member of union ")?;
-            page.push_cut(type_name(schema, number).as_bytes())?;
-            for (name, _) in members_of(schema, number) {
-                names.push(name.as_str())?;
-            }
+            page.push_str("no member of union ");
+            page.push_cut(type_name(schema, number).as_bytes());
+            names_in(page.alloc(), members_of(schema, number))
         }
-        _ => page.push_str("nothing")?,
+        _ => {
+            page.push_str("nothing");
+            Ok(Vec::new(page.alloc()))
+        }
+    };
+    page.push_str(" is called ");
+    page.push_name(token.as_bytes());
+    if let Some(names) = page.keep(names) {
+        push_nearest(page, names.as_slice(), token);
     }
-    page.push_str(" is called ")?;
-    page.push_name(token.as_bytes())?;
-    push_nearest(page, names.as_slice(), token)?;
-    page.end_line()
+    page.end_line();
 }
 
-fn push_unknown_member(
-    page: &mut Page,
-    layout: &Layout,
-    owner: TypeId,
-    name: Option<&String>,
-) -> Result<(), AllocError> {
+fn push_unknown_member(page: &mut Page, layout: &Layout, owner: TypeId, name: Option<&String>) {
     let schema = layout.schema();
     let Some(name) = name else {
-        return page.push_line("a member has a name that no field has");
+        page.push_line("a member has a name that no field has");
+        return;
     };
     let fields = fields_of(schema, owner);
     if fields.iter().any(|field| field.deprecated && field.name.as_str() == name.as_str()) {
-        page.push_str("the field ")?;
-        page.push_name(name.as_bytes())?;
-        page.push_str(" of ")?;
-        page.push_cut(type_name(schema, owner).as_bytes())?;
-        return page.push_line(" is deprecated, and isn't written any more");
+        page.push_str("the field ");
+        page.push_name(name.as_bytes());
+        page.push_str(" of ");
+        page.push_cut(type_name(schema, owner).as_bytes());
+        page.push_line(" is deprecated, and isn't written any more");
+        return;
     }
-    let mut names = Vec::new(page.alloc());
-    for field in fields {
-        names.push(field.name.as_str())?;
+    page.push_cut(type_name(schema, owner).as_bytes());
+    page.push_str(" has no field called ");
+    page.push_name(name.as_bytes());
+    let names = field_names(page.alloc(), fields);
+    if let Some(names) = page.keep(names) {
+        push_nearest(page, names.as_slice(), name.as_str());
     }
-    page.push_cut(type_name(schema, owner).as_bytes())?;
-    page.push_str(" has no field called ")?;
-    page.push_name(name.as_bytes())?;
-    push_nearest(page, names.as_slice(), name.as_str())?;
-    page.end_line()
+    page.end_line();
 }
 
 fn push_missing(
@@ -224,17 +231,17 @@ fn push_missing(
     place: Place,
     field: Option<&FieldInfo>,
     rest: &str,
-) -> Result<(), AllocError> {
-    page.push_cut(type_name(layout.schema(), place.owner).as_bytes())?;
-    page.push_str(" needs the field ")?;
-    page.push_name(field.map_or("?", |field| field.name.as_str()).as_bytes())?;
-    page.push_line(rest)
+) {
+    page.push_cut(type_name(layout.schema(), place.owner).as_bytes());
+    page.push_str(" needs the field ");
+    page.push_name(field.map_or("?", |field| field.name.as_str()).as_bytes());
+    page.push_line(rest);
 }
 
-fn push_limit(page: &mut Page, front: &str, most: u64, rest: &str) -> Result<(), AllocError> {
-    page.push_str(front)?;
-    page.push_number(most)?;
-    page.push_line(rest)
+fn push_limit(page: &mut Page, front: &str, most: u64, rest: &str) {
+    page.push_str(front);
+    page.push_number(most);
+    page.push_line(rest);
 }
 
 /// Adds the rule that a value breaks, and ends the line.
@@ -246,9 +253,10 @@ pub(crate) fn push_rule(
     fault: JsonFault,
     name: Option<&String>,
     is_element: bool,
-) -> Result<(), AllocError> {
+) {
     let Some(place) = fault.place() else {
-        return page.push_line("memory ran out while the JSON text was converted");
+        page.push_line("memory ran out while the JSON text was converted");
+        return;
     };
     let field = place
         .slot

@@ -47,15 +47,11 @@ pub(crate) fn nearest<'n>(
 }
 
 /// Adds the nearest of some names as a question, where one is near.
-pub(crate) fn push_nearest(
-    page: &mut Page,
-    names: &[&str],
-    wanted: &str,
-) -> Result<(), AllocError> {
-    if let Some(name) = nearest(page.alloc(), names, wanted)? {
-        page.push_str("; did you mean ")?;
-        page.push_name(name.as_bytes())?;
-        page.push_str("?")?;
+pub(crate) fn push_nearest(page: &mut Page, names: &[&str], wanted: &str) {
+    let found = nearest(page.alloc(), names, wanted);
+    if let Some(Some(name)) = page.keep(found) {
+        page.push_str("; did you mean ");
+        page.push_name(name.as_bytes());
+        page.push_str("?");
     }
-    Ok(())
 }

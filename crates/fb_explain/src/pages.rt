@@ -13,13 +13,16 @@ const TAB: usize = 4;
 /// Plain lines of at most 120 columns.
 ///
 /// What takes no column of its own, as a control character or a mark that turns the direction of
-/// writing, is escaped, and so is each byte that isn't UTF-8.
+/// writing, is escaped, and so is each byte that isn't UTF-8. Once memory ran out nothing is added any
+/// more.
 #[derive(Drop)]
 pub(crate) struct Page {
     alloc: Global,
     text: String,
     /// The line that isn't ended yet.
     line: String,
+    /// The first growth that was refused.
+    failed: Option<AllocError>,
 }
 
 /// How many columns a character takes where it can be shown as it is.
@@ -66,12 +69,32 @@ fn cut_len(line: &str, columns: usize) -> usize {
     }
 }
 
+/// Adds a line, which goes on in further ones where it is too long.
+fn push_wrapped(text: &mut String, line: &str) -> Result<(), AllocError> {
+    let mut rest = line;
+    let mut columns = COLUMNS;
+    for _ in 0..line.len() {
+        let cut = cut_len(rest, columns);
+        if cut == rest.len() {
+            break;
+        }
+        text.push_str(rest.get(..cut).unwrap_or("").trim_end())?;
+        text.push_str("\n    ")?;
+        rest = rest.get(cut..).unwrap_or("");
+        columns = COLUMNS - 4;
+    }
+    text.push_str(rest)?;
+    text.push('\n')?;
+    Ok(())
+}
+
 impl Page {
     pub(crate) fn new(alloc: Global) -> Page {
         Page {
             alloc,
             text: String::new(alloc),
             line: String::new(alloc),
+            failed: None,
         }
     }
 
@@ -79,115 +102,128 @@ impl Page {
         self.alloc
     }
 
-    /// The lines.
-    pub(crate) fn into_text(self) -> String {
-        self.text
+    /// The lines, unless memory ran out.
+    pub(crate) fn into_text(self) -> Result<String, AllocError> {
+        match self.failed {
+            Some(error) => Err(error),
+            None => Ok(self.text),
+        }
+    }
+
+    /// What was allocated; a first failure is kept.
+    pub(crate) fn keep<T>(&mut self, allocated: Result<T, AllocError>) -> Option<T> {
+        match allocated {
+            Ok(value) => Some(value),
+            Err(error) => {
+                self.failed.get_or_insert(error);
+                None
+            }
+        }
     }
 
     /// Ends the line, which goes on in further ones where it is too long.
-    pub(crate) fn end_line(&mut self) -> Result<(), AllocError> {
-        let mut rest = self.line.as_str();
-        let mut columns = COLUMNS;
-        for _ in 0..self.line.len() {
-            let cut = cut_len(rest, columns);
-            if cut == rest.len() {
-                break;
-            }
-            self.text
-                .push_str(rest.get(..cut).unwrap_or("").trim_end())?;
-            self.text.push_str("\n    ")?;
-            rest = rest.get(cut..).unwrap_or("");
-            columns = COLUMNS - 4;
+    pub(crate) fn end_line(&mut self) {
+        if self.failed.is_none() {
+            let pushed = push_wrapped(&mut self.text, self.line.as_str());
+            self.keep(pushed);
         }
-        self.text.push_str(rest)?;
-        self.text.push_str("\n")?;
         self.line.clear();
-        Ok(())
+    }
+
+    /// Adds a character that can be shown as it is.
+    fn push_plain(&mut self, character: char) {
+        if self.failed.is_none() {
+            let pushed = self.line.push(character);
+            self.keep(pushed);
+        }
     }
 
     /// Adds so many spaces.
-    pub(crate) fn push_spaces(&mut self, count: usize) -> Result<(), AllocError> {
+    pub(crate) fn push_spaces(&mut self, count: usize) {
         for _ in 0..count {
-            self.line.push(' ')?;
+            self.push_plain(' ');
         }
-        Ok(())
     }
 
     /// Adds a character as it is shown.
-    fn push_character(&mut self, character: char) -> Result<(), AllocError> {
+    fn push_character(&mut self, character: char) {
         if character == '\t' {
-            return self.push_spaces(TAB);
+            self.push_spaces(TAB);
+        } else if plain_width(character).is_some() {
+            self.push_plain(character);
+        } else {
+            for escaped in character.escape_unicode() {
+                self.push_plain(escaped);
+            }
         }
-        if plain_width(character).is_some() {
-            self.line.push(character)?;
-            return Ok(());
-        }
-        for escaped in character.escape_unicode() {
-            self.line.push(escaped)?;
-        }
-        Ok(())
     }
 
     /// Adds bytes that are no character.
-    fn push_escaped(&mut self, bytes: &[u8]) -> Result<(), AllocError> {
+    fn push_escaped(&mut self, bytes: &[u8]) {
         for byte in bytes {
-            self.line.push_str("\\x")?;
-            push_hex(&mut self.line, *byte)?;
+            self.push_str("\\x");
+            self.push_hex(*byte);
         }
-        Ok(())
+    }
+
+    /// Adds a byte as two hexadecimal digits.
+    pub(crate) fn push_hex(&mut self, byte: u8) {
+        self.push_plain(DIGITS[usize::from(byte / 16)]);
+        self.push_plain(DIGITS[usize::from(byte % 16)]);
     }
 
     /// Adds a text as it is shown.
-    pub(crate) fn push_shown(&mut self, bytes: &[u8]) -> Result<(), AllocError> {
+    pub(crate) fn push_shown(&mut self, bytes: &[u8]) {
         let mut rest = bytes;
         for _ in 0..bytes.len() {
             let (character, size) = decode_utf8(rest);
             match character {
-                Some(character) => self.push_character(character)?,
-                None => self.push_escaped(rest.get(..size).unwrap_or(&[]))?,
+                Some(character) => self.push_character(character),
+                None => self.push_escaped(rest.get(..size).unwrap_or(&[])),
             }
             rest = rest.get(size..).unwrap_or(&[]);
             if rest.is_empty() {
                 break;
             }
         }
-        Ok(())
     }
 
-    pub(crate) fn push_str(&mut self, text: &str) -> Result<(), AllocError> {
-        self.push_shown(text.as_bytes())
+    pub(crate) fn push_str(&mut self, text: &str) {
+        for character in text.chars() {
+            self.push_character(character);
+        }
     }
 
     /// Adds a name of the user's in quotes, cut where it is long.
-    pub(crate) fn push_name(&mut self, name: &[u8]) -> Result<(), AllocError> {
-        self.push_str("'")?;
-        self.push_cut(name)?;
-        self.push_str("'")
+    pub(crate) fn push_name(&mut self, name: &[u8]) {
+        self.push_str("'");
+        self.push_cut(name);
+        self.push_str("'");
     }
 
     /// Adds the front of a text of the user's.
-    pub(crate) fn push_cut(&mut self, text: &[u8]) -> Result<(), AllocError> {
+    pub(crate) fn push_cut(&mut self, text: &[u8]) {
         match text.get(..LONGEST_NAME) {
             Some(front) => {
-                self.push_shown(front)?;
-                self.push_str("...")
+                self.push_shown(front);
+                self.push_str("...");
             }
             None => self.push_shown(text),
         }
     }
 
-    pub(crate) fn push_number(&mut self, number: u64) -> Result<(), AllocError> {
-        self.push_str(Buffer::new().format(number))
+    pub(crate) fn push_number(&mut self, number: u64) {
+        self.push_str(Buffer::new().format(number));
     }
 
-    pub(crate) fn push_integer(&mut self, number: i128) -> Result<(), AllocError> {
-        self.push_str(Buffer::new().format(number))
+    pub(crate) fn push_integer(&mut self, number: i128) {
+        self.push_str(Buffer::new().format(number));
     }
 
     /// Adds a line of its own.
-    pub(crate) fn push_line(&mut self, line: &str) -> Result<(), AllocError> {
-        self.push_str(line)?;
-        self.end_line()
+    pub(crate) fn push_line(&mut self, line: &str) {
+        self.push_str(line);
+        self.end_line();
     }
 }
 
@@ -197,10 +233,3 @@ const LONGEST_NAME: usize = 60;
 const DIGITS: [char; 16] = [
     '0', '1', '2', '3', '4', '5', '6', '7', '8', '9', 'a', 'b', 'c', 'd', 'e', 'f',
 ];
-
-/// Adds a byte as two hexadecimal digits.
-pub(crate) fn push_hex(text: &mut String, byte: u8) -> Result<(), AllocError> {
-    text.push(DIGITS[usize::from(byte / 16)])?;
-    text.push(DIGITS[usize::from(byte % 16)])?;
-    Ok(())
-}

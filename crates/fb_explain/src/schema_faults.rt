@@ -15,7 +15,6 @@ use fb_layout::LayoutFault;
 use fb_schema::Base;
 use fb_syntax::{Decls, Field, FieldType, SyntaxFault, parse};
 use flatc_tool::SchemaTextFault;
-use std::alloc::AllocError;
 use std::str;
 
 /// A token as a text; empty where it isn't UTF-8.
@@ -23,30 +22,26 @@ fn text_of(token: &[u8]) -> &str {
     str::from_utf8(token).unwrap_or("")
 }
 
-fn push_unexpected(page: &mut Page, text: &[u8], offset: usize) -> Result<(), AllocError> {
+fn push_unexpected(page: &mut Page, text: &[u8], offset: usize) {
     if let Some(what) = unsupported_at(text, offset) {
-        return page.push_line(what);
+        page.push_line(what);
+        return;
     }
     match token_at(text, offset) {
         [] => page.push_line("the text ends here, in the middle of a declaration"),
         token => {
-            page.push_name(token)?;
+            page.push_name(token);
             page.push_line(" isn't expected here")
         }
     }
 }
 
-fn push_syntax_sentence(
-    page: &mut Page,
-    text: &[u8],
-    offset: usize,
-    fault: SyntaxFault,
-) -> Result<(), AllocError> {
+fn push_syntax_sentence(page: &mut Page, text: &[u8], offset: usize, fault: SyntaxFault) {
     let token = token_at(text, offset);
     match fault {
         SyntaxFault::NotUtf8(_) => page.push_line("the text isn't UTF-8 from here on"),
         SyntaxFault::BadByte(_) => {
-            page.push_name(token)?;
+            page.push_name(token);
             page.push_line(
                 " may not be here: no word, number or sign of the language begins with it",
             )
@@ -56,8 +51,8 @@ fn push_syntax_sentence(
         }
         SyntaxFault::Unterminated(_) => page.push_line("this comment has no end"),
         SyntaxFault::NumberTooBig(_) => {
-            page.push_str("the number ")?;
-            page.push_cut(token)?;
+            page.push_str("the number ");
+            page.push_cut(token);
             page.push_line(" is too large for 64 bits")
         }
         SyntaxFault::Unexpected(_) => push_unexpected(page, text, offset),
@@ -84,57 +79,57 @@ fn base_named(name: &str) -> Option<Base> {
     })
 }
 
-fn push_default_of(
-    page: &mut Page,
-    decls: &Decls<'_>,
-    field: &Field<'_>,
-    token: &[u8],
-) -> Result<(), AllocError> {
+fn push_default_of(page: &mut Page, decls: &Decls<'_>, field: &Field<'_>, token: &[u8]) {
     let FieldType::One(kind) = &field.kind else {
-        return page.push_line(": it is a vector, and only numbers and enums have a default");
+        page.push_line(": it is a vector, and only numbers and enums have a default");
+        return;
     };
     if let Some(base) = base_named(kind.as_str()) {
-        page.push_str(" doesn't fit the type ")?;
-        page.push_str(kind.as_str())?;
-        page.push_str(": ")?;
-        return page.push_line(range_of_base(base));
+        page.push_str(" doesn't fit the type ");
+        page.push_str(kind.as_str());
+        page.push_str(": ");
+        page.push_line(range_of_base(base));
+        return;
     }
-    page.push_str(": its type is ")?;
-    page.push_name(kind.as_str().as_bytes())?;
-    let names = value_names(page.alloc(), decls, kind.as_str())?;
-    if names.is_empty() {
-        return page.push_line(", and only numbers and enums have a default");
-    }
-    page.push_str(", which has no such value")?;
-    push_nearest(page, names.as_slice(), last_word(text_of(token)))?;
-    page.end_line()
-}
-
-fn push_bad_default(
-    page: &mut Page,
-    decls: &Decls<'_>,
-    token: &[u8],
-    offset: u64,
-) -> Result<(), AllocError> {
-    page.push_str("the default ")?;
-    page.push_cut(token)?;
-    let Some(field) = field_of_default(decls, offset) else {
-        return page.push_line(" isn't one of its field's type");
+    page.push_str(": its type is ");
+    page.push_name(kind.as_str().as_bytes());
+    let names = value_names(page.alloc(), decls, kind.as_str());
+    let Some(names) = page.keep(names) else {
+        return;
     };
-    page.push_str(" of field ")?;
-    page.push_name(field.name.text.as_bytes())?;
-    if is_in_a_struct(decls, offset) {
-        return page.push_line(" may not be here: fields of structs have no defaults");
+    if names.is_empty() {
+        page.push_line(", and only numbers and enums have a default");
+        return;
     }
-    push_default_of(page, decls, field, token)
+    page.push_str(", which has no such value");
+    push_nearest(page, names.as_slice(), last_word(text_of(token)));
+    page.end_line();
 }
 
-fn push_unknown_type(page: &mut Page, decls: &Decls<'_>, token: &[u8]) -> Result<(), AllocError> {
-    page.push_str("no type is called ")?;
-    page.push_name(token)?;
-    let names = type_names(page.alloc(), decls)?;
-    push_nearest(page, names.as_slice(), text_of(token))?;
-    page.end_line()
+fn push_bad_default(page: &mut Page, decls: &Decls<'_>, token: &[u8], offset: u64) {
+    page.push_str("the default ");
+    page.push_cut(token);
+    let Some(field) = field_of_default(decls, offset) else {
+        page.push_line(" isn't one of its field's type");
+        return;
+    };
+    page.push_str(" of field ");
+    page.push_name(field.name.text.as_bytes());
+    if is_in_a_struct(decls, offset) {
+        page.push_line(" may not be here: fields of structs have no defaults");
+        return;
+    }
+    push_default_of(page, decls, field, token);
+}
+
+fn push_unknown_type(page: &mut Page, decls: &Decls<'_>, token: &[u8]) {
+    page.push_str("no type is called ");
+    page.push_name(token);
+    let names = type_names(page.alloc(), decls);
+    if let Some(names) = page.keep(names) {
+        push_nearest(page, names.as_slice(), text_of(token));
+    }
+    page.end_line();
 }
 
 /// What is wrong with an attribute, and what it is for.
@@ -155,62 +150,62 @@ fn use_of(attribute: &[u8]) -> &'static str {
     }
 }
 
-fn push_unsupported(page: &mut Page, text: &[u8], offset: usize) -> Result<(), AllocError> {
+fn push_unsupported(page: &mut Page, text: &[u8], offset: usize) {
     let token = token_at(text, offset);
     if let Some(what) = unsupported_at(text, offset) {
-        return page.push_line(what);
+        page.push_line(what);
+        return;
     }
     if matches!(token, b"force_align") {
-        return page.push_line("'force_align' on a field isn't supported: it goes on a struct");
+        page.push_line("'force_align' on a field isn't supported: it goes on a struct");
+        return;
     }
     if is_unsupported_attribute(token) {
-        return page.push_line("this attribute isn't supported");
+        page.push_line("this attribute isn't supported");
+        return;
     }
-    page.push_name(token)?;
+    page.push_name(token);
     page.push_line(
         " isn't supported here: an enum needs an integer type, and a vector's elements can't be unions",
     )
 }
 
-fn push_duplicate(page: &mut Page, token: &[u8]) -> Result<(), AllocError> {
-    page.push_str("the name ")?;
-    page.push_name(token)?;
+fn push_duplicate(page: &mut Page, token: &[u8]) {
+    page.push_str("the name ");
+    page.push_name(token);
     if matches!(token, b"NONE") {
-        return page.push_line(" is what an absent union is called, so no member may have it");
+        page.push_line(" is what an absent union is called, so no member may have it");
+        return;
     }
     if base_named(text_of(token)).is_some() || matches!(token, b"string") {
-        return page.push_line(" is a basic type's");
+        page.push_line(" is a basic type's");
+        return;
     }
-    page.push_line(" is taken: it is declared before (a union field 'x' takes 'x_type' too)")
+    page.push_line(" is taken: it is declared before (a union field 'x' takes 'x_type' too)");
 }
 
-fn push_bad_member(
-    page: &mut Page,
-    decls: &Decls<'_>,
-    token: &[u8],
-    offset: u64,
-) -> Result<(), AllocError> {
-    page.push_name(token)?;
+fn push_bad_member(page: &mut Page, decls: &Decls<'_>, token: &[u8], offset: u64) {
+    page.push_name(token);
     if is_in_a_union(decls, offset) {
-        return page.push_line(" can't be a member of a union: its members are tables, 255 at most");
+        page.push_line(" can't be a member of a union: its members are tables, 255 at most");
+        return;
     }
-    page.push_line(" can't be in a struct: its fields are numbers, enums and other structs")
+    page.push_line(" can't be in a struct: its fields are numbers, enums and other structs");
 }
 
-fn push_bad_root(page: &mut Page, token: &[u8]) -> Result<(), AllocError> {
+fn push_bad_root(page: &mut Page, token: &[u8]) {
     if token.is_empty() {
-        return page.push_line(
-            "the text has no root: add 'root_type NAME;' with the name of a table",
-        );
+        page.push_line("the text has no root: add 'root_type NAME;' with the name of a table");
+        return;
     }
-    page.push_name(token)?;
-    page.push_line(" can't be the root: it isn't a table")
+    page.push_name(token);
+    page.push_line(" can't be the root: it isn't a table");
 }
 
-fn push_named(page: &mut Page, front: &str, token: &[u8], rest: &str) -> Result<(), AllocError> {
-    page.push_str(front)?;
-    page.push_name(token)?;
-    page.push_line(rest)
+fn push_named(page: &mut Page, front: &str, token: &[u8], rest: &str) {
+    page.push_str(front);
+    page.push_name(token);
+    page.push_line(rest);
 }
 
 fn push_schema_sentence(
@@ -219,7 +214,7 @@ fn push_schema_sentence(
     offset: u64,
     fault: SchemaFault,
     decls: &Decls<'_>,
-) -> Result<(), AllocError> {
+) {
     let place = offset as usize;
     let token = token_at(text, place);
     match fault {
@@ -274,56 +269,42 @@ fn is_unsupported(text: &[u8], offset: usize, fault: SchemaTextFault) -> bool {
         || unsupported_at(text, offset).is_some()
 }
 
-fn push_at_offset(
-    page: &mut Page,
-    source: &Source<'_>,
-    fault: SchemaTextFault,
-    offset: u64,
-) -> Result<(), AllocError> {
+fn push_at_offset(page: &mut Page, source: &Source<'_>, fault: SchemaTextFault, offset: u64) {
     let place = offset as usize;
-    push_place(page, source, place)?;
+    push_place(page, source, place);
     match fault {
-        SchemaTextFault::Syntax(fault) => push_syntax_sentence(page, source.bytes, place, fault)?,
+        SchemaTextFault::Syntax(fault) => push_syntax_sentence(page, source.bytes, place, fault),
         SchemaTextFault::Schema(fault) => match parse(page.alloc(), source.bytes) {
-            Ok(decls) => push_schema_sentence(page, source.bytes, offset, fault, &decls)?,
-            Err(_) => page.end_line()?,
+            Ok(decls) => push_schema_sentence(page, source.bytes, offset, fault, &decls),
+            Err(_) => page.end_line(),
         },
-        SchemaTextFault::Layout(_) => page.end_line()?,
+        SchemaTextFault::Layout(_) => page.end_line(),
     }
-    push_excerpt(page, source.bytes, place)?;
+    push_excerpt(page, source.bytes, place);
     if is_unsupported(source.bytes, place, fault) {
-        push_others(page, source, place)?;
+        push_others(page, source, place);
     }
-    Ok(())
 }
 
-fn push_layout_sentence(
-    page: &mut Page,
-    source: &Source<'_>,
-    number: u64,
-    what: &str,
-) -> Result<(), AllocError> {
+fn push_layout_sentence(page: &mut Page, source: &Source<'_>, number: u64, what: &str) {
     let Ok(decls) = parse(page.alloc(), source.bytes) else {
-        return Ok(());
+        return;
     };
     let Some(declared) = type_at(&decls, number) else {
-        return Ok(());
+        return;
     };
     let (name, at) = name_of(declared);
-    push_place(page, source, at as usize)?;
-    page.push_name(name.as_bytes())?;
-    page.push_line(what)?;
-    push_excerpt(page, source.bytes, at as usize)
+    push_place(page, source, at as usize);
+    page.push_name(name.as_bytes());
+    page.push_line(what);
+    push_excerpt(page, source.bytes, at as usize);
 }
 
 /// Adds what is wrong with a schema text.
-pub(crate) fn push_schema_fault(
-    page: &mut Page,
-    source: &Source<'_>,
-    fault: SchemaTextFault,
-) -> Result<(), AllocError> {
+pub(crate) fn push_schema_fault(page: &mut Page, source: &Source<'_>, fault: SchemaTextFault) {
     if let Some(offset) = fault.offset() {
-        return push_at_offset(page, source, fault, offset);
+        push_at_offset(page, source, fault, offset);
+        return;
     }
     match fault {
         SchemaTextFault::Layout(LayoutFault::StructTooBig(number)) => {

@@ -1,7 +1,6 @@
 //! Names and types of a schema, as its text writes them.
 use crate::pages::Page;
 use fb_schema::{Base, FieldInfo, Kind, Schema, Shape, TypeId};
-use std::alloc::AllocError;
 
 /// The full name of a type.
 pub(crate) fn type_name(schema: &Schema, number: TypeId) -> &str {
@@ -36,12 +35,12 @@ pub(crate) fn kind_name(schema: &Schema, kind: Kind) -> &str {
 }
 
 /// Adds a field's type.
-pub(crate) fn push_shape(page: &mut Page, schema: &Schema, shape: Shape) -> Result<(), AllocError> {
+pub(crate) fn push_shape(page: &mut Page, schema: &Schema, shape: Shape) {
     match shape {
         Shape::One(kind) => page.push_str(kind_name(schema, kind)),
         Shape::Many(kind) => {
-            page.push_str("[")?;
-            page.push_str(kind_name(schema, kind))?;
+            page.push_str("[");
+            page.push_str(kind_name(schema, kind));
             page.push_str("]")
         }
     }
@@ -67,20 +66,18 @@ pub(crate) fn field_at(schema: &Schema, number: TypeId, slot: u16) -> Option<&Fi
 }
 
 /// Adds a field's default.
-pub(crate) fn push_default(
-    page: &mut Page,
-    schema: &Schema,
-    field: &FieldInfo,
-) -> Result<(), AllocError> {
+pub(crate) fn push_default(page: &mut Page, schema: &Schema, field: &FieldInfo) {
     if field.optional {
-        return page.push_str("null");
+        page.push_str("null");
+        return;
     }
     if let Shape::One(Kind::Enum(number)) = field.shape
         && let Some(name) = schema.name_of_number(number, field.default)
     {
-        return page.push_str(name);
+        page.push_str(name);
+        return;
     }
-    page.push_integer(field.default)
+    page.push_integer(field.default);
 }
 
 /// The values of an enum.

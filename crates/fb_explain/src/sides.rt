@@ -7,7 +7,6 @@ use crate::sources::Source;
 use fb_layout::Layout;
 use fb_schema::{Schema, TypeId};
 use fb_syntax::{Decls, TypeDecl};
-use std::alloc::AllocError;
 
 /// One of two schemas: its layout, its text, and what the text declares.
 #[derive(Clone, Copy)]
@@ -23,32 +22,27 @@ impl<'s, 't> Side<'s, 't> {
     }
 
     /// Adds the file and line of an offset.
-    fn push_line_of(&self, page: &mut Page, offset: u64) -> Result<(), AllocError> {
-        page.push_str(" (")?;
-        page.push_str(self.source.path)?;
-        page.push_str(":")?;
+    fn push_line_of(&self, page: &mut Page, offset: u64) {
+        page.push_str(" (");
+        page.push_str(self.source.path);
+        page.push_str(":");
         let position = Position::of(self.source.bytes, offset as usize);
-        page.push_number(position.line as u64)?;
-        page.push_str(")")
+        page.push_number(position.line as u64);
+        page.push_str(")");
     }
 
     /// Adds where a type is declared.
-    pub(crate) fn push_type_line(&self, page: &mut Page, number: TypeId) -> Result<(), AllocError> {
+    pub(crate) fn push_type_line(&self, page: &mut Page, number: TypeId) {
         match type_at(self.decls, number.0) {
             Some(declared) => self.push_line_of(page, name_of(declared).1),
-            None => Ok(()),
+            None => {}
         }
     }
 
     /// Adds where a field is declared; a union's type is where the union is.
-    pub(crate) fn push_field_line(
-        &self,
-        page: &mut Page,
-        number: TypeId,
-        name: &str,
-    ) -> Result<(), AllocError> {
+    pub(crate) fn push_field_line(&self, page: &mut Page, number: TypeId, name: &str) {
         let Some(declared) = type_at(self.decls, number.0) else {
-            return Ok(());
+            return;
         };
         match offset_of_field(declared, name) {
             Some(offset) => self.push_line_of(page, offset),

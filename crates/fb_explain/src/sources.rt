@@ -1,7 +1,6 @@
 //! The texts and bytes that a job was done with.
 use crate::pages::Page;
 use crate::positions::Position;
-use std::alloc::AllocError;
 
 /// A file's path, and the bytes that were read from it.
 #[derive(Clone, Copy, Debug)]
@@ -11,16 +10,12 @@ pub struct Source<'a> {
 }
 
 /// Adds `path:line:column: ` of an offset.
-pub(crate) fn push_place(
-    page: &mut Page,
-    source: &Source<'_>,
-    offset: usize,
-) -> Result<(), AllocError> {
+pub(crate) fn push_place(page: &mut Page, source: &Source<'_>, offset: usize) {
     let position = Position::of(source.bytes, offset);
-    page.push_str(source.path)?;
-    page.push_str(":")?;
-    page.push_number(position.line as u64)?;
-    page.push_str(":")?;
-    page.push_number(position.column as u64)?;
-    page.push_str(": ")
+    page.push_str(source.path);
+    page.push_str(":");
+    page.push_number(position.line as u64);
+    page.push_str(":");
+    page.push_number(position.column as u64);
+    page.push_str(": ");
 }

@@ -5,7 +5,6 @@ use crate::shapes::{field_at, members_of, type_name};
 use fb_json::Place;
 use fb_layout::Layout;
 use fb_schema::{Kind, Shape};
-use std::alloc::AllocError;
 
 /// Adds which union has a code without a member, and the members that it has.
 pub(crate) fn push_unnamed_member(
@@ -13,28 +12,29 @@ pub(crate) fn push_unnamed_member(
     layout: &Layout,
     sources: &Sources<'_>,
     place: Place,
-) -> Result<(), AllocError> {
+) {
     let schema = layout.schema();
-    page.push_str(sources.input.path)?;
-    page.push_str(": ")?;
-    page.push_cut(type_name(schema, place.owner).as_bytes())?;
+    page.push_str(sources.input.path);
+    page.push_str(": ");
+    page.push_cut(type_name(schema, place.owner).as_bytes());
     let field = place
         .slot
         .and_then(|slot| field_at(schema, place.owner, slot));
     let Some(field) = field else {
-        return page.push_line(": a union has a member that the schema doesn't know");
+        page.push_line(": a union has a member that the schema doesn't know");
+        return;
     };
-    page.push_str(".")?;
-    page.push_cut(field.name.as_bytes())?;
-    page.push_str(": the union's member is one that the schema doesn't have")?;
+    page.push_str(".");
+    page.push_cut(field.name.as_bytes());
+    page.push_str(": the union's member is one that the schema doesn't have");
     if let Shape::One(Kind::Code(union) | Kind::Union(union)) = field.shape {
-        page.push_str("; ")?;
-        page.push_cut(type_name(schema, union).as_bytes())?;
-        page.push_str(" has")?;
+        page.push_str("; ");
+        page.push_cut(type_name(schema, union).as_bytes());
+        page.push_str(" has");
         for (name, _) in members_of(schema, union) {
-            page.push_str(" ")?;
-            page.push_name(name.as_bytes())?;
+            page.push_str(" ");
+            page.push_name(name.as_bytes());
         }
     }
-    page.end_line()
+    page.end_line();
 }

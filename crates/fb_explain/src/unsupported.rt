@@ -2,7 +2,6 @@
 use crate::pages::Page;
 use crate::schema_tokens::{Token, Tokens};
 use crate::sources::{Source, push_place};
-use std::alloc::AllocError;
 
 /// The tokens before a token, the nearest first.
 #[derive(Clone, Copy)]
@@ -93,32 +92,27 @@ fn push_unsupported_token(
     token: Token<'_>,
     before: Before<'_>,
     offset: usize,
-) -> Result<(), AllocError> {
+) {
     match unsupported(token.bytes, before) {
         Some(what) if token.at != offset => {
-            push_place(page, source, token.at)?;
+            push_place(page, source, token.at);
             page.push_line(what)
         }
-        _ => Ok(()),
+        _ => {}
     }
 }
 
 /// Adds all other places at which something isn't supported.
-pub(crate) fn push_others(
-    page: &mut Page,
-    source: &Source<'_>,
-    offset: usize,
-) -> Result<(), AllocError> {
+pub(crate) fn push_others(page: &mut Page, source: &Source<'_>, offset: usize) {
     let mut tokens = Tokens::of(source.bytes);
     let mut before = Before::nothing();
     for _ in 0..source.bytes.len() {
         match tokens.next_token() {
             Some(token) => {
-                push_unsupported_token(page, source, token, before, offset)?;
+                push_unsupported_token(page, source, token, before, offset);
                 before = before.followed_by(token);
             }
             None => break,
         }
     }
-    Ok(())
 }
