@@ -3,7 +3,7 @@ use crate::breach_fields::Compared;
 use crate::pages::Page;
 use crate::shapes::{members_of, type_name, values_of};
 use crate::sides::{Sides, Twin};
-use fb_conform::Breach;
+use fb_conform::{Breach, all_breaches};
 use fb_schema::{Schema, TypeId};
 
 fn kind_of_type(schema: &Schema, number: TypeId) -> &'static str {
@@ -120,7 +120,7 @@ impl<'s, 't> Sides<'s, 't> {
     }
 
     /// Adds a breach, with what was and what is.
-    pub(crate) fn push_breach(&self, page: &mut Page, breach: Breach) {
+    fn push_breach(&self, page: &mut Page, breach: Breach) {
         match breach {
             Breach::RootChanged => self.push_root(page),
             Breach::IdentifierChanged => self.push_identifiers(page),
@@ -149,6 +149,17 @@ impl<'s, 't> Sides<'s, 't> {
             Breach::DeprecatedTakenBack(old, slot) => {
                 self.push_field_change(page, old, slot, Compared::Deprecated)
             }
+        }
+    }
+
+    /// Adds every breach.
+    pub(crate) fn push_breaches(&self, page: &mut Page) {
+        let listed = all_breaches(page.alloc(), self.old.layout, self.new.layout);
+        let Some(breaches) = page.keep(listed) else {
+            return;
+        };
+        for breach in &breaches {
+            self.push_breach(page, *breach);
         }
     }
 }

@@ -151,7 +151,7 @@ fn push_rule(page: &mut Page, layout: &Layout, limits: Limits, bytes: &[u8], fau
                 " tables, strings, vectors, elements and bytes of strings",
             )
         }
-        ReadFault::Memory => page.push_line("memory ran out while the buffer was read"),
+        ReadFault::Memory => {}
     }
 }
 

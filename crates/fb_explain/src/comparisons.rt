@@ -2,20 +2,19 @@
 use crate::pages::Page;
 use crate::sides::{Side, Sides};
 use crate::sources::Source;
-use fb_conform::Breach;
 use fb_syntax::parse;
 use flatc_tool::schema_of;
 
 /// What to do with two schemas side by side.
 #[derive(Clone, Copy)]
 pub(crate) enum Asked {
-    Breach(Breach),
+    Breaches,
     Warnings,
 }
 
 fn push_asked(page: &mut Page, sides: &Sides<'_, '_>, asked: Asked) {
     match asked {
-        Asked::Breach(breach) => sides.push_breach(page, breach),
+        Asked::Breaches => sides.push_breaches(page),
         Asked::Warnings => sides.push_warnings(page),
     }
 }

@@ -3,13 +3,14 @@ use crate::bad_json::push_bad_json;
 use crate::buffer_faults::push_buffer_fault;
 use crate::comparisons::{Asked, push_comparison};
 use crate::json_faults::push_json_fault;
+use crate::memory::memory_use;
 use crate::pages::Page;
 use crate::schema_faults::push_schema_fault;
 use crate::sources::Source;
 use crate::union_codes::push_unnamed_member;
 use fb_text::{TextFault, WriteFault};
 use fb_value::Limits;
-use flatc_tool::{SchemaTextFault, ToolFault, schema_of};
+use flatc_tool::{BuildFault, ToolFault, schema_of};
 use std::alloc::{AllocError, Global};
 
 /// A file that couldn't be read or written: its path, and the reason as the system says it.
@@ -31,7 +32,7 @@ pub struct Sources<'a> {
     pub unknown_json: bool,
     /// Whether the file identifier check is skipped.
     pub raw_binary: bool,
-    /// The file that a fault of files is about.
+    /// The file that can't be read or written, or standard output.
     pub failure: Option<FileFailure<'a>>,
 }
 
@@ -44,41 +45,69 @@ fn push_file(page: &mut Page, failure: Option<FileFailure<'_>>) {
     page.push_line(failure.reason);
 }
 
-fn push_explanation(page: &mut Page, fault: ToolFault, sources: &Sources<'_>) {
+fn push_written(page: &mut Page, written: u64, failure: Option<FileFailure<'_>>) {
+    page.push_str("standard output took no more after ");
+    page.push_number(written);
+    page.push_str(" bytes");
+    if let Some(failure) = failure {
+        page.push_str(": ");
+        page.push_str(failure.reason);
+    }
+    page.end_line();
+}
+
+/// Adds what is wrong with a JSON text or a buffer under its schema.
+fn push_under_layout(page: &mut Page, fault: ToolFault, sources: &Sources<'_>) {
+    let Ok(layout) = schema_of(page.alloc(), sources.schema.bytes) else {
+        return;
+    };
+    match fault {
+        ToolFault::Json(fault) => push_json_fault(page, &layout, sources, fault),
+        ToolFault::Read(fault) => push_buffer_fault(page, &layout, sources, fault),
+        ToolFault::Text(TextFault::NoMemberName(place))
+        | ToolFault::Write(WriteFault::NoMemberName(place)) => {
+            push_unnamed_member(page, &layout, sources, place)
+        }
+        _ => {}
+    }
+}
+
+/// Adds what is wrong with the job or what it was done with.
+fn push_problem(page: &mut Page, fault: ToolFault, sources: &Sources<'_>) {
     match fault {
         ToolFault::Schema(fault) | ToolFault::Older(fault) => {
             push_schema_fault(page, &sources.schema, fault)
         }
         ToolFault::Newer(fault) => push_schema_fault(page, &sources.input, fault),
         ToolFault::BadJson => push_bad_json(page, &sources.input),
-        ToolFault::Json(fault) => match schema_of(page.alloc(), sources.schema.bytes) {
-            Ok(layout) => push_json_fault(page, &layout, sources, fault),
-            Err(_) => {}
-        },
-        ToolFault::Text(TextFault::NoMemberName(place))
-        | ToolFault::Write(WriteFault::NoMemberName(place)) => {
-            match schema_of(page.alloc(), sources.schema.bytes) {
-                Ok(layout) => push_unnamed_member(page, &layout, sources, place),
-                Err(_) => {}
-            }
-        }
+        ToolFault::Json(_)
+        | ToolFault::Read(_)
+        | ToolFault::Text(TextFault::NoMemberName(_))
+        | ToolFault::Write(WriteFault::NoMemberName(_)) => push_under_layout(page, fault, sources),
         ToolFault::Write(WriteFault::WriteFailed(written)) => {
-            page.push_str("standard output took no more after ");
-            page.push_number(written);
-            page.push_line(" bytes")
+            push_written(page, written, sources.failure)
         }
-        ToolFault::Read(fault) => match schema_of(page.alloc(), sources.schema.bytes) {
-            Ok(layout) => push_buffer_fault(page, &layout, sources, fault),
-            Err(_) => {}
-        },
-        ToolFault::Breach(breach) => {
-            push_comparison(page, sources.schema, sources.input, Asked::Breach(breach))
+        ToolFault::Breach(_) => {
+            push_comparison(page, sources.schema, sources.input, Asked::Breaches)
         }
         ToolFault::FileRead | ToolFault::FileWrite | ToolFault::FileTooLong => {
             push_file(page, sources.failure)
         }
-        ToolFault::Memory => page.push_line("memory ran out while a file was read"),
-        _ => {}
+        ToolFault::Build(BuildFault::TooBig) => page.push_line(
+            "the buffer may take more than 2147483647 bytes, the most that offsets reach",
+        ),
+        ToolFault::Build(BuildFault::Memory) | ToolFault::Text(TextFault::Memory) => {}
+        ToolFault::Memory => {}
+    }
+}
+
+fn push_explanation(page: &mut Page, fault: ToolFault, sources: &Sources<'_>) {
+    match memory_use(fault) {
+        Some(what) => {
+            page.push_str("memory ran out while ");
+            page.push_line(what);
+        }
+        None => push_problem(page, fault, sources),
     }
 }
 

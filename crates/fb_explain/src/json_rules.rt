@@ -255,7 +255,6 @@ pub(crate) fn push_rule(
     is_element: bool,
 ) {
     let Some(place) = fault.place() else {
-        page.push_line("memory ran out while the JSON text was converted");
         return;
     };
     let field = place
@@ -292,6 +291,6 @@ pub(crate) fn push_rule(
             u64::from(limits.most_cells()),
             " tables, strings, vectors, elements and bytes of strings",
         ),
-        JsonFault::Memory => page.push_line("memory ran out while the JSON text was converted"),
+        JsonFault::Memory => {}
     }
 }

@@ -59,7 +59,7 @@ fn push_syntax_sentence(page: &mut Page, text: &[u8], offset: usize, fault: Synt
         SyntaxFault::NestedVector(_) => {
             page.push_line("a vector of vectors isn't supported: put the inner one into a table")
         }
-        SyntaxFault::Memory => page.push_line("memory ran out while the schema was read"),
+        SyntaxFault::Memory => {}
     }
 }
 
@@ -260,7 +260,7 @@ fn push_schema_sentence(
                 " must have four printable ASCII characters",
             )
         }
-        SchemaFault::Memory => page.push_line("memory ran out while the declarations were checked"),
+        SchemaFault::Memory => {}
     }
 }
 
@@ -316,6 +316,6 @@ pub(crate) fn push_schema_fault(page: &mut Page, source: &Source<'_>, fault: Sch
             number.0,
             " is too wide: a table's fields take 65535 bytes together at most, in 32765 slots at most",
         ),
-        _ => page.push_line("memory ran out while the schema was read"),
+        _ => {}
     }
 }
