@@ -62,6 +62,7 @@ pub(crate) struct SlotBreaches {
 }
 
 /// What of two fields in one slot is a breach.
+#[inline(always)]
 pub(crate) fn slot_breaches(
     old: &Schema,
     new: &Schema,
