@@ -174,7 +174,9 @@ CHANGES = [
      ["Monster.ok: is gone (old.fbs:15); a field is never removed, but marked (deprecated)"]),
     ("a new field that is required", "  ok:bool;\n", "  ok:bool;\n  more:string (required);\n",
      "100 NewRequired in type 5 slot 10", ["Monster.more: is new and required (new.fbs:16); old data doesn't have it"]),
-    ("a type that is gone", "Spell", "Magic", "92 TypeGone in type 2", ["'Spell' is gone (old.fbs:3)"]),
+    ("a type that is gone", "Spell", "Magic", "92 TypeGone in type 2",
+     ["'Spell' is gone (old.fbs:3)", "'Equipment' has lost a member (old.fbs:5) -> (new.fbs:5)",
+      "  member 2 was Spell, is Magic"]),
     ("another root", "root_type Monster", "root_type Weapon", "90 RootChanged",
      ["the root was 'Monster', is 'Weapon'"]),
     ("a new identifier", "root_type Monster;", 'root_type Monster; file_identifier "MONS";', "91 IdentifierChanged",
@@ -189,6 +191,30 @@ CHANGES = [
     ("members that changed places", "{ Weapon, Spell }", "{ Spell, Weapon }", "102 UnionChanged in type 4",
      ["'Equipment' has lost a member (old.fbs:5) -> (new.fbs:5)", "  member 1 was Weapon, is Spell",
       "  member 2 was Spell, is Weapon"]),
+]
+
+# Several changes of the schema at once, and the sentences on all of them.
+SEVERAL = [
+    ("root_type Monster;", 'root_type Monster; file_identifier "MONS";'),
+    ("Red, Green, Blue", "Red, Green"),
+    ("y:int;", "y:int; z:int;"),
+    ("damage:short", "damage:int"),
+    ("name:string (required)", "name:string"),
+    ("hp:ubyte = 100", "hp:short = 90"),
+    ("old:int (deprecated)", "old:int"),
+    ("  ok:bool;\n", "  ok:bool;\n  more:string (required);\n"),
+]
+SEVERAL_SENTENCES = [
+    "the file identifier was none, is 'MONS'",
+    "'Color' has lost a value, or its type or mark changed (old.fbs:1) -> (new.fbs:1)",
+    "  'Blue' was 2, is gone",
+    "'Pos' has fields of other types, or another alignment (old.fbs:2) -> (new.fbs:2)",
+    "Weapon.damage: the type was short (old.fbs:4), is int (new.fbs:4)",
+    "Monster.name: was required (old.fbs:7), is not required (new.fbs:7)",
+    "Monster.hp: the type was ubyte (old.fbs:8), is short (new.fbs:8)",
+    "Monster.hp: the default was 100 (old.fbs:8), is 90 (new.fbs:8)",
+    "Monster.old: was deprecated (old.fbs:13), is not deprecated (new.fbs:13)",
+    "Monster.more: is new and required (new.fbs:16); old data doesn't have it",
 ]
 
 # Lines for Google's flatc, and the hint behind the usage error.
@@ -299,6 +325,12 @@ def changes(tests):
         write("new.fbs", MONSTER.replace(was, now).encode())
         tests.expect(name, ["conform", "--explain", "old.fbs", "new.fbs"], 1, err=lines(fault, *sentences))
         tests.expect(f"{name}, alone", ["conform", "old.fbs", "new.fbs"], 1, err=lines(fault))
+    new = MONSTER
+    for was, now in SEVERAL:
+        new = new.replace(was, now)
+    write("new.fbs", new.encode())
+    tests.expect("several breaches", ["conform", "--explain", "old.fbs", "new.fbs"], 1,
+                 err=lines("91 IdentifierChanged", *SEVERAL_SENTENCES))
     moved = MONSTER.replace("  big:ulong;\n", "  more:ulong;\n").replace("  ok:bool;\n", "  ok:bool;\n  big:ulong;\n")
     write("new.fbs", moved.encode())
     want = lines(
