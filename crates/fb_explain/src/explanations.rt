@@ -1,4 +1,8 @@
 //! A refusal in sentences.
+ghost use Rattle.std.specs.Prelude.{IfOk, chars};
+ghost use Rattle.std.specs.String.{string_bytes};
+ghost use Rattle.fb_explain.specs.Lines.{IsPage};
+
 use crate::bad_json::push_bad_json;
 use crate::buffer_faults::push_buffer_fault;
 use crate::comparisons::{Asked, push_comparison};
@@ -118,7 +122,9 @@ pub fn explain(
     alloc: Global,
     fault: &ToolFault,
     sources: &Sources<'_>,
-) -> Result<String, AllocError> {
+) -> Result<String, AllocError>
+    ensures plain { IfOk result (λ text. IsPage (chars (string_bytes text))) }
+{
     let mut page = Page::new(alloc);
     push_explanation(&mut page, *fault, sources);
     page.into_text()
@@ -126,7 +132,9 @@ pub fn explain(
 
 /// What may be meant otherwise under a new schema that conforms: a line for each name that stands for
 /// another field or member, since JSON texts go by names.
-pub fn warnings<'t>(alloc: Global, old: Source<'t>, new: Source<'t>) -> Result<String, AllocError> {
+pub fn warnings<'t>(alloc: Global, old: Source<'t>, new: Source<'t>) -> Result<String, AllocError>
+    ensures plain { IfOk result (λ text. IsPage (chars (string_bytes text))) }
+{
     let mut page = Page::new(alloc);
     push_comparison(&mut page, old, new, Asked::Warnings);
     page.into_text()

@@ -15,6 +15,7 @@ mod fault_pages;
 mod json_faults;
 mod json_places;
 mod json_rules;
+mod lines;
 mod memory;
 mod moved_names;
 mod near_names;

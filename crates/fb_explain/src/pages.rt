@@ -1,36 +1,27 @@
-//! Lines for people, which can't drive a terminal.
+//! Lines for people, wrapped at spaces.
+ghost use Rattle.std.specs.Prelude.{IfOk, chars};
+ghost use Rattle.std.specs.String.{string_bytes};
+ghost use Rattle.fb_explain.specs.Lines.{IsPage};
+
+use crate::lines::{COLUMNS, Lines, plain_width};
 use bstr::decode_utf8;
 use itoa::Buffer;
 use std::alloc::{AllocError, Global};
-use unicode_width::UnicodeWidthChar;
-
-/// How many columns a line has at most.
-pub(crate) const COLUMNS: usize = 120;
 
 // How many columns a tab takes.
 const TAB: usize = 4;
 
-/// Plain lines of at most 120 columns.
+/// Lines that are wrapped at spaces; of what they are made, each byte that isn't UTF-8 is escaped.
 ///
-/// What takes no column of its own, as a control character or a mark that turns the direction of
-/// writing, is escaped, and so is each byte that isn't UTF-8. Once memory ran out nothing is added any
-/// more.
+/// Once memory ran out nothing is added any more.
 #[derive(Drop)]
 pub(crate) struct Page {
     alloc: Global,
-    text: String,
-    /// The line that isn't ended yet.
+    lines: Lines,
+    /// The line that isn't ended yet, with nothing escaped.
     line: String,
     /// The first growth that was refused.
     failed: Option<AllocError>,
-}
-
-/// How many columns a character takes where it can be shown as it is.
-fn plain_width(character: char) -> Option<usize> {
-    match character.width() {
-        Some(width) if width > 0 => Some(width),
-        _ => None,
-    }
 }
 
 /// How many columns a character takes as it is shown, or so many bytes that are none.
@@ -70,7 +61,7 @@ fn cut_len(line: &str, columns: usize) -> usize {
 }
 
 /// Adds a line, which goes on in further ones where it is too long.
-fn push_wrapped(text: &mut String, line: &str) -> Result<(), AllocError> {
+fn put_wrapped(lines: &mut Lines, line: &str) -> Result<(), AllocError> {
     let mut rest = line;
     let mut columns = COLUMNS;
     for _ in 0..line.len() {
@@ -78,21 +69,21 @@ fn push_wrapped(text: &mut String, line: &str) -> Result<(), AllocError> {
         if cut == rest.len() {
             break;
         }
-        text.push_str(rest.get(..cut).unwrap_or("").trim_end())?;
-        text.push_str("\n    ")?;
+        lines.put_str(rest.get(..cut).unwrap_or("").trim_end_matches(' '))?;
+        lines.end()?;
+        lines.put_str("    ")?;
         rest = rest.get(cut..).unwrap_or("");
         columns = COLUMNS - 4;
     }
-    text.push_str(rest)?;
-    text.push('\n')?;
-    Ok(())
+    lines.put_str(rest)?;
+    lines.end()
 }
 
 impl Page {
     pub(crate) fn new(alloc: Global) -> Page {
         Page {
             alloc,
-            text: String::new(alloc),
+            lines: Lines::new(alloc),
             line: String::new(alloc),
             failed: None,
         }
@@ -103,10 +94,12 @@ impl Page {
     }
 
     /// The lines, unless memory ran out.
-    pub(crate) fn into_text(self) -> Result<String, AllocError> {
+    pub(crate) fn into_text(self) -> Result<String, AllocError>
+        ensures plain { IfOk result (λ text. IsPage (chars (string_bytes text))) }
+    {
         match self.failed {
             Some(error) => Err(error),
-            None => Ok(self.text),
+            None => self.lines.into_text(),
         }
     }
 
@@ -124,14 +117,13 @@ impl Page {
     /// Ends the line, which goes on in further ones where it is too long.
     pub(crate) fn end_line(&mut self) {
         if self.failed.is_none() {
-            let pushed = push_wrapped(&mut self.text, self.line.as_str());
-            self.keep(pushed);
+            let put = put_wrapped(&mut self.lines, self.line.as_str());
+            self.keep(put);
         }
         self.line.clear();
     }
 
-    /// Adds a character that can be shown as it is.
-    fn push_plain(&mut self, character: char) {
+    fn push(&mut self, character: char) {
         if self.failed.is_none() {
             let pushed = self.line.push(character);
             self.keep(pushed);
@@ -141,20 +133,16 @@ impl Page {
     /// Adds so many spaces.
     pub(crate) fn push_spaces(&mut self, count: usize) {
         for _ in 0..count {
-            self.push_plain(' ');
+            self.push(' ');
         }
     }
 
-    /// Adds a character as it is shown.
+    /// Adds a character; a tab as spaces.
     fn push_character(&mut self, character: char) {
         if character == '\t' {
             self.push_spaces(TAB);
-        } else if plain_width(character).is_some() {
-            self.push_plain(character);
         } else {
-            for escaped in character.escape_unicode() {
-                self.push_plain(escaped);
-            }
+            self.push(character);
         }
     }
 
@@ -168,8 +156,8 @@ impl Page {
 
     /// Adds a byte as two hexadecimal digits.
     pub(crate) fn push_hex(&mut self, byte: u8) {
-        self.push_plain(DIGITS[usize::from(byte / 16)]);
-        self.push_plain(DIGITS[usize::from(byte % 16)]);
+        self.push(DIGITS[usize::from(byte / 16)]);
+        self.push(DIGITS[usize::from(byte % 16)]);
     }
 
     /// Adds a text as it is shown.

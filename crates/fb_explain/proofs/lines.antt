@@ -1,0 +1,2 @@
+pub mod AsciiIsPlain
+pub mod WhatIsWrittenIsLines
