@@ -44,7 +44,7 @@ fn items_from(
     let mut left = left;
     for element in elements {
         let (item, rest) = value(source, &element, Shape::One(kind), place, levels, left)?;
-        found.push(item)?;
+        found.push_reserved(item);
         left = rest;
     }
     Ok((found, left))
@@ -219,7 +219,7 @@ fn entries_from(
             levels,
             left,
         )?;
-        found.push(entry)?;
+        found.push_reserved(entry);
         left = rest;
     }
     Ok((found, left))
