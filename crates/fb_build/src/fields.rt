@@ -135,16 +135,17 @@ fn is_default(slot: &FieldInfo, entry: &Option<Value>) -> bool
     }
 }
 
-/// Whether a slot's entry is stored: a number that is the slot's default isn't.
-pub(crate) fn is_stored(slot: &FieldInfo, code: Option<u8>, entry: &Option<Value>) -> bool
+/// Whether a slot's entry is stored: a number that is the slot's default isn't. Only for a union's code the entries
+/// behind are looked at.
+pub(crate) fn is_stored(slot: &FieldInfo, entry: &Option<Value>, behind: &[Option<Value>]) -> bool
     ensures { (L : LaidSchema) → result ≡ is_stored (slot_seen L slot.now)
-        (entry_stored L slot.now code entry.now) }
+        (entry_stored L slot.now (next_code (entries_seen behind.now)) entry.now) }
 {
     if is_default(slot, entry) {
         return false;
     }
     if is_code(slot.shape) {
-        return code.is_some();
+        return code_at(behind, 0).is_some();
     }
     entry.is_some()
 }

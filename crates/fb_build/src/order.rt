@@ -4,7 +4,7 @@ ghost use Rattle.fb_layout.specs.Sizes.{IsAlignment};
 ghost use Rattle.fb_build.specs.Fields.{AreKnown, slots_seen, stored_seen};
 ghost use Rattle.fb_build.specs.FieldOrder.{AreLinked, IsList, link_in};
 
-use crate::fields::{code_at, is_stored, slot_align};
+use crate::fields::{is_stored, slot_align};
 use fb_layout::Layout;
 use fb_schema::FieldInfo;
 use fb_value::Value;
@@ -65,8 +65,8 @@ fn list_fields(
     for k in 0..slots.len() {
         let slot = &slots[k];
         let entry = &entries[k];
-        let code = code_at(entries, k + 1);
-        if is_stored(slot, code, entry) {
+        let behind = &entries[k + 1..];
+        if is_stored(slot, entry, behind) {
             let log2 = log2_of(slot_align(layout, slot.shape));
             if firsts[log2] == 0 {
                 firsts[log2] = k + 1;

@@ -1,9 +1,10 @@
 //! Slots without a member.
-ghost use Rattle.std.specs.Prelude.{◌≡◌, ℕ, None, Some, Ok, IfSome, false, option_map};
+ghost use Rattle.std.specs.Prelude.{◌≡◌, ℕ, None, Some, Ok, true, false, option_map};
 ghost use Rattle.serde_json.specs.View.{view as tree_view};
 ghost use Rattle.fb_schema.specs.Schema.{DeclaredSchema};
 ghost use Rattle.fb_schema.specs.Seen.{field_seen};
 ghost use Rattle.fb_layout.specs.Laid.{LaidSchema, slot_of};
+ghost use Rattle.fb_value.specs.Datum.{a_number};
 ghost use Rattle.fb_value.specs.View.{view};
 ghost use Rattle.fb_json.specs.Outcome.{Gives};
 ghost use Rattle.fb_json.specs.Meant.{Look, as_absent, code_after, is_null, used_meant};
@@ -33,26 +34,31 @@ fn absent(slot: &FieldInfo, place: Place, left: u32) -> Result<(Option<Value>, u
     Ok((None, left))
 }
 
-/// The value that a slot without a mark has where it is a scalar or enum in use that isn't optional: its
-/// default. In a table of many fields most slots are so.
+/// Whether a slot without a mark is that of a scalar or enum in use that isn't optional: its default is its value.
+/// In a table of many fields most slots are so.
 #[tactic(auto, unfolding(crate::specs::Meant::code_after, crate::specs::Meant::plain_meant))]
-pub(crate) fn default_of(slot: &FieldInfo, marked: bool) -> Option<Value>
-    ensures unmarked { IfSome result (λ v. marked ≡ false) }
-    ensures used { IfSome result (λ v. slot.now.deprecated ≡ false) }
-    ensures code { IfSome result (λ v. (S : DeclaredSchema) (look : Look) (place : Place) (code : ℕ) →
+pub(crate) fn has_default(slot: &FieldInfo, marked: bool) -> bool
+    ensures unmarked { result ≡ true → marked ≡ false }
+    ensures used { result ≡ true → slot.now.deprecated ≡ false }
+    ensures code { (S : DeclaredSchema) (look : Look) (place : Place) (code : ℕ) → result ≡ true →
         let f = field_seen slot.now in
-        code_after S look place code f.deprecated f.name f.shape ≡ Ok code) }
-    ensures entry { IfSome result (λ v. (L : LaidSchema) (place : Place) (code levels left : ℕ) →
+        code_after S look place code f.deprecated f.name f.shape ≡ Ok code }
+    ensures entry { (L : LaidSchema) (place : Place) (code levels left : ℕ) → result ≡ true →
         let f = field_seen slot.now in
-        used_meant L f code None place levels left f.shape ≡ Ok (Some (view v), left)) }
+        used_meant L f code None place levels left f.shape ≡ Ok (Some (a_number slot.now.default), left) }
 {
-    if marked || slot.deprecated || slot.optional {
-        return None;
-    }
-    match slot.shape {
-        Shape::One(Kind::Scalar(_) | Kind::Enum(_)) => Some(Value::Number(slot.default)),
-        _ => None,
-    }
+    !marked
+        && !slot.deprecated
+        && !slot.optional
+        && matches!(slot.shape, Shape::One(Kind::Scalar(_) | Kind::Enum(_)))
+}
+
+/// The value that a slot's default is.
+#[inline(always)]
+pub(crate) fn default_of(slot: &FieldInfo) -> Value
+    ensures { view result ≡ a_number slot.now.default }
+{
+    Value::Number(slot.default)
 }
 
 /// The entry of a slot in use that has no member.

@@ -1,6 +1,6 @@
 //! The value of a whole tree that is given away. The elements of the root's vectors are dropped one by one, each
 //! once its value is made, so that the memory of the first serves the values of the later ones.
-ghost use Rattle.std.specs.Prelude.{◌≡◌, ◌⊎◌, ◌≤◌, None, false, true, IfErr, IfOk, map, length, option_map};
+ghost use Rattle.std.specs.Prelude.{◌≡◌, ◌⊎◌, ◌≤◌, None, false, true, IfErr, IfOk, map, length, option_map, vec_len};
 ghost use Rattle.serde_json.specs.Find.{as_object, get_member};
 ghost use Rattle.serde_json.specs.View.{view as tree_view, items_view, members_view};
 ghost use Rattle.fb_schema.specs.Schema.{Name};
@@ -28,6 +28,22 @@ use fb_value::{Limits, Value};
 use serde_json::{Map, Value as Json};
 use std::alloc::Global;
 
+// From how many elements on a block is worth making smaller.
+const LARGE: usize = 1024;
+
+/// Gives back the end of a block of elements once a quarter of it is empty.
+fn give_back(elements: &mut Vec<Json>)
+    ensures items { elements.new.items ≡ elements.old.items }
+    ensures len { vec_len elements.new ≡ vec_len elements.old }
+{
+    let capacity = elements.capacity();
+    if capacity >= LARGE && elements.len() <= capacity - capacity / 4 {
+        elements.shrink_to_fit();
+    }
+}
+
+/// The values of the elements of an array. They are taken from the end of the reversed array, which gives back its
+/// memory as it gets shorter.
 fn items_from(
     source: Source,
     elements: Vec<Json>,
@@ -42,10 +58,13 @@ fn items_from(
 {
     let mut found = Vec::with_capacity(source.alloc, elements.len())?;
     let mut left = left;
-    for element in elements {
+    let mut elements = elements;
+    elements.reverse();
+    while let Some(element) = elements.pop() {
         let (item, rest) = value(source, &element, Shape::One(kind), place, levels, left)?;
-        found.push(item)?;
+        found.push_reserved(item);
         left = rest;
+        give_back(&mut elements);
     }
     Ok((found, left))
 }
@@ -219,7 +238,7 @@ fn entries_from(
             levels,
             left,
         )?;
-        found.push(entry)?;
+        found.push_reserved(entry);
         left = rest;
     }
     Ok((found, left))

@@ -12,7 +12,7 @@ ghost use Rattle.fb_json.specs.Meant.{meant, items_meant, vector_meant, object_m
 ghost use Rattle.fb_json.specs.Meant.{look, slots_meant, entry_meant, used_meant, unless_null, as_member};
 ghost use Rattle.fb_json.specs.Meant.{parts_meant, part_meant};
 
-use crate::absent::{default_of, is_null, without};
+use crate::absent::{default_of, has_default, is_null, without};
 use crate::codes::code_after;
 use crate::faults::{JsonFault, Place};
 use crate::leaves::leaf;
@@ -88,7 +88,7 @@ fn items(
     let mut left = left;
     for element in elements {
         let (item, rest) = value(source, element, Shape::One(kind), place, levels, left)?;
-        found.push(item)?;
+        found.push_reserved(item);
         left = rest;
     }
     Ok((found, left))
@@ -175,13 +175,13 @@ fn entries(
             slot: Some(k as u16),
         };
         let marked = is_marked(marks, k);
-        if let Some(number) = default_of(slot, marked) {
-            found.push(Some(number))?;
+        if has_default(slot, marked) {
+            found.push_reserved(Some(default_of(slot)));
             continue;
         }
         code = code_after(source, members, slot, place, code, marked)?;
         let (entry, rest) = entry(source, members, slot, place, code, marked, levels, left)?;
-        found.push(entry)?;
+        found.push_reserved(entry);
         left = rest;
     }
     Ok((found, left))
@@ -370,7 +370,7 @@ fn parts(
             slot: Some(k as u16),
         };
         let (part, rest) = part(source, members, field, place, levels, left)?;
-        found.push(part)?;
+        found.push_reserved(part);
         left = rest;
     }
     Ok((found, left))

@@ -74,9 +74,9 @@ loop-k-preserved c =
     (sym (c.loop-k.invariant.later c.loop-k.k f (omega arith) at)) in
     let told = code_same L.schema seen now place c.loop-k.code f.deprecated f.name f.shape same in
     let given = entry_same L seen now f place c.in_ok-code.code c.args.levels c.loop-k.left same in
-    let e : map (option_map view) c.push.new.self.items ≡ map (option_map view) c.loop-k.found.items ++ option_map view
-    c.in_ok-entry.entry ∷ [] =
-    rw c.in_ok-push.ensures.items (map_push _ c.loop-k.found.items c.in_ok-entry.entry) in
+    let e : map (option_map view) c.push_reserved.new.self.items
+    ≡ map (option_map view) c.loop-k.found.items ++ option_map view c.in_ok-entry.entry ∷ [] =
+    rw c.push_reserved.ensures.items (map_push _ c.loop-k.found.items c.in_ok-entry.entry) in
     record {
       gives = rw e (c.loop-k.invariant.gives ∙ slots_next L seen c.args.owner.0 c.args.slots.now c.loop-k.k
           c.index-slots-k.result c.loop-k-test.true c.index-slots-k.is (map (option_map view) c.loop-k.found.items)
@@ -88,6 +88,8 @@ loop-k-preserved c =
           (λ same_name. let one : j ≡ c.loop-k.k = c.requires.names j c.loop-k.k g f there at same_name in
           omega (arith, past, one))
           ∙ c.loop-k.invariant.later j g (omega (arith, past)) there;
+      filled = omega (arith, c.push_reserved.ensures.len);
+      room = omega (arith, c.push_reserved.ensures.capacity);
     }
 
 pub returns : goal.returns

@@ -1,4 +1,5 @@
-use Rattle.std.proofs.Common.{◌≡◌, ◌≤◌, ℕ, Some, map, drop, option_map, slice_get}
+use Rattle.std.proofs.Common.{◌≡◌, ◌≤◌, ℕ, Some, map, drop, length, option_map, slice_get, vec_len}
+use Rattle.std.proofs.Common.{vec_capacity}
 use Rattle.serde_json.specs.Find.{get_member}
 use Rattle.serde_json.specs.View.{members_view}
 use Rattle.fb_schema.specs.Schema.{DeclaredField}
@@ -17,4 +18,6 @@ invariant-loop-k l = record {
       l.owner.0 (map field_seen (drop l.k l.slots)) l.k l.code l.levels l.left);
   later : (j : ℕ) (f : DeclaredField) → l.k ≤ j → slice_get (map field_seen l.slots) j ≡ Some f
       → get_member f.name (members_view l.members.entries) ≡ get_member f.name (members_view l.fn.members.entries);
+  filled : vec_len l.found ≡ l.k;
+  room : length l.slots ≤ vec_capacity l.found;
 }

@@ -1,10 +1,11 @@
-use Rattle.std.proofs.Common.{rules, ◌≡◌, ◌∙◌, ◌++◌, ◌∷◌, ◌≤◌, [], Some, Ok, refl, sym, length, map}
+use Rattle.std.proofs.Common.{rules, ◌≡◌, ◌∙◌, ◌++◌, ◌∷◌, ◌≤◌, [], Some, Ok, refl, sym, ap, length, map}
 use Rattle.std.proofs.Common.{option_map, arith}
 use Rattle.std.proofs.lemmas.Result.{err_from_is_err_and}
 use Rattle.std.proofs.lemmas.List.{map_push}
 use Rattle.serde_json.specs.View.{members_view}
 use Rattle.serde_json.proofs.Views.{view-Array}
 use Rattle.fb_schema.specs.Seen.{field_seen}
+use Rattle.fb_value.specs.Datum.{a_number}
 use Rattle.fb_value.specs.View.{view}
 use Rattle.fb_json.specs.Meant.{look, slot_place, entry_meant, part_meant}
 use Rattle.fb_json.proofs.members.MapFindsTheMembers.{found_some, found_none, looked_none}
@@ -33,7 +34,7 @@ entries-returns-in_err-code t c =
     let seen = look L c.args.source.unknown (members_view c.args.members.now.entries) in
     let p = err_from_is_err_and c.from_residual-in_err-code.result c.from_residual-in_err-code.ensures.1 in
     rw (p.1, p.2) (fails_is c.in_err-code.field-0.0 _
-    (c.loop-k.invariant ∙ slots_untold L seen c.args.owner.0 c.args.slots.now c.loop-k.k c.index-slots-k.result
+    (c.loop-k.invariant.gives ∙ slots_untold L seen c.args.owner.0 c.args.slots.now c.loop-k.k c.index-slots-k.result
     c.loop-k-test.true c.index-slots-k.is (map (option_map view) c.loop-k.found.items) c.loop-k.code c.args.levels
     c.loop-k.left _ (sym c.in_err-code.ensures)))
 
@@ -45,50 +46,61 @@ entries-returns-in_err-entry t c =
     rw (p.1, p.2) (fails_by c.in_err-entry.field-0.0
     (entry_meant L seen (field_seen c.index-slots-k.result) (slot_place c.args.owner.0 c.loop-k.k) c.in_ok-code.code
     c.args.levels c.loop-k.left) _
-    (λ h. c.loop-k.invariant ∙ slots_ungiven L seen c.args.owner.0 c.args.slots.now c.loop-k.k c.index-slots-k.result
+    (λ h. c.loop-k.invariant.gives ∙ slots_ungiven L seen c.args.owner.0 c.args.slots.now c.loop-k.k c.index-slots-k.result
     c.loop-k-test.true c.index-slots-k.is (map (option_map view) c.loop-k.found.items) c.loop-k.code c.args.levels
     c.loop-k.left c.in_ok-code.code _ (sym c.in_ok-code.ensures) h) c.in_err-entry.ensures)
 
-pub entries-loop-k-preserved-in-Some : goal.entries-loop-k-preserved-in-Some
-entries-loop-k-preserved-in-Some t c =
+pub entries-loop-k-preserved-then-has_default : goal.entries-loop-k-preserved-then-has_default
+entries-loop-k-preserved-then-has_default t c =
     let L = c.args.source.layout.now in
     let f = field_seen c.index-slots-k.result in
+    let n = c.index-slots-k.result.default in
     let place = slot_place c.args.owner.0 c.loop-k.k in
     let seen = look L c.args.source.unknown (members_view c.args.members.now.entries) in
     let none = looked_none L c.args.source.unknown (members_view c.args.members.now.entries) f.name
     (c.requires.marks c.loop-k.k f
     (slot_at c.args.slots.now c.loop-k.k c.index-slots-k.result c.loop-k-test.true c.index-slots-k.is)
-    (sym c.is_marked-marked.ensures ∙ c.in-Some.ensures.unmarked)) in
+    (sym c.is_marked-marked.ensures ∙ c.has_default.ensures.unmarked c.if-has_default.true)) in
     let entry : entry_meant L seen f place c.loop-k.code c.args.levels c.loop-k.left
-    ≡ Ok (Some (view c.in-Some.number), c.loop-k.left) =
-    entry_none L seen f place c.loop-k.code c.args.levels c.loop-k.left c.in-Some.ensures.used none
-    ∙ c.in-Some.ensures.entry L place c.loop-k.code c.args.levels c.loop-k.left in
-    let e : map (option_map view) c.push.new.self.items
-    ≡ map (option_map view) c.loop-k.found.items ++ Some (view c.in-Some.number) ∷ [] =
-    rw c.in_ok-push.ensures.items (map_push (option_map view) c.loop-k.found.items (Some c.in-Some.number)) in
-    rw e (c.loop-k.invariant ∙ slots_next L seen c.args.owner.0 c.args.slots.now c.loop-k.k c.index-slots-k.result
-    c.loop-k-test.true c.index-slots-k.is (map (option_map view) c.loop-k.found.items) c.loop-k.code c.args.levels
-    c.loop-k.left c.loop-k.code c.loop-k.left (Some (view c.in-Some.number))
-    (c.in-Some.ensures.code L.schema seen place c.loop-k.code) entry)
+    ≡ Ok (Some (a_number n), c.loop-k.left) =
+    entry_none L seen f place c.loop-k.code c.args.levels c.loop-k.left
+    (c.has_default.ensures.used c.if-has_default.true) none
+    ∙ c.has_default.ensures.entry L place c.loop-k.code c.args.levels c.loop-k.left c.if-has_default.true in
+    let e : map (option_map view) c.push_reserved.new.self.items
+    ≡ map (option_map view) c.loop-k.found.items ++ Some (a_number n) ∷ [] =
+    rw c.push_reserved.ensures.items (map_push (option_map view) c.loop-k.found.items (Some c.default_of.result)
+    ∙ ap (λ v. map (option_map view) c.loop-k.found.items ++ Some v ∷ []) c.default_of.ensures) in
+    record {
+      gives = rw e (c.loop-k.invariant.gives ∙ slots_next L seen c.args.owner.0 c.args.slots.now c.loop-k.k
+          c.index-slots-k.result c.loop-k-test.true c.index-slots-k.is (map (option_map view) c.loop-k.found.items)
+          c.loop-k.code c.args.levels c.loop-k.left c.loop-k.code c.loop-k.left (Some (a_number n))
+          (c.has_default.ensures.code L.schema seen place c.loop-k.code c.if-has_default.true) entry);
+      filled = omega (arith, c.push_reserved.ensures.len);
+      room = omega (arith, c.push_reserved.ensures.capacity);
+    }
 
 pub entries-loop-k-preserved : goal.entries-loop-k-preserved
 entries-loop-k-preserved t c =
     let L = c.args.source.layout.now in
     let seen = look L c.args.source.unknown (members_view c.args.members.now.entries) in
-    let e : map (option_map view) c.push-in-loop-k.new.self.items ≡ map (option_map view) c.loop-k.found.items ++ option_map view
-    c.in_ok-entry.entry ∷ [] =
-    rw c.in_ok-push-2.ensures.items (map_push _ c.loop-k.found.items c.in_ok-entry.entry) in
-    rw e (c.loop-k.invariant ∙ slots_next L seen c.args.owner.0 c.args.slots.now c.loop-k.k c.index-slots-k.result
-    c.loop-k-test.true c.index-slots-k.is (map (option_map view) c.loop-k.found.items) c.loop-k.code c.args.levels
-    c.loop-k.left c.in_ok-code.code c.in_ok-entry.rest (option_map view c.in_ok-entry.entry)
-    (sym c.in_ok-code.ensures) c.in_ok-entry.ensures)
+    let e : map (option_map view) c.push_reserved-in-loop-k.new.self.items
+    ≡ map (option_map view) c.loop-k.found.items ++ option_map view c.in_ok-entry.entry ∷ [] =
+    rw c.push_reserved-in-loop-k.ensures.items (map_push _ c.loop-k.found.items c.in_ok-entry.entry) in
+    record {
+      gives = rw e (c.loop-k.invariant.gives ∙ slots_next L seen c.args.owner.0 c.args.slots.now c.loop-k.k
+          c.index-slots-k.result c.loop-k-test.true c.index-slots-k.is (map (option_map view) c.loop-k.found.items)
+          c.loop-k.code c.args.levels c.loop-k.left c.in_ok-code.code c.in_ok-entry.rest
+          (option_map view c.in_ok-entry.entry) (sym c.in_ok-code.ensures) c.in_ok-entry.ensures);
+      filled = omega (arith, c.push_reserved-in-loop-k.ensures.len);
+      room = omega (arith, c.push_reserved-in-loop-k.ensures.capacity);
+    }
 
 pub entries-returns : goal.entries-returns
 entries-returns t c =
     let L = c.args.source.layout.now in
     let seen = look L c.args.source.unknown (members_view c.args.members.now.entries) in
     let past : length c.args.slots.now ≤ c.loop-k.k = omega arith in
-    c.loop-k.invariant ∙ slots_end L seen c.args.owner.0 c.args.slots.now c.loop-k.k
+    c.loop-k.invariant.gives ∙ slots_end L seen c.args.owner.0 c.args.slots.now c.loop-k.k
     (map (option_map view) c.loop-k.found.items) c.loop-k.code c.args.levels c.loop-k.left past
 
 pub parts-returns-in_err-part : goal.parts-returns-in_err-part
@@ -99,7 +111,7 @@ parts-returns-in_err-part t c =
     rw (p.1, p.2) (fails_by c.in_err-part.field-0.0
     (part_meant (seen (field_seen c.index-fields-k.result).name) c.index-fields-k.result.shape
     (slot_place c.args.owner.0 c.loop-k.k) c.args.levels c.loop-k.left) _
-    (λ h. c.loop-k.invariant ∙ parts_ungiven L seen c.args.owner.0 c.args.fields.now c.loop-k.k c.index-fields-k.result
+    (λ h. c.loop-k.invariant.gives ∙ parts_ungiven L seen c.args.owner.0 c.args.fields.now c.loop-k.k c.index-fields-k.result
     c.loop-k-test.true c.index-fields-k.is (map view c.loop-k.found.items) c.args.levels c.loop-k.left
     (slot_place c.args.owner.0 c.loop-k.k) refl _ h) c.in_err-part.ensures)
 
@@ -107,18 +119,23 @@ pub parts-loop-k-preserved : goal.parts-loop-k-preserved
 parts-loop-k-preserved t c =
     let L = c.args.source.layout.now in
     let seen = look L c.args.source.unknown (members_view c.args.members.now.entries) in
-    let e : map view c.push.new.self.items ≡ map view c.loop-k.found.items ++ view c.in_ok-part.part ∷ [] =
-    rw c.in_ok-push.ensures.items (map_push _ c.loop-k.found.items c.in_ok-part.part) in
-    rw e (c.loop-k.invariant ∙ parts_next L seen c.args.owner.0 c.args.fields.now c.loop-k.k c.index-fields-k.result
-    c.loop-k-test.true c.index-fields-k.is (map view c.loop-k.found.items) c.args.levels c.loop-k.left
-    (slot_place c.args.owner.0 c.loop-k.k) refl c.in_ok-part.rest (view c.in_ok-part.part) c.in_ok-part.ensures)
+    let e : map view c.push_reserved.new.self.items ≡ map view c.loop-k.found.items ++ view c.in_ok-part.part ∷ [] =
+    rw c.push_reserved.ensures.items (map_push _ c.loop-k.found.items c.in_ok-part.part) in
+    record {
+      gives = rw e (c.loop-k.invariant.gives ∙ parts_next L seen c.args.owner.0 c.args.fields.now c.loop-k.k
+          c.index-fields-k.result c.loop-k-test.true c.index-fields-k.is (map view c.loop-k.found.items) c.args.levels
+          c.loop-k.left (slot_place c.args.owner.0 c.loop-k.k) refl c.in_ok-part.rest (view c.in_ok-part.part)
+          c.in_ok-part.ensures);
+      filled = omega (arith, c.push_reserved.ensures.len);
+      room = omega (arith, c.push_reserved.ensures.capacity);
+    }
 
 pub parts-returns : goal.parts-returns
 parts-returns t c =
     let L = c.args.source.layout.now in
     let seen = look L c.args.source.unknown (members_view c.args.members.now.entries) in
     let past : length c.args.fields.now ≤ c.loop-k.k = omega arith in
-    c.loop-k.invariant ∙ parts_end seen c.args.owner.0 c.args.fields.now c.loop-k.k (map view c.loop-k.found.items)
+    c.loop-k.invariant.gives ∙ parts_end seen c.args.owner.0 c.args.fields.now c.loop-k.k (map view c.loop-k.found.items)
     c.args.levels c.loop-k.left past
 
 pub part-returns-in-Some : goal.part-returns-in-Some
