@@ -41,7 +41,13 @@ SCHEMAS = [
     ("a text that the file's end cuts off", 'attribute ¦"what', "3 Unterminated", "this text has no closing quote"),
     ("a number of more than 64 bits", "table T { a:ulong = ¦18446744073709551616; }", "4 NumberTooBig",
      "the number 18446744073709551616 is too large for 64 bits"),
-    ("a missing semicolon", "table T {\n  a:int\n  ¦b:int;\n}", "5 Unexpected", "'b' isn't expected here"),
+    ("a missing semicolon", "table T {\n  a:int\n  ¦b:int;\n}", "5 Unexpected",
+     "'b' isn't expected here: ';' is expected"),
+    ("a missing colon", "table T {\n  a ¦int;\n}", "5 Unexpected", "'int' isn't expected here: ':' is expected"),
+    ("a missing brace", "table T ¦a:int; }", "5 Unexpected", "'a' isn't expected here: '{' is expected"),
+    ("a root without a semicolon", "table T { a:int; }\nroot_type T\n¦table U { }", "5 Unexpected",
+     "'table' isn't expected here: ';' is expected"),
+    ("a type with a semicolon too many", "table T { a:int;¦; }", "5 Unexpected", "';' isn't expected here"),
     ("a text that ends too early", "table T { a:int;¦", "5 Unexpected",
      "the text ends here, in the middle of a declaration"),
     ("an include", '¦include "a.fbs";\ntable T { }', "5 Unexpected",
@@ -56,7 +62,15 @@ SCHEMAS = [
     ("a vector of vectors", "table T { a:[¦[int]]; }", "6 NestedVector",
      "a vector of vectors isn't supported: put the inner one into a table"),
     ("a field twice", "table T { hp:int; ¦hp:short; }\nroot_type T;", "10 DuplicateName",
-     "the name 'hp' is taken: it is declared before (a union field 'x' takes 'x_type' too)"),
+     "the name 'hp' is taken: it is declared before, in line 1"),
+    ("a value twice", "enum E:byte {\n  A,\n  B,\n  ¦A }\ntable T { a:int; }\nroot_type T;", "10 DuplicateName",
+     "the name 'A' is taken: it is declared before, in line 2"),
+    ("a member twice", "table A { a:int; }\nunion U {\n  A,\n  ¦A }\nroot_type A;", "10 DuplicateName",
+     "the name 'A' is taken: it is declared before, in line 3"),
+    ("a type twice", "table A { a:int; }\nnamespace n;\ntable A { a:int; }\ntable ¦A { b:int; }\nroot_type A;",
+     "10 DuplicateName", "the name 'A' is taken: it is declared before, in line 3"),
+    ("the name of a union's type", "table A { a:int; }\nunion U { A }\ntable T { u:U; ¦u_type:int; }\nroot_type T;",
+     "10 DuplicateName", "the name 'u_type' is taken: it is declared before (a union field 'x' takes 'x_type' too)"),
     ("a table called int", "table ¦int { a:int; }\nroot_type int;", "10 DuplicateName",
      "the name 'int' is a basic type's"),
     ("a member called NONE", "table A { a:int; }\nunion U { ¦NONE: A }\nroot_type A;", "10 DuplicateName",
@@ -487,9 +501,21 @@ def unnamed(tests):
     write("b.bin", bytes.fromhex("0c000000 08000c00 07000800 08000000 00000003 08000000 04000400 04000000"))
     want = lines(
         "81 NoMemberName in type 3 slot 1",
-        "b.bin: T.u: the union's member is one that the schema doesn't have; U has 'A' 'B'",
+        "b.bin: u: the union's code 3 is one that the schema doesn't have; U has 'A' 'B'",
     )
     tests.expect("a union's code without a member", ["json", "--explain", "s.fbs", "b.bin"], 1, err=want)
+    rest = "table A { m:M; } table B {} table M { u:U; n:int; } table T { ms:[M]; } root_type T;"
+    write("s.fbs", f"union U {{ A, B }} {rest}".encode())
+    write("new.fbs", f"union U {{ A, B, C }} {rest} table C {{}}".encode())
+    known = '{"u_type":"B","u":{}}'
+    inner = '{"u_type":"A","u":{"m":{"u_type":"C","u":{}}}}'
+    write("v.json", f'{{"ms":[{known},{inner},{{"u_type":"C","u":{{}}}}]}}'.encode())
+    tests.expect("a member that is new", ["binary", "new.fbs", "v.json", "b.bin"], 0)
+    want = lines(
+        "81 NoMemberName in type 3 slot 1",
+        "b.bin: ms[1].u.m.u: the union's code 3 is one that the schema doesn't have; U has 'A' 'B'",
+    )
+    tests.expect("the first code without a member", ["json", "--explain", "s.fbs", "b.bin"], 1, err=want)
 
 
 def wrap(line):

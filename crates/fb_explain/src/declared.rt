@@ -2,7 +2,7 @@
 use fb_syntax::{Declaration, Decls, DefaultValue, Field, TypeDecl};
 use std::alloc::{AllocError, Global};
 
-fn type_in<'d, 't>(declaration: &'d Declaration<'t>) -> Option<&'d TypeDecl<'t>> {
+pub(crate) fn type_in<'d, 't>(declaration: &'d Declaration<'t>) -> Option<&'d TypeDecl<'t>> {
     match declaration {
         Declaration::Type(declared) => Some(declared),
         _ => None,

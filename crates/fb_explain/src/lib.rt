@@ -10,8 +10,10 @@ mod comparisons;
 mod declared;
 mod dumps;
 mod excerpts;
+mod expected;
 mod explanations;
 mod fault_pages;
+mod first_names;
 mod json_faults;
 mod json_places;
 mod json_rules;
@@ -27,6 +29,7 @@ mod shapes;
 mod sides;
 mod sources;
 mod union_codes;
+mod union_paths;
 mod unsupported;
 
 pub use explanations::{FileFailure, Sources, explain, warnings};

@@ -4,8 +4,11 @@ use crate::declared::{
     value_names,
 };
 use crate::excerpts::push_excerpt;
+use crate::expected::expected_at;
+use crate::first_names::first_named;
 use crate::near_names::push_nearest;
 use crate::pages::Page;
+use crate::positions::Position;
 use crate::schema_tokens::token_at;
 use crate::shapes::range_of_base;
 use crate::sources::{Source, push_place};
@@ -31,7 +34,8 @@ fn push_unexpected(page: &mut Page, text: &[u8], offset: usize) {
         [] => page.push_line("the text ends here, in the middle of a declaration"),
         token => {
             page.push_name(token);
-            page.push_line(" isn't expected here")
+            page.push_str(" isn't expected here");
+            page.push_line(expected_at(text, offset).unwrap_or(""));
         }
     }
 }
@@ -170,7 +174,7 @@ fn push_unsupported(page: &mut Page, text: &[u8], offset: usize) {
     )
 }
 
-fn push_duplicate(page: &mut Page, token: &[u8]) {
+fn push_duplicate(page: &mut Page, decls: &Decls<'_>, text: &[u8], token: &[u8], offset: u64) {
     page.push_str("the name ");
     page.push_name(token);
     if matches!(token, b"NONE") {
@@ -181,7 +185,15 @@ fn push_duplicate(page: &mut Page, token: &[u8]) {
         page.push_line(" is a basic type's");
         return;
     }
-    page.push_line(" is taken: it is declared before (a union field 'x' takes 'x_type' too)");
+    page.push_str(" is taken: it is declared before");
+    match first_named(decls, text_of(token), offset) {
+        Some(first) => {
+            page.push_str(", in line ");
+            page.push_number(Position::of(text, first as usize).line as u64);
+            page.end_line();
+        }
+        None => page.push_line(" (a union field 'x' takes 'x_type' too)"),
+    }
 }
 
 fn push_bad_member(page: &mut Page, decls: &Decls<'_>, token: &[u8], offset: u64) {
@@ -218,7 +230,7 @@ fn push_schema_sentence(
     let place = offset as usize;
     let token = token_at(text, place);
     match fault {
-        SchemaFault::DuplicateName(_) => push_duplicate(page, token),
+        SchemaFault::DuplicateName(_) => push_duplicate(page, decls, text, token, offset),
         SchemaFault::UnknownType(_) => push_unknown_type(page, decls, token),
         SchemaFault::BadDefault(_) => push_bad_default(page, decls, token, offset),
         SchemaFault::BadIds(_) => push_named(

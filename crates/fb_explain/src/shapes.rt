@@ -1,9 +1,17 @@
 //! Names and types of a schema, as its text writes them.
+ghost use Rattle.std.specs.Prelude.{◌≡◌, List, [], ◌∷◌, map, string_bytes, unwrap_or, slice_get};
+ghost use Rattle.std.specs.Prelude.{option_map, option_copied, MatchOption};
+ghost use Rattle.fb_schema.specs.Schema.{body_at, table_body, values_in, members_in};
+ghost use Rattle.fb_schema.specs.Seen.{field_seen, body_seen};
+ghost use Rattle.fb_schema.specs.Found.{name_at, fields_in};
+
 use crate::pages::Page;
-use fb_schema::{Base, FieldInfo, Kind, Schema, Shape, TypeId};
+use fb_schema::{Base, Body, FieldInfo, Kind, Schema, Shape, TypeId};
 
 /// The full name of a type.
-pub(crate) fn type_name(schema: &Schema, number: TypeId) -> &str {
+pub(crate) fn type_name(schema: &Schema, number: TypeId) -> &str
+    ensures { result.now ≡ unwrap_or (name_at schema.now number.0) (63 ∷ []) }
+{
     schema.name_at(number).unwrap_or("?")
 }
 
@@ -46,22 +54,34 @@ pub(crate) fn push_shape(page: &mut Page, schema: &Schema, shape: Shape) {
     }
 }
 
+/// What the type of a number is declared as.
+fn body_of(schema: &Schema, number: TypeId) -> Option<&Body>
+    ensures { MatchOption result
+        (body_at schema.now number.0 ≡ table_body [])
+        (λ body. body_seen body.now ≡ body_at schema.now number.0) }
+{
+    match schema.types().get(number.0 as usize) {
+        Some(declared) => Some(&declared.body),
+        None => None,
+    }
+}
+
 /// The fields of a table by slot, or of a struct by number.
-pub(crate) fn fields_of(schema: &Schema, number: TypeId) -> &[FieldInfo] {
-    let Some(declared) = schema.types().get(number.0 as usize) else {
-        return &[];
-    };
-    match declared.body.as_table() {
-        Some(slots) => slots,
-        None => match declared.body.as_struct() {
-            Some((fields, _)) => fields,
-            None => &[],
-        },
+pub(crate) fn fields_of(schema: &Schema, number: TypeId) -> &[FieldInfo]
+    ensures { map field_seen result.now ≡ fields_in (body_at schema.now number.0) }
+{
+    match body_of(schema, number) {
+        Some(Body::Table(slots)) => slots.as_slice(),
+        Some(Body::Struct(fields, _)) => fields.as_slice(),
+        _ => &[],
     }
 }
 
 /// The field of a slot.
-pub(crate) fn field_at(schema: &Schema, number: TypeId, slot: u16) -> Option<&FieldInfo> {
+pub(crate) fn field_at(schema: &Schema, number: TypeId, slot: u16) -> Option<&FieldInfo>
+    ensures { option_map field_seen (option_copied result)
+        ≡ slice_get (fields_in (body_at schema.now number.0)) slot }
+{
     fields_of(schema, number).get(usize::from(slot))
 }
 
@@ -81,21 +101,22 @@ pub(crate) fn push_default(page: &mut Page, schema: &Schema, field: &FieldInfo) 
 }
 
 /// The values of an enum.
-pub(crate) fn values_of(schema: &Schema, number: TypeId) -> &[(String, i128)] {
-    match schema.types().get(number.0 as usize) {
-        Some(declared) => match declared.body.as_enum() {
-            Some((_, _, values)) => values,
-            None => &[],
-        },
-        None => &[],
+pub(crate) fn values_of(schema: &Schema, number: TypeId) -> &[(String, i128)]
+    ensures { map (λ v. (string_bytes v.0, v.1)) result.now ≡ values_in (body_at schema.now number.0) }
+{
+    match body_of(schema, number) {
+        Some(Body::Enum(_, _, values)) => values.as_slice(),
+        _ => &[],
     }
 }
 
 /// The members of a union, by code from 1 on.
-pub(crate) fn members_of(schema: &Schema, number: TypeId) -> &[(String, TypeId)] {
-    match schema.types().get(number.0 as usize) {
-        Some(declared) => declared.body.as_union().unwrap_or(&[]),
-        None => &[],
+pub(crate) fn members_of(schema: &Schema, number: TypeId) -> &[(String, TypeId)]
+    ensures { map (λ m. (string_bytes m.0, m.1.0)) result.now ≡ members_in (body_at schema.now number.0) }
+{
+    match body_of(schema, number) {
+        Some(Body::Union(members)) => members.as_slice(),
+        _ => &[],
     }
 }
 

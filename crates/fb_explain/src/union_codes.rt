@@ -1,32 +1,46 @@
 //! A union in a buffer whose code has no member.
+use crate::buffer_paths::push_path;
 use crate::explanations::Sources;
 use crate::pages::Page;
 use crate::shapes::{field_at, members_of, type_name};
+use crate::union_paths::{Unnamed, first_unnamed};
 use fb_json::Place;
 use fb_layout::Layout;
+use fb_read::{Entries, read};
 use fb_schema::{Kind, Shape};
+use fb_value::ReadFault;
+use std::alloc::{AllocError, Global};
 
-/// Adds which union has a code without a member, and the members that it has.
-pub(crate) fn push_unnamed_member(
-    page: &mut Page,
+/// The first such union of the buffer's value.
+fn unnamed_in(
+    alloc: Global,
     layout: &Layout,
     sources: &Sources<'_>,
-    place: Place,
-) {
+) -> Result<Option<Unnamed>, AllocError> {
+    let value = read(
+        alloc,
+        layout,
+        sources.input.bytes,
+        sources.limits,
+        sources.raw_binary,
+        &mut Entries::new(),
+    );
+    match value {
+        Ok(value) => first_unnamed(alloc, &value),
+        Err(ReadFault::Memory) => Err(AllocError),
+        Err(_) => Ok(None),
+    }
+}
+
+/// Adds the members of a union that is in a slot.
+fn push_members(page: &mut Page, layout: &Layout, place: Place) {
     let schema = layout.schema();
-    page.push_str(sources.input.path);
-    page.push_str(": ");
-    page.push_cut(type_name(schema, place.owner).as_bytes());
     let field = place
         .slot
         .and_then(|slot| field_at(schema, place.owner, slot));
     let Some(field) = field else {
-        page.push_line(": a union has a member that the schema doesn't know");
         return;
     };
-    page.push_str(".");
-    page.push_cut(field.name.as_bytes());
-    page.push_str(": the union's member is one that the schema doesn't have");
     if let Shape::One(Kind::Code(union) | Kind::Union(union)) = field.shape {
         page.push_str("; ");
         page.push_cut(type_name(schema, union).as_bytes());
@@ -36,5 +50,26 @@ pub(crate) fn push_unnamed_member(
             page.push_name(name.as_bytes());
         }
     }
+}
+
+/// Adds the path to the first union whose code has no member, the code, and the members that it has.
+pub(crate) fn push_unnamed_member(
+    page: &mut Page,
+    layout: &Layout,
+    sources: &Sources<'_>,
+    place: Place,
+) {
+    let found = unnamed_in(page.alloc(), layout, sources);
+    let Some(Some(mut found)) = page.keep(found) else {
+        return;
+    };
+    found.steps.as_mut_slice().reverse();
+    page.push_str(sources.input.path);
+    page.push_str(": ");
+    push_path(page, layout, found.steps.as_slice());
+    page.push_str(": the union's code ");
+    page.push_number(u64::from(found.code));
+    page.push_str(" is one that the schema doesn't have");
+    push_members(page, layout, place);
     page.end_line();
 }
