@@ -7,7 +7,6 @@ use Rattle.fb_declare.specs.Faults.{earlier, least_of}
 use Rattle.fb_resolve.specs.Outline.{TypeRead}
 use Rattle.fb_resolve.specs.ResolvedFields.{ResolvedMember}
 use Rattle.fb_resolve.specs.ResolvedType.{ResolvedType}
-use Rattle.fb_resolve.specs.MembersRead.{member_name}
 use Rattle.fb_declare.specs.FaultRows.{member_faults}
 use Rattle.fb_declare.specs.TypeFaults.{members_faults, type_faults, faults_of_types}
 use Rattle.fb_resolve.specs.StructsRead.{align_of_type}
@@ -31,15 +30,15 @@ unfolding members_faults
 members_faults-nil before = refl
 
 members_faults-cons : (before : ℕ) (m : ResolvedMember) (ms : List ResolvedMember)
-    → members_faults before (m ∷ ms) ≡ member_faults before (member_name m.member) m.member.table.at m.meaning ++ members_faults (before + 1) ms
+    → members_faults before (m ∷ ms) ≡ member_faults before m ++ members_faults (before + 1) ms
 unfolding members_faults
 members_faults-cons before m ms = refl
 
 -- the next member of a union
 pub met-member : (met : Option SchemaFault) (ms : List ResolvedMember) (i : ℕ) (m : ResolvedMember) → i < length ms → m ≡ get_or ms i m
-    → earlier (earlier met (least_of (member_faults i (member_name m.member) m.member.table.at m.meaning))) (least_of (members_faults (i + 1) (drop (i + 1) ms)))
+    → earlier (earlier met (least_of (member_faults i m))) (least_of (members_faults (i + 1) (drop (i + 1) ms)))
     ≡ earlier met (least_of (members_faults i (drop i ms)))
-met-member met ms i m h e = met-more met (member_faults i (member_name m.member) m.member.table.at m.meaning) (members_faults (i + 1) (drop (i + 1) ms))
+met-member met ms i m h e = met-more met (member_faults i m) (members_faults (i + 1) (drop (i + 1) ms))
     ∙ ap (λ fs. earlier met (least_of fs)) (sym (members_faults-cons i m (drop (i + 1) ms)))
     ∙ ap (λ n. earlier met (least_of (members_faults i (n ∷ drop (i + 1) ms)))) e
     ∙ ap (λ r. earlier met (least_of (members_faults i r))) (sym (drop-more ms i m h))

@@ -49,7 +49,7 @@ pub record IsMember (S : DeclaredSchema) (before : ℕ) (m : Name × ℕ) : Type
 
 -- a member with no fault is right
 member_right : (S : DeclaredSchema) (types : List TypeRead) (scope : Option Name) (before : ℕ) (m : UnionMember)
-    → ((k : Kind) → meaning_of types scope m.table.bytes ≡ Known k → KindNames S k) → member_faults before (member_name m) m.table.at (meaning_of types scope m.table.bytes) ≡ []
+    → ((k : Kind) → meaning_of types scope m.table.bytes ≡ Known k → KindNames S k) → member_faults before (resolved_member types scope m) ≡ []
     → IsMember S before (member_read (resolved_member types scope m))
 unfolding member_faults
 member_right S types scope before m named h =
@@ -64,7 +64,7 @@ member_right S types scope before m named h =
 
 -- the faults of one member more
 members-cons : (types : List TypeRead) (scope : Option Name) (before : ℕ) (m : UnionMember) (ms : List UnionMember)
-    → members_faults before (resolved_members types scope (m ∷ ms)) ≡ member_faults before (member_name m) m.table.at (meaning_of types scope m.table.bytes) ++ members_faults (before + 1) (resolved_members types scope ms)
+    → members_faults before (resolved_members types scope (m ∷ ms)) ≡ member_faults before (resolved_member types scope m) ++ members_faults (before + 1) (resolved_members types scope ms)
 unfolding members_faults
 members-cons types scope before m ms = refl
 
@@ -75,7 +75,7 @@ module _ (S : DeclaredSchema) (types : List TypeRead) (scope : Option Name) (nam
       → (before + length ms ≤ 255) × All (λ m. (m.0 ≢ codes "NONE") × Names is_table S m.1) (map member_read (resolved_members types scope ms))
   members_right before [] few h = (omega arith, All-nil (λ m. (m.0 ≢ codes "NONE") × Names is_table S m.1))
   members_right before (m ∷ ms) few h =
-      let parts = both_empty (member_faults before (member_name m) m.table.at (meaning_of types scope m.table.bytes)) (members_faults (before + 1) (resolved_members types scope ms)) (sym (members-cons types scope before m ms) ∙ h) in
+      let parts = both_empty (member_faults before (resolved_member types scope m)) (members_faults (before + 1) (resolved_members types scope ms)) (sym (members-cons types scope before m ms) ∙ h) in
       let is : IsMember S before (member_read (resolved_member types scope m)) = member_right S types scope before m (named m.table.bytes) parts.0 in
       let rest = members_right (before + 1) ms (omega (arith, is.few)) parts.1 in
       (omega (arith, rest.0), All-cons (λ m. (m.0 ≢ codes "NONE") × Names is_table S m.1) (member_read (resolved_member types scope m)) (map member_read (resolved_members types scope ms)) (is.not_none, is.table) rest.1)
@@ -84,8 +84,8 @@ module _ (S : DeclaredSchema) (types : List TypeRead) (scope : Option Name) (nam
   pub union_kept_by : (declared : List Name) (u : UnionRead) → union_faults declared (resolved_union types scope u) ≡ [] → IsUnionBody S (map member_read (resolved_members types scope u.members))
   unfolding union_faults
   union_kept_by declared u h =
-      let a = both_empty (metadata_faults declared hosts.Union [] u.attributes ++ names_again [] (map member_name u.members)) (members_faults 0 (resolved_members types scope u.members)) h in
-      let names = names_apart (map member_name u.members) (none_right (metadata_faults declared hosts.Union [] u.attributes) (names_again [] (map member_name u.members)) a.0) in
+      let a = both_empty (metadata_faults declared hosts.Union [] u.attributes ++ names_again [] (map (λ m. m.name) (resolved_members types scope u.members))) (members_faults 0 (resolved_members types scope u.members)) h in
+      let names = names_apart (map (λ m. m.name) (resolved_members types scope u.members)) (none_right (metadata_faults declared hosts.Union [] u.attributes) (names_again [] (map (λ m. m.name) (resolved_members types scope u.members))) a.0) in
       let members = members_right 0 u.members (omega arith) a.1 in
       record {
         few = omega (arith, members.0, length-map (resolved_members types scope u.members) member_read, length-map u.members (resolved_member types scope));
@@ -94,7 +94,7 @@ module _ (S : DeclaredSchema) (types : List TypeRead) (scope : Option Name) (nam
         tables = λ k d within. (members.1 k d within).1;
       }
     where
-      same_names : (ms : List UnionMember) → map (λ n. n.bytes) (map member_name ms) ≡ map (λ m. m.0) (map member_read (resolved_members types scope ms))
+      same_names : (ms : List UnionMember) → map (λ n. n.bytes) (map (λ m. m.name) (resolved_members types scope ms)) ≡ map (λ m. m.0) (map member_read (resolved_members types scope ms))
       same_names [] = refl
       same_names (m ∷ ms) = ap (λ names. (member_name m).bytes ∷ names) (same_names ms)
 

@@ -17,6 +17,7 @@ use Rattle.fb_resolve.specs.BasicTypes.{is_reserved}
 use Rattle.fb_resolve.specs.Meaning.{type_name}
 use Rattle.fb_resolve.specs.EnumsRead.{may_be_written, written_number, integer_type}
 use Rattle.fb_resolve.specs.MembersRead.{table_of}
+use Rattle.fb_resolve.specs.ResolvedFields.{ResolvedMember}
 use Rattle.fb_schema.specs.declared.kinds.Base.{Base}
 use Rattle.fb_schema.specs.declared.kinds.Kind.TheVariants.{Scalar, Enum, Struct, Union}
 use Rattle.fb_resolve.specs.declared.meanings.Meaning.{Meaning}
@@ -111,9 +112,10 @@ bad_values base flags earlier next (v ∷ vs) = let n = written_number next v in
 abbrev pub bad_member : ℕ → Meaning → ℕ → List SchemaFault
 bad_member before m at = when (is_none (table_of m) || nat_le 255 before) (BadMember at)
 
--- the faults of a member of this name, whose type stands at this offset, with so many before it
-unfoldable pub member_faults : ℕ → Located → ℕ → Meaning → List SchemaFault
-member_faults before name at m = none_name name ++ use_faults m at ++ bad_member before m at
+-- the faults of a member with so many before it
+unfoldable pub member_faults : ℕ → ResolvedMember → List SchemaFault
+member_faults before r = let at = r.member.table.at in
+    none_name r.name ++ use_faults r.meaning at ++ bad_member before r.meaning at
 
 -- the root isn't a table
 abbrev pub bad_root : Meaning → ℕ → List SchemaFault

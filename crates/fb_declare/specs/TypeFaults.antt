@@ -17,7 +17,6 @@ use Rattle.fb_declare.specs.AttributeFaults.{metadata_faults}
 use Rattle.fb_resolve.specs.EnumsRead.{integer_type}
 use Rattle.fb_resolve.specs.SlotsRead.{union_in, name_of_code, are_ids_wrong}
 use Rattle.fb_resolve.specs.StructsRead.{natural_align, align_of_type}
-use Rattle.fb_resolve.specs.MembersRead.{member_name}
 use Rattle.fb_declare.specs.FaultRows.{when, names_again, reserved_name, table_field_type, struct_field_type, bad_default, default_in_struct, underlying_faults, bad_values, member_faults, root_faults, identifier_faults}
 use Rattle.fb_schema.specs.declared.kinds.Base.{Base}
 use Rattle.fb_schema.specs.declared.kinds.TypeId.{TypeId}
@@ -91,14 +90,12 @@ enum_faults declared e = let base = integer_type e.underlying in
 -- the faults of members with so many before them
 unfoldable pub members_faults : ℕ → List ResolvedMember → List SchemaFault
 members_faults before [] = []
-members_faults before (r ∷ rs) =
-    member_faults before (member_name r.member) r.member.table.at r.meaning
-    ++ members_faults (before + 1) rs
+members_faults before (r ∷ rs) = member_faults before r ++ members_faults (before + 1) rs
 
 unfoldable pub union_faults : List Name → ResolvedUnion → List SchemaFault
 union_faults declared u =
     metadata_faults declared hosts.Union [] u.declared.attributes
-    ++ names_again [] (map member_name u.declared.members)
+    ++ names_again [] (map (λ m. m.name) u.members)
     ++ members_faults 0 u.members
 
 abbrev pub declaration_faults : List TypeRead → List Name → List ℕ → ResolvedDecl → List SchemaFault

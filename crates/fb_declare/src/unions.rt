@@ -2,7 +2,7 @@
 ghost use Rattle.std.specs.Prelude.{◌≡◌, IfOk, map, string_bytes};
 ghost use Rattle.fb_declare.specs.Faults.{least_of};
 ghost use Rattle.fb_declare.specs.DeclaredNames.{names_declared};
-ghost use Rattle.fb_resolve.specs.MembersRead.{member_name, member_read};
+ghost use Rattle.fb_resolve.specs.MembersRead.{member_read};
 ghost use Rattle.fb_declare.specs.FaultRows.{member_faults, none_name, bad_member};
 ghost use Rattle.fb_declare.specs.TypeFaults.{members_faults, union_faults};
 ghost use Rattle.fb_schema.specs.Seen.{body_seen};
@@ -14,51 +14,36 @@ use crate::declared_names::DeclaredNames;
 use crate::faults::{SchemaFault, earlier, when};
 use crate::field_types::use_fault;
 use crate::names_again::names_again;
-use fb_resolve::{
-    LocatedName, Meaning, ResolvedMember, ResolvedUnion, is_table, member_name, member_read,
-};
+use fb_resolve::{LocatedName, Meaning, ResolvedMember, ResolvedUnion, is_table, member_read};
 use fb_schema::{Body, TypeId};
-use fb_syntax::UnionMember;
 use std::alloc::{AllocError, Global};
+use std::borrow::CowStr;
 
-fn member_names<'d>(
+fn member_names<'t>(
     alloc: Global,
-    members: &'d [UnionMember<'_>],
-) -> Result<Vec<LocatedName<'d>>, AllocError>
-    ensures { IfOk result (λ names. names.items ≡ map member_name members.now) }
+    members: &'t [ResolvedMember<'_, '_>],
+) -> Result<Vec<LocatedName<'t>>, AllocError>
+    ensures { IfOk result (λ names. names.items ≡ map (λ m. m.name) members.now) }
 {
     let mut names = Vec::with_capacity(alloc, members.len())?;
     for member in members {
-        names.push(member_name(alloc, member)?)?;
+        names.push(LocatedName {
+            text: CowStr::Borrowed(member.name.text.as_str()),
+            at: member.name.at,
+        })?;
     }
     Ok(names)
 }
 
-fn fault_of_member(
-    alloc: Global,
-    before: usize,
-    resolved: &ResolvedMember<'_, '_>,
-) -> Result<Option<SchemaFault>, AllocError>
-    ensures { IfOk result (λ f. f ≡ least_of (member_faults before
-        (member_name resolved.now.member) resolved.now.member.table.at resolved.now.meaning)) }
-{
-    let member = resolved.member;
-    let name = member_name(alloc, member)?;
-    Ok(member_fault(before, &name, member.table.at(), resolved.meaning))
-}
-
 #[tactic(auto, using(crate::proofs::Least::least_of_append), unfolding(crate::specs::TypeFaults::members_faults))]
-fn members_fault(
-    alloc: Global,
-    members: &[ResolvedMember<'_, '_>],
-) -> Result<Option<SchemaFault>, AllocError>
-    ensures { IfOk result (λ f. f ≡ least_of (members_faults 0 members.now)) }
+fn members_fault(members: &[ResolvedMember<'_, '_>]) -> Option<SchemaFault>
+    ensures { result ≡ least_of (members_faults 0 members.now) }
 {
     let mut least = None;
     for (before, member) in members.iter().enumerate() {
-        least = earlier(least, fault_of_member(alloc, before, member)?);
+        least = earlier(least, member_fault(before, member));
     }
-    Ok(least)
+    least
 }
 
 /// The least fault of a union. The only error is a refused allocation.
@@ -78,12 +63,10 @@ pub(crate) fn union_fault(
         AttributeHost::Union,
         read.attributes.as_slice(),
     )?;
-    let names = member_names(alloc, read.members.as_slice())?;
+    let members = resolved.members.as_slice();
+    let names = member_names(alloc, members)?;
     let again = names_again(alloc, names.as_slice())?;
-    Ok(earlier(
-        earlier(metadata, again),
-        members_fault(alloc, resolved.members.as_slice())?,
-    ))
+    Ok(earlier(earlier(metadata, again), members_fault(members)))
 }
 
 fn none_name(name: &LocatedName<'_>) -> Option<SchemaFault>
@@ -100,18 +83,14 @@ fn bad_member(before: usize, meaning: Meaning, at: u64) -> Option<SchemaFault>
     when(is_bad, SchemaFault::BadMember(at))
 }
 
-/// What is wrong with a member of this name, whose type stands at this offset, with so many
-/// before it.
+/// What is wrong with a member with so many before it.
 #[tactic(auto, using(crate::proofs::Least::least_of_append), unfolding(crate::specs::FaultRows::member_faults))]
-pub(crate) fn member_fault(
-    before: usize,
-    name: &LocatedName<'_>,
-    at: u64,
-    meaning: Meaning,
-) -> Option<SchemaFault>
-    ensures { result ≡ least_of (member_faults before name.now at meaning) }
+fn member_fault(before: usize, resolved: &ResolvedMember<'_, '_>) -> Option<SchemaFault>
+    ensures { result ≡ least_of (member_faults before resolved.now) }
 {
-    let not_found = earlier(none_name(name), use_fault(meaning, at));
+    let meaning = resolved.meaning;
+    let at = resolved.member.table.at();
+    let not_found = earlier(none_name(&resolved.name), use_fault(meaning, at));
     earlier(not_found, bad_member(before, meaning, at))
 }
 

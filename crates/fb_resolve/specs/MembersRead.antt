@@ -33,4 +33,4 @@ table_of _ = None
 
 -- a member's name and its table; a member at fault stands as type 0
 abbrev pub member_read : ResolvedMember → Name × ℕ
-member_read r = ((member_name r.member).bytes, unwrap_or (table_of r.meaning) 0)
+member_read r = (r.name.bytes, unwrap_or (table_of r.meaning) 0)

@@ -12,6 +12,7 @@ use Rattle.fb_resolve.specs.Meaning.{meaning_of, meaning_in}
 use Rattle.fb_resolve.specs.Attributes.{number_called, field_attributes}
 use Rattle.fb_resolve.specs.EnumsRead.{has_flags}
 use Rattle.fb_resolve.specs.Defaults.{given_by}
+use Rattle.fb_resolve.specs.MembersRead.{member_name}
 use Rattle.fb_resolve.specs.ResolvedFields.{ResolvedField, ResolvedTable, ResolvedEnum, ResolvedMember, ResolvedUnion}
 use Rattle.fb_resolve.specs.ResolvedType.{ResolvedType}
 use Rattle.fb_resolve.specs.declared.attributes.BuiltInAttribute.TheVariants.{ForceAlign}
@@ -46,7 +47,11 @@ resolved_enum types scope e = record {
 }
 
 abbrev pub resolved_member : List TypeRead → Option Name → UnionMember → ResolvedMember
-resolved_member types scope m = record { member = m; meaning = meaning_of types scope m.table.bytes }
+resolved_member types scope m = record {
+  name = member_name m;
+  member = m;
+  meaning = meaning_of types scope m.table.bytes;
+}
 
 abbrev pub resolved_members : List TypeRead → Option Name → List UnionMember → List ResolvedMember
 resolved_members types scope ms = map (resolved_member types scope) ms

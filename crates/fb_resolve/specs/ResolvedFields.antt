@@ -1,5 +1,6 @@
 -- Fields, members and underlying types with what their types' names mean and their attributes say.
 use Rattle.std.specs.Prelude.{Bool, List, Option, ℤ}
+use Rattle.fb_syntax.specs.Located.{Located}
 use Rattle.fb_syntax.specs.FieldRead.{FieldRead}
 use Rattle.fb_syntax.specs.TypesRead.{TableRead, EnumRead, UnionRead}
 use Rattle.fb_syntax.specs.declared.declarations.UnionMember.{UnionMember}
@@ -26,8 +27,9 @@ pub record ResolvedEnum : Type 0 where
   pub underlying : Meaning
   pub bit_flags : Bool
 
--- a member of a union, and what its table's name means
+-- a member of a union, its name, and what its table's name means
 pub record ResolvedMember : Type 0 where
+  pub name : Located
   pub member : UnionMember
   pub meaning : Meaning
 

@@ -28,7 +28,7 @@ pub use enums::{integer_type, may_be_written, values_over, written_number};
 pub use ids::{are_ids_wrong, table_slots};
 pub use located_names::LocatedName;
 pub use meanings::{Meaning, type_name};
-pub use members::{is_table, member_name, member_read, table_of};
+pub use members::{is_table, member_read, table_of};
 pub use outline::{Outline, RootRead, TypeRead, name_of_type, word_of};
 pub use resolve::Resolved;
 pub use resolved::{

@@ -55,7 +55,7 @@ fn underscored(alloc: Global, name: &str) -> Result<CowStr<'_>, AllocError>
 }
 
 /// The name of a member: its alias or that of its table. The only error is a refused allocation.
-pub fn member_name<'d>(
+pub(crate) fn member_name<'d>(
     alloc: Global,
     member: &'d UnionMember<'_>,
 ) -> Result<LocatedName<'d>, AllocError>
@@ -79,7 +79,7 @@ pub fn member_read(
 ) -> Result<(String, TypeId), AllocError>
     ensures { IfOk result (λ m. (string_bytes m.0, m.1.0) ≡ member_read resolved.now) }
 {
-    let name = member_name(alloc, resolved.member)?;
+    let name = String::from_str(alloc, resolved.name.text.as_str())?;
     let table = table_of(resolved.meaning).unwrap_or(TypeId(0));
-    Ok((name.text.into_owned(alloc)?, table))
+    Ok((name, table))
 }

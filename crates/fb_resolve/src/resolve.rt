@@ -18,6 +18,7 @@ use crate::attributes::{BuiltInAttribute, field_attributes, number_called};
 use crate::defaults::given_by;
 use crate::enums::has_flags;
 use crate::meanings::Meaning;
+use crate::members::member_name;
 use crate::outline::{Outline, RootRead, TypeRead};
 use crate::paths::Paths;
 use crate::repeated_names::repeated_numbers;
@@ -105,8 +106,13 @@ impl<'d, 's> Scope<'_, 'd, 's> {
     {
         let mut resolved = Vec::with_capacity(alloc, members.len())?;
         for member in members {
+            let name = member_name(alloc, member)?;
             let meaning = self.meaning(member.table.as_str());
-            resolved.push(ResolvedMember { member, meaning })?;
+            resolved.push(ResolvedMember {
+                name,
+                member,
+                meaning,
+            })?;
         }
         Ok(resolved)
     }

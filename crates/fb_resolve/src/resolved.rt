@@ -1,6 +1,7 @@
 //! The types of a text with what the names and attributes in them mean.
 use crate::attributes::FieldAttributes;
 use crate::defaults::Given;
+use crate::located_names::LocatedName;
 use crate::meanings::Meaning;
 use crate::outline::TypeRead;
 use fb_syntax::{EnumDecl, Field, TableDecl, UnionDecl, UnionMember};
@@ -69,9 +70,10 @@ impl<'d, 's> Model for ResolvedEnum<'d, 's> {
     } };
 }
 
-/// A member of a union, and what the name of its table means.
+/// A member of a union, its name, and what the name of its table means.
 #[derive(Drop)]
 pub struct ResolvedMember<'d, 's> {
+    pub name: LocatedName<'d>,
     pub member: &'d UnionMember<'s>,
     pub meaning: Meaning,
 }
@@ -81,7 +83,7 @@ impl<'d, 's> Model for ResolvedMember<'d, 's> {
 
     ghost Value = { Resolved };
 
-    ghost view = { λ m. record { member = m.member.now; meaning = m.meaning } };
+    ghost view = { λ m. record { name = m.name; member = m.member.now; meaning = m.meaning } };
 }
 
 /// A union, and what the names of its members' tables mean.

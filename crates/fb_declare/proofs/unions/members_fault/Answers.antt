@@ -4,7 +4,7 @@ use Rattle.fb_declare.proofs.unions.members_fault.Goals as goal
 
 pub loop-before-preserved : goal.loop-before-preserved
 loop-before-preserved c =
-    rw (c.earlier-least.ensures, c.in_ok-fault_of_member.ensures)
+    rw (c.earlier-least.ensures, c.member_fault.ensures)
     (met-member c.loop-before.least c.args.members.now c.loop-before.before c.index-members-before.result c.loop-before-test.true c.index-members-before.is ∙ c.loop-before.invariant)
 
 pub returns : goal.returns
