@@ -2,8 +2,7 @@
 use crate::reasons::Reasoned;
 use flatc_tool::ToolFault;
 use flatc_tool::command::{Heard, take_all};
-use std::fs;
-use std::io;
+use std::{fs, io};
 
 /// The longest file that is read, in bytes.
 const LONGEST: u32 = 2_147_483_647;

@@ -10,9 +10,7 @@ use std::test::Fail;
 const SCHEMA: &[u8] = b"table T { a:int; } root_type T;";
 
 // The table { a: 7 }.
-const BUFFER: &[u8] = &[
-    12, 0, 0, 0, 0, 0, 6, 0, 8, 0, 4, 0, 6, 0, 0, 0, 7, 0, 0, 0,
-];
+const BUFFER: &[u8] = &[12, 0, 0, 0, 0, 0, 6, 0, 8, 0, 4, 0, 6, 0, 0, 0, 7, 0, 0, 0];
 
 const ROWS: &[(ToolFault, &str)] = &[
     (
