@@ -1,5 +1,6 @@
 //! The first union of a value whose code no member has.
 use fb_read::Step;
+use fb_schema::TypeId;
 use fb_value::Value;
 use std::alloc::{AllocError, Global};
 
@@ -19,7 +20,34 @@ impl Unnamed {
     }
 }
 
+#[cycle(unnamed)]
+fn first_in_items(alloc: Global, items: &[Value]) -> Result<Option<Unnamed>, AllocError> {
+    for (i, item) in items.iter().enumerate() {
+        if let Some(found) = first_unnamed(alloc, item)? {
+            return found.behind(Step::Element(i.min(u32::MAX as usize) as u32));
+        }
+    }
+    Ok(None)
+}
+
+#[cycle(unnamed)]
+fn first_in_entries(
+    alloc: Global,
+    owner: TypeId,
+    entries: &[Option<Value>],
+) -> Result<Option<Unnamed>, AllocError> {
+    for (i, entry) in entries.iter().enumerate() {
+        if let Some(part) = entry
+            && let Some(found) = first_unnamed(alloc, part)?
+        {
+            return found.behind(Step::Slot(owner, i.min(65535) as u16));
+        }
+    }
+    Ok(None)
+}
+
 /// The first union, in the order of slots and elements, whose code no member has.
+#[cycle(unnamed)]
 pub(crate) fn first_unnamed(alloc: Global, value: &Value) -> Result<Option<Unnamed>, AllocError> {
     match value {
         Value::Other(code) => Ok(Some(Unnamed {
@@ -27,24 +55,8 @@ pub(crate) fn first_unnamed(alloc: Global, value: &Value) -> Result<Option<Unnam
             code: *code,
         })),
         Value::Member(_, member) => first_unnamed(alloc, member),
-        Value::Items(items) => {
-            for (i, item) in items.iter().enumerate() {
-                if let Some(found) = first_unnamed(alloc, item)? {
-                    return found.behind(Step::Element(i.min(u32::MAX as usize) as u32));
-                }
-            }
-            Ok(None)
-        }
-        Value::Fields(owner, entries) => {
-            for (i, entry) in entries.iter().enumerate() {
-                if let Some(part) = entry
-                    && let Some(found) = first_unnamed(alloc, part)?
-                {
-                    return found.behind(Step::Slot(*owner, i.min(65535) as u16));
-                }
-            }
-            Ok(None)
-        }
+        Value::Items(items) => first_in_items(alloc, items),
+        Value::Fields(owner, entries) => first_in_entries(alloc, *owner, entries),
         Value::Number(_) | Value::Text(_) | Value::Fixed(_) => Ok(None),
     }
 }

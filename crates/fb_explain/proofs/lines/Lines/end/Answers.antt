@@ -1,5 +1,4 @@
 use Rattle.std.proofs.Common.{refl}
-use Rattle.std.specs.Str.{chars}
 use Rattle.std.proofs.lemmas.Str.{IsUtf8-string_bytes}
 use Rattle.fb_explain.proofs.lines.WhatIsWrittenIsLines.{chars-push, line_ended}
 use Rattle.fb_explain.proofs.lines.Lines.end.Goals as goal

@@ -1,4 +1,3 @@
-use Rattle.std.proofs.Common.{◌∙◌}
 use Rattle.std.proofs.lemmas.Str.{chars-nil}
 use Rattle.fb_explain.proofs.lines.WhatIsWrittenIsLines.{nothing}
 use Rattle.fb_explain.proofs.lines.Lines.new.Goals as goal
