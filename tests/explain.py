@@ -171,6 +171,12 @@ VALUES = [
      "hp: a text where a number must be: the field's type is ubyte"),
     ("a value behind characters of many bytes", '{ "name": "Ork äö€", "hp": ¦"4" }', "70 WrongShape in type 5 slot 1",
      "hp: a text where a number must be: the field's type is ubyte"),
+    ("a union's value without its type", '{ "name": "Orc", "equipped": ¦{ "damage": 3 } }',
+     "77 UnionMismatch in type 5 slot 6",
+     "equipped: a union needs both its type and its value: this one has one of them alone"),
+    ("a union's type without its value", '¦{ "name": "Orc", "equipped_type": "Weapon" }',
+     "77 UnionMismatch in type 5 slot 6",
+     "equipped: a union needs both its type and its value: this one has one of them alone"),
 ]
 
 # Changes of MONSTER's schema, the line, and what follows.
@@ -308,6 +314,25 @@ def unsupported(tests):
     tests.expect("all that isn't supported", ["check", "--explain", "s.fbs"], 1, err=want)
 
 
+# Structs that double from 8 bytes to 65,536, and a table of 8,192 fields of 8 bytes.
+DOUBLING = "struct S0 { a:ulong; }\n" + "".join(f"struct S{k} {{ a:S{k - 1}; b:S{k - 1}; }}\n" for k in range(1, 14))
+WIDE = "table ¦T {\n" + "".join(f"  f{k}:ulong;\n" for k in range(8192)) + "}\nroot_type T;\n"
+SIZES = [
+    ("a struct of 65,536 bytes", DOUBLING.replace("S13", "¦S13") + "table T { s:S13; }\nroot_type T;\n",
+     "30 StructTooBig in type 13", "'S13' takes more than 65535 bytes"),
+    ("a table of 65,540 bytes", WIDE, "31 TableTooWide in type 0",
+     "'T' is too wide: a table's fields take 65535 bytes together at most, in 32765 slots at most"),
+]
+
+
+def sizes(tests):
+    for name, text, fault, sentence in SIZES:
+        text, offset = marked(text)
+        write("s.fbs", text)
+        want = lines(fault, place("s.fbs", text, offset) + sentence, *excerpt(text, offset))
+        tests.expect(name, ["check", "--explain", "s.fbs"], 1, err=want)
+
+
 def texts(tests):
     write("s.fbs", MONSTER.encode())
     for name, text, sentence in TEXTS:
@@ -427,6 +452,15 @@ def buffers(tests):
         *dump(SOUND, 4),
     )
     tests.expect("another identifier", ["check", "--explain", "s.fbs", "b.bin"], 1, err=want)
+    write("s.fbs", b"table A {} union U { A } table T { u:U; } root_type T;")
+    half = struct.pack("<I", 12) + bytes.fromhex("0600 0800 0700 0000 08000000 000000 01")
+    write("b.bin", half)
+    want = lines(
+        "60 UnionMismatch at 19",
+        "b.bin: u_type: the byte at 19 is 1: the union's type says that it has a value, and it has none",
+        *dump(half, 19),
+    )
+    tests.expect("a union's type without its value", ["check", "--explain", "s.fbs", "b.bin"], 1, err=want)
 
 
 def chain(count):
@@ -636,6 +670,6 @@ def numbers(tests):
 
 
 if __name__ == "__main__":
-    parts = [schemas, unsupported, texts, values, changes, buffers, limits, cells, unnamed, files, memory, cuts, hints,
-             numbers]
+    parts = [schemas, sizes, unsupported, texts, values, changes, buffers, limits, cells, unnamed, files, memory, cuts,
+             hints, numbers]
     sys.exit(Tests("explain", program_of(sys.argv, __doc__)).main(parts))
