@@ -13,7 +13,7 @@ import sys
 import textwrap
 
 from harness import ROOT, Tests, content, program_of, write
-from hostile import refusing, shim
+from hostile import ASKED_AHEAD, refusing, shim
 
 MARK = "¦"
 COLUMNS = 120
@@ -597,24 +597,48 @@ MEMORY = {
 }
 
 
+def told_of_memory(err):
+    """The number of a line for want of memory, if it is explained; a line of 114 may stand alone, before there is a job."""
+    number, _, rest = err.decode().partition(" ")
+    explained = f"Memory\nmemory ran out while {MEMORY[int(number)]}\n" if number in map(str, MEMORY) else None
+    return number if rest == explained or (number, rest) == ("114", "Memory\n") else None
+
+
+def each_growth(tests, words, library):
+    """What a run tells with each growth of its heap refused, one alone and all from it on."""
+    for n in range(1, 5000):
+        alone = tests.run(words, env=refusing(library, f"{n}", "count")).stderr
+        if content("count").split()[1] == b"0":
+            return
+        yield n, alone, tests.run(words, env=refusing(library, f"{n}+", "count")).stderr
+
+
 def memory(tests):
-    """Each growth of the heap refused: one alone, so that the explanation has memory, and all from it on."""
+    """Each growth of the heap refused. Where all later ones are too, there is no memory for the line of the fault."""
     library = shim()
     write("s.fbs", MONSTER.encode())
     write("v.json", b'{"name":"Orc","weapons":[{"damage":3}]}')
-    words = ["binary", "--explain", "s.fbs", "v.json", "out.bin"]
-    met = set()
-    for n in range(1, 5000):
-        done = tests.run(words, env=refusing(library, f"{n}", "count"))
-        if content("count").split()[1] == b"0":
-            break
-        number, _, rest = done.stderr.decode().partition(" ")
+    met, ahead = set(), 0
+    for n, alone, later in each_growth(tests, ["binary", "--explain", "s.fbs", "v.json", "out.bin"], library):
+        ahead += not alone
+        number = told_of_memory(alone)
         met.add(number)
-        want = f"Memory\nmemory ran out while {MEMORY.get(int(number)) if number.isdecimal() else None}\n"
-        tests.tell(f"growth {n} refused", rest == want or (number, rest) == ("114", "Memory\n"), f"{done.stderr!r}")
-        done = tests.run(words, env=refusing(library, f"{n}+", "count"))
-        tests.tell(f"growths from {n} on refused", done.stderr == f"{number} Memory\n".encode(), f"{done.stderr!r}")
-    tests.tell("each want of memory was met", met == {str(it) for it in MEMORY}, f"{met}")
+        tests.tell(f"growth {n} refused", number or not alone, f"{alone!r}")
+        tests.tell(f"growths from {n} on refused", later == b"114 Memory\n", f"{later!r}")
+    tests.tell("growths that are only asked for ahead", ahead == ASKED_AHEAD, f"{ahead}")
+    tests.tell("each want of memory was met", met - {None} == {str(it) for it in MEMORY}, f"{met}")
+    write("v.json", b'{"name":"Orc","weapons":[{"damage":70000}]}')
+    words = ["binary", "--explain", "s.fbs", "v.json", "out.bin"]
+    whole = tests.run(words).stderr
+    line = whole[: whole.index(b"\n") + 1]
+    # The line itself takes memory: where that is refused another one stands before the same explanation.
+    good = (whole, line, b"114 Memory\n" + whole[len(line) :])
+    alone_count = 0
+    for n, alone, _ in each_growth(tests, words, library):
+        alone_count += alone == line
+        tests.tell(f"growth {n} of a refusal refused", alone in good or told_of_memory(alone), f"{alone!r}")
+    tests.tell("a line alone where its explanation has no memory", line.startswith(b"72 ") and alone_count > 50,
+               f"{alone_count}")
 
 
 def cuts(tests):
