@@ -1,16 +1,15 @@
 -- The body of an enum with no fault: its values have different names and numbers of its type, with `bit_flags` one bit each.
 use Rattle.std.proofs.Common.{◌≡◌, ◌≢◌, ℕ, ◌*◌, ◌^◌, ◌<◌, ◌++◌, ◌||◌, not, Bool, true, false, List, [], ◌∷◌, map, get_or, All, AllPairs, Option, None, Some, is_none, cond, refl, ap, sym, subst, ◌∙◌, arith, if◌then◌else◌, ⊎_elim, true≢false}
-use Rattle.std.specs.Prelude.{ℤ, pos, negsuc, ◌+ℤ◌, int_le}
+use Rattle.std.specs.Prelude.{ℤ, pos, negsuc, int_le}
 use Rattle.std.specs.List.{list_any}
 use Rattle.std.specs.Ordering.{int_eq}
 use Rattle.std.proofs.lemmas.Bool.{or_parts, and_parts, not-false, ltb-true, cases_order}
 use Rattle.std.proofs.lemmas.Bool.Decides.{Decides-int_eq}
 use Rattle.std.proofs.lemmas.Int.{ints}
-use Rattle.std.proofs.lemmas.List.{get_or-map, length-map}
+use Rattle.std.proofs.lemmas.Simd.{map-map}
 use Rattle.std.proofs.lemmas.List.Elements.{All-nil, All-cons, All-map}
 use Rattle.std.proofs.lemmas.Nat.{pow_below}
 use Rattle.fb_syntax.specs.TypesRead.{EnumRead}
-use Rattle.fb_syntax.specs.declared.declarations.EnumValue.{EnumValue}
 use Rattle.fb_syntax.specs.declared.declarations.AttributeValue.{AttributeValue}
 use Rattle.fb_schema.specs.declared.kinds.Base.{Base}
 use Rattle.fb_schema.specs.declared.kinds.Base.TheVariants.{Bool as Boolean, I8, U8, I16, U16, I32, U32, I64, U64}
@@ -27,11 +26,13 @@ use Rattle.fb_declare.specs.declared.attribute_faults.AttributeHost.TheVariants 
 use Rattle.fb_resolve.specs.Outline.{TypeRead}
 use Rattle.fb_schema.specs.Ranges.{is_between, holds}
 use Rattle.fb_resolve.specs.Meaning.{meaning_of}
+use Rattle.fb_resolve.specs.ResolvedFields.{ResolvedValue}
 use Rattle.fb_declare.specs.AttributeFaults.{may_stand, metadata_faults}
-use Rattle.fb_resolve.specs.EnumsRead.{integer_type, underlying, has_flags, written_number, written_numbers, value_number, may_be_written, base_or_ubyte, values_from, values_read}
+use Rattle.fb_resolve.specs.EnumsRead.{integer_type, underlying, has_flags, value_number, may_be_written, base_or_ubyte, resolved_values, value_over, values_over, values_read}
 use Rattle.fb_declare.specs.FaultRows.{when, names_again, underlying_faults, is_out_of_range, bad_values}
 use Rattle.fb_declare.specs.TypeFaults.{host_of_enum, enum_faults}
-use Rattle.fb_declare.proofs.NoFaults.{both_empty, EachNew, all_apart, apart_by, keys_apart, names_apart}
+use Rattle.fb_declare.proofs.NoFaults.{both_empty, EachNew, all_apart, apart_by, pairs_map, names_apart}
+use Rattle.fb_declare.proofs.BadValues.{bad_values-cons}
 use Rattle.fb_declare.proofs.FaultFree.{when-none}
 use Rattle.fb_declare.proofs.AttributesKept.{noted_stands}
 use Rattle.fb_resolve.specs.Resolved.{resolved_enum}
@@ -110,65 +111,38 @@ numbers_apart base true (negsuc j) (pos k) g h e = absurd (true≢false (sym g))
 numbers_apart base true n (negsuc k) g h e = absurd (true≢false (sym h))
 numbers_apart base false n m g h e = e
 
--- the faults of one value more
-bad_values-cons : (base : Option Base) (flags : Bool) (earlier : List ℤ) (next : ℤ) (v : EnumValue) (vs : List EnumValue)
-    → bad_values base flags earlier next (v ∷ vs)
-    ≡ when (is_out_of_range base flags (written_number next v) || list_any (int_eq (written_number next v)) earlier) (BadEnumValue v.name.at)
-    ++ bad_values base flags (earlier ++ written_number next v ∷ []) (written_number next v +ℤ pos 1) vs
-unfolding bad_values
-bad_values-cons base flags earlier next v vs = refl
-
--- each written number is right and new, if none is at fault
-numbers_right : (base : Base) (flags : Bool) (earlier : List ℤ) (next : ℤ) (vs : List EnumValue) → bad_values (Some base) flags earlier next vs ≡ []
-    → All (λ n. may_be_written base flags n ≡ true) (written_numbers next vs) × EachNew int_eq earlier (written_numbers next vs)
-numbers_right base flags earlier next [] h = (All-nil (λ n. may_be_written base flags n ≡ true), tt)
-numbers_right base flags earlier next (v ∷ vs) h =
-    let n = written_number next v in
+-- each number is right and new, if none is at fault
+numbers_right : (base : Base) (flags : Bool) (earlier : List ℤ) (vs : List ResolvedValue) → bad_values (Some base) flags earlier vs ≡ []
+    → All (λ v. may_be_written base flags v.number ≡ true) vs × EachNew int_eq earlier (map (λ v. v.number) vs)
+numbers_right base flags earlier [] h = (All-nil (λ v. may_be_written base flags v.number ≡ true), tt)
+numbers_right base flags earlier (v ∷ vs) h =
+    let n = v.number in
     let wrong : Bool = is_out_of_range (Some base) flags n || list_any (int_eq n) earlier in
-    let parts : (when wrong (BadEnumValue v.name.at) ≡ []) × (bad_values (Some base) flags (earlier ++ n ∷ []) (n +ℤ pos 1) vs ≡ []) =
-    both_empty (when wrong (BadEnumValue v.name.at)) (bad_values (Some base) flags (earlier ++ n ∷ []) (n +ℤ pos 1) vs) (sym (bad_values-cons (Some base) flags earlier next v vs) ∙ h) in
-    let right : (not (may_be_written base flags n) ≡ false) × (list_any (int_eq n) earlier ≡ false) = or_parts (not (may_be_written base flags n)) (list_any (int_eq n) earlier) (when-none wrong (BadEnumValue v.name.at) parts.0) in
-    let rest = numbers_right base flags (earlier ++ n ∷ []) (n +ℤ pos 1) vs parts.1 in
-    (All-cons (λ m. may_be_written base flags m ≡ true) n (written_numbers (n +ℤ pos 1) vs) (not-false (may_be_written base flags n) right.0) rest.0, (right.1, rest.1))
-
--- the values have the names that are written
-names_of_values : (base : Base) (flags : Bool) (next : ℤ) (vs : List EnumValue) → map (λ v. v.0) (values_from base flags next vs) ≡ map (λ n. n.bytes) (map (λ v. v.name) vs)
-unfolding values_from
-names_of_values base flags next [] = refl
-names_of_values base flags next (v ∷ vs) = ap (λ names. v.name.bytes ∷ names) (names_of_values base flags (written_number next v +ℤ pos 1) vs)
-
--- and the numbers that are written, as bits with flags
-numbers_of_values : (base : Base) (flags : Bool) (next : ℤ) (vs : List EnumValue) → map (λ v. v.1) (values_from base flags next vs) ≡ map (value_number base flags) (written_numbers next vs)
-unfolding values_from
-numbers_of_values base flags next [] = refl
-numbers_of_values base flags next (v ∷ vs) = ap (λ numbers. value_number base flags (written_number next v) ∷ numbers) (numbers_of_values base flags (written_number next v +ℤ pos 1) vs)
-
--- what holds of each key holds of what has them
-all_by : {X K : Type 0} (P : K → Type 0) (key : X → K) (xs : List X) → All P (map key xs) → All (λ x. P (key x)) xs
-all_by P key xs all k d within = subst P (get_or-map key xs k d (key d) within) (all k (key d) (omega (arith, length-map xs key)))
+    let parts : (when wrong (BadEnumValue v.value.name.at) ≡ []) × (bad_values (Some base) flags (earlier ++ n ∷ []) vs ≡ []) =
+    both_empty (when wrong (BadEnumValue v.value.name.at)) (bad_values (Some base) flags (earlier ++ n ∷ []) vs) (sym (bad_values-cons (Some base) flags earlier v vs) ∙ h) in
+    let right : (not (may_be_written base flags n) ≡ false) × (list_any (int_eq n) earlier ≡ false) = or_parts (not (may_be_written base flags n)) (list_any (int_eq n) earlier) (when-none wrong (BadEnumValue v.value.name.at) parts.0) in
+    let rest = numbers_right base flags (earlier ++ n ∷ []) vs parts.1 in
+    (All-cons (λ w. may_be_written base flags w.number ≡ true) v vs (not-false (may_be_written base flags n) right.0) rest.0, (right.1, rest.1))
 
 -- the values of an enum over an integer type
-module _ (base : Base) (flags : Bool) (vs : List EnumValue) (integers : base ≢ Boolean) (unsigned : flags ≡ true → is_unsigned base ≡ true) where
+module _ (base : Base) (flags : Bool) (vs : List ResolvedValue) (integers : base ≢ Boolean) (unsigned : flags ≡ true → is_unsigned base ≡ true) where
   -- each value has a right number
-  all_kept : bad_values (Some base) flags [] (pos 0) vs ≡ [] → All (λ v. NumberKept base flags v.1) (values_from base flags (pos 0) vs)
-  all_kept h = all_by (NumberKept base flags) (λ v. v.1) (values_from base flags (pos 0) vs)
-      (subst (All (NumberKept base flags)) (sym (numbers_of_values base flags (pos 0) vs))
-      (All-map (NumberKept base flags) (value_number base flags) (written_numbers (pos 0) vs)
-      (λ k d within. number_kept base flags (get_or (written_numbers (pos 0) vs) k d) unsigned ((numbers_right base flags [] (pos 0) vs h).0 k d within))))
+  all_kept : bad_values (Some base) flags [] vs ≡ [] → All (λ v. NumberKept base flags v.1) (values_over (Some base) flags vs)
+  all_kept h = All-map (λ v. NumberKept base flags v.1) (value_over base flags) vs (λ k d within. number_kept base flags (get_or vs k d).number unsigned ((numbers_right base flags [] vs h).0 k d within))
 
   -- no two values have one number
-  written_apart : bad_values (Some base) flags [] (pos 0) vs ≡ [] → AllPairs (λ n m. value_number base flags n ≢ value_number base flags m) (written_numbers (pos 0) vs)
-  written_apart h i j d before within e =
-      let right = numbers_right base flags [] (pos 0) vs h in
-      all_apart int_eq Decides-int_eq (written_numbers (pos 0) vs) right.1 i j d before within
-      (numbers_apart base flags (get_or (written_numbers (pos 0) vs) i d) (get_or (written_numbers (pos 0) vs) j d) (right.0 i d (omega arith)) (right.0 j d within) e)
+  numbers_differ : bad_values (Some base) flags [] vs ≡ [] → AllPairs (λ v w. value_number base flags v.number ≢ value_number base flags w.number) vs
+  numbers_differ h i j d before within e =
+      let right = numbers_right base flags [] vs h in
+      apart_by (λ v. v.number) vs (all_apart int_eq Decides-int_eq (map (λ v. v.number) vs) right.1) i j d before within
+      (numbers_apart base flags (get_or vs i d).number (get_or vs j d).number (right.0 i d (omega arith)) (right.0 j d within) e)
 
   -- the values are a right body
-  pub values_kept : names_again [] (map (λ v. v.name) vs) ≡ [] → bad_values (Some base) flags [] (pos 0) vs ≡ [] → IsEnumBody base flags (values_from base flags (pos 0) vs)
+  pub values_kept : names_again [] (map (λ v. v.value.name) vs) ≡ [] → bad_values (Some base) flags [] vs ≡ [] → IsEnumBody base flags (values_over (Some base) flags vs)
   values_kept names numbers = record {
     integers = integers;
-    names = apart_by (λ v. v.0) (values_from base flags (pos 0) vs) (subst (AllPairs (λ a b. a ≢ b)) (sym (names_of_values base flags (pos 0) vs)) (names_apart (map (λ v. v.name) vs) names));
-    numbers = apart_by (λ v. v.1) (values_from base flags (pos 0) vs) (subst (AllPairs (λ a b. a ≢ b)) (sym (numbers_of_values base flags (pos 0) vs)) (keys_apart (value_number base flags) (written_numbers (pos 0) vs) (written_apart numbers)));
+    names = pairs_map (λ a b. a.0 ≢ b.0) (value_over base flags) vs (apart_by (λ v. v.value.name.bytes) vs (subst (AllPairs (λ a b. a ≢ b)) (map-map (λ n. n.bytes) (λ v. v.value.name) vs) (names_apart (map (λ v. v.value.name) vs) names)));
+    numbers = pairs_map (λ a b. a.1 ≢ b.1) (value_over base flags) vs (numbers_differ numbers);
     ranges = λ k d within. (all_kept numbers k d within).0;
     bits = λ is. (unsigned is, λ k d within. (all_kept numbers k d within).1 is);
   }
@@ -177,8 +151,8 @@ module _ (base : Base) (flags : Bool) (vs : List EnumValue) (integers : base ≢
 pub record IsEnumRight (types : List TypeRead) (declared : List Name) (scope : Option Name) (e : EnumRead) : Type 0 where
   pub type : underlying_faults (meaning_of types scope e.underlying.bytes) e.underlying.at ≡ []
   pub metadata : metadata_faults declared (host_of_enum (underlying types scope e)) [] e.attributes ≡ []
-  pub names : names_again [] (map (λ v. v.name) e.values) ≡ []
-  pub numbers : bad_values (underlying types scope e) (has_flags e) [] (pos 0) e.values ≡ []
+  pub names : names_again [] (map (λ v. v.value.name) (resolved_values e.values)) ≡ []
+  pub numbers : bad_values (underlying types scope e) (has_flags e) [] (resolved_values e.values) ≡ []
 
 -- an enum with no fault has none in its parts
 pub enum_right : (types : List TypeRead) (declared : List Name) (scope : Option Name) (e : EnumRead) → enum_faults declared (resolved_enum types scope e) ≡ [] → IsEnumRight types declared scope e
@@ -186,8 +160,8 @@ unfolding enum_faults
 enum_right types declared scope e h =
     let type_faults : List SchemaFault = underlying_faults (meaning_of types scope e.underlying.bytes) e.underlying.at in
     let attribute_faults : List SchemaFault = metadata_faults declared (host_of_enum (underlying types scope e)) [] e.attributes in
-    let name_faults : List SchemaFault = names_again [] (map (λ v. v.name) e.values) in
-    let number_faults : List SchemaFault = bad_values (underlying types scope e) (has_flags e) [] (pos 0) e.values in
+    let name_faults : List SchemaFault = names_again [] (map (λ v. v.value.name) (resolved_values e.values)) in
+    let number_faults : List SchemaFault = bad_values (underlying types scope e) (has_flags e) [] (resolved_values e.values) in
     let a = both_empty (type_faults ++ attribute_faults ++ name_faults) number_faults h in
     let b = both_empty (type_faults ++ attribute_faults) name_faults a.0 in
     let c = both_empty type_faults attribute_faults b.0 in
@@ -207,12 +181,12 @@ pub enum_kept : (types : List TypeRead) (declared : List Name) (scope : Option N
 enum_kept types declared scope e h =
     let right = enum_right types declared scope e h in
     let found = enum_base types declared scope e h in
-    subst (λ (o : Option Base). IsEnumBody (base_or_ubyte o) (has_flags e) (values_from (base_or_ubyte o) (has_flags e) (pos 0) e.values)) (sym found.1)
-    (values_kept found.0 (has_flags e) e.values
+    subst (λ (o : Option Base). IsEnumBody (base_or_ubyte o) (has_flags e) (values_over o (has_flags e) (resolved_values e.values))) (sym found.1)
+    (values_kept found.0 (has_flags e) (resolved_values e.values)
     (subst (λ (o : Option Base). base_or_ubyte o ≢ Boolean) found.1 (not_boolean (meaning_of types scope e.underlying.bytes)))
     (unsigned_under declared found.0 e (subst (λ (o : Option Base). metadata_faults declared (host_of_enum o) [] e.attributes ≡ []) found.1 right.metadata))
     right.names
-    (subst (λ (o : Option Base). bad_values o (has_flags e) [] (pos 0) e.values ≡ []) found.1 right.numbers))
+    (subst (λ (o : Option Base). bad_values o (has_flags e) [] (resolved_values e.values) ≡ []) found.1 right.numbers))
 
 -- each value of an enum with no fault is in its range
 pub enum_in_range : (types : List TypeRead) (declared : List Name) (scope : Option Name) (e : EnumRead) → enum_faults declared (resolved_enum types scope e) ≡ []

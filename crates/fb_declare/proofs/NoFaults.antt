@@ -41,13 +41,13 @@ apart_by key xs apart i j d before within =
     let inside : j < length (map key xs) = omega (arith, length-map xs key) in
     rw (← get_or-map key xs i d (key d) (omega arith), ← get_or-map key xs j d (key d) within) (apart i j (key d) before inside)
 
--- and the other way round
-pub keys_apart : {X K : Type 0} (key : X → K) (xs : List X) → AllPairs (λ a b. key a ≢ key b) xs → AllPairs (λ a b. a ≢ b) (map key xs)
-keys_apart key [] apart i j d before within = absurd (omega arith)
-keys_apart key (x ∷ xs) apart i j d before within =
+-- and the other way round, in whichever way keys are apart
+pub pairs_map : {X K : Type 0} (Apart : K → K → Type 0) (key : X → K) (xs : List X) → AllPairs (λ a b. Apart (key a) (key b)) xs → AllPairs Apart (map key xs)
+pairs_map Apart key [] apart i j d before within = absurd (omega arith)
+pairs_map Apart key (x ∷ xs) apart i j d before within =
     let inside : j < length (x ∷ xs) = omega (arith, length-map (x ∷ xs) key) in
     rw (get_or-map key (x ∷ xs) i x d (omega arith), get_or-map key (x ∷ xs) j x d inside) (apart i j x before inside)
 
 -- names of which none is at fault all differ
 pub names_apart : (ns : List Located) → names_again [] ns ≡ [] → AllPairs (λ a b. a ≢ b) (map (λ n. n.bytes) ns)
-names_apart ns h = keys_apart (λ n. n.bytes) ns (names_differ ns h)
+names_apart ns h = pairs_map (λ a b. a ≢ b) (λ n. n.bytes) ns (names_differ ns h)

@@ -22,7 +22,7 @@ abbrev pub HasBody : ResolvedDecl → DeclaredBody → Type 0
 HasBody (resolved.Table t) (table_body slots) = AreInPlace (slots_read t.fields) slots
 HasBody (resolved.Struct s) (struct_body parts force) = (parts ≡ parts_from 0 s.fields) × (force ≡ forced_align 0 s.force_align)
 HasBody (resolved.Enum e) (enum_body base flags values) = let under = integer_type e.underlying in
-    (base ≡ base_or_ubyte under) × (flags ≡ e.bit_flags) × (values ≡ values_over under e.bit_flags e.declared.values)
+    (base ≡ base_or_ubyte under) × (flags ≡ e.bit_flags) × (values ≡ values_over under e.bit_flags e.values)
 HasBody (resolved.Union u) (union_body members) = members ≡ map member_read u.members
 HasBody _ _ = ⊥
 

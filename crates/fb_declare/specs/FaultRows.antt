@@ -1,6 +1,6 @@
 -- Where each rule on declarations fails: of names, types, defaults, ids, structs, enums, unions, the root and the identifier.
 -- From the FlatBuffers documentation, "Writing a schema".
-use Rattle.std.specs.Prelude.{ℕ, ◌==◌, ◌++◌, ◌&&◌, ◌||◌, not, Bool, true, false, List, [], ◌∷◌, length, Option, None, Some, ℤ, pos, ◌+ℤ◌, codes, if◌then◌else◌, nat_le}
+use Rattle.std.specs.Prelude.{ℕ, ◌==◌, ◌++◌, ◌&&◌, ◌||◌, not, Bool, true, false, List, [], ◌∷◌, length, Option, None, Some, ℤ, codes, if◌then◌else◌, nat_le}
 use Rattle.std.specs.List.{list_any, list_all}
 use Rattle.std.specs.Option.{is_none}
 use Rattle.std.specs.Ordering.{int_eq}
@@ -10,14 +10,13 @@ use Rattle.fb_syntax.specs.declared.declarations.FieldType.{FieldType}
 use Rattle.fb_syntax.specs.declared.declarations.FieldType.TheVariants.{One, Many}
 use Rattle.fb_syntax.specs.declared.declarations.DefaultValue.{DefaultValue}
 use Rattle.fb_syntax.specs.declared.declarations.DefaultValue.TheVariants.{Integer, Name as Named}
-use Rattle.fb_syntax.specs.declared.declarations.EnumValue.{EnumValue}
 use Rattle.fb_schema.specs.Schema.{Name}
 use Rattle.fb_resolve.specs.Outline.{RootRead}
 use Rattle.fb_resolve.specs.BasicTypes.{is_reserved}
 use Rattle.fb_resolve.specs.Meaning.{type_name}
-use Rattle.fb_resolve.specs.EnumsRead.{may_be_written, written_number, integer_type}
+use Rattle.fb_resolve.specs.EnumsRead.{may_be_written, integer_type}
 use Rattle.fb_resolve.specs.MembersRead.{table_of}
-use Rattle.fb_resolve.specs.ResolvedFields.{ResolvedMember}
+use Rattle.fb_resolve.specs.ResolvedFields.{ResolvedMember, ResolvedValue}
 use Rattle.fb_schema.specs.declared.kinds.Base.{Base}
 use Rattle.fb_schema.specs.declared.kinds.Kind.TheVariants.{Scalar, Enum, Struct, Union}
 use Rattle.fb_resolve.specs.declared.meanings.Meaning.{Meaning}
@@ -102,11 +101,11 @@ is_out_of_range None flags n = false
 is_out_of_range (Some base) flags n = not (may_be_written base flags n)
 
 -- the values whose number is out of range, or that of a value before
-unfoldable pub bad_values : Option Base → Bool → List ℤ → ℤ → List EnumValue → List SchemaFault
-bad_values base flags earlier next [] = []
-bad_values base flags earlier next (v ∷ vs) = let n = written_number next v in
-    when (is_out_of_range base flags n || list_any (int_eq n) earlier) (BadEnumValue v.name.at)
-    ++ bad_values base flags (earlier ++ n ∷ []) (n +ℤ pos 1) vs
+unfoldable pub bad_values : Option Base → Bool → List ℤ → List ResolvedValue → List SchemaFault
+bad_values base flags earlier [] = []
+bad_values base flags earlier (v ∷ vs) =
+    when (is_out_of_range base flags v.number || list_any (int_eq v.number) earlier) (BadEnumValue v.value.name.at)
+    ++ bad_values base flags (earlier ++ v.number ∷ []) vs
 
 -- a member that isn't a table, or is past the 255th
 abbrev pub bad_member : ℕ → Meaning → ℕ → List SchemaFault

@@ -1,6 +1,6 @@
 -- The faults of a table, struct, enum or union, and of all that a text declares.
 -- From the FlatBuffers documentation, "Writing a schema".
-use Rattle.std.specs.Prelude.{ℕ, ◌+◌, ◌++◌, Bool, true, false, List, [], ◌∷◌, length, map, Option, None, Some, pos, if◌then◌else◌}
+use Rattle.std.specs.Prelude.{ℕ, ◌+◌, ◌++◌, Bool, true, false, List, [], ◌∷◌, length, map, Option, None, Some, if◌then◌else◌}
 use Rattle.std.specs.List.{flat_map}
 use Rattle.fb_syntax.specs.Located.{Located}
 use Rattle.fb_syntax.specs.FieldRead.{FieldRead}
@@ -84,8 +84,8 @@ unfoldable pub enum_faults : List Name → ResolvedEnum → List SchemaFault
 enum_faults declared e = let base = integer_type e.underlying in
     underlying_faults e.underlying e.declared.underlying.at
     ++ metadata_faults declared (host_of_enum base) [] e.declared.attributes
-    ++ names_again [] (map (λ v. v.name) e.declared.values)
-    ++ bad_values base e.bit_flags [] (pos 0) e.declared.values
+    ++ names_again [] (map (λ v. v.value.name) e.values)
+    ++ bad_values base e.bit_flags [] e.values
 
 -- the faults of members with so many before them
 unfoldable pub members_faults : ℕ → List ResolvedMember → List SchemaFault

@@ -1,5 +1,5 @@
 //! Enums: what is wrong with one, and its body.
-ghost use Rattle.std.specs.Prelude.{◌≡◌, IfOk, map, [], ℤ, pos, ◌||◌, OnOk};
+ghost use Rattle.std.specs.Prelude.{◌≡◌, IfOk, map, [], ℤ, ◌||◌, OnOk};
 ghost use Rattle.fb_schema.specs.WellDeclared.{is_unsigned};
 ghost use Rattle.fb_declare.specs.Faults.{least_of};
 ghost use Rattle.fb_declare.specs.FaultRows.{underlying_faults, when, is_out_of_range, bad_values};
@@ -16,10 +16,9 @@ use crate::declared_names::DeclaredNames;
 use crate::faults::{SchemaFault, earlier, when};
 use crate::names_again::names_again;
 use fb_resolve::{
-    LocatedName, Meaning, ResolvedEnum, integer_type, may_be_written, values_over, written_number,
+    LocatedName, Meaning, ResolvedEnum, ResolvedValue, integer_type, may_be_written, values_over,
 };
 use fb_schema::{Base, Body};
-use fb_syntax::EnumValue;
 use std::alloc::{AllocError, Global};
 use std::collections::BTreeSet;
 
@@ -55,12 +54,13 @@ fn host_of_enum(base: Option<Base>) -> AttributeHost
 
 fn value_names<'s>(
     alloc: Global,
-    values: &[EnumValue<'s>],
+    values: &[ResolvedValue<'_, 's>],
 ) -> Result<Vec<LocatedName<'s>>, AllocError>
-    ensures { IfOk result (λ names. names.items ≡ map (λ v. v.name) values.now) }
+    ensures { IfOk result (λ names. names.items ≡ map (λ v. v.value.name) values.now) }
 {
     let mut names = Vec::with_capacity(alloc, values.len())?;
-    for value in values {
+    for resolved in values {
+        let value = resolved.value;
         names.push(LocatedName::of(&value.name))?;
     }
     Ok(names)
@@ -78,7 +78,7 @@ pub(crate) fn enum_fault(
 {
     let read = resolved.declared;
     let meaning = resolved.underlying;
-    let values = read.values.as_slice();
+    let values = resolved.values.as_slice();
     let base = integer_type(meaning);
     let under = underlying_fault(meaning, read.underlying.at());
     let host = host_of_enum(base);
@@ -122,20 +122,16 @@ pub(crate) fn bad_values(
     alloc: Global,
     base: Option<Base>,
     flags: bool,
-    values: &[EnumValue<'_>],
+    values: &[ResolvedValue<'_, '_>],
 ) -> Result<Option<SchemaFault>, AllocError>
-    ensures { IfOk result (λ f. f ≡ least_of (bad_values base flags [] (pos 0) values.now)) }
+    ensures { IfOk result (λ f. f ≡ least_of (bad_values base flags [] values.now)) }
 {
     let mut least = None;
     let mut met = BTreeSet::new(alloc);
-    let mut next = 0;
-    for value in values {
-        let number = written_number(next, value);
-        least = earlier(
-            least,
-            bad_value(&mut met, base, flags, number, value.name.at)?,
-        );
-        next = number + 1;
+    for resolved in values {
+        let value = resolved.value;
+        let bad = bad_value(&mut met, base, flags, resolved.number, value.name.at)?;
+        least = earlier(least, bad);
     }
     Ok(least)
 }
@@ -146,9 +142,8 @@ pub(crate) fn enum_body(alloc: Global, resolved: &ResolvedEnum<'_, '_>) -> Resul
         (λ b. HasBody (ResolvedDecl.Enum resolved.now) (body_seen b)) }
 {
     let under = integer_type(resolved.underlying);
-    let declared = resolved.declared;
     let flags = resolved.bit_flags;
-    let values = values_over(alloc, under, flags, declared.values.as_slice())?;
+    let values = values_over(alloc, under, flags, resolved.values.as_slice())?;
     let base = under.unwrap_or(Base::U8);
     Ok(Body::Enum(base, flags, values))
 }

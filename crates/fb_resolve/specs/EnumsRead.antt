@@ -1,6 +1,6 @@
 -- The numbers of an enum's values, and what the name of a value means.
 -- From the FlatBuffers documentation, "Writing a schema": Enums, Attributes (`bit_flags`).
-use Rattle.std.specs.Prelude.{ℕ, ◌==◌, ◌*◌, ◌^◌, ◌&&◌, Bool, true, false, List, [], ◌∷◌, length, drop, Option, None, Some, ℤ, pos, negsuc, ◌+ℤ◌, slice_get, if◌then◌else◌, nat_lt}
+use Rattle.std.specs.Prelude.{ℕ, ◌==◌, ◌*◌, ◌^◌, ◌&&◌, Bool, true, false, List, [], ◌∷◌, length, drop, map, Option, None, Some, ℤ, pos, negsuc, ◌+ℤ◌, slice_get, if◌then◌else◌, nat_lt}
 use Rattle.std.specs.List.{find, starts_with}
 use Rattle.std.specs.Option.{option_map, option_map_or, option_or, option_and_then, unwrap_or}
 use Rattle.std.specs.Bool.{nat_eq}
@@ -16,6 +16,7 @@ use Rattle.fb_resolve.specs.Outline.{TypeRead, full_name}
 use Rattle.fb_schema.specs.Ranges.{holds}
 use Rattle.fb_resolve.specs.Meaning.{meaning_of}
 use Rattle.fb_resolve.specs.Attributes.{has_attribute}
+use Rattle.fb_resolve.specs.ResolvedFields.{ResolvedValue}
 use Rattle.fb_schema.specs.declared.kinds.Base.{Base}
 use Rattle.fb_schema.specs.declared.kinds.Base.TheVariants.{Bool as Boolean, U8}
 use Rattle.fb_schema.specs.declared.kinds.Kind.TheVariants.{Scalar}
@@ -52,10 +53,15 @@ has_flags e = has_attribute BitFlags e.attributes
 abbrev pub written_number : ℤ → EnumValue → ℤ
 written_number next v = option_map_or (λ n. n.value) v.number next
 
+-- the values with their numbers, where this is the next one
+unfoldable pub values_from : ℤ → List EnumValue → List ResolvedValue
+values_from next [] = []
+values_from next (v ∷ vs) = let n = written_number next v in
+    record { value = v; number = n } ∷ values_from (n +ℤ pos 1) vs
+
 -- The first value is 0 where no number is written, a later one the one before plus one.
-abbrev pub written_numbers : ℤ → List EnumValue → List ℤ
-written_numbers next [] = []
-written_numbers next (v ∷ vs) = written_number next v ∷ written_numbers (written_number next v +ℤ pos 1) vs
+abbrev pub resolved_values : List EnumValue → List ResolvedValue
+resolved_values vs = values_from (pos 0) vs
 
 abbrev pub bits_of : Base → ℕ
 bits_of base = 8 * base_size base
@@ -82,18 +88,16 @@ may_be_written base false n = holds base n
 abbrev pub base_or_ubyte : Option Base → Base
 base_or_ubyte b = unwrap_or b U8
 
--- the values with their numbers, from this one on
-unfoldable pub values_from : Base → Bool → ℤ → List EnumValue → List (Name × ℤ)
-values_from base flags next [] = []
-values_from base flags next (v ∷ vs) = let n = written_number next v in
-    (v.name.bytes, value_number base flags n) ∷ values_from base flags (n +ℤ pos 1) vs
+-- the name and number that a value has in an enum over a type
+abbrev pub value_over : Base → Bool → ResolvedValue → Name × ℤ
+value_over base flags v = (v.value.name.bytes, value_number base flags v.number)
 
--- the values of an enum over a type
-abbrev pub values_over : Option Base → Bool → List EnumValue → List (Name × ℤ)
-values_over base flags values = values_from (base_or_ubyte base) flags (pos 0) values
+-- those of the values of an enum
+abbrev pub values_over : Option Base → Bool → List ResolvedValue → List (Name × ℤ)
+values_over base flags values = map (value_over (base_or_ubyte base) flags) values
 
 abbrev pub values_read : List TypeRead → Option Name → EnumRead → List (Name × ℤ)
-values_read types scope e = values_over (underlying types scope e) (has_flags e) e.values
+values_read types scope e = values_over (underlying types scope e) (has_flags e) (resolved_values e.values)
 
 abbrev pub values_in : List TypeRead → Option Name → TypeDecl → List (Name × ℤ)
 values_in types scope (decls.Enum e) = values_read types scope e

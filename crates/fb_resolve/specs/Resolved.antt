@@ -10,7 +10,7 @@ use Rattle.fb_schema.specs.Schema.{Name}
 use Rattle.fb_resolve.specs.Outline.{TypeRead, RootRead}
 use Rattle.fb_resolve.specs.Meaning.{meaning_of, meaning_in}
 use Rattle.fb_resolve.specs.Attributes.{number_called, field_attributes}
-use Rattle.fb_resolve.specs.EnumsRead.{has_flags}
+use Rattle.fb_resolve.specs.EnumsRead.{has_flags, resolved_values}
 use Rattle.fb_resolve.specs.Defaults.{given_by}
 use Rattle.fb_resolve.specs.MembersRead.{member_name}
 use Rattle.fb_resolve.specs.ResolvedFields.{ResolvedField, ResolvedTable, ResolvedEnum, ResolvedMember, ResolvedUnion}
@@ -44,6 +44,7 @@ resolved_enum types scope e = record {
   declared = e;
   underlying = meaning_of types scope e.underlying.bytes;
   bit_flags = has_flags e;
+  values = resolved_values e.values;
 }
 
 abbrev pub resolved_member : List TypeRead → Option Name → UnionMember → ResolvedMember

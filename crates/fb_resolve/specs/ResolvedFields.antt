@@ -3,6 +3,7 @@ use Rattle.std.specs.Prelude.{Bool, List, Option, ℤ}
 use Rattle.fb_syntax.specs.Located.{Located}
 use Rattle.fb_syntax.specs.FieldRead.{FieldRead}
 use Rattle.fb_syntax.specs.TypesRead.{TableRead, EnumRead, UnionRead}
+use Rattle.fb_syntax.specs.declared.declarations.EnumValue.{EnumValue}
 use Rattle.fb_syntax.specs.declared.declarations.UnionMember.{UnionMember}
 use Rattle.fb_resolve.specs.declared.attributes.FieldAttributes.{FieldAttributes}
 use Rattle.fb_resolve.specs.declared.defaults.Given.{Given}
@@ -21,11 +22,17 @@ pub record ResolvedTable : Type 0 where
   pub fields : List ResolvedField
   pub force_align : Option ℤ
 
--- an enum, what its underlying type's name means, and whether it has `bit_flags`
+-- a value of an enum, and the number that is written for it or follows from the one before
+pub record ResolvedValue : Type 0 where
+  pub value : EnumValue
+  pub number : ℤ
+
+-- an enum, what its underlying type's name means, whether it has `bit_flags`, and its values
 pub record ResolvedEnum : Type 0 where
   pub declared : EnumRead
   pub underlying : Meaning
   pub bit_flags : Bool
+  pub values : List ResolvedValue
 
 -- a member of a union, its name, and what its table's name means
 pub record ResolvedMember : Type 0 where

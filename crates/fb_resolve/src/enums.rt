@@ -1,17 +1,18 @@
 //! The numbers of an enum's values, and what the name of a value means.
-ghost use Rattle.std.specs.Prelude.{◌≡◌, ◌≤◌, ◌+◌, ℕ, List, Option, IfOk, pos, map, string_bytes};
+ghost use Rattle.std.specs.Prelude.{◌≡◌, ◌≤◌, ◌+◌, ℕ, List, Option, IfOk, map, string_bytes};
 ghost use Rattle.std.specs.Int.RustNames.{unsigned_abs};
 ghost use Rattle.fb_syntax.specs.Integers.{greatest_magnitude};
 ghost use Rattle.fb_schema.specs.Schema.{Name};
 ghost use Rattle.fb_resolve.specs.Outline.{TypeRead};
 ghost use Rattle.fb_resolve.specs.EnumsRead.{integer_type, underlying, underlying_at, has_flags, bits_of};
-ghost use Rattle.fb_resolve.specs.EnumsRead.{is_bit_of, value_number, may_be_written, written_number, values_from};
-ghost use Rattle.fb_resolve.specs.EnumsRead.{values_over};
+ghost use Rattle.fb_resolve.specs.EnumsRead.{is_bit_of, value_number, may_be_written, written_number};
+ghost use Rattle.fb_resolve.specs.EnumsRead.{resolved_values, value_over, values_over};
 
 use crate::attributes::{BuiltInAttribute, has_attribute};
 use crate::basic_types::basic_type;
 use crate::meanings::Meaning;
 use crate::outline::TypeRead;
+use crate::resolved::ResolvedValue;
 use fb_schema::{Base, Kind};
 use fb_syntax::{EnumDecl, EnumValue, TypeDecl};
 use std::alloc::{AllocError, Global};
@@ -99,7 +100,7 @@ pub fn may_be_written(base: Base, flags: bool, number: i128) -> bool
 }
 
 /// The number that is written for a value, or else the next one.
-pub fn written_number(next: i128, value: &EnumValue<'_>) -> i128
+fn written_number(next: i128, value: &EnumValue<'_>) -> i128
     ensures number { result ≡ written_number next value.now }
     ensures near { (past : ℕ) → unsigned_abs next ≤ greatest_magnitude + past
         → unsigned_abs result ≤ greatest_magnitude + past }
@@ -110,38 +111,51 @@ pub fn written_number(next: i128, value: &EnumValue<'_>) -> i128
     }
 }
 
-/// The values with their numbers. The only error is a refused allocation.
-fn values_from(
+/// The values of an enum with their numbers. The only error is a refused allocation.
+pub(crate) fn resolved_values<'d, 's>(
     alloc: Global,
-    base: Base,
-    flags: bool,
-    values: &[EnumValue<'_>],
-) -> Result<Vec<(String, i128)>, AllocError>
-    ensures { IfOk result (λ r. map (λ v. (string_bytes v.0, v.1)) r.items
-        ≡ values_from base flags (pos 0) values.now) }
+    values: &'d [EnumValue<'s>],
+) -> Result<Vec<ResolvedValue<'d, 's>>, AllocError>
+    ensures { IfOk result (λ r. r.items ≡ resolved_values values.now) }
 {
-    let mut read = Vec::new(alloc);
+    let mut resolved = Vec::with_capacity(alloc, values.len())?;
     let mut next = 0;
     for value in values {
         let number = written_number(next, value);
-        let name = String::from_str(alloc, value.name.text)?;
-        read.push((name, value_number(base, flags, number)))?;
+        resolved.push(ResolvedValue { value, number })?;
         next = number + 1;
     }
-    Ok(read)
+    Ok(resolved)
 }
 
-/// The values of an enum over a type, with `bit_flags` or without, and their numbers. The only
-/// error is a refused allocation.
+fn value_over(
+    alloc: Global,
+    base: Base,
+    flags: bool,
+    resolved: &ResolvedValue<'_, '_>,
+) -> Result<(String, i128), AllocError>
+    ensures { IfOk result (λ v. (string_bytes v.0, v.1) ≡ value_over base flags resolved.now) }
+{
+    let value = resolved.value;
+    let name = String::from_str(alloc, value.name.text)?;
+    Ok((name, value_number(base, flags, resolved.number)))
+}
+
+/// The names and numbers that these values have in an enum over a type, with `bit_flags` or
+/// without. The only error is a refused allocation.
 pub fn values_over(
     alloc: Global,
     base: Option<Base>,
     flags: bool,
-    values: &[EnumValue<'_>],
+    values: &[ResolvedValue<'_, '_>],
 ) -> Result<Vec<(String, i128)>, AllocError>
     ensures { IfOk result
         (λ r. map (λ v. (string_bytes v.0, v.1)) r.items ≡ values_over base flags values.now) }
 {
     let base = base.unwrap_or(Base::U8);
-    values_from(alloc, base, flags, values)
+    let mut read = Vec::with_capacity(alloc, values.len())?;
+    for resolved in values {
+        read.push(value_over(alloc, base, flags, resolved)?)?;
+    }
+    Ok(read)
 }

@@ -24,7 +24,7 @@ mod value_numbers;
 pub use attributes::{BuiltInAttribute, FieldAttributes, built_in_attribute, is_alignment};
 pub use basic_types::is_reserved;
 pub use defaults::Given;
-pub use enums::{integer_type, may_be_written, values_over, written_number};
+pub use enums::{integer_type, may_be_written, values_over};
 pub use ids::{are_ids_wrong, table_slots};
 pub use located_names::LocatedName;
 pub use meanings::{Meaning, type_name};
@@ -33,7 +33,7 @@ pub use outline::{Outline, RootRead, TypeRead, name_of_type, word_of};
 pub use resolve::Resolved;
 pub use resolved::{
     ResolvedDecl, ResolvedEnum, ResolvedField, ResolvedMember, ResolvedTable, ResolvedType,
-    ResolvedUnion,
+    ResolvedUnion, ResolvedValue,
 };
 pub use slots::{name_of_code, union_in};
 pub use structs::{align_of_type, forced_align, natural_of_type, parts_read};

@@ -16,7 +16,7 @@ ghost use Rattle.fb_resolve.specs.Resolved.{meaning_of_root};
 
 use crate::attributes::{BuiltInAttribute, field_attributes, number_called};
 use crate::defaults::given_by;
-use crate::enums::has_flags;
+use crate::enums::{has_flags, resolved_values};
 use crate::meanings::Meaning;
 use crate::members::member_name;
 use crate::outline::{Outline, RootRead, TypeRead};
@@ -80,18 +80,24 @@ impl<'d, 's> Scope<'_, 'd, 's> {
         })
     }
 
-    fn resolved_enum(self, declared: &'d EnumDecl<'s>) -> ResolvedEnum<'d, 's>
+    fn resolved_enum(
+        self,
+        alloc: Global,
+        declared: &'d EnumDecl<'s>,
+    ) -> Result<ResolvedEnum<'d, 's>, AllocError>
         requires scope { IsScope self }
         requires used { IsUse (names_of self.scopes.now) declared.now.underlying.bytes }
-        ensures { result
-            ≡ resolved_enum self.entry.types.types.now (option_copied self.entry.name) declared.now }
+        ensures { IfOk result (λ e. e
+            ≡ resolved_enum self.entry.types.types.now (option_copied self.entry.name) declared.now) }
     {
         let underlying = self.meaning(declared.underlying.as_str());
-        ResolvedEnum {
+        let values = resolved_values(alloc, declared.values.as_slice())?;
+        Ok(ResolvedEnum {
             declared,
             underlying,
             bit_flags: has_flags(declared),
-        }
+            values,
+        })
     }
 
     fn resolved_members(
@@ -145,7 +151,7 @@ impl<'d, 's> Scope<'_, 'd, 's> {
         Ok(match declaration {
             TypeDecl::Table(table) => ResolvedDecl::Table(self.resolved_table(alloc, table)?),
             TypeDecl::Struct(table) => ResolvedDecl::Struct(self.resolved_table(alloc, table)?),
-            TypeDecl::Enum(declared) => ResolvedDecl::Enum(self.resolved_enum(declared)),
+            TypeDecl::Enum(declared) => ResolvedDecl::Enum(self.resolved_enum(alloc, declared)?),
             TypeDecl::Union(union) => ResolvedDecl::Union(self.resolved_union(alloc, union)?),
         })
     }

@@ -4,7 +4,7 @@ use crate::defaults::Given;
 use crate::located_names::LocatedName;
 use crate::meanings::Meaning;
 use crate::outline::TypeRead;
-use fb_syntax::{EnumDecl, Field, TableDecl, UnionDecl, UnionMember};
+use fb_syntax::{EnumDecl, EnumValue, Field, TableDecl, UnionDecl, UnionMember};
 use std::marker::Model;
 
 /// A field of a table or struct, what the name in its type means, what its attributes say, and what
@@ -50,12 +50,29 @@ impl<'d, 's> Model for ResolvedTable<'d, 's> {
     } };
 }
 
-/// An enum, what the name of its underlying type means, and whether it has `bit_flags`.
+/// A value of an enum, and the number that is written for it or follows from the one before.
+#[derive(Drop)]
+pub struct ResolvedValue<'d, 's> {
+    pub value: &'d EnumValue<'s>,
+    pub number: i128,
+}
+
+impl<'d, 's> Model for ResolvedValue<'d, 's> {
+    ghost use Rattle.fb_resolve.specs.ResolvedFields.{ResolvedValue as Resolved};
+
+    ghost Value = { Resolved };
+
+    ghost view = { λ v. record { value = v.value.now; number = v.number } };
+}
+
+/// An enum, what the name of its underlying type means, whether it has `bit_flags`, and its values
+/// with their numbers.
 #[derive(Drop)]
 pub struct ResolvedEnum<'d, 's> {
     pub declared: &'d EnumDecl<'s>,
     pub underlying: Meaning,
     pub bit_flags: bool,
+    pub values: Vec<ResolvedValue<'d, 's>>,
 }
 
 impl<'d, 's> Model for ResolvedEnum<'d, 's> {
@@ -67,6 +84,7 @@ impl<'d, 's> Model for ResolvedEnum<'d, 's> {
       declared = e.declared.now;
       underlying = e.underlying;
       bit_flags = e.bit_flags;
+      values = e.values.items;
     } };
 }
 

@@ -5,7 +5,7 @@ ghost use Rattle.fb_resolve.specs.Outline.{TypeRead};
 ghost use Rattle.fb_resolve.specs.EnumsRead.{values_read, values_in, number_named};
 ghost use Rattle.fb_resolve.specs.ValueNumbers.{number_of, number_in, NotesNumber, IndexesValues};
 
-use crate::enums::{has_flags, underlying, value_number, written_number};
+use crate::enums::{has_flags, resolved_values, underlying, value_number};
 use crate::outline::TypeRead;
 use fb_schema::Base;
 use fb_syntax::{EnumDecl, TypeDecl};
@@ -68,12 +68,15 @@ fn enum_numbers<'s>(
     let base = underlying(read).unwrap_or(Base::U8);
     let flags = has_flags(read);
     let mut numbers = BTreeMap::new(alloc);
-    let mut next = 0;
-    for value in read.values.as_slice() {
-        let number = written_number(next, value);
+    let values = resolved_values(alloc, read.values.as_slice())?;
+    for resolved in values.as_slice() {
+        let value = resolved.value;
         let name = value.name.text.as_bytes();
-        note(&mut numbers, name, value_number(base, flags, number))?;
-        next = number + 1;
+        note(
+            &mut numbers,
+            name,
+            value_number(base, flags, resolved.number),
+        )?;
     }
     Ok(numbers)
 }

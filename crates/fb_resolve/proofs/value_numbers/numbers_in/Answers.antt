@@ -8,3 +8,6 @@ use Rattle.fb_resolve.proofs.value_numbers.numbers_in.Goals as goal
 pub returns-in_default : goal.returns-in_default
 returns-in_default c = λ types scope name. ap (lookup _) c.new.ensures.empty
     ∙ sym (ap (λ vs. number_named vs name) (no_values types scope c.args.declaration.now c.in_default.not-Enum) ∙ number_named-nil name)
+
+pub returns-in-Enum : goal.returns-in-Enum
+returns-in-Enum c = λ types scope name. rw c.in-Enum.is (c.enum_numbers.ensures types scope name)

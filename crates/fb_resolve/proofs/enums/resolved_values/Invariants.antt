@@ -1,0 +1,11 @@
+use Rattle.std.proofs.Common.{◌≡◌, ◌≤◌, ◌+◌, ◌++◌, drop}
+use Rattle.std.specs.Int.RustNames.{unsigned_abs}
+use Rattle.fb_syntax.specs.Integers.{greatest_magnitude}
+use Rattle.fb_resolve.specs.EnumsRead.{values_from, resolved_values}
+use Rattle.fb_resolve.proofs.enums.resolved_values.Given as goal
+
+abbrev pub invariant-loop-value : goal.invariant-loop-value
+invariant-loop-value l = record {
+  so_far : l.resolved.items ++ values_from l.next (drop l.value-index l.values) ≡ resolved_values l.values;
+  near : unsigned_abs l.next ≤ greatest_magnitude + l.value-index;
+}
