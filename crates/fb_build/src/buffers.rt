@@ -19,11 +19,7 @@ use indexmap::IndexSet;
 use std::alloc::Global;
 
 /// A plan of a value, unless memory runs out on the way, which may be before its room is known.
-fn planned<'v>(
-    alloc: Global,
-    layout: &'v Layout,
-    value: &'v Value,
-) -> Result<Plan<'v>, BuildFault>
+fn planned<'v>(alloc: Global, layout: &'v Layout, value: &'v Value) -> Result<Plan<'v>, BuildFault>
     requires fits { FitsRoot layout.now (view value.now) }
     requires whole { is_whole (view value.now) ≡ true }
     ensures layout { IfOk result (λ p. p.layout ≡ layout.now) }

@@ -1,4 +1,5 @@
-use Rattle.std.proofs.Common.{ℕ, ◌≡◌, ◌<◌, ◌∙◌, true, false, List, [], ◌∷◌, Option, drop, length, refl, sym, arith, rules}
+use Rattle.std.proofs.Common.{ℕ, ◌≡◌, ◌<◌, ◌∙◌, true, false, List, [], ◌∷◌, Option, drop, length, refl, sym, arith}
+use Rattle.std.proofs.Common.{rules}
 use Rattle.std.proofs.lemmas.List.{drop_all}
 use Rattle.fb_schema.specs.declared.types.FieldInfo.{FieldInfo}
 use Rattle.fb_layout.specs.Laid.{LaidSchema, Slot, one_of, slots_of, table_kind}
@@ -95,7 +96,8 @@ add_table-loop-k-preserved t c =
 
 pub add_table-returns-clause-need : goal.add_table-returns-clause-need
 add_table-returns-clause-need t c =
-    let done = rw (drop_all c.loop-k.k c.args.entries.now (omega (arith, c.loop-k-test.false))) at c.loop-k.invariant.most in
+    let done = rw (drop_all c.loop-k.k c.args.entries.now (omega (arith, c.loop-k-test.false)))
+    at c.loop-k.invariant.most in
     let count = count_is c.args.entries.now in
     omega (arith, done, count, c.loop-k.invariant.small, c.saturating_add.ensures)
 
@@ -136,14 +138,14 @@ add_tables-add_table-requires-in-Member t c =
     let m = c.in-Member.member in
     let table = c.in-Fields-as_ref.table in
     let es = c.in-Fields-as_ref.entries in
+    let ds = entries_view es.items in
     let is : m.value ≡ Fields table es = sym c.as_ref.ensures ∙ c.in-Fields-as_ref.is in
     let fits = rw (c.in-Member.is, view-Member c.in-Member.field-0 m, is, view-Fields table es) at c.requires.fits in
     let whole = rw (c.in-Member.is, view-Member c.in-Member.field-0 m, is, view-Fields table es) at c.requires.whole in
-    let own = member_table L (shape_seen L c.args.shape) c.in-Member.field-0 (a_table table.0 (entries_view es.items)) fits
-    in (
+    let own = member_table L (shape_seen L c.args.shape) c.in-Member.field-0 (a_table table.0 ds) fits in (
       search (rules, the_lemmas),
       (
-        rw c.deref-in-Member.ensures.value (table_entries L (one_of (table_kind own.0)) table.0 (entries_view es.items) own.1),
+        rw c.deref-in-Member.ensures.value (table_entries L (one_of (table_kind own.0)) table.0 ds own.1),
         (rw c.deref-in-Member.ensures.value whole, (c.requires.many, c.requires.long)),
       ),
     )
