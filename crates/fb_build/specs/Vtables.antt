@@ -1,12 +1,11 @@
 -- The vtables of a value's tables, among known ones.
 use Rattle.std.specs.Prelude.{ℕ, ◌≡◌, ◌+◌, ◌*◌, List, [], ◌∷◌, Option, None, Some, slice_get}
-use Rattle.fb_layout.specs.Laid.{LaidSchema, StoredKind, StoredShape, slots_of}
+use Rattle.fb_layout.specs.Laid.{LaidSchema, slots_of}
 use Rattle.fb_layout.specs.Widths.{most_slots}
 use Rattle.fb_value.specs.Datum.{Datum, a_vector, a_table, a_member, Parts, no_parts, more_parts, SlotEntries}
 use Rattle.fb_value.specs.Datum.{no_entries, absent_entry, present_entry}
-use Rattle.fb_value.specs.Fits.{Fits, EachFits}
 use Rattle.fb_value.specs.Num.{Bytes}
-use Rattle.fb_build.specs.Fields.{IsElement, IsSimple, stored_in}
+use Rattle.fb_build.specs.Fields.{stored_in}
 use Rattle.fb_build.specs.FieldEnds.{table_vtable}
 
 -- An upper bound on the length of a vtable: two bytes for each slot behind its first four.
@@ -54,15 +53,3 @@ abbrev mutual
 abbrev pub EntryVtablesKnown : LaidSchema → List Bytes → Option Datum → Type 0
 EntryVtablesKnown L known None = Unit {0}
 EntryVtablesKnown L known (Some d) = VtablesKnown L known d
-
--- a value that some slot or element may have
-abbrev pub FitsSomewhere : LaidSchema → Datum → Type 0
-FitsSomewhere L d = (shape : StoredShape) × IsSimple L shape × Fits L shape d
-
-abbrev pub EntryFitsSomewhere : LaidSchema → Option Datum → Type 0
-EntryFitsSomewhere L None = Unit {0}
-EntryFitsSomewhere L (Some d) = FitsSomewhere L d
-
--- the elements of a vector of some kind
-abbrev pub EachFitsSomewhere : LaidSchema → Parts → Type 0
-EachFitsSomewhere L ds = (kind : StoredKind) × IsElement L kind × EachFits L kind ds

@@ -4,25 +4,29 @@ ghost use Rattle.std.specs.Prelude.{length, map, option_map, slice_set};
 ghost use Rattle.fb_layout.specs.Laid.{slots_of};
 ghost use Rattle.fb_layout.specs.Widths.{inline_size, most_slots};
 ghost use Rattle.fb_value.specs.Counts.{is_whole, parts_whole, entries_whole};
-ghost use Rattle.fb_value.specs.Datum.{a_table, count};
-ghost use Rattle.fb_value.specs.Fits.{EntriesFit};
+ghost use Rattle.fb_value.specs.Datum.{a_table, a_vector, count};
+ghost use Rattle.fb_value.specs.Entries.{EntryFits, entry_room};
+ghost use Rattle.fb_value.specs.Fits.{EachFits, EntriesFit, Fits};
+ghost use Rattle.fb_value.specs.Room.{table_room, vector_room, room, parts_room, entries_room};
+ghost use Rattle.fb_value.specs.UpTo.{at_most_usize};
 ghost use Rattle.fb_value.specs.View.{view, parts_view, entries_view};
-ghost use Rattle.fb_build.specs.Fields.{AreKnown, fields_size, shape_seen, slots_seen, stored_seen};
+ghost use Rattle.fb_build.specs.Fields.{AreKnown, IsElement, IsSimple, fields_size, kind_seen, shape_seen, slot_seen};
+ghost use Rattle.fb_build.specs.Fields.{slots_seen, stored_seen};
 ghost use Rattle.fb_build.specs.FieldEnds.{field_ends};
-ghost use Rattle.fb_build.specs.Needs.{need, parts_need, entries_count, entries_need, entry_need};
+ghost use Rattle.fb_build.specs.Needs.{need, entries_count, entries_need, entry_need};
 ghost use Rattle.fb_build.specs.Parts.{EntryWhole};
-ghost use Rattle.fb_build.specs.Vtables.{AreKept, FitsSomewhere, IsKey, VtablesKnown, longest_vtable, vtable_of};
-ghost use Rattle.fb_build.specs.Vtables.{EachFitsSomewhere, EntryFitsSomewhere, EntryVtablesKnown, PartsVtablesKnown};
+ghost use Rattle.fb_build.specs.Vtables.{AreKept, EntryVtablesKnown, IsKey, PartsVtablesKnown, VtablesKnown};
+ghost use Rattle.fb_build.specs.Vtables.{longest_vtable, vtable_of};
 ghost use Rattle.fb_build.specs.declared.faults.BuildFault.TheVariants.{Memory};
 
 use crate::faults::BuildFault;
 use crate::fields::slot_size;
-use crate::needs::waits;
+use crate::needs::{Needs, waits};
 use crate::order::{link_at, order_fields};
 use crate::vtables::{put_vtable, recent_with};
 use fb_layout::Layout;
-use fb_schema::{FieldInfo, TypeId};
-use fb_value::Value;
+use fb_schema::{FieldInfo, Kind, Shape, TypeId};
+use fb_value::{Value, table_room, text_room, vector_room};
 use indexmap::IndexSet;
 use std::alloc::Global;
 
@@ -106,8 +110,7 @@ fn add_vtable(
     Ok(())
 }
 
-/// Adds the vtables of a table and of the tables in it, and returns how many end-counts wait while
-/// the table is laid.
+/// Adds the vtables of a table and of the tables in it, and returns what laying the table takes.
 #[cycle(keys)]
 pub(crate) fn add_table(
     alloc: Global,
@@ -117,15 +120,15 @@ pub(crate) fn add_table(
     entries: &[Option<Value>],
     ends: &mut [u32],
     scratch: &mut [u8],
-) -> Result<usize, BuildFault>
-    requires small { entries_count (entries_view entries.now)
-        + entries_need (entries_view entries.now) ≤ 2147483647 }
+) -> Result<Needs, BuildFault>
     requires fits { EntriesFit layout.now (slots_of layout.now table.0) (entries_view entries.now) }
     requires whole { entries_whole (entries_view entries.now) ≡ true }
     requires many { most_slots layout.now.schema ≤ length ends.old }
     requires long { longest_vtable layout.now ≤ length scratch.old }
-    ensures need { IfOk result (λ n. n ≡ entries_count (entries_view entries.now)
-        + entries_need (entries_view entries.now)) }
+    ensures need { IfOk result (λ n. n.waiting ≡ at_most_usize (entries_count (entries_view entries.now)
+        + entries_need (entries_view entries.now))) }
+    ensures room { IfOk result (λ n. n.room ≡ at_most_usize (table_room layout.now table.0
+        + entries_room layout.now (slots_of layout.now table.0) (entries_view entries.now))) }
     ensures known { OnOk result (VtablesKnown layout.now (map (λ k. k.items) known.new.keys)
         (a_table table.0 (entries_view entries.now))) }
     ensures kept { OnOk result (AreKept (map (λ k. k.items) known.old.keys) (map (λ k. k.items) known.new.keys)) }
@@ -135,31 +138,40 @@ pub(crate) fn add_table(
 {
     let _schema = layout.schema(); // its contract: the layout is well made
     add_vtable(alloc, known, layout, table, entries, ends, scratch)?;
-    let mut most = 0;
-    for entry in entries {
-        let own = add_entry(alloc, known, layout, entry, ends, scratch)?;
-        most = own.max(most);
+    let slots = layout.slots_of(table);
+    let mut room = table_room(layout, table);
+    let mut waiting = 0;
+    for (k, entry) in entries.iter().enumerate() {
+        let own = add_entry(alloc, known, layout, &slots[k], entry, ends, scratch)?;
+        room = room.saturating_add(own.room);
+        waiting = own.waiting.max(waiting);
     }
-    Ok(entries.len() + most)
+    Ok(Needs {
+        room,
+        waiting: entries.len().saturating_add(waiting),
+    })
 }
 
-/// Adds the vtables of the tables in an entry of a table, and returns how many end-counts wait while
-/// it is laid.
+/// Adds the vtables of the tables in an entry of a table, and returns what laying it takes.
+#[inline(always)]
 #[cycle(keys)]
 fn add_entry(
     alloc: Global,
     known: &mut IndexSet<Vec<u8>>,
     layout: &Layout,
+    slot: &FieldInfo,
     entry: &Option<Value>,
     ends: &mut [u32],
     scratch: &mut [u8],
-) -> Result<usize, BuildFault>
-    requires small { entry_need (option_map view entry.now) ≤ 2147483647 }
-    requires fits { EntryFitsSomewhere layout.now (option_map view entry.now) }
+) -> Result<Needs, BuildFault>
+    requires simple { IsSimple layout.now (shape_seen layout.now slot.now.shape) }
+    requires fits { EntryFits layout.now (slot_seen layout.now slot.now) (option_map view entry.now) }
     requires whole { EntryWhole (option_map view entry.now) }
     requires many { most_slots layout.now.schema ≤ length ends.old }
     requires long { longest_vtable layout.now ≤ length scratch.old }
-    ensures need { IfOk result (λ n. n ≡ entry_need (option_map view entry.now)) }
+    ensures need { IfOk result (λ n. n.waiting ≡ at_most_usize (entry_need (option_map view entry.now))) }
+    ensures room { IfOk result (λ n. n.room
+        ≡ at_most_usize (entry_room layout.now (slot_seen layout.now slot.now) (option_map view entry.now))) }
     ensures known { OnOk result (EntryVtablesKnown layout.now (map (λ k. k.items) known.new.keys)
         (option_map view entry.now)) }
     ensures kept { OnOk result (AreKept (map (λ k. k.items) known.old.keys) (map (λ k. k.items) known.new.keys)) }
@@ -168,28 +180,30 @@ fn add_entry(
     ensures fault { IfErr result (λ e. e ≡ Memory) }
 {
     match entry {
-        None => Ok(0),
-        Some(Value::Number(_)) => Ok(0),
-        Some(value) => add_tables(alloc, known, layout, value, ends, scratch),
+        None | Some(Value::Number(_)) => Ok(Needs::NONE),
+        Some(value) => add_tables(alloc, known, layout, slot.shape, value, ends, scratch),
     }
 }
 
-/// Adds the vtables of the tables of a value, and returns how many end-counts wait while it is laid.
+/// Adds the vtables of the tables of a value, and returns what laying it takes.
 #[cycle(keys)]
 fn add_tables(
     alloc: Global,
     known: &mut IndexSet<Vec<u8>>,
     layout: &Layout,
+    shape: Shape,
     value: &Value,
     ends: &mut [u32],
     scratch: &mut [u8],
-) -> Result<usize, BuildFault>
-    requires small { need (view value.now) ≤ 2147483647 }
-    requires fits { FitsSomewhere layout.now (view value.now) }
+) -> Result<Needs, BuildFault>
+    requires simple { IsSimple layout.now (shape_seen layout.now shape) }
+    requires fits { Fits layout.now (shape_seen layout.now shape) (view value.now) }
     requires whole { is_whole (view value.now) ≡ true }
     requires many { most_slots layout.now.schema ≤ length ends.old }
     requires long { longest_vtable layout.now ≤ length scratch.old }
-    ensures need { IfOk result (λ n. n ≡ need (view value.now)) }
+    ensures need { IfOk result (λ n. n.waiting ≡ at_most_usize (need (view value.now))) }
+    ensures room { IfOk result (λ n. n.room
+        ≡ at_most_usize (room layout.now (shape_seen layout.now shape) (view value.now))) }
     ensures known { OnOk result (VtablesKnown layout.now (map (λ k. k.items) known.new.keys) (view value.now)) }
     ensures kept { OnOk result (AreKept (map (λ k. k.items) known.old.keys) (map (λ k. k.items) known.new.keys)) }
     ensures long { length scratch.new ≡ length scratch.old }
@@ -200,37 +214,44 @@ fn add_tables(
         Value::Fields(table, entries) => {
             add_table(alloc, known, layout, *table, entries, ends, scratch)
         }
-        Value::Items(items) => {
-            if waits(items.as_slice()) {
-                add_items(alloc, known, layout, items, ends, scratch)
-            } else {
-                Ok(0)
-            }
+        Value::Items(items) => match shape {
+            Shape::Many(kind) => add_vector(alloc, known, layout, kind, items, ends, scratch),
+            Shape::One(_) => unreachable!(),
+        },
+        Value::Member(_, member) => {
+            let Value::Fields(table, entries) = member.as_ref() else {
+                unreachable!();
+            };
+            add_table(alloc, known, layout, *table, entries, ends, scratch)
         }
-        Value::Member(_, member) => add_tables(alloc, known, layout, member, ends, scratch),
-        Value::Number(_) | Value::Text(_) | Value::Fixed(_) | Value::Other(_) => Ok(0),
+        Value::Text(text) => Ok(Needs {
+            room: text_room(text),
+            waiting: 0,
+        }),
+        Value::Number(_) | Value::Fixed(_) | Value::Other(_) => Ok(Needs::NONE),
     }
 }
 
-/// Adds the vtables of the tables in a vector of references, and returns how many end-counts wait
-/// while it is laid.
+/// Adds the vtables of the tables in a vector, and returns what laying it takes.
 #[cycle(keys)]
-fn add_items(
+fn add_vector(
     alloc: Global,
     known: &mut IndexSet<Vec<u8>>,
     layout: &Layout,
+    kind: Kind,
     items: &[Value],
     ends: &mut [u32],
     scratch: &mut [u8],
-) -> Result<usize, BuildFault>
-    requires small { count (parts_view items.now) + parts_need (parts_view items.now)
-        ≤ 2147483647 }
-    requires fits { EachFitsSomewhere layout.now (parts_view items.now) }
+) -> Result<Needs, BuildFault>
+    requires element { IsElement layout.now (kind_seen layout.now kind) }
+    requires fits { EachFits layout.now (kind_seen layout.now kind) (parts_view items.now) }
     requires whole { parts_whole (parts_view items.now) ≡ true }
     requires many { most_slots layout.now.schema ≤ length ends.old }
     requires long { longest_vtable layout.now ≤ length scratch.old }
-    ensures need { IfOk result (λ n. n ≡ count (parts_view items.now)
-        + parts_need (parts_view items.now)) }
+    ensures need { IfOk result (λ n. n.waiting ≡ at_most_usize (need (a_vector (parts_view items.now)))) }
+    ensures room { IfOk result (λ n. n.room
+        ≡ at_most_usize (vector_room layout.now (kind_seen layout.now kind) (count (parts_view items.now))
+        + parts_room layout.now (kind_seen layout.now kind) (parts_view items.now))) }
     ensures known { OnOk result (PartsVtablesKnown layout.now (map (λ k. k.items) known.new.keys)
         (parts_view items.now)) }
     ensures kept { OnOk result (AreKept (map (λ k. k.items) known.old.keys) (map (λ k. k.items) known.new.keys)) }
@@ -238,10 +259,18 @@ fn add_items(
     ensures each { length ends.new ≡ length ends.old }
     ensures fault { IfErr result (λ e. e ≡ Memory) }
 {
-    let mut most = 0;
-    for item in items {
-        let own = add_tables(alloc, known, layout, item, ends, scratch)?;
-        most = own.max(most);
+    let mut room = vector_room(layout, kind, items.len());
+    if !waits(items) {
+        return Ok(Needs { room, waiting: 0 });
     }
-    Ok(items.len() + most)
+    let mut waiting = 0;
+    for item in items {
+        let own = add_tables(alloc, known, layout, Shape::One(kind), item, ends, scratch)?;
+        room = room.saturating_add(own.room);
+        waiting = own.waiting.max(waiting);
+    }
+    Ok(Needs {
+        room,
+        waiting: items.len().saturating_add(waiting),
+    })
 }

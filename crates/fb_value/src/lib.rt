@@ -26,6 +26,6 @@ pub use laws::{
     value_where_lies,
 };
 pub use limits::Limits;
-pub use rooms::room;
+pub use rooms::{buffer_room, room, table_room, text_room, vector_room};
 pub use union_codes::whole;
 pub use values::Value;

@@ -1,11 +1,11 @@
 //! An upper bound on the length of a value's buffer.
-ghost use Rattle.std.specs.Prelude.{◌≡◌, ◌≤◌, ◌+◌, ◌-◌, ◌*◌, option_map};
+ghost use Rattle.std.specs.Prelude.{ℕ, ◌≡◌, ◌≤◌, ◌+◌, ◌-◌, length, option_map};
 ghost use Rattle.fb_layout.specs.Seen.{kind_seen, shape_seen, slot_seen, slots_seen};
-ghost use Rattle.fb_layout.specs.Widths.{widest, table_align};
+ghost use Rattle.fb_layout.specs.Widths.{greatest};
 ghost use Rattle.fb_value.specs.View.{view, parts_view, entries_view};
 ghost use Rattle.fb_value.specs.Counts.{nesting};
 ghost use Rattle.fb_value.specs.Fits.{FitsRoot};
-ghost use Rattle.fb_value.specs.Room.{vector_room, room as room_at, parts_room, entries_room, room_of};
+ghost use Rattle.fb_value.specs.Room.{table_room, vector_room, room as room_at, parts_room, entries_room, room_of};
 ghost use Rattle.fb_value.specs.Entries.{entry_room};
 ghost use Rattle.fb_value.specs.UpTo.{SomeUpTo, at_most_usize};
 
@@ -27,28 +27,37 @@ pub fn room(layout: &Layout, value: &Value) -> Option<u32>
     ensures { SomeUpTo 2147483647 result (room_of layout.now (view value.now)) }
 {
     let shape = Shape::One(Kind::Table(layout.schema().root()));
-    let inner = room_in(layout, shape, value);
-    within((HEADER + (layout.greatest() as usize - 1)).saturating_add(inner))
+    buffer_room(layout, room_in(layout, shape, value))
 }
 
-// None over the greatest room.
-fn within(sum: usize) -> Option<u32>
-    ensures { SomeUpTo 2147483647 result sum }
+/// An upper bound on the length of a buffer in bytes whose root takes so many; None exactly where it is over
+/// 2,147,483,647.
+pub fn buffer_room(layout: &Layout, root: usize) -> Option<u32>
+    ensures { (bytes : ℕ) → root ≡ at_most_usize bytes
+        → SomeUpTo 2147483647 result ((8 + (greatest layout.now - 1)) + bytes) }
 {
+    let sum = (HEADER + (layout.greatest() as usize - 1)).saturating_add(root);
     if sum <= MOST { Some(sum as u32) } else { None }
 }
 
-// A table and its vtable.
-fn room_of_table(layout: &Layout, table: TypeId, slots: usize) -> usize
-    requires few { slots ≤ 32765 }
-    ensures { result ≡ (table_align layout.now table.0 - 1) + (widest layout.now table.0 + (4 + 2 * slots)) }
+/// The bytes that a text takes at most.
+pub fn text_room(text: &str) -> usize
+    ensures { result ≡ at_most_usize (length text.now + 8) }
 {
+    text.len().saturating_add(8)
+}
+
+/// The bytes that a table and its vtable take at most, without what its references name.
+pub fn table_room(layout: &Layout, table: TypeId) -> usize
+    ensures { result ≡ table_room layout.now table.0 }
+{
+    let slots = layout.slots_of(table).len();
     let padding = layout.table_align(table) as usize - 1;
     padding + (layout.widest(table) as usize + (4 + 2 * slots))
 }
 
-// The count and the elements of a vector.
-fn room_of_vector(layout: &Layout, kind: Kind, count: usize) -> usize
+/// The bytes that the count and the elements of a vector take at most, without what its references name.
+pub fn vector_room(layout: &Layout, kind: Kind, count: usize) -> usize
     ensures { result ≡ at_most_usize (vector_room layout.now (kind_seen layout.now kind) count) }
 {
     let elements = count.saturating_mul(layout.size_of(kind) as usize);
@@ -63,17 +72,17 @@ fn room_in(layout: &Layout, shape: Shape, value: &Value) -> usize
 {
     match value {
         Value::Number(_) | Value::Fixed(_) | Value::Other(_) => 0,
-        Value::Text(text) => text.len().saturating_add(8),
+        Value::Text(text) => text_room(text),
         Value::Items(items) => match shape {
             Shape::One(_) => 0,
             Shape::Many(kind) => {
-                let own = room_of_vector(layout, kind, items.len());
+                let own = vector_room(layout, kind, items.len());
                 own.saturating_add(room_in_parts(layout, kind, items))
             }
         },
         Value::Fields(owner, entries) => {
             let slots = layout.slots_of(*owner);
-            let own = room_of_table(layout, *owner, slots.len());
+            let own = table_room(layout, *owner);
             own.saturating_add(room_in_entries(layout, slots, entries))
         }
         Value::Member(_, member) => room_in(layout, shape, member),

@@ -1,20 +1,21 @@
 -- The vtables of a value's tables, while keys are added.
 use Rattle.std.proofs.Common.{◌≡◌, ℕ, zero, suc, ◌+◌, ◌<◌, ◌⊎◌, inl, inr, false, List, [], ◌∷◌, length, max, drop}
-use Rattle.std.proofs.Common.{get_or, slice_get, Option, None, Some, option_map, refl, ap, sym, ◌∙◌, subst, arith}
+use Rattle.std.proofs.Common.{get_or, Option, None, Some, option_map, refl, ap, sym, ◌∙◌, subst, arith}
 use Rattle.fb_schema.specs.declared.kinds.Base.{Base}
-use Rattle.fb_layout.specs.Laid.{LaidSchema, Slot, StoredKind, scalar_kind, struct_kind, table_kind, union_kind}
+use Rattle.fb_layout.specs.Laid.{LaidSchema, StoredKind, scalar_kind, struct_kind, table_kind, union_kind}
 use Rattle.fb_layout.specs.Laid.{code_kind, text_kind, StoredShape, one_of, vector_of, slots_of}
 use Rattle.fb_value.specs.Datum.{Datum, a_number, a_text, a_vector, a_struct, a_table, a_member, an_unknown, Parts}
 use Rattle.fb_value.specs.Datum.{no_parts, more_parts, SlotEntries, no_entries, absent_entry, present_entry}
 use Rattle.fb_value.specs.Fits.{Fits, EntriesFit, EachFits}
 use Rattle.fb_value.specs.Num.{Bytes}
+use Rattle.fb_value.specs.Room.{room, parts_room}
 use Rattle.fb_value.specs.View.{view, parts_view, entries_in, entries_view}
 use Rattle.fb_value.specs.declared.values.Value.{Value}
 use Rattle.fb_build.specs.Fields.{IsSimple, IsElement}
 use Rattle.fb_build.specs.Needs.{first_waits, need, parts_need, entries_need, entry_need}
 use Rattle.fb_build.proofs.fields.SlotStoresItsEntry.{by_index}
 use Rattle.fb_build.specs.Vtables.{IsKey, AreKept, entries_listed, VtablesKnown, PartsVtablesKnown, EntriesVtablesKnown}
-use Rattle.fb_build.specs.Vtables.{EntryVtablesKnown, FitsSomewhere, EntryFitsSomewhere, EachFitsSomewhere}
+use Rattle.fb_build.specs.Vtables.{EntryVtablesKnown}
 
 pub listed : (xs : List (Option Datum)) → entries_listed (entries_in xs) ≡ xs
 listed [] = refl
@@ -148,21 +149,7 @@ parts_needs_step vs k v low is =
 
 -- ---- what fits
 
-pub entry_somewhere : (L : LaidSchema) (fs : List Slot) (es : List (Option Value)) (k : ℕ) (o : Option Value)
-    → ((j : ℕ) (f : Slot) → slice_get fs j ≡ Some f → IsSimple L f.shape) → EntriesFit L fs (entries_view es)
-    → k < length es → o ≡ get_or es k o
-    → EntryFitsSomewhere L (option_map view o)
-entry_somewhere L fs [] k o simple h low is = absurd (omega (arith, low))
-entry_somewhere L [] (None ∷ es) k o simple h low is = absurd h
-entry_somewhere L [] (Some w ∷ es) k o simple h low is = absurd h
-entry_somewhere L (f ∷ fs) (None ∷ es) zero o simple h low is = rw is tt
-entry_somewhere L (f ∷ fs) (Some w ∷ es) zero o simple h low is = rw is (f.shape, simple 0 f refl, h.1)
-entry_somewhere L (f ∷ fs) (None ∷ es) (suc k) o simple h low is =
-    entry_somewhere L fs es k o (λ j g at. simple (suc j) g at) h.1 (omega (arith, low)) is
-entry_somewhere L (f ∷ fs) (Some w ∷ es) (suc k) o simple h low is =
-    entry_somewhere L fs es k o (λ j g at. simple (suc j) g at) h.2 (omega (arith, low)) is
-
-element_simple : (L : LaidSchema) (kind : StoredKind) → IsElement L kind → IsSimple L (one_of kind)
+pub element_simple : (L : LaidSchema) (kind : StoredKind) → IsElement L kind → IsSimple L (one_of kind)
 element_simple L (scalar_kind b) h = tt
 element_simple L (struct_kind s) h = h
 element_simple L text_kind h = tt
@@ -170,49 +157,34 @@ element_simple L (table_kind t) h = tt
 element_simple L (union_kind u) h = absurd h
 element_simple L (code_kind u) h = absurd h
 
-pub part_somewhere : (L : LaidSchema) (vs : List Value) (k : ℕ) (v : Value) → EachFitsSomewhere L (parts_view vs)
-    → k < length vs → v ≡ get_or vs k v → FitsSomewhere L (view v)
-part_somewhere L [] k v h low is = absurd (omega (arith, low))
-part_somewhere L (w ∷ vs) zero v h low is =
-    subst (λ (z : Value). FitsSomewhere L (view z)) (sym is) (one_of h.0, element_simple L h.0 h.1, h.2.0)
-part_somewhere L (w ∷ vs) (suc k) v h low is = part_somewhere L vs k v (h.0, h.1, h.2.1) (omega (arith, low)) is
+pub no_vector : (L : LaidSchema) (kind : StoredKind) (ds : Parts) → Fits L (one_of kind) (a_vector ds) → ⊥
+no_vector L (scalar_kind u) ds fits = fits
+no_vector L (struct_kind u) ds fits = fits
+no_vector L (table_kind u) ds fits = fits
+no_vector L (union_kind u) ds fits = fits
+no_vector L (code_kind u) ds fits = fits
+no_vector L text_kind ds fits = fits
 
-pub vector_somewhere : (L : LaidSchema) (ds : Parts) → FitsSomewhere L (a_vector ds) → EachFitsSomewhere L ds
-vector_somewhere L ds h = by_shape h.0 h.1 h.2
-  where
-    by_shape : (shape : StoredShape) → IsSimple L shape → Fits L shape (a_vector ds) → EachFitsSomewhere L ds
-    by_shape (vector_of kind) simple fits = (kind, simple, fits)
-    by_shape (one_of (scalar_kind u)) simple fits = absurd fits
-    by_shape (one_of (struct_kind u)) simple fits = absurd fits
-    by_shape (one_of (table_kind u)) simple fits = absurd fits
-    by_shape (one_of (union_kind u)) simple fits = absurd fits
-    by_shape (one_of (code_kind u)) simple fits = absurd fits
-    by_shape (one_of text_kind) simple fits = absurd fits
+-- a member is a table
+pub member_table : (L : LaidSchema) (shape : StoredShape) (c : ℕ) (d : Datum) → Fits L shape (a_member c d)
+    → (t : ℕ) × Fits L (one_of (table_kind t)) d
+member_table L (one_of (union_kind u)) c d fits = (fits.0, fits.2)
+member_table L (vector_of kind) c d fits = absurd fits
+member_table L (one_of (scalar_kind u)) c d fits = absurd fits
+member_table L (one_of (struct_kind u)) c d fits = absurd fits
+member_table L (one_of (table_kind u)) c d fits = absurd fits
+member_table L (one_of (code_kind u)) c d fits = absurd fits
+member_table L (one_of text_kind) c d fits = absurd fits
 
-pub member_somewhere : (L : LaidSchema) (c : ℕ) (d : Datum) → FitsSomewhere L (a_member c d) → FitsSomewhere L d
-member_somewhere L c d h = by_shape h.0 h.2
-  where
-    by_shape : (shape : StoredShape) → Fits L shape (a_member c d) → FitsSomewhere L d
-    by_shape (one_of (union_kind u)) fits = (one_of (table_kind fits.0), tt, fits.2)
-    by_shape (vector_of kind) fits = absurd fits
-    by_shape (one_of (scalar_kind u)) fits = absurd fits
-    by_shape (one_of (struct_kind u)) fits = absurd fits
-    by_shape (one_of (table_kind u)) fits = absurd fits
-    by_shape (one_of (code_kind u)) fits = absurd fits
-    by_shape (one_of text_kind) fits = absurd fits
-
-pub table_somewhere : (L : LaidSchema) (t : ℕ) (es : SlotEntries) → FitsSomewhere L (a_table t es)
+pub table_entries : (L : LaidSchema) (shape : StoredShape) (t : ℕ) (es : SlotEntries) → Fits L shape (a_table t es)
     → EntriesFit L (slots_of L t) es
-table_somewhere L t es h = by_shape h.0 h.2
-  where
-    by_shape : (shape : StoredShape) → Fits L shape (a_table t es) → EntriesFit L (slots_of L t) es
-    by_shape (one_of (table_kind u)) fits = rw fits.0 fits.1
-    by_shape (vector_of kind) fits = absurd fits
-    by_shape (one_of (scalar_kind u)) fits = absurd fits
-    by_shape (one_of (struct_kind u)) fits = absurd fits
-    by_shape (one_of (union_kind u)) fits = absurd fits
-    by_shape (one_of (code_kind u)) fits = absurd fits
-    by_shape (one_of text_kind) fits = absurd fits
+table_entries L (one_of (table_kind u)) t es fits = rw fits.0 fits.1
+table_entries L (vector_of kind) t es fits = absurd fits
+table_entries L (one_of (scalar_kind u)) t es fits = absurd fits
+table_entries L (one_of (struct_kind u)) t es fits = absurd fits
+table_entries L (one_of (union_kind u)) t es fits = absurd fits
+table_entries L (one_of (code_kind u)) t es fits = absurd fits
+table_entries L (one_of text_kind) t es fits = absurd fits
 
 -- ---- a vector whose elements aren't references has no tables
 
@@ -251,24 +223,24 @@ all_plain : (L : LaidSchema) (known : List Bytes) (kind : StoredKind) (ds : Part
 all_plain L known kind no_parts plain h = tt
 all_plain L known kind (more_parts d ds) plain h = (plain d h.0, all_plain L known kind ds plain h.1)
 
-no_table_first : (L : LaidSchema) (known : List Bytes) (k : ℕ) (d : Datum) (ds : Parts)
+no_table_first : (L : LaidSchema) (k : ℕ) (d : Datum) (ds : Parts)
     → Fits L (one_of (table_kind k)) d → first_waits (more_parts d ds) ≡ false → ⊥
-no_table_first L known k (a_table t es) ds h none = cc
-no_table_first L known k (a_number n) ds h none = h
-no_table_first L known k (a_text b) ds h none = h
-no_table_first L known k (a_vector xs) ds h none = h
-no_table_first L known k (a_struct xs) ds h none = h
-no_table_first L known k (a_member c d) ds h none = h
-no_table_first L known k (an_unknown c) ds h none = h
+no_table_first L k (a_table t es) ds h none = cc
+no_table_first L k (a_number n) ds h none = h
+no_table_first L k (a_text b) ds h none = h
+no_table_first L k (a_vector xs) ds h none = h
+no_table_first L k (a_struct xs) ds h none = h
+no_table_first L k (a_member c d) ds h none = h
+no_table_first L k (an_unknown c) ds h none = h
 
-pub no_tables : (L : LaidSchema) (known : List Bytes) (ds : Parts) → EachFitsSomewhere L ds → first_waits ds ≡ false
-    → PartsVtablesKnown L known ds
-no_tables L known ds h none = by_kind h.0 h.1 h.2
+pub no_tables : (L : LaidSchema) (known : List Bytes) (kind : StoredKind) (ds : Parts) → IsElement L kind
+    → EachFits L kind ds → first_waits ds ≡ false → PartsVtablesKnown L known ds
+no_tables L known kind ds element fits none = by_kind kind element fits
   where
     by_parts : (k : ℕ) (xs : Parts) → EachFits L (table_kind k) xs → first_waits xs ≡ false
         → PartsVtablesKnown L known xs
     by_parts k no_parts fits none = tt
-    by_parts k (more_parts d xs) fits none = absurd (no_table_first L known k d xs fits.0 none)
+    by_parts k (more_parts d xs) fits none = absurd (no_table_first L k d xs fits.0 none)
 
     by_kind : (kind : StoredKind) → IsElement L kind → EachFits L kind ds → PartsVtablesKnown L known ds
     by_kind (scalar_kind k) el fits = all_plain L known (scalar_kind k) ds (number_plain L known k) fits
@@ -277,3 +249,53 @@ no_tables L known ds h none = by_kind h.0 h.1 h.2
     by_kind (table_kind k) el fits = by_parts k ds fits none
     by_kind (union_kind k) el fits = absurd el
     by_kind (code_kind k) el fits = absurd el
+
+-- ---- such a vector has no room but its own
+
+number_inline : (L : LaidSchema) (k : Base) (d : Datum) → Fits L (one_of (scalar_kind k)) d
+    → room L (one_of (scalar_kind k)) d ≡ 0
+number_inline L k (a_number n) h = refl
+number_inline L k (a_text b) h = absurd h
+number_inline L k (a_vector ds) h = absurd h
+number_inline L k (a_struct ds) h = absurd h
+number_inline L k (a_table t es) h = absurd h
+number_inline L k (a_member c d) h = absurd h
+number_inline L k (an_unknown c) h = absurd h
+
+struct_inline : (L : LaidSchema) (k : ℕ) (d : Datum) → Fits L (one_of (struct_kind k)) d
+    → room L (one_of (struct_kind k)) d ≡ 0
+struct_inline L k (a_number n) h = absurd h
+struct_inline L k (a_text b) h = absurd h
+struct_inline L k (a_vector ds) h = absurd h
+struct_inline L k (a_struct ds) h = refl
+struct_inline L k (a_table t es) h = absurd h
+struct_inline L k (a_member c d) h = absurd h
+struct_inline L k (an_unknown c) h = absurd h
+
+all_inline : (L : LaidSchema) (kind : StoredKind) (ds : Parts)
+    → ((d : Datum) → Fits L (one_of kind) d → room L (one_of kind) d ≡ 0) → EachFits L kind ds
+    → parts_room L kind ds ≡ 0
+all_inline L kind no_parts inline h = refl
+all_inline L kind (more_parts d ds) inline h =
+    let own = inline d h.0 in let rest = all_inline L kind ds inline h.1 in omega (arith, own, rest)
+
+no_text_first : (L : LaidSchema) (d : Datum) (ds : Parts) → Fits L (one_of text_kind) d
+    → first_waits (more_parts d ds) ≡ false → ⊥
+no_text_first L (a_text b) ds h none = cc
+no_text_first L (a_number n) ds h none = h
+no_text_first L (a_vector xs) ds h none = h
+no_text_first L (a_struct xs) ds h none = h
+no_text_first L (a_table t es) ds h none = h
+no_text_first L (a_member c d) ds h none = h
+no_text_first L (an_unknown c) ds h none = h
+
+pub inline_room : (L : LaidSchema) (kind : StoredKind) (ds : Parts) → IsElement L kind → EachFits L kind ds
+    → first_waits ds ≡ false → parts_room L kind ds ≡ 0
+inline_room L (scalar_kind k) ds element fits none = all_inline L (scalar_kind k) ds (number_inline L k) fits
+inline_room L (struct_kind k) ds element fits none = all_inline L (struct_kind k) ds (struct_inline L k) fits
+inline_room L text_kind no_parts element fits none = refl
+inline_room L text_kind (more_parts d ds) element fits none = absurd (no_text_first L d ds fits.0 none)
+inline_room L (table_kind k) no_parts element fits none = refl
+inline_room L (table_kind k) (more_parts d ds) element fits none = absurd (no_table_first L k d ds fits.0 none)
+inline_room L (union_kind k) ds element fits none = absurd element
+inline_room L (code_kind k) ds element fits none = absurd element
