@@ -34,6 +34,7 @@ pub(crate) struct Style<'a> {
 }
 
 /// Adds the text of a value of a shape. Lines that the value begins are indented.
+#[inline(always)]
 #[cycle(print)]
 pub(crate) fn put_value<W: Write, S: Shown>(
     out: &mut Noted<W>,
@@ -46,7 +47,12 @@ pub(crate) fn put_value<W: Write, S: Shown>(
         → Prints W.contents out.old out.new
         (value_text style.entry.layout.now style.entry.defaults (blanks indent.now) shape d) }
 {
-    put_found(out, style, indent, shape, shown, shown.find());
+    match (shown.find(), shape) {
+        (Found::Number(number), Shape::One(kind)) => {
+            put_number(out, style.layout.schema(), kind, number);
+        }
+        (found, _) => put_found(out, style, indent, shape, shown, found),
+    }
 }
 
 /// The same where it is known what is found there.
