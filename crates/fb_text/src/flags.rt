@@ -22,10 +22,10 @@ pub(crate) fn bits_of(number: i128) -> u64
 }
 
 /// The name of the bit at a place.
-fn bit_name(names: Names, place: u32) -> Option<&str>
+fn bit_name<'a>(names: &Names<'a>, place: u32) -> Option<&'a str>
     requires { place < 64 }
     ensures { option_copied result
-        ≡ name_numbered (body_at names.entry.schema.now names.entry.enumeration.0) (pos (2 ^ place)) }
+        ≡ name_numbered (body_at names.now.schema.now names.now.enumeration.0) (pos (2 ^ place)) }
 {
     names.name(i128::from(1u64 << place), place as usize)
 }
@@ -40,9 +40,9 @@ fn higher_bits(bits: u64) -> u64
 }
 
 /// Whether each bit that is set has a name.
-fn are_named(names: Names, bits: u64) -> bool
+fn are_named(names: &Names, bits: u64) -> bool
     ensures { result
-        ≡ are_named (name_numbered (body_at names.entry.schema.now names.entry.enumeration.0)) 64 1 bits }
+        ≡ are_named (name_numbered (body_at names.now.schema.now names.now.enumeration.0)) 64 1 bits }
 {
     if bits == 0 {
         return true;
@@ -54,9 +54,9 @@ fn are_named(names: Names, bits: u64) -> bool
 }
 
 /// Whether a number has bits and each has a name.
-pub(crate) fn are_flags(names: Names, number: i128) -> bool
+pub(crate) fn are_flags(names: &Names, number: i128) -> bool
     ensures { result
-        ≡ are_flags (body_at names.entry.schema.now names.entry.enumeration.0) (bits_of number) }
+        ≡ are_flags (body_at names.now.schema.now names.now.enumeration.0) (bits_of number) }
 {
     number > 0 && are_named(names, bits_of(number))
 }
@@ -72,18 +72,18 @@ fn put_gap<W: Write>(out: &mut Noted<W>, some: bool)
 }
 
 /// Adds the name of the bit at a place; nothing where it has none.
-fn put_bit<W: Write>(out: &mut Noted<W>, names: Names, place: u32)
+fn put_bit<W: Write>(out: &mut Noted<W>, names: &Names, place: u32)
     requires { place < 64 }
     ensures { Prints W.contents out.old out.new
-        (unwrap_or (name_numbered (body_at names.entry.schema.now names.entry.enumeration.0) (pos (2 ^ place))) []) }
+        (unwrap_or (name_numbered (body_at names.now.schema.now names.now.enumeration.0) (pos (2 ^ place))) []) }
 {
     out.put_str(bit_name(names, place).unwrap_or(""));
 }
 
 /// Adds the names of the bits that are set, with a blank between two.
-pub(crate) fn put_bits<W: Write>(out: &mut Noted<W>, names: Names, bits: u64, some: bool)
+pub(crate) fn put_bits<W: Write>(out: &mut Noted<W>, names: &Names, bits: u64, some: bool)
     ensures { Prints W.contents out.old out.new
-        (bits_text (name_numbered (body_at names.entry.schema.now names.entry.enumeration.0)) 64 1 bits some) }
+        (bits_text (name_numbered (body_at names.now.schema.now names.now.enumeration.0)) 64 1 bits some) }
 {
     if bits == 0 {
         return;

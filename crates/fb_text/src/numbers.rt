@@ -37,7 +37,7 @@ fn put_enum<W: Write>(out: &mut Noted<W>, schema: &Schema, enumeration: TypeId, 
 {
     let names = Names::of(schema, enumeration);
     if has_flags(schema, enumeration) {
-        return put_flags(out, names, number);
+        return put_flags(out, &names, number);
     }
     let counted = usize::try_from(number).unwrap_or(usize::MAX);
     match names.name(number, counted) {
@@ -48,9 +48,9 @@ fn put_enum<W: Write>(out: &mut Noted<W>, schema: &Schema, enumeration: TypeId, 
 
 /// Adds the names of a number's bits, where it has bits and each has a name, or the number.
 #[tactic(auto, using(crate::proofs::noted::PiecesAddUp::added_then))]
-fn put_flags<W: Write>(out: &mut Noted<W>, names: Names, number: i128)
+fn put_flags<W: Write>(out: &mut Noted<W>, names: &Names, number: i128)
     ensures { Prints W.contents out.old out.new
-        (flags_text (body_at names.entry.schema.now names.entry.enumeration.0) number) }
+        (flags_text (body_at names.now.schema.now names.now.enumeration.0) number) }
 {
     if !are_flags(names, number) {
         return put_digits(out, number);

@@ -34,7 +34,6 @@ pub(crate) struct Style<'a> {
 }
 
 /// Adds the text of a value of a shape. Lines that the value begins are indented.
-#[inline(always)]
 #[cycle(print)]
 pub(crate) fn put_value<W: Write, S: Shown>(
     out: &mut Noted<W>,
@@ -47,15 +46,11 @@ pub(crate) fn put_value<W: Write, S: Shown>(
         → Prints W.contents out.old out.new
         (value_text style.entry.layout.now style.entry.defaults (blanks indent.now) shape d) }
 {
-    match (shown.find(), shape) {
-        (Found::Number(number), Shape::One(kind)) => {
-            put_number(out, style.layout.schema(), kind, number);
-        }
-        (found, _) => put_found(out, style, indent, shape, shown, found),
-    }
+    put_found(out, style, indent, shape, shown, shown.find());
 }
 
 /// The same where it is known what is found there.
+#[inline(always)]
 #[cycle(print)]
 fn put_found<W: Write, S: Shown>(
     out: &mut Noted<W>,
@@ -114,7 +109,8 @@ fn put_vector<W: Write, S: Shown>(
             return; // no more of it is written
         }
         put_line(out, &inner, some);
-        put_value(out, style, &inner, Shape::One(kind), shown.child(i));
+        let item = shown.child(i);
+        put_found(out, style, &inner, Shape::One(kind), item, item.find());
         some = true;
     }
     put_closing(out, indent, some);

@@ -10,13 +10,13 @@ use Rattle.fb_text.proofs.flags.+are_named.Goals as goal
 
 pub returns-then-bits-eq0 : goal.returns-then-bits-eq0
 returns-then-bits-eq0 t c =
-    let name = name_numbered (body_at c.args.names.schema.now c.args.names.enumeration.0) in
+    let name = name_numbered (body_at c.args.names.now.schema.now c.args.names.now.enumeration.0) in
     sym (ap (are_named name 64 1) c.if-bits-eq0.true ∙ none_named name 64 1)
 
 pub returns-then-is_none : goal.returns-then-is_none
 returns-then-is_none t c =
     let bits = c.args.bits in
-    let name = name_numbered (body_at c.args.names.schema.now c.args.names.enumeration.0) in
+    let name = name_numbered (body_at c.args.names.now.schema.now c.args.names.now.enumeration.0) in
     let none : is_some (option_copied c.bit_name.result) ≡ false = search rules in
     let unnamed : is_some (name (pos (2 ^ trailing_zeros w64 bits))) ≡ false = sym (ap is_some c.bit_name.ensures) ∙ none in
     rw unnamed at (first_named name bits (omega arith) c.ranges.bits.fits)
@@ -24,7 +24,7 @@ returns-then-is_none t c =
 pub returns : goal.returns
 returns t c =
     let bits = c.args.bits in
-    let name = name_numbered (body_at c.args.names.schema.now c.args.names.enumeration.0) in
+    let name = name_numbered (body_at c.args.names.now.schema.now c.args.names.now.enumeration.0) in
     let there : is_some (option_copied c.bit_name.result) ≡ true = search rules in
     let named : is_some (name (pos (2 ^ trailing_zeros w64 bits))) ≡ true = sym (ap is_some c.bit_name.ensures) ∙ there in
     c.are_named.ensures ∙ (ap (are_named name 64 1) c.higher_bits.ensures.is

@@ -10,7 +10,7 @@ use Rattle.fb_text.proofs.flags.are_flags.Goals as goal
 pub returns-then-number-gt0 : goal.returns-then-number-gt0
 returns-then-number-gt0 c =
     let number = c.args.number in
-    let name = name_numbered (body_at c.args.names.schema.now c.args.names.enumeration.0) in
+    let name = name_numbered (body_at c.args.names.now.schema.now c.args.names.now.enumeration.0) in
     let above : pos 0 <ℤ number = search rules in
     let bits = subst (λ (n : ℤ). c.bits_of.result ≡ bits_of n % 2 ^ 64) (to_z-of_z w128 number c.ranges.number)
     c.bits_of.ensures in

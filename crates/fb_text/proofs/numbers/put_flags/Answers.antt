@@ -10,7 +10,7 @@ use Rattle.fb_text.proofs.numbers.put_flags.Goals as goal
 
 pub returns : goal.returns
 returns g c =
-    let body = body_at c.args.names.schema.now c.args.names.enumeration.0 in
+    let body = body_at c.args.names.now.schema.now c.args.names.now.enumeration.0 in
     let name = name_numbered body in
     let bits = bits_of c.args.number in
     let named : are_flags body bits ≡ true = search rules in
