@@ -47,6 +47,7 @@ fn put_enum<W: Write>(out: &mut Noted<W>, schema: &Schema, enumeration: TypeId, 
 }
 
 /// Adds the names of a number's bits, where it has bits and each has a name, or the number.
+#[inline(never)]
 #[tactic(auto, using(crate::proofs::noted::PiecesAddUp::added_then))]
 fn put_flags<W: Write>(out: &mut Noted<W>, names: &Names, number: i128)
     ensures { Prints W.contents out.old out.new

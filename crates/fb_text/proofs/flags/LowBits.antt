@@ -1,12 +1,13 @@
 -- Only so many of a number's bits are looked at.
-use Rattle.std.proofs.Common.{◌≡◌, ℕ, zero, suc, ◌+◌, ◌*◌, ◌/◌, ◌%◌, ◌^◌, ◌<◌, ◌&&◌, ◌||◌, ◌++◌, ◌==◌, ℤ, pos, negsuc, ◌<ℤ◌, Bool, false, Option, refl, ap}
-use Rattle.std.proofs.Common.{◌∙◌, arith, ne_eqb}
+use Rattle.std.proofs.Common.{◌≡◌, ℕ, zero, suc, ◌+◌, ◌*◌, ◌/◌, ◌%◌, ◌^◌, ◌&&◌, ◌||◌, ◌++◌, ◌==◌, ℤ, pos, negsuc, ◌<ℤ◌}
+use Rattle.std.proofs.Common.{Bool, false, Option, refl, ap, ◌∙◌, arith, ne_eqb}
 use Rattle.std.proofs.lemmas.Nat.{pow_pos}
 use Rattle.std.proofs.Math.Arith.{mod-mul}
 use Rattle.std.proofs.Math.Nat.{pow-suc}
 use Rattle.fb_schema.specs.Schema.{Name}
 use Rattle.fb_text.specs.Texts.{are_named, bits_of, bit_text, bits_text, has_name, is_odd}
 
+-- a number above zero has bits
 pub some_bits : (n : ℤ) → pos 0 <ℤ n → (bits_of n == 0) ≡ false
 some_bits (pos zero) h = absurd (omega arith)
 some_bits (pos (suc m)) h = ne_eqb (suc m) 0 (λ e. omega arith)

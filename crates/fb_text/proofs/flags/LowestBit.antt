@@ -1,13 +1,13 @@
 -- The lowest bit of a number that is set, and those behind it.
-use Rattle.std.proofs.Common.{◌≡◌, ℕ, zero, suc, ◌+◌, ◌-◌, ◌*◌, ◌/◌, ◌%◌, ◌^◌, ◌<◌, ◌≤◌, ◌++◌, ◌||◌, ◌&&◌, ◌==◌, not, ℤ, pos}
-use Rattle.std.proofs.Common.{[], List, true, false, Bool, Option, is_some, codes, if◌then◌else◌, refl, ap, sym, subst, ◌∙◌}
+use Rattle.std.proofs.Common.{◌≡◌, ℕ, zero, suc, ◌+◌, ◌-◌, ◌*◌, ◌/◌, ◌%◌, ◌^◌, ◌<◌, ◌≤◌, ◌++◌, ◌||◌, ◌&&◌, ℤ, pos}
+use Rattle.std.proofs.Common.{[], List, true, false, Bool, Option, is_some, codes, if◌then◌else◌, refl, ap, sym, ◌∙◌}
 use Rattle.std.proofs.Common.{arith}
 use Rattle.std.specs.Int.{bit_at, trailing_zeros, w64}
 use Rattle.std.specs.Option.{unwrap_or}
 use Rattle.std.proofs.lemmas.Nat.Bits.{bit_at-suc, bit_at_lowest, bit_at-trailing_zeros}
 use Rattle.std.proofs.Math.Nat.{two-pow-succ, mul-add, add-mul}
 use Rattle.fb_schema.specs.Schema.{Name}
-use Rattle.fb_text.specs.Texts.{are_named, bits_text, is_odd}
+use Rattle.fb_text.specs.Texts.{are_named, bits_text}
 
 -- a name, behind a blank where another name stands before
 abbrev pub name_text : Bool → Option Name → List ℕ
@@ -18,7 +18,10 @@ pub record IsLowest (n t : ℕ) : Type 0 where
   pub set : bit_at n t ≡ 1
   pub clear : (i : ℕ) → i < t → bit_at n i ≡ 0
 
-pub lowest_of : (n : ℕ) → 0 < n → n < 2 ^ 64 → (trailing_zeros w64 n < 64) × IsLowest n (trailing_zeros w64 n)
+abbrev pub lowest : ℕ → ℕ
+lowest n = trailing_zeros w64 n
+
+pub lowest_of : (n : ℕ) → 0 < n → n < 2 ^ 64 → (lowest n < 64) × IsLowest n (lowest n)
 lowest_of n some fits =
     let (low, set, clear) = bit_at-trailing_zeros w64 n some fits in (low, record { set = set; clear = clear })
 
@@ -55,7 +58,8 @@ even_without n (suc t) h = omega (arith, even_below n t h, two-pow-succ t, bit_w
 
 module _ (name : ℤ → Option Name) where
   -- a number whose lowest bit isn't set
-  text_of_even : (k bit n : ℕ) (some : Bool) → n % 2 ≡ 0 → bits_text name (suc k) bit n some ≡ bits_text name k (bit + bit) (n / 2) some
+  text_of_even : (k bit n : ℕ) (some : Bool) → n % 2 ≡ 0
+      → bits_text name (suc k) bit n some ≡ bits_text name k (bit + bit) (n / 2) some
   unfolding bits_text
   text_of_even k bit n some even = rw even (ap (bits_text name k (bit + bit) (n / 2)) (or_false some))
     where
@@ -66,7 +70,9 @@ module _ (name : ℤ → Option Name) where
   text_of_odd : (k bit n : ℕ) (some : Bool) → n % 2 ≡ 1
       → bits_text name (suc k) bit n some ≡ name_text some (name (pos bit)) ++ bits_text name k (bit + bit) (n / 2) true
   unfolding bits_text
-  text_of_odd k bit n some odd = rw odd (ap (λ b. name_text some (name (pos bit)) ++ bits_text name k (bit + bit) (n / 2) b) (or_true some))
+  text_of_odd k bit n some odd =
+      let first = name_text some (name (pos bit)) in
+      rw odd (ap (λ b. first ++ bits_text name k (bit + bit) (n / 2) b) (or_true some))
     where
       or_true : (some : Bool) → (some || true) ≡ true
       or_true true = refl
@@ -110,22 +116,19 @@ module _ (name : ℤ → Option Name) where
 
   -- the same of a number of 64 bits
   module _ (n : ℕ) (some : 0 < n) (fits : n < 2 ^ 64) where
-    place : ℕ
-    place = trailing_zeros w64 n
-
-    at_place : 1 * 2 ^ place ≡ 2 ^ place
+    at_place : 1 * 2 ^ lowest n ≡ 2 ^ lowest n
     at_place = omega arith
 
     pub first_written : (behind : Bool)
-        → name_text behind (name (pos (2 ^ trailing_zeros w64 n))) ++ bits_text name 64 1 (n - 2 ^ trailing_zeros w64 n) true
+        → name_text behind (name (pos (2 ^ lowest n))) ++ bits_text name 64 1 (n - 2 ^ lowest n) true
         ≡ bits_text name 64 1 n behind
-    unfolding place at_place
+    unfolding at_place
     first_written behind =
-        let (low, lowest) = lowest_of n some fits in
-        rw at_place at (lowest_written 64 1 n place behind low lowest)
+        let (low, is) = lowest_of n some fits in rw at_place at (lowest_written 64 1 n (lowest n) behind low is)
 
-    pub first_named : (is_some (name (pos (2 ^ trailing_zeros w64 n))) && are_named name 64 1 (n - 2 ^ trailing_zeros w64 n))
-        ≡ are_named name 64 1 n
-    unfolding place at_place
-    first_named =
-        let (low, lowest) = lowest_of n some fits in rw at_place at (lowest_named 64 1 n place low lowest)
+    pub first_named : (named : Bool) → is_some (name (pos (2 ^ lowest n))) ≡ named
+        → (named && are_named name 64 1 (n - 2 ^ lowest n)) ≡ are_named name 64 1 n
+    unfolding at_place
+    first_named named here =
+        let (low, is) = lowest_of n some fits in
+        rw here at (rw at_place at (lowest_named 64 1 n (lowest n) low is))

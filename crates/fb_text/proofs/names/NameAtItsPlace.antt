@@ -1,5 +1,5 @@
 -- The value at a place has the name of its number, since no other value has that number.
-use Rattle.std.proofs.Common.{◌≡◌, ◌≢◌, ℕ, List, String, Global, ℤ, map, AllPairs, position, slice_get, Option, None, Some}
+use Rattle.std.proofs.Common.{◌≡◌, ◌≢◌, ℕ, List, String, Global, ℤ, map, AllPairs, slice_get, Option, None, Some}
 use Rattle.std.proofs.Common.{string_bytes, refl, ap, sym, subst, ◌∙◌, arith}
 use Rattle.std.specs.Option.{option_map}
 use Rattle.std.specs.Ordering.{int_eq}

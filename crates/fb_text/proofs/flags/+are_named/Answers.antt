@@ -1,7 +1,5 @@
-use Rattle.std.proofs.Common.{rules, ◌≡◌, ◌<◌, ◌-◌, ◌^◌, ◌&&◌, ℤ, pos, Option, is_some, Bool, true, false, ap, sym, ◌∙◌, arith}
-use Rattle.std.proofs.Common.{option_copied, refl}
-use Rattle.std.specs.Int.{trailing_zeros, w64}
-use Rattle.fb_schema.specs.Schema.{Name, body_at}
+use Rattle.std.proofs.Common.{rules, ◌≡◌, is_some, option_copied, true, false, ap, sym, ◌∙◌, arith}
+use Rattle.fb_schema.specs.Schema.{body_at}
 use Rattle.fb_schema.specs.Found.{name_numbered}
 use Rattle.fb_text.specs.Texts.{are_named}
 use Rattle.fb_text.proofs.flags.LowestBit.{first_named}
@@ -18,14 +16,12 @@ returns-then-is_none t c =
     let bits = c.args.bits in
     let name = name_numbered (body_at c.args.names.now.schema.now c.args.names.now.enumeration.0) in
     let none : is_some (option_copied c.bit_name.result) ≡ false = search rules in
-    let unnamed : is_some (name (pos (2 ^ trailing_zeros w64 bits))) ≡ false = sym (ap is_some c.bit_name.ensures) ∙ none in
-    rw unnamed at (first_named name bits (omega arith) c.ranges.bits.fits)
+    first_named name bits (omega arith) c.ranges.bits.fits false (sym (ap is_some c.bit_name.ensures) ∙ none)
 
 pub returns : goal.returns
 returns t c =
     let bits = c.args.bits in
     let name = name_numbered (body_at c.args.names.now.schema.now c.args.names.now.enumeration.0) in
     let there : is_some (option_copied c.bit_name.result) ≡ true = search rules in
-    let named : is_some (name (pos (2 ^ trailing_zeros w64 bits))) ≡ true = sym (ap is_some c.bit_name.ensures) ∙ there in
     c.are_named.ensures ∙ (ap (are_named name 64 1) c.higher_bits.ensures.is
-    ∙ rw named at (first_named name bits (omega arith) c.ranges.bits.fits))
+    ∙ first_named name bits (omega arith) c.ranges.bits.fits true (sym (ap is_some c.bit_name.ensures) ∙ there))

@@ -1,5 +1,5 @@
-use Rattle.std.proofs.Common.{◌≡◌, ◌<◌, ◌-◌, ◌^◌, ◌++◌, ℤ, pos, [], List, true, ap, sym, subst, ◌∙◌, append_assoc, arith}
-use Rattle.fb_schema.specs.Schema.{Name, body_at}
+use Rattle.std.proofs.Common.{true, ap, sym, ◌∙◌, arith}
+use Rattle.fb_schema.specs.Schema.{body_at}
 use Rattle.fb_schema.specs.Found.{name_numbered}
 use Rattle.fb_text.specs.Texts.{bits_text}
 use Rattle.fb_text.proofs.flags.LowestBit.{first_written}

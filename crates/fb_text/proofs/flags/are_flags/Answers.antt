@@ -1,4 +1,4 @@
-use Rattle.std.proofs.Common.{rules, ◌≡◌, ◌%◌, ◌^◌, ◌==◌, ℤ, pos, ◌<ℤ◌, false, ap, subst, ◌∙◌}
+use Rattle.std.proofs.Common.{rules, ◌≡◌, ◌%◌, ◌^◌, ℤ, pos, ◌<ℤ◌, ap, subst, ◌∙◌}
 use Rattle.std.proofs.lemmas.Int.{to_z-of_z}
 use mir.Syntax.{w128}
 use Rattle.fb_schema.specs.Schema.{body_at}

@@ -243,12 +243,11 @@ put_vector-loop-i-preserved g t c ds lies end rest =
     let i = c.loop-i.i in
     let less : i < count ds = omega (arith, c.loop-i-test.true, c.count-i-end.ensures.all L ds lies) in
     let there = part_there ds i less in
-    let shows = rw there.1 at (c.child-item.ensures.shows L (Some (a_vector ds)) lies) in
+    let shows = rw there.1 at (c.child.ensures.shows L (Some (a_vector ds)) lies) in
     let step = items_step L c.args.style.defaults (blanks c.inside-inner.result) (blanks c.args.indent.now) c.args.kind
     c.loop-i.some ds i there.0 there.1 in
     c.loop-i.invariant ds lies end
-    (added_as step (then c.put_line.ensures
-    (then (c.put_found.ensures there.0 shows (c.find.ensures.top L (Some there.0) shows)) (rw add-one at rest))))
+    (added_as step (then c.put_line.ensures (then (c.put_item.ensures there.0 shows) (rw add-one at rest))))
 
 pub put_vector-returns : goal.put_vector-returns
 put_vector-returns g t c ds lies =

@@ -1,5 +1,5 @@
-use Rattle.std.proofs.Common.{rules, ◌≡◌, ℤ, Option, None, Some, ap, subst, ◌∙◌}
-use Rattle.fb_schema.specs.Schema.{Name, body_at}
+use Rattle.std.proofs.Common.{rules, ◌≡◌, Some, ap, ◌∙◌}
+use Rattle.fb_schema.specs.Schema.{body_at}
 use Rattle.fb_schema.specs.Found.{name_numbered}
 use Rattle.fb_schema.proofs.Got.{got}
 use Rattle.fb_text.proofs.names.NameAtItsPlace.{numbers_differ, named_there}
