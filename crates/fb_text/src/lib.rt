@@ -2,10 +2,12 @@
 #![tactic(auto)]
 
 mod faults;
+mod flags;
 mod indents;
 mod laws;
 mod lines;
 mod members;
+mod names;
 mod nested;
 mod noted;
 mod numbers;

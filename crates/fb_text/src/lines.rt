@@ -118,11 +118,8 @@ pub(crate) fn put_member_line<W: Write>(
 }
 
 /// Adds a name in quotes.
-#[tactic(auto, using(crate::proofs::noted::PiecesAddUp::added_then))]
 pub(crate) fn put_name<W: Write>(out: &mut Noted<W>, name: &str)
     ensures { Prints W.contents out.old out.new (in_quotes name.now) }
 {
-    out.put_str("\"");
-    out.put_str(name);
-    out.put_str("\"");
+    out.put_in_quotes(name);
 }

@@ -56,6 +56,7 @@ impl<W: Write> Noted<W> {
     ghost use Rattle.fb_text.specs.Noted.{write_failed, writer_of, page_of};
     ghost use Rattle.fb_text.specs.Pages.{pending, written_before};
     ghost use Rattle.fb_text.specs.Printed.{IfUnnamed};
+    ghost use Rattle.fb_text.specs.Texts.{in_quotes};
     ghost use Rattle.fb_text.specs.Writes.{state_of, Stands, IsWritten, Prints};
 
     /// A writer over another, whose bytes are that one's.
@@ -154,6 +155,31 @@ impl<W: Write> Noted<W> {
         ensures { Prints W.contents self.old self.new piece.now }
     {
         self.put(piece.as_bytes());
+    }
+
+    /// Adds a quote, a piece and a quote, one after the other.
+    #[cold]
+    #[inline(never)]
+    #[tactic(auto, using(crate::proofs::noted::PiecesAddUp::added_then))]
+    fn put_each_quote(&mut self, piece: &str)
+        ensures { Prints W.contents self.old self.new (in_quotes piece.now) }
+    {
+        self.put(b"\"");
+        self.put_str(piece);
+        self.put(b"\"");
+    }
+
+    /// Adds a piece in quotes, all at once where the page has room.
+    #[inline]
+    pub(crate) fn put_in_quotes(&mut self, piece: &str)
+        ensures { Prints W.contents self.old self.new (in_quotes piece.now) }
+    {
+        if !self.page.has_room(piece.len().saturating_add(2)) {
+            return self.put_each_quote(piece);
+        }
+        self.page.add(b"\"");
+        self.page.add(piece.as_bytes());
+        self.page.add(b"\"");
     }
 
     /// Writes what waits, and returns whether all of a text was written.

@@ -50,6 +50,7 @@ pub(crate) fn put_value<W: Write, S: Shown>(
 }
 
 /// The same where it is known what is found there.
+#[inline(always)]
 #[cycle(print)]
 fn put_found<W: Write, S: Shown>(
     out: &mut Noted<W>,
@@ -108,11 +109,31 @@ fn put_vector<W: Write, S: Shown>(
             return; // no more of it is written
         }
         put_line(out, &inner, some);
-        put_value(out, style, &inner, Shape::One(kind), shown.child(i));
+        put_item(out, style, &inner, kind, shown.child(i));
         some = true;
     }
     put_closing(out, indent, some);
     out.put_str("]");
+}
+
+/// Adds an element of a vector. A number is told from the rest first: it needs no walk.
+#[inline(always)]
+#[cycle(print)]
+fn put_item<W: Write, S: Shown>(
+    out: &mut Noted<W>,
+    style: Style,
+    indent: &Indent,
+    kind: Kind,
+    shown: S,
+)
+    ensures { (d : Datum) → S.shows shown style.entry.layout.now (Some d)
+        → Prints W.contents out.old out.new
+        (value_text style.entry.layout.now style.entry.defaults (blanks indent.now) (One kind) d) }
+{
+    match shown.find() {
+        Found::Number(number) => put_number(out, style.layout.schema(), kind, number),
+        found => put_found(out, style, indent, Shape::One(kind), shown, found),
+    }
 }
 
 #[cycle(print)]

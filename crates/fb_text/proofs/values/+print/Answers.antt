@@ -247,7 +247,7 @@ put_vector-loop-i-preserved g t c ds lies end rest =
     let step = items_step L c.args.style.defaults (blanks c.inside-inner.result) (blanks c.args.indent.now) c.args.kind
     c.loop-i.some ds i there.0 there.1 in
     c.loop-i.invariant ds lies end
-    (added_as step (then c.put_line.ensures (then (c.put_value.ensures there.0 shows) (rw add-one at rest))))
+    (added_as step (then c.put_line.ensures (then (c.put_item.ensures there.0 shows) (rw add-one at rest))))
 
 pub put_vector-returns : goal.put_vector-returns
 put_vector-returns g t c ds lies =

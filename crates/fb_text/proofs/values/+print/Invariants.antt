@@ -12,6 +12,9 @@ use Rattle.fb_text.proofs.values.+print.Given as goal
 abbrev pub decreases-put_value : goal.decreases-put_value
 decreases-put_value g l = 8 * g.S.Shown.weight l.shown + 3
 
+abbrev pub decreases-put_item : goal.decreases-put_item
+decreases-put_item g l = 8 * g.S.Shown.weight l.shown + 3
+
 abbrev pub decreases-put_found : goal.decreases-put_found
 decreases-put_found g l = 8 * g.S.Shown.weight l.shown + 2
 

@@ -1,0 +1,2 @@
+-- What the proofs of src/names.rt use.
+pub mod NameAtItsPlace

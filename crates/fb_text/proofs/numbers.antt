@@ -1,3 +1,0 @@
--- What the proofs of src/numbers.rt use.
-pub mod BitDoubles
-pub mod NoBitsHaveNoNames

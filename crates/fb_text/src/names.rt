@@ -1,0 +1,60 @@
+//! The names of an enum's values.
+ghost use Rattle.std.specs.Prelude.{◌≡◌, map, option_copied, string_bytes};
+ghost use Rattle.fb_schema.specs.Schema.{body_at, values_in};
+ghost use Rattle.fb_schema.specs.Found.{name_numbered};
+
+use fb_schema::{Schema, TypeId};
+
+/// The values of an enum; none of another type.
+fn values_of(schema: &Schema, enumeration: TypeId) -> &[(String, i128)]
+    ensures { map (λ v. (string_bytes v.0, v.1)) result.now
+        ≡ values_in (body_at schema.now enumeration.0) }
+{
+    let Some(info) = schema.types().get(enumeration.0 as usize) else {
+        return &[];
+    };
+    match info.body.as_enum() {
+        Some((_, _, values)) => values,
+        None => &[],
+    }
+}
+
+/// An enum and its values, so that they are looked up once for all the names of a number.
+#[derive(Clone, Copy)]
+pub(crate) struct Names<'a> {
+    pub schema: &'a Schema,
+    pub enumeration: TypeId,
+    values: &'a [(String, i128)],
+    ghost same: { map (λ v. (string_bytes v.0, v.1)) values.now
+        ≡ values_in (body_at schema.now enumeration.0) },
+}
+
+impl<'a> Names<'a> {
+    /// Those of an enum.
+    #[inline(always)]
+    pub(crate) fn of(schema: &'a Schema, enumeration: TypeId) -> Names<'a>
+        ensures schema { result.schema.now ≡ schema.now }
+        ensures enumeration { result.enumeration ≡ enumeration }
+    {
+        Names {
+            schema,
+            enumeration,
+            values: values_of(schema, enumeration),
+        }
+    }
+
+    /// The name of a number. The value at a place is tried first.
+    #[inline(always)]
+    pub(crate) fn name(self, number: i128, place: usize) -> Option<&'a str>
+        ensures { option_copied result
+            ≡ name_numbered (body_at self.entry.schema.now self.entry.enumeration.0) number }
+    {
+        let _types = self.schema.types(); // tells that no number is there twice
+        if let Some(value) = self.values.get(place)
+            && value.1 == number
+        {
+            return Some(value.0.as_str());
+        }
+        self.schema.name_of_number(self.enumeration, number)
+    }
+}
