@@ -1,3 +1,2 @@
-pub mod Lines
-pub mod Positions
-pub mod Printed
+pub use Rattle.fb_pages.specs.Lines
+pub use Rattle.fb_pages.specs.Positions

@@ -1,7 +1,5 @@
 //! What is wrong with a text that isn't JSON.
-use crate::excerpts::push_excerpt;
-use crate::pages::Page;
-use crate::sources::{Source, push_place};
+use fb_pages::{Page, Source, push_excerpt, push_place};
 use serde_json::Value;
 use std::str;
 

@@ -1,10 +1,10 @@
 //! What in a new schema breaks with the old one, with both side by side.
 use crate::breach_fields::Compared;
-use crate::pages::Page;
-use crate::shapes::{members_of, type_name, values_of};
 use crate::sides::{Sides, Twin};
 use fb_conform::{Breach, all_breaches};
+use fb_pages::Page;
 use fb_schema::{Schema, TypeId};
+use fb_schema_faults::shapes::{members_of, type_name, values_of};
 
 fn kind_of_type(schema: &Schema, number: TypeId) -> &'static str {
     match schema.types().get(number.0 as usize) {

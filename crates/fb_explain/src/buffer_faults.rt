@@ -1,9 +1,8 @@
 //! What is wrong with a buffer.
 use crate::buffer_paths::push_path;
-use crate::dumps::push_dump;
 use crate::explanations::Sources;
-use crate::pages::Page;
 use fb_layout::Layout;
+use fb_pages::{Page, push_dump};
 use fb_read::fault_path;
 use fb_value::{Limits, ReadFault};
 

@@ -1,7 +1,6 @@
 //! Two schema texts that were compared.
-use crate::pages::Page;
 use crate::sides::{Side, Sides};
-use crate::sources::Source;
+use fb_pages::{Page, Source};
 use fb_syntax::parse;
 use flatc_tool::schema_of;
 

@@ -1,17 +1,16 @@
 //! A refusal in sentences.
 ghost use Rattle.std.specs.Prelude.{IfOk, chars};
 ghost use Rattle.std.specs.String.{string_bytes};
-ghost use Rattle.fb_explain.specs.Lines.{IsPage};
+ghost use Rattle.fb_pages.specs.Lines.{IsPage};
 
 use crate::bad_json::push_bad_json;
 use crate::buffer_faults::push_buffer_fault;
 use crate::comparisons::{Asked, push_comparison};
 use crate::json_faults::push_json_fault;
 use crate::memory::memory_use;
-use crate::pages::Page;
-use crate::schema_faults::push_schema_fault;
-use crate::sources::Source;
 use crate::union_codes::push_unnamed_member;
+use fb_pages::{Page, Source};
+use fb_schema_faults::push_schema_fault;
 use fb_text::{TextFault, WriteFault};
 use fb_value::Limits;
 use flatc_tool::{BuildFault, ToolFault, schema_of};

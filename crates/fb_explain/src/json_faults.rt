@@ -1,13 +1,11 @@
 //! What is wrong with a JSON text under a schema.
-use crate::excerpts::push_excerpt;
 use crate::explanations::Sources;
 use crate::json_places::{element_offset, member_names, member_offset, rest_of};
 use crate::json_rules::{Found, push_rule, unknown_name};
-use crate::pages::Page;
-use crate::shapes::field_at;
-use crate::sources::push_place;
 use fb_json::{JsonFault, Place, Step, fault_path};
 use fb_layout::Layout;
+use fb_pages::{Page, push_excerpt, push_place};
+use fb_schema_faults::shapes::field_at;
 use serde_json::Value;
 use std::alloc::{AllocError, Global};
 use std::str;

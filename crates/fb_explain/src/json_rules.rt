@@ -1,12 +1,11 @@
 //! The rule that a JSON value breaks, with what is there and what would be right.
-use crate::near_names::push_nearest;
-use crate::pages::Page;
-use crate::shapes::{
-    field_at, fields_of, kind_name, members_of, push_shape, range_of_base, type_name, values_of,
-};
 use fb_json::{JsonFault, Place};
 use fb_layout::Layout;
+use fb_pages::{Page, push_nearest};
 use fb_schema::{Base, FieldInfo, Kind, Shape, TypeId};
+use fb_schema_faults::shapes::{
+    field_at, fields_of, kind_name, members_of, push_shape, range_of_base, type_name, values_of,
+};
 use fb_value::Limits;
 use std::alloc::{AllocError, Global};
 

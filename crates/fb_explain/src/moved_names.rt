@@ -1,8 +1,8 @@
 //! What conforms, and may still be meant otherwise: a name that stands for another slot, field or member.
-use crate::pages::Page;
-use crate::shapes::{fields_of, members_of, type_name};
 use crate::sides::{Sides, Twin};
+use fb_pages::Page;
 use fb_schema::{FieldInfo, TypeId};
+use fb_schema_faults::shapes::{fields_of, members_of, type_name};
 
 impl<'s, 't> Sides<'s, 't> {
     /// Adds a warning where the new field of an old field's name has another slot.

@@ -1,11 +1,9 @@
 //! Two schemas side by side, with the texts that declare them.
-use crate::declared::{field_named, name_of, type_at};
-use crate::pages::Page;
-use crate::positions::Position;
-use crate::shapes::type_name;
-use crate::sources::Source;
 use fb_layout::Layout;
+use fb_pages::{Page, Position, Source};
 use fb_schema::{Schema, TypeId};
+use fb_schema_faults::declared::{field_named, name_of, type_at};
+use fb_schema_faults::shapes::type_name;
 use fb_syntax::{Decls, TypeDecl};
 
 /// One of two schemas: its layout, its text, and what the text declares.

@@ -1,13 +1,13 @@
 //! A union in a buffer whose code has no member.
 use crate::buffer_paths::push_path;
 use crate::explanations::Sources;
-use crate::pages::Page;
-use crate::shapes::{field_at, members_of, type_name};
 use crate::union_paths::{Unnamed, first_unnamed};
 use fb_json::Place;
 use fb_layout::Layout;
+use fb_pages::Page;
 use fb_read::{Entries, read};
 use fb_schema::{Kind, Shape};
+use fb_schema_faults::shapes::{field_at, members_of, type_name};
 use fb_value::ReadFault;
 use std::alloc::{AllocError, Global};
 

@@ -1,0 +1,3 @@
+pub mod Lines
+pub mod Positions
+pub mod Printed

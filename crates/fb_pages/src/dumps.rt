@@ -1,0 +1,63 @@
+//! Bytes of a buffer in hexadecimal, with a place marked.
+use crate::pages::Page;
+
+const ROW: usize = 16;
+
+// The widths of an offset and of a byte with the space before it.
+const OFFSET_DIGITS: usize = 10;
+
+const CELL: usize = 3;
+
+/// Adds an offset, in decimal as all offsets are, on the right of its column.
+fn push_offset(page: &mut Page, offset: usize) {
+    let mut digits = 1usize;
+    let mut left = offset / 10;
+    for _ in 0..OFFSET_DIGITS {
+        if left > 0 {
+            digits = digits.saturating_add(1);
+            left /= 10;
+        }
+    }
+    page.push_spaces(OFFSET_DIGITS.saturating_sub(digits));
+    page.push_number(offset as u64);
+}
+
+/// Adds a row of bytes, and their characters where they are ASCII.
+fn push_row(page: &mut Page, bytes: &[u8], start: usize) {
+    push_offset(page, start);
+    page.push_str(" ");
+    let row = bytes.get(start..).unwrap_or(&[]);
+    let row = row.get(..ROW).unwrap_or(row);
+    for byte in row {
+        page.push_str(" ");
+        page.push_hex(*byte);
+    }
+    page.push_spaces(
+        CELL.saturating_mul(ROW.saturating_sub(row.len()))
+            .saturating_add(2),
+    );
+    for byte in row {
+        let is_shown = byte.is_ascii_graphic() || *byte == b' ';
+        page.push_shown(&[if is_shown { *byte } else { b'.' }]);
+    }
+    page.end_line();
+}
+
+/// Adds the bytes round an offset, with a mark below it.
+pub fn push_dump(page: &mut Page, bytes: &[u8], offset: usize) {
+    let marked = offset.min(bytes.len());
+    let own = marked - marked % ROW;
+    if let Some(row_before) = own.checked_sub(ROW) {
+        push_row(page, bytes, row_before);
+    }
+    push_row(page, bytes, own);
+    page.push_spaces(
+        OFFSET_DIGITS
+            .saturating_add(2)
+            .saturating_add(CELL.saturating_mul(marked % ROW)),
+    );
+    page.push_line("^^");
+    if bytes.len().saturating_sub(own) > ROW && own == 0 {
+        push_row(page, bytes, own.saturating_add(ROW));
+    }
+}

@@ -1,0 +1,97 @@
+//! A line of a text, with a caret under a place.
+use crate::pages::{Page, shown_width};
+use crate::positions::line_start;
+use bstr::{decode_last_utf8, decode_utf8};
+
+// Before the line, and for the dots where a part of it is left out.
+const INDENT: usize = 2;
+
+const DOTS: &str = "...";
+
+// How many columns are shown before the place, and from it on, at most.
+const FRONT_COLUMNS: usize = 60;
+
+const REST_COLUMNS: usize = 50;
+
+/// A part of a line, and how many columns it takes.
+#[derive(Clone, Copy)]
+struct Part<'t> {
+    bytes: &'t [u8],
+    columns: usize,
+}
+
+/// The end of a line's front that is shown.
+fn end_of(front: &[u8]) -> Part<'_> {
+    let mut start = front.len();
+    let mut columns = 0usize;
+    for _ in 0..FRONT_COLUMNS {
+        let (character, size) = decode_last_utf8(front.get(..start).unwrap_or(&[]));
+        let width = shown_width(character, size);
+        if start == 0 || columns.saturating_add(width) > FRONT_COLUMNS {
+            break;
+        }
+        columns = columns.saturating_add(width);
+        start = start.saturating_sub(size);
+    }
+    Part {
+        bytes: front.get(start..).unwrap_or(&[]),
+        columns,
+    }
+}
+
+/// The beginning of a line's rest that is shown.
+fn beginning_of(rest: &[u8]) -> Part<'_> {
+    let mut end = 0usize;
+    let mut columns = 0usize;
+    for _ in 0..REST_COLUMNS {
+        let (character, size) = decode_utf8(rest.get(end..).unwrap_or(&[]));
+        let width = shown_width(character, size);
+        if size == 0 || columns.saturating_add(width) > REST_COLUMNS {
+            break;
+        }
+        columns = columns.saturating_add(width);
+        end = end.saturating_add(size);
+    }
+    Part {
+        bytes: rest.get(..end).unwrap_or(rest),
+        columns,
+    }
+}
+
+/// What is left of a line from its front on, without what ends it.
+fn rest_of_line(text: &[u8]) -> &[u8] {
+    let line = match text.iter().position(|byte| *byte == b'\n') {
+        Some(end) => text.get(..end).unwrap_or(text),
+        None => text,
+    };
+    line.strip_suffix(b"\r").unwrap_or(line)
+}
+
+/// Adds the line of a place, cut round it where it is long, and a caret under the place.
+pub fn push_excerpt(page: &mut Page, text: &[u8], offset: usize) {
+    let before = text.get(..offset).unwrap_or(text);
+    let start = line_start(before);
+    let front = before.get(start..).unwrap_or(&[]);
+    let front = if start == 0 {
+        front.strip_prefix(b"\xef\xbb\xbf").unwrap_or(front)
+    } else {
+        front
+    };
+    let rest = rest_of_line(text.get(offset..).unwrap_or(&[]));
+    let left = end_of(front);
+    let right = beginning_of(rest);
+    let mut caret = INDENT.saturating_add(left.columns);
+    page.push_spaces(INDENT);
+    if left.bytes.len() < front.len() {
+        page.push_str(DOTS);
+        caret = caret.saturating_add(DOTS.len());
+    }
+    page.push_shown(left.bytes);
+    page.push_shown(right.bytes);
+    if right.bytes.len() < rest.len() {
+        page.push_str(DOTS);
+    }
+    page.end_line();
+    page.push_spaces(caret);
+    page.push_line("^");
+}

@@ -1,0 +1,19 @@
+//! How something is shown to people: plain lines, and what they are made of.
+#![tactic(auto)]
+
+mod dumps;
+mod excerpts;
+mod fault_pages;
+mod lines;
+mod near_names;
+mod pages;
+mod positions;
+mod sources;
+
+pub use dumps::push_dump;
+pub use excerpts::push_excerpt;
+pub use fault_pages::fault_page;
+pub use near_names::push_nearest;
+pub use pages::Page;
+pub use positions::Position;
+pub use sources::{Source, push_place};

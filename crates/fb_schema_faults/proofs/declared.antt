@@ -1,0 +1,3 @@
+pub mod FieldsInOrder
+pub mod NamesInOrder
+pub mod TypesInOrder

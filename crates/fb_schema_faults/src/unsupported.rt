@@ -1,0 +1,117 @@
+//! What of FlatBuffers' schema language isn't supported, wherever a text has it.
+use crate::schema_tokens::{Token, Tokens};
+use fb_pages::{Page, Source, push_place};
+
+/// The tokens before a token, the nearest first.
+#[derive(Clone, Copy)]
+struct Before<'t> {
+    last: &'t [u8],
+    second: &'t [u8],
+    /// Whether a list of attributes is open.
+    in_attributes: bool,
+}
+
+fn is_float(word: &[u8]) -> bool {
+    matches!(word, b"float" | b"double" | b"float32" | b"float64")
+}
+
+/// Whether an attribute of this name changes what bytes mean.
+pub(crate) fn is_unsupported_attribute(word: &[u8]) -> bool {
+    matches!(
+        word,
+        b"key" | b"hash" | b"shared" | b"nested_flatbuffer" | b"flexbuffer"
+    ) || word.starts_with(b"native_")
+}
+
+fn is_a_number(word: &[u8]) -> bool {
+    matches!(word, [b'0'..=b'9', ..] | [b'+' | b'-', b'0'..=b'9', ..])
+}
+
+/// What isn't supported at a token behind others.
+fn unsupported(token: &[u8], before: Before<'_>) -> Option<&'static str> {
+    match (before.last, token) {
+        (b"" | b";" | b"}", b"include" | b"native_include") => {
+            Some("'include' isn't supported: put all declarations into one text")
+        }
+        (b"" | b";" | b"}", b"rpc_service") => Some("services ('rpc_service') aren't supported"),
+        (b":" | b"[", word) if is_float(word) => Some("floats aren't supported"),
+        (b"=", [b'"', ..]) => Some("default values of strings aren't supported"),
+        (b"=", [b'[']) => Some("default values of vectors aren't supported"),
+        (b"(" | b",", word) if before.in_attributes && is_unsupported_attribute(word) => {
+            Some("this attribute isn't supported")
+        }
+        (last, b":") if matches!(before.second, b"[") && !last.is_empty() => {
+            Some("fixed-size arrays aren't supported")
+        }
+        (number, b".") if is_a_number(number) => Some("numbers with a fraction aren't supported"),
+        (b"=", b".") => Some("numbers with a fraction aren't supported"),
+        _ => None,
+    }
+}
+
+impl<'t> Before<'t> {
+    fn nothing() -> Before<'t> {
+        Before {
+            last: b"",
+            second: b"",
+            in_attributes: false,
+        }
+    }
+
+    fn followed_by(self, token: Token<'t>) -> Before<'t> {
+        Before {
+            last: token.bytes,
+            second: self.last,
+            in_attributes: match token.bytes {
+                b"(" => true,
+                b")" => false,
+                _ => self.in_attributes,
+            },
+        }
+    }
+}
+
+/// What isn't supported at an offset.
+pub(crate) fn unsupported_at(text: &[u8], offset: usize) -> Option<&'static str> {
+    let mut tokens = Tokens::of(text);
+    let mut before = Before::nothing();
+    for _ in 0..text.len() {
+        let token = tokens.next_token()?;
+        if token.at >= offset {
+            return unsupported(token.bytes, before);
+        }
+        before = before.followed_by(token);
+    }
+    None
+}
+
+fn push_unsupported_token(
+    page: &mut Page,
+    source: &Source<'_>,
+    token: Token<'_>,
+    before: Before<'_>,
+    offset: usize,
+) {
+    match unsupported(token.bytes, before) {
+        Some(what) if token.at != offset => {
+            push_place(page, source, token.at);
+            page.push_line(what)
+        }
+        _ => {}
+    }
+}
+
+/// Adds all other places at which something isn't supported.
+pub(crate) fn push_others(page: &mut Page, source: &Source<'_>, offset: usize) {
+    let mut tokens = Tokens::of(source.bytes);
+    let mut before = Before::nothing();
+    for _ in 0..source.bytes.len() {
+        match tokens.next_token() {
+            Some(token) => {
+                push_unsupported_token(page, source, token, before, offset);
+                before = before.followed_by(token);
+            }
+            None => break,
+        }
+    }
+}
