@@ -5,6 +5,7 @@ ghost use Rattle.serde_json.specs.View.{view as tree_view};
 ghost use Rattle.flatc_tool.specs.Jobs.{IsBinaryOf, MayBeBinaryOf, BinaryRefusedOf, IsNotMemory};
 ghost use Rattle.flatc_tool.specs.JsonText.{IsTree};
 
+use crate::drops::drop_value;
 use crate::faults::ToolFault;
 use crate::laws::layer_laws;
 use crate::options::EncodeOptions;
@@ -56,7 +57,9 @@ pub fn encode(
         Ok(value) => value,
         Err(fault) => return Err(ToolFault::Json(fault)),
     };
-    match build(alloc, layout, &value) {
+    let built = build(alloc, layout, &value);
+    drop_value(value);
+    match built {
         Ok(bytes) => Ok(bytes),
         Err(fault) => Err(ToolFault::Build(fault)),
     }

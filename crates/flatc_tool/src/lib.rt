@@ -4,6 +4,7 @@
 mod buffers;
 mod checks;
 pub mod command;
+mod drops;
 mod evolution;
 mod faults;
 mod headline;

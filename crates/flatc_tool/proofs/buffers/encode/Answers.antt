@@ -26,23 +26,23 @@ returns-in-Err-value_from-clause-exact c rule =
     c.args.layout.now (tree_view c.in-Ok.tree) c.in-Err-value_from.fault c.in-Ok.ensures.tree
     c.in-Err-value_from.ensures.none rule
 
-pub returns-in-Ok-build-clause-binary : goal.returns-in-Ok-build-clause-binary
-returns-in-Ok-build-clause-binary c =
+pub returns-in-Ok-built-clause-binary : goal.returns-in-Ok-built-clause-binary
+returns-in-Ok-built-clause-binary c =
     binary_made c.layer_laws.ensures.laws c.args.json.now c.args.options.now.limits c.args.options.now.unknown_json
-    c.args.layout.now (view c.in-Ok-value_from.value) c.in-Ok-build.bytes.items
+    c.args.layout.now (view c.in-Ok-value_from.value) c.in-Ok-built.bytes.items
     (tree_view c.in-Ok.tree, c.in-Ok.ensures.tree, c.in-Ok-value_from.ensures.means) c.in-Ok-value_from.ensures.fits
-    c.in-Ok-build.ensures.small c.in-Ok-build.ensures.holds c.in-Ok-build.ensures.old_slots
-    c.in-Ok-build.ensures.covered c.in-Ok-build.ensures.aligned c.in-Ok-build.ensures.short
+    c.in-Ok-built.ensures.small c.in-Ok-built.ensures.holds c.in-Ok-built.ensures.old_slots
+    c.in-Ok-built.ensures.covered c.in-Ok-built.ensures.aligned c.in-Ok-built.ensures.short
 
-pub returns-clause-refused : goal.returns-clause-refused
-returns-clause-refused c =
+pub returns-in-Err-built-clause-refused : goal.returns-in-Err-built-clause-refused
+returns-in-Err-built-clause-refused c =
     size_refused c.layer_laws.ensures.laws c.args.json.now c.args.options.now.limits c.args.options.now.unknown_json
-    c.args.layout.now (view c.in-Ok-value_from.value) c.in-Err-build.fault
-    (tree_view c.in-Ok.tree, c.in-Ok.ensures.tree, c.in-Ok-value_from.ensures.means) c.in-Err-build.ensures.memory
-    c.in-Err-build.ensures.too_big
+    c.args.layout.now (view c.in-Ok-value_from.value) c.in-Err-built.fault
+    (tree_view c.in-Ok.tree, c.in-Ok.ensures.tree, c.in-Ok-value_from.ensures.means) c.in-Err-built.ensures.memory
+    c.in-Err-built.ensures.too_big
 
-pub returns-clause-exact : goal.returns-clause-exact
-returns-clause-exact c rule =
+pub returns-in-Err-built-clause-exact : goal.returns-in-Err-built-clause-exact
+returns-in-Err-built-clause-exact c rule =
     size_excludes c.layer_laws.ensures.laws c.args.json.now c.args.options.now.limits c.args.options.now.unknown_json
-    c.args.layout.now (view c.in-Ok-value_from.value) c.in-Err-build.fault
-    (tree_view c.in-Ok.tree, c.in-Ok.ensures.tree, c.in-Ok-value_from.ensures.means) c.in-Err-build.ensures.too_big rule
+    c.args.layout.now (view c.in-Ok-value_from.value) c.in-Err-built.fault
+    (tree_view c.in-Ok.tree, c.in-Ok.ensures.tree, c.in-Ok-value_from.ensures.means) c.in-Err-built.ensures.too_big rule
