@@ -17,6 +17,8 @@ use Rattle.fb_resolve.specs.declared.meanings.Meaning.{Meaning}
 use Rattle.fb_resolve.specs.declared.meanings.Meaning.TheVariants.{Known}
 use Rattle.fb_resolve.specs.declared.defaults.Given.{Given}
 use Rattle.fb_resolve.specs.declared.defaults.Given.TheVariants.{Number, Null}
+use Rattle.fb_resolve.specs.declared.ids.Ids.{Ids}
+use Rattle.fb_resolve.specs.declared.ids.Ids.TheVariants.{Absent, Right, Wrong}
 
 -- the union of a union's use
 abbrev pub union_of : FieldType → Meaning → Option TypeId
@@ -137,3 +139,7 @@ are_ids_right rs = have_all_ids rs && are_places (numbers_by_id rs)
 -- the slots' numbers aren't as they have to be
 unfoldable pub are_ids_wrong : List ResolvedField → Bool
 are_ids_wrong rs = have_ids rs && not (are_ids_right rs)
+
+-- what the ids of a table's fields say of its slots
+abbrev pub ids_of : List ResolvedField → Ids
+ids_of rs = if have_ids rs then (if are_ids_right rs then Right else Wrong) else Absent

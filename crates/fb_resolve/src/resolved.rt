@@ -1,6 +1,7 @@
 //! The types of a text with what the names and attributes in them mean.
 use crate::attributes::FieldAttributes;
 use crate::defaults::Given;
+use crate::ids::Ids;
 use crate::located_names::LocatedName;
 use crate::meanings::Meaning;
 use crate::outline::TypeRead;
@@ -30,16 +31,20 @@ impl<'d, 's> Model for ResolvedField<'d, 's> {
     } };
 }
 
-/// A table or struct, what its fields mean, and the integer that its first `force_align` has.
+/// A table or struct, what its fields mean, what their ids say of a table's slots, and the integer
+/// that its first `force_align` has.
 #[derive(Drop)]
 pub struct ResolvedTable<'d, 's> {
     pub declared: &'d TableDecl<'s>,
     pub fields: Vec<ResolvedField<'d, 's>>,
+    pub(crate) ids: Ids,
     pub force_align: Option<i128>,
 }
 
 impl<'d, 's> Model for ResolvedTable<'d, 's> {
     ghost use Rattle.fb_resolve.specs.ResolvedFields.{ResolvedTable as Resolved};
+    ghost use Rattle.fb_resolve.specs.SlotsRead.{ids_of};
+    ghost use Rattle.std.specs.Prelude.{◌≡◌};
 
     ghost Value = { Resolved };
 
@@ -48,6 +53,8 @@ impl<'d, 's> Model for ResolvedTable<'d, 's> {
       fields = t.fields.items;
       force_align = t.force_align;
     } };
+
+    ghost invariant = { λ t. t.ids ≡ ids_of t.fields.items };
 }
 
 /// A value of an enum, and the number that is written for it or follows from the one before.
