@@ -39,13 +39,6 @@ pub no_values : (types : List TypeRead) (scope : Option Name) (d : TypeDecl) →
 no_values types scope (decls.Enum e) other = absurd (other e refl)
 no_values types scope _ other = refl
 
--- an entry of a list that is one longer
-entry_of : {X : Type 0} (xs : List X) (x y : X) (n : ℕ) → slice_get (xs ++ x ∷ []) n ≡ Some y → (slice_get xs n ≡ Some y) ⊎ ((n ≡ length xs) × (x ≡ y))
-entry_of [] x y zero e = inr (refl, cc)
-entry_of [] x y (suc n) e = cc
-entry_of (z ∷ xs) x y zero e = inl e
-entry_of (z ∷ xs) x y (suc n) e = ⊎_elim (λ h. inl h) (λ h. inr (ap suc h.0, h.1)) (entry_of xs x y n e)
-
 -- each of these maps has the numbers of the type of its place
 abbrev pub HaveNumbers : List TypeRead → List (BTreeMap (Bor Name) ℤ) → Type 0
 HaveNumbers types maps = (t : ℕ) (m : BTreeMap (Bor Name) ℤ) → slice_get maps t ≡ Some m → (name : Name) → number_of m name ≡ number_named (values_at types t) name
