@@ -1,5 +1,5 @@
 -- What a schema is built from, where no fault stands; and the fault that is told, where one does.
-use Rattle.std.proofs.Common.{◌≡◌, ◌++◌, ℕ, suc, Bool, true, false, List, [], ◌∷◌, map, take, Contains, Option, None, Some, refl, subst, arith, true≢false, if◌then◌else◌}
+use Rattle.std.proofs.Common.{◌≡◌, ◌++◌, ℕ, Bool, true, false, List, [], ◌∷◌, map, take, Contains, Option, None, Some, refl, subst, arith, true≢false, if◌then◌else◌}
 use Rattle.std.proofs.lemmas.List.Elements.{Contains-append_right}
 use Rattle.std.specs.Option.{is_some, is_none}
 use Rattle.fb_resolve.specs.declared.meanings.Meaning.{Meaning}

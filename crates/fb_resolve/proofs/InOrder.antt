@@ -1,8 +1,8 @@
 -- Slots that stand at the places of their numbers.
-use Rattle.std.proofs.Common.{◌≡◌, ◌==◌, ◌≢◌, ℕ, zero, suc, ◌≤◌, ◌<◌, ◌+◌, ◌-◌, Bool, true, false, true≢false, ◌&&◌, not, List, [], ◌∷◌, ◌++◌, length, get_or, refl, sym, ap, ◌∙◌, arith, nat_lt, append_assoc, add-zero, zero-add, map, Option, None, Some, slice_get}
+use Rattle.std.proofs.Common.{◌≡◌, ◌==◌, ◌≢◌, ℕ, zero, suc, ◌≤◌, ◌<◌, ◌+◌, ◌-◌, Bool, true, false, true≢false, ◌&&◌, not, List, [], ◌∷◌, ◌++◌, length, get_or, drop, IsSome, refl, sym, ap, ◌∙◌, arith, nat_lt, append_assoc, add-zero, zero-add, map, Option, None, Some, slice_get}
 use Rattle.std.proofs.lemmas.Bool.{eq-eqb, ltb-true}
 use Rattle.std.proofs.lemmas.Bool.Decides.{Decides-eqb, nat_tests}
-use Rattle.std.proofs.lemmas.List.{append-nil, map-append, length-map, get_or-map, get_or_default}
+use Rattle.std.proofs.lemmas.List.{append-nil, map-append, length-map, length-append, get_or-map, get_or_at, get_or-append-add, get_or_default, drop_more}
 use Rattle.std.proofs.lemmas.List.Folds.{list_any_at}
 use Rattle.std.proofs.lemmas.List.Quantifiers.{all_pairs_push}
 use Rattle.std.proofs.lemmas.List.Sorted.{All-permutation, length_permutation, IsPermutation-refl, IsPermutation-map}
@@ -17,7 +17,7 @@ use Rattle.fb_schema.specs.Seen.{field_seen}
 use Rattle.fb_schema.specs.declared.types.FieldInfo.{FieldInfo}
 use Rattle.fb_schema.specs.declared.kinds.TypeId.{TypeId}
 use Rattle.fb_resolve.specs.ResolvedFields.{ResolvedField}
-use Rattle.fb_resolve.specs.SlotsRead.{union_in, slots_by_union, slots_of_field, slots_in_order, slot_by_id, slots_by_id, numbers_by_union, numbers_by_id, have_ids, have_all_ids, slots_read, AreInPlace, take_new_places, are_places, are_ids_wrong}
+use Rattle.fb_resolve.specs.SlotsRead.{union_in, slots_by_union, slots_of_field, slots_in_order, slot_by_id, slots_by_id, numbers_by_union, numbers_by_id, have_ids, slots_read, AreInPlace, take_new_places, are_places, are_ids_wrong}
 use Rattle.fb_resolve.proofs.PlacesTaken.{take_new_places-cons}
 
 -- the first of them takes a place, and so do the others
@@ -150,3 +150,33 @@ placed_in_order fs slots ids read = rw (ids, read) (record {
   same = IsPermutation-refl (slots_in_order 0 fs);
   slots = λ k s e. numbered_at (slots_in_order 0 fs) 0 k s (numbered_in_order 0 fs) e ∙ zero-add k;
 })
+
+-- the number at a place is that of a field's first slot, and behind it stands that of a union's second
+pub record IsNext (ns : List ℕ) (place slot : ℕ) (union : Option TypeId) : Type 0 where
+  pub within : place < length ns
+  pub first : get_or ns place 0 ≡ slot
+  pub second : IsSome union → get_or ns (place + 1) 0 ≡ slot + 1
+
+next_by_union : (before : List ℕ) (slot : ℕ) (union : Option TypeId) (rest : List ℕ) → IsNext (before ++ (numbers_by_union slot union ++ rest)) (length before) slot union
+next_by_union before slot None rest = record {
+  within = omega (arith, length-append before (slot ∷ rest));
+  first = get_or_at before slot rest 0 (length before) refl;
+  second = λ u. absurd (true≢false (sym u));
+}
+next_by_union before slot (Some u) rest = record {
+  within = omega (arith, length-append before (slot ∷ (slot + 1) ∷ rest));
+  first = get_or_at before slot ((slot + 1) ∷ rest) 0 (length before) refl;
+  second = λ u. get_or-append-add before (slot ∷ (slot + 1) ∷ rest) 1 0;
+}
+
+-- a field's numbers stand behind those of the slots before
+pub next_number : (fs : List ResolvedField) (ns : List ℕ) (slots : List FieldInfo) (i : ℕ) (f : ResolvedField) → ns ≡ numbers_by_id fs → i < length fs → f ≡ get_or fs i f
+    → map field_seen slots ++ slots_by_id (drop i fs) ≡ slots_by_id fs → IsNext ns (length slots) (unwrap_or (slot_by_id f) 0) (union_in f)
+next_number fs ns slots i f named h is left =
+    let before = map (λ s. s.slot) (map field_seen slots) in
+    let split : drop i fs ≡ f ∷ drop (i + 1) fs = drop_more fs i f h ∙ ap (λ x. x ∷ drop (i + 1) fs) (sym is) in
+    let numbers : ns ≡ before ++ numbers_by_id (f ∷ drop (i + 1) fs) =
+    named ∙ sym (numbers_of_slots fs) ∙ ap (map (λ s. s.slot)) (sym left) ∙ map-append (λ s. s.slot) (map field_seen slots) (slots_by_id (drop i fs))
+    ∙ ap (λ ns. before ++ ns) (numbers_of_slots (drop i fs) ∙ ap numbers_by_id split) in
+    let long : length slots ≡ length before = sym (length-map (map field_seen slots) (λ s. s.slot) ∙ length-map slots field_seen) in
+    rw (numbers, long) (next_by_union before (unwrap_or (slot_by_id f) 0) (union_in f) (numbers_by_id (drop (i + 1) fs)))

@@ -1,5 +1,5 @@
 -- Numbers that are noted for the names of an enum's values.
-use Rattle.std.proofs.Common.{◌≡◌, ◌≢◌, ◌<◌, ◌≤◌, ◌++◌, ◌∷◌, ◌⊎◌, inl, inr, ⊎_elim, zero, suc, length, slice_get, Bor, ℤ, arith, ℕ, Bool, true, false, Option, None, Some, refl, ap, sym, ◌∙◌, cond, List, [], if◌then◌else◌}
+use Rattle.std.proofs.Common.{◌≡◌, ◌≢◌, ◌<◌, ◌≤◌, ◌∷◌, ⊎_elim, zero, suc, length, slice_get, Bor, ℤ, arith, ℕ, Bool, true, false, Option, None, Some, refl, ap, sym, ◌∙◌, cond, List, [], if◌then◌else◌}
 use Rattle.std.specs.BTreeMap.{BTreeMap}
 use Rattle.std.proofs.lemmas.Bool.{cases_lt}
 use Rattle.std.proofs.lemmas.Option.{slice_get_past}

@@ -3,7 +3,7 @@ ghost use Rattle.std.specs.Prelude.{◌≡◌, ◌<◌, ◌-◌, ◌++◌, ◌^�
 ghost use Rattle.std.specs.Prelude.{IsSome, map, true, false};
 ghost use Rattle.std.specs.Option.{is_some};
 ghost use Rattle.fb_resolve.specs.SlotsRead.{union_in, slot_by_id, have_all_ids, numbers_by_id, are_places};
-ghost use Rattle.fb_resolve.specs.SlotsRead.{have_ids, ids_of, are_ids_wrong, slots_by_id, slots_read, AreInPlace};
+ghost use Rattle.fb_resolve.specs.SlotsRead.{have_ids, AreSlots, are_ids_wrong, slots_by_id, slots_read, AreInPlace};
 ghost use Rattle.fb_schema.specs.Seen.{field_seen};
 
 use crate::resolved::{ResolvedField, ResolvedTable};
@@ -11,13 +11,14 @@ use crate::slots::{push_slots, slots_in_order, union_in};
 use fb_schema::FieldInfo;
 use std::alloc::{AllocError, Global};
 
-/// What the ids of a table's fields say of its slots.
-#[derive(Clone, Copy, Drop)]
-pub(crate) enum Ids {
-    /// No field has one, so the slots are in the order of declaration.
-    Absent,
-    /// They name each slot once.
-    Right,
+/// The slots that the fields of a table take.
+#[derive(Drop)]
+pub(crate) enum Slots {
+    /// Without ids they are numbered in the order of declaration.
+    InOrder,
+    /// The ids name each once: these are their numbers in the order of declaration.
+    ById(Vec<u64>),
+    /// The ids do not name each once.
     Wrong,
 }
 
@@ -90,21 +91,20 @@ fn have_ids(fields: &[ResolvedField<'_, '_>]) -> bool
     fields.iter().any(|field| field.attributes.has_id)
 }
 
-/// What the ids of fields say of their slots. The only error is a refused allocation.
-pub(crate) fn ids_of(alloc: Global, fields: &[ResolvedField<'_, '_>]) -> Result<Ids, AllocError>
-    ensures { IfOk result (λ i. i ≡ ids_of fields.now) }
-{
-    if !have_ids(fields) {
-        return Ok(Ids::Absent);
+impl Slots {
+    /// The slots of fields. The only error is a refused allocation.
+    #[tactic(auto, unfolding(crate::specs::SlotsRead::are_ids_wrong))]
+    pub(crate) fn of(alloc: Global, fields: &[ResolvedField<'_, '_>]) -> Result<Slots, AllocError>
+        ensures { IfOk result (AreSlots fields.now) }
+    {
+        if !have_ids(fields) {
+            return Ok(Slots::InOrder);
+        }
+        match numbers_by_id(alloc, fields)? {
+            Some(numbers) if are_places(alloc, numbers.as_slice())? => Ok(Slots::ById(numbers)),
+            _ => Ok(Slots::Wrong),
+        }
     }
-    let Some(numbers) = numbers_by_id(alloc, fields)? else {
-        return Ok(Ids::Wrong);
-    };
-    Ok(if are_places(alloc, numbers.as_slice())? {
-        Ids::Right
-    } else {
-        Ids::Wrong
-    })
 }
 
 /// Whether a table's fields have ids that do not name each slot of theirs once.
@@ -112,22 +112,21 @@ pub(crate) fn ids_of(alloc: Global, fields: &[ResolvedField<'_, '_>]) -> Result<
 pub fn are_ids_wrong(table: &ResolvedTable<'_, '_>) -> bool
     ensures { result ≡ are_ids_wrong table.now.fields }
 {
-    matches!(table.ids, Ids::Wrong)
+    matches!(table.slots, Slots::Wrong)
 }
 
-/// The slots of fields by their ids, in the order of declaration; without an id a field takes
-/// those from 0 on.
+/// The slots of fields that take these numbers, in the order of declaration.
 fn slots_by_id(
     alloc: Global,
     fields: &[ResolvedField<'_, '_>],
+    numbers: &[u64],
 ) -> Result<Vec<FieldInfo>, AllocError>
-    ensures { IfOk result
-        (λ v. map field_seen v.items ≡ slots_by_id fields.now) }
+    requires { numbers.now ≡ numbers_by_id fields.now }
+    ensures { IfOk result (λ v. map field_seen v.items ≡ slots_by_id fields.now) }
 {
-    let mut slots = Vec::with_capacity(alloc, fields.len())?;
+    let mut slots = Vec::with_capacity(alloc, numbers.len())?;
     for field in fields {
-        let first = slot_by_id(field).unwrap_or(0);
-        push_slots(alloc, field, first, &mut slots)?;
+        push_slots(alloc, field, numbers[slots.len()], &mut slots)?;
     }
     Ok(slots)
 }
@@ -141,10 +140,13 @@ pub fn table_slots(
     ensures { IfOk result (λ v. AreInPlace (slots_read table.now.fields) (map field_seen v.items)) }
 {
     let fields = table.fields.as_slice();
-    if let Ids::Absent = table.ids {
-        return slots_in_order(alloc, fields);
+    match &table.slots {
+        Slots::InOrder => slots_in_order(alloc, fields),
+        Slots::ById(numbers) => {
+            let mut slots = slots_by_id(alloc, fields, numbers.as_slice())?;
+            slots.sort_by_key(|slot| slot.slot)?;
+            Ok(slots)
+        }
+        Slots::Wrong => unreachable!(),
     }
-    let mut slots = slots_by_id(alloc, fields)?;
-    slots.sort_by_key(|slot| slot.slot)?;
-    Ok(slots)
 }

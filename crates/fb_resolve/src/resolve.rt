@@ -17,7 +17,7 @@ ghost use Rattle.fb_resolve.specs.Resolved.{meaning_of_root};
 use crate::attributes::{BuiltInAttribute, field_attributes, number_called};
 use crate::defaults::given_by;
 use crate::enums::{has_flags, resolved_values};
-use crate::ids::ids_of;
+use crate::ids::Slots;
 use crate::meanings::Meaning;
 use crate::members::member_name;
 use crate::outline::{Outline, RootRead, TypeRead};
@@ -70,7 +70,7 @@ impl<'d, 's> Scope<'_, 'd, 's> {
             ≡ resolved_table self.entry.types.types.now (option_copied self.entry.name) declared.now) }
     {
         let fields = self.resolved_fields(alloc, declared.fields.as_slice())?;
-        let ids = ids_of(alloc, fields.as_slice())?;
+        let slots = Slots::of(alloc, fields.as_slice())?;
         let force_align = number_called(
             BuiltInAttribute::ForceAlign,
             declared.attributes.as_slice(),
@@ -78,7 +78,7 @@ impl<'d, 's> Scope<'_, 'd, 's> {
         Ok(ResolvedTable {
             declared,
             fields,
-            ids,
+            slots,
             force_align,
         })
     }

@@ -1,7 +1,7 @@
 //! The types of a text with what the names and attributes in them mean.
 use crate::attributes::FieldAttributes;
 use crate::defaults::Given;
-use crate::ids::Ids;
+use crate::ids::Slots;
 use crate::located_names::LocatedName;
 use crate::meanings::Meaning;
 use crate::outline::TypeRead;
@@ -31,20 +31,19 @@ impl<'d, 's> Model for ResolvedField<'d, 's> {
     } };
 }
 
-/// A table or struct, what its fields mean, what their ids say of a table's slots, and the integer
-/// that its first `force_align` has.
+/// A table or struct, what its fields mean, which slots a table's take, and the integer that its
+/// first `force_align` has.
 #[derive(Drop)]
 pub struct ResolvedTable<'d, 's> {
     pub declared: &'d TableDecl<'s>,
     pub fields: Vec<ResolvedField<'d, 's>>,
-    pub(crate) ids: Ids,
+    pub(crate) slots: Slots,
     pub force_align: Option<i128>,
 }
 
 impl<'d, 's> Model for ResolvedTable<'d, 's> {
     ghost use Rattle.fb_resolve.specs.ResolvedFields.{ResolvedTable as Resolved};
-    ghost use Rattle.fb_resolve.specs.SlotsRead.{ids_of};
-    ghost use Rattle.std.specs.Prelude.{◌≡◌};
+    ghost use Rattle.fb_resolve.specs.SlotsRead.{AreSlots};
 
     ghost Value = { Resolved };
 
@@ -54,7 +53,7 @@ impl<'d, 's> Model for ResolvedTable<'d, 's> {
       force_align = t.force_align;
     } };
 
-    ghost invariant = { λ t. t.ids ≡ ids_of t.fields.items };
+    ghost invariant = { λ t. AreSlots t.fields.items t.slots };
 }
 
 /// A value of an enum, and the number that is written for it or follows from the one before.
