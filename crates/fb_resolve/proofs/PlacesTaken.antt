@@ -1,9 +1,10 @@
 -- Numbers that take places, one number at a time.
-use Rattle.std.proofs.Common.{◌≡◌, ◌==◌, ◌≢◌, ℕ, ◌≤◌, ◌<◌, ◌+◌, Bool, true, false, ◌&&◌, ◌||◌, not, List, [], ◌∷◌, ◌++◌, length, get_or, take, drop, refl, sym, ap, ◌∙◌, arith, nat_lt, set, inl, inr}
+use Rattle.std.proofs.Common.{◌≡◌, ◌==◌, ◌≢◌, ℕ, ◌≤◌, ◌<◌, ◌+◌, Bool, true, false, ◌&&◌, ◌||◌, not, List, [], ◌∷◌, ◌++◌, length, get_or, take, drop, refl, sym, ap, ◌∙◌, nat_lt, set, inl, inr}
 use Rattle.std.proofs.lemmas.List.{get_or-set_other, get_or_default, drop_more, drop_all, take_more}
 use Rattle.std.proofs.Math.Bool.{and-false, or-false, or-true}
 use Rattle.std.proofs.lemmas.Grind.{get_or-set_at}
-use Rattle.std.proofs.lemmas.Bool.Decides.{eqb_tells, nat_tests}
+use Rattle.std.proofs.lemmas.Bool.{le-ltb, lt-ltb}
+use Rattle.std.proofs.lemmas.Bool.Decides.{eqb_tells}
 use Rattle.std.specs.List.{list_any}
 use Rattle.fb_resolve.specs.SlotsRead.{take_new_places}
 use Rattle.fb_resolve.proofs.Steps.{list_any-snoc}
@@ -24,17 +25,11 @@ take_new_places-more count ns i h = ap (take_new_places count (take i ns)) (drop
     ∙ take_new_places-cons count (take i ns) (get_or ns i 0) (drop (i + 1) ns)
     ∙ ap (λ t. (nat_lt (get_or ns i 0) count && not (list_any (λ m. m == get_or ns i 0) (take i ns))) && take_new_places count t (drop (i + 1) ns)) (sym (take_more ns i 0 h))
 
-not_below : (n count : ℕ) → count ≤ n → nat_lt n count ≡ false
-not_below n count h = grind (arith, nat_tests)
-
-below : (n count : ℕ) → n < count → nat_lt n count ≡ true
-below n count h = grind (arith, nat_tests)
-
 -- it is past the places
 pub take_new_places-past : (count : ℕ) (ns : List ℕ) (i : ℕ) → i < length ns → count ≤ get_or ns i 0 → take_new_places count (take i ns) (drop i ns) ≡ false
 take_new_places-past count ns i h past = let before = list_any (λ m. m == get_or ns i 0) (take i ns) in
     take_new_places-more count ns i h
-    ∙ ap (λ b. (b && not before) && take_new_places count (take (i + 1) ns) (drop (i + 1) ns)) (not_below (get_or ns i 0) count past)
+    ∙ ap (λ b. (b && not before) && take_new_places count (take (i + 1) ns) (drop (i + 1) ns)) (le-ltb (get_or ns i 0) count past)
 
 -- it stands among those before it
 pub take_new_places-again : (count : ℕ) (ns : List ℕ) (i : ℕ) → i < length ns → list_any (λ m. m == get_or ns i 0) (take i ns) ≡ true → take_new_places count (take i ns) (drop i ns) ≡ false
@@ -49,7 +44,7 @@ pub take_new_places-new : (count : ℕ) (ns : List ℕ) (i : ℕ) → i < length
 take_new_places-new count ns i h low new = let later = take_new_places count (take (i + 1) ns) (drop (i + 1) ns) in
     sym (take_new_places-more count ns i h
     ∙ ap (λ b. (nat_lt (get_or ns i 0) count && not b) && later) new
-    ∙ ap (λ b. (b && true) && later) (below (get_or ns i 0) count low))
+    ∙ ap (λ b. (b && true) && later) (lt-ltb (get_or ns i 0) count low))
 
 pub take_new_places-end : (count : ℕ) (ns : List ℕ) (i : ℕ) → length ns ≤ i → take_new_places count (take i ns) (drop i ns) ≡ true
 take_new_places-end count ns i h = ap (take_new_places count (take i ns)) (drop_all i ns h) ∙ take_new_places-nil count (take i ns)

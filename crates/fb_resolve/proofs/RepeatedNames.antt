@@ -2,6 +2,7 @@
 use Rattle.std.proofs.Common.{◌≡◌, ◌==◌, ◌<◌, ◌+◌, ◌++◌, ◌∙◌, ◌||◌, ℕ, zero, suc, Bool, List, [], ◌∷◌, length, take, get_or, slice_get, Some, ap, sym, refl, arith, inl, inr, subst}
 use Rattle.std.specs.List.{AllZip, list_any}
 use Rattle.std.specs.Str.{bytes_eq}
+use Rattle.std.proofs.lemmas.Bool.{false_from_ne_true}
 use Rattle.std.proofs.lemmas.Bool.Decides.{eqb_tells}
 use Rattle.std.proofs.lemmas.Option.{get_or_from_slice_get, same_Some, slice_get-get_or, slice_get_within}
 use Rattle.std.proofs.lemmas.Slice.Eq.{bytes_eq-Decides}
@@ -15,7 +16,6 @@ use Rattle.fb_schema.specs.Schema.{Name}
 use Rattle.fb_resolve.specs.Outline.{TypeRead, name_of_type}
 use Rattle.fb_resolve.specs.Paths.{IsPath}
 use Rattle.fb_resolve.specs.RepeatedNames.{has_name, AreRepeats, AreRepeatedNumbers}
-use Rattle.fb_resolve.proofs.Bytes.{not_true}
 use Rattle.fb_resolve.proofs.PathsKept.{zip_at}
 
 -- one number more is told
@@ -37,7 +37,7 @@ same_number tree is m n a b at there = elim (eqb_tells m n) [
   | inl t ↦
       let equal : Some (words b) ≡ Some (words a) = sym there ∙ ap (slice_get (paths tree)) (sym t.1) ∙ at in
       t.0 ∙ sym ((bytes_eq-Decides b a).1 (words-inj b a (same_Some (words b) (words a) equal)))
-  | inr t ↦ t.0 ∙ sym (not_true (bytes_eq b a) (λ e.
+  | inr t ↦ t.0 ∙ sym (false_from_ne_true (bytes_eq b a) (λ e.
       let same : words b ≡ words a = ap words ((bytes_eq-Decides b a).0 e) in
       t.1 (is.apart m n (words a) at (there ∙ ap Some same))))
 ]
