@@ -8,7 +8,7 @@ use Rattle.fb_schema.specs.declared.kinds.Base.{Base}
 use Rattle.fb_declare.specs.declared.faults.SchemaFault.TheVariants.{BadEnumValue}
 use Rattle.fb_resolve.specs.ResolvedFields.{ResolvedValue}
 use Rattle.fb_declare.specs.FaultRows.{when, is_out_of_range, bad_values}
-use Rattle.fb_resolve.proofs.Steps.{drop-more, drop-end}
+use Rattle.std.proofs.lemmas.List.{drop_more, drop_all}
 
 bad_values-nil : (base : Option Base) (flags : Bool) (met : List ℤ) → bad_values base flags met [] ≡ []
 unfolding bad_values
@@ -23,11 +23,11 @@ bad_values-cons base flags met v vs = refl
 pub bad_values-at : (base : Option Base) (flags : Bool) (met : List ℤ) (values : List ResolvedValue) (i : ℕ) (v : ResolvedValue) → i < length values → v ≡ get_or values i v
     → bad_values base flags met (drop i values)
     ≡ when (is_out_of_range base flags v.number || list_any (int_eq v.number) met) (BadEnumValue v.value.name.at) ++ bad_values base flags (met ++ v.number ∷ []) (drop (i + 1) values)
-bad_values-at base flags met values i v h e = ap (bad_values base flags met) (drop-more values i v h ∙ ap (λ x. x ∷ drop (i + 1) values) (sym e))
+bad_values-at base flags met values i v h e = ap (bad_values base flags met) (drop_more values i v h ∙ ap (λ x. x ∷ drop (i + 1) values) (sym e))
     ∙ bad_values-cons base flags met v (drop (i + 1) values)
 
 pub bad_values-end : (base : Option Base) (flags : Bool) (met : List ℤ) (values : List ResolvedValue) (i : ℕ) → length values ≤ i → bad_values base flags met (drop i values) ≡ []
-bad_values-end base flags met values i h = ap (bad_values base flags met) (drop-end values i h) ∙ bad_values-nil base flags met
+bad_values-end base flags met values i h = ap (bad_values base flags met) (drop_all i values h) ∙ bad_values-nil base flags met
 
 pub int_eq-sym : (m n : ℤ) → int_eq m n ≡ int_eq n m
 int_eq-sym m n = one_answer (int_eq m n) (int_eq n m) (Decides-int_eq m n) ((λ h. sym ((Decides-int_eq n m).0 h)), (λ e. (Decides-int_eq n m).1 (sym e)))

@@ -1,5 +1,6 @@
 -- What a schema is built from, where no fault stands; and the fault that is told, where one does.
-use Rattle.std.proofs.Common.{◌≡◌, ◌++◌, ℕ, suc, Bool, true, false, List, [], ◌∷◌, map, take, Contains, Option, None, Some, refl, subst, arith, true≢false, if◌then◌else◌}
+use Rattle.std.proofs.Common.{◌≡◌, ◌++◌, ℕ, Bool, true, false, List, [], ◌∷◌, map, take, Contains, Option, None, Some, refl, subst, arith, true≢false, if◌then◌else◌}
+use Rattle.std.proofs.lemmas.List.Elements.{Contains-append_right}
 use Rattle.std.specs.Option.{is_some, is_none}
 use Rattle.fb_resolve.specs.declared.meanings.Meaning.{Meaning}
 use Rattle.fb_resolve.specs.declared.resolved.ResolvedDecl.{ResolvedDecl}
@@ -36,11 +37,8 @@ unfolding least_of
 least-none [] h = refl
 least-none (f ∷ fs) h = absurd (earlier_some f (least_of fs) h)
 
-later : (f g : SchemaFault) (fs : List SchemaFault) → Contains fs f → Contains (g ∷ fs) f
-later f g fs found = (suc found.0, omega (arith, found.1), found.2)
-
 by_earlier : (b : Bool) (f g h : SchemaFault) (fs : List SchemaFault) → Contains fs h → (if b then Some h else Some g) ≡ Some f → Contains (g ∷ fs) f
-by_earlier true f g h fs found e = let same : h ≡ f = cc in subst (Contains (g ∷ fs)) same (later h g fs found)
+by_earlier true f g h fs found e = let same : h ≡ f = cc in subst (Contains (g ∷ fs)) same (Contains-append_right (g ∷ []) fs h found)
 by_earlier false f g h fs found e = let same : g ≡ f = cc in (0, omega arith, same)
 
 contained_by : (f g : SchemaFault) (fs : List SchemaFault) (o : Option SchemaFault) → ((h : SchemaFault) → o ≡ Some h → Contains fs h) → earlier (Some g) o ≡ Some f → Contains (g ∷ fs) f

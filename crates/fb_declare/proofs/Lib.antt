@@ -12,7 +12,6 @@ pub mod AttributesKept
 pub mod EnumsKept
 pub mod UnionsKept
 pub mod DefaultsKept
-pub mod Reordered
 pub mod SlotsKept
 pub mod PairsKept
 pub mod TablesKept

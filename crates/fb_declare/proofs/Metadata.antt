@@ -6,7 +6,7 @@ use Rattle.fb_declare.specs.declared.attribute_faults.AttributeHost.{AttributeHo
 use Rattle.fb_schema.specs.Schema.{Name}
 use Rattle.fb_resolve.specs.Attributes.{built_in_attribute}
 use Rattle.fb_declare.specs.AttributeFaults.{attribute_faults, metadata_faults, noted}
-use Rattle.fb_resolve.proofs.Steps.{drop-more, drop-end}
+use Rattle.std.proofs.lemmas.List.{drop_more, drop_all}
 
 metadata_faults-nil : (declared : List Name) (host : AttributeHost) (seen : List BuiltInAttribute) → metadata_faults declared host seen [] ≡ []
 unfolding metadata_faults
@@ -19,7 +19,7 @@ metadata_faults-cons declared host seen a rest = refl
 -- the attribute that stands there
 pub metadata_faults-at : (declared : List Name) (host : AttributeHost) (seen : List BuiltInAttribute) (attributes : List Attribute) (i : ℕ) (a : Attribute) → i < length attributes → a ≡ get_or attributes i a
     → metadata_faults declared host seen (drop i attributes) ≡ attribute_faults declared host seen a ++ metadata_faults declared host (noted seen (built_in_attribute a.name.bytes)) (drop (i + 1) attributes)
-metadata_faults-at declared host seen attributes i a h e = ap (metadata_faults declared host seen) (drop-more attributes i a h ∙ ap (λ x. x ∷ drop (i + 1) attributes) (sym e)) ∙ metadata_faults-cons declared host seen a (drop (i + 1) attributes)
+metadata_faults-at declared host seen attributes i a h e = ap (metadata_faults declared host seen) (drop_more attributes i a h ∙ ap (λ x. x ∷ drop (i + 1) attributes) (sym e)) ∙ metadata_faults-cons declared host seen a (drop (i + 1) attributes)
 
 pub metadata_faults-end : (declared : List Name) (host : AttributeHost) (seen : List BuiltInAttribute) (attributes : List Attribute) (i : ℕ) → length attributes ≤ i → metadata_faults declared host seen (drop i attributes) ≡ []
-metadata_faults-end declared host seen attributes i h = ap (metadata_faults declared host seen) (drop-end attributes i h) ∙ metadata_faults-nil declared host seen
+metadata_faults-end declared host seen attributes i h = ap (metadata_faults declared host seen) (drop_all i attributes h) ∙ metadata_faults-nil declared host seen

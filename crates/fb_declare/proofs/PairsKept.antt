@@ -1,10 +1,14 @@
 -- The slots of a union field, and the names of all slots.
-use Rattle.std.proofs.Common.{◌≡◌, ℕ, zero, suc, ◌+◌, ◌++◌, ◌⊎◌, Bool, true, false, List, [], ◌∷◌, map, length, inl, inr, refl, sym, ap, ◌∙◌, subst, arith, Option, None, Some, slice_get, if◌then◌else◌}
-use Rattle.std.specs.List.{Contains, flat_map}
+use Rattle.std.proofs.Common.{◌≡◌, ◌≢◌, ℕ, zero, suc, ◌+◌, ◌++◌, ◌⊎◌, Bool, true, false, List, [], ◌∷◌, map, length, inl, inr, refl, sym, ap, ◌∙◌, subst, arith, Option, None, Some, slice_get, if◌then◌else◌}
+use Rattle.std.specs.List.{AllPairs, Contains, flat_map}
+use Rattle.std.specs.Str.{bytes_eq}
 use Rattle.std.specs.Option.{unwrap_or}
 use Rattle.std.proofs.lemmas.List.{map-append}
 use Rattle.std.proofs.lemmas.List.Sorted.{IsPermutation-map}
+use Rattle.std.proofs.lemmas.Map.Keys.{IsDistinct-IsPermutation}
+use Rattle.std.proofs.lemmas.Map.Made.{AllPairs-from_IsDistinct, IsDistinct-from_AllPairs}
 use Rattle.std.proofs.lemmas.Option.{slice_get-get_or}
+use Rattle.std.proofs.lemmas.Slice.Eq.{bytes_eq-Decides}
 use Rattle.fb_syntax.specs.declared.declarations.FieldType.{FieldType}
 use Rattle.fb_syntax.specs.declared.declarations.FieldType.TheVariants as types_read
 use Rattle.fb_schema.specs.Schema.{DeclaredField, DeclaredSchema}
@@ -15,13 +19,13 @@ use Rattle.fb_schema.specs.declared.kinds.Kind.TheVariants.{Scalar, Enum, Struct
 use Rattle.fb_schema.specs.declared.kinds.Shape.TheVariants.{One}
 use Rattle.fb_resolve.specs.ResolvedFields.{ResolvedField}
 use Rattle.fb_resolve.specs.SlotsRead.{union_of, union_in, shape_of, value_slot, code_slot, slots_by_union, slots_of_field, slots_in_order, slot_by_id, slots_by_id, have_ids, slots_read, AreInPlace}
+use Rattle.fb_resolve.proofs.Bytes.{bytes_eq-sym}
 use Rattle.fb_declare.specs.FaultRows.{names_again}
 use Rattle.fb_declare.specs.TypeFaults.{names_by_union, names_of_field}
 use Rattle.fb_resolve.specs.declared.meanings.Meaning.{Meaning}
 use Rattle.fb_resolve.specs.declared.meanings.Meaning.TheVariants.{Known, Float, Unknown}
 use Rattle.fb_declare.proofs.KindsNamed.{MeansIn, IsNoCode}
 use Rattle.fb_declare.proofs.NoFaults.{names_apart}
-use Rattle.fb_declare.proofs.Reordered.{AllDiffer, AllDiffer-permutation}
 use Rattle.fb_declare.proofs.SlotsKept.{IsFrom, slot_placed}
 
 -- ---- the shape of a value's slot
@@ -186,7 +190,9 @@ names-by_test fs false = names-in_order 0 fs
 
 -- The names of a table's slots differ.
 pub slot_names_differ : (fs : List ResolvedField) (slots : List DeclaredField) → AreInPlace (slots_read fs) slots
-    → names_again [] (flat_map (names_of_field) fs) ≡ [] → AllDiffer (names_of slots)
+    → names_again [] (flat_map (names_of_field) fs) ≡ [] → AllPairs (λ a b. a ≢ b) (names_of slots)
 slot_names_differ fs slots placed h =
-    AllDiffer-permutation (names_of (slots_read fs)) (names_of slots) (IsPermutation-map (λ s. s.name) (slots_read fs) slots placed.same)
-    (subst (λ ns. AllDiffer ns) (sym (names-by_test fs (have_ids fs))) (names_apart (flat_map (names_of_field) fs) h))
+    let read : AllPairs (λ a b. a ≢ b) (names_of (slots_read fs)) = rw (names-by_test fs (have_ids fs)) (names_apart (flat_map (names_of_field) fs) h) in
+    AllPairs-from_IsDistinct bytes_eq-Decides (names_of slots)
+    (IsDistinct-IsPermutation bytes_eq bytes_eq-sym (names_of (slots_read fs)) (names_of slots) (IsPermutation-map (λ s. s.name) (slots_read fs) slots placed.same)
+    (IsDistinct-from_AllPairs bytes_eq-Decides (names_of (slots_read fs)) read))

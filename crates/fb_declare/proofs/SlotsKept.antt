@@ -1,5 +1,5 @@
 -- The slots of a table: which field each is of, the pairs of unions, and their names.
-use Rattle.std.proofs.Common.{◌≡◌, ℕ, suc, ◌+◌, ◌++◌, ◌⊎◌, Bool, true, false, List, [], ◌∷◌, length, inl, inr, refl, arith, Some, slice_get, if◌then◌else◌}
+use Rattle.std.proofs.Common.{◌≡◌, ℕ, ◌+◌, ◌++◌, ◌⊎◌, Bool, true, false, List, [], ◌∷◌, length, inl, inr, refl, arith, Some, slice_get, if◌then◌else◌}
 use Rattle.std.specs.List.{Contains}
 use Rattle.std.specs.Option.{unwrap_or}
 use Rattle.std.proofs.lemmas.List.Elements.{Contains-append_left, Contains-append_right, Contains-append_cases}
@@ -20,14 +20,11 @@ pub record IsFrom (fs : List ResolvedField) (all : List DeclaredField) (p : Decl
 Contains-head : {X : Type 0} (x : X) (xs : List X) → Contains (x ∷ xs) x
 Contains-head x xs = (0, omega arith, refl)
 
-Contains-later : {X : Type 0} (y : X) (xs : List X) (x : X) → Contains xs x → Contains (y ∷ xs) x
-Contains-later y xs x c = (suc c.0, (let less = c.1 in omega arith), c.2)
-
 later_from : (f : ResolvedField) (fs : List ResolvedField) (first rest : List DeclaredField) (p : DeclaredField) → IsFrom fs rest p → IsFrom (f ∷ fs) (first ++ rest) p
 later_from f fs first rest p x = record {
   field = x.field;
   slot = x.slot;
-  among = Contains-later f fs x.field x.among;
+  among = Contains-append_right (f ∷ []) fs x.field x.among;
   here = x.here;
   whole = λ q c. Contains-append_right first rest q (x.whole q c);
 }

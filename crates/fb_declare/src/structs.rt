@@ -16,7 +16,7 @@ use crate::default_faults::default_in_struct;
 use crate::faults::{SchemaFault, earlier, when};
 use crate::field_types::struct_field_type;
 use crate::names_again::names_again;
-use fb_resolve::{LocatedName, ResolvedField, ResolvedTable, forced_align, parts_read};
+use fb_resolve::{LocatedName, ResolvedField, ResolvedStruct, forced_align, parts_read};
 use fb_schema::Body;
 use fb_syntax::Field;
 use std::alloc::{AllocError, Global};
@@ -81,7 +81,7 @@ pub(crate) fn struct_fault(
     declared: DeclaredNames<'_, '_>,
     number: usize,
     natural: u16,
-    resolved: &ResolvedTable<'_, '_>,
+    resolved: &ResolvedStruct<'_, '_>,
 ) -> Result<Option<SchemaFault>, AllocError>
     ensures { (types : List TypeRead) (lower : List ℕ) → length lower ≡ number
         → natural_align types lower resolved.now.fields ≡ natural
@@ -106,7 +106,7 @@ pub(crate) fn struct_fault(
 /// The body that a right one gives. The only error is a refused allocation.
 pub(crate) fn struct_body(
     alloc: Global,
-    resolved: &ResolvedTable<'_, '_>,
+    resolved: &ResolvedStruct<'_, '_>,
 ) -> Result<Body, AllocError>
     ensures { IfOk result
         (λ b. HasBody (ResolvedDecl.Struct resolved.now) (body_seen b)) }

@@ -120,8 +120,7 @@ pub(crate) fn table_fault(
         AttributeHost::Table,
         read.attributes.as_slice(),
     )?;
-    let are_wrong = are_ids_wrong(alloc, fields)?;
-    let ids = when(are_wrong, SchemaFault::BadIds(read.name.at));
+    let ids = when(are_ids_wrong(resolved), SchemaFault::BadIds(read.name.at));
     let names = field_names(alloc, fields)?;
     let again = names_again(alloc, names.as_slice())?;
     Ok(earlier(
@@ -139,5 +138,5 @@ pub(crate) fn table_body(
     ensures { IfOk result
         (λ b. HasBody (ResolvedDecl.Table resolved.now) (body_seen b)) }
 {
-    Ok(Body::Table(table_slots(alloc, resolved.fields.as_slice())?))
+    Ok(Body::Table(table_slots(alloc, resolved)?))
 }

@@ -1,18 +1,18 @@
 -- The names of basic types, told apart by their lengths first.
 use Rattle.std.proofs.Common.{◌≡◌, ◌≢◌, ◌||◌, ℕ, Bool, true, false, length, ap, sym, codes, refl, None, Some, if◌then◌else◌, arith, ◌∙◌}
+use Rattle.std.proofs.lemmas.Bool.{false_from_ne_true}
 use Rattle.std.proofs.lemmas.Slice.Eq.{bytes_eq-Decides}
 use Rattle.std.specs.Str.{bytes_eq}
 use Rattle.fb_schema.specs.Schema.{Name}
 use Rattle.fb_schema.specs.declared.kinds.Base.TheVariants.{Bool as Boolean, I8, U8, I16, U16, I32, U32, I64, U64}
 use Rattle.fb_resolve.specs.BasicTypes.{basic_type}
-use Rattle.fb_resolve.proofs.Bytes.{not_true}
 
 -- another word
 pub other : (name word : Name) → name ≢ word → bytes_eq name word ≡ false
-other name word h = not_true (bytes_eq name word) (λ e. h ((bytes_eq-Decides name word).0 e))
+other name word h = false_from_ne_true (bytes_eq name word) (λ e. h ((bytes_eq-Decides name word).0 e))
 
 differ : (name word : Name) → length name ≢ length word → bytes_eq name word ≡ false
-differ name word h = not_true (bytes_eq name word) (λ e. h (ap length ((bytes_eq-Decides name word).0 e)))
+differ name word h = false_from_ne_true (bytes_eq name word) (λ e. h (ap length ((bytes_eq-Decides name word).0 e)))
 
 apart : (name word : Name) (m n : ℕ) → length name ≡ m → length word ≡ n → m ≢ n → bytes_eq name word ≡ false
 apart name word m n e f h = differ name word (λ same. h (sym e ∙ same ∙ f))

@@ -23,7 +23,3 @@ noted_once false (Some y) x h = refl
 pub none_of_some : {X : Type 0} (o : Option X) → is_some o ≡ false → o ≡ None
 none_of_some None h = refl
 none_of_some (Some x) h = absurd (true≢false h)
-
-pub not_true : (b : Bool) → (b ≡ true → ⊥) → b ≡ false
-not_true true h = absurd (h refl)
-not_true false h = refl

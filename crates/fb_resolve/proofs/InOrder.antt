@@ -1,41 +1,24 @@
 -- Slots that stand at the places of their numbers.
-use Rattle.std.proofs.Common.{◌≡◌, ◌==◌, ◌≢◌, ℕ, zero, suc, ◌≤◌, ◌<◌, ◌+◌, Bool, true, false, cond, ◌&&◌, ◌||◌, not, List, [], ◌∷◌, ◌++◌, length, get_or, refl, sym, ap, ◌∙◌, arith, nat_lt, append_assoc, add-zero, zero-add, lit≤, map, Option, None, Some, slice_get, inl, inr}
+use Rattle.std.proofs.Common.{◌≡◌, ◌==◌, ◌≢◌, ℕ, zero, suc, ◌≤◌, ◌<◌, ◌+◌, ◌-◌, Bool, true, false, true≢false, ◌&&◌, not, List, [], ◌∷◌, ◌++◌, length, get_or, drop, IsSome, refl, sym, ap, ◌∙◌, arith, nat_lt, append_assoc, add-zero, zero-add, map, Option, None, Some, slice_get}
 use Rattle.std.proofs.lemmas.Bool.{eq-eqb, ltb-true}
-use Rattle.std.proofs.lemmas.List.{append-nil, map-append, length-map, get_or-map, get_or_default}
-use Rattle.std.proofs.lemmas.List.Sums.{sum_by-append, sum_by-cons}
-use Rattle.std.proofs.lemmas.List.Sorted.{sum_by-IsPermutation, All-permutation, length_permutation, IsPermutation-refl, IsPermutation-map}
+use Rattle.std.proofs.lemmas.Bool.Decides.{Decides-eqb, nat_tests}
+use Rattle.std.proofs.lemmas.List.{append-nil, map-append, length-map, length-append, get_or-map, get_or_at, get_or-append-add, get_or_default, drop_more}
+use Rattle.std.proofs.lemmas.List.Folds.{list_any_at}
+use Rattle.std.proofs.lemmas.List.Quantifiers.{all_pairs_push}
+use Rattle.std.proofs.lemmas.List.Sorted.{All-permutation, length_permutation, IsPermutation-refl, IsPermutation-map}
+use Rattle.std.proofs.lemmas.Map.Keys.{IsDistinct-IsPermutation, IsStrictlyIncreasing-from_distinct}
+use Rattle.std.proofs.lemmas.Map.Made.{IsDistinct-from_AllPairs}
 use Rattle.std.proofs.lemmas.Option.{none-some, slice_get_within, get_or_from_slice_get}
-use Rattle.std.proofs.lemmas.Bool.Decides.{eqb_tells}
-use Rattle.std.specs.List.{list_any, sum_by, All}
+use Rattle.std.specs.List.{list_any, All, AllPairs}
 use Rattle.std.specs.Option.{unwrap_or}
-use Rattle.std.specs.List.Sorted.{IsPermutation, IsNonDecreasingBy}
+use Rattle.std.specs.List.Sorted.{IsPermutation, IsNonDecreasingBy, IsStrictlyIncreasing}
 use Rattle.fb_schema.specs.Schema.{DeclaredField}
 use Rattle.fb_schema.specs.Seen.{field_seen}
 use Rattle.fb_schema.specs.declared.types.FieldInfo.{FieldInfo}
 use Rattle.fb_schema.specs.declared.kinds.TypeId.{TypeId}
 use Rattle.fb_resolve.specs.ResolvedFields.{ResolvedField}
-use Rattle.fb_resolve.specs.SlotsRead.{union_in, slots_by_union, slots_of_field, slots_in_order, slot_by_id, slots_by_id, numbers_by_union, numbers_by_id, have_ids, have_all_ids, slots_read, AreInPlace, take_new_places, are_places, are_ids_wrong}
+use Rattle.fb_resolve.specs.SlotsRead.{union_in, slots_by_union, slots_of_field, slots_in_order, slot_by_id, slots_by_id, numbers_by_union, numbers_by_id, have_ids, slots_read, AreInPlace, take_new_places, are_places, are_ids_wrong}
 use Rattle.fb_resolve.proofs.PlacesTaken.{take_new_places-cons}
-
--- how often a number occurs
-abbrev times : ℕ → List ℕ → ℕ
-times k ns = sum_by (λ m. cond (m == k) 1 0) ns
-
-times-cons : (k n : ℕ) (ns : List ℕ) → times k (n ∷ ns) ≡ cond (n == k) 1 0 + times k ns
-times-cons k n ns = sum_by-cons (λ m. cond (m == k) 1 0) n ns
-
-absent : (k : ℕ) (ns : List ℕ) → list_any (λ m. m == k) ns ≡ false → times k ns ≡ 0
-absent k [] e = refl
-absent k (n ∷ ns) e = times-cons k n ns ∙ by (n == k) (absent k ns) e
-  where
-    by : (same : Bool) → (list_any (λ m. m == k) ns ≡ false → times k ns ≡ 0) → same || list_any (λ m. m == k) ns ≡ false → cond same 1 0 + times k ns ≡ 0
-    by true later e = cc
-    by false later e = omega (arith, later e)
-
-present : (ns : List ℕ) (i : ℕ) → i < length ns → 1 ≤ times (get_or ns i 0) ns
-present [] i h = absurd (omega arith)
-present (n ∷ ns) zero h = rw (times-cons n n ns, eq-eqb n n refl) (omega arith)
-present (n ∷ ns) (suc i) h = let later : 1 ≤ times (get_or ns i 0) ns = present ns i (omega arith) in rw (times-cons (get_or ns i 0) n ns) (omega arith)
 
 -- the first of them takes a place, and so do the others
 record TakesNewPlace (count : ℕ) (taken : List ℕ) (n : ℕ) (ns : List ℕ) : Type 0 where
@@ -58,69 +41,35 @@ all_below count taken [] e i h = absurd (omega arith)
 all_below count taken (n ∷ ns) e zero h = (takes_new_place count taken n ns e).below
 all_below count taken (n ∷ ns) e (suc i) h = all_below count (taken ++ n ∷ []) ns (takes_new_place count taken n ns e).later i (omega arith)
 
-once_more : (taken : List ℕ) (n : ℕ) → list_any (λ m. m == n) taken ≡ false → ((k : ℕ) → times k taken ≤ 1) → (k : ℕ) → times k (taken ++ n ∷ []) ≤ 1
-once_more taken n new once k = rw (sum_by-append (λ m. cond (m == k) 1 0) taken (n ∷ []), times-cons k n []) (elim (eqb_tells n k) [
-  | inl t ↦ let none : times k taken ≡ 0 = ap (λ m. times m taken) (sym t.1) ∙ absent n taken new in rw t.0 (omega (arith, none))
-  | inr t ↦ rw t.0 (omega (arith, once k))
-])
-
--- no number occurs twice
-all_once : (count : ℕ) (taken ns : List ℕ) → take_new_places count taken ns ≡ true → ((k : ℕ) → times k taken ≤ 1) → (k : ℕ) → times k (taken ++ ns) ≤ 1
-all_once count taken [] e once k = rw (append-nil taken) (once k)
-all_once count taken (n ∷ ns) e once k =
+apart : (count : ℕ) (taken ns : List ℕ) → AllPairs (λ a b. a ≢ b) taken → take_new_places count taken ns ≡ true → AllPairs (λ a b. a ≢ b) (taken ++ ns)
+apart count taken [] before e = rw (append-nil taken) before
+apart count taken (n ∷ ns) before e =
     let first = takes_new_place count taken n ns e in
-    rw (← append_assoc taken (n ∷ []) ns) (all_once count (taken ++ n ∷ []) ns first.later (once_more taken n first.new once) k)
+    let new : (i d : ℕ) → i < length taken → get_or taken i d ≢ n = λ i d h same. true≢false (sym (list_any_at (λ m. m == n) taken i d h (eq-eqb (get_or taken i d) n same)) ∙ first.new) in
+    rw (← append_assoc taken (n ∷ []) ns) (apart count (taken ++ n ∷ []) ns (all_pairs_push (λ a b. a ≢ b) taken n before new) first.later)
 
--- they rise, from this one on
-IsRising : ℕ → List ℕ → Type 0
-IsRising low [] = Unit {0}
-IsRising low (n ∷ ns) = (low ≤ n) × IsRising (n + 1) ns
+-- numbers that rise are no less than their places
+at_least : (ns : List ℕ) (i : ℕ) → IsStrictlyIncreasing ns → i < length ns → i ≤ get_or ns i 0
+at_least ns zero up h = omega arith
+at_least ns (suc i) up h =
+    let e : i + 1 ≡ suc i = omega arith in
+    let step : get_or ns i 0 < get_or ns (suc i) 0 = rw (← e) (up i (omega arith)) in
+    omega (arith, step, at_least ns i up (omega arith))
 
-differ : (n m : ℕ) (ns : List ℕ) → times m (n ∷ ns) ≤ 1 → 1 ≤ times m ns → n ≢ m
-differ n m ns once later same = let count : times m (n ∷ ns) ≡ 1 + times m ns = times-cons m n ns ∙ ap (λ b. cond b 1 0 + times m ns) (eq-eqb n m same) in omega arith
-
-rising : (ns : List ℕ) (low : ℕ) → IsNonDecreasingBy (λ n. n) ns → ((k : ℕ) → times k ns ≤ 1) → ((i : ℕ) → i < length ns → low ≤ get_or ns i 0) → IsRising low ns
-unfolding IsRising
-rising [] low up once from = tt
-rising (n ∷ ns) low up once from =
-    (from 0 (omega arith), rising ns (n + 1) (λ i j d h l. up (suc i) (suc j) d (omega arith) (omega arith)) (λ k. omega (arith, once k, times-cons k n ns)) above)
-  where
-    above : (i : ℕ) → i < length ns → n + 1 ≤ get_or ns i 0
-    above i h =
-        let low : n ≤ get_or ns i 0 = up 0 (suc i) 0 (omega arith) (omega arith) in
-        let other = differ n (get_or ns i 0) ns (once (get_or ns i 0)) (present ns i h) in omega (arith, other)
-
-rising_room : (ns : List ℕ) (low high : ℕ) → IsRising low ns → low ≤ high → ((i : ℕ) → i < length ns → get_or ns i 0 < high) → low + length ns ≤ high
-unfolding IsRising
-rising_room [] low high up room below = omega arith
-rising_room (n ∷ ns) low high up room below =
-    let first : n < high = below 0 (omega arith) in
-    let rest : (n + 1) + length ns ≤ high = rising_room ns (n + 1) high up.1 (omega arith) (λ i h. below (suc i) (omega arith)) in
-    omega (arith, up.0)
-
--- where there is no room between them, each follows on the one before
-rising_at : (ns : List ℕ) (low i : ℕ) → IsRising low ns → ((i : ℕ) → i < length ns → get_or ns i 0 < low + length ns) → i < length ns → get_or ns i 0 ≡ low + i
-unfolding IsRising
-rising_at [] low i up below h = absurd (omega arith)
-rising_at (n ∷ ns) low i up below h = by i h (λ k. rising_at ns (n + 1) k up.1 (λ i h. omega (arith, first, below (suc i) (omega arith))))
-  where
-    first : n ≡ low
-    first =
-        let rest : (n + 1) + length ns ≤ low + length (n ∷ ns) = rising_room ns (n + 1) (low + length (n ∷ ns)) up.1 (omega (arith, below 0 (omega arith))) (λ i h. below (suc i) (omega arith)) in
-        omega (arith, up.0)
-
-    by : (i : ℕ) → i < length (n ∷ ns) → ((k : ℕ) → k < length ns → get_or ns k 0 ≡ (n + 1) + k) → get_or (n ∷ ns) i 0 ≡ low + i
-    by zero h later = omega (arith, first)
-    by (suc i) h later = omega (arith, first, later i (omega arith))
+-- and below a bound by how many follow
+at_most : (ns : List ℕ) (high later i : ℕ) → IsStrictlyIncreasing ns → ((k : ℕ) → k < length ns → get_or ns k 0 < high) → i + later + 1 ≡ length ns → get_or ns i 0 + later < high
+at_most ns high zero i up below long = omega (arith, below i (omega arith))
+at_most ns high (suc later) i up below long = omega (arith, up i (omega arith), at_most ns high later (i + 1) up below (omega arith))
 
 -- places in order
 places_at : (read placed : List ℕ) → are_places read ≡ true → IsPermutation read placed → IsNonDecreasingBy (λ n. n) placed → (i : ℕ) → i < length placed → get_or placed i 0 ≡ i
 places_at read placed right same up i h =
     let long : length placed ≡ length read = length_permutation read placed same in
-    let once : (k : ℕ) → times k placed ≤ 1 = λ k. rw (sum_by-IsPermutation (λ m. cond (m == k) 1 0) read placed same) (all_once (length read) [] read right (λ k. lit≤ tt) k) in
+    let differ = IsDistinct-from_AllPairs Decides-eqb read (apart (length read) [] read (λ i j d less within. absurd (omega arith)) right) in
+    let rising = IsStrictlyIncreasing-from_distinct placed up (IsDistinct-IsPermutation (λ a b. a == b) (λ a b. grind (arith, nat_tests)) read placed same differ) in
     let low : All (λ n. n < length read) read = λ k d h. rw (get_or_default read k d 0 h) (all_below (length read) [] read right k h) in
     let below = All-permutation (λ n. n < length read) read placed same low in
-    rising_at placed 0 i (rising placed 0 up once (λ i h. omega arith)) (λ k h. omega (arith, long, below k 0 h)) h ∙ zero-add i
+    omega (arith, long, at_least placed i rising h, at_most placed (length read) (length placed - i - 1) i rising (λ k h. below k 0 (omega arith)) (omega arith))
 
 rises-map : {X Y : Type 0} (number : Y → ℕ) (g : X → Y) (xs : List X) → IsNonDecreasingBy (λ x. number (g x)) xs → IsNonDecreasingBy number (map g xs)
 rises-map number g [] up i j d h l = absurd (omega arith)
@@ -152,19 +101,13 @@ numbers_of_slots (f ∷ fs) = let slot = unwrap_or (slot_by_id f) 0 in
     ∙ ap (λ ns. ns ++ map (λ s. s.slot) (slots_by_id fs)) (numbers-by_union f slot (union_in f))
     ∙ ap (λ ns. numbers_by_union slot (union_in f) ++ ns) (numbers_of_slots fs)
 
-right_ids : (ids all places : Bool) → ids ≡ true → ids && not (all && places) ≡ false → places ≡ true
-right_ids true true true is e = refl
-right_ids true true false is e = cc
-right_ids true false places is e = cc
-right_ids false all places is e = cc
-
 -- slots by their ids, sorted by their numbers
 pub placed_by_id : (fs : List ResolvedField) (before slots : List FieldInfo)
     → have_ids fs ≡ true → are_ids_wrong fs ≡ false → map field_seen before ≡ slots_by_id fs → IsPermutation before slots → IsNonDecreasingBy (λ f. f.slot) slots
     → AreInPlace (slots_read fs) (map field_seen slots)
 unfolding are_ids_wrong
 placed_by_id fs before slots ids right read same up =
-    let places = right_ids (have_ids fs) (have_all_ids fs) (are_places (numbers_by_id fs)) ids right in
+    let places : are_places (numbers_by_id fs) ≡ true = grind (arith, ids, right) in
     let moved : IsPermutation (slots_by_id fs) (map field_seen slots) = rw (← read) (IsPermutation-map field_seen before slots same) in
     rw ids (in_place (slots_by_id fs) (map field_seen slots) (ap are_places (numbers_of_slots fs) ∙ places) moved (rises-map (λ s. s.slot) field_seen slots up))
 
@@ -207,3 +150,33 @@ placed_in_order fs slots ids read = rw (ids, read) (record {
   same = IsPermutation-refl (slots_in_order 0 fs);
   slots = λ k s e. numbered_at (slots_in_order 0 fs) 0 k s (numbered_in_order 0 fs) e ∙ zero-add k;
 })
+
+-- the number at a place is that of a field's first slot, and behind it stands that of a union's second
+pub record IsNext (ns : List ℕ) (place slot : ℕ) (union : Option TypeId) : Type 0 where
+  pub within : place < length ns
+  pub first : get_or ns place 0 ≡ slot
+  pub second : IsSome union → get_or ns (place + 1) 0 ≡ slot + 1
+
+next_by_union : (before : List ℕ) (slot : ℕ) (union : Option TypeId) (rest : List ℕ) → IsNext (before ++ (numbers_by_union slot union ++ rest)) (length before) slot union
+next_by_union before slot None rest = record {
+  within = omega (arith, length-append before (slot ∷ rest));
+  first = get_or_at before slot rest 0 (length before) refl;
+  second = λ u. absurd (true≢false (sym u));
+}
+next_by_union before slot (Some u) rest = record {
+  within = omega (arith, length-append before (slot ∷ (slot + 1) ∷ rest));
+  first = get_or_at before slot ((slot + 1) ∷ rest) 0 (length before) refl;
+  second = λ u. get_or-append-add before (slot ∷ (slot + 1) ∷ rest) 1 0;
+}
+
+-- a field's numbers stand behind those of the slots before
+pub next_number : (fs : List ResolvedField) (ns : List ℕ) (slots : List FieldInfo) (i : ℕ) (f : ResolvedField) → ns ≡ numbers_by_id fs → i < length fs → f ≡ get_or fs i f
+    → map field_seen slots ++ slots_by_id (drop i fs) ≡ slots_by_id fs → IsNext ns (length slots) (unwrap_or (slot_by_id f) 0) (union_in f)
+next_number fs ns slots i f named h is left =
+    let before = map (λ s. s.slot) (map field_seen slots) in
+    let split : drop i fs ≡ f ∷ drop (i + 1) fs = drop_more fs i f h ∙ ap (λ x. x ∷ drop (i + 1) fs) (sym is) in
+    let numbers : ns ≡ before ++ numbers_by_id (f ∷ drop (i + 1) fs) =
+    named ∙ sym (numbers_of_slots fs) ∙ ap (map (λ s. s.slot)) (sym left) ∙ map-append (λ s. s.slot) (map field_seen slots) (slots_by_id (drop i fs))
+    ∙ ap (λ ns. before ++ ns) (numbers_of_slots (drop i fs) ∙ ap numbers_by_id split) in
+    let long : length slots ≡ length before = sym (length-map (map field_seen slots) (λ s. s.slot) ∙ length-map slots field_seen) in
+    rw (numbers, long) (next_by_union before (unwrap_or (slot_by_id f) 0) (union_in f) (numbers_by_id (drop (i + 1) fs)))

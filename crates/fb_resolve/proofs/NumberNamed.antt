@@ -5,7 +5,7 @@ use Rattle.std.specs.Option.{option_map}
 use Rattle.std.specs.Str.{bytes_eq}
 use Rattle.fb_schema.specs.Schema.{Name}
 use Rattle.fb_resolve.specs.EnumsRead.{number_named}
-use Rattle.fb_resolve.proofs.Steps.{drop-more, drop-end}
+use Rattle.std.proofs.lemmas.List.{drop_more, drop_all}
 
 first_number : (same : Bool) (k : ℤ) (m : Name) (rest : Option (Name × ℤ)) → option_map (λ v. v.1) (cond same (Some (m, k)) rest) ≡ (if same then Some k else option_map (λ v. v.1) rest)
 first_number true k m rest = refl
@@ -23,8 +23,8 @@ number_named-nil name = refl
 pub number_named-at : {X : Type 0} (f : X → Name × ℤ) (xs : List X) (i : ℕ) (x : X) (name : Name) → i < length xs → x ≡ get_or xs i x
     → number_named (map f (drop i xs)) name ≡ (if bytes_eq name (f x).0 then Some (f x).1 else number_named (map f (drop (i + 1) xs)) name)
 number_named-at f xs i x name h e =
-    ap (λ ys. number_named (map f ys) name) (drop-more xs i x h ∙ ap (λ y. y ∷ drop (i + 1) xs) (sym e))
+    ap (λ ys. number_named (map f ys) name) (drop_more xs i x h ∙ ap (λ y. y ∷ drop (i + 1) xs) (sym e))
     ∙ number_named-cons (f x).0 (f x).1 (map f (drop (i + 1) xs)) name
 
 pub number_named-end : {X : Type 0} (f : X → Name × ℤ) (xs : List X) (i : ℕ) (name : Name) → length xs ≤ i → number_named (map f (drop i xs)) name ≡ None
-number_named-end f xs i name h = ap (λ ys. number_named (map f ys) name) (drop-end xs i h) ∙ number_named-nil name
+number_named-end f xs i name h = ap (λ ys. number_named (map f ys) name) (drop_all i xs h) ∙ number_named-nil name

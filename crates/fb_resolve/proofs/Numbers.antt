@@ -1,5 +1,5 @@
 -- Numbers that are noted for the names of an enum's values.
-use Rattle.std.proofs.Common.{◌≡◌, ◌≢◌, ◌<◌, ◌≤◌, ◌++◌, ◌∷◌, ◌⊎◌, inl, inr, ⊎_elim, zero, suc, length, slice_get, Bor, ℤ, arith, ℕ, Bool, true, false, Option, None, Some, refl, ap, sym, ◌∙◌, cond, List, [], if◌then◌else◌}
+use Rattle.std.proofs.Common.{◌≡◌, ◌≢◌, ◌<◌, ◌≤◌, ◌∷◌, ⊎_elim, zero, suc, length, slice_get, Bor, ℤ, arith, ℕ, Bool, true, false, Option, None, Some, refl, ap, sym, ◌∙◌, cond, List, [], if◌then◌else◌}
 use Rattle.std.specs.BTreeMap.{BTreeMap}
 use Rattle.std.proofs.lemmas.Bool.{cases_lt}
 use Rattle.std.proofs.lemmas.Option.{slice_get_past}
@@ -38,13 +38,6 @@ none_left (Some n) = refl
 pub no_values : (types : List TypeRead) (scope : Option Name) (d : TypeDecl) → ((e : EnumRead) → d ≢ decls.Enum e) → values_in types scope d ≡ []
 no_values types scope (decls.Enum e) other = absurd (other e refl)
 no_values types scope _ other = refl
-
--- an entry of a list that is one longer
-entry_of : {X : Type 0} (xs : List X) (x y : X) (n : ℕ) → slice_get (xs ++ x ∷ []) n ≡ Some y → (slice_get xs n ≡ Some y) ⊎ ((n ≡ length xs) × (x ≡ y))
-entry_of [] x y zero e = inr (refl, cc)
-entry_of [] x y (suc n) e = cc
-entry_of (z ∷ xs) x y zero e = inl e
-entry_of (z ∷ xs) x y (suc n) e = ⊎_elim (λ h. inl h) (λ h. inr (ap suc h.0, h.1)) (entry_of xs x y n e)
 
 -- each of these maps has the numbers of the type of its place
 abbrev pub HaveNumbers : List TypeRead → List (BTreeMap (Bor Name) ℤ) → Type 0

@@ -26,6 +26,7 @@ use Rattle.fb_resolve.specs.Uses.{uses_of, IsUse, AreUses}
 use Rattle.fb_resolve.specs.Paths.{IsPath, ArePaths}
 use Rattle.fb_resolve.specs.declared.paths.Paths.{Paths}
 use Rattle.fb_resolve.proofs.UsesKept.{use_kept, uses_kept}
+use Rattle.fb_resolve.proofs.Numbers.{none_left}
 
 pub on_ok_both : {T E P Q R : Type 0} (r : Result T E) → (P → Q → R) → OnOk r P → OnOk r Q → OnOk r R
 on_ok_both (Ok x) f p q = f p q
@@ -42,7 +43,7 @@ zip_kept old new path_of [] (r ∷ rs) kept h = h
 zip_kept old new path_of (n ∷ ns) [] kept h = h
 zip_kept old new path_of (n ∷ ns) (r ∷ rs) kept h = (kept n (path_of r) h.0, zip_kept old new path_of ns rs kept h.1)
 
-AllZip-more : {A B : Type 0} (R : A → B → Type 0) (xs : List A) (ys : List B) (x : A) (y : B) → AllZip R xs ys → R x y
+pub AllZip-more : {A B : Type 0} (R : A → B → Type 0) (xs : List A) (ys : List B) (x : A) (y : B) → AllZip R xs ys → R x y
     → AllZip R (xs ++ x ∷ []) (ys ++ y ∷ [])
 AllZip-more R [] [] x y h r = (r, h)
 AllZip-more R [] (b ∷ ys) x y h r = absurd h
@@ -137,10 +138,6 @@ none_noted p tree used scopes full_names = record {
   root = λ r e. absurd cc;
 }
 
-or_none : (o : Option RootRead) → option_or o None ≡ o
-or_none None = refl
-or_none (Some r) = refl
-
 or_some : (o : Option RootRead) (r : RootRead) (before : Option RootRead) → option_or (option_or o (Some r)) before ≡ option_or o (Some r)
 or_some None r before = refl
 or_some (Some q) r before = refl
@@ -153,7 +150,7 @@ walked_first p left all same paths here = record {
   paths = paths;
   here = here;
   all_types = ap (types_in None) same;
-  root = or_none (root_in None left) ∙ ap (root_in None) same;
+  root = none_left (root_in None left) ∙ ap (root_in None) same;
 }
 
 pub walked_namespace : (p q : Paths) (scope n : ℕ) (name : Option Located) (left all : List Declaration)

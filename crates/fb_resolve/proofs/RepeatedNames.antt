@@ -2,8 +2,9 @@
 use Rattle.std.proofs.Common.{◌≡◌, ◌==◌, ◌<◌, ◌+◌, ◌++◌, ◌∙◌, ◌||◌, ℕ, zero, suc, Bool, List, [], ◌∷◌, length, take, get_or, slice_get, Some, ap, sym, refl, arith, inl, inr, subst}
 use Rattle.std.specs.List.{AllZip, list_any}
 use Rattle.std.specs.Str.{bytes_eq}
+use Rattle.std.proofs.lemmas.Bool.{false_from_ne_true}
 use Rattle.std.proofs.lemmas.Bool.Decides.{eqb_tells}
-use Rattle.std.proofs.lemmas.Option.{get_or_from_slice_get, slice_get-get_or, slice_get_within}
+use Rattle.std.proofs.lemmas.Option.{get_or_from_slice_get, same_Some, slice_get-get_or, slice_get_within}
 use Rattle.std.proofs.lemmas.Slice.Eq.{bytes_eq-Decides}
 use Rattle.std.proofs.lemmas.Slice.Zip.{AllZip-long}
 use Rattle.fb_scopes.specs.Words.{words}
@@ -15,7 +16,6 @@ use Rattle.fb_schema.specs.Schema.{Name}
 use Rattle.fb_resolve.specs.Outline.{TypeRead, name_of_type}
 use Rattle.fb_resolve.specs.Paths.{IsPath}
 use Rattle.fb_resolve.specs.RepeatedNames.{has_name, AreRepeats, AreRepeatedNumbers}
-use Rattle.fb_resolve.proofs.Bytes.{not_true}
 use Rattle.fb_resolve.proofs.PathsKept.{zip_at}
 
 -- one number more is told
@@ -31,16 +31,13 @@ told-more ns repeats i b long is told k n below at = elim (eqb_tells k i) [
   | inr t ↦ entry_kept repeats b (list_any (λ m. m == n) (take k ns)) k (told k n (omega (arith, below, t.1)) at)
 ]
 
-some_inj : {X : Type 0} (x y : X) → Some x ≡ Some y → x ≡ y
-some_inj x y e = cc
-
 -- one name is another exactly where its path's number is
 same_number : (tree : PathTree) → IsTree tree → (m n : ℕ) (a b : Name) → IsPath tree m (words a) → IsPath tree n (words b) → (m == n) ≡ bytes_eq b a
 same_number tree is m n a b at there = elim (eqb_tells m n) [
   | inl t ↦
       let equal : Some (words b) ≡ Some (words a) = sym there ∙ ap (slice_get (paths tree)) (sym t.1) ∙ at in
-      t.0 ∙ sym ((bytes_eq-Decides b a).1 (words-inj b a (some_inj (words b) (words a) equal)))
-  | inr t ↦ t.0 ∙ sym (not_true (bytes_eq b a) (λ e.
+      t.0 ∙ sym ((bytes_eq-Decides b a).1 (words-inj b a (same_Some (words b) (words a) equal)))
+  | inr t ↦ t.0 ∙ sym (false_from_ne_true (bytes_eq b a) (λ e.
       let same : words b ≡ words a = ap words ((bytes_eq-Decides b a).0 e) in
       t.1 (is.apart m n (words a) at (there ∙ ap Some same))))
 ]

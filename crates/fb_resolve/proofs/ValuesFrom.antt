@@ -3,7 +3,7 @@ use Rattle.std.proofs.Common.{◌≡◌, ℕ, ◌+◌, ◌<◌, ◌≤◌, ◌++
 use Rattle.fb_syntax.specs.declared.declarations.EnumValue.{EnumValue}
 use Rattle.fb_resolve.specs.EnumsRead.{values_from, written_number}
 use Rattle.fb_resolve.specs.ResolvedFields.{ResolvedValue}
-use Rattle.fb_resolve.proofs.Steps.{drop-more, drop-end}
+use Rattle.std.proofs.lemmas.List.{append-nil, drop_more, drop_all}
 
 -- a value that has this number behind the one before
 abbrev pub numbered : ℤ → EnumValue → ResolvedValue
@@ -23,12 +23,8 @@ pub values_from-pushed : (read : List ResolvedValue) (next : ℤ) (values : List
 values_from-pushed read next values i v h e =
     let left = drop (i + 1) values in
     append_assoc read (numbered next v ∷ []) (values_from (written_number next v +ℤ pos 1) left)
-    ∙ ap (λ y. read ++ y) (sym (ap (values_from next) (drop-more values i v h ∙ ap (λ x. x ∷ left) (sym e)) ∙ values_from-cons next v left))
-
-append-nil : {X : Type 0} (xs : List X) → xs ++ [] ≡ xs
-append-nil [] = refl
-append-nil (x ∷ xs) = ap (λ r. x ∷ r) (append-nil xs)
+    ∙ ap (λ y. read ++ y) (sym (ap (values_from next) (drop_more values i v h ∙ ap (λ x. x ∷ left) (sym e)) ∙ values_from-cons next v left))
 
 -- all values are read
 pub values_from-all : (read : List ResolvedValue) (next : ℤ) (values : List EnumValue) (i : ℕ) → length values ≤ i → read ++ values_from next (drop i values) ≡ read
-values_from-all read next values i h = ap (λ y. read ++ y) (ap (values_from next) (drop-end values i h) ∙ values_from-nil next) ∙ append-nil read
+values_from-all read next values i h = ap (λ y. read ++ y) (ap (values_from next) (drop_all i values h) ∙ values_from-nil next) ∙ append-nil read

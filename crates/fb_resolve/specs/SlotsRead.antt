@@ -17,6 +17,8 @@ use Rattle.fb_resolve.specs.declared.meanings.Meaning.{Meaning}
 use Rattle.fb_resolve.specs.declared.meanings.Meaning.TheVariants.{Known}
 use Rattle.fb_resolve.specs.declared.defaults.Given.{Given}
 use Rattle.fb_resolve.specs.declared.defaults.Given.TheVariants.{Number, Null}
+use Rattle.fb_resolve.specs.declared.ids.Slots.{Slots}
+use Rattle.fb_resolve.specs.declared.ids.Slots.TheVariants.{InOrder, ById, Wrong}
 
 -- the union of a union's use
 abbrev pub union_of : FieldType → Meaning → Option TypeId
@@ -137,3 +139,10 @@ are_ids_right rs = have_all_ids rs && are_places (numbers_by_id rs)
 -- the slots' numbers aren't as they have to be
 unfoldable pub are_ids_wrong : List ResolvedField → Bool
 are_ids_wrong rs = have_ids rs && not (are_ids_right rs)
+
+-- What the slots of a table's fields are: numbered in the order of declaration, or by their ids, of
+-- which these are the numbers in that order.
+abbrev pub AreSlots : List ResolvedField → Slots → Type 0
+AreSlots rs InOrder = have_ids rs ≡ false
+AreSlots rs (ById numbers) = (have_ids rs ≡ true) × (are_ids_right rs ≡ true) × (numbers.items ≡ numbers_by_id rs)
+AreSlots rs Wrong = are_ids_wrong rs ≡ true

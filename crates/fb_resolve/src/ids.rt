@@ -2,34 +2,36 @@
 ghost use Rattle.std.specs.Prelude.{◌≡◌, ◌<◌, ◌-◌, ◌++◌, ◌^◌, [], ◌∷◌, IfOk, IfSome};
 ghost use Rattle.std.specs.Prelude.{IsSome, map, true, false};
 ghost use Rattle.std.specs.Option.{is_some};
-ghost use Rattle.fb_resolve.specs.SlotsRead.{union_in, first_slot, slot_by_id, numbers_by_id, have_ids};
-ghost use Rattle.fb_resolve.specs.SlotsRead.{have_all_ids, are_places, are_ids_wrong, slots_by_id, slots_read};
-ghost use Rattle.fb_resolve.specs.SlotsRead.{AreInPlace};
+ghost use Rattle.fb_resolve.specs.SlotsRead.{union_in, slot_by_id, have_all_ids, numbers_by_id, are_places};
+ghost use Rattle.fb_resolve.specs.SlotsRead.{have_ids, AreSlots, are_ids_wrong, slots_by_id, slots_read, AreInPlace};
 ghost use Rattle.fb_schema.specs.Seen.{field_seen};
 
-use crate::resolved::ResolvedField;
+use crate::resolved::{ResolvedField, ResolvedTable};
 use crate::slots::{push_slots, slots_in_order, union_in};
-use fb_schema::{FieldInfo, TypeId};
+use fb_schema::FieldInfo;
 use std::alloc::{AllocError, Global};
 
-/// The first slot of a field by its id, which is that of its value.
-fn first_slot(union: Option<TypeId>, id: Option<u64>) -> Option<u64>
-    ensures slot { result ≡ first_slot union id }
-    ensures room { IsSome union → IfSome result (λ s. s < 2 ^ 64 - 1) }
-{
-    match union {
-        None => id,
-        Some(_) => id?.checked_sub(1),
-    }
+/// The slots that the fields of a table take.
+#[derive(Drop)]
+pub(crate) enum Slots {
+    /// Without ids they are numbered in the order of declaration.
+    InOrder,
+    /// The ids name each once: these are their numbers in the order of declaration.
+    ById(Vec<u64>),
+    /// The ids do not name each once.
+    Wrong,
 }
 
-/// The first slot of a field by its id.
+/// The first slot of a field by its id, which is that of its value.
 #[tactic(auto, unfolding(crate::specs::SlotsRead::slot_by_id))]
 fn slot_by_id(resolved: &ResolvedField<'_, '_>) -> Option<u64>
     ensures slot { result ≡ slot_by_id resolved.now }
     ensures room { IsSome (union_in resolved.now) → IfSome result (λ s. s < 2 ^ 64 - 1) }
 {
-    first_slot(union_in(resolved), resolved.attributes.id)
+    match union_in(resolved) {
+        None => resolved.attributes.id,
+        Some(_) => resolved.attributes.id?.checked_sub(1),
+    }
 }
 
 /// Adds the numbers of the slots that a field takes by its id; says whether it has one.
@@ -89,34 +91,42 @@ fn have_ids(fields: &[ResolvedField<'_, '_>]) -> bool
     fields.iter().any(|field| field.attributes.has_id)
 }
 
-/// Whether fields have ids that do not name each slot of theirs once. The only error is a refused
-/// allocation.
-#[tactic(auto, unfolding(crate::specs::SlotsRead::are_ids_wrong))]
-pub fn are_ids_wrong(alloc: Global, fields: &[ResolvedField<'_, '_>]) -> Result<bool, AllocError>
-    ensures { IfOk result (λ w. w ≡ are_ids_wrong fields.now) }
-{
-    if !have_ids(fields) {
-        return Ok(false);
-    }
-    match numbers_by_id(alloc, fields)? {
-        Some(numbers) => Ok(!are_places(alloc, numbers.as_slice())?),
-        None => Ok(true),
+impl Slots {
+    /// The slots of fields. The only error is a refused allocation.
+    #[tactic(auto, unfolding(crate::specs::SlotsRead::are_ids_wrong))]
+    pub(crate) fn of(alloc: Global, fields: &[ResolvedField<'_, '_>]) -> Result<Slots, AllocError>
+        ensures { IfOk result (AreSlots fields.now) }
+    {
+        if !have_ids(fields) {
+            return Ok(Slots::InOrder);
+        }
+        match numbers_by_id(alloc, fields)? {
+            Some(numbers) if are_places(alloc, numbers.as_slice())? => Ok(Slots::ById(numbers)),
+            _ => Ok(Slots::Wrong),
+        }
     }
 }
 
-/// The slots of fields by their ids, in the order of declaration; without an id a field takes
-/// those from 0 on.
+/// Whether a table's fields have ids that do not name each slot of theirs once.
+#[tactic(auto, unfolding(crate::specs::SlotsRead::are_ids_wrong))]
+pub fn are_ids_wrong(table: &ResolvedTable<'_, '_>) -> bool
+    ensures { result ≡ are_ids_wrong table.now.fields }
+{
+    matches!(table.slots, Slots::Wrong)
+}
+
+/// The slots of fields that take these numbers, in the order of declaration.
 fn slots_by_id(
     alloc: Global,
     fields: &[ResolvedField<'_, '_>],
+    numbers: &[u64],
 ) -> Result<Vec<FieldInfo>, AllocError>
-    ensures { IfOk result
-        (λ v. map field_seen v.items ≡ slots_by_id fields.now) }
+    requires { numbers.now ≡ numbers_by_id fields.now }
+    ensures { IfOk result (λ v. map field_seen v.items ≡ slots_by_id fields.now) }
 {
-    let mut slots = Vec::with_capacity(alloc, fields.len())?;
+    let mut slots = Vec::with_capacity(alloc, numbers.len())?;
     for field in fields {
-        let first = slot_by_id(field).unwrap_or(0);
-        push_slots(alloc, field, first, &mut slots)?;
+        push_slots(alloc, field, numbers[slots.len()], &mut slots)?;
     }
     Ok(slots)
 }
@@ -124,16 +134,19 @@ fn slots_by_id(
 /// The slots of a table, each at the place of its number. The only error is a refused allocation.
 pub fn table_slots(
     alloc: Global,
-    fields: &[ResolvedField<'_, '_>],
+    table: &ResolvedTable<'_, '_>,
 ) -> Result<Vec<FieldInfo>, AllocError>
-    requires { are_ids_wrong fields.now ≡ false }
-    ensures { IfOk result (λ v. AreInPlace (slots_read fields.now)
-        (map field_seen v.items)) }
+    requires { are_ids_wrong table.now.fields ≡ false }
+    ensures { IfOk result (λ v. AreInPlace (slots_read table.now.fields) (map field_seen v.items)) }
 {
-    if !have_ids(fields) {
-        return slots_in_order(alloc, fields);
+    let fields = table.fields.as_slice();
+    match &table.slots {
+        Slots::InOrder => slots_in_order(alloc, fields),
+        Slots::ById(numbers) => {
+            let mut slots = slots_by_id(alloc, fields, numbers.as_slice())?;
+            slots.sort_by_key(|slot| slot.slot)?;
+            Ok(slots)
+        }
+        Slots::Wrong => unreachable!(),
     }
-    let mut slots = slots_by_id(alloc, fields)?;
-    slots.sort_by_key(|slot| slot.slot)?;
-    Ok(slots)
 }

@@ -32,8 +32,8 @@ pub use members::{is_table, member_read, table_of};
 pub use outline::{Outline, RootRead, TypeRead, name_of_type, word_of};
 pub use resolve::Resolved;
 pub use resolved::{
-    ResolvedDecl, ResolvedEnum, ResolvedField, ResolvedMember, ResolvedTable, ResolvedType,
-    ResolvedUnion, ResolvedValue,
+    ResolvedDecl, ResolvedEnum, ResolvedField, ResolvedMember, ResolvedStruct, ResolvedTable,
+    ResolvedType, ResolvedUnion, ResolvedValue,
 };
 pub use slots::{name_of_code, union_in};
 pub use structs::{align_of_type, forced_align, natural_of_type, parts_read};

@@ -17,14 +17,15 @@ ghost use Rattle.fb_resolve.specs.Resolved.{meaning_of_root};
 use crate::attributes::{BuiltInAttribute, field_attributes, number_called};
 use crate::defaults::given_by;
 use crate::enums::{has_flags, resolved_values};
+use crate::ids::Slots;
 use crate::meanings::Meaning;
 use crate::members::member_name;
 use crate::outline::{Outline, RootRead, TypeRead};
 use crate::paths::Paths;
 use crate::repeated_names::repeated_numbers;
 use crate::resolved::{
-    ResolvedDecl, ResolvedEnum, ResolvedField, ResolvedMember, ResolvedTable, ResolvedType,
-    ResolvedUnion,
+    ResolvedDecl, ResolvedEnum, ResolvedField, ResolvedMember, ResolvedStruct, ResolvedTable,
+    ResolvedType, ResolvedUnion,
 };
 use crate::scope::Scope;
 use crate::types_read::TypesRead;
@@ -69,11 +70,30 @@ impl<'d, 's> Scope<'_, 'd, 's> {
             ≡ resolved_table self.entry.types.types.now (option_copied self.entry.name) declared.now) }
     {
         let fields = self.resolved_fields(alloc, declared.fields.as_slice())?;
+        let slots = Slots::of(alloc, fields.as_slice())?;
+        Ok(ResolvedTable {
+            declared,
+            fields,
+            slots,
+        })
+    }
+
+    fn resolved_struct(
+        self,
+        alloc: Global,
+        declared: &'d TableDecl<'s>,
+    ) -> Result<ResolvedStruct<'d, 's>, AllocError>
+        requires scope { IsScope self }
+        requires used { AreUses (names_of self.scopes.now) (uses_of_fields declared.now.fields) }
+        ensures { IfOk result (λ s. s
+            ≡ resolved_table self.entry.types.types.now (option_copied self.entry.name) declared.now) }
+    {
+        let fields = self.resolved_fields(alloc, declared.fields.as_slice())?;
         let force_align = number_called(
             BuiltInAttribute::ForceAlign,
             declared.attributes.as_slice(),
         );
-        Ok(ResolvedTable {
+        Ok(ResolvedStruct {
             declared,
             fields,
             force_align,
@@ -150,7 +170,7 @@ impl<'d, 's> Scope<'_, 'd, 's> {
     {
         Ok(match declaration {
             TypeDecl::Table(table) => ResolvedDecl::Table(self.resolved_table(alloc, table)?),
-            TypeDecl::Struct(table) => ResolvedDecl::Struct(self.resolved_table(alloc, table)?),
+            TypeDecl::Struct(table) => ResolvedDecl::Struct(self.resolved_struct(alloc, table)?),
             TypeDecl::Enum(declared) => ResolvedDecl::Enum(self.resolved_enum(alloc, declared)?),
             TypeDecl::Union(union) => ResolvedDecl::Union(self.resolved_union(alloc, union)?),
         })

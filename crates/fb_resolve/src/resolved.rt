@@ -1,6 +1,7 @@
 //! The types of a text with what the names and attributes in them mean.
 use crate::attributes::FieldAttributes;
 use crate::defaults::Given;
+use crate::ids::Slots;
 use crate::located_names::LocatedName;
 use crate::meanings::Meaning;
 use crate::outline::TypeRead;
@@ -30,23 +31,48 @@ impl<'d, 's> Model for ResolvedField<'d, 's> {
     } };
 }
 
-/// A table or struct, what its fields mean, and the integer that its first `force_align` has.
+/// A table, what its fields mean, and which slots they take.
 #[derive(Drop)]
 pub struct ResolvedTable<'d, 's> {
     pub declared: &'d TableDecl<'s>,
     pub fields: Vec<ResolvedField<'d, 's>>,
-    pub force_align: Option<i128>,
+    pub(crate) slots: Slots,
 }
 
 impl<'d, 's> Model for ResolvedTable<'d, 's> {
+    ghost use Rattle.fb_resolve.specs.Attributes.{number_called};
+    ghost use Rattle.fb_resolve.specs.declared.attributes.BuiltInAttribute.TheVariants.{ForceAlign};
     ghost use Rattle.fb_resolve.specs.ResolvedFields.{ResolvedTable as Resolved};
+    ghost use Rattle.fb_resolve.specs.SlotsRead.{AreSlots};
 
     ghost Value = { Resolved };
 
     ghost view = { λ t. record {
       declared = t.declared.now;
       fields = t.fields.items;
-      force_align = t.force_align;
+      force_align = number_called ForceAlign t.declared.now.attributes;
+    } };
+
+    ghost invariant = { λ t. AreSlots t.fields.items t.slots };
+}
+
+/// A struct, what its fields mean, and the integer that its first `force_align` has.
+#[derive(Drop)]
+pub struct ResolvedStruct<'d, 's> {
+    pub declared: &'d TableDecl<'s>,
+    pub fields: Vec<ResolvedField<'d, 's>>,
+    pub force_align: Option<i128>,
+}
+
+impl<'d, 's> Model for ResolvedStruct<'d, 's> {
+    ghost use Rattle.fb_resolve.specs.ResolvedFields.{ResolvedTable as Resolved};
+
+    ghost Value = { Resolved };
+
+    ghost view = { λ s. record {
+      declared = s.declared.now;
+      fields = s.fields.items;
+      force_align = s.force_align;
     } };
 }
 
@@ -123,7 +149,7 @@ impl<'d, 's> Model for ResolvedUnion<'d, 's> {
 #[derive(Drop)]
 pub enum ResolvedDecl<'d, 's> {
     Table(ResolvedTable<'d, 's>),
-    Struct(ResolvedTable<'d, 's>),
+    Struct(ResolvedStruct<'d, 's>),
     Enum(ResolvedEnum<'d, 's>),
     Union(ResolvedUnion<'d, 's>),
 }

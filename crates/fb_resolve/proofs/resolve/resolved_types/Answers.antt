@@ -1,5 +1,6 @@
 use Rattle.std.proofs.Common.{rules, ◌≡◌, ◌+◌, ◌++◌, [], ◌∷◌, length, map, drop, get_or, append_assoc, ap, sym, subst, ◌∙◌, arith}
 use Rattle.std.specs.Option.{option_copied}
+use Rattle.std.proofs.lemmas.List.{drop_more}
 use Rattle.std.proofs.lemmas.Option.{slice_get_within, get_or_from_slice_get}
 use Rattle.std.proofs.lemmas.Slice.Zip.{AllZip-long}
 use Rattle.fb_scopes.specs.PathTree.{paths}
@@ -8,7 +9,6 @@ use Rattle.fb_resolve.specs.Resolved.{resolved_type}
 use Rattle.fb_resolve.specs.Scopes.{words_of_scope, paths_of_types}
 use Rattle.fb_resolve.specs.Paths.{IsPath}
 use Rattle.fb_resolve.proofs.PathsKept.{zip_at}
-use Rattle.fb_resolve.proofs.Steps.{drop-more}
 use Rattle.fb_resolve.proofs.resolve.resolved_types.Goals as goal
 
 pub bounds-numbers-number : goal.bounds-numbers-number
@@ -39,7 +39,7 @@ loop-number-preserved c =
     let rest = map (resolved_type types) (drop (i + 1) types) in
     let pushed : c.push.new.self.items ≡ old ++ resolved_type types item ∷ [] = grind rules in
     let behind : drop i types ≡ item ∷ drop (i + 1) types
-    = drop-more types i item c.loop-number-test.true ∙ ap (λ r. r ∷ drop (i + 1) types) (sym c.index-types-number.is) in
+    = drop_more types i item c.loop-number-test.true ∙ ap (λ r. r ∷ drop (i + 1) types) (sym c.index-types-number.is) in
     ap (λ xs. xs ++ rest) pushed
     ∙ append_assoc old (resolved_type types item ∷ []) rest
     ∙ ap (λ rs. old ++ map (resolved_type types) rs) (sym behind)

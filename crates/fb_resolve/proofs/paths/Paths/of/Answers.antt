@@ -6,7 +6,7 @@ use Rattle.fb_resolve.specs.Outline.{scope_named, types_in, root_in}
 use Rattle.fb_resolve.specs.Scopes.{words_of_scope}
 use Rattle.fb_resolve.specs.Paths.{IsPath}
 use Rattle.fb_resolve.proofs.PathsKept.{IsWalked, none_noted, walked_first, walked_namespace, walked_type, walked_root, walked_other, walked_same, walked_all}
-use Rattle.fb_resolve.proofs.Steps.{drop-more, drop-end}
+use Rattle.std.proofs.lemmas.List.{drop_more, drop_all}
 use Rattle.fb_resolve.proofs.paths.Paths.of.Goals as goal
 use Rattle.fb_resolve.proofs.paths.Paths.of.Goals.{in-Namespace+in_ok-scope-in-Namespace, in-Type+in_ok-note_type-in-Type, in-Directive-RootType+in_ok-note_root-in-Directive-RootType, in-Directive-FileIdentifier, in-Directive-FileExtension, in-Attribute}
 
@@ -30,7 +30,7 @@ loop-declaration-preserved c =
     let item = c.declaration-item.result in
     let rest = drop (i + 1) items in
     let all = c.args.decls.now.declarations in
-    let behind : drop i items ≡ item ∷ rest = drop-more items i item c.loop-declaration-test.true ∙ ap (λ d. d ∷ rest) (sym c.declaration-item.is) in
+    let behind : drop i items ≡ item ∷ rest = drop_more items i item c.loop-declaration-test.true ∙ ap (λ d. d ∷ rest) (sym c.declaration-item.is) in
     let before : IsWalked p scope (item ∷ rest) all = subst (λ left. IsWalked p scope left all) behind c.loop-declaration.invariant in
     elim c.match-declaration.branch [
       | in-Namespace+in_ok-scope-in-Namespace w ↦
@@ -72,4 +72,4 @@ returns c =
     let items = c.declarations-declaration-items.result.now in
     let past : length items ≤ c.loop-declaration.declaration-index = omega (arith, c.loop-declaration-test.false) in
     walked_all c.loop-declaration.paths c.loop-declaration.scope (drop c.loop-declaration.declaration-index items) c.args.decls.now.declarations
-    (drop-end items c.loop-declaration.declaration-index past) c.loop-declaration.invariant
+    (drop_all c.loop-declaration.declaration-index items past) c.loop-declaration.invariant
