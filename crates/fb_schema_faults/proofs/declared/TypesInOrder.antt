@@ -1,12 +1,12 @@
 -- The types of a text, declaration by declaration.
 use Rattle.std.proofs.Common.{ℕ, zero, suc, ◌≡◌, ◌≢◌, ◌+◌, ◌-◌, ◌<◌, ◌++◌, List, [], ◌∷◌, Option, None, Some, length, drop, map, slice_get, get_or, ap, sym, ◌∙◌, arith, refl}
+use Rattle.std.proofs.lemmas.List.{drop_more}
 use Rattle.std.specs.Option.{option_to_list}
 use Rattle.fb_syntax.specs.declared.declarations.TypeDecl.{TypeDecl}
 use Rattle.fb_syntax.specs.declared.declarations.Declaration.{Declaration}
 use Rattle.fb_syntax.specs.declared.declarations.Declaration.TheVariants as declarations
 use Rattle.fb_schema.specs.Schema.{Name}
 use Rattle.fb_resolve.specs.Outline.{types_in, scope_named}
-use Rattle.fb_resolve.proofs.Steps.{drop-more}
 use Rattle.fb_schema_faults.specs.FoundInText.{types_of, type_of}
 
 -- which types there are doesn't depend on the namespace in force
@@ -27,7 +27,7 @@ first_type (declarations.Directive d) ds = refl
 types_from : (ds : List Declaration) (i : ℕ) (d : Declaration) → i < length ds → d ≡ get_or ds i d
     → types_of (drop i ds) ≡ option_to_list (type_of d) ++ types_of (drop (i + 1) ds)
 types_from ds i d within is =
-    ap types_of (drop-more ds i d within ∙ ap (λ first. first ∷ drop (i + 1) ds) (sym is)) ∙ first_type d (drop (i + 1) ds)
+    ap types_of (drop_more ds i d within ∙ ap (λ first. first ∷ drop (i + 1) ds) (sym is)) ∙ first_type d (drop (i + 1) ds)
 
 -- where a declaration is a type's
 pub type_here : (ds : List Declaration) (i : ℕ) (d : Declaration) (t : TypeDecl) → i < length ds → d ≡ get_or ds i d → Some t ≡ type_of d
