@@ -1,1 +1,2 @@
 pub mod covered
+pub mod apart

@@ -24,6 +24,7 @@ pub mod CoveredSteps
 pub mod FaultTable
 pub mod Made
 pub mod Builders
+pub mod Apart
 pub mod FieldsLaid
 pub mod ExampleBuffersAreCovered
 pub mod ExampleBuffersHaveSlack

@@ -1,0 +1,2 @@
+mod EntriesComeInOrder
+mod PartsApartAreMade

@@ -1,0 +1,3 @@
+pub mod Encoded
+pub mod OneMore
+pub mod Roots

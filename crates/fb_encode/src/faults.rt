@@ -1,0 +1,13 @@
+//! Why a tree of JSON gives no buffer.
+use fb_build::BuildFault;
+use fb_json::JsonFault;
+use thiserror::Error;
+
+/// Why a tree of JSON gives no buffer: it breaks a rule, or its value is too big, or memory ran out.
+#[derive(Clone, Copy, Debug, PartialEq, Eq, Drop, Error)]
+pub enum EncodeFault {
+    #[error(transparent)]
+    Json(JsonFault),
+    #[error(transparent)]
+    Build(BuildFault),
+}
