@@ -12,7 +12,7 @@ use std::alloc::{AllocError, Global};
 use std::marker::Model;
 
 /// The bytes that a buffer has at most.
-const MOST_BYTES: usize = 2147483647;
+pub(crate) const MOST_BYTES: usize = 2147483647;
 
 /// A block of zeros whose end is filled.
 #[derive(Drop)]
