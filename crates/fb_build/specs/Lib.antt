@@ -11,6 +11,8 @@ pub mod Parts
 pub mod Items
 pub mod Planned
 pub mod Ready
+pub mod Drafted
+pub mod Drafts
 pub mod Structs
 pub mod Taken
 pub mod Stored

@@ -1,5 +1,5 @@
 //! The distinct vtables of a value, as keys that aren't laid yet.
-ghost use Rattle.std.specs.Prelude.{◌≡◌, ◌≤◌, ◌<◌, ◌+◌, ◌*◌, true, IfOk, IfErr, OnOk};
+ghost use Rattle.std.specs.Prelude.{◌≡◌, ◌≤◌, ◌<◌, ◌+◌, ◌*◌, true, IfOk, OnOk};
 ghost use Rattle.std.specs.Prelude.{length, map, option_map, slice_set};
 ghost use Rattle.fb_layout.specs.Laid.{slots_of};
 ghost use Rattle.fb_layout.specs.Widths.{inline_size, most_slots};
@@ -17,9 +17,7 @@ ghost use Rattle.fb_build.specs.Needs.{need, entries_count, entries_need, entry_
 ghost use Rattle.fb_build.specs.Parts.{EntryWhole};
 ghost use Rattle.fb_build.specs.Vtables.{AreKept, EntryVtablesKnown, IsKey, PartsVtablesKnown, VtablesKnown};
 ghost use Rattle.fb_build.specs.Vtables.{longest_vtable, vtable_of};
-ghost use Rattle.fb_build.specs.declared.faults.BuildFault.TheVariants.{Memory};
 
-use crate::faults::BuildFault;
 use crate::fields::slot_size;
 use crate::needs::{Needs, waits};
 use crate::order::{link_at, order_fields};
@@ -28,7 +26,7 @@ use fb_layout::Layout;
 use fb_schema::{FieldInfo, Kind, Shape, TypeId};
 use fb_value::{Value, table_room, text_room, vector_room};
 use indexmap::IndexSet;
-use std::alloc::Global;
+use std::alloc::{AllocError, Global};
 
 /// Places the field of slot k behind those before, and returns where it ends.
 fn place_field(layout: &Layout, slot: &FieldInfo, k: usize, end: u32, ends: &mut [u32]) -> u32
@@ -85,17 +83,16 @@ fn add_vtable(
     entries: &[Option<Value>],
     ends: &mut [u32],
     scratch: &mut [u8],
-) -> Result<(), BuildFault>
+) -> Result<(), AllocError>
     requires fits { EntriesFit layout.now (slots_of layout.now table.0) (entries_view entries.now) }
     requires whole { entries_whole (entries_view entries.now) ≡ true }
     requires many { most_slots layout.now.schema ≤ length ends.old }
     requires long { longest_vtable layout.now ≤ length scratch.old }
     ensures key { OnOk result (IsKey (map (λ k. k.items) known.new.keys)
         (vtable_of layout.now table.0 (entries_view entries.now))) }
-    ensures kept { OnOk result (AreKept (map (λ k. k.items) known.old.keys) (map (λ k. k.items) known.new.keys)) }
+    ensures kept { AreKept (map (λ k. k.items) known.old.keys) (map (λ k. k.items) known.new.keys) }
     ensures long { length scratch.new ≡ length scratch.old }
     ensures each { length ends.new ≡ length ends.old }
-    ensures fault { IfErr result (λ e. e ≡ Memory) }
 {
     let _schema = layout.schema(); // its contract: the layout is well made
     let slots = layout.slots_of(table);
@@ -120,7 +117,7 @@ pub(crate) fn add_table(
     entries: &[Option<Value>],
     ends: &mut [u32],
     scratch: &mut [u8],
-) -> Result<Needs, BuildFault>
+) -> Result<Needs, AllocError>
     requires fits { EntriesFit layout.now (slots_of layout.now table.0) (entries_view entries.now) }
     requires whole { entries_whole (entries_view entries.now) ≡ true }
     requires many { most_slots layout.now.schema ≤ length ends.old }
@@ -131,10 +128,9 @@ pub(crate) fn add_table(
         + entries_room layout.now (slots_of layout.now table.0) (entries_view entries.now))) }
     ensures known { OnOk result (VtablesKnown layout.now (map (λ k. k.items) known.new.keys)
         (a_table table.0 (entries_view entries.now))) }
-    ensures kept { OnOk result (AreKept (map (λ k. k.items) known.old.keys) (map (λ k. k.items) known.new.keys)) }
+    ensures kept { AreKept (map (λ k. k.items) known.old.keys) (map (λ k. k.items) known.new.keys) }
     ensures long { length scratch.new ≡ length scratch.old }
     ensures each { length ends.new ≡ length ends.old }
-    ensures fault { IfErr result (λ e. e ≡ Memory) }
 {
     let _schema = layout.schema(); // its contract: the layout is well made
     add_vtable(alloc, known, layout, table, entries, ends, scratch)?;
@@ -163,7 +159,7 @@ fn add_entry(
     entry: &Option<Value>,
     ends: &mut [u32],
     scratch: &mut [u8],
-) -> Result<Needs, BuildFault>
+) -> Result<Needs, AllocError>
     requires simple { IsSimple layout.now (shape_seen layout.now slot.now.shape) }
     requires fits { EntryFits layout.now (slot_seen layout.now slot.now) (option_map view entry.now) }
     requires whole { EntryWhole (option_map view entry.now) }
@@ -174,10 +170,9 @@ fn add_entry(
         ≡ at_most_usize (entry_room layout.now (slot_seen layout.now slot.now) (option_map view entry.now))) }
     ensures known { OnOk result (EntryVtablesKnown layout.now (map (λ k. k.items) known.new.keys)
         (option_map view entry.now)) }
-    ensures kept { OnOk result (AreKept (map (λ k. k.items) known.old.keys) (map (λ k. k.items) known.new.keys)) }
+    ensures kept { AreKept (map (λ k. k.items) known.old.keys) (map (λ k. k.items) known.new.keys) }
     ensures long { length scratch.new ≡ length scratch.old }
     ensures each { length ends.new ≡ length ends.old }
-    ensures fault { IfErr result (λ e. e ≡ Memory) }
 {
     match entry {
         None | Some(Value::Number(_)) => Ok(Needs::NONE),
@@ -187,7 +182,7 @@ fn add_entry(
 
 /// Adds the vtables of the tables of a value, and returns what laying it takes.
 #[cycle(keys)]
-fn add_tables(
+pub(crate) fn add_tables(
     alloc: Global,
     known: &mut IndexSet<Vec<u8>>,
     layout: &Layout,
@@ -195,7 +190,7 @@ fn add_tables(
     value: &Value,
     ends: &mut [u32],
     scratch: &mut [u8],
-) -> Result<Needs, BuildFault>
+) -> Result<Needs, AllocError>
     requires simple { IsSimple layout.now (shape_seen layout.now shape) }
     requires fits { Fits layout.now (shape_seen layout.now shape) (view value.now) }
     requires whole { is_whole (view value.now) ≡ true }
@@ -205,10 +200,9 @@ fn add_tables(
     ensures room { IfOk result (λ n. n.room
         ≡ at_most_usize (room layout.now (shape_seen layout.now shape) (view value.now))) }
     ensures known { OnOk result (VtablesKnown layout.now (map (λ k. k.items) known.new.keys) (view value.now)) }
-    ensures kept { OnOk result (AreKept (map (λ k. k.items) known.old.keys) (map (λ k. k.items) known.new.keys)) }
+    ensures kept { AreKept (map (λ k. k.items) known.old.keys) (map (λ k. k.items) known.new.keys) }
     ensures long { length scratch.new ≡ length scratch.old }
     ensures each { length ends.new ≡ length ends.old }
-    ensures fault { IfErr result (λ e. e ≡ Memory) }
 {
     match value {
         Value::Fields(table, entries) => {
@@ -242,7 +236,7 @@ fn add_vector(
     items: &[Value],
     ends: &mut [u32],
     scratch: &mut [u8],
-) -> Result<Needs, BuildFault>
+) -> Result<Needs, AllocError>
     requires element { IsElement layout.now (kind_seen layout.now kind) }
     requires fits { EachFits layout.now (kind_seen layout.now kind) (parts_view items.now) }
     requires whole { parts_whole (parts_view items.now) ≡ true }
@@ -254,10 +248,9 @@ fn add_vector(
         + parts_room layout.now (kind_seen layout.now kind) (parts_view items.now))) }
     ensures known { OnOk result (PartsVtablesKnown layout.now (map (λ k. k.items) known.new.keys)
         (parts_view items.now)) }
-    ensures kept { OnOk result (AreKept (map (λ k. k.items) known.old.keys) (map (λ k. k.items) known.new.keys)) }
+    ensures kept { AreKept (map (λ k. k.items) known.old.keys) (map (λ k. k.items) known.new.keys) }
     ensures long { length scratch.new ≡ length scratch.old }
     ensures each { length ends.new ≡ length ends.old }
-    ensures fault { IfErr result (λ e. e ≡ Memory) }
 {
     let mut room = vector_room(layout, kind, items.len());
     if !waits(items) {

@@ -145,7 +145,7 @@ fn lay_target(
 /// Lays what a value needs outside of its own place, and returns its end-count; 0 where there is
 /// nothing.
 #[cycle(tables)]
-fn lay_part(
+pub(crate) fn lay_part(
     builder: &mut Builder,
     layout: &Layout,
     shape: Shape,

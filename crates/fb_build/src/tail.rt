@@ -1,6 +1,6 @@
 //! A block that is filled from its end.
 ghost use Rattle.std.specs.Prelude.{◌≡◌, ◌≤◌, ◌<◌, ◌+◌, ◌-◌, ◌%◌, ◌++◌};
-ghost use Rattle.std.specs.Prelude.{length, take, drop, replicate, max, true};
+ghost use Rattle.std.specs.Prelude.{length, take, drop, replicate, max, true, OnOk, OnErr};
 ghost use Rattle.fb_value.specs.Num.{divides};
 ghost use Rattle.byteorder.specs.Endian.{little_bytes};
 ghost use Rattle.fb_layout.specs.Sizes.{IsAlignment};
@@ -8,7 +8,11 @@ ghost use Rattle.fb_build.specs.Tails.{Grows};
 
 use crate::blocks::put_in_front;
 use byteorder::{ByteOrder, LittleEndian};
+use std::alloc::{AllocError, Global};
 use std::marker::Model;
+
+/// The bytes that a buffer has at most.
+pub(crate) const MOST_BYTES: usize = 2147483647;
 
 /// A block of zeros whose end is filled.
 #[derive(Drop)]
@@ -62,6 +66,26 @@ impl Tail {
         ensures power { IsAlignment result }
     {
         self.most
+    }
+
+    /// Makes so many bytes free at least. A block that is too short gives way to one of twice its length, or more where
+    /// that is too short too.
+    pub(crate) fn grow(&mut self, alloc: Global, free: usize) -> Result<(), AllocError>
+        requires short { length self.old.bytes + free ≤ 2147483647 }
+        ensures bytes { self.new.bytes ≡ self.old.bytes }
+        ensures most { self.new.most ≡ self.old.most }
+        ensures enough { OnOk result (free ≤ self.new.free) }
+        ensures kept { OnErr result (self.new.free ≡ self.old.free) }
+    {
+        if free <= self.free {
+            return Ok(());
+        }
+        let needed = self.count() + free;
+        let long = (2 * self.block.len()).min(MOST_BYTES).max(needed);
+        let mut block = vec![in alloc; 0u8; long]?;
+        self.free = put_in_front(&mut block, long, &self.block[self.free..]);
+        self.block = block;
+        Ok(())
     }
 
     fn put(&mut self, bytes: &[u8])

@@ -88,8 +88,8 @@ add_table-loop-k-preserved t c =
       small = omega (arith, inv.small, now.need, c.max-waiting.ensures);
       rooms = omega (arith, inv.rooms, inv.within, rooms, now.room, c.saturating_add-room.ensures);
       within = omega (arith, c.saturating_add-room.ensures);
-      kept = λ i vt there. now.kept i vt (inv.kept i vt there);
-      known = entries_next L _ _ es k o now.kept c.loop-k-test.true c.index-entries-k.is now.known inv.known;
+      kept = λ i vt there. c.add_entry.ensures.kept i vt (inv.kept i vt there);
+      known = entries_next L _ _ es k o c.add_entry.ensures.kept c.loop-k-test.true c.index-entries-k.is now.known inv.known;
       long = search rules;
       each = search rules;
     }
@@ -186,8 +186,8 @@ add_vector-loop-item-preserved t c =
       small = omega (arith, inv.small, now.need, c.max-waiting.ensures);
       rooms = omega (arith, inv.rooms, inv.within, rooms, now.room, c.saturating_add-room.ensures);
       within = omega (arith, c.saturating_add-room.ensures);
-      kept = λ i vt there. now.kept i vt (inv.kept i vt there);
-      known = parts_next L _ _ vs k v now.kept c.loop-item-test.true c.item-item.is now.known inv.known;
+      kept = λ i vt there. c.add_tables.ensures.kept i vt (inv.kept i vt there);
+      known = parts_next L _ _ vs k v c.add_tables.ensures.kept c.loop-item-test.true c.item-item.is now.known inv.known;
       long = search rules;
       each = search rules;
     }

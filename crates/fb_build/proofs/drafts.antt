@@ -1,0 +1,2 @@
+pub mod PlacesMayBeAdded
+pub mod DraftsContinue

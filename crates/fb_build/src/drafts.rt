@@ -1,0 +1,174 @@
+//! A buffer that is laid part by part.
+ghost use Rattle.std.specs.Prelude.{◌≡◌, ◌≤◌, ◌<◌, ◌+◌, ◌-◌, ◌++◌, true, [], length, replicate};
+ghost use Rattle.std.specs.Prelude.{IfOk, OnOk, OnErr};
+ghost use Rattle.fb_layout.specs.Laid.{align_of, kind_in};
+ghost use Rattle.fb_layout.specs.Widths.{greatest};
+ghost use Rattle.fb_value.specs.Counts.{is_whole};
+ghost use Rattle.fb_value.specs.Fits.{Fits};
+ghost use Rattle.fb_value.specs.Room.{room};
+ghost use Rattle.fb_value.specs.UpTo.{at_most_usize};
+ghost use Rattle.fb_value.specs.View.{view};
+ghost use Rattle.fb_build.specs.Drafted.{Continues, IsAsBefore};
+ghost use Rattle.fb_build.specs.Fields.{IsSimple, shape_seen};
+ghost use Rattle.fb_build.specs.Made.{Adds, IsMade, part_named, parts_at};
+ghost use Rattle.fb_build.specs.Parts.{PartEnd};
+
+use crate::builder::Builder;
+use crate::keys::add_tables;
+use crate::needs::Needs;
+use crate::tables::lay_part;
+use crate::tail::{MOST_BYTES, Tail};
+use fb_layout::Layout;
+use fb_schema::Shape;
+use fb_value::Value;
+use indexmap::IndexSet;
+use std::alloc::{AllocError, Global};
+use std::marker::Model;
+
+/// A buffer whose parts are laid one by one, before the whole of its value is known. Its memory grows with them. It
+/// keeps the sum of the rooms of all parts that were asked for, and lays none past 2,147,483,647 bytes.
+#[derive(Drop)]
+pub struct Draft<'l> {
+    alloc: Global,
+    layout: &'l Layout,
+    builder: Builder,
+    // for one table at a time: a count for each slot
+    ends: Vec<u32>,
+    // a count for each reference that waits
+    pending: Vec<u32>,
+    room: usize,
+}
+
+impl<'l> Model for Draft<'l> {
+    ghost use Rattle.fb_build.specs.Drafted.{Drafted};
+
+    ghost Value = { Drafted };
+
+    ghost use Rattle.fb_build.specs.Drafts.{drafted_seen, IsDraft};
+
+    ghost view = { drafted_seen };
+
+    ghost invariant = { IsDraft };
+}
+
+/// Makes room for what laying a value takes, and places for the vtables that are known by now.
+fn reserve(
+    alloc: Global,
+    tail: &mut Tail,
+    places: &mut Vec<u32>,
+    pending: &mut Vec<u32>,
+    known: usize,
+    needs: Needs,
+) -> Result<(), AllocError>
+    requires short { length tail.old.bytes + needs.room ≤ 2147483647 }
+    requires more { length places.old.items ≤ known }
+    ensures bytes { tail.new.bytes ≡ tail.old.bytes }
+    ensures most { tail.new.most ≡ tail.old.most }
+    ensures room { OnOk result (needs.room ≤ tail.new.free) }
+    ensures waiting { OnOk result (needs.waiting ≤ length pending.new.items) }
+    ensures places { OnOk result (places.new.items
+        ≡ places.old.items ++ replicate (known - length places.old.items) 0) }
+    ensures refused { OnErr result (places.new.items ≡ places.old.items) }
+{
+    pending.resize(needs.waiting.max(pending.len()), 0)?;
+    tail.grow(alloc, needs.room)?;
+    places.resize(known, 0)
+}
+
+impl<'l> Draft<'l> {
+    /// A buffer in which nothing is laid.
+    pub fn new(alloc: Global, layout: &'l Layout) -> Result<Draft<'l>, AllocError>
+        ensures layout { IfOk result (λ d. d.layout ≡ layout.now) }
+        ensures bytes { IfOk result (λ d. length d.tail.bytes ≡ 0) }
+        ensures most { IfOk result (λ d. d.tail.most ≡ 4) }
+        ensures vtables { IfOk result (λ d. length d.vtables ≡ 0) }
+        ensures places { IfOk result (λ d. length d.places ≡ 0) }
+        ensures made { IfOk result (λ d. IsMade layout.now d.tail d.places []) }
+        ensures room { IfOk result (λ d. d.room ≡ 0) }
+    {
+        let slots = layout.most_slots();
+        let ends = vec![in alloc; 0u32; slots]?;
+        let scratch = vec![in alloc; 0u8; 4 + 2 * slots]?;
+        Ok(Draft {
+            alloc,
+            layout,
+            builder: Builder {
+                tail: Tail::new(Vec::new(alloc)),
+                vtables: IndexSet::new(alloc),
+                near: 0,
+                places: Vec::new(alloc),
+                scratch,
+            },
+            ends,
+            pending: Vec::new(alloc),
+            room: 0,
+        })
+    }
+
+    /// Lays what a value needs outside of its own place, with the vtables of its tables, and returns its end-count;
+    /// 0 where there is nothing. Where the rooms of all that was asked for are over 2,147,483,647 bytes it lays nothing.
+    pub fn lay_apart(&mut self, shape: Shape, value: &Value) -> Result<u32, AllocError>
+        requires simple { IsSimple self.old.layout (shape_seen self.old.layout shape) }
+        requires low { align_of self.old.layout (kind_in (shape_seen self.old.layout shape))
+            ≤ greatest self.old.layout }
+        requires fits { Fits self.old.layout (shape_seen self.old.layout shape) (view value.now) }
+        requires whole { is_whole (view value.now) ≡ true }
+        ensures room { OnOk result (self.new.room ≡ at_most_usize (self.old.room
+            + room self.old.layout (shape_seen self.old.layout shape) (view value.now))) }
+        ensures state { IfOk result (λ e. self.new.room ≤ 2147483647
+            → PartEnd self.old.layout self.new.tail.most self.new.tail.bytes
+            (shape_seen self.old.layout shape) (view value.now) e) }
+        ensures adds { IfOk result (λ e. self.new.room ≤ 2147483647
+            → Adds self.old.layout self.old.tail self.old.places self.new.tail self.new.places
+            (parts_at self.old.layout self.new.tail.bytes
+            (part_named (shape_seen self.old.layout shape) (view value.now)) e)) }
+        ensures continues { OnOk result (Continues self.old self.new) }
+        ensures over { IfOk result (λ e. 2147483647 < self.new.room
+            → (e ≡ 0) × IsAsBefore self.old self.new) }
+        ensures refused { OnErr result (IsAsBefore self.old self.new × (self.new.room ≡ self.old.room)) }
+    {
+        let _schema = self.layout.schema(); // its contract: the layout is well made
+        let known = self.builder.places.len();
+        let needs = match add_tables(
+            self.alloc,
+            &mut self.builder.vtables,
+            self.layout,
+            shape,
+            value,
+            self.ends.as_mut_slice(),
+            self.builder.scratch.as_mut_slice(),
+        ) {
+            Ok(needs) => needs,
+            Err(refused) => {
+                self.builder.vtables.truncate(known);
+                return Err(refused);
+            }
+        };
+        let room = self.room.saturating_add(needs.room);
+        if room > MOST_BYTES {
+            self.builder.vtables.truncate(known);
+            self.room = room;
+            return Ok(0);
+        }
+        let count = self.builder.vtables.len();
+        if let Err(refused) = reserve(
+            self.alloc,
+            &mut self.builder.tail,
+            &mut self.builder.places,
+            &mut self.pending,
+            count,
+            needs,
+        ) {
+            self.builder.vtables.truncate(known);
+            return Err(refused);
+        }
+        self.room = room;
+        Ok(lay_part(
+            &mut self.builder,
+            self.layout,
+            shape,
+            value,
+            self.pending.as_mut_slice(),
+        ))
+    }
+}
