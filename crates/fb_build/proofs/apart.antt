@@ -1,2 +1,3 @@
 mod EntriesComeInOrder
 mod PartsApartAreMade
+mod OneMoreIsLaidApart

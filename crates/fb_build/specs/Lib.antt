@@ -27,6 +27,10 @@ pub mod FaultTable
 pub mod Made
 pub mod Builders
 pub mod Apart
+pub mod References
+pub mod DatumCode
+pub mod BuiltSoFar
+pub mod LaidApart
 pub mod FieldsLaid
 pub mod ExampleBuffersAreCovered
 pub mod ExampleBuffersHaveSlack

@@ -17,6 +17,7 @@ use Rattle.fb_value.specs.Tails.{LiesInTail}
 use Rattle.fb_build.specs.Apart.{named_apart, EntriesApart, EachEntryFits}
 use Rattle.fb_build.specs.CoveredTails.{part_further}
 use Rattle.fb_build.specs.Fields.{TargetEnd, EntryEnd, is_stored, stored_here, target_for}
+use Rattle.fb_build.specs.LaidApart.{two_lists}
 use Rattle.fb_build.specs.Made.{Adds, IsMade, NamedPart, named_of, named_stored, ends_parts}
 use Rattle.fb_build.specs.Pieces.{PartAt}
 use Rattle.fb_build.specs.Tails.{TailSeen, Grows}
@@ -119,11 +120,6 @@ apart_there L o fs xs ends fits state k y is =
     (λ code. state k f x code named.2 named.3) named.4
 
 -- ---- more parts in front
-
--- the parts of entries and of elements, at their end-counts
-abbrev pub two_lists : LaidSchema → Bytes → List (Option NamedPart) → List ℕ → List (Option NamedPart) → List ℕ
-    → List PartAt
-two_lists L s ns ends ms more = ends_parts L s ns ends ++ ends_parts L s ms more
 
 pub made_then : (L : LaidSchema) (a b : TailSeen) (before after : List ℕ) (ns : List (Option NamedPart))
     (ends : List ℕ) (ms : List (Option NamedPart)) (more : List ℕ) (ys : List PartAt) → Grows a b
