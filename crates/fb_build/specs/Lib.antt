@@ -26,6 +26,7 @@ pub mod CoveredSteps
 pub mod FaultTable
 pub mod Made
 pub mod Builders
+pub mod Roots
 pub mod FieldsLaid
 pub mod ExampleBuffersAreCovered
 pub mod ExampleBuffersHaveSlack
