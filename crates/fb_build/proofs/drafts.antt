@@ -1,2 +1,3 @@
 pub mod PlacesMayBeAdded
 pub mod DraftsContinue
+pub mod VtableTellsWhatIsStored

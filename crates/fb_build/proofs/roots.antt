@@ -1,1 +1,2 @@
 pub mod TailWithItsRootIsABuffer
+pub mod RootIsMadeOfItsParts

@@ -1,112 +1,41 @@
-use Rattle.std.proofs.Common.{◌≡◌, ◌+◌, ◌%◌, ◌∙◌, true, Some, ap, length, arith}
-use Rattle.std.proofs.lemmas.Bool.{eq-eqb, eqb-true}
-use Rattle.fb_value.proofs.tails.TailsAreKeptInFront.{through}
 use Rattle.fb_value.specs.Datum.{a_table}
-use Rattle.fb_value.specs.Num.{Bytes, divides}
 use Rattle.fb_value.specs.View.{entries_view}
-use Rattle.fb_build.proofs.roots.TailWithItsRootIsABuffer.{IsIdentified, identified_behind, root_laid, whole_holds}
-use Rattle.fb_build.proofs.roots.TailWithItsRootIsABuffer.{whole_old}
-use Rattle.std.proofs.Common.{ℕ, ◌-◌, [], subst, append-nil}
-use Rattle.fb_value.specs.Lies.{LiesAt}
-use Rattle.fb_value.specs.Places.{part_place, ref_place, table_part}
-use Rattle.fb_value.proofs.tails.TailsAreKeptInFront.{whole_shown}
-use Rattle.fb_build.specs.Builders.{vtables_in}
-use Rattle.fb_build.specs.CoveredTails.{parts_in_tail}
-use Rattle.fb_build.specs.Made.{IsMade}
-use Rattle.fb_build.specs.Tails.{LaidInTail}
-use Rattle.fb_build.proofs.covered.LaidBufferIsCovered.{made_of_nothing, IsWhole, covered_buffer, aligned_buffer}
+use Rattle.fb_build.proofs.covered.LaidBufferIsCovered.{made_of_nothing}
+use Rattle.fb_build.proofs.roots.RootIsMadeOfItsParts.{root_made}
 use Rattle.fb_build.proofs.roots.fill.Goals as goal
-
-pub lay_reference-requires-clause-whole : goal.lay_reference-requires-clause-whole
-lay_reference-requires-clause-whole c =
-    let table = c.lay_table-place.new.builder.tail in
-    let four : divides 4 table.most ≡ true =
-    rw c.requires.fresh.most at c.lay_table-place.ensures.builds.grows.multiple in
-    let all : divides table.most (length c.lay_identifier.new.out.bytes + 4) ≡ true =
-    eq-eqb _ _ c.lay_identifier.ensures.multiple in
-    let rest = eqb-true _ _ (through 4 table.most (length c.lay_identifier.new.out.bytes + 4) four all) in
-    eq-eqb _ _ (omega (arith, rest))
 
 pub returns-clause-holds : goal.returns-clause-holds
 returns-clause-holds c most raw deep small =
     let L = c.args.layout.now in
     let d = a_table c.args.table.0 (entries_view c.args.entries.now) in
-    let table = c.lay_table-place.new.builder.tail in
-    let tail = c.lay_identifier.new.out in
-    let end = c.lay_reference.new.out in
-    let same : end.most ≡ table.most = c.lay_reference.ensures.most ∙ c.lay_identifier.ensures.most in
-    let whole : divides end.most (length end.bytes) ≡ true =
-    rw same (eq-eqb _ _ (ap (λ n. n % table.most) c.lay_reference.ensures.long
-    ∙ c.lay_identifier.ensures.multiple)) in
-    let rooted = root_laid L table tail end c.args.table.0 c.lay_table-place.result d c.requires.root
-    c.lay_identifier.ensures.grows c.lay_table-place.ensures.lies (λ X. c.lay_reference.ensures.lies L X d) in
-    let front = c.lay_reference.ensures.grows in
-    let four : length front.front ≡ 4 = omega (arith, front.spent, c.lay_reference.ensures.free) in
-    let identified : (id : Bytes) → L.schema.identifier ≡ Some id → IsIdentified end.bytes id =
-    λ id e. identified_behind front.front tail.bytes id end.bytes front.grown four
-    (c.schema-schema.ensures.made.declared.identifier id e) (c.lay_identifier.ensures.identified id e) in
-    rw c.into_bytes.ensures (whole_holds L end.most end.bytes d most raw identified
-    (omega (arith, c.lay_reference.ensures.long)) (omega (arith, c.count-count.ensures)) whole rooted.lies deep
-    small)
+    let old = c.args.builder in
+    let new = c.lay_table-place.new.builder in
+    let fresh = c.requires.fresh in
+    let root = root_made L old.tail new.tail old.places.items new.places.items c.args.table.0 c.lay_table-place.result d
+    c.requires.root c.lay_table-place.ensures.lies c.lay_table-place.ensures.adds
+    (made_of_nothing L old.tail old.places.items fresh.bytes fresh.most fresh.none_laid) in
+    c.close_buffer.ensures.holds d most raw root deep small
 
 pub returns-clause-old_slots : goal.returns-clause-old_slots
 returns-clause-old_slots c =
     let L = c.args.layout.now in
     let d = a_table c.args.table.0 (entries_view c.args.entries.now) in
-    let table = c.lay_table-place.new.builder.tail in
-    let tail = c.lay_identifier.new.out in
-    let end = c.lay_reference.new.out in
-    let same : end.most ≡ table.most = c.lay_reference.ensures.most ∙ c.lay_identifier.ensures.most in
-    let whole : divides end.most (length end.bytes) ≡ true =
-    rw same (eq-eqb _ _ (ap (λ n. n % table.most) c.lay_reference.ensures.long
-    ∙ c.lay_identifier.ensures.multiple)) in
-    let rooted = root_laid L table tail end c.args.table.0 c.lay_table-place.result d c.requires.root
-    c.lay_identifier.ensures.grows c.lay_table-place.ensures.lies (λ X. c.lay_reference.ensures.lies L X d) in
-    rw c.into_bytes.ensures (whole_old L end.most end.bytes d whole rooted)
+    let old = c.args.builder in
+    let new = c.lay_table-place.new.builder in
+    let fresh = c.requires.fresh in
+    c.close_buffer.ensures.old_slots d
+    (root_made L old.tail new.tail old.places.items new.places.items c.args.table.0 c.lay_table-place.result d
+    c.requires.root c.lay_table-place.ensures.lies c.lay_table-place.ensures.adds
+    (made_of_nothing L old.tail old.places.items fresh.bytes fresh.most fresh.none_laid))
 
 pub returns-clause-covered : goal.returns-clause-covered
 returns-clause-covered c =
     let L = c.args.layout.now in
-    let t = c.args.table.0 in
-    let d = a_table t (entries_view c.args.entries.now) in
-    let table = c.lay_table-place.new.builder.tail in
-    let tail = c.lay_identifier.new.out in
-    let end = c.lay_reference.new.out in
-    let e = c.lay_table-place.result in
-    let places = c.lay_table-place.new.builder.places.items in
-    let keys = vtables_in c.args.builder in
-    let same : end.most ≡ table.most = c.lay_reference.ensures.most ∙ c.lay_identifier.ensures.most in
-    let all : divides end.most (length end.bytes) ≡ true =
-    rw same (eq-eqb _ _ (ap (λ n. n % table.most) c.lay_reference.ensures.long
-    ∙ c.lay_identifier.ensures.multiple)) in
-    let rooted = root_laid L table tail end t e d c.requires.root c.lay_identifier.ensures.grows
-    c.lay_table-place.ensures.lies (λ X. c.lay_reference.ensures.lies L X d) in
-    let zero : length end.bytes - length end.bytes ≡ 0 = omega arith in
-    let there : LiesAt L end.bytes (ref_place (table_part L.schema.root)) 0 d =
-    subst (λ (p : ℕ). LiesAt L end.bytes (ref_place (table_part L.schema.root)) p d) zero
-    (whole_shown L end.most end.bytes (ref_place (table_part L.schema.root)) (length end.bytes) d all
-    rooted.lies) in
-    let made = c.lay_table-place.ensures.adds []
-    (made_of_nothing L c.args.builder.tail c.args.builder.places.items c.requires.fresh.bytes
-    c.requires.fresh.most c.requires.fresh.none_laid) in
-    let own : IsMade L table places (parts_in_tail L table.bytes (table_part t) e d) =
-    rw (append-nil (parts_in_tail L table.bytes (table_part t) e d)) at made in
-    let whole : IsWhole L table tail end.bytes e d keys places = record {
-      laid = subst (λ (n : ℕ). LaidInTail L table.most table.bytes (part_place (table_part n)) e d) c.requires.root
-          c.lay_table-place.ensures.lies;
-      made = subst (λ (n : ℕ). IsMade L table places (parts_in_tail L table.bytes (table_part n) e d)) c.requires.root
-          own;
-      shared = rw (← c.lay_table-place.ensures.builds.same) c.lay_table-place.ensures.builds.ready.laid;
-      different = c.requires.different;
-      header = c.lay_identifier.ensures.header;
-      identified = c.schema-schema.ensures.made.declared.identifier;
-      four = c.lay_reference.ensures.grows.front;
-      four_long = omega (arith, c.lay_reference.ensures.grows.spent, c.lay_reference.ensures.free);
-      bytes = c.lay_reference.ensures.grows.grown;
-      leads = c.lay_reference.ensures.leads;
-      there = there;
-    } in
-    rw c.into_bytes.ensures (
-      covered_buffer L table tail end.bytes e d keys places whole,
-      aligned_buffer L table tail end.bytes e d keys places whole (rw same at all),
-    )
+    let d = a_table c.args.table.0 (entries_view c.args.entries.now) in
+    let old = c.args.builder in
+    let new = c.lay_table-place.new.builder in
+    let fresh = c.requires.fresh in
+    c.close_buffer.ensures.covered d
+    (root_made L old.tail new.tail old.places.items new.places.items c.args.table.0 c.lay_table-place.result d
+    c.requires.root c.lay_table-place.ensures.lies c.lay_table-place.ensures.adds
+    (made_of_nothing L old.tail old.places.items fresh.bytes fresh.most fresh.none_laid))

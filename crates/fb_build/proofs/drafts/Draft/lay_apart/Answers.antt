@@ -1,6 +1,7 @@
 use Rattle.std.proofs.Common.{◌≡◌, ◌+◌, ◌-◌, ◌++◌, ◌∙◌, ℕ, List, ap, sym, refl, length, map, take, replicate, arith}
 use Rattle.std.proofs.lemmas.List.{take-map, length-map}
 use Rattle.std.specs.Vec.{with_items}
+use Rattle.fb_value.proofs.tails.TailsAreKeptInFront.{through}
 use Rattle.fb_build.specs.Builders.{vtables_in}
 use Rattle.fb_build.specs.Vtables.{AreKept}
 use Rattle.fb_build.proofs.drafts.DraftsContinue.{same_lengthens}
@@ -31,6 +32,8 @@ invariant_of-self c =
       };
       different = rw left inv.different;
       many = omega (arith, (with_items inside.ends c.add_tables.new.ends).ok.0, inside.ends.ok.0, inv.many, c.add_tables.ensures.each, c.as_mut_slice.ensures.len);
+      four = inv.four;
+      bound = inv.bound;
       within = inv.within;
     }
 
@@ -56,6 +59,8 @@ invariant_of-self-then-room-gt-MOST_BYTES c =
       ready = record { laid = rw left inv.ready.laid; long = omega (arith, (with_items inside.builder.scratch c.add_tables.new.scratch).ok.0, inside.builder.scratch.ok.0, inv.ready.long, c.add_tables.ensures.long, c.as_mut_slice-2.ensures.len) };
       different = rw left inv.different;
       many = omega (arith, (with_items inside.ends c.add_tables.new.ends).ok.0, inside.ends.ok.0, inv.many, c.add_tables.ensures.each, c.as_mut_slice.ensures.len);
+      four = inv.four;
+      bound = inv.bound;
       within = λ small. absurd (omega (arith, small, c.if-room-gt-MOST_BYTES.true));
     }
 
@@ -110,6 +115,8 @@ invariant_of-self-in-Err-reserve c =
       ready = record { laid = rw (left, same, c.reserve.ensures.bytes) inv.ready.laid; long = omega (arith, (with_items inside.builder.scratch c.add_tables.new.scratch).ok.0, inside.builder.scratch.ok.0, inv.ready.long, c.add_tables.ensures.long, c.as_mut_slice-2.ensures.len) };
       different = rw left inv.different;
       many = omega (arith, (with_items inside.ends c.add_tables.new.ends).ok.0, inside.ends.ok.0, inv.many, c.add_tables.ensures.each, c.as_mut_slice.ensures.len);
+      four = rw c.reserve.ensures.most inv.four;
+      bound = rw c.reserve.ensures.most inv.bound;
       within = rw c.reserve.ensures.bytes inv.within;
     }
 
@@ -160,6 +167,9 @@ invariant_of-self-2 c =
       ready = builds.ready;
       different = rw builds.same (different (λ k. k.items) c.add_tables.new.known.keys c.len-count.ensures.unique);
       many = omega (arith, (with_items inside.ends c.add_tables.new.ends).ok.0, inside.ends.ok.0, inv.many, c.add_tables.ensures.each, c.as_mut_slice.ensures.len);
+      four = through 4 c.reserve.new.tail.most c.lay_part.new.builder.tail.most
+          (rw c.reserve.ensures.most inv.four) builds.grows.multiple;
+      bound = omega (arith, builds.bound, c.reserve.ensures.most, inv.bound);
       within = λ small. omega (
         arith,
         grown_long c.reserve.new.tail c.lay_part.new.builder.tail builds.grows,
