@@ -1,5 +1,5 @@
 -- What a slot's member gives where the elements of its vector are still to be read.
-use Rattle.std.specs.Prelude.{ℕ, ◌≡◌, Bool, true, false, Option, Some, Result, Ok, Err, option_map, slice_get}
+use Rattle.std.specs.Prelude.{ℕ, ◌≡◌, List, Bool, true, false, Option, Some, Result, Ok, Err, option_map, slice_get}
 use Rattle.serde_json.specs.View.{items_view}
 use Rattle.fb_schema.specs.declared.kinds.Shape.TheVariants.{Many}
 use Rattle.fb_schema.specs.Schema.{DeclaredField, body_at, slots_in}
@@ -13,15 +13,19 @@ use Rattle.fb_json.specs.declared.faults.JsonFault.{JsonFault}
 use Rattle.fb_json.specs.declared.steps.Taken.{Taken}
 use Rattle.fb_json.specs.declared.steps.Taken.TheVariants.{Entry, Elements}
 use Rattle.fb_json.specs.Meant.{items_meant}
-use Rattle.fb_json.specs.Outcome.{◌>>=◌, Counted, Fails}
+use Rattle.fb_json.specs.Outcome.{Counted, Fails}
+
+-- the entry of a vector's slot, by what its elements give
+abbrev pub vector_entry : Counted (List Datum) → Counted (Option Datum)
+vector_entry (Ok xs) = Ok (Some (a_vector (parts_in xs.0)), xs.1)
+vector_entry (Err e) = Err e
 
 -- What was taken is the entry that the slot is given, with the cells that are left. Elements are those of a vector's
 -- slot in use: the entry is the vector of what they give, with the cells that they leave.
 abbrev pub TakenIs : LaidSchema → Bool → DeclaredField → Place → ℕ → Taken → ℕ → Counted (Option Datum) → Type 0
 TakenIs L unknown f at levels (Entry entry) left given = given ≡ Ok (option_map view entry, left)
 TakenIs L unknown f at levels (Elements kind elements) left given = (f.deprecated ≡ false) × (f.shape ≡ Many kind)
-    × (given ≡ (items_meant L unknown (items_view elements.items) kind at levels left >>= λ xs. Ok
-    (Some (a_vector (parts_in xs.0)), xs.1)))
+    × (given ≡ vector_entry (items_meant L unknown (items_view elements.items) kind at levels left))
 
 -- what was taken, or the fault of the entry, unless memory ran out
 abbrev pub TakenGives : LaidSchema → Bool → DeclaredField → Place → ℕ → Result (Taken × ℕ) JsonFault

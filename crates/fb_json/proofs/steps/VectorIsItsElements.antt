@@ -16,6 +16,7 @@ use Rattle.fb_json.specs.Leaves.{leaf_meant}
 use Rattle.fb_json.specs.Meant.{count, is_null, items_meant, meant, object_meant, plain_meant, unless_null, used_meant}
 use Rattle.fb_json.specs.Meant.{vector_meant}
 use Rattle.fb_json.specs.Outcome.{◌>>=◌, Counted, spent}
+use Rattle.fb_json.specs.Steps.{vector_entry}
 use Rattle.fb_json.proofs.laws.EachStepOfABindSucceeds.{spends}
 
 overspent_by : (b : Bool) (n left : ℕ) (at : Place) → nat_lt left n ≡ b → left < n
@@ -31,9 +32,6 @@ as_entry r = r >>= λ x. Ok (Some x.0, x.1)
 
 abbrev as_vector : Counted (List Datum) → Counted Datum
 as_vector r = r >>= λ xs. Ok (a_vector (parts_in xs.0), xs.1)
-
-abbrev vector_entry : Counted (List Datum) → Counted (Option Datum)
-vector_entry r = r >>= λ xs. Ok (Some (a_vector (parts_in xs.0)), xs.1)
 
 -- a step behind a step
 regrouped : (r : Counted (List Datum)) → as_entry (as_vector r) ≡ vector_entry r

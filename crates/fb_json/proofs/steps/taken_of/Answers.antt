@@ -3,7 +3,7 @@ use Rattle.serde_json.specs.View.{view as tree_view, items_view}
 use Rattle.fb_schema.specs.Seen.{field_seen}
 use Rattle.fb_json.specs.Meant.{count}
 use Rattle.fb_json.proofs.steps.VectorIsItsElements.{by_elements, no_array, too_many}
-use Rattle.fb_json.proofs.tree.OneSlotOrFieldMore.{counted}
+use Rattle.fb_json.proofs.slots.OneSlotOrFieldMore.{counted}
 use Rattle.fb_json.proofs.steps.taken_of.Goals as goal
 
 pub returns-in-None : goal.returns-in-None
