@@ -1,3 +1,2 @@
 -- What the proofs of src/tree.rt use.
 pub mod EntryIsWhatTheLookUpFinds
-pub mod OneSlotOrFieldMore

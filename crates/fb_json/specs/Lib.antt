@@ -8,6 +8,7 @@ pub mod Laws
 pub mod Breaks
 pub mod TreeCounts
 pub mod Refuses
+pub mod Steps
 pub mod FaultTable
 pub mod PlaceText
 pub mod FaultPaths

@@ -77,7 +77,7 @@ fn member_code(
 /// looked for.
 #[inline(always)]
 #[tactic(auto, unfolding(crate::specs::Meant::code_after))]
-pub(crate) fn code_after(
+pub fn code_after(
     source: Source,
     members: &Map<String, Json>,
     slot: &FieldInfo,

@@ -16,14 +16,19 @@ mod root;
 mod scalars;
 mod source;
 mod step;
+mod steps;
 mod tree;
 
+pub use codes::code_after;
 pub use enums::has_flags;
 pub use faults::{JsonFault, Place};
 pub use laws::{
     all_that_is_meant, faults_are_broken, limits_are_reached, meant_is_whole, only_what_is_meant,
 };
+pub use marks::{is_marked, marks_of};
 pub use owned::value_from;
 pub use paths::fault_path;
 pub use root::value_of;
+pub use source::Source;
 pub use step::Step;
+pub use steps::{Taken, element_of, root_members, take_slot};

@@ -23,7 +23,7 @@ fn mark(marks: &mut Vec<bool>, slot: usize)
 }
 
 /// Whether a slot is marked; one without a mark counts as marked.
-pub(crate) fn is_marked(marks: &[bool], slot: usize) -> bool
+pub fn is_marked(marks: &[bool], slot: usize) -> bool
     ensures { result ≡ get_or marks.now slot true }
 {
     match marks.get(slot) {
@@ -34,7 +34,7 @@ pub(crate) fn is_marked(marks: &[bool], slot: usize) -> bool
 
 /// A mark for each slot of a table, where each member has the name of a field in use or any name is let
 /// through. Each member's name is looked up once, so that a slot without a member costs no search.
-pub(crate) fn marks_of(
+pub fn marks_of(
     source: Source,
     owner: TypeId,
     slots: &[FieldInfo],

@@ -276,7 +276,7 @@ fn table_from(
 }
 
 /// The members of an object.
-fn members_of(tree: Json) -> Option<Map<String, Json>>
+pub(crate) fn members_of(tree: Json) -> Option<Map<String, Json>>
     ensures { option_map (λ m. members_view m.entries) result ≡ as_object (tree_view tree) }
 {
     match tree {

@@ -4,7 +4,7 @@ use std::alloc::Global;
 
 /// What trees are read by.
 #[derive(Clone, Copy)]
-pub(crate) struct Source<'a> {
+pub struct Source<'a> {
     pub alloc: Global,
     pub layout: &'a Layout,
     pub unknown: bool,

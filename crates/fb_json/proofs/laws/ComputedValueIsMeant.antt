@@ -47,7 +47,7 @@ module _ (L : LaidSchema) (unknown : Bool) (ms : Members) (sound : (k : Name) (t
       used_ok L unknown f c (member_called f.name ms) at levels left f.shape e
       (λ t has. sound f.name t (found_in (get_member f.name ms) t has)) (subst P is h)
 
-  entry_ok : (f : DeclaredField) (at : Place) (c levels left : ℕ) (e : Option Datum × ℕ)
+  pub entry_ok : (f : DeclaredField) (at : Place) (c levels left : ℕ) (e : Option Datum × ℕ)
       → entry_meant L (look L unknown ms) f at c levels left ≡ Ok e
       → GoodEntry L unknown (slot_of L.schema f) c (member_called f.name ms) f.shape levels left
       (AbsentAt L f c (member_called f.name ms) f.deprecated) e
@@ -62,7 +62,7 @@ module _ (L : LaidSchema) (unknown : Bool) (ms : Members) (sound : (k : Name) (t
       ap (λ p. p.0) (ok_inj (None, left) (Some d, rest) h) in cc
   used_by f at c levels left rest d false h = refl
 
-  is_used : (f : DeclaredField) (at : Place) (c levels left rest : ℕ) (d : Datum)
+  pub is_used : (f : DeclaredField) (at : Place) (c levels left rest : ℕ) (d : Datum)
       → entry_meant L (look L unknown ms) f at c levels left ≡ Ok (Some d, rest) → f.deprecated ≡ false
   unfolding entry_meant
   is_used f at c levels left rest d h = used_by f at c levels left rest d f.deprecated h

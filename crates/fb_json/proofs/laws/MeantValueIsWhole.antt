@@ -29,13 +29,14 @@ module _ (d : Datum) (own : Data → Type 0) (member : Data → ℕ → Type 0) 
   whole_present_as t (One Text) h = own_whole t h
   whole_present_as t (Many kind) h = own_whole t h
 
-  whole_present : (s : Slot) (shape : Shape) (o : Option Data) → PresentMeans s shape o d own member → is_whole d ≡ true
+  pub whole_present : (s : Slot) (shape : Shape) (o : Option Data) → PresentMeans s shape o d own member
+      → is_whole d ≡ true
   whole_present s shape (Some t) h = whole_present_as t shape h
   whole_present s shape None h = rw h.2 refl
 
 module _ (L : LaidSchema) (unknown : Bool) where
   mutual
-    whole_as : (t : Data) (shape : Shape) (d : Datum) → MeansAs L unknown t shape d → is_whole d ≡ true
+    pub whole_as : (t : Data) (shape : Shape) (d : Datum) → MeansAs L unknown t shape d → is_whole d ≡ true
     whole_as t (One (Scalar base)) (a_number n) h = refl
     whole_as t (One (Enum e)) (a_number n) h = refl
     whole_as t (One Text) (a_text bytes) h = refl
@@ -44,7 +45,7 @@ module _ (L : LaidSchema) (unknown : Bool) where
     whole_as t (Many kind) (a_vector ds) h = whole_each h.0 kind ds h.2
     whole_as t _ _ h = absurd h
 
-    whole_member : (t : Data) (u c : ℕ) (d : Datum) → MemberMeans L unknown t u c d → is_whole d ≡ true
+    pub whole_member : (t : Data) (u c : ℕ) (d : Datum) → MemberMeans L unknown t u c d → is_whole d ≡ true
     whole_member t u c (a_member k d) h = let named = h.1 in whole_as t (One (Table (record { 0 = named.0 }))) d named.2
     whole_member t u c _ h = absurd h
 

@@ -27,7 +27,7 @@ use Rattle.fb_json.specs.FaultPaths.{tree_spot, slot_spot, field_spot, table_fro
 use Rattle.fb_json.specs.FaultPaths.{read_all}
 use Rattle.fb_json.specs.FaultPaths.{IsRefused, FirstRefused, AllRead, slot_read, slot_reader, field_reader}
 use Rattle.fb_json.specs.FaultPaths.{element_reader, StepsTo, FindsFirst}
-use Rattle.fb_json.proofs.tree.OneSlotOrFieldMore.{counted}
+use Rattle.fb_json.proofs.slots.OneSlotOrFieldMore.{counted}
 use Rattle.fb_json.proofs.paths.PathGrowsStepByStep.{ends_object}
 use Rattle.fb_json.proofs.paths.RefusedPartIsFound.{table_found, struct_found, vector_found, field_refused}
 use Rattle.fb_json.proofs.paths.RefusedPartIsFound.{element_refused, viewed}

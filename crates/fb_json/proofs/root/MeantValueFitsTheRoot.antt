@@ -116,8 +116,8 @@ module _ (L : LaidSchema) (f : DeclaredField) where
   used_absent c o (One Text) e marks h = (h.2, h.1)
   used_absent c o (Many kind) e marks h = (h.2, h.1)
 
-  absent_fits : (c : ℕ) (o : Option Data) (deprecated : Bool) → f.deprecated ≡ deprecated → MarksFit L.schema f f.shape
-      → AbsentAt L f c o deprecated → MayBeAbsent (slot_of L.schema f)
+  pub absent_fits : (c : ℕ) (o : Option Data) (deprecated : Bool) → f.deprecated ≡ deprecated
+      → MarksFit L.schema f f.shape → AbsentAt L f c o deprecated → MayBeAbsent (slot_of L.schema f)
   absent_fits c o true e marks h = unused_absent e
   absent_fits c o false e marks h = used_absent c o f.shape refl marks h
 
@@ -157,7 +157,7 @@ module _ (L : LaidSchema) (f : DeclaredField) where
     as_fits t (One Text) e h = own_fits t h
     as_fits t (Many kind) e h = own_fits t h
 
-    present_fits : MarksFit L.schema f f.shape → (o : Option Data)
+    pub present_fits : MarksFit L.schema f f.shape → (o : Option Data)
         → PresentMeans (slot_of L.schema f) f.shape o d own member → Fits L (stored_shape L.schema f.shape) d
     present_fits marks (Some t) h = as_fits t f.shape refl h
     present_fits marks None h = rw h.2 (default_fits (f.deprecated || f.optional) f.shape h.0 marks h.1)
@@ -186,7 +186,7 @@ module _ (L : LaidSchema) (declared : IsDeclared L.schema) (unknown : Bool) wher
     fitted t (Many kind) (a_vector ds) h utf8 = each_fitted h.0 kind ds h.2 utf8
     fitted t _ _ h utf8 = absurd h
 
-    member_fitted : (t : Data) (u c : ℕ) (d : Datum) → MemberMeans L unknown t u c d → HasUtf8 d
+    pub member_fitted : (t : Data) (u c : ℕ) (d : Datum) → MemberMeans L unknown t u c d → HasUtf8 d
         → Fits L (one_of (union_kind u)) d
     member_fitted t u c (a_member k d) h utf8 =
         let named = h.1 in

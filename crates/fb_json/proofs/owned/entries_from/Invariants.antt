@@ -6,7 +6,7 @@ use Rattle.fb_schema.specs.Schema.{DeclaredField}
 use Rattle.fb_schema.specs.Seen.{field_seen}
 use Rattle.fb_value.specs.View.{view}
 use Rattle.fb_json.specs.Meant.{slots_meant, look}
-use Rattle.fb_json.proofs.tree.OneSlotOrFieldMore.{after}
+use Rattle.fb_json.proofs.slots.OneSlotOrFieldMore.{after}
 use Rattle.fb_json.proofs.owned.entries_from.Given as goal
 
 abbrev pub invariant-loop-k : goal.invariant-loop-k

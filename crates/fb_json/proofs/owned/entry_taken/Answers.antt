@@ -2,7 +2,7 @@ use Rattle.std.proofs.Common.{◌∙◌, ap}
 use Rattle.serde_json.specs.View.{members_view}
 use Rattle.serde_json.specs.Find.{get_member}
 use Rattle.fb_schema.specs.Seen.{field_seen}
-use Rattle.fb_json.proofs.owned.OtherMembersStay.{others_stay, taken_none, taken_some}
+use Rattle.fb_json.proofs.slots.OtherMembersStay.{others_stay, taken_none, taken_some}
 use Rattle.fb_json.proofs.tree.EntryIsWhatTheLookUpFinds.{entry_none, entry_some}
 use Rattle.fb_json.proofs.owned.entry_taken.Goals as goal
 

@@ -2,7 +2,7 @@ use Rattle.std.proofs.Common.{◌≡◌, ◌≤◌, ◌+◌, map, reverse, vec_l
 use Rattle.serde_json.specs.View.{items_view}
 use Rattle.fb_value.specs.View.{view}
 use Rattle.fb_json.specs.Meant.{items_meant}
-use Rattle.fb_json.proofs.tree.OneSlotOrFieldMore.{after}
+use Rattle.fb_json.proofs.slots.OneSlotOrFieldMore.{after}
 use Rattle.fb_json.proofs.owned.items_from.Given as goal
 
 abbrev pub invariant-loop-element : goal.invariant-loop-element

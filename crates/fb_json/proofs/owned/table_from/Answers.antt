@@ -5,8 +5,8 @@ use Rattle.fb_schema.specs.Found.{field_named}
 use Rattle.fb_schema.specs.Seen.{field_seen}
 use Rattle.fb_json.specs.Meant.{look, slots_meant}
 use Rattle.fb_json.proofs.marks.NamedSlotIsMarked.{found_as}
-use Rattle.fb_json.proofs.owned.SlotsDecideTheTable.{table_fails}
-use Rattle.fb_json.proofs.tree.OneSlotOrFieldMore.{fails_by}
+use Rattle.fb_json.proofs.slots.SlotsDecideTheTable.{table_fails}
+use Rattle.fb_json.proofs.slots.OneSlotOrFieldMore.{fails_by}
 use Rattle.fb_json.proofs.owned.table_from.Goals as goal
 
 pub entries_from-requires-clause-names : goal.entries_from-requires-clause-names

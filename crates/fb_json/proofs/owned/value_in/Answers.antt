@@ -1,5 +1,5 @@
 use Rattle.serde_json.proofs.Views.{view-Array}
-use Rattle.fb_json.proofs.tree.OneSlotOrFieldMore.{counted}
+use Rattle.fb_json.proofs.slots.OneSlotOrFieldMore.{counted}
 use Rattle.fb_json.proofs.owned.value_in.Goals as goal
 
 pub returns-in-Array : goal.returns-in-Array

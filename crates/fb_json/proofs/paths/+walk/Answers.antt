@@ -15,7 +15,7 @@ use Rattle.fb_json.proofs.paths.PathGrowsStepByStep.{view-Null, view-Bool, view-
 use Rattle.fb_json.proofs.paths.WalkGoesOneStep.{part_at, known_ok, ends_struct, struct_all, to_field, table_all}
 use Rattle.fb_json.proofs.paths.WalkGoesOneStep.{to_slot}
 use Rattle.fb_json.proofs.paths.WalkGoesOneStep.{vector_all, to_element}
-use Rattle.fb_json.proofs.tree.OneSlotOrFieldMore.{counted}
+use Rattle.fb_json.proofs.slots.OneSlotOrFieldMore.{counted}
 use Rattle.fb_json.proofs.paths.RefusedPartIsFound.{member_some, member_none, slot_tree_refused, spot_tree}
 use Rattle.fb_json.proofs.paths.RefusedPartIsFound.{bare_old, bare_shape, bare_member, bare_null}
 use Rattle.fb_json.proofs.paths.+walk.Goals as goal

@@ -3,7 +3,7 @@ use Rattle.serde_json.specs.View.{items_view, members_view}
 use Rattle.fb_schema.specs.Seen.{field_seen}
 use Rattle.fb_value.specs.View.{view}
 use Rattle.fb_json.specs.Meant.{items_meant, slots_meant, parts_meant, look}
-use Rattle.fb_json.proofs.tree.OneSlotOrFieldMore.{after}
+use Rattle.fb_json.proofs.slots.OneSlotOrFieldMore.{after}
 use Rattle.fb_json.proofs.tree.+tree.Given as goal
 
 abbrev pub invariant-items-loop-element : goal.invariant-items-loop-element

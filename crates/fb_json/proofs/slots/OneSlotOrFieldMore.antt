@@ -1,11 +1,13 @@
 -- One slot, field or element after the other, as a loop does.
-use Rattle.std.proofs.Common.{◌≡◌, ◌∙◌, ℕ, suc, ◌+◌, ◌<◌, ◌≤◌, List, [], ◌∷◌, ◌++◌, length, map, drop, get_or, Option}
-use Rattle.std.proofs.Common.{Some, option_map, slice_get, Result, Ok, Err, refl, ap, sym, subst, add-one}
+use Rattle.std.proofs.Common.{◌≡◌, ◌∙◌, ℕ, suc, ◌+◌, ◌<◌, ◌≤◌, List, [], ◌∷◌, ◌++◌, length, map, drop, get_or, Bool}
+use Rattle.std.proofs.Common.{Option, Some, option_map, slice_get, Result, Ok, Err, refl, ap, sym, subst, add-one}
 use Rattle.std.proofs.Math.Seq.{drop-cons}
 use Rattle.std.proofs.lemmas.List.{drop_all, append_assoc, append-nil}
 use Rattle.std.proofs.lemmas.Option.{slice_get-map, slice_get-get_or}
 use Rattle.serde_json.specs.declared.value.Value.{Value as Json}
-use Rattle.serde_json.specs.View.{items_view}
+use Rattle.serde_json.specs.View.{view as tree_view, items_view}
+use Rattle.fb_schema.specs.declared.kinds.Kind.{Kind}
+use Rattle.fb_schema.specs.declared.kinds.Shape.TheVariants.{One}
 use Rattle.fb_schema.specs.declared.types.FieldInfo.{FieldInfo}
 use Rattle.fb_schema.specs.Seen.{field_seen}
 use Rattle.fb_layout.specs.Laid.{LaidSchema}
@@ -16,7 +18,8 @@ use Rattle.fb_json.specs.declared.faults.JsonFault.TheVariants.{WrongShape, NotW
 use Rattle.fb_json.specs.declared.faults.JsonFault.TheVariants.{UnknownMember, MissingMember, MissingRequired}
 use Rattle.fb_json.specs.declared.faults.JsonFault.TheVariants.{UnionMismatch, TooDeep, TooManyCells, Memory}
 use Rattle.fb_json.specs.Outcome.{◌>>=◌, Fails, Counted}
-use Rattle.fb_json.specs.Meant.{Look, slot_place, code_after, entry_meant, slots_meant, part_meant, parts_meant, count}
+use Rattle.fb_json.specs.Meant.{Look, slot_place, code_after, entry_meant, slots_meant, part_meant, parts_meant, meant}
+use Rattle.fb_json.specs.Meant.{items_meant, count}
 
 -- these in front of the later ones
 abbrev pub after : {A : Type 0} → List A → Counted (List A) → Counted (List A)
@@ -139,3 +142,21 @@ parts_end look t slots k front levels left past =
 pub counted : (vs : List Json) → count (items_view vs) ≡ length vs
 counted [] = refl
 counted (v ∷ vs) = ap suc (counted vs)
+
+-- ---- elements
+
+module _ (L : LaidSchema) (unknown : Bool) (kind : Kind) (at : Place) (levels left : ℕ) (front : List Datum) where
+  pub items_next : (v : Json) (vs : List Json) (d : Datum) (rest : ℕ)
+      → meant L unknown (tree_view v) (One kind) at levels left ≡ Ok (d, rest)
+      → after front (items_meant L unknown (items_view (v ∷ vs)) kind at levels left)
+      ≡ after (front ++ d ∷ []) (items_meant L unknown (items_view vs) kind at levels rest)
+  items_next v vs d rest given =
+      rw given (put_front front d (items_meant L unknown (items_view vs) kind at levels rest))
+
+  pub items_ungiven : (v : Json) (vs : List Json) (fault : JsonFault)
+      → meant L unknown (tree_view v) (One kind) at levels left ≡ Err fault
+      → after front (items_meant L unknown (items_view (v ∷ vs)) kind at levels left) ≡ Err fault
+  items_ungiven v vs fault given = rw given refl
+
+  pub items_end : after front (items_meant L unknown (items_view []) kind at levels left) ≡ Ok (front, left)
+  items_end = rw append-nil refl

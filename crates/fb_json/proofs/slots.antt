@@ -1,0 +1,4 @@
+-- Slots, fields and elements that are read one after the other.
+pub mod OneSlotOrFieldMore
+pub mod OtherMembersStay
+pub mod SlotsDecideTheTable

@@ -1,0 +1,4 @@
+-- What the proofs of src/steps.rt use.
+pub mod ReadValueFitsItsPlace
+pub mod RootHasItsMembers
+pub mod VectorIsItsElements

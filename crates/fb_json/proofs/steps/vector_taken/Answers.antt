@@ -1,0 +1,30 @@
+use Rattle.std.proofs.Common.{◌∙◌, ap}
+use Rattle.serde_json.specs.Find.{get_member}
+use Rattle.serde_json.specs.View.{members_view}
+use Rattle.fb_schema.specs.Seen.{field_seen}
+use Rattle.fb_json.specs.Meant.{used_meant}
+use Rattle.fb_json.proofs.slots.OtherMembersStay.{others_stay, taken_none, taken_some}
+use Rattle.fb_json.proofs.tree.EntryIsWhatTheLookUpFinds.{entry_none, entry_some}
+use Rattle.fb_json.proofs.steps.vector_taken.Goals as goal
+
+pub returns-in-Some-clause-gives : goal.returns-in-Some-clause-gives
+returns-in-Some-clause-gives c levels =
+    let L = c.args.source.layout.now in
+    let seen = taken_some L c.args.source.unknown _ _ c.args.members.now c.remove.result c.in-Some.tree
+    c.as_str.ensures.value c.remove.ensures.value c.in-Some.is in
+    rw (entry_some L _ (field_seen c.args.slot.now) c.args.place c.args.code levels c.args.left c.requires.used _ _
+    seen) (c.taken_of.ensures L c.args.source.unknown levels)
+
+pub returns-in-Some-clause-others : goal.returns-in-Some-clause-others
+returns-in-Some-clause-others c name apart =
+    ap (λ es. get_member name (members_view es)) c.remove.ensures.entries
+    ∙ others_stay _ name c.args.members.now.entries (λ same. apart (same ∙ c.as_str.ensures.value))
+
+pub returns-in-None-clause-gives : goal.returns-in-None-clause-gives
+returns-in-None-clause-gives c levels =
+    let L = c.args.source.layout.now in
+    let f = field_seen c.args.slot.now in
+    let seen = taken_none L c.args.source.unknown _ _ c.args.members.now c.remove.result
+    c.as_str.ensures.value c.remove.ensures.value c.in-None.is in
+    rw (entry_none L _ f c.args.place c.args.code levels c.args.left c.requires.used seen)
+    (c.as_taken.ensures L c.args.source.unknown f c.args.place levels _ (c.without.ensures L levels))

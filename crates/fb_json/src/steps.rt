@@ -1,0 +1,228 @@
+//! The steps by which a tree that is given away is read slot by slot, and its vectors element by element.
+ghost use Rattle.std.specs.Prelude.{◌≡◌, ◌<◌, ℕ, Bool, Option, None, Some, Err, true, false, IfErr, IfOk, option_map};
+ghost use Rattle.serde_json.specs.Find.{as_array, as_object, get_member};
+ghost use Rattle.serde_json.specs.View.{view as tree_view, items_view, members_view};
+ghost use Rattle.fb_schema.specs.declared.kinds.Shape.TheVariants.{One, Many};
+ghost use Rattle.fb_schema.specs.Schema.{DeclaredField, Name};
+ghost use Rattle.fb_schema.specs.Seen.{field_seen};
+ghost use Rattle.fb_layout.specs.Laid.{LaidSchema, stored_shape};
+ghost use Rattle.fb_value.specs.Counts.{is_whole};
+ghost use Rattle.fb_value.specs.Datum.{Datum};
+ghost use Rattle.fb_value.specs.Fits.{Fits};
+ghost use Rattle.fb_value.specs.View.{view};
+ghost use Rattle.fb_json.specs.Meant.{entry_meant, look, meant, unless_null, used_meant};
+ghost use Rattle.fb_json.specs.Outcome.{Counted, Gives};
+ghost use Rattle.fb_json.specs.Refuses.{root_meant};
+ghost use Rattle.fb_json.specs.Steps.{TakenFits, TakenGives, TakenIsWhole};
+
+use crate::absent::{is_null, without};
+use crate::faults::{JsonFault, Place};
+use crate::owned::members_of;
+use crate::source::Source;
+use crate::tree::{entry, value};
+use fb_layout::Layout;
+use fb_schema::{FieldInfo, Kind, Shape};
+use fb_value::{Limits, Value};
+use serde_json::{Map, Value as Json};
+
+/// What a slot's member gives.
+#[derive(Drop)]
+pub enum Taken {
+    /// The slot's entry.
+    Entry(Option<Value>),
+    /// The elements of a vector of this kind, which are still to be read.
+    Elements(Kind, Vec<Json>),
+}
+
+/// The members of the root's object, where the limits allow its table.
+pub fn root_members(
+    layout: &Layout,
+    tree: Json,
+    limits: Limits,
+) -> Result<Map<String, Json>, JsonFault>
+    ensures members { IfOk result (λ m. as_object (tree_view tree) ≡ Some (members_view m.entries)) }
+    ensures depth { IfOk result (λ m. 0 < limits.depth) }
+    ensures cells { IfOk result (λ m. 0 < limits.cells) }
+    ensures first { IfErr result (λ f. (unknown : Bool)
+        → root_meant layout.now limits unknown (tree_view tree) ≡ Err f) }
+{
+    let _depth = limits.most_depth(); // its contract: they allow one level of tables
+    let place = Place {
+        owner: layout.schema().root(),
+        slot: None,
+    };
+    match members_of(tree) {
+        None => Err(JsonFault::WrongShape(place)),
+        Some(members) => {
+            if limits.most_cells() == 0 {
+                return Err(JsonFault::TooManyCells(place));
+            }
+            Ok(members)
+        }
+    }
+}
+
+/// The value that a tree means as an element of a vector, and the cells that are left.
+pub fn element_of(
+    source: Source,
+    tree: &Json,
+    kind: Kind,
+    place: Place,
+    levels: u8,
+    left: u32,
+) -> Result<(Value, u32), JsonFault>
+    ensures gives { Gives (λ x. (view x.0, x.1)) result
+        (meant source.entry.layout.now source.entry.unknown (tree_view tree.now)
+        (One kind) place levels left) }
+    ensures fits { let L = source.entry.layout.now in
+        IfOk result (λ x. Fits L (stored_shape L.schema (One kind)) (view x.0)) }
+    ensures whole { IfOk result (λ x. is_whole (view x.0) ≡ true) }
+{
+    let _schema = source.layout.schema(); // its contract: what each enum names is in its range
+    value(source, tree, Shape::One(kind), place, levels, left)
+}
+
+/// The kind of the elements, where a slot in use is that of a vector.
+fn kind_of_elements(slot: &FieldInfo) -> Option<Kind>
+    ensures used { (kind : Kind) → result ≡ Some kind → slot.now.deprecated ≡ false }
+    ensures vector { (kind : Kind) → result ≡ Some kind → slot.now.shape ≡ Many kind }
+{
+    match slot.shape {
+        Shape::Many(kind) if !slot.deprecated => Some(kind),
+        _ => None,
+    }
+}
+
+/// The elements of an array.
+fn elements_in(tree: Json) -> Option<Vec<Json>>
+    ensures { option_map (λ v. items_view v.items) result ≡ as_array (tree_view tree) }
+{
+    match tree {
+        Json::Array(elements) => Some(elements),
+        _ => None,
+    }
+}
+
+/// What was read at once.
+fn as_taken(read: Result<(Option<Value>, u32), JsonFault>) -> Result<(Taken, u32), JsonFault>
+    ensures { (L : LaidSchema) (unknown : Bool) (f : DeclaredField) (at : Place) (levels : ℕ)
+        (given : Counted (Option Datum)) → Gives (λ x. (option_map view x.0, x.1)) read given
+        → TakenGives L unknown f at levels result given }
+{
+    match read {
+        Ok((entry, left)) => Ok((Taken::Entry(entry), left)),
+        Err(fault) => Err(fault),
+    }
+}
+
+/// The entry of a slot without a member, or the elements of the array that is its member.
+fn taken_of(
+    slot: &FieldInfo,
+    kind: Kind,
+    tree: Json,
+    place: Place,
+    code: u8,
+    left: u32,
+) -> Result<(Taken, u32), JsonFault>
+    requires used { slot.now.deprecated ≡ false }
+    requires vector { slot.now.shape ≡ Many kind }
+    ensures { (L : LaidSchema) (unknown : Bool) (levels : ℕ) → let f = field_seen slot.now in
+        let t = tree_view tree in TakenGives L unknown f place levels result
+        (used_meant L f code (unless_null t (meant L unknown t)) place levels left f.shape) }
+{
+    if is_null(&tree) {
+        return as_taken(without(slot, place, code, left));
+    }
+    match elements_in(tree) {
+        None => Err(JsonFault::WrongShape(place)),
+        Some(elements) => {
+            if elements.len() >= left as usize {
+                return Err(JsonFault::TooManyCells(place));
+            }
+            let rest = left - 1 - elements.len() as u32;
+            Ok((Taken::Elements(kind, elements), rest))
+        }
+    }
+}
+
+/// What the member of a vector's slot in use gives, which is taken out of the object.
+fn vector_taken(
+    source: Source,
+    members: &mut Map<String, Json>,
+    slot: &FieldInfo,
+    kind: Kind,
+    place: Place,
+    code: u8,
+    left: u32,
+) -> Result<(Taken, u32), JsonFault>
+    requires used { slot.now.deprecated ≡ false }
+    requires vector { slot.now.shape ≡ Many kind }
+    ensures gives { (levels : ℕ) → let L = source.entry.layout.now in let f = field_seen slot.now in
+        TakenGives L source.entry.unknown f place levels result
+        (entry_meant L (look L source.entry.unknown (members_view members.old.entries))
+        f place code levels left) }
+    ensures others { (name : Name) → (name ≡ (field_seen slot.now).name → ⊥)
+        → get_member name (members_view members.new.entries)
+        ≡ get_member name (members_view members.old.entries) }
+{
+    match members.remove(slot.name.as_str()) {
+        Some(tree) => taken_of(slot, kind, tree, place, code, left),
+        None => as_taken(without(slot, place, code, left)),
+    }
+}
+
+/// What a slot's member gives. An array under a vector's slot in use is taken out of the object.
+fn slot_taken(
+    source: Source,
+    members: &mut Map<String, Json>,
+    slot: &FieldInfo,
+    place: Place,
+    code: u8,
+    marked: bool,
+    levels: u8,
+    left: u32,
+) -> Result<(Taken, u32), JsonFault>
+    requires { marked ≡ false
+        → get_member (field_seen slot.now).name (members_view members.old.entries) ≡ None }
+    ensures gives { let L = source.entry.layout.now in let f = field_seen slot.now in
+        TakenGives L source.entry.unknown f place levels result
+        (entry_meant L (look L source.entry.unknown (members_view members.old.entries))
+        f place code levels left) }
+    ensures others { (name : Name) → (name ≡ (field_seen slot.now).name → ⊥)
+        → get_member name (members_view members.new.entries)
+        ≡ get_member name (members_view members.old.entries) }
+{
+    match kind_of_elements(slot) {
+        Some(kind) if marked => vector_taken(source, members, slot, kind, place, code, left),
+        _ => as_taken(entry(source, members, slot, place, code, marked, levels, left)),
+    }
+}
+
+/// The entry of a slot, or the elements of its vector, which are still to be read, and the cells that are left. An
+/// array is taken out of the object once the cells suffice for it and its elements. `marked` says whether a member
+/// is looked for at all.
+pub fn take_slot(
+    source: Source,
+    members: &mut Map<String, Json>,
+    slot: &FieldInfo,
+    place: Place,
+    code: u8,
+    marked: bool,
+    levels: u8,
+    left: u32,
+) -> Result<(Taken, u32), JsonFault>
+    requires { marked ≡ false
+        → get_member (field_seen slot.now).name (members_view members.old.entries) ≡ None }
+    ensures gives { let L = source.entry.layout.now in let f = field_seen slot.now in
+        TakenGives L source.entry.unknown f place levels result
+        (entry_meant L (look L source.entry.unknown (members_view members.old.entries))
+        f place code levels left) }
+    ensures others { (name : Name) → (name ≡ (field_seen slot.now).name → ⊥)
+        → get_member name (members_view members.new.entries)
+        ≡ get_member name (members_view members.old.entries) }
+    ensures fits { IfOk result (λ x. TakenFits source.entry.layout.now (field_seen slot.now) x.0) }
+    ensures whole { IfOk result (λ x. TakenIsWhole x.0) }
+{
+    let _schema = source.layout.schema(); // its contract: the marks and defaults of slots suit their shapes
+    slot_taken(source, members, slot, place, code, marked, levels, left)
+}
