@@ -31,6 +31,7 @@ pub mod References
 pub mod DatumCode
 pub mod BuiltSoFar
 pub mod LaidApart
+pub mod OpenBuffer
 pub mod Roots
 pub mod FieldsLaid
 pub mod ExampleBuffersAreCovered

@@ -3,9 +3,11 @@
 
 mod blocks;
 mod buffers;
+mod buffer_builder;
 mod builder;
 mod data;
 mod drafts;
+mod drops;
 mod faults;
 mod fields;
 mod keys;
@@ -23,9 +25,11 @@ mod texts;
 mod vectors;
 mod vtables;
 
+pub use buffer_builder::BufferBuilder;
 pub use buffers::{build, plan};
 pub use data::{ElementData, EntryData};
 pub use drafts::Draft;
+pub use drops::drop_value;
 pub use faults::BuildFault;
 pub use laws::{
     chunks_join, covered_by_its_value, covered_whole, examples_are_covered, examples_have_slack,

@@ -1,0 +1,126 @@
+//! A buffer that is laid while its value comes in.
+ghost use Rattle.std.specs.Prelude.{◌≡◌, ◌<◌, [], Some, OnErr, OnOk, IfOk, length, option_map, slice_get};
+ghost use Rattle.fb_layout.specs.Laid.{slot_of};
+ghost use Rattle.fb_schema.specs.Seen.{field_seen};
+ghost use Rattle.fb_value.specs.View.{view};
+ghost use Rattle.fb_build.specs.BuiltSoFar.{FitsNext, FitsVector, IsNext, root_slots, with_element, with_entry};
+
+use crate::data::{ElementData, EntryData};
+use crate::drafts::Draft;
+use crate::drops::drop_value;
+use fb_layout::{Layout, kind_in};
+use fb_schema::{FieldInfo, Shape};
+use fb_value::Value;
+use std::alloc::{AllocError, Global};
+use std::marker::Model;
+
+/// Builds a buffer while its value comes in: the entries of the root's table one by one, and the elements of a vector
+/// of texts or tables one by one. What lies outside of the root's table is laid at once, so that its value needn't stay
+/// in memory. The buffer's memory grows with what is laid.
+#[derive(Drop)]
+pub struct BufferBuilder<'l> {
+    alloc: Global,
+    layout: &'l Layout,
+    draft: Draft<'l>,
+    // what stands in for each entry so far: of a vector, which is laid apart, only that it is there
+    entries: Vec<Option<Value>>,
+    ends: Vec<u32>,
+    data: EntryData,
+    // of the vector in the next slot
+    elements: ElementData,
+    element_ends: Vec<u32>,
+}
+
+impl<'l> Model for BufferBuilder<'l> {
+    ghost use Rattle.fb_build.specs.BuiltSoFar.{BuiltSoFar};
+
+    ghost Value = { BuiltSoFar };
+
+    ghost use Rattle.std.specs.Coded.{codes};
+    ghost use Rattle.fb_build.specs.DatumCode.{datum_code};
+
+    ghost coded = { Prim.hlevel (codes, datum_code) };
+
+    ghost use Rattle.fb_build.specs.OpenBuffer.{built_seen, IsOpen};
+
+    ghost view = { built_seen };
+
+    ghost invariant = { IsOpen };
+}
+
+/// What stands in for an entry whose part is laid: of a vector only that it is there.
+fn stand_in(alloc: Global, entry: Option<Value>) -> Option<Value> {
+    match entry {
+        Some(Value::Items(items)) => {
+            drop_value(Value::Items(items));
+            Some(Value::Items(Vec::new(alloc)))
+        }
+        entry => entry,
+    }
+}
+
+/// A slot of the root's table.
+fn root_slot(layout: &Layout, k: usize) -> &FieldInfo
+    requires there { k < length (root_slots layout.now) }
+    ensures { slice_get (root_slots layout.now) k
+        ≡ Some (slot_of layout.now.schema (field_seen result.now)) }
+{
+    &layout.slots_of(layout.schema().root())[k]
+}
+
+impl<'l> BufferBuilder<'l> {
+    /// A buffer of which no entry is there yet.
+    pub fn new(alloc: Global, layout: &'l Layout) -> Result<BufferBuilder<'l>, AllocError>
+        ensures layout { IfOk result (λ b. b.layout ≡ layout.now) }
+        ensures entries { IfOk result (λ b. b.entries ≡ []) }
+        ensures elements { IfOk result (λ b. b.elements ≡ []) }
+    {
+        let draft = Draft::new(alloc, layout)?;
+        Ok(BufferBuilder {
+            alloc,
+            layout,
+            draft,
+            entries: Vec::new(alloc),
+            ends: Vec::new(alloc),
+            data: EntryData::new(),
+            elements: ElementData::new(),
+            element_ends: Vec::new(alloc),
+        })
+    }
+
+    /// Takes the entry of the next slot, and lays what it needs outside of the root's table.
+    pub fn push_entry(&mut self, entry: Option<Value>) -> Result<(), AllocError>
+        requires fits { FitsNext self.old (option_map view entry) }
+        requires closed { self.old.elements ≡ [] }
+        ensures pushed { OnOk result (self.new ≡ with_entry self.old (option_map view entry)) }
+        ensures refused { OnErr result (self.new ≡ self.old) }
+    {
+        let _schema = self.layout.schema(); // its contract: the layout is well made
+        let slot = root_slot(self.layout, self.entries.len());
+        self.entries.reserve(1)?;
+        self.ends.reserve(1)?;
+        let end = match &entry {
+            Some(value) => self.draft.lay_apart(slot.shape, value)?,
+            None => 0,
+        };
+        self.data.push(&entry);
+        self.ends.push_reserved(end);
+        self.entries.push_reserved(stand_in(self.alloc, entry));
+        Ok(())
+    }
+
+    /// Lays an element of the vector in the next slot.
+    pub fn push_element(&mut self, value: &Value) -> Result<(), AllocError>
+        requires fits { FitsVector self.old (view value.now) }
+        ensures pushed { OnOk result (self.new ≡ with_element self.old (view value.now)) }
+        ensures refused { OnErr result (self.new ≡ self.old) }
+    {
+        let slot = root_slot(self.layout, self.entries.len());
+        self.element_ends.reserve(1)?;
+        let kind = kind_in(slot.shape);
+        let end = self.draft.lay_apart(Shape::One(kind), value)?;
+        self.elements.push(value);
+        self.element_ends.push_reserved(end);
+        Ok(())
+    }
+}
