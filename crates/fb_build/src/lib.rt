@@ -4,6 +4,7 @@
 mod blocks;
 mod buffers;
 mod builder;
+mod data;
 mod faults;
 mod fields;
 mod keys;
@@ -22,6 +23,7 @@ mod vectors;
 mod vtables;
 
 pub use buffers::{build, plan};
+pub use data::{ElementData, EntryData};
 pub use faults::BuildFault;
 pub use laws::{
     chunks_join, covered_by_its_value, covered_whole, examples_are_covered, examples_have_slack,
