@@ -1,3 +1,4 @@
+pub mod DatumCode
 pub mod Ends
 pub mod Tails
 pub mod Fields
@@ -25,5 +26,6 @@ pub mod FaultTable
 pub mod Made
 pub mod Builders
 pub mod FieldsLaid
+pub mod StandIns
 pub mod ExampleBuffersAreCovered
 pub mod ExampleBuffersHaveSlack
