@@ -1,3 +1,4 @@
+pub mod DatumCode
 pub mod Ends
 pub mod Tails
 pub mod Fields
@@ -34,5 +35,6 @@ pub mod LaidApart
 pub mod OpenBuffer
 pub mod Roots
 pub mod FieldsLaid
+pub mod StandIns
 pub mod ExampleBuffersAreCovered
 pub mod ExampleBuffersHaveSlack

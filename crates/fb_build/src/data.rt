@@ -107,4 +107,5 @@ impl EntryData {
 }
 
 const _: () = prove!(size_of::<ElementData>() == 0);
+
 const _: () = prove!(size_of::<EntryData>() == 0);

@@ -34,8 +34,8 @@ of_spec 𝓤 𝓛 𝓜 𝓡 wired =
     let c = f.clauses 𝓛 𝓜.mem 𝓡.returns in
     let W = walk_of 𝓛 f.ended stayed c in
     let 𝓣 = tables 𝓤 𝓛.H 𝓜 𝓡 𝓡.env in
-    proved 𝓛 f.ended stayed c 𝓜 𝓡 (Goes-none_slice 𝓛 1 (0 ∷ []) tt (plain (λ _. option.the_row value.the_row)) yes, tt) f.Key.name
-    code.function (code.unfolded 𝓤 𝓛.H 𝓜 𝓡 wired) (λ κs. (shr_slice_vals, tt))
+    proved 𝓛 f.ended stayed c 𝓜 𝓡 (Goes-none_slice 𝓛 1 (0 ∷ []) tt (plain (λ _. option.the_row value.the_row)) yes, tt)
+    f.Key.name code.function (code.unfolded 𝓤 𝓛.H 𝓜 𝓡 wired) (λ κs. (shr_slice_vals, tt))
     (λ κs. (shr_slice_Tells (named 0) κs.0 (option.the_row value.the_row), tt)) (λ κs qs bounds a n are.
     let vs = shr_slice_vals a.0 in
     let y : W.Ghost = ((κs, qs, bounds, a, (vs, tt)), n) in
@@ -43,7 +43,8 @@ of_spec 𝓤 𝓛 𝓜 𝓡 wired =
     via 𝓤 _ (fst∗ 𝓤 _ (emp 𝓤))
     (qed 𝓛 (raw (alive 𝓛 f.signature κs qs) ∷ ‵ (owns (types_at f.signature.params κs) a (vs, tt)) ∷ []) ∵
     enter ! 𝓣.C 𝓣.Λ code.function vs _ $
-    alloc_all ! (λ l. pass_all ! refl (((shr_slice_Lawful 𝓛 (named 0) κs.0 (option.the_row value.the_row)).typed a.0 vs are.0).0, tt) $
+    alloc_all ! (λ l.
+    pass_all ! refl (((shr_slice_Lawful 𝓛 (named 0) κs.0 (option.the_row value.the_row)).typed a.0 vs are.0).0, tt) $
     sets ! (agg ! (no_more !)) refl (tt, tt) $
     returns ! (look_at ! 0 refl) $ free_all ! refl $
     suffices ! _ (ends_at 𝓛 f.ended stayed c y (vstruct vnil) new (tt, tt) (tt, tt)) $

@@ -49,7 +49,8 @@ with_vector_spec 𝓤 𝓛 𝓜 𝓡 wired =
     let more : Val = vptr a.1.0.ref_ptr.0 a.1.0.ref_ptr.1 in
     let vs : List Val × (List Val × Unit {0}) = (before ∷ [], (more ∷ [], tt)) in
     let y : W.Ghost = ((κs, qs, bounds, a, vs), n) in
-    let new : EntryData = record { entries = a.0.now.entries ++ (Some (a_vector (parts_in a.1.0.now.elements)) ∷ []) } in
+    let vector = a_vector (parts_in a.1.0.now.elements) in
+    let new : EntryData = record { entries = a.0.now.entries ++ (Some vector ∷ []) } in
     via 𝓤 _ (fst∗ 𝓤 _ (emp 𝓤))
     (qed 𝓛 (raw (alive 𝓛 f.signature κs qs) ∷ ‵ (owns (types_at f.signature.params κs) a vs) ∷ []) ∵
     enter ! 𝓣.C 𝓣.Λ code.function (before ∷ more ∷ []) _ $
