@@ -1,3 +1,5 @@
-mod EntriesComeInOrder
-mod PartsApartAreMade
-mod OneMoreIsLaidApart
+pub mod EntriesComeInOrder
+pub mod PartsApartAreMade
+pub mod OneMoreIsLaidApart
+pub mod NothingMoreIsLaidApart
+pub mod EntryIsLaidApart

@@ -29,7 +29,6 @@ pub mod Made
 pub mod Builders
 pub mod Apart
 pub mod References
-pub mod DatumCode
 pub mod BuiltSoFar
 pub mod LaidApart
 pub mod OpenBuffer

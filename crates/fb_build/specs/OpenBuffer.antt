@@ -21,6 +21,7 @@ abbrev pub root_kind : LaidSchema → ℕ → StoredKind
 root_kind L k = kind_of_slot (slice_get (root_slots L) k)
 
 pub record IsOpen (b : Inside) : Type 0 where
+  pub same : b.layout.now ≡ b.draft.layout
   pub apart : AreLaidApart b.draft b.data.entries b.ends.items (root_kind b.draft.layout (length b.data.entries))
       b.elements.elements b.element_ends.items
   pub held : length b.entries.items ≡ length b.data.entries

@@ -78,7 +78,7 @@ fits_more L fs xs f0 x0 at now before k f x fk xk = elim (got_more xs x0 x k xk)
     rw (← f_is, ← h.1) (now 0 f0 x0 refl refl))
 ]
 
-none_room : (L : LaidSchema) (fs : List Slot) → entries_room L fs no_entries ≡ 0
+pub none_room : (L : LaidSchema) (fs : List Slot) → entries_room L fs no_entries ≡ 0
 none_room L [] = refl
 none_room L (f ∷ fs) = refl
 
@@ -93,6 +93,10 @@ room_more L (g ∷ fs) (None ∷ xs) f x at = room_more L fs xs f x at
 room_more L (g ∷ fs) (Some d ∷ xs) f x at = omega (arith, room_more L fs xs f x at)
 
 -- ---- what entries name
+
+pub named_none : (fs : List Slot) → named_apart fs [] ≡ []
+named_none [] = refl
+named_none (f ∷ fs) = refl
 
 pub named_more : (fs : List Slot) (xs : List (Option Datum)) (f : Slot) (x : Option Datum)
     → slice_get fs (length xs) ≡ Some f

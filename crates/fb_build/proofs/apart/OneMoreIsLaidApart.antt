@@ -107,7 +107,7 @@ one_fits L f x fits whole zero g y gk yk = let f_is : f ≡ g = cc in let x_is :
     subst (λ (z : Option Datum). EntryFits L g z × EntryWhole z) x_is (rw (← f_is) (fits, whole))
 one_fits L f x fits whole (suc k) g y gk yk = cc
 
-under_all : (fs : List Slot) (k : ℕ) (g : Slot) → slice_get fs k ≡ Some g → suc k ≤ length fs
+pub under_all : (fs : List Slot) (k : ℕ) (g : Slot) → slice_get fs k ≡ Some g → suc k ≤ length fs
 under_all [] k g is = cc
 under_all (h ∷ fs) zero g is = omega arith
 under_all (h ∷ fs) (suc k) g is = omega (arith, under_all fs k g is)
