@@ -14,6 +14,7 @@ mod numbers;
 mod order;
 mod places;
 mod plans;
+mod references;
 mod roots;
 mod structs;
 mod tables;
