@@ -3,3 +3,4 @@ pub mod PartsApartAreMade
 pub mod OneMoreIsLaidApart
 pub mod NothingMoreIsLaidApart
 pub mod EntryIsLaidApart
+pub mod EntriesStandIn

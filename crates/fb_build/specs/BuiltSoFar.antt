@@ -6,7 +6,7 @@ use Rattle.fb_value.specs.Datum.{Datum}
 use Rattle.fb_value.specs.Entries.{EntryFits}
 use Rattle.fb_value.specs.Fits.{Fits}
 use Rattle.fb_build.specs.Parts.{EntryWhole}
-use Rattle.fb_build.specs.References.{IsReferenceKind}
+use Rattle.fb_build.specs.Fields.{is_reference}
 
 -- its layout, what the first slots of the root's table hold, and the first elements of the vector in the next slot
 pub record BuiltSoFar : Type 0 where
@@ -34,7 +34,7 @@ pub record AwaitsElements (b : BuiltSoFar) (kind : StoredKind) : Type 0 where
   pub next : IsNext b slot
   pub used : slot.deprecated ≡ false
   pub shape : slot.shape ≡ vector_of kind
-  pub references : IsReferenceKind kind
+  pub references : is_reference (one_of kind) ≡ true
 
 -- The value is an element of that vector.
 pub record FitsVector (b : BuiltSoFar) (d : Datum) : Type 0 where

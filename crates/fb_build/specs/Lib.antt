@@ -28,9 +28,9 @@ pub mod FaultTable
 pub mod Made
 pub mod Builders
 pub mod Apart
-pub mod References
 pub mod BuiltSoFar
 pub mod LaidApart
+pub mod EntryStands
 pub mod OpenBuffer
 pub mod Roots
 pub mod FieldsLaid

@@ -3,6 +3,9 @@ use Rattle.std.specs.Prelude.{ℕ, ◌≡◌, Option, None, Some, length, slice_
 use Rattle.fb_layout.specs.Laid.{LaidSchema, Slot, StoredKind, kind_in, text_kind}
 use Rattle.fb_build.specs.declared.buffer_builder.BufferBuilder.TheInside.{Inside}
 use Rattle.fb_build.specs.BuiltSoFar.{BuiltSoFar, root_slots}
+use Rattle.fb_build.specs.Apart.{EachEntryFits}
+use Rattle.fb_build.specs.EntryStands.{EachEntryStands}
+use Rattle.fb_build.specs.Fields.{entries_seen}
 use Rattle.fb_build.specs.LaidApart.{AreLaidApart}
 
 abbrev pub built_seen : Inside → BuiltSoFar
@@ -25,3 +28,5 @@ pub record IsOpen (b : Inside) : Type 0 where
   pub apart : AreLaidApart b.draft b.data.entries b.ends.items (root_kind b.draft.layout (length b.data.entries))
       b.elements.elements b.element_ends.items
   pub held : length b.entries.items ≡ length b.data.entries
+  pub stand : EachEntryStands (root_slots b.draft.layout) b.data.entries (entries_seen b.entries.items)
+  pub held_fit : EachEntryFits b.draft.layout (root_slots b.draft.layout) (entries_seen b.entries.items)

@@ -1,6 +1,9 @@
 //! A buffer that is laid while its value comes in.
 ghost use Rattle.std.specs.Prelude.{◌≡◌, ◌<◌, [], Some, OnErr, OnOk, IfOk, length, option_map, slice_get};
-ghost use Rattle.fb_layout.specs.Laid.{slot_of};
+ghost use Rattle.fb_layout.specs.Laid.{LaidSchema, Slot, slot_of};
+ghost use Rattle.fb_value.specs.Entries.{EntryFits};
+ghost use Rattle.fb_build.specs.EntryStands.{EntryStands};
+ghost use Rattle.fb_build.specs.Parts.{EntryWhole};
 ghost use Rattle.fb_schema.specs.Seen.{field_seen};
 ghost use Rattle.fb_value.specs.View.{view};
 ghost use Rattle.fb_build.specs.BuiltSoFar.{FitsNext, FitsVector, IsNext, root_slots, with_element, with_entry};
@@ -49,7 +52,13 @@ impl<'l> Model for BufferBuilder<'l> {
 }
 
 /// What stands in for an entry whose part is laid: of a vector only that it is there.
-fn stand_in(alloc: Global, entry: Option<Value>) -> Option<Value> {
+fn stand_in(alloc: Global, entry: Option<Value>) -> Option<Value>
+    ensures stands { (L : LaidSchema) (f : Slot) → EntryFits L f (option_map view entry)
+        → EntryStands f (option_map view entry) (option_map view result) }
+    ensures fits { (L : LaidSchema) (f : Slot) → EntryFits L f (option_map view entry)
+        → EntryFits L f (option_map view result) }
+    ensures whole { EntryWhole (option_map view entry) → EntryWhole (option_map view result) }
+{
     match entry {
         Some(Value::Items(items)) => {
             drop_value(Value::Items(items));

@@ -8,25 +8,27 @@ use Rattle.fb_layout.specs.WellMade.{IsWellMade}
 use Rattle.fb_layout.specs.Widths.{greatest}
 use Rattle.fb_layout.proofs.sizes.AlignmentsArePowersOfTwo.{slot_below}
 use Rattle.fb_value.specs.Datum.{Datum}
-use Rattle.fb_value.specs.Entries.{entry_room}
+use Rattle.fb_value.specs.Entries.{EntryFits, entry_room}
 use Rattle.fb_value.specs.Fits.{Fits}
 use Rattle.fb_value.specs.Room.{room}
 use Rattle.fb_value.specs.UpTo.{at_most_usize}
 use Rattle.fb_build.specs.BuiltSoFar.{FitsNext, root_slots}
+use Rattle.fb_build.specs.EntryStands.{EntryStands}
 use Rattle.fb_build.specs.Drafted.{Drafted, Continues}
-use Rattle.fb_build.specs.Fields.{EntryEnd, IsSimple, shape_seen, stored_here}
+use Rattle.fb_build.specs.Fields.{EntryEnd, IsSimple, entries_seen, stored_here}
 use Rattle.fb_build.specs.LaidApart.{AreLaidApart}
 use Rattle.fb_build.specs.Made.{Adds, named_stored, part_named, parts_at}
 use Rattle.fb_build.specs.OpenBuffer.{built_seen, IsOpen, root_kind}
-use Rattle.fb_build.specs.Parts.{PartEnd}
+use Rattle.fb_build.specs.Parts.{EntryWhole, PartEnd}
 use Rattle.fb_build.specs.declared.buffer_builder.BufferBuilder.TheInside.{Inside}
-use Rattle.fb_build.proofs.apart.EntriesComeInOrder.{long_more}
+use Rattle.fb_build.proofs.apart.EntriesComeInOrder.{fits_more, long_more}
+use Rattle.fb_build.proofs.apart.EntriesStandIn.{stand_more}
 use Rattle.fb_build.proofs.apart.NothingMoreIsLaidApart.{none_left, rekinded}
-use Rattle.fb_build.proofs.apart.OneMoreIsLaidApart.{entry_end, entry_laid, entry_names}
+use Rattle.fb_build.proofs.apart.OneMoreIsLaidApart.{entry_end, entry_laid, entry_names, one_fits}
 use Rattle.fb_build.proofs.covered.PartsInFrontAreAdded.{adds_nothing}
 use Rattle.fb_build.proofs.drafts.DraftsContinue.{continues_same}
 use Rattle.fb_build.proofs.fields.AlignmentDividesTheSize.{all_known}
-use Rattle.fb_build.proofs.fields.SlotStoresItsEntry.{same_some}
+use Rattle.fb_build.proofs.fields.SlotStoresItsEntry.{entries_long, same_some}
 use Rattle.fb_build.proofs.tables.EachSlotAddsItsParts.{nothing_named}
 use Rattle.fb_build.proofs.tables.PartsFitTheirSlots.{no_target}
 
@@ -105,9 +107,20 @@ pub goes_on : (b m : Inside) (n : Drafted) (x : Option Datum) (e : ℕ) → IsOp
     → n.layout ≡ b.draft.layout → m.layout.now ≡ b.layout.now → m.draft ≡ n
     → m.data.entries ≡ b.data.entries ++ (x ∷ []) → m.ends.items ≡ b.ends.items ++ (e ∷ [])
     → m.elements.elements ≡ b.elements.elements → m.element_ends.items ≡ b.element_ends.items
-    → length m.entries.items ≡ suc (length b.entries.items) → IsOpen m
-goes_on b m n x e before apart as_before layout draft entries ends elements element_ends long = record {
+    → (y : Option Datum) → entries_seen m.entries.items ≡ entries_seen b.entries.items ++ (y ∷ [])
+    → (f : Slot) → slice_get (root_slots b.draft.layout) (length b.data.entries) ≡ Some f → EntryStands f x y
+    → EntryFits b.draft.layout f y → EntryWhole y → IsOpen m
+goes_on b m n x e before apart as_before layout draft entries ends elements element_ends y seen f at stands fits whole = record {
   same = layout ∙ (before.same ∙ (sym as_before ∙ ap (λ (d : Drafted). d.layout) (sym draft)));
   apart = rw (draft, entries, ends, elements, element_ends) apart;
-  held = rw entries (omega (arith, long, before.held, long_more b.data.entries x));
+  held = omega (arith, ap length entries, ap length seen, entries_long m.entries.items, entries_long b.entries.items,
+      before.held, long_more b.data.entries x, long_more (entries_seen b.entries.items) y);
+  stand = rw (draft, as_before, entries, seen) (stand_more (root_slots b.draft.layout) b.data.entries
+      (entries_seen b.entries.items) f x y (omega (arith, before.held, entries_long b.entries.items)) at stands
+      before.stand);
+  held_fit = rw (draft, as_before, seen) (fits_more b.draft.layout (root_slots b.draft.layout)
+      (entries_seen b.entries.items) f y
+      (subst (λ (k : ℕ). slice_get (root_slots b.draft.layout) k ≡ Some f)
+      (omega (arith, before.held, entries_long b.entries.items)) at)
+      (one_fits b.draft.layout f y fits whole) before.held_fit);
 }

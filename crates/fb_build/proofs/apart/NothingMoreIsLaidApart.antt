@@ -11,8 +11,7 @@ use Rattle.fb_build.specs.Drafted.{Drafted, Continues, IsAsBefore}
 use Rattle.fb_build.specs.LaidApart.{AreLaidApart, LieApart}
 use Rattle.fb_build.specs.declared.buffer_builder.BufferBuilder.TheInside.{Inside}
 use Rattle.fb_build.specs.OpenBuffer.{built_seen, IsOpen, kind_of_slot, root_kind}
-use Rattle.fb_build.specs.Fields.{IsSimple}
-use Rattle.fb_build.specs.References.{IsReferenceKind}
+use Rattle.fb_build.specs.Fields.{IsSimple, is_reference}
 use Rattle.fb_build.specs.Made.{IsMade}
 use Rattle.fb_value.specs.UpTo.{at_most_usize}
 use Rattle.fb_build.proofs.apart.EntriesComeInOrder.{named_none, none_room}
@@ -89,9 +88,9 @@ next_kind b r own k d held fits is at seen =
     kind_of_elements b.draft.layout (length b.data.entries) fits.awaits.slot r fits.kind own fits.awaits.next here
     fits.awaits.shape seen
 
-pub reference_simple : (L : LaidSchema) (kind : StoredKind) → IsReferenceKind kind → IsSimple L (one_of kind)
+pub reference_simple : (L : LaidSchema) (kind : StoredKind) → is_reference (one_of kind) ≡ true → IsSimple L (one_of kind)
 reference_simple L (scalar_kind b) is = tt
-reference_simple L (struct_kind s) is = absurd is
+reference_simple L (struct_kind s) is = cc
 reference_simple L (table_kind t) is = tt
 reference_simple L (union_kind u) is = tt
 reference_simple L (code_kind u) is = tt

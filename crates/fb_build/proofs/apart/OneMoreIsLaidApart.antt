@@ -101,7 +101,7 @@ room_grows a c d next small = omega (arith, next, small)
 
 -- ---- what one entry more needs
 
-one_fits : (L : LaidSchema) (f : Slot) (x : Option Datum) → EntryFits L f x → EntryWhole x
+pub one_fits : (L : LaidSchema) (f : Slot) (x : Option Datum) → EntryFits L f x → EntryWhole x
     → EachEntryFits L (f ∷ []) (x ∷ [])
 one_fits L f x fits whole zero g y gk yk = let f_is : f ≡ g = cc in let x_is : x ≡ y = cc in
     subst (λ (z : Option Datum). EntryFits L g z × EntryWhole z) x_is (rw (← f_is) (fits, whole))

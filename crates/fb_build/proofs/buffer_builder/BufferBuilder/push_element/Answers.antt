@@ -65,6 +65,8 @@ invariant_of-self-in_err-end c =
           (root_kind inside.draft.layout (length inside.data.entries)) inside.elements.elements
           inside.element_ends.items inv.apart same.0 same.1);
       held = inv.held;
+      stand = rw same.0.layout inv.stand;
+      held_fit = rw same.0.layout inv.held_fit;
     }
 
 pub invariant_of-self-2 : goal.invariant_of-self-2
@@ -96,4 +98,6 @@ invariant_of-self-2 c =
           c.push_reserved.new.self.items now.continues.layout refl
           (c.push_reserved.ensures.items ∙ ap (λ es. es ++ (e ∷ [])) c.reserve.ensures.items) (rw here after));
       held = inv.held;
+      stand = rw now.continues.layout inv.stand;
+      held_fit = rw now.continues.layout inv.held_fit;
     }

@@ -7,11 +7,11 @@ use Rattle.fb_value.specs.Datum.{Datum}
 use Rattle.fb_value.specs.Fits.{Fits}
 use Rattle.fb_value.specs.View.{view}
 use Rattle.fb_build.specs.BuiltSoFar.{FitsNext, root_slots}
-use Rattle.fb_build.specs.Fields.{IsSimple, shape_seen}
+use Rattle.fb_build.specs.Fields.{IsSimple, entries_seen, shape_seen}
 use Rattle.fb_build.specs.OpenBuffer.{built_seen, root_kind}
 use Rattle.fb_build.proofs.apart.NothingMoreIsLaidApart.{at_layout, kept_apart}
 use Rattle.fb_build.proofs.apart.OneMoreIsLaidApart.{under_all}
-use Rattle.fb_build.proofs.apart.EntriesComeInOrder.{long_more}
+use Rattle.fb_build.proofs.apart.EntriesStandIn.{seen_more}
 use Rattle.fb_build.proofs.apart.EntryIsLaidApart.{same_slot, slot_simple, slot_low, value_apart, nothing_apart, goes_on}
 use Rattle.fb_build.specs.declared.buffer_builder.BufferBuilder.TheInside.{Inside}
 use Rattle.fb_build.proofs.buffer_builder.BufferBuilder.push_entry.Goals as goal
@@ -71,6 +71,8 @@ invariant_of-self-in_err-end-in-Some c =
           (root_kind inside.draft.layout (length inside.data.entries)) inside.elements.elements
           inside.element_ends.items inv.apart same.0 same.1);
       held = rw c.reserve.ensures.items inv.held;
+      stand = rw (same.0.layout, c.reserve.ensures.items) inv.stand;
+      held_fit = rw (same.0.layout, c.reserve.ensures.items) inv.held_fit;
     }
 
 pub invariant_of-self-2 : goal.invariant_of-self-2
@@ -81,9 +83,12 @@ invariant_of-self-2 c =
     let x = option_map view c.args.entry in
     let fits : FitsNext (built_seen inside) x = rw (← c.self.view_is) at c.requires.fits in
     let closed : inside.elements.elements ≡ [] = rw (← c.self.view_is) at c.requires.closed in
-    let long : length c.push_reserved-2.new.self.items ≡ suc (length c.match-entry-5.self-inside.entries.items) =
-    ap length c.push_reserved-2.ensures.items
-    ∙ long_more c.match-entry-5.self-inside.entries.items c.stand_in.result in
+    let y = option_map view c.stand_in.result in
+    let kept = c.stand_in.ensures in
+    let seen : entries_seen c.push_reserved-2.new.self.items
+    ≡ entries_seen c.match-entry-5.self-inside.entries.items ++ (y ∷ []) =
+    ap entries_seen c.push_reserved-2.ensures.items
+    ∙ seen_more c.match-entry-5.self-inside.entries.items c.stand_in.result in
     elim c.match-entry-5.branch [
       | in-Some+in_ok-end-in-Some w ↦ (
         let n = w.lay_apart.new.self in
@@ -106,7 +111,9 @@ invariant_of-self-2 c =
         ∙ ap (λ es. es ++ (c.match-entry-5.end ∷ [])) c.reserve-2.ensures.items
         ∙ ap (λ k. inside.ends.items ++ (k ∷ [])) w.end-is))
         (ap (λ (b : Inside). b.elements.elements) is) (ap (λ (b : Inside). b.element_ends.items) is)
-        (long ∙ ap (λ (b : Inside). suc (length b.entries.items)) is ∙ ap (λ es. suc (length es)) c.reserve.ensures.items))
+        y (seen ∙ (ap (λ (b : Inside). entries_seen b.entries.items ++ (y ∷ [])) is
+        ∙ ap (λ es. entries_seen es ++ (y ∷ [])) c.reserve.ensures.items))
+        fits.slot fits.next (kept.stands L fits.slot fits.fits) (kept.fits L fits.slot fits.fits) (kept.whole fits.whole))
       | in-None w ↦ (
         let none : FitsNext (built_seen inside) None = rw w.in-None.is at fits in
         let apart = nothing_apart inside inv none closed in
@@ -118,5 +125,29 @@ invariant_of-self-2 c =
         ∙ ap (λ es. es ++ (c.match-entry-5.end ∷ [])) c.reserve-2.ensures.items
         ∙ ap (λ k. inside.ends.items ++ (k ∷ [])) w.end-is))
         (ap (λ (b : Inside). b.elements.elements) is) (ap (λ (b : Inside). b.element_ends.items) is)
-        (long ∙ ap (λ (b : Inside). suc (length b.entries.items)) is ∙ ap (λ es. suc (length es)) c.reserve.ensures.items))
+        y (seen ∙ (ap (λ (b : Inside). entries_seen b.entries.items ++ (y ∷ [])) is
+        ∙ ap (λ es. entries_seen es ++ (y ∷ [])) c.reserve.ensures.items))
+        fits.slot fits.next (kept.stands L fits.slot fits.fits) (kept.fits L fits.slot fits.fits) (kept.whole fits.whole))
     ]
+
+pub invariant_of-self : goal.invariant_of-self
+invariant_of-self c =
+    let inv = c.self.invariant in
+    record {
+      same = inv.same;
+      apart = inv.apart;
+      held = rw c.reserve.ensures.items inv.held;
+      stand = rw c.reserve.ensures.items inv.stand;
+      held_fit = rw c.reserve.ensures.items inv.held_fit;
+    }
+
+pub invariant_of-self-in_err-reserve-2 : goal.invariant_of-self-in_err-reserve-2
+invariant_of-self-in_err-reserve-2 c =
+    let inv = c.self.invariant in
+    record {
+      same = inv.same;
+      apart = rw c.reserve-2.ensures.items inv.apart;
+      held = rw c.reserve.ensures.items inv.held;
+      stand = rw c.reserve.ensures.items inv.stand;
+      held_fit = rw c.reserve.ensures.items inv.held_fit;
+    }

@@ -1,0 +1,132 @@
+-- Entries in memory stand in for those that are laid.
+use Rattle.std.proofs.Common.{◌≡◌, ℕ, zero, suc, ◌+◌, ◌<◌, ◌≤◌, ◌++◌, ◌⊎◌, inl, inr, List, [], ◌∷◌, length, drop, true, false}
+use Rattle.std.proofs.Common.{slice_get, Option, None, Some, option_map, refl, ap, sym, ◌∙◌, subst, arith}
+use Rattle.std.proofs.lemmas.List.{map_push}
+use Rattle.fb_layout.specs.Laid.{LaidSchema, Slot, StoredShape, scalar_kind, struct_kind, table_kind, union_kind}
+use Rattle.fb_layout.specs.Laid.{code_kind, text_kind, one_of, vector_of}
+use Rattle.fb_value.specs.Datum.{Datum, Parts, no_parts, a_vector}
+use Rattle.fb_value.specs.Entries.{EntryFits}
+use Rattle.fb_value.specs.Fits.{Fits}
+use Rattle.fb_value.specs.View.{view}
+use Rattle.fb_value.specs.declared.values.Value.{Value}
+use Rattle.fb_build.specs.EntryStands.{EntryStands, EachEntryStands}
+use Rattle.fb_build.specs.Fields.{code_in, next_code, entries_seen, stored_here, stored_in, target_for}
+use Rattle.fb_build.specs.StandIns.{StandsIn, AllStandIn}
+use Rattle.fb_build.proofs.apart.EntriesComeInOrder.{got_more}
+use Rattle.fb_build.proofs.tables.CodeSlotHasNoEntry.{stored_get, got, next_is}
+
+same_stands : (f : Slot) (x : Option Datum) → StandsIn f x x
+same_stands f x = record { stored = refl; inline = λ d is none. refl }
+
+-- an entry for itself
+pub stands_itself : (f : Slot) (x : Option Datum) → EntryStands f x x
+stands_itself f x = record { code = refl; stored = λ code. same_stands f (stored_here f.shape code x) }
+
+-- of a vector only that it is there
+pub vector_stands : (L : LaidSchema) (f : Slot) (ds : Parts) → EntryFits L f (Some (a_vector ds))
+    → EntryStands f (Some (a_vector ds)) (Some (a_vector no_parts))
+vector_stands L f ds fits = record { code = refl; stored = λ code. by_shape code f.shape refl }
+  where
+    own : (code : Option ℕ) (shape : StoredShape) → f.shape ≡ shape
+        → ((d : Datum) → target_for shape d ≡ None → ⊥)
+        → stored_here shape code (Some (a_vector ds)) ≡ Some (a_vector ds)
+        → stored_here shape code (Some (a_vector no_parts)) ≡ Some (a_vector no_parts)
+        → StandsIn f (stored_here f.shape code (Some (a_vector no_parts))) (stored_here f.shape code (Some (a_vector ds)))
+    own code shape at some first second =
+        let a : stored_here f.shape code (Some (a_vector ds)) ≡ Some (a_vector ds) =
+        ap (λ (h : StoredShape). stored_here h code (Some (a_vector ds))) at ∙ first in
+        let b : stored_here f.shape code (Some (a_vector no_parts)) ≡ Some (a_vector no_parts) =
+        ap (λ (h : StoredShape). stored_here h code (Some (a_vector no_parts))) at ∙ second in
+        rw (a, b) (record {
+          stored = refl;
+          inline = λ d is none. absurd (some d (rw at at none));
+        })
+
+    by_shape : (code : Option ℕ) (shape : StoredShape) → f.shape ≡ shape
+        → StandsIn f (stored_here f.shape code (Some (a_vector no_parts))) (stored_here f.shape code (Some (a_vector ds)))
+    by_shape code (vector_of kind) at = own code (vector_of kind) at (λ d none. cc) refl refl
+    by_shape code (one_of (scalar_kind b)) at = absurd (rw at at fits.1)
+    by_shape code (one_of (struct_kind b)) at = absurd (rw at at fits.1)
+    by_shape code (one_of (table_kind b)) at = absurd (rw at at fits.1)
+    by_shape code (one_of (union_kind b)) at = absurd (rw at at fits.1)
+    by_shape code (one_of (code_kind b)) at = absurd (rw at at fits.1)
+    by_shape code (one_of text_kind) at = absurd (rw at at fits.1)
+
+-- an empty vector fits where a vector does
+pub empty_fits : (L : LaidSchema) (f : Slot) (ds : Parts) → EntryFits L f (Some (a_vector ds))
+    → EntryFits L f (Some (a_vector no_parts))
+empty_fits L f ds fits = (fits.0, by_shape f.shape refl)
+  where
+    by_shape : (shape : StoredShape) → f.shape ≡ shape → Fits L f.shape (a_vector no_parts)
+    by_shape (vector_of kind) at = rw at tt
+    by_shape (one_of (scalar_kind b)) at = absurd (rw at at fits.1)
+    by_shape (one_of (struct_kind b)) at = absurd (rw at at fits.1)
+    by_shape (one_of (table_kind b)) at = absurd (rw at at fits.1)
+    by_shape (one_of (union_kind b)) at = absurd (rw at at fits.1)
+    by_shape (one_of (code_kind b)) at = absurd (rw at at fits.1)
+    by_shape (one_of text_kind) at = absurd (rw at at fits.1)
+
+-- ---- all entries
+
+pub stand_more : (fs : List Slot) (xs ys : List (Option Datum)) (f0 : Slot) (x0 y0 : Option Datum)
+    → length ys ≡ length xs → slice_get fs (length xs) ≡ Some f0 → EntryStands f0 x0 y0 → EachEntryStands fs xs ys
+    → EachEntryStands fs (xs ++ (x0 ∷ [])) (ys ++ (y0 ∷ []))
+stand_more fs xs ys f0 x0 y0 long at now before k f x y fk xk yk = elim (got_more xs x0 x k xk) [
+  | inl h ↦ elim (got_more ys y0 y k yk) [
+    | inl g ↦ before k f x y fk h.1 g.1
+    | inr g ↦ absurd (omega (arith, h.0, g.0, long))
+  ]
+  | inr h ↦ elim (got_more ys y0 y k yk) [
+    | inl g ↦ absurd (omega (arith, h.0, g.0, long))
+    | inr g ↦ (
+      let same_slot : Some f0 ≡ Some f = sym at ∙ (ap (slice_get fs) (sym h.0) ∙ fk) in
+      let f_is : f0 ≡ f = cc in
+      rw (← f_is, ← h.1, ← g.1) now)
+  ]
+]
+
+same_next : (fs : List Slot) (xs ys : List (Option Datum)) → EachEntryStands fs xs ys → length xs ≡ length ys
+    → length xs ≤ length fs → (k : ℕ) → next_code (drop k ys) ≡ next_code (drop k xs)
+same_next fs [] [] each long few zero = refl
+same_next fs [] [] each long few (suc k) = refl
+same_next fs [] (y ∷ ys) each long few k = absurd (omega (arith, long))
+same_next fs (x ∷ xs) [] each long few k = absurd (omega (arith, long))
+same_next [] (x ∷ xs) (y ∷ ys) each long few k = absurd (omega (arith, few))
+same_next (f ∷ fs) (x ∷ xs) (y ∷ ys) each long few zero = (each 0 f x y refl refl refl).code
+same_next (f ∷ fs) (x ∷ xs) (y ∷ ys) each long few (suc k) =
+    same_next fs xs ys (λ j g a b gj aj bj. each (suc j) g a b gj aj bj) (omega (arith, long)) (omega (arith, few)) k
+
+long_stored : (fs : List Slot) (xs : List (Option Datum)) → length fs ≡ length xs → length (stored_in fs xs) ≡ length xs
+long_stored [] [] long = refl
+long_stored [] (x ∷ xs) long = absurd (omega (arith, long))
+long_stored (f ∷ fs) [] long = refl
+long_stored (f ∷ fs) (x ∷ xs) long = ap suc (long_stored fs xs (omega (arith, long)))
+
+under : {A : Type 0} (xs : List A) (k : ℕ) (x : A) → slice_get xs k ≡ Some x → k < length xs
+under [] k x is = cc
+under (y ∷ xs) zero x is = omega arith
+under (y ∷ xs) (suc k) x is = omega (arith, under xs k x is)
+
+-- what all slots store
+pub all_stand : (fs : List Slot) (xs ys : List (Option Datum)) → EachEntryStands fs xs ys → length fs ≡ length xs
+    → length xs ≡ length ys → AllStandIn fs (stored_in fs ys) (stored_in fs xs)
+all_stand fs xs ys each all long = record {
+  long = omega (arith, long_stored fs xs all, long_stored fs ys (omega (arith, all, long)), long);
+  each = λ k f a b fk ak bk. (
+      let low : k < length xs = omega (arith, under fs k f fk, all) in
+      let x = got xs k low in
+      let y = got ys k (omega (arith, low, long)) in
+      let a_is = stored_get fs ys k f y.0 fk y.1 in
+      let b_is = stored_get fs xs k f x.0 fk x.1 in
+      let next = same_next fs xs ys each long (omega (arith, all)) (suc k) in
+      let a_same : stored_here f.shape (next_code (drop (suc k) ys)) y.0 ≡ a = same_in _ _ _ a_is ak in
+      let b_same : stored_here f.shape (next_code (drop (suc k) xs)) x.0 ≡ b = same_in _ _ _ b_is bk in
+      rw (← a_same, ← b_same, next) ((each k f x.0 y.0 fk x.1 y.1).stored (next_code (drop (suc k) xs))));
+}
+  where
+    same_in : (o : Option (Option Datum)) (p q : Option Datum) → o ≡ Some p → o ≡ Some q → p ≡ q
+    same_in o p q first second = let both : Some p ≡ Some q = sym first ∙ second in cc
+
+pub seen_more : (es : List (Option Value)) (e : Option Value)
+    → entries_seen (es ++ (e ∷ [])) ≡ entries_seen es ++ (option_map view e ∷ [])
+seen_more es e = map_push (option_map view) es e
