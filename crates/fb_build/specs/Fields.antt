@@ -90,6 +90,14 @@ inline_kind (one_of (code_kind u)) = scalar_kind U8
 inline_kind (one_of kind) = kind
 inline_kind (vector_of kind) = kind
 
+-- the shapes of which a reference stands in a table
+abbrev pub is_reference : StoredShape → Bool
+is_reference (vector_of kind) = true
+is_reference (one_of text_kind) = true
+is_reference (one_of (table_kind t)) = true
+is_reference (one_of (union_kind u)) = true
+is_reference _ = false
+
 abbrev pub ref_or : StoredShape → Option Target → Sort
 ref_or shape None = inline_place (inline_kind shape)
 ref_or shape (Some X) = ref_place X

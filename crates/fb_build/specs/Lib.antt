@@ -1,3 +1,4 @@
+pub mod DatumCode
 pub mod Ends
 pub mod Tails
 pub mod Fields
@@ -28,5 +29,6 @@ pub mod Made
 pub mod Builders
 pub mod Roots
 pub mod FieldsLaid
+pub mod StandIns
 pub mod ExampleBuffersAreCovered
 pub mod ExampleBuffersHaveSlack

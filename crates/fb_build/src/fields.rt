@@ -15,8 +15,11 @@ ghost use Rattle.fb_build.specs.Fields.{StoredEnd, EntriesEnd, AreKnown, stored_
 ghost use Rattle.fb_build.specs.Fields.{slots_seen, entries_seen, stored_room};
 ghost use Rattle.fb_build.specs.Fields.{slot_seen, entry_stored, shape_seen};
 ghost use Rattle.fb_build.specs.FieldOrder.{LinksNext};
+ghost use Rattle.fb_build.specs.Fields.{is_reference, stored_in};
 ghost use Rattle.fb_build.specs.FieldsLaid.{AreFieldsLaid};
+ghost use Rattle.fb_build.specs.StandIns.{StandsIn, AllStandIn};
 
+use crate::data::EntryData;
 use crate::numbers::lay_number;
 use crate::order::{link_at, order_fields};
 use crate::places::lay_place;
@@ -160,7 +163,7 @@ pub(crate) fn slot_size(layout: &Layout, shape: Shape) -> u32
     }
 }
 
-/// Lays the field of a slot that is stored, and returns its end-count then.
+/// Lays the field of a slot that is stored, and returns its end-count then. It holds whatever the entry stands in for.
 fn lay_field(
     out: &mut Tail,
     layout: &Layout,
@@ -174,19 +177,19 @@ fn lay_field(
         (entry_stored layout.now slot.now code entry.now) }
     requires stored { is_stored (slot_seen layout.now slot.now)
         (entry_stored layout.now slot.now code entry.now) ≡ true }
-    requires target { StoredEnd layout.now 0 out.old.most out.old.bytes false
-        (slot_seen layout.now slot.now) (entry_stored layout.now slot.now code entry.now) end }
+    requires inside { is_reference (shape_seen layout.now slot.now.shape) ≡ true → end ≤ length out.old.bytes }
     requires room { inline_size layout.now (shape_seen layout.now slot.now.shape) ≤ out.old.free }
     requires whole { divides (inline_align layout.now (shape_seen layout.now slot.now.shape))
         (length out.old.bytes) ≡ true }
     requires wide { divides (inline_align layout.now (shape_seen layout.now slot.now.shape))
         out.old.most ≡ true }
-    ensures lies { (low : ℕ) → low ≤ length out.old.bytes
-        → StoredEnd layout.now low out.new.most out.new.bytes true (slot_seen layout.now slot.now)
-        (entry_stored layout.now slot.now code entry.now) result }
+    ensures lies { (x : Option Datum) (low : ℕ) → StoredFits layout.now (slot_seen layout.now slot.now) x
+        → StandsIn (slot_seen layout.now slot.now) (entry_stored layout.now slot.now code entry.now) x
+        → StoredEnd layout.now 0 out.old.most out.old.bytes false (slot_seen layout.now slot.now) x end
+        → low ≤ length out.old.bytes
+        → StoredEnd layout.now low out.new.most out.new.bytes true (slot_seen layout.now slot.now) x result }
     ensures end { result ≡ length out.new.bytes }
-    ensures leads { FieldLeads out.new.bytes true (slot_seen layout.now slot.now)
-        (entry_stored layout.now slot.now code entry.now) end result }
+    ensures leads { (x : Option Datum) → FieldLeads out.new.bytes true (slot_seen layout.now slot.now) x end result }
     ensures free { out.new.free + inline_size layout.now (shape_seen layout.now slot.now.shape)
         ≡ out.old.free }
     ensures most { out.new.most ≡ out.old.most }
@@ -216,12 +219,14 @@ fn start_align(layout: &Layout, slots: &[FieldInfo], first: usize) -> u32
     slot_align(layout, slots[first - 1].shape).max(4)
 }
 
-/// Lays the fields of a table in their order, and returns how many bytes were laid before the first one.
+/// Lays the fields of a table in their order, and returns how many bytes were laid before the first one. An entry whose
+/// field is a reference may only stand in for what was laid.
 pub(crate) fn lay_fields(
     out: &mut Tail,
     layout: &Layout,
     slots: &[FieldInfo],
     entries: &[Option<Value>],
+    ghosts: &EntryData,
     links: &mut [u8],
     ends: &mut [u32],
 ) -> u32
@@ -229,23 +234,27 @@ pub(crate) fn lay_fields(
     requires few { length slots.now ≤ 32765 }
     requires each { length ends.old ≡ length slots.now }
     requires known { AreKnown layout.now (slots_seen layout.now slots.now)
+        (stored_in (slots_seen layout.now slots.now) ghosts.now.entries) }
+    requires held { AreKnown layout.now (slots_seen layout.now slots.now)
         (stored_seen layout.now slots.now entries.now) }
+    requires stands { AllStandIn (slots_seen layout.now slots.now) (stored_seen layout.now slots.now entries.now)
+        (stored_in (slots_seen layout.now slots.now) ghosts.now.entries) }
     requires state { EntriesEnd layout.now 0 out.old.most out.old.bytes (λ k f. false)
-        (slots_seen layout.now slots.now) (stored_seen layout.now slots.now entries.now) ends.old }
+        (slots_seen layout.now slots.now) (stored_in (slots_seen layout.now slots.now) ghosts.now.entries) ends.old }
     requires links { 2 * length slots.now ≤ length links.old }
     requires room { stored_room layout.now (slots_seen layout.now slots.now)
-        (stored_seen layout.now slots.now entries.now) ≤ out.old.free }
+        (stored_in (slots_seen layout.now slots.now) ghosts.now.entries) ≤ out.old.free }
     ensures laid { AreFieldsLaid layout.now out.new (slots_seen layout.now slots.now)
-        (stored_seen layout.now slots.now entries.now) result ends.new }
+        (stored_in (slots_seen layout.now slots.now) ghosts.now.entries) result ends.new }
     ensures leads { FieldsLead out.new.bytes (λ k f. true) (slots_seen layout.now slots.now)
-        (stored_seen layout.now slots.now entries.now) ends.old ends.new }
+        (stored_in (slots_seen layout.now slots.now) ghosts.now.entries) ends.old ends.new }
     ensures front { FieldsFront out.old out.new result (max 4 (stored_align layout.now
-        (slots_seen layout.now slots.now) (stored_seen layout.now slots.now entries.now))) }
+        (slots_seen layout.now slots.now) (stored_in (slots_seen layout.now slots.now) ghosts.now.entries))) }
     ensures bound { out.new.most ≤ max out.old.most (greatest layout.now) }
     ensures grows { Grows out.old out.new }
     ensures links { length links.new ≡ length links.old }
     ensures spent { out.old.free ≤ out.new.free + stored_room layout.now (slots_seen layout.now slots.now)
-        (stored_seen layout.now slots.now entries.now) }
+        (stored_in (slots_seen layout.now slots.now) ghosts.now.entries) }
 {
     let first = order_fields(layout, slots, entries, links);
     let align = start_align(layout, slots, first);

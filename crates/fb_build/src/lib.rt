@@ -4,6 +4,7 @@
 mod blocks;
 mod buffers;
 mod builder;
+mod data;
 mod drafts;
 mod faults;
 mod fields;
@@ -23,6 +24,7 @@ mod vectors;
 mod vtables;
 
 pub use buffers::{build, plan};
+pub use data::{ElementData, EntryData};
 pub use drafts::Draft;
 pub use faults::BuildFault;
 pub use laws::{

@@ -1,12 +1,14 @@
 //! Lays what stands in the place of a value that is no number.
 ghost use Rattle.std.specs.Prelude.{◌≡◌, ◌≤◌, ◌+◌, length, true, None, option_map};
 ghost use Rattle.fb_layout.specs.Widths.{inline_size, inline_align};
+ghost use Rattle.fb_value.specs.Datum.{Datum};
 ghost use Rattle.fb_value.specs.Num.{divides};
 ghost use Rattle.fb_value.specs.View.{view};
 ghost use Rattle.fb_value.specs.Wanted.{struct_wanted};
 ghost use Rattle.fb_build.specs.Made.{LeadsTo};
 ghost use Rattle.fb_build.specs.Tails.{Grows, LaidInTail};
 ghost use Rattle.fb_build.specs.Fields.{IsSimple, SlotFits, TargetEnd, target_for, sort_for, scalar_in};
+ghost use Rattle.fb_build.specs.Fields.{is_reference};
 ghost use Rattle.fb_build.specs.Fields.{shape_seen};
 
 use crate::fields::lay_reference;
@@ -34,21 +36,23 @@ fn struct_in(layout: &Layout, shape: Shape) -> Option<TypeId>
     }
 }
 
-/// Lays a struct, or a reference to what was laid at an end-count.
+/// Lays a struct, or a reference to what was laid at an end-count: whatever that is, if the value in memory is only
+/// there in its stead.
 pub(crate) fn lay_place(out: &mut Tail, layout: &Layout, shape: Shape, value: &Value, end: u32)
     requires simple { IsSimple layout.now (shape_seen layout.now shape) }
     requires other { scalar_in (shape_seen layout.now shape) ≡ None }
     requires fits { SlotFits layout.now (shape_seen layout.now shape) (view value.now) }
-    requires target { TargetEnd layout.now out.old.most out.old.bytes
-        (target_for (shape_seen layout.now shape) (view value.now)) end (view value.now) }
+    requires inside { is_reference (shape_seen layout.now shape) ≡ true → end ≤ length out.old.bytes }
     requires room { inline_size layout.now (shape_seen layout.now shape) ≤ out.old.free }
     requires whole { divides (inline_align layout.now (shape_seen layout.now shape))
         (length out.old.bytes) ≡ true }
     requires wide { divides (inline_align layout.now (shape_seen layout.now shape)) out.old.most ≡ true }
-    ensures lies { LaidInTail layout.now out.new.most out.new.bytes
-        (sort_for (shape_seen layout.now shape) (view value.now)) (length out.new.bytes)
-        (view value.now) }
-    ensures leads { LeadsTo out.new.bytes (target_for (shape_seen layout.now shape) (view value.now))
+    ensures lies { (d : Datum) → SlotFits layout.now (shape_seen layout.now shape) d
+        → (target_for (shape_seen layout.now shape) d ≡ None → d ≡ view value.now)
+        → TargetEnd layout.now out.old.most out.old.bytes (target_for (shape_seen layout.now shape) d) end d
+        → LaidInTail layout.now out.new.most out.new.bytes (sort_for (shape_seen layout.now shape) d)
+        (length out.new.bytes) d }
+    ensures leads { (d : Datum) → LeadsTo out.new.bytes (target_for (shape_seen layout.now shape) d)
         (length out.new.bytes) end }
     ensures free { out.new.free + inline_size layout.now (shape_seen layout.now shape) ≡ out.old.free }
     ensures long { length out.new.bytes ≡ length out.old.bytes

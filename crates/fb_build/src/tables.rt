@@ -23,6 +23,7 @@ ghost use Rattle.fb_build.specs.Vtables.{EntriesVtablesKnown, EntryVtablesKnown,
 ghost use Rattle.fb_build.specs.Vtables.{VtablesKnown};
 
 use crate::builder::Builder;
+use crate::data::EntryData;
 use crate::fields::lay_fields;
 use crate::needs::waits;
 use crate::texts::lay_text;
@@ -63,15 +64,17 @@ pub(crate) fn lay_table(
     let slots = layout.slots_of(table);
     let (ends, rest) = pending.split_at_mut(slots.len());
     lay_targets(builder, layout, slots, entries, ends, rest);
+    let ghosts = EntryData::of(entries);
     let start = lay_fields(
         &mut builder.tail,
         layout,
         slots,
         entries,
+        &ghosts,
         builder.scratch.as_mut_slice(),
         ends,
     );
-    close_table(builder, layout, table, entries, start, ends)
+    close_table(builder, layout, table, &ghosts, start, ends)
 }
 
 /// Lays what the references of a table name, and keeps their end-counts.

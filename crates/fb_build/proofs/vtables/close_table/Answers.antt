@@ -5,7 +5,7 @@ use Rattle.std.proofs.lemmas.List.{length-take-le, with_items_is}
 use Rattle.fb_layout.specs.Laid.{slots_of}
 use Rattle.fb_layout.proofs.slots.MostSlotsBoundEachTable.{slots_within}
 use Rattle.fb_value.specs.Num.{Bytes, divides}
-use Rattle.fb_build.specs.Fields.{stored_in, stored_align, entries_seen}
+use Rattle.fb_build.specs.Fields.{stored_in, stored_align}
 use Rattle.fb_build.specs.TableBytes.{VtableEnd, vtable_bytes, offset_from}
 use Rattle.fb_build.proofs.tail.WhatIsLaidStaysLaid.{four_power, then_grows, grown_long}
 use Rattle.fb_value.proofs.tails.TailsAreKeptInFront.{through}
@@ -15,7 +15,7 @@ use Rattle.fb_build.proofs.vtables.ClosedTableHasItsValue.{vtable_told, vtable_l
 use Rattle.fb_build.proofs.tables.TableHasNoSlack.{zeros_stay, last_used}
 use Rattle.std.proofs.Common.{List, Option, Some, Vec, take, ◌*◌}
 use Rattle.fb_value.specs.Datum.{Datum, a_table}
-use Rattle.fb_value.specs.View.{entries_view}
+use Rattle.fb_value.specs.View.{entries_in}
 use Rattle.fb_build.specs.FieldEnds.{table_size, table_vtable}
 use Rattle.fb_build.specs.Vtables.{longest_vtable, vtable_of}
 use Rattle.fb_build.proofs.vtables.VtableHasTheDefinedBytes.{vtable_is_of}
@@ -45,7 +45,7 @@ put_vtable-slots-requires-clause-under c k =
     let L = c.args.layout.now in
     let under = ends_under L c.args.start c.args.builder.now.tail.most c.args.builder.now.tail.bytes
     (slots_of L c.args.table.0)
-    (stored_in (slots_of L c.args.table.0) (entries_seen c.args.entries.now)) c.args.ends.now c.requires.fits.known
+    (stored_in (slots_of L c.args.table.0) c.args.ghosts.now.entries) c.args.ends.now c.requires.fits.known
     c.requires.laid.slots.each c.requires.laid.slots.state k in
     let long = grown_long c.args.builder.now.tail c.pad.new.self c.pad.ensures.grows in
     omega (arith, under, long, c.pad.ensures.free, c.count.ensures.exact)
@@ -60,7 +60,7 @@ put_vtable-slots-requires-clause-fits c k =
     let L = c.args.layout.now in
     let high = ends_high L c.args.start c.args.builder.now.tail.most c.args.builder.now.tail.bytes
     (slots_of L c.args.table.0)
-    (stored_in (slots_of L c.args.table.0) (entries_seen c.args.entries.now)) c.args.ends.now c.requires.fits.known
+    (stored_in (slots_of L c.args.table.0) c.args.ghosts.now.entries) c.args.ends.now c.requires.fits.known
     c.requires.laid.slots.each c.requires.laid.slots.state k in
     let long = grown_long c.args.builder.now.tail c.pad.new.self c.pad.ensures.grows in
     offset_small (c.count.result + 4) (slice_index c.args.ends.now k) c.args.start high
@@ -123,7 +123,7 @@ returns-clause-lies c =
     let o = c.args.builder.now.tail in
     let n = c.lay_vtable.new.out in
     let fs = slots_of L c.args.table.0 in
-    let xs = entries_seen c.args.entries.now in
+    let xs = c.args.ghosts.now.entries in
     let ends = c.args.ends.now in
     let u = c.put_vtable-slots.result in
     let place = c.count.result + 4 in
@@ -177,7 +177,7 @@ pub lay_vtable-requires-clause-key : goal.lay_vtable-requires-clause-key
 lay_vtable-requires-clause-key c =
     let L = c.args.layout.now in
     let fs = slots_of L c.args.table.0 in
-    let ys = entries_seen c.args.entries.now in
+    let ys = c.args.ghosts.now.entries in
     let xs = stored_in fs ys in
     let put = c.put_vtable-slots.ensures in
     let long = grown_long c.args.builder.now.tail c.pad.new.self c.pad.ensures.grows in
@@ -199,7 +199,7 @@ lay_vtable-requires-clause-key c =
     c.requires.laid.slots.counted (λ k f x fk xk out. (c.requires.laid.slots.state k f x fk xk).absent out)
     (c.count.result + 4)
     c.put_vtable-slots.result place put.within put.rest put.last in
-    let whole : vtable_of L c.args.table.0 (entries_view c.args.entries.now) ≡ table_vtable L fs xs =
+    let whole : vtable_of L c.args.table.0 (entries_in c.args.ghosts.now.entries) ≡ table_vtable L fs xs =
     ap (λ (zs : List (Option Datum)). table_vtable L fs (stored_in fs zs)) (listed ys) in
     (c.requires.key.0, c.requires.key.1 ∙ ap (λ (b : List ℕ). Some b) (whole ∙ sym is))
 
@@ -210,7 +210,7 @@ returns-clause-leads c targets leads =
     let n = c.lay_vtable.new.out in
     let t = c.args.table.0 in
     let fs = slots_of L t in
-    let xs = entries_seen c.args.entries.now in
+    let xs = c.args.ghosts.now.entries in
     let ends = c.args.ends.now in
     let u = c.put_vtable-slots.result in
     let start = c.args.start in
@@ -253,7 +253,7 @@ returns-clause-adds c a front =
     let n = c.lay_vtable.new.out in
     let t = c.args.table.0 in
     let fs = slots_of L t in
-    let xs = entries_seen c.args.entries.now in
+    let xs = c.args.ghosts.now.entries in
     let ends = c.args.ends.now in
     let u = c.put_vtable-slots.result in
     let start = c.args.start in
@@ -322,9 +322,9 @@ returns-clause-adds c a front =
           c.requires.laid.slots.state k,
     ) in
     let lies : LaidInTail L n.most n.bytes (part_place (table_part t)) place
-    (a_table t (entries_view c.args.entries.now)) =
+    (a_table t (entries_in c.args.ghosts.now.entries)) =
     subst (λ (i : ℕ). LaidInTail L n.most n.bytes (part_place (table_part t)) i
-    (a_table t (entries_view c.args.entries.now))) same (returns-clause-lies c) in
+    (a_table t (entries_in c.args.ghosts.now.entries))) same (returns-clause-lies c) in
     let closed : IsClosed L a o n t start (max 4 (stored_align L fs zs)) place c.pad.result c.pad.new.self.bytes =
     record {
       front = front;

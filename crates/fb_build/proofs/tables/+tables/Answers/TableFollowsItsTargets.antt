@@ -69,7 +69,7 @@ fields_have_room t c =
     let known = known_of L c.args.table.0 es c.schema-schema.ensures.made c.requires.fits c.requires.whole in
     let seen = slots_are L c.args.table.0 c.slots_of-slots.result.now c.slots_of-slots.ensures.slots in
     let spent = rw seen at c.lay_targets.ensures.spent in
-    rw seen
+    rw (c.of-ghosts.ensures, seen)
     (omega (
       arith,
       spent,
@@ -83,7 +83,7 @@ fields_are_narrow t c =
     let es = c.args.entries.now in
     let known = known_of L c.args.table.0 es c.schema-schema.ensures.made c.requires.fits c.requires.whole in
     let seen = slots_are L c.args.table.0 c.slots_of-slots.result.now c.slots_of-slots.ensures.slots in
-    let size = rw seen at c.lay_fields-start.ensures.laid.size in
+    let size = rw (c.of-ghosts.ensures, seen) at c.lay_fields-start.ensures.laid.size in
     omega (
       arith,
       size,
@@ -99,8 +99,8 @@ vtable_has_room t c =
     let seen = slots_are L c.args.table.0 c.slots_of-slots.result.now c.slots_of-slots.ensures.slots in
     let n : length c.lay_fields-start.new.ends ≡ length (slots_of L c.args.table.0) =
     c.lay_fields-start.ensures.laid.slots.each ∙ ap length seen in
-    let size = rw seen at c.lay_fields-start.ensures.laid.size in
-    let spent = rw seen at c.lay_fields-start.ensures.spent in
+    let size = rw (c.of-ghosts.ensures, seen) at c.lay_fields-start.ensures.laid.size in
+    let spent = rw (c.of-ghosts.ensures, seen) at c.lay_fields-start.ensures.spent in
     let before = rw seen at c.lay_targets.ensures.spent in
     rw n (room_left _ _ _ _ _ _ _ _ _ _ c.requires.room before spent size
     (table_fits_room L c.args.table.0 (stored_in (slots_of L c.args.table.0) (entries_seen es)) known.known))
@@ -113,8 +113,8 @@ table_keeps_to_its_room t c =
     let seen = slots_are L c.args.table.0 c.slots_of-slots.result.now c.slots_of-slots.ensures.slots in
     let n : length c.lay_fields-start.new.ends ≡ length (slots_of L c.args.table.0) =
     c.lay_fields-start.ensures.laid.slots.each ∙ ap length seen in
-    let size = rw seen at c.lay_fields-start.ensures.laid.size in
-    let spent = rw seen at c.lay_fields-start.ensures.spent in
+    let size = rw (c.of-ghosts.ensures, seen) at c.lay_fields-start.ensures.laid.size in
+    let spent = rw (c.of-ghosts.ensures, seen) at c.lay_fields-start.ensures.spent in
     let before = rw seen at c.lay_targets.ensures.spent in
     let last = rw n at c.close_table.ensures.spent in
     spent_all _ _ _ _ _ _ _ _ _ _ _ before spent last size
@@ -133,10 +133,10 @@ table_adds_its_parts t c =
     let targets = c.lay_targets.new.ends in
     let first = rw seen at c.lay_targets.ensures.adds in
     let state = rw seen at c.lay_targets.ensures.state in
-    let front = rw seen at c.lay_fields-start.ensures.front in
-    let lead = rw seen at c.lay_fields-start.ensures.leads in
-    let closed = c.close_table.ensures.adds in
-    let reached = c.close_table.ensures.leads in
+    let front = rw (c.of-ghosts.ensures, seen) at c.lay_fields-start.ensures.front in
+    let lead = rw (c.of-ghosts.ensures, seen) at c.lay_fields-start.ensures.leads in
+    let closed = rw c.of-ghosts.ensures at c.close_table.ensures.adds in
+    let reached = rw c.of-ghosts.ensures at c.close_table.ensures.leads in
     let grows = then_grows _ _ _ c.lay_fields-start.ensures.grows c.close_table.ensures.builds.grows in
     let whole = reached targets lead in
     subst (λ (ps : List PartAt). Adds L c.args.builder.now.tail c.args.builder.now.places.items n
