@@ -1,6 +1,6 @@
 -- What a table's slots store is known where its entries fit and are whole, whether they are in memory or not.
 use Rattle.std.proofs.Common.{◌≡◌, ℕ, zero, suc, true, List, [], ◌∷◌, length, slice_get, Option, None, Some, refl, ap}
-use Rattle.std.proofs.Common.{subst, arith}
+use Rattle.std.proofs.Common.{subst}
 use Rattle.std.proofs.lemmas.Bool.{and_parts}
 use Rattle.fb_layout.specs.Laid.{LaidSchema, Slot, slots_of}
 use Rattle.fb_layout.specs.WellMade.{IsWellMade}
