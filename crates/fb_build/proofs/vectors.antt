@@ -1,2 +1,3 @@
+pub mod ClosedVectorHasItsElements
 pub mod ElementLeadsToItsTarget
 pub mod VectorHasItsElements

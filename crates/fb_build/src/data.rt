@@ -29,6 +29,7 @@ impl ElementData {
     }
 
     /// Elements that are in memory.
+    #[inline(always)]
     pub fn of(items: &[Value]) -> ElementData
         ensures { result.elements ≡ map view items.now }
     {
@@ -69,6 +70,7 @@ impl EntryData {
     }
 
     /// Entries that are in memory.
+    #[inline(always)]
     pub fn of(entries: &[Option<Value>]) -> EntryData
         ensures { result.entries ≡ entries_seen entries.now }
     {

@@ -15,6 +15,7 @@ mod numbers;
 mod order;
 mod places;
 mod plans;
+mod references;
 mod roots;
 mod structs;
 mod tables;

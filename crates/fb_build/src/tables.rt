@@ -23,9 +23,10 @@ ghost use Rattle.fb_build.specs.Vtables.{EntriesVtablesKnown, EntryVtablesKnown,
 ghost use Rattle.fb_build.specs.Vtables.{VtablesKnown};
 
 use crate::builder::Builder;
-use crate::data::EntryData;
+use crate::data::{ElementData, EntryData};
 use crate::fields::lay_fields;
 use crate::needs::waits;
+use crate::references::close_references;
 use crate::texts::lay_text;
 use crate::vectors::close_vector;
 use crate::vtables::close_table;
@@ -216,11 +217,12 @@ fn lay_items(
         + parts_room layout.now (kind_seen layout.now kind) (parts_view items.now)) }
 {
     if !waits(items) {
-        return close_vector(&mut builder.tail, layout, kind, items, &[]);
+        return close_vector(&mut builder.tail, layout, kind, items);
     }
     let (ends, rest) = pending.split_at_mut(items.len());
     lay_item_targets(builder, layout, kind, items, ends, rest);
-    close_vector(&mut builder.tail, layout, kind, items, ends)
+    let ghosts = ElementData::of(items);
+    close_references(&mut builder.tail, layout, kind, &ghosts, ends)
 }
 
 /// Lays what the elements of a vector name, and keeps their end-counts.

@@ -53,8 +53,9 @@ pub leads_any : (s : Bytes) (X : Option Target) (e target : ℕ) → LeadsEnd s 
 leads_any s None e target h = tt
 leads_any s (Some X) e target h = h
 
-reference_there : (L : LaidSchema) (shape : StoredShape) (d : Datum) → is_reference shape ≡ true → SlotFits L shape d
-    → IsReference L shape d
+-- where a reference leads
+pub reference_there : (L : LaidSchema) (shape : StoredShape) (d : Datum) → is_reference shape ≡ true
+    → SlotFits L shape d → IsReference L shape d
 reference_there L (one_of (scalar_kind b)) d is fits = cc
 reference_there L (one_of (struct_kind s)) d is fits = cc
 reference_there L (one_of (table_kind t)) d is fits = reference_known L (one_of (table_kind t)) d refl refl fits

@@ -1,23 +1,20 @@
 -- The parts that a loop over slots or elements adds.
 use Rattle.std.proofs.Common.{◌≡◌, ℕ, zero, suc, ◌+◌, ◌-◌, ◌<◌, ◌≤◌, ◌++◌, true, false, List, [], ◌∷◌, length, map}
-use Rattle.std.proofs.Common.{take, drop, slice_get, slice_index, slice_set, Option, None, Some, option_map, refl, ap}
+use Rattle.std.proofs.Common.{take, slice_get, slice_index, slice_set, Option, None, Some, option_map, refl, ap}
 use Rattle.std.proofs.Common.{sym, subst, arith}
 use Rattle.std.proofs.lemmas.List.Sorted.{IsPermutation-append_comm}
 use Rattle.fb_layout.specs.Laid.{LaidSchema, Slot, StoredKind, StoredShape, scalar_kind, struct_kind, table_kind}
 use Rattle.fb_layout.specs.Laid.{union_kind, code_kind, text_kind, one_of, vector_of}
 use Rattle.std.specs.Prelude.{ℤ}
-use Rattle.fb_value.specs.View.{view, parts_view}
-use Rattle.fb_value.specs.declared.values.Value.{Value}
 use Rattle.fb_build.specs.Items.{TargetsEnd}
-use Rattle.fb_build.specs.Needs.{first_waits}
-use Rattle.fb_value.specs.Datum.{Datum, Parts, more_parts, a_number, a_text, a_vector, a_struct, a_table, a_member}
+use Rattle.fb_value.specs.Datum.{Datum, a_number, a_text, a_vector, a_struct, a_table, a_member}
 use Rattle.fb_value.specs.Datum.{an_unknown}
-use Rattle.fb_value.specs.Fits.{Fits, EachFits}
+use Rattle.fb_value.specs.Fits.{Fits}
 use Rattle.fb_value.specs.Num.{Bytes}
 use Rattle.fb_value.specs.Places.{Target, part_place}
 use Rattle.fb_value.specs.Tails.{LiesInTail}
 use Rattle.fb_build.specs.Tails.{TailSeen, Grows}
-use Rattle.fb_build.specs.Fields.{IsSimple, IsElement, SlotFits, is_stored, stored_here, coded, target_for, TargetEnd}
+use Rattle.fb_build.specs.Fields.{IsSimple, SlotFits, is_stored, stored_here, coded, target_for, TargetEnd}
 use Rattle.fb_build.specs.Fields.{EntriesEnd, AreKnown}
 use Rattle.fb_build.specs.Pieces.{PartAt}
 use Rattle.fb_build.specs.CoveredTails.{part_further}
@@ -272,48 +269,6 @@ entry_named L f code d simple fits = by_shape f.shape refl
     by_shape (one_of (code_kind u)) is = absurd (no_code_entry L u d (rw is at fits))
     by_shape (one_of text_kind) is = own
     by_shape (vector_of kind) is = own
-
--- ---- vectors of numbers and structs
-
-text_first : (L : LaidSchema) (d : Datum) (ds : Parts) → Fits L (one_of text_kind) d
-    → first_waits (more_parts d ds) ≡ false → ⊥
-text_first L (a_text b) ds fits e = cc
-text_first L (a_number b) ds fits e = fits
-text_first L (a_vector b) ds fits e = fits
-text_first L (a_struct b) ds fits e = fits
-text_first L (a_table t b) ds fits e = fits
-text_first L (a_member t b) ds fits e = fits
-text_first L (an_unknown b) ds fits e = fits
-
-table_first : (L : LaidSchema) (t : ℕ) (d : Datum) (ds : Parts) → Fits L (one_of (table_kind t)) d
-    → first_waits (more_parts d ds) ≡ false → ⊥
-table_first L u (a_table t b) ds fits e = cc
-table_first L u (a_number b) ds fits e = fits
-table_first L u (a_text b) ds fits e = fits
-table_first L u (a_vector b) ds fits e = fits
-table_first L u (a_struct b) ds fits e = fits
-table_first L u (a_member t b) ds fits e = fits
-table_first L u (an_unknown b) ds fits e = fits
-
-numbers_named : (L : LaidSchema) (s : Bytes) (kind : StoredKind) (ds : List Datum) (ends : List ℕ)
-    → ((d : Datum) → named_of (one_of kind) d ≡ None) → ends_parts L s (named_items kind ds) ends ≡ []
-numbers_named L s kind [] ends none = refl
-numbers_named L s kind (d ∷ ds) ends none = rw (none d, numbers_named L s kind ds (drop 1 ends) none) refl
-
-pub none_wait_named : (L : LaidSchema) (s : Bytes) (kind : StoredKind) (items : List Value) (ends : List ℕ)
-    → IsElement L kind → EachFits L kind (parts_view items) → first_waits (parts_view items) ≡ false
-    → ends_parts L s (named_items kind (map view items)) ends ≡ []
-none_wait_named L s (scalar_kind b) items ends el h none =
-    numbers_named L s (scalar_kind b) (map view items) ends (λ d. refl)
-none_wait_named L s (struct_kind t) items ends el h none =
-    numbers_named L s (struct_kind t) (map view items) ends (λ d. refl)
-none_wait_named L s (union_kind t) items ends el h none = absurd el
-none_wait_named L s (code_kind t) items ends el h none = absurd el
-none_wait_named L s text_kind [] ends el h none = refl
-none_wait_named L s text_kind (v ∷ items) ends el h none = absurd (text_first L (view v) (parts_view items) h.0 none)
-none_wait_named L s (table_kind t) [] ends el h none = refl
-none_wait_named L s (table_kind t) (v ∷ items) ends el h none =
-    absurd (table_first L t (view v) (parts_view items) h.0 none)
 
 -- the parts of all elements lie where they were laid
 pub targets_there : (L : LaidSchema) (o : TailSeen) (kind : StoredKind) (ds : List Datum) (ends : List ℕ)

@@ -1,7 +1,7 @@
 -- The parts of what was laid for slots or elements.
 use Rattle.std.proofs.Common.{◌≡◌, ℕ, zero, suc, ◌+◌, ◌-◌, ◌*◌, ◌<◌, ◌≤◌, ◌++◌, List, [], ◌∷◌, length, map, take, drop}
-use Rattle.std.proofs.Common.{slice_get, slice_index, slice_set, Option, None, Some, refl, ap, sym, ◌∙◌, subst, arith}
-use Rattle.std.proofs.Common.{append_assoc, length-append}
+use Rattle.std.proofs.Common.{slice_get, slice_index, slice_set, Option, None, Some, true, refl, ap, sym, ◌∙◌, subst}
+use Rattle.std.proofs.Common.{arith, append_assoc, length-append}
 use Rattle.std.proofs.lemmas.List.{map-append}
 use Rattle.fb_layout.specs.Laid.{LaidSchema, StoredKind, scalar_kind, struct_kind, table_kind, union_kind, code_kind}
 use Rattle.fb_layout.specs.Laid.{text_kind, one_of, size_of}
@@ -9,10 +9,9 @@ use Rattle.fb_value.specs.Datum.{Datum}
 use Rattle.fb_value.specs.Num.{Bytes}
 use Rattle.fb_value.specs.Places.{text_part, table_part, part_place, target_of}
 use Rattle.fb_value.specs.Tails.{LiesInTail}
-use Rattle.fb_value.specs.View.{view, parts_view}
-use Rattle.fb_value.specs.declared.values.Value.{Value}
+use Rattle.fb_value.specs.View.{parts_in}
 use Rattle.fb_build.specs.Tails.{TailSeen, Grows}
-use Rattle.fb_build.specs.Fields.{IsElement, target_for}
+use Rattle.fb_build.specs.Fields.{IsElement, is_reference, target_for}
 use Rattle.fb_build.specs.Pieces.{PartAt, reached, reached_element, reached_items}
 use Rattle.fb_build.specs.CoveredTails.{part_further}
 use Rattle.fb_build.specs.Made.{LeadsTo, NamedPart, named_of, named_items, parts_at, ends_parts}
@@ -104,17 +103,35 @@ LeadAt L s p kind ds targets = (k : ℕ) (d : Datum) → slice_get ds k ≡ Some
     → (p + k * size_of L kind ≤ length s)
     × LeadsTo s (target_for (one_of kind) d) (length s - (p + k * size_of L kind)) (slice_index targets k)
 
-pub items_reached : (L : LaidSchema) (s : Bytes) (kind : StoredKind) (p : ℕ) (items : List Value) (targets : List ℕ)
-    → IsElement L kind → LeadAt L s p kind (map view items) targets
-    → reached_items L s kind p (parts_view items) ≡ ends_parts L s (named_items kind (map view items)) targets
+pub items_reached : (L : LaidSchema) (s : Bytes) (kind : StoredKind) (p : ℕ) (ds : List Datum) (targets : List ℕ)
+    → IsElement L kind → LeadAt L s p kind ds targets
+    → reached_items L s kind p (parts_in ds) ≡ ends_parts L s (named_items kind ds) targets
 items_reached L s kind p [] targets el leads = refl
-items_reached L s kind p (v ∷ items) targets el leads =
+items_reached L s kind p (d ∷ ds) targets el leads =
     let z = size_of L kind in
     let first : p + 0 * z ≡ p = omega arith in
-    let now = leads 0 (view v) refl in
+    let now = leads 0 d refl in
     let here = rw first at now in
-    let one = element_reached L s kind (view v) p (slice_index targets 0) el here.0 here.1 in
-    let rest = items_reached L s kind (p + z) items (drop 1 targets) el
-    (λ k d is. let at : p + suc k * z ≡ (p + z) + k * z = omega arith in
-    rw (first_dropped targets k, ← at) (leads (suc k) d is)) in
+    let one = element_reached L s kind d p (slice_index targets 0) el here.0 here.1 in
+    let rest = items_reached L s kind (p + z) ds (drop 1 targets) el
+    (λ k e is. let at : p + suc k * z ≡ (p + z) + k * z = omega arith in
+    rw (first_dropped targets k, ← at) (leads (suc k) e is)) in
     rw (one, rest) refl
+
+-- numbers and structs reach nothing
+inline_reached : (L : LaidSchema) (s : Bytes) (kind : StoredKind) (p : ℕ) (ds : List Datum) → target_of kind ≡ None
+    → reached_items L s kind p (parts_in ds) ≡ []
+inline_reached L s kind p [] none = refl
+inline_reached L s kind p (d ∷ ds) none =
+    rw none (inline_reached L s kind (p + size_of L kind) ds none)
+
+pub none_reached : (L : LaidSchema) (s : Bytes) (kind : StoredKind) (p : ℕ) (ds : List Datum) → IsElement L kind
+    → (is_reference (one_of kind) ≡ true → length ds ≡ 0) → reached_items L s kind p (parts_in ds) ≡ []
+none_reached L s (scalar_kind b) p ds el none = inline_reached L s (scalar_kind b) p ds refl
+none_reached L s (struct_kind b) p ds el none = inline_reached L s (struct_kind b) p ds refl
+none_reached L s text_kind p [] el none = refl
+none_reached L s text_kind p (d ∷ ds) el none = absurd (omega (arith, none refl))
+none_reached L s (table_kind u) p [] el none = refl
+none_reached L s (table_kind u) p (d ∷ ds) el none = absurd (omega (arith, none refl))
+none_reached L s (union_kind u) p ds el none = absurd el
+none_reached L s (code_kind u) p ds el none = absurd el

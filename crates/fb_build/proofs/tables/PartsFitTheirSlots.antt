@@ -8,7 +8,7 @@ use Rattle.fb_schema.specs.declared.types.FieldInfo.{FieldInfo}
 use Rattle.fb_schema.specs.Seen.{field_seen}
 use Rattle.fb_layout.specs.Laid.{LaidSchema, Slot, slot_of, slots_of, StoredShape, scalar_kind, struct_kind, table_kind}
 use Rattle.fb_layout.specs.Laid.{union_kind, code_kind, text_kind, one_of, vector_of}
-use Rattle.fb_value.specs.Datum.{Datum, more_parts, a_number, a_text, a_vector, a_struct, a_table, a_member, an_unknown}
+use Rattle.fb_value.specs.Datum.{Datum, a_number, a_text, a_vector, a_struct, a_table, a_member, an_unknown}
 use Rattle.fb_value.specs.Entries.{EntryFits, entry_room}
 use Rattle.fb_value.specs.Fits.{Fits, EntriesFit, EachFits}
 use Rattle.fb_value.specs.Room.{room, parts_room, entries_room}
@@ -26,7 +26,7 @@ use Rattle.fb_build.proofs.fields.AlignmentDividesTheSize.{all_known}
 use Rattle.fb_value.specs.Counts.{is_whole, parts_whole, entries_whole}
 use Rattle.fb_build.proofs.fields.NumbersHaveDefaults.{slots_default}
 use Rattle.fb_build.proofs.fields.CodeIsBeforeItsUnion.{slots_paired, stored_known, entry_whole}
-use Rattle.fb_build.specs.Needs.{first_waits, need, parts_need, entries_count, entries_need, entry_need}
+use Rattle.fb_build.specs.Needs.{need, parts_need, entries_count, entries_need, entry_need}
 use Rattle.std.proofs.lemmas.Bool.{and_parts}
 use Rattle.fb_build.proofs.fields.FieldHasItsValue.{entry_grown, target_grown}
 use Rattle.fb_build.proofs.vectors.VectorHasItsElements.{parts_next}
@@ -312,36 +312,3 @@ pub under_views : (items : List Value) (k : ℕ) (d : Datum) → slice_get (map 
 under_views [] k d e = cc
 under_views (v ∷ items) zero d e = omega arith
 under_views (v ∷ items) (suc k) d e = omega (arith, under_views items k d e)
-
--- Nothing waits for the elements of a vector of numbers or structs.
-pub none_wait : (L : LaidSchema) (m : ℕ) (s : Bytes) (kind : StoredKind) (items : List Value) → IsElement L kind
-    → EachFits L kind (parts_view items) → first_waits (parts_view items) ≡ false
-    → (k : ℕ) (d : Datum) → slice_get (map view items) k ≡ Some d → (ends : List ℕ)
-    → TargetEnd L m s (target_for (one_of kind) d) (slice_index ends k) d
-none_wait L m s (scalar_kind b) items el h none k d at ends = tt
-none_wait L m s (struct_kind t) items el h none k d at ends = tt
-none_wait L m s (union_kind t) items el h none k d at ends = absurd el
-none_wait L m s (code_kind t) items el h none k d at ends = absurd el
-none_wait L m s text_kind [] el h none k d at ends = cc
-none_wait L m s text_kind (v ∷ items) el h none k d at ends = absurd (text_waits (view v) h.0 none)
-  where
-    text_waits : (x : Datum) → Fits L (one_of text_kind) x → first_waits (more_parts x (parts_view items)) ≡ false → ⊥
-    text_waits (a_text b) fits e = cc
-    text_waits (a_number b) fits e = fits
-    text_waits (a_vector b) fits e = fits
-    text_waits (a_struct b) fits e = fits
-    text_waits (a_table t b) fits e = fits
-    text_waits (a_member t b) fits e = fits
-    text_waits (an_unknown b) fits e = fits
-none_wait L m s (table_kind t) [] el h none k d at ends = cc
-none_wait L m s (table_kind t) (v ∷ items) el h none k d at ends = absurd (table_waits (view v) h.0 none)
-  where
-    table_waits : (x : Datum) → Fits L (one_of (table_kind t)) x → first_waits (more_parts x (parts_view items)) ≡ false
-        → ⊥
-    table_waits (a_table u b) fits e = cc
-    table_waits (a_number b) fits e = fits
-    table_waits (a_text b) fits e = fits
-    table_waits (a_vector b) fits e = fits
-    table_waits (a_struct b) fits e = fits
-    table_waits (a_member u b) fits e = fits
-    table_waits (an_unknown b) fits e = fits

@@ -13,7 +13,7 @@ use Rattle.fb_value.specs.Num.{Bytes, num, divides}
 use Rattle.fb_value.specs.Places.{part_place, ref_place, table_part, text_part, vector_part, target_of}
 use Rattle.fb_value.specs.Rules.{Aligned, fault_by, KeepsBy}
 use Rattle.fb_value.specs.Lies.{ElementBy, LiesBy, LiesItemsBy}
-use Rattle.fb_value.specs.View.{view, parts_view}
+use Rattle.fb_value.specs.View.{view, parts_in, parts_view}
 use Rattle.fb_value.specs.declared.values.Value.{Value}
 use Rattle.fb_value.specs.EachTable.{EachElement, EachItem, EachTable, EachTableAt, IsOldTable}
 use Rattle.fb_value.specs.Tails.{from_end}
@@ -265,19 +265,28 @@ vector_end L m n a b kind ds el g e short counted whole wide own room items =
       inline = rw first laid.3;
     }
 
-pub parts_back : (items : List Value) (k : ℕ) (v : Value) → k < length items → v ≡ get_or items (length items - 1 - k) v
-    → parts_view (drop (length items - (k + 1)) items)
-    ≡ more_parts (view v) (parts_view (drop (length items - k) items))
-parts_back items k v low is =
-    let i = length items - 1 - k in
-    let a : length items - (k + 1) ≡ length items - 1 - k = omega arith in
-    let b : suc (length items - 1 - k) ≡ length items - k = omega (arith, low) in
-    rw a (subst (λ (j : ℕ). parts_view (drop (length items - 1 - k) items)
-    ≡ more_parts (view v) (parts_view (drop j items))) b
-    (parts_next items (length items - 1 - k) v (omega (arith, low)) is))
+-- ---- elements from the last to the first
 
-pub parts_none : (items : List Value) (n : ℕ) → length items ≤ n → parts_view (drop n items) ≡ no_parts
+data_next : (ds : List Datum) (i : ℕ) (d : Datum) → slice_get ds i ≡ Some d
+    → parts_in (drop i ds) ≡ more_parts d (parts_in (drop (suc i) ds))
+data_next [] i d is = cc
+data_next (x ∷ ds) zero d is = let same : x ≡ d = cc in rw same refl
+data_next (x ∷ ds) (suc i) d is = data_next ds i d is
+
+pub parts_back : (ds : List Datum) (n k : ℕ) (d : Datum) → k < n → slice_get ds (n - 1 - k) ≡ Some d
+    → parts_in (drop (n - (k + 1)) ds) ≡ more_parts d (parts_in (drop (n - k) ds))
+parts_back ds n k d low is =
+    let a : n - (k + 1) ≡ n - 1 - k = omega arith in
+    let b : suc (n - 1 - k) ≡ n - k = omega (arith, low) in
+    rw a (subst (λ (j : ℕ). parts_in (drop (n - 1 - k) ds) ≡ more_parts d (parts_in (drop j ds))) b
+    (data_next ds (n - 1 - k) d is))
+
+pub parts_none : (ds : List Datum) (n : ℕ) → length ds ≤ n → parts_in (drop n ds) ≡ no_parts
 parts_none [] zero h = refl
 parts_none [] (suc n) h = refl
-parts_none (x ∷ items) zero h = absurd (omega (arith, h))
-parts_none (x ∷ items) (suc n) h = parts_none items n (omega (arith, h))
+parts_none (x ∷ ds) zero h = absurd (omega (arith, h))
+parts_none (x ∷ ds) (suc n) h = parts_none ds n (omega (arith, h))
+
+pub count_parts : (ds : List Datum) → count (parts_in ds) ≡ length ds
+count_parts [] = refl
+count_parts (d ∷ ds) = ap suc (count_parts ds)

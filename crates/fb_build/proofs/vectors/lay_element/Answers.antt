@@ -1,4 +1,4 @@
-use Rattle.std.proofs.Common.{◌≡◌, ◌∙◌, Some, ap, sym, refl, length, subst, to_z, of_z}
+use Rattle.std.proofs.Common.{◌≡◌, ◌∙◌, Some, ap, sym, length, subst, to_z, of_z}
 use mir.Syntax.{w128}
 use Rattle.std.specs.Prelude.{ℤ}
 use Rattle.fb_layout.specs.Laid.{stored_kind, scalar_kind, one_of}
@@ -7,10 +7,8 @@ use Rattle.fb_value.specs.Places.{inline_place}
 use Rattle.fb_value.specs.View.{view}
 use Rattle.fb_build.specs.Fields.{scalar_in, number_in}
 use Rattle.fb_build.specs.Tails.{LaidInTail}
-use Rattle.fb_build.proofs.fields.EntriesStandIn.{target_inside}
 use Rattle.fb_build.proofs.fields.FieldHasItsValue.{number_fits, number_element}
 use Rattle.fb_build.proofs.numbers.NumberFitsItsSize.{same_wide}
-use Rattle.fb_build.proofs.covered.ReferenceLeadsThereFurtherOn.{number_leads_nowhere}
 use Rattle.fb_build.proofs.vectors.lay_element.Goals as goal
 
 pub returns-in-Some-clause-lies : goal.returns-in-Some-clause-lies
@@ -27,19 +25,3 @@ returns-in-Some-clause-lies c =
     number_element L n.most n.bytes (one_of kind) base d scalar c.requires.fits
     (subst (λ (z : ℤ). LaidInTail L n.most n.bytes (inline_place (scalar_kind base)) (length n.bytes) (a_number z))
     number (c.lay_number.ensures.lies L))
-
-pub returns-in-Some-clause-leads : goal.returns-in-Some-clause-leads
-returns-in-Some-clause-leads c =
-    let L = c.args.layout.now in
-    rw (number_leads_nowhere (one_of (stored_kind L.schema c.args.kind)) c.in-Some.base (view c.args.value.now)
-    (sym c.requires.base ∙ c.in-Some.is)) tt
-
-pub lay_place-requires-clause-inside : goal.lay_place-requires-clause-inside
-lay_place-requires-clause-inside c reference =
-    let L = c.args.layout.now in
-    target_inside L c.args.out.now.most c.args.out.now.bytes (one_of (stored_kind L.schema c.args.kind))
-    (view c.args.value.now) c.args.end reference c.requires.fits c.requires.target
-
-pub returns-in-None-clause-lies : goal.returns-in-None-clause-lies
-returns-in-None-clause-lies c =
-    c.lay_place.ensures.lies (view c.args.value.now) c.requires.fits (λ none. refl) c.requires.target

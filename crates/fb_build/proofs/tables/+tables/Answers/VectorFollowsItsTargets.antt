@@ -1,25 +1,23 @@
 -- A vector is laid once all that its elements refer to is laid.
-use Rattle.std.proofs.Common.{◌≡◌, ◌<◌, ◌-◌, ◌∙◌, true, false, Option, List, [], ◌∷◌, Some, take, slice_get, refl, sym}
+use Rattle.std.proofs.Common.{◌≡◌, ◌<◌, ◌∙◌, true, false, Option, List, Some, take, slice_get, refl, sym}
 use Rattle.std.proofs.Common.{ap, subst, length, map, arith, rules}
 use Rattle.fb_value.specs.View.{view, parts_view}
 use Rattle.fb_value.specs.declared.values.Value.{the_lemmas}
 use Rattle.fb_value.proofs.types.EachVariantHasItsView.{count-parts_view}
 use Rattle.fb_build.proofs.builder.BuildsFollowEachOther.{builds_nothing, builds_then}
 use Rattle.fb_build.proofs.tables.PartsFitTheirSlots.{part_fits, target_end, each_at, whole_at, needs_item, item_room}
-use Rattle.fb_build.proofs.tables.PartsFitTheirSlots.{item_passed, none_wait}
+use Rattle.fb_build.proofs.tables.PartsFitTheirSlots.{item_passed}
+use Rattle.fb_build.proofs.tables.ReferencesWait.{none_wait, waiting_references}
 use Rattle.fb_build.specs.Needs.{first_waits}
 use Rattle.fb_build.proofs.vectors.VectorHasItsElements.{views_at}
 use Rattle.fb_build.proofs.fields.AlignmentDividesTheSize.{element_simple}
 use Rattle.fb_layout.specs.Laid.{stored_kind, one_of}
 use Rattle.std.proofs.lemmas.List.{length-map}
-use Rattle.fb_value.specs.Datum.{a_vector}
-use Rattle.fb_value.specs.Places.{vector_part}
 use Rattle.fb_build.specs.Pieces.{PartAt}
-use Rattle.fb_build.specs.CoveredTails.{parts_in_tail}
 use Rattle.fb_build.specs.Made.{Adds, NamedPart, named_items, part_named, ends_parts}
 use Rattle.fb_build.proofs.covered.PartsInFrontAreAdded.{adds_nothing}
 use Rattle.fb_build.proofs.tables.EndsNameTheParts.{take_whole}
-use Rattle.fb_build.proofs.tables.EachSlotAddsItsParts.{adds_step, items_there, item_at, same_named, none_wait_named}
+use Rattle.fb_build.proofs.tables.EachSlotAddsItsParts.{adds_step, items_there, item_at, same_named}
 use Rattle.fb_build.proofs.tables.EachSlotAddsItsParts.{targets_there, adds_with}
 use Rattle.fb_build.proofs.vtables.EachVtableIsAKey.{part_known}
 use Rattle.fb_build.proofs.tables.+tables.Goals as goal
@@ -50,14 +48,23 @@ item_targets_fit t c =
       ),
     )
 
-pub nothing_waits : goal.lay_items-close_vector-requires-clause-targets
-nothing_waits t c k d at =
+pub no_reference_waits : goal.lay_items-close_vector-requires-clause-inline
+no_reference_waits t c reference =
     let L = c.args.layout.now in
     let items = c.args.items.now in
     let none : first_waits (parts_view items) ≡ false =
     (sym c.waits.ensures ∙ c.if-not-waits.true) in
-    none_wait L c.args.builder.now.tail.most c.args.builder.now.tail.bytes (stored_kind L.schema c.args.kind) items
-    c.requires.fits.0 c.requires.fits.1 none k d at []
+    sym (count-parts_view items)
+    ∙ none_wait L (stored_kind L.schema c.args.kind) (parts_view items) c.requires.fits.1 none c.requires.fits.0
+    reference
+
+pub references_wait : goal.lay_items-close_references-requires-clause-references
+references_wait t c =
+    let L = c.args.layout.now in
+    let items = c.args.items.now in
+    let some : first_waits (parts_view items) ≡ true =
+    (sym c.waits.ensures ∙ c.if-not-waits.false) in
+    waiting_references L (stored_kind L.schema c.args.kind) (parts_view items) c.requires.fits.1 some c.requires.fits.0
 
 pub no_item_yet : goal.lay_item_targets-loop-k-init
 no_item_yet t c = record {
@@ -155,19 +162,8 @@ items_add_their_parts t c =
 
 pub vector_adds_itself : goal.lay_items-returns-then-not-waits-clause-adds
 vector_adds_itself t c =
-    let L = c.args.layout.now in
-    let kind = stored_kind L.schema c.args.kind in
-    let items = c.args.items.now in
-    let n = c.close_vector.new.out in
-    let none : first_waits (parts_view items) ≡ false =
-    (sym c.waits.ensures ∙ c.if-not-waits.true) in
-    let leads = c.close_vector.ensures.leads in
-    let own : PartAt = record { target = vector_part kind; at = length n.bytes - c.close_vector.result } in
-    let alone : parts_in_tail L n.bytes (vector_part kind) c.close_vector.result (a_vector (parts_view items))
-    ≡ own ∷ [] =
-    leads ∙ ap (λ zs. own ∷ zs) (none_wait_named L n.bytes kind items _ c.requires.fits.0 c.requires.fits.1 none) in
-    subst (λ (zs : List PartAt). Adds L c.args.builder.now.tail c.args.builder.now.places.items n
-    c.args.builder.now.places.items zs) (sym alone)
+    subst (λ (zs : List PartAt). Adds c.args.layout.now c.args.builder.now.tail c.args.builder.now.places.items
+    c.close_vector.new.out c.args.builder.now.places.items zs) (sym c.close_vector.ensures.leads)
     (c.close_vector.ensures.adds c.args.builder.now.places.items)
 
 pub vector_adds_its_parts : goal.lay_items-returns-clause-adds
@@ -176,13 +172,13 @@ vector_adds_its_parts t c =
     let kind = stored_kind L.schema c.args.kind in
     let items = c.args.items.now in
     let o = c.lay_item_targets.new.builder.tail in
-    let n = c.close_vector-2.new.out in
-    let leads = c.close_vector-2.ensures.leads in
+    let n = c.close_references.new.out in
+    let leads = rw c.of-ghosts.ensures at c.close_references.ensures.leads in
     subst (λ (zs : List PartAt). Adds L c.args.builder.now.tail c.args.builder.now.places.items n
     c.lay_item_targets.new.builder.places.items zs) (sym leads)
     (adds_with L c.args.builder.now.tail o n c.args.builder.now.places.items
     c.lay_item_targets.new.builder.places.items c.lay_item_targets.new.builder.places.items _
     (named_items kind (map view items)) c.lay_item_targets.new.ends c.lay_item_targets.ensures.builds.grows
-    c.close_vector-2.ensures.grows
+    c.close_references.ensures.grows
     (targets_there L o kind (map view items) c.lay_item_targets.new.ends c.lay_item_targets.ensures.state)
-    c.lay_item_targets.ensures.adds (c.close_vector-2.ensures.adds c.lay_item_targets.new.builder.places.items))
+    c.lay_item_targets.ensures.adds (c.close_references.ensures.adds c.lay_item_targets.new.builder.places.items))
