@@ -1,2 +1,3 @@
 pub mod TailWithItsRootIsABuffer
 pub mod RootIsMadeOfItsParts
+pub mod EntriesAreKnown

@@ -2,9 +2,10 @@
 use Rattle.std.specs.Prelude.{ℕ, ◌≡◌, ◌++◌, false, true, List, [], ◌∷◌, Option, Some, length, slice_get}
 use Rattle.fb_layout.specs.Laid.{LaidSchema, Slot, StoredKind, slots_of, one_of, vector_of}
 use Rattle.fb_value.specs.Counts.{is_whole}
-use Rattle.fb_value.specs.Datum.{Datum}
+use Rattle.fb_value.specs.Datum.{Datum, a_table}
 use Rattle.fb_value.specs.Entries.{EntryFits}
 use Rattle.fb_value.specs.Fits.{Fits}
+use Rattle.fb_value.specs.View.{entries_in}
 use Rattle.fb_build.specs.Parts.{EntryWhole}
 use Rattle.fb_build.specs.Fields.{is_reference}
 
@@ -50,3 +51,7 @@ with_entry b x = record b { entries = b.entries ++ (x ∷ []) }
 -- one element more
 abbrev pub with_element : BuiltSoFar → Datum → BuiltSoFar
 with_element b d = record b { elements = b.elements ++ (d ∷ []) }
+
+-- the value whose entries are these
+abbrev pub root_value : BuiltSoFar → Datum
+root_value b = a_table b.layout.schema.root (entries_in b.entries)

@@ -1,16 +1,24 @@
 //! A buffer that is laid while its value comes in.
-ghost use Rattle.std.specs.Prelude.{◌≡◌, ◌<◌, [], Some, OnErr, OnOk, IfOk, length, option_map, slice_get};
+ghost use Rattle.std.specs.Prelude.{◌≡◌, ◌≤◌, ◌<◌, Bool, [], Some, OnErr, OnOk, IfErr, IfOk, length, option_map, slice_get};
+ghost use Rattle.fb_value.specs.Bounds.{Bounds};
+ghost use Rattle.fb_value.specs.Counts.{cells, depth};
+ghost use Rattle.fb_value.specs.Holds.{Holds};
+ghost use Rattle.fb_value.specs.OldSlots.{OnlyOld};
+ghost use Rattle.fb_value.specs.Room.{room_of};
+ghost use Rattle.fb_build.specs.Covered.{Covered, EndsAligned};
+ghost use Rattle.fb_build.specs.declared.faults.BuildFault.TheVariants.{TooBig, Memory};
 ghost use Rattle.fb_layout.specs.Laid.{LaidSchema, Slot, slot_of};
 ghost use Rattle.fb_value.specs.Entries.{EntryFits};
 ghost use Rattle.fb_build.specs.EntryStands.{EntryStands};
 ghost use Rattle.fb_build.specs.Parts.{EntryWhole};
 ghost use Rattle.fb_schema.specs.Seen.{field_seen};
 ghost use Rattle.fb_value.specs.View.{view};
-ghost use Rattle.fb_build.specs.BuiltSoFar.{FitsNext, FitsVector, IsNext, root_slots, with_element, with_entry};
+ghost use Rattle.fb_build.specs.BuiltSoFar.{FitsNext, FitsVector, root_slots, root_value, with_element, with_entry};
 
 use crate::data::{ElementData, EntryData};
 use crate::drafts::Draft;
 use crate::drops::drop_value;
+use crate::faults::BuildFault;
 use fb_layout::{Layout, kind_in};
 use fb_schema::{FieldInfo, Shape};
 use fb_value::Value;
@@ -131,5 +139,32 @@ impl<'l> BufferBuilder<'l> {
         self.elements.push(value);
         self.element_ends.push_reserved(end);
         Ok(())
+    }
+
+    /// Lays the root's table, whose entries are all there, and what is before it, and returns the bytes.
+    pub fn finish(self) -> Result<Vec<u8>, BuildFault>
+        requires all { length self.entries ≡ length (root_slots self.layout) }
+        requires closed { self.elements ≡ [] }
+        ensures holds { IfOk result (λ b. (most : Bounds) (raw : Bool)
+            → depth (root_value self.entry) ≤ most.depth → cells (root_value self.entry) ≤ most.cells
+            → Holds self.entry.layout most raw b.items (root_value self.entry)) }
+        ensures old_slots { IfOk result (λ b. OnlyOld self.entry.layout b.items) }
+        ensures covered { IfOk result (λ b. Covered self.entry.layout b.items) }
+        ensures aligned { IfOk result (λ b. EndsAligned self.entry.layout b.items) }
+        ensures short { IfOk result (λ b. length b.items ≤ room_of self.entry.layout (root_value self.entry)) }
+        ensures small { IfOk result (λ b. room_of self.entry.layout (root_value self.entry) ≤ 2147483647) }
+        ensures too_big { IfErr result (λ e. e ≡ TooBig
+            → 2147483647 < room_of self.entry.layout (root_value self.entry)) }
+        ensures memory { IfErr result (λ e. e ≡ Memory
+            → room_of self.entry.layout (root_value self.entry) ≤ 2147483647) }
+    {
+        let BufferBuilder {
+            draft,
+            entries,
+            mut ends,
+            data,
+            ..
+        } = self;
+        draft.into_buffer(entries.as_slice(), &data, ends.as_mut_slice())
     }
 }

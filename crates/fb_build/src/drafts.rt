@@ -1,26 +1,37 @@
 //! A buffer that is laid part by part.
 ghost use Rattle.std.specs.Prelude.{◌≡◌, ◌≤◌, ◌<◌, ◌+◌, ◌-◌, ◌++◌, true, [], length, replicate};
-ghost use Rattle.std.specs.Prelude.{IfOk, OnOk, OnErr};
-ghost use Rattle.fb_layout.specs.Laid.{align_of, kind_in};
+ghost use Rattle.std.specs.Prelude.{Bool, IfOk, IfErr, OnOk, OnErr};
+ghost use Rattle.fb_layout.specs.Laid.{align_of, kind_in, slots_of};
 ghost use Rattle.fb_layout.specs.Widths.{greatest};
-ghost use Rattle.fb_value.specs.Counts.{is_whole};
-ghost use Rattle.fb_value.specs.Fits.{Fits};
-ghost use Rattle.fb_value.specs.Room.{room};
+ghost use Rattle.fb_value.specs.Bounds.{Bounds};
+ghost use Rattle.fb_value.specs.Counts.{cells, depth, entries_whole, is_whole};
+ghost use Rattle.fb_value.specs.Datum.{a_table};
+ghost use Rattle.fb_value.specs.Fits.{EntriesFit, Fits};
+ghost use Rattle.fb_value.specs.Holds.{Holds};
+ghost use Rattle.fb_value.specs.OldSlots.{OnlyOld};
+ghost use Rattle.fb_value.specs.Room.{entries_room, room, room_of};
 ghost use Rattle.fb_value.specs.UpTo.{at_most_usize};
-ghost use Rattle.fb_value.specs.View.{view};
+ghost use Rattle.fb_value.specs.View.{entries_in, entries_view, view};
+ghost use Rattle.fb_build.specs.Covered.{Covered, EndsAligned};
 ghost use Rattle.fb_build.specs.Drafted.{Continues, IsAsBefore};
-ghost use Rattle.fb_build.specs.Fields.{IsSimple, shape_seen};
+ghost use Rattle.fb_build.specs.Fields.{IsSimple, entries_seen, shape_seen, stored_in};
 ghost use Rattle.fb_build.specs.Made.{Adds, IsMade, part_named, parts_at};
 ghost use Rattle.fb_build.specs.Parts.{PartEnd};
+ghost use Rattle.fb_build.specs.Roots.{AreTargetsLaid};
+ghost use Rattle.fb_build.specs.StandIns.{AllStandIn};
+ghost use Rattle.fb_build.specs.declared.faults.BuildFault.TheVariants.{TooBig, Memory};
 
 use crate::builder::Builder;
-use crate::keys::add_tables;
+use crate::data::EntryData;
+use crate::faults::BuildFault;
+use crate::keys::{add_tables, add_vtable};
 use crate::needs::Needs;
+use crate::roots::close_root;
 use crate::tables::lay_part;
 use crate::tail::{MOST_BYTES, Tail};
 use fb_layout::Layout;
 use fb_schema::Shape;
-use fb_value::Value;
+use fb_value::{Value, buffer_room, table_room};
 use indexmap::IndexSet;
 use std::alloc::{AllocError, Global};
 use std::marker::Model;
@@ -170,5 +181,80 @@ impl<'l> Draft<'l> {
             value,
             self.pending.as_mut_slice(),
         ))
+    }
+
+    /// Lays the root's table, whose entries in memory may stand in for what was laid, and what stands in front of it.
+    pub fn into_buffer(
+        self,
+        entries: &[Option<Value>],
+        data: &EntryData,
+        ends: &mut [u32],
+    ) -> Result<Vec<u8>, BuildFault>
+        requires fits { EntriesFit self.layout (slots_of self.layout self.layout.schema.root)
+            (entries_in data.now.entries) }
+        requires whole { entries_whole (entries_in data.now.entries) ≡ true }
+        requires held_fits { EntriesFit self.layout
+            (slots_of self.layout self.layout.schema.root) (entries_view entries.now) }
+        requires held_whole { entries_whole (entries_view entries.now) ≡ true }
+        requires stands { AllStandIn (slots_of self.layout self.layout.schema.root)
+            (stored_in (slots_of self.layout self.layout.schema.root) (entries_seen entries.now))
+            (stored_in (slots_of self.layout self.layout.schema.root) data.now.entries) }
+        requires room { self.room ≡ at_most_usize (entries_room self.layout
+            (slots_of self.layout self.layout.schema.root) (entries_in data.now.entries)) }
+        requires targets { self.room ≤ 2147483647
+            → AreTargetsLaid self.layout self.tail self.places self.layout.schema.root
+            data.now.entries ends.old }
+        ensures holds { IfOk result (λ b. (most : Bounds) (raw : Bool)
+            → depth (a_table self.entry.layout.schema.root (entries_in data.now.entries)) ≤ most.depth
+            → cells (a_table self.entry.layout.schema.root (entries_in data.now.entries)) ≤ most.cells
+            → Holds self.entry.layout most raw b.items
+            (a_table self.entry.layout.schema.root (entries_in data.now.entries))) }
+        ensures old_slots { IfOk result (λ b. OnlyOld self.entry.layout b.items) }
+        ensures covered { IfOk result (λ b. Covered self.entry.layout b.items) }
+        ensures aligned { IfOk result (λ b. EndsAligned self.entry.layout b.items) }
+        ensures short { IfOk result (λ b. length b.items ≤ room_of self.entry.layout
+            (a_table self.entry.layout.schema.root (entries_in data.now.entries))) }
+        ensures small { IfOk result (λ b. room_of self.entry.layout
+            (a_table self.entry.layout.schema.root (entries_in data.now.entries)) ≤ 2147483647) }
+        ensures too_big { IfErr result (λ e. e ≡ TooBig → 2147483647 < room_of self.entry.layout
+            (a_table self.entry.layout.schema.root (entries_in data.now.entries))) }
+        ensures memory { IfErr result (λ e. e ≡ Memory → room_of self.entry.layout
+            (a_table self.entry.layout.schema.root (entries_in data.now.entries)) ≤ 2147483647) }
+    {
+        let Draft {
+            alloc,
+            layout,
+            mut builder,
+            ends: mut counts,
+            mut pending,
+            room,
+        } = self;
+        let root = layout.schema().root(); // the schema's contract: the layout is well made
+        let Some(whole) = buffer_room(layout, room.saturating_add(table_room(layout, root))) else {
+            return Err(BuildFault::TooBig);
+        };
+        add_vtable(
+            alloc,
+            &mut builder.vtables,
+            layout,
+            root,
+            entries,
+            counts.as_mut_slice(),
+            builder.scratch.as_mut_slice(),
+        )?;
+        let known = builder.vtables.len();
+        let needs = Needs {
+            room: whole as usize - room,
+            waiting: 0,
+        };
+        reserve(
+            alloc,
+            &mut builder.tail,
+            &mut builder.places,
+            &mut pending,
+            known,
+            needs,
+        )?;
+        Ok(close_root(layout, root, builder, entries, data, ends))
     }
 }

@@ -75,7 +75,7 @@ fn place_fields(
 }
 
 /// Adds the vtable of a table, unless it is known.
-fn add_vtable(
+pub(crate) fn add_vtable(
     alloc: Global,
     known: &mut IndexSet<Vec<u8>>,
     layout: &Layout,

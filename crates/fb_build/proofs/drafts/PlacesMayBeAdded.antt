@@ -1,27 +1,20 @@
 -- Vtables that aren't laid yet may become known, each with the place 0.
-use Rattle.std.proofs.Common.{◌≡◌, ℕ, zero, suc, ◌+◌, ◌-◌, ◌<◌, ◌≤◌, ◌++◌, inl, inr, List, [], ◌∷◌, Some, length, take}
-use Rattle.std.proofs.Common.{replicate, slice_get, slice_index, refl, ap, arith, length-append}
-use Rattle.std.specs.List.{AllClonesOf}
+use Rattle.std.proofs.Common.{◌≡◌, ℕ, zero, suc, ◌+◌, ◌-◌, ◌<◌, ◌≤◌, ◌++◌, List, [], ◌∷◌, Option, Some, length, take}
+use Rattle.std.proofs.Common.{replicate, slice_get, slice_index, refl, ap, sym, subst, arith, length-append}
 use Rattle.std.proofs.lemmas.List.{length-replicate}
-use Rattle.fb_layout.specs.Laid.{LaidSchema}
+use Rattle.fb_layout.specs.Laid.{LaidSchema, slots_of}
+use Rattle.fb_value.specs.Datum.{Datum}
 use Rattle.fb_value.specs.Num.{Bytes}
-use Rattle.fb_build.specs.Made.{Adds, IsMade, laid_at}
+use Rattle.fb_build.specs.Fields.{stored_in}
+use Rattle.fb_build.specs.Made.{Adds, IsMade, ends_parts, laid_at, named_fields}
 use Rattle.fb_build.specs.Pieces.{PartAt}
+use Rattle.fb_build.specs.Roots.{AreTargetsLaid}
 use Rattle.fb_build.specs.TableBytes.{AreLaid}
 use Rattle.fb_build.specs.Tails.{TailSeen}
 use Rattle.fb_build.specs.Vtables.{AreKept}
 use Rattle.fb_build.proofs.buffers.ReservedMemoryIsZero.{zero_at}
 use Rattle.fb_build.proofs.covered.LaidBufferIsCovered.{nothing_laid}
 use Rattle.fb_build.proofs.fields.SlotStoresItsEntry.{same_some}
-
--- what is appended to a vector of numbers, where a clone is the same number
-pub zeros_appended : (clones : ℕ → ℕ → Type 0) (ys : List ℕ) → ((y : ℕ) → clones 0 y → y ≡ 0) → AllClonesOf clones 0 ys
-    → ys ≡ replicate (length ys) 0
-zeros_appended clones [] same all = refl
-zeros_appended clones (y ∷ ys) same all =
-    let first : y ≡ 0 = elim all.0 [ inl h ↦ h | inr h ↦ same y h ] in
-    let rest = zeros_appended clones ys same all.1 in
-    rw (first, ← rest) refl
 
 -- ---- places of 0 at the end
 
@@ -72,6 +65,19 @@ pub adds_more : (L : LaidSchema) (a b c : TailSeen) (places after : List ℕ) (n
 adds_more L a b c places after n ys bytes most adds xs made =
     let long = ap length bytes in
     rw long at adds xs (made_more L b places n xs (made_same L a b places xs bytes most made))
+
+pub targets_more : (L : LaidSchema) (a b : TailSeen) (places : List ℕ) (n t : ℕ) (xs : List (Option Datum))
+    (ends : List ℕ) → b.bytes ≡ a.bytes → b.most ≡ a.most → AreTargetsLaid L a places t xs ends
+    → AreTargetsLaid L b (places ++ replicate n 0) t xs ends
+targets_more L a b places n t xs ends bytes most h =
+    let ns = named_fields (slots_of L t) (stored_in (slots_of L t) xs) in
+    let made = made_more L b places n (ends_parts L a.bytes ns ends)
+    (made_same L a b places (ends_parts L a.bytes ns ends) bytes most h.made) in
+    record {
+      each = h.each;
+      lie = rw (bytes, most) h.lie;
+      made = subst (λ (s : Bytes). IsMade L b (places ++ replicate n 0) (ends_parts L s ns ends)) (sym bytes) made;
+    }
 
 -- ---- the vtables that were known before
 

@@ -1,10 +1,15 @@
 -- A table's vtable tells which of its slots store something, not what.
-use Rattle.std.proofs.Common.{◌≡◌, ℕ, zero, suc, List, [], ◌∷◌, take, Option, refl}
-use Rattle.fb_layout.specs.Laid.{LaidSchema, Slot}
+use Rattle.std.proofs.Common.{◌≡◌, ℕ, zero, suc, List, [], ◌∷◌, length, take, slice_get, Option, Some, refl, sym}
+use Rattle.std.proofs.Common.{arith}
+use Rattle.fb_layout.specs.Laid.{LaidSchema, Slot, slots_of}
 use Rattle.fb_layout.specs.Widths.{inline_align}
 use Rattle.fb_value.specs.Datum.{Datum}
+use Rattle.fb_value.specs.View.{entries_in}
 use Rattle.fb_build.specs.FieldEnds.{ends_from, field_ends, stored_end, table_vtable}
-use Rattle.fb_build.specs.Fields.{fields_size, is_stored, size_above, size_at}
+use Rattle.fb_build.specs.Fields.{fields_size, is_stored, size_above, size_at, stored_in}
+use Rattle.fb_build.specs.StandIns.{AllStandIn, StandsIn}
+use Rattle.fb_build.specs.Vtables.{vtable_of}
+use Rattle.fb_build.proofs.vtables.EachVtableIsAKey.{listed}
 
 -- Of two lists of entries the same slots store something.
 abbrev pub StoreAlike : List Slot → List (Option Datum) → List (Option Datum) → Type 0
@@ -72,3 +77,25 @@ vtable_alike L fs xs ys h =
     let size = size_alike L fs xs ys h in
     let ends : field_ends L fs xs ≡ field_ends L fs ys = ends_alike L fs xs ys 0 fs xs ys h h in
     rw (size, ends) refl
+
+alike_by_index : (fs : List Slot) (xs ys : List (Option Datum)) → length xs ≡ length ys
+    → ((k : ℕ) (f : Slot) (x y : Option Datum) → slice_get fs k ≡ Some f → slice_get xs k ≡ Some x
+    → slice_get ys k ≡ Some y → StandsIn f x y) → StoreAlike fs xs ys
+alike_by_index [] xs ys long each = tt
+alike_by_index (f ∷ fs) [] [] long each = tt
+alike_by_index (f ∷ fs) (x ∷ xs) [] long each = absurd (omega (arith, long))
+alike_by_index (f ∷ fs) [] (y ∷ ys) long each = absurd (omega (arith, long))
+alike_by_index (f ∷ fs) (x ∷ xs) (y ∷ ys) long each = (
+  sym (each 0 f x y refl refl refl).stored,
+  alike_by_index fs xs ys (omega (arith, long)) (λ k g u v gk uk vk. each (suc k) g u v gk uk vk),
+)
+
+-- Entries that stand in for others have their vtable.
+pub vtable_stands : (L : LaidSchema) (t : ℕ) (xs ys : List (Option Datum))
+    → AllStandIn (slots_of L t) (stored_in (slots_of L t) xs) (stored_in (slots_of L t) ys)
+    → vtable_of L t (entries_in xs) ≡ vtable_of L t (entries_in ys)
+vtable_stands L t xs ys stands =
+    let fs = slots_of L t in
+    let same = vtable_alike L fs (stored_in fs xs) (stored_in fs ys)
+    (alike_by_index fs (stored_in fs xs) (stored_in fs ys) stands.long stands.each) in
+    rw (listed xs, listed ys) same
