@@ -1,37 +1,42 @@
 //! A buffer that is laid part by part.
-ghost use Rattle.std.specs.Prelude.{◌≡◌, ◌≤◌, ◌<◌, ◌+◌, ◌-◌, ◌++◌, true, [], length, replicate};
+ghost use Rattle.std.specs.Prelude.{◌≡◌, ◌≤◌, ◌<◌, ◌+◌, ◌-◌, ◌++◌, true, [], ◌∷◌, length, replicate};
 ghost use Rattle.std.specs.Prelude.{Bool, IfOk, IfErr, OnOk, OnErr};
-ghost use Rattle.fb_layout.specs.Laid.{align_of, kind_in, slots_of};
+ghost use Rattle.fb_layout.specs.Laid.{align_of, kind_in, one_of, slots_of};
 ghost use Rattle.fb_layout.specs.Widths.{greatest};
 ghost use Rattle.fb_value.specs.Bounds.{Bounds};
 ghost use Rattle.fb_value.specs.Counts.{cells, depth, entries_whole, is_whole};
-ghost use Rattle.fb_value.specs.Datum.{a_table};
+ghost use Rattle.fb_value.specs.Datum.{a_table, a_vector};
 ghost use Rattle.fb_value.specs.Fits.{EntriesFit, Fits};
 ghost use Rattle.fb_value.specs.Holds.{Holds};
 ghost use Rattle.fb_value.specs.OldSlots.{OnlyOld};
-ghost use Rattle.fb_value.specs.Room.{entries_room, room, room_of};
+ghost use Rattle.fb_value.specs.Places.{part_place, vector_part};
+ghost use Rattle.fb_value.specs.Room.{entries_room, room, room_of, vector_room};
 ghost use Rattle.fb_value.specs.UpTo.{at_most_usize};
-ghost use Rattle.fb_value.specs.View.{entries_in, entries_view, view};
+ghost use Rattle.fb_value.specs.View.{entries_in, entries_view, parts_in, view};
 ghost use Rattle.fb_build.specs.Covered.{Covered, EndsAligned};
+ghost use Rattle.fb_build.specs.CoveredTails.{parts_in_tail};
 ghost use Rattle.fb_build.specs.Drafted.{Continues, IsAsBefore};
-ghost use Rattle.fb_build.specs.Fields.{IsSimple, entries_seen, shape_seen, stored_in};
-ghost use Rattle.fb_build.specs.Made.{Adds, IsMade, part_named, parts_at};
+ghost use Rattle.fb_build.specs.Fields.{IsSimple, entries_seen, is_reference, kind_seen, shape_seen, stored_in};
+ghost use Rattle.fb_build.specs.Items.{ItemsKnown, TargetsEnd};
+ghost use Rattle.fb_build.specs.Made.{Adds, IsMade, ends_parts, named_items, part_named, parts_at};
 ghost use Rattle.fb_build.specs.Parts.{PartEnd};
 ghost use Rattle.fb_build.specs.Roots.{AreTargetsLaid};
 ghost use Rattle.fb_build.specs.StandIns.{AllStandIn};
+ghost use Rattle.fb_build.specs.Tails.{LaidInTail};
 ghost use Rattle.fb_build.specs.declared.faults.BuildFault.TheVariants.{TooBig, Memory};
 
 use crate::builder::Builder;
-use crate::data::EntryData;
+use crate::data::{ElementData, EntryData};
 use crate::faults::BuildFault;
 use crate::keys::{add_tables, add_vtable};
 use crate::needs::Needs;
+use crate::references::close_references;
 use crate::roots::close_root;
 use crate::tables::lay_part;
 use crate::tail::{MOST_BYTES, Tail};
 use fb_layout::Layout;
-use fb_schema::Shape;
-use fb_value::{Value, buffer_room, table_room};
+use fb_schema::{Kind, Shape};
+use fb_value::{Value, buffer_room, table_room, vector_room};
 use indexmap::IndexSet;
 use std::alloc::{AllocError, Global};
 use std::marker::Model;
@@ -181,6 +186,55 @@ impl<'l> Draft<'l> {
             value,
             self.pending.as_mut_slice(),
         ))
+    }
+
+    /// Lays a vector of references to parts that are laid, and returns its end-count. Where the rooms of all that was
+    /// asked for are over 2,147,483,647 bytes it lays nothing.
+    pub fn lay_references(
+        &mut self,
+        kind: Kind,
+        data: &ElementData,
+        ends: &[u32],
+    ) -> Result<u32, AllocError>
+        requires references { is_reference (one_of (kind_seen self.old.layout kind)) ≡ true }
+        requires each { length ends.now ≡ length data.now.elements }
+        requires known { ItemsKnown self.old.layout (kind_seen self.old.layout kind) data.now.elements }
+        requires low { align_of self.old.layout (kind_seen self.old.layout kind) ≤ greatest self.old.layout }
+        requires targets { self.old.room ≤ 2147483647
+            → TargetsEnd self.old.layout self.old.tail.most self.old.tail.bytes (kind_seen self.old.layout kind)
+            data.now.elements ends.now }
+        ensures room { OnOk result (self.new.room ≡ at_most_usize (self.old.room
+            + vector_room self.old.layout (kind_seen self.old.layout kind) (length ends.now))) }
+        ensures lies { IfOk result (λ e. self.new.room ≤ 2147483647
+            → LaidInTail self.old.layout self.new.tail.most self.new.tail.bytes
+            (part_place (vector_part (kind_seen self.old.layout kind))) e (a_vector (parts_in data.now.elements))) }
+        ensures adds { IfOk result (λ e. self.new.room ≤ 2147483647
+            → Adds self.old.layout self.old.tail self.old.places self.new.tail self.new.places
+            (record {
+              target = vector_part (kind_seen self.old.layout kind);
+              at = length self.new.tail.bytes - e;
+            } ∷ [])) }
+        ensures leads { IfOk result (λ e. self.new.room ≤ 2147483647
+            → parts_in_tail self.old.layout self.new.tail.bytes (vector_part (kind_seen self.old.layout kind)) e
+            (a_vector (parts_in data.now.elements))
+            ≡ record { target = vector_part (kind_seen self.old.layout kind); at = length self.new.tail.bytes - e }
+            ∷ ends_parts self.old.layout self.new.tail.bytes
+            (named_items (kind_seen self.old.layout kind) data.now.elements) ends.now) }
+        ensures continues { OnOk result (Continues self.old self.new) }
+        ensures over { IfOk result (λ e. 2147483647 < self.new.room
+            → (e ≡ 0) × IsAsBefore self.old self.new) }
+        ensures refused { OnErr result (IsAsBefore self.old self.new × (self.new.room ≡ self.old.room)) }
+    {
+        let room = self
+            .room
+            .saturating_add(vector_room(self.layout, kind, ends.len()));
+        if room > MOST_BYTES {
+            self.room = room;
+            return Ok(0);
+        }
+        self.builder.tail.grow(self.alloc, room - self.room)?;
+        self.room = room;
+        Ok(close_references(&mut self.builder.tail, self.layout, kind, data, ends))
     }
 
     /// Lays the root's table, whose entries in memory may stand in for what was laid, and what stands in front of it.

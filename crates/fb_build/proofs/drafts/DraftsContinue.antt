@@ -1,12 +1,16 @@
 -- What lies in a draft still lies there once more is laid.
-use Rattle.std.proofs.Common.{◌≡◌, ℕ, ◌+◌, ◌≤◌, ◌++◌, max, [], length, refl, ap, sym, ◌∙◌, arith, append_assoc}
+use Rattle.std.proofs.Common.{◌≡◌, ℕ, ◌+◌, ◌≤◌, ◌++◌, ◌-◌, max, List, [], length, map}
+use Rattle.std.proofs.Common.{Option, refl, ap, sym, ◌∙◌, arith, append_assoc}
 use Rattle.fb_layout.specs.Laid.{LaidSchema}
 use Rattle.fb_layout.specs.Widths.{greatest}
 use Rattle.fb_value.specs.Datum.{Datum}
 use Rattle.fb_value.specs.Places.{Sort}
 use Rattle.fb_value.proofs.tails.TailsAreKeptInFront.{through}
 use Rattle.fb_build.specs.Drafted.{Drafted, Lengthens, Continues}
+use Rattle.fb_build.specs.CoveredTails.{part_further}
+use Rattle.fb_build.specs.Made.{NamedPart, ends_parts}
 use Rattle.fb_build.specs.Tails.{TailSeen, Grows, LaidInTail}
+use Rattle.fb_build.proofs.tables.EndsNameTheParts.{AreThere, ends_moved}
 use Rattle.fb_build.proofs.tail.WhatIsLaidStaysLaid.{laid_grown, self_divides}
 
 -- the tail, had it had the memory of a later one from the start
@@ -34,6 +38,12 @@ then_lengthens a b c g h = record {
 pub laid_lengthened : (L : LaidSchema) (a b : TailSeen) (sort : Sort) (e : ℕ) (d : Datum) → Lengthens a b
     → LaidInTail L a.most a.bytes sort e d → LaidInTail L b.most b.bytes sort e d
 laid_lengthened L a b sort e d h laid = laid_grown L (as_long a b h) b sort e d (lengthens_grows a b h) laid
+
+-- the parts of all that lies at some end-counts are further on
+pub ends_lengthened : (L : LaidSchema) (a b : TailSeen) (xs : List (Option NamedPart)) (ends : List ℕ)
+    → Lengthens a b → AreThere L a.most a.bytes xs ends
+    → ends_parts L b.bytes xs ends ≡ map (part_further (length b.bytes - length a.bytes)) (ends_parts L a.bytes xs ends)
+ends_lengthened L a b xs ends h there = ends_moved L (as_long a b h) b xs ends (lengthens_grows a b h) there
 
 pub continues_same : (a : Drafted) → Continues a a
 continues_same a = record {

@@ -58,13 +58,17 @@ made_same L a b places xs bytes most h = record {
   widest = rw (bytes, most) h.widest;
 }
 
+pub adds_same : (L : LaidSchema) (a b c : TailSeen) (places after : List ℕ) (ys : List PartAt) → b.bytes ≡ a.bytes
+    → b.most ≡ a.most → Adds L b places c after ys → Adds L a places c after ys
+adds_same L a b c places after ys bytes most adds xs made =
+    let long = ap length bytes in rw long at adds xs (made_same L a b places xs bytes most made)
+
 -- what adds parts after that adds them to what was there before
 pub adds_more : (L : LaidSchema) (a b c : TailSeen) (places after : List ℕ) (n : ℕ) (ys : List PartAt)
     → b.bytes ≡ a.bytes → b.most ≡ a.most → Adds L b (places ++ replicate n 0) c after ys
     → Adds L a places c after ys
-adds_more L a b c places after n ys bytes most adds xs made =
-    let long = ap length bytes in
-    rw long at adds xs (made_more L b places n xs (made_same L a b places xs bytes most made))
+adds_more L a b c places after n ys bytes most adds =
+    adds_same L a b c places after ys bytes most (λ xs made. adds xs (made_more L b places n xs made))
 
 pub targets_more : (L : LaidSchema) (a b : TailSeen) (places : List ℕ) (n t : ℕ) (xs : List (Option Datum))
     (ends : List ℕ) → b.bytes ≡ a.bytes → b.most ≡ a.most → AreTargetsLaid L a places t xs ends
