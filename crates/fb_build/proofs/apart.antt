@@ -4,3 +4,4 @@ pub mod OneMoreIsLaidApart
 pub mod NothingMoreIsLaidApart
 pub mod EntryIsLaidApart
 pub mod EntriesStandIn
+pub mod AllEntriesAreLaidApart

@@ -2,10 +2,10 @@
 use Rattle.std.specs.Prelude.{ℕ, ◌≡◌, ◌++◌, false, true, List, [], ◌∷◌, Option, Some, length, slice_get}
 use Rattle.fb_layout.specs.Laid.{LaidSchema, Slot, StoredKind, slots_of, one_of, vector_of}
 use Rattle.fb_value.specs.Counts.{is_whole}
-use Rattle.fb_value.specs.Datum.{Datum, a_table}
+use Rattle.fb_value.specs.Datum.{Datum, a_table, a_vector}
 use Rattle.fb_value.specs.Entries.{EntryFits}
 use Rattle.fb_value.specs.Fits.{Fits}
-use Rattle.fb_value.specs.View.{entries_in}
+use Rattle.fb_value.specs.View.{entries_in, parts_in}
 use Rattle.fb_build.specs.Parts.{EntryWhole}
 use Rattle.fb_build.specs.Fields.{is_reference}
 
@@ -44,6 +44,11 @@ pub record FitsVector (b : BuiltSoFar) (d : Datum) : Type 0 where
   pub fits : Fits b.layout (one_of kind) d
   pub whole : is_whole d ≡ true
 
+-- The next slot holds a vector of texts or tables, whose elements may have come.
+pub record AwaitsVector (b : BuiltSoFar) : Type 0 where
+  pub kind : StoredKind
+  pub awaits : AwaitsElements b kind
+
 -- one entry more
 abbrev pub with_entry : BuiltSoFar → Option Datum → BuiltSoFar
 with_entry b x = record b { entries = b.entries ++ (x ∷ []) }
@@ -51,6 +56,10 @@ with_entry b x = record b { entries = b.entries ++ (x ∷ []) }
 -- one element more
 abbrev pub with_element : BuiltSoFar → Datum → BuiltSoFar
 with_element b d = record b { elements = b.elements ++ (d ∷ []) }
+
+-- the vector of the elements so far as the next entry
+abbrev pub with_vector : BuiltSoFar → BuiltSoFar
+with_vector b = record b { entries = b.entries ++ (Some (a_vector (parts_in b.elements)) ∷ []); elements = [] }
 
 -- the value whose entries are these
 abbrev pub root_value : BuiltSoFar → Datum

@@ -13,7 +13,8 @@ ghost use Rattle.fb_build.specs.EntryStands.{EntryStands};
 ghost use Rattle.fb_build.specs.Parts.{EntryWhole};
 ghost use Rattle.fb_schema.specs.Seen.{field_seen};
 ghost use Rattle.fb_value.specs.View.{view};
-ghost use Rattle.fb_build.specs.BuiltSoFar.{FitsNext, FitsVector, root_slots, root_value, with_element, with_entry};
+ghost use Rattle.fb_build.specs.BuiltSoFar.{AwaitsVector, FitsNext, FitsVector, root_slots, root_value};
+ghost use Rattle.fb_build.specs.BuiltSoFar.{with_element, with_entry, with_vector};
 
 use crate::data::{ElementData, EntryData};
 use crate::drafts::Draft;
@@ -138,6 +139,28 @@ impl<'l> BufferBuilder<'l> {
         let end = self.draft.lay_apart(Shape::One(kind), value)?;
         self.elements.push(value);
         self.element_ends.push_reserved(end);
+        Ok(())
+    }
+
+    /// Lays the vector in the next slot, all of whose elements are laid.
+    pub fn close_vector(&mut self) -> Result<(), AllocError>
+        requires awaits { AwaitsVector self.old }
+        ensures pushed { OnOk result (self.new ≡ with_vector self.old) }
+        ensures refused { OnErr result (self.new ≡ self.old) }
+    {
+        let _schema = self.layout.schema(); // its contract: the layout is well made
+        let slot = root_slot(self.layout, self.entries.len());
+        let kind = kind_in(slot.shape);
+        self.entries.reserve(1)?;
+        self.ends.reserve(1)?;
+        let element_ends = self.element_ends.as_slice();
+        let end = self.draft.lay_references(kind, &self.elements, element_ends)?;
+        self.data.push_vector(&self.elements);
+        self.elements = ElementData::new();
+        self.element_ends.clear();
+        self.ends.push_reserved(end);
+        let empty = Vec::new(self.alloc);
+        self.entries.push_reserved(Some(Value::Items(empty)));
         Ok(())
     }
 

@@ -102,10 +102,13 @@ long_stored [] (x ∷ xs) long = absurd (omega (arith, long))
 long_stored (f ∷ fs) [] long = refl
 long_stored (f ∷ fs) (x ∷ xs) long = ap suc (long_stored fs xs (omega (arith, long)))
 
-under : {A : Type 0} (xs : List A) (k : ℕ) (x : A) → slice_get xs k ≡ Some x → k < length xs
+pub under : {A : Type 0} (xs : List A) (k : ℕ) (x : A) → slice_get xs k ≡ Some x → k < length xs
 under [] k x is = cc
 under (y ∷ xs) zero x is = omega arith
 under (y ∷ xs) (suc k) x is = omega (arith, under xs k x is)
+
+pub same_in : (o : Option (Option Datum)) (p q : Option Datum) → o ≡ Some p → o ≡ Some q → p ≡ q
+same_in o p q first second = let both : Some p ≡ Some q = sym first ∙ second in cc
 
 -- what all slots store
 pub all_stand : (fs : List Slot) (xs ys : List (Option Datum)) → EachEntryStands fs xs ys → length fs ≡ length xs
@@ -123,9 +126,6 @@ all_stand fs xs ys each all long = record {
       let b_same : stored_here f.shape (next_code (drop (suc k) xs)) x.0 ≡ b = same_in _ _ _ b_is bk in
       rw (← a_same, ← b_same, next) ((each k f x.0 y.0 fk x.1 y.1).stored (next_code (drop (suc k) xs))));
 }
-  where
-    same_in : (o : Option (Option Datum)) (p q : Option Datum) → o ≡ Some p → o ≡ Some q → p ≡ q
-    same_in o p q first second = let both : Some p ≡ Some q = sym first ∙ second in cc
 
 pub seen_more : (es : List (Option Value)) (e : Option Value)
     → entries_seen (es ++ (e ∷ [])) ≡ entries_seen es ++ (option_map view e ∷ [])

@@ -270,7 +270,7 @@ item_room L kind items k v low is =
     ≡ room L (one_of kind) (view v) + parts_room L kind (parts_view (drop j items))) one
     (ap (parts_room L kind) (parts_next items k v low is))
 
-slot_fits : (L : LaidSchema) (kind : StoredKind) (d : Datum) → IsElement L kind → Fits L (one_of kind) d
+pub slot_fits : (L : LaidSchema) (kind : StoredKind) (d : Datum) → IsElement L kind → Fits L (one_of kind) d
     → SlotFits L (one_of kind) d
 slot_fits L (scalar_kind b) d el h = h
 slot_fits L text_kind d el h = h

@@ -104,7 +104,7 @@ invariant_of-self-2 c =
         let apart = value_apart inside inv d some n e closed simple now.continues (rw shape at now.room)
         (λ small. rw shape at now.state small) (λ small. rw shape at now.adds small) in
         let is = w.self-inside-is in
-        goes_on inside _ n x e inv (rw w.in-Some.is apart) now.continues.layout
+        goes_on inside _ n x e inside.elements.elements inside.element_ends.items inv (rw w.in-Some.is apart) now.continues.layout
         (ap (λ (b : Inside). b.layout.now) is) (ap (λ (b : Inside). b.draft) is)
         (c.push.ensures ∙ ap (λ (b : Inside). b.data.entries ++ (x ∷ [])) is)
         (c.push_reserved.ensures.items ∙ (ap (λ (b : Inside). b.ends.items ++ (c.match-entry-5.end ∷ [])) is
@@ -118,7 +118,7 @@ invariant_of-self-2 c =
         let none : FitsNext (built_seen inside) None = rw w.in-None.is at fits in
         let apart = nothing_apart inside inv none closed in
         let is = w.self-inside-is in
-        goes_on inside _ inside.draft x 0 inv (rw w.in-None.is apart) refl
+        goes_on inside _ inside.draft x 0 inside.elements.elements inside.element_ends.items inv (rw w.in-None.is apart) refl
         (ap (λ (b : Inside). b.layout.now) is) (ap (λ (b : Inside). b.draft) is)
         (c.push.ensures ∙ ap (λ (b : Inside). b.data.entries ++ (x ∷ [])) is)
         (c.push_reserved.ensures.items ∙ (ap (λ (b : Inside). b.ends.items ++ (c.match-entry-5.end ∷ [])) is
