@@ -2,7 +2,7 @@
 use Rattle.std.proofs.Common.{◌≡◌, ℕ, Bool, true, Option, Some, None, Result, Ok, Err, IfOk, option_map, refl, subst}
 use Rattle.serde_json.specs.Data.{Data, Members}
 use Rattle.fb_schema.specs.declared.kinds.Shape.{Shape}
-use Rattle.fb_schema.specs.Schema.{DeclaredField, body_at, slots_in}
+use Rattle.fb_schema.specs.Schema.{DeclaredField}
 use Rattle.fb_schema.specs.WellDeclared.{MarksFit, IsDeclared}
 use Rattle.fb_layout.specs.Laid.{LaidSchema, slot_of, stored_shape}
 use Rattle.fb_value.specs.Counts.{is_whole}
@@ -17,7 +17,7 @@ use Rattle.fb_json.specs.declared.steps.Taken.{Taken}
 use Rattle.fb_json.specs.declared.steps.Taken.TheVariants.{Entry, Elements}
 use Rattle.fb_json.specs.Means.{MeansAs, MemberMeans, AbsentAt, member_called}
 use Rattle.fb_json.specs.Meant.{meant, look, entry_meant}
-use Rattle.fb_json.specs.Outcome.{Counted, Gives}
+use Rattle.fb_json.specs.Outcome.{Gives}
 use Rattle.fb_json.specs.Steps.{TakenFits, TakenGives, TakenIsWhole}
 use Rattle.fb_json.proofs.laws.ComputedEntryIsMeant.{GoodEntry}
 use Rattle.fb_json.proofs.laws.ComputedValueIsMeant.{sound, entry_ok, is_used}
@@ -61,7 +61,8 @@ module _ (L : LaidSchema) (unknown : Bool) (ms : Members) (f : DeclaredField) (a
   entry_fits declared (Some v) rest h marks = (
     is_used L unknown ms (λ k t found. sound L unknown t) f at c levels left rest (view v) h,
     present_fits L f c (view v) (λ t. MeansAs L unknown t f.shape (view v))
-        (λ t u. MemberMeans L unknown t u c (view v)) (λ t m. fitted L declared unknown t f.shape (view v) m (value_utf8 v))
+        (λ t u. MemberMeans L unknown t u c (view v))
+        (λ t m. fitted L declared unknown t f.shape (view v) m (value_utf8 v))
         (λ t u m. member_fitted L declared unknown t u c (view v) m (value_utf8 v)) marks (member_called f.name ms)
         (good (Some (view v)) rest h).0,
   )

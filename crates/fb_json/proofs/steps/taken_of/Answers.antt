@@ -1,4 +1,4 @@
-use Rattle.std.proofs.Common.{◌≡◌, ◌∙◌, ◌<◌, ◌≤◌, ◌-◌, sym, subst, arith}
+use Rattle.std.proofs.Common.{◌≡◌, ◌∙◌, ◌-◌, sym, arith}
 use Rattle.serde_json.specs.View.{view as tree_view, items_view}
 use Rattle.fb_schema.specs.Seen.{field_seen}
 use Rattle.fb_json.specs.Meant.{count}

@@ -2,7 +2,6 @@ use Rattle.std.proofs.Common.{◌∙◌, ap}
 use Rattle.serde_json.specs.Find.{get_member}
 use Rattle.serde_json.specs.View.{members_view}
 use Rattle.fb_schema.specs.Seen.{field_seen}
-use Rattle.fb_json.specs.Meant.{used_meant}
 use Rattle.fb_json.proofs.slots.OtherMembersStay.{others_stay, taken_none, taken_some}
 use Rattle.fb_json.proofs.tree.EntryIsWhatTheLookUpFinds.{entry_none, entry_some}
 use Rattle.fb_json.proofs.steps.vector_taken.Goals as goal
