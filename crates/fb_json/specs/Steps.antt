@@ -1,9 +1,12 @@
--- What a slot's member gives where the elements of its vector are still to be read.
-use Rattle.std.specs.Prelude.{ℕ, ◌≡◌, List, Bool, true, false, Option, Some, Result, Ok, Err, option_map, slice_get}
+-- What is said of a tree that is read slot by slot, and its vectors element by element.
+use Rattle.std.specs.Prelude.{ℕ, ◌≡◌, ◌<◌, List, Bool, true, false, Option, Some, Result, Ok, Err, option_map, slice_get}
+use Rattle.serde_json.specs.Data.{Data, Members}
+use Rattle.serde_json.specs.Find.{as_object}
 use Rattle.serde_json.specs.View.{items_view}
 use Rattle.fb_schema.specs.declared.kinds.Shape.TheVariants.{Many}
 use Rattle.fb_schema.specs.Schema.{DeclaredField, body_at, slots_in}
 use Rattle.fb_layout.specs.Laid.{LaidSchema, slot_of}
+use Rattle.fb_value.specs.Bounds.{Bounds}
 use Rattle.fb_value.specs.Counts.{is_whole}
 use Rattle.fb_value.specs.Datum.{Datum, a_vector}
 use Rattle.fb_value.specs.Entries.{EntryFits}
@@ -14,6 +17,12 @@ use Rattle.fb_json.specs.declared.steps.Taken.{Taken}
 use Rattle.fb_json.specs.declared.steps.Taken.TheVariants.{Entry, Elements}
 use Rattle.fb_json.specs.Meant.{items_meant}
 use Rattle.fb_json.specs.Outcome.{Counted, Fails}
+
+-- The root is an object with these members, and the limits allow its table.
+pub record IsRoot (most : Bounds) (t : Data) (ms : Members) : Type 0 where
+  pub object : as_object t ≡ Some ms
+  pub deep : 0 < most.depth
+  pub many : 0 < most.cells
 
 -- the entry of a vector's slot, by what its elements give
 abbrev pub vector_entry : Counted (List Datum) → Counted (Option Datum)

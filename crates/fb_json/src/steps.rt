@@ -1,6 +1,6 @@
 //! The steps by which a tree that is given away is read slot by slot, and its vectors element by element.
-ghost use Rattle.std.specs.Prelude.{◌≡◌, ◌<◌, ℕ, Bool, Option, None, Some, Err, true, false, IfErr, IfOk, option_map};
-ghost use Rattle.serde_json.specs.Find.{as_array, as_object, get_member};
+ghost use Rattle.std.specs.Prelude.{◌≡◌, ◌≢◌, ℕ, Bool, Option, None, Some, true, false, IfErr, IfOk, option_map};
+ghost use Rattle.serde_json.specs.Find.{as_array, get_member};
 ghost use Rattle.serde_json.specs.View.{view as tree_view, items_view, members_view};
 ghost use Rattle.fb_schema.specs.declared.kinds.Shape.TheVariants.{One, Many};
 ghost use Rattle.fb_schema.specs.Schema.{DeclaredField, Name};
@@ -12,8 +12,8 @@ ghost use Rattle.fb_value.specs.Fits.{Fits};
 ghost use Rattle.fb_value.specs.View.{view};
 ghost use Rattle.fb_json.specs.Meant.{entry_meant, look, meant, unless_null, used_meant};
 ghost use Rattle.fb_json.specs.Outcome.{Counted, Gives};
-ghost use Rattle.fb_json.specs.Refuses.{root_meant};
-ghost use Rattle.fb_json.specs.Steps.{TakenFits, TakenGives, TakenIsWhole};
+ghost use Rattle.fb_json.specs.Refuses.{IsFirst};
+ghost use Rattle.fb_json.specs.Steps.{IsRoot, TakenFits, TakenGives, TakenIsWhole};
 
 use crate::absent::{is_null, without};
 use crate::faults::{JsonFault, Place};
@@ -40,11 +40,10 @@ pub fn root_members(
     tree: Json,
     limits: Limits,
 ) -> Result<Map<String, Json>, JsonFault>
-    ensures members { IfOk result (λ m. as_object (tree_view tree) ≡ Some (members_view m.entries)) }
-    ensures depth { IfOk result (λ m. 0 < limits.depth) }
-    ensures cells { IfOk result (λ m. 0 < limits.cells) }
+    ensures root { IfOk result (λ m. IsRoot limits (tree_view tree) (members_view m.entries)) }
     ensures first { IfErr result (λ f. (unknown : Bool)
-        → root_meant layout.now limits unknown (tree_view tree) ≡ Err f) }
+        → IsFirst layout.now limits unknown (tree_view tree) f) }
+    ensures memory { IfErr result (λ f. f ≢ JsonFault.Memory) }
 {
     let _depth = limits.most_depth(); // its contract: they allow one level of tables
     let place = Place {

@@ -6,10 +6,11 @@ use Rattle.fb_value.specs.Bounds.{Bounds}
 use Rattle.fb_value.specs.Datum.{Datum, a_table}
 use Rattle.fb_value.specs.View.{entries_in}
 use Rattle.fb_json.specs.declared.faults.JsonFault.{JsonFault}
-use Rattle.fb_json.specs.Laws.{IsDecided, IsRoot, root_known, root_slots}
+use Rattle.fb_json.specs.Laws.{IsDecided, root_known, root_slots}
 use Rattle.fb_json.specs.Means.{Means}
 use Rattle.fb_json.specs.Meant.{look, table_meant, type_place}
 use Rattle.fb_json.specs.Refuses.{IsFirst, Refuses, root_meant}
+use Rattle.fb_json.specs.Steps.{IsRoot}
 use Rattle.fb_json.proofs.root.RootMeaningDecides.{means_root, none_means, refused_root, root_object}
 use Rattle.fb_json.proofs.slots.SlotsDecideTheTable.{table_fails, table_gives, table_unknown}
 
