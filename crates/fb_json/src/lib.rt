@@ -32,4 +32,4 @@ pub use paths::fault_path;
 pub use root::value_of;
 pub use source::Source;
 pub use step::Step;
-pub use steps::{Taken, element_of, root_members, take_slot};
+pub use steps::{TakenSlot, element_of, root_members, take_slot};

@@ -1,6 +1,7 @@
 -- One slot, field or element after the other, as a loop does.
 use Rattle.std.proofs.Common.{◌≡◌, ◌∙◌, ℕ, suc, ◌+◌, ◌<◌, ◌≤◌, List, [], ◌∷◌, ◌++◌, length, map, drop, get_or, Bool}
-use Rattle.std.proofs.Common.{◌⊎◌, inl, inr, Option, Some, option_map, slice_get, Result, Ok, Err, refl, ap, sym, subst, add-one}
+use Rattle.std.proofs.Common.{◌⊎◌, inl, inr, Option, Some, option_map, slice_get, Result, Ok, Err, refl, ap, sym}
+use Rattle.std.proofs.Common.{subst, add-one}
 use Rattle.std.proofs.Math.Seq.{drop-cons}
 use Rattle.std.proofs.lemmas.List.{drop_all, append_assoc, append-nil}
 use Rattle.std.proofs.lemmas.Option.{slice_get-map, slice_get-get_or}
