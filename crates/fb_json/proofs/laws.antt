@@ -12,4 +12,5 @@ pub mod LimitFaultIsOverTheLimit
 pub mod MeantLeafIsComputed
 pub mod MeantValueIsComputed
 pub mod MeantValueIsWhole
+pub mod SlotsDecideTheTree
 pub mod SlotsSpendTheirCells

@@ -2,3 +2,4 @@
 pub mod ReadValueFitsItsPlace
 pub mod RootHasItsMembers
 pub mod VectorIsItsElements
+pub mod VectorIsUnread

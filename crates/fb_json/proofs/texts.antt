@@ -1,2 +1,3 @@
 -- The texts of a value.
+pub mod TreeTextsAreUtf8
 pub mod ValueTextsAreUtf8

@@ -4,11 +4,11 @@ pub mod Leaves
 pub mod Meant
 pub mod MarkedSlots
 pub mod Means
+pub mod Steps
 pub mod Laws
 pub mod Breaks
 pub mod TreeCounts
 pub mod Refuses
-pub mod Steps
 pub mod FaultTable
 pub mod PlaceText
 pub mod FaultPaths

@@ -23,7 +23,8 @@ pub use codes::code_after;
 pub use enums::has_flags;
 pub use faults::{JsonFault, Place};
 pub use laws::{
-    all_that_is_meant, faults_are_broken, limits_are_reached, meant_is_whole, only_what_is_meant,
+    all_that_is_meant, faults_are_broken, first_fault_refuses, limits_are_reached, meant_fits,
+    meant_is_whole, only_what_is_meant, slots_decide_the_root,
 };
 pub use marks::{is_marked, marks_of};
 pub use owned::value_from;
@@ -31,4 +32,4 @@ pub use paths::fault_path;
 pub use root::value_of;
 pub use source::Source;
 pub use step::Step;
-pub use steps::{Taken, element_of, root_members, take_slot};
+pub use steps::{TakenSlot, element_of, root_members, take_slot};

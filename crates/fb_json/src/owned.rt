@@ -1,7 +1,7 @@
 //! The value of a whole tree that is given away. The elements of the root's vectors are dropped one by one, each
 //! once its value is made, so that the memory of the first serves the values of the later ones.
 ghost use Rattle.std.specs.Prelude.{◌≡◌, ◌⊎◌, ◌≤◌, None, false, true, IfErr, IfOk, map, length, option_map, vec_len};
-ghost use Rattle.serde_json.specs.Find.{as_object, get_member};
+ghost use Rattle.serde_json.specs.Find.{get_member};
 ghost use Rattle.serde_json.specs.View.{view as tree_view, items_view, members_view};
 ghost use Rattle.fb_schema.specs.Schema.{Name};
 ghost use Rattle.fb_schema.specs.Seen.{field_seen};
@@ -21,6 +21,7 @@ use crate::codes::code_after;
 use crate::faults::{JsonFault, Place};
 use crate::marks::{is_marked, marks_of};
 use crate::source::Source;
+use crate::steps::members_of;
 use crate::tree::{entry, found, value};
 use fb_layout::Layout;
 use fb_schema::{FieldInfo, Kind, Shape, TypeId};
@@ -272,16 +273,6 @@ fn table_from(
     match entries_from(source, members, owner, slots, marks, levels - 1, left - 1) {
         Ok((entries, left)) => Ok((Value::Fields(owner, entries), left)),
         Err(fault) => Err(fault),
-    }
-}
-
-/// The members of an object.
-pub(crate) fn members_of(tree: Json) -> Option<Map<String, Json>>
-    ensures { option_map (λ m. members_view m.entries) result ≡ as_object (tree_view tree) }
-{
-    match tree {
-        Json::Object(members) => Some(members),
-        _ => None,
     }
 }
 

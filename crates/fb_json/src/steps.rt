@@ -1,23 +1,21 @@
 //! The steps by which a tree that is given away is read slot by slot, and its vectors element by element.
-ghost use Rattle.std.specs.Prelude.{◌≡◌, ◌<◌, ℕ, Bool, Option, None, Some, Err, true, false, IfErr, IfOk, option_map};
+ghost use Rattle.std.specs.Prelude.{◌≡◌, ◌≢◌, ℕ, Bool, None, Some, true, false, IfErr, IfOk, option_map};
 ghost use Rattle.serde_json.specs.Find.{as_array, as_object, get_member};
 ghost use Rattle.serde_json.specs.View.{view as tree_view, items_view, members_view};
 ghost use Rattle.fb_schema.specs.declared.kinds.Shape.TheVariants.{One, Many};
-ghost use Rattle.fb_schema.specs.Schema.{DeclaredField, Name};
+ghost use Rattle.fb_schema.specs.Schema.{Name};
 ghost use Rattle.fb_schema.specs.Seen.{field_seen};
 ghost use Rattle.fb_layout.specs.Laid.{LaidSchema, stored_shape};
 ghost use Rattle.fb_value.specs.Counts.{is_whole};
-ghost use Rattle.fb_value.specs.Datum.{Datum};
 ghost use Rattle.fb_value.specs.Fits.{Fits};
 ghost use Rattle.fb_value.specs.View.{view};
 ghost use Rattle.fb_json.specs.Meant.{entry_meant, look, meant, unless_null, used_meant};
-ghost use Rattle.fb_json.specs.Outcome.{Counted, Gives};
-ghost use Rattle.fb_json.specs.Refuses.{root_meant};
-ghost use Rattle.fb_json.specs.Steps.{TakenFits, TakenGives, TakenIsWhole};
+ghost use Rattle.fb_json.specs.Outcome.{Gives};
+ghost use Rattle.fb_json.specs.Refuses.{IsFirst};
+ghost use Rattle.fb_json.specs.Steps.{IsRoot, IsUnread, SlotGives, TakenSlotFits, TakenSlotIsWhole, at_once};
 
 use crate::absent::{is_null, without};
 use crate::faults::{JsonFault, Place};
-use crate::owned::members_of;
 use crate::source::Source;
 use crate::tree::{entry, value};
 use fb_layout::Layout;
@@ -27,11 +25,21 @@ use serde_json::{Map, Value as Json};
 
 /// What a slot's member gives.
 #[derive(Drop)]
-pub enum Taken {
+pub enum TakenSlot {
     /// The slot's entry.
     Entry(Option<Value>),
     /// The elements of a vector of this kind, which are still to be read.
     Elements(Kind, Vec<Json>),
+}
+
+/// The members of an object.
+pub(crate) fn members_of(tree: Json) -> Option<Map<String, Json>>
+    ensures { option_map (λ m. members_view m.entries) result ≡ as_object (tree_view tree) }
+{
+    match tree {
+        Json::Object(members) => Some(members),
+        _ => None,
+    }
 }
 
 /// The members of the root's object, where the limits allow its table.
@@ -40,11 +48,10 @@ pub fn root_members(
     tree: Json,
     limits: Limits,
 ) -> Result<Map<String, Json>, JsonFault>
-    ensures members { IfOk result (λ m. as_object (tree_view tree) ≡ Some (members_view m.entries)) }
-    ensures depth { IfOk result (λ m. 0 < limits.depth) }
-    ensures cells { IfOk result (λ m. 0 < limits.cells) }
+    ensures root { IfOk result (λ m. IsRoot limits (tree_view tree) (members_view m.entries)) }
     ensures first { IfErr result (λ f. (unknown : Bool)
-        → root_meant layout.now limits unknown (tree_view tree) ≡ Err f) }
+        → IsFirst layout.now limits unknown (tree_view tree) f) }
+    ensures memory { IfErr result (λ f. f ≢ JsonFault.Memory) }
 {
     let _depth = limits.most_depth(); // its contract: they allow one level of tables
     let place = Place {
@@ -86,6 +93,7 @@ pub fn element_of(
 fn kind_of_elements(slot: &FieldInfo) -> Option<Kind>
     ensures used { (kind : Kind) → result ≡ Some kind → slot.now.deprecated ≡ false }
     ensures vector { (kind : Kind) → result ≡ Some kind → slot.now.shape ≡ Many kind }
+    ensures none { (kind : Kind) → result ≡ None → slot.now.shape ≡ Many kind → slot.now.deprecated ≡ true }
 {
     match slot.shape {
         Shape::Many(kind) if !slot.deprecated => Some(kind),
@@ -104,13 +112,11 @@ fn elements_in(tree: Json) -> Option<Vec<Json>>
 }
 
 /// What was read at once.
-fn as_taken(read: Result<(Option<Value>, u32), JsonFault>) -> Result<(Taken, u32), JsonFault>
-    ensures { (L : LaidSchema) (unknown : Bool) (f : DeclaredField) (at : Place) (levels : ℕ)
-        (given : Counted (Option Datum)) → Gives (λ x. (option_map view x.0, x.1)) read given
-        → TakenGives L unknown f at levels result given }
+fn at_once(read: Result<(Option<Value>, u32), JsonFault>) -> Result<(TakenSlot, u32), JsonFault>
+    ensures { result ≡ at_once read }
 {
     match read {
-        Ok((entry, left)) => Ok((Taken::Entry(entry), left)),
+        Ok((entry, left)) => Ok((TakenSlot::Entry(entry), left)),
         Err(fault) => Err(fault),
     }
 }
@@ -123,15 +129,16 @@ fn taken_of(
     place: Place,
     code: u8,
     left: u32,
-) -> Result<(Taken, u32), JsonFault>
+) -> Result<(TakenSlot, u32), JsonFault>
     requires used { slot.now.deprecated ≡ false }
     requires vector { slot.now.shape ≡ Many kind }
-    ensures { (L : LaidSchema) (unknown : Bool) (levels : ℕ) → let f = field_seen slot.now in
-        let t = tree_view tree in TakenGives L unknown f place levels result
+    ensures gives { (L : LaidSchema) (unknown : Bool) (levels : ℕ) → let f = field_seen slot.now in
+        let t = tree_view tree in SlotGives L unknown f place levels result
         (used_meant L f code (unless_null t (meant L unknown t)) place levels left f.shape) }
+    ensures unread { IfOk result (λ x. IsUnread slot.now.shape x.0) }
 {
     if is_null(&tree) {
-        return as_taken(without(slot, place, code, left));
+        return at_once(without(slot, place, code, left));
     }
     match elements_in(tree) {
         None => Err(JsonFault::WrongShape(place)),
@@ -140,7 +147,7 @@ fn taken_of(
                 return Err(JsonFault::TooManyCells(place));
             }
             let rest = left - 1 - elements.len() as u32;
-            Ok((Taken::Elements(kind, elements), rest))
+            Ok((TakenSlot::Elements(kind, elements), rest))
         }
     }
 }
@@ -153,21 +160,28 @@ fn vector_taken(
     kind: Kind,
     place: Place,
     code: u8,
+    marked: bool,
     left: u32,
-) -> Result<(Taken, u32), JsonFault>
+) -> Result<(TakenSlot, u32), JsonFault>
     requires used { slot.now.deprecated ≡ false }
     requires vector { slot.now.shape ≡ Many kind }
+    requires unmarked { marked ≡ false
+        → get_member (field_seen slot.now).name (members_view members.old.entries) ≡ None }
     ensures gives { (levels : ℕ) → let L = source.entry.layout.now in let f = field_seen slot.now in
-        TakenGives L source.entry.unknown f place levels result
+        SlotGives L source.entry.unknown f place levels result
         (entry_meant L (look L source.entry.unknown (members_view members.old.entries))
         f place code levels left) }
     ensures others { (name : Name) → (name ≡ (field_seen slot.now).name → ⊥)
         → get_member name (members_view members.new.entries)
         ≡ get_member name (members_view members.old.entries) }
+    ensures unread { IfOk result (λ x. IsUnread slot.now.shape x.0) }
 {
+    if !marked {
+        return at_once(without(slot, place, code, left));
+    }
     match members.remove(slot.name.as_str()) {
         Some(tree) => taken_of(slot, kind, tree, place, code, left),
-        None => as_taken(without(slot, place, code, left)),
+        None => at_once(without(slot, place, code, left)),
     }
 }
 
@@ -181,26 +195,27 @@ fn slot_taken(
     marked: bool,
     levels: u8,
     left: u32,
-) -> Result<(Taken, u32), JsonFault>
+) -> Result<(TakenSlot, u32), JsonFault>
     requires { marked ≡ false
         → get_member (field_seen slot.now).name (members_view members.old.entries) ≡ None }
     ensures gives { let L = source.entry.layout.now in let f = field_seen slot.now in
-        TakenGives L source.entry.unknown f place levels result
+        SlotGives L source.entry.unknown f place levels result
         (entry_meant L (look L source.entry.unknown (members_view members.old.entries))
         f place code levels left) }
     ensures others { (name : Name) → (name ≡ (field_seen slot.now).name → ⊥)
         → get_member name (members_view members.new.entries)
         ≡ get_member name (members_view members.old.entries) }
+    ensures unread { IfOk result (λ x. IsUnread slot.now.shape x.0) }
 {
     match kind_of_elements(slot) {
-        Some(kind) if marked => vector_taken(source, members, slot, kind, place, code, left),
-        _ => as_taken(entry(source, members, slot, place, code, marked, levels, left)),
+        Some(kind) => vector_taken(source, members, slot, kind, place, code, marked, left),
+        None => at_once(entry(source, members, slot, place, code, marked, levels, left)),
     }
 }
 
-/// The entry of a slot, or the elements of its vector, which are still to be read, and the cells that are left. An
-/// array is taken out of the object once the cells suffice for it and its elements. `marked` says whether a member
-/// is looked for at all.
+/// The entry of a slot, or the elements of its vector, which are still to be read, and the cells that are left. The
+/// member of a vector's slot in use is taken out of the object, and the cells are those for the vector and each of its
+/// elements. `marked` says whether a member is looked for at all.
 pub fn take_slot(
     source: Source,
     members: &mut Map<String, Json>,
@@ -210,18 +225,19 @@ pub fn take_slot(
     marked: bool,
     levels: u8,
     left: u32,
-) -> Result<(Taken, u32), JsonFault>
+) -> Result<(TakenSlot, u32), JsonFault>
     requires { marked ≡ false
         → get_member (field_seen slot.now).name (members_view members.old.entries) ≡ None }
     ensures gives { let L = source.entry.layout.now in let f = field_seen slot.now in
-        TakenGives L source.entry.unknown f place levels result
+        SlotGives L source.entry.unknown f place levels result
         (entry_meant L (look L source.entry.unknown (members_view members.old.entries))
         f place code levels left) }
     ensures others { (name : Name) → (name ≡ (field_seen slot.now).name → ⊥)
         → get_member name (members_view members.new.entries)
         ≡ get_member name (members_view members.old.entries) }
-    ensures fits { IfOk result (λ x. TakenFits source.entry.layout.now (field_seen slot.now) x.0) }
-    ensures whole { IfOk result (λ x. TakenIsWhole x.0) }
+    ensures unread { IfOk result (λ x. IsUnread slot.now.shape x.0) }
+    ensures fits { IfOk result (λ x. TakenSlotFits source.entry.layout.now (field_seen slot.now) x.0) }
+    ensures whole { IfOk result (λ x. TakenSlotIsWhole x.0) }
 {
     let _schema = source.layout.schema(); // its contract: the marks and defaults of slots suit their shapes
     slot_taken(source, members, slot, place, code, marked, levels, left)

@@ -1,6 +1,7 @@
 -- One slot, field or element after the other, as a loop does.
 use Rattle.std.proofs.Common.{◌≡◌, ◌∙◌, ℕ, suc, ◌+◌, ◌<◌, ◌≤◌, List, [], ◌∷◌, ◌++◌, length, map, drop, get_or, Bool}
-use Rattle.std.proofs.Common.{Option, Some, option_map, slice_get, Result, Ok, Err, refl, ap, sym, subst, add-one}
+use Rattle.std.proofs.Common.{◌⊎◌, inl, inr, Option, Some, option_map, slice_get, Result, Ok, Err, refl, ap, sym}
+use Rattle.std.proofs.Common.{subst, add-one}
 use Rattle.std.proofs.Math.Seq.{drop-cons}
 use Rattle.std.proofs.lemmas.List.{drop_all, append_assoc, append-nil}
 use Rattle.std.proofs.lemmas.Option.{slice_get-map, slice_get-get_or}
@@ -53,6 +54,20 @@ fails_by (MissingRequired at) part whole same h = same h
 fails_by (UnionMismatch at) part whole same h = same h
 fails_by (TooDeep at) part whole same h = same h
 fails_by (TooManyCells at) part whole same h = same h
+
+-- a failure is that of memory, or the fault that is given
+pub failed : {Y : Type 0} (f : JsonFault) (r : Result Y JsonFault) → Fails f r → (f ≡ Memory) ⊎ (r ≡ Err f)
+failed Memory r h = inl refl
+failed (WrongShape at) r h = inr h
+failed (NotWhole at) r h = inr h
+failed (OutOfRange at) r h = inr h
+failed (UnknownName at) r h = inr h
+failed (UnknownMember at) r h = inr h
+failed (MissingMember at) r h = inr h
+failed (MissingRequired at) r h = inr h
+failed (UnionMismatch at) r h = inr h
+failed (TooDeep at) r h = inr h
+failed (TooManyCells at) r h = inr h
 
 put_front : {A : Type 0} (front : List A) (x : A) (r : Counted (List A))
     → after front (r >>= λ xs. Ok (x ∷ xs.0, xs.1)) ≡ after (front ++ x ∷ []) r

@@ -2,7 +2,7 @@
 use Rattle.std.proofs.Common.{◌≡◌, ℕ, Bool, true, Option, Some, None, Result, Ok, Err, IfOk, option_map, refl, subst}
 use Rattle.serde_json.specs.Data.{Data, Members}
 use Rattle.fb_schema.specs.declared.kinds.Shape.{Shape}
-use Rattle.fb_schema.specs.Schema.{DeclaredField, body_at, slots_in}
+use Rattle.fb_schema.specs.Schema.{DeclaredField}
 use Rattle.fb_schema.specs.WellDeclared.{MarksFit, IsDeclared}
 use Rattle.fb_layout.specs.Laid.{LaidSchema, slot_of, stored_shape}
 use Rattle.fb_value.specs.Counts.{is_whole}
@@ -13,12 +13,12 @@ use Rattle.fb_value.specs.View.{view}
 use Rattle.fb_value.specs.declared.values.Value.{Value}
 use Rattle.fb_json.specs.declared.faults.Place.{Place}
 use Rattle.fb_json.specs.declared.faults.JsonFault.{JsonFault}
-use Rattle.fb_json.specs.declared.steps.Taken.{Taken}
-use Rattle.fb_json.specs.declared.steps.Taken.TheVariants.{Entry, Elements}
+use Rattle.fb_json.specs.declared.steps.TakenSlot.{TakenSlot}
+use Rattle.fb_json.specs.declared.steps.TakenSlot.TheVariants.{Entry, Elements}
 use Rattle.fb_json.specs.Means.{MeansAs, MemberMeans, AbsentAt, member_called}
 use Rattle.fb_json.specs.Meant.{meant, look, entry_meant}
-use Rattle.fb_json.specs.Outcome.{Counted, Gives}
-use Rattle.fb_json.specs.Steps.{TakenFits, TakenGives, TakenIsWhole}
+use Rattle.fb_json.specs.Outcome.{Gives}
+use Rattle.fb_json.specs.Steps.{TakenSlotFits, SlotGives, TakenSlotIsWhole}
 use Rattle.fb_json.proofs.laws.ComputedEntryIsMeant.{GoodEntry}
 use Rattle.fb_json.proofs.laws.ComputedValueIsMeant.{sound, entry_ok, is_used}
 use Rattle.fb_json.proofs.laws.MeantValueIsWhole.{whole_as, whole_member, whole_present}
@@ -61,7 +61,8 @@ module _ (L : LaidSchema) (unknown : Bool) (ms : Members) (f : DeclaredField) (a
   entry_fits declared (Some v) rest h marks = (
     is_used L unknown ms (λ k t found. sound L unknown t) f at c levels left rest (view v) h,
     present_fits L f c (view v) (λ t. MeansAs L unknown t f.shape (view v))
-        (λ t u. MemberMeans L unknown t u c (view v)) (λ t m. fitted L declared unknown t f.shape (view v) m (value_utf8 v))
+        (λ t u. MemberMeans L unknown t u c (view v))
+        (λ t m. fitted L declared unknown t f.shape (view v) m (value_utf8 v))
         (λ t u m. member_fitted L declared unknown t u c (view v) m (value_utf8 v)) marks (member_called f.name ms)
         (good (Some (view v)) rest h).0,
   )
@@ -72,17 +73,17 @@ module _ (L : LaidSchema) (unknown : Bool) (ms : Members) (f : DeclaredField) (a
       (λ t m. whole_as L unknown t f.shape d m) (λ t u m. whole_member L unknown t u c d m) (slot_of L.schema f) f.shape
       (member_called f.name ms) (good (Some d) rest h).0
 
-  pub taken_fits : IsDeclared L.schema → (r : Result (Taken × ℕ) JsonFault)
-      → TakenGives L unknown f at levels r (entry_meant L (look L unknown ms) f at c levels left)
-      → IfOk r (λ x. TakenFits L f x.0)
+  pub taken_fits : IsDeclared L.schema → (r : Result (TakenSlot × ℕ) JsonFault)
+      → SlotGives L unknown f at levels r (entry_meant L (look L unknown ms) f at c levels left)
+      → IfOk r (λ x. TakenSlotFits L f x.0)
   taken_fits declared (Ok (Entry e, rest)) h =
       λ t k slot. entry_fits declared e rest h (marks_fit L.schema declared t k f slot)
   taken_fits declared (Ok (Elements kind elements, rest)) h = tt
   taken_fits declared (Err e) h = tt
 
-  pub taken_whole : (r : Result (Taken × ℕ) JsonFault)
-      → TakenGives L unknown f at levels r (entry_meant L (look L unknown ms) f at c levels left)
-      → IfOk r (λ x. TakenIsWhole x.0)
+  pub taken_whole : (r : Result (TakenSlot × ℕ) JsonFault)
+      → SlotGives L unknown f at levels r (entry_meant L (look L unknown ms) f at c levels left)
+      → IfOk r (λ x. TakenSlotIsWhole x.0)
   taken_whole (Ok (Entry e, rest)) h =
       λ d is. let P : Option Datum → Type 0 = λ o. Given o rest in entry_whole d rest (subst P is h)
   taken_whole (Ok (Elements kind elements, rest)) h = tt

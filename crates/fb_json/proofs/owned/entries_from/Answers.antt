@@ -6,8 +6,8 @@ use Rattle.fb_schema.specs.Seen.{field_seen}
 use Rattle.fb_value.specs.View.{view}
 use Rattle.fb_json.specs.Meant.{look, slot_place, entry_meant}
 use Rattle.fb_json.proofs.slots.OtherMembersStay.{code_same, entry_same, look_same}
-use Rattle.fb_json.proofs.slots.OneSlotOrFieldMore.{slot_at, fails_is, fails_by, slots_next, slots_untold, slots_ungiven}
-use Rattle.fb_json.proofs.slots.OneSlotOrFieldMore.{slots_end}
+use Rattle.fb_json.proofs.slots.OneSlotOrFieldMore.{slot_at, fails_is, fails_by, slots_next, slots_untold}
+use Rattle.fb_json.proofs.slots.OneSlotOrFieldMore.{slots_ungiven, slots_end}
 use Rattle.fb_json.proofs.owned.entries_from.Goals as goal
 
 pub code_after-requires : goal.code_after-requires

@@ -1,28 +1,18 @@
-use Rattle.std.proofs.Common.{◌≡◌, ◌∙◌, ◌-◌, List, Err, Some, slice_get, map, ap, sym, subst, arith}
+use Rattle.std.proofs.Common.{◌≡◌, ◌-◌, List, Err, map, sym, subst, arith}
 use Rattle.serde_json.specs.View.{members_view}
-use Rattle.fb_schema.specs.Schema.{DeclaredField, body_at, slots_in}
-use Rattle.fb_schema.specs.Found.{field_named}
+use Rattle.fb_schema.specs.Schema.{DeclaredField}
 use Rattle.fb_schema.specs.Seen.{field_seen}
+use Rattle.fb_json.specs.MarkedSlots.{AreNamedApart}
 use Rattle.fb_json.specs.Meant.{look, slots_meant}
-use Rattle.fb_json.proofs.marks.NamedSlotIsMarked.{found_as}
-use Rattle.fb_json.proofs.slots.SlotsDecideTheTable.{table_fails}
 use Rattle.fb_json.proofs.slots.OneSlotOrFieldMore.{fails_by}
+use Rattle.fb_json.proofs.slots.SlotsAreNamedApart.{named_apart}
+use Rattle.fb_json.proofs.slots.SlotsDecideTheTable.{table_fails}
 use Rattle.fb_json.proofs.owned.table_from.Goals as goal
 
 pub entries_from-requires-clause-names : goal.entries_from-requires-clause-names
-entries_from-requires-clause-names c i j f g at_i at_j same =
-    let S = c.args.source.layout.now.schema in
-    let t = c.args.owner.0 in
-    let declared = c.schema-schema.ensures.made.declared in
-    let at : slice_get (slots_in (body_at S t)) i ≡ Some f =
-    subst (λ (fs : List DeclaredField). slice_get fs i ≡ Some f) c.slots_of-slots.ensures.slots at_i in
-    let there : slice_get (slots_in (body_at S t)) j ≡ Some g =
-    subst (λ (fs : List DeclaredField). slice_get fs j ≡ Some g) c.slots_of-slots.ensures.slots at_j in
-    let first = found_as S t declared i f at in
-    let second = found_as S t declared j g there in
-    let both : Some f ≡ Some g = sym first.0 ∙ (ap (field_named (body_at S t)) same ∙ second.0) in
-    let one : f ≡ g = cc in
-    sym first.1 ∙ (ap (λ (h : DeclaredField). h.slot) one ∙ second.1)
+entries_from-requires-clause-names c =
+    subst AreNamedApart (sym c.slots_of-slots.ensures.slots)
+    (named_apart c.args.source.layout.now.schema c.args.owner.0 c.schema-schema.ensures.made.declared)
 
 pub returns-clause-gives : goal.returns-clause-gives
 returns-clause-gives c =

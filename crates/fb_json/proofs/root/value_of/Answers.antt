@@ -8,8 +8,9 @@ use Rattle.fb_json.specs.declared.faults.JsonFault.TheVariants.{WrongShape}
 use Rattle.fb_json.specs.Means.{Means}
 use Rattle.fb_json.specs.Meant.{type_place}
 use Rattle.fb_json.specs.Outcome.{Fails}
-use Rattle.fb_json.proofs.root.RootMeaningDecides.{failed, means_root, none_root, refuses_root, first_root, root_object}
+use Rattle.fb_json.proofs.root.RootMeaningDecides.{means_root, none_root, refuses_root, first_root, root_object}
 use Rattle.fb_json.proofs.root.RootMeaningDecides.{root_other, may_lack}
+use Rattle.fb_json.proofs.slots.OneSlotOrFieldMore.{failed}
 use Rattle.fb_json.proofs.texts.ValueTextsAreUtf8.{value_utf8}
 use Rattle.fb_json.proofs.root.MeantValueFitsTheRoot.{root_fitted}
 use Rattle.fb_json.proofs.laws.MeantValueIsWhole.{meant_whole}

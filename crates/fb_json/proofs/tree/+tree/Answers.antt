@@ -9,8 +9,9 @@ use Rattle.fb_value.specs.Datum.{a_number}
 use Rattle.fb_value.specs.View.{view}
 use Rattle.fb_json.specs.Meant.{look, slot_place, entry_meant, part_meant}
 use Rattle.fb_json.proofs.members.MapFindsTheMembers.{found_some, found_none, looked_none}
-use Rattle.fb_json.proofs.slots.OneSlotOrFieldMore.{slot_at, fails_is, fails_by, slots_next, slots_untold, slots_ungiven}
-use Rattle.fb_json.proofs.slots.OneSlotOrFieldMore.{slots_end, parts_next, parts_ungiven, parts_end, counted}
+use Rattle.fb_json.proofs.slots.OneSlotOrFieldMore.{slot_at, fails_is, fails_by, slots_next, slots_untold}
+use Rattle.fb_json.proofs.slots.OneSlotOrFieldMore.{slots_ungiven, slots_end, parts_next, parts_ungiven, parts_end}
+use Rattle.fb_json.proofs.slots.OneSlotOrFieldMore.{counted}
 use Rattle.fb_json.proofs.tree.EntryIsWhatTheLookUpFinds.{entry_none, entry_some}
 use Rattle.fb_json.proofs.tree.+tree.Goals as goal
 

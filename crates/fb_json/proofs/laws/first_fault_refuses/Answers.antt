@@ -1,0 +1,5 @@
+use Rattle.fb_json.proofs.laws.SlotsDecideTheTree.{first_refuses}
+use Rattle.fb_json.proofs.laws.first_fault_refuses.Goals as goal
+
+pub returns : goal.returns
+returns c = first_refuses
