@@ -1,3 +1,2 @@
 pub mod Encoded
 pub mod OneMore
-pub mod Roots

@@ -1,13 +1,15 @@
--- What one slot more gives.
-use Rattle.std.specs.Prelude.{ℕ, ◌++◌, List, [], ◌∷◌, Option, Some, Ok}
-use Rattle.fb_value.specs.Datum.{Datum, a_vector}
-use Rattle.fb_value.specs.View.{parts_in}
-use Rattle.fb_json.specs.Outcome.{◌>>=◌, Counted}
+-- What one slot more gives, and which slot that is.
+use Rattle.std.specs.Prelude.{ℕ, ◌≡◌, ◌++◌, List, [], ◌∷◌, Option, Some, Result, Ok, Err, length, slice_get}
+use Rattle.fb_schema.specs.Schema.{DeclaredField, body_at, slots_in}
+use Rattle.fb_value.specs.Datum.{Datum}
+use Rattle.fb_json.specs.Outcome.{Counted}
+use Rattle.fb_build.specs.BuiltSoFar.{BuiltSoFar}
 
--- the entries so far with one more, where that is what the tree gives
+-- the entries so far with one more, where the tree gives one
 abbrev pub one_more : List (Option Datum) → Counted (Option Datum) → Counted (List (Option Datum))
-one_more before entry = entry >>= λ x. Ok (before ++ (x.0 ∷ []), x.1)
+one_more before (Ok x) = Ok (before ++ (x.0 ∷ []), x.1)
+one_more before (Err e) = Err e
 
--- the entry of a slot that holds a vector
-abbrev pub as_vector : Counted (List Datum) → Counted (Option Datum)
-as_vector elements = elements >>= λ xs. Ok (Some (a_vector (parts_in xs.0)), xs.1)
+-- the field whose slot comes next
+abbrev pub IsNextField : BuiltSoFar → DeclaredField → Type 0
+IsNextField b f = slice_get (slots_in (body_at b.layout.schema b.layout.schema.root)) (length b.entries) ≡ Some f

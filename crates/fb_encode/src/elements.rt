@@ -1,14 +1,15 @@
 //! Vectors of the root's table. Each element is read, laid where it is a text or a table, and dropped before the next,
-//! so that a long vector is never whole in memory beside its tree.
-ghost use Rattle.std.specs.Prelude.{◌≡◌, [], Some, false, length, map, slice_get, vec_len};
+//! so that no long vector is whole in memory beside its tree.
+ghost use Rattle.std.specs.Prelude.{◌≡◌, [], IfOk, map, vec_len};
 ghost use Rattle.serde_json.specs.View.{items_view};
+ghost use Rattle.fb_layout.specs.Laid.{stored_kind};
 ghost use Rattle.fb_value.specs.View.{view};
 ghost use Rattle.fb_json.specs.Meant.{items_meant};
 ghost use Rattle.fb_json.specs.Outcome.{Gives};
-ghost use Rattle.fb_build.specs.Drafted.{AwaitsElements};
+ghost use Rattle.fb_build.specs.Apart.{EachElementFits};
+ghost use Rattle.fb_build.specs.BuiltSoFar.{AwaitsElements};
 
-use crate::drops::drop_value;
-use fb_build::Draft;
+use fb_build::{BufferBuilder, drop_value};
 use fb_json::{JsonFault, Place, Source, element_of};
 use fb_schema::Kind;
 use fb_value::Value;
@@ -38,9 +39,11 @@ pub(crate) fn items_from(
     levels: u8,
     left: u32,
 ) -> Result<(Vec<Value>, u32), JsonFault>
-    ensures { Gives (λ x. (map view x.0.items, x.1)) result
+    ensures gives { Gives (λ x. (map view x.0.items, x.1)) result
         (items_meant source.entry.layout.now source.entry.unknown (items_view elements.items)
         kind place levels left) }
+    ensures fits { let L = source.entry.layout.now in
+        IfOk result (λ x. EachElementFits L (stored_kind L.schema kind) (map view x.0.items)) }
 {
     let mut found = Vec::with_capacity(source.alloc, elements.len())?;
     let mut left = left;
@@ -58,28 +61,28 @@ pub(crate) fn items_from(
 /// Lays the texts or tables that an array's elements mean, and returns the cells that are left.
 pub(crate) fn lay_elements(
     source: Source,
-    draft: &mut Draft,
+    builder: &mut BufferBuilder,
     elements: Vec<Json>,
     kind: Kind,
     place: Place,
     levels: u8,
     left: u32,
 ) -> Result<u32, JsonFault>
-    requires layout { draft.old.layout ≡ source.layout.now }
-    requires next { AwaitsElements draft.old kind }
-    requires none { draft.old.elements ≡ [] }
-    ensures gives { Gives (λ rest. (draft.new.elements, rest)) result
+    requires layout { builder.old.layout ≡ source.layout.now }
+    requires next { AwaitsElements builder.old (stored_kind source.layout.now.schema kind) }
+    requires none { builder.old.elements ≡ [] }
+    ensures gives { Gives (λ rest. (builder.new.elements, rest)) result
         (items_meant source.entry.layout.now source.entry.unknown (items_view elements.items)
         kind place levels left) }
-    ensures entries { draft.new.entries ≡ draft.old.entries }
-    ensures layout { draft.new.layout ≡ draft.old.layout }
+    ensures entries { builder.new.entries ≡ builder.old.entries }
+    ensures layout { builder.new.layout ≡ builder.old.layout }
 {
     let mut left = left;
     let mut elements = elements;
     elements.reverse();
     while let Some(element) = elements.pop() {
         let (item, rest) = element_of(source, &element, kind, place, levels, left)?;
-        draft.push_element(&item)?;
+        builder.push_element(&item)?;
         drop_value(item);
         left = rest;
         give_back(&mut elements);

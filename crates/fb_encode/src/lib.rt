@@ -1,7 +1,6 @@
 //! From a tree of JSON straight to a buffer.
 #![tactic(auto)]
 
-mod drops;
 mod elements;
 mod faults;
 mod slots;

@@ -1,28 +1,28 @@
 //! The slots of the root's table.
-ghost use Rattle.std.specs.Prelude.{ℕ, ◌≡◌, ◌≤◌, [], Some, None, IfOk, false, true, length, map, slice_get};
+ghost use Rattle.std.specs.Prelude.{◌≡◌, ◌≤◌, [], None, IfOk, false, true, length, map};
 ghost use Rattle.serde_json.specs.Find.{get_member};
 ghost use Rattle.serde_json.specs.View.{items_view, members_view};
-ghost use Rattle.fb_schema.specs.Schema.{Name, body_at, slots_in};
+ghost use Rattle.fb_schema.specs.Schema.{DeclaredSchema, Name, body_at, slots_in};
 ghost use Rattle.fb_schema.specs.Seen.{field_seen};
 ghost use Rattle.fb_schema.specs.declared.kinds.Shape.TheVariants.{Many};
-ghost use Rattle.fb_layout.specs.Laid.{stored_kind};
+ghost use Rattle.fb_layout.specs.Laid.{one_of, stored_kind};
 ghost use Rattle.fb_json.specs.MarkedSlots.{AreNamedApart, MarkNames};
 ghost use Rattle.fb_json.specs.Meant.{entry_meant, items_meant, look, slots_meant};
 ghost use Rattle.fb_json.specs.Outcome.{Gives};
-ghost use Rattle.fb_build.specs.References.{IsReferenceKind};
-ghost use Rattle.fb_encode.specs.OneMore.{as_vector, one_more};
-ghost use Rattle.fb_encode.specs.Roots.{IsNextField};
+ghost use Rattle.fb_json.specs.Steps.{vector_entry};
+ghost use Rattle.fb_build.specs.Fields.{is_reference};
+ghost use Rattle.fb_encode.specs.OneMore.{IsNextField, one_more};
 
 use crate::elements::{items_from, lay_elements};
-use fb_build::Draft;
-use fb_json::{JsonFault, Place, Source, Taken, code_after, is_marked, take_slot};
-use fb_schema::{FieldInfo, Kind};
+use fb_build::BufferBuilder;
+use fb_json::{JsonFault, Place, Source, TakenSlot, code_after, is_marked, take_slot};
+use fb_schema::{FieldInfo, Kind, TypeId};
 use fb_value::Value;
 use serde_json::{Map, Value as Json};
 
-/// Whether elements of a kind are stored as references.
-fn is_reference(kind: Kind) -> bool
-    ensures { (S : _) → result ≡ true → IsReferenceKind (stored_kind S kind) }
+/// Whether a vector holds references to elements of a kind, which has no vector of unions.
+fn is_referred(kind: Kind) -> bool
+    ensures { (S : DeclaredSchema) → result ≡ true → is_reference (one_of (stored_kind S kind)) ≡ true }
 {
     matches!(kind, Kind::Text | Kind::Table(_))
 }
@@ -30,7 +30,7 @@ fn is_reference(kind: Kind) -> bool
 /// Lays the vector in the next slot, and returns the cells that are left.
 fn lay_vector(
     source: Source,
-    draft: &mut Draft,
+    builder: &mut BufferBuilder,
     slot: &FieldInfo,
     elements: Vec<Json>,
     kind: Kind,
@@ -38,31 +38,31 @@ fn lay_vector(
     levels: u8,
     left: u32,
 ) -> Result<u32, JsonFault>
-    requires layout { draft.old.layout ≡ source.layout.now }
-    requires next { IsNextField draft.old (field_seen slot.now) }
+    requires layout { builder.old.layout ≡ source.layout.now }
+    requires next { IsNextField builder.old (field_seen slot.now) }
     requires vector { (field_seen slot.now).shape ≡ Many kind }
-    requires used { slot.now.deprecated ≡ false }
-    requires none { draft.old.elements ≡ [] }
-    ensures gives { Gives (λ rest. (draft.new.entries, rest)) result
-        (one_more draft.old.entries (as_vector (items_meant source.entry.layout.now source.entry.unknown
+    requires used { (field_seen slot.now).deprecated ≡ false }
+    requires none { builder.old.elements ≡ [] }
+    ensures gives { Gives (λ rest. (builder.new.entries, rest)) result
+        (one_more builder.old.entries (vector_entry (items_meant source.entry.layout.now source.entry.unknown
         (items_view elements.items) kind place levels left))) }
-    ensures layout { draft.new.layout ≡ draft.old.layout }
-    ensures closed { IfOk result (λ rest. draft.new.elements ≡ []) }
+    ensures layout { builder.new.layout ≡ builder.old.layout }
+    ensures none { IfOk result (λ rest. builder.new.elements ≡ []) }
 {
-    if is_reference(kind) {
-        let left = lay_elements(source, draft, elements, kind, place, levels, left)?;
-        draft.close_vector()?;
+    if is_referred(kind) {
+        let left = lay_elements(source, builder, elements, kind, place, levels, left)?;
+        builder.close_vector()?;
         return Ok(left);
     }
     let (items, left) = items_from(source, elements, kind, place, levels, left)?;
-    draft.push_entry(Some(Value::Items(items)))?;
+    builder.push_entry(Some(Value::Items(items)))?;
     Ok(left)
 }
 
 /// Lays what is in the next slot, and returns the cells that are left.
 fn lay_slot(
     source: Source,
-    draft: &mut Draft,
+    builder: &mut BufferBuilder,
     members: &mut Map<String, Json>,
     slot: &FieldInfo,
     place: Place,
@@ -71,28 +71,29 @@ fn lay_slot(
     levels: u8,
     left: u32,
 ) -> Result<u32, JsonFault>
-    requires layout { draft.old.layout ≡ source.layout.now }
-    requires next { IsNextField draft.old (field_seen slot.now) }
-    requires none { draft.old.elements ≡ [] }
+    requires layout { builder.old.layout ≡ source.layout.now }
+    requires next { IsNextField builder.old (field_seen slot.now) }
+    requires none { builder.old.elements ≡ [] }
     requires marked { marked ≡ false
         → get_member (field_seen slot.now).name (members_view members.old.entries) ≡ None }
-    ensures gives { let L = source.entry.layout.now in Gives (λ rest. (draft.new.entries, rest)) result
-        (one_more draft.old.entries (entry_meant L (look L source.entry.unknown (members_view members.old.entries))
-        (field_seen slot.now) place code levels left)) }
-    ensures layout { draft.new.layout ≡ draft.old.layout }
-    ensures closed { IfOk result (λ rest. draft.new.elements ≡ []) }
+    ensures gives { let L = source.entry.layout.now in Gives (λ rest. (builder.new.entries, rest)) result
+        (one_more builder.old.entries (entry_meant L
+        (look L source.entry.unknown (members_view members.old.entries)) (field_seen slot.now)
+        place code levels left)) }
+    ensures layout { builder.new.layout ≡ builder.old.layout }
+    ensures none { IfOk result (λ rest. builder.new.elements ≡ []) }
     ensures others { (name : Name) → (name ≡ (field_seen slot.now).name → ⊥)
         → get_member name (members_view members.new.entries)
         ≡ get_member name (members_view members.old.entries) }
 {
     let (taken, left) = take_slot(source, members, slot, place, code, marked, levels, left)?;
     match taken {
-        Taken::Entry(entry) => {
-            draft.push_entry(entry)?;
+        TakenSlot::Entry(entry) => {
+            builder.push_entry(entry)?;
             Ok(left)
         }
-        Taken::Elements(kind, elements) => {
-            lay_vector(source, draft, slot, elements, kind, place, levels, left)
+        TakenSlot::Elements(kind, elements) => {
+            lay_vector(source, builder, slot, elements, kind, place, levels, left)
         }
     }
 }
@@ -100,8 +101,9 @@ fn lay_slot(
 /// Lays what is in the slots of the root's table, and returns the cells that are left.
 pub(crate) fn lay_slots(
     source: Source,
-    draft: &mut Draft,
+    builder: &mut BufferBuilder,
     members: Map<String, Json>,
+    owner: TypeId,
     slots: &[FieldInfo],
     marks: &[bool],
     levels: u8,
@@ -111,17 +113,16 @@ pub(crate) fn lay_slots(
     requires few { length slots.now ≤ 32765 }
     requires marks { MarkNames (map field_seen slots.now) marks.now (members_view members.entries) }
     requires names { AreNamedApart (map field_seen slots.now) }
-    requires layout { draft.old.layout ≡ source.layout.now }
-    requires entries { draft.old.entries ≡ [] }
-    requires elements { draft.old.elements ≡ [] }
-    ensures gives { let L = source.entry.layout.now in Gives (λ rest. (draft.new.entries, rest)) result
-        (slots_meant L (look L source.entry.unknown (members_view members.entries)) L.schema.root
+    requires layout { builder.old.layout ≡ source.layout.now }
+    requires entries { builder.old.entries ≡ [] }
+    requires none { builder.old.elements ≡ [] }
+    ensures gives { let L = source.entry.layout.now in Gives (λ rest. (builder.new.entries, rest)) result
+        (slots_meant L (look L source.entry.unknown (members_view members.entries)) owner.0
         (map field_seen slots.now) 0 0 levels left) }
-    ensures layout { draft.new.layout ≡ draft.old.layout }
-    ensures closed { IfOk result (λ rest. draft.new.elements ≡ []) }
-    ensures all { IfOk result (λ rest. length draft.new.entries ≡ length slots.now) }
+    ensures layout { builder.new.layout ≡ builder.old.layout }
+    ensures none { IfOk result (λ rest. builder.new.elements ≡ []) }
+    ensures all { IfOk result (λ rest. length builder.new.entries ≡ length slots.now) }
 {
-    let owner = source.layout.schema().root();
     let mut members = members;
     let mut left = left;
     let mut code = 0;
@@ -132,16 +133,9 @@ pub(crate) fn lay_slots(
         };
         let marked = is_marked(marks, k);
         code = code_after(source, &members, slot, place, code, marked)?;
+        let members = &mut members;
         left = lay_slot(
-            source,
-            draft,
-            &mut members,
-            slot,
-            place,
-            code,
-            marked,
-            levels,
-            left,
+            source, builder, members, slot, place, code, marked, levels, left,
         )?;
     }
     Ok(left)
