@@ -26,13 +26,13 @@ fn lay_root<'l>(
     members: Map<String, Json>,
     limits: Limits,
 ) -> Result<BufferBuilder<'l>, JsonFault>
-    ensures layout { IfOk result (λ b. b.layout ≡ source.layout.now) }
+    ensures layout { IfOk result (λ b. b.layout ≡ source.entry.layout.now) }
     ensures all { IfOk result (λ b. length b.entries ≡ length (root_slots b.layout)) }
     ensures none { IfOk result (λ b. b.elements ≡ []) }
     ensures value { (t : Data) → IsRoot limits t (members_view members.entries) →
-        IfOk result (λ b. Means source.layout.now limits source.unknown t (root_value b)) }
+        IfOk result (λ b. Means source.entry.layout.now limits source.entry.unknown t (root_value b)) }
     ensures first { (t : Data) → IsRoot limits t (members_view members.entries) →
-        IfErr result (λ f. (f ≡ JsonFault.Memory) ⊎ IsFirst source.layout.now limits source.unknown t f) }
+        IfErr result (λ f. (f ≡ JsonFault.Memory) ⊎ IsFirst source.entry.layout.now limits source.entry.unknown t f) }
 {
     slots_decide_the_root();
     let root = source.layout.schema().root();
