@@ -1,5 +1,6 @@
 pub mod JsonText
 pub mod LayerLaws
+pub mod Encodes
 pub mod Jobs
 pub mod Answers
 pub mod Headline

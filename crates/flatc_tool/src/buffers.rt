@@ -2,15 +2,14 @@
 ghost use Rattle.std.specs.Prelude.{◌≡◌, ◌⊎◌, IfOk, IfErr};
 ghost use Rattle.serde_json.specs.Data.{Data};
 ghost use Rattle.serde_json.specs.View.{view as tree_view};
+ghost use Rattle.flatc_tool.specs.Encodes.{encode_fault};
 ghost use Rattle.flatc_tool.specs.Jobs.{IsBinaryOf, MayBeBinaryOf, BinaryRefusedOf, IsNotMemory};
 ghost use Rattle.flatc_tool.specs.JsonText.{IsTree};
 
-use crate::drops::drop_value;
 use crate::faults::ToolFault;
 use crate::laws::layer_laws;
 use crate::options::EncodeOptions;
-use fb_build::build;
-use fb_json::value_from;
+use fb_encode::{EncodeFault, encode_tree};
 use fb_layout::Layout;
 use serde_json::Value as Json;
 use std::alloc::Global;
@@ -26,6 +25,16 @@ fn tree_of(alloc: Global, json: &[u8]) -> Result<Json, ToolFault>
     } else {
         ToolFault::BadJson
     })
+}
+
+/// A refusal to encode.
+fn refused(fault: EncodeFault) -> ToolFault
+    ensures { result ≡ encode_fault fault }
+{
+    match fault {
+        EncodeFault::Json(fault) => ToolFault::Json(fault),
+        EncodeFault::Build(fault) => ToolFault::Build(fault),
+    }
 }
 
 /// The buffer of a JSON text under a layout, which may be kept for any number of texts.
@@ -51,16 +60,8 @@ pub fn encode(
         Ok(tree) => tree,
         Err(fault) => return Err(fault),
     };
-    let limits = options.limits;
-    let _depth = limits.most_depth(); // its contract: at most 127
-    let value = match value_from(alloc, layout, tree, limits, options.unknown_json) {
-        Ok(value) => value,
-        Err(fault) => return Err(ToolFault::Json(fault)),
-    };
-    let built = build(alloc, layout, &value);
-    drop_value(value);
-    match built {
+    match encode_tree(alloc, layout, tree, options.limits, options.unknown_json) {
         Ok(bytes) => Ok(bytes),
-        Err(fault) => Err(ToolFault::Build(fault)),
+        Err(fault) => Err(refused(fault)),
     }
 }

@@ -4,7 +4,6 @@
 mod buffers;
 mod checks;
 pub mod command;
-mod drops;
 mod evolution;
 mod faults;
 mod headline;
