@@ -1,2 +1,2 @@
--- What the proofs of src/fronts.rt and src/fault_path.rt use.
+-- What the proofs of src/fronts.rt and src/paths.rt use.
 pub mod PartsAreReadInOrder

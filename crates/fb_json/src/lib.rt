@@ -10,7 +10,6 @@ mod laws;
 mod leaves;
 mod marks;
 mod members;
-mod owned;
 mod paths;
 mod root;
 mod scalars;
@@ -27,7 +26,6 @@ pub use laws::{
     meant_is_whole, only_what_is_meant, slots_decide_the_root,
 };
 pub use marks::{is_marked, marks_of};
-pub use owned::value_from;
 pub use paths::fault_path;
 pub use root::value_of;
 pub use source::Source;

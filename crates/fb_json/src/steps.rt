@@ -33,7 +33,7 @@ pub enum TakenSlot {
 }
 
 /// The members of an object.
-pub(crate) fn members_of(tree: Json) -> Option<Map<String, Json>>
+fn members_of(tree: Json) -> Option<Map<String, Json>>
     ensures { option_map (λ m. members_view m.entries) result ≡ as_object (tree_view tree) }
 {
     match tree {

@@ -222,7 +222,7 @@ pub(crate) fn entry(
 /// The entry of a slot in use that has a member, perhaps `null`.
 #[inline(always)]
 #[cycle(tree)]
-pub(crate) fn found(
+fn found(
     source: Source,
     slot: &FieldInfo,
     tree: &Json,
