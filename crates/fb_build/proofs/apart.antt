@@ -3,5 +3,5 @@ pub mod PartsApartAreMade
 pub mod OneMoreIsLaidApart
 pub mod NothingMoreIsLaidApart
 pub mod EntryIsLaidApart
-pub mod EntriesStandIn
+pub mod KeptEntriesStandIn
 pub mod AllEntriesAreLaidApart

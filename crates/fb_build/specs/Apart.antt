@@ -1,6 +1,6 @@
 -- What is laid outside of a table before the table itself: the parts of its first slots, and of the first elements of the
 -- vector in the next slot.
-use Rattle.std.specs.Prelude.{ℕ, ◌+◌, ◌≡◌, ◌≤◌, ◌++◌, true, false, List, [], ◌∷◌, Option, None, Some, length, slice_get}
+use Rattle.std.specs.Prelude.{ℕ, ◌≡◌, true, false, List, [], ◌∷◌, Option, None, Some, slice_get}
 use Rattle.std.specs.Prelude.{slice_index}
 use Rattle.fb_layout.specs.Laid.{LaidSchema, Slot, StoredKind, one_of}
 use Rattle.fb_value.specs.Counts.{is_whole}
@@ -8,7 +8,6 @@ use Rattle.fb_value.specs.Datum.{Datum}
 use Rattle.fb_value.specs.Entries.{EntryFits}
 use Rattle.fb_value.specs.Fits.{Fits}
 use Rattle.fb_build.specs.Fields.{EntryEnd, stored_here}
-use Rattle.fb_build.specs.Items.{TargetsEnd}
 use Rattle.fb_build.specs.Made.{NamedPart, named_stored}
 use Rattle.fb_build.specs.Parts.{EntryWhole}
 use Rattle.fb_build.specs.Tails.{TailSeen}

@@ -1,5 +1,5 @@
 -- A buffer that is laid while its value comes in, as contracts see it.
-use Rattle.std.specs.Prelude.{ℕ, ◌≡◌, ◌++◌, false, true, List, [], ◌∷◌, Option, Some, length, slice_get}
+use Rattle.std.specs.Prelude.{◌≡◌, ◌++◌, false, true, List, [], ◌∷◌, Option, Some, length, slice_get}
 use Rattle.fb_layout.specs.Laid.{LaidSchema, Slot, StoredKind, slots_of, one_of, vector_of}
 use Rattle.fb_value.specs.Counts.{is_whole}
 use Rattle.fb_value.specs.Datum.{Datum, a_table, a_vector}

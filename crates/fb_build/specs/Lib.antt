@@ -30,7 +30,6 @@ pub mod Builders
 pub mod Apart
 pub mod BuiltSoFar
 pub mod LaidApart
-pub mod EntryStands
 pub mod OpenBuffer
 pub mod Roots
 pub mod FieldsLaid

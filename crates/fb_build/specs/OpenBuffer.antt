@@ -4,7 +4,7 @@ use Rattle.fb_layout.specs.Laid.{LaidSchema, Slot, StoredKind, kind_in, text_kin
 use Rattle.fb_build.specs.declared.buffer_builder.BufferBuilder.TheInside.{Inside}
 use Rattle.fb_build.specs.BuiltSoFar.{BuiltSoFar, root_slots}
 use Rattle.fb_build.specs.Apart.{EachEntryFits}
-use Rattle.fb_build.specs.EntryStands.{EachEntryStands}
+use Rattle.fb_build.specs.StandIns.{EachEntryStands}
 use Rattle.fb_build.specs.Fields.{entries_seen}
 use Rattle.fb_build.specs.LaidApart.{AreLaidApart}
 

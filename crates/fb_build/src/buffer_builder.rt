@@ -9,7 +9,7 @@ ghost use Rattle.fb_build.specs.Covered.{Covered, EndsAligned};
 ghost use Rattle.fb_build.specs.declared.faults.BuildFault.TheVariants.{TooBig, Memory};
 ghost use Rattle.fb_layout.specs.Laid.{LaidSchema, Slot, slot_of};
 ghost use Rattle.fb_value.specs.Entries.{EntryFits};
-ghost use Rattle.fb_build.specs.EntryStands.{EntryStands};
+ghost use Rattle.fb_build.specs.StandIns.{EntryStands};
 ghost use Rattle.fb_build.specs.Parts.{EntryWhole};
 ghost use Rattle.fb_schema.specs.Seen.{field_seen};
 ghost use Rattle.fb_value.specs.View.{view};

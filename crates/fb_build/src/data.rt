@@ -12,8 +12,8 @@ use std::marker::Model;
 
 /// The elements of a vector, as contracts see them; it takes no bytes at run time.
 #[derive(Drop)]
-pub struct ElementData {
-    pub ghost elements: { List Datum } by { coded_list datum_code },
+pub(crate) struct ElementData {
+    pub(crate) ghost elements: { List Datum } by { coded_list datum_code },
 }
 
 impl Model for ElementData {
@@ -22,7 +22,7 @@ impl Model for ElementData {
 
 impl ElementData {
     /// No element.
-    pub fn new() -> ElementData
+    pub(crate) fn new() -> ElementData
         ensures { result.elements ≡ [] }
     {
         ElementData::of(&[])
@@ -30,7 +30,7 @@ impl ElementData {
 
     /// Elements that are in memory.
     #[inline(always)]
-    pub fn of(items: &[Value]) -> ElementData
+    pub(crate) fn of(items: &[Value]) -> ElementData
         ensures { result.elements ≡ map view items.now }
     {
         ElementData {}
@@ -44,7 +44,7 @@ impl ElementData {
 
     /// One more element.
     #[inline(always)]
-    pub fn push(&mut self, item: &Value)
+    pub(crate) fn push(&mut self, item: &Value)
         ensures { self.new.elements ≡ self.old.elements ++ (view item.now ∷ []) }
     {
         *self = self.with(item);
@@ -53,8 +53,8 @@ impl ElementData {
 
 /// The entries of a table, as contracts see them; it takes no bytes at run time.
 #[derive(Drop)]
-pub struct EntryData {
-    pub ghost entries: { List (Option Datum) } by { coded_list (coded_option datum_code) },
+pub(crate) struct EntryData {
+    pub(crate) ghost entries: { List (Option Datum) } by { coded_list (coded_option datum_code) },
 }
 
 impl Model for EntryData {
@@ -63,7 +63,7 @@ impl Model for EntryData {
 
 impl EntryData {
     /// No entry.
-    pub fn new() -> EntryData
+    pub(crate) fn new() -> EntryData
         ensures { result.entries ≡ [] }
     {
         EntryData::of(&[])
@@ -71,7 +71,7 @@ impl EntryData {
 
     /// Entries that are in memory.
     #[inline(always)]
-    pub fn of(entries: &[Option<Value>]) -> EntryData
+    pub(crate) fn of(entries: &[Option<Value>]) -> EntryData
         ensures { result.entries ≡ entries_seen entries.now }
     {
         EntryData {}
@@ -85,7 +85,7 @@ impl EntryData {
 
     /// One more entry.
     #[inline(always)]
-    pub fn push(&mut self, entry: &Option<Value>)
+    pub(crate) fn push(&mut self, entry: &Option<Value>)
         ensures { self.new.entries ≡ self.old.entries ++ (option_map view entry.now ∷ []) }
     {
         *self = self.with(entry);
@@ -100,7 +100,7 @@ impl EntryData {
 
     /// One more entry: a vector with these elements.
     #[inline(always)]
-    pub fn push_vector(&mut self, vector: &ElementData)
+    pub(crate) fn push_vector(&mut self, vector: &ElementData)
         ensures { self.new.entries ≡ self.old.entries
             ++ (Some (a_vector (parts_in vector.now.elements)) ∷ []) }
     {

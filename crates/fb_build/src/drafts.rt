@@ -44,7 +44,7 @@ use std::marker::Model;
 /// A buffer whose parts are laid one by one, before the whole of its value is known. Its memory grows with them. It
 /// keeps the sum of the rooms of all parts that were asked for, and lays none past 2,147,483,647 bytes.
 #[derive(Drop)]
-pub struct Draft<'l> {
+pub(crate) struct Draft<'l> {
     alloc: Global,
     layout: &'l Layout,
     builder: Builder,
@@ -93,7 +93,7 @@ fn reserve(
 
 impl<'l> Draft<'l> {
     /// A buffer in which nothing is laid.
-    pub fn new(alloc: Global, layout: &'l Layout) -> Result<Draft<'l>, AllocError>
+    pub(crate) fn new(alloc: Global, layout: &'l Layout) -> Result<Draft<'l>, AllocError>
         ensures layout { IfOk result (λ d. d.layout ≡ layout.now) }
         ensures bytes { IfOk result (λ d. length d.tail.bytes ≡ 0) }
         ensures most { IfOk result (λ d. d.tail.most ≡ 4) }
@@ -123,7 +123,7 @@ impl<'l> Draft<'l> {
 
     /// Lays what a value needs outside of its own place, with the vtables of its tables, and returns its end-count;
     /// 0 where there is nothing. Where the rooms of all that was asked for are over 2,147,483,647 bytes it lays nothing.
-    pub fn lay_apart(&mut self, shape: Shape, value: &Value) -> Result<u32, AllocError>
+    pub(crate) fn lay_apart(&mut self, shape: Shape, value: &Value) -> Result<u32, AllocError>
         requires simple { IsSimple self.old.layout (shape_seen self.old.layout shape) }
         requires low { align_of self.old.layout (kind_in (shape_seen self.old.layout shape))
             ≤ greatest self.old.layout }
@@ -190,7 +190,7 @@ impl<'l> Draft<'l> {
 
     /// Lays a vector of references to parts that are laid, and returns its end-count. Where the rooms of all that was
     /// asked for are over 2,147,483,647 bytes it lays nothing.
-    pub fn lay_references(
+    pub(crate) fn lay_references(
         &mut self,
         kind: Kind,
         data: &ElementData,
@@ -238,7 +238,7 @@ impl<'l> Draft<'l> {
     }
 
     /// Lays the root's table, whose entries in memory may stand in for what was laid, and what stands in front of it.
-    pub fn into_buffer(
+    pub(crate) fn into_buffer(
         self,
         entries: &[Option<Value>],
         data: &EntryData,

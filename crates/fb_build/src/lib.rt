@@ -2,8 +2,8 @@
 #![tactic(auto)]
 
 mod blocks;
-mod buffers;
 mod buffer_builder;
+mod buffers;
 mod builder;
 mod data;
 mod drafts;
@@ -28,8 +28,6 @@ mod vtables;
 
 pub use buffer_builder::BufferBuilder;
 pub use buffers::{build, plan};
-pub use data::{ElementData, EntryData};
-pub use drafts::Draft;
 pub use drops::drop_value;
 pub use faults::BuildFault;
 pub use laws::{

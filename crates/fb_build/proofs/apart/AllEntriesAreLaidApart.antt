@@ -1,6 +1,6 @@
 -- All that a table's references name is laid apart.
-use Rattle.std.proofs.Common.{◌≡◌, ℕ, suc, ◌<◌, ◌≤◌, ◌++◌, ◌∙◌, List, [], length, drop, Option, Some, slice_get, slice_index}
-use Rattle.std.proofs.Common.{false, ap, sym, subst, arith}
+use Rattle.std.proofs.Common.{◌≡◌, ℕ, suc, ◌<◌, ◌≤◌, ◌∙◌, List, [], length, drop, Option, slice_index}
+use Rattle.std.proofs.Common.{false, subst, arith}
 use Rattle.fb_layout.specs.Laid.{LaidSchema, Slot, StoredKind}
 use Rattle.fb_value.specs.Datum.{Datum}
 use Rattle.fb_build.specs.Apart.{EntriesApart, named_apart}
@@ -8,12 +8,12 @@ use Rattle.fb_build.specs.BuiltSoFar.{root_slots}
 use Rattle.fb_build.specs.Drafted.{Drafted}
 use Rattle.fb_build.specs.Fields.{EntriesEnd, EntryEnd, next_code, stored_here, stored_in}
 use Rattle.fb_build.specs.LaidApart.{AreLaidApart, two_lists}
-use Rattle.fb_build.specs.Made.{IsMade, NamedPart, ends_parts}
+use Rattle.fb_build.specs.Made.{IsMade, ends_parts}
 use Rattle.fb_build.specs.Pieces.{PartAt}
 use Rattle.fb_build.specs.Roots.{AreTargetsLaid}
 use Rattle.fb_build.specs.Tails.{TailSeen}
 use Rattle.fb_build.proofs.apart.EntriesComeInOrder.{append_none, named_whole}
-use Rattle.fb_build.proofs.apart.EntriesStandIn.{same_in, under}
+use Rattle.fb_build.proofs.apart.KeptEntriesStandIn.{same_in, under}
 use Rattle.fb_build.proofs.tables.CodeSlotHasNoEntry.{got, stored_get}
 
 entries_end : (L : LaidSchema) (o : TailSeen) (fs : List Slot) (xs : List (Option Datum)) (ends : List ℕ)

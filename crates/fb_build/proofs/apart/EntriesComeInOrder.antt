@@ -1,7 +1,7 @@
 -- One entry or element more of what is laid apart.
-use Rattle.std.proofs.Common.{◌≡◌, ℕ, zero, suc, ◌+◌, ◌<◌, ◌≤◌, ◌++◌, ◌&&◌, ◌⊎◌, inl, inr, true, false, List, [], ◌∷◌, length, map}
-use Rattle.std.proofs.Common.{slice_get, slice_index, drop, Option, None, Some, refl, ap, sym, ◌∙◌, subst, arith}
-use Rattle.std.proofs.Common.{append_assoc, length-append}
+use Rattle.std.proofs.Common.{◌≡◌, ℕ, zero, suc, ◌+◌, ◌<◌, ◌≤◌, ◌++◌, ◌&&◌, ◌⊎◌, inl, inr, true, false, List, [], ◌∷◌, length}
+use Rattle.std.proofs.Common.{slice_get, slice_index, Option, None, Some, refl, ap, sym, ◌∙◌, subst, arith}
+use Rattle.std.proofs.Common.{append_assoc}
 use Rattle.fb_layout.specs.Laid.{LaidSchema, Slot, StoredKind, StoredShape, scalar_kind, struct_kind, table_kind}
 use Rattle.fb_layout.specs.Laid.{union_kind, code_kind, text_kind, one_of, vector_of}
 use Rattle.fb_value.specs.Counts.{is_whole, parts_whole, entries_whole}
@@ -15,10 +15,8 @@ use Rattle.fb_build.specs.Apart.{named_apart, EntriesApart, EachEntryFits, EachE
 use Rattle.fb_build.specs.Fields.{EntryEnd, TargetEnd, coded, next_code, stored_here, stored_in, target_for}
 use Rattle.fb_build.specs.Items.{TargetsEnd}
 use Rattle.fb_build.specs.Made.{NamedPart, named_of, named_stored, named_fields, named_items, parts_at, ends_parts}
-use Rattle.fb_build.specs.Pieces.{PartAt}
 use Rattle.fb_build.specs.Tails.{TailSeen, Grows}
 use Rattle.fb_build.proofs.fields.FieldHasItsValue.{entry_grown, target_grown}
-use Rattle.fb_build.proofs.tables.EndsNameTheParts.{first_dropped}
 
 -- ---- lists
 

@@ -1,6 +1,6 @@
 -- The entry of the next slot is laid apart.
-use Rattle.std.proofs.Common.{◌≡◌, ℕ, suc, ◌+◌, ◌-◌, ◌≤◌, ◌++◌, List, [], ◌∷◌, length, Option, None, Some, slice_get, refl, ap, sym}
-use Rattle.std.proofs.Common.{◌∙◌, subst, arith, true, false}
+use Rattle.std.proofs.Common.{◌≡◌, ℕ, ◌+◌, ◌-◌, ◌≤◌, ◌++◌, List, [], ◌∷◌, length, Option, None, Some, slice_get, ap, sym}
+use Rattle.std.proofs.Common.{◌∙◌, subst, arith, false}
 use Rattle.fb_schema.specs.declared.types.FieldInfo.{FieldInfo}
 use Rattle.fb_schema.specs.Seen.{field_seen}
 use Rattle.fb_layout.specs.Laid.{LaidSchema, Slot, StoredKind, kind_in, slot_of, stored_shape, align_of}
@@ -19,7 +19,7 @@ use Rattle.fb_build.specs.BuiltSoFar.{AwaitsVector, FitsNext, root_slots}
 use Rattle.fb_build.specs.CoveredTails.{parts_in_tail}
 use Rattle.fb_build.specs.Items.{ItemsKnown, TargetsEnd}
 use Rattle.fb_build.specs.Tails.{LaidInTail}
-use Rattle.fb_build.specs.EntryStands.{EntryStands}
+use Rattle.fb_build.specs.StandIns.{EntryStands}
 use Rattle.fb_build.specs.Drafted.{Drafted, Continues}
 use Rattle.fb_build.specs.Fields.{EntryEnd, IsElement, IsSimple, entries_seen, stored_here}
 use Rattle.fb_build.specs.LaidApart.{AreLaidApart}
@@ -28,7 +28,7 @@ use Rattle.fb_build.specs.OpenBuffer.{built_seen, IsOpen, root_kind}
 use Rattle.fb_build.specs.Parts.{EntryWhole, PartEnd}
 use Rattle.fb_build.specs.declared.buffer_builder.BufferBuilder.TheInside.{Inside}
 use Rattle.fb_build.proofs.apart.EntriesComeInOrder.{elements_fit, fits_more, long_more}
-use Rattle.fb_build.proofs.apart.EntriesStandIn.{stand_more}
+use Rattle.fb_build.proofs.apart.KeptEntriesStandIn.{stand_more}
 use Rattle.fb_build.proofs.apart.NothingMoreIsLaidApart.{kind_of_elements, none_left, rekinded, root_kind_is}
 use Rattle.fb_build.proofs.apart.OneMoreIsLaidApart.{entry_end, entry_laid, entry_names, one_fits, vector_laid}
 use Rattle.fb_build.proofs.covered.PartsInFrontAreAdded.{adds_nothing}

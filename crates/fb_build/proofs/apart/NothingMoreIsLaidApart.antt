@@ -1,14 +1,14 @@
 -- What is laid apart, where nothing more is laid.
-use Rattle.std.proofs.Common.{◌≡◌, ℕ, ◌+◌, ◌≤◌, List, [], ◌∷◌, length, Option, None, Some, slice_get, refl, ap, sym, ◌∙◌}
-use Rattle.std.proofs.Common.{subst, arith, true, false}
+use Rattle.std.proofs.Common.{◌≡◌, ℕ, ◌+◌, List, [], ◌∷◌, length, Option, Some, slice_get, refl, ap, sym, ◌∙◌}
+use Rattle.std.proofs.Common.{subst, arith, true}
 use Rattle.fb_schema.specs.declared.types.FieldInfo.{FieldInfo}
 use Rattle.fb_schema.specs.Seen.{field_seen}
 use Rattle.fb_layout.specs.Laid.{LaidSchema, Slot, StoredKind, kind_in, slot_of, stored_shape, one_of, vector_of, scalar_kind}
 use Rattle.fb_layout.specs.Laid.{struct_kind, table_kind, union_kind, code_kind, text_kind}
 use Rattle.fb_value.specs.Datum.{Datum}
 use Rattle.fb_build.specs.BuiltSoFar.{FitsVector, root_slots}
-use Rattle.fb_build.specs.Drafted.{Drafted, Continues, IsAsBefore}
-use Rattle.fb_build.specs.LaidApart.{AreLaidApart, LieApart}
+use Rattle.fb_build.specs.Drafted.{Drafted, IsAsBefore}
+use Rattle.fb_build.specs.LaidApart.{AreLaidApart}
 use Rattle.fb_build.specs.declared.buffer_builder.BufferBuilder.TheInside.{Inside}
 use Rattle.fb_build.specs.OpenBuffer.{built_seen, IsOpen, kind_of_slot, root_kind}
 use Rattle.fb_build.specs.Fields.{IsSimple, is_reference}

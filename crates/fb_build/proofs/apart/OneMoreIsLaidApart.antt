@@ -1,6 +1,6 @@
 -- An entry, an element or a whole vector more is laid apart.
-use Rattle.std.proofs.Common.{◌≡◌, ℕ, zero, suc, ◌+◌, ◌-◌, ◌<◌, ◌≤◌, ◌++◌, max, true, false, List, [], ◌∷◌, length, map}
-use Rattle.std.proofs.Common.{slice_get, slice_index, Option, None, Some, refl, ap, sym, ◌∙◌, subst, arith, append_assoc}
+use Rattle.std.proofs.Common.{◌≡◌, ℕ, zero, suc, ◌+◌, ◌-◌, ◌≤◌, ◌++◌, max, true, false, List, [], ◌∷◌, length}
+use Rattle.std.proofs.Common.{slice_get, Option, None, Some, refl, ap, sym, ◌∙◌, subst, arith, append_assoc}
 use Rattle.fb_layout.specs.Laid.{LaidSchema, Slot, StoredKind, StoredShape, scalar_kind, struct_kind, table_kind}
 use Rattle.fb_layout.specs.Laid.{union_kind, code_kind, text_kind, one_of, vector_of}
 use Rattle.fb_layout.specs.Widths.{greatest}
@@ -10,18 +10,18 @@ use Rattle.fb_value.specs.Entries.{EntryFits, entry_room}
 use Rattle.fb_value.specs.Fits.{Fits}
 use Rattle.fb_value.specs.Num.{Bytes, divides}
 use Rattle.fb_value.specs.Places.{part_place, vector_part}
-use Rattle.fb_value.specs.Room.{entries_room, parts_room, room, vector_room}
+use Rattle.fb_value.specs.Room.{parts_room, room, vector_room}
 use Rattle.fb_value.specs.UpTo.{at_most_usize}
-use Rattle.fb_value.specs.View.{entries_in, parts_in}
+use Rattle.fb_value.specs.View.{parts_in}
 use Rattle.fb_value.proofs.tails.TailsAreKeptInFront.{through}
 use Rattle.fb_build.specs.Apart.{named_apart, EntriesApart, EachEntryFits, EachElementFits}
 use Rattle.fb_build.specs.BuiltSoFar.{root_slots}
 use Rattle.fb_build.specs.CoveredTails.{parts_in_tail}
-use Rattle.fb_build.specs.Drafted.{Drafted, Continues, IsAsBefore}
+use Rattle.fb_build.specs.Drafted.{Drafted, Continues}
 use Rattle.fb_build.specs.Fields.{EntryEnd, IsSimple, TargetEnd, is_stored, stored_here, target_for}
 use Rattle.fb_build.specs.Items.{TargetsEnd}
 use Rattle.fb_build.specs.LaidApart.{AreLaidApart, LieApart, two_lists}
-use Rattle.fb_build.specs.Made.{Adds, IsMade, NamedPart, named_items, named_of, named_stored, part_named, parts_at}
+use Rattle.fb_build.specs.Made.{Adds, IsMade, named_items, named_of, named_stored, part_named, parts_at}
 use Rattle.fb_build.specs.Made.{ends_parts}
 use Rattle.fb_build.specs.Parts.{EntryWhole, PartEnd}
 use Rattle.fb_build.specs.Pieces.{PartAt}
@@ -90,14 +90,6 @@ entry_names L f d simple fits = by_shape f.shape refl
     by_shape (one_of (union_kind b)) at = by_itself (ap (λ (h : StoredShape). stored_here h None (Some d)) at)
     by_shape (one_of text_kind) at = by_itself (ap (λ (h : StoredShape). stored_here h None (Some d)) at)
     by_shape (vector_of kind) at = by_itself (ap (λ (h : StoredShape). stored_here h None (Some d)) at)
-
--- ---- rooms
-
-pub room_adds : (a b c d : ℕ) → a ≡ at_most_usize b → c ≡ at_most_usize (a + d) → c ≡ at_most_usize (b + d)
-room_adds a b c d first next = omega (arith, first, next)
-
-pub room_grows : (a c d : ℕ) → c ≡ at_most_usize (a + d) → c ≤ 2147483647 → a ≤ 2147483647
-room_grows a c d next small = omega (arith, next, small)
 
 -- ---- what one entry more needs
 

@@ -1,11 +1,9 @@
 -- What is made of the parts that are laid apart, as more of them are laid.
-use Rattle.std.proofs.Common.{◌≡◌, ℕ, zero, suc, ◌+◌, ◌-◌, ◌<◌, ◌≤◌, ◌++◌, ℤ, true, false, List, [], ◌∷◌, length, map}
-use Rattle.std.proofs.Common.{slice_get, slice_index, Option, None, Some, option_map, refl, ap, sym, ◌∙◌, subst, arith}
+use Rattle.std.proofs.Common.{◌≡◌, ℕ, zero, suc, ◌-◌, ◌++◌, ℤ, true, false, List, [], ◌∷◌, length, map}
+use Rattle.std.proofs.Common.{slice_get, slice_index, Option, None, Some, option_map, refl, ap, sym, ◌∙◌, subst}
 use Rattle.std.proofs.Common.{append_assoc}
-use Rattle.std.specs.Prelude.{IsPermutation}
 use Rattle.std.proofs.lemmas.List.{map-append}
-use Rattle.std.proofs.lemmas.List.Sorted.{IsPermutation-append_comm, IsPermutation-append_left, IsPermutation-append_right}
-use Rattle.std.proofs.lemmas.List.Sorted.{IsPermutation-trans}
+use Rattle.std.proofs.lemmas.List.Sorted.{IsPermutation-append_comm, IsPermutation-append_left}
 use Rattle.fb_layout.specs.Laid.{LaidSchema, Slot, StoredShape, scalar_kind, struct_kind, table_kind, union_kind}
 use Rattle.fb_layout.specs.Laid.{code_kind, text_kind, one_of, vector_of}
 use Rattle.fb_value.specs.Datum.{Datum, a_number, a_text, a_vector, a_struct, a_table, a_member, an_unknown}
@@ -18,10 +16,10 @@ use Rattle.fb_build.specs.Apart.{named_apart, EntriesApart, EachEntryFits}
 use Rattle.fb_build.specs.CoveredTails.{part_further}
 use Rattle.fb_build.specs.Fields.{TargetEnd, EntryEnd, is_stored, stored_here, target_for}
 use Rattle.fb_build.specs.LaidApart.{two_lists}
-use Rattle.fb_build.specs.Made.{Adds, IsMade, NamedPart, named_of, named_stored, ends_parts}
+use Rattle.fb_build.specs.Made.{Adds, IsMade, NamedPart, named_stored, ends_parts}
 use Rattle.fb_build.specs.Pieces.{PartAt}
 use Rattle.fb_build.specs.Tails.{TailSeen, Grows}
-use Rattle.fb_build.proofs.apart.EntriesComeInOrder.{append_none, code_names_nothing}
+use Rattle.fb_build.proofs.apart.EntriesComeInOrder.{code_names_nothing}
 use Rattle.fb_build.proofs.covered.PartsInFrontAreAdded.{made_permuted}
 use Rattle.fb_build.proofs.tables.EndsNameTheParts.{AreThere, ends_moved}
 

@@ -1,17 +1,15 @@
-use Rattle.std.proofs.Common.{◌≡◌, ◌∙◌, ◌++◌, ◌≤◌, ◌+◌, ◌-◌, List, [], ◌∷◌, ℕ, Option, Some, length, ap, sym, subst, arith, refl}
+use Rattle.std.proofs.Common.{◌≡◌, ◌∙◌, ◌++◌, List, [], ◌∷◌, Option, Some, length, ap, sym, arith, refl}
 use Rattle.std.proofs.Common.{option_map}
-use Rattle.fb_layout.specs.Laid.{StoredKind, align_of, kind_in, stored_kind}
-use Rattle.fb_layout.specs.Widths.{greatest}
 use Rattle.fb_value.specs.Datum.{Datum, no_parts, a_vector}
 use Rattle.fb_value.specs.View.{view, parts_in, parts_view}
 use Rattle.fb_value.specs.declared.values.Value.{Value}
 use Rattle.fb_value.specs.declared.values.Value.TheVariants.{Items}
 use Rattle.fb_value.proofs.types.EachVariantHasItsView.{view-Items}
-use Rattle.fb_build.specs.BuiltSoFar.{AwaitsVector, root_slots}
+use Rattle.fb_build.specs.BuiltSoFar.{AwaitsVector}
 use Rattle.fb_build.specs.Fields.{entries_seen}
 use Rattle.fb_build.specs.OpenBuffer.{built_seen, root_kind}
-use Rattle.fb_build.proofs.apart.EntriesStandIn.{empty_fits, seen_more, vector_stands}
-use Rattle.fb_build.proofs.apart.EntryIsLaidApart.{awaited_low, elements_known, elements_lie, goes_on, same_kind, vector_apart}
+use Rattle.fb_build.proofs.apart.KeptEntriesStandIn.{empty_fits, seen_more, vector_stands}
+use Rattle.fb_build.proofs.apart.EntryIsLaidApart.{elements_known, goes_on, same_kind, vector_apart}
 use Rattle.fb_build.proofs.apart.EntryIsLaidApart.{whole_fits}
 use Rattle.fb_build.proofs.apart.NothingMoreIsLaidApart.{at_layout, kept_apart}
 use Rattle.fb_build.proofs.buffer_builder.BufferBuilder.close_vector.Goals as goal

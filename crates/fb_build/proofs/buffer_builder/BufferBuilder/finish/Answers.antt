@@ -1,11 +1,11 @@
-use Rattle.std.proofs.Common.{◌≡◌, ◌∙◌, ◌≤◌, [], List, ℕ, ap, sym, length, arith}
+use Rattle.std.proofs.Common.{◌≡◌, ◌∙◌, [], ap, sym, length, arith}
 use Rattle.fb_build.specs.BuiltSoFar.{root_slots}
 use Rattle.fb_build.specs.Fields.{entries_seen}
 use Rattle.fb_build.specs.LaidApart.{AreLaidApart}
 use Rattle.fb_build.specs.OpenBuffer.{root_kind}
 use Rattle.fb_build.proofs.apart.AllEntriesAreLaidApart.{all_targets}
 use Rattle.fb_build.proofs.apart.EntriesComeInOrder.{all_fit}
-use Rattle.fb_build.proofs.apart.EntriesStandIn.{all_stand}
+use Rattle.fb_build.proofs.apart.KeptEntriesStandIn.{all_stand}
 use Rattle.fb_build.proofs.apart.NothingMoreIsLaidApart.{none_left}
 use Rattle.fb_build.proofs.fields.SlotStoresItsEntry.{entries_long}
 use Rattle.fb_build.proofs.buffer_builder.BufferBuilder.finish.Goals as goal

@@ -1,7 +1,4 @@
-use Rattle.std.proofs.Common.{◌≡◌, ◌∙◌, [], ap, sym, arith, refl}
-use Rattle.fb_build.specs.BuiltSoFar.{root_slots}
-use Rattle.fb_build.specs.LaidApart.{AreLaidApart}
-use Rattle.fb_build.proofs.apart.EntriesComeInOrder.{named_none, none_room}
+use Rattle.std.proofs.Common.{sym, refl}
 use Rattle.fb_build.proofs.apart.NothingMoreIsLaidApart.{nothing_yet}
 use Rattle.fb_build.proofs.buffer_builder.BufferBuilder.new.Goals as goal
 

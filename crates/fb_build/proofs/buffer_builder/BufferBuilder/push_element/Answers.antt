@@ -1,13 +1,10 @@
-use Rattle.std.proofs.Common.{◌≡◌, ◌∙◌, ◌++◌, ◌<◌, ◌≤◌, ◌+◌, List, [], ◌∷◌, ℕ, Some, length, slice_get, ap, sym, subst}
+use Rattle.std.proofs.Common.{◌≡◌, ◌∙◌, ◌++◌, ◌≤◌, [], ◌∷◌, length, ap, sym, subst}
 use Rattle.std.proofs.Common.{arith, refl}
-use Rattle.fb_layout.specs.Laid.{StoredKind, kind_in, one_of, stored_kind, align_of}
+use Rattle.fb_layout.specs.Laid.{StoredKind, kind_in, one_of, align_of}
 use Rattle.fb_layout.specs.Widths.{greatest}
 use Rattle.fb_layout.proofs.sizes.AlignmentsArePowersOfTwo.{slot_below}
-use Rattle.fb_value.specs.Datum.{Datum}
-use Rattle.fb_value.specs.Fits.{Fits}
 use Rattle.fb_value.specs.View.{view}
 use Rattle.fb_build.specs.BuiltSoFar.{FitsVector, root_slots}
-use Rattle.fb_build.specs.Fields.{IsSimple}
 use Rattle.fb_build.specs.LaidApart.{AreLaidApart}
 use Rattle.fb_build.specs.OpenBuffer.{built_seen, root_kind}
 use Rattle.fb_build.proofs.apart.NothingMoreIsLaidApart.{at_layout, kept_apart, next_kind, reference_simple, root_kind_is}

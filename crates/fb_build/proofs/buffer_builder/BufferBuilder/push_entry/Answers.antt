@@ -1,9 +1,7 @@
-use Rattle.std.proofs.Common.{◌≡◌, ◌∙◌, ◌++◌, ◌<◌, ◌≤◌, ◌+◌, List, [], ◌∷◌, ℕ, suc, Option, None, Some, length, slice_get, ap, sym}
+use Rattle.std.proofs.Common.{◌≡◌, ◌∙◌, ◌++◌, ◌≤◌, [], ◌∷◌, None, Some, length, ap, sym}
 use Rattle.std.proofs.Common.{subst, arith, refl, option_map}
-use Rattle.fb_schema.specs.Seen.{field_seen}
-use Rattle.fb_layout.specs.Laid.{Slot, kind_in, slot_of, align_of}
+use Rattle.fb_layout.specs.Laid.{Slot, kind_in, align_of}
 use Rattle.fb_layout.specs.Widths.{greatest}
-use Rattle.fb_value.specs.Datum.{Datum}
 use Rattle.fb_value.specs.Fits.{Fits}
 use Rattle.fb_value.specs.View.{view}
 use Rattle.fb_build.specs.BuiltSoFar.{FitsNext, root_slots}
@@ -11,7 +9,7 @@ use Rattle.fb_build.specs.Fields.{IsSimple, entries_seen, shape_seen}
 use Rattle.fb_build.specs.OpenBuffer.{built_seen, root_kind}
 use Rattle.fb_build.proofs.apart.NothingMoreIsLaidApart.{at_layout, kept_apart}
 use Rattle.fb_build.proofs.apart.OneMoreIsLaidApart.{under_all}
-use Rattle.fb_build.proofs.apart.EntriesStandIn.{seen_more}
+use Rattle.fb_build.proofs.apart.KeptEntriesStandIn.{seen_more}
 use Rattle.fb_build.proofs.apart.EntryIsLaidApart.{same_slot, slot_simple, slot_low, value_apart, nothing_apart, goes_on}
 use Rattle.fb_build.specs.declared.buffer_builder.BufferBuilder.TheInside.{Inside}
 use Rattle.fb_build.proofs.buffer_builder.BufferBuilder.push_entry.Goals as goal

@@ -1,6 +1,6 @@
 -- Entries in memory stand in for those that are laid.
-use Rattle.std.proofs.Common.{◌≡◌, ℕ, zero, suc, ◌+◌, ◌<◌, ◌≤◌, ◌++◌, ◌⊎◌, inl, inr, List, [], ◌∷◌, length, drop, true, false}
-use Rattle.std.proofs.Common.{slice_get, Option, None, Some, option_map, refl, ap, sym, ◌∙◌, subst, arith}
+use Rattle.std.proofs.Common.{◌≡◌, ℕ, zero, suc, ◌<◌, ◌≤◌, ◌++◌, inl, inr, List, [], ◌∷◌, length, drop}
+use Rattle.std.proofs.Common.{slice_get, Option, None, Some, option_map, refl, ap, sym, ◌∙◌, arith}
 use Rattle.std.proofs.lemmas.List.{map_push}
 use Rattle.fb_layout.specs.Laid.{LaidSchema, Slot, StoredShape, scalar_kind, struct_kind, table_kind, union_kind}
 use Rattle.fb_layout.specs.Laid.{code_kind, text_kind, one_of, vector_of}
@@ -9,18 +9,13 @@ use Rattle.fb_value.specs.Entries.{EntryFits}
 use Rattle.fb_value.specs.Fits.{Fits}
 use Rattle.fb_value.specs.View.{view}
 use Rattle.fb_value.specs.declared.values.Value.{Value}
-use Rattle.fb_build.specs.EntryStands.{EntryStands, EachEntryStands}
-use Rattle.fb_build.specs.Fields.{code_in, next_code, entries_seen, stored_here, stored_in, target_for}
-use Rattle.fb_build.specs.StandIns.{StandsIn, AllStandIn}
+use Rattle.fb_build.specs.Fields.{next_code, entries_seen, stored_here, stored_in, target_for}
+use Rattle.fb_build.specs.StandIns.{AllStandIn, EachEntryStands, EntryStands, StandsIn}
 use Rattle.fb_build.proofs.apart.EntriesComeInOrder.{got_more}
-use Rattle.fb_build.proofs.tables.CodeSlotHasNoEntry.{stored_get, got, next_is}
+use Rattle.fb_build.proofs.tables.CodeSlotHasNoEntry.{stored_get, got}
 
 same_stands : (f : Slot) (x : Option Datum) → StandsIn f x x
 same_stands f x = record { stored = refl; inline = λ d is none. refl }
-
--- an entry for itself
-pub stands_itself : (f : Slot) (x : Option Datum) → EntryStands f x x
-stands_itself f x = record { code = refl; stored = λ code. same_stands f (stored_here f.shape code x) }
 
 -- of a vector only that it is there
 pub vector_stands : (L : LaidSchema) (f : Slot) (ds : Parts) → EntryFits L f (Some (a_vector ds))
