@@ -42,7 +42,16 @@ fn lay_root<'l>(
     let mut builder = BufferBuilder::new(source.alloc, source.layout)?;
     let levels = limits.most_depth().saturating_sub(1);
     let left = limits.most_cells().saturating_sub(1);
-    match lay_slots(source, &mut builder, members, root, slots, marks, levels, left) {
+    match lay_slots(
+        source,
+        &mut builder,
+        members,
+        root,
+        slots,
+        marks,
+        levels,
+        left,
+    ) {
         Ok(_left) => Ok(builder),
         Err(fault) => Err(fault),
     }

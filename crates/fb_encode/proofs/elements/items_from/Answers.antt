@@ -23,8 +23,14 @@ loop-element-preserved-in_ok-item c =
       fits = one_fits_more L (stored_kind L.schema c.args.kind) c.loop-element.found.items c.in_ok-item.item
           c.push_reserved.new.self.items c.push_reserved.ensures.items c.in_ok-item.ensures.fits
           c.in_ok-item.ensures.whole c.loop-element.invariant.fits;
-      room = omega (arith, c.push_reserved.ensures.len, c.push_reserved.ensures.capacity, c.give_back.ensures.len,
-          c.in-Some.ensures.cases, c.loop-element.invariant.room);
+      room = omega (
+        arith,
+        c.push_reserved.ensures.len,
+        c.push_reserved.ensures.capacity,
+        c.give_back.ensures.len,
+        c.in-Some.ensures.cases,
+        c.loop-element.invariant.room,
+      );
     }
 
 pub loop-element-preserved-in_ok-item-2 : goal.loop-element-preserved-in_ok-item-2
@@ -42,8 +48,14 @@ loop-element-preserved-in_ok-item-2 c =
       fits = one_fits_more L (stored_kind L.schema c.args.kind) c.loop-element.found.items c.in_ok-item.item
           c.push_reserved.new.self.items c.push_reserved.ensures.items c.in_ok-item.ensures.fits
           c.in_ok-item.ensures.whole c.loop-element.invariant.fits;
-      room = omega (arith, c.push_reserved.ensures.len, c.push_reserved.ensures.capacity, c.give_back.ensures.len,
-          c.in-Some.ensures.cases, c.loop-element.invariant.room);
+      room = omega (
+        arith,
+        c.push_reserved.ensures.len,
+        c.push_reserved.ensures.capacity,
+        c.give_back.ensures.len,
+        c.in-Some.ensures.cases,
+        c.loop-element.invariant.room,
+      );
     }
 
 pub loop-element-preserved-in_ok-item-3 : goal.loop-element-preserved-in_ok-item-3
@@ -61,8 +73,14 @@ loop-element-preserved-in_ok-item-3 c =
       fits = one_fits_more L (stored_kind L.schema c.args.kind) c.loop-element.found.items c.in_ok-item.item
           c.push_reserved.new.self.items c.push_reserved.ensures.items c.in_ok-item.ensures.fits
           c.in_ok-item.ensures.whole c.loop-element.invariant.fits;
-      room = omega (arith, c.push_reserved.ensures.len, c.push_reserved.ensures.capacity, c.give_back.ensures.len,
-          c.in-Some.ensures.cases, c.loop-element.invariant.room);
+      room = omega (
+        arith,
+        c.push_reserved.ensures.len,
+        c.push_reserved.ensures.capacity,
+        c.give_back.ensures.len,
+        c.in-Some.ensures.cases,
+        c.loop-element.invariant.room,
+      );
     }
 
 pub loop-element-preserved : goal.loop-element-preserved
@@ -80,6 +98,12 @@ loop-element-preserved c =
       fits = one_fits_more L (stored_kind L.schema c.args.kind) c.loop-element.found.items c.in_ok-item.item
           c.push_reserved.new.self.items c.push_reserved.ensures.items c.in_ok-item.ensures.fits
           c.in_ok-item.ensures.whole c.loop-element.invariant.fits;
-      room = omega (arith, c.push_reserved.ensures.len, c.push_reserved.ensures.capacity, c.give_back.ensures.len,
-          c.in-Some.ensures.cases, c.loop-element.invariant.room);
+      room = omega (
+        arith,
+        c.push_reserved.ensures.len,
+        c.push_reserved.ensures.capacity,
+        c.give_back.ensures.len,
+        c.in-Some.ensures.cases,
+        c.loop-element.invariant.room,
+      );
     }
