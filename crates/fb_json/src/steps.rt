@@ -174,6 +174,7 @@ fn vector_taken(
     ensures others { (name : Name) → (name ≡ (field_seen slot.now).name → ⊥)
         → get_member name (members_view members.new.entries)
         ≡ get_member name (members_view members.old.entries) }
+    ensures taken { get_member (field_seen slot.now).name (members_view members.new.entries) ≡ None }
     ensures unread { IfOk result (λ x. IsUnread slot.now.shape x.0) }
 {
     if !marked {
@@ -205,6 +206,8 @@ fn slot_taken(
     ensures others { (name : Name) → (name ≡ (field_seen slot.now).name → ⊥)
         → get_member name (members_view members.new.entries)
         ≡ get_member name (members_view members.old.entries) }
+    ensures taken { (kind : Kind) → slot.now.shape ≡ Many kind → slot.now.deprecated ≡ false
+        → get_member (field_seen slot.now).name (members_view members.new.entries) ≡ None }
     ensures unread { IfOk result (λ x. IsUnread slot.now.shape x.0) }
 {
     match kind_of_elements(slot) {
@@ -235,6 +238,8 @@ pub fn take_slot(
     ensures others { (name : Name) → (name ≡ (field_seen slot.now).name → ⊥)
         → get_member name (members_view members.new.entries)
         ≡ get_member name (members_view members.old.entries) }
+    ensures taken { (kind : Kind) → slot.now.shape ≡ Many kind → slot.now.deprecated ≡ false
+        → get_member (field_seen slot.now).name (members_view members.new.entries) ≡ None }
     ensures unread { IfOk result (λ x. IsUnread slot.now.shape x.0) }
     ensures fits { IfOk result (λ x. TakenSlotFits source.entry.layout.now (field_seen slot.now) x.0) }
     ensures whole { IfOk result (λ x. TakenSlotIsWhole x.0) }
