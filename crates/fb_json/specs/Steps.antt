@@ -4,6 +4,7 @@ use Rattle.std.specs.Prelude.{slice_get}
 use Rattle.serde_json.specs.Data.{Data, Members}
 use Rattle.serde_json.specs.Find.{as_object}
 use Rattle.serde_json.specs.View.{items_view}
+use Rattle.fb_schema.specs.declared.kinds.Kind.{Kind}
 use Rattle.fb_schema.specs.declared.kinds.Shape.{Shape}
 use Rattle.fb_schema.specs.declared.kinds.Shape.TheVariants.{Many}
 use Rattle.fb_schema.specs.Schema.{DeclaredField, body_at, slots_in}
@@ -31,6 +32,10 @@ pub record IsRoot (most : Bounds) (t : Data) (ms : Members) : Type 0 where
 abbrev pub vector_entry : Counted (List Datum) → Counted (Option Datum)
 vector_entry (Ok xs) = Ok (Some (a_vector (parts_in xs.0)), xs.1)
 vector_entry (Err e) = Err e
+
+-- a vector's slot in use
+abbrev pub IsVectorInUse : DeclaredField → Type 0
+IsVectorInUse f = (f.deprecated ≡ false) × ((kind : Kind) × (f.shape ≡ Many kind))
 
 -- What was taken is the entry that the slot is given, with the cells that are left. Elements are those of a vector's
 -- slot in use: the entry is the vector of what they give, with the cells that they leave.

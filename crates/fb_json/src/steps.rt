@@ -12,7 +12,8 @@ ghost use Rattle.fb_value.specs.View.{view};
 ghost use Rattle.fb_json.specs.Meant.{entry_meant, look, meant, unless_null, used_meant};
 ghost use Rattle.fb_json.specs.Outcome.{Gives};
 ghost use Rattle.fb_json.specs.Refuses.{IsFirst};
-ghost use Rattle.fb_json.specs.Steps.{IsRoot, IsUnread, SlotGives, TakenSlotFits, TakenSlotIsWhole, at_once};
+ghost use Rattle.fb_json.specs.Steps.{IsRoot, IsUnread, IsVectorInUse, SlotGives, TakenSlotFits};
+ghost use Rattle.fb_json.specs.Steps.{TakenSlotIsWhole, at_once};
 
 use crate::absent::{is_null, without};
 use crate::faults::{JsonFault, Place};
@@ -174,6 +175,7 @@ fn vector_taken(
     ensures others { (name : Name) → (name ≡ (field_seen slot.now).name → ⊥)
         → get_member name (members_view members.new.entries)
         ≡ get_member name (members_view members.old.entries) }
+    ensures taken { get_member (field_seen slot.now).name (members_view members.new.entries) ≡ None }
     ensures unread { IfOk result (λ x. IsUnread slot.now.shape x.0) }
 {
     if !marked {
@@ -205,6 +207,9 @@ fn slot_taken(
     ensures others { (name : Name) → (name ≡ (field_seen slot.now).name → ⊥)
         → get_member name (members_view members.new.entries)
         ≡ get_member name (members_view members.old.entries) }
+    ensures taken { IsVectorInUse (field_seen slot.now)
+        → get_member (field_seen slot.now).name (members_view members.new.entries) ≡ None }
+    ensures kept { ¬ IsVectorInUse (field_seen slot.now) → members.new.entries ≡ members.old.entries }
     ensures unread { IfOk result (λ x. IsUnread slot.now.shape x.0) }
 {
     match kind_of_elements(slot) {
@@ -235,6 +240,9 @@ pub fn take_slot(
     ensures others { (name : Name) → (name ≡ (field_seen slot.now).name → ⊥)
         → get_member name (members_view members.new.entries)
         ≡ get_member name (members_view members.old.entries) }
+    ensures taken { IsVectorInUse (field_seen slot.now)
+        → get_member (field_seen slot.now).name (members_view members.new.entries) ≡ None }
+    ensures kept { ¬ IsVectorInUse (field_seen slot.now) → members.new.entries ≡ members.old.entries }
     ensures unread { IfOk result (λ x. IsUnread slot.now.shape x.0) }
     ensures fits { IfOk result (λ x. TakenSlotFits source.entry.layout.now (field_seen slot.now) x.0) }
     ensures whole { IfOk result (λ x. TakenSlotIsWhole x.0) }

@@ -45,6 +45,13 @@ others_stay name asked (e ∷ es) apart =
     at_first name asked e es (remove_entry (is_at (λ k. slice_cmp nat_cmp name (string_bytes k))) es)
     (slice_cmp nat_cmp name (string_bytes e.0)) refl apart (others_stay name asked es apart)
 
+-- no member has the name that a look-up doesn't find
+pub none_left : (name asked : List ℕ) (m : BTreeMap (String Global) Value) → asked ≡ name
+    → get_by_text m asked ≡ None → get_member name (members_view m.entries) ≡ None
+none_left name asked m same none =
+    ap (λ n. get_member n (members_view m.entries)) (sym same)
+    ∙ (sym (view-lookup asked m.entries) ∙ ap (option_map view) none)
+
 module _ (L : LaidSchema) (unknown : Bool) where
   taken : (name : List ℕ) (m : BTreeMap (String Global) Value) (r : Option Value) → r ≡ get_by_text m name
       → look L unknown (members_view m.entries) name ≡ option_map (with_meaning L unknown) (option_map view r)

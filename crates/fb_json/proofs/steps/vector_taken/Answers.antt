@@ -3,7 +3,7 @@ use Rattle.serde_json.specs.Find.{get_member}
 use Rattle.serde_json.specs.View.{members_view}
 use Rattle.fb_schema.specs.Seen.{field_seen}
 use Rattle.fb_json.proofs.members.MapFindsTheMembers.{looked_none}
-use Rattle.fb_json.proofs.slots.OtherMembersStay.{others_stay, taken_none, taken_some}
+use Rattle.fb_json.proofs.slots.OtherMembersStay.{none_left, others_stay, taken_none, taken_some}
 use Rattle.fb_json.proofs.tree.EntryIsWhatTheLookUpFinds.{entry_none, entry_some}
 use Rattle.fb_json.proofs.steps.VectorIsUnread.{gives_at_once, unread_vector}
 use Rattle.fb_json.proofs.steps.vector_taken.Goals as goal
@@ -21,6 +21,11 @@ returns-in-Some-clause-others c name apart =
     ap (λ es. get_member name (members_view es)) c.remove.ensures.entries
     ∙ others_stay _ name c.args.members.now.entries (λ same. apart (same ∙ c.as_str.ensures.value))
 
+pub returns-in-Some-clause-taken : goal.returns-in-Some-clause-taken
+returns-in-Some-clause-taken c =
+    none_left (field_seen c.args.slot.now).name _ c.remove.new.self c.as_str.ensures.value
+    c.remove.ensures.updates.1
+
 pub returns-in-None-clause-gives : goal.returns-in-None-clause-gives
 returns-in-None-clause-gives c levels =
     let L = c.args.source.layout.now in
@@ -30,6 +35,11 @@ returns-in-None-clause-gives c levels =
     rw (c.at_once-in-None.ensures, entry_none L _ f c.args.place c.args.code levels c.args.left c.requires.used seen)
     (gives_at_once L c.args.source.unknown f c.args.place levels c.without-in-None.result _
     (c.without-in-None.ensures L levels))
+
+pub returns-in-None-clause-taken : goal.returns-in-None-clause-taken
+returns-in-None-clause-taken c =
+    none_left (field_seen c.args.slot.now).name _ c.remove.new.self c.as_str.ensures.value
+    c.remove.ensures.updates.1
 
 pub returns-in-None-clause-unread : goal.returns-in-None-clause-unread
 returns-in-None-clause-unread c =
