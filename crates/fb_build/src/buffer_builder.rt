@@ -87,13 +87,17 @@ fn root_slot(layout: &Layout, k: usize) -> &FieldInfo
 }
 
 impl<'l> BufferBuilder<'l> {
-    /// A buffer of which no entry is there yet.
-    pub fn new(alloc: Global, layout: &'l Layout) -> Result<BufferBuilder<'l>, AllocError>
+    /// A buffer of which no entry is there yet, with memory for as many bytes as are expected, if there is so much.
+    pub fn new(
+        alloc: Global,
+        layout: &'l Layout,
+        expected: usize,
+    ) -> Result<BufferBuilder<'l>, AllocError>
         ensures layout { IfOk result (λ b. b.layout ≡ layout.now) }
         ensures entries { IfOk result (λ b. b.entries ≡ []) }
         ensures elements { IfOk result (λ b. b.elements ≡ []) }
     {
-        let draft = Draft::new(alloc, layout)?;
+        let draft = Draft::new(alloc, layout, expected)?;
         Ok(BufferBuilder {
             alloc,
             layout,
@@ -154,7 +158,9 @@ impl<'l> BufferBuilder<'l> {
         self.entries.reserve(1)?;
         self.ends.reserve(1)?;
         let element_ends = self.element_ends.as_slice();
-        let end = self.draft.lay_references(kind, &self.elements, element_ends)?;
+        let end = self
+            .draft
+            .lay_references(kind, &self.elements, element_ends)?;
         self.data.push_vector(&self.elements);
         self.elements = ElementData::new();
         self.element_ends.clear();

@@ -93,7 +93,11 @@ fn reserve(
 
 impl<'l> Draft<'l> {
     /// A buffer in which nothing is laid.
-    pub(crate) fn new(alloc: Global, layout: &'l Layout) -> Result<Draft<'l>, AllocError>
+    pub(crate) fn new(
+        alloc: Global,
+        layout: &'l Layout,
+        expected: usize,
+    ) -> Result<Draft<'l>, AllocError>
         ensures layout { IfOk result (λ d. d.layout ≡ layout.now) }
         ensures bytes { IfOk result (λ d. length d.tail.bytes ≡ 0) }
         ensures most { IfOk result (λ d. d.tail.most ≡ 4) }
@@ -105,11 +109,14 @@ impl<'l> Draft<'l> {
         let slots = layout.most_slots();
         let ends = vec![in alloc; 0u32; slots]?;
         let scratch = vec![in alloc; 0u8; 4 + 2 * slots]?;
+        let mut tail = Tail::new(Vec::new(alloc));
+        // Where the memory isn't there at once it is asked for as the buffer grows.
+        let _enough = tail.grow(alloc, expected.min(MOST_BYTES));
         Ok(Draft {
             alloc,
             layout,
             builder: Builder {
-                tail: Tail::new(Vec::new(alloc)),
+                tail,
                 vtables: IndexSet::new(alloc),
                 near: 0,
                 places: Vec::new(alloc),

@@ -25,6 +25,7 @@ fn lay_root<'l>(
     source: Source<'l>,
     members: Map<String, Json>,
     limits: Limits,
+    expected: usize,
 ) -> Result<BufferBuilder<'l>, JsonFault>
     ensures layout { IfOk result (λ b. b.layout ≡ source.entry.layout.now) }
     ensures all { IfOk result (λ b. length b.entries ≡ length (root_slots b.layout)) }
@@ -39,7 +40,7 @@ fn lay_root<'l>(
     let slots = source.layout.slots_of(root);
     let marks = marks_of(source, root, slots, &members)?;
     let marks = marks.as_slice();
-    let mut builder = BufferBuilder::new(source.alloc, source.layout)?;
+    let mut builder = BufferBuilder::new(source.alloc, source.layout, expected)?;
     let levels = limits.most_depth().saturating_sub(1);
     let left = limits.most_cells().saturating_sub(1);
     match lay_slots(
@@ -60,7 +61,8 @@ fn lay_root<'l>(
 /// The bytes that encode the value that a tree means under a layout, as the root table's.
 ///
 /// The tree is given away. What the root's table refers to is laid as it is read, and the elements of its vectors of
-/// texts and tables one by one, so that the value is never whole in memory. The error is that of the tree's first
+/// texts and tables one by one, so that the value is never whole in memory. As many bytes as are `expected` are asked for
+/// at once, where there are so many; the length of the JSON text is a good guess. The error is that of the tree's first
 /// fault, and then that of the value's size.
 pub fn encode_tree(
     alloc: Global,
@@ -68,6 +70,7 @@ pub fn encode_tree(
     tree: Json,
     limits: Limits,
     unknown: bool,
+    expected: usize,
 ) -> Result<Vec<u8>, EncodeFault>
     ensures encoded { IfOk result (λ b. IsEncoded layout.now limits unknown (tree_view tree) b.items) }
     ensures refused { IfErr result (EncodeRefused layout.now limits unknown (tree_view tree)) }
@@ -83,7 +86,7 @@ pub fn encode_tree(
         Ok(members) => members,
         Err(fault) => return Err(EncodeFault::Json(fault)),
     };
-    let builder = match lay_root(source, members, limits) {
+    let builder = match lay_root(source, members, limits, expected) {
         Ok(builder) => builder,
         Err(fault) => return Err(EncodeFault::Json(fault)),
     };

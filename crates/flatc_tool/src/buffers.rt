@@ -60,7 +60,8 @@ pub fn encode(
         Ok(tree) => tree,
         Err(fault) => return Err(fault),
     };
-    match encode_tree(alloc, layout, tree, options.limits, options.unknown_json) {
+    let (limits, unknown) = (options.limits, options.unknown_json);
+    match encode_tree(alloc, layout, tree, limits, unknown, json.len()) {
         Ok(bytes) => Ok(bytes),
         Err(fault) => Err(refused(fault)),
     }
