@@ -154,7 +154,9 @@ impl<'l> BufferBuilder<'l> {
         self.entries.reserve(1)?;
         self.ends.reserve(1)?;
         let element_ends = self.element_ends.as_slice();
-        let end = self.draft.lay_references(kind, &self.elements, element_ends)?;
+        let end = self
+            .draft
+            .lay_references(kind, &self.elements, element_ends)?;
         self.data.push_vector(&self.elements);
         self.elements = ElementData::new();
         self.element_ends.clear();

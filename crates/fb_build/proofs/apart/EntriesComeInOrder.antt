@@ -58,11 +58,11 @@ pub entries_more : (L : LaidSchema) (o : TailSeen) (fs : List Slot) (xs : List (
 entries_more L o fs xs ends f0 x0 e long at now before k f x code fk xk = elim (got_more xs x0 x k xk) [
   | inl h ↦ rw (index_more ends e k (omega (arith, long, h.0))) (before k f x code fk h.1)
   | inr h ↦ (
-    let same_slot : Some f0 ≡ Some f = sym at ∙ (ap (slice_get fs) (sym h.0) ∙ fk) in
-    let f_is : f0 ≡ f = cc in
-    let last : slice_index (ends ++ (e ∷ [])) k ≡ e =
-    ap (slice_index (ends ++ (e ∷ []))) (h.0 ∙ sym long) ∙ index_last ends e in
-    rw (last, ← f_is, ← h.1) (now code))
+      let same_slot : Some f0 ≡ Some f = sym at ∙ (ap (slice_get fs) (sym h.0) ∙ fk) in
+      let f_is : f0 ≡ f = cc in
+      let last : slice_index (ends ++ (e ∷ [])) k ≡ e =
+      ap (slice_index (ends ++ (e ∷ []))) (h.0 ∙ sym long) ∙ index_last ends e in
+      rw (last, ← f_is, ← h.1) (now code))
 ]
 
 pub fits_more : (L : LaidSchema) (fs : List Slot) (xs : List (Option Datum)) (f0 : Slot) (x0 : Option Datum)
@@ -71,9 +71,9 @@ pub fits_more : (L : LaidSchema) (fs : List Slot) (xs : List (Option Datum)) (f0
 fits_more L fs xs f0 x0 at now before k f x fk xk = elim (got_more xs x0 x k xk) [
   | inl h ↦ before k f x fk h.1
   | inr h ↦ (
-    let same_slot : Some f0 ≡ Some f = sym at ∙ (ap (slice_get fs) (sym h.0) ∙ fk) in
-    let f_is : f0 ≡ f = cc in
-    rw (← f_is, ← h.1) (now 0 f0 x0 refl refl))
+      let same_slot : Some f0 ≡ Some f = sym at ∙ (ap (slice_get fs) (sym h.0) ∙ fk) in
+      let f_is : f0 ≡ f = cc in
+      rw (← f_is, ← h.1) (now 0 f0 x0 refl refl))
 ]
 
 pub none_room : (L : LaidSchema) (fs : List Slot) → entries_room L fs no_entries ≡ 0
@@ -167,9 +167,9 @@ pub targets_more : (L : LaidSchema) (o : TailSeen) (kind : StoredKind) (ds : Lis
 targets_more L o kind ds ends d0 e long now before k d at = elim (got_more ds d0 d k at) [
   | inl h ↦ rw (index_more ends e k (omega (arith, long, h.0))) (before k d h.1)
   | inr h ↦ (
-    let last : slice_index (ends ++ (e ∷ [])) k ≡ e =
-    ap (slice_index (ends ++ (e ∷ []))) (h.0 ∙ sym long) ∙ index_last ends e in
-    rw (last, ← h.1) now)
+      let last : slice_index (ends ++ (e ∷ [])) k ≡ e =
+      ap (slice_index (ends ++ (e ∷ []))) (h.0 ∙ sym long) ∙ index_last ends e in
+      rw (last, ← h.1) now)
 ]
 
 pub elements_more : (L : LaidSchema) (kind : StoredKind) (ds : List Datum) (d0 : Datum)

@@ -119,8 +119,16 @@ pub goes_on : (b m : Inside) (n : Drafted) (x : Option Datum) (e : ℕ) (ds : Li
 goes_on b m n x e ds more before apart as_before layout draft entries ends elements element_ends y seen f at stands fits whole = record {
   same = layout ∙ (before.same ∙ (sym as_before ∙ ap (λ (d : Drafted). d.layout) (sym draft)));
   apart = rw (draft, entries, ends, elements, element_ends) apart;
-  held = omega (arith, ap length entries, ap length seen, entries_long m.entries.items, entries_long b.entries.items,
-      before.held, long_more b.data.entries x, long_more (entries_seen b.entries.items) y);
+  held = omega (
+    arith,
+    ap length entries,
+    ap length seen,
+    entries_long m.entries.items,
+    entries_long b.entries.items,
+    before.held,
+    long_more b.data.entries x,
+    long_more (entries_seen b.entries.items) y,
+  );
   stand = rw (draft, as_before, entries, seen) (stand_more (root_slots b.draft.layout) b.data.entries
       (entries_seen b.entries.items) f x y (omega (arith, before.held, entries_long b.entries.items)) at stands
       before.stand);

@@ -74,9 +74,9 @@ stand_more fs xs ys f0 x0 y0 long at now before k f x y fk xk yk = elim (got_mor
   | inr h ↦ elim (got_more ys y0 y k yk) [
     | inl g ↦ absurd (omega (arith, h.0, g.0, long))
     | inr g ↦ (
-      let same_slot : Some f0 ≡ Some f = sym at ∙ (ap (slice_get fs) (sym h.0) ∙ fk) in
-      let f_is : f0 ≡ f = cc in
-      rw (← f_is, ← h.1, ← g.1) now)
+        let same_slot : Some f0 ≡ Some f = sym at ∙ (ap (slice_get fs) (sym h.0) ∙ fk) in
+        let f_is : f0 ≡ f = cc in
+        rw (← f_is, ← h.1, ← g.1) now)
   ]
 ]
 

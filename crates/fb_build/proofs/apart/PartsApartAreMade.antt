@@ -87,9 +87,9 @@ one_there L o f x e y fits end is = by_shape f.shape refl
 
     by_shape : (shape : StoredShape) → f.shape ≡ shape → LiesInTail L o.most o.bytes (part_place y.target) e y.value
     by_shape (one_of (code_kind u)) at = (
-      let none = code_names_nothing f u None at in
-      let here = ap (λ (s : StoredShape). named_stored f (stored_here s None x)) at in
-      let same : None ≡ Some y = sym none ∙ (sym here ∙ is) in cc)
+        let none = code_names_nothing f u None at in
+        let here = ap (λ (s : StoredShape). named_stored f (stored_here s None x)) at in
+        let same : None ≡ Some y = sym none ∙ (sym here ∙ is) in cc)
     by_shape (one_of (scalar_kind b)) at = by_itself (ap (λ (s : StoredShape). stored_here s None x) at)
     by_shape (one_of (struct_kind b)) at = by_itself (ap (λ (s : StoredShape). stored_here s None x) at)
     by_shape (one_of (table_kind b)) at = by_itself (ap (λ (s : StoredShape). stored_here s None x) at)

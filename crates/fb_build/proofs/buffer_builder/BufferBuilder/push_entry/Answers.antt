@@ -89,43 +89,43 @@ invariant_of-self-2 c =
     ∙ seen_more c.match-entry-5.self-inside.entries.items c.stand_in.result in
     elim c.match-entry-5.branch [
       | in-Some+in_ok-end-in-Some w ↦ (
-        let n = w.lay_apart.new.self in
-        let d = view w.in-Some.value in
-        let e = w.in_ok-end-in-Some.end in
-        let now = w.in_ok-end-in-Some.ensures in
-        let some : FitsNext (built_seen inside) (Some d) = rw w.in-Some.is at fits in
-        let same = same_slot inside inv (Some d) some c.root_slot-slot.result.now c.len.result
-        (omega (arith, c.len.ensures, inside.entries.ok.0)) c.root_slot-slot.ensures in
-        let shape : shape_seen L c.root_slot-slot.result.now.shape ≡ some.slot.shape =
-        sym (ap (λ (f : Slot). f.shape) same) in
-        let simple = slot_simple inside inv (Some d) some c.schema-schema.ensures.made in
-        let apart = value_apart inside inv d some n e closed simple now.continues (rw shape at now.room)
-        (λ small. rw shape at now.state small) (λ small. rw shape at now.adds small) in
-        let is = w.self-inside-is in
-        goes_on inside _ n x e inside.elements.elements inside.element_ends.items inv (rw w.in-Some.is apart) now.continues.layout
-        (ap (λ (b : Inside). b.layout.now) is) (ap (λ (b : Inside). b.draft) is)
-        (c.push.ensures ∙ ap (λ (b : Inside). b.data.entries ++ (x ∷ [])) is)
-        (c.push_reserved.ensures.items ∙ (ap (λ (b : Inside). b.ends.items ++ (c.match-entry-5.end ∷ [])) is
-        ∙ ap (λ es. es ++ (c.match-entry-5.end ∷ [])) c.reserve-2.ensures.items
-        ∙ ap (λ k. inside.ends.items ++ (k ∷ [])) w.end-is))
-        (ap (λ (b : Inside). b.elements.elements) is) (ap (λ (b : Inside). b.element_ends.items) is)
-        y (seen ∙ (ap (λ (b : Inside). entries_seen b.entries.items ++ (y ∷ [])) is
-        ∙ ap (λ es. entries_seen es ++ (y ∷ [])) c.reserve.ensures.items))
-        fits.slot fits.next (kept.stands L fits.slot fits.fits) (kept.fits L fits.slot fits.fits) (kept.whole fits.whole))
+          let n = w.lay_apart.new.self in
+          let d = view w.in-Some.value in
+          let e = w.in_ok-end-in-Some.end in
+          let now = w.in_ok-end-in-Some.ensures in
+          let some : FitsNext (built_seen inside) (Some d) = rw w.in-Some.is at fits in
+          let same = same_slot inside inv (Some d) some c.root_slot-slot.result.now c.len.result
+          (omega (arith, c.len.ensures, inside.entries.ok.0)) c.root_slot-slot.ensures in
+          let shape : shape_seen L c.root_slot-slot.result.now.shape ≡ some.slot.shape =
+          sym (ap (λ (f : Slot). f.shape) same) in
+          let simple = slot_simple inside inv (Some d) some c.schema-schema.ensures.made in
+          let apart = value_apart inside inv d some n e closed simple now.continues (rw shape at now.room)
+          (λ small. rw shape at now.state small) (λ small. rw shape at now.adds small) in
+          let is = w.self-inside-is in
+          goes_on inside _ n x e inside.elements.elements inside.element_ends.items inv (rw w.in-Some.is apart) now.continues.layout
+          (ap (λ (b : Inside). b.layout.now) is) (ap (λ (b : Inside). b.draft) is)
+          (c.push.ensures ∙ ap (λ (b : Inside). b.data.entries ++ (x ∷ [])) is)
+          (c.push_reserved.ensures.items ∙ (ap (λ (b : Inside). b.ends.items ++ (c.match-entry-5.end ∷ [])) is
+          ∙ ap (λ es. es ++ (c.match-entry-5.end ∷ [])) c.reserve-2.ensures.items
+          ∙ ap (λ k. inside.ends.items ++ (k ∷ [])) w.end-is))
+          (ap (λ (b : Inside). b.elements.elements) is) (ap (λ (b : Inside). b.element_ends.items) is)
+          y (seen ∙ (ap (λ (b : Inside). entries_seen b.entries.items ++ (y ∷ [])) is
+          ∙ ap (λ es. entries_seen es ++ (y ∷ [])) c.reserve.ensures.items))
+          fits.slot fits.next (kept.stands L fits.slot fits.fits) (kept.fits L fits.slot fits.fits) (kept.whole fits.whole))
       | in-None w ↦ (
-        let none : FitsNext (built_seen inside) None = rw w.in-None.is at fits in
-        let apart = nothing_apart inside inv none closed in
-        let is = w.self-inside-is in
-        goes_on inside _ inside.draft x 0 inside.elements.elements inside.element_ends.items inv (rw w.in-None.is apart) refl
-        (ap (λ (b : Inside). b.layout.now) is) (ap (λ (b : Inside). b.draft) is)
-        (c.push.ensures ∙ ap (λ (b : Inside). b.data.entries ++ (x ∷ [])) is)
-        (c.push_reserved.ensures.items ∙ (ap (λ (b : Inside). b.ends.items ++ (c.match-entry-5.end ∷ [])) is
-        ∙ ap (λ es. es ++ (c.match-entry-5.end ∷ [])) c.reserve-2.ensures.items
-        ∙ ap (λ k. inside.ends.items ++ (k ∷ [])) w.end-is))
-        (ap (λ (b : Inside). b.elements.elements) is) (ap (λ (b : Inside). b.element_ends.items) is)
-        y (seen ∙ (ap (λ (b : Inside). entries_seen b.entries.items ++ (y ∷ [])) is
-        ∙ ap (λ es. entries_seen es ++ (y ∷ [])) c.reserve.ensures.items))
-        fits.slot fits.next (kept.stands L fits.slot fits.fits) (kept.fits L fits.slot fits.fits) (kept.whole fits.whole))
+          let none : FitsNext (built_seen inside) None = rw w.in-None.is at fits in
+          let apart = nothing_apart inside inv none closed in
+          let is = w.self-inside-is in
+          goes_on inside _ inside.draft x 0 inside.elements.elements inside.element_ends.items inv (rw w.in-None.is apart) refl
+          (ap (λ (b : Inside). b.layout.now) is) (ap (λ (b : Inside). b.draft) is)
+          (c.push.ensures ∙ ap (λ (b : Inside). b.data.entries ++ (x ∷ [])) is)
+          (c.push_reserved.ensures.items ∙ (ap (λ (b : Inside). b.ends.items ++ (c.match-entry-5.end ∷ [])) is
+          ∙ ap (λ es. es ++ (c.match-entry-5.end ∷ [])) c.reserve-2.ensures.items
+          ∙ ap (λ k. inside.ends.items ++ (k ∷ [])) w.end-is))
+          (ap (λ (b : Inside). b.elements.elements) is) (ap (λ (b : Inside). b.element_ends.items) is)
+          y (seen ∙ (ap (λ (b : Inside). entries_seen b.entries.items ++ (y ∷ [])) is
+          ∙ ap (λ es. entries_seen es ++ (y ∷ [])) c.reserve.ensures.items))
+          fits.slot fits.next (kept.stands L fits.slot fits.fits) (kept.fits L fits.slot fits.fits) (kept.whole fits.whole))
     ]
 
 pub invariant_of-self : goal.invariant_of-self
