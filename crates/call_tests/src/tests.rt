@@ -1,6 +1,7 @@
 //! What the calls make of worked examples.
 use fb_value::Limits;
 
+mod buffer_builder;
 mod check;
 mod conform;
 mod counts;

@@ -5,3 +5,4 @@ pub mod NothingMoreIsLaidApart
 pub mod EntryIsLaidApart
 pub mod KeptEntriesStandIn
 pub mod AllEntriesAreLaidApart
+pub mod EntriesAreKnown

@@ -1,3 +1,2 @@
 pub mod TailWithItsRootIsABuffer
 pub mod RootIsMadeOfItsParts
-pub mod EntriesAreKnown

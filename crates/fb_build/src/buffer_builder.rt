@@ -27,8 +27,8 @@ use std::alloc::{AllocError, Global};
 use std::marker::Model;
 
 /// Builds a buffer while its value comes in: the entries of the root's table one by one, and the elements of a vector
-/// of texts or tables one by one. What lies outside of the root's table is laid at once, so that its value needn't stay
-/// in memory. The buffer's memory grows with what is laid.
+/// of texts or tables one by one. What lies outside of the root's table is laid at once, so that no vector's elements
+/// stay in memory; any other entry does until the table is laid. The buffer's memory grows with what is laid.
 #[derive(Drop)]
 pub struct BufferBuilder<'l> {
     alloc: Global,

@@ -14,9 +14,6 @@ use Rattle.fb_build.specs.StandIns.{AllStandIn, EachEntryStands, EntryStands, St
 use Rattle.fb_build.proofs.apart.EntriesComeInOrder.{got_more}
 use Rattle.fb_build.proofs.tables.CodeSlotHasNoEntry.{stored_get, got}
 
-same_stands : (f : Slot) (x : Option Datum) → StandsIn f x x
-same_stands f x = record { stored = refl; inline = λ d is none. refl }
-
 -- of a vector only that it is there
 pub vector_stands : (L : LaidSchema) (f : Slot) (ds : Parts) → EntryFits L f (Some (a_vector ds))
     → EntryStands f (Some (a_vector ds)) (Some (a_vector no_parts))

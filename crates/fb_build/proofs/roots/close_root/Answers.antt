@@ -8,7 +8,7 @@ use Rattle.fb_value.proofs.tails.TailsAreKeptInFront.{through}
 use Rattle.fb_build.specs.Fields.{entries_seen, stored_in}
 use Rattle.fb_build.proofs.builder.BuildsFollowEachOther.{scratch_builds}
 use Rattle.fb_build.proofs.fields.SlotStoresItsEntry.{slots_long, entries_long}
-use Rattle.fb_build.proofs.roots.EntriesAreKnown.{known_in}
+use Rattle.fb_build.proofs.apart.EntriesAreKnown.{known_in}
 use Rattle.fb_build.proofs.roots.RootIsMadeOfItsParts.{root_closed}
 use Rattle.fb_build.proofs.tables.PartsFitTheirSlots.{slots_are, slots_few}
 use Rattle.fb_build.proofs.tables.TableFitsItsRoom.{table_fits_room, fields_narrow}
