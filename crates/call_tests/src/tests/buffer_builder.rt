@@ -83,7 +83,7 @@ fn laid_one_by_one(
     requires whole { entries_whole (entries_view entries.now) ≡ true }
 {
     let slots = layout.slots_of(layout.schema().root());
-    let mut builder = BufferBuilder::new(alloc, layout)?;
+    let mut builder = BufferBuilder::new(alloc, layout, 0)?;
     for (k, entry) in entries.iter().enumerate() {
         push(alloc, &mut builder, &slots[k], entry)?;
     }
