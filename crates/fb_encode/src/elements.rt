@@ -1,10 +1,15 @@
 //! Vectors of the root's table. Each element is read, laid where it is a text or a table, and dropped before the next,
 //! so that no long vector is whole in memory beside its tree.
-ghost use Rattle.std.specs.Prelude.{◌≡◌, [], IfOk, map, vec_len};
-ghost use Rattle.serde_json.specs.View.{items_view};
-ghost use Rattle.fb_layout.specs.Laid.{stored_kind};
+ghost use Rattle.std.specs.Prelude.{◌≡◌, [], IfOk, map, string_bytes, true, vec_len};
+ghost use Rattle.serde_json.specs.Data.{string};
+ghost use Rattle.serde_json.specs.View.{view as tree_view, items_view};
+ghost use Rattle.fb_schema.specs.declared.kinds.Shape.TheVariants.{One};
+ghost use Rattle.fb_layout.specs.Laid.{LaidSchema, one_of, stored_kind, stored_shape, text_kind};
+ghost use Rattle.fb_value.specs.Counts.{is_whole};
+ghost use Rattle.fb_value.specs.Fits.{Fits};
 ghost use Rattle.fb_value.specs.View.{view};
-ghost use Rattle.fb_json.specs.Meant.{items_meant};
+ghost use Rattle.fb_json.specs.Leaves.{text_meant};
+ghost use Rattle.fb_json.specs.Meant.{items_meant, meant};
 ghost use Rattle.fb_json.specs.Outcome.{Gives};
 ghost use Rattle.fb_build.specs.Apart.{EachElementFits};
 ghost use Rattle.fb_build.specs.BuiltSoFar.{AwaitsElements};
@@ -58,6 +63,41 @@ pub(crate) fn items_from(
     Ok((found, left))
 }
 
+/// The value of a text, which isn't copied, and the cells that are left.
+#[tactic(auto, unfolding(fb_json::specs::Leaves::text_meant))]
+fn text_from(text: String, place: Place, left: u32) -> Result<(Value, u32), JsonFault>
+    ensures gives { Gives (λ x. (view x.0, x.1)) result (text_meant (string (string_bytes text)) place left) }
+    ensures fits { IfOk result (λ x. (L : LaidSchema) → Fits L (one_of text_kind) (view x.0)) }
+    ensures whole { IfOk result (λ x. is_whole (view x.0) ≡ true) }
+{
+    if text.len() >= left as usize {
+        return Err(JsonFault::TooManyCells(place));
+    }
+    let rest = left - 1 - text.len() as u32;
+    Ok((Value::Text(text), rest))
+}
+
+/// The value that an element means, and the cells that are left. A text isn't copied.
+fn element_from(
+    source: Source,
+    element: Json,
+    kind: Kind,
+    place: Place,
+    levels: u8,
+    left: u32,
+) -> Result<(Value, u32), JsonFault>
+    ensures gives { Gives (λ x. (view x.0, x.1)) result
+        (meant source.entry.layout.now source.entry.unknown (tree_view element) (One kind) place levels left) }
+    ensures fits { let L = source.entry.layout.now in
+        IfOk result (λ x. Fits L (stored_shape L.schema (One kind)) (view x.0)) }
+    ensures whole { IfOk result (λ x. is_whole (view x.0) ≡ true) }
+{
+    match (kind, element) {
+        (Kind::Text, Json::String(text)) => text_from(text, place, left),
+        (kind, element) => element_of(source, &element, kind, place, levels, left),
+    }
+}
+
 /// Lays the texts or tables that an array's elements mean, and returns the cells that are left.
 pub(crate) fn lay_elements(
     source: Source,
@@ -81,7 +121,7 @@ pub(crate) fn lay_elements(
     let mut elements = elements;
     elements.reverse();
     while let Some(element) = elements.pop() {
-        let (item, rest) = element_of(source, &element, kind, place, levels, left)?;
+        let (item, rest) = element_from(source, element, kind, place, levels, left)?;
         builder.push_element(&item)?;
         drop_value(item);
         left = rest;

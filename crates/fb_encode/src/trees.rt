@@ -61,9 +61,9 @@ fn lay_root<'l>(
 /// The bytes that encode the value that a tree means under a layout, as the root table's.
 ///
 /// The tree is given away. What the root's table refers to is laid as it is read, and the elements of its vectors of
-/// texts and tables one by one, so that the value is never whole in memory. As many bytes as are `expected` are asked for
-/// at once, where there are so many; the length of the JSON text is a good guess. The error is that of the tree's first
-/// fault, and then that of the value's size.
+/// texts and tables one by one, so that the value is never whole in memory. As many bytes as are `expected` are asked
+/// for at once, where there are so many; the length of the JSON text is a good guess. The error is that of the tree's
+/// first fault, and then that of the value's size.
 pub fn encode_tree(
     alloc: Global,
     layout: &Layout,
