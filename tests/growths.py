@@ -43,6 +43,8 @@ CALLS = {
     "fault_line": {0},
     "report": {114},
 }
+# How many growths a call only asks for ahead, and goes on without: a buffer's bytes, before the JSON is read.
+AHEAD = {"encode": 1, "to_binary": 1}
 NONE = "memoryless"
 MOST = 20_000
 # Calls on what is nested deep: tables made of JSON and printed, at the deepest limits, and a struct that is read, or
@@ -66,6 +68,7 @@ def refuse_each(tests, library, call, example):
     found, total, refused = outcome(tests, library, call, example, "0")
     tests.tell(f"{call} of {example} with its growths counted", found == right and refused == 0, f"{found}")
     numbers = set()
+    ahead = 0
     for n in range(1, MOST):
         ended = 0
         for wish in (f"{n}", f"{n}+"):
@@ -73,12 +76,15 @@ def refuse_each(tests, library, call, example):
             if refused == 0:
                 ended += 1
                 tests.tell(f"{call} of {example} with {wish}, which isn't reached", found == right, f"{found}")
+            elif found == right and wish == f"{n}":
+                ahead += 1
             else:
                 numbers.add(short.get(found))
                 tests.tell(f"{call} of {example} with growth {wish} refused", found in short, f"{found}")
         if ended == 2:
             tests.tell(f"the growths of {call} of {example}", n == total + 1, f"{n - 1} refused, {total} counted")
             break
+    tests.tell(f"what {call} of {example} asks for ahead", ahead == AHEAD.get(call, 0), f"{ahead}")
     return call, total, numbers
 
 
