@@ -1,2 +1,1 @@
-pub mod PendingEndsFitTheRoom
 pub mod ReservedMemoryIsZero

@@ -1,3 +1,2 @@
-pub mod PlacesMayBeAdded
+pub mod MemoryMayGrow
 pub mod DraftsContinue
-pub mod VtableTellsWhatIsStored

@@ -1,8 +1,6 @@
 pub mod ClosedTableAddsItsPieces
 pub mod ClosedTableHasItsValue
-pub mod EachVtableIsAKey
 pub mod EndsAreWithinTheTable
-pub mod KeyHasTheBytes
 pub mod TableAndVtableAddThemselves
 pub mod TableLeadsToItsVtable
 pub mod VtableHasTheDefinedBytes

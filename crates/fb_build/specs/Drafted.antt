@@ -4,14 +4,11 @@ use Rattle.fb_layout.specs.Laid.{LaidSchema}
 use Rattle.fb_layout.specs.Widths.{greatest}
 use Rattle.fb_value.specs.Num.{Bytes, divides}
 use Rattle.fb_build.specs.Tails.{TailSeen}
-use Rattle.fb_build.specs.Vtables.{AreKept}
 
--- the layout, what is laid, the vtables that are known and where each is laid (0 for one that isn't), and the rooms of
--- all parts that were asked for
+-- the layout, what is laid, where each vtable is, and the rooms of all parts that were asked for
 pub record Drafted : Type 0 where
   pub layout : LaidSchema
   pub tail : TailSeen
-  pub vtables : List Bytes
   pub places : List ℕ
   pub room : ℕ
 
@@ -21,18 +18,15 @@ pub record Lengthens (a b : TailSeen) : Type 0 where
   pub grown : b.bytes ≡ front ++ a.bytes
   pub multiple : divides a.most b.most ≡ true
 
--- From one draft to a later one its tail grew, padded to no more than the layout's greatest alignment, and the vtables
--- that were known still are, each at its index.
+-- From one draft to a later one its tail grew, padded to no more than the layout's greatest alignment.
 pub record Continues (a b : Drafted) : Type 0 where
   pub layout : b.layout ≡ a.layout
   pub lengthens : Lengthens a.tail b.tail
   pub bound : b.tail.most ≤ max a.tail.most (greatest a.layout)
-  pub kept : AreKept a.vtables b.vtables
 
 -- Nothing was laid, while memory may have grown.
 pub record IsAsBefore (a b : Drafted) : Type 0 where
   pub layout : b.layout ≡ a.layout
   pub bytes : b.tail.bytes ≡ a.tail.bytes
   pub most : b.tail.most ≡ a.tail.most
-  pub vtables : b.vtables ≡ a.vtables
   pub places : b.places ≡ a.places

@@ -5,7 +5,6 @@ pub mod Fields
 pub mod TableBytes
 pub mod FieldEnds
 pub mod FieldOrder
-pub mod Vtables
 pub mod Needs
 pub mod Paired
 pub mod Parts

@@ -1,6 +1,6 @@
 -- What is made so far while a buffer is laid from its end: parts and vtables, each once, and few zeros between them.
 use Rattle.std.specs.Prelude.{ℕ, zero, suc, ◌+◌, ◌-◌, ◌*◌, ◌≡◌, ◌≤◌, ◌<◌, ◌++◌, Bool, true, false, cond, ◌==◌, max}
-use Rattle.std.specs.Prelude.{List, [], ◌∷◌, length, replicate, map, drop, slice_get, slice_index, slice_set, Option}
+use Rattle.std.specs.Prelude.{List, [], ◌∷◌, length, replicate, map, drop, slice_get, slice_index, Option}
 use Rattle.std.specs.Prelude.{None, Some, option_map}
 use Rattle.std.specs.List.{All, sum_by}
 use Rattle.byteorder.specs.Endian.{little_bytes}
@@ -128,17 +128,13 @@ pub record OldVtable (known : List Bytes) (before after : List ℕ) (old new vta
   pub number : ℕ
   pub is : slice_get known key ≡ Some vtable
   pub some : 0 < slice_index before key
-  pub under : key < length before
   pub places : after ≡ before
   pub bytes : new ≡ little_bytes 4 number ++ old
 
 -- It was laid, and its vtable in front, whose place was noted.
 pub record NewVtable (known : List Bytes) (before after : List ℕ) (old new vtable : Bytes) : Type 0 where
-  pub key : ℕ
-  pub is : slice_get known key ≡ Some vtable
-  pub none : slice_index before key ≡ 0
-  pub under : key < length before
-  pub places : after ≡ slice_set before key (length new)
+  pub is : slice_get known (length before) ≡ Some vtable
+  pub places : after ≡ before ++ (length new ∷ [])
   pub bytes : new ≡ vtable ++ (little_bytes 4 (length vtable) ++ old)
 
 -- behind the root's reference

@@ -1,14 +1,14 @@
 -- A plan as it is held: its memory is enough for its value.
-use Rattle.std.specs.Prelude.{ℕ, ◌≡◌, ◌≤◌, true, length, map, replicate, slice_index}
+use Rattle.std.specs.Prelude.{◌≡◌, ◌≤◌, true, [], length, replicate}
 use Rattle.fb_layout.specs.Laid.{one_of, table_kind}
 use Rattle.fb_value.specs.Counts.{is_whole}
 use Rattle.fb_value.specs.Fits.{Fits}
 use Rattle.fb_value.specs.Room.{room_of}
 use Rattle.fb_value.specs.View.{view}
 use Rattle.fb_build.specs.declared.plans.Plan.TheInside.{Inside}
-use Rattle.fb_build.specs.Needs.{need}
+use Rattle.fb_build.specs.Builders.{longest_vtable}
+use Rattle.fb_build.specs.Needs.{need, tables}
 use Rattle.fb_build.specs.Planned.{Planned}
-use Rattle.fb_build.specs.Vtables.{AreDifferent, VtablesKnown, longest_vtable}
 
 abbrev pub planned_seen : Inside → Planned
 planned_seen p = record { layout = p.layout.now; value = p.value.now }
@@ -21,7 +21,6 @@ pub record IsReady (p : Inside) : Type 0 where
   pub room : length p.block.items ≡ room_of p.layout.now (view p.value.now)
   pub pending : need (view p.value.now) ≤ length p.pending.items
   pub scratch : longest_vtable p.layout.now ≤ length p.scratch.items
-  pub none_laid : (i : ℕ) → slice_index p.places.items i ≡ 0
-  pub known : VtablesKnown p.layout.now (map (λ k. k.items) p.known.keys) (view p.value.now)
-  pub different : AreDifferent (map (λ k. k.items) p.known.keys)
-  pub places : length p.places.items ≡ length (map (λ k. k.items) p.known.keys)
+  pub none : p.vtables.vtables ≡ []
+  pub none_laid : p.vtables.places ≡ []
+  pub spare : tables (view p.value.now) ≤ p.vtables.spare

@@ -11,56 +11,12 @@ ghost use Rattle.fb_build.specs.Covered.{Covered, EndsAligned};
 ghost use Rattle.fb_build.specs.declared.faults.BuildFault.TheVariants.{TooBig, Memory};
 
 use crate::faults::BuildFault;
-use crate::keys::add_table;
+use crate::needs::table_needs;
 use crate::plans::Plan;
 use fb_layout::Layout;
-use fb_value::{Value, buffer_room, room};
-use indexmap::IndexSet;
+use fb_value::{Value, buffer_room};
+use fb_vtables::VtableIndex;
 use std::alloc::Global;
-
-/// A plan of a value, unless memory runs out on the way, which may be before its room is known.
-fn planned<'v>(alloc: Global, layout: &'v Layout, value: &'v Value) -> Result<Plan<'v>, BuildFault>
-    requires fits { FitsRoot layout.now (view value.now) }
-    requires whole { is_whole (view value.now) ≡ true }
-    ensures layout { IfOk result (λ p. p.layout ≡ layout.now) }
-    ensures value { IfOk result (λ p. view p.value ≡ view value.now) }
-    ensures small { IfOk result (λ p. room_of layout.now (view value.now) ≤ 2147483647) }
-    ensures too_big { IfErr result (λ e. e ≡ TooBig → 2147483647 < room_of layout.now (view value.now)) }
-{
-    let _schema = layout.schema(); // its contract: the layout is well made
-    let Value::Fields(table, entries) = value else {
-        unreachable!();
-    };
-    // For one table at a time: a count for each slot, and its vtable, two bytes for each slot behind the first four.
-    let slots = layout.most_slots();
-    let mut ends = vec![in alloc; 0u32; slots]?;
-    let mut scratch = vec![in alloc; 0u8; 4 + 2 * slots]?;
-    let mut known = IndexSet::new(alloc);
-    let needs = add_table(
-        alloc,
-        &mut known,
-        layout,
-        *table,
-        entries,
-        ends.as_mut_slice(),
-        scratch.as_mut_slice(),
-    )?;
-    let Some(room) = buffer_room(layout, needs.room) else {
-        return Err(BuildFault::TooBig);
-    };
-    let block = vec![in alloc; 0u8; room as usize]?;
-    let pending = vec![in alloc; 0u32; needs.waiting]?;
-    let places = vec![in alloc; 0u32; known.len()]?;
-    Ok(Plan {
-        layout,
-        value,
-        block,
-        known,
-        places,
-        pending,
-        scratch,
-    })
-}
 
 /// Takes all the memory that building a value takes, and lays no byte.
 pub fn plan<'v>(alloc: Global, layout: &'v Layout, value: &'v Value) -> Result<Plan<'v>, BuildFault>
@@ -74,10 +30,27 @@ pub fn plan<'v>(alloc: Global, layout: &'v Layout, value: &'v Value) -> Result<P
     ensures memory { IfErr result (λ e. e ≡ Memory → room_of layout.now (view value.now) ≤ 2147483647) }
 {
     let _schema = layout.schema(); // its contract: the layout is well made
-    match planned(alloc, layout, value) {
-        Err(BuildFault::Memory) if room(layout, value).is_none() => Err(BuildFault::TooBig),
-        planned => planned,
-    }
+    let Value::Fields(table, entries) = value else {
+        unreachable!();
+    };
+    let needs = table_needs(layout, *table, entries);
+    let Some(room) = buffer_room(layout, needs.room) else {
+        return Err(BuildFault::TooBig);
+    };
+    let block = vec![in alloc; 0u8; room as usize]?;
+    let pending = vec![in alloc; 0u32; needs.waiting]?;
+    // Two bytes for each slot of a vtable, behind its first four.
+    let scratch = vec![in alloc; 0u8; 4 + 2 * layout.most_slots()]?;
+    let mut vtables = VtableIndex::new(alloc);
+    vtables.reserve(needs.tables)?;
+    Ok(Plan {
+        layout,
+        value,
+        block,
+        vtables,
+        pending,
+        scratch,
+    })
 }
 
 /// The bytes that encode a value of the root table.

@@ -1,5 +1,5 @@
 //! A buffer that is laid part by part.
-ghost use Rattle.std.specs.Prelude.{◌≡◌, ◌≤◌, ◌<◌, ◌+◌, ◌-◌, ◌++◌, true, [], ◌∷◌, length, replicate};
+ghost use Rattle.std.specs.Prelude.{◌≡◌, ◌≤◌, ◌<◌, ◌+◌, ◌-◌, true, [], ◌∷◌, length};
 ghost use Rattle.std.specs.Prelude.{Bool, IfOk, IfErr, OnOk, OnErr};
 ghost use Rattle.fb_layout.specs.Laid.{align_of, kind_in, one_of, slots_of};
 ghost use Rattle.fb_layout.specs.Widths.{greatest};
@@ -28,8 +28,7 @@ ghost use Rattle.fb_build.specs.declared.faults.BuildFault.TheVariants.{TooBig, 
 use crate::builder::Builder;
 use crate::data::{ElementData, EntryData};
 use crate::faults::BuildFault;
-use crate::keys::{add_tables, add_vtable};
-use crate::needs::Needs;
+use crate::needs::{Needs, part_needs};
 use crate::references::close_references;
 use crate::roots::close_root;
 use crate::tables::lay_part;
@@ -37,7 +36,7 @@ use crate::tail::{MOST_BYTES, Tail};
 use fb_layout::Layout;
 use fb_schema::{Kind, Shape};
 use fb_value::{Value, buffer_room, table_room, vector_room};
-use indexmap::IndexSet;
+use fb_vtables::VtableIndex;
 use std::alloc::{AllocError, Global};
 use std::marker::Model;
 
@@ -48,8 +47,6 @@ pub(crate) struct Draft<'l> {
     alloc: Global,
     layout: &'l Layout,
     builder: Builder,
-    // for one table at a time: a count for each slot
-    ends: Vec<u32>,
     // a count for each reference that waits
     pending: Vec<u32>,
     room: usize,
@@ -67,28 +64,28 @@ impl<'l> Model for Draft<'l> {
     ghost invariant = { IsDraft };
 }
 
-/// Makes room for what laying a value takes, and places for the vtables that are known by now.
+/// Makes room for what laying a value takes.
 fn reserve(
     alloc: Global,
-    tail: &mut Tail,
-    places: &mut Vec<u32>,
+    builder: &mut Builder,
     pending: &mut Vec<u32>,
-    known: usize,
     needs: Needs,
 ) -> Result<(), AllocError>
-    requires short { length tail.old.bytes + needs.room ≤ 2147483647 }
-    requires more { length places.old.items ≤ known }
-    ensures bytes { tail.new.bytes ≡ tail.old.bytes }
-    ensures most { tail.new.most ≡ tail.old.most }
-    ensures room { OnOk result (needs.room ≤ tail.new.free) }
+    requires short { length builder.old.tail.bytes + needs.room ≤ 2147483647 }
+    ensures bytes { builder.new.tail.bytes ≡ builder.old.tail.bytes }
+    ensures most { builder.new.tail.most ≡ builder.old.tail.most }
+    ensures vtables { builder.new.vtables.vtables ≡ builder.old.vtables.vtables }
+    ensures places { builder.new.vtables.places ≡ builder.old.vtables.places }
+    ensures scratch { builder.new.scratch ≡ builder.old.scratch }
+    ensures room { OnOk result (needs.room ≤ builder.new.tail.free) }
+    ensures spare { OnOk result (needs.tables ≤ builder.new.vtables.spare) }
     ensures waiting { OnOk result (needs.waiting ≤ length pending.new.items) }
-    ensures places { OnOk result (places.new.items
-        ≡ places.old.items ++ replicate (known - length places.old.items) 0) }
-    ensures refused { OnErr result (places.new.items ≡ places.old.items) }
 {
-    pending.resize(needs.waiting.max(pending.len()), 0)?;
-    tail.grow(alloc, needs.room)?;
-    places.resize(known, 0)
+    if pending.len() < needs.waiting {
+        pending.resize(needs.waiting, 0)?;
+    }
+    builder.vtables.reserve(needs.tables)?;
+    builder.tail.grow(alloc, needs.room)
 }
 
 impl<'l> Draft<'l> {
@@ -101,14 +98,12 @@ impl<'l> Draft<'l> {
         ensures layout { IfOk result (λ d. d.layout ≡ layout.now) }
         ensures bytes { IfOk result (λ d. length d.tail.bytes ≡ 0) }
         ensures most { IfOk result (λ d. d.tail.most ≡ 4) }
-        ensures vtables { IfOk result (λ d. length d.vtables ≡ 0) }
-        ensures places { IfOk result (λ d. length d.places ≡ 0) }
+        ensures places { IfOk result (λ d. d.places ≡ []) }
         ensures made { IfOk result (λ d. IsMade layout.now d.tail d.places []) }
         ensures room { IfOk result (λ d. d.room ≡ 0) }
     {
-        let slots = layout.most_slots();
-        let ends = vec![in alloc; 0u32; slots]?;
-        let scratch = vec![in alloc; 0u8; 4 + 2 * slots]?;
+        // Two bytes for each slot of a vtable, behind its first four.
+        let scratch = vec![in alloc; 0u8; 4 + 2 * layout.most_slots()]?;
         let mut tail = Tail::new(Vec::new(alloc));
         // Where the memory isn't there at once it is asked for as the buffer grows.
         let _enough = tail.grow(alloc, expected.min(MOST_BYTES));
@@ -117,19 +112,16 @@ impl<'l> Draft<'l> {
             layout,
             builder: Builder {
                 tail,
-                vtables: IndexSet::new(alloc),
-                near: 0,
-                places: Vec::new(alloc),
+                vtables: VtableIndex::new(alloc),
                 scratch,
             },
-            ends,
             pending: Vec::new(alloc),
             room: 0,
         })
     }
 
-    /// Lays what a value needs outside of its own place, with the vtables of its tables, and returns its end-count;
-    /// 0 where there is nothing. Where the rooms of all that was asked for are over 2,147,483,647 bytes it lays nothing.
+    /// Lays what a value needs outside of its own place, with the vtables of its tables, and returns its end-count; 0
+    /// where there is nothing. Where the rooms of all that was asked for are over 2,147,483,647 bytes it lays nothing.
     pub(crate) fn lay_apart(&mut self, shape: Shape, value: &Value) -> Result<u32, AllocError>
         requires simple { IsSimple self.old.layout (shape_seen self.old.layout shape) }
         requires low { align_of self.old.layout (kind_in (shape_seen self.old.layout shape))
@@ -151,40 +143,13 @@ impl<'l> Draft<'l> {
         ensures refused { OnErr result (IsAsBefore self.old self.new × (self.new.room ≡ self.old.room)) }
     {
         let _schema = self.layout.schema(); // its contract: the layout is well made
-        let known = self.builder.places.len();
-        let needs = match add_tables(
-            self.alloc,
-            &mut self.builder.vtables,
-            self.layout,
-            shape,
-            value,
-            self.ends.as_mut_slice(),
-            self.builder.scratch.as_mut_slice(),
-        ) {
-            Ok(needs) => needs,
-            Err(refused) => {
-                self.builder.vtables.truncate(known);
-                return Err(refused);
-            }
-        };
+        let needs = part_needs(self.layout, shape, value);
         let room = self.room.saturating_add(needs.room);
         if room > MOST_BYTES {
-            self.builder.vtables.truncate(known);
             self.room = room;
             return Ok(0);
         }
-        let count = self.builder.vtables.len();
-        if let Err(refused) = reserve(
-            self.alloc,
-            &mut self.builder.tail,
-            &mut self.builder.places,
-            &mut self.pending,
-            count,
-            needs,
-        ) {
-            self.builder.vtables.truncate(known);
-            return Err(refused);
-        }
+        reserve(self.alloc, &mut self.builder, &mut self.pending, needs)?;
         self.room = room;
         Ok(lay_part(
             &mut self.builder,
@@ -286,7 +251,6 @@ impl<'l> Draft<'l> {
             alloc,
             layout,
             mut builder,
-            ends: mut counts,
             mut pending,
             room,
         } = self;
@@ -294,28 +258,12 @@ impl<'l> Draft<'l> {
         let Some(whole) = buffer_room(layout, room.saturating_add(table_room(layout, root))) else {
             return Err(BuildFault::TooBig);
         };
-        add_vtable(
-            alloc,
-            &mut builder.vtables,
-            layout,
-            root,
-            entries,
-            counts.as_mut_slice(),
-            builder.scratch.as_mut_slice(),
-        )?;
-        let known = builder.vtables.len();
         let needs = Needs {
             room: whole as usize - room,
             waiting: 0,
+            tables: 1,
         };
-        reserve(
-            alloc,
-            &mut builder.tail,
-            &mut builder.places,
-            &mut pending,
-            known,
-            needs,
-        )?;
+        reserve(alloc, &mut builder, &mut pending, needs)?;
         Ok(close_root(layout, root, builder, entries, data, ends))
     }
 }

@@ -10,7 +10,6 @@ mod drafts;
 mod drops;
 mod faults;
 mod fields;
-mod keys;
 mod laws;
 mod needs;
 mod numbers;

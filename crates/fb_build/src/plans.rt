@@ -13,18 +13,17 @@ use crate::roots::fill;
 use crate::tail::Tail;
 use fb_layout::Layout;
 use fb_value::Value;
-use indexmap::IndexSet;
+use fb_vtables::VtableIndex;
 use std::marker::Model;
 
-/// A value with all the memory that laying its bytes takes: a block of its room, a count for each
-/// reference that waits, and each of its vtables once.
+/// A value with all the memory that laying its bytes takes: a block of its room, a count for each reference that
+/// waits, and an index with room for a vtable of each table.
 #[derive(Drop)]
 pub struct Plan<'v> {
     pub(crate) layout: &'v Layout,
     pub(crate) value: &'v Value,
     pub(crate) block: Vec<u8>,
-    pub(crate) known: IndexSet<Vec<u8>>,
-    pub(crate) places: Vec<u32>,
+    pub(crate) vtables: VtableIndex,
     pub(crate) pending: Vec<u32>,
     pub(crate) scratch: Vec<u8>,
 }
@@ -61,8 +60,7 @@ impl Plan<'_> {
             layout,
             value,
             block,
-            known,
-            places,
+            vtables,
             mut pending,
             scratch,
         } = self;
@@ -71,9 +69,7 @@ impl Plan<'_> {
         };
         let builder = Builder {
             tail: Tail::new(block),
-            vtables: known,
-            near: 0,
-            places,
+            vtables,
             scratch,
         };
         fill(layout, *table, entries, builder, pending.as_mut_slice())

@@ -16,11 +16,10 @@ ghost use Rattle.fb_build.specs.Tails.{LaidInTail};
 ghost use Rattle.fb_build.specs.Fields.{EntriesEnd, EntryEnd, IsSimple, stored_seen, slots_seen};
 ghost use Rattle.fb_build.specs.Fields.{entries_seen, slot_seen, entry_stored, shape_seen, kind_seen};
 ghost use Rattle.fb_build.specs.Needs.{entries_count, entries_need, entry_need, need, parts_need};
+ghost use Rattle.fb_build.specs.Needs.{tables, parts_tables, entries_tables, entry_tables};
 ghost use Rattle.fb_build.specs.Parts.{PartFits, PartEnd, EntryWhole, TableKnown};
 ghost use Rattle.fb_build.specs.Items.{TargetsEnd};
-ghost use Rattle.fb_build.specs.Builders.{Builds, BuildsParts, IsBuilder, vtables_in};
-ghost use Rattle.fb_build.specs.Vtables.{EntriesVtablesKnown, EntryVtablesKnown, PartsVtablesKnown};
-ghost use Rattle.fb_build.specs.Vtables.{VtablesKnown};
+ghost use Rattle.fb_build.specs.Builders.{Builds, BuildsParts, IsBuilder};
 
 use crate::builder::Builder;
 use crate::data::{ElementData, EntryData};
@@ -49,14 +48,15 @@ pub(crate) fn lay_table(
         (entries_view entries.now) ≤ builder.old.tail.free }
     requires pending { entries_count (entries_view entries.now)
         + entries_need (entries_view entries.now) ≤ length pending.old }
-    requires vtables { VtablesKnown layout.now (vtables_in builder.old)
-        (a_table table.0 (entries_view entries.now)) }
+    requires spare { 1 + entries_tables (entries_view entries.now) ≤ builder.old.vtables.spare }
     requires ready { IsBuilder layout.now builder.old }
     ensures lies { LaidInTail layout.now builder.new.tail.most builder.new.tail.bytes (part_place (table_part table.0))
         result (a_table table.0 (entries_view entries.now)) }
     ensures adds { BuildsParts layout.now builder.old builder.new (parts_in_tail layout.now builder.new.tail.bytes
         (table_part table.0) result (a_table table.0 (entries_view entries.now))) }
     ensures builds { Builds layout.now builder.old builder.new }
+    ensures spare { builder.old.vtables.spare ≤ builder.new.vtables.spare
+        + (1 + entries_tables (entries_view entries.now)) }
     ensures spent { builder.old.tail.free ≤ builder.new.tail.free
         + (table_room layout.now table.0 + entries_room layout.now (slots_of layout.now table.0)
         (entries_view entries.now)) }
@@ -93,8 +93,7 @@ fn lay_targets(
     requires room { entries_room layout.now (slots_seen layout.now slots.now)
         (entries_view entries.now) ≤ builder.old.tail.free }
     requires pending { entries_need (entries_view entries.now) ≤ length pending.old }
-    requires vtables { EntriesVtablesKnown layout.now (vtables_in builder.old)
-        (entries_view entries.now) }
+    requires spare { entries_tables (entries_view entries.now) ≤ builder.old.vtables.spare }
     requires ready { IsBuilder layout.now builder.old }
     ensures each { length ends.new ≡ length slots.now }
     ensures state { EntriesEnd layout.now 0 builder.new.tail.most builder.new.tail.bytes (λ k f. false)
@@ -103,6 +102,8 @@ fn lay_targets(
         (named_fields (slots_seen layout.now slots.now) (stored_seen layout.now slots.now entries.now))
         ends.new) }
     ensures builds { Builds layout.now builder.old builder.new }
+    ensures spare { builder.old.vtables.spare ≤ builder.new.vtables.spare
+        + entries_tables (entries_view entries.now) }
     ensures spent { builder.old.tail.free ≤ builder.new.tail.free
         + entries_room layout.now (slots_seen layout.now slots.now) (entries_view entries.now) }
 {
@@ -128,7 +129,7 @@ fn lay_target(
     requires room { entry_room layout.now (slot_seen layout.now slot.now) (option_map view entry.now)
         ≤ builder.old.tail.free }
     requires pending { entry_need (option_map view entry.now) ≤ length pending.old }
-    requires vtables { EntryVtablesKnown layout.now (vtables_in builder.old) (option_map view entry.now) }
+    requires spare { entry_tables (option_map view entry.now) ≤ builder.old.vtables.spare }
     requires ready { IsBuilder layout.now builder.old }
     ensures state { (code : Option ℕ) → EntryEnd layout.now 0 builder.new.tail.most builder.new.tail.bytes false
         (slot_seen layout.now slot.now) (entry_stored layout.now slot.now code entry.now) result }
@@ -136,6 +137,8 @@ fn lay_target(
         (parts_at layout.now builder.new.tail.bytes (named_stored (slot_seen layout.now slot.now)
         (entry_stored layout.now slot.now code entry.now)) result) }
     ensures builds { Builds layout.now builder.old builder.new }
+    ensures spare { builder.old.vtables.spare ≤ builder.new.vtables.spare
+        + entry_tables (option_map view entry.now) }
     ensures spent { builder.old.tail.free ≤ builder.new.tail.free
         + entry_room layout.now (slot_seen layout.now slot.now) (option_map view entry.now) }
 {
@@ -160,13 +163,15 @@ pub(crate) fn lay_part(
     requires whole { is_whole (view value.now) ≡ true }
     requires room { room layout.now (shape_seen layout.now shape) (view value.now) ≤ builder.old.tail.free }
     requires pending { need (view value.now) ≤ length pending.old }
-    requires vtables { VtablesKnown layout.now (vtables_in builder.old) (view value.now) }
+    requires spare { tables (view value.now) ≤ builder.old.vtables.spare }
     requires ready { IsBuilder layout.now builder.old }
     ensures state { PartEnd layout.now builder.new.tail.most builder.new.tail.bytes (shape_seen layout.now shape)
         (view value.now) result }
     ensures adds { BuildsParts layout.now builder.old builder.new (parts_at layout.now builder.new.tail.bytes
         (part_named (shape_seen layout.now shape) (view value.now)) result) }
     ensures builds { Builds layout.now builder.old builder.new }
+    ensures spare { builder.old.vtables.spare ≤ builder.new.vtables.spare
+        + tables (view value.now) }
     ensures spent { builder.old.tail.free ≤ builder.new.tail.free + room layout.now (shape_seen layout.now shape)
         (view value.now) }
 {
@@ -203,8 +208,7 @@ fn lay_items(
         (count (parts_view items.now)) + parts_room layout.now (kind_seen layout.now kind)
         (parts_view items.now) ≤ builder.old.tail.free }
     requires pending { need (a_vector (parts_view items.now)) ≤ length pending.old }
-    requires vtables { PartsVtablesKnown layout.now (vtables_in builder.old)
-        (parts_view items.now) }
+    requires spare { tables (a_vector (parts_view items.now)) ≤ builder.old.vtables.spare }
     requires ready { IsBuilder layout.now builder.old }
     ensures lies { LaidInTail layout.now builder.new.tail.most builder.new.tail.bytes
         (part_place (vector_part (kind_seen layout.now kind))) result
@@ -212,6 +216,8 @@ fn lay_items(
     ensures adds { BuildsParts layout.now builder.old builder.new (parts_in_tail layout.now builder.new.tail.bytes
         (vector_part (kind_seen layout.now kind)) result (a_vector (parts_view items.now))) }
     ensures builds { Builds layout.now builder.old builder.new }
+    ensures spare { builder.old.vtables.spare ≤ builder.new.vtables.spare
+        + tables (a_vector (parts_view items.now)) }
     ensures spent { builder.old.tail.free ≤ builder.new.tail.free
         + (vector_room layout.now (kind_seen layout.now kind) (count (parts_view items.now))
         + parts_room layout.now (kind_seen layout.now kind) (parts_view items.now)) }
@@ -242,8 +248,7 @@ fn lay_item_targets(
     requires room { parts_room layout.now (kind_seen layout.now kind) (parts_view items.now)
         ≤ builder.old.tail.free }
     requires pending { parts_need (parts_view items.now) ≤ length pending.old }
-    requires vtables { PartsVtablesKnown layout.now (vtables_in builder.old)
-        (parts_view items.now) }
+    requires spare { parts_tables (parts_view items.now) ≤ builder.old.vtables.spare }
     requires ready { IsBuilder layout.now builder.old }
     ensures each { length ends.new ≡ length items.now }
     ensures state { TargetsEnd layout.now builder.new.tail.most builder.new.tail.bytes (kind_seen layout.now kind)
@@ -251,6 +256,8 @@ fn lay_item_targets(
     ensures adds { BuildsParts layout.now builder.old builder.new (ends_parts layout.now builder.new.tail.bytes
         (named_items (kind_seen layout.now kind) (map view items.now)) ends.new) }
     ensures builds { Builds layout.now builder.old builder.new }
+    ensures spare { builder.old.vtables.spare ≤ builder.new.vtables.spare
+        + parts_tables (parts_view items.now) }
     ensures spent { builder.old.tail.free ≤ builder.new.tail.free + parts_room layout.now (kind_seen layout.now kind)
         (parts_view items.now) }
 {

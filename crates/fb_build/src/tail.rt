@@ -60,6 +60,13 @@ impl Tail {
         self.block.len() - self.free
     }
 
+    /// The bytes that are laid.
+    pub(crate) fn laid(&self) -> &[u8]
+        ensures { result.now ≡ self.now.bytes }
+    {
+        &self.block[self.free..]
+    }
+
     /// The greatest multiple that was padded to.
     pub(crate) fn most(&self) -> usize
         ensures exact { result ≡ self.now.most }

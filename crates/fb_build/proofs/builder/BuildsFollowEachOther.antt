@@ -1,5 +1,5 @@
 -- What one call and then another make of a builder is what both make of it.
-use Rattle.std.proofs.Common.{ℕ, List, ◌≤◌, ◌∙◌, max, refl, arith}
+use Rattle.std.proofs.Common.{ℕ, List, ◌≤◌, max, arith}
 use Rattle.std.specs.Vec.{with_items}
 use Rattle.fb_layout.specs.Laid.{LaidSchema}
 use Rattle.fb_layout.specs.Widths.{greatest}
@@ -10,11 +10,10 @@ use Rattle.fb_build.proofs.tail.WhatIsLaidStaysLaid.{same_grows, then_grows}
 use Rattle.fb_build.proofs.vtables.VtableIsLaidOnce.{shared_grown}
 
 pub builds_nothing : (L : LaidSchema) (b : Builder) → IsBuilder L b → Builds L b b
-builds_nothing L b ready = record { same = refl; grows = same_grows b.tail; bound = omega arith; ready = ready }
+builds_nothing L b ready = record { grows = same_grows b.tail; bound = omega arith; ready = ready }
 
 pub builds_then : (L : LaidSchema) (a b c : Builder) → Builds L a b → Builds L b c → Builds L a c
 builds_then L a b c first next = record {
-  same = next.same ∙ first.same;
   grows = then_grows a.tail b.tail c.tail first.grows next.grows;
   bound = omega (arith, first.bound, next.bound);
   ready = next.ready;
@@ -24,10 +23,13 @@ builds_then L a b c first next = record {
 pub tail_builds : (L : LaidSchema) (b : Builder) (tail : TailSeen) → Grows b.tail tail
     → tail.most ≤ max b.tail.most (greatest L) → IsBuilder L b → Builds L b (record b { tail = tail })
 tail_builds L b tail grows bound ready = record {
-  same = refl;
   grows = grows;
   bound = bound;
-  ready = record { laid = shared_grown _ _ b.tail tail grows ready.laid; long = ready.long };
+  ready = record {
+    laid = shared_grown _ _ b.tail tail grows ready.laid;
+    different = ready.different;
+    long = ready.long;
+  };
 }
 
 -- where what is written before it is looked up is another, too
@@ -35,11 +37,11 @@ pub scratch_builds : (L : LaidSchema) (b : Builder) (tail : TailSeen) (bytes : L
     → tail.most ≤ max b.tail.most (greatest L) → IsBuilder L b
     → Builds L b (record b { tail = tail; scratch = with_items b.scratch bytes })
 scratch_builds L b tail bytes grows bound ready = record {
-  same = refl;
   grows = grows;
   bound = bound;
   ready = record {
     laid = shared_grown _ _ b.tail tail grows ready.laid;
+    different = ready.different;
     long = omega (arith, (with_items b.scratch bytes).ok.0, b.scratch.ok.0, ready.long);
   };
 }

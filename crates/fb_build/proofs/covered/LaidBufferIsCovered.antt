@@ -13,10 +13,9 @@ use Rattle.fb_value.specs.Num.{Bytes, num, divides}
 use Rattle.fb_value.specs.Places.{table_part, part_place}
 use Rattle.fb_value.specs.Lies.{LiesAt}
 use Rattle.fb_value.specs.Holds.{root_place}
-use Rattle.fb_build.specs.Ends.{StandsEnd}
+use Rattle.fb_vtables.specs.Ends.{StandsEnd}
 use Rattle.fb_build.specs.Tails.{TailSeen, LaidInTail}
-use Rattle.fb_build.specs.TableBytes.{AreLaid, TellsItsLength}
-use Rattle.fb_build.specs.Vtables.{AreDifferent}
+use Rattle.fb_vtables.specs.Vtables.{AreDifferent, AreLaid, TellsItsLength}
 use Rattle.fb_build.specs.Pieces.{PartAt, reached, reached_parts, greatest_align, is_among, tables_vtables}
 use Rattle.fb_build.specs.Pieces.{whole_header, header_piece, header_size}
 use Rattle.fb_build.specs.Covered.{Chunk, piece_chunk, zeros_chunk, pieces_among, vtable_at, EqualVtablesAreOne}
@@ -34,29 +33,22 @@ use Rattle.fb_build.proofs.covered.PartAddsItself.{front_joined}
 
 -- ---- before anything is laid
 
-pub nothing_laid : (s : Bytes) (places : List ℕ) → ((i : ℕ) → slice_index places i ≡ 0) → laid_at s places ≡ []
-nothing_laid s [] none = refl
-nothing_laid s (zero ∷ places) none = nothing_laid s places (λ i. none (suc i))
-nothing_laid s (suc e ∷ places) none = let first = none 0 in absurd (omega (arith, first))
-
 no_bytes : (s : Bytes) → length s ≡ 0 → s ≡ []
 no_bytes [] e = refl
 no_bytes (b ∷ s) e = absurd (omega (arith, e))
 
-pub made_of_nothing : (L : LaidSchema) (o : TailSeen) (places : List ℕ) → length o.bytes ≡ 0 → o.most ≡ 4
-    → ((i : ℕ) → slice_index places i ≡ 0) → IsMade L o places []
-made_of_nothing L o places empty least none =
-    let nowhere : laid_at o.bytes places ≡ [] = nothing_laid o.bytes places none in
+pub made_of_nothing : (L : LaidSchema) (o : TailSeen) → length o.bytes ≡ 0 → o.most ≡ 4 → IsMade L o [] []
+made_of_nothing L o empty least =
     record {
-      within = λ i. let own = none i in omega (arith, own);
+      within = λ i. omega arith;
       stay = All-nil (StaysInFront L o.bytes);
       made = record {
         chunks = [];
         are = record { joined = no_bytes o.bytes empty; runs = tt; first = refl };
-        pieces = rw nowhere (IsPermutation-refl []);
+        pieces = IsPermutation-refl [];
       };
-      once = λ q. rw nowhere (omega arith);
-      served = λ q. rw nowhere refl;
+      once = λ q. omega arith;
+      served = λ q. refl;
       widest = least;
     }
 
@@ -116,10 +108,10 @@ one_place s known places ns shared different served q r here there same =
     let y = laid_from s places r (served r ∙ there) in
     let v = got known x.0 (omega (arith, shared.each, x.3)) in
     let w = got known y.0 (omega (arith, shared.each, y.3)) in
-    let vs = shared.stand x.0 v.0 v.1 x.1 in
-    let ws = shared.stand y.0 w.0 w.1 y.1 in
-    let first : vtable_at s q ≡ v.0 = ap (vtable_at s) x.2 ∙ vtable_stood s (slice_index places x.0) v.0 vs.0 vs.2 in
-    let second : vtable_at s r ≡ w.0 = ap (vtable_at s) y.2 ∙ vtable_stood s (slice_index places y.0) w.0 ws.0 ws.2 in
+    let vs = shared.stand x.0 v.0 v.1 in
+    let ws = shared.stand y.0 w.0 w.1 in
+    let first : vtable_at s q ≡ v.0 = ap (vtable_at s) x.2 ∙ vtable_stood s (slice_index places x.0) v.0 vs.1 vs.3 in
+    let second : vtable_at s r ≡ w.0 = ap (vtable_at s) y.2 ∙ vtable_stood s (slice_index places y.0) w.0 ws.1 ws.3 in
     let equal : w.0 ≡ v.0 = sym second ∙ sym same ∙ first in
     let key : x.0 ≡ y.0 = different x.0 y.0 v.0 v.1 (w.1 ∙ ap (λ (b : Bytes). Some b) equal) in
     x.2 ∙ ap (λ i. length s - slice_index places i) key ∙ sym y.2

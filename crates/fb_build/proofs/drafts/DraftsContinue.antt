@@ -22,5 +22,4 @@ continues_same a = record {
   layout = refl;
   lengthens = same_lengthens a.tail a.tail refl refl;
   bound = omega arith;
-  kept = λ i vt at. at;
 }

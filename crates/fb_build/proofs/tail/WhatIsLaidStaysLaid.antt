@@ -11,7 +11,7 @@ use Rattle.fb_value.specs.Datum.{Datum}
 use Rattle.fb_value.specs.Num.{Bytes, divides}
 use Rattle.fb_value.specs.Places.{Sort}
 use Rattle.fb_value.specs.Tails.{LiesInTail}
-use Rattle.fb_build.specs.Ends.{StandsEnd}
+use Rattle.fb_vtables.specs.Ends.{StandsEnd}
 use Rattle.fb_layout.specs.Sizes.{IsAlignment}
 use Rattle.fb_build.specs.Tails.{TailSeen, Grows, LaidInTail}
 use Rattle.fb_value.proofs.tails.TailsAreKeptInFront.{front_shown, multiple_shown, old_shown, through}

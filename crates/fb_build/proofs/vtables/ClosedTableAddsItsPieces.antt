@@ -1,7 +1,7 @@
 -- A table that is closed adds itself to what is made, and its vtable where it is the first to have it.
 use Rattle.std.proofs.Common.{◌≡◌, ℕ, ◌+◌, ◌-◌, ◌<◌, ◌≤◌, ◌++◌, max, List, [], ◌∷◌, length, replicate, slice_get}
 use Rattle.std.proofs.Common.{slice_index, Some, ap, sym, ◌∙◌, arith, append_assoc, length-append}
-use Rattle.std.proofs.lemmas.List.{length-replicate, get_or-set_same}
+use Rattle.std.proofs.lemmas.List.{length-replicate}
 use Rattle.byteorder.specs.Endian.{little_bytes}
 use Rattle.byteorder.specs.Numbers.{length-bytes_low_first}
 use Rattle.fb_layout.specs.Laid.{LaidSchema}
@@ -11,6 +11,7 @@ use Rattle.fb_build.specs.Pieces.{part_size, part_align}
 use Rattle.fb_build.specs.Tails.{TailSeen}
 use Rattle.fb_build.specs.Made.{StaysInFront, Adds, FieldsFront, OldVtable, NewVtable}
 use Rattle.fb_build.proofs.vtables.TableAndVtableAddThemselves.{old_laid, new_laid}
+use Rattle.fb_build.proofs.vtables.VtableIsLaidOnce.{last_place}
 
 -- what is laid of a table, from the zeros before its fields to its first number
 pub record IsClosed (L : LaidSchema) (a o n : TailSeen) (t start align place k : ℕ) (pd : Bytes) : Type 0 where
@@ -67,7 +68,7 @@ module _ (L : LaidSchema) (a o n : TailSeen) (t start align at_place k : ℕ) (p
 
   pub old_closed : (known : List Bytes) (before after : List ℕ) (vt : Bytes)
       → OldVtable known before after pd n.bytes vt
-      → ((key : ℕ) → slice_get known key ≡ Some vt → 0 < slice_index after key
+      → ((key : ℕ) → slice_get known key ≡ Some vt
       → vtable n.bytes (length n.bytes - at_place) ≡ length n.bytes - slice_index after key)
       → Adds L a before n after (record { target = table_part t; at = length n.bytes - at_place } ∷ [])
   old_closed known before after vt old at =
@@ -75,8 +76,7 @@ module _ (L : LaidSchema) (a o n : TailSeen) (t start align at_place k : ℕ) (p
       let two = length-append (little_bytes 4 old.number) pd in
       let first = length-bytes_low_first 0 4 old.number in
       let zero : length n.bytes - at_place ≡ 0 = omega (arith, long, two, first, h.here) in
-      let some : 0 < slice_index after old.key = rw old.places old.some in
-      let position = rw (zero, old.places) at (at old.key old.is some) in
+      let position = rw (zero, old.places) at (at old.key old.is) in
       let size = h.size ∙ sym (inline_long old.number) in
       let size0 = rw zero at size in
       let most0 = rw zero at same_most in
@@ -87,7 +87,7 @@ module _ (L : LaidSchema) (a o n : TailSeen) (t start align at_place k : ℕ) (p
 
   pub new_closed : (known : List Bytes) (before after : List ℕ) (vt : Bytes)
       → NewVtable known before after pd n.bytes vt
-      → ((key : ℕ) → slice_get known key ≡ Some vt → 0 < slice_index after key
+      → ((key : ℕ) → slice_get known key ≡ Some vt
       → vtable n.bytes (length n.bytes - at_place) ≡ length n.bytes - slice_index after key)
       → 0 < length vt → num n.bytes (vtable n.bytes (length n.bytes - at_place)) 2 ≡ length vt
       → Adds L a before n after (record { target = table_part t; at = length n.bytes - at_place } ∷ [])
@@ -97,11 +97,10 @@ module _ (L : LaidSchema) (a o n : TailSeen) (t start align at_place k : ℕ) (p
       let three = length-append (little_bytes 4 (length vt)) pd in
       let four = length-bytes_low_first 0 4 (length vt) in
       let at_vtable : length n.bytes - at_place ≡ length vt = omega (arith, long, two, three, four, h.here) in
-      let own : slice_index after new.key ≡ length n.bytes =
-      ap (λ ps. slice_index ps new.key) new.places ∙ get_or-set_same before new.key (length n.bytes) 0 new.under in
-      let noted : 0 < slice_index after new.key = omega (arith, own, long, two, some) in
-      let zero : length n.bytes - slice_index after new.key ≡ 0 = omega (arith, own) in
-      let position : vtable n.bytes (length n.bytes - at_place) ≡ 0 = at new.key new.is noted ∙ zero in
+      let own : slice_index after (length before) ≡ length n.bytes =
+      ap (λ ps. slice_index ps (length before)) new.places ∙ last_place before (length n.bytes) in
+      let zero : length n.bytes - slice_index after (length before) ≡ 0 = omega (arith, own) in
+      let position : vtable n.bytes (length n.bytes - at_place) ≡ 0 = at (length before) new.is ∙ zero in
       let count : num n.bytes 0 2 ≡ length vt = ap (λ q. num n.bytes q 2) (sym position) ∙ first in
       let place0 = rw at_vtable at position in
       let size = h.size ∙ sym (inline_long (length vt)) in
@@ -109,5 +108,5 @@ module _ (L : LaidSchema) (a o n : TailSeen) (t start align at_place k : ℕ) (p
       let most0 = rw at_vtable at same_most in
       let stay = h.stay in
       let stay0 = rw at_vtable at stay in
-      rw (at_vtable, new.places) (new_laid L a n t h.front.zeros (inline (length vt)) few before new.key vt (new.bytes
-      ∙ ap (λ z. vt ++ z) (behind (length vt))) some count size0 most0 stay0 place0 new.none new.under)
+      rw (at_vtable, new.places) (new_laid L a n t h.front.zeros (inline (length vt)) few before vt (new.bytes
+      ∙ ap (λ z. vt ++ z) (behind (length vt))) some count size0 most0 stay0 place0)

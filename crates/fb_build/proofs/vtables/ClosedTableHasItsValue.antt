@@ -15,7 +15,8 @@ use Rattle.fb_build.specs.Tails.{TailSeen, Grows, LaidInTail}
 use Rattle.fb_layout.specs.Sizes.{ceil4}
 use Rattle.fb_build.specs.Fields.{EntriesEnd, AreKnown, stored_in, fields_size}
 use Rattle.fb_build.specs.Filled.{AreFilled}
-use Rattle.fb_build.specs.TableBytes.{offset_from, offset_bytes, vtable_bytes, TellsItsLength, VtableEnd}
+use Rattle.fb_build.specs.TableBytes.{offset_from, offset_bytes, vtable_bytes, VtableEnd}
+use Rattle.fb_vtables.specs.Vtables.{TellsItsLength}
 use Rattle.fb_build.proofs.numbers.NumberReadsBack.{num_behind, num_first, num_standing}
 use Rattle.fb_build.proofs.vtables.TableLeadsToItsVtable.{vtable_is, vtable_inside, vtable_good, slot_there, slot_past}
 use Rattle.fb_build.proofs.vtables.TableLeadsToItsVtable.{table_lies}

@@ -1,11 +1,10 @@
 -- A table that is laid in front of what is made, and its vtable unless it was laid before.
-use Rattle.std.proofs.Common.{◌≡◌, ℕ, zero, suc, ◌+◌, ◌-◌, ◌<◌, ◌≤◌, ◌⊎◌, inl, inr, ◌++◌, Bool, true, false, ◌==◌, ◌||◌}
-use Rattle.std.proofs.Common.{max, List, [], ◌∷◌, length, replicate, map, slice_index, slice_set, Some, refl, ap, sym}
+use Rattle.std.proofs.Common.{◌≡◌, ℕ, zero, suc, ◌+◌, ◌-◌, ◌<◌, ◌≤◌, ◌++◌, Bool, true, false, ◌==◌, ◌||◌}
+use Rattle.std.proofs.Common.{max, List, [], ◌∷◌, length, replicate, map, slice_index, Some, refl, ap, sym}
 use Rattle.std.proofs.Common.{◌∙◌, arith, append_assoc, length-append}
 use Rattle.std.specs.Prelude.{IsPermutation}
 use Rattle.std.specs.List.{filter_map}
 use Rattle.std.proofs.lemmas.Bool.{or_left, or_right, eq-eqb, eqb-true}
-use Rattle.std.proofs.lemmas.List.{get_or-set_same, get_or-set_other}
 use Rattle.std.proofs.lemmas.List.Elements.{All-nil, All-cons}
 use Rattle.std.proofs.lemmas.List.Sorted.{IsPermutation-refl, IsPermutation-trans, IsPermutation-sym}
 use Rattle.std.proofs.lemmas.List.Sorted.{IsPermutation-cons, IsPermutation-middle, IsPermutation-append_comm}
@@ -17,7 +16,6 @@ use Rattle.fb_build.specs.Pieces.{Piece}
 use Rattle.fb_build.specs.Covered.{piece_chunk, zeros_chunk}
 use Rattle.fb_build.specs.Tails.{TailSeen}
 use Rattle.fb_build.specs.Made.{StaysInFront, laid_at, Adds}
-use Rattle.fb_build.proofs.fields.SlotStoresItsEntry.{by_index}
 use Rattle.fb_build.proofs.covered.PartsInFrontAreAdded.{LaysInFront, made_laid, same_among}
 use Rattle.fb_build.proofs.covered.PartAddsItself.{laid_further, same_further, times_further, times_with_first}
 use Rattle.fb_build.proofs.covered.PartAddsItself.{front_joined}
@@ -32,20 +30,25 @@ laid_there s (zero ∷ places) (suc k) some = laid_there s places k some
 laid_there s (suc e ∷ places) zero some = or_left _ _ (eq-eqb (length s - suc e) (length s - suc e) refl)
 laid_there s (suc e ∷ places) (suc k) some = or_right _ _ (laid_there s places k some)
 
-pub laid_noted : (s : Bytes) (places : List ℕ) (k e : ℕ) → k < length places → slice_index places k ≡ 0 → 0 < e
-    → IsPermutation ((length s - e) ∷ laid_at s places) (laid_at s (slice_set places k e))
-laid_noted s [] k e under none some = absurd (omega (arith, under))
-laid_noted s (zero ∷ places) zero zero under none some = absurd (omega (arith, some))
-laid_noted s (zero ∷ places) zero (suc e) under none some = IsPermutation-refl _
-laid_noted s (suc o ∷ places) zero e under none some = absurd (omega (arith, none))
-laid_noted s (zero ∷ places) (suc k) e under none some = laid_noted s places k e (omega (arith, under)) none some
-laid_noted s (suc o ∷ places) (suc k) e under none some =
+pub laid_noted : (s : Bytes) (places : List ℕ) (e : ℕ) → 0 < e
+    → IsPermutation ((length s - e) ∷ laid_at s places) (laid_at s (places ++ e ∷ []))
+laid_noted s [] zero some = absurd (omega (arith, some))
+laid_noted s [] (suc e) some = IsPermutation-refl _
+laid_noted s (zero ∷ places) e some = laid_noted s places e some
+laid_noted s (suc o ∷ places) e some =
     let x = length s - e in
     let y = length s - suc o in
-    let rest = laid_noted s places k e (omega (arith, under)) none some in
+    let rest = laid_noted s places e some in
     let swapped : IsPermutation (x ∷ y ∷ laid_at s places) (y ∷ x ∷ laid_at s places) =
     IsPermutation-sym _ _ (IsPermutation-middle (y ∷ []) x (laid_at s places)) in
     IsPermutation-trans _ _ _ swapped (IsPermutation-cons y _ _ rest)
+
+within_noted : (places : List ℕ) (e most : ℕ) → ((i : ℕ) → slice_index places i ≤ most) → e ≤ most → (i : ℕ)
+    → slice_index (places ++ e ∷ []) i ≤ most
+within_noted [] e most within low zero = low
+within_noted [] e most within low (suc i) = omega arith
+within_noted (p ∷ places) e most within low zero = within 0
+within_noted (p ∷ places) e most within low (suc i) = within_noted places e most (λ j. within (suc j)) low i
 
 all_some : (ns : List ℕ) → filter_map (λ n. Some n) ns ≡ ns
 all_some [] = refl
@@ -104,18 +107,17 @@ module _ (L : LaidSchema) (a b : TailSeen) (t zeros : ℕ) (inline : Bytes) (low
       (times_further (length front) (laid_at a.bytes before) made.once)
 
   -- whose vtable is laid in front
-  pub new_laid : (before : List ℕ) (key : ℕ) (vt : Bytes) → b.bytes ≡ vt ++ (inline ++ (replicate zeros 0 ++ a.bytes))
+  pub new_laid : (before : List ℕ) (vt : Bytes) → b.bytes ≡ vt ++ (inline ++ (replicate zeros 0 ++ a.bytes))
       → 0 < length vt → num b.bytes 0 2 ≡ length vt → part_size L b.bytes (table_part t) (length vt) ≡ length inline
       → b.most ≡ max a.most (max 4 (part_align L b.bytes (table_part t) (length vt)))
       → StaysInFront L b.bytes (record { target = table_part t; at = length vt }) → vtable b.bytes (length vt) ≡ 0
-      → slice_index before key ≡ 0 → key < length before
-      → Adds L a before b (slice_set before key (length b.bytes))
+      → Adds L a before b (before ++ length b.bytes ∷ [])
       (record { target = table_part t; at = length vt } ∷ [])
-  new_laid before key vt is some first size most stay at none under xs made =
+  new_laid before vt is some first size most stay at xs made =
       let front = vt ++ (inline ++ (replicate zeros 0 ++ [])) in
       let grown : b.bytes ≡ front ++ a.bytes = is ∙ ap (λ z. vt ++ z) (front_joined inline a.bytes zeros)
       ∙ sym (append_assoc vt (inline ++ (replicate zeros 0 ++ [])) a.bytes) in
-      let after = slice_set before key (length b.bytes) in
+      let after = before ++ length b.bytes ∷ [] in
       let x : PartAt = record { target = table_part t; at = length vt } in
       let wide = made.widest in
       let long = ap length grown in
@@ -128,7 +130,7 @@ module _ (L : LaidSchema) (a b : TailSeen) (t zeros : ℕ) (inline : Bytes) (low
       let moved : laid_at b.bytes before ≡ map (λ q. length front + q) (laid_at a.bytes before) =
       ap (λ s. laid_at s before) grown ∙ laid_further front a.bytes before made.within in
       let begin : length b.bytes - length b.bytes ≡ 0 = omega arith in
-      let noted_here = laid_noted b.bytes before key (length b.bytes) under none some_bytes in
+      let noted_here = laid_noted b.bytes before (length b.bytes) some_bytes in
       let noted : IsPermutation (0 ∷ map (λ q. length front + q) (laid_at a.bytes before)) (laid_at b.bytes after) =
       rw (begin, moved) at noted_here in
       let own : Piece = record { kind = whole_part; at = length vt; size = length inline } in
@@ -141,7 +143,8 @@ module _ (L : LaidSchema) (a b : TailSeen) (t zeros : ℕ) (inline : Bytes) (low
         are = record { joined = refl; runs = (low, refl, tt); first = refl };
         pieces = rw (size, first, behind) (IsPermutation-append_comm (its ∷ []) (own ∷ []));
         stay = All-cons (StaysInFront L b.bytes) x [] stay (All-nil (StaysInFront L b.bytes));
-        within = within_noted before key made.within (omega (arith, long, parts)) under;
+        within = within_noted before (length b.bytes) (length b.bytes)
+            (λ i. let under = made.within i in omega (arith, under, long, parts)) (omega arith);
         laid = noted;
         most = omega (arith, most, wide);
       } in
@@ -151,15 +154,3 @@ module _ (L : LaidSchema) (a b : TailSeen) (t zeros : ℕ) (inline : Bytes) (low
       sym (among_permuted q _ _ noted) ∙ ap (λ r. (q == 0) || r) same
       ∙ ap (λ v. (q == v) || is_among q further) (sym at)))
       (times_with_first (length front) (laid_at a.bytes before) some_front made.once)
-    where
-      within_noted : (before : List ℕ) (key : ℕ) → ((i : ℕ) → slice_index before i ≤ length a.bytes)
-          → length a.bytes ≤ length b.bytes → key < length before → (i : ℕ)
-          → slice_index (slice_set before key (length b.bytes)) i ≤ length b.bytes
-      within_noted before key within more under i = by_case (by_index i key)
-        where
-          by_case : (i ≡ key) ⊎ (i ≡ key → ⊥) → slice_index (slice_set before key (length b.bytes)) i ≤ length b.bytes
-          by_case (inl same) = let own : slice_index (slice_set before key (length b.bytes)) key ≡ length b.bytes =
-              get_or-set_same before key (length b.bytes) 0 under in rw same (omega (arith, own))
-          by_case (inr other) = let own : slice_index (slice_set before key (length b.bytes)) i ≡ slice_index before i =
-              get_or-set_other before key i (length b.bytes) 0 other in let low = within i in
-              omega (arith, own, low, more)

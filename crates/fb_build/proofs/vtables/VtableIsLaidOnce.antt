@@ -1,18 +1,17 @@
 -- A vtable that was laid, or was laid before.
-use Rattle.std.proofs.Common.{◌≡◌, ℕ, ◌+◌, ◌-◌, ◌%◌, ◌<◌, ◌≤◌, ◌⊎◌, inl, inr, ◌++◌, true, false, nat_lt, List, []}
-use Rattle.std.proofs.Common.{length, slice_get, slice_index, slice_set, Some, ap, sym, ◌∙◌, subst, arith}
+use Rattle.std.proofs.Common.{◌≡◌, ℕ, zero, suc, ◌+◌, ◌-◌, ◌%◌, ◌<◌, ◌≤◌, ◌++◌, true, false, nat_lt, List, [], ◌∷◌}
+use Rattle.std.proofs.Common.{length, slice_get, slice_index, Some, refl, ap, sym, ◌∙◌, subst, arith}
 use Rattle.std.proofs.Common.{length-append, append_assoc}
 use Rattle.std.proofs.lemmas.Bool.{eq-eqb, lt-ltb}
 use Rattle.std.proofs.lemmas.Bool.Decides.{nat_tests}
-use Rattle.std.proofs.lemmas.List.{get_or-set_same, get_or-set_other, length-set}
 use Rattle.byteorder.specs.Endian.{little_bytes}
 use Rattle.fb_value.specs.Num.{Bytes, num, divides}
-use Rattle.fb_build.specs.Ends.{StandsEnd}
+use Rattle.fb_vtables.specs.Ends.{StandsEnd}
 use Rattle.fb_build.specs.Tails.{TailSeen, Grows}
-use Rattle.fb_build.specs.TableBytes.{way_to, VtableEnd, TellsItsLength, AreLaid}
+use Rattle.fb_build.specs.TableBytes.{way_to, VtableEnd}
+use Rattle.fb_vtables.specs.Vtables.{AreDifferent, AreLaid, IsKey, TellsItsLength}
 use Rattle.fb_build.proofs.tail.WhatIsLaidStaysLaid.{stands_grown}
 use Rattle.fb_build.proofs.numbers.NumberReadsBack.{num_behind, num_first}
-use Rattle.fb_build.proofs.fields.SlotStoresItsEntry.{by_index, same_some}
 
 pub new_end : (s old vt : Bytes) (place : ℕ) → s ≡ vt ++ (little_bytes 4 (length vt) ++ old) → place ≡ length old + 4
     → length old % 4 ≡ 0 → length vt % 2 ≡ 0 → length vt ≤ 65534 → VtableEnd s place vt
@@ -95,29 +94,70 @@ pub shared_grown : (known : List Bytes) (places : List ℕ) (a b : TailSeen) →
     → AreLaid known places b.bytes
 shared_grown known places a b g h = record {
   each = h.each;
-  stand = λ i vt is some. let there = h.stand i vt is some in
-      (stands_grown a b (slice_index places i) vt g there.0, there.1, there.2);
+  stand = λ i vt is. let there = h.stand i vt is in
+      (there.0, stands_grown a b (slice_index places i) vt g there.1, there.2, there.3);
 }
 
-pub shared_noted : (known : List Bytes) (places : List ℕ) (s : Bytes) (i e : ℕ) (vt : Bytes) → i < length places
-    → slice_get known i ≡ Some vt → StandsEnd s e vt → divides 2 e ≡ true → TellsItsLength vt → AreLaid known places s
-    → AreLaid known (slice_set places i e) s
-shared_noted known places s i e vt under is stands even told h =
-    record {
-      each = omega (arith, h.each, length-set places i e);
-      stand = λ j other at some. by_case j other at some (by_index j i);
-    }
-  where
-    by_case : (j : ℕ) (other : Bytes) → slice_get known j ≡ Some other → 0 < slice_index (slice_set places i e) j
-        → (j ≡ i) ⊎ (j ≡ i → ⊥) → StandsEnd s (slice_index (slice_set places i e) j) other
-        × (divides 2 (slice_index (slice_set places i e) j) ≡ true) × TellsItsLength other
-    by_case j other at some (inl same) =
-        let one : other ≡ vt = same_some (slice_get known i) other vt (rw same at at) is in
-        let end : slice_index (slice_set places i e) i ≡ e = get_or-set_same places i e 0 under in
-        rw same (rw (end, one) (stands, even, told))
-    by_case j other at some (inr ne) =
-        let end : slice_index (slice_set places i e) j ≡ slice_index places j = get_or-set_other places i j e 0 ne in
-        rw end (h.stand j other at (rw end at some))
+-- ---- one more
+
+last_index : (places : List ℕ) (e i : ℕ) → i ≡ length places → slice_index (places ++ e ∷ []) i ≡ e
+last_index [] e zero is = refl
+last_index [] e (suc i) is = absurd (omega (arith, is))
+last_index (p ∷ places) e zero is = absurd (omega (arith, is))
+last_index (p ∷ places) e (suc i) is = last_index places e i (omega (arith, is))
+
+pub last_place : (places : List ℕ) (e : ℕ) → slice_index (places ++ e ∷ []) (length places) ≡ e
+last_place places e = last_index places e (length places) refl
+
+pub last_key : (known : List Bytes) (vt : Bytes) → slice_get (known ++ vt ∷ []) (length known) ≡ Some vt
+last_key [] vt = refl
+last_key (x ∷ known) vt = last_key known vt
+
+-- of one more vtable, each is the last or was there
+data IsOldOrLast (known : List Bytes) (vt : Bytes) (places : List ℕ) (e i : ℕ) (other : Bytes) : Type 0 where
+  was_there : slice_get known i ≡ Some other → slice_index (places ++ e ∷ []) i ≡ slice_index places i
+      → IsOldOrLast known vt places e i other
+  is_last : i ≡ length known → other ≡ vt → slice_index (places ++ e ∷ []) i ≡ e
+      → IsOldOrLast known vt places e i other
+
+old_or_last : (known : List Bytes) (vt : Bytes) (places : List ℕ) (e i : ℕ) (other : Bytes)
+    → length known ≡ length places → slice_get (known ++ vt ∷ []) i ≡ Some other
+    → IsOldOrLast known vt places e i other
+old_or_last [] vt [] e zero other long at = let same : other ≡ vt = cc in is_last refl same refl
+old_or_last [] vt [] e (suc i) other long at = cc
+old_or_last [] vt (p ∷ places) e i other long at = absurd (omega (arith, long))
+old_or_last (x ∷ known) vt [] e i other long at = absurd (omega (arith, long))
+old_or_last (x ∷ known) vt (p ∷ places) e zero other long at = was_there at refl
+old_or_last (x ∷ known) vt (p ∷ places) e (suc i) other long at =
+    elim (old_or_last known vt places e i other (omega (arith, long)) at) [
+      | was_there here place ↦ was_there here place
+      | is_last last same place ↦ is_last (ap suc last) same place
+    ]
+
+pub shared_more : (known : List Bytes) (places : List ℕ) (s vt : Bytes) (e : ℕ) → 0 < e → StandsEnd s e vt
+    → divides 2 e ≡ true → TellsItsLength vt → AreLaid known places s
+    → AreLaid (known ++ vt ∷ []) (places ++ e ∷ []) s
+shared_more known places s vt e some stands even told h = record {
+  each = omega (arith, h.each, length-append known (vt ∷ []), length-append places (e ∷ []));
+  stand = λ i other at. elim (old_or_last known vt places e i other h.each at) [
+    | was_there here place ↦ rw place (h.stand i other here)
+    | is_last last same place ↦ rw (place, same) (some, stands, even, told)
+  ];
+}
+
+pub different_more : (known : List Bytes) (places : List ℕ) (vt : Bytes) → length known ≡ length places
+    → (IsKey known vt → ⊥) → AreDifferent known → AreDifferent (known ++ vt ∷ [])
+different_more known places vt long absent different i j other at there =
+    elim (old_or_last known vt places 0 i other long at) [
+      | was_there here p ↦ elim (old_or_last known vt places 0 j other long there) [
+        | was_there here2 q ↦ different i j other here here2
+        | is_last last same q ↦ absurd (absent (i, rw (← same) here))
+      ]
+      | is_last last same p ↦ elim (old_or_last known vt places 0 j other long there) [
+        | was_there here q ↦ absurd (absent (j, rw (← same) here))
+        | is_last last2 same2 q ↦ last ∙ sym last2
+      ]
+    ]
 
 pub new_stands : (s old vt : Bytes) (e : ℕ) → s ≡ vt ++ (little_bytes 4 (length vt) ++ old) → e ≡ length s
     → length old % 4 ≡ 0 → length vt % 2 ≡ 0 → StandsEnd s e vt × (divides 2 e ≡ true)

@@ -4,7 +4,6 @@ use Rattle.fb_value.proofs.tails.TailsAreKeptInFront.{through, whole_shown}
 use Rattle.fb_value.specs.Lies.{LiesAt}
 use Rattle.fb_value.specs.Num.{Bytes, divides}
 use Rattle.fb_value.specs.Places.{ref_place, table_part}
-use Rattle.fb_build.specs.Builders.{vtables_in}
 use Rattle.fb_build.proofs.covered.LaidBufferIsCovered.{IsWhole, covered_buffer, aligned_buffer}
 use Rattle.fb_build.proofs.roots.TailWithItsRootIsABuffer.{IsIdentified, identified_behind, root_laid, whole_holds}
 use Rattle.fb_build.proofs.roots.TailWithItsRootIsABuffer.{whole_old}
@@ -61,8 +60,8 @@ returns-clause-covered c d root =
     let tail = c.lay_identifier.new.out in
     let end = c.lay_reference.new.out in
     let e = c.args.place in
-    let places = c.args.builder.places.items in
-    let keys = vtables_in c.args.builder in
+    let places = c.args.builder.vtables.places in
+    let keys = c.args.builder.vtables.vtables in
     let same : end.most ≡ table.most = c.lay_reference.ensures.most ∙ c.lay_identifier.ensures.most in
     let all : divides end.most (length end.bytes) ≡ true =
     rw same (eq-eqb _ _ (ap (λ n. n % table.most) c.lay_reference.ensures.long
@@ -78,7 +77,7 @@ returns-clause-covered c d root =
       laid = root.lies;
       made = root.made;
       shared = c.requires.ready.laid;
-      different = c.requires.different;
+      different = c.requires.ready.different;
       header = c.lay_identifier.ensures.header;
       identified = c.schema-schema.ensures.made.declared.identifier;
       four = c.lay_reference.ensures.grows.front;

@@ -124,9 +124,6 @@ close_table-place-requires-clause-ready c =
     (scratch_builds L c.args.builder c.lay_fields-start.new.out c.lay_fields-start.new.links
     c.lay_fields-start.ensures.grows c.lay_fields-start.ensures.bound c.requires.ready).ready
 
-pub close_buffer-requires-clause-different : goal.close_buffer-requires-clause-different
-close_buffer-requires-clause-different c = rw c.close_table-place.ensures.builds.same c.requires.different
-
 pub close_buffer-requires-clause-four : goal.close_buffer-requires-clause-four
 close_buffer-requires-clause-four c =
     let grows = then_grows _ _ _ c.lay_fields-start.ensures.grows c.close_table-place.ensures.builds.grows in
@@ -161,7 +158,7 @@ returns-clause-holds c most raw deep small =
     let lead = rw seen at c.lay_fields-start.ensures.leads in
     let front = rw seen at c.lay_fields-start.ensures.front in
     let grows = then_grows _ _ _ c.lay_fields-start.ensures.grows c.close_table-place.ensures.builds.grows in
-    let root = root_closed L old.tail new.tail old.places.items new.places.items t c.close_table-place.result
+    let root = root_closed L old.tail new.tail old.vtables.places new.vtables.places t c.close_table-place.result
     c.args.data.now.entries c.args.ends.now c.requires.root grows known.known c.requires.targets
     c.close_table-place.ensures.lies (c.close_table-place.ensures.adds old.tail front)
     (c.close_table-place.ensures.leads c.args.ends.now lead) in
@@ -180,7 +177,7 @@ returns-clause-old_slots c =
     let lead = rw seen at c.lay_fields-start.ensures.leads in
     let front = rw seen at c.lay_fields-start.ensures.front in
     let grows = then_grows _ _ _ c.lay_fields-start.ensures.grows c.close_table-place.ensures.builds.grows in
-    let root = root_closed L old.tail new.tail old.places.items new.places.items t c.close_table-place.result
+    let root = root_closed L old.tail new.tail old.vtables.places new.vtables.places t c.close_table-place.result
     c.args.data.now.entries c.args.ends.now c.requires.root grows known.known c.requires.targets
     c.close_table-place.ensures.lies (c.close_table-place.ensures.adds old.tail front)
     (c.close_table-place.ensures.leads c.args.ends.now lead) in
@@ -199,7 +196,7 @@ returns-clause-covered c =
     let lead = rw seen at c.lay_fields-start.ensures.leads in
     let front = rw seen at c.lay_fields-start.ensures.front in
     let grows = then_grows _ _ _ c.lay_fields-start.ensures.grows c.close_table-place.ensures.builds.grows in
-    let root = root_closed L old.tail new.tail old.places.items new.places.items t c.close_table-place.result
+    let root = root_closed L old.tail new.tail old.vtables.places new.vtables.places t c.close_table-place.result
     c.args.data.now.entries c.args.ends.now c.requires.root grows known.known c.requires.targets
     c.close_table-place.ensures.lies (c.close_table-place.ensures.adds old.tail front)
     (c.close_table-place.ensures.leads c.args.ends.now lead) in

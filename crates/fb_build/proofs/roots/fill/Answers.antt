@@ -11,9 +11,9 @@ returns-clause-holds c most raw deep small =
     let old = c.args.builder in
     let new = c.lay_table-place.new.builder in
     let fresh = c.requires.fresh in
-    let root = root_made L old.tail new.tail old.places.items new.places.items c.args.table.0 c.lay_table-place.result d
+    let root = root_made L old.tail new.tail old.vtables.places new.vtables.places c.args.table.0 c.lay_table-place.result d
     c.requires.root c.lay_table-place.ensures.lies c.lay_table-place.ensures.adds
-    (made_of_nothing L old.tail old.places.items fresh.bytes fresh.most fresh.none_laid) in
+    (rw fresh.none_laid (made_of_nothing L old.tail fresh.bytes fresh.most)) in
     c.close_buffer.ensures.holds d most raw root deep small
 
 pub returns-clause-old_slots : goal.returns-clause-old_slots
@@ -24,9 +24,9 @@ returns-clause-old_slots c =
     let new = c.lay_table-place.new.builder in
     let fresh = c.requires.fresh in
     c.close_buffer.ensures.old_slots d
-    (root_made L old.tail new.tail old.places.items new.places.items c.args.table.0 c.lay_table-place.result d
+    (root_made L old.tail new.tail old.vtables.places new.vtables.places c.args.table.0 c.lay_table-place.result d
     c.requires.root c.lay_table-place.ensures.lies c.lay_table-place.ensures.adds
-    (made_of_nothing L old.tail old.places.items fresh.bytes fresh.most fresh.none_laid))
+    (rw fresh.none_laid (made_of_nothing L old.tail fresh.bytes fresh.most)))
 
 pub returns-clause-covered : goal.returns-clause-covered
 returns-clause-covered c =
@@ -36,6 +36,6 @@ returns-clause-covered c =
     let new = c.lay_table-place.new.builder in
     let fresh = c.requires.fresh in
     c.close_buffer.ensures.covered d
-    (root_made L old.tail new.tail old.places.items new.places.items c.args.table.0 c.lay_table-place.result d
+    (root_made L old.tail new.tail old.vtables.places new.vtables.places c.args.table.0 c.lay_table-place.result d
     c.requires.root c.lay_table-place.ensures.lies c.lay_table-place.ensures.adds
-    (made_of_nothing L old.tail old.places.items fresh.bytes fresh.most fresh.none_laid))
+    (rw fresh.none_laid (made_of_nothing L old.tail fresh.bytes fresh.most)))

@@ -16,10 +16,7 @@ use Rattle.fb_build.proofs.tables.TableHasNoSlack.{zeros_stay, last_used}
 use Rattle.std.proofs.Common.{List, Option, Some, Vec, take, ◌*◌}
 use Rattle.fb_value.specs.Datum.{Datum, a_table}
 use Rattle.fb_value.specs.View.{entries_in}
-use Rattle.fb_build.specs.FieldEnds.{table_size, table_vtable}
-use Rattle.fb_build.specs.Vtables.{longest_vtable, vtable_of}
-use Rattle.fb_build.proofs.vtables.VtableHasTheDefinedBytes.{vtable_is_of}
-use Rattle.fb_build.proofs.vtables.EachVtableIsAKey.{listed}
+use Rattle.fb_build.specs.Builders.{longest_vtable}
 use Rattle.fb_build.proofs.tables.TableLeadsToItsTargets.{table_leads}
 use Rattle.fb_build.proofs.covered.PartsStayAsLaid.{table_stays}
 use Rattle.fb_build.proofs.tables.TableHasNoSlack.{laid_size, laid_align}
@@ -115,7 +112,7 @@ lay_vtable-requires-clause-told c =
 
 pub lay_vtable-requires-clause-shared : goal.lay_vtable-requires-clause-shared
 lay_vtable-requires-clause-shared c =
-    rw c.as_mut_slice-places.ensures.value (shared_grown _ _ _ _ c.pad.ensures.grows c.requires.ready.laid)
+    shared_grown _ _ _ _ c.pad.ensures.grows c.requires.ready.laid
 
 pub returns-clause-lies : goal.returns-clause-lies
 returns-clause-lies c =
@@ -172,36 +169,6 @@ returns-clause-lies c =
     (omega (arith, padded, c.pad.ensures.free, c.count.ensures.exact))
     (λ e over low. zeros_stay c.pad.new.self n o.bytes c.pad.result e c.pad.ensures.bytes c.lay_vtable.ensures.grows
     over (omega (arith, low, c.count.ensures.exact))))
-
-pub lay_vtable-requires-clause-key : goal.lay_vtable-requires-clause-key
-lay_vtable-requires-clause-key c =
-    let L = c.args.layout.now in
-    let fs = slots_of L c.args.table.0 in
-    let ys = c.args.ghosts.now.entries in
-    let xs = stored_in fs ys in
-    let put = c.put_vtable-slots.ensures in
-    let long = grown_long c.args.builder.now.tail c.pad.new.self c.pad.ensures.grows in
-    let place : c.count.result + 4 ≡ c.args.start + table_size L fs xs =
-    omega (
-      arith,
-      long,
-      c.pad.ensures.free,
-      c.pad.ensures.under,
-      c.pad.ensures.multiple,
-      c.count.ensures.exact,
-      c.requires.laid.size,
-      c.requires.laid.whole,
-    ) in
-    let is = (read_back c.args.builder.now.scratch c.put_vtable-slots.new.scratch c.deref.result.now _
-    (4 + 2 * c.put_vtable-slots.result) c.deref.ensures.value
-    (c.put_vtable-slots.ensures.long ∙ ap length c.as_mut_slice-scratch.ensures.value) c.put_vtable-slots.ensures.there)
-    ∙ vtable_is_of L c.args.start fs xs c.args.ends.now c.requires.fits.known c.requires.laid.slots.each
-    c.requires.laid.slots.counted (λ k f x fk xk out. (c.requires.laid.slots.state k f x fk xk).absent out)
-    (c.count.result + 4)
-    c.put_vtable-slots.result place put.within put.rest put.last in
-    let whole : vtable_of L c.args.table.0 (entries_in c.args.ghosts.now.entries) ≡ table_vtable L fs xs =
-    ap (λ (zs : List (Option Datum)). table_vtable L fs (stored_in fs zs)) (listed ys) in
-    (c.requires.key.0, c.requires.key.1 ∙ ap (λ (b : List ℕ). Some b) (whole ∙ sym is))
 
 pub returns-clause-leads : goal.returns-clause-leads
 returns-clause-leads c targets leads =
@@ -288,27 +255,28 @@ returns-clause-adds c a front =
     short stands c.put_vtable-slots.ensures.within few c.put_vtable-slots.ensures.rest fits low_size in
     let zs = stored_in fs xs in
     let vt = vtable_bytes place size u ends in
-    let keys = map (λ k. k.items) c.args.builder.now.vtables.keys in
+    let now = c.lay_vtable.new.vtables in
+    let keys = now.vtables in
     let there =
     (read_back c.args.builder.now.scratch c.put_vtable-slots.new.scratch c.deref.result.now _
     (4 + 2 * c.put_vtable-slots.result) c.deref.ensures.value
     (c.put_vtable-slots.ensures.long ∙ ap length c.as_mut_slice-scratch.ensures.value)
     c.put_vtable-slots.ensures.there) in
-    let before = c.as_mut_slice-places.result.now in
-    let laid = subst (λ (x : Bytes). OldVtable keys before c.lay_vtable.new.places
+    let before = c.args.builder.now.vtables.places in
+    let laid = subst (λ (x : Bytes). OldVtable keys before now.places
     c.pad.new.self.bytes
-    n.bytes x ⊎ NewVtable keys before c.lay_vtable.new.places c.pad.new.self.bytes n.bytes
+    n.bytes x ⊎ NewVtable keys before now.places c.pad.new.self.bytes n.bytes
     x) there
     c.lay_vtable.ensures.laid in
-    let at : (key : ℕ) → slice_get keys key ≡ Some vt → 0 < slice_index c.lay_vtable.new.places key
-    → vtable n.bytes (length n.bytes - place) ≡ length n.bytes - slice_index c.lay_vtable.new.places key =
-    λ key is some. (
-    let stood = c.lay_vtable.ensures.shared.stand key vt is some in
+    let at : (key : ℕ) → slice_get keys key ≡ Some vt
+    → vtable n.bytes (length n.bytes - place) ≡ length n.bytes - slice_index now.places key =
+    λ key is. (
+    let stood = c.lay_vtable.ensures.shared.stand key vt is in
     let way = c.lay_vtable.ensures.leads key (rw there is) in
     let v : VtableEnd n.bytes place vt = record {
-      at = slice_index c.lay_vtable.new.places key;
-      stands = stood.0;
-      even = stood.1;
+      at = slice_index now.places key;
+      stands = stood.1;
+      even = stood.2;
       way = rw same at way;
     } in
     vtable_at L start place size u o n ends grows behind within four most (through 2 4 n.most refl most) short v
@@ -338,21 +306,17 @@ returns-clause-adds c a front =
       stay = table_stays (from_end n.bytes n.most) L n.bytes t (length n.bytes - place) lies.lies.lies.0;
     } in
     let vt_long = vtable_long place size u ends c.put_vtable-slots.ensures.within in
-    let written = with_items_is c.args.builder.now.places c.lay_vtable.new.places
-    (omega (arith, c.lay_vtable.ensures.shared.each, c.requires.ready.laid.each, c.args.builder.now.places.ok.0)) in
-    rw (same, written, ← c.as_mut_slice-places.ensures.value) (elim laid [
+    rw same (elim laid [
       | inl old ↦ old_closed L a o n t start (max 4 (stored_align L fs zs)) place c.pad.result c.pad.new.self.bytes
-          closed keys before c.lay_vtable.new.places vt old at
+          closed keys before now.places vt old at
       | inr new ↦ new_closed L a o n t start (max 4 (stored_align L fs zs)) place c.pad.result c.pad.new.self.bytes
-          closed keys before c.lay_vtable.new.places vt new at (omega (arith, vt_long))
+          closed keys before now.places vt new at (omega (arith, vt_long))
           (read.first
           ∙ sym vt_long)
     ])
 
 pub returns-clause-builds : goal.returns-clause-builds
 returns-clause-builds c =
-    let places = with_items_is c.args.builder.now.places c.lay_vtable.new.places
-    (omega (arith, c.lay_vtable.ensures.shared.each, c.requires.ready.laid.each, c.args.builder.now.places.ok.0)) in
     let as_long : length c.put_vtable-slots.new.scratch ≡ length c.args.builder.now.scratch.items =
     c.put_vtable-slots.ensures.long ∙ ap length c.as_mut_slice-scratch.ensures.value in
     let scratch = with_items_is c.args.builder.now.scratch c.put_vtable-slots.new.scratch
@@ -360,8 +324,11 @@ returns-clause-builds c =
     let long : longest_vtable c.args.layout.now ≤ length c.put_vtable-slots.new.scratch =
     omega (arith, as_long, c.requires.ready.long) in
     record {
-      same = refl;
       grows = then_grows _ _ _ c.pad.ensures.grows c.lay_vtable.ensures.grows;
       bound = omega (arith, c.lay_vtable.ensures.most, c.pad.ensures.most);
-      ready = record { laid = rw places c.lay_vtable.ensures.shared; long = rw scratch long };
+      ready = record {
+        laid = c.lay_vtable.ensures.shared;
+        different = c.lay_vtable.ensures.different;
+        long = rw scratch long;
+      };
     }

@@ -1,13 +1,12 @@
 use Rattle.std.proofs.Common.{◌≤◌, ◌-◌, [], ◌∷◌, ap, refl, sym, subst, length, arith}
 use Rattle.fb_value.specs.Places.{vector_part}
 use Rattle.fb_value.proofs.tails.TailsAreKeptInFront.{through}
-use Rattle.fb_build.specs.Builders.{vtables_in}
 use Rattle.fb_build.specs.Drafted.{Drafted}
 use Rattle.fb_build.specs.Fields.{kind_seen}
 use Rattle.fb_build.specs.Items.{TargetsEnd}
 use Rattle.fb_build.specs.Pieces.{PartAt}
 use Rattle.fb_build.proofs.drafts.DraftsContinue.{same_lengthens}
-use Rattle.fb_build.proofs.drafts.PlacesMayBeAdded.{adds_same, kept_same}
+use Rattle.fb_build.proofs.drafts.MemoryMayGrow.{adds_same}
 use Rattle.fb_build.proofs.tail.WhatIsLaidStaysLaid.{grown_long}
 use Rattle.fb_build.proofs.vtables.VtableIsLaidOnce.{shared_grown}
 use Rattle.fb_build.proofs.drafts.Draft.lay_references.Goals as goal
@@ -19,7 +18,6 @@ returns-then-room-gt-MOST_BYTES-clause-continues c =
       layout = refl;
       lengthens = same_lengthens builder.tail builder.tail refl refl;
       bound = omega arith;
-      kept = kept_same (vtables_in builder);
     })
 
 pub close_references-requires-clause-targets : goal.close_references-requires-clause-targets
@@ -40,12 +38,11 @@ invariant_of-self-2 c =
     let laid = c.close_references.ensures in
     record {
       ready = record {
-        laid = shared_grown (vtables_in builder) builder.places.items grown out laid.grows
+        laid = shared_grown builder.vtables.vtables builder.vtables.places grown out laid.grows
             (rw c.grow.ensures.bytes inv.ready.laid);
+        different = inv.ready.different;
         long = inv.ready.long;
       };
-      different = inv.different;
-      many = inv.many;
       four = through 4 grown.most out.most (rw c.grow.ensures.most inv.four) laid.grows.multiple;
       bound = omega (arith, laid.bound, c.grow.ensures.most, inv.bound);
       within = λ small. omega (
@@ -66,7 +63,7 @@ returns-clause-lies c small = rw (← c.self.view_is) c.close_references.ensures
 pub returns-clause-adds : goal.returns-clause-adds
 returns-clause-adds c small =
     let builder = c.self.inside.builder in
-    let places = builder.places.items in
+    let places = builder.vtables.places in
     let L = c.self.inside.layout.now in
     let out = c.close_references.new.out in
     let x : PartAt = record {

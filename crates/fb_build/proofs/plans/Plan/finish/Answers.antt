@@ -1,4 +1,4 @@
-use Rattle.std.proofs.Common.{◌≡◌, ◌≤◌, ◌∙◌, ap, sym, subst, arith}
+use Rattle.std.proofs.Common.{◌≡◌, ◌≤◌, ◌∙◌, ap, refl, sym, subst, arith}
 use Rattle.fb_layout.specs.Laid.{LaidSchema}
 use Rattle.fb_value.specs.Datum.{Datum, a_table}
 use Rattle.fb_value.specs.Counts.{cells, depth}
@@ -35,10 +35,10 @@ pub returns-clause-old_slots : goal.returns-clause-old_slots
 returns-clause-old_slots c = subst (λ (L : LaidSchema). OnlyOld L c.fill.result.items)
     (ap (λ p. p.layout) c.self.view_is) c.fill.ensures.old_slots
 
-pub fill-requires-clause-vtables : goal.fill-requires-clause-vtables
-fill-requires-clause-vtables c =
-    let known = rw (c.in-Fields.is, view-Fields c.in-Fields.table c.in-Fields.entries) at c.self.invariant.known in
-    rw c.deref.ensures.value known
+pub fill-requires-clause-spare : goal.fill-requires-clause-spare
+fill-requires-clause-spare c =
+    let spare = rw (c.in-Fields.is, view-Fields c.in-Fields.table c.in-Fields.entries) at c.self.invariant.spare in
+    rw c.deref.ensures.value spare
 
 pub returns-clause-covered : goal.returns-clause-covered
 returns-clause-covered c = subst (λ (L : LaidSchema). Covered L c.fill.result.items) (ap (λ p. p.layout) c.self.view_is)
@@ -49,13 +49,16 @@ returns-clause-aligned c = subst (λ (L : LaidSchema). EndsAligned L c.fill.resu
     (ap (λ p. p.layout) c.self.view_is) c.fill.ensures.covered.1
 
 pub fill-requires-clause-ready : goal.fill-requires-clause-ready
-fill-requires-clause-ready c = record {
-  laid = record {
-    each = sym c.self.invariant.places;
-    stand = λ i vt is some. absurd (omega (arith, c.self.invariant.none_laid i, some));
-  };
-  long = c.self.invariant.scratch;
-}
+fill-requires-clause-ready c =
+    let none = c.self.invariant.none in
+    record {
+      laid = record {
+        each = rw (none, c.self.invariant.none_laid) refl;
+        stand = λ i vt is. let nothing = rw none at is in cc;
+      };
+      different = λ i j vt is there. let nothing = rw none at is in cc;
+      long = c.self.invariant.scratch;
+    }
 
 pub fill-requires-clause-fresh : goal.fill-requires-clause-fresh
 fill-requires-clause-fresh c =

@@ -11,13 +11,13 @@ pub table_fits_part : goal.lay_part-lay_table-requires
 table_fits_part t c =
     let es = c.in-Fields.entries in
     let fits = rw (c.in-Fields.is, view-Fields c.in-Fields.table es) at c.requires.fits in
-    let vtables = rw (c.in-Fields.is, view-Fields c.in-Fields.table es) at c.requires.vtables in
+    let spare = rw (c.in-Fields.is, view-Fields c.in-Fields.table es) at c.requires.spare in
     let whole = rw (c.in-Fields.is, view-Fields c.in-Fields.table es) at c.requires.whole in
     let room = rw (c.in-Fields.is, view-Fields c.in-Fields.table es) at c.requires.room in
     let pending = rw (c.in-Fields.is, view-Fields c.in-Fields.table es) at c.requires.pending in
     let is = c.deref.ensures.value in (
       search (rules, the_lemmas),
-      (rw is fits, (rw is whole, (rw is room, (rw is pending, (rw is vtables, c.requires.ready))))),
+      (rw is fits, (rw is whole, (rw is room, (rw is pending, (rw is spare, c.requires.ready))))),
     )
 
 pub member_adds_its_table : goal.lay_part-returns-in-Member-clause-adds

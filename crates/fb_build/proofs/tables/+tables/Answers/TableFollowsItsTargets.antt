@@ -48,7 +48,7 @@ targets_fit t c =
     let front = c.split_at_mut-ends.ensures.front_len in
     let back = c.split_at_mut-ends.ensures.back_len in
     let pending = c.requires.pending in
-    let below = c.requires.vtables.1 in
+    let below = omega (arith, c.requires.spare) in
     let ready = c.requires.ready in
     (search rules, (front, (rw seen known, (room, (omega (arith, many, count_is es, pending, back), (below, ready))))))
 
@@ -139,10 +139,10 @@ table_adds_its_parts t c =
     let reached = rw c.of-ghosts.ensures at c.close_table.ensures.leads in
     let grows = then_grows _ _ _ c.lay_fields-start.ensures.grows c.close_table.ensures.builds.grows in
     let whole = reached targets lead in
-    subst (λ (ps : List PartAt). Adds L c.args.builder.now.tail c.args.builder.now.places.items n
-    c.close_table.new.builder.places.items ps) (sym whole)
-    (adds_with L c.args.builder.now.tail o n c.args.builder.now.places.items c.lay_targets.new.builder.places.items
-    c.close_table.new.builder.places.items _
+    subst (λ (ps : List PartAt). Adds L c.args.builder.now.tail c.args.builder.now.vtables.places n
+    c.close_table.new.builder.vtables.places ps) (sym whole)
+    (adds_with L c.args.builder.now.tail o n c.args.builder.now.vtables.places c.lay_targets.new.builder.vtables.places
+    c.close_table.new.builder.vtables.places _
     (named_fields fs zs) targets c.lay_targets.ensures.builds.grows grows
     (slots_there L o fs zs targets known.known state)
     first (closed o front))

@@ -1,6 +1,7 @@
 -- What a table refers to is laid slot by slot.
-use Rattle.std.proofs.Common.{ℕ, ◌≡◌, ◌<◌, Option, List, get_or, Some, option_map, take, refl, subst}
+use Rattle.std.proofs.Common.{ℕ, ◌≡◌, ◌<◌, ◌≤◌, Option, List, get_or, Some, option_map, take, refl, subst}
 use Rattle.std.proofs.Common.{length, arith, rules}
+use Rattle.std.proofs.lemmas.List.{drop_all}
 use Rattle.fb_schema.specs.Seen.{field_seen}
 use Rattle.fb_layout.specs.Laid.{slot_of}
 use Rattle.fb_value.specs.View.{view}
@@ -17,7 +18,7 @@ use Rattle.fb_build.proofs.covered.PartsInFrontAreAdded.{adds_nothing}
 use Rattle.fb_build.proofs.tables.EndsNameTheParts.{take_whole}
 use Rattle.fb_build.proofs.tables.EachSlotAddsItsParts.{adds_step, field_at, fields_there, named_fields_long}
 use Rattle.fb_build.proofs.tables.EachSlotAddsItsParts.{number_named}
-use Rattle.fb_build.proofs.vtables.EachVtableIsAKey.{entry_known}
+use Rattle.fb_build.proofs.needs.NeedsAddUp.{tables_step}
 use Rattle.fb_build.proofs.tables.+tables.Goals as goal
 
 is_default : (es : List (Option Value)) (k : ℕ) (v : Option Value) → k < length es → v ≡ get_or es k v
@@ -32,11 +33,11 @@ part_fits_slot t c =
     let room = rw c.in-Some.is at c.requires.room in
     let pending = rw c.in-Some.is at c.requires.pending in
     let whole = rw c.in-Some.is at c.requires.whole in
-    let vtables = rw c.in-Some.is at c.requires.vtables in (
+    let spare = rw c.in-Some.is at c.requires.spare in (
       search (rules, the_lemmas),
       (
         part_fits L f.shape (view c.in-Some.value) c.requires.simple c.requires.low fits.1,
-        (whole, (room, (pending, (vtables, c.requires.ready)))),
+        (whole, (room, (pending, (spare, c.requires.ready)))),
       ),
     )
 
@@ -44,9 +45,10 @@ pub no_target_yet : goal.lay_targets-loop-k-init
 no_target_yet t c = record {
   each = c.requires.each;
   room_for = refl;
-  adds = adds_nothing c.args.layout.now c.args.builder.now.tail c.args.builder.now.places.items;
+  adds = adds_nothing c.args.layout.now c.args.builder.now.tail c.args.builder.now.vtables.places;
   state = λ j f x low a b. absurd (omega (arith, low));
   builds = builds_nothing _ _ c.requires.ready;
+  spare = omega arith;
   spent = omega arith;
 }
 
@@ -83,6 +85,7 @@ next_target_fits t c =
     let step = room_step L k c.args.slots.now es c.index-slots-k.result c.index-entries-k.result c.loop-k-test.true low
     c.index-slots-k.is (is_default es k c.index-entries-k.result low c.index-entries-k.is) in
     let one = needs_one es k c.index-entries-k.result low (is_default es k c.index-entries-k.result low c.index-entries-k.is) in
+    let more = tables_step es k c.index-entries-k.result low (is_default es k c.index-entries-k.result low c.index-entries-k.is) in
     let low2 = c.requires.fits.known.low k _ fk in (
       search (rules, the_lemmas),
       (
@@ -98,7 +101,7 @@ next_target_fits t c =
                 (
                   omega (arith, one, inv.room_for, c.requires.pending),
                   (
-                    rw inv.builds.same (entry_known L _ es k c.index-entries-k.result low c.index-entries-k.is c.requires.vtables),
+                    omega (arith, more, inv.spare, c.requires.spare),
                     inv.builds.ready,
                   ),
                 ),
@@ -137,8 +140,8 @@ next_target_laid t c =
           let xs = stored_seen L c.args.slots.now es in
           let ns = named_fields fs xs in
           adds_step L c.args.builder.now.tail c.loop-k.builder.tail c.lay_target.new.builder.tail
-          c.args.builder.now.places.items c.loop-k.builder.places.items
-          c.lay_target.new.builder.places.items k c.lay_target.result ns _ c.loop-k.ends inv.builds.grows
+          c.args.builder.now.vtables.places c.loop-k.builder.vtables.places
+          c.lay_target.new.builder.vtables.places k c.lay_target.result ns _ c.loop-k.ends inv.builds.grows
           now.builds.grows
           (field_at fs xs k _ _ fk yk) (omega (arith, inv.each, c.loop-k-test.true))
           (fields_there L c.loop-k.builder.tail k fs xs c.loop-k.ends c.requires.fits.known inv.state) inv.adds
@@ -149,6 +152,8 @@ next_target_laid t c =
           (omega (arith, inv.each, c.loop-k-test.true))
           fk yk (now.state _) inv.state;
       builds = builds_then L _ _ _ inv.builds now.builds;
+      spare = (let more = tables_step es k c.index-entries-k.result low (is_default es k c.index-entries-k.result low
+          c.index-entries-k.is) in omega (arith, inv.spare, now.spare, more));
       spent = omega (arith, inv.spent, now.spent, step);
     }
 
@@ -161,8 +166,8 @@ targets_add_their_parts t c =
     let long = named_fields_long fs xs in
     let all : take c.loop-k.k ns ≡ ns =
     take_whole c.loop-k.k ns (omega (arith, long, slots_long L c.args.slots.now, c.loop-k-test.false)) in
-    subst (λ (zs : List (Option NamedPart)). Adds L c.args.builder.now.tail c.args.builder.now.places.items
-    c.loop-k.builder.tail c.loop-k.builder.places.items
+    subst (λ (zs : List (Option NamedPart)). Adds L c.args.builder.now.tail c.args.builder.now.vtables.places
+    c.loop-k.builder.tail c.loop-k.builder.vtables.places
     (ends_parts L c.loop-k.builder.tail.bytes zs c.loop-k.ends)) all c.loop-k.invariant.adds
 
 pub number_adds_nothing : goal.lay_target-returns-in-Some-Number-clause-adds
@@ -173,4 +178,17 @@ number_adds_nothing t c code =
     let one : option_map view c.args.entry.now ≡ Some (a_number n) = search (rules, the_lemmas, view-Number) in
     let fits = rw one at c.requires.fits in
     rw (one, number_named L c.args.builder.now.tail.bytes f code n 0 fits.1)
-    (adds_nothing L c.args.builder.now.tail c.args.builder.now.places.items)
+    (adds_nothing L c.args.builder.now.tail c.args.builder.now.vtables.places)
+
+pub targets_spare : goal.lay_targets-returns-clause-spare
+targets_spare t c =
+    let es = c.args.entries.now in
+    let long : length es ≤ c.loop-k.k = omega (
+      arith,
+      c.loop-k-test.false,
+      slots_long c.args.layout.now c.args.slots.now,
+      entries_long es,
+      c.requires.fits.long,
+    ) in
+    let done = rw (drop_all c.loop-k.k es long) at c.loop-k.invariant.spare in
+    omega (arith, done)

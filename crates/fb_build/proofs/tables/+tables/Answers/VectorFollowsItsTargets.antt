@@ -19,7 +19,7 @@ use Rattle.fb_build.proofs.covered.PartsInFrontAreAdded.{adds_nothing}
 use Rattle.fb_build.proofs.tables.EndsNameTheParts.{take_whole}
 use Rattle.fb_build.proofs.tables.EachSlotAddsItsParts.{adds_step, items_there, item_at, same_named}
 use Rattle.fb_build.proofs.tables.EachSlotAddsItsParts.{targets_there, adds_with}
-use Rattle.fb_build.proofs.vtables.EachVtableIsAKey.{part_known}
+use Rattle.fb_build.proofs.needs.NeedsAddUp.{parts_tables_step}
 use Rattle.fb_build.proofs.tables.+tables.Goals as goal
 
 pub item_targets_fit : goal.lay_items-lay_item_targets-requires
@@ -40,7 +40,7 @@ item_targets_fit t c =
               omega (arith, c.requires.room),
               (
                 omega (arith, n, pending, c.split_at_mut-ends.ensures.back_len),
-                (c.requires.vtables, c.requires.ready),
+                (rw is at c.requires.spare, c.requires.ready),
               ),
             ),
           ),
@@ -70,9 +70,10 @@ pub no_item_yet : goal.lay_item_targets-loop-k-init
 no_item_yet t c = record {
   each = c.requires.each;
   room_for = refl;
-  adds = adds_nothing c.args.layout.now c.args.builder.now.tail c.args.builder.now.places.items;
+  adds = adds_nothing c.args.layout.now c.args.builder.now.tail c.args.builder.now.vtables.places;
   state = λ j d low a. absurd (omega (arith, low));
   builds = builds_nothing _ _ c.requires.ready;
+  spare = omega arith;
   spent = omega arith;
 }
 
@@ -89,6 +90,7 @@ next_item_fits t c =
     let simple = element_simple L kind c.requires.fits.0 in
     let fits = each_at L kind items k (view v) c.requires.fits.1 at in
     let step = item_room L kind items k v low c.index-items-k.is in
+    let more = parts_tables_step items k v low c.index-items-k.is in
     let one = needs_item items k (view v) at in (
       search (rules, the_lemmas),
       (
@@ -100,7 +102,7 @@ next_item_fits t c =
             (
               omega (arith, one, inv.room_for, c.requires.pending),
               (
-                rw inv.builds.same (part_known L _ items k v low c.index-items-k.is c.requires.vtables),
+                omega (arith, more, inv.spare, c.requires.spare),
                 inv.builds.ready,
               ),
             ),
@@ -135,8 +137,8 @@ next_item_laid t c =
           item_at kind (map view items) k (view v) at
           ∙ ap (λ (o : Option NamedPart). Some o) (sym (same_named L (one_of kind) (view v) simple fits)) in
           adds_step L c.args.builder.now.tail c.loop-k.builder.tail c.lay_part.new.builder.tail
-          c.args.builder.now.places.items c.loop-k.builder.places.items
-          c.lay_part.new.builder.places.items k c.lay_part.result xs (part_named (one_of kind) (view v))
+          c.args.builder.now.vtables.places c.loop-k.builder.vtables.places
+          c.lay_part.new.builder.vtables.places k c.lay_part.result xs (part_named (one_of kind) (view v))
           c.loop-k.ends inv.builds.grows
           now.builds.grows is (omega (arith, inv.each, low))
           (items_there L c.loop-k.builder.tail k kind (map view items) c.loop-k.ends inv.state) inv.adds now.adds);
@@ -144,6 +146,7 @@ next_item_laid t c =
           c.loop-k.ends
           (view v) now.builds.grows (omega (arith, inv.each, low)) at target inv.state;
       builds = builds_then L _ _ _ inv.builds now.builds;
+      spare = omega (arith, inv.spare, now.spare, parts_tables_step items k v low c.index-items-k.is);
       spent = omega (arith, inv.spent, now.spent, step);
     }
 
@@ -156,15 +159,15 @@ items_add_their_parts t c =
     let views : length (map view items) ≡ length items = length-map items view in
     let named : length xs ≡ length (map view items) = length-map (map view items) _ in
     let all : take c.loop-k.k xs ≡ xs = take_whole c.loop-k.k xs (omega (arith, views, named, c.loop-k-test.false)) in
-    subst (λ (zs : List (Option NamedPart)). Adds L c.args.builder.now.tail c.args.builder.now.places.items
-    c.loop-k.builder.tail c.loop-k.builder.places.items
+    subst (λ (zs : List (Option NamedPart)). Adds L c.args.builder.now.tail c.args.builder.now.vtables.places
+    c.loop-k.builder.tail c.loop-k.builder.vtables.places
     (ends_parts L c.loop-k.builder.tail.bytes zs c.loop-k.ends)) all c.loop-k.invariant.adds
 
 pub vector_adds_itself : goal.lay_items-returns-then-not-waits-clause-adds
 vector_adds_itself t c =
-    subst (λ (zs : List PartAt). Adds c.args.layout.now c.args.builder.now.tail c.args.builder.now.places.items
-    c.close_vector.new.out c.args.builder.now.places.items zs) (sym c.close_vector.ensures.leads)
-    (c.close_vector.ensures.adds c.args.builder.now.places.items)
+    subst (λ (zs : List PartAt). Adds c.args.layout.now c.args.builder.now.tail c.args.builder.now.vtables.places
+    c.close_vector.new.out c.args.builder.now.vtables.places zs) (sym c.close_vector.ensures.leads)
+    (c.close_vector.ensures.adds c.args.builder.now.vtables.places)
 
 pub vector_adds_its_parts : goal.lay_items-returns-clause-adds
 vector_adds_its_parts t c =
@@ -174,11 +177,11 @@ vector_adds_its_parts t c =
     let o = c.lay_item_targets.new.builder.tail in
     let n = c.close_references.new.out in
     let leads = rw c.of-ghosts.ensures at c.close_references.ensures.leads in
-    subst (λ (zs : List PartAt). Adds L c.args.builder.now.tail c.args.builder.now.places.items n
-    c.lay_item_targets.new.builder.places.items zs) (sym leads)
-    (adds_with L c.args.builder.now.tail o n c.args.builder.now.places.items
-    c.lay_item_targets.new.builder.places.items c.lay_item_targets.new.builder.places.items _
+    subst (λ (zs : List PartAt). Adds L c.args.builder.now.tail c.args.builder.now.vtables.places n
+    c.lay_item_targets.new.builder.vtables.places zs) (sym leads)
+    (adds_with L c.args.builder.now.tail o n c.args.builder.now.vtables.places
+    c.lay_item_targets.new.builder.vtables.places c.lay_item_targets.new.builder.vtables.places _
     (named_items kind (map view items)) c.lay_item_targets.new.ends c.lay_item_targets.ensures.builds.grows
     c.close_references.ensures.grows
     (targets_there L o kind (map view items) c.lay_item_targets.new.ends c.lay_item_targets.ensures.state)
-    c.lay_item_targets.ensures.adds (c.close_references.ensures.adds c.lay_item_targets.new.builder.places.items))
+    c.lay_item_targets.ensures.adds (c.close_references.ensures.adds c.lay_item_targets.new.builder.vtables.places))

@@ -1,0 +1,2 @@
+pub mod NeedsAddUp
+pub mod NeedsFitTheRoom
