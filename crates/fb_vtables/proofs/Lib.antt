@@ -1,0 +1,3 @@
+mod PartsThatStand
+mod FoundOnesAreEqual
+mod ChainsGrow
