@@ -1,5 +1,6 @@
 -- Vtables that are laid in a tail of a buffer, each with the end-count at which it stands.
--- From the FlatBuffers documentation, "FlatBuffer Internals": Tables. That equal vtables are one is what flatc does too.
+-- From the FlatBuffers documentation, "FlatBuffer Internals": Tables. That equal vtables are one is what flatc does
+-- too.
 use Rattle.std.specs.Prelude.{ℕ, ◌≡◌, ◌<◌, ◌++◌, true, List, length, Some, slice_get, slice_index}
 use Rattle.fb_value.specs.Num.{Bytes, num, divides}
 use Rattle.fb_vtables.specs.Ends.{StandsEnd}

@@ -48,7 +48,7 @@ impl Model for VtableIndex {
     ghost invariant = { IsIndex };
 }
 
-/// The digest of bytes.
+/// The digest of these bytes.
 #[tactic(auto, unfolding(crate::specs::Digests::digest_of))]
 fn digest(bytes: &[u8]) -> u64
     ensures { result ≡ digest_of bytes.now }
@@ -94,7 +94,7 @@ fn recent_with(known: &[LaidVtable], laid: &[u8], vtable: &[u8]) -> Option<usize
     None
 }
 
-/// Which vtable has these bytes, of the one at `first` less one and those that each other's `older` leads to from there.
+/// Which of the vtables of a chain has these bytes: the chain begins at `first` less one and goes on by `older`.
 fn chained_with(known: &[LaidVtable], laid: &[u8], vtable: &[u8], first: usize) -> Option<usize>
     ensures found { IfSome result (StandsAt known.now laid.now vtable.now) }
     ensures absent { result ≡ None → (i : ℕ) → Reaches known.now i first

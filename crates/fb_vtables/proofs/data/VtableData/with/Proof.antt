@@ -52,8 +52,10 @@ with_spec 𝓤 𝓛 𝓜 𝓡 wired =
     (qed 𝓛 (raw (alive 𝓛 f.signature κs qs) ∷ ‵ (owns (types_at f.signature.params κs) a (before ∷ [], (more, tt)))
     ∷ []) ∵
     enter ! 𝓣.C 𝓣.Λ code.function (before ∷ more) _ $
-    alloc_all ! (λ l. pass_all ! refl ((tt, tt),
-    (((shr_slice_Lawful 𝓛 (named 1) κs.1.0 byte).typed a.1.0 more are.1.0).0, tt)) $
+    alloc_all ! (λ l. pass_all ! refl (
+      (tt, tt),
+      (((shr_slice_Lawful 𝓛 (named 1) κs.1.0 byte).typed a.1.0 more are.1.0).0, tt),
+    ) $
     sets ! (agg ! (no_more !)) refl (tt, tt) $
     returns ! (look_at ! 0 refl) $ free_all ! refl $
     suffices ! _ (ends_at 𝓛 f.ended stayed c y (vstruct vnil) new (tt, (tt, tt)) (tt, (tt, tt))) $

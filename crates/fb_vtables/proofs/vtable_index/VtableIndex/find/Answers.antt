@@ -1,5 +1,5 @@
 use Rattle.std.proofs.Common.{◌≡◌, ◌∙◌, arith}
-use Rattle.fb_vtables.proofs.FoundOnesAreEqual.{is_known, place_of, read_is, stands_known, under}
+use Rattle.fb_vtables.proofs.vtable_index.FoundVtableIsKnown.{is_known, place_of, read_is, stands_known, under}
 use Rattle.fb_vtables.proofs.vtable_index.VtableIndex.find.Goals as goal
 
 pub returns-clause-found : goal.returns-clause-found

@@ -3,7 +3,7 @@ use Rattle.indexmap.specs.IndexMap.{get}
 use Rattle.fb_vtables.specs.declared.vtable_index.LaidVtable.{LaidVtable}
 use Rattle.fb_vtables.specs.Chains.{first_of}
 use Rattle.fb_vtables.specs.Digests.{digest_of}
-use Rattle.fb_vtables.proofs.ChainsGrow.{within_more, reached_more}
+use Rattle.fb_vtables.proofs.vtable_index.ReachedVtablesStayReached.{within_more, reached_more}
 use Rattle.fb_vtables.proofs.vtable_index.VtableIndex.push_reserved.Goals as goal
 
 pub invariant_of-self : goal.invariant_of-self
@@ -21,8 +21,12 @@ invariant_of-self c =
     let known = length-append x.seen.vtables (c.args.vtable.now ∷ []) in
     record {
       each = rw (c.push.ensures, c.push_reserved.ensures.items) (omega (arith, longer, known, c.self.invariant.each));
-      count = rw c.push_reserved.ensures.items (omega (arith, longer, c.push_reserved.ensures.len,
-          c.self.invariant.count));
+      count = rw c.push_reserved.ensures.items (omega (
+        arith,
+        longer,
+        c.push_reserved.ensures.len,
+        c.self.invariant.count,
+      ));
       within = rw c.push_reserved.ensures.items (within_more x.laid.items x.seen.vtables c.args.vtable.now y old new
           older c.self.invariant.within update);
       reached = rw (c.push.ensures, c.push_reserved.ensures.items) (reached_more x.laid.items x.seen.vtables

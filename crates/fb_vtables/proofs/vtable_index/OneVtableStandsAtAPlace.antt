@@ -35,10 +35,11 @@ pub compared : (s : Bytes) (e : ℕ) (xs : Bytes) (r : Bool) (n : ℕ) → e ≤
     → r ≡ bytes_eq (take n (drop (length s - e) s)) xs
     → (r ≡ true → StandsEnd s e xs) × (StandsEnd s e xs → r ≡ true)
 compared s e xs r n within long compare =
-    let decides = bytes_eq-Decides (take n (drop (length s - e) s)) xs in
-    ((λ is. part_stands s e xs within (rw long at (decides.0 (sym compare ∙ is)))),
-    (λ h. compare ∙ decides.1 (rw long (ap (λ b. take (length xs) b) (from_place s e xs h)
-    ∙ take-append_seam xs h.behind))))
+    let decides = bytes_eq-Decides (take n (drop (length s - e) s)) xs in (
+      (λ is. part_stands s e xs within (rw long at (decides.0 (sym compare ∙ is)))),
+      (λ h. compare ∙ decides.1 (rw long (ap (λ b. take (length xs) b) (from_place s e xs h)
+          ∙ take-append_seam xs h.behind))),
+    )
 
 -- nothing stands in a tail that is too short for it
 pub too_short : (s : Bytes) (e : ℕ) (xs : Bytes) → StandsEnd s e xs → length xs ≤ e

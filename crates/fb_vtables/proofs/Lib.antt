@@ -1,3 +1,0 @@
-mod PartsThatStand
-mod FoundOnesAreEqual
-mod ChainsGrow
