@@ -1,0 +1,3 @@
+mod OneVtableStandsAtAPlace
+mod FoundVtableIsKnown
+mod ReachedVtablesStayReached

@@ -1,0 +1,5 @@
+pub mod Ends
+pub mod Vtables
+pub mod Digests
+pub mod Chains
+pub mod IsIndex
