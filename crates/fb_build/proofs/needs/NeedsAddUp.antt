@@ -49,7 +49,7 @@ tables_next : (es : List (Option Value)) (k : ℕ) (v : Option Value) → k < le
     → entries_tables (entries_view (drop k es))
     ≡ entry_tables (option_map view v) + entries_tables (entries_view (drop (suc k) es))
 tables_next [] k v low is = absurd (omega (arith, low))
-tables_next (None ∷ es) zero v low is = rw is refl
+tables_next (None ∷ es) zero v low is = rw is (omega arith)
 tables_next (Some w ∷ es) zero v low is = rw is refl
 tables_next (e ∷ es) (suc k) v low is = tables_next es k v (omega (arith, low)) is
 
@@ -141,6 +141,16 @@ all_inline : (L : LaidSchema) (kind : StoredKind) (ds : Parts)
 all_inline L kind no_parts inline h = refl
 all_inline L kind (more_parts d ds) inline h =
     let own = inline d h.0 in let rest = all_inline L kind ds inline h.1 in omega (arith, own, rest)
+
+no_table_first : (L : LaidSchema) (k : ℕ) (d : Datum) (ds : Parts)
+    → Fits L (one_of (table_kind k)) d → first_waits (more_parts d ds) ≡ false → ⊥
+no_table_first L k (a_table t es) ds h none = cc
+no_table_first L k (a_number n) ds h none = h
+no_table_first L k (a_text b) ds h none = h
+no_table_first L k (a_vector xs) ds h none = h
+no_table_first L k (a_struct xs) ds h none = h
+no_table_first L k (a_member c d) ds h none = h
+no_table_first L k (an_unknown c) ds h none = h
 
 no_text_first : (L : LaidSchema) (d : Datum) (ds : Parts) → Fits L (one_of text_kind) d
     → first_waits (more_parts d ds) ≡ false → ⊥

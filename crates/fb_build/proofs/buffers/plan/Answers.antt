@@ -1,4 +1,7 @@
 use Rattle.std.proofs.Common.{◌≡◌, ◌≤◌, ◌+◌, ◌*◌, ◌∙◌, ap, refl, length, map, Option, Vec, Global, arith}
+use Rattle.std.proofs.Common.{Result, Ok, Err, IfErr}
+use Rattle.fb_build.specs.declared.faults.BuildFault.{BuildFault}
+use Rattle.fb_build.specs.declared.faults.BuildFault.TheVariants.{Memory}
 use Rattle.fb_schema.specs.declared.kinds.TypeId.{TypeId}
 use Rattle.fb_layout.specs.Laid.{LaidSchema, one_of, slots_of, table_kind}
 use Rattle.fb_value.specs.declared.values.Value.{Value, Fields}
@@ -19,15 +22,20 @@ root_room : (L : LaidSchema) (value : Value) (table : TypeId) (v : Vec (Option V
     ≡ room L (one_of (table_kind L.schema.root)) (view value)
 root_room L value table v is = rw (is, view-Fields table v) refl
 
-pub table_needs-requires-clause-fits : goal.table_needs-requires-clause-fits
-table_needs-requires-clause-fits c =
+-- which fault a result has or hasn't
+told : {A : Type 0} (r : Result A BuildFault) (P : Type 0) → P → IfErr r (λ e. e ≡ Memory → P)
+told (Ok x) P p = tt
+told (Err e) P p = λ same. p
+
+pub table_needs-needs-requires-clause-fits : goal.table_needs-needs-requires-clause-fits
+table_needs-needs-requires-clause-fits c =
     let L = c.args.layout.now in
     let fits = (root_fits L _ c.schema-schema.ensures.made).0 c.requires.fits in
     let own = rw (c.in-Fields.is, view-Fields c.in-Fields.table c.in-Fields.entries) at fits in
     rw (c.deref.ensures.value, own.0) own.1
 
-pub table_needs-requires-clause-whole : goal.table_needs-requires-clause-whole
-table_needs-requires-clause-whole c =
+pub table_needs-needs-requires-clause-whole : goal.table_needs-needs-requires-clause-whole
+table_needs-needs-requires-clause-whole c =
     let whole = rw (c.in-Fields.is, view-Fields c.in-Fields.table c.in-Fields.entries) at c.requires.whole in
     rw c.deref.ensures.value whole
 
@@ -73,8 +81,32 @@ returns-clause-small c =
     let own = root_room c.args.layout.now c.args.value.now c.in-Fields.table c.in-Fields.entries c.in-Fields.is in
     (c.in-Some.ensures _ (sized ∙ ap at_most_usize own)).0
 
-pub returns-in_default-clause-too_big : goal.returns-in_default-clause-too_big
-returns-in_default-clause-too_big c same =
+pub returns-in_default-buffer_room-clause-too_big : goal.returns-in_default-buffer_room-clause-too_big
+returns-in_default-buffer_room-clause-too_big c same =
     let sized = rw c.deref.ensures.value at c.table_needs-needs.ensures.room in
     let own = root_room c.args.layout.now c.args.value.now c.in-Fields.table c.in-Fields.entries c.in-Fields.is in
-    let over = c.in_default.ensures _ (sized ∙ ap at_most_usize own) in omega (arith, over)
+    let over = c.in_default-buffer_room.ensures _ (sized ∙ ap at_most_usize own) in omega (arith, over)
+
+pub returns-in_err-block-clause-memory : goal.returns-in_err-block-clause-memory
+returns-in_err-block-clause-memory c =
+    let sized = rw c.deref.ensures.value at c.table_needs-needs.ensures.room in
+    let own = root_room c.args.layout.now c.args.value.now c.in-Fields.table c.in-Fields.entries c.in-Fields.is in
+    told _ _ (c.in-Some.ensures _ (sized ∙ ap at_most_usize own)).0
+
+pub returns-in_err-pending-clause-memory : goal.returns-in_err-pending-clause-memory
+returns-in_err-pending-clause-memory c =
+    let sized = rw c.deref.ensures.value at c.table_needs-needs.ensures.room in
+    let own = root_room c.args.layout.now c.args.value.now c.in-Fields.table c.in-Fields.entries c.in-Fields.is in
+    told _ _ (c.in-Some.ensures _ (sized ∙ ap at_most_usize own)).0
+
+pub returns-in_err-scratch-clause-memory : goal.returns-in_err-scratch-clause-memory
+returns-in_err-scratch-clause-memory c =
+    let sized = rw c.deref.ensures.value at c.table_needs-needs.ensures.room in
+    let own = root_room c.args.layout.now c.args.value.now c.in-Fields.table c.in-Fields.entries c.in-Fields.is in
+    told _ _ (c.in-Some.ensures _ (sized ∙ ap at_most_usize own)).0
+
+pub returns-in_err-reserve-clause-memory : goal.returns-in_err-reserve-clause-memory
+returns-in_err-reserve-clause-memory c =
+    let sized = rw c.deref.ensures.value at c.table_needs-needs.ensures.room in
+    let own = root_room c.args.layout.now c.args.value.now c.in-Fields.table c.in-Fields.entries c.in-Fields.is in
+    told _ _ (c.in-Some.ensures _ (sized ∙ ap at_most_usize own)).0

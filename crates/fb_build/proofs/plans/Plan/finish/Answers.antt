@@ -9,6 +9,11 @@ use Rattle.fb_value.proofs.types.EachVariantHasItsView.{view-Fields}
 use Rattle.fb_build.specs.Covered.{Covered, EndsAligned}
 use Rattle.fb_build.proofs.plans.Plan.finish.Goals as goal
 
+pub fill-requires-clause-fits : goal.fill-requires-clause-fits
+fill-requires-clause-fits c =
+    let own = rw (c.in-Fields.is, view-Fields c.in-Fields.table c.in-Fields.entries) at c.self.invariant.fits in
+    rw (c.deref.ensures.value, own.0) own.1
+
 pub fill-requires-clause-pending : goal.fill-requires-clause-pending
 fill-requires-clause-pending c =
     let pending = rw (c.in-Fields.is, view-Fields c.in-Fields.table c.in-Fields.entries) at c.self.invariant.pending in

@@ -8,6 +8,7 @@ use Rattle.fb_build.specs.Fields.{stored_in, slots_seen, entries_seen}
 use Rattle.fb_build.proofs.tail.WhatIsLaidStaysLaid.{then_grows}
 use Rattle.fb_build.proofs.tables.TableFitsItsRoom.{table_fits_room, fields_narrow}
 use Rattle.fb_build.proofs.tables.PartsFitTheirSlots.{known_of, slots_are, slots_many, count_is}
+use Rattle.fb_build.specs.Needs.{entries_tables}
 use Rattle.fb_build.specs.Pieces.{PartAt}
 use Rattle.fb_build.specs.Made.{Adds, named_fields}
 use Rattle.fb_build.proofs.tables.EachSlotAddsItsParts.{slots_there, adds_with}
@@ -48,9 +49,9 @@ targets_fit t c =
     let front = c.split_at_mut-ends.ensures.front_len in
     let back = c.split_at_mut-ends.ensures.back_len in
     let pending = c.requires.pending in
-    let below = omega (arith, c.requires.spare) in
+    let spare : entries_tables (entries_view es) ≤ c.args.builder.now.vtables.spare = omega (arith, c.requires.spare) in
     let ready = c.requires.ready in
-    (search rules, (front, (rw seen known, (room, (omega (arith, many, count_is es, pending, back), (below, ready))))))
+    (search rules, (front, (rw seen known, (room, (omega (arith, many, count_is es, pending, back), (spare, ready))))))
 
 pub entries_are_slots : goal.lay_table-lay_fields-start-requires-clause-long
 entries_are_slots t c =
