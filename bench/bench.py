@@ -1,10 +1,12 @@
 #!/usr/bin/env python3
 """Times the built program on generated documents, beside Google's flatc where that is installed.
 
-usage: bench/bench.py PROGRAM [--only WORD] [--rounds N] [--keep FOLDER] [--flatc PATH]
+usage: bench/bench.py PROGRAM [--only WORD] [--rounds N] [--keep FOLDER] [--flatc PATH] [--parse PROGRAM]
 
 Prints tables in Markdown: user time, wall time and peak memory of each program, the least of all rounds, in which the
-programs take turns, and the ratio of the first to the second. `--keep` leaves the documents in a folder.
+programs take turns, and the ratio of the first to the second. `--keep` leaves the documents in a folder. Where the
+program json_parse is built (by `tools/build.py json_parse`; `--parse` names another), the peak memory of parsing a JSON
+text alone is printed as well, and how many times that the way to a buffer takes.
 """
 import argparse
 import contextlib
@@ -21,6 +23,7 @@ import tempfile
 import time
 
 ROOT = os.path.dirname(os.path.dirname(os.path.abspath(__file__)))
+PARSER = f"{ROOT}/crates/json_parse/out/json_parse"
 # Both programs nest this many tables.
 LEVELS = 60
 
@@ -225,7 +228,7 @@ def write_documents(folder, only):
     return found
 
 
-def bench(program, other, rounds, documents):
+def bench(program, other, parser, rounds, documents):
     programs = ["flatc here"] + (["Google's"] if other else [])
     to_buffer, to_json, check = [], [], []
     for name, at in documents:
@@ -233,14 +236,23 @@ def bench(program, other, rounds, documents):
         commands = [[program, "binary", schema, text, buffer]]
         if other:
             commands.append([other, "-b", "-o", out, schema, text])
-        to_buffer.append(row(name, os.path.getsize(text), take_turns(commands, rounds, at)))
+        if parser:
+            commands.append([parser, text])
+        runs = take_turns(commands, rounds, at)
+        cells = row(name, os.path.getsize(text), runs[: len(programs)])
+        for parsing in runs[len(programs) :]:
+            cells += [f"{parsing.memory:.0f}", ratio(runs[0].memory, parsing.memory)]
+        to_buffer.append(cells)
         size = os.path.getsize(buffer)
         commands = [[program, "json", "--raw-binary", schema, buffer]]
         if other:
             commands.append([other, "-t", "--strict-json", "--raw-binary", "-o", out, schema, "--", buffer])
         to_json.append(row(name, size, take_turns(commands, rounds, at)))
         check.append(row(name, size, take_turns([[program, "check", "--raw-binary", schema, buffer]], rounds, at)))
-    show(head("JSON to buffer", programs) + to_buffer)
+    titles, dashes = head("JSON to buffer", programs)
+    if parser:
+        titles, dashes = [*titles, "parsing alone peak MB", "ratio"], [*dashes, "---:", "---:"]
+    show([titles, dashes, *to_buffer])
     show(head("buffer to JSON", programs) + to_json)
     show(head("check", programs[:1]) + check)
 
@@ -252,6 +264,7 @@ def main():
     parser.add_argument("--rounds", type=int, default=5)
     parser.add_argument("--keep")
     parser.add_argument("--flatc", default=shutil.which("flatc"))
+    parser.add_argument("--parse", default=PARSER if os.path.exists(PARSER) else None)
     words = parser.parse_args()
     with contextlib.ExitStack() as stack:
         folder = words.keep or stack.enter_context(tempfile.TemporaryDirectory())
@@ -261,7 +274,7 @@ def main():
             version = subprocess.run([words.flatc, "--version"], capture_output=True, text=True, check=True)
             print(f", beside {version.stdout.strip()}", end="")
         print(". The least of", words.rounds, "rounds.\n")
-        bench(words.program, words.flatc, words.rounds, documents)
+        bench(words.program, words.flatc, words.parse, words.rounds, documents)
 
 
 if __name__ == "__main__":

@@ -1,5 +1,5 @@
 //! JSON texts made buffers under a layout.
-ghost use Rattle.std.specs.Prelude.{◌≡◌, ◌⊎◌, IfOk, IfErr};
+ghost use Rattle.std.specs.Prelude.{◌≡◌, ◌⊎◌, ℕ, List, IfOk, IfErr};
 ghost use Rattle.serde_json.specs.Data.{Data};
 ghost use Rattle.serde_json.specs.View.{view as tree_view};
 ghost use Rattle.flatc_tool.specs.Encodes.{encode_fault};
@@ -37,6 +37,29 @@ fn refused(fault: EncodeFault) -> ToolFault
     }
 }
 
+/// The buffer of a JSON text's tree.
+fn buffer_of(
+    alloc: Global,
+    layout: &Layout,
+    tree: Json,
+    options: &EncodeOptions,
+    expected: usize,
+) -> Result<Vec<u8>, ToolFault>
+    ensures binary { (json : List ℕ) → IsTree json (tree_view tree) → IfOk result
+        (λ b. IsBinaryOf layout.now json options.now.limits options.now.unknown_json b.items) }
+    ensures refused { (json : List ℕ) → IsTree json (tree_view tree) → IfErr result
+        (BinaryRefusedOf layout.now json options.now.limits options.now.unknown_json) }
+    ensures exact { (json : List ℕ) → IsTree json (tree_view tree) → IfErr result (λ f. IsNotMemory f
+        → ¬ MayBeBinaryOf layout.now json options.now.limits options.now.unknown_json) }
+{
+    layer_laws();
+    let (limits, unknown) = (options.limits, options.unknown_json);
+    match encode_tree(alloc, layout, tree, limits, unknown, expected) {
+        Ok(bytes) => Ok(bytes),
+        Err(fault) => Err(refused(fault)),
+    }
+}
+
 /// The buffer of a JSON text under a layout, which may be kept for any number of texts.
 ///
 /// The JSON text is checked first, then the value that it means, then that value's size; the error
@@ -55,14 +78,34 @@ pub fn encode(
     ensures exact { IfErr result (λ f. IsNotMemory f
         → ¬ MayBeBinaryOf layout.now json.now options.now.limits options.now.unknown_json) }
 {
-    layer_laws();
-    let tree = match tree_of(alloc, json) {
-        Ok(tree) => tree,
-        Err(fault) => return Err(fault),
-    };
-    let (limits, unknown) = (options.limits, options.unknown_json);
-    match encode_tree(alloc, layout, tree, limits, unknown, json.len()) {
-        Ok(bytes) => Ok(bytes),
-        Err(fault) => Err(refused(fault)),
+    match tree_of(alloc, json) {
+        Ok(tree) => buffer_of(alloc, layout, tree, options, json.len()),
+        Err(fault) => Err(fault),
+    }
+}
+
+/// The buffer of a JSON text that is given away, under a layout.
+///
+/// The text is dropped before the buffer is laid, so that there is memory for one of them at a time.
+/// The errors are those of `encode`, in the same order.
+pub fn encode_owned(
+    alloc: Global,
+    layout: &Layout,
+    json: Vec<u8>,
+    options: &EncodeOptions,
+) -> Result<Vec<u8>, ToolFault>
+    ensures binary { IfOk result
+        (λ b. IsBinaryOf layout.now json.items options.now.limits options.now.unknown_json b.items) }
+    ensures refused { IfErr result
+        (BinaryRefusedOf layout.now json.items options.now.limits options.now.unknown_json) }
+    ensures exact { IfErr result (λ f. IsNotMemory f
+        → ¬ MayBeBinaryOf layout.now json.items options.now.limits options.now.unknown_json) }
+{
+    let tree = tree_of(alloc, json.as_slice());
+    let expected = json.len();
+    drop(json);
+    match tree {
+        Ok(tree) => buffer_of(alloc, layout, tree, options, expected),
+        Err(fault) => Err(fault),
     }
 }

@@ -2,7 +2,7 @@
 ghost use Rattle.std.specs.Prelude.{IfOk, IfErr};
 ghost use Rattle.flatc_tool.specs.Jobs.{IsBinary, MayBeBinary, BinaryRefused, IsNotMemory};
 
-use crate::buffers::encode;
+use crate::buffers::{encode, encode_owned};
 use crate::faults::ToolFault;
 use crate::laws::layer_laws;
 use crate::options::EncodeOptions;
@@ -37,4 +37,32 @@ pub fn to_binary(
         unknown_json: unknown,
     };
     encode(alloc, &layout, json, &options)
+}
+
+/// The buffer of a JSON text that is given away, under a schema text.
+///
+/// The JSON text is dropped before the buffer is laid, as `encode_owned` does it. The errors are those
+/// of `to_binary`, in the same order.
+pub fn to_binary_owned(
+    alloc: Global,
+    schema: &[u8],
+    json: Vec<u8>,
+    limits: Limits,
+    unknown: bool,
+) -> Result<Vec<u8>, ToolFault>
+    ensures binary { IfOk result (λ b. IsBinary schema.now json.items limits unknown b.items) }
+    ensures refused { IfErr result (BinaryRefused schema.now json.items limits unknown) }
+    ensures exact { IfErr result
+        (λ f. IsNotMemory f → ¬ MayBeBinary schema.now json.items limits unknown) }
+{
+    layer_laws();
+    let layout = match schema_of(alloc, schema) {
+        Ok(layout) => layout,
+        Err(fault) => return Err(ToolFault::Schema(fault)),
+    };
+    let options = EncodeOptions {
+        limits,
+        unknown_json: unknown,
+    };
+    encode_owned(alloc, &layout, json, &options)
 }

@@ -14,7 +14,7 @@ mod options;
 mod prints;
 mod schema_layouts;
 
-pub use buffers::encode;
+pub use buffers::{encode, encode_owned};
 pub use checks::check;
 pub use evolution::conform_texts;
 pub use faults::ToolFault;
@@ -31,7 +31,7 @@ pub use fb_value::{Limits, ReadFault, Value};
 pub use headline::{
     chains_carry, chains_conform, json_is_carried, old_programs_read, others_are_refused,
 };
-pub use jobs::to_binary;
+pub use jobs::{to_binary, to_binary_owned};
 pub use json_texts::{decode, decode_to};
 pub use options::{DecodeOptions, EncodeOptions};
 pub use prints::{print_to, to_json};
