@@ -1,5 +1,4 @@
 pub mod AlignmentsDouble
-pub mod FieldsArePlacedInOrder
 pub mod LaidFieldsTakeTheirSizes
 pub mod ListsJoin
 pub mod NextFieldIsNamed

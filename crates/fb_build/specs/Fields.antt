@@ -214,6 +214,10 @@ pub record HasDefault (f : Slot) : Type 0 where
   pub base : Base
   pub scalar : f.shape ≡ one_of (scalar_kind base)
 
+-- Each slot's shape is one that a field has.
+abbrev pub AreSimple : LaidSchema → List Slot → Type 0
+AreSimple L fs = (k : ℕ) (f : Slot) → slice_get fs k ≡ Some f → IsSimple L f.shape
+
 -- What each slot stores fits, and is aligned to the greatest alignment at most.
 pub record AreKnown (L : LaidSchema) (fs : List Slot) (xs : List (Option Datum)) : Type 0 where
   pub long : length fs ≡ length xs

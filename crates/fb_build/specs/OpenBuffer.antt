@@ -29,4 +29,3 @@ pub record IsOpen (b : Inside) : Type 0 where
       b.elements.elements b.element_ends.items
   pub held : length b.entries.items ≡ length b.data.entries
   pub stand : EachEntryStands (root_slots b.draft.layout) b.data.entries (entries_seen b.entries.items)
-  pub held_fit : EachEntryFits b.draft.layout (root_slots b.draft.layout) (entries_seen b.entries.items)

@@ -1,7 +1,9 @@
 //! A buffer that is laid while its value comes in.
-ghost use Rattle.std.specs.Prelude.{◌≡◌, ◌≤◌, ◌<◌, Bool, [], Some, OnErr, OnOk, IfErr, IfOk, length, option_map, slice_get};
+ghost use Rattle.std.specs.Prelude.{ℕ, ◌≡◌, ◌≤◌, ◌<◌, Bool, [], Some, length, option_map, slice_get};
+ghost use Rattle.std.specs.Prelude.{OnErr, OnOk, IfErr, IfOk};
 ghost use Rattle.fb_value.specs.Bounds.{Bounds};
 ghost use Rattle.fb_value.specs.Counts.{cells, depth};
+ghost use Rattle.fb_value.specs.Datum.{SlotEntries, a_table, no_entries};
 ghost use Rattle.fb_value.specs.Holds.{Holds};
 ghost use Rattle.fb_value.specs.OldSlots.{OnlyOld};
 ghost use Rattle.fb_value.specs.Room.{room_of};
@@ -10,7 +12,6 @@ ghost use Rattle.fb_build.specs.declared.faults.BuildFault.TheVariants.{TooBig, 
 ghost use Rattle.fb_layout.specs.Laid.{LaidSchema, Slot, slot_of};
 ghost use Rattle.fb_value.specs.Entries.{EntryFits};
 ghost use Rattle.fb_build.specs.StandIns.{EntryStands};
-ghost use Rattle.fb_build.specs.Parts.{EntryWhole};
 ghost use Rattle.fb_schema.specs.Seen.{field_seen};
 ghost use Rattle.fb_value.specs.View.{view};
 ghost use Rattle.fb_build.specs.BuiltSoFar.{AwaitsVector, FitsNext, FitsVector, root_slots, root_value};
@@ -25,16 +26,17 @@ use fb_schema::{FieldInfo, Shape};
 use fb_value::Value;
 use std::alloc::{AllocError, Global};
 use std::marker::Model;
+use std::mem;
 
 /// Builds a buffer while its value comes in: the entries of the root's table one by one, and the elements of a vector
-/// of texts or tables one by one. What lies outside of the root's table is laid at once, so that no vector's elements
-/// stay in memory; any other entry does until the table is laid. The buffer's memory grows with what is laid.
+/// of texts or tables one by one. What lies outside of the root's table is laid at once, so that no vector and no table
+/// stays in memory; any other entry does until the root's table is laid. The buffer's memory grows with what is laid.
 #[derive(Drop)]
 pub struct BufferBuilder<'l> {
     alloc: Global,
     layout: &'l Layout,
     draft: Draft<'l>,
-    // what stands in for each entry so far: of a vector, which is laid apart, only that it is there
+    // what stands in for each entry so far: of a vector and of a table, which are laid apart, only that it is there
     entries: Vec<Option<Value>>,
     ends: Vec<u32>,
     data: EntryData,
@@ -60,20 +62,53 @@ impl<'l> Model for BufferBuilder<'l> {
     ghost invariant = { IsOpen };
 }
 
-/// What stands in for an entry whose part is laid: of a vector only that it is there.
+/// Leaves of a table only which one it is.
+fn empty_table(alloc: Global, value: &mut Value)
+    ensures { (t : ℕ) (es : SlotEntries) → view value.old ≡ a_table t es → view value.new ≡ a_table t no_entries }
+{
+    if let Value::Fields(table, _) = value {
+        let table = *table;
+        drop_value(mem::replace(value, Value::Fields(table, Vec::new(alloc))));
+    }
+}
+
+/// Leaves of a union's member only which table it is.
+fn empty_member(alloc: Global, member: Box<Value>) -> Box<Value>
+    ensures { (t : ℕ) (es : SlotEntries) → view member.value ≡ a_table t es
+        → view result.value ≡ a_table t no_entries }
+{
+    let mut member = member;
+    empty_table(alloc, &mut member);
+    member
+}
+
+/// What stands in for a value whose part is laid: of a vector and of a table only that it is there.
+fn emptied(alloc: Global, value: Value) -> Value
+    ensures { (L : LaidSchema) (f : Slot) → EntryFits L f (Some (view value))
+        → EntryStands f (Some (view value)) (Some (view result)) }
+{
+    match value {
+        Value::Items(items) => {
+            drop_value(Value::Items(items));
+            Value::Items(Vec::new(alloc))
+        }
+        Value::Fields(table, entries) => {
+            drop_value(Value::Fields(table, entries));
+            Value::Fields(table, Vec::new(alloc))
+        }
+        Value::Member(code, member) => Value::Member(code, empty_member(alloc, member)),
+        value => value,
+    }
+}
+
+/// What stands in for an entry whose part is laid.
 fn stand_in(alloc: Global, entry: Option<Value>) -> Option<Value>
-    ensures stands { (L : LaidSchema) (f : Slot) → EntryFits L f (option_map view entry)
+    ensures { (L : LaidSchema) (f : Slot) → EntryFits L f (option_map view entry)
         → EntryStands f (option_map view entry) (option_map view result) }
-    ensures fits { (L : LaidSchema) (f : Slot) → EntryFits L f (option_map view entry)
-        → EntryFits L f (option_map view result) }
-    ensures whole { EntryWhole (option_map view entry) → EntryWhole (option_map view result) }
 {
     match entry {
-        Some(Value::Items(items)) => {
-            drop_value(Value::Items(items));
-            Some(Value::Items(Vec::new(alloc)))
-        }
-        entry => entry,
+        Some(value) => Some(emptied(alloc, value)),
+        None => None,
     }
 }
 

@@ -219,9 +219,7 @@ impl<'l> Draft<'l> {
         requires fits { EntriesFit self.layout (slots_of self.layout self.layout.schema.root)
             (entries_in data.now.entries) }
         requires whole { entries_whole (entries_in data.now.entries) ≡ true }
-        requires held_fits { EntriesFit self.layout
-            (slots_of self.layout self.layout.schema.root) (entries_view entries.now) }
-        requires held_whole { entries_whole (entries_view entries.now) ≡ true }
+        requires held { length entries.now ≡ length data.now.entries }
         requires stands { AllStandIn (slots_of self.layout self.layout.schema.root)
             (stored_in (slots_of self.layout self.layout.schema.root) (entries_seen entries.now))
             (stored_in (slots_of self.layout self.layout.schema.root) data.now.entries) }

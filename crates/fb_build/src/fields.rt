@@ -173,8 +173,8 @@ fn lay_field(
     end: u32,
 ) -> u32
     requires simple { IsSimple layout.now (shape_seen layout.now slot.now.shape) }
-    requires fits { StoredFits layout.now (slot_seen layout.now slot.now)
-        (entry_stored layout.now slot.now code entry.now) }
+    requires fits { is_reference (shape_seen layout.now slot.now.shape) ≡ false
+        → StoredFits layout.now (slot_seen layout.now slot.now) (entry_stored layout.now slot.now code entry.now) }
     requires stored { is_stored (slot_seen layout.now slot.now)
         (entry_stored layout.now slot.now code entry.now) ≡ true }
     requires inside { is_reference (shape_seen layout.now slot.now.shape) ≡ true → end ≤ length out.old.bytes }
@@ -235,8 +235,6 @@ pub(crate) fn lay_fields(
     requires each { length ends.old ≡ length slots.now }
     requires known { AreKnown layout.now (slots_seen layout.now slots.now)
         (stored_in (slots_seen layout.now slots.now) ghosts.now.entries) }
-    requires held { AreKnown layout.now (slots_seen layout.now slots.now)
-        (stored_seen layout.now slots.now entries.now) }
     requires stands { AllStandIn (slots_seen layout.now slots.now) (stored_seen layout.now slots.now entries.now)
         (stored_in (slots_seen layout.now slots.now) ghosts.now.entries) }
     requires state { EntriesEnd layout.now 0 out.old.most out.old.bytes (λ k f. false)

@@ -1,7 +1,7 @@
 //! In which order the stored fields of a table are laid.
 ghost use Rattle.std.specs.Prelude.{ℕ, ◌≡◌, ◌≤◌, ◌<◌, ◌+◌, ◌*◌, ◌^◌, length, slice_index};
 ghost use Rattle.fb_layout.specs.Sizes.{IsAlignment};
-ghost use Rattle.fb_build.specs.Fields.{AreKnown, slots_seen, stored_seen};
+ghost use Rattle.fb_build.specs.Fields.{AreSimple, slots_seen, stored_seen};
 ghost use Rattle.fb_build.specs.FieldOrder.{AreLinked, IsList, link_in};
 
 use crate::fields::{is_stored, slot_align};
@@ -53,8 +53,7 @@ fn list_fields(
 )
     requires long { length entries.now ≡ length slots.now }
     requires few { length slots.now ≤ 32765 }
-    requires known { AreKnown layout.now (slots_seen layout.now slots.now)
-        (stored_seen layout.now slots.now entries.now) }
+    requires simple { AreSimple layout.now (slots_seen layout.now slots.now) }
     requires room { 2 * length slots.now ≤ length links.old }
     requires none { (c : ℕ) → slice_index firsts.old c ≡ 0 }
     ensures lists { (c : ℕ) → c ≤ 8 → IsList layout.now (2 ^ c) (slots_seen layout.now slots.now)
@@ -88,8 +87,7 @@ pub(crate) fn order_fields(
 ) -> usize
     requires long { length entries.now ≡ length slots.now }
     requires few { length slots.now ≤ 32765 }
-    requires known { AreKnown layout.now (slots_seen layout.now slots.now)
-        (stored_seen layout.now slots.now entries.now) }
+    requires simple { AreSimple layout.now (slots_seen layout.now slots.now) }
     requires room { 2 * length slots.now ≤ length links.old }
     ensures linked { AreLinked layout.now (slots_seen layout.now slots.now)
         (stored_seen layout.now slots.now entries.now) links.new result }

@@ -1,5 +1,5 @@
 //! Lays what stands in the place of a value that is no number.
-ghost use Rattle.std.specs.Prelude.{◌≡◌, ◌≤◌, ◌+◌, length, true, None, option_map};
+ghost use Rattle.std.specs.Prelude.{◌≡◌, ◌≤◌, ◌+◌, length, true, false, None, option_map};
 ghost use Rattle.fb_layout.specs.Laid.{one_of, struct_kind, struct_at};
 ghost use Rattle.fb_layout.specs.Widths.{inline_size, inline_align};
 ghost use Rattle.fb_value.specs.Datum.{Datum};
@@ -64,7 +64,8 @@ pub(crate) fn lay_fixed(out: &mut Tail, layout: &Layout, structure: TypeId, valu
 pub(crate) fn lay_place(out: &mut Tail, layout: &Layout, shape: Shape, value: &Value, end: u32)
     requires simple { IsSimple layout.now (shape_seen layout.now shape) }
     requires other { scalar_in (shape_seen layout.now shape) ≡ None }
-    requires fits { SlotFits layout.now (shape_seen layout.now shape) (view value.now) }
+    requires fits { is_reference (shape_seen layout.now shape) ≡ false
+        → SlotFits layout.now (shape_seen layout.now shape) (view value.now) }
     requires inside { is_reference (shape_seen layout.now shape) ≡ true → end ≤ length out.old.bytes }
     requires room { inline_size layout.now (shape_seen layout.now shape) ≤ out.old.free }
     requires whole { divides (inline_align layout.now (shape_seen layout.now shape))

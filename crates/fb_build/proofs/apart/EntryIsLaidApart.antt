@@ -115,8 +115,8 @@ pub goes_on : (b m : Inside) (n : Drafted) (x : Option Datum) (e : ℕ) (ds : Li
     → m.elements.elements ≡ ds → m.element_ends.items ≡ more
     → (y : Option Datum) → entries_seen m.entries.items ≡ entries_seen b.entries.items ++ (y ∷ [])
     → (f : Slot) → slice_get (root_slots b.draft.layout) (length b.data.entries) ≡ Some f → EntryStands f x y
-    → EntryFits b.draft.layout f y → EntryWhole y → IsOpen m
-goes_on b m n x e ds more before apart as_before layout draft entries ends elements element_ends y seen f at stands fits whole = record {
+    → IsOpen m
+goes_on b m n x e ds more before apart as_before layout draft entries ends elements element_ends y seen f at stands = record {
   same = layout ∙ (before.same ∙ (sym as_before ∙ ap (λ (d : Drafted). d.layout) (sym draft)));
   apart = rw (draft, entries, ends, elements, element_ends) apart;
   held = omega (
@@ -132,11 +132,6 @@ goes_on b m n x e ds more before apart as_before layout draft entries ends eleme
   stand = rw (draft, as_before, entries, seen) (stand_more (root_slots b.draft.layout) b.data.entries
       (entries_seen b.entries.items) f x y (omega (arith, before.held, entries_long b.entries.items)) at stands
       before.stand);
-  held_fit = rw (draft, as_before, seen) (fits_more b.draft.layout (root_slots b.draft.layout)
-      (entries_seen b.entries.items) f y
-      (subst (λ (k : ℕ). slice_get (root_slots b.draft.layout) k ≡ Some f)
-      (omega (arith, before.held, entries_long b.entries.items)) at)
-      (one_fits b.draft.layout f y fits whole) before.held_fit);
 }
 
 -- ---- a vector in the next slot

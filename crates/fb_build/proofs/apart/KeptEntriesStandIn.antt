@@ -4,39 +4,42 @@ use Rattle.std.proofs.Common.{slice_get, Option, None, Some, option_map, refl, a
 use Rattle.std.proofs.lemmas.List.{map_push}
 use Rattle.fb_layout.specs.Laid.{LaidSchema, Slot, StoredShape, scalar_kind, struct_kind, table_kind, union_kind}
 use Rattle.fb_layout.specs.Laid.{code_kind, text_kind, one_of, vector_of}
-use Rattle.fb_value.specs.Datum.{Datum, Parts, no_parts, a_vector}
+use Rattle.fb_value.specs.Datum.{Datum, Parts, no_parts, SlotEntries, no_entries, a_number}
+use Rattle.fb_value.specs.Datum.{a_text, a_struct, a_vector, a_table, a_member, an_unknown}
 use Rattle.fb_value.specs.Entries.{EntryFits}
 use Rattle.fb_value.specs.Fits.{Fits}
 use Rattle.fb_value.specs.View.{view}
 use Rattle.fb_value.specs.declared.values.Value.{Value}
-use Rattle.fb_build.specs.Fields.{next_code, entries_seen, stored_here, stored_in, target_for}
+use Rattle.fb_build.specs.Fields.{next_code, entries_seen, is_stored, stored_here, stored_in, target_for}
 use Rattle.fb_build.specs.StandIns.{AllStandIn, EachEntryStands, EntryStands, StandsIn}
 use Rattle.fb_build.proofs.apart.EntriesComeInOrder.{got_more}
+use Rattle.fb_build.proofs.needs.NeedsAddUp.{member_table}
 use Rattle.fb_build.proofs.tables.CodeSlotHasNoEntry.{stored_get, got}
+
+-- where both are what the slot stores
+own_stands : (f : Slot) (x y : Datum) (code : Option ℕ) (shape : StoredShape) → f.shape ≡ shape
+    → is_stored f (Some y) ≡ is_stored f (Some x) → (target_for shape y ≡ None → ⊥)
+    → stored_here shape code (Some x) ≡ Some x → stored_here shape code (Some y) ≡ Some y
+    → StandsIn f (stored_here f.shape code (Some y)) (stored_here f.shape code (Some x))
+own_stands f x y code shape at alike some first second =
+    let a : stored_here f.shape code (Some x) ≡ Some x =
+    ap (λ (h : StoredShape). stored_here h code (Some x)) at ∙ first in
+    let b : stored_here f.shape code (Some y) ≡ Some y =
+    ap (λ (h : StoredShape). stored_here h code (Some y)) at ∙ second in
+    rw (a, b) (record {
+      stored = sym alike;
+      inline = λ d is none. (let same : d ≡ y = cc in absurd (some (rw (at, same) at none)));
+    })
 
 -- of a vector only that it is there
 pub vector_stands : (L : LaidSchema) (f : Slot) (ds : Parts) → EntryFits L f (Some (a_vector ds))
     → EntryStands f (Some (a_vector ds)) (Some (a_vector no_parts))
 vector_stands L f ds fits = record { code = refl; stored = λ code. by_shape code f.shape refl }
   where
-    own : (code : Option ℕ) (shape : StoredShape) → f.shape ≡ shape
-        → ((d : Datum) → target_for shape d ≡ None → ⊥)
-        → stored_here shape code (Some (a_vector ds)) ≡ Some (a_vector ds)
-        → stored_here shape code (Some (a_vector no_parts)) ≡ Some (a_vector no_parts)
-        → StandsIn f (stored_here f.shape code (Some (a_vector no_parts))) (stored_here f.shape code (Some (a_vector ds)))
-    own code shape at some first second =
-        let a : stored_here f.shape code (Some (a_vector ds)) ≡ Some (a_vector ds) =
-        ap (λ (h : StoredShape). stored_here h code (Some (a_vector ds))) at ∙ first in
-        let b : stored_here f.shape code (Some (a_vector no_parts)) ≡ Some (a_vector no_parts) =
-        ap (λ (h : StoredShape). stored_here h code (Some (a_vector no_parts))) at ∙ second in
-        rw (a, b) (record {
-          stored = refl;
-          inline = λ d is none. absurd (some d (rw at at none));
-        })
-
     by_shape : (code : Option ℕ) (shape : StoredShape) → f.shape ≡ shape
         → StandsIn f (stored_here f.shape code (Some (a_vector no_parts))) (stored_here f.shape code (Some (a_vector ds)))
-    by_shape code (vector_of kind) at = own code (vector_of kind) at (λ d none. cc) refl refl
+    by_shape code (vector_of kind) at =
+        own_stands f (a_vector ds) (a_vector no_parts) code (vector_of kind) at refl (λ none. cc) refl refl
     by_shape code (one_of (scalar_kind b)) at = absurd (rw at at fits.1)
     by_shape code (one_of (struct_kind b)) at = absurd (rw at at fits.1)
     by_shape code (one_of (table_kind b)) at = absurd (rw at at fits.1)
@@ -44,19 +47,51 @@ vector_stands L f ds fits = record { code = refl; stored = λ code. by_shape cod
     by_shape code (one_of (code_kind b)) at = absurd (rw at at fits.1)
     by_shape code (one_of text_kind) at = absurd (rw at at fits.1)
 
--- an empty vector fits where a vector does
-pub empty_fits : (L : LaidSchema) (f : Slot) (ds : Parts) → EntryFits L f (Some (a_vector ds))
-    → EntryFits L f (Some (a_vector no_parts))
-empty_fits L f ds fits = (fits.0, by_shape f.shape refl)
+-- of a table only which one it is
+pub table_stands : (L : LaidSchema) (f : Slot) (t : ℕ) (es : SlotEntries) → EntryFits L f (Some (a_table t es))
+    → EntryStands f (Some (a_table t es)) (Some (a_table t no_entries))
+table_stands L f t es fits = record { code = refl; stored = λ code. by_shape code f.shape refl }
   where
-    by_shape : (shape : StoredShape) → f.shape ≡ shape → Fits L f.shape (a_vector no_parts)
-    by_shape (vector_of kind) at = rw at tt
-    by_shape (one_of (scalar_kind b)) at = absurd (rw at at fits.1)
-    by_shape (one_of (struct_kind b)) at = absurd (rw at at fits.1)
-    by_shape (one_of (table_kind b)) at = absurd (rw at at fits.1)
-    by_shape (one_of (union_kind b)) at = absurd (rw at at fits.1)
-    by_shape (one_of (code_kind b)) at = absurd (rw at at fits.1)
-    by_shape (one_of text_kind) at = absurd (rw at at fits.1)
+    by_shape : (code : Option ℕ) (shape : StoredShape) → f.shape ≡ shape
+        → StandsIn f (stored_here f.shape code (Some (a_table t no_entries)))
+        (stored_here f.shape code (Some (a_table t es)))
+    by_shape code (one_of (table_kind b)) at =
+        own_stands f (a_table t es) (a_table t no_entries) code (one_of (table_kind b)) at refl (λ none. cc) refl refl
+    by_shape code (vector_of kind) at = absurd (rw at at fits.1)
+    by_shape code (one_of (scalar_kind b)) at = absurd (rw at at fits.1)
+    by_shape code (one_of (struct_kind b)) at = absurd (rw at at fits.1)
+    by_shape code (one_of (union_kind b)) at = absurd (rw at at fits.1)
+    by_shape code (one_of (code_kind b)) at = absurd (rw at at fits.1)
+    by_shape code (one_of text_kind) at = absurd (rw at at fits.1)
+
+-- of a union's member that, too
+pub member_stands : (L : LaidSchema) (f : Slot) (c t : ℕ) (es : SlotEntries)
+    → EntryFits L f (Some (a_member c (a_table t es)))
+    → EntryStands f (Some (a_member c (a_table t es))) (Some (a_member c (a_table t no_entries)))
+member_stands L f c t es fits = record { code = refl; stored = λ code. by_shape code f.shape refl }
+  where
+    by_shape : (code : Option ℕ) (shape : StoredShape) → f.shape ≡ shape
+        → StandsIn f (stored_here f.shape code (Some (a_member c (a_table t no_entries))))
+        (stored_here f.shape code (Some (a_member c (a_table t es))))
+    by_shape code (one_of (union_kind b)) at = own_stands f (a_member c (a_table t es))
+        (a_member c (a_table t no_entries)) code (one_of (union_kind b)) at refl (λ none. cc) refl refl
+    by_shape code (vector_of kind) at = absurd (rw at at fits.1)
+    by_shape code (one_of (scalar_kind b)) at = absurd (rw at at fits.1)
+    by_shape code (one_of (struct_kind b)) at = absurd (rw at at fits.1)
+    by_shape code (one_of (table_kind b)) at = absurd (rw at at fits.1)
+    by_shape code (one_of (code_kind b)) at = absurd (rw at at fits.1)
+    by_shape code (one_of text_kind) at = absurd (rw at at fits.1)
+
+pub emptied_stands : (L : LaidSchema) (f : Slot) (c : ℕ) (d e : Datum) → EntryFits L f (Some (a_member c d))
+    → ((t : ℕ) (es : SlotEntries) → d ≡ a_table t es → e ≡ a_table t no_entries)
+    → EntryStands f (Some (a_member c d)) (Some (a_member c e))
+emptied_stands L f c (a_table t es) e fits emptied = rw (emptied t es refl) (member_stands L f c t es fits)
+emptied_stands L f c (a_number n) e fits emptied = absurd (member_table L f.shape c (a_number n) fits.1).1
+emptied_stands L f c (a_text b) e fits emptied = absurd (member_table L f.shape c (a_text b) fits.1).1
+emptied_stands L f c (a_vector ds) e fits emptied = absurd (member_table L f.shape c (a_vector ds) fits.1).1
+emptied_stands L f c (a_struct ds) e fits emptied = absurd (member_table L f.shape c (a_struct ds) fits.1).1
+emptied_stands L f c (a_member k d) e fits emptied = absurd (member_table L f.shape c (a_member k d) fits.1).1
+emptied_stands L f c (an_unknown k) e fits emptied = absurd (member_table L f.shape c (an_unknown k) fits.1).1
 
 -- ---- all entries
 

@@ -13,7 +13,7 @@ use Rattle.fb_value.specs.Num.{Bytes}
 use Rattle.fb_value.specs.Places.{Target, inline_place}
 use Rattle.fb_value.specs.Wanted.{struct_wanted}
 use Rattle.fb_build.specs.Fields.{is_stored, is_reference, scalar_in, target_for, SlotFits, StoredFits, StoredEnd}
-use Rattle.fb_build.specs.Fields.{TargetEnd, number_in}
+use Rattle.fb_build.specs.Fields.{AreKnown, AreSimple, TargetEnd, number_in}
 use Rattle.fb_build.specs.FieldOrder.{AreLinked, IsStoredAt, LinksNext, SameOfStored, before, link_in}
 use Rattle.fb_build.specs.Made.{LeadsEnd, LeadsTo}
 use Rattle.fb_build.specs.StandIns.{StandsIn, AllStandIn}
@@ -34,6 +34,39 @@ stand_for_themselves fs xs = record {
     inline = λ d is none. refl;
   });
 }
+
+-- what is asked of the shapes alone
+pub simple_known : (L : LaidSchema) (fs : List Slot) (xs : List (Option Datum)) → AreKnown L fs xs → AreSimple L fs
+simple_known L fs xs known k f fk = elim (slice_get_cases xs k).1 [
+  | inl has ↦ (known.each k f has.0 fk has.2).0
+  | inr out ↦ absurd (omega (arith, known.long, slice_get_within fs k f fk, out.0))
+]
+
+-- What stands inline in a table is no reference, and names nothing.
+pub inline_names : (shape : StoredShape) (d : Datum) → is_reference shape ≡ false → target_for shape d ≡ None
+inline_names (one_of (scalar_kind b)) d is = refl
+inline_names (one_of (struct_kind s)) d is = refl
+inline_names (one_of (code_kind u)) d is = refl
+inline_names (one_of (table_kind t)) d is = cc
+inline_names (one_of (union_kind u)) d is = cc
+inline_names (one_of text_kind) d is = cc
+inline_names (vector_of kind) d is = cc
+
+pub number_inline : (shape : StoredShape) (base : Base) → scalar_in shape ≡ Some base → is_reference shape ≡ false
+number_inline (one_of (scalar_kind b)) base is = refl
+number_inline (one_of (code_kind u)) base is = refl
+number_inline (one_of (struct_kind s)) base is = cc
+number_inline (one_of (table_kind t)) base is = cc
+number_inline (one_of (union_kind u)) base is = cc
+number_inline (one_of text_kind) base is = cc
+number_inline (vector_of kind) base is = cc
+
+-- What stands inline is in memory as it is, and so it fits.
+pub inline_fits : (L : LaidSchema) (f : Slot) (x y : Option Datum) → is_reference f.shape ≡ false → StandsIn f x y
+    → StoredFits L f y → StoredFits L f x
+inline_fits L f None y is stands fits = tt
+inline_fits L f (Some d) y is stands fits =
+    subst (StoredFits L f) (stands.inline d refl (inline_names f.shape d is)) fits
 
 -- ---- references
 

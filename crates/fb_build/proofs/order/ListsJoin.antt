@@ -8,7 +8,7 @@ use Rattle.fb_layout.specs.Sizes.{IsAlignment}
 use Rattle.fb_layout.specs.Widths.{inline_align}
 use Rattle.fb_value.specs.Datum.{Datum}
 use Rattle.fb_value.specs.Num.{Bytes}
-use Rattle.fb_build.specs.Fields.{AreKnown, above, from}
+use Rattle.fb_build.specs.Fields.{AreSimple, above, from}
 use Rattle.fb_build.specs.FieldOrder.{before, IsStoredAt, SameOfStored, LinksNext, NoneStoredAt, IsLast, IsFollowed}
 use Rattle.fb_build.specs.FieldOrder.{IsList, link_in}
 use Rattle.fb_build.proofs.fields.SlotStoresItsEntry.{in_mapped, ltb_yes, ltb_out}
@@ -80,51 +80,51 @@ before_end L a fs xs k f x fk xk is =
     rw yes refl
 
 -- what is stored has an alignment
-pub stored_power : (L : LaidSchema) (a k : ℕ) (fs : List Slot) (xs : List (Option Datum)) → AreKnown L fs xs
+pub stored_power : (L : LaidSchema) (a k : ℕ) (fs : List Slot) (xs : List (Option Datum)) → AreSimple L fs
     → IsStoredAt L a fs xs k → IsAlignment a
-stored_power L a k fs xs known p =
+stored_power L a k fs xs simple p =
     subst (λ (n : ℕ). IsAlignment n) p.at
-    (simple_aligned L p.field.shape (known.each k p.field p.entry p.is p.has).0)
+    (simple_aligned L p.field.shape (simple k p.field p.is))
 
 -- above one power is from the next one on
-pub power_above : (L : LaidSchema) (c : ℕ) (fs : List Slot) (xs : List (Option Datum)) → AreKnown L fs xs
+pub power_above : (L : LaidSchema) (c : ℕ) (fs : List Slot) (xs : List (Option Datum)) → AreSimple L fs
     → SameOfStored (λ k. above L (2 ^ c)) (λ k. from L (2 ^ (c + 1))) fs xs
-power_above L c fs xs known k f x fk xk is =
-    next_power c (inline_align L f.shape) (simple_aligned L f.shape (known.each k f x fk xk).0)
+power_above L c fs xs simple k f x fk xk is =
+    next_power c (inline_align L f.shape) (simple_aligned L f.shape (simple k f fk))
 
 -- ---- before the lowest alignment, and behind the greatest
 
 from_one : (n : ℕ) → 0 < n → nat_le 1 n ≡ true
 from_one n some = grind (arith, nat_tests)
 
-pub all_from : (L : LaidSchema) (fs : List Slot) (xs : List (Option Datum)) → AreKnown L fs xs
+pub all_from : (L : LaidSchema) (fs : List Slot) (xs : List (Option Datum)) → AreSimple L fs
     → SameOfStored (λ k. from L (2 ^ 0)) (λ k f. true) fs xs
-all_from L fs xs known k f x fk xk is =
+all_from L fs xs simple k f x fk xk is =
     from_one (inline_align L f.shape)
-    (aligned_some (inline_align L f.shape) (simple_aligned L f.shape (known.each k f x fk xk).0))
+    (aligned_some (inline_align L f.shape) (simple_aligned L f.shape (simple k f fk)))
 
 not_from : (m n : ℕ) → n < m → nat_le m n ≡ false
 not_from m n less = grind (arith, nat_tests)
 
-pub none_from : (L : LaidSchema) (fs : List Slot) (xs : List (Option Datum)) → AreKnown L fs xs
+pub none_from : (L : LaidSchema) (fs : List Slot) (xs : List (Option Datum)) → AreSimple L fs
     → SameOfStored (λ k f. false) (λ k. from L (2 ^ 9)) fs xs
-none_from L fs xs known k f x fk xk is =
+none_from L fs xs simple k f x fk xk is =
     sym (not_from (2 ^ 9) (inline_align L f.shape)
-    (under_all (inline_align L f.shape) (simple_aligned L f.shape (known.each k f x fk xk).0)))
+    (under_all (inline_align L f.shape) (simple_aligned L f.shape (simple k f fk))))
 
 -- nothing is stored below the lowest alignment
-pub none_lower : (L : LaidSchema) (a k : ℕ) (fs : List Slot) (xs : List (Option Datum)) → AreKnown L fs xs
+pub none_lower : (L : LaidSchema) (a k : ℕ) (fs : List Slot) (xs : List (Option Datum)) → AreSimple L fs
     → a < 2 ^ 0 → IsStoredAt L a fs xs k → ⊥
-none_lower L a k fs xs known low p = let some = aligned_some a (stored_power L a k fs xs known p) in
+none_lower L a k fs xs simple low p = let some = aligned_some a (stored_power L a k fs xs simple p) in
     omega (arith, some, low)
 
 -- ---- one list, before those of lower alignments
 
 -- where nothing is stored at its alignment
 pub list_empty : (L : LaidSchema) (c first last next : ℕ) (fs : List Slot) (xs : List (Option Datum)) (links : Bytes)
-    → AreKnown L fs xs → first ≡ 0 → IsList L (2 ^ c) fs xs links first last (length fs)
+    → AreSimple L fs → first ≡ 0 → IsList L (2 ^ c) fs xs links first last (length fs)
     → LinksNext L (λ k. from L (2 ^ c)) fs xs next → LinksNext L (λ k. from L (2 ^ (c + 1))) fs xs next
-list_empty L c first last next fs xs links known is h low =
+list_empty L c first last next fs xs links simple is h low =
     next_retested L (λ k. from L (2 ^ c)) (λ k. from L (2 ^ (c + 1))) fs xs next same low
   where
     none : NoneStoredAt L (2 ^ c) fs xs 0 (length fs)
@@ -132,7 +132,7 @@ list_empty L c first last next fs xs links known is h low =
 
     same : SameOfStored (λ k. from L (2 ^ (c + 1))) (λ k. from L (2 ^ c)) fs xs
     same = same_then (λ k. from L (2 ^ (c + 1))) (λ k. above L (2 ^ c)) (λ k. from L (2 ^ c)) fs xs
-        (same_back (λ k. above L (2 ^ c)) (λ k. from L (2 ^ (c + 1))) fs xs (power_above L c fs xs known))
+        (same_back (λ k. above L (2 ^ c)) (λ k. from L (2 ^ (c + 1))) fs xs (power_above L c fs xs simple))
         (same_then (λ k. above L (2 ^ c)) (before L (2 ^ c) 0) (λ k. from L (2 ^ c)) fs xs
         (before_first L (2 ^ c) fs xs)
         (same_then (before L (2 ^ c) 0) (before L (2 ^ c) (length fs)) (λ k. from L (2 ^ c)) fs xs
@@ -149,9 +149,9 @@ empty_below L c first last j fs xs links is h at =
 
 -- its first slot is the next one behind all that is aligned above
 pub list_first : (L : LaidSchema) (c first last : ℕ) (fs : List Slot) (xs : List (Option Datum)) (links : Bytes)
-    → AreKnown L fs xs → (first ≡ 0 → ⊥) → IsList L (2 ^ c) fs xs links first last (length fs)
+    → AreSimple L fs → (first ≡ 0 → ⊥) → IsList L (2 ^ c) fs xs links first last (length fs)
     → LinksNext L (λ k. from L (2 ^ (c + 1))) fs xs first
-list_first L c first last fs xs links known some h =
+list_first L c first last fs xs links simple some h =
     let begin = the_first L (2 ^ c) first last (length fs) fs xs links some h in
     inr (record {
       slot = begin.slot;
@@ -159,7 +159,7 @@ list_first L c first last fs xs links known some h =
       align = 2 ^ c;
       there = begin.there;
       behind = same_then (λ k. from L (2 ^ (c + 1))) (λ k. above L (2 ^ c)) (before L (2 ^ c) begin.slot) fs xs
-          (same_back (λ k. above L (2 ^ c)) (λ k. from L (2 ^ (c + 1))) fs xs (power_above L c fs xs known))
+          (same_back (λ k. above L (2 ^ c)) (λ k. from L (2 ^ (c + 1))) fs xs (power_above L c fs xs simple))
           (same_then (λ k. above L (2 ^ c)) (before L (2 ^ c) 0) (before L (2 ^ c) begin.slot) fs xs
           (before_first L (2 ^ c) fs xs) (none_between L (2 ^ c) 0 begin.slot fs xs (omega arith) begin.none));
     })
@@ -205,13 +205,13 @@ list_linked L a first last next j fs xs links new some h linked others low at =
 
 -- once its list is joined
 pub linked_joined : (L : LaidSchema) (c first last next : ℕ) (fs : List Slot) (xs : List (Option Datum))
-    (links new : Bytes) → AreKnown L fs xs → (first ≡ 0 → ⊥) → IsList L (2 ^ c) fs xs links first last (length fs)
+    (links new : Bytes) → AreSimple L fs → (first ≡ 0 → ⊥) → IsList L (2 ^ c) fs xs links first last (length fs)
     → link_in new (last - 1) ≡ next → ((i : ℕ) → (i ≡ last - 1 → ⊥) → link_in new i ≡ link_in links i)
     → LinksNext L (λ k. from L (2 ^ c)) fs xs next
     → ((j a : ℕ) → a < 2 ^ c → IsStoredAt L a fs xs j → LinksNext L (before L a (j + 1)) fs xs (link_in links j))
     → (j a : ℕ) → a < 2 ^ (c + 1) → IsStoredAt L a fs xs j → LinksNext L (before L a (j + 1)) fs xs (link_in new j)
-linked_joined L c first last next fs xs links new known some h linked others low old j a under at =
-    by_align (below_next c a (stored_power L a j fs xs known at) under)
+linked_joined L c first last next fs xs links new simple some h linked others low old j a under at =
+    by_align (below_next c a (stored_power L a j fs xs simple at) under)
   where
     by_align : (a < 2 ^ c) ⊎ (a ≡ 2 ^ c) → LinksNext L (before L a (j + 1)) fs xs (link_in new j)
     by_align (inl less) =
@@ -225,11 +225,11 @@ linked_joined L c first last next fs xs links new known some h linked others low
 
 -- where there is none
 pub linked_still : (L : LaidSchema) (c first last : ℕ) (fs : List Slot) (xs : List (Option Datum)) (links : Bytes)
-    → AreKnown L fs xs → first ≡ 0 → IsList L (2 ^ c) fs xs links first last (length fs)
+    → AreSimple L fs → first ≡ 0 → IsList L (2 ^ c) fs xs links first last (length fs)
     → ((j a : ℕ) → a < 2 ^ c → IsStoredAt L a fs xs j → LinksNext L (before L a (j + 1)) fs xs (link_in links j))
     → (j a : ℕ) → a < 2 ^ (c + 1) → IsStoredAt L a fs xs j → LinksNext L (before L a (j + 1)) fs xs (link_in links j)
-linked_still L c first last fs xs links known is h old j a under at =
-    by_align (below_next c a (stored_power L a j fs xs known at) under)
+linked_still L c first last fs xs links simple is h old j a under at =
+    by_align (below_next c a (stored_power L a j fs xs simple at) under)
   where
     by_align : (a < 2 ^ c) ⊎ (a ≡ 2 ^ c) → LinksNext L (before L a (j + 1)) fs xs (link_in links j)
     by_align (inl less) = old j a less at

@@ -31,7 +31,7 @@ log2_of-log2-requires c =
     let xk = stored_at L c.args.slots.now c.args.entries.now k c.index-slots-k.result c.index-entries-k.result
     (code_behind c.args.entries.now k) c.loop-k-test.true (omega (arith, c.loop-k-test.true, c.requires.long))
     c.index-slots-k.is c.index-entries-k.is (is_behind c.args.entries.now k) in
-    record { power = rw c.slot_align.ensures (simple_aligned L f.shape (c.requires.known.each k _ _ fk xk).0) }
+    record { power = rw c.slot_align.ensures (simple_aligned L f.shape (c.requires.simple k _ fk)) }
 
 pub loop-k-preserved : goal.loop-k-preserved
 loop-k-preserved c =

@@ -16,8 +16,8 @@ loop-log2-init c =
     let xs = stored_seen L c.args.slots.now c.args.entries.now in
     record {
       long = c.list_fields.ensures.long;
-      next = inl (refl, all_from L fs xs c.requires.known);
-      linked = λ j a low at. absurd (none_lower L a j fs xs c.requires.known low at);
+      next = inl (refl, all_from L fs xs c.requires.simple);
+      linked = λ j a low at. absurd (none_lower L a j fs xs c.requires.simple low at);
       lists = λ d over low. subst (λ (n : ℕ). IsList L (2 ^ d) fs xs c.list_fields.new.links
           (slice_index c.list_fields.new.firsts d) (slice_index c.list_fields.new.lasts d) n)
           (sym (slots_long L c.args.slots.now)) (c.list_fields.ensures.lists d low);
@@ -47,10 +47,10 @@ loop-log2-preserved c =
     elim c.if-firsts-log2-ne0.branch [
       | then-firsts-log2-ne0 w ↦ record {
         long = rw w.links-is (w.put_link.ensures.long ∙ inv.long);
-        next = rw w.next-is (list_first L log2 _ _ fs xs c.loop-log2.links c.requires.known w.if-firsts-log2-ne0.true
+        next = rw w.next-is (list_first L log2 _ _ fs xs c.loop-log2.links c.requires.simple w.if-firsts-log2-ne0.true
             list);
         linked = rw w.links-is (linked_joined L log2 _ _ c.loop-log2.next fs xs c.loop-log2.links
-            w.put_link.new.links c.requires.known w.if-firsts-log2-ne0.true list w.put_link.ensures.there
+            w.put_link.new.links c.requires.simple w.if-firsts-log2-ne0.true list w.put_link.ensures.there
             w.put_link.ensures.others inv.next inv.linked);
         lists = rw w.links-is (λ d over low. higher_kept L log2 d _ _ _ _ fs xs c.loop-log2.links
             w.put_link.new.links w.if-firsts-log2-ne0.true list (omega (arith, over)) w.put_link.ensures.others
@@ -58,9 +58,9 @@ loop-log2-preserved c =
       }
       | else-firsts-log2-ne0 w ↦ record {
         long = rw w.links-is inv.long;
-        next = rw w.next-is (list_empty L log2 _ _ c.loop-log2.next fs xs c.loop-log2.links c.requires.known
+        next = rw w.next-is (list_empty L log2 _ _ c.loop-log2.next fs xs c.loop-log2.links c.requires.simple
             w.if-firsts-log2-ne0.false list inv.next);
-        linked = rw w.links-is (linked_still L log2 _ _ fs xs c.loop-log2.links c.requires.known
+        linked = rw w.links-is (linked_still L log2 _ _ fs xs c.loop-log2.links c.requires.simple
             w.if-firsts-log2-ne0.false list inv.linked);
         lists = rw w.links-is (λ d over low. inv.lists d (omega (arith, over)) low);
       }
@@ -75,8 +75,8 @@ returns-clause-linked c =
     let inv = c.loop-log2.invariant in
     record {
       begin = next_retested L (λ k. from L (2 ^ 9)) (λ k f. false) fs xs c.loop-log2.next
-          (none_from L fs xs c.requires.known)
+          (none_from L fs xs c.requires.simple)
           (subst (λ (n : ℕ). LinksNext L (λ k. from L (2 ^ n)) fs xs c.loop-log2.next) all inv.next);
       each = λ k a at. inv.linked k a
-          (subst (λ (n : ℕ). a < 2 ^ n) (sym all) (under_all a (stored_power L a k fs xs c.requires.known at))) at;
+          (subst (λ (n : ℕ). a < 2 ^ n) (sym all) (under_all a (stored_power L a k fs xs c.requires.simple at))) at;
     }

@@ -48,3 +48,11 @@ pub returns-in-None-clause-leads : goal.returns-in-None-clause-leads
 returns-in-None-clause-leads c d =
     leads_any c.lay_reference.new.out.bytes (target_for (stored_shape c.args.layout.now.schema c.args.shape) d)
     (length c.lay_reference.new.out.bytes) c.args.end c.lay_reference.ensures.leads
+
+pub lay_fixed-requires-clause-fits : goal.lay_fixed-requires-clause-fits
+lay_fixed-requires-clause-fits c =
+    let shape = stored_shape c.args.layout.now.schema c.args.shape in
+    let is : shape ≡ one_of (struct_kind c.in-Some.structure.0) =
+    struct_shape shape c.in-Some.structure.0
+    (sym c.struct_in.ensures ∙ ap (option_map (λ (t : TypeId). t.0)) c.in-Some.is) in
+    rw is at (c.requires.fits (rw is refl))

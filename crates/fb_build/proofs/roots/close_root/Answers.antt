@@ -36,9 +36,7 @@ lay_fields-start-requires-clause-long c =
     let slots = c.slots_of-slots.result.now in
     let seen = slots_are L t slots c.slots_of-slots.ensures.slots in
     let known = known_in L t c.args.data.now.entries c.schema-schema.ensures.made c.requires.fits c.requires.whole in
-    let held = known_in L t (entries_seen c.args.entries.now) c.schema-schema.ensures.made c.requires.held_fits
-    c.requires.held_whole in
-    omega (arith, ap length seen, slots_long L slots, held.long, entries_long c.args.entries.now)
+    omega (arith, ap length seen, slots_long L slots, known.long, c.requires.held)
 
 pub lay_fields-start-requires-clause-known : goal.lay_fields-start-requires-clause-known
 lay_fields-start-requires-clause-known c =
@@ -48,17 +46,6 @@ lay_fields-start-requires-clause-known c =
     let seen = slots_are L t slots c.slots_of-slots.ensures.slots in
     let known = known_in L t c.args.data.now.entries c.schema-schema.ensures.made c.requires.fits c.requires.whole in
     rw seen known.known
-
-pub lay_fields-start-requires-clause-held : goal.lay_fields-start-requires-clause-held
-lay_fields-start-requires-clause-held c =
-    let L = c.args.layout.now in
-    let t = c.args.table.0 in
-    let slots = c.slots_of-slots.result.now in
-    let seen = slots_are L t slots c.slots_of-slots.ensures.slots in
-    let known = known_in L t c.args.data.now.entries c.schema-schema.ensures.made c.requires.fits c.requires.whole in
-    let held = known_in L t (entries_seen c.args.entries.now) c.schema-schema.ensures.made c.requires.held_fits
-    c.requires.held_whole in
-    rw seen held.known
 
 pub lay_fields-start-requires-clause-links : goal.lay_fields-start-requires-clause-links
 lay_fields-start-requires-clause-links c =

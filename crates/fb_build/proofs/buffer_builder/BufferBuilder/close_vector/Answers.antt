@@ -8,7 +8,7 @@ use Rattle.fb_value.proofs.types.EachVariantHasItsView.{view-Items}
 use Rattle.fb_build.specs.BuiltSoFar.{AwaitsVector}
 use Rattle.fb_build.specs.Fields.{entries_seen}
 use Rattle.fb_build.specs.OpenBuffer.{built_seen, root_kind}
-use Rattle.fb_build.proofs.apart.KeptEntriesStandIn.{empty_fits, seen_more, vector_stands}
+use Rattle.fb_build.proofs.apart.KeptEntriesStandIn.{seen_more, vector_stands}
 use Rattle.fb_build.proofs.apart.EntryIsLaidApart.{elements_known, goes_on, same_kind, vector_apart}
 use Rattle.fb_build.proofs.apart.EntryIsLaidApart.{whole_fits}
 use Rattle.fb_build.proofs.apart.NothingMoreIsLaidApart.{at_layout, kept_apart}
@@ -22,7 +22,6 @@ invariant_of-self c =
       apart = inv.apart;
       held = rw c.reserve.ensures.items inv.held;
       stand = rw c.reserve.ensures.items inv.stand;
-      held_fit = rw c.reserve.ensures.items inv.held_fit;
     }
 
 pub invariant_of-self-in_err-reserve-2 : goal.invariant_of-self-in_err-reserve-2
@@ -33,7 +32,6 @@ invariant_of-self-in_err-reserve-2 c =
       apart = rw c.reserve-2.ensures.items inv.apart;
       held = rw c.reserve.ensures.items inv.held;
       stand = rw c.reserve.ensures.items inv.stand;
-      held_fit = rw c.reserve.ensures.items inv.held_fit;
     }
 
 pub lay_references-requires-clause-known : goal.lay_references-requires-clause-known
@@ -60,7 +58,6 @@ invariant_of-self-in_err-end c =
           inside.element_ends.items inv.apart same.0 same.1);
       held = rw c.reserve.ensures.items inv.held;
       stand = rw (same.0.layout, c.reserve.ensures.items) inv.stand;
-      held_fit = rw (same.0.layout, c.reserve.ensures.items) inv.held_fit;
     }
 
 pub invariant_of-self-2 : goal.invariant_of-self-2
@@ -93,4 +90,4 @@ invariant_of-self-2 c =
     (ap entries_seen c.push_reserved-2.ensures.items
     ∙ (seen_more c.reserve.new.self.items (Some held) ∙ (ap (λ es. entries_seen es ++ (option_map view (Some held) ∷ [])) c.reserve.ensures.items
     ∙ ap (λ (y : Option Datum). entries_seen inside.entries.items ++ (y ∷ [])) empty)))
-    f waits.awaits.next (vector_stands L f (parts_in ds) fits.0) (empty_fits L f (parts_in ds) fits.0) refl
+    f waits.awaits.next (vector_stands L f (parts_in ds) fits.0)

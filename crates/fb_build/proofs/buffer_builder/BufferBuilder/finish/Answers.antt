@@ -24,21 +24,8 @@ into_buffer-requires-clause-whole c =
     (all_fit inside.draft.layout (root_slots inside.draft.layout) inside.data.entries (sym all)
     c.self.invariant.apart.fits).1
 
-pub into_buffer-requires-clause-held_fits : goal.into_buffer-requires-clause-held_fits
-into_buffer-requires-clause-held_fits c =
-    let inside = c.self.inside in
-    let inv = c.self.invariant in
-    let all : length inside.data.entries ≡ length (root_slots inside.draft.layout) = rw (← c.self.view_is) at c.requires.all in
-    rw c.as_slice.ensures.value (all_fit inside.draft.layout (root_slots inside.draft.layout)
-    (entries_seen inside.entries.items) (omega (arith, all, inv.held, entries_long inside.entries.items)) inv.held_fit).0
-
-pub into_buffer-requires-clause-held_whole : goal.into_buffer-requires-clause-held_whole
-into_buffer-requires-clause-held_whole c =
-    let inside = c.self.inside in
-    let inv = c.self.invariant in
-    let all : length inside.data.entries ≡ length (root_slots inside.draft.layout) = rw (← c.self.view_is) at c.requires.all in
-    rw c.as_slice.ensures.value (all_fit inside.draft.layout (root_slots inside.draft.layout)
-    (entries_seen inside.entries.items) (omega (arith, all, inv.held, entries_long inside.entries.items)) inv.held_fit).1
+pub into_buffer-requires-clause-held : goal.into_buffer-requires-clause-held
+into_buffer-requires-clause-held c = rw c.as_slice.ensures.value c.self.invariant.held
 
 pub into_buffer-requires-clause-stands : goal.into_buffer-requires-clause-stands
 into_buffer-requires-clause-stands c =

@@ -12,5 +12,4 @@ invariant_of-result c =
           (nothing_yet d _ now.most now.room (rw (← now.layout) at now.made));
       held = rw (c.new-2.ensures.items, c.new-4.ensures) refl;
       stand = rw (c.new-4.ensures) (λ k f x y fk xk yk. cc);
-      held_fit = rw (c.new-2.ensures.items) (λ k f x fk xk. cc);
     }

@@ -63,7 +63,6 @@ invariant_of-self-in_err-end c =
           inside.element_ends.items inv.apart same.0 same.1);
       held = inv.held;
       stand = rw same.0.layout inv.stand;
-      held_fit = rw same.0.layout inv.held_fit;
     }
 
 pub invariant_of-self-2 : goal.invariant_of-self-2
@@ -96,5 +95,4 @@ invariant_of-self-2 c =
           (c.push_reserved.ensures.items ∙ ap (λ es. es ++ (e ∷ [])) c.reserve.ensures.items) (rw here after));
       held = inv.held;
       stand = rw now.continues.layout inv.stand;
-      held_fit = rw now.continues.layout inv.held_fit;
     }

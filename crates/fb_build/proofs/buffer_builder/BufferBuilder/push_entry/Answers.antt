@@ -70,7 +70,6 @@ invariant_of-self-in_err-end-in-Some c =
           inside.element_ends.items inv.apart same.0 same.1);
       held = rw c.reserve.ensures.items inv.held;
       stand = rw (same.0.layout, c.reserve.ensures.items) inv.stand;
-      held_fit = rw (same.0.layout, c.reserve.ensures.items) inv.held_fit;
     }
 
 pub invariant_of-self-2 : goal.invariant_of-self-2
@@ -111,7 +110,7 @@ invariant_of-self-2 c =
           (ap (λ (b : Inside). b.elements.elements) is) (ap (λ (b : Inside). b.element_ends.items) is)
           y (seen ∙ (ap (λ (b : Inside). entries_seen b.entries.items ++ (y ∷ [])) is
           ∙ ap (λ es. entries_seen es ++ (y ∷ [])) c.reserve.ensures.items))
-          fits.slot fits.next (kept.stands L fits.slot fits.fits) (kept.fits L fits.slot fits.fits) (kept.whole fits.whole))
+          fits.slot fits.next (kept L fits.slot fits.fits))
       | in-None w ↦ (
           let none : FitsNext (built_seen inside) None = rw w.in-None.is at fits in
           let apart = nothing_apart inside inv none closed in
@@ -125,7 +124,7 @@ invariant_of-self-2 c =
           (ap (λ (b : Inside). b.elements.elements) is) (ap (λ (b : Inside). b.element_ends.items) is)
           y (seen ∙ (ap (λ (b : Inside). entries_seen b.entries.items ++ (y ∷ [])) is
           ∙ ap (λ es. entries_seen es ++ (y ∷ [])) c.reserve.ensures.items))
-          fits.slot fits.next (kept.stands L fits.slot fits.fits) (kept.fits L fits.slot fits.fits) (kept.whole fits.whole))
+          fits.slot fits.next (kept L fits.slot fits.fits))
     ]
 
 pub invariant_of-self : goal.invariant_of-self
@@ -136,7 +135,6 @@ invariant_of-self c =
       apart = inv.apart;
       held = rw c.reserve.ensures.items inv.held;
       stand = rw c.reserve.ensures.items inv.stand;
-      held_fit = rw c.reserve.ensures.items inv.held_fit;
     }
 
 pub invariant_of-self-in_err-reserve-2 : goal.invariant_of-self-in_err-reserve-2
@@ -147,5 +145,4 @@ invariant_of-self-in_err-reserve-2 c =
       apart = rw c.reserve-2.ensures.items inv.apart;
       held = rw c.reserve.ensures.items inv.held;
       stand = rw c.reserve.ensures.items inv.stand;
-      held_fit = rw c.reserve.ensures.items inv.held_fit;
     }
