@@ -3,6 +3,5 @@ pub mod ClosedTableHasItsValue
 pub mod EndsAreWithinTheTable
 pub mod TableAndVtableAddThemselves
 pub mod TableLeadsToItsVtable
-pub mod VtableHasTheDefinedBytes
 pub mod VtableHasTheStoredFields
 pub mod VtableIsLaidOnce
