@@ -16,10 +16,12 @@ use clap::Error;
 use clap::error::ErrorKind;
 use flatc_cli::{Job, Request, request_of};
 use flatc_tool::command::report;
-use flatc_tool::{Limits, Noted, ToolFault, check, conform_texts, print_to, to_binary, to_json};
+use flatc_tool::{
+    Limits, Noted, ToolFault, check, conform_texts, print_to, to_binary, to_binary_owned, to_json,
+};
 use std::alloc::Global;
 use std::process::ExitCode;
-use std::{env, io};
+use std::{env, io, mem};
 
 const SCHEMA: &[u8] = b"table T { a:int; } root_type T;";
 
@@ -49,6 +51,16 @@ fn example(alloc: Global) -> Result<String, ToolFault> {
     to_json(alloc, SCHEMA, bytes.as_slice(), limits(), false, false)
 }
 
+/// The buffer of the JSON text that was read. The text is given away for it, unless it may be quoted.
+fn buffer_of(rt: &HostRuntime, texts: &mut Texts<'_>, unknown: bool) -> Result<Vec<u8>, ToolFault> {
+    if texts.quoted {
+        let (schema, json) = (texts.schema.as_slice(), texts.input.as_slice());
+        return to_binary(rt.alloc(), schema, json, limits(), unknown);
+    }
+    let json = mem::replace(&mut texts.input, Vec::new(rt.alloc()));
+    to_binary_owned(rt.alloc(), texts.schema.as_slice(), json, limits(), unknown)
+}
+
 fn write_buffer<'j>(
     rt: &HostRuntime,
     texts: &mut Texts<'j>,
@@ -58,13 +70,7 @@ fn write_buffer<'j>(
     let [schema, json, out] = paths;
     texts.read_schema(rt, schema)?;
     texts.read_input(rt, json)?;
-    let bytes = to_binary(
-        rt.alloc(),
-        texts.schema.as_slice(),
-        texts.input.as_slice(),
-        limits(),
-        unknown,
-    )?;
+    let bytes = buffer_of(rt, texts, unknown)?;
     match write_out(rt, out, bytes.as_slice(), [schema, json]) {
         Ok(()) => Ok(()),
         Err(error) if error.kind() == io::ErrorKind::OutOfMemory => Err(ToolFault::Memory),
@@ -214,7 +220,7 @@ fn words_of(rt: &HostRuntime) -> io::Result<Vec<String>> {
 /// Does a job, reports what comes of it, and returns the status. A refusal is explained if that is
 /// asked for.
 fn do_and_report(rt: &HostRuntime, job: &Job, explained: bool) -> u8 {
-    let mut texts = Texts::new(rt);
+    let mut texts = Texts::new(rt, explained);
     let answer = do_job(rt, job, &mut texts);
     let status = report(rt.alloc(), answer, &mut rt.stdout(), &mut rt.stderr());
     if explained {

@@ -14,6 +14,8 @@ pub(crate) struct Texts<'j> {
     pub(crate) schema: Vec<u8>,
     /// The JSON text, the buffer, or the new schema text.
     pub(crate) input: Vec<u8>,
+    /// Whether an explanation may quote what was read, so that it is kept.
+    pub(crate) quoted: bool,
     pub(crate) failure: Option<Failure<'j>>,
 }
 
@@ -26,10 +28,11 @@ pub(crate) struct Failure<'j> {
 }
 
 impl<'j> Texts<'j> {
-    pub(crate) fn new(rt: &HostRuntime) -> Texts<'j> {
+    pub(crate) fn new(rt: &HostRuntime, quoted: bool) -> Texts<'j> {
         Texts {
             schema: Vec::new(rt.alloc()),
             input: Vec::new(rt.alloc()),
+            quoted,
             failure: None,
         }
     }
