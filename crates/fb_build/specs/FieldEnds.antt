@@ -1,15 +1,12 @@
 -- Where each stored field of a table stands.
 -- From the FlatBuffers documentation, "FlatBuffer Internals": Tables. In which order fields stand is this project's
 -- own: from the table's end on by descending alignment, those of one alignment in the order of their slots.
-use Rattle.std.specs.Prelude.{ℕ, suc, ◌+◌, ◌≡◌, ◌==◌, ◌&&◌, Bool, true, if◌then◌else◌, List, [], ◌∷◌, take, Option}
+use Rattle.std.specs.Prelude.{ℕ, suc, ◌+◌, ◌≡◌, ◌&&◌, Bool, true, List, take, Option}
 use Rattle.std.specs.Prelude.{Some, slice_get, slice_index}
 use Rattle.fb_layout.specs.Laid.{LaidSchema, Slot}
-use Rattle.fb_layout.specs.Sizes.{ceil4}
 use Rattle.fb_layout.specs.Widths.{inline_align}
 use Rattle.fb_value.specs.Datum.{Datum}
-use Rattle.fb_value.specs.Num.{Bytes}
-use Rattle.fb_build.specs.Fields.{is_stored, size_at, size_above, fields_size}
-use Rattle.fb_build.specs.TableBytes.{vtable_bytes}
+use Rattle.fb_build.specs.Fields.{is_stored, size_at, size_above}
 
 -- The end-count of slot k, counted from the start of its table's fields: the sizes of what is stored that is aligned
 -- above it, and of what is stored at its own alignment, up to and with itself.

@@ -3,7 +3,6 @@ use Rattle.std.specs.Prelude.{ℕ, ◌≡◌, Option, None, Some, length, slice_
 use Rattle.fb_layout.specs.Laid.{LaidSchema, Slot, StoredKind, kind_in, text_kind}
 use Rattle.fb_build.specs.declared.buffer_builder.BufferBuilder.TheInside.{Inside}
 use Rattle.fb_build.specs.BuiltSoFar.{BuiltSoFar, root_slots}
-use Rattle.fb_build.specs.Apart.{EachEntryFits}
 use Rattle.fb_build.specs.StandIns.{EachEntryStands}
 use Rattle.fb_build.specs.Fields.{entries_seen}
 use Rattle.fb_build.specs.LaidApart.{AreLaidApart}

@@ -27,10 +27,10 @@ use Rattle.fb_build.specs.Made.{Adds, ends_parts, named_items, named_stored, par
 use Rattle.fb_build.specs.OpenBuffer.{built_seen, IsOpen, root_kind}
 use Rattle.fb_build.specs.Parts.{EntryWhole, PartEnd}
 use Rattle.fb_build.specs.declared.buffer_builder.BufferBuilder.TheInside.{Inside}
-use Rattle.fb_build.proofs.apart.EntriesComeInOrder.{elements_fit, fits_more, long_more}
+use Rattle.fb_build.proofs.apart.EntriesComeInOrder.{elements_fit, long_more}
 use Rattle.fb_build.proofs.apart.KeptEntriesStandIn.{stand_more}
 use Rattle.fb_build.proofs.apart.NothingMoreIsLaidApart.{kind_of_elements, none_left, rekinded, root_kind_is}
-use Rattle.fb_build.proofs.apart.OneMoreIsLaidApart.{entry_end, entry_laid, entry_names, one_fits, vector_laid}
+use Rattle.fb_build.proofs.apart.OneMoreIsLaidApart.{entry_end, entry_laid, entry_names, vector_laid}
 use Rattle.fb_build.proofs.covered.PartsInFrontAreAdded.{adds_nothing}
 use Rattle.fb_build.proofs.drafts.DraftsContinue.{continues_same}
 use Rattle.fb_build.proofs.fields.AlignmentDividesTheSize.{all_known}

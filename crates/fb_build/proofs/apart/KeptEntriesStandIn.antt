@@ -7,7 +7,6 @@ use Rattle.fb_layout.specs.Laid.{code_kind, text_kind, one_of, vector_of}
 use Rattle.fb_value.specs.Datum.{Datum, Parts, no_parts, SlotEntries, no_entries, a_number}
 use Rattle.fb_value.specs.Datum.{a_text, a_struct, a_vector, a_table, a_member, an_unknown}
 use Rattle.fb_value.specs.Entries.{EntryFits}
-use Rattle.fb_value.specs.Fits.{Fits}
 use Rattle.fb_value.specs.View.{view}
 use Rattle.fb_value.specs.declared.values.Value.{Value}
 use Rattle.fb_build.specs.Fields.{next_code, entries_seen, is_stored, stored_here, stored_in, target_for}

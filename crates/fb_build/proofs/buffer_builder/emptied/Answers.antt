@@ -1,4 +1,3 @@
-use Rattle.std.proofs.Common.{◌≡◌, Some}
 use Rattle.fb_value.specs.View.{view}
 use Rattle.fb_value.proofs.types.EachVariantHasItsView.{view-Member}
 use Rattle.fb_build.proofs.apart.KeptEntriesStandIn.{emptied_stands}

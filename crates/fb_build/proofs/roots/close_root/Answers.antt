@@ -5,9 +5,9 @@ use Rattle.fb_value.specs.Datum.{a_table}
 use Rattle.fb_value.specs.View.{entries_in}
 use Rattle.fb_value.specs.Room.{table_room}
 use Rattle.fb_value.proofs.tails.TailsAreKeptInFront.{through}
-use Rattle.fb_build.specs.Fields.{entries_seen, stored_in}
+use Rattle.fb_build.specs.Fields.{stored_in}
 use Rattle.fb_build.proofs.builder.BuildsFollowEachOther.{scratch_builds}
-use Rattle.fb_build.proofs.fields.SlotStoresItsEntry.{slots_long, entries_long}
+use Rattle.fb_build.proofs.fields.SlotStoresItsEntry.{slots_long}
 use Rattle.fb_build.proofs.apart.EntriesAreKnown.{known_in}
 use Rattle.fb_build.proofs.roots.RootIsMadeOfItsParts.{root_closed}
 use Rattle.fb_build.proofs.tables.PartsFitTheirSlots.{slots_are, slots_few}

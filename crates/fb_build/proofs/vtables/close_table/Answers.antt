@@ -13,8 +13,8 @@ use Rattle.fb_build.proofs.vtables.VtableIsLaidOnce.{shared_grown}
 use Rattle.fb_build.proofs.vtables.EndsAreWithinTheTable.{ends_under, ends_high, offset_small}
 use Rattle.fb_build.proofs.vtables.ClosedTableHasItsValue.{vtable_told, vtable_long, vtable_at, table_read, table_end}
 use Rattle.fb_build.proofs.tables.TableHasNoSlack.{zeros_stay, last_used}
-use Rattle.std.proofs.Common.{List, Option, Some, Vec, take, ◌*◌}
-use Rattle.fb_value.specs.Datum.{Datum, a_table}
+use Rattle.std.proofs.Common.{List, Some, Vec, take, ◌*◌}
+use Rattle.fb_value.specs.Datum.{a_table}
 use Rattle.fb_value.specs.View.{entries_in}
 use Rattle.fb_build.specs.Builders.{longest_vtable}
 use Rattle.fb_build.proofs.tables.TableLeadsToItsTargets.{table_leads}
@@ -24,7 +24,7 @@ use Rattle.fb_build.specs.Made.{OldVtable, NewVtable}
 use Rattle.fb_build.specs.Tails.{LaidInTail}
 use Rattle.fb_value.specs.Places.{part_place, table_part, vtable}
 use Rattle.fb_value.specs.Tails.{from_end}
-use Rattle.std.proofs.Common.{◌<◌, ◌≤◌, ◌^◌, ◌⊎◌, inl, inr, max, length, map, slice_get}
+use Rattle.std.proofs.Common.{◌<◌, ◌≤◌, ◌^◌, ◌⊎◌, inl, inr, max, length, slice_get}
 use Rattle.fb_build.proofs.vtables.ClosedTableAddsItsPieces.{IsClosed, old_closed, new_closed}
 use Rattle.fb_build.proofs.vtables.close_table.Goals as goal
 

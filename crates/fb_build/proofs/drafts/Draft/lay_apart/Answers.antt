@@ -1,4 +1,4 @@
-use Rattle.std.proofs.Common.{◌≡◌, ◌≤◌, ap, refl, sym, length, subst, arith}
+use Rattle.std.proofs.Common.{ap, refl, sym, length, subst, arith}
 use Rattle.fb_value.proofs.tails.TailsAreKeptInFront.{through}
 use Rattle.fb_value.specs.Fits.{Fits}
 use Rattle.fb_value.specs.View.{view}
