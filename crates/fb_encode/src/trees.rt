@@ -60,10 +60,10 @@ fn lay_root<'l>(
 
 /// The bytes that encode the value that a tree means under a layout, as the root table's.
 ///
-/// The tree is given away. What the root's table refers to is laid as it is read, and the elements of its vectors of
-/// texts and tables one by one, so that the value is never whole in memory. As many bytes as are `expected` are asked
-/// for at once, where there are so many; the length of the JSON text is a good guess. The error is that of the tree's
-/// first fault, and then that of the value's size.
+/// The tree is given away. What a slot of the root's table refers to is laid once it is read, and an element of its
+/// vectors of texts and tables too, and then dropped: only one of them is in memory at a time. As many bytes as are
+/// `expected` are asked for at once, where there are so many; the length of the JSON text is a good guess. The error is
+/// that of the tree's first fault, and then that of the value's size.
 pub fn encode_tree(
     alloc: Global,
     layout: &Layout,
