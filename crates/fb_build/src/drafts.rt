@@ -44,7 +44,6 @@ use std::marker::Model;
 /// keeps the sum of the rooms of all parts that were asked for, and lays none past 2,147,483,647 bytes.
 #[derive(Drop)]
 pub(crate) struct Draft<'l> {
-    alloc: Global,
     layout: &'l Layout,
     builder: Builder,
     // a count for each reference that waits
@@ -65,12 +64,7 @@ impl<'l> Model for Draft<'l> {
 }
 
 /// Makes room for what laying a value takes.
-fn reserve(
-    alloc: Global,
-    builder: &mut Builder,
-    pending: &mut Vec<u32>,
-    needs: Needs,
-) -> Result<(), AllocError>
+fn reserve(builder: &mut Builder, pending: &mut Vec<u32>, needs: Needs) -> Result<(), AllocError>
     requires short { length builder.old.tail.bytes + needs.room ≤ 2147483647 }
     ensures bytes { builder.new.tail.bytes ≡ builder.old.tail.bytes }
     ensures most { builder.new.tail.most ≡ builder.old.tail.most }
@@ -85,7 +79,7 @@ fn reserve(
         pending.resize(needs.waiting, 0)?;
     }
     builder.vtables.reserve(needs.tables)?;
-    builder.tail.grow(alloc, needs.room)
+    builder.tail.grow(needs.room)
 }
 
 impl<'l> Draft<'l> {
@@ -106,9 +100,8 @@ impl<'l> Draft<'l> {
         let scratch = vec![in alloc; 0u8; 4 + 2 * layout.most_slots()]?;
         let mut tail = Tail::new(Vec::new(alloc));
         // Where the memory isn't there at once it is asked for as the buffer grows.
-        let _enough = tail.grow(alloc, expected.min(MOST_BYTES));
+        let _enough = tail.grow(expected.min(MOST_BYTES));
         Ok(Draft {
-            alloc,
             layout,
             builder: Builder {
                 tail,
@@ -149,7 +142,7 @@ impl<'l> Draft<'l> {
             self.room = room;
             return Ok(0);
         }
-        reserve(self.alloc, &mut self.builder, &mut self.pending, needs)?;
+        reserve(&mut self.builder, &mut self.pending, needs)?;
         self.room = room;
         Ok(lay_part(
             &mut self.builder,
@@ -204,7 +197,7 @@ impl<'l> Draft<'l> {
             self.room = room;
             return Ok(0);
         }
-        self.builder.tail.grow(self.alloc, room - self.room)?;
+        self.builder.tail.grow(room - self.room)?;
         self.room = room;
         Ok(close_references(&mut self.builder.tail, self.layout, kind, data, ends))
     }
@@ -246,7 +239,6 @@ impl<'l> Draft<'l> {
             (a_table self.entry.layout.schema.root (entries_in data.now.entries)) ≤ 2147483647) }
     {
         let Draft {
-            alloc,
             layout,
             mut builder,
             mut pending,
@@ -261,7 +253,7 @@ impl<'l> Draft<'l> {
             waiting: 0,
             tables: 1,
         };
-        reserve(alloc, &mut builder, &mut pending, needs)?;
+        reserve(&mut builder, &mut pending, needs)?;
         Ok(close_root(layout, root, builder, entries, data, ends))
     }
 }

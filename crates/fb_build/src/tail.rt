@@ -6,9 +6,9 @@ ghost use Rattle.byteorder.specs.Endian.{little_bytes};
 ghost use Rattle.fb_layout.specs.Sizes.{IsAlignment};
 ghost use Rattle.fb_build.specs.Tails.{Grows};
 
-use crate::blocks::put_in_front;
+use crate::blocks::{move_to_end, put_in_front};
 use byteorder::{ByteOrder, LittleEndian};
-use std::alloc::{AllocError, Global};
+use std::alloc::AllocError;
 use std::marker::Model;
 
 /// The bytes that a buffer has at most.
@@ -75,9 +75,9 @@ impl Tail {
         self.most
     }
 
-    /// Makes so many bytes free at least. A block that is too short gives way to one of twice its length, or more where
-    /// that is too short too.
-    pub(crate) fn grow(&mut self, alloc: Global, free: usize) -> Result<(), AllocError>
+    /// Makes so many bytes free at least. A block that is too short grows where it is, to twice its length, or more
+    /// where that is too short too. It asks for no second block.
+    pub(crate) fn grow(&mut self, free: usize) -> Result<(), AllocError>
         requires short { length self.old.bytes + free ≤ 2147483647 }
         ensures bytes { self.new.bytes ≡ self.old.bytes }
         ensures most { self.new.most ≡ self.old.most }
@@ -89,9 +89,9 @@ impl Tail {
         }
         let needed = self.count() + free;
         let long = (2 * self.block.len()).min(MOST_BYTES).max(needed);
-        let mut block = vec![in alloc; 0u8; long]?;
-        self.free = put_in_front(&mut block, long, &self.block[self.free..]);
-        self.block = block;
+        let end = self.block.len();
+        self.block.resize(long, 0)?;
+        self.free = move_to_end(&mut self.block, self.free, end);
         Ok(())
     }
 
