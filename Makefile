@@ -40,4 +40,5 @@ soak: build
 	@python3 tests/soak.py crates/hostile/out/hostile --seed $(SEED) --schemas 2000 --damages 500 --size $(PROGRAM)
 
 bench: build
+	@python3 tools/build.py json_parse
 	@python3 bench/bench.py $(PROGRAM)
