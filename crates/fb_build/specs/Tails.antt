@@ -7,11 +7,13 @@ use Rattle.fb_value.specs.Places.{Sort}
 use Rattle.fb_value.specs.Tails.{LiesInTail, OldInTail}
 use Rattle.fb_build.specs.CoveredTails.{TightInTail, InlineInTail}
 
--- the zeros that are left in front, what is laid, and the greatest multiple that was padded to
+-- the zeros that are left in front, what is laid, the greatest multiple that was padded to, and how many of the bytes
+-- were laid before the block in front
 pub record TailSeen : Type 0 where
   pub free : ℕ
   pub bytes : Bytes
   pub most : ℕ
+  pub behind : ℕ
 
 -- From a to b only bytes were laid in front.
 pub record Grows (a b : TailSeen) : Type 0 where
@@ -19,6 +21,7 @@ pub record Grows (a b : TailSeen) : Type 0 where
   pub grown : b.bytes ≡ front ++ a.bytes
   pub spent : b.free + length front ≡ a.free
   pub multiple : divides a.most b.most ≡ true
+  pub same : b.behind ≡ a.behind
 
 -- A value lies e bytes before the end, its tables have nothing in slots that aren't in use, and they, its structs and
 -- its numbers have nothing to spare.

@@ -22,6 +22,7 @@ use crate::drafts::Draft;
 use crate::drops::drop_value;
 use crate::faults::BuildFault;
 use fb_layout::{Layout, kind_in};
+use fb_pieces::Pieces;
 use fb_schema::{FieldInfo, Shape};
 use fb_value::Value;
 use std::alloc::{AllocError, Global};
@@ -29,14 +30,14 @@ use std::marker::Model;
 use std::mem;
 
 /// Builds a buffer while its value comes in: the entries of the root's table one by one, and the elements of a vector
-/// of texts or tables one by one. What lies outside of the root's table is laid at once, so that no vector and no table
-/// stays in memory; any other entry does until the root's table is laid. The buffer's memory grows with what is laid.
+/// of texts or tables one by one. What lies outside of the root's table is laid at once, and need not stay in memory;
+/// its numbers and structs do until it is laid. The buffer's memory grows, piece by piece, with what is laid.
 #[derive(Drop)]
 pub struct BufferBuilder<'l> {
     alloc: Global,
     layout: &'l Layout,
     draft: Draft<'l>,
-    // what stands in for each entry so far: of a vector and of a table, which are laid apart, only that it is there
+    // what stands in for each entry so far: of a text, a vector and a table, which are laid apart, only that it is there
     entries: Vec<Option<Value>>,
     ends: Vec<u32>,
     data: EntryData,
@@ -82,12 +83,13 @@ fn empty_member(alloc: Global, member: Box<Value>) -> Box<Value>
     member
 }
 
-/// What stands in for a value whose part is laid: of a vector and of a table only that it is there.
+/// What stands in for a value whose part is laid: of a text, a vector and a table only that it is there.
 fn emptied(alloc: Global, value: Value) -> Value
     ensures { (L : LaidSchema) (f : Slot) → EntryFits L f (Some (view value))
         → EntryStands f (Some (view value)) (Some (view result)) }
 {
     match value {
+        Value::Text(_) => Value::Text(String::new(alloc)),
         Value::Items(items) => {
             drop_value(Value::Items(items));
             Value::Items(Vec::new(alloc))
@@ -205,17 +207,18 @@ impl<'l> BufferBuilder<'l> {
         Ok(())
     }
 
-    /// Lays the root's table, whose entries are all there, and what is before it, and returns the bytes.
-    pub fn finish(self) -> Result<Vec<u8>, BuildFault>
+    /// Lays the root's table, whose entries are all there, and what is before it, and returns the bytes in
+    /// pieces.
+    pub fn finish(self) -> Result<Pieces, BuildFault>
         requires all { length self.entries ≡ length (root_slots self.layout) }
         requires closed { self.elements ≡ [] }
         ensures holds { IfOk result (λ b. (most : Bounds) (raw : Bool)
             → depth (root_value self.entry) ≤ most.depth → cells (root_value self.entry) ≤ most.cells
-            → Holds self.entry.layout most raw b.items (root_value self.entry)) }
-        ensures old_slots { IfOk result (λ b. OnlyOld self.entry.layout b.items) }
-        ensures covered { IfOk result (λ b. Covered self.entry.layout b.items) }
-        ensures aligned { IfOk result (λ b. EndsAligned self.entry.layout b.items) }
-        ensures short { IfOk result (λ b. length b.items ≤ room_of self.entry.layout (root_value self.entry)) }
+            → Holds self.entry.layout most raw b.bytes (root_value self.entry)) }
+        ensures old_slots { IfOk result (λ b. OnlyOld self.entry.layout b.bytes) }
+        ensures covered { IfOk result (λ b. Covered self.entry.layout b.bytes) }
+        ensures aligned { IfOk result (λ b. EndsAligned self.entry.layout b.bytes) }
+        ensures short { IfOk result (λ b. length b.bytes ≤ room_of self.entry.layout (root_value self.entry)) }
         ensures small { IfOk result (λ b. room_of self.entry.layout (root_value self.entry) ≤ 2147483647) }
         ensures too_big { IfErr result (λ e. e ≡ TooBig
             → 2147483647 < room_of self.entry.layout (root_value self.entry)) }

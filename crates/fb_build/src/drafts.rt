@@ -32,8 +32,9 @@ use crate::needs::{Needs, part_needs};
 use crate::references::close_references;
 use crate::roots::close_root;
 use crate::tables::lay_part;
-use crate::tail::{MOST_BYTES, Tail};
+use crate::tail::{BLOCK_BYTES, MOST_BYTES, Tail};
 use fb_layout::Layout;
+use fb_pieces::Pieces;
 use fb_schema::{Kind, Shape};
 use fb_value::{Value, buffer_room, table_room, vector_room};
 use fb_vtables::VtableIndex;
@@ -100,7 +101,7 @@ impl<'l> Draft<'l> {
         let scratch = vec![in alloc; 0u8; 4 + 2 * layout.most_slots()]?;
         let mut tail = Tail::new(Vec::new(alloc));
         // Where the memory isn't there at once it is asked for as the buffer grows.
-        let _enough = tail.grow(expected.min(MOST_BYTES));
+        let _enough = tail.grow(expected.min(BLOCK_BYTES));
         Ok(Draft {
             layout,
             builder: Builder {
@@ -208,7 +209,7 @@ impl<'l> Draft<'l> {
         entries: &[Option<Value>],
         data: &EntryData,
         ends: &mut [u32],
-    ) -> Result<Vec<u8>, BuildFault>
+    ) -> Result<Pieces, BuildFault>
         requires fits { EntriesFit self.layout (slots_of self.layout self.layout.schema.root)
             (entries_in data.now.entries) }
         requires whole { entries_whole (entries_in data.now.entries) ≡ true }
@@ -224,12 +225,12 @@ impl<'l> Draft<'l> {
         ensures holds { IfOk result (λ b. (most : Bounds) (raw : Bool)
             → depth (a_table self.entry.layout.schema.root (entries_in data.now.entries)) ≤ most.depth
             → cells (a_table self.entry.layout.schema.root (entries_in data.now.entries)) ≤ most.cells
-            → Holds self.entry.layout most raw b.items
+            → Holds self.entry.layout most raw b.bytes
             (a_table self.entry.layout.schema.root (entries_in data.now.entries))) }
-        ensures old_slots { IfOk result (λ b. OnlyOld self.entry.layout b.items) }
-        ensures covered { IfOk result (λ b. Covered self.entry.layout b.items) }
-        ensures aligned { IfOk result (λ b. EndsAligned self.entry.layout b.items) }
-        ensures short { IfOk result (λ b. length b.items ≤ room_of self.entry.layout
+        ensures old_slots { IfOk result (λ b. OnlyOld self.entry.layout b.bytes) }
+        ensures covered { IfOk result (λ b. Covered self.entry.layout b.bytes) }
+        ensures aligned { IfOk result (λ b. EndsAligned self.entry.layout b.bytes) }
+        ensures short { IfOk result (λ b. length b.bytes ≤ room_of self.entry.layout
             (a_table self.entry.layout.schema.root (entries_in data.now.entries))) }
         ensures small { IfOk result (λ b. room_of self.entry.layout
             (a_table self.entry.layout.schema.root (entries_in data.now.entries)) ≤ 2147483647) }
@@ -254,6 +255,6 @@ impl<'l> Draft<'l> {
             tables: 1,
         };
         reserve(&mut builder, &mut pending, needs)?;
-        Ok(close_root(layout, root, builder, entries, data, ends))
+        Ok(close_root(layout, root, builder, entries, data, ends).into_pieces()?)
     }
 }

@@ -1,37 +1,51 @@
-//! A block that is filled from its end.
+//! Bytes that are laid from their end.
 ghost use Rattle.std.specs.Prelude.{◌≡◌, ◌≤◌, ◌<◌, ◌+◌, ◌-◌, ◌%◌, ◌++◌};
-ghost use Rattle.std.specs.Prelude.{length, take, drop, replicate, max, true, OnOk, OnErr};
+ghost use Rattle.std.specs.Prelude.{length, replicate, max, true, IfOk, OnOk, OnErr};
 ghost use Rattle.fb_value.specs.Num.{divides};
 ghost use Rattle.byteorder.specs.Endian.{little_bytes};
 ghost use Rattle.fb_layout.specs.Sizes.{IsAlignment};
+ghost use Rattle.fb_pieces.specs.LaidBytes.{laid_bytes};
 ghost use Rattle.fb_build.specs.Tails.{Grows};
 
-use crate::blocks::{move_to_end, put_in_front};
+use crate::blocks::{end_of, fitted, put_in_front};
 use byteorder::{ByteOrder, LittleEndian};
+use fb_pieces::{Laid, Pieces};
 use std::alloc::AllocError;
 use std::marker::Model;
+use std::mem;
 
 /// The bytes that a buffer has at most.
 pub(crate) const MOST_BYTES: usize = 2147483647;
 
-/// A block of zeros whose end is filled.
+/// How many bytes a block has more than the part that is laid next needs. It is small enough to take the place of what
+/// was dropped meanwhile.
+pub(crate) const BLOCK_BYTES: usize = 65536;
+
+/// A block of zeros whose end is filled, and what was laid before it, in pieces.
 #[derive(Drop)]
 pub(crate) struct Tail {
+    behind: Pieces,
     block: Vec<u8>,
     free: usize,
     most: usize,
 }
 
 impl Model for Tail {
-    ghost use Rattle.std.specs.Prelude.{◌≡◌, ◌≤◌, length, take, drop, replicate};
+    ghost use Rattle.std.specs.Prelude.{◌≡◌, ◌≤◌, ◌+◌, ◌++◌, length, take, drop, replicate};
     ghost use Rattle.fb_layout.specs.Sizes.{IsAlignment};
     ghost use Rattle.fb_build.specs.Tails.{TailSeen};
 
     ghost Value = { TailSeen };
 
-    ghost view = { λ t. record { free = t.free; bytes = drop t.free t.block.items; most = t.most } };
+    ghost view = { λ t. record {
+      free = t.free;
+      bytes = drop t.free t.block.items ++ t.behind.bytes;
+      most = t.most;
+      behind = length t.behind.bytes;
+    } };
 
-    ghost invariant = { λ t. (t.free ≤ length t.block.items) × (length t.block.items ≤ 2147483647)
+    ghost invariant = { λ t. (t.free ≤ length t.block.items)
+        × (length t.block.items + length t.behind.bytes ≤ 2147483647)
         × (take t.free t.block.items ≡ replicate t.free 0) × IsAlignment t.most };
 }
 
@@ -43,9 +57,11 @@ impl Tail {
         ensures free { result.free ≡ length block.items }
         ensures bytes { length result.bytes ≡ 0 }
         ensures most { result.most ≡ 4 }
+        ensures behind { result.behind ≡ 0 }
     {
         let free = block.len();
         Tail {
+            behind: Pieces::new(*block.allocator()),
             block,
             free,
             most: 4,
@@ -57,14 +73,17 @@ impl Tail {
         ensures exact { result ≡ length self.now.bytes }
         ensures short { self.now.free + result ≤ 2147483647 }
     {
-        self.block.len() - self.free
+        self.block.len() - self.free + self.behind.len()
     }
 
     /// The bytes that are laid.
-    pub(crate) fn laid(&self) -> &[u8]
-        ensures { result.now ≡ self.now.bytes }
+    pub(crate) fn laid(&self) -> Laid<'_>
+        ensures { laid_bytes result ≡ self.now.bytes }
     {
-        &self.block[self.free..]
+        Laid {
+            front: &self.block[self.free..],
+            behind: &self.behind,
+        }
     }
 
     /// The greatest multiple that was padded to.
@@ -75,8 +94,9 @@ impl Tail {
         self.most
     }
 
-    /// Makes so many bytes free at least. A block that is too short grows where it is, to twice its length, or more
-    /// where that is too short too. It asks for no second block.
+    /// Makes so many bytes free at least. Where the block is too short, what is laid in it becomes a piece, and another
+    /// one comes in front. It has some bytes more than asked for, as many as are laid at most, so that few blocks are
+    /// filled with zeros where parts need less than they ask for.
     pub(crate) fn grow(&mut self, free: usize) -> Result<(), AllocError>
         requires short { length self.old.bytes + free ≤ 2147483647 }
         ensures bytes { self.new.bytes ≡ self.old.bytes }
@@ -87,11 +107,15 @@ impl Tail {
         if free <= self.free {
             return Ok(());
         }
-        let needed = self.count() + free;
-        let long = (2 * self.block.len()).min(MOST_BYTES).max(needed);
-        let end = self.block.len();
-        self.block.resize(long, 0)?;
-        self.free = move_to_end(&mut self.block, self.free, end);
+        let laid = self.count();
+        let spare = laid.min(free.max(BLOCK_BYTES));
+        let long = (free + spare).min(MOST_BYTES - laid);
+        let mut block = Vec::with_capacity(*self.block.allocator(), long)?;
+        block.resize(long, 0)?;
+        self.behind.reserve()?;
+        let free = mem::replace(&mut self.free, long);
+        let full = mem::replace(&mut self.block, block);
+        self.behind.push_reserved(fitted(end_of(full, free)));
         Ok(())
     }
 
@@ -100,6 +124,7 @@ impl Tail {
         ensures bytes { self.new.bytes ≡ bytes.now ++ self.old.bytes }
         ensures free { self.new.free + length bytes.now ≡ self.old.free }
         ensures most { self.new.most ≡ self.old.most }
+        ensures behind { self.new.behind ≡ self.old.behind }
     {
         self.free = put_in_front(&mut self.block, self.free, bytes);
     }
@@ -111,6 +136,7 @@ impl Tail {
         ensures bytes { self.new.bytes ≡ bytes.now ++ self.old.bytes }
         ensures free { self.new.free + length bytes.now ≡ self.old.free }
         ensures most { self.new.most ≡ self.old.most }
+        ensures behind { self.new.behind ≡ self.old.behind }
         ensures grows { Grows self.old self.new }
     {
         self.put(bytes);
@@ -122,6 +148,7 @@ impl Tail {
         ensures bytes { self.new.bytes ≡ little_bytes 2 number ++ self.old.bytes }
         ensures free { self.new.free + 2 ≡ self.old.free }
         ensures most { self.new.most ≡ self.old.most }
+        ensures behind { self.new.behind ≡ self.old.behind }
         ensures grows { Grows self.old self.new }
     {
         let mut bytes = [0u8; 2];
@@ -135,6 +162,7 @@ impl Tail {
         ensures bytes { self.new.bytes ≡ little_bytes 4 number ++ self.old.bytes }
         ensures free { self.new.free + 4 ≡ self.old.free }
         ensures most { self.new.most ≡ self.old.most }
+        ensures behind { self.new.behind ≡ self.old.behind }
         ensures grows { Grows self.old self.new }
     {
         let mut bytes = [0u8; 4];
@@ -148,6 +176,7 @@ impl Tail {
         ensures bytes { self.new.bytes ≡ little_bytes 8 number ++ self.old.bytes }
         ensures free { self.new.free + 8 ≡ self.old.free }
         ensures most { self.new.most ≡ self.old.most }
+        ensures behind { self.new.behind ≡ self.old.behind }
         ensures grows { Grows self.old self.new }
     {
         let mut bytes = [0u8; 8];
@@ -160,6 +189,7 @@ impl Tail {
         ensures bytes { self.new.bytes ≡ replicate zeros 0 ++ self.old.bytes }
         ensures free { self.new.free + zeros ≡ self.old.free }
         ensures most { self.new.most ≡ self.old.most }
+        ensures behind { self.new.behind ≡ self.old.behind }
     {
         self.free -= zeros;
     }
@@ -170,6 +200,7 @@ impl Tail {
         ensures bytes { self.new.bytes ≡ replicate zeros 0 ++ self.old.bytes }
         ensures free { self.new.free + zeros ≡ self.old.free }
         ensures most { self.new.most ≡ self.old.most }
+        ensures behind { self.new.behind ≡ self.old.behind }
         ensures grows { Grows self.old self.new }
     {
         self.skip(zeros);
@@ -180,6 +211,7 @@ impl Tail {
         ensures bytes { self.new.bytes ≡ self.old.bytes }
         ensures free { self.new.free ≡ self.old.free }
         ensures most { self.new.most ≡ max self.old.most align }
+        ensures behind { self.new.behind ≡ self.old.behind }
         ensures power { IsAlignment self.old.most }
     {
         self.most = self.most.max(align);
@@ -196,6 +228,7 @@ impl Tail {
         ensures multiple { (length self.new.bytes + more) % align ≡ 0 }
         ensures most { self.new.most ≡ max self.old.most align }
         ensures wide { divides align self.new.most ≡ true }
+        ensures behind { self.new.behind ≡ self.old.behind }
         ensures grows { Grows self.old self.new }
     {
         let after = self.count() + more;
@@ -205,13 +238,26 @@ impl Tail {
         zeros
     }
 
-    /// The bytes that are laid.
-    pub(crate) fn into_bytes(mut self) -> Vec<u8>
+    /// The bytes that are laid, where all of them are in one block.
+    pub(crate) fn into_bytes(self) -> Vec<u8>
+        requires one { self.behind ≡ 0 }
         ensures { result.items ≡ self.bytes }
     {
-        let count = self.block.len() - self.free;
-        self.block.copy_within(self.free.., 0);
-        self.block.truncate(count);
-        self.block
+        end_of(self.block, self.free)
+    }
+
+    /// The bytes that are laid, in pieces.
+    pub(crate) fn into_pieces(self) -> Result<Pieces, AllocError>
+        ensures { IfOk result (λ p. p.bytes ≡ self.bytes) }
+    {
+        let Tail {
+            mut behind,
+            block,
+            free,
+            ..
+        } = self;
+        behind.reserve()?;
+        behind.push_reserved(end_of(block, free));
+        Ok(behind)
     }
 }

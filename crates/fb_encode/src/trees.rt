@@ -16,6 +16,7 @@ use fb_json::{
     slots_decide_the_root,
 };
 use fb_layout::Layout;
+use fb_pieces::Pieces;
 use fb_value::Limits;
 use serde_json::{Map, Value as Json};
 use std::alloc::Global;
@@ -58,12 +59,13 @@ fn lay_root<'l>(
     }
 }
 
-/// The bytes that encode the value that a tree means under a layout, as the root table's.
+/// The bytes that encode the value that a tree means under a layout, as the root table's, in pieces.
 ///
 /// The tree is given away. What a slot of the root's table refers to is laid once it is read, and an element of its
-/// vectors of texts and tables too, and then dropped: only one of them is in memory at a time. As many bytes as are
-/// `expected` are asked for at once, where there are so many; the length of the JSON text is a good guess. The error is
-/// that of the tree's first fault, and then that of the value's size.
+/// vectors of texts and tables too, and then dropped: only one of them is in memory at a time. The bytes are laid in
+/// pieces, which take the place of what was dropped. The first of them has as many bytes as are `expected`, if that
+/// isn't much; the length of the JSON text is a good guess. The error is that of the tree's first fault, and then that
+/// of the value's size.
 pub fn encode_tree(
     alloc: Global,
     layout: &Layout,
@@ -71,8 +73,8 @@ pub fn encode_tree(
     limits: Limits,
     unknown: bool,
     expected: usize,
-) -> Result<Vec<u8>, EncodeFault>
-    ensures encoded { IfOk result (λ b. IsEncoded layout.now limits unknown (tree_view tree) b.items) }
+) -> Result<Pieces, EncodeFault>
+    ensures encoded { IfOk result (λ b. IsEncoded layout.now limits unknown (tree_view tree) b.bytes) }
     ensures refused { IfErr result (EncodeRefused layout.now limits unknown (tree_view tree)) }
 {
     first_fault_refuses();

@@ -1,3 +1,4 @@
 mod OneVtableStandsAtAPlace
 mod FoundVtableIsKnown
 mod ReachedVtablesStayReached
+mod ChainsGoOn

@@ -1,4 +1,3 @@
-pub mod Ends
 pub mod Vtables
 pub mod Digests
 pub mod Chains

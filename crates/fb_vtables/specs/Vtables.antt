@@ -3,14 +3,11 @@
 -- too.
 use Rattle.std.specs.Prelude.{ℕ, ◌≡◌, ◌<◌, ◌++◌, true, List, length, Some, slice_get, slice_index}
 use Rattle.fb_value.specs.Num.{Bytes, num, divides}
-use Rattle.fb_vtables.specs.Ends.{StandsEnd}
+use Rattle.fb_pieces.specs.Ends.{StandsEnd}
 
-abbrev pub IsKey : List Bytes → Bytes → Type 0
-IsKey known vtable = (i : ℕ) × (slice_get known i ≡ Some vtable)
-
--- Known vtables stay known, each at its index.
-abbrev pub AreKept : List Bytes → List Bytes → Type 0
-AreKept old new = (i : ℕ) (vtable : Bytes) → slice_get old i ≡ Some vtable → slice_get new i ≡ Some vtable
+-- The vtable is one of those that are known.
+abbrev pub IsKnown : List Bytes → Bytes → Type 0
+IsKnown known vtable = (i : ℕ) × (slice_get known i ≡ Some vtable)
 
 -- No vtable is known at two indices.
 abbrev pub AreDifferent : List Bytes → Type 0

@@ -4,10 +4,12 @@ ghost use Rattle.std.specs.Prelude.{length, nat_eq, true};
 ghost use Rattle.indexmap.specs.IndexMap.{get};
 ghost use Rattle.fb_vtables.specs.Chains.{Reaches, StandsAt, first_of};
 ghost use Rattle.fb_vtables.specs.Digests.{digest_of};
-ghost use Rattle.fb_vtables.specs.Ends.{StandsEnd};
-ghost use Rattle.fb_vtables.specs.Vtables.{AreLaid, IsFound, IsKey, TellsItsLength};
+ghost use Rattle.fb_pieces.specs.Ends.{StandsEnd};
+ghost use Rattle.fb_pieces.specs.LaidBytes.{laid_bytes};
+ghost use Rattle.fb_vtables.specs.Vtables.{AreLaid, IsFound, IsKnown, TellsItsLength};
 
 use crate::data::VtableData;
+use fb_pieces::Laid;
 use indexmap::IndexMap;
 use std::alloc::{AllocError, Global};
 use std::hash::{FoldHasher, Hasher};
@@ -58,21 +60,16 @@ fn digest(bytes: &[u8]) -> u64
     hasher.finish()
 }
 
-/// Whether bytes stand at a place, which is counted from the end of those that are laid.
-fn stands_at(laid: &[u8], place: u32, vtable: &[u8]) -> bool
-    ensures { IsTrue result ↔ StandsEnd laid.now place vtable.now }
+/// Whether a vtable stands at a place, which is counted from the end of those that are laid.
+fn stands_at(laid: Laid, place: u32, vtable: &[u8]) -> bool
+    ensures { IsTrue result ↔ StandsEnd (laid_bytes laid.entry) place vtable.now }
 {
-    let place = place as usize;
-    if place > laid.len() || vtable.len() > place {
-        return false;
-    }
-    let start = laid.len() - place;
-    &laid[start..start + vtable.len()] == vtable
+    laid.stands_at(place as usize, vtable)
 }
 
 /// Whether the known vtable at an index has these bytes.
-fn has_bytes(known: &[LaidVtable], i: usize, laid: &[u8], vtable: &[u8]) -> bool
-    ensures { result ≡ true → StandsAt known.now laid.now vtable.now i }
+fn has_bytes(known: &[LaidVtable], i: usize, laid: Laid, vtable: &[u8]) -> bool
+    ensures { result ≡ true → StandsAt known.now (laid_bytes laid.entry) vtable.now i }
 {
     match known.get(i) {
         Some(one) => stands_at(laid, one.place, vtable),
@@ -82,8 +79,8 @@ fn has_bytes(known: &[LaidVtable], i: usize, laid: &[u8], vtable: &[u8]) -> bool
 
 /// Which of the vtables that came last has these bytes: to compare a few is quicker than to hash, and tables that are
 /// near each other often have the same fields.
-fn recent_with(known: &[LaidVtable], laid: &[u8], vtable: &[u8]) -> Option<usize>
-    ensures { IfSome result (StandsAt known.now laid.now vtable.now) }
+fn recent_with(known: &[LaidVtable], laid: Laid, vtable: &[u8]) -> Option<usize>
+    ensures { IfSome result (StandsAt known.now (laid_bytes laid.entry) vtable.now) }
 {
     let count = known.len();
     for i in count.saturating_sub(RECENT)..count {
@@ -95,10 +92,10 @@ fn recent_with(known: &[LaidVtable], laid: &[u8], vtable: &[u8]) -> Option<usize
 }
 
 /// Which of the vtables of a chain has these bytes: the chain begins at `first` less one and goes on by `older`.
-fn chained_with(known: &[LaidVtable], laid: &[u8], vtable: &[u8], first: usize) -> Option<usize>
-    ensures found { IfSome result (StandsAt known.now laid.now vtable.now) }
+fn chained_with(known: &[LaidVtable], laid: Laid, vtable: &[u8], first: usize) -> Option<usize>
+    ensures found { IfSome result (StandsAt known.now (laid_bytes laid.entry) vtable.now) }
     ensures absent { result ≡ None → (i : ℕ) → Reaches known.now i first
-        → StandsAt known.now laid.now vtable.now i → ⊥ }
+        → StandsAt known.now (laid_bytes laid.entry) vtable.now i → ⊥ }
 {
     let mut next = first;
     while next > 0 {
@@ -130,13 +127,13 @@ fn index_of(
     newest: &IndexMap<u64, usize>,
     known: &[LaidVtable],
     near: usize,
-    laid: &[u8],
+    laid: Laid,
     vtable: &[u8],
 ) -> Option<usize>
-    ensures found { IfSome result (StandsAt known.now laid.now vtable.now) }
+    ensures found { IfSome result (StandsAt known.now (laid_bytes laid.entry) vtable.now) }
     ensures absent { result ≡ None → (i : ℕ)
         → Reaches known.now i (first_of (get nat_eq newest.now (digest_of vtable.now)))
-        → StandsAt known.now laid.now vtable.now i → ⊥ }
+        → StandsAt known.now (laid_bytes laid.entry) vtable.now i → ⊥ }
 {
     if has_bytes(known, near, laid, vtable) {
         return Some(near);
@@ -172,11 +169,11 @@ impl VtableIndex {
     }
 
     /// Where the vtable with these bytes is laid, counted from the end of the bytes that are laid, if there is one.
-    pub fn find(&mut self, laid: &[u8], vtable: &[u8]) -> Option<u32>
-        requires laid { AreLaid self.old.vtables self.old.places laid.now }
+    pub fn find(&mut self, laid: Laid, vtable: &[u8]) -> Option<u32>
+        requires laid { AreLaid self.old.vtables self.old.places (laid_bytes laid) }
         requires told { TellsItsLength vtable.now }
         ensures found { IfSome result (IsFound self.old vtable.now) }
-        ensures absent { result ≡ None → IsKey self.old.vtables vtable.now → ⊥ }
+        ensures absent { result ≡ None → IsKnown self.old.vtables vtable.now → ⊥ }
         ensures same { self.new ≡ self.old }
     {
         let i = index_of(&self.newest, &self.laid, self.near, laid, vtable)?;

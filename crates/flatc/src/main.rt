@@ -17,11 +17,12 @@ use clap::error::ErrorKind;
 use flatc_cli::{Job, Request, request_of};
 use flatc_tool::command::report;
 use flatc_tool::{
-    Limits, Noted, ToolFault, check, conform_texts, print_to, to_binary, to_binary_owned, to_json,
+    Limits, Noted, Pieces, ToolFault, check, conform_texts, print_to, to_binary, to_binary_pieces,
+    to_json,
 };
 use std::alloc::Global;
 use std::process::ExitCode;
-use std::{env, io, mem};
+use std::{env, io};
 
 const SCHEMA: &[u8] = b"table T { a:int; } root_type T;";
 
@@ -51,14 +52,10 @@ fn example(alloc: Global) -> Result<String, ToolFault> {
     to_json(alloc, SCHEMA, bytes.as_slice(), limits(), false, false)
 }
 
-/// The buffer of the JSON text that was read. The text is given away for it, unless it may be quoted.
-fn buffer_of(rt: &HostRuntime, texts: &mut Texts<'_>, unknown: bool) -> Result<Vec<u8>, ToolFault> {
-    if texts.quoted {
-        let (schema, json) = (texts.schema.as_slice(), texts.input.as_slice());
-        return to_binary(rt.alloc(), schema, json, limits(), unknown);
-    }
-    let json = mem::replace(&mut texts.input, Vec::new(rt.alloc()));
-    to_binary_owned(rt.alloc(), texts.schema.as_slice(), json, limits(), unknown)
+/// The buffer of the JSON text that was read.
+fn buffer_of(rt: &HostRuntime, texts: &mut Texts<'_>, unknown: bool) -> Result<Pieces, ToolFault> {
+    let json = texts.give_input(rt)?;
+    to_binary_pieces(rt.alloc(), texts.schema.as_slice(), json, limits(), unknown)
 }
 
 fn write_buffer<'j>(
@@ -70,8 +67,8 @@ fn write_buffer<'j>(
     let [schema, json, out] = paths;
     texts.read_schema(rt, schema)?;
     texts.read_input(rt, json)?;
-    let bytes = buffer_of(rt, texts, unknown)?;
-    match write_out(rt, out, bytes.as_slice(), [schema, json]) {
+    let buffer = buffer_of(rt, texts, unknown)?;
+    match write_out(rt, out, &buffer, [schema, json]) {
         Ok(()) => Ok(()),
         Err(error) if error.kind() == io::ErrorKind::OutOfMemory => Err(ToolFault::Memory),
         Err(error) => Err(texts.fail(rt, out, &error, ToolFault::FileWrite)),

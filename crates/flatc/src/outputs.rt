@@ -1,6 +1,7 @@
 //! Where a buffer is written to: never over an input, and never half.
+use flatc_tool::Pieces;
 use std::fs::{self, File, Metadata, OpenOptions, Permissions};
-use std::io::{self, ErrorKind, Write};
+use std::io::{self, ErrorKind};
 use std::os::unix::fs::{MetadataExt, OpenOptionsExt, PermissionsExt, chown};
 use std::path::{Path, PathBuf};
 use std::process;
@@ -74,28 +75,28 @@ fn fill_and_rename(
     rt: &HostRuntime,
     (path, mut file): (&str, File),
     out: &str,
-    bytes: &[u8],
+    buffer: &Pieces,
     old: Option<&Metadata>,
 ) -> io::Result<()> {
-    file.write_all(bytes)?;
+    buffer.write_to(&mut file)?;
     if let Some(old) = old {
         take_over(rt, &file, path, old)?;
     }
     fs::rename(rt, path, out)
 }
 
-/// Writes bytes to a file beside `out`, and renames it, so that a failure leaves `out` as it was.
-fn replace(rt: &HostRuntime, out: &str, bytes: &[u8], old: Option<&Metadata>) -> io::Result<()> {
+/// Writes a buffer to a file beside `out`, and renames it, so that a failure leaves `out` as it was.
+fn replace(rt: &HostRuntime, out: &str, buffer: &Pieces, old: Option<&Metadata>) -> io::Result<()> {
     let mode = if old.is_some() { PRIVATE } else { USUAL };
     let (path, file) = create_beside(rt, out, mode)?;
-    let done = fill_and_rename(rt, (path.as_str(), file), out, bytes, old);
+    let done = fill_and_rename(rt, (path.as_str(), file), out, buffer, old);
     if done.is_err() {
         let _gone = fs::remove_file(rt, path.as_str());
     }
     done
 }
 
-/// Writes bytes to `out`.
+/// Writes a buffer to `out`.
 ///
 /// A regular file is replaced whole or left as it was; what else is there, as a device, a pipe or a
 /// link, is written directly. It is an error where that fails, where `out` is one of the inputs, and
@@ -103,21 +104,21 @@ fn replace(rt: &HostRuntime, out: &str, bytes: &[u8], old: Option<&Metadata>) ->
 pub(crate) fn write_out(
     rt: &HostRuntime,
     out: &str,
-    bytes: &[u8],
+    buffer: &Pieces,
     inputs: [&str; 2],
 ) -> io::Result<()> {
     let old = match fs::symlink_metadata(rt, out) {
         Ok(old) => old,
-        Err(error) if error.kind() == ErrorKind::NotFound => return replace(rt, out, bytes, None),
+        Err(error) if error.kind() == ErrorKind::NotFound => return replace(rt, out, buffer, None),
         Err(error) => return Err(error),
     };
     if is_guarded(rt, out, inputs) {
         return Err(refused());
     }
     if !old.is_file() {
-        return fs::write(rt, out, bytes);
+        return buffer.write_to(&mut File::create(rt, out)?);
     }
     // A file that may not be written isn't replaced either.
     let _writable = OpenOptions::new().write(true).open(rt, out)?;
-    replace(rt, out, bytes, Some(&old))
+    replace(rt, out, buffer, Some(&old))
 }

@@ -2,7 +2,7 @@
 use crate::reasons::Reasoned;
 use flatc_tool::ToolFault;
 use flatc_tool::command::{Heard, take_all};
-use std::{fs, io};
+use std::{fs, io, mem};
 
 /// The longest file that is read, in bytes.
 const LONGEST: u32 = 2_147_483_647;
@@ -84,5 +84,16 @@ impl<'j> Texts<'j> {
     pub(crate) fn read_input(&mut self, rt: &HostRuntime, path: &'j str) -> Result<(), ToolFault> {
         self.input = self.read(rt, path)?;
         Ok(())
+    }
+
+    /// Gives what was read as input away; a copy of it where an explanation may quote it.
+    pub(crate) fn give_input(&mut self, rt: &HostRuntime) -> Result<Vec<u8>, ToolFault> {
+        if !self.quoted {
+            return Ok(mem::replace(&mut self.input, Vec::new(rt.alloc())));
+        }
+        match Vec::from_slice(rt.alloc(), self.input.as_slice()) {
+            Ok(copy) => Ok(copy),
+            Err(_) => Err(ToolFault::Memory),
+        }
     }
 }

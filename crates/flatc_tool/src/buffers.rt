@@ -2,6 +2,7 @@
 ghost use Rattle.std.specs.Prelude.{◌≡◌, ◌⊎◌, ℕ, List, IfOk, IfErr};
 ghost use Rattle.serde_json.specs.Data.{Data};
 ghost use Rattle.serde_json.specs.View.{view as tree_view};
+ghost use Rattle.fb_build.specs.declared.faults.BuildFault.TheVariants.{Memory};
 ghost use Rattle.flatc_tool.specs.Encodes.{encode_fault};
 ghost use Rattle.flatc_tool.specs.Jobs.{IsBinaryOf, MayBeBinaryOf, BinaryRefusedOf, IsNotMemory};
 ghost use Rattle.flatc_tool.specs.JsonText.{IsTree};
@@ -9,8 +10,10 @@ ghost use Rattle.flatc_tool.specs.JsonText.{IsTree};
 use crate::faults::ToolFault;
 use crate::laws::layer_laws;
 use crate::options::EncodeOptions;
+use fb_build::BuildFault;
 use fb_encode::{EncodeFault, encode_tree};
 use fb_layout::Layout;
+use fb_pieces::Pieces;
 use serde_json::Value as Json;
 use std::alloc::Global;
 
@@ -37,16 +40,16 @@ fn refused(fault: EncodeFault) -> ToolFault
     }
 }
 
-/// The buffer of a JSON text's tree.
-fn buffer_of(
+/// The buffer of a JSON text's tree, in pieces.
+fn pieces_of(
     alloc: Global,
     layout: &Layout,
     tree: Json,
     options: &EncodeOptions,
     expected: usize,
-) -> Result<Vec<u8>, ToolFault>
+) -> Result<Pieces, ToolFault>
     ensures binary { (json : List ℕ) → IsTree json (tree_view tree) → IfOk result
-        (λ b. IsBinaryOf layout.now json options.now.limits options.now.unknown_json b.items) }
+        (λ b. IsBinaryOf layout.now json options.now.limits options.now.unknown_json b.bytes) }
     ensures refused { (json : List ℕ) → IsTree json (tree_view tree) → IfErr result
         (BinaryRefusedOf layout.now json options.now.limits options.now.unknown_json) }
     ensures exact { (json : List ℕ) → IsTree json (tree_view tree) → IfErr result (λ f. IsNotMemory f
@@ -55,8 +58,19 @@ fn buffer_of(
     layer_laws();
     let (limits, unknown) = (options.limits, options.unknown_json);
     match encode_tree(alloc, layout, tree, limits, unknown, expected) {
-        Ok(bytes) => Ok(bytes),
+        Ok(pieces) => Ok(pieces),
         Err(fault) => Err(refused(fault)),
+    }
+}
+
+/// The bytes of pieces in one block.
+fn joined(alloc: Global, pieces: Pieces) -> Result<Vec<u8>, ToolFault>
+    ensures bytes { IfOk result (λ b. b.items ≡ pieces.bytes) }
+    ensures refused { IfErr result (λ f. f ≡ ToolFault.Build Memory) }
+{
+    match pieces.into_bytes(alloc) {
+        Ok(bytes) => Ok(bytes),
+        Err(_) => Err(ToolFault::Build(BuildFault::Memory)),
     }
 }
 
@@ -78,24 +92,24 @@ pub fn encode(
     ensures exact { IfErr result (λ f. IsNotMemory f
         → ¬ MayBeBinaryOf layout.now json.now options.now.limits options.now.unknown_json) }
 {
-    match tree_of(alloc, json) {
-        Ok(tree) => buffer_of(alloc, layout, tree, options, json.len()),
-        Err(fault) => Err(fault),
-    }
+    let tree = tree_of(alloc, json)?;
+    let pieces = pieces_of(alloc, layout, tree, options, json.len())?;
+    joined(alloc, pieces)
 }
 
-/// The buffer of a JSON text that is given away, under a layout.
+/// The buffer of a JSON text that is given away, under a layout, in pieces.
 ///
-/// The text is dropped before the buffer is laid, so that there is memory for one of them at a time.
-/// The errors are those of `encode`, in the same order.
-pub fn encode_owned(
+/// This takes the least memory: the text is dropped before the buffer is laid, what is read is dropped as it is laid,
+/// and the pieces take its place, in which they may be written too. The errors are those of `encode`, in the same
+/// order.
+pub fn encode_pieces(
     alloc: Global,
     layout: &Layout,
     json: Vec<u8>,
     options: &EncodeOptions,
-) -> Result<Vec<u8>, ToolFault>
+) -> Result<Pieces, ToolFault>
     ensures binary { IfOk result
-        (λ b. IsBinaryOf layout.now json.items options.now.limits options.now.unknown_json b.items) }
+        (λ b. IsBinaryOf layout.now json.items options.now.limits options.now.unknown_json b.bytes) }
     ensures refused { IfErr result
         (BinaryRefusedOf layout.now json.items options.now.limits options.now.unknown_json) }
     ensures exact { IfErr result (λ f. IsNotMemory f
@@ -105,7 +119,7 @@ pub fn encode_owned(
     let expected = json.len();
     drop(json);
     match tree {
-        Ok(tree) => buffer_of(alloc, layout, tree, options, expected),
+        Ok(tree) => pieces_of(alloc, layout, tree, options, expected),
         Err(fault) => Err(fault),
     }
 }

@@ -2,11 +2,12 @@
 ghost use Rattle.std.specs.Prelude.{IfOk, IfErr};
 ghost use Rattle.flatc_tool.specs.Jobs.{IsBinary, MayBeBinary, BinaryRefused, IsNotMemory};
 
-use crate::buffers::{encode, encode_owned};
+use crate::buffers::{encode, encode_pieces};
 use crate::faults::ToolFault;
 use crate::laws::layer_laws;
 use crate::options::EncodeOptions;
 use crate::schema_layouts::schema_of;
+use fb_pieces::Pieces;
 use fb_value::Limits;
 use std::alloc::Global;
 
@@ -39,18 +40,17 @@ pub fn to_binary(
     encode(alloc, &layout, json, &options)
 }
 
-/// The buffer of a JSON text that is given away, under a schema text.
+/// The buffer of a JSON text that is given away, under a schema text, in pieces.
 ///
-/// The JSON text is dropped before the buffer is laid, as `encode_owned` does it. The errors are those
-/// of `to_binary`, in the same order.
-pub fn to_binary_owned(
+/// This takes the least memory, as `encode_pieces` does. The errors are those of `to_binary`, in the same order.
+pub fn to_binary_pieces(
     alloc: Global,
     schema: &[u8],
     json: Vec<u8>,
     limits: Limits,
     unknown: bool,
-) -> Result<Vec<u8>, ToolFault>
-    ensures binary { IfOk result (λ b. IsBinary schema.now json.items limits unknown b.items) }
+) -> Result<Pieces, ToolFault>
+    ensures binary { IfOk result (λ b. IsBinary schema.now json.items limits unknown b.bytes) }
     ensures refused { IfErr result (BinaryRefused schema.now json.items limits unknown) }
     ensures exact { IfErr result
         (λ f. IsNotMemory f → ¬ MayBeBinary schema.now json.items limits unknown) }
@@ -64,5 +64,5 @@ pub fn to_binary_owned(
         limits,
         unknown_json: unknown,
     };
-    encode_owned(alloc, &layout, json, &options)
+    encode_pieces(alloc, &layout, json, &options)
 }

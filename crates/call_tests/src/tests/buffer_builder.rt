@@ -26,7 +26,7 @@ use std::process::Abort;
 use std::test::Fail;
 
 const SCHEMA: &[u8] =
-    b"table P { x:int; } table T { n:int; s:string (required); ts:[string]; ps:[P]; \
+    b"table P { x:int; } table T { n:int; s:string (required); qs:[P]; ts:[string]; ps:[P]; \
     ns:[short]; } root_type T;";
 
 /// Whether a vector's elements are texts or tables, which are laid one by one.
@@ -87,7 +87,7 @@ fn laid_one_by_one(
     for (k, entry) in entries.iter().enumerate() {
         push(alloc, &mut builder, &slots[k], entry)?;
     }
-    builder.finish()
+    Ok(builder.finish()?.into_bytes(alloc)?)
 }
 
 /// A root table that comes in entry by entry has the bytes that are built of the whole value, which are read as it.
@@ -116,8 +116,9 @@ fn expect_same(rt: &impl Abort, alloc: Global, value: &Value) -> Result<(), Fail
     Ok(())
 }
 
-/// A root table with these texts and tables, a number, a text and a vector of numbers.
-fn root_with(alloc: Global, names: Value, places: Value) -> Result<Value, AllocError>
+/// A root table with these tables, texts and tables, a number, a text and a vector of numbers.
+fn root_with(alloc: Global, points: Value, names: Value, places: Value) -> Result<Value, AllocError>
+    requires points { nesting (view points) ≤ 2 }
     requires names { nesting (view names) ≤ 2 }
     requires places { nesting (view places) ≤ 2 }
     ensures { IfOk result (λ v. nesting (view v) ≤ 300) }
@@ -126,6 +127,7 @@ fn root_with(alloc: Global, names: Value, places: Value) -> Result<Value, AllocE
     let entries = vec![in alloc;
         Some(Value::Number(5)),
         Some(text(alloc, "hi")?),
+        Some(points),
         Some(names),
         Some(places),
         Some(numbers),
@@ -139,22 +141,48 @@ fn entries_and_elements_come_in_one_by_one(rt: HostRuntime) -> Result<(), Fail> 
     let first = table_of(alloc, 0, Value::Number(1))?;
     let second = table_of(alloc, 0, Value::Number(2))?;
     let places = Value::Items(vec![in alloc; first, second]?);
-    let value = root_with(alloc, texts(alloc, "a", "bcd")?, places)?;
+    let points = Value::Items(Vec::new(alloc));
+    let value = root_with(alloc, points, texts(alloc, "a", "bcd")?, places)?;
+    expect_same(&rt, alloc, &value)
+}
+
+/// So many letters.
+fn letters(alloc: Global, letter: char, count: u32) -> Result<String, AllocError> {
+    let mut text = String::new(alloc);
+    for _ in 0..count {
+        text.push(letter)?;
+    }
+    Ok(text)
+}
+
+/// Between two tables with one vtable are texts that fill several pieces.
+#[test]
+fn parts_in_many_pieces(rt: HostRuntime) -> Result<(), Fail> {
+    let alloc = rt.alloc();
+    let first = table_of(alloc, 0, Value::Number(1))?;
+    let points = Value::Items(vec![in alloc; first]?);
+    let long = letters(alloc, 'x', 70_000)?;
+    let longer = letters(alloc, 'y', 90_001)?;
+    let names = texts(alloc, long.as_str(), longer.as_str())?;
+    let second = table_of(alloc, 0, Value::Number(2))?;
+    let places = Value::Items(vec![in alloc; second]?);
+    let value = root_with(alloc, points, names, places)?;
     expect_same(&rt, alloc, &value)
 }
 
 #[test]
 fn vectors_without_elements(rt: HostRuntime) -> Result<(), Fail> {
     let alloc = rt.alloc();
+    let points = Value::Items(Vec::new(alloc));
     let names = Value::Items(Vec::new(alloc));
     let places = Value::Items(Vec::new(alloc));
-    expect_same(&rt, alloc, &root_with(alloc, names, places)?)
+    expect_same(&rt, alloc, &root_with(alloc, points, names, places)?)
 }
 
 #[test]
 fn a_required_text_alone(rt: HostRuntime) -> Result<(), Fail> {
     let alloc = rt.alloc();
     let text = text(alloc, "hi")?;
-    let entries = vec![in alloc; Some(Value::Number(0)), Some(text), None, None, None]?;
+    let entries = vec![in alloc; Some(Value::Number(0)), Some(text), None, None, None, None]?;
     expect_same(&rt, alloc, &Value::Fields(TypeId(1), entries))
 }

@@ -5,8 +5,8 @@ use fb_json::{JsonFault, Place};
 use fb_schema::TypeId;
 use fb_value::ReadFault;
 use flatc_tool::{
-    EncodeOptions, SchemaTextFault, ToolFault, encode_owned, schema_of, to_binary, to_binary_owned,
-    to_json,
+    EncodeOptions, SchemaTextFault, ToolFault, encode_pieces, schema_of, to_binary,
+    to_binary_pieces, to_json,
 };
 use std::test::Fail;
 
@@ -50,14 +50,16 @@ fn a_text_goes_to_a_buffer_and_back(rt: HostRuntime) -> Result<(), Fail> {
 
 #[test]
 fn a_text_that_is_given_away_has_the_same_buffer(rt: HostRuntime) -> Result<(), Fail> {
-    let built = to_binary(rt.alloc(), SCHEMA, TEXT.as_bytes(), usual_limits(), false)?;
-    let json = TEXT.as_bytes().to_vec(rt.alloc())?;
-    let owned = to_binary_owned(rt.alloc(), SCHEMA, json, usual_limits(), false)?;
-    assert_eq!(rt; owned.as_slice(), built.as_slice());
-    let layout = schema_of(rt.alloc(), SCHEMA)?;
-    let json = TEXT.as_bytes().to_vec(rt.alloc())?;
-    let owned = encode_owned(rt.alloc(), &layout, json, &EncodeOptions::new())?;
-    assert_eq!(rt; owned.as_slice(), built.as_slice());
+    let alloc = rt.alloc();
+    let built = to_binary(alloc, SCHEMA, TEXT.as_bytes(), usual_limits(), false)?;
+    let json = TEXT.as_bytes().to_vec(alloc)?;
+    let pieces = to_binary_pieces(alloc, SCHEMA, json, usual_limits(), false)?;
+    assert_eq!(rt; pieces.into_bytes(alloc)?.as_slice(), built.as_slice());
+    let layout = schema_of(alloc, SCHEMA)?;
+    let json = TEXT.as_bytes().to_vec(alloc)?;
+    let pieces = encode_pieces(alloc, &layout, json, &EncodeOptions::new())?;
+    assert_eq!(rt; pieces.len(), built.len());
+    assert_eq!(rt; pieces.into_bytes(alloc)?.as_slice(), built.as_slice());
     Ok(())
 }
 

@@ -7,11 +7,11 @@ use Rattle.fb_build.proofs.tail.WhatIsLaidStaysLaid.{self_divides}
 
 -- the tail, had it had the memory of a later one from the start
 abbrev pub as_long : (a b : TailSeen) → Lengthens a b → TailSeen
-as_long a b h = record { free = b.free + length h.front; bytes = a.bytes; most = a.most }
+as_long a b h = record { free = b.free + length h.front; bytes = a.bytes; most = a.most; behind = b.behind }
 
 -- So what is known of a tail that grows is known of one whose memory grew, too.
 pub lengthens_grows : (a b : TailSeen) (h : Lengthens a b) → Grows (as_long a b h) b
-lengthens_grows a b h = record { front = h.front; grown = h.grown; spent = refl; multiple = h.multiple }
+lengthens_grows a b h = record { front = h.front; grown = h.grown; spent = refl; multiple = h.multiple; same = refl }
 
 pub same_lengthens : (a b : TailSeen) → b.bytes ≡ a.bytes → b.most ≡ a.most → Lengthens a b
 same_lengthens a b bytes most =

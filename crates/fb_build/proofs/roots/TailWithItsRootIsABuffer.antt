@@ -21,6 +21,7 @@ use Rattle.fb_value.proofs.tails.TailsAreKeptInFront.{whole_shown}
 use Rattle.fb_build.specs.Tails.{TailSeen, Grows, LaidInTail}
 use Rattle.fb_build.proofs.tail.WhatIsLaidStaysLaid.{laid_grown}
 use Rattle.fb_build.specs.Ends.{BeginsWith}
+use Rattle.fb_build.specs.Made.{identifier_bytes}
 
 -- the identifier stands behind the root's reference
 abbrev pub IsIdentified : Bytes → Bytes → Type 0
@@ -90,3 +91,9 @@ whole_old L m b v whole laid =
     only_old_shown L b v lies
     (subst (λ (p : ℕ). EachTableAt L b (λ t q. IsOldTable L b t q) (ref_place (table_part L.schema.root)) p v) front
     laid.old)
+
+-- an identifier has four bytes at most
+pub identifier_short : (o : Option (List ℕ)) → ((id : List ℕ) → o ≡ Some id → length id ≡ 4)
+    → length (identifier_bytes o) ≤ 4
+identifier_short None four = omega arith
+identifier_short (Some id) four = let long = four id refl in omega (arith, long)

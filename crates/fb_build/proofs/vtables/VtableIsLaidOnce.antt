@@ -6,10 +6,10 @@ use Rattle.std.proofs.lemmas.Bool.{eq-eqb, lt-ltb}
 use Rattle.std.proofs.lemmas.Bool.Decides.{nat_tests}
 use Rattle.byteorder.specs.Endian.{little_bytes}
 use Rattle.fb_value.specs.Num.{Bytes, num, divides}
-use Rattle.fb_vtables.specs.Ends.{StandsEnd}
+use Rattle.fb_pieces.specs.Ends.{StandsEnd}
 use Rattle.fb_build.specs.Tails.{TailSeen, Grows}
 use Rattle.fb_build.specs.TableBytes.{way_to, VtableEnd}
-use Rattle.fb_vtables.specs.Vtables.{AreDifferent, AreLaid, IsKey, TellsItsLength}
+use Rattle.fb_vtables.specs.Vtables.{AreDifferent, AreLaid, IsKnown, TellsItsLength}
 use Rattle.fb_build.proofs.tail.WhatIsLaidStaysLaid.{stands_grown}
 use Rattle.fb_build.proofs.numbers.NumberReadsBack.{num_behind, num_first}
 
@@ -146,7 +146,7 @@ shared_more known places s vt e some stands even told h = record {
 }
 
 pub different_more : (known : List Bytes) (places : List ℕ) (vt : Bytes) → length known ≡ length places
-    → (IsKey known vt → ⊥) → AreDifferent known → AreDifferent (known ++ vt ∷ [])
+    → (IsKnown known vt → ⊥) → AreDifferent known → AreDifferent (known ++ vt ∷ [])
 different_more known places vt long absent different i j other at there =
     elim (old_or_last known vt places 0 i other long at) [
       | was_there here p ↦ elim (old_or_last known vt places 0 j other long there) [

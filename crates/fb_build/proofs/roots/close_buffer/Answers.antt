@@ -1,4 +1,5 @@
-use Rattle.std.proofs.Common.{◌≡◌, ℕ, ◌+◌, ◌-◌, ◌%◌, ◌∙◌, true, Some, refl, ap, subst, length, arith}
+use Rattle.std.proofs.Common.{◌≡◌, ℕ, ◌+◌, ◌-◌, ◌%◌, ◌++◌, ◌∙◌, true, Some, refl, ap, subst, length, replicate, arith}
+use Rattle.std.proofs.Common.{length-append}
 use Rattle.std.proofs.lemmas.Bool.{eq-eqb, eqb-true}
 use Rattle.fb_value.proofs.tails.TailsAreKeptInFront.{through, whole_shown}
 use Rattle.fb_value.specs.Lies.{LiesAt}
@@ -6,7 +7,9 @@ use Rattle.fb_value.specs.Num.{Bytes, divides}
 use Rattle.fb_value.specs.Places.{ref_place, table_part}
 use Rattle.fb_build.proofs.covered.LaidBufferIsCovered.{IsWhole, covered_buffer, aligned_buffer}
 use Rattle.fb_build.proofs.roots.TailWithItsRootIsABuffer.{IsIdentified, identified_behind, root_laid, whole_holds}
-use Rattle.fb_build.proofs.roots.TailWithItsRootIsABuffer.{whole_old}
+use Rattle.fb_build.proofs.roots.TailWithItsRootIsABuffer.{identifier_short, whole_old}
+use Rattle.fb_build.proofs.tail.PaddingIsZero.{zeros_long}
+use Rattle.fb_build.specs.Made.{identifier_bytes}
 use Rattle.fb_build.proofs.roots.close_buffer.Goals as goal
 
 pub lay_reference-requires-clause-whole : goal.lay_reference-requires-clause-whole
@@ -35,9 +38,8 @@ returns-clause-holds c d most raw root deep small =
     let identified : (id : Bytes) → L.schema.identifier ≡ Some id → IsIdentified end.bytes id =
     λ id e. identified_behind front.front tail.bytes id end.bytes front.grown four
     (c.schema-schema.ensures.made.declared.identifier id e) (c.lay_identifier.ensures.identified id e) in
-    rw c.into_bytes.ensures (whole_holds L end.most end.bytes d most raw identified
-    (omega (arith, c.lay_reference.ensures.long)) (omega (arith, c.count-count.ensures)) whole rooted.lies deep
-    small)
+    whole_holds L end.most end.bytes d most raw identified (omega (arith, c.lay_reference.ensures.long))
+    (omega (arith, c.count-count.ensures)) whole rooted.lies deep small
 
 pub returns-clause-old_slots : goal.returns-clause-old_slots
 returns-clause-old_slots c d root =
@@ -51,7 +53,7 @@ returns-clause-old_slots c d root =
     ∙ c.lay_identifier.ensures.multiple)) in
     let rooted = root_laid L table tail end L.schema.root c.args.place d refl
     c.lay_identifier.ensures.grows root.lies (λ X. c.lay_reference.ensures.lies L X d) in
-    rw c.into_bytes.ensures (whole_old L end.most end.bytes d whole rooted)
+    whole_old L end.most end.bytes d whole rooted
 
 pub returns-clause-covered : goal.returns-clause-covered
 returns-clause-covered c d root =
@@ -85,8 +87,19 @@ returns-clause-covered c d root =
       bytes = c.lay_reference.ensures.grows.grown;
       leads = c.lay_reference.ensures.leads;
       there = there;
-    } in
-    rw c.into_bytes.ensures (
+    } in (
       covered_buffer L table tail end.bytes e d keys places whole,
       aligned_buffer L table tail end.bytes e d keys places whole (rw same at all),
     )
+
+pub returns-clause-short : goal.returns-clause-short
+returns-clause-short c =
+    let L = c.args.layout.now in
+    let table = c.args.builder.tail in
+    let header = c.lay_identifier.ensures.header in
+    let id = identifier_short L.schema.identifier c.schema-schema.ensures.made.declared.identifier in
+    let all = ap length header.bytes
+    ∙ length-append (identifier_bytes L.schema.identifier) (replicate header.zeros 0 ++ table.bytes) in
+    let rest = length-append (replicate header.zeros 0) table.bytes in
+    let zeros = zeros_long header.zeros in
+    omega (arith, id, all, rest, zeros, header.under, c.lay_reference.ensures.long, c.requires.bound)

@@ -14,7 +14,7 @@ returns-clause-holds c most raw deep small =
     let root = root_made L old.tail new.tail old.vtables.places new.vtables.places c.args.table.0 c.lay_table-place.result d
     c.requires.root c.lay_table-place.ensures.lies c.lay_table-place.ensures.adds
     (rw fresh.none_laid (made_of_nothing L old.tail fresh.bytes fresh.most)) in
-    c.close_buffer.ensures.holds d most raw root deep small
+    rw c.into_bytes.ensures (c.close_buffer.ensures.holds d most raw root deep small)
 
 pub returns-clause-old_slots : goal.returns-clause-old_slots
 returns-clause-old_slots c =
@@ -23,10 +23,10 @@ returns-clause-old_slots c =
     let old = c.args.builder in
     let new = c.lay_table-place.new.builder in
     let fresh = c.requires.fresh in
-    c.close_buffer.ensures.old_slots d
+    rw c.into_bytes.ensures (c.close_buffer.ensures.old_slots d
     (root_made L old.tail new.tail old.vtables.places new.vtables.places c.args.table.0 c.lay_table-place.result d
     c.requires.root c.lay_table-place.ensures.lies c.lay_table-place.ensures.adds
-    (rw fresh.none_laid (made_of_nothing L old.tail fresh.bytes fresh.most)))
+    (rw fresh.none_laid (made_of_nothing L old.tail fresh.bytes fresh.most))))
 
 pub returns-clause-covered : goal.returns-clause-covered
 returns-clause-covered c =
@@ -35,7 +35,7 @@ returns-clause-covered c =
     let old = c.args.builder in
     let new = c.lay_table-place.new.builder in
     let fresh = c.requires.fresh in
-    c.close_buffer.ensures.covered d
+    rw c.into_bytes.ensures (c.close_buffer.ensures.covered d
     (root_made L old.tail new.tail old.vtables.places new.vtables.places c.args.table.0 c.lay_table-place.result d
     c.requires.root c.lay_table-place.ensures.lies c.lay_table-place.ensures.adds
-    (rw fresh.none_laid (made_of_nothing L old.tail fresh.bytes fresh.most)))
+    (rw fresh.none_laid (made_of_nothing L old.tail fresh.bytes fresh.most))))

@@ -1,9 +1,10 @@
 use Rattle.std.proofs.Common.{ℕ}
+use Rattle.fb_pieces.specs.LaidBytes.{laid_bytes}
 use Rattle.fb_vtables.specs.Chains.{Reaches, StandsAt}
 use Rattle.fb_vtables.proofs.vtable_index.chained_with.Given as goal
 
 abbrev pub invariant-loop-next : goal.invariant-loop-next
-invariant-loop-next l = (i : ℕ) → Reaches l.known i l.fn.first → StandsAt l.known l.laid l.vtable i
+invariant-loop-next l = (i : ℕ) → Reaches l.known i l.fn.first → StandsAt l.known (laid_bytes l.laid) l.vtable i
     → Reaches l.known i l.next
 
 abbrev pub decreases-loop-next : goal.decreases-loop-next

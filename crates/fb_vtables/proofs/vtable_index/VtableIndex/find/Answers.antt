@@ -1,4 +1,5 @@
 use Rattle.std.proofs.Common.{◌≡◌, ◌∙◌, arith}
+use Rattle.fb_pieces.specs.LaidBytes.{laid_bytes}
 use Rattle.fb_vtables.proofs.vtable_index.FoundVtableIsKnown.{is_known, place_of, read_is, stands_known, under}
 use Rattle.fb_vtables.proofs.vtable_index.VtableIndex.find.Goals as goal
 
@@ -9,11 +10,11 @@ returns-clause-found c =
     let h = rw c.deref.ensures.value at c.in_ok-i.ensures.found in
     let one : c.index.result.now ≡ h.one =
     c.index.ensures ∙ read_is x.laid.items c.in_ok-i.i h.one c.index.result.now h.is in
-    let place = place_of x.laid.items x.seen.vtables c.args.laid.now c.args.vtable.now c.self.invariant.each are
+    let place = place_of x.laid.items x.seen.vtables (laid_bytes c.args.laid) c.args.vtable.now c.self.invariant.each are
     c.in_ok-i.i h.one h.is in
     rw (← c.self.view_is) (record {
       index = c.in_ok-i.i;
-      is = is_known x.laid.items x.seen.vtables c.args.laid.now c.args.vtable.now c.self.invariant.each are
+      is = is_known x.laid.items x.seen.vtables (laid_bytes c.args.laid) c.args.vtable.now c.self.invariant.each are
           c.requires.told c.in_ok-i.i h;
       at = rw one place;
     })
@@ -30,4 +31,4 @@ returns-in_err-i-clause-absent c none =
     let absent = rw c.deref.ensures.value at c.index_of.ensures.absent in
     rw (← c.self.view_is) (λ key. absent c.in_err-i.was key.0
     (c.self.invariant.reached key.0 c.args.vtable.now key.1)
-    (stands_known x.laid.items x.seen.vtables c.args.laid.now c.args.vtable.now c.self.invariant.each are key.0 key.1))
+    (stands_known x.laid.items x.seen.vtables (laid_bytes c.args.laid) c.args.vtable.now c.self.invariant.each are key.0 key.1))

@@ -1,0 +1,4 @@
+pub mod Ends
+pub mod Joined
+pub mod ArePieces
+pub mod LaidBytes

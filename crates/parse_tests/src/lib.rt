@@ -1,0 +1,5 @@
+//! Tests of fb_syntax's public calls.
+#![tactic(auto)]
+
+#[cfg(test)]
+mod tests;

@@ -1,0 +1,4 @@
+//! What schema texts are parsed to.
+mod declarations;
+mod integers;
+mod parse;
