@@ -124,7 +124,8 @@ fn root_slot(layout: &Layout, k: usize) -> &FieldInfo
 }
 
 impl<'l> BufferBuilder<'l> {
-    /// A buffer of which no entry is there yet, with memory for as many bytes as are expected, if there is so much.
+    /// A buffer of which no entry is there yet, with memory for as many bytes as are expected, up to 65,536, if there is
+    /// so much.
     pub fn new(
         alloc: Global,
         layout: &'l Layout,

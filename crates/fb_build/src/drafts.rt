@@ -25,6 +25,7 @@ ghost use Rattle.fb_build.specs.StandIns.{AllStandIn};
 ghost use Rattle.fb_build.specs.Tails.{LaidInTail};
 ghost use Rattle.fb_build.specs.declared.faults.BuildFault.TheVariants.{TooBig, Memory};
 
+use crate::blocks::zeros;
 use crate::builder::Builder;
 use crate::data::{ElementData, EntryData};
 use crate::faults::BuildFault;
@@ -99,9 +100,8 @@ impl<'l> Draft<'l> {
     {
         // Two bytes for each slot of a vtable, behind its first four.
         let scratch = vec![in alloc; 0u8; 4 + 2 * layout.most_slots()]?;
-        let mut tail = Tail::new(Vec::new(alloc));
         // Where the memory isn't there at once it is asked for as the buffer grows.
-        let _enough = tail.grow(expected.min(BLOCK_BYTES));
+        let tail = Tail::new(zeros(alloc, expected.min(BLOCK_BYTES)));
         Ok(Draft {
             layout,
             builder: Builder {
