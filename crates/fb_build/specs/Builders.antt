@@ -18,9 +18,10 @@ pub record IsBuilder (L : LaidSchema) (b : Builder) : Type 0 where
   pub different : AreDifferent b.vtables.vtables
   pub long : longest_vtable L ≤ length b.scratch.items
 
--- No byte is laid.
+-- No byte is laid, and the first ones are laid in the block.
 pub record IsFresh (b : Builder) : Type 0 where
   pub bytes : length b.tail.bytes ≡ 0
+  pub one_block : b.tail.in_segments ≡ 0
   pub most : b.tail.most ≡ 4
   pub none_laid : b.vtables.places ≡ []
 

@@ -1,4 +1,4 @@
--- A block that is filled from its end, as contracts see it.
+-- Bytes that are laid from their end, in a block and in segments behind it, as contracts see them.
 use Rattle.std.specs.Prelude.{ℕ, ◌+◌, ◌≡◌, ◌++◌, length, true}
 use Rattle.fb_layout.specs.Laid.{LaidSchema}
 use Rattle.fb_value.specs.Datum.{Datum}
@@ -8,20 +8,20 @@ use Rattle.fb_value.specs.Tails.{LiesInTail, OldInTail}
 use Rattle.fb_build.specs.CoveredTails.{TightInTail, InlineInTail}
 
 -- the zeros that are left in front, what is laid, the greatest multiple that was padded to, and how many of the bytes
--- were laid before the block in front
+-- are in segments behind the block
 pub record TailSeen : Type 0 where
   pub free : ℕ
   pub bytes : Bytes
   pub most : ℕ
-  pub behind : ℕ
+  pub in_segments : ℕ
 
--- From a to b only bytes were laid in front.
+-- From a to b only bytes were laid in front, in the same block.
 pub record Grows (a b : TailSeen) : Type 0 where
   pub front : Bytes
   pub grown : b.bytes ≡ front ++ a.bytes
   pub spent : b.free + length front ≡ a.free
   pub multiple : divides a.most b.most ≡ true
-  pub same : b.behind ≡ a.behind
+  pub same : b.in_segments ≡ a.in_segments
 
 -- A value lies e bytes before the end, its tables have nothing in slots that aren't in use, and they, its structs and
 -- its numbers have nothing to spare.

@@ -22,8 +22,8 @@ use crate::drafts::Draft;
 use crate::drops::drop_value;
 use crate::faults::BuildFault;
 use fb_layout::{Layout, kind_in};
-use fb_pieces::Pieces;
 use fb_schema::{FieldInfo, Shape};
+use fb_segments::Segments;
 use fb_value::Value;
 use std::alloc::{AllocError, Global};
 use std::marker::Model;
@@ -31,7 +31,7 @@ use std::mem;
 
 /// Builds a buffer while its value comes in: the entries of the root's table one by one, and the elements of a vector
 /// of texts or tables one by one. What lies outside of the root's table is laid at once, and need not stay in memory;
-/// its numbers and structs do until it is laid. The buffer's memory grows, piece by piece, with what is laid.
+/// its numbers and structs do until it is laid. The buffer's memory grows, segment by segment, with what is laid.
 #[derive(Drop)]
 pub struct BufferBuilder<'l> {
     alloc: Global,
@@ -209,8 +209,8 @@ impl<'l> BufferBuilder<'l> {
     }
 
     /// Lays the root's table, whose entries are all there, and what is before it, and returns the bytes in
-    /// pieces.
-    pub fn finish(self) -> Result<Pieces, BuildFault>
+    /// segments.
+    pub fn finish(self) -> Result<Segments, BuildFault>
         requires all { length self.entries ≡ length (root_slots self.layout) }
         requires closed { self.elements ≡ [] }
         ensures holds { IfOk result (λ b. (most : Bounds) (raw : Bool)

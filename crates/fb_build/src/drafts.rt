@@ -35,8 +35,8 @@ use crate::roots::close_root;
 use crate::tables::lay_part;
 use crate::tail::{BLOCK_BYTES, MOST_BYTES, Tail};
 use fb_layout::Layout;
-use fb_pieces::Pieces;
 use fb_schema::{Kind, Shape};
+use fb_segments::Segments;
 use fb_value::{Value, buffer_room, table_room, vector_room};
 use fb_vtables::VtableIndex;
 use std::alloc::{AllocError, Global};
@@ -209,7 +209,7 @@ impl<'l> Draft<'l> {
         entries: &[Option<Value>],
         data: &EntryData,
         ends: &mut [u32],
-    ) -> Result<Pieces, BuildFault>
+    ) -> Result<Segments, BuildFault>
         requires fits { EntriesFit self.layout (slots_of self.layout self.layout.schema.root)
             (entries_in data.now.entries) }
         requires whole { entries_whole (entries_in data.now.entries) ≡ true }
@@ -255,6 +255,6 @@ impl<'l> Draft<'l> {
             tables: 1,
         };
         reserve(&mut builder, &mut pending, needs)?;
-        Ok(close_root(layout, root, builder, entries, data, ends).into_pieces()?)
+        Ok(close_root(layout, root, builder, entries, data, ends).into_segments()?)
     }
 }

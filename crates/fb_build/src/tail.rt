@@ -4,12 +4,12 @@ ghost use Rattle.std.specs.Prelude.{length, replicate, max, true, IfOk, OnOk, On
 ghost use Rattle.fb_value.specs.Num.{divides};
 ghost use Rattle.byteorder.specs.Endian.{little_bytes};
 ghost use Rattle.fb_layout.specs.Sizes.{IsAlignment};
-ghost use Rattle.fb_pieces.specs.LaidBytes.{laid_bytes};
+ghost use Rattle.fb_segments.specs.LaidBytes.{laid_bytes};
 ghost use Rattle.fb_build.specs.Tails.{Grows};
 
 use crate::blocks::{end_of, fitted, put_in_front};
 use byteorder::{ByteOrder, LittleEndian};
-use fb_pieces::{Laid, Pieces};
+use fb_segments::{LaidBytes, Segments};
 use std::alloc::AllocError;
 use std::marker::Model;
 use std::mem;
@@ -17,14 +17,17 @@ use std::mem;
 /// The bytes that a buffer has at most.
 pub(crate) const MOST_BYTES: usize = 2147483647;
 
-/// How many bytes a block has more than the part that is laid next needs. It is small enough to take the place of what
-/// was dropped meanwhile.
+/// The greatest length of the first block, and as many bytes as another one has to spare where parts are small. A block
+/// of that length may reuse the memory of what was dropped meanwhile.
 pub(crate) const BLOCK_BYTES: usize = 65536;
 
-/// A block of zeros whose end is filled, and what was laid before it, in pieces.
+// How many bytes a block has to spare at most.
+const MOST_SPARE_BYTES: usize = 1048576;
+
+/// A block of zeros whose end is filled, and segments of what was laid before it.
 #[derive(Drop)]
 pub(crate) struct Tail {
-    behind: Pieces,
+    segments: Segments,
     block: Vec<u8>,
     free: usize,
     most: usize,
@@ -39,13 +42,13 @@ impl Model for Tail {
 
     ghost view = { λ t. record {
       free = t.free;
-      bytes = drop t.free t.block.items ++ t.behind.bytes;
+      bytes = drop t.free t.block.items ++ t.segments.bytes;
       most = t.most;
-      behind = length t.behind.bytes;
+      in_segments = length t.segments.bytes;
     } };
 
     ghost invariant = { λ t. (t.free ≤ length t.block.items)
-        × (length t.block.items + length t.behind.bytes ≤ 2147483647)
+        × (length t.block.items + length t.segments.bytes ≤ 2147483647)
         × (take t.free t.block.items ≡ replicate t.free 0) × IsAlignment t.most };
 }
 
@@ -57,11 +60,11 @@ impl Tail {
         ensures free { result.free ≡ length block.items }
         ensures bytes { length result.bytes ≡ 0 }
         ensures most { result.most ≡ 4 }
-        ensures behind { result.behind ≡ 0 }
+        ensures one_block { result.in_segments ≡ 0 }
     {
         let free = block.len();
         Tail {
-            behind: Pieces::new(*block.allocator()),
+            segments: Segments::new(*block.allocator()),
             block,
             free,
             most: 4,
@@ -73,16 +76,16 @@ impl Tail {
         ensures exact { result ≡ length self.now.bytes }
         ensures short { self.now.free + result ≤ 2147483647 }
     {
-        self.block.len() - self.free + self.behind.len()
+        self.block.len() - self.free + self.segments.len()
     }
 
     /// The bytes that are laid.
-    pub(crate) fn laid(&self) -> Laid<'_>
+    pub(crate) fn laid(&self) -> LaidBytes<'_>
         ensures { laid_bytes result ≡ self.now.bytes }
     {
-        Laid {
+        LaidBytes {
             front: &self.block[self.free..],
-            behind: &self.behind,
+            behind: &self.segments,
         }
     }
 
@@ -94,9 +97,9 @@ impl Tail {
         self.most
     }
 
-    /// Makes so many bytes free at least. Where the block is too short, what is laid in it becomes a piece, and another
-    /// one comes in front. It has some bytes more than asked for, as many as are laid at most, so that few blocks are
-    /// filled with zeros where parts need less than they ask for.
+    /// Makes so many bytes free at least. Where the block is too short, what is laid in it becomes a segment, and another
+    /// block comes in front. That has some bytes to spare, as many as are laid at most, so that few blocks are filled
+    /// with zeros where parts need less than they ask for.
     pub(crate) fn grow(&mut self, free: usize) -> Result<(), AllocError>
         requires short { length self.old.bytes + free ≤ 2147483647 }
         ensures bytes { self.new.bytes ≡ self.old.bytes }
@@ -108,14 +111,14 @@ impl Tail {
             return Ok(());
         }
         let laid = self.count();
-        let spare = laid.min(free.max(BLOCK_BYTES));
-        let long = (free + spare).min(MOST_BYTES - laid);
-        let mut block = Vec::with_capacity(*self.block.allocator(), long)?;
-        block.resize(long, 0)?;
-        self.behind.reserve()?;
-        let free = mem::replace(&mut self.free, long);
-        let full = mem::replace(&mut self.block, block);
-        self.behind.push_reserved(fitted(end_of(full, free)));
+        let spare = laid.min(free.max(BLOCK_BYTES)).min(MOST_SPARE_BYTES);
+        let length = (free + spare).min(MOST_BYTES - laid);
+        let block = vec![in *self.block.allocator(); 0u8; length]?;
+        self.segments.reserve()?;
+        let old_free = mem::replace(&mut self.free, length);
+        let old_block = mem::replace(&mut self.block, block);
+        self.segments
+            .push_reserved(fitted(end_of(old_block, old_free)));
         Ok(())
     }
 
@@ -124,7 +127,7 @@ impl Tail {
         ensures bytes { self.new.bytes ≡ bytes.now ++ self.old.bytes }
         ensures free { self.new.free + length bytes.now ≡ self.old.free }
         ensures most { self.new.most ≡ self.old.most }
-        ensures behind { self.new.behind ≡ self.old.behind }
+        ensures segments { self.new.in_segments ≡ self.old.in_segments }
     {
         self.free = put_in_front(&mut self.block, self.free, bytes);
     }
@@ -136,7 +139,7 @@ impl Tail {
         ensures bytes { self.new.bytes ≡ bytes.now ++ self.old.bytes }
         ensures free { self.new.free + length bytes.now ≡ self.old.free }
         ensures most { self.new.most ≡ self.old.most }
-        ensures behind { self.new.behind ≡ self.old.behind }
+        ensures segments { self.new.in_segments ≡ self.old.in_segments }
         ensures grows { Grows self.old self.new }
     {
         self.put(bytes);
@@ -148,7 +151,7 @@ impl Tail {
         ensures bytes { self.new.bytes ≡ little_bytes 2 number ++ self.old.bytes }
         ensures free { self.new.free + 2 ≡ self.old.free }
         ensures most { self.new.most ≡ self.old.most }
-        ensures behind { self.new.behind ≡ self.old.behind }
+        ensures segments { self.new.in_segments ≡ self.old.in_segments }
         ensures grows { Grows self.old self.new }
     {
         let mut bytes = [0u8; 2];
@@ -162,7 +165,7 @@ impl Tail {
         ensures bytes { self.new.bytes ≡ little_bytes 4 number ++ self.old.bytes }
         ensures free { self.new.free + 4 ≡ self.old.free }
         ensures most { self.new.most ≡ self.old.most }
-        ensures behind { self.new.behind ≡ self.old.behind }
+        ensures segments { self.new.in_segments ≡ self.old.in_segments }
         ensures grows { Grows self.old self.new }
     {
         let mut bytes = [0u8; 4];
@@ -176,7 +179,7 @@ impl Tail {
         ensures bytes { self.new.bytes ≡ little_bytes 8 number ++ self.old.bytes }
         ensures free { self.new.free + 8 ≡ self.old.free }
         ensures most { self.new.most ≡ self.old.most }
-        ensures behind { self.new.behind ≡ self.old.behind }
+        ensures segments { self.new.in_segments ≡ self.old.in_segments }
         ensures grows { Grows self.old self.new }
     {
         let mut bytes = [0u8; 8];
@@ -189,7 +192,7 @@ impl Tail {
         ensures bytes { self.new.bytes ≡ replicate zeros 0 ++ self.old.bytes }
         ensures free { self.new.free + zeros ≡ self.old.free }
         ensures most { self.new.most ≡ self.old.most }
-        ensures behind { self.new.behind ≡ self.old.behind }
+        ensures segments { self.new.in_segments ≡ self.old.in_segments }
     {
         self.free -= zeros;
     }
@@ -200,7 +203,7 @@ impl Tail {
         ensures bytes { self.new.bytes ≡ replicate zeros 0 ++ self.old.bytes }
         ensures free { self.new.free + zeros ≡ self.old.free }
         ensures most { self.new.most ≡ self.old.most }
-        ensures behind { self.new.behind ≡ self.old.behind }
+        ensures segments { self.new.in_segments ≡ self.old.in_segments }
         ensures grows { Grows self.old self.new }
     {
         self.skip(zeros);
@@ -211,7 +214,7 @@ impl Tail {
         ensures bytes { self.new.bytes ≡ self.old.bytes }
         ensures free { self.new.free ≡ self.old.free }
         ensures most { self.new.most ≡ max self.old.most align }
-        ensures behind { self.new.behind ≡ self.old.behind }
+        ensures segments { self.new.in_segments ≡ self.old.in_segments }
         ensures power { IsAlignment self.old.most }
     {
         self.most = self.most.max(align);
@@ -228,7 +231,7 @@ impl Tail {
         ensures multiple { (length self.new.bytes + more) % align ≡ 0 }
         ensures most { self.new.most ≡ max self.old.most align }
         ensures wide { divides align self.new.most ≡ true }
-        ensures behind { self.new.behind ≡ self.old.behind }
+        ensures segments { self.new.in_segments ≡ self.old.in_segments }
         ensures grows { Grows self.old self.new }
     {
         let after = self.count() + more;
@@ -238,26 +241,26 @@ impl Tail {
         zeros
     }
 
-    /// The bytes that are laid, where all of them are in one block.
+    /// The bytes that are laid, where all of them are in the block.
     pub(crate) fn into_bytes(self) -> Vec<u8>
-        requires one { self.behind ≡ 0 }
+        requires one_block { self.in_segments ≡ 0 }
         ensures { result.items ≡ self.bytes }
     {
         end_of(self.block, self.free)
     }
 
-    /// The bytes that are laid, in pieces.
-    pub(crate) fn into_pieces(self) -> Result<Pieces, AllocError>
-        ensures { IfOk result (λ p. p.bytes ≡ self.bytes) }
+    /// The bytes that are laid, in segments.
+    pub(crate) fn into_segments(self) -> Result<Segments, AllocError>
+        ensures { IfOk result (λ s. s.bytes ≡ self.bytes) }
     {
         let Tail {
-            mut behind,
+            mut segments,
             block,
             free,
             ..
         } = self;
-        behind.reserve()?;
-        behind.push_reserved(end_of(block, free));
-        Ok(behind)
+        segments.reserve()?;
+        segments.push_reserved(fitted(end_of(block, free)));
+        Ok(segments)
     }
 }

@@ -16,7 +16,7 @@ use fb_json::{
     slots_decide_the_root,
 };
 use fb_layout::Layout;
-use fb_pieces::Pieces;
+use fb_segments::Segments;
 use fb_value::Limits;
 use serde_json::{Map, Value as Json};
 use std::alloc::Global;
@@ -59,13 +59,12 @@ fn lay_root<'l>(
     }
 }
 
-/// The bytes that encode the value that a tree means under a layout, as the root table's, in pieces.
+/// The bytes that encode the value that a tree means under a layout, as the root table's, in segments.
 ///
 /// The tree is given away. What a slot of the root's table refers to is laid once it is read, and an element of its
-/// vectors of texts and tables too, and then dropped: only one of them is in memory at a time. The bytes are laid in
-/// pieces, which take the place of what was dropped. The first of them has as many bytes as are `expected`, if that
-/// isn't much; the length of the JSON text is a good guess. The error is that of the tree's first fault, and then that
-/// of the value's size.
+/// vectors of texts and tables too, and then dropped: only one of them is in memory at a time. The segments may reuse
+/// the memory of what was dropped. The first block has as many bytes as are `expected`, at most 65,536: the length of
+/// the JSON text is a good guess. The error is that of the tree's first fault, and then that of the value's size.
 pub fn encode_tree(
     alloc: Global,
     layout: &Layout,
@@ -73,7 +72,7 @@ pub fn encode_tree(
     limits: Limits,
     unknown: bool,
     expected: usize,
-) -> Result<Pieces, EncodeFault>
+) -> Result<Segments, EncodeFault>
     ensures encoded { IfOk result (λ b. IsEncoded layout.now limits unknown (tree_view tree) b.bytes) }
     ensures refused { IfErr result (EncodeRefused layout.now limits unknown (tree_view tree)) }
 {

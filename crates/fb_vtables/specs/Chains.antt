@@ -3,7 +3,7 @@ use Rattle.std.specs.Prelude.{ℕ, suc, ◌≤◌, ◌≡◌, Some, Option, List
 use Rattle.std.specs.Option.{unwrap_or}
 use Rattle.fb_value.specs.Num.{Bytes}
 use Rattle.fb_vtables.specs.declared.vtable_index.LaidVtable.{LaidVtable}
-use Rattle.fb_pieces.specs.Ends.{StandsEnd}
+use Rattle.fb_segments.specs.Ends.{StandsEnd}
 
 -- From `next`, an index plus one, the index i is reached by `older` alone.
 pub data Reaches (laid : List LaidVtable) (i : ℕ) : ℕ → Type 0 where

@@ -10,13 +10,13 @@ use Rattle.fb_vtables.specs.Vtables.{Indexed}
 abbrev pub indexed_seen : Inside → Indexed
 indexed_seen x = record {
   vtables = x.seen.vtables;
-  places = map (λ one. one.place) x.laid.items;
-  spare = min (spare x.newest) (vec_capacity x.laid - vec_len x.laid);
+  places = map (λ one. one.place) x.known.items;
+  spare = min (spare x.newest) (vec_capacity x.known - vec_len x.known);
 }
 
 pub record IsIndex (x : Inside) : Type 0 where
-  pub each : length x.seen.vtables ≡ length x.laid.items
-  pub count : vec_len x.laid ≡ length x.laid.items
-  pub within : (digest : ℕ) → first_of (get nat_eq x.newest digest) ≤ length x.laid.items
+  pub each : length x.seen.vtables ≡ length x.known.items
+  pub count : vec_len x.known ≡ length x.known.items
+  pub within : (digest : ℕ) → first_of (get nat_eq x.newest digest) ≤ length x.known.items
   pub reached : (i : ℕ) (vtable : Bytes) → slice_get x.seen.vtables i ≡ Some vtable
-      → Reaches x.laid.items i (first_of (get nat_eq x.newest (digest_of vtable)))
+      → Reaches x.known.items i (first_of (get nat_eq x.newest (digest_of vtable)))

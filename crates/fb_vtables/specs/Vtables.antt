@@ -3,7 +3,7 @@
 -- too.
 use Rattle.std.specs.Prelude.{ℕ, ◌≡◌, ◌<◌, ◌++◌, true, List, length, Some, slice_get, slice_index}
 use Rattle.fb_value.specs.Num.{Bytes, num, divides}
-use Rattle.fb_pieces.specs.Ends.{StandsEnd}
+use Rattle.fb_segments.specs.Ends.{StandsEnd}
 
 -- The vtable is one of those that are known.
 abbrev pub IsKnown : List Bytes → Bytes → Type 0

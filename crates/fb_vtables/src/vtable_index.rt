@@ -4,12 +4,12 @@ ghost use Rattle.std.specs.Prelude.{length, nat_eq, true};
 ghost use Rattle.indexmap.specs.IndexMap.{get};
 ghost use Rattle.fb_vtables.specs.Chains.{Reaches, StandsAt, first_of};
 ghost use Rattle.fb_vtables.specs.Digests.{digest_of};
-ghost use Rattle.fb_pieces.specs.Ends.{StandsEnd};
-ghost use Rattle.fb_pieces.specs.LaidBytes.{laid_bytes};
+ghost use Rattle.fb_segments.specs.Ends.{StandsEnd};
+ghost use Rattle.fb_segments.specs.LaidBytes.{laid_bytes};
 ghost use Rattle.fb_vtables.specs.Vtables.{AreLaid, IsFound, IsKnown, TellsItsLength};
 
 use crate::data::VtableData;
-use fb_pieces::Laid;
+use fb_segments::LaidBytes;
 use indexmap::IndexMap;
 use std::alloc::{AllocError, Global};
 use std::hash::{FoldHasher, Hasher};
@@ -32,7 +32,7 @@ struct LaidVtable {
 pub struct VtableIndex {
     // of each digest the index of the last vtable that has it, plus one
     newest: IndexMap<u64, usize>,
-    laid: Vec<LaidVtable>,
+    known: Vec<LaidVtable>,
     // Compared first: the one behind that which was found last, since vtables come again in about the same order.
     near: usize,
     seen: VtableData,
@@ -60,15 +60,15 @@ fn digest(bytes: &[u8]) -> u64
     hasher.finish()
 }
 
-/// Whether a vtable stands at a place, which is counted from the end of those that are laid.
-fn stands_at(laid: Laid, place: u32, vtable: &[u8]) -> bool
+/// Whether a vtable stands at a place, which is counted from the end of the bytes that are laid.
+fn stands_at(laid: LaidBytes, place: u32, vtable: &[u8]) -> bool
     ensures { IsTrue result ↔ StandsEnd (laid_bytes laid.entry) place vtable.now }
 {
     laid.stands_at(place as usize, vtable)
 }
 
 /// Whether the known vtable at an index has these bytes.
-fn has_bytes(known: &[LaidVtable], i: usize, laid: Laid, vtable: &[u8]) -> bool
+fn has_bytes(known: &[LaidVtable], i: usize, laid: LaidBytes, vtable: &[u8]) -> bool
     ensures { result ≡ true → StandsAt known.now (laid_bytes laid.entry) vtable.now i }
 {
     match known.get(i) {
@@ -79,7 +79,7 @@ fn has_bytes(known: &[LaidVtable], i: usize, laid: Laid, vtable: &[u8]) -> bool
 
 /// Which of the vtables that came last has these bytes: to compare a few is quicker than to hash, and tables that are
 /// near each other often have the same fields.
-fn recent_with(known: &[LaidVtable], laid: Laid, vtable: &[u8]) -> Option<usize>
+fn recent_with(known: &[LaidVtable], laid: LaidBytes, vtable: &[u8]) -> Option<usize>
     ensures { IfSome result (StandsAt known.now (laid_bytes laid.entry) vtable.now) }
 {
     let count = known.len();
@@ -92,7 +92,7 @@ fn recent_with(known: &[LaidVtable], laid: Laid, vtable: &[u8]) -> Option<usize>
 }
 
 /// Which of the vtables of a chain has these bytes: the chain begins at `first` less one and goes on by `older`.
-fn chained_with(known: &[LaidVtable], laid: Laid, vtable: &[u8], first: usize) -> Option<usize>
+fn chained_with(known: &[LaidVtable], laid: LaidBytes, vtable: &[u8], first: usize) -> Option<usize>
     ensures found { IfSome result (StandsAt known.now (laid_bytes laid.entry) vtable.now) }
     ensures absent { result ≡ None → (i : ℕ) → Reaches known.now i first
         → StandsAt known.now (laid_bytes laid.entry) vtable.now i → ⊥ }
@@ -127,7 +127,7 @@ fn index_of(
     newest: &IndexMap<u64, usize>,
     known: &[LaidVtable],
     near: usize,
-    laid: Laid,
+    laid: LaidBytes,
     vtable: &[u8],
 ) -> Option<usize>
     ensures found { IfSome result (StandsAt known.now (laid_bytes laid.entry) vtable.now) }
@@ -152,7 +152,7 @@ impl VtableIndex {
     {
         VtableIndex {
             newest: IndexMap::new(alloc),
-            laid: Vec::new(alloc),
+            known: Vec::new(alloc),
             near: 0,
             seen: VtableData::new(),
         }
@@ -165,33 +165,32 @@ impl VtableIndex {
         ensures spare { OnOk result (more ≤ self.new.spare) }
     {
         self.newest.reserve(more)?;
-        self.laid.reserve(more)
+        self.known.reserve(more)
     }
 
     /// Where the vtable with these bytes is laid, counted from the end of the bytes that are laid, if there is one.
-    pub fn find(&mut self, laid: Laid, vtable: &[u8]) -> Option<u32>
+    pub fn find(&mut self, laid: LaidBytes, vtable: &[u8]) -> Option<u32>
         requires laid { AreLaid self.old.vtables self.old.places (laid_bytes laid) }
         requires told { TellsItsLength vtable.now }
         ensures found { IfSome result (IsFound self.old vtable.now) }
         ensures absent { result ≡ None → IsKnown self.old.vtables vtable.now → ⊥ }
         ensures same { self.new ≡ self.old }
     {
-        let i = index_of(&self.newest, &self.laid, self.near, laid, vtable)?;
+        let i = index_of(&self.newest, &self.known, self.near, laid, vtable)?;
         self.near = i.saturating_add(1);
-        Some(self.laid[i].place)
+        Some(self.known[i].place)
     }
 
     /// Takes one more, which is laid now.
     pub fn push_reserved(&mut self, vtable: &[u8], place: u32)
         requires spare { 0 < self.old.spare }
-        requires each { length self.old.vtables ≡ length self.old.places }
         ensures vtables { self.new.vtables ≡ self.old.vtables ++ (vtable.now ∷ []) }
         ensures places { self.new.places ≡ self.old.places ++ (place ∷ []) }
         ensures spare { self.old.spare ≤ self.new.spare + 1 }
     {
-        let next = self.laid.len() + 1;
+        let next = self.known.len() + 1;
         match self.newest.insert(digest(vtable), next) {
-            Ok(older) => self.laid.push_reserved(LaidVtable {
+            Ok(older) => self.known.push_reserved(LaidVtable {
                 place,
                 older: older.unwrap_or(0),
             }),

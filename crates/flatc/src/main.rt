@@ -17,8 +17,8 @@ use clap::error::ErrorKind;
 use flatc_cli::{Job, Request, request_of};
 use flatc_tool::command::report;
 use flatc_tool::{
-    Limits, Noted, Pieces, ToolFault, check, conform_texts, print_to, to_binary, to_binary_pieces,
-    to_json,
+    Limits, Noted, Segments, ToolFault, check, conform_texts, print_to, to_binary,
+    to_binary_segments, to_json,
 };
 use std::alloc::Global;
 use std::process::ExitCode;
@@ -53,9 +53,13 @@ fn example(alloc: Global) -> Result<String, ToolFault> {
 }
 
 /// The buffer of the JSON text that was read.
-fn buffer_of(rt: &HostRuntime, texts: &mut Texts<'_>, unknown: bool) -> Result<Pieces, ToolFault> {
+fn buffer_of(
+    rt: &HostRuntime,
+    texts: &mut Texts<'_>,
+    unknown: bool,
+) -> Result<Segments, ToolFault> {
     let json = texts.give_input(rt)?;
-    to_binary_pieces(rt.alloc(), texts.schema.as_slice(), json, limits(), unknown)
+    to_binary_segments(rt.alloc(), texts.schema.as_slice(), json, limits(), unknown)
 }
 
 fn write_buffer<'j>(

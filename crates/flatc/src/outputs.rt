@@ -1,5 +1,5 @@
 //! Where a buffer is written to: never over an input, and never half.
-use flatc_tool::Pieces;
+use flatc_tool::Segments;
 use std::fs::{self, File, Metadata, OpenOptions, Permissions};
 use std::io::{self, ErrorKind};
 use std::os::unix::fs::{MetadataExt, OpenOptionsExt, PermissionsExt, chown};
@@ -75,7 +75,7 @@ fn fill_and_rename(
     rt: &HostRuntime,
     (path, mut file): (&str, File),
     out: &str,
-    buffer: &Pieces,
+    buffer: &Segments,
     old: Option<&Metadata>,
 ) -> io::Result<()> {
     buffer.write_to(&mut file)?;
@@ -86,7 +86,12 @@ fn fill_and_rename(
 }
 
 /// Writes a buffer to a file beside `out`, and renames it, so that a failure leaves `out` as it was.
-fn replace(rt: &HostRuntime, out: &str, buffer: &Pieces, old: Option<&Metadata>) -> io::Result<()> {
+fn replace(
+    rt: &HostRuntime,
+    out: &str,
+    buffer: &Segments,
+    old: Option<&Metadata>,
+) -> io::Result<()> {
     let mode = if old.is_some() { PRIVATE } else { USUAL };
     let (path, file) = create_beside(rt, out, mode)?;
     let done = fill_and_rename(rt, (path.as_str(), file), out, buffer, old);
@@ -104,7 +109,7 @@ fn replace(rt: &HostRuntime, out: &str, buffer: &Pieces, old: Option<&Metadata>)
 pub(crate) fn write_out(
     rt: &HostRuntime,
     out: &str,
-    buffer: &Pieces,
+    buffer: &Segments,
     inputs: [&str; 2],
 ) -> io::Result<()> {
     let old = match fs::symlink_metadata(rt, out) {

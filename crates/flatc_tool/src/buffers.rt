@@ -13,7 +13,7 @@ use crate::options::EncodeOptions;
 use fb_build::BuildFault;
 use fb_encode::{EncodeFault, encode_tree};
 use fb_layout::Layout;
-use fb_pieces::Pieces;
+use fb_segments::Segments;
 use serde_json::Value as Json;
 use std::alloc::Global;
 
@@ -40,14 +40,14 @@ fn refused(fault: EncodeFault) -> ToolFault
     }
 }
 
-/// The buffer of a JSON text's tree, in pieces.
-fn pieces_of(
+/// The buffer of a JSON text's tree, in segments.
+fn segments_of(
     alloc: Global,
     layout: &Layout,
     tree: Json,
     options: &EncodeOptions,
     expected: usize,
-) -> Result<Pieces, ToolFault>
+) -> Result<Segments, ToolFault>
     ensures binary { (json : List ℕ) → IsTree json (tree_view tree) → IfOk result
         (λ b. IsBinaryOf layout.now json options.now.limits options.now.unknown_json b.bytes) }
     ensures refused { (json : List ℕ) → IsTree json (tree_view tree) → IfErr result
@@ -58,17 +58,17 @@ fn pieces_of(
     layer_laws();
     let (limits, unknown) = (options.limits, options.unknown_json);
     match encode_tree(alloc, layout, tree, limits, unknown, expected) {
-        Ok(pieces) => Ok(pieces),
+        Ok(segments) => Ok(segments),
         Err(fault) => Err(refused(fault)),
     }
 }
 
-/// The bytes of pieces in one block.
-fn joined(alloc: Global, pieces: Pieces) -> Result<Vec<u8>, ToolFault>
-    ensures bytes { IfOk result (λ b. b.items ≡ pieces.bytes) }
+/// The bytes of segments in one block.
+fn joined(alloc: Global, segments: Segments) -> Result<Vec<u8>, ToolFault>
+    ensures bytes { IfOk result (λ b. b.items ≡ segments.bytes) }
     ensures refused { IfErr result (λ f. f ≡ ToolFault.Build Memory) }
 {
-    match pieces.into_bytes(alloc) {
+    match segments.into_bytes(alloc) {
         Ok(bytes) => Ok(bytes),
         Err(_) => Err(ToolFault::Build(BuildFault::Memory)),
     }
@@ -93,21 +93,20 @@ pub fn encode(
         → ¬ MayBeBinaryOf layout.now json.now options.now.limits options.now.unknown_json) }
 {
     let tree = tree_of(alloc, json)?;
-    let pieces = pieces_of(alloc, layout, tree, options, json.len())?;
-    joined(alloc, pieces)
+    let segments = segments_of(alloc, layout, tree, options, json.len())?;
+    joined(alloc, segments)
 }
 
-/// The buffer of a JSON text that is given away, under a layout, in pieces.
+/// The buffer of a JSON text that is given away, under a layout, in segments.
 ///
 /// This takes the least memory: the text is dropped before the buffer is laid, what is read is dropped as it is laid,
-/// and the pieces take its place, in which they may be written too. The errors are those of `encode`, in the same
-/// order.
-pub fn encode_pieces(
+/// and the segments can be written without being joined. The errors are those of `encode`, in the same order.
+pub fn encode_segments(
     alloc: Global,
     layout: &Layout,
     json: Vec<u8>,
     options: &EncodeOptions,
-) -> Result<Pieces, ToolFault>
+) -> Result<Segments, ToolFault>
     ensures binary { IfOk result
         (λ b. IsBinaryOf layout.now json.items options.now.limits options.now.unknown_json b.bytes) }
     ensures refused { IfErr result
@@ -119,7 +118,7 @@ pub fn encode_pieces(
     let expected = json.len();
     drop(json);
     match tree {
-        Ok(tree) => pieces_of(alloc, layout, tree, options, expected),
+        Ok(tree) => segments_of(alloc, layout, tree, options, expected),
         Err(fault) => Err(fault),
     }
 }

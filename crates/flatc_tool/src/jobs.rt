@@ -2,12 +2,12 @@
 ghost use Rattle.std.specs.Prelude.{IfOk, IfErr};
 ghost use Rattle.flatc_tool.specs.Jobs.{IsBinary, MayBeBinary, BinaryRefused, IsNotMemory};
 
-use crate::buffers::{encode, encode_pieces};
+use crate::buffers::{encode, encode_segments};
 use crate::faults::ToolFault;
 use crate::laws::layer_laws;
 use crate::options::EncodeOptions;
 use crate::schema_layouts::schema_of;
-use fb_pieces::Pieces;
+use fb_segments::Segments;
 use fb_value::Limits;
 use std::alloc::Global;
 
@@ -40,16 +40,16 @@ pub fn to_binary(
     encode(alloc, &layout, json, &options)
 }
 
-/// The buffer of a JSON text that is given away, under a schema text, in pieces.
+/// The buffer of a JSON text that is given away, under a schema text, in segments.
 ///
-/// This takes the least memory, as `encode_pieces` does. The errors are those of `to_binary`, in the same order.
-pub fn to_binary_pieces(
+/// This takes the least memory, as `encode_segments` does. The errors are those of `to_binary`, in the same order.
+pub fn to_binary_segments(
     alloc: Global,
     schema: &[u8],
     json: Vec<u8>,
     limits: Limits,
     unknown: bool,
-) -> Result<Pieces, ToolFault>
+) -> Result<Segments, ToolFault>
     ensures binary { IfOk result (λ b. IsBinary schema.now json.items limits unknown b.bytes) }
     ensures refused { IfErr result (BinaryRefused schema.now json.items limits unknown) }
     ensures exact { IfErr result
@@ -64,5 +64,5 @@ pub fn to_binary_pieces(
         limits,
         unknown_json: unknown,
     };
-    encode_pieces(alloc, &layout, json, &options)
+    encode_segments(alloc, &layout, json, &options)
 }

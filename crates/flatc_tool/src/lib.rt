@@ -14,7 +14,7 @@ mod options;
 mod prints;
 mod schema_layouts;
 
-pub use buffers::{encode, encode_pieces};
+pub use buffers::{encode, encode_segments};
 pub use checks::check;
 pub use evolution::conform_texts;
 pub use faults::ToolFault;
@@ -23,16 +23,16 @@ pub use fb_conform::{Breach, carry, conform};
 pub use fb_declare::SchemaFault;
 pub use fb_json::{JsonFault, Place};
 pub use fb_layout::{Layout, LayoutFault};
-pub use fb_pieces::Pieces;
 pub use fb_read::{Entries, Entry, FixedView, Items, View, read, verify};
 pub use fb_schema::TypeId;
+pub use fb_segments::Segments;
 pub use fb_syntax::SyntaxFault;
 pub use fb_text::{Noted, TextFault, WriteFault};
 pub use fb_value::{Limits, ReadFault, Value};
 pub use headline::{
     chains_carry, chains_conform, json_is_carried, old_programs_read, others_are_refused,
 };
-pub use jobs::{to_binary, to_binary_pieces};
+pub use jobs::{to_binary, to_binary_segments};
 pub use json_texts::{decode, decode_to};
 pub use options::{DecodeOptions, EncodeOptions};
 pub use prints::{print_to, to_json};

@@ -155,9 +155,9 @@ fn letters(alloc: Global, letter: char, count: u32) -> Result<String, AllocError
     Ok(text)
 }
 
-/// Between two tables with one vtable are texts that fill several pieces.
+/// Between two tables with one vtable are texts that fill several segments.
 #[test]
-fn parts_in_many_pieces(rt: HostRuntime) -> Result<(), Fail> {
+fn parts_in_many_segments(rt: HostRuntime) -> Result<(), Fail> {
     let alloc = rt.alloc();
     let first = table_of(alloc, 0, Value::Number(1))?;
     let points = Value::Items(vec![in alloc; first]?);

@@ -1,4 +1,4 @@
-//! A long text that is printed in large pieces.
+//! A long text that is printed in large segments.
 use super::usual_limits;
 use super::writers::{Calls, Short};
 use fb_text::Noted;
@@ -56,7 +56,7 @@ fn a_text_is_written_to_a_slow_writer(rt: HostRuntime) -> Result<(), Fail> {
     Ok(())
 }
 
-// A page has 8,192 bytes, and a short piece up to six; the short pieces have 220,017 bytes.
+// A page has 8,192 bytes, and a short piece up to six; the short segments have 220,017 bytes.
 #[test]
 fn short_pieces_are_written_together(rt: HostRuntime) -> Result<(), Fail> {
     let text = long_text(rt.alloc())?;

@@ -5,8 +5,8 @@ use fb_json::{JsonFault, Place};
 use fb_schema::TypeId;
 use fb_value::ReadFault;
 use flatc_tool::{
-    EncodeOptions, SchemaTextFault, ToolFault, encode_pieces, schema_of, to_binary,
-    to_binary_pieces, to_json,
+    EncodeOptions, SchemaTextFault, ToolFault, encode_segments, schema_of, to_binary,
+    to_binary_segments, to_json,
 };
 use std::test::Fail;
 
@@ -53,13 +53,13 @@ fn a_text_that_is_given_away_has_the_same_buffer(rt: HostRuntime) -> Result<(), 
     let alloc = rt.alloc();
     let built = to_binary(alloc, SCHEMA, TEXT.as_bytes(), usual_limits(), false)?;
     let json = TEXT.as_bytes().to_vec(alloc)?;
-    let pieces = to_binary_pieces(alloc, SCHEMA, json, usual_limits(), false)?;
-    assert_eq!(rt; pieces.into_bytes(alloc)?.as_slice(), built.as_slice());
+    let segments = to_binary_segments(alloc, SCHEMA, json, usual_limits(), false)?;
+    assert_eq!(rt; segments.into_bytes(alloc)?.as_slice(), built.as_slice());
     let layout = schema_of(alloc, SCHEMA)?;
     let json = TEXT.as_bytes().to_vec(alloc)?;
-    let pieces = encode_pieces(alloc, &layout, json, &EncodeOptions::new())?;
-    assert_eq!(rt; pieces.len(), built.len());
-    assert_eq!(rt; pieces.into_bytes(alloc)?.as_slice(), built.as_slice());
+    let segments = encode_segments(alloc, &layout, json, &EncodeOptions::new())?;
+    assert_eq!(rt; segments.len(), built.len());
+    assert_eq!(rt; segments.into_bytes(alloc)?.as_slice(), built.as_slice());
     Ok(())
 }
 

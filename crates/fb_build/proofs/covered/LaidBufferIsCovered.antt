@@ -13,7 +13,7 @@ use Rattle.fb_value.specs.Num.{Bytes, num, divides}
 use Rattle.fb_value.specs.Places.{table_part, part_place}
 use Rattle.fb_value.specs.Lies.{LiesAt}
 use Rattle.fb_value.specs.Holds.{root_place}
-use Rattle.fb_pieces.specs.Ends.{StandsEnd}
+use Rattle.fb_segments.specs.Ends.{StandsEnd}
 use Rattle.fb_build.specs.Tails.{TailSeen, LaidInTail}
 use Rattle.fb_vtables.specs.Vtables.{AreDifferent, AreLaid, TellsItsLength}
 use Rattle.fb_build.specs.Pieces.{PartAt, reached, reached_parts, greatest_align, is_among, tables_vtables}

@@ -7,7 +7,7 @@ use Rattle.fb_build.proofs.tail.WhatIsLaidStaysLaid.{self_divides}
 
 -- the tail, had it had the memory of a later one from the start
 abbrev pub as_long : (a b : TailSeen) → Lengthens a b → TailSeen
-as_long a b h = record { free = b.free + length h.front; bytes = a.bytes; most = a.most; behind = b.behind }
+as_long a b h = record { free = b.free + length h.front; bytes = a.bytes; most = a.most; in_segments = b.in_segments }
 
 -- So what is known of a tail that grows is known of one whose memory grew, too.
 pub lengthens_grows : (a b : TailSeen) (h : Lengthens a b) → Grows (as_long a b h) b

@@ -11,7 +11,7 @@ use Rattle.fb_value.specs.Datum.{Datum}
 use Rattle.fb_value.specs.Num.{Bytes, divides}
 use Rattle.fb_value.specs.Places.{Sort}
 use Rattle.fb_value.specs.Tails.{LiesInTail}
-use Rattle.fb_pieces.specs.Ends.{StandsEnd}
+use Rattle.fb_segments.specs.Ends.{StandsEnd}
 use Rattle.fb_layout.specs.Sizes.{IsAlignment}
 use Rattle.fb_build.specs.Tails.{TailSeen, Grows, LaidInTail}
 use Rattle.fb_value.proofs.tails.TailsAreKeptInFront.{front_shown, multiple_shown, old_shown, through}
@@ -65,7 +65,7 @@ pub same_grows : (a : TailSeen) → Grows a a
 same_grows a = record { front = []; grown = refl; spent = omega arith; multiple = self_divides a.most; same = refl }
 
 pub grows_by : (a b : TailSeen) (front : Bytes) → b.bytes ≡ front ++ a.bytes → b.free + length front ≡ a.free
-    → b.most ≡ a.most → b.behind ≡ a.behind → Grows a b
+    → b.most ≡ a.most → b.in_segments ≡ a.in_segments → Grows a b
 grows_by a b front grown spent most same = record {
   front = front;
   grown = grown;
@@ -75,7 +75,7 @@ grows_by a b front grown spent most same = record {
 }
 
 pub pads_by : (a b w : TailSeen) (k align : ℕ) → b.bytes ≡ replicate k 0 ++ a.bytes → b.free + k ≡ a.free
-    → w.most ≡ a.most → IsAlignment w.most → IsAlignment align → b.most ≡ max w.most align → b.behind ≡ a.behind
+    → w.most ≡ a.most → IsAlignment w.most → IsAlignment align → b.most ≡ max w.most align → b.in_segments ≡ a.in_segments
     → Grows a b
 pads_by a b w k align grown spent kept pw pb most same = record {
   front = replicate k 0;

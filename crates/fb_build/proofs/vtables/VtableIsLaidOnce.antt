@@ -6,7 +6,7 @@ use Rattle.std.proofs.lemmas.Bool.{eq-eqb, lt-ltb}
 use Rattle.std.proofs.lemmas.Bool.Decides.{nat_tests}
 use Rattle.byteorder.specs.Endian.{little_bytes}
 use Rattle.fb_value.specs.Num.{Bytes, num, divides}
-use Rattle.fb_pieces.specs.Ends.{StandsEnd}
+use Rattle.fb_segments.specs.Ends.{StandsEnd}
 use Rattle.fb_build.specs.Tails.{TailSeen, Grows}
 use Rattle.fb_build.specs.TableBytes.{way_to, VtableEnd}
 use Rattle.fb_vtables.specs.Vtables.{AreDifferent, AreLaid, IsKnown, TellsItsLength}

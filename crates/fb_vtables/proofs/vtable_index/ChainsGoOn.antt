@@ -2,7 +2,7 @@
 use Rattle.std.proofs.Common.{◌≡◌, ℕ, zero, suc, ◌-◌, ◌≤◌, ◌<◌, [], ◌∷◌, length, get_or, Option, Some, slice_get, min, arith, subst, List}
 use Rattle.fb_value.specs.Num.{Bytes}
 use Rattle.fb_vtables.specs.declared.vtable_index.LaidVtable.{LaidVtable}
-use Rattle.fb_pieces.specs.Ends.{StandsEnd}
+use Rattle.fb_segments.specs.Ends.{StandsEnd}
 use Rattle.fb_vtables.specs.Chains.{Reaches, StandsAt}
 use Rattle.fb_vtables.specs.Chains.Reaches.{here, further}
 

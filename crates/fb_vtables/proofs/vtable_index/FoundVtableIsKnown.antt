@@ -6,7 +6,7 @@ use Rattle.std.specs.Option.{option_map}
 use Rattle.fb_value.specs.Num.{Bytes}
 use Rattle.fb_vtables.specs.declared.vtable_index.LaidVtable.{LaidVtable}
 use Rattle.fb_vtables.specs.Chains.{StandsAt}
-use Rattle.fb_pieces.specs.Ends.{StandsEnd}
+use Rattle.fb_segments.specs.Ends.{StandsEnd}
 use Rattle.fb_vtables.specs.Vtables.{AreLaid, TellsItsLength}
 use Rattle.fb_vtables.proofs.vtable_index.OneVtableStandsAtAPlace.{one_stands}
 

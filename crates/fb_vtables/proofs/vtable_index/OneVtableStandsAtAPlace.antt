@@ -2,8 +2,8 @@
 use Rattle.std.proofs.Common.{◌≡◌, ℕ, ◌++◌, length, take, ap, sym, ◌∙◌}
 use Rattle.std.proofs.Math.Seq.{take-append_seam}
 use Rattle.fb_value.specs.Num.{Bytes, num}
-use Rattle.fb_pieces.specs.Ends.{StandsEnd}
-use Rattle.fb_pieces.proofs.BytesStandAtPlaces.{from_place}
+use Rattle.fb_segments.specs.Ends.{StandsEnd}
+use Rattle.fb_segments.proofs.BytesStandAtEndCounts.{from_place}
 use Rattle.fb_vtables.specs.Vtables.{TellsItsLength}
 
 -- Two vtables at one place are equal, since each tells its length.

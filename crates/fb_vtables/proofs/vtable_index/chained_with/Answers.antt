@@ -1,5 +1,5 @@
 use Rattle.std.proofs.Common.{◌≡◌, ◌-◌, Some, slice_get, arith, rules}
-use Rattle.fb_pieces.specs.LaidBytes.{laid_bytes}
+use Rattle.fb_segments.specs.LaidBytes.{laid_bytes}
 use Rattle.fb_vtables.proofs.vtable_index.ChainsGoOn.{goes_on, got_at}
 use Rattle.fb_vtables.proofs.vtable_index.chained_with.Goals as goal
 

@@ -1,5 +1,5 @@
 use Rattle.std.proofs.Common.{ℕ}
-use Rattle.fb_pieces.specs.LaidBytes.{laid_bytes}
+use Rattle.fb_segments.specs.LaidBytes.{laid_bytes}
 use Rattle.fb_vtables.specs.Chains.{Reaches, StandsAt}
 use Rattle.fb_vtables.proofs.vtable_index.chained_with.Given as goal
 

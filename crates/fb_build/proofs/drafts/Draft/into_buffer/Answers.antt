@@ -39,4 +39,4 @@ returns-clause-holds c most raw deep small =
     let inside = c.self.inside in
     let root : c.root-root.result.0 ≡ inside.layout.now.schema.root =
     c.root-root.ensures ∙ ap (λ S. S.root) c.schema.ensures.schema in
-    rw (← c.self.view_is, c.in_ok-into_pieces.ensures) (rw root at c.close_root.ensures.holds most raw deep small)
+    rw (← c.self.view_is, c.in_ok-into_segments.ensures) (rw root at c.close_root.ensures.holds most raw deep small)

@@ -67,4 +67,9 @@ fill-requires-clause-ready c =
 
 pub fill-requires-clause-fresh : goal.fill-requires-clause-fresh
 fill-requires-clause-fresh c =
-    record { bytes = c.new.ensures.bytes; most = c.new.ensures.most; none_laid = c.self.invariant.none_laid }
+    record {
+      bytes = c.new.ensures.bytes;
+      one_block = c.new.ensures.one_block;
+      most = c.new.ensures.most;
+      none_laid = c.self.invariant.none_laid;
+    }

@@ -12,12 +12,12 @@ invariant_of-self c =
     let y : LaidVtable = record { place = c.args.place; older = c.unwrap_or.result } in
     let old = λ (digest : ℕ). get nat_eq x.newest digest in
     let new = λ (digest : ℕ). get nat_eq c.insert.new.self digest in
-    let next : c.len-next.result + 1 ≡ suc (length x.laid.items) =
+    let next : c.len-next.result + 1 ≡ suc (length x.known.items) =
     omega (arith, c.len-next.ensures, c.self.invariant.count) in
     let update = rw (next, c.digest.ensures) at c.in-Ok.ensures.updates.0 in
     let older : y.older ≡ first_of (old (digest_of c.args.vtable.now)) =
     rw (c.unwrap_or.ensures, c.in-Ok.ensures.old, c.digest.ensures) in
-    let longer = length-append x.laid.items (y ∷ []) in
+    let longer = length-append x.known.items (y ∷ []) in
     let known = length-append x.seen.vtables (c.args.vtable.now ∷ []) in
     record {
       each = rw (c.push.ensures, c.push_reserved.ensures.items) (omega (arith, longer, known, c.self.invariant.each));
@@ -27,9 +27,9 @@ invariant_of-self c =
         c.push_reserved.ensures.len,
         c.self.invariant.count,
       ));
-      within = rw c.push_reserved.ensures.items (within_more x.laid.items x.seen.vtables c.args.vtable.now y old new
+      within = rw c.push_reserved.ensures.items (within_more x.known.items x.seen.vtables c.args.vtable.now y old new
           older c.self.invariant.within update);
-      reached = rw (c.push.ensures, c.push_reserved.ensures.items) (reached_more x.laid.items x.seen.vtables
+      reached = rw (c.push.ensures, c.push_reserved.ensures.items) (reached_more x.known.items x.seen.vtables
           c.args.vtable.now y old new older c.self.invariant.within update c.self.invariant.each
           c.self.invariant.reached);
     }

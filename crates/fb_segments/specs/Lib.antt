@@ -1,0 +1,4 @@
+pub mod Ends
+pub mod Joined
+pub mod AreSegments
+pub mod LaidBytes
