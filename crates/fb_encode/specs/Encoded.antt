@@ -1,6 +1,6 @@
 -- What bytes a tree of JSON gives.
 -- From the FlatBuffers documentation, "Using the schema compiler": `--binary`.
-use Rattle.std.specs.Prelude.{ℕ, ◌≡◌, ◌≤◌, ◌<◌, Bool, length}
+use Rattle.std.specs.Prelude.{◌≤◌, ◌<◌, Bool, length}
 use Rattle.serde_json.specs.Data.{Data}
 use Rattle.fb_layout.specs.Laid.{LaidSchema}
 use Rattle.fb_value.specs.Bounds.{Bounds}

@@ -1,5 +1,5 @@
 -- What one slot more gives, and which slot that is.
-use Rattle.std.specs.Prelude.{ℕ, ◌≡◌, ◌++◌, List, [], ◌∷◌, Option, Some, Result, Ok, Err, length, slice_get}
+use Rattle.std.specs.Prelude.{◌≡◌, ◌++◌, List, [], ◌∷◌, Option, Some, Ok, Err, length, slice_get}
 use Rattle.fb_schema.specs.Schema.{DeclaredField, body_at, slots_in}
 use Rattle.fb_value.specs.Datum.{Datum}
 use Rattle.fb_json.specs.Outcome.{Counted}

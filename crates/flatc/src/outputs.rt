@@ -1,4 +1,4 @@
-//! Where a buffer is written to: never over an input, and never half.
+//! Where a buffer is written to: never over an input, and a regular file never half.
 use flatc_tool::Segments;
 use std::fs::{self, File, Metadata, OpenOptions, Permissions};
 use std::io::{self, ErrorKind};

@@ -1,6 +1,6 @@
 -- An element more that fits.
-use Rattle.std.proofs.Common.{◌≡◌, ◌∙◌, ◌++◌, ◌∷◌, ℕ, Bool, true, zero, suc, List, [], Some, Ok, slice_get, map, reverse}
-use Rattle.std.proofs.Common.{ap, subst, sym}
+use Rattle.std.proofs.Common.{◌≡◌, ◌∙◌, ◌++◌, ◌∷◌, ℕ, Bool, true, zero, suc, List, [], Ok, map, reverse}
+use Rattle.std.proofs.Common.{ap, subst}
 use Rattle.std.proofs.lemmas.List.{reverse-append}
 use Rattle.serde_json.specs.View.{view as tree_view, items_view}
 use Rattle.serde_json.specs.declared.value.Value.{Value as Json}

@@ -1,15 +1,13 @@
 -- What comes next fits the next slot, and what one slot more gives.
-use Rattle.std.proofs.Common.{◌≡◌, ◌∙◌, ◌++◌, ◌∷◌, ℕ, true, false, List, [], Option, None, Some, Result, Ok, Err, length}
-use Rattle.std.proofs.Common.{slice_get, map, option_map, ap, sym, subst, refl}
+use Rattle.std.proofs.Common.{◌≡◌, ◌∙◌, ◌++◌, ◌∷◌, ℕ, true, false, List, [], Option, None, Some, Ok, Err, length}
+use Rattle.std.proofs.Common.{slice_get, option_map, ap, sym, refl}
 use Rattle.std.proofs.lemmas.Option.{slice_get-map}
 use Rattle.fb_schema.specs.declared.kinds.Kind.{Kind}
-use Rattle.fb_schema.specs.declared.kinds.Shape.{Shape}
 use Rattle.fb_schema.specs.declared.kinds.Shape.TheVariants.{Many}
 use Rattle.fb_schema.specs.Schema.{DeclaredField, body_at, slots_in}
 use Rattle.fb_layout.specs.Laid.{LaidSchema, one_of, slot_of, stored_kind, stored_shape}
 use Rattle.fb_value.specs.Counts.{is_whole}
 use Rattle.fb_value.specs.Datum.{Datum, a_vector}
-use Rattle.fb_value.specs.Entries.{EntryFits}
 use Rattle.fb_value.specs.Fits.{Fits}
 use Rattle.fb_value.specs.View.{view, parts_in}
 use Rattle.fb_value.specs.declared.values.Value.{Value}

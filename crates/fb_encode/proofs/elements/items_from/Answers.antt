@@ -1,10 +1,7 @@
-use Rattle.std.proofs.Common.{◌≡◌, ◌∙◌, ◌++◌, [], ◌∷◌, List, ap, sym, subst, arith, map}
+use Rattle.std.proofs.Common.{◌≡◌, ◌∙◌, ◌++◌, [], ◌∷◌, ap, arith, map}
 use Rattle.std.proofs.lemmas.List.{map_push}
-use Rattle.serde_json.specs.View.{items_view}
 use Rattle.fb_layout.specs.Laid.{stored_kind}
-use Rattle.fb_value.specs.Datum.{Datum}
 use Rattle.fb_value.specs.View.{view}
-use Rattle.fb_json.specs.Meant.{items_meant}
 use Rattle.fb_encode.proofs.elements.OneElementMore.{one_fits_more, one_gives_more}
 use Rattle.fb_encode.proofs.elements.items_from.Goals as goal
 

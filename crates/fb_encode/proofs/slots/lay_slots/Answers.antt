@@ -1,17 +1,15 @@
-use Rattle.std.proofs.Common.{◌≡◌, ◌∙◌, ◌++◌, ◌∷◌, ◌≤◌, ◌+◌, [], List, Option, Some, sym, subst, ap, length, map, option_map, arith}
+use Rattle.std.proofs.Common.{◌≡◌, ◌∙◌, ◌≤◌, List, Some, sym, subst, ap, length, arith}
 use Rattle.std.proofs.Common.{slice_get}
 use Rattle.std.proofs.lemmas.Result.{err_from_is_err_and}
 use Rattle.serde_json.specs.View.{members_view}
 use Rattle.fb_schema.specs.Schema.{DeclaredField, body_at, slots_in}
 use Rattle.fb_schema.specs.Seen.{field_seen}
-use Rattle.fb_layout.specs.Laid.{LaidSchema}
-use Rattle.fb_value.specs.Datum.{Datum}
 use Rattle.fb_json.specs.Meant.{look, slot_place, entry_meant}
 use Rattle.fb_json.proofs.slots.OtherMembersStay.{code_same, entry_same, look_same}
 use Rattle.fb_json.proofs.slots.OneSlotOrFieldMore.{slot_at, fails_is, fails_by, slots_next, slots_untold, slots_ungiven}
 use Rattle.fb_json.proofs.slots.OneSlotOrFieldMore.{slots_end}
 use Rattle.fb_build.proofs.apart.EntriesComeInOrder.{long_more}
-use Rattle.fb_encode.specs.OneMore.{IsNextField, one_more}
+use Rattle.fb_encode.specs.OneMore.{one_more}
 use Rattle.fb_encode.proofs.slots.NextSlotIsTaken.{none_more, one_given}
 use Rattle.fb_encode.proofs.slots.lay_slots.Goals as goal
 

@@ -1,10 +1,8 @@
-use Rattle.std.proofs.Common.{◌≡◌, ◌∙◌, Option, Some, List, map, ap, sym, subst}
+use Rattle.std.proofs.Common.{◌∙◌, map}
 use Rattle.fb_schema.specs.Seen.{field_seen}
 use Rattle.fb_layout.specs.Laid.{stored_kind}
-use Rattle.fb_value.specs.Datum.{Datum}
 use Rattle.fb_value.specs.View.{view}
 use Rattle.fb_value.proofs.types.EachVariantHasItsView.{view-Items}
-use Rattle.fb_build.specs.BuiltSoFar.{BuiltSoFar, FitsNext}
 use Rattle.fb_encode.specs.OneMore.{IsNextField}
 use Rattle.fb_encode.proofs.slots.NextSlotIsTaken.{elements_awaited, vector_fits}
 use Rattle.fb_encode.proofs.slots.lay_vector.Goals as goal

@@ -1,17 +1,15 @@
-use Rattle.std.proofs.Common.{◌≡◌, ◌∙◌, ◌⊎◌, ◌-◌, ℕ, List, Option, inl, inr, Result, Ok, Err, map, refl, sym, ap, subst, arith}
+use Rattle.std.proofs.Common.{◌≡◌, ◌∙◌, inl, inr, Ok, map, sym, ap, subst}
 use Rattle.std.proofs.lemmas.Result.{err_from_is_err_and}
-use Rattle.serde_json.specs.Data.{Data}
 use Rattle.serde_json.specs.View.{members_view}
 use Rattle.fb_schema.specs.Schema.{DeclaredSchema}
 use Rattle.fb_schema.specs.Seen.{field_seen}
 use Rattle.fb_layout.specs.Laid.{LaidSchema}
-use Rattle.fb_value.specs.Datum.{Datum, a_table}
+use Rattle.fb_value.specs.Datum.{a_table}
 use Rattle.fb_value.specs.View.{entries_in}
 use Rattle.fb_json.specs.Laws.{root_known, root_slots}
 use Rattle.fb_json.specs.MarkedSlots.{AreNamedApart}
 use Rattle.fb_json.specs.Means.{Means}
-use Rattle.fb_json.specs.Meant.{look, slots_meant}
-use Rattle.fb_json.specs.Outcome.{Gives, Fails, Counted}
+use Rattle.fb_json.specs.Outcome.{Fails}
 use Rattle.fb_json.proofs.slots.SlotsAreNamedApart.{named_apart}
 use Rattle.fb_json.proofs.slots.RootIsReadBySlots.{known_at, slots_at}
 use Rattle.fb_json.proofs.slots.OneSlotOrFieldMore.{failed}
