@@ -1,12 +1,13 @@
 #!/usr/bin/env bash
 # The gate: all that rt ci proves and runs, whether each mutation can still be applied and each edit in not-compiled/
 # is refused, and the built program: with words and files, with what is done to OUT, where memory, pipes and stack
-# run out, and what it explains; and the calls with growths refused, and some thousand damaged buffers. The last line counts all of it:
-# 'N passed, M failed'.
+# run out, what it explains, and how much memory it takes beside a parse; and the calls with growths refused, and some
+# thousand damaged buffers. The last line counts all of it: 'N passed, M failed'.
 set -uo pipefail
 cd "$(dirname "$0")/.."
 program=crates/flatc/out/flatc
 hostile=crates/hostile/out/hostile
+parser=crates/json_parse/out/json_parse
 logs=$(mktemp -d)
 trap 'rm -rf "$logs"' EXIT
 status=0
@@ -19,6 +20,9 @@ fi
 if [ ! -x "$hostile" ]; then
     python3 tools/build.py hostile || status=1
 fi
+if [ ! -x "$parser" ]; then
+    python3 tools/build.py json_parse || status=1
+fi
 python3 tools/mutations.py --not-compiled | tee "$logs/not-compiled" || status=1
 for part in command outputs hostile explain; do
     python3 "tests/$part.py" "$program" | tee "$logs/$part" || status=1
@@ -26,10 +30,11 @@ done
 for part in growths soak; do
     python3 "tests/$part.py" "$hostile" | tee "$logs/$part" || status=1
 done
+python3 tests/memory.py "$program" "$parser" | tee "$logs/memory" || status=1
 
 passed=0
 failed=0
-for log in "$logs"/{ci,mutations,not-compiled,command,outputs,hostile,explain,growths,soak}; do
+for log in "$logs"/{ci,mutations,not-compiled,command,outputs,hostile,explain,growths,soak,memory}; do
     if [[ $(tail -n 1 "$log") =~ ^([0-9]+)\ passed,\ ([0-9]+)\ failed$ ]]; then
         passed=$((passed + BASH_REMATCH[1]))
         failed=$((failed + BASH_REMATCH[2]))

@@ -5,6 +5,7 @@ usage: tests/outputs.py PROGRAM
 
 The last line is 'N passed, M failed'.
 """
+import json
 import os
 import resource
 import shutil
@@ -20,6 +21,9 @@ WORDS = ["binary", "one.fbs", "seven.json"]
 JSON = b'{"a":7}'
 NOBODY = 65534
 KILLS = 24
+# Rows, which may have any of eight numbers, so that tables have many vtables.
+NUMBERS = b"".join(b"n%d:int; " % k for k in range(8))
+ROWS = b"table Row { %stext:string; } table Rows { rows:[Row]; } root_type Rows;" % NUMBERS
 # Numbers in a vector, so that a buffer of some megabytes is written.
 VECTOR = b"table T { v:[uint]; } root_type T;"
 COUNT = 2_000_000
@@ -131,6 +135,29 @@ def direct(tests):
     tests.tell("no other file is left", not beside(), f"{beside()}")
 
 
+def in_segments(tests):
+    """Buffers that are laid in many segments: tables of all sets of eight fields, between texts of several lengths."""
+    write("rows.fbs", ROWS)
+    names = [f"n{k}" for k in range(8)]
+    rows = [
+        {name: k + 1 for name in names if bits >> names.index(name) & 1} | {"text": f"{bits} " * (bits % 97)}
+        for k in range(20)
+        for bits in range(256)
+    ]
+    rows[999]["text"] = "long " * 60_000
+    write("rows.json", json.dumps({"rows": rows}).encode())
+    words = ["binary", "rows.fbs", "rows.json"]
+    tests.expect("OUT of many segments", [*words, "rows.bin"], 0)
+    buffer = content("rows.bin")
+    tests.tell("it is as long as several segments", len(buffer) > 1_000_000, f"{len(buffer)} bytes")
+    tests.expect("it holds a value", ["check", "rows.fbs", "rows.bin"], 0, out=b"ok\n")
+    printed = tests.run(["json", "rows.fbs", "rows.bin"])
+    tests.tell("the value is that of the JSON", json.loads(printed.stdout) == {"rows": rows})
+    tests.expect("OUT is standard output", [*words, "/dev/stdout"], 0, out=buffer)
+    tests.expect("with an explanation", ["binary", "--explain", *words[1:], "told.bin"], 0, holds={"told.bin": buffer})
+    tests.expect("a full device", [*words, "/dev/full"], 1, err=REFUSED)
+
+
 def other_user():
     """Root may write anywhere, so there another user tries."""
     return {"user": NOBODY, "group": NOBODY, "extra_groups": []} if os.geteuid() == 0 else {}
@@ -205,7 +232,7 @@ def killed(tests):
 
 def main():
     tests = Tests("outputs", program_of(sys.argv, __doc__))
-    return tests.main((absent, replaced, guarded, direct, forbidden, full, killed))
+    return tests.main((absent, replaced, guarded, direct, in_segments, forbidden, full, killed))
 
 
 if __name__ == "__main__":

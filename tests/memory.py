@@ -1,0 +1,51 @@
+#!/usr/bin/env python3
+"""How much memory the way to a buffer takes beside a parse of the JSON text alone.
+
+usage: tests/memory.py PROGRAM PARSER
+
+PARSER is built of crates/json_parse. The last line is 'N passed, M failed'.
+"""
+import os
+import subprocess
+import sys
+
+from harness import ROOT, Tests, program_of
+
+sys.path.append(f"{ROOT}/bench")
+from bench import write_documents
+
+# How many times the memory of a parse a buffer may take.
+MOST = 1.2
+# The buffer of the first is six times as long as its JSON text; those of the others are shorter.
+NAMES = ("wide and sparse", "small tables", "integers")
+
+
+def peak(words):
+    """The most memory that a program has in use, in KiB."""
+    child = subprocess.Popen(words, stdout=subprocess.DEVNULL, stderr=subprocess.PIPE)
+    told = child.stderr.read()
+    _, status, used = os.wait4(child.pid, 0)
+    child.stderr.close()
+    child.returncode = os.waitstatus_to_exitcode(status)
+    if child.returncode != 0:
+        raise OSError(f"{words}: {told}")
+    return used.ru_maxrss
+
+
+def beside_a_parse(parser):
+    def tried(tests):
+        for name, at in [found for it in NAMES for found in write_documents(".", it)]:
+            ours = peak([tests.program, "binary", f"{at}/data.fbs", f"{at}/data.json", f"{at}/data.bin"])
+            alone = peak([parser, f"{at}/data.json"])
+            tests.tell(f"the memory of {name}", ours <= MOST * alone, f"{ours} KiB, and {alone} KiB for a parse")
+
+    return tried
+
+
+def main():
+    tests = Tests("memory", program_of(sys.argv[:2], __doc__))
+    return tests.main([beside_a_parse(os.path.abspath(sys.argv[2]))])
+
+
+if __name__ == "__main__":
+    sys.exit(main())
