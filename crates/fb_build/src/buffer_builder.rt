@@ -37,7 +37,8 @@ pub struct BufferBuilder<'l> {
     alloc: Global,
     layout: &'l Layout,
     draft: Draft<'l>,
-    // what stands in for each entry so far: of a text, a vector and a table, which are laid apart, only that it is there
+    // what stands in for each entry so far: of a text, a vector and a table, which are laid apart, only that it is
+    // there
     entries: Vec<Option<Value>>,
     ends: Vec<u32>,
     data: EntryData,
@@ -124,8 +125,8 @@ fn root_slot(layout: &Layout, k: usize) -> &FieldInfo
 }
 
 impl<'l> BufferBuilder<'l> {
-    /// A buffer of which no entry is there yet, with memory for as many bytes as are expected, up to 65,536, if there is
-    /// so much.
+    /// A buffer of which no entry is there yet, with memory for as many bytes as are expected, up to 65,536, if there
+    /// is so much.
     pub fn new(
         alloc: Global,
         layout: &'l Layout,

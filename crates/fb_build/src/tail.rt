@@ -97,9 +97,9 @@ impl Tail {
         self.most
     }
 
-    /// Makes so many bytes free at least. Where the block is too short, what is laid in it becomes a segment, and another
-    /// block comes in front. That has some bytes to spare, as many as are laid at most, so that few blocks are filled
-    /// with zeros where parts need less than they ask for.
+    /// Makes so many bytes free at least. Where the block is too short, what is laid in it becomes a segment, and
+    /// another block comes in front. That has some bytes to spare, as many as are laid at most, so that few blocks are
+    /// filled with zeros where parts need less than they ask for.
     pub(crate) fn grow(&mut self, free: usize) -> Result<(), AllocError>
         requires short { length self.old.bytes + free ≤ 2147483647 }
         ensures bytes { self.new.bytes ≡ self.old.bytes }
