@@ -3,7 +3,7 @@ use Rattle.std.proofs.Common.{ℕ, zero, suc, ◌≡◌, ◌≢◌, ◌-◌, ◌
 use Rattle.std.proofs.lemmas.Option.{slice_get_within, slice_get_read}
 use Rattle.std.proofs.lemmas.Bool.Decides.{nat_tests}
 use Rattle.fb_scopes.specs.declared.maps.Fork.{Fork}
-use Rattle.fb_scopes.specs.Maps.{empty_fork, fork_at, part, with_part, found_in, found_or, IsMapIn, KeepsForks}
+use Rattle.fb_scopes.specs.Maps.{empty_fork, part, with_part, found_in, found_or, IsMapIn, KeepsForks}
 use Rattle.fb_scopes.proofs.MapsKept.{kept-map, kept-found, part-map, empty-found}
 
 -- a map's first fork, where it has levels
@@ -21,23 +21,13 @@ pub fork-of-map : (forks : List Fork) (levels place : ℕ) (fork : Fork) → lev
 fork-of-map forks levels place fork above map read =
     let deep : IsMapIn forks (suc (levels - 1)) place = subst (λ n. IsMapIn forks n place) (lower levels above) map in
     let there = slice_get_read forks (length forks) place fork refl deep.0 read in
-    let same : fork_at forks place ≡ fork = ap (λ o. unwrap_or o empty_fork) there in
-    record {
-      above = above;
-      there = there;
-      zeros = subst (λ (f : Fork). IsMapIn forks (levels - 1) f.zero) same deep.1;
-      ones = subst (λ (f : Fork). IsMapIn forks (levels - 1) f.one) same deep.2;
-    }
+    let parts = rw there at deep in
+    record { above = above; there = there; zeros = parts.1; ones = parts.2 }
 
 pub map-of-fork : {forks : List Fork} {levels place : ℕ} {fork : Fork} → IsForkOf forks levels place fork
     → IsMapIn forks levels place
 map-of-fork {forks = forks} {levels = levels} {place = place} {fork = fork} f =
-    let same : fork ≡ fork_at forks place = sym (ap (λ o. unwrap_or o empty_fork) f.there) in
-    let deep : IsMapIn forks (suc (levels - 1)) place = (
-      slice_get_within forks place fork f.there,
-      subst (λ (g : Fork). IsMapIn forks (levels - 1) g.zero) same f.zeros,
-      subst (λ (g : Fork). IsMapIn forks (levels - 1) g.one) same f.ones,
-    ) in
+    let deep : IsMapIn forks (suc (levels - 1)) place = rw f.there (slice_get_within forks place fork f.there, f.zeros, f.ones) in
     subst (λ n. IsMapIn forks n place) (sym (lower levels f.above)) deep
 
 pub part-of-fork : {forks : List Fork} {levels place : ℕ} {fork : Fork} → IsForkOf forks levels place fork
@@ -85,14 +75,10 @@ with-found : (new old : ℕ → ℕ) (fork : Fork) (other found : ℕ) (b at sam
     → new other ≡ (if half then found else old (if b then fork.zero else fork.one))
     → (let made = if b then record fork { zero = other } else record fork { one = other } in
     new (if at then made.zero else made.one) ≡ (if same then found else old (if at then fork.zero else fork.one)))
-with-found new old fork other found true true same half e zeros ones made =
-    made ∙ ap (λ s. if s then found else old fork.zero) (sym e)
-with-found new old fork other found true false same half e zeros ones made =
-    ones ∙ ap (λ s. if s then found else old fork.one) (sym e)
-with-found new old fork other found false true same half e zeros ones made =
-    zeros ∙ ap (λ s. if s then found else old fork.zero) (sym e)
-with-found new old fork other found false false same half e zeros ones made =
-    made ∙ ap (λ s. if s then found else old fork.one) (sym e)
+with-found new old fork other found true true same half e zeros ones made = rw e made
+with-found new old fork other found true false same half e zeros ones made = rw e ones
+with-found new old fork other found false true same half e zeros ones made = rw e zeros
+with-found new old fork other found false false same half e zeros ones made = rw e made
 
 -- and the map has the entry of that part, and else what it had
 pub inserted-found : {old new : List Fork} {levels place made : ℕ} {fork put : Fork}
@@ -106,15 +92,13 @@ inserted-found {old = old} {new = new} {levels = levels} {fork = fork}
     f g mid first second key other found map e part_found k =
     let below = levels - 1 in
     let kept : KeepsForks old new = λ p f h. second p f (first p f h) in
-    found-of-fork g k
-    ∙ ap (λ f. found_in new below (part f k) (k / 2)) e
-    ∙ with-found (λ p. found_in new below p (k / 2)) (λ p. found_in old below p (k / 2)) fork other found
+    rw (found-of-fork g k, found-of-fork f k, e)
+    (with-found (λ p. found_in new below p (k / 2)) (λ p. found_in old below p (k / 2)) fork other found
     (key % 2 == 0) (k % 2 == 0) (k == key) (k / 2 == key / 2)
     (same-key k key)
     (kept-found old new kept below fork.zero (k / 2) f.zeros)
     (kept-found old new kept below fork.one (k / 2) f.ones)
-    (kept-found mid new second below other (k / 2) map ∙ part_found (k / 2))
-    ∙ ap (λ n. if k == key then found else n) (sym (found-of-fork f k))
+    (kept-found mid new second below other (k / 2) map ∙ part_found (k / 2)))
 
 found_or-none : (n : ℕ) → found_or n 0 ≡ n
 found_or-none zero = refl
@@ -124,14 +108,12 @@ found_or-none (suc n) = refl
 pub over-none : (forks : List Fork) → slice_get forks 0 ≡ Some empty_fork → (levels inner k : ℕ)
     → found_in forks levels inner k ≡ found_or (found_in forks levels inner k) (found_in forks levels 0 k)
 over-none forks empty levels inner k =
-    sym (ap (found_or (found_in forks levels inner k)) (empty-found forks empty levels k)
-    ∙ found_or-none (found_in forks levels inner k))
+    rw (empty-found forks empty levels k) (sym (found_or-none (found_in forks levels inner k)))
 
 -- and no map over a map is that map
 pub none-over : (forks : List Fork) → slice_get forks 0 ≡ Some empty_fork → (levels outer k : ℕ)
     → found_in forks levels outer k ≡ found_or (found_in forks levels 0 k) (found_in forks levels outer k)
-none-over forks empty levels outer k =
-    sym (ap (λ n. found_or n (found_in forks levels outer k)) (empty-found forks empty levels k))
+none-over forks empty levels outer k = rw (empty-found forks empty levels k) refl
 
 -- below the lowest fork a value hides the other
 pub over-values : (forks : List Fork) (inner outer k : ℕ) → inner ≢ 0
@@ -177,11 +159,9 @@ over-found {old = old} {new = new} {levels = levels} {inner = inner} {above = ab
     let below = levels - 1 in
     let half = k / 2 in
     let kept : KeepsForks mid new = λ p f h. third p f (second p f h) in
-    found-of-fork made k
-    ∙ over-part (λ p. found_in new below p half) (λ p. found_in old below p half) fork above under (k % 2 == 0)
+    rw (found-of-fork made k, found-of-fork f k, found-of-fork g k)
+    (over-part (λ p. found_in new below p half) (λ p. found_in old below p half) fork above under (k % 2 == 0)
     (kept-found mid new kept below fork.zero half zero_map ∙ zeros half)
     (kept-found last new third below fork.one half one_map ∙ ones half
-    ∙ ap (λ n. found_or n (found_in mid below under.one half)) (kept-found old mid first below above.one half f.ones)
-    ∙ ap (found_or (found_in old below above.one half)) (kept-found old mid first below under.one half g.ones))
-    ∙ ap (λ n. found_or n (found_in old below (part under k) half)) (sym (found-of-fork f k))
-    ∙ ap (found_or (found_in old levels inner k)) (sym (found-of-fork g k))
+    ∙ rw (kept-found old mid first below above.one half f.ones, kept-found old mid first below under.one half g.ones)
+    refl))

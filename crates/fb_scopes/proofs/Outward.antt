@@ -1,6 +1,7 @@
 -- A name's last word, and the path that it stands behind, taken apart and put together.
-use Rattle.std.proofs.Common.{◌≡◌, ◌≢◌, ◌+◌, ◌<◌, ◌≤◌, ℕ, List, [], ◌∷◌, ◌++◌, length, reverse, get_or, slice_get, Some, refl, sym, ap, ◌∙◌, arith, ⊎_elim, append_assoc, length-append, append-nil}
-use Rattle.std.proofs.lemmas.List.{reverse-append, reverse-reverse, append_cancel_left}
+use Rattle.std.proofs.Common.{◌≡◌, ◌≢◌, ◌+◌, ◌<◌, ◌≤◌, ℕ, List, [], ◌∷◌, ◌++◌, length, take, drop, reverse, get_or, slice_get, Some, refl, sym, ap, ◌∙◌, arith, ⊎_elim, append_assoc, length-append, append-nil}
+use Rattle.std.proofs.Math.Seq.{take-append_seam}
+use Rattle.std.proofs.lemmas.List.{take-append-le, take-append-drop, reverse-append, reverse-reverse, append_cancel_left}
 use Rattle.std.proofs.lemmas.Bool.{cases_lt}
 use Rattle.std.proofs.lemmas.Option.{get_or_from_slice_get, slice_get-get_or}
 use Rattle.fb_scopes.specs.Words.{Name, Path, named}
@@ -18,26 +19,18 @@ beginning tree is p (w ∷ q) n at =
 pub same_moved : (ps ks : List Path) (path name outer longer : ℕ) (w : Name) → slice_get ps path ≡ Some (child_of ps outer w) → slice_get ks longer ≡ Some (child_of ks name w)
     → named ps ks outer longer ≡ named ps ks path name
 same_moved ps ks path name outer longer w at_path at_name =
-    let p = get_or ps outer [] in
-    let k = get_or ks name [] in
-    ap (λ x. p ++ reverse x) (get_or_from_slice_get ks longer (child_of ks name w) [] at_name)
-    ∙ ap (λ x. p ++ x) (reverse-append k (w ∷ []))
-    ∙ sym (append_assoc p (w ∷ []) (reverse k))
-    ∙ ap (λ x. x ++ reverse k) (sym (get_or_from_slice_get ps path (child_of ps outer w) [] at_path))
+    rw (get_or_from_slice_get ks longer (child_of ks name w) [] at_name)
+    (rw (get_or_from_slice_get ps path (child_of ps outer w) [] at_path) (rw (reverse-append, append_assoc) refl))
 
 pub one_shorter : (ps : List Path) (path outer : ℕ) (w : Name) → slice_get ps path ≡ Some (child_of ps outer w) → length (get_or ps outer []) + 1 ≡ length (get_or ps path [])
 one_shorter ps path outer w at = sym (ap length (get_or_from_slice_get ps path (child_of ps outer w) [] at) ∙ length-append (get_or ps outer []) (w ∷ []))
 
 -- of a path that ends no later than another, what is left of the other
 split_at : (p q r s : Path) → length p ≤ length q → p ++ r ≡ q ++ s → (t : Path) × (q ≡ p ++ t)
-split_at [] q r s l e = (q, refl)
-split_at (x ∷ p) [] r s l e = absurd (omega (arith, l))
-split_at (x ∷ p) (y ∷ q) r s l e =
-    let less : length p ≤ length q = omega (arith, l) in
-    let tail : p ++ r ≡ q ++ s = cc in
-    let first : x ≡ y = cc in
-    let rest = split_at p q r s less tail in
-    (rest.0, ap (λ z. z ∷ q) (sym first) ∙ ap (λ z. x ∷ z) rest.1)
+split_at p q r s l e =
+    let n = length p in
+    let start : take n q ≡ p = sym (take-append-le n q s l) ∙ ap (take n) (sym e) ∙ take-append_seam p r in
+    (drop n q, sym (take-append-drop n q) ∙ ap (λ x. x ++ drop n q) start)
 
 -- what is left of a name's words behind a beginning that is too short
 longer_name : (p outer k n : Path) (w : Name) → length p ≤ length outer → p ++ reverse n ≡ (outer ++ w ∷ []) ++ reverse k → (t : Path) × (n ≡ (k ++ w ∷ []) ++ t)

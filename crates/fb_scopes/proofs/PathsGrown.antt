@@ -1,31 +1,28 @@
 -- One path more in a tree.
-use Rattle.std.proofs.Common.{Bor, ◌⊎◌, inl, inr, ◌≡◌, ◌≢◌, ◌+◌, ◌<◌, ◌≤◌, ◌==◌, ◌&&◌, ℕ, zero, suc, Bool, true, false, true≢false, cond, List, [], ◌∷◌, ◌++◌, length, map, get_or, slice_get, Option, None, Some, refl, sym, ap, ◌∙◌, arith, ⊎_elim, subst, append_assoc, length-append, append-nil}
-use Rattle.std.proofs.lemmas.Bool.{cases_lt}
-use Rattle.std.proofs.lemmas.Bool.Decides.{nat_tests}
+use Rattle.std.proofs.Common.{Bor, ◌⊎◌, inl, inr, ◌≡◌, ◌≢◌, ◌+◌, ◌<◌, ◌≤◌, ◌==◌, ◌&&◌, ℕ, zero, suc, Bool, true, false, cond, List, [], ◌∷◌, ◌++◌, length, map, get_or, slice_get, Some, refl, sym, ap, ◌∙◌, arith, ⊎_elim, length-append}
+use Rattle.std.proofs.lemmas.Bool.{cases_lt, lt-ltb, le-ltb}
+use Rattle.std.proofs.lemmas.Bool.Decides.{eqb_tells, Decides-and, Decides-eqb}
+use Rattle.std.specs.Bool.{Decides}
 use Rattle.std.proofs.lemmas.List.{length-map}
 use Rattle.std.proofs.lemmas.Map.Text.{is_eq-slice_cmp}
 use Rattle.std.specs.Map.{lookup}
 use Rattle.std.specs.Option.{option_map}
-use Rattle.std.proofs.lemmas.Option.{slice_get-map, slice_get_read, get_or_from_slice_get, slice_get-get_or, slice_get_within}
+use Rattle.std.proofs.lemmas.Option.{none-some, slice_get-map, slice_get_read, get_or_from_slice_get, slice_get-get_or, slice_get_within}
 use Rattle.std.proofs.lemmas.Slice.Eq.{bytes_eq-Decides}
 use Rattle.std.specs.Ordering.{is_eq, nat_cmp, ordering_then}
 use Rattle.std.specs.Cmp.Lexicographic.{slice_cmp}
-use Rattle.std.specs.declared.cmp.Ordering.{Ordering}
 use Rattle.std.specs.Str.{bytes_eq}
 use Rattle.fb_scopes.specs.Words.{Name, Path}
 use Rattle.fb_scopes.specs.declared.path_tree.PathTree.{PathTree}
+use Rattle.fb_scopes.proofs.PathsNamed.{append_inj}
 use Rattle.fb_scopes.specs.PathTree.{child_of, paths_from, links_of, paths, child_in, IsTree}
 
 -- keys are one where their parts are
 pub same_key : (p q : ℕ) (v w : Name) → is_eq (ordering_then (nat_cmp p q) (slice_cmp nat_cmp v w)) ≡ (p == q && bytes_eq v w)
-same_key p q v w = by (Rattle.std.proofs.Common.nat_lt p q) refl (p == q) refl
-  where
-    by : (less : Bool) → Rattle.std.proofs.Common.nat_lt p q ≡ less → (same : Bool) → (p == q) ≡ same
-        → is_eq (ordering_then (cond less Rattle.std.specs.declared.cmp.Ordering.TheVariants.Less (cond same Rattle.std.specs.declared.cmp.Ordering.TheVariants.Equal Rattle.std.specs.declared.cmp.Ordering.TheVariants.Greater)) (slice_cmp nat_cmp v w)) ≡ (same && bytes_eq v w)
-    by true l true e = absurd (grind (arith, nat_tests, l, e))
-    by true l false e = refl
-    by false l true e = is_eq-slice_cmp v w
-    by false l false e = refl
+same_key p q v w = elim (eqb_tells p q) [
+  | inl t ↦ rw (le-ltb p q (omega (arith, t.1)), t.0) (is_eq-slice_cmp v w)
+  | inr t ↦ elim (cases_lt p q) [ inl l ↦ rw (lt-ltb p q l, t.0) refl | inr l ↦ rw (le-ltb p q l, t.0) refl ]
+]
 
 -- one link more
 pub paths_from-end : (ps : List Path) (links : List (ℕ × Name)) (l : ℕ × Name) → paths_from ps (links ++ l ∷ []) ≡ paths_from ps links ++ child_of (paths_from ps links) l.0 l.1 ∷ []
@@ -50,16 +47,10 @@ entry_last (z ∷ xs) x = entry_last xs x
 
 -- paths with a last word are one where their parts are
 pub snoc_inj : (p q : Path) (v w : Name) → p ++ v ∷ [] ≡ q ++ w ∷ [] → (p ≡ q) × (v ≡ w)
-snoc_inj [] [] v w e = (refl, cc)
-snoc_inj [] (y ∷ []) v w e = cc
-snoc_inj [] (y ∷ z ∷ q) v w e = cc
-snoc_inj (x ∷ []) [] v w e = cc
-snoc_inj (x ∷ z ∷ p) [] v w e = cc
-snoc_inj (x ∷ p) (y ∷ q) v w e =
-    let tail : p ++ v ∷ [] ≡ q ++ w ∷ [] = cc in
-    let first : x ≡ y = cc in
-    let rest = snoc_inj p q v w tail in
-    (ap (λ z. z ∷ p) first ∙ ap (λ z. y ∷ z) rest.0, rest.1)
+snoc_inj p q v w e =
+    let long : length p ≡ length q = omega (arith, length-append p (v ∷ []), length-append q (w ∷ []), ap length e) in
+    let parts = append_inj p q (v ∷ []) (w ∷ []) e long in
+    (parts.0, cc)
 
 -- the paths with one link more
 pub paths-grown : (old new : PathTree) (path : ℕ) (word : Name) → links_of new ≡ links_of old ++ (path, word) ∷ [] → paths new ≡ paths old ++ child_of (paths old) path word ∷ []
@@ -134,17 +125,12 @@ tree-grown old new path word is inside grown longer children absent = record {
         let less : p < length ps = omega (arith, p_is, inside) in
         (omega (arith, p_is, inside, many), ap (λ n. slice_get (paths new) n) many ∙ last ∙ ap (λ z. Some z) (ap (λ q. child_of ps q word) p_is ∙ ap (child_of ps p) w_is ∙ sym (child_is p w less)))
 
-    both : (p : ℕ) (w : Name) → (path == p && bytes_eq word w) ≡ true → (path ≡ p) × (word ≡ w)
-    both p w h = by (path == p) refl (bytes_eq word w) refl h
-      where
-        by : (a : Bool) → (path == p) ≡ a → (b : Bool) → bytes_eq word w ≡ b → (a && b) ≡ true → (path ≡ p) × (word ≡ w)
-        by true ea true eb h = (grind (arith, nat_tests, ea), (bytes_eq-Decides word w).0 eb)
-        by true ea false eb h = absurd (true≢false (sym h))
-        by false ea b eb h = absurd (true≢false (sym h))
+    here : (p : ℕ) (w : Name) → Decides (path == p && bytes_eq word w) ((path ≡ p) × (word ≡ w))
+    here p w = Decides-and (path == p) (bytes_eq word w) (Decides-eqb path p) (bytes_eq-Decides word w)
 
     found : (p n : ℕ) (w : Name) (b : Bool) → (path == p && bytes_eq word w) ≡ b → cond b (Some (length old.links.items + 1)) (child_in old p w) ≡ Some n → (p < length (paths new)) × (slice_get (paths new) n ≡ Some (child_of (paths new) p w))
     found p n w true same at =
-        let parts = both p w same in
+        let parts = (here p w).0 same in
         let number : length old.links.items + 1 ≡ n = cc in
         let n_is : length ps ≡ n = omega (arith, is.count, number) in
         let less : p < length ps = omega (arith, parts.0, inside) in
@@ -165,16 +151,12 @@ tree-grown old new path word is inside grown longer children absent = record {
         by (inl less) (inl x) = children p w ∙ not_new b same (x ∙ ap (λ z. Some z) (child_is p w less))
           where
             not_new : (b : Bool) → (path == p && bytes_eq word w) ≡ b → slice_get ps n ≡ Some (child_of ps p w) → cond (path == p && bytes_eq word w) (Some (length old.links.items + 1)) (child_in old p w) ≡ Some n
-            not_new true e h = let parts = both p w e in absurd (absent n (h ∙ ap (λ z. Some z) (ap (child_of ps p) (sym parts.1) ∙ ap (λ q. child_of ps q word) (sym parts.0))))
+            not_new true e h = let parts = (here p w).0 e in absurd (absent n (h ∙ ap (λ z. Some z) (ap (child_of ps p) (sym parts.1) ∙ ap (λ q. child_of ps q word) (sym parts.0))))
             not_new false e h = ap (λ c. cond c (Some (length old.links.items + 1)) (child_in old p w)) e ∙ is.missing p n w less h
         by (inl less) (inr x) =
             let parts = snoc_inj (get_or ps path []) (get_or ps p []) word w (x.1 ∙ child_is p w less) in
             let p_is : path ≡ p = is.apart path p (get_or ps p []) (slice_get-get_or ps path [] inside ∙ ap (λ z. Some z) parts.0) (slice_get-get_or ps p [] less) in
-            let here : (path == p && bytes_eq word w) ≡ true = rw (sym p_is, sym parts.1) (here_is path word) in
-            children p w ∙ ap (λ c. cond c (Some (length old.links.items + 1)) (child_in old p w)) here ∙ ap (λ k. Some k) (omega (arith, x.0, is.count))
-          where
-            here_is : (q : ℕ) (v : Name) → (q == q && bytes_eq v v) ≡ true
-            here_is q v = rw ((bytes_eq-Decides v v).1 refl) (grind (arith, nat_tests))
+            children p w ∙ ap (λ c. cond c (Some (length old.links.items + 1)) (child_in old p w)) ((here p w).1 (p_is, parts.1)) ∙ ap (λ k. Some k) (omega (arith, x.0, is.count))
         by (inr more) (inl x) =
             let shorter = is.closed n child w (x ∙ ap (λ z. Some z) (newest less more)) in
             absurd (absent shorter.0 shorter.1)
@@ -187,66 +169,36 @@ tree-grown old new path word is inside grown longer children absent = record {
         (path, kept path p (slice_get-get_or ps path [] inside ∙ ap (λ z. Some z) parts.0))
 
 -- of no link there is the empty path alone
-pub paths-empty : (tree : PathTree) → tree.links.items ≡ [] → paths tree ≡ [] ∷ []
+pub paths_empty : (tree : PathTree) → tree.links.items ≡ [] → paths tree ≡ [] ∷ []
 unfolding paths
-paths-empty tree e = ap (λ ls. paths_from ([] ∷ []) (map (λ l. (l.0, l.1.now)) ls)) e
+paths_empty tree e = ap (λ ls. paths_from ([] ∷ []) (map (λ l. (l.0, l.1.now)) ls)) e
 
-pub tree-empty : (tree : PathTree) → tree.links.items ≡ [] → tree.children.entries ≡ [] → IsTree tree
-tree-empty tree e f = record {
-  first = at 0;
-  apart = λ a b p at_a at_b. zero_at a p at_a ∙ sym (zero_at b p at_b);
-  count = ap length (paths-empty tree e) ∙ ap (λ ls. length ls + 1) (sym e);
-  links = λ k p w h. absurd (no_link (p, w) (sym (no_links k) ∙ h));
-  found = λ p n w h. no_child p n w h;
-  missing = λ p n w less h. no_word p w n (sym (at n) ∙ h);
-  closed = λ n p w h. no_end p w n (sym (at n) ∙ h);
+pub tree_empty : (tree : PathTree) → tree.links.items ≡ [] → tree.children.entries ≡ [] → IsTree tree
+tree_empty tree e f = record {
+  first = ap (λ ps. slice_get ps 0) (paths_empty tree e);
+  apart = λ a b p at_a at_b. (only a p at_a).0 ∙ sym (only b p at_b).0;
+  count = ap length (paths_empty tree e) ∙ ap (λ ls. length ls + 1) (sym e);
+  links = λ k p w h. absurd (none-some (p, w) (sym (ap (λ ls. slice_get (map (λ l. (l.0, l.1.now)) ls) k) e) ∙ h));
+  found = λ p n w h. absurd (none-some n (sym (ap (λ es. lookup (Rattle.std.specs.BTreeMap.is_at (λ k. ordering_then (nat_cmp p k.0) (slice_cmp nat_cmp w k.1.now))) es) f) ∙ h));
+  missing = λ p n w less h. absurd (no_end (get_or (paths tree) p []) w (only n (child_of (paths tree) p w) h).1);
+  closed = λ n p w h. absurd (no_end p w (only n (p ++ w ∷ []) h).1);
 }
   where
-    no_links : (k : ℕ) → slice_get (links_of tree) k ≡ None
-    no_links k = ap (λ (ls : List (ℕ × Name)). slice_get ls k) none
+    only : (n : ℕ) (p : Path) → slice_get (paths tree) n ≡ Some p → (n ≡ 0) × ([] ≡ p)
+    only n p h = by n (sym (ap (λ ps. slice_get ps n) (paths_empty tree e)) ∙ h)
       where
-        none : links_of tree ≡ []
-        none = ap (map _) e
-
-    no_link : (l : ℕ × Name) → None ≡ Some l → ⊥
-    no_link l h = cc
-
-    no_child : (p n : ℕ) (w : Name) → child_in tree p w ≡ Some n → (p < length (paths tree)) × (slice_get (paths tree) n ≡ Some (child_of (paths tree) p w))
-    no_child p n w h = none (sym (ap (λ es. lookup (Rattle.std.specs.BTreeMap.is_at (λ k. ordering_then (nat_cmp p k.0) (slice_cmp nat_cmp w k.1.now))) es) f) ∙ h)
-      where
-        none : None ≡ Some n → (p < length (paths tree)) × (slice_get (paths tree) n ≡ Some (child_of (paths tree) p w))
-        none e = cc
-
-    no_end : (p : Path) (w : Name) (n : ℕ) → slice_get ([] ∷ []) n ≡ Some (p ++ w ∷ []) → (m : ℕ) × (slice_get (paths tree) m ≡ Some p)
-    no_end [] w zero h = cc
-    no_end (v ∷ p) w zero h = cc
-    no_end p w (suc n) h = cc
-
-    no_word : (p : ℕ) (w : Name) (n : ℕ) → slice_get ([] ∷ []) n ≡ Some (child_of (paths tree) p w) → child_in tree p w ≡ Some n
-    no_word p w n h = absurd (by (get_or (paths tree) p []) n h)
-      where
-        by : (q : Path) (n : ℕ) → slice_get ([] ∷ []) n ≡ Some (q ++ w ∷ []) → ⊥
-        by [] zero h = cc
-        by (v ∷ q) zero h = cc
-        by q (suc n) h = cc
-
-    at : (n : ℕ) → slice_get (paths tree) n ≡ slice_get ([] ∷ []) n
-    at n = ap (λ ps. slice_get ps n) (paths-empty tree e)
-
-    zero_at : (n : ℕ) (p : Path) → slice_get (paths tree) n ≡ Some p → n ≡ 0
-    zero_at n p h = by n (sym (at n) ∙ h)
-      where
-        by : (n : ℕ) → slice_get ([] ∷ []) n ≡ Some p → n ≡ 0
-        by zero h = refl
+        by : (n : ℕ) → slice_get ([] ∷ []) n ≡ Some p → (n ≡ 0) × ([] ≡ p)
+        by zero h = (refl, cc)
         by (suc n) h = cc
 
--- the link at a place
-pub link_at : (tree : PathTree) (k : ℕ) (x : ℕ × Bor Name) → k < length tree.links.items → x ≡ get_or tree.links.items k x → slice_get (links_of tree) k ≡ Some (x.0, x.1.now)
-link_at tree k x less e = slice_get-map _ tree.links.items k ∙ ap (option_map _) (slice_get_read tree.links.items (length tree.links.items) k x refl less e)
+    no_end : (p : Path) (w : Name) → [] ≢ p ++ w ∷ []
+    no_end [] w e = cc
+    no_end (v ∷ p) w e = cc
 
--- of a link its path
-pub last-before : (tree : PathTree) → IsTree tree → (k path : ℕ) → path ≡ k + 1 → (p : ℕ) (w : Name) → slice_get (links_of tree) k ≡ Some (p, w) → p < path
-last-before tree is k path e p w at = omega (arith, e, (is.links k p w at).0)
-
-pub last-word : (tree : PathTree) → IsTree tree → (k path : ℕ) → path ≡ k + 1 → (p : ℕ) (w : Name) → slice_get (links_of tree) k ≡ Some (p, w) → slice_get (paths tree) path ≡ Some (child_of (paths tree) p w)
-last-word tree is k path e p w at = ap (λ n. slice_get (paths tree) n) e ∙ (is.links k p w at).1
+-- a link that was read, of the path whose number is one more
+pub link_read : (tree : PathTree) → IsTree tree → (k path : ℕ) (x : ℕ × Bor Name) → path ≡ k + 1 → path < length (paths tree) → x ≡ get_or tree.links.items k x
+    → (x.0 < path) × (slice_get (paths tree) path ≡ Some (child_of (paths tree) x.0 x.1.now))
+link_read tree is k path x e inside read =
+    let less : k < length tree.links.items = omega (arith, e, inside, is.count) in
+    let at = is.links k x.0 x.1.now (slice_get-map _ tree.links.items k ∙ ap (option_map _) (slice_get_read tree.links.items (length tree.links.items) k x refl less read)) in
+    (omega (arith, e, at.0), ap (λ n. slice_get (paths tree) n) e ∙ at.1)

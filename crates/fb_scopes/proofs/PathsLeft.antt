@@ -1,5 +1,5 @@
 -- A path put together word by word.
-use Rattle.std.proofs.Common.{IfOk, IfSome, IfNone, Result, Ok, Err, None, ◌≡◌, ◌≢◌, ◌<◌, ℕ, List, [], ◌∷◌, ◌++◌, length, get_or, slice_get, reverse, Option, Some, sym, ap, ◌∙◌, append_assoc}
+use Rattle.std.proofs.Common.{IfNone, None, ◌≡◌, ◌≢◌, ◌<◌, ℕ, List, [], ◌∷◌, ◌++◌, length, get_or, slice_get, reverse, Option, Some, sym, ap, ◌∙◌, append_assoc}
 use Rattle.std.proofs.lemmas.List.{reverse-append}
 use Rattle.std.proofs.lemmas.Option.{get_or_from_slice_get, slice_get_within}
 use Rattle.fb_scopes.specs.Words.{Name, Path}
@@ -27,15 +27,7 @@ left_last ps new path n word rest whole is e at = at ∙ ap (λ p. Some p) (ap (
 pub reversed_last : (front : Path) (word : Name) (rest : Path) → rest ≡ front ++ word ∷ [] → reverse rest ≡ word ∷ reverse front
 reversed_last front word rest e = ap reverse e ∙ reverse-append front (word ∷ [])
 
--- what holds of a result's value, told in another way
-pub if_ok : {T E : Type 0} {P Q : T → Type 0} (r : Result T E) → ((x : T) → P x → Q x) → IfOk r P → IfOk r Q
-if_ok (Ok x) f h = f x h
-if_ok (Err e) f h = tt
-
-pub if_some : {T : Type 0} {P Q : T → Type 0} (o : Option T) → ((x : T) → P x → Q x) → IfSome o P → IfSome o Q
-if_some (Some x) f h = f x h
-if_some None f h = tt
-
+-- what holds where there is no value, told in another way
 pub if_none : {T P Q : Type 0} (o : Option T) → (P → Q) → IfNone o P → IfNone o Q
 if_none None f h = f h
 if_none (Some x) f h = tt

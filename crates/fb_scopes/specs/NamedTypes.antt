@@ -8,11 +8,11 @@ unfoldable pub noted_at : NamedTypes → ℕ → ℕ → Option ℕ
 noted_at t path name = value_in t.maps (get_or t.tops.items path 0) name
 
 -- how many paths there are
-unfoldable pub path_count : NamedTypes → ℕ
+abbrev pub path_count : NamedTypes → ℕ
 path_count t = length t.tops.items
 
 -- how many names have room
-unfoldable pub name_count : NamedTypes → ℕ
+abbrev pub name_count : NamedTypes → ℕ
 name_count t = 2 ^ t.maps.height
 
 -- each path has a map among the maps

@@ -29,13 +29,10 @@ impl Fork {
         if key % 2 == 0 {
             Fork {
                 zero: other,
-                one: self.one,
+                ..self
             }
         } else {
-            Fork {
-                zero: self.zero,
-                one: other,
-            }
+            Fork { one: other, ..self }
         }
     }
 }

@@ -26,6 +26,7 @@ impl NamedTypes {
     }
 
     /// What is noted for a name at a path.
+    #[tactic(auto, using(crate::proofs::NamedTypesKept::map_read))]
     pub(crate) fn get(&self, path: usize, name: usize) -> Option<usize>
         requires noted { AreNoted self.now }
         requires path { path < path_count self.now }
@@ -35,6 +36,7 @@ impl NamedTypes {
     }
 
     /// Notes a number for a name at a path, where none is noted yet. The only error is a refused allocation.
+    #[tactic(auto, using(crate::proofs::NamedTypesKept::map_read))]
     pub(crate) fn note(&mut self, path: usize, name: usize, number: usize) -> Result<(), AllocError>
         requires noted { AreNoted self.now }
         requires path { path < path_count self.now }
@@ -54,6 +56,7 @@ impl NamedTypes {
     }
 
     /// Notes at a path all that is noted at another and not at it. The only error is a refused allocation.
+    #[tactic(auto, using(crate::proofs::NamedTypesKept::map_read))]
     pub(crate) fn inherit(&mut self, path: usize, outer: usize) -> Result<(), AllocError>
         requires noted { AreNoted self.now }
         requires path { path < path_count self.now }

@@ -19,6 +19,7 @@ pub struct PathTree<'t> {
 
 impl<'t> PathTree<'t> {
     /// The empty path alone.
+    #[tactic(auto, using(crate::proofs::PathsGrown::tree_empty, crate::proofs::PathsGrown::paths_empty))]
     pub fn new(alloc: Global) -> PathTree<'t>
         ensures tree { IsTree result }
         ensures empty { paths result ≡ [] ∷ [] }

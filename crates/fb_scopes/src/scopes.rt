@@ -58,6 +58,7 @@ impl<'d> Scopes<'d> {
 
 /// The full name of a path and a name behind it, with the path's last word in the name instead; none
 /// where no such name is used.
+#[tactic(auto, using(crate::proofs::Outward::same_moved, crate::proofs::Outward::one_shorter))]
 fn outward<'d>(
     tree: &PathTree<'d>,
     used: &PathTree<'d>,

@@ -1,6 +1,6 @@
-use Rattle.std.proofs.Common.{rules, ◌≡◌, ◌∙◌, [], ℕ, get_or, Option, subst, arith}
+use Rattle.std.proofs.Common.{rules, ◌∙◌, [], ℕ, get_or, Option, subst, arith}
 use Rattle.fb_scopes.specs.PathTree.{paths}
-use Rattle.fb_scopes.specs.NamedTypes.{noted_at, path_count, name_count}
+use Rattle.fb_scopes.specs.NamedTypes.{noted_at}
 use Rattle.fb_scopes.proofs.Noting.{Noting, noting_first, noting_more, outward_of}
 use Rattle.fb_scopes.proofs.scopes.note_type.Goals as goal
 
@@ -20,10 +20,9 @@ loop-next-preserved c =
     let room = c.loop-next.invariant.room in
     let noting = subst (λ (o : Option (ℕ × ℕ)). Noting ps ks (get_or ps c.args.full_name []) c.args.number (noted_at c.args.noted.now) (noted_at before) o) c.in-Some.is c.loop-next.invariant.noting in
     let out = outward_of ps ks path name c.outward-next.result c.outward-next.ensures.name c.outward-next.ensures.path noting.ahead.0 c.outward-next.ensures.same c.outward-next.ensures.shorter c.outward-next.ensures.last in
-    let paths_kept : path_count c.note.new.self ≡ path_count before = search rules in
-    let names_kept : name_count c.note.new.self ≡ name_count before = search rules in
+    let kept = c.in_ok-note.ensures in
     record {
-      room = record { noted = search rules; path = paths_kept ∙ room.path; name = omega (arith, names_kept, room.name) };
+      room = record { noted = search rules; path = kept.paths ∙ room.path; name = omega (arith, kept.names, room.name) };
       noting = noting_more c.args.tree.now c.args.used.now c.requires.tree c.requires.used (get_or ps c.args.full_name []) c.args.number (noted_at c.args.noted.now) (noted_at before) (noted_at c.note.new.self) path name c.outward-next.result
           noting (λ p n at_p at_n. c.in_ok-note.ensures.noted p n) out;
     }

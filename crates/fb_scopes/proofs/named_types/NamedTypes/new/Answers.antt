@@ -1,11 +1,10 @@
 use Rattle.std.proofs.Common.{◌≡◌, ◌∙◌, ℕ, get_or, sym, ap, subst, arith}
 use Rattle.fb_scopes.specs.Maps.{value_in, IsMap}
-use Rattle.fb_scopes.specs.NamedTypes.{noted_at, path_count, name_count}
+use Rattle.fb_scopes.specs.NamedTypes.{noted_at}
 use Rattle.fb_scopes.proofs.NamedTypesKept.{first-top}
 use Rattle.fb_scopes.proofs.named_types.NamedTypes.new.Goals as goal
 
 pub returns-clause-room : goal.returns-clause-room
-unfolding path_count name_count
 returns-clause-room c =
     let items = c.in_ok-tops.ensures.items_if_clones_equal (λ y h. h) in
     let top : (path : ℕ) → get_or c.in_ok-tops.tops.items path 0 ≡ 0 = λ path.

@@ -1,8 +1,9 @@
 use Rattle.std.proofs.Common.{rules, ap, [], reverse, Some, None}
+use Rattle.std.proofs.lemmas.Option.{IfSome_then}
 use Rattle.fb_scopes.specs.Words.{words}
 use Rattle.fb_scopes.specs.PathTree.{paths}
 use Rattle.fb_scopes.proofs.WordsSplit.{words-last}
-use Rattle.fb_scopes.proofs.PathsLeft.{left_more, left_last, left_missing, reversed_last, if_some, if_none}
+use Rattle.fb_scopes.proofs.PathsLeft.{left_more, left_last, left_missing, reversed_last, if_none}
 use Rattle.fb_scopes.proofs.path_tree.PathTree.find_reversed.Goals as goal
 
 pub loop-before-preserved : goal.loop-before-preserved
@@ -26,7 +27,7 @@ pub returns-clause-found : goal.returns-clause-found
 returns-clause-found c =
     let rest = c.loop-before.rest.now in
     let one = words-last rest None c.in_default.ensures.cases in
-    if_some c.child-2.result (λ n at. left_last (paths c.args.self.now) (paths c.args.self.now) c.loop-before.path n rest (reverse (words rest)) (reverse (words c.args.name.now)) c.loop-before.invariant.left (ap reverse one) at) c.child-2.ensures.found
+    IfSome_then c.child-2.result c.child-2.ensures.found (λ n at. left_last (paths c.args.self.now) (paths c.args.self.now) c.loop-before.path n rest (reverse (words rest)) (reverse (words c.args.name.now)) c.loop-before.invariant.left (ap reverse one) at)
 
 pub returns-clause-missing : goal.returns-clause-missing
 returns-clause-missing c =

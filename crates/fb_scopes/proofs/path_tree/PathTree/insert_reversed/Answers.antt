@@ -1,8 +1,9 @@
 use Rattle.std.proofs.Common.{rules, ap, reverse, Some, None}
+use Rattle.std.proofs.lemmas.Result.{IfOk-weaker}
 use Rattle.fb_scopes.specs.Words.{words}
 use Rattle.fb_scopes.specs.PathTree.{paths}
 use Rattle.fb_scopes.proofs.WordsSplit.{words-last}
-use Rattle.fb_scopes.proofs.PathsLeft.{left_more, left_last, reversed_last, if_ok}
+use Rattle.fb_scopes.proofs.PathsLeft.{left_more, left_last, reversed_last}
 use Rattle.fb_scopes.proofs.path_tree.PathTree.insert_reversed.Goals as goal
 
 pub loop-before-preserved : goal.loop-before-preserved
@@ -21,4 +22,4 @@ pub returns-clause-path : goal.returns-clause-path
 returns-clause-path c =
     let rest = c.loop-before.rest.now in
     let one = words-last rest None c.in_default.ensures.cases in
-    if_ok c.insert-2.result (λ n at. left_last (paths c.loop-before.self) (paths c.insert-2.new.self) c.loop-before.path n rest (reverse (words rest)) (reverse (words c.args.name.now)) c.loop-before.invariant.left (ap reverse one) at) c.insert-2.ensures.child
+    IfOk-weaker c.insert-2.result _ _ (λ n at. left_last (paths c.loop-before.self) (paths c.insert-2.new.self) c.loop-before.path n rest (reverse (words rest)) (reverse (words c.args.name.now)) c.loop-before.invariant.left (ap reverse one) at) c.insert-2.ensures.child

@@ -1,8 +1,9 @@
 use Rattle.std.proofs.Common.{arith, rules, ◌++◌, [], get_or}
+use Rattle.std.proofs.lemmas.Result.{IfOk-weaker}
 use Rattle.fb_scopes.specs.Words.{words}
 use Rattle.fb_scopes.specs.PathTree.{paths}
 use Rattle.fb_scopes.proofs.WordsSplit.{words-first, words-one}
-use Rattle.fb_scopes.proofs.PathsLeft.{left_more, left_last, if_ok}
+use Rattle.fb_scopes.proofs.PathsLeft.{left_more, left_last}
 use Rattle.fb_scopes.proofs.path_tree.PathTree.insert_words.Goals as goal
 
 pub loop-word-preserved : goal.loop-word-preserved
@@ -21,4 +22,4 @@ pub returns-clause-path : goal.returns-clause-path
 returns-clause-path c =
     let rest = c.loop-word.rest.now in
     let one = words-one rest (c.in_default.ensures.byte (omega arith) (λ w o h. h)) in
-    if_ok c.insert-2.result (λ n at. left_last (paths c.loop-word.self) (paths c.insert-2.new.self) c.loop-word.path n rest (words rest) (get_or (paths c.args.self.now) c.args.path [] ++ words c.args.name.now) c.loop-word.invariant.left one at) c.insert-2.ensures.child
+    IfOk-weaker c.insert-2.result _ _ (λ n at. left_last (paths c.loop-word.self) (paths c.insert-2.new.self) c.loop-word.path n rest (words rest) (get_or (paths c.args.self.now) c.args.path [] ++ words c.args.name.now) c.loop-word.invariant.left one at) c.insert-2.ensures.child
