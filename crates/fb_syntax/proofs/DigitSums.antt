@@ -1,6 +1,6 @@
 -- The sum of digits, read from the front.
-use Rattle.std.proofs.Common.{◌≡◌, ℕ, zero, suc, ◌+◌, ◌*◌, ◌^◌, ◌<◌, ◌≤◌, List, [], ◌∷◌, length, get_or, drop, arith, ap}
-use Rattle.std.proofs.Math.Nat.{mul-add, mul_comm, mul_assoc, pow-suc, pow-zero, mul-le-mul_left}
+use Rattle.std.proofs.Common.{◌≡◌, ℕ, zero, suc, ◌+◌, ◌*◌, ◌^◌, ◌<◌, ◌≤◌, List, [], ◌∷◌, length, get_or, drop, arith}
+use Rattle.std.proofs.Math.Nat.{pow-suc, pow-zero, mul-le-mul_left}
 use Rattle.fb_syntax.specs.Integers.{digits_value, digit_value}
 
 -- the value of digits of which those before `cs` have the value `high`
@@ -21,22 +21,9 @@ carried-grows base high cs h =
     let more : high * 1 ≤ high * base ^ length cs = mul-le-mul_left high (omega arith) in
     omega arith
 
-shifted : (high base d p : ℕ) → high * (p * base) + d * p ≡ (high * base + d) * p
-shifted high base d p =
-    let a = mul_comm (high * base + d) p in
-    let b = mul-add p (high * base) d in
-    let c = mul_comm high (p * base) in
-    let e = mul_assoc p base high in
-    let f = ap (λ x. p * x) (mul_comm base high) in
-    let g = mul_comm p d in
-    cc
-
 one_digit_more : (base high c : ℕ) (cs : List ℕ) → carried base high (c ∷ cs) ≡ carried base (high * base + digit_value c) cs
 unfolding carried
-one_digit_more base high c cs =
-    let p = base ^ length cs in
-    let e = shifted high base (digit_value c) (base ^ length cs) in
-    rw (pow-suc base (length cs)) (omega arith)
+one_digit_more base high c cs = rw (pow-suc base (length cs)) (omega arith)
 
 pub carried-step : (base high i : ℕ) (cs : List ℕ) → i < length cs → carried base high (drop i cs) ≡ carried base (high * base + digit_value (get_or cs i 0)) (drop (suc i) cs)
 carried-step base high i [] h = absurd (omega arith)

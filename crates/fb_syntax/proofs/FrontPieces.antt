@@ -1,63 +1,58 @@
--- What the piece at the front is, and that it decides which tokens a text has.
-use Rattle.std.proofs.Common.{◌≡◌, ℕ, ◌+◌, ◌<◌, List, [], ◌∷◌, length, drop, Ok, Err, refl, arith, ap, sym}
-use Rattle.fb_syntax.specs.declared.tokens.TokenKind.{TokenKind}
+-- What stands at the front decides which tokens a text has.
+use Rattle.std.proofs.Common.{◌≡◌, ℕ, ◌+◌, ◌<◌, List, [], ◌∷◌, ◌++◌, ◌≤◌, length, drop, refl, ap, sym, arith}
 use Rattle.fb_syntax.specs.declared.tokens.Token.{Token}
+use Rattle.fb_syntax.specs.declared.scan.Piece.{Piece}
 use Rattle.fb_syntax.specs.declared.scan.Piece.TheVariants as pieces
-use Rattle.fb_syntax.specs.declared.faults.SyntaxFault.{SyntaxFault}
-use Rattle.fb_syntax.specs.declared.faults.SyntaxFault.TheVariants.{BadByte}
-use Rattle.fb_syntax.specs.Spells.{Spells, finished, gap, token}
-use Rattle.fb_syntax.proofs.FrontsFound.{gap-complete, token-complete}
-use Rattle.fb_syntax.specs.scan.Pieces.{piece_at}
+use Rattle.fb_syntax.specs.Spells.{Spells, finished, gap, token, mark_len, OneSpelling}
+use Rattle.fb_syntax.specs.Fronts.{Stands}
+use Rattle.fb_syntax.proofs.Gaps.{gap_within}
+use Rattle.fb_syntax.proofs.FirstBytes.{nowhere, one_piece, token_some}
 
-nothing : (at : ℕ) → piece_at at [] ≡ Err (BadByte at)
-unfolding piece_at
-nothing at = refl
+-- how long a piece is, and the token that it is, if it is one
+abbrev pub len_of : Piece → ℕ
+len_of (pieces.Gap n) = n
+len_of (pieces.Token kind n) = n
 
--- Where a gap stands, the tokens are those behind it.
-pub behind_gap : (at n : ℕ) (text : List ℕ) (tokens : List Token) → piece_at at text ≡ Ok (pieces.Gap n) → Spells at text tokens → Spells (at + n) (drop n text) tokens
-behind_gap at n text tokens e finished = let none = nothing at in cc
-behind_gap at n text tokens e (gap m g rest) =
-    let other = gap-complete at m text g in
-    let same : m ≡ n = cc in
-    rw same at rest
-behind_gap at n text tokens e (token kind m longest small rest) = let other = token-complete at m kind text longest small in cc
+abbrev pub tokens_of : ℕ → Piece → List Token
+tokens_of at (pieces.Gap n) = []
+tokens_of at (pieces.Token kind n) = record { kind = kind; at = at; len = n } ∷ []
 
--- Where a token stands, it is the first.
-pub behind_token : (at n : ℕ) (kind : TokenKind) (text : List ℕ) (tokens : List Token) → piece_at at text ≡ Ok (pieces.Token kind n) → Spells at text tokens → (rest : List Token) × (tokens ≡ record { kind = kind; at = at; len = n } ∷ rest) × Spells (at + n) (drop n text) rest
-behind_token at n kind text tokens e finished = let none = nothing at in absurd cc
-behind_token at n kind text tokens e (gap m g rest) = let other = gap-complete at m text g in absurd cc
-behind_token at n kind text tokens e (token {tokens = others} k m longest small rest) =
-    let other = token-complete at m k text longest small in
-    let same : m ≡ n = cc in
-    let alike : k ≡ kind = cc in
-    (others, rw (same, alike) refl, rw same at rest)
+pub piece_within : (piece : Piece) (text : List ℕ) → Stands text piece → (0 < len_of piece) × (len_of piece ≤ length text)
+piece_within (pieces.Gap n) text g = gap_within g
+piece_within (pieces.Token kind n) text h = (token_some kind n text h.0, (h.0).within)
 
--- Where neither stands, the text has no tokens.
-pub no_piece : (at : ℕ) (text : List ℕ) (tokens : List Token) (fault : SyntaxFault) → piece_at at text ≡ Err fault → 0 < length text → Spells at text tokens → ⊥
-no_piece at text tokens fault e long finished = absurd (omega arith)
-no_piece at text tokens fault e long (gap m g rest) = let other = gap-complete at m text g in cc
-no_piece at text tokens fault e long (token k m longest small rest) = let other = token-complete at m k text longest small in cc
+-- Where a piece stands, the tokens are its own and those behind it.
+pub in_front : (at : ℕ) (text : List ℕ) (piece : Piece) (rest : List Token) → Stands text piece → Spells (at + len_of piece) (drop (len_of piece) text) rest → Spells at text (tokens_of at piece ++ rest)
+in_front at text (pieces.Gap n) rest g s = gap n g s
+in_front at text (pieces.Token kind n) rest h s = token kind n h.0 h.1 s
 
-pub at_end : (at : ℕ) (text : List ℕ) (tokens : List Token) → text ≡ [] → Spells at text tokens → tokens ≡ []
-at_end at text tokens e finished = refl
-at_end at text tokens e (gap m g rest) =
-    let other = gap-complete at m text g in
-    let none = nothing at in
-    let empty : piece_at at text ≡ piece_at at [] = ap (piece_at at) e in
-    absurd cc
-at_end at text tokens e (token k m longest small rest) =
-    let other = token-complete at m k text longest small in
-    let none = nothing at in
-    let empty : piece_at at text ≡ piece_at at [] = ap (piece_at at) e in
-    absurd cc
+pub behind : (at : ℕ) (text : List ℕ) (piece : Piece) (tokens : List Token) → Stands text piece → Spells at text tokens → (rest : List Token) × (tokens ≡ tokens_of at piece ++ rest) × Spells (at + len_of piece) (drop (len_of piece) text) rest
+behind at text piece tokens h finished = absurd (nowhere piece h)
+behind at text piece tokens h (gap n g rest) = rw (one_piece text piece (pieces.Gap n) h g) (tokens, refl, rest)
+behind at text piece tokens h (token {tokens = others} kind n longest small rest) =
+    rw (one_piece text piece (pieces.Token kind n) h (longest, small)) (others, refl, rest)
+
+-- Where nothing stands, the text has no tokens.
+pub no_piece : (at : ℕ) (text : List ℕ) (tokens : List Token) → ((piece : Piece) → Stands text piece → ⊥) → 0 < length text → Spells at text tokens → ⊥
+no_piece at text tokens none long finished = absurd (omega arith)
+no_piece at text tokens none long (gap n g rest) = none (pieces.Gap n) g
+no_piece at text tokens none long (token kind n longest small rest) = none (pieces.Token kind n) (longest, small)
+
+pub at_end : (at : ℕ) (tokens : List Token) → Spells at [] tokens → tokens ≡ []
+at_end at tokens finished = refl
+at_end at tokens (gap n g rest) = absurd (nowhere (pieces.Gap n) g)
+at_end at tokens (token kind n longest small rest) = absurd (nowhere (pieces.Token kind n) (longest, small))
 
 -- A text has one list of tokens.
 pub same_tokens : (at : ℕ) (text : List ℕ) (xs ys : List Token) → Spells at text xs → Spells at text ys → xs ≡ ys
-same_tokens at text xs ys finished other = sym (at_end at text ys refl other)
-same_tokens at text xs ys (gap m g rest) other =
-    same_tokens (at + m) (drop m text) xs ys rest (behind_gap at m text ys (gap-complete at m text g) other)
-same_tokens at text xs ys (token {tokens = others} k m longest small rest) other =
-    let split = behind_token at m k text ys (token-complete at m k text longest small) other in
-    let same = same_tokens (at + m) (drop m text) others split.0 rest split.2 in
-    let back = split.1 in
-    rw same (sym back)
+same_tokens at text xs ys finished other = sym (at_end at ys other)
+same_tokens at text xs ys (gap n g rest) other =
+    let split = behind at text (pieces.Gap n) ys g other in
+    rw split.1 (same_tokens (at + n) (drop n text) xs split.0 rest split.2)
+same_tokens at text xs ys (token {tokens = others} kind n longest small rest) other =
+    let split = behind at text (pieces.Token kind n) ys (longest, small) other in
+    rw split.1 (ap (λ ts. record { kind = kind; at = at; len = n } ∷ ts) (same_tokens (at + n) (drop n text) others split.0 rest split.2))
+
+-- A text is spelled by one list of tokens at most.
+pub one_spelling_shown : OneSpelling
+one_spelling_shown bytes xs ys a b = same_tokens (mark_len bytes) (drop (mark_len bytes) bytes) xs ys a.spelled b.spelled

@@ -1,57 +1,21 @@
 -- Integers: the longest at the front.
-use Rattle.std.proofs.Common.{◌≡◌, ℕ, zero, suc, ◌+◌, ◌≤◌, inl, inr, Bool, true, false, cond, eqb, ◌&&◌, ◌||◌, List, [], ◌∷◌, length, take, drop, refl, arith}
+use Rattle.std.proofs.Common.{◌≡◌, ℕ, zero, suc, ◌+◌, ◌-◌, ◌<◌, ◌≤◌, ◌⊎◌, inl, inr, true, false, eqb, ◌==◌, ◌&&◌, ◌||◌, List, [], ◌∷◌, length, take, drop, refl, sym, ◌∙◌, arith, length-drop, get_or}
 use Rattle.std.proofs.lemmas.Bool.Decides.{nat_tests}
+use Rattle.std.proofs.lemmas.Bool.{eq-eqb, ne_eqb, cases_eq, false_from_ne_true, and_parts, and_from, or_cases, or_left, or_right}
+use Rattle.std.proofs.lemmas.List.{drop-take}
 use Rattle.std.proofs.lemmas.List.Sums.{prefix_len-le-length}
+use Rattle.std.proofs.lemmas.List.Folds.{length-prefix_len}
 use Rattle.std.proofs.Math.Numerals.{one-add}
 use Rattle.std.proofs.Math.Seq.{take-length}
-use Rattle.std.proofs.lemmas.Bool.{eqb-true}
-use Rattle.std.specs.List.{prefix_len}
-use Rattle.fb_syntax.specs.declared.tokens.TokenKind.{TokenKind}
-use Rattle.fb_syntax.specs.declared.tokens.TokenKind.TheVariants.{Word, Integer, Quoted, Punct}
-use Rattle.fb_syntax.specs.Bytes.{is_digit, is_hex, is_sign, is_punct}
-use Rattle.std.specs.List.{list_all}
-use Rattle.fb_syntax.specs.TokenBytes.{is_token, IsLongest}
-use Rattle.fb_syntax.specs.Integers.{is_unsigned, is_decimal, is_hexadecimal, is_prefixed, without_sign}
-use Rattle.fb_syntax.specs.scan.NumberLen.{number_len}
-use Rattle.fb_syntax.proofs.TokenStarts.{and_both, and_true, or_either, all-take, all-prefix, starts, token_starts}
-
-or_right : (a b : Bool) → b ≡ true → (a || b) ≡ true
-or_right true b h = refl
-or_right false b h = h
-
-or_left : (a b : Bool) → a ≡ true → (a || b) ≡ true
-or_left a b h = rw h refl
-
-hex_digits : (z x h : ℕ) (hs : List ℕ) → is_prefixed (z ∷ x ∷ h ∷ hs) ≡ true → is_hexadecimal (take (2 + prefix_len is_hex (h ∷ hs)) (z ∷ x ∷ h ∷ hs)) ≡ true
-hex_digits z x h hs e =
-    let parts = and_both (eqb z 48 && (eqb x 120 || eqb x 88)) (is_hex h) e in
-    let count : prefix_len is_hex (h ∷ hs) ≡ suc (prefix_len is_hex hs) = rw (parts.1, one-add) refl in
-    let two : 2 + prefix_len is_hex (h ∷ hs) ≡ suc (suc (suc (prefix_len is_hex hs))) = omega arith in
-    rw two (and_true (is_prefixed (z ∷ x ∷ h ∷ take (prefix_len is_hex hs) hs)) _ e (and_true (is_hex h) _ parts.1 (all-prefix is_hex hs)))
-
-digits : (c : ℕ) (cs : List ℕ) → is_digit c ≡ true → is_decimal (take (prefix_len is_digit (c ∷ cs)) (c ∷ cs)) ≡ true
-digits c cs e = rw (e, one-add) (and_true (is_digit c) _ e (all-prefix is_digit cs))
-
--- the number's bytes are one
-pub number_spelled : (u : List ℕ) → eqb (number_len u) 0 ≡ false → is_unsigned (take (number_len u) u) ≡ true
-unfolding number_len
-number_spelled [] e = absurd cc
-number_spelled (c ∷ []) e = by_digit (is_digit c) refl e where
-  by_digit : (b : Bool) → is_digit c ≡ b → eqb (cond b (1 + 0) 0) 0 ≡ false → is_unsigned (take (cond b (1 + 0) 0) (c ∷ [])) ≡ true
-  by_digit true h f = or_left _ _ (and_true (is_digit c) true h refl)
-  by_digit false h f = absurd cc
-number_spelled (c ∷ x ∷ []) e = by_digit (is_digit c) refl e where
-  by_digit : (b : Bool) → is_digit c ≡ b → eqb (cond b (1 + prefix_len is_digit (x ∷ [])) 0) 0 ≡ false → is_unsigned (take (cond b (1 + prefix_len is_digit (x ∷ [])) 0) (c ∷ x ∷ [])) ≡ true
-  by_digit true h f = rw one-add (or_left _ _ (and_true (is_digit c) _ h (all-prefix is_digit (x ∷ []))))
-  by_digit false h f = absurd cc
-number_spelled (c ∷ x ∷ h ∷ hs) e = by_prefix (is_prefixed (c ∷ x ∷ h ∷ hs)) refl e where
-  by_digit : (b : Bool) → is_digit c ≡ b → eqb (cond b (1 + prefix_len is_digit (x ∷ h ∷ hs)) 0) 0 ≡ false → is_unsigned (take (cond b (1 + prefix_len is_digit (x ∷ h ∷ hs)) 0) (c ∷ x ∷ h ∷ hs)) ≡ true
-  by_digit true d f = rw one-add (or_left _ _ (and_true (is_digit c) _ d (all-prefix is_digit (x ∷ h ∷ hs))))
-  by_digit false d f = absurd cc
-
-  by_prefix : (b : Bool) → is_prefixed (c ∷ x ∷ h ∷ hs) ≡ b → eqb (cond b (2 + prefix_len is_hex (h ∷ hs)) (prefix_len is_digit (c ∷ x ∷ h ∷ hs))) 0 ≡ false → is_unsigned (take (cond b (2 + prefix_len is_hex (h ∷ hs)) (prefix_len is_digit (c ∷ x ∷ h ∷ hs))) (c ∷ x ∷ h ∷ hs)) ≡ true
-  by_prefix true p f = or_right _ _ (hex_digits c x h hs p)
-  by_prefix false p f = by_digit (is_digit c) refl f
+use Rattle.std.specs.List.{prefix_len, list_all}
+use Rattle.fb_syntax.specs.declared.tokens.TokenKind.TheVariants.{Integer}
+use Rattle.fb_syntax.specs.declared.scan.Piece.{Piece}
+use Rattle.fb_syntax.specs.Bytes.{is_digit, is_hex}
+use Rattle.fb_syntax.specs.Integers.{is_unsigned, is_decimal, is_hexadecimal, is_prefixed, is_integer, sign_len, without_sign, IsNumberLen, magnitude, greatest_magnitude}
+use Rattle.fb_syntax.specs.TokenBytes.{is_token, starts, IsLongest, IsSmall}
+use Rattle.fb_syntax.specs.Fronts.{Stands}
+use Rattle.fb_syntax.proofs.FirstBytes.{longest_of, only_kind}
+use Rattle.fb_syntax.proofs.LongestTokens.{all-take, all-prefix}
 
 decimal_all : (s : List ℕ) → is_decimal s ≡ true → list_all is_digit s ≡ true
 decimal_all [] e = refl
@@ -66,118 +30,102 @@ prefix_kept (a ∷ b ∷ u) (suc (suc zero)) e = absurd cc
 prefix_kept (a ∷ b ∷ []) (suc (suc (suc m))) e = absurd cc
 prefix_kept (a ∷ b ∷ c ∷ u) (suc (suc (suc m))) e = e
 
-one_digit : (z x h : ℕ) (hs : List ℕ) → is_prefixed (z ∷ x ∷ h ∷ hs) ≡ true → prefix_len is_digit (z ∷ x ∷ h ∷ hs) ≤ 1
-one_digit z x h hs e =
-    let parts = and_both (eqb z 48 && (eqb x 120 || eqb x 88)) (is_hex h) e in
-    let mark = (and_both (eqb z 48) (eqb x 120 || eqb x 88) parts.0).1 in
-    let no_digit : is_digit x ≡ false = grind (arith, nat_tests, mark) in
-    rw no_digit (by_test (is_digit z)) where
-      by_test : (b : Bool) → cond b (1 + 0) 0 ≤ 1
-      by_test true = omega arith
-      by_test false = omega arith
+decimal_from : (s : List ℕ) → 0 < length s → list_all is_digit s ≡ true → is_decimal s ≡ true
+decimal_from [] some e = absurd (omega arith)
+decimal_from (c ∷ cs) some e = e
 
-hex_within : (u : List ℕ) (m : ℕ) → m ≤ length u → list_all is_hex (drop 2 (take m u)) ≡ true → m ≤ 2 + prefix_len is_hex (drop 2 u)
-hex_within u zero w e = omega arith
-hex_within [] (suc m) w e = absurd (omega arith)
-hex_within (a ∷ u) (suc zero) w e = omega arith
-hex_within (a ∷ []) (suc (suc m)) w e = absurd (omega arith)
-hex_within (a ∷ b ∷ u) (suc (suc m)) w e = let h = all-take is_hex u m (omega arith) e in omega arith
+pub decimal_len : (u : List ℕ) → is_prefixed u ≡ false → IsNumberLen (prefix_len is_digit u) u
+decimal_len u plain = record {
+  within = prefix_len-le-length is_digit u;
+  spelled = λ some. or_left _ _ (decimal_from (take (prefix_len is_digit u) u) (omega (arith, length-prefix_len is_digit u)) (all-prefix is_digit u));
+  longest = λ m w e. elim (or_cases (is_decimal (take m u)) (is_hexadecimal (take m u)) e) [
+    | inl d ↦ all-take is_digit u m w (decimal_all (take m u) d)
+    | inr x ↦ (let there = prefix_kept u m (and_parts (is_prefixed (take m u)) _ x).0 in absurd cc)
+  ];
+}
 
--- and no more bytes are
-pub number_longest : (u : List ℕ) (m : ℕ) → m ≤ length u → is_unsigned (take m u) ≡ true → m ≤ number_len u
-unfolding number_len
-number_longest u m w e = by_prefix (is_prefixed u) refl where
-  decimal_within : is_decimal (take m u) ≡ true → m ≤ prefix_len is_digit u
-  decimal_within d = all-take is_digit u m w (decimal_all (take m u) d)
+pub hexadecimal_len : (u : List ℕ) → is_prefixed u ≡ true → IsNumberLen (2 + prefix_len is_hex (drop 2 u)) u
+hexadecimal_len [] p = absurd cc
+hexadecimal_len (z ∷ []) p = absurd cc
+hexadecimal_len (z ∷ x ∷ []) p = absurd cc
+hexadecimal_len (z ∷ x ∷ h ∷ hs) p =
+    record { within = omega (arith, prefix_len-le-length is_hex (h ∷ hs)); spelled = λ some. or_right _ _ spelled; longest = longest } where
+      parts : ((z == 48 && (x == 120 || x == 88)) ≡ true) × (is_hex h ≡ true)
+      parts = and_parts (z == 48 && (x == 120 || x == 88)) (is_hex h) p
 
-  by_prefix : (b : Bool) → is_prefixed u ≡ b → m ≤ cond b (2 + prefix_len is_hex (drop 2 u)) (prefix_len is_digit u)
-  by_prefix true p = elim (or_either (is_decimal (take m u)) (is_hexadecimal (take m u)) e) [
-    | inl d ↦ (let h = decimal_within d in let one = digits_few u p in omega arith)
-    | inr x ↦ hex_within u m w (and_both (is_prefixed (take m u)) _ x).1
-  ] where
-    digits_few : (v : List ℕ) → is_prefixed v ≡ true → prefix_len is_digit v ≤ 1
-    digits_few [] p = absurd cc
-    digits_few (a ∷ []) p = absurd cc
-    digits_few (a ∷ b ∷ []) p = absurd cc
-    digits_few (a ∷ b ∷ c ∷ v) p = one_digit a b c v p
-  by_prefix false p = elim (or_either (is_decimal (take m u)) (is_hexadecimal (take m u)) e) [
-    | inl d ↦ decimal_within d
-    | inr x ↦ (let there = prefix_kept u m (and_both (is_prefixed (take m u)) _ x).0 in absurd cc)
+      spelled : is_hexadecimal (take (2 + prefix_len is_hex (h ∷ hs)) (z ∷ x ∷ h ∷ hs)) ≡ true
+      spelled =
+          let count : prefix_len is_hex (h ∷ hs) ≡ suc (prefix_len is_hex hs) = rw (parts.1, one-add) refl in
+          let three : 2 + prefix_len is_hex (h ∷ hs) ≡ suc (suc (suc (prefix_len is_hex hs))) = omega arith in
+          rw three (and_from (is_prefixed (z ∷ x ∷ h ∷ take (prefix_len is_hex hs) hs)) _ p (and_from (is_hex h) _ parts.1 (all-prefix is_hex hs)))
+
+      longest : (m : ℕ) → m ≤ length (z ∷ x ∷ h ∷ hs) → is_unsigned (take m (z ∷ x ∷ h ∷ hs)) ≡ true → m ≤ 2 + prefix_len is_hex (h ∷ hs)
+      longest zero w e = omega arith
+      longest (suc zero) w e = omega arith
+      longest (suc (suc m)) w e = elim (or_cases (is_decimal (z ∷ x ∷ take m (h ∷ hs))) _ e) [
+        | inl d ↦ absurd (grind (arith, nat_tests, parts.0, d))
+        | inr i ↦ (let digits = all-take is_hex (h ∷ hs) m (omega arith) (and_parts (is_prefixed (z ∷ x ∷ take m (h ∷ hs))) _ i).1 in omega arith)
+      ]
+
+sign_kept : (text : List ℕ) (m : ℕ) → 0 < m → sign_len (take m text) ≡ sign_len text
+sign_kept text zero h = absurd (omega arith)
+sign_kept [] (suc m) h = refl
+sign_kept (c ∷ cs) (suc m) h = refl
+
+sign_short : (text : List ℕ) → (sign_len text ≤ 1) × (sign_len text ≤ length text)
+sign_short [] = (omega arith, omega arith)
+sign_short (c ∷ cs) = (grind (arith, nat_tests), grind (arith, nat_tests))
+
+digits_taken : (text : List ℕ) (k : ℕ) → 0 < sign_len text + k → is_integer (take (sign_len text + k) text) ≡ is_unsigned (take k (without_sign text))
+digits_taken text k h = rw (sign_kept text (sign_len text + k) h, drop-take (sign_len text) k text) refl
+
+-- the digits of an integer at the front
+data Digits (text : List ℕ) (m : ℕ) : Type 0 where
+  digits : (k : ℕ) → m ≡ sign_len text + k → 0 < k → k ≤ length (without_sign text) → is_unsigned (take k (without_sign text)) ≡ true → Digits text m
+
+digits_of : (text : List ℕ) (m : ℕ) → m ≤ length text → is_integer (take m text) ≡ true → Digits text m
+digits_of text zero w e = absurd cc
+digits_of text (suc m) w e =
+    let sign = sign_short text in
+    let same : suc m ≡ sign_len text + (suc m - sign_len text) = omega arith in
+    let spelled : is_unsigned (take (suc m - sign_len text) (without_sign text)) ≡ true = sym (digits_taken text (suc m - sign_len text) (omega arith)) ∙ (rw same at e) in
+    digits (suc m - sign_len text) same (some (suc m - sign_len text) spelled) (omega (arith, length-drop (sign_len text) text)) spelled where
+      some : (k : ℕ) → is_unsigned (take k (without_sign text)) ≡ true → 0 < k
+      some zero e = absurd cc
+      some (suc k) e = omega arith
+
+pub integer_longest : (text : List ℕ) (sign n : ℕ) → starts Integer (get_or text 0 0) ≡ true → sign ≡ sign_len text → IsNumberLen n (drop sign text) → 0 < n → IsLongest Integer (sign + n) text
+unfolding is_token
+integer_longest [] sign n s signed number some = absurd cc
+integer_longest (c ∷ cs) sign n s signed count some =
+    let short = sign_short (c ∷ cs) in
+    let number : IsNumberLen n (without_sign (c ∷ cs)) = rw signed at count in
+    rw signed (longest_of Integer (sign_len (c ∷ cs) + n) c cs s (omega (arith, number.within, length-drop (sign_len (c ∷ cs)) (c ∷ cs))) (digits_taken (c ∷ cs) n (omega arith) ∙ number.spelled some)
+    (λ m w t. elim (digits_of (c ∷ cs) (suc m) (omega arith) t) [ digits k same positive within spelled ↦ omega (arith, number.longest k within spelled) ]))
+
+-- No integer stands there, or one that is too great.
+pub no_integer : (text : List ℕ) (sign n : ℕ) → starts Integer (get_or text 0 0) ≡ true → sign ≡ sign_len text → IsNumberLen n (drop sign text) → (0 < n → greatest_magnitude < magnitude (take (sign + n) text)) → (piece : Piece) → Stands text piece → ⊥
+unfolding is_token
+no_integer [] sign n s signed number great = absurd cc
+no_integer (c ∷ cs) sign n s signed count great = only_kind Integer c cs s never where
+  never : (m : ℕ) → IsLongest Integer m (c ∷ cs) → IsSmall Integer (take m (c ∷ cs)) → ⊥
+  never m h small = elim (digits_of (c ∷ cs) m h.within h.spelled) [
+    | digits k same positive within spelled ↦
+        (let number : IsNumberLen n (without_sign (c ∷ cs)) = rw signed at count in
+        let up = number.longest k within spelled in
+        let counted = integer_longest (c ∷ cs) sign n s signed count (omega arith) in
+        let down = h.longest Integer (sign + n) counted.within counted.spelled in
+        let all : m ≡ sign + n = omega arith in
+        omega (arith, rw all at small, great (omega arith)))
   ]
 
-pub number_within : (u : List ℕ) → number_len u ≤ length u
-unfolding number_len
-number_within u = by_prefix (is_prefixed u) refl where
-  long : (v : List ℕ) → is_prefixed v ≡ true → 2 + prefix_len is_hex (drop 2 v) ≤ length v
-  long [] p = absurd cc
-  long (a ∷ []) p = absurd cc
-  long (a ∷ b ∷ []) p = absurd cc
-  long (a ∷ b ∷ c ∷ v) p = omega (arith, prefix_len-le-length is_hex (c ∷ v))
-
-  by_prefix : (b : Bool) → is_prefixed u ≡ b → cond b (2 + prefix_len is_hex (drop 2 u)) (prefix_len is_digit u) ≤ length u
-  by_prefix true p = long u p
-  by_prefix false p = prefix_len-le-length is_digit u
-
-pub integer_alone : (k : TokenKind) (c : ℕ) → (is_digit c || is_sign c) ≡ true → starts k c ≡ true → k ≡ Integer
-integer_alone Word c e f = absurd (grind (arith, nat_tests))
-integer_alone Integer c e f = refl
-integer_alone Quoted c e f = absurd (grind (arith, nat_tests))
-integer_alone (Punct p) c e f = absurd (grind (arith, nat_tests, (and_both (eqb c p) (is_punct c) f).1))
-
-pub no_sign_taken : (c : ℕ) (cs : List ℕ) (m : ℕ) → is_sign c ≡ false → without_sign (take m (c ∷ cs)) ≡ take m (c ∷ cs)
-no_sign_taken c cs zero e = refl
-no_sign_taken c cs (suc m) e = rw e refl
-
-pub plain_longest : (c : ℕ) (cs : List ℕ) → is_digit c ≡ true → eqb (number_len (c ∷ cs)) 0 ≡ false → IsLongest Integer (number_len (c ∷ cs)) (c ∷ cs)
-unfolding is_token
-plain_longest c cs e some = record {
-  within = number_within (c ∷ cs);
-  spelled = rw (no_sign_taken c cs (number_len (c ∷ cs)) unsigned) (number_spelled (c ∷ cs) some);
-  longest = no_longer;
-} where
-  unsigned : is_sign c ≡ false
-  unsigned = grind (arith, nat_tests)
-
-  no_longer : (k : TokenKind) (m : ℕ) → m ≤ length (c ∷ cs) → is_token k (take m (c ∷ cs)) ≡ true → m ≤ number_len (c ∷ cs)
-  no_longer k zero h t = omega arith
-  no_longer k (suc m) h t =
-      let same = integer_alone k c (or_left (is_digit c) (is_sign c) e) (token_starts k c (take m cs) t) in
-      let as_integer : is_unsigned (without_sign (take (suc m) (c ∷ cs))) ≡ true = rw same at t in
-      number_longest (c ∷ cs) (suc m) h (rw (no_sign_taken c cs (suc m) unsigned) at as_integer)
-
-pub sign_taken : (c : ℕ) (cs : List ℕ) (m : ℕ) → is_sign c ≡ true → without_sign (take (suc m) (c ∷ cs)) ≡ take m cs
-sign_taken c cs m e = rw e refl
-
-pub signed_longest : (c : ℕ) (cs : List ℕ) → is_sign c ≡ true → eqb (number_len cs) 0 ≡ false → IsLongest Integer (1 + number_len cs) (c ∷ cs)
-unfolding is_token
-signed_longest c cs e some = record {
-  within = omega (arith, number_within cs);
-  spelled = rw one-add (rw (sign_taken c cs (number_len cs) e) (number_spelled cs some));
-  longest = no_longer;
-} where
-  no_longer : (k : TokenKind) (m : ℕ) → m ≤ length (c ∷ cs) → is_token k (take m (c ∷ cs)) ≡ true → m ≤ 1 + number_len cs
-  no_longer k zero h t = omega arith
-  no_longer k (suc m) h t =
-      let same = integer_alone k c (or_right (is_digit c) (is_sign c) e) (token_starts k c (take m cs) t) in
-      let as_integer : is_unsigned (without_sign (take (suc m) (c ∷ cs))) ≡ true = rw same at t in
-      let rest = number_longest cs m (omega arith) (rw (sign_taken c cs m e) at as_integer) in
-      omega arith
-
 -- All bytes are an integer's where no more and no fewer are counted.
-pub whole_number : (u : List ℕ) → eqb (length u) 0 ≡ false → eqb (number_len u) (length u) ≡ is_unsigned u
-whole_number u some = by_spelling (is_unsigned u) (eqb (number_len u) (length u)) refl refl where
-  by_spelling : (a b : Bool) → is_unsigned u ≡ a → eqb (number_len u) (length u) ≡ b → b ≡ a
-  by_spelling true true s l = refl
-  by_spelling false false s l = refl
-  by_spelling true false s l =
-      let bytes : is_unsigned (take (length u) u) ≡ true = rw (take-length u) s in
-      let enough = number_longest u (length u) (omega arith) bytes in
-      let within = number_within u in
-      let same : number_len u ≡ length u = omega arith in
-      absurd (grind (arith, nat_tests))
-  by_spelling false true s l =
-      let same : number_len u ≡ length u = eqb-true (number_len u) (length u) l in
-      let counted : eqb (number_len u) 0 ≡ false = rw same some in
-      let spelled = number_spelled u counted in
-      let bytes : is_unsigned u ≡ true = rw (← take-length u) (rw same at spelled) in
-      cc
+pub whole_number : (n : ℕ) (u : List ℕ) → eqb (length u) 0 ≡ false → IsNumberLen n u → eqb n (length u) ≡ is_unsigned u
+whole_number n u some number = by_length (cases_eq n (length u)) where
+  by_length : (n ≡ length u) ⊎ (n ≡ length u → ⊥) → eqb n (length u) ≡ is_unsigned u
+  by_length (inl same) =
+      let spelled = number.spelled (grind (arith, nat_tests)) in
+      eq-eqb n (length u) same ∙ sym (rw (same, take-length u) at spelled)
+  by_length (inr other) =
+      let short : is_unsigned u ≡ true → ⊥ = λ e. let enough = number.longest (length u) (omega arith) (rw (take-length u) e) in let within = number.within in other (omega arith) in
+      ne_eqb n (length u) other ∙ sym (false_from_ne_true (is_unsigned u) short)

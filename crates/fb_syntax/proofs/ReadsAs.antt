@@ -1,9 +1,10 @@
 -- What the tokens of a text read as.
-use Rattle.std.proofs.Common.{◌≡◌, ◌<◌, ℕ, List, [], ◌∷◌, Some, true, false, length, refl, sym, ap, subst, ◌∙◌, arith}
+use Rattle.std.proofs.Common.{◌≡◌, ◌<◌, ℕ, List, [], ◌∷◌, Some, true, false, length, refl, sym, ◌∙◌, arith}
 use Rattle.fb_syntax.specs.DeclsRead.{DeclsRead}
+use Rattle.std.proofs.lemmas.Option.{some_pair_parts}
 use Rattle.fb_syntax.specs.Lexemes.{Lexeme, lexemes}
 use Rattle.fb_syntax.specs.Stops.{Fails, fault_at}
-use Rattle.fb_syntax.specs.Rules.{Repeated, is_empty, until}
+use Rattle.fb_syntax.specs.Rules.{is_empty, until, repeated}
 use Rattle.fb_syntax.specs.GrammarSchema.{declaration, Reads}
 use Rattle.fb_syntax.specs.OneReading.{OneReading}
 use Rattle.fb_syntax.specs.declared.faults.SyntaxFault.TheVariants as faults
@@ -11,8 +12,10 @@ use Rattle.fb_syntax.specs.declared.parser.stop.Stop.{Stop}
 use Rattle.fb_syntax.specs.declared.parser.stop.Stop.TheVariants.{Memory, Unexpected, NestedVector}
 use Rattle.fb_syntax.specs.declared.tokens.Token.{Token}
 use Rattle.fb_syntax.specs.declared.declarations.Declaration.{Declaration}
-use Rattle.fb_syntax.proofs.Steps.{none_some, pair_of}
-use Rattle.fb_syntax.proofs.ListsAgree.{until_found, until_read, until_stops}
+use Rattle.fb_syntax.specs.declared.tokens.TokenKind.TheVariants.{Word}
+use Rattle.fb_syntax.proofs.Names.{but}
+use Rattle.fb_syntax.proofs.Agrees.{Agrees}
+use Rattle.fb_syntax.proofs.ListsAgree.{repeated-agrees}
 use Rattle.fb_syntax.proofs.GrammarAgrees.{declaration-agrees}
 
 empty_list : (ts : List Lexeme) → is_empty ts ≡ true → ts ≡ []
@@ -23,29 +26,26 @@ some_left : (ts rest : List Lexeme) → length rest < length ts → is_empty ts 
 some_left [] rest h = absurd (omega arith)
 some_left (t ∷ ts) rest h = refl
 
-declarations_found : (ds : List Declaration) (ts rest : List Lexeme) → until declaration.read is_empty ts ≡ Some (ds, rest) → Repeated declaration.Is ts ds []
-declarations_found ds ts rest e =
-    let P : List Lexeme → Type 0 = λ r. Repeated declaration.Is ts ds r in
-    subst P (empty_list rest (until_stops declaration.read is_empty ds ts rest e)) (until_found declaration-agrees is_empty ds ts rest e)
+declarations-agree : Agrees (repeated declaration is_empty) true (but Word) []
+declarations-agree = repeated-agrees declaration-agrees is_empty (λ x ts rest h. some_left ts rest ((declaration-agrees.shorter x ts rest h).1 refl))
 
 -- What is read to the end is what the tokens read as.
 pub reads_found : (text : List ℕ) (tokens : List Token) (ds : List Declaration) (rest : List Lexeme) → until declaration.read is_empty (lexemes text tokens) ≡ Some (ds, rest) → Reads text tokens (record { declarations = ds; text_len = length text })
-reads_found text tokens ds rest e = record { whole = declarations_found ds (lexemes text tokens) rest e; len = refl }
+reads_found text tokens ds rest e =
+    let found = declarations-agree.found ds (lexemes text tokens) rest e in
+    record { whole = rw (empty_list rest found.1) at found.0; len = refl }
 
 until_declarations : (text : List ℕ) (tokens : List Token) (d : DeclsRead) → Reads text tokens d → until declaration.read is_empty (lexemes text tokens) ≡ Some (d.declarations, [])
-until_declarations text tokens d h =
-    until_read declaration-agrees is_empty (λ x ts rest h. some_left ts rest ((declaration-agrees.shorter x ts rest h).1 refl)) d.declarations (lexemes text tokens) [] h.whole refl
+until_declarations text tokens d h = declarations-agree.read d.declarations (lexemes text tokens) [] (h.whole, refl) tt
 
 -- Where tokens read as declarations, only memory fails.
 pub memory_alone : (text : List ℕ) (tokens : List Token) (d : DeclsRead) (stop : Stop) (offset : ℕ) → Reads text tokens d → Fails stop (until declaration.read is_empty (lexemes text tokens)) → fault_at stop offset ≡ faults.Memory
 memory_alone text tokens d Memory offset h e = refl
-memory_alone text tokens d Unexpected offset h e = absurd (none_some (sym e ∙ until_declarations text tokens d h))
-memory_alone text tokens d NestedVector offset h e = absurd (none_some (sym e ∙ until_declarations text tokens d h))
-
-same_decls : (d e : DeclsRead) → d.declarations ≡ e.declarations → d.text_len ≡ e.text_len → d ≡ e
-same_decls d e a b = let P : List Declaration → ℕ → DeclsRead = λ ds len. record { declarations = ds; text_len = len } in ap (λ ds. P ds d.text_len) a ∙ ap (P e.declarations) b
+memory_alone text tokens d Unexpected offset h e = (let read = until_declarations text tokens d h in absurd cc)
+memory_alone text tokens d NestedVector offset h e = (let read = until_declarations text tokens d h in absurd cc)
 
 pub one_reading_shown : OneReading
 one_reading_shown text tokens d e h k =
-    let same = pair_of d.declarations e.declarations [] [] (sym (until_declarations text tokens d h) ∙ until_declarations text tokens e k) in
-    same_decls d e same.0 (h.len ∙ sym k.len)
+    let same = some_pair_parts d.declarations e.declarations [] [] (sym (until_declarations text tokens d h) ∙ until_declarations text tokens e k) in
+    let len = h.len ∙ sym k.len in
+    λ i. record { declarations = same.0 i; text_len = len i }

@@ -1,13 +1,8 @@
 -- Steps of reading: what was found, one after another.
-use Rattle.std.proofs.Common.{◌≡◌, List, Option, Some, None, ◌⊎◌, inl, inr, Bool, true, false, cond, refl, ap}
+use Rattle.std.proofs.Common.{◌≡◌, List, Option, Some, None, Bool, true, false, cond, refl}
+use Rattle.std.proofs.lemmas.Option.{some_pair_parts}
 use Rattle.fb_syntax.specs.Lexemes.{Lexeme}
 use Rattle.fb_syntax.specs.Rules.{Front, and_then, behind}
-
-pub pair_of : {A B : Type 0} (a c : A) (b d : B) → ◌≡◌ {A = Option (A × B)} (Some (a, b)) (Some (c, d)) → (a ≡ c) × (b ≡ d)
-pair_of {A} {B} a c b d e = let p : ◌≡◌ {A = A × B} (a, b) (c, d) = cc in (ap (λ (x : A × B). x.0) p, ap (λ (x : A × B). x.1) p)
-
-pub none_some : {A : Type 0} {x : A} → ◌≡◌ {A = Option A} None (Some x) → ⊥
-none_some e = cc
 
 -- A step that was read, and what was read after it.
 pub bind-some : {A B : Type 0} {m : Option A} {f : A → Option B} {y : B} → and_then m f ≡ Some y → (x : A) × (m ≡ Some x) × (f x ≡ Some y)
@@ -16,7 +11,7 @@ bind-some {m = None} e = absurd cc
 
 -- What holds of what was read holds of what it is said to be.
 pub lands : {A : Type 0} (R : A → List Lexeme → Type 0) {a c : A} {b d : List Lexeme} → ◌≡◌ {A = Front A} (Some (a, b)) (Some (c, d)) → R a b → R c d
-lands R {a} {c} {b} {d} e h = let p = pair_of a c b d e in rw (← p.0, ← p.1) h
+lands R {a} {c} {b} {d} e h = let p = some_pair_parts a c b d e in rw (← p.0, ← p.1) h
 
 pub data Ways {A B : Type 0} (front : Front A) (f : A → List Lexeme → B) (other y : B) : Type 0 where
   stood : (x : A) (after : List Lexeme) → front ≡ Some (x, after) → f x after ≡ y → Ways front f other y
@@ -35,7 +30,3 @@ pub data Chosen {A : Type 0} (b : Bool) (x y z : A) : Type 0 where
 pub chosen : {A : Type 0} (b : Bool) {x y z : A} → cond b x y ≡ z → Chosen b x y z
 chosen true e = chose_first refl e
 chosen false e = chose_second refl e
-
-pub decided : (b : Bool) → (b ≡ true) ⊎ (b ≡ false)
-decided true = inl refl
-decided false = inr refl

@@ -1,32 +1,26 @@
 -- What may stand between tokens: blanks and comments (Writing a schema: comments as in C).
-use Rattle.std.specs.Prelude.{ℕ, ◌≡◌, ◌≤◌, Bool, true, false, ◌==◌, ◌&&◌, not, List, [], ◌∷◌, ◌⊎◌, length, take, slice_get, Some}
-use Rattle.std.specs.List.{list_all}
+use Rattle.std.specs.Prelude.{ℕ, ◌≡◌, ◌<◌, ◌+◌, Bool, true, false, ◌==◌, ◌&&◌, not, List, [], ◌∷◌, drop}
+use Rattle.std.specs.List.{prefix_len}
 use Rattle.fb_syntax.specs.Bytes.{is_blank}
 
-abbrev pub is_space : List ℕ → Bool
-is_space [] = false
-is_space (c ∷ []) = is_blank c
-is_space (c ∷ d ∷ cs) = false
+-- */ stands here
+abbrev pub is_close : List ℕ → Bool
+is_close [] = false
+is_close (a ∷ []) = false
+is_close (a ∷ b ∷ cs) = a == 42 && b == 47
 
--- the bytes up to the first */, with it
-abbrev pub closes : List ℕ → Bool
-closes [] = false
-closes (a ∷ []) = false
-closes (a ∷ b ∷ []) = a == 42 && b == 47
-closes (a ∷ b ∷ c ∷ cs) = not (a == 42 && b == 47) && closes (b ∷ c ∷ cs)
+-- The first */ stands behind n bytes.
+pub record ClosesBehind (n : ℕ) (text : List ℕ) : Type 0 where
+  pub closed : is_close (drop n text) ≡ true
+  pub open_before : (k : ℕ) → k < n → is_close (drop k text) ≡ false
 
--- /* and what closes it: `/*/` is none
-abbrev pub is_block_comment : List ℕ → Bool
-is_block_comment [] = false
-is_block_comment (a ∷ []) = false
-is_block_comment (a ∷ b ∷ cs) = a == 47 && b == 42 && closes cs
+-- how many bytes there are up to a line feed or the text's end; a carriage return may be one of them
+abbrev pub line_len : List ℕ → ℕ
+line_len = prefix_len (λ c. not (c == 10))
 
--- // and no line feed; a carriage return may stand in it
-abbrev pub is_line_comment : List ℕ → Bool
-is_line_comment [] = false
-is_line_comment (a ∷ []) = false
-is_line_comment (a ∷ b ∷ cs) = a == 47 && b == 47 && list_all (λ c. not (c == 10)) cs
-
--- The first n bytes are a blank or a comment. A line's comment goes up to a line feed or the text's end.
-abbrev pub IsGap : ℕ → List ℕ → Type 0
-IsGap n text = (n ≤ length text) × ((is_space (take n text) ≡ true) ⊎ (is_block_comment (take n text) ≡ true) ⊎ ((is_line_comment (take n text) ≡ true) × ((n ≡ length text) ⊎ (slice_get text n ≡ Some 10))))
+-- The first n bytes are a blank; or /* and what stands up to the first */, with it: `/*/` is none; or // and the rest
+-- of the line.
+pub data IsGap : ℕ → List ℕ → Type 0 where
+  blank : {c : ℕ} {cs : List ℕ} → is_blank c ≡ true → IsGap 1 (c ∷ cs)
+  block : {cs : List ℕ} (n : ℕ) → ClosesBehind n cs → IsGap (n + 4) (47 ∷ 42 ∷ cs)
+  line : {cs : List ℕ} → IsGap (2 + line_len cs) (47 ∷ 47 ∷ cs)

@@ -1,7 +1,6 @@
 -- The grammar of names, fields and types (Grammar).
 use Rattle.std.specs.Prelude.{true, false, List, [], Option, Some, None}
 use Rattle.fb_syntax.specs.Located.{Located}
-use Rattle.fb_syntax.specs.NumberRead.{NumberRead}
 use Rattle.fb_syntax.specs.Integers.{number_of}
 use Rattle.fb_syntax.specs.FieldRead.{FieldRead}
 use Rattle.fb_syntax.specs.TypesRead.{TableRead, EnumRead, UnionRead}
@@ -17,12 +16,6 @@ use Rattle.fb_syntax.specs.declared.declarations.DefaultValue.{DefaultValue}
 use Rattle.fb_syntax.specs.declared.declarations.DefaultValue.TheVariants as defaults
 use Rattle.fb_syntax.specs.declared.declarations.EnumValue.{EnumValue}
 use Rattle.fb_syntax.specs.declared.declarations.UnionMember.{UnionMember}
-
--- Integer
-unfoldable pub number : Rule NumberRead
-number = do
-  digits ← token Integer
-  give (number_of digits)
 
 -- Word { "." Word }
 unfoldable pub dotted_name : Rule Located
@@ -80,7 +73,7 @@ table = do
 unfoldable pub enum_value : Rule EnumValue
 enum_value = do
   name ← token Word
-  with_token (Punct equals) (λ _. do n ← number; give (record { name = name; number = Some n })) (give (record { name = name; number = None }))
+  with_token (Punct equals) (λ _. do digits ← token Integer; give (record { name = name; number = Some (number_of digits) })) (give (record { name = name; number = None }))
 
 -- Word ":" name metadata "{" value { "," value } [ "," ] "}"
 unfoldable pub enumeration : Rule EnumRead

@@ -34,13 +34,6 @@ attribute_decl = do
   _ ← sign semicolon
   give name
 
--- name ";"
-unfoldable pub root_type : Rule Located
-root_type = do
-  name ← dotted_name
-  _ ← sign semicolon
-  give name
-
 -- Quoted ";", of a file's extension or identifier
 unfoldable pub quoted : Rule Located
 quoted = do
@@ -56,7 +49,7 @@ declared keywords.Table = do t ← table; give (declarations.Type (types.Table t
 declared keywords.Struct = do t ← table; give (declarations.Type (types.Struct t))
 declared keywords.Enum = do e ← enumeration; give (declarations.Type (types.Enum e))
 declared keywords.Union = do u ← union; give (declarations.Type (types.Union u))
-declared keywords.Root = do n ← root_type; give (declarations.Directive (directives.RootType n))
+declared keywords.Root = do n ← dotted_name; _ ← sign semicolon; give (declarations.Directive (directives.RootType n))
 declared keywords.Extension = do t ← quoted; give (declarations.Directive (directives.FileExtension t))
 declared keywords.Identifier = do t ← quoted; give (declarations.Directive (directives.FileIdentifier t))
 

@@ -1,14 +1,18 @@
 -- Integers and their values (Grammar: integer_constant, dec_integer_constant, hex_integer_constant).
-use Rattle.std.specs.Prelude.{ℕ, ◌≡◌, ◌≤◌, ◌+◌, ◌-◌, ◌*◌, ◌^◌, Bool, true, false, ◌==◌, ◌||◌, ◌&&◌, List, [], ◌∷◌, length, drop, if◌then◌else◌, ℤ, pos, ◌-ℤ◌}
+use Rattle.std.specs.Prelude.{ℕ, ◌≡◌, ◌≤◌, ◌<◌, ◌+◌, ◌-◌, ◌*◌, ◌^◌, Bool, true, false, ◌==◌, ◌||◌, ◌&&◌, List, [], ◌∷◌, length, take, drop, if◌then◌else◌, ℤ, pos, ◌-ℤ◌}
 use Rattle.std.specs.List.{list_all}
 use Rattle.fb_syntax.specs.Located.{Located}
 use Rattle.fb_syntax.specs.NumberRead.{NumberRead}
 use Rattle.fb_syntax.specs.Bytes.{is_between, is_digit, is_hex, is_sign}
 
+-- how many bytes the sign has; 0 without one
+abbrev pub sign_len : List ℕ → ℕ
+sign_len [] = 0
+sign_len (c ∷ cs) = if is_sign c then 1 else 0
+
 -- what stands behind the sign, if there is one
 abbrev pub without_sign : List ℕ → List ℕ
-without_sign [] = []
-without_sign (c ∷ cs) = if is_sign c then cs else c ∷ cs
+without_sign s = drop (sign_len s) s
 
 abbrev pub is_decimal : List ℕ → Bool
 is_decimal [] = false
@@ -29,6 +33,12 @@ is_unsigned s = is_decimal s || is_hexadecimal s
 
 abbrev pub is_integer : List ℕ → Bool
 is_integer s = is_unsigned (without_sign s)
+
+-- The first n bytes are an integer without its sign, or none are, and no more bytes are.
+pub record IsNumberLen (n : ℕ) (text : List ℕ) : Type 0 where
+  pub within : n ≤ length text
+  pub spelled : 0 < n → is_unsigned (take n text) ≡ true
+  pub longest : (m : ℕ) → m ≤ length text → is_unsigned (take m text) ≡ true → m ≤ n
 
 abbrev pub digit_value : ℕ → ℕ
 digit_value c = if is_digit c then c - 48 else (if is_between 97 102 c then c - 87 else (if is_between 65 70 c then c - 55 else 0))

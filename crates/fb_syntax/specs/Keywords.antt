@@ -1,5 +1,6 @@
 -- The words that a declaration begins with.
-use Rattle.std.specs.Prelude.{ℕ, List, [], ◌∷◌, Option, Some, None, codes, if◌then◌else◌}
+use Rattle.std.specs.Prelude.{ℕ, List, [], ◌∷◌, Option, codes}
+use Rattle.std.specs.List.{find}
 use Rattle.std.specs.Str.{bytes_eq}
 use Rattle.fb_syntax.specs.declared.parser.keywords.Keyword.{Keyword}
 use Rattle.fb_syntax.specs.declared.parser.keywords.Keyword.TheVariants.{Namespace, Attribute, Table, Struct, Enum, Union, Root, Extension, Identifier}
@@ -15,12 +16,8 @@ spelling Root = codes "root_type"
 spelling Extension = codes "file_extension"
 spelling Identifier = codes "file_identifier"
 
-abbrev pub first_spelled : List Keyword → List ℕ → Option Keyword
-first_spelled [] word = None
-first_spelled (k ∷ ks) word = if bytes_eq word (spelling k) then Some k else first_spelled ks word
-
 abbrev pub keywords : List Keyword
 keywords = Namespace ∷ Attribute ∷ Table ∷ Struct ∷ Enum ∷ Union ∷ Root ∷ Extension ∷ Identifier ∷ []
 
 unfoldable pub keyword_of : List ℕ → Option Keyword
-keyword_of = first_spelled keywords
+keyword_of word = find (λ k. bytes_eq word (spelling k)) keywords

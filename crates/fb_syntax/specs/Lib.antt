@@ -1,9 +1,9 @@
 pub mod Bytes
 pub mod Gaps
 pub mod Integers
-pub mod SpelledTokens
 pub mod Spells
 pub mod TokenBytes
+pub mod Fronts
 pub mod Located
 pub mod NumberRead
 pub mod Signed
@@ -22,4 +22,3 @@ pub mod OneReading
 pub mod Parsed
 pub mod FaultTable
 pub mod Refusals
-pub mod scan

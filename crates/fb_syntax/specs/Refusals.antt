@@ -32,3 +32,10 @@ StandsWithin len (NumberTooBig at) = at ≤ len
 StandsWithin len (Unexpected at) = at ≤ len
 StandsWithin len (NestedVector at) = at ≤ len
 StandsWithin len Memory = Unit {0}
+
+-- what a text that is UTF-8 may be refused for before its grammar is looked at
+abbrev pub IsTokenFault : SyntaxFault → Type 0
+IsTokenFault (NotUtf8 at) = ⊥
+IsTokenFault (Unexpected at) = ⊥
+IsTokenFault (NestedVector at) = ⊥
+IsTokenFault _ = Unit {0}

@@ -1,5 +1,6 @@
 -- Rules of the grammar: what stands at the front of the tokens, and which are left behind it. `Is` says it, and `read` finds it.
-use Rattle.std.specs.Prelude.{ℕ, zero, suc, ◌≡◌, ◌==◌, Bool, true, false, ◌&&◌, ◌⊎◌, not, List, [], ◌∷◌, length, Option, Some, None, if◌then◌else◌}
+use Rattle.std.specs.Prelude.{ℕ, zero, suc, ◌≡◌, ◌==◌, Bool, true, false, ◌||◌, ◌⊎◌, not, List, [], ◌∷◌, length, Option, Some, None, if◌then◌else◌}
+use Rattle.std.specs.List.{fold}
 use Rattle.fb_syntax.specs.Located.{Located, joined}
 use Rattle.fb_syntax.specs.Lexemes.{Lexeme}
 use Rattle.fb_syntax.specs.Signs.{dot, comma}
@@ -63,25 +64,16 @@ with_token kind next other = record {
   read = λ ts. behind (token_at kind ts) (λ t after. (next t).read after) (other.read ts);
 }
 
+-- no token, where a test of those that are left holds
+abbrev pub ahead : (List Lexeme → Bool) → Rule (Unit {0})
+ahead test = record { Is = λ ts x rest. (ts ≡ rest) × (test ts ≡ true); read = λ ts. if test ts then Some (tt, ts) else None }
+
 abbrev pub IsSign : ℕ → List Lexeme → List Lexeme → Type 0
 IsSign c ts rest = (t : Located) × IsToken (Punct c) ts t rest
 
 abbrev pub is_sign : ℕ → List Lexeme → Bool
 is_sign c [] = false
 is_sign c (t ∷ rest) = is_kind t.kind (Punct c)
-
-pub data IsMore : Located → List Lexeme → Located → List Lexeme → Type 0 where
-  no_further : {s : Located} {ts : List Lexeme} → IsMore s ts s ts
-  further : {s n : Located} {ts rest : List Lexeme} (w : Located) (before after : List Lexeme) → IsSign dot ts before → IsToken Word before w after → IsMore (joined s w.bytes) after n rest → IsMore s ts n rest
-
-unfoldable pub name_more : Located → List Lexeme → Front Located
-name_more s [] = Some (s, [])
-name_more s (t ∷ []) = if is_sign dot (t ∷ []) then None else Some (s, t ∷ [])
-name_more s (t ∷ w ∷ rest) = if is_sign dot (t ∷ []) then (if is_kind w.kind Word then name_more (joined s w.text.bytes) rest else None) else Some (s, t ∷ w ∷ rest)
-
--- { "." Word } behind a name whose words so far are s
-abbrev pub more : Located → Rule Located
-more s = record { Is = IsMore s; read = name_more s }
 
 pub data Repeated {X : Type 0} (Item : List Lexeme → X → List Lexeme → Type 0) : List Lexeme → List X → List Lexeme → Type 0 where
   no_more : {ts : List Lexeme} → Repeated Item ts [] ts
@@ -104,46 +96,58 @@ many item stop (suc n) ts = if stop ts then Some ([], ts) else and_then (item ts
 unfoldable pub until : {X : Type 0} → (List Lexeme → Front X) → (List Lexeme → Bool) → List Lexeme → Front (List X)
 until item stop ts = many item stop (suc (length ts)) ts
 
--- items, and the closing sign behind them
-abbrev pub closed : {X : Type 0} → ℕ → Front (List X) → Front (List X)
-closed close items = and_then items (λ xs. and_then (token_at (Punct close) xs.1) (λ end. Some (xs.0, end.1)))
+-- "." Word
+abbrev pub dot_word : Rule Located
+dot_word = do
+  _ ← sign dot
+  token Word
+
+abbrev pub no_dot : List Lexeme → Bool
+no_dot ts = not (is_sign dot ts)
+
+-- a name, and further words behind it
+abbrev pub with_words : Located → List Located → Located
+with_words = fold (λ name word. joined name word.bytes)
+
+-- { "." Word } behind a name whose words so far are s
+abbrev pub more : Located → Rule Located
+more s = record {
+  Is = λ ts name rest. (words : List Located) × Repeated dot_word.Is ts words rest × (name ≡ with_words s words);
+  read = λ ts. and_then (until dot_word.read no_dot ts) (λ words. Some (with_words s words.0, words.1));
+}
+
+-- items until a test of the tokens that are left holds
+abbrev pub repeated : {X : Type 0} → Rule X → (List Lexeme → Bool) → Rule (List X)
+repeated item stop = record { Is = λ ts xs rest. Repeated item.Is ts xs rest × (stop rest ≡ true); read = until item.read stop }
 
 -- { item } and a closing sign
 abbrev pub block : {X : Type 0} → Rule X → ℕ → Rule (List X)
-block item close = record {
-  Is = λ ts xs rest. (mid : List Lexeme) × Repeated item.Is ts xs mid × IsSign close mid rest;
-  read = λ ts. closed close (until item.read (is_sign close) ts);
-}
+block item close = do
+  xs ← repeated item (is_sign close)
+  _ ← sign close
+  give xs
 
-pub data Listed {X : Type 0} (Item : List Lexeme → X → List Lexeme → Type 0) (Ends : List Lexeme → List Lexeme → Type 0) : List Lexeme → List X → List Lexeme → Type 0 where
-  last_item : {ts rest : List Lexeme} {x : X} (mid : List Lexeme) → Item ts x mid → Ends mid rest → Listed Item Ends ts (x ∷ []) rest
-  item_before : {ts rest : List Lexeme} {x : X} {xs : List X} (mid after : List Lexeme) → Item ts x mid → IsSign comma mid after → Listed Item Ends after xs rest → Listed Item Ends ts (x ∷ xs) rest
+-- what divides an item from the next, or ends a list: a comma, right before the closing sign only where `trailing` is
+-- true; or nothing, before that sign
+unfoldable pub divider : Bool → ℕ → Rule (Unit {0})
+divider trailing close = with_token (Punct comma) (λ _. ahead (λ ts. trailing || not (is_sign close ts))) (ahead (is_sign close))
 
--- [ "," ]
-pub data MayBeComma : List Lexeme → List Lexeme → Type 0 where
-  no_comma : {ts : List Lexeme} → MayBeComma ts ts
-  one_comma : {ts rest : List Lexeme} → IsSign comma ts rest → MayBeComma ts rest
-
--- what may stand behind the last item
-abbrev pub EndsList : Bool → List Lexeme → List Lexeme → Type 0
-EndsList false ts rest = ts ≡ rest
-EndsList true ts rest = MayBeComma ts rest
-
--- behind an item: a comma, or nothing before the closing sign; a comma right before it where that may be
-unfoldable pub comma_at : Bool → ℕ → List Lexeme → Option (List Lexeme)
-comma_at trailing close ts = behind (token_at (Punct comma) ts) (λ t after. if is_sign close after && not trailing then None else Some after) (if is_sign close ts then Some ts else None)
-
--- an item and what stands between it and the next
-unfoldable pub listed_at : {X : Type 0} → (List Lexeme → Front X) → Bool → ℕ → List Lexeme → Front X
-listed_at item trailing close ts = and_then (item ts) (λ x. and_then (comma_at trailing close x.1) (λ rest. Some (x.0, rest)))
-
--- one item at least
-unfoldable pub some_until : {X : Type 0} → (List Lexeme → Front X) → ℕ → List Lexeme → Front (List X)
-some_until item close ts = if is_sign close ts then None else until item (is_sign close) ts
+-- an item of a list, and what stands behind it
+unfoldable pub entry : {X : Type 0} → Rule X → Bool → ℕ → Rule X
+entry item trailing close = do
+  x ← item
+  _ ← divider trailing close
+  give x
 
 -- item { "," item } and a closing sign; a comma before that where `trailing` is true
 abbrev pub listed : {X : Type 0} → Rule X → Bool → ℕ → Rule (List X)
-listed item trailing close = record {
-  Is = λ ts xs rest. (mid : List Lexeme) × Listed item.Is (EndsList trailing) ts xs mid × IsSign close mid rest;
-  read = λ ts. closed close (some_until (listed_at item.read trailing close) close ts);
-}
+listed item trailing close = do
+  _ ← ahead (λ ts. not (is_sign close ts))
+  block (entry item trailing close) close
+
+-- how a block and a list are read, from how an item is
+abbrev pub block_at : {X : Type 0} → (List Lexeme → Front X) → ℕ → List Lexeme → Front (List X)
+block_at item close ts = and_then (until item (is_sign close) ts) (λ xs. and_then (token_at (Punct close) xs.1) (λ end. Some (xs.0, end.1)))
+
+abbrev pub listed_at : {X : Type 0} → (List Lexeme → Front X) → ℕ → List Lexeme → Front (List X)
+listed_at item close ts = and_then ((ahead (λ ts. not (is_sign close ts))).read ts) (λ x. block_at item close x.1)

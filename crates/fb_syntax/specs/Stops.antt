@@ -8,8 +8,7 @@ use Rattle.fb_syntax.specs.declared.parser.stop.Stop.TheVariants as stops
 -- What a call answered and left is what reading gives, unless memory ran out.
 abbrev pub Fails : {Y : Type 0} → Stop → Option Y → Type 0
 Fails stops.Memory read = Unit {0}
-Fails stops.Unexpected read = read ≡ None
-Fails stops.NestedVector read = read ≡ None
+Fails _ read = read ≡ None
 
 -- the fault of a parser that stops at an offset
 abbrev pub fault_at : Stop → ℕ → SyntaxFault

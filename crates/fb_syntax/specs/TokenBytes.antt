@@ -1,9 +1,9 @@
 -- Which bytes are a token of each kind, and the longest token at a place (Grammar: ident, integer_constant, string_constant).
-use Rattle.std.specs.Prelude.{ℕ, ◌≡◌, ◌≤◌, Bool, true, false, ◌==◌, ◌&&◌, List, [], ◌∷◌, length, take}
+use Rattle.std.specs.Prelude.{ℕ, ◌≡◌, ◌≤◌, Bool, true, false, ◌==◌, ◌&&◌, ◌||◌, List, [], ◌∷◌, length, take}
 use Rattle.std.specs.List.{list_all}
 use Rattle.fb_syntax.specs.declared.tokens.TokenKind.{TokenKind}
 use Rattle.fb_syntax.specs.declared.tokens.TokenKind.TheVariants.{Word, Integer, Quoted, Punct}
-use Rattle.fb_syntax.specs.Bytes.{is_letter, is_word_byte, is_punct, is_quotable}
+use Rattle.fb_syntax.specs.Bytes.{is_letter, is_digit, is_sign, is_word_byte, is_punct, is_quotable}
 use Rattle.fb_syntax.specs.Integers.{is_integer, magnitude, greatest_magnitude}
 
 abbrev pub is_word : List ℕ → Bool
@@ -32,6 +32,13 @@ is_token Word s = is_word s
 is_token Integer s = is_integer s
 is_token Quoted s = is_quoted s
 is_token (Punct p) s = is_punctuation p s
+
+-- a token of that kind may begin with that byte
+abbrev pub starts : TokenKind → ℕ → Bool
+starts Word c = is_letter c
+starts Integer c = is_digit c || is_sign c
+starts Quoted c = c == 34
+starts (Punct p) c = c == p && is_punct c
 
 -- The first n bytes are a token of that kind, and no more bytes are a token.
 pub record IsLongest (kind : TokenKind) (n : ℕ) (text : List ℕ) : Type 0 where

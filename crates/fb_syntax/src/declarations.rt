@@ -1,5 +1,5 @@
 //! What a schema text declares.
-ghost use Rattle.std.specs.Prelude.{◌≡◌, ◌<ℤ◌, pos, negsuc, OnOk, IfOk};
+ghost use Rattle.std.specs.Prelude.{◌≡◌, ◌<ℤ◌, pos, negsuc, IfOk};
 ghost use Rattle.fb_syntax.specs.Located.{joined};
 ghost use Rattle.fb_syntax.specs.NumberRead.{signed};
 

@@ -1,10 +1,9 @@
 //! Integers, their lengths and their values.
 ghost use Rattle.std.specs.Prelude.{◌≡◌, ◌≤◌, ◌<◌, ◌+◌, ◌*◌, ◌↔◌, length};
 ghost use Rattle.std.specs.Prelude.{MatchOption, IsTrue, IsSome, IfSome};
-ghost use Rattle.fb_syntax.specs.Integers.{is_integer, is_prefixed, without_sign, digit_value, digits_value};
+ghost use Rattle.fb_syntax.specs.Integers.{is_integer, is_prefixed, sign_len, digit_value, digits_value, IsNumberLen};
 ghost use Rattle.fb_syntax.specs.Integers.{magnitude, is_negative, signed_value, number_of};
 ghost use Rattle.fb_syntax.specs.Integers.{greatest_magnitude, IsInteger};
-ghost use Rattle.fb_syntax.specs.scan.NumberLen.{number_len};
 
 use crate::bytes::{digit_run, hex_run, is_hex, is_sign};
 use crate::declarations::{Number, Text};
@@ -37,10 +36,7 @@ fn digits_value(base: u64, digits: &[u8]) -> Option<u64>
 {
     let mut high = 0;
     for byte in digits {
-        match with_digit(high, base, digit_value(*byte)) {
-            Some(next) => high = next,
-            None => return None,
-        }
+        high = with_digit(high, base, digit_value(*byte))?;
     }
     Some(high)
 }
@@ -49,19 +45,14 @@ fn is_prefixed(text: &[u8]) -> bool
     ensures prefixed { result ≡ is_prefixed text.now }
     ensures long { IsTrue result → 2 ≤ length text.now }
 {
-    match text {
-        [b'0', b'x' | b'X', first, ..] => is_hex(*first),
-        _ => false,
-    }
+    matches!(text, [b'0', b'x' | b'X', first, ..] if is_hex(*first))
 }
 
-fn without_sign(text: &[u8]) -> &[u8]
-    ensures { result.now ≡ without_sign text.now }
+pub(crate) fn sign_len(text: &[u8]) -> usize
+    ensures len { result ≡ sign_len text.now }
+    ensures within { result ≤ length text.now }
 {
-    match text {
-        [first, rest @ ..] if is_sign(*first) => rest,
-        _ => text,
-    }
+    usize::from(matches!(text, [first, ..] if is_sign(*first)))
 }
 
 #[tactic(auto, unfolding(crate::specs::Integers::magnitude))]
@@ -69,7 +60,7 @@ pub(crate) fn magnitude(spelling: &[u8]) -> Option<u64>
     ensures { MatchOption result (greatest_magnitude < magnitude spelling.now)
         (λ m. m ≡ magnitude spelling.now) }
 {
-    let digits = without_sign(spelling);
+    let digits = &spelling[sign_len(spelling)..];
     if is_prefixed(digits) {
         digits_value(16, &digits[2..])
     } else {
@@ -77,9 +68,9 @@ pub(crate) fn magnitude(spelling: &[u8]) -> Option<u64>
     }
 }
 
-#[tactic(auto, unfolding(crate::specs::scan::NumberLen::number_len))]
+// How many bytes at the front are an integer without its sign.
 pub(crate) fn number_len(text: &[u8]) -> usize
-    ensures len { result ≡ number_len text.now }
+    ensures len { IsNumberLen result text.now }
     ensures within { result ≤ length text.now }
 {
     if is_prefixed(text) {
@@ -92,7 +83,7 @@ pub(crate) fn number_len(text: &[u8]) -> usize
 fn is_integer(spelling: &[u8]) -> bool
     ensures { result ≡ is_integer spelling.now }
 {
-    let digits = without_sign(spelling);
+    let digits = &spelling[sign_len(spelling)..];
     !digits.is_empty() && number_len(digits) == digits.len()
 }
 

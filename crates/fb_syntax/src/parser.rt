@@ -11,13 +11,12 @@ mod unions;
 ghost use Rattle.std.specs.Prelude.{◌≡◌, ◌<◌, ◌≤◌, length, drop, Some, None, IfOk, IfSome, MatchOption};
 ghost use Rattle.fb_syntax.specs.Lexemes.{IsReadable, AreReadable, lexemes, located};
 ghost use Rattle.fb_syntax.specs.TokenBytes.{IsSmall};
-ghost use Rattle.fb_syntax.specs.Rules.{is_empty, is_sign, name_more, token_at};
-ghost use Rattle.fb_syntax.specs.Grammar.{dotted_name, number};
+ghost use Rattle.fb_syntax.specs.Rules.{is_sign, more, token_at};
+ghost use Rattle.fb_syntax.specs.Grammar.{dotted_name};
 ghost use Rattle.fb_syntax.specs.Stops.{Gives};
 ghost use Rattle.fb_syntax.specs.declared.tokens.TokenKind.TheVariants.{Punct};
 
-use crate::declarations::{DottedName, Number, Text};
-use crate::integers::number_of;
+use crate::declarations::{DottedName, Text};
 use crate::tokens::{Token, TokenKind};
 pub(crate) use schema::declarations_of;
 use std::alloc::Global;
@@ -48,11 +47,7 @@ fn located<'t>(text: &'t str, token: Token) -> Text<'t>
     requires { IsReadable text.now token }
     ensures { result ≡ located text.now token }
 {
-    let margin = if token.kind == TokenKind::Quoted {
-        1
-    } else {
-        0
-    };
+    let margin = usize::from(token.kind == TokenKind::Quoted);
     let start = token.at as usize + margin;
     let end = token.at as usize + token.len as usize - margin;
     Text {
@@ -71,16 +66,6 @@ impl<'t, 's> Parser<'t, 's> {
             text,
             tokens,
         }
-    }
-
-    fn alloc(&self) -> Global {
-        self.alloc
-    }
-
-    fn is_at_end(&self) -> bool
-        ensures { result ≡ is_empty self.now }
-    {
-        self.tokens.is_empty()
     }
 
     /// How many tokens are left.
@@ -107,13 +92,10 @@ impl<'t, 's> Parser<'t, 's> {
         ensures some { IfSome result (λ _. 0 < length self.now) }
         ensures small { IfSome result (λ t. IsSmall kind t.bytes) }
     {
-        let [next, ..] = self.tokens else {
-            return None;
-        };
-        if next.kind != kind {
-            return None;
+        match self.tokens {
+            [next, ..] if next.kind == kind => Some(located(self.text, *next)),
+            _ => None,
         }
-        Some(located(self.text, *next))
     }
 
     /// Passes the next token, if it is of a kind.
@@ -140,37 +122,10 @@ impl<'t, 's> Parser<'t, 's> {
         }
     }
 
-    #[tactic(auto, unfolding(crate::specs::Grammar::number))]
-    fn number(&mut self) -> Result<Number, Stop>
-        ensures exact { Gives (λ n. (n, self.new)) result (number.read self.old) }
-        ensures shorter { IfOk result (λ _. length self.new < length self.old) }
-    {
-        Ok(number_of(self.token(TokenKind::Integer)?))
-    }
-
     fn is_sign(&self, sign: u8) -> bool
         ensures { result ≡ is_sign sign self.now }
     {
-        match self.tokens {
-            [next, ..] => next.kind == TokenKind::Punct(sign),
-            [] => false,
-        }
-    }
-
-    fn take_sign(&mut self, sign: u8) -> Option<Text<'t>>
-        ensures exact { MatchOption result
-            ((token_at (Punct sign) self.old ≡ None) × (self.new ≡ self.old))
-            (λ t. token_at (Punct sign) self.old ≡ Some (t, self.new)) }
-        ensures shorter { IfSome result (λ _. length self.new < length self.old) }
-    {
-        self.take(TokenKind::Punct(sign))
-    }
-
-    fn sign(&mut self, sign: u8) -> Result<Text<'t>, Stop>
-        ensures exact { Gives (λ t. (t, self.new)) result (token_at (Punct sign) self.old) }
-        ensures shorter { IfOk result (λ _. length self.new < length self.old) }
-    {
-        self.token(TokenKind::Punct(sign))
+        matches!(self.tokens, [next, ..] if next.kind == TokenKind::Punct(sign))
     }
 
     #[tactic(auto, unfolding(crate::specs::Grammar::dotted_name))]
@@ -184,13 +139,13 @@ impl<'t, 's> Parser<'t, 's> {
 
     /// A name whose first word is read already.
     fn name_from(&mut self, first: Text<'t>) -> Result<DottedName<'t>, Stop>
-        ensures exact { Gives (λ n. (n, self.new)) result (name_more first.entry self.old) }
+        ensures exact { Gives (λ n. (n, self.new)) result ((more first.entry).read self.old) }
         ensures shorter { IfOk result (λ _. length self.new ≤ length self.old) }
     {
         let mut name = DottedName::new(first);
-        while let Some(_) = self.take_sign(b'.') {
+        while let Some(_) = self.take(TokenKind::Punct(b'.')) {
             let word = self.token(TokenKind::Word)?;
-            name = name.join(self.alloc(), word.text)?;
+            name = name.join(self.alloc, word.text)?;
         }
         Ok(name)
     }

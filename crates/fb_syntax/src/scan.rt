@@ -1,19 +1,20 @@
 //! The tokens of a text.
-ghost use Rattle.std.specs.Prelude.{◌≡◌, ◌≤◌, ◌<◌, ◌+◌, ◌^◌, length, drop, List, All};
-ghost use Rattle.std.specs.Prelude.{IfSome, IfOk, IfErr, IsTrue, IsUtf8};
+ghost use Rattle.std.specs.Prelude.{◌≡◌, ◌≤◌, ◌<◌, ◌+◌, ◌^◌, ◌∷◌, ℕ, length, drop, get_or, List, false};
+ghost use Rattle.std.specs.Prelude.{IfSome, IfOk, IfErr, IsTrue, IsUtf8, MatchOption, MatchResult};
 ghost use Rattle.std.specs.Str.Lossy.{utf8_valid_len};
 ghost use Rattle.fb_syntax.specs.declared.tokens.Token.{Token};
-ghost use Rattle.fb_syntax.specs.Spells.{Spells, SpellsText, OneSpelling, Finds};
-ghost use Rattle.fb_syntax.specs.Refusals.{StandsWithin};
-ghost use Rattle.fb_syntax.specs.SpelledTokens.{IsTokenOf, IsTokenFault};
-ghost use Rattle.fb_syntax.specs.scan.Marks.{mark_len};
-ghost use Rattle.fb_syntax.specs.scan.Pieces.{is_close, close_len, comment_at, integer_at, quoted_at, piece_at};
+ghost use Rattle.fb_syntax.specs.declared.tokens.TokenKind.TheVariants.{Integer};
+ghost use Rattle.fb_syntax.specs.Gaps.{is_close, ClosesBehind};
+ghost use Rattle.fb_syntax.specs.Fronts.{IsFront};
+ghost use Rattle.fb_syntax.specs.TokenBytes.{starts};
+ghost use Rattle.fb_syntax.specs.Spells.{Spells, SpellsText, OneSpelling, mark_len};
+ghost use Rattle.fb_syntax.specs.Refusals.{StandsWithin, IsTokenFault};
 
 use crate::bytes::{
     is_blank, is_digit, is_letter, is_punct, is_sign, line_run, quotable_run, word_run,
 };
 use crate::faults::SyntaxFault;
-use crate::integers::{magnitude, number_len};
+use crate::integers::{magnitude, number_len, sign_len};
 use crate::tokens::{Token, TokenKind};
 use simdutf8::compat;
 use std::alloc::Global;
@@ -32,30 +33,30 @@ fn is_close(text: &[u8]) -> bool
     matches!(text, [b'*', b'/', ..])
 }
 
-#[tactic(auto, using(crate::proofs::Runs::closing))]
-fn close_len(text: &[u8]) -> Option<usize>
-    ensures len { result ≡ close_len text.now }
-    ensures within { IfSome result (λ n. n ≤ length text.now) }
+// How many bytes stand before the first end of a block comment.
+fn before_close(text: &[u8]) -> Option<usize>
+    ensures first { MatchOption result ((n : ℕ) → is_close (drop n text.now) ≡ false)
+        (λ n. ClosesBehind n text.now) }
+    ensures within { IfSome result (λ n. n + 2 ≤ length text.now) }
 {
     for i in 0..text.len() {
         if is_close(&text[i..]) {
-            return Some(i + 2);
+            return Some(i);
         }
     }
     None
 }
 
 // The comment behind a slash that stands at `at`.
-#[tactic(auto, unfolding(crate::specs::scan::Pieces::comment_at))]
 fn comment(at: u64, text: &[u8]) -> Result<Piece, SyntaxFault>
-    ensures piece { result ≡ comment_at at text.now }
+    ensures piece { IsFront (47 ∷ text.now) result }
     ensures fault { IfErr result IsTokenFault }
     ensures within { IfErr result (StandsWithin at) }
 {
     match text {
         [b'/', rest @ ..] => Ok(Piece::Gap(2 + line_run(rest))),
-        [b'*', rest @ ..] => match close_len(rest) {
-            Some(len) => Ok(Piece::Gap(len + 2)),
+        [b'*', rest @ ..] => match before_close(rest) {
+            Some(len) => Ok(Piece::Gap(len + 4)),
             None => Err(SyntaxFault::Unterminated(at)),
         },
         _ => Err(SyntaxFault::BadByte(at)),
@@ -63,10 +64,9 @@ fn comment(at: u64, text: &[u8]) -> Result<Piece, SyntaxFault>
 }
 
 // The quoted text behind a quote that stands at `at`.
-#[tactic(auto, unfolding(crate::specs::scan::Pieces::quoted_at))]
 fn quoted(at: u64, text: &[u8]) -> Result<Piece, SyntaxFault>
     requires { at + length text.now < 2 ^ 64 }
-    ensures piece { result ≡ quoted_at at text.now }
+    ensures piece { IsFront (34 ∷ text.now) result }
     ensures fault { IfErr result IsTokenFault }
     ensures within { IfErr result (StandsWithin (at + length text.now)) }
 {
@@ -78,14 +78,14 @@ fn quoted(at: u64, text: &[u8]) -> Result<Piece, SyntaxFault>
     }
 }
 
-// The integer at `at`, whose sign has that many bytes.
-#[tactic(auto, unfolding(crate::specs::scan::Pieces::integer_at))]
-fn integer(at: u64, sign: usize, text: &[u8]) -> Result<Piece, SyntaxFault>
-    requires { sign ≤ length text.now }
-    ensures piece { result ≡ integer_at at sign text.now }
+// The integer at `at`.
+fn integer(at: u64, text: &[u8]) -> Result<Piece, SyntaxFault>
+    requires { IsTrue (starts Integer (get_or text.now 0 0)) }
+    ensures piece { IsFront text.now result }
     ensures fault { IfErr result IsTokenFault }
     ensures within { IfErr result (StandsWithin at) }
 {
+    let sign = sign_len(text);
     let len = number_len(&text[sign..]);
     if len == 0 {
         return Err(SyntaxFault::BadByte(at));
@@ -97,10 +97,9 @@ fn integer(at: u64, sign: usize, text: &[u8]) -> Result<Piece, SyntaxFault>
 }
 
 // What stands at `at`, where `text` begins.
-#[tactic(auto, unfolding(crate::specs::scan::Pieces::piece_at))]
 fn next_piece(at: u64, text: &[u8]) -> Result<Piece, SyntaxFault>
     requires { at + length text.now < 2 ^ 64 }
-    ensures piece { result ≡ piece_at at text.now }
+    ensures piece { IsFront text.now result }
     ensures fault { IfErr result IsTokenFault }
     ensures within { IfErr result (StandsWithin (at + length text.now)) }
 {
@@ -114,10 +113,8 @@ fn next_piece(at: u64, text: &[u8]) -> Result<Piece, SyntaxFault>
         comment(at, rest)
     } else if is_letter(first) {
         Ok(Piece::Token(TokenKind::Word, 1 + word_run(rest)))
-    } else if is_digit(first) {
-        integer(at, 0, text)
-    } else if is_sign(first) {
-        integer(at, 1, text)
+    } else if is_digit(first) || is_sign(first) {
+        integer(at, text)
     } else if first == b'"' {
         quoted(at, rest)
     } else if is_punct(first) {
@@ -132,7 +129,8 @@ fn tokens_from(alloc: Global, start: usize, text: &[u8]) -> Result<Vec<Token>, S
     requires { start ≤ length text.now }
     ensures found { IfOk result (λ v. Spells start (drop start text.now) v.items) }
     ensures only { (tokens : List Token) →
-        Spells start (drop start text.now) tokens → Finds (λ v. v.items) result tokens }
+        Spells start (drop start text.now) tokens
+        → MatchResult result (λ v. v.items ≡ tokens) (λ e. e ≡ SyntaxFault.Memory) }
     ensures fault { IfErr result IsTokenFault }
     ensures within { IfErr result (StandsWithin (length text.now)) }
 {
@@ -147,10 +145,8 @@ fn tokens_from(alloc: Global, start: usize, text: &[u8]) -> Result<Vec<Token>, S
                     at: at as u64,
                     len: len as u64,
                 };
-                match found.push(token) {
-                    Ok(()) => at += len,
-                    Err(_) => return Err(SyntaxFault::Memory),
-                }
+                found.push(token)?;
+                at += len;
             }
             Err(fault) => return Err(fault),
         }
@@ -162,7 +158,7 @@ fn mark_len(text: &[u8]) -> usize
     ensures len { result ≡ mark_len text.now }
     ensures within { result ≤ length text.now }
 {
-    if matches!(text, [0xef, 0xbb, 0xbf, ..]) {
+    if text.starts_with(&[0xef, 0xbb, 0xbf]) {
         3
     } else {
         0
@@ -185,8 +181,8 @@ pub(crate) fn text_of(bytes: &[u8]) -> Result<&str, SyntaxFault>
 pub(crate) fn tokens_in(alloc: Global, text: &str) -> Result<Vec<Token>, SyntaxFault>
     ensures found { IfOk result (λ v. SpellsText text.now v.items) }
     ensures only { (tokens : List Token) →
-        SpellsText text.now tokens → Finds (λ v. v.items) result tokens }
-    ensures tokens { IfOk result (λ v. All (IsTokenOf text.now) v.items) }
+        SpellsText text.now tokens
+        → MatchResult result (λ v. v.items ≡ tokens) (λ e. e ≡ SyntaxFault.Memory) }
     ensures fault { IfErr result IsTokenFault }
     ensures within { IfErr result (StandsWithin (length text.now)) }
 {
@@ -195,6 +191,7 @@ pub(crate) fn tokens_in(alloc: Global, text: &str) -> Result<Vec<Token>, SyntaxF
 }
 
 /// A text is spelled by one list of tokens at most.
+#[tactic(auto, using(crate::proofs::FrontPieces::one_spelling_shown))]
 pub fn one_spelling()
     ensures { OneSpelling }
 {}

@@ -34,6 +34,7 @@ pub fn parse<'t>(alloc: Global, text: &'t [u8]) -> Result<Decls<'t>, SyntaxFault
 }
 
 /// The tokens of a text read as at most one list of declarations.
+#[tactic(auto, using(crate::proofs::ReadsAs::one_reading_shown))]
 pub fn one_reading()
     ensures { OneReading }
 {}

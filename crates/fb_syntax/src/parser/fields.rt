@@ -1,25 +1,28 @@
 //! Tables, structs and their fields.
-ghost use Rattle.std.specs.Prelude.{◌<◌, ◌≤◌, length, IfOk};
-ghost use Rattle.fb_syntax.specs.Grammar.{dotted_name, field_type, default_value, default_part, field, table};
+ghost use Rattle.std.specs.Prelude.{◌<◌, length, IfOk};
+ghost use Rattle.fb_syntax.specs.Grammar.{field_type, default_value, field, table};
 ghost use Rattle.fb_syntax.specs.Stops.{Gives};
 
 use super::lists::Item;
 use super::{Parser, Stop};
-use crate::declarations::{DefaultValue, DottedName, Field, FieldType, TableDecl};
+use crate::declarations::{DefaultValue, Field, FieldType, TableDecl};
 use crate::integers::number_of;
-use crate::tokens::TokenKind;
+use crate::tokens::TokenKind::{Integer, Punct, Word};
 
 impl<'t> Item<'t> for Field<'t> {
     ghost item_at = { field.read };
 
-    #[tactic(auto, unfolding(crate::specs::Grammar::field))]
+    #[tactic(auto, unfolding(crate::specs::Grammar::field, crate::specs::Grammar::default_part))]
     fn read(parser: &mut Parser<'t, '_>) -> Result<Field<'t>, Stop> {
-        let name = parser.token(TokenKind::Word)?;
-        parser.sign(b':')?;
+        let name = parser.token(Word)?;
+        parser.token(Punct(b':'))?;
         let kind = parser.field_type()?;
-        let default = parser.default_part()?;
+        let default = match parser.take(Punct(b'=')) {
+            Some(_) => Some(parser.default_value()?),
+            None => None,
+        };
         let attributes = parser.metadata()?;
-        parser.sign(b';')?;
+        parser.token(Punct(b';'))?;
         Ok(Field {
             name,
             kind,
@@ -30,26 +33,18 @@ impl<'t> Item<'t> for Field<'t> {
 }
 
 impl<'t> Parser<'t, '_> {
-    /// The name of the type of a vector's elements.
-    fn element(&mut self) -> Result<DottedName<'t>, Stop>
-        ensures exact { Gives (λ t. (t, self.new)) result (dotted_name.read self.old) }
-        ensures shorter { IfOk result (λ _. length self.new < length self.old) }
-    {
-        if self.is_sign(b'[') {
-            return Err(Stop::NestedVector);
-        }
-        self.name()
-    }
-
     #[tactic(auto, unfolding(crate::specs::Grammar::field_type))]
     fn field_type(&mut self) -> Result<FieldType<'t>, Stop>
         ensures exact { Gives (λ t. (t, self.new)) result (field_type.read self.old) }
         ensures shorter { IfOk result (λ _. length self.new < length self.old) }
     {
-        match self.take_sign(b'[') {
+        match self.take(Punct(b'[')) {
             Some(bracket) => {
-                let element = self.element()?;
-                self.sign(b']')?;
+                if self.is_sign(b'[') {
+                    return Err(Stop::NestedVector);
+                }
+                let element = self.name()?;
+                self.token(Punct(b']'))?;
                 Ok(FieldType::Many(bracket.at, element))
             }
             None => Ok(FieldType::One(self.name()?)),
@@ -61,20 +56,9 @@ impl<'t> Parser<'t, '_> {
         ensures exact { Gives (λ v. (v, self.new)) result (default_value.read self.old) }
         ensures shorter { IfOk result (λ _. length self.new < length self.old) }
     {
-        match self.take(TokenKind::Integer) {
+        match self.take(Integer) {
             Some(digits) => Ok(DefaultValue::Integer(number_of(digits))),
             None => Ok(DefaultValue::Name(self.name()?)),
-        }
-    }
-
-    #[tactic(auto, unfolding(crate::specs::Grammar::default_part))]
-    fn default_part(&mut self) -> Result<Option<DefaultValue<'t>>, Stop>
-        ensures exact { Gives (λ v. (v, self.new)) result (default_part.read self.old) }
-        ensures shorter { IfOk result (λ _. length self.new ≤ length self.old) }
-    {
-        match self.take_sign(b'=') {
-            Some(_) => Ok(Some(self.default_value()?)),
-            None => Ok(None),
         }
     }
 
@@ -84,9 +68,9 @@ impl<'t> Parser<'t, '_> {
         ensures exact { Gives (λ t. (t, self.new)) result (table.read self.old) }
         ensures shorter { IfOk result (λ _. length self.new < length self.old) }
     {
-        let name = self.token(TokenKind::Word)?;
+        let name = self.token(Word)?;
         let attributes = self.metadata()?;
-        self.sign(b'{')?;
+        self.token(Punct(b'{'))?;
         let fields = self.block(b'}')?;
         Ok(TableDecl {
             name,

@@ -1,10 +1,11 @@
 //! Lists: items up to a closing sign, or up to the end.
 ghost use Rattle.std.specs.Prelude.{◌≡◌, ◌<◌, ◌≤◌, length, IfOk, List, Option};
 ghost use Rattle.fb_syntax.specs.Lexemes.{Lexeme};
-ghost use Rattle.fb_syntax.specs.Rules.{closed, closes, comma_at, is_sign, some_until, until};
+ghost use Rattle.fb_syntax.specs.Rules.{block_at, closes, divider, listed_at, until};
 ghost use Rattle.fb_syntax.specs.Stops.{Gives};
 
 use super::{Parser, Stop};
+use crate::tokens::TokenKind::Punct;
 
 /// What lists consist of: fields, attributes, values, members and declarations.
 pub(super) trait Item<'t>: Drop + Sized {
@@ -23,7 +24,7 @@ impl<'t> Parser<'t, '_> {
     {
         match close {
             Some(sign) => self.is_sign(sign),
-            None => self.is_at_end(),
+            None => self.tokens.is_empty(),
         }
     }
 
@@ -32,7 +33,7 @@ impl<'t> Parser<'t, '_> {
         ensures exact { Gives (λ v. (v.items, self.new)) result (until T.item_at (closes close) self.old) }
         ensures shorter { IfOk result (λ _. length self.new ≤ length self.old) }
     {
-        let mut items = Vec::new(self.alloc());
+        let mut items = Vec::new(self.alloc);
         while !self.is_closed(close) {
             let item = T::read(self)?;
             items.push(item)?;
@@ -42,20 +43,17 @@ impl<'t> Parser<'t, '_> {
 
     /// Items and the closing sign behind them.
     pub(super) fn block<T: Item<'t>>(&mut self, close: u8) -> Result<Vec<T>, Stop>
-        ensures exact { Gives (λ v. (v.items, self.new)) result
-            (closed close (until T.item_at (is_sign close) self.old)) }
+        ensures exact { Gives (λ v. (v.items, self.new)) result (block_at T.item_at close self.old) }
         ensures shorter { IfOk result (λ _. length self.new < length self.old) }
     {
         let items = self.items(Some(close))?;
-        self.sign(close)?;
+        self.token(Punct(close))?;
         Ok(items)
     }
 
     /// At least one item, and the closing sign.
-    #[tactic(auto, unfolding(crate::specs::Rules::some_until))]
     pub(super) fn listed<T: Item<'t>>(&mut self, close: u8) -> Result<Vec<T>, Stop>
-        ensures exact { Gives (λ v. (v.items, self.new)) result
-            (closed close (some_until T.item_at close self.old)) }
+        ensures exact { Gives (λ v. (v.items, self.new)) result (listed_at T.item_at close self.old) }
         ensures shorter { IfOk result (λ _. length self.new < length self.old) }
     {
         if self.is_sign(close) {
@@ -66,22 +64,19 @@ impl<'t> Parser<'t, '_> {
 
     /// Passes a comma; nothing where the list's closing sign stands. Where `trailing` is false, an
     /// item has to follow the comma.
-    #[tactic(auto, unfolding(crate::specs::Rules::comma_at))]
+    #[tactic(auto, unfolding(crate::specs::Rules::divider))]
     pub(super) fn comma(&mut self, trailing: bool, close: u8) -> Result<(), Stop>
-        ensures exact { Gives (λ _. self.new) result (comma_at trailing close self.old) }
+        ensures exact { Gives (λ u. (u, self.new)) result ((divider trailing close).read self.old) }
         ensures shorter { IfOk result (λ _. length self.new ≤ length self.old) }
     {
-        if self.take_sign(b',').is_none() {
-            return if self.is_sign(close) {
-                Ok(())
-            } else {
-                Err(Stop::Unexpected)
-            };
-        }
-        if self.is_sign(close) && !trailing {
-            Err(Stop::Unexpected)
-        } else {
+        let divides = match self.take(Punct(b',')) {
+            Some(_) => trailing || !self.is_sign(close),
+            None => self.is_sign(close),
+        };
+        if divides {
             Ok(())
+        } else {
+            Err(Stop::Unexpected)
         }
     }
 }

@@ -1,7 +1,7 @@
 //! Attributes behind a name or a type.
 ghost use Rattle.std.specs.Prelude.{◌<◌, ◌≤◌, length, IfOk, false};
 ghost use Rattle.fb_syntax.specs.Signs.{close_round};
-ghost use Rattle.fb_syntax.specs.Rules.{listed_at};
+ghost use Rattle.fb_syntax.specs.Rules.{entry};
 ghost use Rattle.fb_syntax.specs.Grammar.{attribute_value, attribute, metadata};
 ghost use Rattle.fb_syntax.specs.Stops.{Gives};
 
@@ -9,16 +9,20 @@ use super::lists::Item;
 use super::{Parser, Stop};
 use crate::declarations::{Attribute, AttributeValue};
 use crate::integers::number_of;
-use crate::tokens::TokenKind;
+use crate::tokens::TokenKind::{Integer, Punct, Quoted, Word};
 
 impl<'t> Item<'t> for Attribute<'t> {
-    ghost item_at = { listed_at attribute.read false close_round };
+    ghost item_at = { (entry attribute false close_round).read };
 
-    #[tactic(auto, unfolding(crate::specs::Rules::listed_at))]
+    #[tactic(auto, unfolding(crate::specs::Rules::entry, crate::specs::Grammar::attribute))]
     fn read(parser: &mut Parser<'t, '_>) -> Result<Attribute<'t>, Stop> {
-        let attribute = parser.attribute()?;
+        let name = parser.token(Word)?;
+        let value = match parser.take(Punct(b':')) {
+            Some(_) => Some(parser.attribute_value()?),
+            None => None,
+        };
         parser.comma(false, b')')?;
-        Ok(attribute)
+        Ok(Attribute { name, value })
     }
 }
 
@@ -28,26 +32,13 @@ impl<'t> Parser<'t, '_> {
         ensures exact { Gives (λ v. (v, self.new)) result (attribute_value.read self.old) }
         ensures shorter { IfOk result (λ _. length self.new < length self.old) }
     {
-        if let Some(digits) = self.take(TokenKind::Integer) {
+        if let Some(digits) = self.take(Integer) {
             return Ok(AttributeValue::Integer(number_of(digits)));
         }
-        if let Some(text) = self.take(TokenKind::Quoted) {
+        if let Some(text) = self.take(Quoted) {
             return Ok(AttributeValue::Quoted(text));
         }
-        Ok(AttributeValue::Word(self.token(TokenKind::Word)?))
-    }
-
-    #[tactic(auto, unfolding(crate::specs::Grammar::attribute))]
-    fn attribute(&mut self) -> Result<Attribute<'t>, Stop>
-        ensures exact { Gives (λ a. (a, self.new)) result (attribute.read self.old) }
-        ensures shorter { IfOk result (λ _. length self.new < length self.old) }
-    {
-        let name = self.token(TokenKind::Word)?;
-        let value = match self.take_sign(b':') {
-            Some(_) => Some(self.attribute_value()?),
-            None => None,
-        };
-        Ok(Attribute { name, value })
+        Ok(AttributeValue::Word(self.token(Word)?))
     }
 
     #[tactic(auto, unfolding(crate::specs::Grammar::metadata))]
@@ -55,11 +46,8 @@ impl<'t> Parser<'t, '_> {
         ensures exact { Gives (λ v. (v.items, self.new)) result (metadata.read self.old) }
         ensures shorter { IfOk result (λ _. length self.new ≤ length self.old) }
     {
-        if self.take_sign(b'(').is_none() {
-            return Ok(Vec::new(self.alloc()));
-        }
-        if self.take_sign(b')').is_some() {
-            return Ok(Vec::new(self.alloc()));
+        if self.take(Punct(b'(')).is_none() || self.take(Punct(b')')).is_some() {
+            return Ok(Vec::new(self.alloc));
         }
         self.listed(b')')
     }

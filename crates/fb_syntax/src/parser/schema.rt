@@ -2,7 +2,7 @@
 ghost use Rattle.std.specs.Prelude.{IfErr, ◌≡◌, ◌<◌, ◌≤◌, length, IfOk, MatchResult};
 ghost use Rattle.fb_syntax.specs.declared.faults.SyntaxFault.TheVariants.{Memory};
 ghost use Rattle.fb_syntax.specs.DeclsRead.{DeclsRead};
-ghost use Rattle.fb_syntax.specs.GrammarSchema.{Reads, keyword_at, namespace, attribute_decl, root_type, quoted};
+ghost use Rattle.fb_syntax.specs.GrammarSchema.{Reads, namespace, attribute_decl, quoted};
 ghost use Rattle.fb_syntax.specs.GrammarSchema.{declared, declaration};
 ghost use Rattle.fb_syntax.specs.Lexemes.{AreReadable};
 ghost use Rattle.fb_syntax.specs.Refusals.{StandsWithin};
@@ -13,15 +13,18 @@ use super::lists::Item;
 use super::{Parser, Stop};
 use crate::declarations::{Declaration, Decls, Directive, DottedName, Text, TypeDecl};
 use crate::faults::SyntaxFault;
-use crate::tokens::{Token, TokenKind};
+use crate::tokens::Token;
+use crate::tokens::TokenKind::{Punct, Quoted, Word};
 use std::alloc::Global;
 
 impl<'t> Item<'t> for Declaration<'t> {
     ghost item_at = { declaration.read };
 
-    #[tactic(auto, unfolding(crate::specs::GrammarSchema::declaration))]
+    #[tactic(auto, unfolding(crate::specs::GrammarSchema::declaration, crate::specs::GrammarSchema::keyword_at))]
     fn read(parser: &mut Parser<'t, '_>) -> Result<Declaration<'t>, Stop> {
-        let keyword = parser.keyword()?;
+        let word = parser.peek(Word).ok_or(Stop::Unexpected)?;
+        let keyword = keyword_of(word.text).ok_or(Stop::Unexpected)?;
+        parser.advance();
         parser.declared(keyword)
     }
 }
@@ -32,11 +35,11 @@ impl<'t> Parser<'t, '_> {
         ensures exact { Gives (λ n. (n, self.new)) result (namespace.read self.old) }
         ensures shorter { IfOk result (λ _. length self.new < length self.old) }
     {
-        if let Some(_) = self.take_sign(b';') {
+        if let Some(_) = self.take(Punct(b';')) {
             return Ok(None);
         }
         let name = self.name()?;
-        self.sign(b';')?;
+        self.token(Punct(b';'))?;
         Ok(Some(name))
     }
 
@@ -45,21 +48,11 @@ impl<'t> Parser<'t, '_> {
         ensures exact { Gives (λ t. (t, self.new)) result (attribute_decl.read self.old) }
         ensures shorter { IfOk result (λ _. length self.new < length self.old) }
     {
-        let name = match self.take(TokenKind::Quoted) {
+        let name = match self.take(Quoted) {
             Some(text) => text,
-            None => self.token(TokenKind::Word)?,
+            None => self.token(Word)?,
         };
-        self.sign(b';')?;
-        Ok(name)
-    }
-
-    #[tactic(auto, unfolding(crate::specs::GrammarSchema::root_type))]
-    fn root_type(&mut self) -> Result<DottedName<'t>, Stop>
-        ensures exact { Gives (λ t. (t, self.new)) result (root_type.read self.old) }
-        ensures shorter { IfOk result (λ _. length self.new < length self.old) }
-    {
-        let name = self.name()?;
-        self.sign(b';')?;
+        self.token(Punct(b';'))?;
         Ok(name)
     }
 
@@ -69,20 +62,9 @@ impl<'t> Parser<'t, '_> {
         ensures exact { Gives (λ t. (t, self.new)) result (quoted.read self.old) }
         ensures shorter { IfOk result (λ _. length self.new < length self.old) }
     {
-        let text = self.token(TokenKind::Quoted)?;
-        self.sign(b';')?;
+        let text = self.token(Quoted)?;
+        self.token(Punct(b';'))?;
         Ok(text)
-    }
-
-    #[tactic(auto, unfolding(crate::specs::GrammarSchema::keyword_at))]
-    fn keyword(&mut self) -> Result<Keyword, Stop>
-        ensures exact { Gives (λ k. (k, self.new)) result (keyword_at self.old) }
-        ensures shorter { IfOk result (λ _. length self.new < length self.old) }
-    {
-        let word = self.peek(TokenKind::Word).ok_or(Stop::Unexpected)?;
-        let keyword = keyword_of(word.text).ok_or(Stop::Unexpected)?;
-        self.advance();
-        Ok(keyword)
     }
 
     /// The declaration that a word begins.
@@ -98,7 +80,11 @@ impl<'t> Parser<'t, '_> {
             Keyword::Struct => Ok(Declaration::Type(TypeDecl::Struct(self.table()?))),
             Keyword::Enum => Ok(Declaration::Type(TypeDecl::Enum(self.enumeration()?))),
             Keyword::Union => Ok(Declaration::Type(TypeDecl::Union(self.union()?))),
-            Keyword::Root => Ok(Declaration::Directive(Directive::RootType(self.root_type()?))),
+            Keyword::Root => {
+                let name = self.name()?;
+                self.token(Punct(b';'))?;
+                Ok(Declaration::Directive(Directive::RootType(name)))
+            }
             Keyword::Extension => Ok(Declaration::Directive(Directive::FileExtension(
                 self.quoted()?,
             ))),

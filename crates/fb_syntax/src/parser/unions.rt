@@ -1,57 +1,46 @@
 //! Unions.
 ghost use Rattle.std.specs.Prelude.{◌<◌, length, IfOk, true};
 ghost use Rattle.fb_syntax.specs.Signs.{close_brace};
-ghost use Rattle.fb_syntax.specs.Rules.{listed_at};
+ghost use Rattle.fb_syntax.specs.Rules.{entry};
 ghost use Rattle.fb_syntax.specs.Grammar.{union, union_member};
 ghost use Rattle.fb_syntax.specs.Stops.{Gives};
 
 use super::lists::Item;
 use super::{Parser, Stop};
 use crate::declarations::{UnionDecl, UnionMember};
-use crate::tokens::TokenKind;
+use crate::tokens::TokenKind::{Punct, Word};
 
 impl<'t> Item<'t> for UnionMember<'t> {
-    ghost item_at = { listed_at union_member.read true close_brace };
+    ghost item_at = { (entry union_member true close_brace).read };
 
-    #[tactic(auto, unfolding(crate::specs::Rules::listed_at))]
+    #[tactic(auto, unfolding(crate::specs::Rules::entry, crate::specs::Grammar::union_member))]
     fn read(parser: &mut Parser<'t, '_>) -> Result<UnionMember<'t>, Stop> {
-        let member = parser.union_member()?;
+        let word = parser.token(Word)?;
+        let member = match parser.take(Punct(b':')) {
+            Some(_) => UnionMember {
+                alias: Some(word),
+                table: parser.name()?,
+            },
+            None => UnionMember {
+                alias: None,
+                table: parser.name_from(word)?,
+            },
+        };
         parser.comma(true, b'}')?;
         Ok(member)
     }
 }
 
 impl<'t> Parser<'t, '_> {
-    #[tactic(auto, unfolding(crate::specs::Grammar::union_member))]
-    fn union_member(&mut self) -> Result<UnionMember<'t>, Stop>
-        ensures exact { Gives (λ m. (m, self.new)) result (union_member.read self.old) }
-        ensures shorter { IfOk result (λ _. length self.new < length self.old) }
-    {
-        let word = self.token(TokenKind::Word)?;
-        match self.take_sign(b':') {
-            Some(_) => {
-                let table = self.name()?;
-                Ok(UnionMember {
-                    alias: Some(word),
-                    table,
-                })
-            }
-            None => {
-                let table = self.name_from(word)?;
-                Ok(UnionMember { alias: None, table })
-            }
-        }
-    }
-
     /// A union behind its first word.
     #[tactic(auto, unfolding(crate::specs::Grammar::union))]
     pub(super) fn union(&mut self) -> Result<UnionDecl<'t>, Stop>
         ensures exact { Gives (λ u. (u, self.new)) result (union.read self.old) }
         ensures shorter { IfOk result (λ _. length self.new < length self.old) }
     {
-        let name = self.token(TokenKind::Word)?;
+        let name = self.token(Word)?;
         let attributes = self.metadata()?;
-        self.sign(b'{')?;
+        self.token(Punct(b'{'))?;
         let members = self.listed(b'}')?;
         Ok(UnionDecl {
             name,

@@ -1,0 +1,51 @@
+-- Blanks and comments: one at most stands at a place.
+use Rattle.std.proofs.Common.{◌≡◌, ℕ, ◌+◌, ◌<◌, ◌≤◌, ◌||◌, ◌==◌, not, true, false, List, [], ◌∷◌, length, drop, get_or, refl, ap, arith, length-drop}
+use Rattle.std.proofs.lemmas.Bool.{or_left}
+use Rattle.std.proofs.lemmas.List.Sums.{prefix_len-le-length}
+use Rattle.fb_syntax.specs.Bytes.{is_blank}
+use Rattle.fb_syntax.specs.Gaps.{is_close, ClosesBehind, line_len, IsGap, blank, block, line}
+
+close_long : (text : List ℕ) → is_close text ≡ true → 2 ≤ length text
+close_long [] e = absurd cc
+close_long (a ∷ []) e = absurd cc
+close_long (a ∷ b ∷ cs) e = omega arith
+
+pub gap_within : {n : ℕ} {text : List ℕ} → IsGap n text → (0 < n) × (n ≤ length text)
+gap_within (blank e) = (omega arith, omega arith)
+gap_within (block {cs = cs} n closes) = (omega arith, omega (arith, close_long (drop n cs) closes.closed, length-drop n cs))
+gap_within (line {cs = cs}) = (omega arith, omega (arith, prefix_len-le-length (λ c. not (c == 10)) cs))
+
+same_close : (m n : ℕ) (text : List ℕ) → ClosesBehind m text → ClosesBehind n text → m ≡ n
+same_close m n text a b = grind (arith, a.open_before n, b.open_before m)
+
+pub same_gap : {m n : ℕ} {text : List ℕ} → IsGap m text → IsGap n text → m ≡ n
+same_gap (blank e) (blank f) = refl
+same_gap (blank e) (block n f) = absurd cc
+same_gap (blank e) line = absurd cc
+same_gap (block m e) (blank f) = absurd cc
+same_gap (block {cs = cs} m e) (block n f) = ap (λ k. k + 4) (same_close m n cs e f)
+same_gap line (blank f) = absurd cc
+same_gap line line = refl
+
+pub gap_starts : {n c : ℕ} {cs : List ℕ} → IsGap n (c ∷ cs) → (is_blank c || c == 47) ≡ true
+gap_starts {c = c} (blank e) = or_left (is_blank c) (c == 47) e
+gap_starts (block n e) = refl
+gap_starts line = refl
+
+-- A gap from the first bytes of a text, and where there is none.
+pub blank_gap : (text : List ℕ) → is_blank (get_or text 0 0) ≡ true → IsGap 1 text
+blank_gap [] e = absurd cc
+blank_gap (c ∷ cs) e = blank e
+
+pub line_gap : (text : List ℕ) (n : ℕ) → get_or text 0 0 ≡ 47 → n ≡ line_len (drop 1 text) → IsGap (2 + n) (47 ∷ text)
+line_gap [] n e f = absurd cc
+line_gap (c ∷ cs) n e f = rw (e, f) line
+
+pub block_gap : (text : List ℕ) (n : ℕ) → get_or text 0 0 ≡ 42 → ClosesBehind n (drop 1 text) → IsGap (n + 4) (47 ∷ text)
+block_gap [] n e f = absurd cc
+block_gap (c ∷ cs) n e f = rw e (block n f)
+
+pub no_comment : {n : ℕ} (text : List ℕ) → (get_or text 0 0 ≡ 47 → ⊥) → (get_or text 0 0 ≡ 42 → (k : ℕ) → is_close (drop k (drop 1 text)) ≡ false) → IsGap n (47 ∷ text) → ⊥
+no_comment text no_slash no_close (blank e) = cc
+no_comment text no_slash no_close (block n e) = let no = no_close refl n in let yes = e.closed in cc
+no_comment text no_slash no_close line = no_slash refl
