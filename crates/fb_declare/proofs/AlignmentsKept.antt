@@ -1,76 +1,86 @@
 -- The alignments of the structs, where no type is at fault: as they are declared and as the schema has them.
-use Rattle.std.proofs.Common.{◌≡◌, ℕ, zero, suc, ◌+◌, ◌<◌, ◌≤◌, ◌++◌, ◌&&◌, ◌==◌, nat_le, Bool, true, false, List, [], ◌∷◌, length, map, take, Option, None, Some, cond, refl, ap, sym, subst, ◌∙◌, arith, true≢false, IsTrue}
+use Rattle.std.proofs.Common.{◌≡◌, ℕ, zero, suc, take, ◌+◌, ◌<◌, ◌≤◌, ◌++◌, ◌&&◌, ◌==◌, nat_le, true, List, [], ◌∷◌, length, map, Option, None, Some, cond, refl, ap, sym, subst, ◌∙◌, arith, IsTrue}
 use Rattle.std.specs.Prelude.{ℤ, pos, negsuc, slice_get, slice_index}
-use Rattle.std.specs.List.{flat_map, list_any}
+use Rattle.std.specs.List.{All, list_any}
 use Rattle.std.specs.Option.{ForSome, option_and_then, option_map_or, unwrap_or}
 use Rattle.std.proofs.lemmas.Bool.{and_parts, le-leb, false≢true}
-use Rattle.std.proofs.lemmas.List.{get_or_append_left, get_or_push, length_push}
-use Rattle.std.proofs.lemmas.Option.{none-some, same_Some}
-use Rattle.fb_syntax.specs.FieldRead.{FieldRead}
-use Rattle.fb_syntax.specs.TypesRead.{TableRead, EnumRead}
+use Rattle.std.proofs.lemmas.List.Elements.{All-head, All-tail}
+use Rattle.std.proofs.lemmas.List.{get_or_append_left, get_or_push, length_push, length-take-le}
+use Rattle.std.proofs.lemmas.Option.{none-some, same_Some, get_or_from_slice_get, slice_get_within}
 use Rattle.fb_syntax.specs.declared.declarations.Attribute.{Attribute}
 use Rattle.fb_syntax.specs.declared.declarations.AttributeValue.{AttributeValue}
 use Rattle.fb_syntax.specs.declared.declarations.AttributeValue.TheVariants.{Integer}
 use Rattle.fb_syntax.specs.declared.declarations.FieldType.{FieldType}
-use Rattle.fb_syntax.specs.declared.declarations.FieldType.TheVariants.{One, Many}
-use Rattle.fb_syntax.specs.declared.declarations.TypeDecl.{TypeDecl}
-use Rattle.fb_syntax.specs.declared.declarations.TypeDecl.TheVariants as decls
-use Rattle.fb_schema.specs.declared.kinds.Kind.{Kind}
+use Rattle.fb_syntax.specs.declared.declarations.FieldType.TheVariants.{One}
 use Rattle.fb_schema.specs.declared.kinds.Kind.TheVariants.{Scalar, Enum, Struct}
-use Rattle.fb_schema.specs.Schema.{Name, DeclaredBody, table_body, struct_body, enum_body, union_body, DeclaredType, DeclaredSchema, body_in, body_at, parts_in, base_in, force_align_in, is_struct, is_enum}
+use Rattle.fb_schema.specs.Schema.{Name, DeclaredBody, struct_body, DeclaredSchema, body_at, parts_in, force_align_in, is_struct}
 use Rattle.fb_schema.specs.Alignments.{base_size, greatest_in, part_align, natural_align_in, AreAligned}
-use Rattle.fb_schema.specs.WellDeclared.{Names, KindNames}
 use Rattle.fb_resolve.specs.declared.meanings.Meaning.{Meaning}
-use Rattle.fb_resolve.specs.declared.meanings.Meaning.TheVariants.{Known, Float, Unknown}
+use Rattle.fb_resolve.specs.declared.meanings.Meaning.TheVariants.{Known}
 use Rattle.fb_resolve.specs.declared.attributes.BuiltInAttribute.TheVariants.{ForceAlign}
+use Rattle.fb_resolve.specs.declared.resolved.ResolvedDecl.{ResolvedDecl}
+use Rattle.fb_resolve.specs.declared.resolved.ResolvedDecl.TheVariants as resolved
 use Rattle.fb_declare.specs.declared.attribute_faults.AttributeHost.TheVariants as hosts
-use Rattle.fb_resolve.specs.Outline.{TypeRead, Outline, word_of}
-use Rattle.fb_resolve.specs.Meaning.{meaning_in, type_name}
+use Rattle.fb_resolve.specs.Outline.{TypeRead, Outline}
 use Rattle.fb_resolve.specs.ResolvedType.{ResolvedType}
-use Rattle.fb_resolve.specs.Resolved.{resolved_field, resolved_fields, resolved_table, resolved_enum, resolved_declaration, resolved_type, resolved_types}
+use Rattle.fb_resolve.specs.Resolved.{resolved_declaration, resolved_type, resolved_types}
+use Rattle.fb_resolve.specs.ResolvedFields.{ResolvedField, ResolvedTable}
 use Rattle.fb_resolve.specs.Attributes.{is_alignment, attribute_called, integer_value_in, number_called}
 use Rattle.fb_declare.specs.AttributeFaults.{may_stand, metadata_faults}
-use Rattle.fb_resolve.specs.EnumsRead.{underlying, underlying_in, underlying_of_read, underlying_at, base_or_ubyte}
 use Rattle.fb_resolve.specs.SlotsRead.{shape_of}
 use Rattle.fb_resolve.specs.StructsRead.{align_by, align_in, natural_align, alignment_in, forced_align, align_of_struct, align_of_declaration, align_of_type, parts_from}
-use Rattle.fb_declare.specs.FaultRows.{struct_field_type, reserved_name}
-use Rattle.fb_declare.specs.TypeFaults.{struct_field_faults, struct_faults, enum_faults, declaration_faults, type_faults, faults_of_types}
+use Rattle.fb_declare.specs.FaultRows.{struct_field_type}
+use Rattle.fb_declare.specs.TypeFaults.{struct_faults, declaration_faults, aligns_from, faults_of_types}
 use Rattle.fb_declare.specs.Declares.{HasBody, Gives}
+use Rattle.fb_declare.proofs.Least.{taken}
 use Rattle.fb_declare.proofs.AttributesKept.{called_stands}
-use Rattle.fb_declare.proofs.EnumsKept.{enum_base}
-use Rattle.fb_declare.proofs.FaultFree.{none_left, none_right, none_of_type, aligns_from}
-use Rattle.fb_declare.proofs.KindsNamed.{kind_named, read_from_type}
-use Rattle.fb_declare.proofs.StructsKept.{alignments, alignment_right, struct_right, field_type_right, part_right}
-use Rattle.fb_declare.proofs.Meant.{resolved_at}
+use Rattle.fb_declare.proofs.Meant.{MeansIn, IsRead, IsReadIn, read_in}
+use Rattle.fb_declare.proofs.StructsKept.{alignments, alignment_right, struct_right, part_right}
+use Rattle.fb_declare.proofs.TypesKept.{aligns_before, resolved_at, body_at_by, enums_kept}
 
--- the alignments before a type are kept
-aligns-front : (types : List TypeRead) (lower : List ℕ) (rs : List ResolvedType) (j : ℕ) → j < length lower → slice_index (aligns_from types lower rs) j ≡ slice_index lower j
-aligns-front types lower [] j within = refl
-aligns-front types lower (r ∷ rs) j within =
-    aligns-front types (lower ++ align_of_type types lower r ∷ []) rs j (omega (arith, length_push lower (align_of_type types lower r)))
-    ∙ get_or_append_left lower (align_of_type types lower r ∷ []) 0 j within
+-- ---- the alignments of types, each behind those of the types before it
 
--- the alignment of a type among those of all
-aligns-at : (types : List TypeRead) (lower : List ℕ) (rs : List ResolvedType) (t : ℕ) (r : ResolvedType) → slice_get rs t ≡ Some r
-    → slice_index (aligns_from types lower rs) (length lower + t) ≡ align_of_type types (aligns_from types lower (take t rs)) r
-aligns-at types lower [] t r e = absurd (none-some r e)
-aligns-at types lower (q ∷ rs) zero r e =
-    let own : ℕ = align_of_type types lower q in
-    let sum : length lower + 0 ≡ length lower = omega arith in
-    ap (slice_index (aligns_from types (lower ++ own ∷ []) rs)) sum
-    ∙ (aligns-front types (lower ++ own ∷ []) rs (length lower) (omega (arith, length_push lower own))
-    ∙ (get_or_push lower own 0 (length lower) refl ∙ ap (align_of_type types lower) (same_Some q r e)))
-aligns-at types lower (q ∷ rs) (suc t) r e =
-    let own : ℕ = align_of_type types lower q in
-    let sum : length lower + suc t ≡ length (lower ++ own ∷ []) + t = omega (arith, length_push lower own) in
-    ap (slice_index (aligns_from types (lower ++ own ∷ []) rs)) sum ∙ aligns-at types (lower ++ own ∷ []) rs t r e
+module _ (types : List TypeRead) where
+  -- one more
+  pub aligns_from-snoc : (lower : List ℕ) (rs : List ResolvedType) (r : ResolvedType) → aligns_from types lower (rs ++ r ∷ []) ≡ aligns_from types lower rs ++ align_of_type types (aligns_from types lower rs) r ∷ []
+  aligns_from-snoc lower [] r = refl
+  aligns_from-snoc lower (q ∷ rs) r = aligns_from-snoc (lower ++ align_of_type types lower q ∷ []) rs r
 
--- those before a type among those of all
-aligns-below : (types : List TypeRead) (lower : List ℕ) (rs : List ResolvedType) (t j : ℕ) → j < length (aligns_from types lower (take t rs))
-    → slice_index (aligns_from types lower rs) j ≡ slice_index (aligns_from types lower (take t rs)) j
-aligns-below types lower rs zero j within = aligns-front types lower rs j within
-aligns-below types lower [] (suc t) j within = refl
-aligns-below types lower (q ∷ rs) (suc t) j within = aligns-below types (lower ++ align_of_type types lower q ∷ []) rs t j within
+  length-aligns_from : (lower : List ℕ) (rs : List ResolvedType) → length (aligns_from types lower rs) ≡ length lower + length rs
+  length-aligns_from lower [] = omega arith
+  length-aligns_from lower (r ∷ rs) = let rest = length-aligns_from (lower ++ align_of_type types lower r ∷ []) rs in omega (arith, length_push lower (align_of_type types lower r))
+
+  -- the types before one are as many as its number
+  pub length-before : (rs : List ResolvedType) (t : ℕ) (r : ResolvedType) → slice_get rs t ≡ Some r → length (aligns_from types [] (take t rs)) ≡ t
+  length-before rs t r e =
+      let within = slice_get_within rs t r e in
+      let taken = length-take-le t rs (omega arith) in
+      omega (arith, length-aligns_from [] (take t rs))
+
+  -- the alignments before a type are kept
+  aligns-front : (lower : List ℕ) (rs : List ResolvedType) (j : ℕ) → j < length lower → slice_index (aligns_from types lower rs) j ≡ slice_index lower j
+  aligns-front lower [] j within = refl
+  aligns-front lower (r ∷ rs) j within =
+      aligns-front (lower ++ align_of_type types lower r ∷ []) rs j (omega (arith, length_push lower (align_of_type types lower r)))
+      ∙ get_or_append_left lower (align_of_type types lower r ∷ []) 0 j within
+
+  -- those before a type among those of all
+  pub aligns-below : (lower : List ℕ) (rs : List ResolvedType) (t j : ℕ) → j < length (aligns_from types lower (take t rs))
+      → slice_index (aligns_from types lower rs) j ≡ slice_index (aligns_from types lower (take t rs)) j
+  aligns-below lower rs zero j within = aligns-front lower rs j within
+  aligns-below lower [] (suc t) j within = refl
+  aligns-below lower (q ∷ rs) (suc t) j within = aligns-below (lower ++ align_of_type types lower q ∷ []) rs t j within
+
+  -- the alignment of a type among those of all
+  pub aligns-at : (rs : List ResolvedType) (t : ℕ) (r : ResolvedType) → slice_get rs t ≡ Some r → slice_index (aligns_from types [] rs) t ≡ align_of_type types (aligns_from types [] (take t rs)) r
+  aligns-at rs t r e =
+      let before : List ℕ = aligns_from types [] (take t rs) in
+      let own : ℕ = align_of_type types before r in
+      let more : aligns_from types [] (take (t + 1) rs) ≡ before ++ own ∷ [] =
+      ap (aligns_from types []) (taken rs t r (slice_get_within rs t r e) (sym (get_or_from_slice_get rs t r r e))) ∙ aligns_from-snoc [] (take t rs) r in
+      let many : length before ≡ t = length-before rs t r e in
+      aligns-below [] rs (t + 1) t (omega (arith, ap length more, length_push before own))
+      ∙ ap (λ all. slice_index all t) more ∙ get_or_push before own 0 t many
 
 -- ---- `force_align`
 
@@ -81,162 +91,99 @@ same_alignment natural n h =
     (ap (λ b. cond b (Some n) None) h, ap (λ b. cond b (Some n) None) (ap (λ b. b && nat_le 0 n) split.0 ∙ le-leb 0 n (omega arith)))
 
 -- a right `force_align` is the same from 0 on, and isn't below the natural alignment
-pub record IsForced (natural : ℕ) (own whole : Option ℕ) : Type 0 where
-  pub same : own ≡ whole
-  pub enough : ForSome whole (λ a. natural ≤ a)
+record IsForced (natural : ℕ) (number : Option ℤ) : Type 0 where
+  pub same : forced_align natural number ≡ forced_align 0 number
+  pub enough : ForSome (forced_align 0 number) (λ a. natural ≤ a)
 
--- of an integer that may stand
-forced_integer : (natural : ℕ) (n : ℤ) → is_alignment natural n ≡ true → IsForced natural (alignment_in natural n) (alignment_in 0 n)
-forced_integer natural (pos n) h = let found = same_alignment natural n h in
+-- a number that may stand is right
+number_forced : (natural : ℕ) (number : Option ℤ) → ((n : ℤ) → number ≡ Some n → is_alignment natural n ≡ true) → IsForced natural number
+unfolding forced_align
+number_forced natural None stands = record { same = refl; enough = λ a is. absurd (none-some a is) }
+number_forced natural (Some (pos n)) stands = let h = stands (pos n) refl in let found = same_alignment natural n h in
     record { same = found.0 ∙ sym found.1; enough = λ a is. subst (λ (a : ℕ). natural ≤ a) (same_Some n a (sym found.1 ∙ is)) (alignment_right natural n h).1 }
-forced_integer natural (negsuc n) h = absurd (false≢true h)
+number_forced natural (Some (negsuc n)) stands = absurd (false≢true (stands (negsuc n) refl))
 
--- of an attribute's value that may stand
-forced_value : (natural : ℕ) (value : Option AttributeValue) → may_stand (hosts.Struct natural) ForceAlign value ≡ true
-    → IsForced natural (option_and_then (alignment_in natural) (integer_value_in value)) (option_and_then (alignment_in 0) (integer_value_in value))
+-- the integer of a value that may stand
+value_stands : (natural : ℕ) (value : Option AttributeValue) (n : ℤ) → may_stand (hosts.Struct natural) ForceAlign value ≡ true → integer_value_in value ≡ Some n → is_alignment natural n ≡ true
 unfolding may_stand
-forced_value natural (Some (Integer n)) h = forced_integer natural n.value h
-forced_value natural value h = absurd (false≢true h)
+value_stands natural (Some (Integer m)) n h e = subst (λ i. is_alignment natural i ≡ true) (same_Some m.value n e) h
+value_stands natural value n h e = absurd (false≢true h)
 
 -- of the first `force_align`, if there is one
-forced_called : (natural : ℕ) (called : Option Attribute) → ((a : Attribute) → called ≡ Some a → may_stand (hosts.Struct natural) ForceAlign a.value ≡ true)
-    → IsForced natural (option_and_then (alignment_in natural) (option_and_then (λ a. integer_value_in a.value) called)) (option_and_then (alignment_in 0) (option_and_then (λ a. integer_value_in a.value) called))
-forced_called natural None stands = record { same = refl; enough = λ a is. absurd (none-some a is) }
-forced_called natural (Some a) stands = forced_value natural a.value (stands a refl)
+called_forced : (natural : ℕ) (called : Option Attribute) (n : ℤ) → ((a : Attribute) → called ≡ Some a → may_stand (hosts.Struct natural) ForceAlign a.value ≡ true)
+    → option_and_then (λ a. integer_value_in a.value) called ≡ Some n → is_alignment natural n ≡ true
+called_forced natural None n stands e = absurd (none-some n e)
+called_forced natural (Some a) n stands e = value_stands natural a.value n (stands a refl) e
 
 -- the `force_align` of a struct with no fault
-pub forced_right : (declared : List Name) (natural : ℕ) (attributes : List Attribute) → metadata_faults declared (hosts.Struct natural) [] attributes ≡ []
-    → IsForced natural (forced_align natural (number_called ForceAlign attributes)) (forced_align 0 (number_called ForceAlign attributes))
-unfolding forced_align number_called
-forced_right declared natural attributes h = forced_called natural (attribute_called ForceAlign attributes) (λ a is. called_stands declared (hosts.Struct natural) [] attributes ForceAlign a h is)
+forced_right : (declared : List Name) (natural : ℕ) (attributes : List Attribute) → metadata_faults declared (hosts.Struct natural) attributes ≡ [] → IsForced natural (number_called ForceAlign attributes)
+unfolding number_called
+forced_right declared natural attributes h = number_forced natural (number_called ForceAlign attributes)
+    (λ n e. called_forced natural (attribute_called ForceAlign attributes) n (λ a is. called_stands declared (hosts.Struct natural) attributes h ForceAlign a is) e)
 
--- ---- what the schema's bodies come from
+-- ---- the structs
 
 -- a struct's body comes from a struct
-struct_from : (types : List TypeRead) (scope : Option Name) (d : TypeDecl) (body : DeclaredBody) → HasBody (resolved_declaration types scope d) body → IsTrue (is_struct body)
-    → (s : TableRead) × (d ≡ decls.Struct s) × (body ≡ struct_body (parts_from 0 (resolved_fields types scope s.fields)) (forced_align 0 (number_called ForceAlign s.attributes)))
-struct_from types scope d (table_body fs) h is = absurd (false≢true is)
-struct_from types scope d (enum_body base flags values) h is = absurd (false≢true is)
-struct_from types scope d (union_body members) h is = absurd (false≢true is)
-struct_from types scope (decls.Struct s) (struct_body parts force) h is = (s, refl, λ i. struct_body (h.0 i) (h.1 i))
-struct_from types scope _ (struct_body parts force) h is = absurd h
+struct_from : (d : ResolvedDecl) (body : DeclaredBody) → HasBody d body → IsTrue (is_struct body) → (s : ResolvedTable) × (d ≡ resolved.Struct s) × (body ≡ struct_body (parts_from 0 s.fields) (forced_align 0 s.force_align))
+struct_from (resolved.Struct s) (struct_body parts force) h is = (s, refl, λ i. struct_body (h.0 i) (h.1 i))
+struct_from d (struct_body parts force) h is = absurd h
+struct_from d body h is = absurd (false≢true is)
 
--- an enum's body comes from an enum
-enum_from : (types : List TypeRead) (scope : Option Name) (d : TypeDecl) (body : DeclaredBody) → HasBody (resolved_declaration types scope d) body → IsTrue (is_enum body)
-    → (e : EnumRead) × (d ≡ decls.Enum e) × (base_in body ≡ base_or_ubyte (underlying types scope e))
-enum_from types scope d (table_body fs) h is = absurd (false≢true is)
-enum_from types scope d (struct_body parts force) h is = absurd (false≢true is)
-enum_from types scope d (union_body members) h is = absurd (false≢true is)
-enum_from types scope (decls.Enum e) (enum_body base flags values) h is = (e, refl, h.0)
-enum_from types scope _ (enum_body base flags values) h is = absurd h
-
--- a body that passes a test which an absent one fails is there
-body_there : (S : DeclaredSchema) (test : DeclaredBody → Bool) (t : ℕ) → test (table_body []) ≡ false → IsTrue (test (body_at S t)) → (type : DeclaredType) × (slice_get S.types t ≡ Some type)
-body_there S test t fails passes = by (slice_get S.types t) refl
-  where
-    by : (o : Option DeclaredType) → slice_get S.types t ≡ o → (type : DeclaredType) × (slice_get S.types t ≡ Some type)
-    by None e = absurd (true≢false (sym passes ∙ (ap (λ o. test (body_in o)) e ∙ fails)))
-    by (Some type) e = (type, e)
-
--- ---- the types of an outline with no fault
-
-module _ (o : Outline) (S : DeclaredSchema) (gives : Gives o S) (none : faults_of_types o.types o.attributes [] (resolved_types o.types) ≡ []) where
+module _ (o : Outline) (S : DeclaredSchema) (gives : Gives o S) (none : faults_of_types o.types o.attributes (resolved_types o.types) ≡ []) where
   -- the alignments of all types
   abbrev pub aligns : List ℕ
   aligns = aligns_from o.types [] (resolved_types o.types)
 
-  -- those of the types before one
-  abbrev pub aligns_before : ℕ → List ℕ
-  aligns_before t = aligns_from o.types [] (take t (resolved_types o.types))
-
-  -- no declaration has a fault
-  pub declaration_right : (t : ℕ) (r : TypeRead) → slice_get o.types t ≡ Some r → declaration_faults o.types o.attributes (aligns_before t) (resolved_declaration o.types r.scope r.declaration) ≡ []
-  unfolding type_faults
-  declaration_right t r at = none_right (reserved_name (word_of r.declaration)) (declaration_faults o.types o.attributes (aligns_before t) (resolved_declaration o.types r.scope r.declaration)) (none_of_type o.types o.attributes [] (resolved_types o.types) none t (resolved_type o.types r) (resolved_at o.types t r at))
-
-  -- an enum's size is that of the type under it
-  enum_size_by : (t : ℕ) (type : DeclaredType) (r : TypeRead) (e : EnumRead) → slice_get S.types t ≡ Some type → slice_get o.types t ≡ Some r
-      → r.declaration ≡ decls.Enum e → base_in type.body ≡ base_or_ubyte (underlying o.types r.scope e) → base_size (base_in (body_at S t)) ≡ option_map_or base_size (underlying_at o.types t) 0
-  enum_size_by t type r e there at is base =
-      let right : enum_faults o.attributes (resolved_enum o.types r.scope e) ≡ [] = subst (λ (d : TypeDecl). declaration_faults o.types o.attributes (aligns_before t) (resolved_declaration o.types r.scope d) ≡ []) is (declaration_right t r at) in
-      let found = enum_base o.types o.attributes r.scope e right in
-      ap (λ b. base_size (base_in (body_in b))) there
-      ∙ (ap base_size (base ∙ ap base_or_ubyte found.1)
-      ∙ sym (ap (λ b. option_map_or base_size b 0) (ap (underlying_of_read o.types) at ∙ (ap (underlying_in o.types r.scope) is ∙ found.1))))
-
-  -- of the enum of a number
-  enum_size : (t : ℕ) → Names is_enum S t → base_size (base_in (body_at S t)) ≡ option_map_or base_size (underlying_at o.types t) 0
-  enum_size t named =
-      let there = body_there S is_enum t refl named.1 in
-      let read = read_from_type o S gives t there.0 there.1 in
-      let from = enum_from o.types read.0.scope read.0.declaration there.0.body read.2.body (sym (ap (λ b. is_enum (body_in b)) there.1) ∙ named.1) in
-      enum_size_by t there.0 read.0 from.0 there.1 read.1 from.1 from.2
-
   -- a struct's field has its size in the schema as it is declared
-  part_size : (lower : List ℕ) → ((j : ℕ) → j < length lower → slice_index aligns j ≡ slice_index lower j) → (kind : FieldType) (m : Meaning) → ((k : Kind) → m ≡ Known k → KindNames S k)
+  part_size : (lower : List ℕ) → ((j : ℕ) → j < length lower → slice_index aligns j ≡ slice_index lower j) → (kind : FieldType) (m : Meaning) → MeansIn S m
       → struct_field_type (length lower) kind m ≡ [] → part_align S aligns (shape_of kind m) ≡ align_by o.types lower kind m
-  part_size lower below (One n) (Known (Scalar base)) named h = refl
-  part_size lower below (One n) (Known (Enum e)) named h = enum_size e.0 (named (Enum e) refl)
-  part_size lower below (One n) (Known (Struct s)) named h = below s.0 (part_right S (length lower) (One n) (Known (Struct s)) named h).0
-  part_size lower below (One n) (Known _) named h = refl
-  part_size lower below (One n) Float named h = refl
-  part_size lower below (One n) Unknown named h = refl
-  part_size lower below (Many at n) m named h = refl
+  part_size lower below (One n) (Known (Scalar base)) means h = refl
+  part_size lower below (One n) (Known (Enum e)) means h = sym (ap (λ b. option_map_or base_size b 0) (enums_kept o S gives none e.0 means.0).0)
+  part_size lower below (One n) (Known (Struct s)) means h = below s.0 (part_right S (length lower) (One n) (Known (Struct s)) means h).0
+  part_size lower below _ _ means h = refl
 
   -- the same of all fields of a struct
-  part_sizes : (scope : Option Name) (lower : List ℕ) → ((j : ℕ) → j < length lower → slice_index aligns j ≡ slice_index lower j) → (k : ℕ) (fs : List FieldRead)
-      → flat_map (struct_field_faults o.attributes (length lower)) (resolved_fields o.types scope fs) ≡ [] → map (λ f. part_align S aligns f.shape) (parts_from k (resolved_fields o.types scope fs)) ≡ map (align_in o.types lower) (resolved_fields o.types scope fs)
+  part_sizes : (lower : List ℕ) → ((j : ℕ) → j < length lower → slice_index aligns j ≡ slice_index lower j) → (k : ℕ) (fs : List ResolvedField) → All (IsRead o.types S) fs
+      → All (λ f. struct_field_type (length lower) f.field.kind f.meaning ≡ []) fs → map (λ f. part_align S aligns f.shape) (parts_from k fs) ≡ map (align_in o.types lower) fs
   unfolding parts_from align_in
-  part_sizes scope lower below k [] h = refl
-  part_sizes scope lower below k (f ∷ fs) h =
-      let own : struct_field_faults o.attributes (length lower) (resolved_field o.types scope f) ≡ [] = none_left (struct_field_faults o.attributes (length lower) (resolved_field o.types scope f)) (flat_map (struct_field_faults o.attributes (length lower)) (resolved_fields o.types scope fs)) h in
-      let rest : flat_map (struct_field_faults o.attributes (length lower)) (resolved_fields o.types scope fs) ≡ [] = none_right (struct_field_faults o.attributes (length lower) (resolved_field o.types scope f)) (flat_map (struct_field_faults o.attributes (length lower)) (resolved_fields o.types scope fs)) h in
-      let size = part_size lower below f.kind (meaning_in o.types scope f.kind) (kind_named o S gives scope (type_name f.kind).bytes) (field_type_right o.attributes (length lower) (resolved_field o.types scope f) own) in
-      let sizes = part_sizes scope lower below (k + 1) fs rest in
+  part_sizes lower below k [] read h = refl
+  part_sizes lower below k (f ∷ fs) read h =
+      let right = All-head (λ f. struct_field_type (length lower) f.field.kind f.meaning ≡ []) f fs h in
+      let size = part_size lower below f.field.kind f.meaning (All-head (IsRead o.types S) f fs read).means right in
+      let sizes = part_sizes lower below (k + 1) fs (All-tail (IsRead o.types S) f fs read) (All-tail (λ f. struct_field_type (length lower) f.field.kind f.meaning ≡ []) f fs h) in
       λ i. size i ∷ sizes i
 
   -- what is known of a struct of the schema
   record IsStructAt (s : ℕ) : Type 0 where
-    pub scope : Option Name
-    pub read : TableRead
-    pub body : body_at S s ≡ struct_body (parts_from 0 (resolved_fields o.types scope read.fields)) (forced_align 0 (number_called ForceAlign read.attributes))
-    pub right : struct_faults o.types o.attributes (aligns_before s) (resolved_table o.types scope read) ≡ []
-    pub align : slice_index aligns s ≡ align_of_struct o.types (aligns_before s) (resolved_table o.types scope read)
+    pub read : ResolvedTable
+    pub body : body_at S s ≡ struct_body (parts_from 0 read.fields) (forced_align 0 read.force_align)
+    pub means : IsReadIn o.types S (resolved.Struct read)
+    pub right : struct_faults o.types o.attributes (aligns_before o.types s) read ≡ []
+    pub align : slice_index aligns s ≡ align_of_struct o.types (aligns_before o.types s) read
 
-  -- a struct that is declared is known so
-  struct_at_by : (s : ℕ) (type : DeclaredType) (r : TypeRead) (d : TableRead) → slice_get S.types s ≡ Some type → slice_get o.types s ≡ Some r → r.declaration ≡ decls.Struct d
-      → type.body ≡ struct_body (parts_from 0 (resolved_fields o.types r.scope d.fields)) (forced_align 0 (number_called ForceAlign d.attributes)) → IsStructAt s
+  struct_at : (s : ℕ) → IsTrue (is_struct (body_at S s)) → IsStructAt s
   unfolding align_of_type
-  struct_at_by s type r d there at is body =
-      let place : s ≡ 0 + s = omega arith in
+  struct_at s is =
+      let x = body_at_by o S gives none is_struct s refl is in
+      let from = struct_from (resolved_declaration o.types x.read.scope x.read.declaration) (body_at S s) x.has is in
       record {
-        scope = r.scope;
-        read = d;
-        body = ap body_in there ∙ body;
-        right = subst (λ (d : TypeDecl). declaration_faults o.types o.attributes (aligns_before s) (resolved_declaration o.types r.scope d) ≡ []) is (declaration_right s r at);
-        align = ap (slice_index aligns) place ∙ (aligns-at o.types [] (resolved_types o.types) s (resolved_type o.types r) (resolved_at o.types s r at) ∙ ap (λ d. align_of_declaration o.types (aligns_before s) (resolved_declaration o.types r.scope d)) is);
+        read = from.0;
+        body = from.2;
+        means = subst (IsReadIn o.types S) from.1 (read_in o S gives x.read.scope x.read.declaration);
+        right = subst (λ d. declaration_faults o.types o.attributes (aligns_before o.types s) d ≡ []) from.1 x.right;
+        align = aligns-at o.types (resolved_types o.types) s (resolved_type o.types x.read) (resolved_at o.types s x.read x.at) ∙ ap (align_of_declaration o.types (aligns_before o.types s)) from.1;
       }
 
-  -- and so is each struct of the schema
-  struct_at : (s : ℕ) → IsTrue (is_struct (body_at S s)) → IsStructAt s
-  struct_at s is =
-      let there = body_there S is_struct s refl is in
-      let read = read_from_type o S gives s there.0 there.1 in
-      let from = struct_from o.types read.0.scope read.0.declaration there.0.body read.2.body (sym (ap (λ b. is_struct (body_in b)) there.1) ∙ is) in
-      struct_at_by s there.0 read.0 from.0 there.1 read.1 from.1 from.2
-
   -- a struct's natural alignment in the schema is the one that is declared
-  natural_same : (s : ℕ) (at : IsStructAt s) → natural_align_in S aligns s ≡ natural_align o.types (aligns_before s) (resolved_fields o.types at.scope at.read.fields)
+  natural_same : (s : ℕ) (at : IsStructAt s) → natural_align_in S aligns s ≡ natural_align o.types (aligns_before o.types s) at.read.fields
   unfolding natural_align
   natural_same s at = ap (λ b. greatest_in (map (λ f. part_align S aligns f.shape) (parts_in b))) at.body
-      ∙ ap greatest_in (part_sizes at.scope (aligns_before s) (aligns-below o.types [] (resolved_types o.types) s) 0 at.read.fields (struct_right o.types o.attributes at.scope (aligns_before s) at.read at.right).fields)
+      ∙ ap greatest_in (part_sizes (aligns_before o.types s) (aligns-below o.types [] (resolved_types o.types) s) 0 at.read.fields at.means.0 (struct_right o.types o.attributes (aligns_before o.types s) at.read at.right).fields)
 
   -- its `force_align` is right
-  struct_forced : (s : ℕ) (at : IsStructAt s)
-      → IsForced (natural_align o.types (aligns_before s) (resolved_fields o.types at.scope at.read.fields))
-      (forced_align (natural_align o.types (aligns_before s) (resolved_fields o.types at.scope at.read.fields)) (number_called ForceAlign at.read.attributes))
-      (forced_align 0 (number_called ForceAlign at.read.attributes))
-  struct_forced s at = forced_right o.attributes (natural_align o.types (aligns_before s) (resolved_fields o.types at.scope at.read.fields)) at.read.attributes (struct_right o.types o.attributes at.scope (aligns_before s) at.read at.right).metadata
+  struct_forced : (s : ℕ) (at : IsStructAt s) → IsForced (natural_align o.types (aligns_before o.types s) at.read.fields) at.read.force_align
+  struct_forced s at = let natural = natural_align o.types (aligns_before o.types s) at.read.fields in
+      subst (IsForced natural) (sym at.means.1) (forced_right o.attributes natural at.read.declared.attributes (struct_right o.types o.attributes (aligns_before o.types s) at.read at.right).metadata)
 
   -- The structs are aligned as they are declared.
   pub are_aligned : AreAligned S aligns
@@ -244,6 +191,6 @@ module _ (o : Outline) (S : DeclaredSchema) (gives : Gives o S) (none : faults_o
     forced = λ s is a e. let at = struct_at s is in
         subst (λ (n : ℕ). n ≤ a) (sym (natural_same s at)) ((struct_forced s at).enough a (sym (ap force_align_in at.body) ∙ e));
     each = λ s is. let at = struct_at s is in
-        at.align ∙ (ap (λ forced. unwrap_or forced (natural_align o.types (aligns_before s) (resolved_fields o.types at.scope at.read.fields))) ((struct_forced s at).same ∙ sym (ap force_align_in at.body))
+        at.align ∙ (ap (λ forced. unwrap_or forced (natural_align o.types (aligns_before o.types s) at.read.fields)) ((struct_forced s at).same ∙ sym (ap force_align_in at.body))
         ∙ ap (λ n. unwrap_or (force_align_in (body_at S s)) n) (sym (natural_same s at)));
   }

@@ -1,9 +1,10 @@
 -- The default of a field is in the range of its type.
-use Rattle.std.proofs.Common.{◌≡◌, Bool, true, false, List, [], ◌∷◌, refl, sym, subst, Option, None, Some, ℤ, pos, codes, IsTrue, IfSome, if◌then◌else◌}
+use Rattle.std.proofs.Common.{◌≡◌, List, [], ◌∷◌, refl, sym, subst, Option, None, Some, ℤ, pos, codes, IsTrue, IfSome}
 use Rattle.std.specs.List.{All, find}
 use Rattle.std.specs.Option.{option_map, option_or, option_and_then}
 use Rattle.std.specs.Str.{bytes_eq}
 use Rattle.std.proofs.lemmas.List.Elements.{All-head, All-tail}
+use Rattle.std.proofs.lemmas.Option.{same_Some}
 use Rattle.fb_syntax.specs.Located.{Located}
 use Rattle.fb_syntax.specs.TypesRead.{EnumRead}
 use Rattle.fb_syntax.specs.declared.declarations.FieldType.TheVariants.{One}
@@ -12,7 +13,7 @@ use Rattle.fb_syntax.specs.declared.declarations.DefaultValue.TheVariants.{Integ
 use Rattle.fb_schema.specs.Schema.{Name}
 use Rattle.fb_schema.specs.WellDeclared.{InRange}
 use Rattle.fb_schema.specs.declared.kinds.Base.{Base}
-use Rattle.fb_schema.specs.declared.kinds.Base.TheVariants.{Bool as Boolean, I8, U8, I16, U16, I32, U32, I64, U64}
+use Rattle.fb_schema.specs.declared.kinds.Base.TheVariants.{Bool as Boolean}
 use Rattle.fb_schema.specs.declared.kinds.TypeId.{TypeId}
 use Rattle.fb_schema.specs.declared.kinds.Kind.TheVariants.{Scalar, Enum}
 use Rattle.fb_resolve.specs.Outline.{TypeRead, full_name}
@@ -24,54 +25,29 @@ use Rattle.fb_resolve.specs.declared.meanings.Meaning.TheVariants.{Known}
 use Rattle.fb_resolve.specs.declared.defaults.Given.{Given}
 use Rattle.fb_resolve.specs.declared.defaults.Given.TheVariants.{Number, Null, Wrong}
 use Rattle.fb_declare.proofs.EnumsKept.{held_in_range}
+use Rattle.fb_declare.proofs.FaultFree.{either}
 
 -- 0 is in the range of each basic type
-pub InRange-zero : (base : Base) → InRange base (pos 0)
+InRange-zero : (base : Base) → InRange base (pos 0)
 unfolding holds
 InRange-zero Boolean = held_in_range Boolean (pos 0) refl
-InRange-zero I8 = held_in_range I8 (pos 0) refl
-InRange-zero U8 = held_in_range U8 (pos 0) refl
-InRange-zero I16 = held_in_range I16 (pos 0) refl
-InRange-zero U16 = held_in_range U16 (pos 0) refl
-InRange-zero I32 = held_in_range I32 (pos 0) refl
-InRange-zero U32 = held_in_range U32 (pos 0) refl
-InRange-zero I64 = held_in_range I64 (pos 0) refl
-InRange-zero U64 = held_in_range U64 (pos 0) refl
+InRange-zero base = held_in_range base (pos 0) refl
 
 -- what is given is in a range
-abbrev pub GivesIn : Base → Given → Type 0
+abbrev GivesIn : Base → Given → Type 0
 GivesIn base given = InRange base (number_given given)
 
-within_or_wrong : (base : Base) (n : ℤ) (b : Bool) → holds base n ≡ b → GivesIn base (if b then Number n else Wrong)
-within_or_wrong base n true h = held_in_range base n h
-within_or_wrong base n false h = InRange-zero base
-
 number_in : (base : Base) (n : ℤ) → GivesIn base (number_within base n)
-number_in base n = within_or_wrong base n (holds base n) refl
-
-null_by_test : (base : Base) (b : Bool) → GivesIn base (if b then Null else Wrong)
-null_by_test base true = InRange-zero base
-null_by_test base false = InRange-zero base
+number_in base n = either (GivesIn base) (holds base n) (Number n) Wrong (held_in_range base n) (InRange-zero base)
 
 null_in : (base : Base) (name : Name) → GivesIn base (null_or_wrong name)
-null_in base name = null_by_test base (bytes_eq name (codes "null"))
-
-boolean_by_tests : (t f : Bool) (given : Given) → GivesIn Boolean given → GivesIn Boolean (if t then Number (pos 1) else if f then Number (pos 0) else given)
-unfolding holds
-boolean_by_tests true f given h = held_in_range Boolean (pos 1) refl
-boolean_by_tests false true given h = InRange-zero Boolean
-boolean_by_tests false false given h = h
+null_in base name = either (GivesIn base) (bytes_eq name (codes "null")) Null Wrong (λ is. InRange-zero base) (InRange-zero base)
 
 named_in : (base : Base) (name : Name) → GivesIn base (scalar_named base name)
-named_in Boolean name = boolean_by_tests (bytes_eq name (codes "true")) (bytes_eq name (codes "false")) (null_or_wrong name) (null_in Boolean name)
-named_in I8 name = null_in I8 name
-named_in U8 name = null_in U8 name
-named_in I16 name = null_in I16 name
-named_in U16 name = null_in U16 name
-named_in I32 name = null_in I32 name
-named_in U32 name = null_in U32 name
-named_in I64 name = null_in I64 name
-named_in U64 name = null_in U64 name
+unfolding holds
+named_in Boolean name = either (GivesIn Boolean) (bytes_eq name (codes "true")) (Number (pos 1)) _ (λ is. held_in_range Boolean (pos 1) refl)
+    (either (GivesIn Boolean) (bytes_eq name (codes "false")) (Number (pos 0)) (null_or_wrong name) (λ is. InRange-zero Boolean) (null_in Boolean name))
+named_in base name = null_in base name
 
 -- a scalar's default
 pub scalar_default : (types : List TypeRead) (n : Located) (base : Base) (d : Option DefaultValue) → GivesIn base (given_by types (One n) (Known (Scalar base)) d)
@@ -82,7 +58,7 @@ scalar_default types n base (Some (Named t)) = named_in base t.bytes
 
 enum_number_in : (base : Base) (under : Option Base) (n : ℤ) → under ≡ Some base → GivesIn base (enum_number under n)
 enum_number_in base None n e = cc
-enum_number_in base (Some b) n e = let same : b ≡ base = cc in subst (λ c. GivesIn base (number_within c n)) (sym same) (number_in base n)
+enum_number_in base (Some b) n e = subst (λ c. GivesIn base (number_within c n)) (sym (same_Some b base e)) (number_in base n)
 
 enum_named_in : (base : Base) (value : Option ℤ) (name : Name) → IfSome value (InRange base) → GivesIn base (enum_named value name)
 enum_named_in base None name h = null_in base name
@@ -97,14 +73,11 @@ enum_default types n e base (Some (Integer t)) under values = enum_number_in bas
 enum_default types n e base (Some (Named t)) under values = enum_named_in base (value_at types e.0 t.bytes) t.bytes (values t.bytes)
 
 -- what a name finds among values of which something holds
-found_in : (P : ℤ → Type 0) (name : Name) (v : Name × ℤ) (rest : Option (Name × ℤ)) (b : Bool) → P v.1 → IfSome (option_map (λ v. v.1) rest) P → IfSome (option_map (λ v. v.1) (if b then Some v else rest)) P
-found_in P name v rest true here later = here
-found_in P name v rest false here later = later
-
 number_found : (P : ℤ → Type 0) (values : List (Name × ℤ)) (name : Name) → All (λ v. P v.1) values → IfSome (number_named values name) P
 unfolding number_named
 number_found P [] name h = tt
-number_found P (v ∷ vs) name h = found_in P name v (find (λ v. bytes_eq name v.0) vs) (bytes_eq name v.0) (All-head (λ v. P v.1) v vs h) (number_found P vs name (All-tail (λ v. P v.1) v vs h))
+number_found P (v ∷ vs) name h = either (λ o. IfSome (option_map (λ w. w.1) o) P) (bytes_eq name v.0) (Some v) (find (λ w. bytes_eq name w.0) vs)
+    (λ is. All-head (λ w. P w.1) v vs h) (number_found P vs name (All-tail (λ w. P w.1) v vs h))
 
 either_found : (P : ℤ → Type 0) (a b : Option ℤ) → IfSome a P → IfSome b P → IfSome (option_or a b) P
 either_found P None b p q = q

@@ -1,64 +1,52 @@
 -- What an outline with no fault gives is well declared.
-use Rattle.std.proofs.Common.{◌≡◌, ◌≢◌, ℕ, ◌==◌, ◌++◌, not, List, [], ◌∷◌, length, take, map, AllPairs, refl, sym, ap, ◌∙◌, subst, arith, Option, None, Some}
+use Rattle.std.proofs.Common.{◌≡◌, ◌≢◌, ℕ, ◌==◌, not, List, [], ◌∷◌, length, take, map, AllPairs, refl, sym, ap, ◌∙◌, subst, Option, None, Some}
 use Rattle.std.specs.List.{AllZip, list_all, slice_get}
-use Rattle.std.specs.Option.{option_map, ForSome}
+use Rattle.std.specs.Option.{option_map, is_none, unwrap_or, ForSome}
 use Rattle.std.proofs.lemmas.Bool.{and_parts, eqb-true, not-false}
-use Rattle.std.proofs.lemmas.List.{length-take-le, length-map}
-use Rattle.std.proofs.lemmas.Option.{none-some, slice_get_within}
+use Rattle.std.proofs.lemmas.Option.{none-some}
+use Rattle.std.proofs.lemmas.Slice.Eq.{bytes_eq-Decides}
+use Rattle.std.specs.Str.{bytes_eq}
 use Rattle.fb_syntax.specs.Located.{Located}
-use Rattle.fb_syntax.specs.declared.declarations.TypeDecl.{TypeDecl}
-use Rattle.fb_syntax.specs.declared.declarations.TypeDecl.TheVariants as decls
 use Rattle.fb_schema.specs.Schema.{Name, DeclaredBody, table_body, struct_body, enum_body, union_body, DeclaredType, DeclaredSchema, is_table}
 use Rattle.fb_schema.specs.WellDeclared.{Names, IsUnionBody, IsBody, IsDeclared}
-use Rattle.fb_schema.specs.declared.kinds.Kind.TheVariants.{Scalar, Enum, Struct, Table, Union, Code, Text}
-use Rattle.fb_resolve.specs.Outline.{TypeRead, RootRead, Outline, located_name}
+use Rattle.fb_resolve.specs.Outline.{TypeRead, RootRead, Outline, name_of_type, word_of}
 use Rattle.fb_resolve.specs.Meaning.{meaning_of}
-use Rattle.fb_resolve.specs.MembersRead.{table_of}
-use Rattle.fb_declare.specs.FaultRows.{names_again, root_faults, is_identifier, identifier_faults, is_printable}
+use Rattle.fb_resolve.specs.RepeatedNames.{has_name}
+use Rattle.fb_resolve.specs.Resolved.{resolved_declaration, resolved_type, resolved_types, meaning_of_root}
+use Rattle.fb_resolve.specs.declared.resolved.ResolvedDecl.{ResolvedDecl}
+use Rattle.fb_resolve.specs.declared.resolved.ResolvedDecl.TheVariants as resolved
+use Rattle.fb_declare.specs.FaultRows.{faults_in_turn, type_again, root_faults, is_identifier, identifier_faults, is_printable}
 use Rattle.fb_declare.specs.TypeFaults.{declaration_faults, faults_of_types, faults_of_outline}
 use Rattle.fb_declare.specs.Declares.{HasBody, IsType, root_table, Gives}
-use Rattle.fb_declare.specs.declared.faults.SchemaFault.TheVariants.{BadIdentifier}
-use Rattle.fb_resolve.specs.declared.meanings.Meaning.{Meaning}
-use Rattle.fb_resolve.specs.declared.meanings.Meaning.TheVariants.{Known, Float, Unknown}
-use Rattle.fb_declare.proofs.AlignmentsKept.{aligns, are_aligned, aligns_before, declaration_right}
+use Rattle.fb_declare.specs.declared.faults.SchemaFault.TheVariants.{BadIdentifier, DuplicateName}
+use Rattle.fb_declare.proofs.AlignmentsKept.{length-before, aligns, are_aligned}
 use Rattle.fb_declare.proofs.EnumsKept.{enum_kept}
-use Rattle.fb_declare.proofs.FaultFree.{none_left, none_right, when-none, length-aligns_from}
-use Rattle.fb_declare.proofs.KindsNamed.{MeansIn, means_in, read_from_type, each_given}
-use Rattle.fb_declare.proofs.NoFaults.{names_apart, apart_by}
+use Rattle.fb_declare.proofs.FaultFree.{four_none, none_behind, when-none}
+use Rattle.fb_declare.proofs.Meant.{IsReadIn, table_named, means_in, read_in}
+use Rattle.fb_declare.proofs.NamesApart.{apart, same_apart}
 use Rattle.fb_declare.proofs.StructsKept.{struct_kept}
-use Rattle.fb_declare.proofs.TablesKept.{enums_kept, table_right, table_kept}
+use Rattle.fb_declare.proofs.TablesKept.{table_kept}
+use Rattle.fb_declare.proofs.TypesKept.{AreEnumsKept, aligns_before, resolved_at, type_at, enums_kept}
 use Rattle.fb_declare.proofs.UnionsKept.{union_kept}
-use Rattle.fb_resolve.specs.Resolved.{resolved_declaration, resolved_type, resolved_types, meaning_of_root}
 
 -- ---- names
 
-names_given : (types rs : List TypeRead) (ts : List DeclaredType) → AllZip (λ r t. IsType (resolved_type types r) t) rs ts → map (λ n. n.bytes) (map located_name rs) ≡ map (λ t. t.name) ts
+names_given : (types rs : List TypeRead) (ts : List DeclaredType) → AllZip IsType (map (resolved_type types) rs) ts → map name_of_type rs ≡ map (λ t. t.name) ts
 names_given types [] [] z = refl
-names_given types [] (t ∷ ts) z = absurd z
-names_given types (r ∷ rs) [] z = absurd z
 names_given types (r ∷ rs) (t ∷ ts) z = let first = sym z.0.name in let rest = names_given types rs ts z.1 in λ i. first i ∷ rest i
+names_given types _ _ z = absurd z
 
 -- The types have different names.
-pub type_names_differ : (o : Outline) (S : DeclaredSchema) → Gives o S → names_again [] (map located_name o.types) ≡ [] → AllPairs (λ a b. a.name ≢ b.name) S.types
-type_names_differ o S g h = apart_by (λ t. t.name) S.types (subst (λ ns. AllPairs (λ a b. a ≢ b) ns) (names_given o.types o.types S.types (each_given o S g)) (names_apart (map located_name o.types) h))
+type_names_differ : (o : Outline) (S : DeclaredSchema) → Gives o S → faults_in_turn type_again o.types ≡ [] → AllPairs (λ a b. a.name ≢ b.name) S.types
+type_names_differ o S g h = same_apart name_of_type (λ t. t.name) o.types S.types (names_given o.types o.types S.types g.types)
+    (apart bytes_eq bytes_eq-Decides name_of_type o.types (λ k r e. when-none (has_name (take k o.types) (name_of_type r)) (DuplicateName (word_of r.declaration).at) (none_behind type_again [] o.types h k r e)))
 
 -- ---- the root and the identifier
 
-root_named : (S : DeclaredSchema) (m : Meaning) (root : ℕ) → MeansIn S m → Some root ≡ table_of m → Names is_table S root
-root_named S (Known (Table t)) root h e = let same : t.0 ≡ root = cc in subst (Names is_table S) same h.0
-root_named S (Known (Scalar b)) root h e = cc
-root_named S (Known (Enum t)) root h e = cc
-root_named S (Known (Struct t)) root h e = cc
-root_named S (Known (Union t)) root h e = cc
-root_named S (Known (Code t)) root h e = cc
-root_named S (Known Text) root h e = cc
-root_named S Float root h e = cc
-root_named S Unknown root h e = cc
-
 -- The root is a table.
-pub root_kept : (o : Outline) (S : DeclaredSchema) → Gives o S → (root : Option RootRead) → Some S.root ≡ root_table o.types root → Names is_table S S.root
+root_kept : (o : Outline) (S : DeclaredSchema) → Gives o S → (root : Option RootRead) → Some S.root ≡ root_table o.types root → Names is_table S S.root
 root_kept o S g None e = cc
-root_kept o S g (Some r) e = root_named S (meaning_of o.types r.scope r.name.bytes) S.root (means_in o S g r.scope r.name.bytes) e
+root_kept o S g (Some r) e = subst (λ t. Names is_table S (unwrap_or t 0)) (sym e) (table_named S (meaning_of o.types r.scope r.name.bytes) (means_in o S g r.scope r.name.bytes) (ap is_none (sym e)))
 
 -- The identifier has four bytes.
 pub identifier_kept : (t : Option Located) → identifier_faults t ≡ [] → ForSome (option_map (λ t. t.bytes) t) (λ id. length id ≡ 4)
@@ -72,52 +60,37 @@ identifier_kept (Some t) h id e =
 
 -- ---- bodies
 
-module _ (o : Outline) (S : DeclaredSchema) (g : Gives o S) (none : faults_of_types o.types o.attributes [] (resolved_types o.types) ≡ []) where
-  -- the types before one are as many as its number
-  length-before : (t : ℕ) (r : TypeRead) → slice_get o.types t ≡ Some r → length (aligns_before o S g none t) ≡ t
-  length-before t r at =
-      let within = slice_get_within o.types t r at in
-      let many = length-map o.types (resolved_type o.types) in
-      let all = length-aligns_from o.types [] (take t (resolved_types o.types)) in
-      let taken = length-take-le t (resolved_types o.types) (omega arith) in
-      omega arith
+body_kept : (types : List TypeRead) (S : DeclaredSchema) → AreEnumsKept types S → (declared : List Name) (lower : List ℕ) (d : ResolvedDecl) (b : DeclaredBody) → IsReadIn types S d → declaration_faults types declared lower d ≡ []
+    → HasBody d b → IsBody S (length lower) b
+body_kept types S enums declared lower (resolved.Table t) (table_body slots) read h body = table_kept types S enums declared t read h slots body
+body_kept types S enums declared lower (resolved.Struct s) (struct_body parts force) read h body =
+    subst (λ b. IsBody S (length lower) b) (sym (λ i. struct_body (body.0 i) (body.1 i))) (struct_kept types S declared lower s read.0 h)
+body_kept types S enums declared lower (resolved.Enum e) (enum_body base flags values) read h body =
+    subst (λ b. IsBody S (length lower) b) (sym (λ i. enum_body (body.0 i) (body.1 i) (body.2 i))) (enum_kept declared e read h).1
+body_kept types S enums declared lower (resolved.Union u) (union_body members) read h body = subst (IsUnionBody S) (sym body) (union_kept S declared u read h)
+body_kept types S enums declared lower d b read h body = absurd body
 
-  body_kept : (t : ℕ) (scope : Option Name) (d : TypeDecl) (b : DeclaredBody) → length (aligns_before o S g none t) ≡ t → declaration_faults o.types o.attributes (aligns_before o S g none t) (resolved_declaration o.types scope d) ≡ []
-      → HasBody (resolved_declaration o.types scope d) b → IsBody S t b
-  body_kept t scope (decls.Table d) (table_body slots) len h body = table_kept o S g (enums_kept o S g none) scope d (table_right o.types o.attributes scope d h) slots body
-  body_kept t scope (decls.Struct d) (struct_body parts force) len h body =
-      subst (λ b. IsBody S t b) (sym (λ i. struct_body (body.0 i) (body.1 i))) (struct_kept o S g scope (aligns_before o S g none t) d h t len)
-  body_kept t scope (decls.Enum d) (enum_body base flags values) len h body =
-      subst (λ b. IsBody S t b) (sym (λ i. enum_body (body.0 i) (body.1 i) (body.2 i))) (enum_kept o.types o.attributes scope d h)
-  body_kept t scope (decls.Union d) (union_body members) len h body = subst (IsUnionBody S) (sym body) (union_kept o S g scope d h)
-  body_kept t scope d b len h body = absurd body
-
-  -- Each type has the body that its declaration needs.
-  pub bodies_kept : (t : ℕ) (type : DeclaredType) → slice_get S.types t ≡ Some type → IsBody S t type.body
-  bodies_kept t type at =
-      let read = read_from_type o S g t type at in
-      body_kept t read.0.scope read.0.declaration type.body (length-before t read.0 read.1) (declaration_right o S g none t read.0 read.1) read.2.body
+-- Each type has the body that its declaration needs.
+bodies_kept : (o : Outline) (S : DeclaredSchema) → Gives o S → faults_of_types o.types o.attributes (resolved_types o.types) ≡ [] → (t : ℕ) (type : DeclaredType) → slice_get S.types t ≡ Some type → IsBody S t type.body
+bodies_kept o S g none t type at =
+    let x = type_at o S g none t type at in
+    subst (λ n. IsBody S n type.body) (length-before o.types (resolved_types o.types) t (resolved_type o.types x.read) (resolved_at o.types t x.read x.at))
+    (body_kept o.types S (enums_kept o S g none) o.attributes (aligns_before o.types t) (resolved_declaration o.types x.read.scope x.read.declaration) type.body (read_in o S g x.read.scope x.read.declaration) x.right x.has)
 
 -- ---- the whole
 
 -- what is empty where an outline has no fault
 pub record IsOutlineRight (o : Outline) : Type 0 where
-  pub names : names_again [] (map located_name o.types) ≡ []
-  pub types : faults_of_types o.types o.attributes [] (resolved_types o.types) ≡ []
+  pub names : faults_in_turn type_again o.types ≡ []
+  pub types : faults_of_types o.types o.attributes (resolved_types o.types) ≡ []
+  pub root : root_faults o.text_len o.root (meaning_of_root o.types o.root) ≡ []
   pub identifier : identifier_faults o.identifier ≡ []
 
 pub outline_right : (o : Outline) → faults_of_outline o ≡ [] → IsOutlineRight o
 unfolding faults_of_outline
 outline_right o h =
-    let names = names_again [] (map located_name o.types) in
-    let types = faults_of_types o.types o.attributes [] (resolved_types o.types) in
-    let root = root_faults o.text_len o.root (meaning_of_root o.types o.root) in
-    let both = none_left (names ++ types) root (none_left (names ++ types ++ root) (identifier_faults o.identifier) h) in
-    record {
-      names = none_left names types both;
-      types = none_right names types both;
-      identifier = none_right (names ++ types ++ root) (identifier_faults o.identifier) h;
-    }
+    let none = four_none (faults_in_turn type_again o.types) (faults_of_types o.types o.attributes (resolved_types o.types)) (root_faults o.text_len o.root (meaning_of_root o.types o.root)) (identifier_faults o.identifier) h in
+    record { names = none.0; types = none.1; root = none.2; identifier = none.3 }
 
 -- What an outline with no fault gives is well declared.
 pub kept : (o : Outline) (S : DeclaredSchema) → faults_of_outline o ≡ [] → Gives o S → IsDeclared S

@@ -1,5 +1,5 @@
 -- What declarations give is one schema at most.
-use Rattle.std.proofs.Common.{◌≡◌, ◌<◌, ℕ, List, [], ◌∷◌, length, get_or, refl, ap, sym, subst, ◌∙◌, Option, Some, slice_get}
+use Rattle.std.proofs.Common.{◌≡◌, ◌<◌, ℕ, List, [], ◌∷◌, length, get_or, refl, ap, sym, subst, ◌∙◌, arith, Some, slice_get}
 use Rattle.std.specs.List.{AllZip}
 use Rattle.std.proofs.lemmas.List.{ext_get_or, nil_from_length}
 use Rattle.std.proofs.lemmas.List.Elements.{Contains-get_or}
@@ -10,7 +10,7 @@ use Rattle.fb_resolve.specs.ResolvedType.{ResolvedType}
 use Rattle.fb_resolve.specs.Resolved.{resolved_types}
 use Rattle.fb_resolve.specs.declared.resolved.ResolvedDecl.{ResolvedDecl}
 use Rattle.fb_resolve.specs.declared.resolved.ResolvedDecl.TheVariants as resolved
-use Rattle.fb_schema.specs.Schema.{Name, DeclaredField, DeclaredBody, table_body, struct_body, enum_body, union_body, DeclaredType, DeclaredSchema}
+use Rattle.fb_schema.specs.Schema.{DeclaredField, DeclaredBody, table_body, struct_body, enum_body, union_body, DeclaredType, DeclaredSchema}
 use Rattle.fb_resolve.specs.Outline.{Outline, outline_of}
 use Rattle.fb_resolve.specs.SlotsRead.{slots_read, AreInPlace}
 use Rattle.fb_declare.specs.Declares.{HasBody, IsType, Gives, Declares}
@@ -32,45 +32,32 @@ same_slots read (f ∷ fs) q a b = ext_get_or f (f ∷ fs) q (length_permutation
 -- A declaration gives one body at most.
 same_body : (d : ResolvedDecl) (b c : DeclaredBody) → HasBody d b → HasBody d c → b ≡ c
 same_body (resolved.Table t) (table_body p) (table_body q) x y = ap table_body (same_slots (slots_read t.fields) p q x y)
-same_body (resolved.Table t) (table_body p) _ x y = absurd y
 same_body (resolved.Struct s) (struct_body ps a) (struct_body qs b) x y = let parts : ps ≡ qs = x.0 ∙ sym y.0 in let force : a ≡ b = x.1 ∙ sym y.1 in cc
-same_body (resolved.Struct s) (struct_body ps a) _ x y = absurd y
 same_body (resolved.Enum e) (enum_body a f vs) (enum_body b g ws) x y =
     let base : a ≡ b = x.0 ∙ sym y.0 in let flags : f ≡ g = x.1 ∙ sym y.1 in let values : vs ≡ ws = x.2 ∙ sym y.2 in cc
-same_body (resolved.Enum e) (enum_body a f vs) _ x y = absurd y
 same_body (resolved.Union u) (union_body ms) (union_body ns) x y = ap union_body (x ∙ sym y)
-same_body (resolved.Union u) (union_body ms) _ x y = absurd y
-same_body _ _ _ x y = absurd x
-
--- a type of a name and a body
-abbrev typed : Name → DeclaredBody → DeclaredType
-typed name body = record { name = name; body = body }
+same_body _ _ _ x y = grind arith
 
 -- What is read of a type gives one type at most.
 same_type : (r : ResolvedType) (t u : DeclaredType) → IsType r t → IsType r u → t ≡ u
 same_type r t u x y =
+    let name : t.name ≡ u.name = x.name ∙ sym y.name in
     let body : t.body ≡ u.body = same_body r.declaration t.body u.body x.body y.body in
-    ap (λ n. typed n t.body) (x.name ∙ sym y.name) ∙ ap (λ b. typed u.name b) body
+    λ i. record { name = name i; body = body i }
 
 -- Declarations give one list of types at most.
 same_types : (rs : List ResolvedType) (ts us : List DeclaredType) → AllZip IsType rs ts → AllZip IsType rs us → ts ≡ us
 same_types [] [] [] x y = refl
-same_types [] [] (u ∷ us) x y = absurd y
-same_types [] (t ∷ ts) us x y = absurd x
-same_types (r ∷ rs) [] us x y = absurd x
-same_types (r ∷ rs) (t ∷ ts) [] x y = absurd y
 same_types (r ∷ rs) (t ∷ ts) (u ∷ us) x y = let head : t ≡ u = same_type r t u x.0 y.0 in let tail : ts ≡ us = same_types rs ts us x.1 y.1 in cc
-
--- a schema of its parts
-abbrev schema_of : List DeclaredType → ℕ → Option Name → DeclaredSchema
-schema_of types root identifier = record { types = types; root = root; identifier = identifier }
+same_types _ _ _ x y = grind arith
 
 -- An outline gives one schema at most.
-pub one_given : (o : Outline) (S T : DeclaredSchema) → Gives o S → Gives o T → S ≡ T
+one_given : (o : Outline) (S T : DeclaredSchema) → Gives o S → Gives o T → S ≡ T
 one_given o S T x y =
-    ap (λ ts. schema_of ts S.root S.identifier) (same_types (resolved_types o.types) S.types T.types x.types y.types)
-    ∙ ap (λ n. schema_of T.types n S.identifier) (same_Some S.root T.root (x.root ∙ sym y.root))
-    ∙ ap (λ i. schema_of T.types T.root i) (x.identifier ∙ sym y.identifier)
+    let types : S.types ≡ T.types = same_types (resolved_types o.types) S.types T.types x.types y.types in
+    let root : S.root ≡ T.root = same_Some S.root T.root (x.root ∙ sym y.root) in
+    let identifier : S.identifier ≡ T.identifier = x.identifier ∙ sym y.identifier in
+    λ i. record { types = types i; root = root i; identifier = identifier i }
 
 -- The declarations of a text give one schema at most.
 pub one_declared : (d : DeclsRead) (S T : DeclaredSchema) → Declares d S → Declares d T → S ≡ T

@@ -1,13 +1,52 @@
--- The slots of a table: which field each is of, the pairs of unions, and their names.
-use Rattle.std.proofs.Common.{◌≡◌, ℕ, ◌+◌, ◌++◌, ◌⊎◌, Bool, true, false, List, [], ◌∷◌, length, inl, inr, refl, arith, Some, slice_get, if◌then◌else◌}
-use Rattle.std.specs.List.{Contains}
+-- The slots of a table: which field each is of, their names, and the pairs of unions.
+use Rattle.std.proofs.Common.{◌≡◌, ◌≢◌, ℕ, ◌+◌, ◌++◌, List, [], ◌∷◌, length, map, refl, sym, ap, ◌∙◌, arith, AllPairs, Option, None, Some, slice_get, ⊎_elim, zero, suc, subst}
+use Rattle.std.specs.List.{Contains, flat_map, All}
 use Rattle.std.specs.Option.{unwrap_or}
-use Rattle.std.proofs.lemmas.List.Elements.{Contains-append_left, Contains-append_right, Contains-append_cases}
-use Rattle.std.proofs.lemmas.List.Sorted.{Contains-permutation, IsPermutation-sym}
-use Rattle.std.proofs.lemmas.Option.{get_or_from_slice_get, slice_get_within}
-use Rattle.fb_schema.specs.Schema.{DeclaredField}
+use Rattle.std.specs.Str.{bytes_eq}
+use Rattle.std.proofs.lemmas.List.{map-append}
+use Rattle.std.proofs.lemmas.List.Elements.{Contains-append_left, Contains-append_right, Contains-append_cases, All-contains}
+use Rattle.std.proofs.lemmas.List.Sorted.{Contains-permutation, IsPermutation-sym, IsPermutation-map}
+use Rattle.std.proofs.lemmas.Map.Keys.{IsDistinct-IsPermutation}
+use Rattle.std.proofs.lemmas.Map.Made.{AllPairs-from_IsDistinct, IsDistinct-from_AllPairs}
+use Rattle.std.proofs.lemmas.Option.{get_or_from_slice_get, slice_get_within, slice_get-get_or}
+use Rattle.std.proofs.lemmas.Slice.Eq.{bytes_eq-Decides}
+use Rattle.fb_schema.specs.Schema.{DeclaredField, DeclaredSchema}
+use Rattle.fb_schema.specs.WellDeclared.{names_of, IsUnionPair, UnionsPaired}
+use Rattle.fb_schema.specs.declared.kinds.TypeId.{TypeId}
 use Rattle.fb_resolve.specs.ResolvedFields.{ResolvedField}
-use Rattle.fb_resolve.specs.SlotsRead.{slots_of_field, slots_in_order, slot_by_id, slots_by_id, have_ids, slots_read, AreInPlace}
+use Rattle.fb_resolve.specs.SlotsRead.{union_in, slots_by_union, slots_of_field, slots_in_order, slot_by_id, slots_by_id, have_ids, slots_read, AreInPlace, union_of, shape_of, value_slot, code_slot}
+use Rattle.fb_resolve.proofs.Bytes.{bytes_eq-sym}
+use Rattle.fb_declare.specs.FaultRows.{names_again}
+use Rattle.fb_declare.specs.TypeFaults.{names_by_union, names_of_field}
+use Rattle.fb_declare.proofs.FaultFree.{either}
+use Rattle.fb_declare.proofs.NamesApart.{names_apart}
+use Rattle.fb_syntax.specs.declared.declarations.FieldType.{FieldType}
+use Rattle.fb_syntax.specs.declared.declarations.FieldType.TheVariants as types_read
+use Rattle.fb_schema.specs.declared.kinds.Kind.TheVariants.{Union, Code}
+use Rattle.fb_schema.specs.declared.kinds.Shape.TheVariants.{One}
+use Rattle.fb_resolve.specs.Outline.{TypeRead}
+use Rattle.fb_resolve.specs.declared.meanings.Meaning.{Meaning}
+use Rattle.fb_resolve.specs.declared.meanings.Meaning.TheVariants.{Known}
+use Rattle.fb_declare.proofs.Meant.{MeansIn, IsRead}
+
+-- the slots of some fields, of each from some number on
+data Numbered : List ResolvedField → List DeclaredField → Type 0 where
+  none : Numbered [] []
+  more : (f : ResolvedField) (fs : List ResolvedField) (slot : ℕ) (rest : List DeclaredField) → Numbered fs rest → Numbered (f ∷ fs) (slots_of_field f slot ++ rest)
+
+in_order : (slot : ℕ) (fs : List ResolvedField) → Numbered fs (slots_in_order slot fs)
+unfolding slots_in_order
+in_order slot [] = none
+in_order slot (f ∷ fs) = more f fs slot _ (in_order (slot + length (slots_of_field f slot)) fs)
+
+by_id : (fs : List ResolvedField) → Numbered fs (slots_by_id fs)
+by_id [] = none
+by_id (f ∷ fs) = more f fs (unwrap_or (slot_by_id f) 0) _ (by_id fs)
+
+numbered : (fs : List ResolvedField) → Numbered fs (slots_read fs)
+numbered fs = either (Numbered fs) (have_ids fs) (slots_by_id fs) (slots_in_order 0 fs) (λ is. by_id fs) (in_order 0 fs)
+
+-- ---- the field of a slot
 
 -- a slot is one of a field's, all of whose slots are there
 pub record IsFrom (fs : List ResolvedField) (all : List DeclaredField) (p : DeclaredField) : Type 0 where
@@ -17,64 +56,25 @@ pub record IsFrom (fs : List ResolvedField) (all : List DeclaredField) (p : Decl
   pub here : Contains (slots_of_field field slot) p
   pub whole : (q : DeclaredField) → Contains (slots_of_field field slot) q → Contains all q
 
-Contains-head : {X : Type 0} (x : X) (xs : List X) → Contains (x ∷ xs) x
-Contains-head x xs = (0, omega arith, refl)
+slot_from : (fs : List ResolvedField) (all : List DeclaredField) → Numbered fs all → (p : DeclaredField) → Contains all p → IsFrom fs all p
+slot_from fs all none p (k, less, is) = absurd (omega arith)
+slot_from fs all (more f gs slot rest n) p c = ⊎_elim
+    (λ here. record { field = f; slot = slot; among = (0, omega arith, refl); here = here; whole = λ q d. Contains-append_left (slots_of_field f slot) rest q d })
+    (λ later. let x = slot_from gs rest n p later in record {
+      field = x.field;
+      slot = x.slot;
+      among = Contains-append_right (f ∷ []) gs x.field x.among;
+      here = x.here;
+      whole = λ q d. Contains-append_right (slots_of_field f slot) rest q (x.whole q d);
+    })
+    (Contains-append_cases (slots_of_field f slot) rest p c)
 
-later_from : (f : ResolvedField) (fs : List ResolvedField) (first rest : List DeclaredField) (p : DeclaredField) → IsFrom fs rest p → IsFrom (f ∷ fs) (first ++ rest) p
-later_from f fs first rest p x = record {
-  field = x.field;
-  slot = x.slot;
-  among = Contains-append_right (f ∷ []) fs x.field x.among;
-  here = x.here;
-  whole = λ q c. Contains-append_right first rest q (x.whole q c);
-}
-
-first_from : (f : ResolvedField) (fs : List ResolvedField) (slot : ℕ) (rest : List DeclaredField) (p : DeclaredField) → Contains (slots_of_field f slot) p
-    → IsFrom (f ∷ fs) (slots_of_field f slot ++ rest) p
-first_from f fs slot rest p c = record {
-  field = f;
-  slot = slot;
-  among = Contains-head f fs;
-  here = c;
-  whole = λ q d. Contains-append_left (slots_of_field f slot) rest q d;
-}
-
-from_cases : (f : ResolvedField) (fs : List ResolvedField) (slot : ℕ) (rest : List DeclaredField) (p : DeclaredField) → (Contains rest p → IsFrom fs rest p)
-    → Contains (slots_of_field f slot) p ⊎ Contains rest p → IsFrom (f ∷ fs) (slots_of_field f slot ++ rest) p
-from_cases f fs slot rest p more (inl c) = first_from f fs slot rest p c
-from_cases f fs slot rest p more (inr c) = later_from f fs (slots_of_field f slot) rest p (more c)
-
-not_in_none : {X : Type 0} (x : X) → Contains [] x → ⊥
-not_in_none x c = let less = c.1 in omega arith
-
-in_order_from : (fs : List ResolvedField) (slot : ℕ) (p : DeclaredField) → Contains (slots_in_order slot fs) p → IsFrom fs (slots_in_order slot fs) p
-unfolding slots_in_order
-in_order_from [] slot p c = absurd (not_in_none p c)
-in_order_from (f ∷ fs) slot p c =
-    let rest = slots_in_order (slot + length (slots_of_field f slot)) fs in
-    from_cases f fs slot rest p (in_order_from fs (slot + length (slots_of_field f slot)) p) (Contains-append_cases (slots_of_field f slot) rest p c)
-
-by_id_from : (fs : List ResolvedField) (p : DeclaredField) → Contains (slots_by_id fs) p → IsFrom fs (slots_by_id fs) p
-by_id_from [] p c = absurd (not_in_none p c)
-by_id_from (f ∷ fs) p c =
-    let slot = unwrap_or (slot_by_id f) 0 in
-    from_cases f fs slot (slots_by_id fs) p (by_id_from fs p) (Contains-append_cases (slots_of_field f slot) (slots_by_id fs) p c)
-
-by_test_from : (fs : List ResolvedField) (p : DeclaredField) (b : Bool) → Contains (if b then slots_by_id fs else slots_in_order 0 fs) p
-    → IsFrom fs (if b then slots_by_id fs else slots_in_order 0 fs) p
-by_test_from fs p true c = by_id_from fs p c
-by_test_from fs p false c = in_order_from fs 0 p c
-
--- each slot is of a field
-pub slot_from : (fs : List ResolvedField) (p : DeclaredField) → Contains (slots_read fs) p → IsFrom fs (slots_read fs) p
-slot_from fs p c = by_test_from fs p (have_ids fs) c
-
--- also where the slots stand at the places of their numbers
+-- each slot is of a field, where the slots stand at the places of their numbers
 pub slot_placed : (fs : List ResolvedField) (slots : List DeclaredField) → AreInPlace (slots_read fs) slots
     → (k : ℕ) (p : DeclaredField) → slice_get slots k ≡ Some p → IsFrom fs slots p
 slot_placed fs slots placed k p e =
     let c : Contains slots p = (k, slice_get_within slots k p e, get_or_from_slice_get slots k p p e) in
-    let x = slot_from fs p (Contains-permutation slots (slots_read fs) p (IsPermutation-sym (slots_read fs) slots placed.same) c) in
+    let x = slot_from fs (slots_read fs) (numbered fs) p (Contains-permutation slots (slots_read fs) p (IsPermutation-sym (slots_read fs) slots placed.same) c) in
     record {
       field = x.field;
       slot = x.slot;
@@ -82,3 +82,125 @@ slot_placed fs slots placed k p e =
       here = x.here;
       whole = λ q d. Contains-permutation (slots_read fs) slots q placed.same (x.whole q d);
     }
+
+-- ---- names
+
+names-by_union : (f : ResolvedField) (slot : ℕ) (u : Option TypeId) → names_of (slots_by_union f u slot) ≡ map (λ n. n.bytes) (names_by_union f.field u)
+names-by_union f slot None = refl
+names-by_union f slot (Some u) = refl
+
+names-numbered : (fs : List ResolvedField) (all : List DeclaredField) → Numbered fs all → names_of all ≡ map (λ n. n.bytes) (flat_map names_of_field fs)
+unfolding slots_of_field
+names-numbered fs all none = refl
+names-numbered fs all (more f gs slot rest n) =
+    map-append (λ s. s.name) (slots_of_field f slot) rest
+    ∙ ap (λ ns. ns ++ names_of rest) (names-by_union f slot (union_in f))
+    ∙ ap (λ ns. map (λ n. n.bytes) (names_of_field f) ++ ns) (names-numbered gs rest n)
+    ∙ sym (map-append (λ n. n.bytes) (names_of_field f) (flat_map names_of_field gs))
+
+-- The names of a table's slots differ.
+pub slot_names_differ : (fs : List ResolvedField) (slots : List DeclaredField) → AreInPlace (slots_read fs) slots
+    → names_again (flat_map names_of_field fs) ≡ [] → AllPairs (λ a b. a ≢ b) (names_of slots)
+slot_names_differ fs slots placed h =
+    let read : AllPairs (λ a b. a ≢ b) (names_of (slots_read fs)) = rw (names-numbered fs (slots_read fs) (numbered fs)) (names_apart (flat_map names_of_field fs) h) in
+    AllPairs-from_IsDistinct bytes_eq-Decides (names_of slots)
+    (IsDistinct-IsPermutation bytes_eq bytes_eq-sym (names_of (slots_read fs)) (names_of slots) (IsPermutation-map (λ s. s.name) (slots_read fs) slots placed.same)
+    (IsDistinct-from_AllPairs bytes_eq-Decides (names_of (slots_read fs)) read))
+
+-- ---- the shape of a value's slot
+
+-- a value's slot is no union's code
+value_no_code : (S : DeclaredSchema) (k : FieldType) (m : Meaning) (u : TypeId) → MeansIn S m → shape_of k m ≡ One (Code u) → ⊥
+value_no_code S (types_read.One n) (Known (Code v)) u h e = h.1
+value_no_code S _ _ u h e = cc
+
+-- a union's value has the shape of the union, and no other value has
+union_shape : (k : FieldType) (m : Meaning) (u : TypeId) → union_of k m ≡ Some u → shape_of k m ≡ One (Union u)
+union_shape (types_read.One n) (Known (Union v)) u e = let same : v ≡ u = cc in ap (λ x. One (Union x)) same
+union_shape _ _ u e = cc
+
+union_from_shape : (k : FieldType) (m : Meaning) (u : TypeId) → shape_of k m ≡ One (Union u) → union_of k m ≡ Some u
+union_from_shape (types_read.One n) (Known (Union v)) u e = let same : v ≡ u = cc in ap Some same
+union_from_shape _ _ u e = cc
+
+-- ---- the slots of one field
+
+-- a field's slot is its value, or the code of its union, or that union's value behind the code
+pub data SlotCase (f : ResolvedField) (slot : ℕ) (p : DeclaredField) : Type 0 where
+  alone : union_in f ≡ None → p ≡ value_slot f slot → SlotCase f slot p
+  coded : (u : TypeId) → union_in f ≡ Some u → p ≡ code_slot f u slot → SlotCase f slot p
+  valued : (u : TypeId) → union_in f ≡ Some u → p ≡ value_slot f (slot + 1) → SlotCase f slot p
+
+union_cases : (f : ResolvedField) (slot : ℕ) (p : DeclaredField) (u : Option TypeId) → union_in f ≡ u
+    → Contains (slots_by_union f u slot) p → SlotCase f slot p
+union_cases f slot p None e (zero, less, is) = alone e (sym is)
+union_cases f slot p (Some u) e (zero, less, is) = coded u e (sym is)
+union_cases f slot p (Some u) e (suc zero, less, is) = valued u e (sym is)
+union_cases f slot p _ e (k, less, is) = absurd (omega arith)
+
+pub slot_cases : (f : ResolvedField) (slot : ℕ) (p : DeclaredField) → Contains (slots_of_field f slot) p → SlotCase f slot p
+unfolding slots_of_field
+slot_cases f slot p c = union_cases f slot p (union_in f) refl c
+
+-- both slots of a union are there
+both_there : (f : ResolvedField) (slot : ℕ) (u : TypeId) → union_in f ≡ Some u → Contains (slots_of_field f slot) (code_slot f u slot) × Contains (slots_of_field f slot) (value_slot f (slot + 1))
+unfolding slots_of_field
+both_there f slot u e = subst (λ o. Contains (slots_by_union f o slot) (code_slot f u slot) × Contains (slots_by_union f o slot) (value_slot f (slot + 1))) (sym e) ((0, omega arith, refl), (1, omega arith, refl))
+
+-- ---- pairs
+
+-- a slot that is there stands at the place of its number
+at_its_place : (slots : List DeclaredField) → ((k : ℕ) (f : DeclaredField) → slice_get slots k ≡ Some f → f.slot ≡ k) → (q : DeclaredField) → Contains slots q → slice_get slots q.slot ≡ Some q
+at_its_place slots places q c =
+    let here = slice_get-get_or slots c.0 q c.1 ∙ ap Some c.2 in
+    ap (slice_get slots) (places c.0 q here) ∙ here
+
+pair_of : (f : ResolvedField) (slot : ℕ) (u : TypeId) → union_in f ≡ Some u → IsUnionPair (code_slot f u slot) (value_slot f (slot + 1)) u
+pair_of f slot u e = record {
+  named = refl;
+  code = refl;
+  value = union_shape f.field.kind f.meaning u e;
+  marks = refl;
+}
+
+-- the slots of a table whose types mean what they should
+module _ (types : List TypeRead) (S : DeclaredSchema) (fs : List ResolvedField) (read : All (IsRead types S) fs)
+    (slots : List DeclaredField) (placed : AreInPlace (slots_read fs) slots) where
+  follows : (k : ℕ) (p : DeclaredField) (u : TypeId) → slice_get slots k ≡ Some p → p.shape ≡ One (Code u) → (x : IsFrom fs slots p) → SlotCase x.field x.slot p
+      → (g : DeclaredField) × (slice_get slots (suc k) ≡ Some g) × IsUnionPair p g u
+  follows k p u at shape x (alone e same) = absurd (value_no_code S x.field.field.kind x.field.meaning u (All-contains (IsRead types S) fs x.field read x.among).means (sym (ap (λ q. q.shape) same) ∙ shape))
+  follows k p u at shape x (valued v e same) = absurd (value_no_code S x.field.field.kind x.field.meaning u (All-contains (IsRead types S) fs x.field read x.among).means (sym (ap (λ q. q.shape) same) ∙ shape))
+  follows k p u at shape x (coded v e same) =
+      let g = value_slot x.field (x.slot + 1) in
+      let codes_same : One (Code v) ≡ One (Code u) = sym (ap (λ q. q.shape) same) ∙ shape in
+      let ids : v ≡ u = cc in
+      let slot : x.slot ≡ k = sym (ap (λ q. q.slot) same) ∙ placed.slots k p at in
+      let next : x.slot + 1 ≡ suc k = omega arith in (
+        g,
+        sym (ap (slice_get slots) next) ∙ at_its_place slots placed.slots g (x.whole g (both_there x.field x.slot v e).1),
+        subst (λ q. IsUnionPair q g u) (sym same) (subst (λ w. IsUnionPair (code_slot x.field v x.slot) g w) ids (pair_of x.field x.slot v e)),
+      )
+
+  leads : (k : ℕ) (p : DeclaredField) (u : TypeId) → slice_get slots k ≡ Some p → p.shape ≡ One (Union u) → (x : IsFrom fs slots p) → SlotCase x.field x.slot p
+      → (j : ℕ) × (f : DeclaredField) × (k ≡ suc j) × (slice_get slots j ≡ Some f) × IsUnionPair f p u
+  leads k p u at shape x (alone e same) =
+      let is = union_from_shape x.field.field.kind x.field.meaning u (sym (ap (λ q. q.shape) same) ∙ shape) in cc
+  leads k p u at shape x (coded v e same) = let codes_same : One (Code v) ≡ One (Union u) = sym (ap (λ q. q.shape) same) ∙ shape in cc
+  leads k p u at shape x (valued v e same) =
+      let f = code_slot x.field v x.slot in
+      let is = union_from_shape x.field.field.kind x.field.meaning u (sym (ap (λ q. q.shape) same) ∙ shape) in
+      let ids : v ≡ u = cc in
+      let slot : x.slot + 1 ≡ k = sym (ap (λ q. q.slot) same) ∙ placed.slots k p at in (
+        x.slot,
+        f,
+        omega arith,
+        at_its_place slots placed.slots f (x.whole f (both_there x.field x.slot v e).0),
+        subst (λ q. IsUnionPair f q u) (sym same) (subst (λ w. IsUnionPair f (value_slot x.field (x.slot + 1)) w) ids (pair_of x.field x.slot v e)),
+      )
+
+  -- A union's code stands right before its value.
+  pub unions_paired : UnionsPaired slots
+  unions_paired = record {
+    followed = λ k p u at shape. let x = slot_placed fs slots placed k p at in follows k p u at shape x (slot_cases x.field x.slot p x.here);
+    led = λ k p u at shape. let x = slot_placed fs slots placed k p at in leads k p u at shape x (slot_cases x.field x.slot p x.here);
+  }

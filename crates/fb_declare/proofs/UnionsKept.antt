@@ -1,104 +1,73 @@
 -- The body of a union with no fault: 255 members at most, tables of different names, none of them NONE.
-use Rattle.std.proofs.Common.{◌≡◌, ◌≢◌, ℕ, ◌+◌, ◌<◌, ◌≤◌, ◌++◌, ◌||◌, nat_le, false, List, [], ◌∷◌, length, map, All, AllPairs, Option, is_none, refl, ap, sym, subst, ◌∙◌, arith, true≢false}
+use Rattle.std.proofs.Common.{◌≡◌, ◌≢◌, ℕ, ◌<◌, ◌++◌, ◌||◌, nat_le, false, List, [], length, map, take, All, is_none, Some, ap, sym, subst, ◌∙◌, arith, true≢false}
 use Rattle.std.specs.Prelude.{codes}
-use Rattle.std.specs.Option.{unwrap_or}
+use Rattle.std.specs.List.{slice_get}
 use Rattle.std.specs.Str.{bytes_eq}
+use Rattle.std.proofs.Math.Nat.{lt_of_not-le}
 use Rattle.std.proofs.lemmas.Bool.{or_parts, leb-false}
-use Rattle.std.proofs.lemmas.List.{length-map}
-use Rattle.std.proofs.lemmas.List.Elements.{All-nil, All-cons}
-use Rattle.fb_syntax.specs.TypesRead.{UnionRead}
-use Rattle.fb_syntax.specs.declared.declarations.UnionMember.{UnionMember}
-use Rattle.fb_schema.specs.declared.kinds.Kind.{Kind}
-use Rattle.fb_schema.specs.declared.kinds.Kind.TheVariants.{Table}
+use Rattle.std.proofs.lemmas.List.{length-map, length-take-le}
+use Rattle.std.proofs.lemmas.List.Elements.{All-map}
+use Rattle.std.proofs.lemmas.Option.{slice_get-get_or, slice_get_within}
+use Rattle.std.proofs.lemmas.Simd.{map-map}
 use Rattle.fb_schema.specs.Schema.{Name, DeclaredSchema, is_table}
-use Rattle.fb_schema.specs.WellDeclared.{Names, KindNames, IsUnionBody}
+use Rattle.fb_schema.specs.WellDeclared.{Names, IsUnionBody}
 use Rattle.fb_declare.specs.declared.faults.SchemaFault.TheVariants.{DuplicateName, BadMember}
-use Rattle.fb_resolve.specs.declared.meanings.Meaning.{Meaning}
-use Rattle.fb_resolve.specs.declared.meanings.Meaning.TheVariants.{Known}
 use Rattle.fb_declare.specs.declared.attribute_faults.AttributeHost.TheVariants as hosts
-use Rattle.fb_resolve.specs.Outline.{TypeRead, Outline}
-use Rattle.fb_resolve.specs.Meaning.{meaning_of}
 use Rattle.fb_declare.specs.AttributeFaults.{metadata_faults}
-use Rattle.fb_resolve.specs.MembersRead.{member_name, table_of, member_read}
-use Rattle.fb_declare.specs.FaultRows.{names_again, none_name, use_faults, bad_member, member_faults}
-use Rattle.fb_declare.specs.TypeFaults.{members_faults, union_faults}
-use Rattle.fb_declare.specs.Declares.{Gives}
+use Rattle.fb_resolve.specs.MembersRead.{table_of, member_read}
+use Rattle.fb_resolve.specs.ResolvedFields.{ResolvedMember, ResolvedUnion}
+use Rattle.fb_declare.specs.FaultRows.{when, faults_in_turn, names_again, use_faults, member_faults}
+use Rattle.fb_declare.specs.TypeFaults.{member_behind, union_faults}
 use Rattle.fb_resolve.proofs.Bytes.{bytes_eq-refl}
-use Rattle.fb_declare.proofs.FaultFree.{none_left, none_right, when-none}
-use Rattle.fb_declare.proofs.NoFaults.{both_empty, apart_by, names_apart}
-use Rattle.fb_declare.proofs.KindsNamed.{kind_named}
-use Rattle.fb_resolve.specs.Resolved.{resolved_member, resolved_members, resolved_union}
-
--- a member's name and table
+use Rattle.fb_declare.proofs.FaultFree.{both_none, none_behind, when-none, all_at, there}
+use Rattle.fb_declare.proofs.NamesApart.{named_apart}
+use Rattle.fb_declare.proofs.Meant.{MeansIn, table_named}
 
 -- names that a test tells apart differ
 not_called : (name other : Name) → bytes_eq name other ≡ false → name ≢ other
 not_called name other h e = true≢false (sym (bytes_eq-refl other) ∙ ap (λ n. bytes_eq n other) (sym e) ∙ h)
 
--- the number of the table that a use names
-table_named : (S : DeclaredSchema) (m : Meaning) → ((k : Kind) → m ≡ Known k → KindNames S k) → is_none (table_of m) ≡ false → Names is_table S (unwrap_or (table_of m) 0)
-table_named S (Known (Table t)) named h = named (Table t) refl
-table_named S (Known k) named h = absurd (true≢false h)
-table_named S m named h = absurd (true≢false h)
-
 -- what a right member keeps, behind so many
-pub record IsMember (S : DeclaredSchema) (before : ℕ) (m : Name × ℕ) : Type 0 where
+record IsMember (S : DeclaredSchema) (before : ℕ) (m : Name × ℕ) : Type 0 where
   pub not_none : m.0 ≢ codes "NONE"
   pub table : Names is_table S m.1
   pub few : before < 255
 
 -- a member with no fault is right
-member_right : (S : DeclaredSchema) (types : List TypeRead) (scope : Option Name) (before : ℕ) (m : UnionMember)
-    → ((k : Kind) → meaning_of types scope m.table.bytes ≡ Known k → KindNames S k) → member_faults before (resolved_member types scope m) ≡ []
-    → IsMember S before (member_read (resolved_member types scope m))
+member_right : (S : DeclaredSchema) (before : ℕ) (r : ResolvedMember) → MeansIn S r.meaning → member_faults before r ≡ [] → IsMember S before (member_read r)
 unfolding member_faults
-member_right S types scope before m named h =
-    let meant : Meaning = meaning_of types scope m.table.bytes in
-    let a = both_empty (none_name (member_name m) ++ use_faults meant m.table.at) (bad_member before meant m.table.at) h in
-    let b = or_parts (is_none (table_of meant)) (nat_le 255 before) (when-none (is_none (table_of meant) || nat_le 255 before) (BadMember m.table.at) a.1) in
+member_right S before r means h =
+    let at = r.member.table.at in
+    let called = bytes_eq r.name.bytes (codes "NONE") in
+    let bad = is_none (table_of r.meaning) || nat_le 255 before in
+    let parts = both_none (when called (DuplicateName r.name.at) ++ use_faults r.meaning at) (when bad (BadMember at)) h in
+    let few = or_parts (is_none (table_of r.meaning)) (nat_le 255 before) (when-none bad (BadMember at) parts.1) in
     record {
-      not_none = not_called (member_name m).bytes (codes "NONE") (when-none (bytes_eq (member_name m).bytes (codes "NONE")) (DuplicateName (member_name m).at) (none_left (none_name (member_name m)) (use_faults meant m.table.at) a.0));
-      table = table_named S meant named b.0;
-      few = leb-false 255 before b.1;
+      not_none = not_called r.name.bytes (codes "NONE") (when-none called (DuplicateName r.name.at) (both_none (when called (DuplicateName r.name.at)) (use_faults r.meaning at) parts.0).0);
+      table = table_named S r.meaning means few.0;
+      few = leb-false 255 before few.1;
     }
 
--- the faults of one member more
-members-cons : (types : List TypeRead) (scope : Option Name) (before : ℕ) (m : UnionMember) (ms : List UnionMember)
-    → members_faults before (resolved_members types scope (m ∷ ms)) ≡ member_faults before (resolved_member types scope m) ++ members_faults (before + 1) (resolved_members types scope ms)
-unfolding members_faults
-members-cons types scope before m ms = refl
+-- a union with no fault has a right body, where its members' names mean what the schema has
+module _ (S : DeclaredSchema) (ms : List ResolvedMember) (means : All (λ m. MeansIn S m.meaning) ms) (none : faults_in_turn member_behind ms ≡ []) where
+  member_at : (k : ℕ) (m : ResolvedMember) → slice_get ms k ≡ Some m → IsMember S k (member_read m)
+  member_at k m e =
+      let within = slice_get_within ms k m e in
+      let many : length (take k ms) ≡ k = length-take-le k ms (omega arith) in
+      subst (λ n. IsMember S n (member_read m)) many (member_right S (length (take k ms)) m (all_at (λ m. MeansIn S m.meaning) ms means k m e) (none_behind member_behind [] ms none k m e))
 
--- the members of a union, where each known use names a type
-module _ (S : DeclaredSchema) (types : List TypeRead) (scope : Option Name) (named : (name : Name) (k : Kind) → meaning_of types scope name ≡ Known k → KindNames S k) where
-  -- members with no fault are few and right
-  members_right : (before : ℕ) (ms : List UnionMember) → before ≤ 255 → members_faults before (resolved_members types scope ms) ≡ []
-      → (before + length ms ≤ 255) × All (λ m. (m.0 ≢ codes "NONE") × Names is_table S m.1) (map member_read (resolved_members types scope ms))
-  members_right before [] few h = (omega arith, All-nil (λ m. (m.0 ≢ codes "NONE") × Names is_table S m.1))
-  members_right before (m ∷ ms) few h =
-      let parts = both_empty (member_faults before (resolved_member types scope m)) (members_faults (before + 1) (resolved_members types scope ms)) (sym (members-cons types scope before m ms) ∙ h) in
-      let is : IsMember S before (member_read (resolved_member types scope m)) = member_right S types scope before m (named m.table.bytes) parts.0 in
-      let rest = members_right (before + 1) ms (omega (arith, is.few)) parts.1 in
-      (omega (arith, rest.0), All-cons (λ m. (m.0 ≢ codes "NONE") × Names is_table S m.1) (member_read (resolved_member types scope m)) (map member_read (resolved_members types scope ms)) (is.not_none, is.table) rest.1)
+  members_kept : names_again (map (λ m. m.name) ms) ≡ [] → IsUnionBody S (map member_read ms)
+  members_kept names = record {
+    few = let below = lt_of_not-le {n = 256} {m = length ms} (λ over. let m = there ms 255 (omega arith) in let few = (member_at 255 m.0 m.1).few in omega arith) in
+        omega (arith, length-map ms member_read);
+    no_none = All-map (λ m. m.0 ≢ codes "NONE") member_read ms (λ k d within. (member_at k _ (slice_get-get_or ms k d within)).not_none);
+    names = named_apart (λ m. m.0) (map (λ m. m.name) ms) (map member_read ms) (map-map (λ n. n.bytes) (λ m. m.name) ms ∙ sym (map-map (λ m. m.0) member_read ms)) names;
+    tables = All-map (λ m. Names is_table S m.1) member_read ms (λ k d within. (member_at k _ (slice_get-get_or ms k d within)).table);
+  }
 
-  -- a union with no fault has a right body
-  pub union_kept_by : (declared : List Name) (u : UnionRead) → union_faults declared (resolved_union types scope u) ≡ [] → IsUnionBody S (map member_read (resolved_members types scope u.members))
-  unfolding union_faults
-  union_kept_by declared u h =
-      let a = both_empty (metadata_faults declared hosts.Union [] u.attributes ++ names_again [] (map (λ m. m.name) (resolved_members types scope u.members))) (members_faults 0 (resolved_members types scope u.members)) h in
-      let names = names_apart (map (λ m. m.name) (resolved_members types scope u.members)) (none_right (metadata_faults declared hosts.Union [] u.attributes) (names_again [] (map (λ m. m.name) (resolved_members types scope u.members))) a.0) in
-      let members = members_right 0 u.members (omega arith) a.1 in
-      record {
-        few = omega (arith, members.0, length-map (resolved_members types scope u.members) member_read, length-map u.members (resolved_member types scope));
-        no_none = λ k d within. (members.1 k d within).0;
-        names = apart_by (λ m. m.0) (map member_read (resolved_members types scope u.members)) (subst (AllPairs (λ a b. a ≢ b)) (same_names u.members) names);
-        tables = λ k d within. (members.1 k d within).1;
-      }
-    where
-      same_names : (ms : List UnionMember) → map (λ n. n.bytes) (map (λ m. m.name) (resolved_members types scope ms)) ≡ map (λ m. m.0) (map member_read (resolved_members types scope ms))
-      same_names [] = refl
-      same_names (m ∷ ms) = ap (λ names. (member_name m).bytes ∷ names) (same_names ms)
-
--- in the schema that an outline gives
-pub union_kept : (o : Outline) (S : DeclaredSchema) → Gives o S → (scope : Option Name) (u : UnionRead) → union_faults o.attributes (resolved_union o.types scope u) ≡ []
-    → IsUnionBody S (map member_read (resolved_members o.types scope u.members))
-union_kept o S gives scope u h = union_kept_by S o.types scope (kind_named o S gives scope) o.attributes u h
+pub union_kept : (S : DeclaredSchema) (declared : List Name) (u : ResolvedUnion) → All (λ m. MeansIn S m.meaning) u.members → union_faults declared u ≡ [] → IsUnionBody S (map member_read u.members)
+unfolding union_faults
+union_kept S declared u means h =
+    let metadata = metadata_faults declared hosts.Union u.declared.attributes in let names = names_again (map (λ m. m.name) u.members) in
+    let a = both_none (metadata ++ names) (faults_in_turn member_behind u.members) h in
+    members_kept S u.members means a.1 (both_none metadata names a.0).1

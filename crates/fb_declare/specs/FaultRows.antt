@@ -1,6 +1,6 @@
 -- Where each rule on declarations fails: of names, types, defaults, ids, structs, enums, unions, the root and the identifier.
 -- From the FlatBuffers documentation, "Writing a schema".
-use Rattle.std.specs.Prelude.{ℕ, ◌==◌, ◌++◌, ◌&&◌, ◌||◌, not, Bool, true, false, List, [], ◌∷◌, length, Option, None, Some, ℤ, codes, if◌then◌else◌, nat_le}
+use Rattle.std.specs.Prelude.{ℕ, ◌==◌, ◌++◌, ◌&&◌, ◌||◌, not, Bool, false, List, [], ◌∷◌, length, Option, None, Some, ℤ, codes, if◌then◌else◌, nat_le}
 use Rattle.std.specs.List.{list_any, list_all}
 use Rattle.std.specs.Option.{is_none}
 use Rattle.std.specs.Ordering.{int_eq}
@@ -11,8 +11,8 @@ use Rattle.fb_syntax.specs.declared.declarations.FieldType.TheVariants.{One, Man
 use Rattle.fb_syntax.specs.declared.declarations.DefaultValue.{DefaultValue}
 use Rattle.fb_syntax.specs.declared.declarations.DefaultValue.TheVariants.{Integer, Name as Named}
 use Rattle.fb_schema.specs.Schema.{Name}
-use Rattle.fb_resolve.specs.Outline.{RootRead}
-use Rattle.fb_resolve.specs.BasicTypes.{is_reserved}
+use Rattle.fb_resolve.specs.Outline.{TypeRead, RootRead, name_of_type, word_of}
+use Rattle.fb_resolve.specs.RepeatedNames.{has_name}
 use Rattle.fb_resolve.specs.Meaning.{type_name}
 use Rattle.fb_resolve.specs.EnumsRead.{may_be_written, integer_type}
 use Rattle.fb_resolve.specs.MembersRead.{table_of}
@@ -29,21 +29,29 @@ use Rattle.fb_declare.specs.declared.faults.SchemaFault.TheVariants.{DuplicateNa
 abbrev pub when : Bool → SchemaFault → List SchemaFault
 when fails fault = if fails then fault ∷ [] else []
 
+-- the faults of a list's elements, by a rule that looks at an element and all before it; these stand before the list
+unfoldable pub faults_behind : {X : Type 0} → (List X → X → List SchemaFault) → List X → List X → List SchemaFault
+faults_behind rule before [] = []
+faults_behind rule before (x ∷ xs) = rule before x ++ faults_behind rule (before ++ x ∷ []) xs
+
+-- the faults of a list by such a rule
+abbrev pub faults_in_turn : {X : Type 0} → (List X → X → List SchemaFault) → List X → List SchemaFault
+faults_in_turn rule xs = faults_behind rule [] xs
+
 abbrev pub is_among : Name → List Located → Bool
 is_among name earlier = list_any (λ e. bytes_eq name e.bytes) earlier
 
--- the names that occur among those before them
-unfoldable pub names_again : List Located → List Located → List SchemaFault
-names_again earlier [] = []
-names_again earlier (n ∷ ns) = when (is_among n.bytes earlier) (DuplicateName n.at) ++ names_again (earlier ++ n ∷ []) ns
+-- a name that is among those before it
+abbrev pub name_again : List Located → Located → List SchemaFault
+name_again before n = when (is_among n.bytes before) (DuplicateName n.at)
 
--- a type's name is a basic or float type's
-abbrev pub reserved_name : Located → List SchemaFault
-reserved_name n = when (is_reserved n.bytes) (DuplicateName n.at)
+-- the names that occur again
+abbrev pub names_again : List Located → List SchemaFault
+names_again ns = faults_in_turn name_again ns
 
--- a union's member is called NONE
-abbrev pub none_name : Located → List SchemaFault
-none_name n = when (bytes_eq n.bytes (codes "NONE")) (DuplicateName n.at)
+-- a type whose full name one before it has
+abbrev pub type_again : List TypeRead → TypeRead → List SchemaFault
+type_again before r = when (has_name before (name_of_type r)) (DuplicateName (word_of r.declaration).at)
 
 -- a type isn't found, or is a float type's
 unfoldable pub use_faults : Meaning → ℕ → List SchemaFault
@@ -77,19 +85,10 @@ abbrev pub default_at : DefaultValue → ℕ
 default_at (Integer t) = t.at
 default_at (Named t) = t.at
 
-abbrev pub is_wrong : Given → Bool
-is_wrong Wrong = true
-is_wrong _ = false
-
 -- a default that gives nothing
 unfoldable pub bad_default : Option DefaultValue → Given → List SchemaFault
-bad_default None given = []
-bad_default (Some d) given = when (is_wrong given) (BadDefault (default_at d))
-
--- a default in a struct
-unfoldable pub default_in_struct : Option DefaultValue → List SchemaFault
-default_in_struct None = []
-default_in_struct (Some d) = BadDefault (default_at d) ∷ []
+bad_default (Some d) Wrong = BadDefault (default_at d) ∷ []
+bad_default _ _ = []
 
 -- the type under an enum
 abbrev pub underlying_faults : Meaning → ℕ → List SchemaFault
@@ -100,29 +99,22 @@ abbrev pub is_out_of_range : Option Base → Bool → ℤ → Bool
 is_out_of_range None flags n = false
 is_out_of_range (Some base) flags n = not (may_be_written base flags n)
 
--- the values whose number is out of range, or that of a value before
-unfoldable pub bad_values : Option Base → Bool → List ℤ → List ResolvedValue → List SchemaFault
-bad_values base flags earlier [] = []
-bad_values base flags earlier (v ∷ vs) =
-    when (is_out_of_range base flags v.number || list_any (int_eq v.number) earlier) (BadEnumValue v.value.name.at)
-    ++ bad_values base flags (earlier ++ v.number ∷ []) vs
+-- a value whose number is out of range, or that of a value before
+abbrev pub bad_value : Option Base → Bool → List ResolvedValue → ResolvedValue → List SchemaFault
+bad_value base flags before v =
+    when (is_out_of_range base flags v.number || list_any (λ w. int_eq v.number w.number) before) (BadEnumValue v.value.name.at)
 
--- a member that isn't a table, or is past the 255th
-abbrev pub bad_member : ℕ → Meaning → ℕ → List SchemaFault
-bad_member before m at = when (is_none (table_of m) || nat_le 255 before) (BadMember at)
-
--- the faults of a member with so many before it
+-- a member with so many before it that is called NONE, isn't a table, or is past the 255th
 unfoldable pub member_faults : ℕ → ResolvedMember → List SchemaFault
 member_faults before r = let at = r.member.table.at in
-    none_name r.name ++ use_faults r.meaning at ++ bad_member before r.meaning at
+    when (bytes_eq r.name.bytes (codes "NONE")) (DuplicateName r.name.at)
+    ++ use_faults r.meaning at
+    ++ when (is_none (table_of r.meaning) || nat_le 255 before) (BadMember at)
 
--- the root isn't a table
-abbrev pub bad_root : Meaning → ℕ → List SchemaFault
-bad_root m at = when (is_none (table_of m)) (BadRoot at)
-
+-- a root that is missing, or isn't a table
 unfoldable pub root_faults : ℕ → Option RootRead → Meaning → List SchemaFault
 root_faults text_len None m = BadRoot text_len ∷ []
-root_faults text_len (Some r) m = use_faults m r.name.at ++ bad_root m r.name.at
+root_faults text_len (Some r) m = use_faults m r.name.at ++ when (is_none (table_of m)) (BadRoot r.name.at)
 
 abbrev pub is_printable : ℕ → Bool
 is_printable c = nat_le 32 c && nat_le c 126

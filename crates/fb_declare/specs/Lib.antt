@@ -6,5 +6,4 @@ pub mod FaultTable
 pub mod Faults
 pub mod DeclaredNames
 pub mod Buildable
-pub mod ResolvedOutline
-pub mod NamePlaces
+pub mod NamesMet

@@ -1,19 +1,20 @@
 //! What is wrong with attributes, and the places of these.
-ghost use Rattle.std.specs.Prelude.{◌≡◌, codes, IfOk, OnOk, []};
-ghost use Rattle.std.specs.List.{list_any, starts_with};
+ghost use Rattle.std.specs.Prelude.{◌≡◌, codes, IfOk};
+ghost use Rattle.std.specs.List.{starts_with};
 ghost use Rattle.std.specs.Bool.{nat_eq};
 ghost use Rattle.std.specs.Option.{option_copied};
-ghost use Rattle.fb_resolve.specs.Attributes.{built_in_attribute};
-ghost use Rattle.fb_declare.specs.AttributeFaults.{is_left_out, may_stand, is_force_align_of_field, is_same};
-ghost use Rattle.fb_declare.specs.AttributeFaults.{noted, attribute_faults, metadata_faults};
+ghost use Rattle.fb_declare.specs.AttributeFaults.{is_left_out, may_stand, is_force_align_of_field};
+ghost use Rattle.fb_declare.specs.AttributeFaults.{attribute_faults, metadata_faults};
 ghost use Rattle.fb_declare.specs.Faults.{least_of};
 ghost use Rattle.fb_declare.specs.DeclaredNames.{names_declared};
 
 use crate::declared_names::DeclaredNames;
-use crate::faults::{SchemaFault, earlier};
+use crate::faults::{SchemaFault, earlier, when};
+use crate::names_met::meet;
 use fb_resolve::{BuiltInAttribute, built_in_attribute, is_alignment};
 use fb_syntax::{Attribute, AttributeValue};
 use std::alloc::{AllocError, Global};
+use std::collections::BTreeSet;
 
 /// What an attribute stands on, as far as that decides whether it may. A struct has the alignment
 /// that its fields need; a field of a table that can't be required is a `ScalarField`.
@@ -89,42 +90,16 @@ fn is_force_align_of_field(host: AttributeHost, built_in: Option<BuiltInAttribut
     is_field && matches!(built_in, Some(BuiltInAttribute::ForceAlign))
 }
 
-fn is_same(built_in: BuiltInAttribute, other: BuiltInAttribute) -> bool
-    ensures { result ≡ is_same built_in other }
-{
-    built_in == other
-}
-
-fn has_seen(seen: &[BuiltInAttribute], built_in: BuiltInAttribute) -> bool
-    ensures { result ≡ list_any (is_same built_in) seen.now }
-{
-    seen.iter().any(|other| is_same(built_in, *other))
-}
-
-/// Adds an attribute to those seen, if it is built in and not there.
-fn note(seen: &mut Vec<BuiltInAttribute>, attribute: &Attribute<'_>) -> Result<(), AllocError>
-    ensures { OnOk result
-        (seen.new.items ≡ noted seen.old.items (built_in_attribute attribute.now.name.bytes)) }
-{
-    match built_in_attribute(attribute.name.text) {
-        Some(built_in) if !has_seen(seen.as_slice(), built_in) => {
-            seen.push(built_in)?;
-            Ok(())
-        }
-        _ => Ok(()),
-    }
-}
-
-/// What is wrong with an attribute behind others, of which these are built in.
+/// What is wrong with an attribute, where this says whether one before it has its name.
 #[tactic(auto, unfolding(crate::specs::AttributeFaults::attribute_faults, crate::specs::Faults::least_of))]
 fn attribute_fault(
     declared: DeclaredNames<'_, '_>,
     host: AttributeHost,
-    seen: &[BuiltInAttribute],
+    again: bool,
     attribute: &Attribute<'_>,
 ) -> Option<SchemaFault>
     ensures { result ≡ least_of
-        (attribute_faults (names_declared declared.entry) host seen.now attribute.now) }
+        (attribute_faults (names_declared declared.entry) host again attribute.now) }
 {
     let at = attribute.name.at;
     let name = attribute.name.text;
@@ -132,20 +107,17 @@ fn attribute_fault(
     if is_left_out(name) || is_force_align_of_field(host, built_in) {
         return Some(SchemaFault::Unsupported(at));
     }
-    let Some(built_in) = built_in else {
-        return if declared.has(name) {
-            None
-        } else {
-            Some(SchemaFault::UnknownAttribute(at))
-        };
-    };
-    if !may_stand(host, built_in, attribute.value.as_ref()) || has_seen(seen, built_in) {
-        return Some(SchemaFault::BadAttribute(at));
+    match built_in {
+        Some(built_in) => {
+            let is_bad = !may_stand(host, built_in, attribute.value.as_ref()) || again;
+            when(is_bad, SchemaFault::BadAttribute(at))
+        }
+        None => when(!declared.has(name), SchemaFault::UnknownAttribute(at)),
     }
-    None
 }
 
 /// The least fault of the attributes at a host. The only error is a refused allocation.
+#[tactic(auto, unfolding(crate::specs::FaultRows::faults_behind, crate::specs::Faults::least_of))]
 pub(crate) fn metadata_fault(
     alloc: Global,
     declared: DeclaredNames<'_, '_>,
@@ -153,16 +125,14 @@ pub(crate) fn metadata_fault(
     attributes: &[Attribute<'_>],
 ) -> Result<Option<SchemaFault>, AllocError>
     ensures { IfOk result (λ f. f ≡ least_of
-        (metadata_faults (names_declared declared.entry) host [] attributes.now)) }
+        (metadata_faults (names_declared declared.entry) host attributes.now)) }
 {
     let mut least = None;
-    let mut seen = Vec::new(alloc);
+    let mut met = BTreeSet::new(alloc);
     for attribute in attributes {
-        least = earlier(
-            least,
-            attribute_fault(declared, host, seen.as_slice(), attribute),
-        );
-        note(&mut seen, attribute)?;
+        let name = &attribute.name;
+        let again = meet(&mut met, name.text)?;
+        least = earlier(least, attribute_fault(declared, host, again, attribute));
     }
     Ok(least)
 }

@@ -1,8 +1,8 @@
 //! Enums: what is wrong with one, and its body.
-ghost use Rattle.std.specs.Prelude.{◌≡◌, IfOk, map, [], ℤ, ◌||◌, OnOk};
+ghost use Rattle.std.specs.Prelude.{◌≡◌, IfOk, map, ℤ, ◌||◌, OnOk};
 ghost use Rattle.fb_schema.specs.WellDeclared.{is_unsigned};
 ghost use Rattle.fb_declare.specs.Faults.{least_of};
-ghost use Rattle.fb_declare.specs.FaultRows.{underlying_faults, when, is_out_of_range, bad_values};
+ghost use Rattle.fb_declare.specs.FaultRows.{underlying_faults, is_out_of_range, faults_in_turn, bad_value};
 ghost use Rattle.fb_declare.specs.DeclaredNames.{names_declared};
 ghost use Rattle.fb_declare.specs.TypeFaults.{host_of_enum, enum_faults};
 ghost use Rattle.std.specs.List.{list_any};
@@ -29,10 +29,10 @@ fn underlying_fault(meaning: Meaning, at: u64) -> Option<SchemaFault>
 {
     match meaning {
         Meaning::Unknown => Some(SchemaFault::UnknownType(at)),
-        _ => {
-            let is_missing = integer_type(meaning).is_none();
-            when(is_missing, SchemaFault::Unsupported(at))
-        }
+        _ => when(
+            integer_type(meaning).is_none(),
+            SchemaFault::Unsupported(at),
+        ),
     }
 }
 
@@ -89,57 +89,51 @@ pub(crate) fn enum_fault(
     Ok(earlier(earlier(earlier(under, metadata), again), numbers))
 }
 
-fn is_out_of_range(base: Option<Base>, flags: bool, number: i128) -> bool
-    ensures { result ≡ is_out_of_range base flags number }
+/// Whether a number is out of range, or that of a value before.
+fn is_bad_number(base: Option<Base>, flags: bool, number: i128, again: bool) -> bool
+    ensures { result ≡ (is_out_of_range base flags number || again) }
 {
     match base {
-        Some(base) => !may_be_written(base, flags, number),
-        None => false,
+        Some(base) => !may_be_written(base, flags, number) || again,
+        None => again,
     }
 }
 
-/// The fault of the value at an offset, whose number is met from now on.
-fn bad_value(
-    met: &mut BTreeSet<i128>,
-    base: Option<Base>,
-    flags: bool,
-    number: i128,
-    at: u64,
-) -> Result<Option<SchemaFault>, AllocError>
-    ensures fault { IfOk result (λ f. f ≡ least_of (when
-        (is_out_of_range base flags number || list_any (int_eq number) met.old.keys)
-        (SchemaFault.BadEnumValue at))) }
+/// Whether a number was met before; it is from now on.
+fn meet_number(met: &mut BTreeSet<i128>, number: i128) -> Result<bool, AllocError>
+    ensures before { IfOk result (λ again. again ≡ list_any (int_eq number) met.old.keys) }
     ensures met { OnOk result ((n : ℤ) → list_any (int_eq n) met.new.keys
         ≡ (list_any (int_eq n) met.old.keys || int_eq n number)) }
 {
     let is_new = met.insert(number)?;
-    let is_bad = is_out_of_range(base, flags, number) || !is_new;
-    Ok(when(is_bad, SchemaFault::BadEnumValue(at)))
+    Ok(!is_new)
 }
 
 /// The least fault of the numbers of an enum's values. The only error is a refused allocation.
+#[tactic(auto, unfolding(crate::specs::FaultRows::faults_behind, crate::specs::Faults::least_of))]
 pub(crate) fn bad_values(
     alloc: Global,
     base: Option<Base>,
     flags: bool,
     values: &[ResolvedValue<'_, '_>],
 ) -> Result<Option<SchemaFault>, AllocError>
-    ensures { IfOk result (λ f. f ≡ least_of (bad_values base flags [] values.now)) }
+    ensures { IfOk result (λ f. f ≡ least_of (faults_in_turn (bad_value base flags) values.now)) }
 {
     let mut least = None;
     let mut met = BTreeSet::new(alloc);
     for resolved in values {
         let value = resolved.value;
-        let bad = bad_value(&mut met, base, flags, resolved.number, value.name.at)?;
+        let again = meet_number(&mut met, resolved.number)?;
+        let is_bad = is_bad_number(base, flags, resolved.number, again);
+        let bad = when(is_bad, SchemaFault::BadEnumValue(value.name.at));
         least = earlier(least, bad);
     }
     Ok(least)
 }
 
 /// The body that a right one gives. The only error is a refused allocation.
-pub(crate) fn enum_body(alloc: Global, resolved: &ResolvedEnum<'_, '_>) -> Result<Body, AllocError>
-    ensures { IfOk result
-        (λ b. HasBody (ResolvedDecl.Enum resolved.now) (body_seen b)) }
+pub(crate) fn enum_body(alloc: Global, resolved: ResolvedEnum<'_, '_>) -> Result<Body, AllocError>
+    ensures { IfOk result (λ b. HasBody (ResolvedDecl.Enum resolved.entry) (body_seen b)) }
 {
     let under = integer_type(resolved.underlying);
     let flags = resolved.bit_flags;

@@ -62,78 +62,59 @@ impl<T: Drop> From<AllocFailed<T>> for SchemaFault {
 impl SchemaFault {
     ghost use Rattle.std.specs.Prelude.{◌≡◌};
     ghost use Rattle.fb_declare.specs.FaultTable.{number_of, name_of, offset_of};
-    ghost use Rattle.fb_declare.specs.Faults.{at_of, comes_before};
+    ghost use Rattle.fb_declare.specs.Faults.{comes_before};
+
+    // The number, the name and the offset.
+    fn entry(self) -> (u8, &'static str, Option<u64>)
+        ensures number { result.0 ≡ number_of self }
+        ensures name { result.1.now ≡ name_of self }
+        ensures offset { result.2 ≡ offset_of self }
+    {
+        match self {
+            SchemaFault::DuplicateName(at) => (10, "DuplicateName", Some(at)),
+            SchemaFault::UnknownType(at) => (11, "UnknownType", Some(at)),
+            SchemaFault::BadDefault(at) => (12, "BadDefault", Some(at)),
+            SchemaFault::BadIds(at) => (13, "BadIds", Some(at)),
+            SchemaFault::IncompleteStruct(at) => (14, "IncompleteStruct", Some(at)),
+            SchemaFault::EmptyStruct(at) => (15, "EmptyStruct", Some(at)),
+            SchemaFault::BadAttribute(at) => (16, "BadAttribute", Some(at)),
+            SchemaFault::UnknownAttribute(at) => (17, "UnknownAttribute", Some(at)),
+            SchemaFault::Unsupported(at) => (18, "Unsupported", Some(at)),
+            SchemaFault::BadEnumValue(at) => (19, "BadEnumValue", Some(at)),
+            SchemaFault::BadMember(at) => (20, "BadMember", Some(at)),
+            SchemaFault::BadRoot(at) => (21, "BadRoot", Some(at)),
+            SchemaFault::BadIdentifier(at) => (22, "BadIdentifier", Some(at)),
+            SchemaFault::Memory => (23, "Memory", None),
+        }
+    }
 
     /// Its offset, in bytes from the text's start; running out of memory has no place.
     pub fn offset(self) -> Option<u64>
         ensures { result ≡ offset_of self }
     {
-        match self {
-            SchemaFault::DuplicateName(at)
-            | SchemaFault::UnknownType(at)
-            | SchemaFault::BadDefault(at)
-            | SchemaFault::BadIds(at)
-            | SchemaFault::IncompleteStruct(at)
-            | SchemaFault::EmptyStruct(at)
-            | SchemaFault::BadAttribute(at)
-            | SchemaFault::UnknownAttribute(at)
-            | SchemaFault::Unsupported(at)
-            | SchemaFault::BadEnumValue(at)
-            | SchemaFault::BadMember(at)
-            | SchemaFault::BadRoot(at)
-            | SchemaFault::BadIdentifier(at) => Some(at),
-            SchemaFault::Memory => None,
-        }
-    }
-
-    // The offset by which faults are ordered.
-    fn at(self) -> u64
-        ensures { result ≡ at_of self }
-    {
-        self.offset().unwrap_or(0)
-    }
-
-    // The number and the name.
-    fn row(self) -> (u8, &'static str)
-        ensures number { result.0 ≡ number_of self }
-        ensures name { result.1.now ≡ name_of self }
-    {
-        match self {
-            SchemaFault::DuplicateName(_) => (10, "DuplicateName"),
-            SchemaFault::UnknownType(_) => (11, "UnknownType"),
-            SchemaFault::BadDefault(_) => (12, "BadDefault"),
-            SchemaFault::BadIds(_) => (13, "BadIds"),
-            SchemaFault::IncompleteStruct(_) => (14, "IncompleteStruct"),
-            SchemaFault::EmptyStruct(_) => (15, "EmptyStruct"),
-            SchemaFault::BadAttribute(_) => (16, "BadAttribute"),
-            SchemaFault::UnknownAttribute(_) => (17, "UnknownAttribute"),
-            SchemaFault::Unsupported(_) => (18, "Unsupported"),
-            SchemaFault::BadEnumValue(_) => (19, "BadEnumValue"),
-            SchemaFault::BadMember(_) => (20, "BadMember"),
-            SchemaFault::BadRoot(_) => (21, "BadRoot"),
-            SchemaFault::BadIdentifier(_) => (22, "BadIdentifier"),
-            SchemaFault::Memory => (23, "Memory"),
-        }
+        self.entry().2
     }
 
     /// The fault's number; no other fault has it.
     pub fn number(self) -> u8
         ensures { result ≡ number_of self }
     {
-        self.row().0
+        self.entry().0
     }
 
     /// The fault's name, that of its variant.
     pub fn name(self) -> &'static str
         ensures { result.now ≡ name_of self }
     {
-        self.row().1
+        self.entry().1
     }
 
     fn comes_before(self, other: SchemaFault) -> bool
         ensures { result ≡ comes_before self other }
     {
-        self.at() < other.at() || self.at() == other.at() && self.number() < other.number()
+        let at = self.offset().unwrap_or(0);
+        let other_at = other.offset().unwrap_or(0);
+        at < other_at || at == other_at && self.number() < other.number()
     }
 }
 

@@ -3,14 +3,12 @@
 
 mod attribute_faults;
 mod declared_names;
-mod default_faults;
 mod enums;
 mod faults;
-mod field_types;
+mod field_faults;
 mod laws;
-mod name_places;
 mod names_again;
-mod resolved_outline;
+mod names_met;
 mod root;
 mod schema;
 mod structs;

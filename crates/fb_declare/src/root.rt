@@ -1,26 +1,17 @@
 //! The root and the file identifier: what is wrong with them.
-ghost use Rattle.std.specs.Prelude.{◌≡◌, ◌++◌};
+ghost use Rattle.std.specs.Prelude.{◌≡◌};
 ghost use Rattle.std.specs.List.{list_all};
 ghost use Rattle.std.specs.Option.{option_copied};
 ghost use Rattle.fb_declare.specs.Faults.{least_of};
-ghost use Rattle.fb_declare.specs.FaultRows.{use_faults, bad_root, root_faults, is_printable, is_identifier};
-ghost use Rattle.fb_declare.specs.FaultRows.{identifier_faults};
+ghost use Rattle.fb_declare.specs.FaultRows.{root_faults, is_printable, is_identifier, identifier_faults};
 
 use crate::faults::{SchemaFault, earlier, when};
-use crate::field_types::use_fault;
+use crate::field_faults::use_fault;
 use fb_resolve::{Meaning, RootRead, is_table};
 use fb_syntax::Text;
 
-#[tactic(auto, using(crate::proofs::Least::least_of_append))]
-fn root_use_fault(meaning: Meaning, at: u64) -> Option<SchemaFault>
-    ensures { result ≡ least_of (use_faults meaning at ++ bad_root meaning at) }
-{
-    let is_bad = when(!is_table(meaning), SchemaFault::BadRoot(at));
-    earlier(use_fault(meaning, at), is_bad)
-}
-
 /// The least fault of the root.
-#[tactic(auto, unfolding(crate::specs::FaultRows::root_faults, crate::specs::Faults::least_of))]
+#[tactic(auto, using(crate::proofs::Least::least_of_append), unfolding(crate::specs::FaultRows::root_faults))]
 pub(crate) fn root_fault(
     text_len: u64,
     root: Option<&RootRead<'_, '_>>,
@@ -29,10 +20,12 @@ pub(crate) fn root_fault(
     ensures { result ≡ least_of (root_faults text_len (option_copied root.entry) meaning) }
 {
     let Some(root) = root else {
-        return Some(SchemaFault::BadRoot(text_len));
+        // by `when`, as each rule, since what is proved speaks of it
+        return when(true, SchemaFault::BadRoot(text_len));
     };
     let name = root.name;
-    root_use_fault(meaning, name.at())
+    let bad_root = when(!is_table(meaning), SchemaFault::BadRoot(name.at()));
+    earlier(use_fault(meaning, name.at()), bad_root)
 }
 
 fn is_printable(byte: u8) -> bool

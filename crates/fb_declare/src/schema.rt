@@ -3,16 +3,14 @@ ghost use Rattle.std.specs.Prelude.{◌≡◌, ◌≢◌, [], IfOk, IfErr, OnOk,
 ghost use Rattle.std.specs.Option.{ForSome, option_copied, option_map};
 ghost use Rattle.fb_declare.specs.declared.faults.SchemaFault.TheVariants.{Memory};
 ghost use Rattle.fb_declare.specs.Faults.{least_of};
-ghost use Rattle.fb_declare.specs.ResolvedOutline.{outline_of_resolved};
 ghost use Rattle.fb_resolve.specs.Outline.{outline_of};
 ghost use Rattle.fb_declare.specs.TypeFaults.{faults_of_outline, faults_of};
 ghost use Rattle.fb_declare.specs.Declares.{Gives, Declares, Stands};
 
 use crate::declared_names::DeclaredNames;
 use crate::faults::{SchemaFault, earlier};
-use crate::name_places::NamePlaces;
 use crate::names_again::types_again;
-use crate::resolved_outline::ResolvedOutline;
+use crate::names_met::names_met;
 use crate::root::{identifier_fault, root_fault};
 use crate::types::{types_fault, types_of};
 use fb_resolve::{Outline, Resolved, table_of};
@@ -28,52 +26,39 @@ fn identifier_of(identifier: Option<&Text<'_>>) -> Option<[u8; 4]>
     Some([bytes[0], bytes[1], bytes[2], bytes[3]])
 }
 
-/// The least of all faults.
+/// The least of all faults. The only error is a refused allocation.
 #[tactic(auto, using(crate::proofs::Least::least_of_append), unfolding(crate::specs::TypeFaults::faults_of_outline))]
 fn least_fault(
     alloc: Global,
-    outline: ResolvedOutline<'_, '_, '_, '_>,
+    resolved: &Resolved<'_, '_, '_>,
 ) -> Result<Option<SchemaFault>, AllocError>
-    ensures { IfOk result (λ f. f ≡ least_of (faults_of_outline (outline_of_resolved outline.entry))) }
+    ensures { IfOk result (λ f. f ≡ least_of (faults_of_outline resolved.now.outline.now)) }
 {
-    let again = types_again(outline.types, outline.repeats);
-    let types = types_fault(alloc, outline.declared, outline.types, outline.resolved)?;
-    let root = root_fault(outline.text_len, outline.root, outline.root_meaning);
+    let outline = resolved.outline;
+    let types = outline.types.as_slice();
+    let names = outline.attributes.as_slice();
+    let met = names_met(alloc, names)?;
+    let declared = DeclaredNames { names, met: &met };
+    let again = types_again(types, resolved.repeats.as_slice());
+    let in_types = types_fault(alloc, declared, types, resolved.types.as_slice())?;
+    let root = root_fault(outline.text_len, outline.root.as_ref(), resolved.root);
     Ok(earlier(
-        earlier(earlier(again, types), root),
+        earlier(earlier(again, in_types), root),
         identifier_fault(outline.identifier),
     ))
 }
 
-/// The schema that an outline with no fault gives.
-fn build_schema(
-    alloc: Global,
-    outline: ResolvedOutline<'_, '_, '_, '_>,
-) -> Result<Schema, AllocError>
-    requires { faults_of_outline (outline_of_resolved outline) ≡ [] }
-    ensures { IfOk result (Gives (outline_of_resolved outline.entry)) }
+/// The schema that declarations with no fault give. The only error is a refused allocation.
+fn build_schema(alloc: Global, resolved: Resolved<'_, '_, '_>) -> Result<Schema, AllocError>
+    requires { faults_of_outline resolved.outline.now ≡ [] }
+    ensures { IfOk result (Gives resolved.entry.outline.now) }
 {
-    let Some(root) = table_of(outline.root_meaning) else {
+    let Some(root) = table_of(resolved.root) else {
         unreachable!()
     };
-    let types = types_of(alloc, outline.resolved)?;
+    let outline = resolved.outline;
+    let types = types_of(alloc, resolved.types)?;
     Schema::new(alloc, types, root, identifier_of(outline.identifier))
-}
-
-/// The schema that an outline gives, or the least of its faults.
-fn schema_or_fault(
-    alloc: Global,
-    outline: ResolvedOutline<'_, '_, '_, '_>,
-) -> Result<Schema, SchemaFault>
-    ensures sound { OnOk result (faults_of_outline (outline_of_resolved outline.entry) ≡ []) }
-    ensures given { IfOk result (Gives (outline_of_resolved outline.entry)) }
-    ensures least { IfErr result (λ f. f ≢ Memory
-        → least_of (faults_of_outline (outline_of_resolved outline.entry)) ≡ Some f) }
-{
-    if let Some(fault) = least_fault(alloc, outline)? {
-        return Err(fault);
-    }
-    Ok(build_schema(alloc, outline)?)
 }
 
 /// The schema that the outline of a text gives, or the least of its faults.
@@ -87,22 +72,11 @@ fn declare_outline<'d, 's>(
     ensures given { IfOk result (Gives outline.now) }
     ensures least { IfErr result (λ f. f ≢ Memory → least_of (faults_of_outline outline.now) ≡ Some f) }
 {
-    let attributes = NamePlaces::of(alloc, outline.attributes.as_slice())?;
     let resolved = Resolved::of(alloc, decls, outline)?;
-    let resolved_outline = ResolvedOutline {
-        types: outline.types.as_slice(),
-        resolved: resolved.types.as_slice(),
-        repeats: resolved.repeats.as_slice(),
-        declared: DeclaredNames {
-            names: outline.attributes.as_slice(),
-            places: &attributes,
-        },
-        root: outline.root.as_ref(),
-        root_meaning: resolved.root,
-        identifier: outline.identifier,
-        text_len: outline.text_len,
-    };
-    schema_or_fault(alloc, resolved_outline)
+    if let Some(fault) = least_fault(alloc, &resolved)? {
+        return Err(fault);
+    }
+    Ok(build_schema(alloc, resolved)?)
 }
 
 /// The schema that declarations give.

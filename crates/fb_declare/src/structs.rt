@@ -5,27 +5,31 @@ ghost use Rattle.fb_resolve.specs.Outline.{TypeRead};
 ghost use Rattle.fb_resolve.specs.StructsRead.{natural_align};
 ghost use Rattle.fb_declare.specs.Faults.{least_of};
 ghost use Rattle.fb_declare.specs.DeclaredNames.{names_declared};
-ghost use Rattle.fb_declare.specs.TypeFaults.{struct_field_faults, is_empty_list, struct_faults};
+ghost use Rattle.fb_declare.specs.TypeFaults.{struct_field_faults, struct_faults};
 ghost use Rattle.fb_schema.specs.Seen.{body_seen};
 ghost use Rattle.fb_declare.specs.Declares.{HasBody};
 ghost use Rattle.fb_resolve.specs.declared.resolved.ResolvedDecl.TheVariants as ResolvedDecl;
 
 use crate::attribute_faults::{AttributeHost, metadata_fault};
 use crate::declared_names::DeclaredNames;
-use crate::default_faults::default_in_struct;
 use crate::faults::{SchemaFault, earlier, when};
-use crate::field_types::struct_field_type;
+use crate::field_faults::{bad_default, part_fault, use_fault};
 use crate::names_again::names_again;
-use fb_resolve::{LocatedName, ResolvedField, ResolvedStruct, forced_align, parts_read};
+use fb_resolve::{
+    Given, LocatedName, ResolvedField, ResolvedStruct, forced_align, parts_read, type_name,
+};
 use fb_schema::Body;
-use fb_syntax::Field;
 use std::alloc::{AllocError, Global};
 
-fn field_names<'s>(alloc: Global, fields: &[Field<'s>]) -> Result<Vec<LocatedName<'s>>, AllocError>
-    ensures { IfOk result (λ names. names.items ≡ map (λ f. f.name) fields.now) }
+fn field_names<'s>(
+    alloc: Global,
+    fields: &[ResolvedField<'_, 's>],
+) -> Result<Vec<LocatedName<'s>>, AllocError>
+    ensures { IfOk result (λ names. names.items ≡ map (λ r. r.field.name) fields.now) }
 {
     let mut names = Vec::with_capacity(alloc, fields.len())?;
-    for field in fields {
+    for resolved in fields {
+        let field = resolved.field;
         names.push(LocatedName::of(&field.name))?;
     }
     Ok(names)
@@ -42,8 +46,12 @@ fn field_fault(
         (struct_field_faults (names_declared declared.entry) number resolved.now)) }
 {
     let field = resolved.field;
-    let type_fault = struct_field_type(number, &field.kind, resolved.meaning);
-    let fault = earlier(type_fault, default_in_struct(field.default.as_ref()));
+    let kind = &field.kind;
+    let not_found = use_fault(resolved.meaning, type_name(kind).at());
+    let type_fault = earlier(not_found, part_fault(number, kind, resolved.meaning));
+    // a field of a struct takes no default, whatever it would give
+    let default = field.default.as_ref();
+    let fault = earlier(type_fault, bad_default(default, Given::Wrong));
     let attributes = field.attributes.as_slice();
     Ok(earlier(
         fault,
@@ -51,6 +59,7 @@ fn field_fault(
     ))
 }
 
+#[tactic(auto, unfolding(crate::specs::Faults::least_of))]
 fn fields_fault(
     alloc: Global,
     declared: DeclaredNames<'_, '_>,
@@ -65,12 +74,6 @@ fn fields_fault(
         least = earlier(least, field_fault(alloc, declared, number, field)?);
     }
     Ok(least)
-}
-
-fn is_empty(fields: &[Field<'_>]) -> bool
-    ensures { result ≡ is_empty_list fields.now }
-{
-    fields.is_empty()
 }
 
 /// The least fault of the struct of a number, whose fields need this alignment. The only error is a
@@ -89,27 +92,24 @@ pub(crate) fn struct_fault(
         (struct_faults types (names_declared declared.entry) lower resolved.now)) }
 {
     let read = resolved.declared;
+    let fields = resolved.fields.as_slice();
     let host = AttributeHost::Struct(natural);
     let metadata = metadata_fault(alloc, declared, host, read.attributes.as_slice())?;
-    let empty = when(
-        is_empty(read.fields.as_slice()),
-        SchemaFault::EmptyStruct(read.name.at),
-    );
-    let names = field_names(alloc, read.fields.as_slice())?;
+    let empty = when(fields.is_empty(), SchemaFault::EmptyStruct(read.name.at));
+    let names = field_names(alloc, fields)?;
     let again = names_again(alloc, names.as_slice())?;
     Ok(earlier(
         earlier(earlier(metadata, empty), again),
-        fields_fault(alloc, declared, number, resolved.fields.as_slice())?,
+        fields_fault(alloc, declared, number, fields)?,
     ))
 }
 
 /// The body that a right one gives. The only error is a refused allocation.
 pub(crate) fn struct_body(
     alloc: Global,
-    resolved: &ResolvedStruct<'_, '_>,
+    resolved: ResolvedStruct<'_, '_>,
 ) -> Result<Body, AllocError>
-    ensures { IfOk result
-        (λ b. HasBody (ResolvedDecl.Struct resolved.now) (body_seen b)) }
+    ensures { IfOk result (λ b. HasBody (ResolvedDecl.Struct resolved.entry) (body_seen b)) }
 {
     let parts = parts_read(alloc, resolved.fields.as_slice())?;
     Ok(Body::Struct(parts, forced_align(0, resolved.force_align)))

@@ -11,13 +11,11 @@ ghost use Rattle.fb_resolve.specs.declared.resolved.ResolvedDecl.TheVariants as 
 
 use crate::attribute_faults::{AttributeHost, metadata_fault};
 use crate::declared_names::DeclaredNames;
-use crate::default_faults::bad_default;
 use crate::faults::{SchemaFault, earlier, when};
-use crate::field_types::table_field_type;
+use crate::field_faults::{bad_default, union_vector, use_fault};
 use crate::names_again::names_again;
 use fb_resolve::{
-    LocatedName, Meaning, ResolvedField, ResolvedTable, are_ids_wrong, name_of_code, table_slots,
-    union_in,
+    LocatedName, Meaning, ResolvedField, ResolvedTable, are_ids_wrong, table_slots, type_name,
 };
 use fb_schema::{Body, Kind};
 use fb_syntax::FieldType;
@@ -25,18 +23,17 @@ use std::alloc::{AllocError, Global};
 use std::borrow::CowStr;
 
 /// Adds the names that a field takes: a union's code has one.
-fn push_names<'s>(
-    alloc: Global,
-    resolved: &ResolvedField<'_, 's>,
-    names: &mut Vec<LocatedName<'s>>,
+fn push_names<'f>(
+    resolved: &'f ResolvedField<'_, '_>,
+    names: &mut Vec<LocatedName<'f>>,
 ) -> Result<(), AllocError>
     ensures { OnOk result
         (names.new.items ≡ names.old.items ++ names_of_field resolved.now) }
 {
     let field = resolved.field;
-    if union_in(resolved).is_some() {
+    if let Some(code) = &resolved.code {
         names.push(LocatedName {
-            text: CowStr::Owned(name_of_code(alloc, field.name.text)?),
+            text: CowStr::Borrowed(code.name.as_str()),
             at: field.name.at,
         })?;
     }
@@ -44,15 +41,15 @@ fn push_names<'s>(
     Ok(())
 }
 
-fn field_names<'s>(
+fn field_names<'f>(
     alloc: Global,
-    fields: &[ResolvedField<'_, 's>],
-) -> Result<Vec<LocatedName<'s>>, AllocError>
+    fields: &'f [ResolvedField<'_, '_>],
+) -> Result<Vec<LocatedName<'f>>, AllocError>
     ensures { IfOk result (λ names. names.items ≡ flat_map names_of_field fields.now) }
 {
     let mut names = Vec::with_capacity(alloc, fields.len())?;
     for field in fields {
-        push_names(alloc, field, &mut names)?;
+        push_names(field, &mut names)?;
     }
     Ok(names)
 }
@@ -80,13 +77,15 @@ fn field_fault(
     let meaning = resolved.meaning;
     let kind = &field.kind;
     let default = field.default.as_ref();
-    let type_fault = table_field_type(kind, meaning);
+    let not_found = use_fault(meaning, type_name(kind).at());
+    let type_fault = earlier(not_found, union_vector(kind, meaning));
     let fault = earlier(type_fault, bad_default(default, resolved.given));
     let host = host_of_field(kind, meaning);
     let attributes = field.attributes.as_slice();
     Ok(earlier(fault, metadata_fault(alloc, declared, host, attributes)?))
 }
 
+#[tactic(auto, unfolding(crate::specs::Faults::least_of))]
 fn fields_fault(
     alloc: Global,
     declared: DeclaredNames<'_, '_>,
@@ -130,13 +129,9 @@ pub(crate) fn table_fault(
 }
 
 /// The body that a right one gives. The only error is a refused allocation.
-pub(crate) fn table_body(
-    alloc: Global,
-    resolved: &ResolvedTable<'_, '_>,
-) -> Result<Body, AllocError>
-    requires { IsBuildable (ResolvedDecl.Table resolved.now) }
-    ensures { IfOk result
-        (λ b. HasBody (ResolvedDecl.Table resolved.now) (body_seen b)) }
+pub(crate) fn table_body(alloc: Global, resolved: ResolvedTable<'_, '_>) -> Result<Body, AllocError>
+    requires { IsBuildable (ResolvedDecl.Table resolved) }
+    ensures { IfOk result (λ b. HasBody (ResolvedDecl.Table resolved.entry) (body_seen b)) }
 {
     Ok(Body::Table(table_slots(alloc, resolved)?))
 }

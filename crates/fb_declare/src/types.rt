@@ -1,11 +1,10 @@
 //! Types: the least of their faults, and what they give.
-ghost use Rattle.std.specs.Prelude.{◌≡◌, ℕ, List, [], IfOk, length, map};
+ghost use Rattle.std.specs.Prelude.{◌≡◌, ℕ, List, IfOk, length, map};
 ghost use Rattle.fb_resolve.specs.Outline.{TypeRead};
-ghost use Rattle.fb_resolve.specs.StructsRead.{natural_of_declaration, natural_of_type};
+ghost use Rattle.fb_resolve.specs.StructsRead.{natural_of_type};
 ghost use Rattle.fb_declare.specs.Faults.{least_of};
 ghost use Rattle.fb_declare.specs.DeclaredNames.{names_declared};
-ghost use Rattle.fb_declare.specs.FaultRows.{reserved_name};
-ghost use Rattle.fb_declare.specs.TypeFaults.{declaration_faults, type_faults, faults_of_types};
+ghost use Rattle.fb_declare.specs.TypeFaults.{type_faults, faults_of_types};
 ghost use Rattle.std.specs.List.{AllZip};
 ghost use Rattle.fb_schema.specs.Seen.{body_seen, type_seen};
 ghost use Rattle.fb_declare.specs.Declares.{HasBody, IsType};
@@ -23,36 +22,7 @@ use fb_resolve::{
     natural_of_type, word_of,
 };
 use fb_schema::{Body, TypeInfo};
-use fb_syntax::Text;
 use std::alloc::{AllocError, Global};
-
-/// A type whose name is that of a basic or float type.
-fn reserved_name(name: &Text<'_>) -> Option<SchemaFault>
-    ensures { result ≡ least_of (reserved_name name.now) }
-{
-    when(is_reserved(name.text), SchemaFault::DuplicateName(name.at))
-}
-
-#[tactic(auto, unfolding(crate::specs::Faults::least_of))]
-fn declaration_fault(
-    alloc: Global,
-    declared: DeclaredNames<'_, '_>,
-    number: usize,
-    natural: u16,
-    declaration: &ResolvedDecl<'_, '_>,
-) -> Result<Option<SchemaFault>, AllocError>
-    ensures { (types : List TypeRead) (lower : List ℕ) → length lower ≡ number
-        → natural_of_declaration types lower declaration.now ≡ natural
-        → IfOk result (λ f. f ≡ least_of
-        (declaration_faults types (names_declared declared.entry) lower declaration.now)) }
-{
-    match declaration {
-        ResolvedDecl::Table(table) => table_fault(alloc, declared, table),
-        ResolvedDecl::Struct(table) => struct_fault(alloc, declared, number, natural, table),
-        ResolvedDecl::Enum(resolved) => enum_fault(alloc, declared, resolved),
-        ResolvedDecl::Union(union) => union_fault(alloc, declared, union),
-    }
-}
 
 /// The least fault of the type of a number and of a natural alignment.
 #[tactic(auto, using(crate::proofs::Least::least_of_append), unfolding(crate::specs::TypeFaults::type_faults))]
@@ -69,12 +39,19 @@ fn type_fault(
         (type_faults types (names_declared declared.entry) lower resolved.now)) }
 {
     let read = resolved.read;
-    let reserved = reserved_name(word_of(read.declaration));
-    let fault = declaration_fault(alloc, declared, number, natural, &resolved.declaration)?;
+    let name = word_of(read.declaration);
+    let reserved = when(is_reserved(name.text), SchemaFault::DuplicateName(name.at));
+    let fault = match &resolved.declaration {
+        ResolvedDecl::Table(table) => table_fault(alloc, declared, table)?,
+        ResolvedDecl::Struct(table) => struct_fault(alloc, declared, number, natural, table)?,
+        ResolvedDecl::Enum(resolved) => enum_fault(alloc, declared, resolved)?,
+        ResolvedDecl::Union(union) => union_fault(alloc, declared, union)?,
+    };
     Ok(earlier(reserved, fault))
 }
 
 /// The least fault of the types. The only error is a refused allocation.
+#[tactic(auto, unfolding(crate::specs::FaultRows::faults_behind, crate::specs::Faults::least_of))]
 pub(crate) fn types_fault(
     alloc: Global,
     declared: DeclaredNames<'_, '_>,
@@ -82,7 +59,7 @@ pub(crate) fn types_fault(
     resolved: &[ResolvedType<'_, '_, '_>],
 ) -> Result<Option<SchemaFault>, AllocError>
     ensures { IfOk result (λ f. f ≡ least_of (faults_of_types types.now
-        (names_declared declared.entry) [] resolved.now)) }
+        (names_declared declared.entry) resolved.now)) }
 {
     let mut least = None;
     let mut lower = Vec::with_capacity(alloc, resolved.len())?;
@@ -95,10 +72,9 @@ pub(crate) fn types_fault(
     Ok(least)
 }
 
-fn body_of(alloc: Global, declaration: &ResolvedDecl<'_, '_>) -> Result<Body, AllocError>
-    requires { IsBuildable declaration.now }
-    ensures { IfOk result
-        (λ b. HasBody declaration.now (body_seen b)) }
+fn body_of(alloc: Global, declaration: ResolvedDecl<'_, '_>) -> Result<Body, AllocError>
+    requires { IsBuildable declaration }
+    ensures { IfOk result (λ b. HasBody declaration.entry (body_seen b)) }
 {
     match declaration {
         ResolvedDecl::Table(table) => table_body(alloc, table),
@@ -108,22 +84,22 @@ fn body_of(alloc: Global, declaration: &ResolvedDecl<'_, '_>) -> Result<Body, Al
     }
 }
 
-fn type_of(alloc: Global, resolved: &ResolvedType<'_, '_, '_>) -> Result<TypeInfo, AllocError>
-    requires { IsBuildable resolved.now.declaration }
-    ensures { IfOk result (λ t. IsType resolved.now (type_seen t)) }
+fn type_of(alloc: Global, resolved: ResolvedType<'_, '_, '_>) -> Result<TypeInfo, AllocError>
+    requires { IsBuildable resolved.declaration }
+    ensures { IfOk result (λ t. IsType resolved.entry (type_seen t)) }
 {
     let name = name_of_type(alloc, resolved.read)?;
-    let body = body_of(alloc, &resolved.declaration)?;
+    let body = body_of(alloc, resolved.declaration)?;
     Ok(TypeInfo { name, body })
 }
 
 /// The types that the declarations give. The only error is a refused allocation.
 pub(crate) fn types_of(
     alloc: Global,
-    resolved: &[ResolvedType<'_, '_, '_>],
+    resolved: Vec<ResolvedType<'_, '_, '_>>,
 ) -> Result<Vec<TypeInfo>, AllocError>
-    requires { AreBuildable resolved.now }
-    ensures { IfOk result (λ v. AllZip IsType resolved.now (map type_seen v.items)) }
+    requires { AreBuildable resolved.items }
+    ensures { IfOk result (λ v. AllZip IsType resolved.entry.items (map type_seen v.items)) }
 {
     let mut made = Vec::with_capacity(alloc, resolved.len())?;
     for read in resolved {

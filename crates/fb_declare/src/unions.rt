@@ -3,8 +3,8 @@ ghost use Rattle.std.specs.Prelude.{◌≡◌, IfOk, map, string_bytes};
 ghost use Rattle.fb_declare.specs.Faults.{least_of};
 ghost use Rattle.fb_declare.specs.DeclaredNames.{names_declared};
 ghost use Rattle.fb_resolve.specs.MembersRead.{member_read};
-ghost use Rattle.fb_declare.specs.FaultRows.{member_faults, none_name, bad_member};
-ghost use Rattle.fb_declare.specs.TypeFaults.{members_faults, union_faults};
+ghost use Rattle.fb_declare.specs.FaultRows.{faults_in_turn, member_faults};
+ghost use Rattle.fb_declare.specs.TypeFaults.{member_behind, union_faults};
 ghost use Rattle.fb_schema.specs.Seen.{body_seen};
 ghost use Rattle.fb_declare.specs.Declares.{HasBody};
 ghost use Rattle.fb_resolve.specs.declared.resolved.ResolvedDecl.TheVariants as ResolvedDecl;
@@ -12,9 +12,9 @@ ghost use Rattle.fb_resolve.specs.declared.resolved.ResolvedDecl.TheVariants as 
 use crate::attribute_faults::{AttributeHost, metadata_fault};
 use crate::declared_names::DeclaredNames;
 use crate::faults::{SchemaFault, earlier, when};
-use crate::field_types::use_fault;
+use crate::field_faults::use_fault;
 use crate::names_again::names_again;
-use fb_resolve::{LocatedName, Meaning, ResolvedMember, ResolvedUnion, is_table, member_read};
+use fb_resolve::{LocatedName, ResolvedMember, ResolvedUnion, is_table, member_read};
 use fb_schema::{Body, TypeId};
 use std::alloc::{AllocError, Global};
 use std::borrow::CowStr;
@@ -35,9 +35,9 @@ fn member_names<'t>(
     Ok(names)
 }
 
-#[tactic(auto, using(crate::proofs::Least::least_of_append), unfolding(crate::specs::TypeFaults::members_faults))]
+#[tactic(auto, unfolding(crate::specs::FaultRows::faults_behind, crate::specs::Faults::least_of))]
 fn members_fault(members: &[ResolvedMember<'_, '_>]) -> Option<SchemaFault>
-    ensures { result ≡ least_of (members_faults 0 members.now) }
+    ensures { result ≡ least_of (faults_in_turn member_behind members.now) }
 {
     let mut least = None;
     for (before, member) in members.iter().enumerate() {
@@ -69,37 +69,27 @@ pub(crate) fn union_fault(
     Ok(earlier(earlier(metadata, again), members_fault(members)))
 }
 
-fn none_name(name: &LocatedName<'_>) -> Option<SchemaFault>
-    ensures { result ≡ least_of (none_name name.now) }
-{
-    let is_none = name.text.as_str() == "NONE";
-    when(is_none, SchemaFault::DuplicateName(name.at))
-}
-
-fn bad_member(before: usize, meaning: Meaning, at: u64) -> Option<SchemaFault>
-    ensures { result ≡ least_of (bad_member before meaning at) }
-{
-    let is_bad = !is_table(meaning) || 255 <= before;
-    when(is_bad, SchemaFault::BadMember(at))
-}
-
 /// What is wrong with a member with so many before it.
 #[tactic(auto, using(crate::proofs::Least::least_of_append), unfolding(crate::specs::FaultRows::member_faults))]
 fn member_fault(before: usize, resolved: &ResolvedMember<'_, '_>) -> Option<SchemaFault>
     ensures { result ≡ least_of (member_faults before resolved.now) }
 {
+    let name = &resolved.name;
     let meaning = resolved.meaning;
     let at = resolved.member.table.at();
-    let not_found = earlier(none_name(&resolved.name), use_fault(meaning, at));
-    earlier(not_found, bad_member(before, meaning, at))
+    let is_none = name.text.as_str() == "NONE";
+    let is_bad = !is_table(meaning) || 255 <= before;
+    let none_name = when(is_none, SchemaFault::DuplicateName(name.at));
+    let bad_member = when(is_bad, SchemaFault::BadMember(at));
+    earlier(earlier(none_name, use_fault(meaning, at)), bad_member)
 }
 
 fn members_read(
     alloc: Global,
-    members: &[ResolvedMember<'_, '_>],
+    members: Vec<ResolvedMember<'_, '_>>,
 ) -> Result<Vec<(String, TypeId)>, AllocError>
     ensures { IfOk result (λ v. map (λ m. (string_bytes m.0, m.1.0)) v.items
-        ≡ map member_read members.now) }
+        ≡ map member_read members.entry.items) }
 {
     let mut read = Vec::with_capacity(alloc, members.len())?;
     for member in members {
@@ -109,12 +99,8 @@ fn members_read(
 }
 
 /// The body that a right one gives. The only error is a refused allocation.
-pub(crate) fn union_body(
-    alloc: Global,
-    resolved: &ResolvedUnion<'_, '_>,
-) -> Result<Body, AllocError>
-    ensures { IfOk result
-        (λ b. HasBody (ResolvedDecl.Union resolved.now) (body_seen b)) }
+pub(crate) fn union_body(alloc: Global, resolved: ResolvedUnion<'_, '_>) -> Result<Body, AllocError>
+    ensures { IfOk result (λ b. HasBody (ResolvedDecl.Union resolved.entry) (body_seen b)) }
 {
-    Ok(Body::Union(members_read(alloc, resolved.members.as_slice())?))
+    Ok(Body::Union(members_read(alloc, resolved.members)?))
 }

@@ -12,4 +12,3 @@ pub mod Numbers
 pub mod UsesKept
 pub mod PathsKept
 pub mod RepeatedNames
-pub mod BasicTypes

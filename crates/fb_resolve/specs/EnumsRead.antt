@@ -63,6 +63,11 @@ values_from next (v ∷ vs) = let n = written_number next v in
 abbrev pub resolved_values : List EnumValue → List ResolvedValue
 resolved_values vs = values_from (pos 0) vs
 
+-- those of a type; none for a type that is no enum
+abbrev pub values_declared : TypeDecl → List ResolvedValue
+values_declared (decls.Enum e) = resolved_values e.values
+values_declared _ = []
+
 abbrev pub bits_of : Base → ℕ
 bits_of base = 8 * base_size base
 

@@ -16,3 +16,4 @@ pub mod Uses
 pub mod Paths
 pub mod Scope
 pub mod RepeatedNames
+pub mod UnionCodes

@@ -86,9 +86,5 @@ full_name (Some scope) name = inside scope name
 abbrev pub name_of_type : TypeRead → Name
 name_of_type r = full_name r.scope (word_of r.declaration).bytes
 
--- a type's full name, and where its own stands
-abbrev pub located_name : TypeRead → Located
-located_name r = record { bytes = name_of_type r; at = (word_of r.declaration).at }
-
 abbrev pub names_of_types : List TypeRead → List Name
 names_of_types types = map name_of_type types

@@ -1,6 +1,6 @@
 -- Full names that a type before has.
-use Rattle.std.specs.Prelude.{ℕ, ◌≡◌, ◌==◌, Bool, List, Some, slice_get, take}
-use Rattle.std.specs.List.{list_any}
+use Rattle.std.specs.Prelude.{ℕ, ◌≡◌, ◌==◌, Bool, List, Some, length, map, get_or, slice_get, take}
+use Rattle.std.specs.List.{list_any, range_with_len}
 use Rattle.std.specs.Str.{bytes_eq}
 use Rattle.fb_schema.specs.Schema.{Name}
 use Rattle.fb_resolve.specs.Outline.{TypeRead, name_of_type}
@@ -15,6 +15,5 @@ AreRepeats types repeats = (t : ℕ) (r : TypeRead) → slice_get types t ≡ So
     → slice_get repeats t ≡ Some (has_name (take t types) (name_of_type r))
 
 -- of each number whether it is among those before it
-abbrev pub AreRepeatedNumbers : List ℕ → List Bool → Type 0
-AreRepeatedNumbers numbers repeats = (k n : ℕ) → slice_get numbers k ≡ Some n
-    → slice_get repeats k ≡ Some (list_any (λ m. m == n) (take k numbers))
+abbrev pub repeated_numbers : List ℕ → List Bool
+repeated_numbers numbers = map (λ k. list_any (λ n. get_or numbers k 0 == n) (take k numbers)) (range_with_len 0 (length numbers))

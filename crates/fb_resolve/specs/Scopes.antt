@@ -1,8 +1,6 @@
 -- Which type a name means: the one in the innermost enclosing namespace.
 -- From the FlatBuffers documentation, "Writing a schema": Namespaces.
-use Rattle.std.specs.Prelude.{ℕ, suc, List, [], ◌∷◌, Option, None, Some, map, if◌then◌else◌}
-use Rattle.std.specs.Option.{option_map}
-use Rattle.std.specs.Str.{bytes_eq}
+use Rattle.std.specs.Prelude.{ℕ, List, [], Option, None, Some, map}
 use Rattle.fb_scopes.specs.Words.{Path, words, meant_inside}
 use Rattle.fb_schema.specs.Schema.{Name}
 use Rattle.fb_resolve.specs.Outline.{TypeRead, names_of_types}
@@ -15,11 +13,6 @@ words_of_scope (Some scope) = words scope
 -- the full names of types, word by word
 abbrev pub paths_of_types : List TypeRead → List Path
 paths_of_types types = map words (names_of_types types)
-
--- the first place of a name in a list of names
-abbrev pub place_of : List Name → Name → Option ℕ
-place_of [] name = None
-place_of (n ∷ ns) name = if bytes_eq name n then Some 0 else option_map suc (place_of ns name)
 
 -- the number of the type that a name means: the first of its full name in the innermost namespace that has one
 abbrev pub type_meant : List TypeRead → Option Name → Name → Option ℕ

@@ -1,7 +1,7 @@
 -- The slots that a table's fields take.
 -- From the FlatBuffers documentation, "Writing a schema": Tables, Unions, Attributes (`id`, `required`, `deprecated`).
-use Rattle.std.specs.Prelude.{ℕ, suc, ◌+◌, ◌==◌, ◌≡◌, ◌++◌, ◌&&◌, not, Bool, true, false, List, [], ◌∷◌, length, Option, None, Some, ℤ, pos, codes, slice_get, if◌then◌else◌, nat_lt}
-use Rattle.std.specs.List.{list_any, list_all, flat_map}
+use Rattle.std.specs.Prelude.{ℕ, suc, ◌+◌, ◌==◌, ◌≡◌, ◌++◌, ◌&&◌, not, Bool, true, false, List, [], ◌∷◌, length, map, Option, None, Some, ℤ, pos, codes, slice_get, if◌then◌else◌}
+use Rattle.std.specs.List.{list_any, list_all, flat_map, range_with_len}
 use Rattle.std.specs.List.Sorted.{IsPermutation}
 use Rattle.std.specs.Option.{is_some, unwrap_or}
 use Rattle.fb_syntax.specs.declared.declarations.FieldType.{FieldType}
@@ -112,25 +112,16 @@ pub record AreInPlace (read placed : List DeclaredField) : Type 0 where
   pub same : IsPermutation read placed
   pub slots : (k : ℕ) (f : DeclaredField) → slice_get placed k ≡ Some f → f.slot ≡ k
 
--- each number is below the count and differs from those before it, of which these are the first
-unfoldable pub take_new_places : ℕ → List ℕ → List ℕ → Bool
-take_new_places count taken [] = true
-take_new_places count taken (n ∷ ns) = (nat_lt n count && not (list_any (λ m. m == n) taken)) && take_new_places count (taken ++ n ∷ []) ns
-
--- the numbers are 0, 1, .. without gap or repeat, in any order
+-- The numbers are 0, 1, .. without gap or repeat, in any order: each that is below their count is among them.
 abbrev pub are_places : List ℕ → Bool
-are_places ns = take_new_places (length ns) [] ns
+are_places ns = list_all (λ k. list_any (λ n. k == n) ns) (range_with_len 0 (length ns))
 
 abbrev pub have_all_ids : List ResolvedField → Bool
 have_all_ids rs = list_all (λ r. is_some (slot_by_id r)) rs
 
--- the numbers of the slots that a field takes by its id
-abbrev pub numbers_by_union : ℕ → Option TypeId → List ℕ
-numbers_by_union slot None = slot ∷ []
-numbers_by_union slot (Some u) = slot ∷ (slot + 1) ∷ []
-
+-- the numbers of the slots that fields take by their ids
 abbrev pub numbers_by_id : List ResolvedField → List ℕ
-numbers_by_id rs = flat_map (λ r. numbers_by_union (unwrap_or (slot_by_id r) 0) (union_in r)) rs
+numbers_by_id rs = map (λ s. s.slot) (slots_by_id rs)
 
 -- All fields have ids, and these name each slot once.
 abbrev pub are_ids_right : List ResolvedField → Bool
@@ -140,9 +131,8 @@ are_ids_right rs = have_all_ids rs && are_places (numbers_by_id rs)
 unfoldable pub are_ids_wrong : List ResolvedField → Bool
 are_ids_wrong rs = have_ids rs && not (are_ids_right rs)
 
--- What the slots of a table's fields are: numbered in the order of declaration, or by their ids, of
--- which these are the numbers in that order.
+-- what the slots of a table's fields are: numbered in the order of declaration, or by their ids
 abbrev pub AreSlots : List ResolvedField → Slots → Type 0
 AreSlots rs InOrder = have_ids rs ≡ false
-AreSlots rs (ById numbers) = (have_ids rs ≡ true) × (are_ids_right rs ≡ true) × (numbers.items ≡ numbers_by_id rs)
+AreSlots rs ById = (have_ids rs ≡ true) × (are_ids_right rs ≡ true)
 AreSlots rs Wrong = are_ids_wrong rs ≡ true

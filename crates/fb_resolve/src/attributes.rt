@@ -54,12 +54,7 @@ pub fn built_in_attribute(name: &str) -> Option<BuiltInAttribute>
 pub fn is_alignment(least: u16, number: i128) -> bool
     ensures { result ≡ is_alignment least number }
 {
-    match u128::try_from(number) {
-        Ok(number) => {
-            [1, 2, 4, 8, 16, 32, 64, 128, 256].contains(&number) && u128::from(least) <= number
-        }
-        Err(_) => false,
-    }
+    [1, 2, 4, 8, 16, 32, 64, 128, 256].contains(&number) && i128::from(least) <= number
 }
 
 /// What the attributes of a field say of its slots.
@@ -117,18 +112,9 @@ fn id_in(attributes: &[Attribute<'_>]) -> Option<u64>
 }
 
 /// What the attributes of a field say of its slots.
-#[tactic(auto, unfolding(crate::specs::Attributes::number_called))]
 pub(crate) fn field_attributes(attributes: &[Attribute<'_>]) -> FieldAttributes
     ensures { result ≡ field_attributes attributes.now }
 {
-    if attributes.is_empty() {
-        return FieldAttributes {
-            id: None,
-            has_id: false,
-            required: false,
-            deprecated: false,
-        };
-    }
     FieldAttributes {
         id: id_in(attributes),
         has_id: has_attribute(BuiltInAttribute::Id, attributes),

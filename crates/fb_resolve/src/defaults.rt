@@ -1,8 +1,7 @@
 //! Defaults of fields.
 ghost use Rattle.std.specs.Prelude.{◌≡◌};
 ghost use Rattle.std.specs.Option.{option_copied};
-ghost use Rattle.fb_resolve.specs.Defaults.{number_within, null_or_wrong, boolean_named, scalar_named, enum_number};
-ghost use Rattle.fb_resolve.specs.Defaults.{enum_named, given_to, given_by};
+ghost use Rattle.fb_resolve.specs.Defaults.{number_within, null_or_wrong, given_to, given_by};
 
 use crate::enums::underlying_at;
 use crate::meanings::Meaning;
@@ -39,43 +38,6 @@ fn null_or_wrong(name: &str) -> Given
     }
 }
 
-fn boolean_named(name: &str) -> Given
-    ensures { result ≡ boolean_named name.now }
-{
-    match name {
-        "true" => Given::Number(1),
-        "false" => Given::Number(0),
-        _ => null_or_wrong(name),
-    }
-}
-
-fn scalar_named(base: Base, name: &str) -> Given
-    ensures { result ≡ scalar_named base name.now }
-{
-    match base {
-        Base::Bool => boolean_named(name),
-        _ => null_or_wrong(name),
-    }
-}
-
-fn enum_number(base: Option<Base>, number: i128) -> Given
-    ensures { result ≡ enum_number base number }
-{
-    match base {
-        Some(base) => number_within(base, number),
-        None => Given::Number(number),
-    }
-}
-
-fn enum_named(number: Option<i128>, name: &str) -> Given
-    ensures { result ≡ enum_named number name.now }
-{
-    match number {
-        Some(number) => Given::Number(number),
-        None => null_or_wrong(name),
-    }
-}
-
 /// What a default gives to one value of a type.
 #[tactic(auto, unfolding(crate::specs::Defaults::given_to))]
 pub(crate) fn given_to(
@@ -89,15 +51,25 @@ pub(crate) fn given_to(
         (Meaning::Known(Kind::Scalar(base)), DefaultValue::Integer(number)) => {
             number_within(base, number.value())
         }
-        (Meaning::Known(Kind::Scalar(base)), DefaultValue::Name(name)) => {
-            scalar_named(base, name.as_str())
+        (Meaning::Known(Kind::Scalar(Base::Bool)), DefaultValue::Name(name)) => {
+            match name.as_str() {
+                "true" => Given::Number(1),
+                "false" => Given::Number(0),
+                name => null_or_wrong(name),
+            }
         }
+        (Meaning::Known(Kind::Scalar(_)), DefaultValue::Name(name)) => null_or_wrong(name.as_str()),
         (Meaning::Known(Kind::Enum(id)), DefaultValue::Integer(number)) => {
-            enum_number(underlying_at(types.types, id.0 as usize), number.value())
+            match underlying_at(types.types, id.0 as usize) {
+                Some(base) => number_within(base, number.value()),
+                None => Given::Number(number.value()),
+            }
         }
         (Meaning::Known(Kind::Enum(id)), DefaultValue::Name(name)) => {
-            let name = name.as_str();
-            enum_named(value_at(types, id.0 as usize, name), name)
+            match value_at(types, id.0 as usize, name.as_str()) {
+                Some(number) => Given::Number(number),
+                None => null_or_wrong(name.as_str()),
+            }
         }
         (Meaning::Known(_), _) => Given::Wrong,
         (Meaning::Float | Meaning::Unknown, _) => Given::Number(0),

@@ -1,5 +1,5 @@
 //! The slots that the ids of fields name.
-ghost use Rattle.std.specs.Prelude.{◌≡◌, ◌<◌, ◌-◌, ◌++◌, ◌^◌, [], ◌∷◌, IfOk, IfSome};
+ghost use Rattle.std.specs.Prelude.{◌≡◌, ◌<◌, ◌-◌, ◌^◌, IfOk, IfSome};
 ghost use Rattle.std.specs.Prelude.{IsSome, map, true, false};
 ghost use Rattle.std.specs.Option.{is_some};
 ghost use Rattle.fb_resolve.specs.SlotsRead.{union_in, slot_by_id, have_all_ids, numbers_by_id, are_places};
@@ -12,12 +12,12 @@ use fb_schema::FieldInfo;
 use std::alloc::{AllocError, Global};
 
 /// The slots that the fields of a table take.
-#[derive(Drop)]
+#[derive(Clone, Copy, Drop)]
 pub(crate) enum Slots {
     /// Without ids they are numbered in the order of declaration.
     InOrder,
-    /// The ids name each once: these are their numbers in the order of declaration.
-    ById(Vec<u64>),
+    /// The ids name each once.
+    ById,
     /// The ids do not name each once.
     Wrong,
 }
@@ -34,26 +34,8 @@ fn slot_by_id(resolved: &ResolvedField<'_, '_>) -> Option<u64>
     }
 }
 
-/// Adds the numbers of the slots that a field takes by its id; says whether it has one.
-fn push_numbers(
-    resolved: &ResolvedField<'_, '_>,
-    numbers: &mut Vec<u64>,
-) -> Result<bool, AllocError>
-    ensures named { IfOk result (λ b. b ≡ is_some (slot_by_id resolved.now)) }
-    ensures numbers { result ≡ Ok true → numbers.new.items ≡ numbers.old.items
-        ++ numbers_by_id (resolved.now ∷ []) }
-{
-    let Some(first) = slot_by_id(resolved) else {
-        return Ok(false);
-    };
-    numbers.push(first)?;
-    if union_in(resolved).is_some() {
-        numbers.push(first + 1)?;
-    }
-    Ok(true)
-}
-
 /// The numbers of the slots that fields take by their ids, if each has one.
+#[tactic(auto, unfolding(crate::specs::SlotsRead::slots_of_field))]
 fn numbers_by_id(
     alloc: Global,
     fields: &[ResolvedField<'_, '_>],
@@ -63,8 +45,12 @@ fn numbers_by_id(
 {
     let mut numbers = Vec::with_capacity(alloc, fields.len())?;
     for field in fields {
-        if !push_numbers(field, &mut numbers)? {
+        let Some(first) = slot_by_id(field) else {
             return Ok(None);
+        };
+        numbers.push(first)?;
+        if union_in(field).is_some() {
+            numbers.push(first + 1)?;
         }
     }
     Ok(Some(numbers))
@@ -77,12 +63,11 @@ fn are_places(alloc: Global, numbers: &[u64]) -> Result<bool, AllocError>
     let mut taken = vec![in alloc; false; numbers.len()]?;
     for number in numbers {
         let number = *number as usize;
-        if number >= taken.len() || taken[number] {
-            return Ok(false);
+        if number < taken.len() {
+            taken[number] = true;
         }
-        taken[number] = true;
     }
-    Ok(true)
+    Ok(taken.iter().all(|taken| *taken))
 }
 
 fn have_ids(fields: &[ResolvedField<'_, '_>]) -> bool
@@ -101,7 +86,7 @@ impl Slots {
             return Ok(Slots::InOrder);
         }
         match numbers_by_id(alloc, fields)? {
-            Some(numbers) if are_places(alloc, numbers.as_slice())? => Ok(Slots::ById(numbers)),
+            Some(numbers) if are_places(alloc, numbers.as_slice())? => Ok(Slots::ById),
             _ => Ok(Slots::Wrong),
         }
     }
@@ -115,18 +100,17 @@ pub fn are_ids_wrong(table: &ResolvedTable<'_, '_>) -> bool
     matches!(table.slots, Slots::Wrong)
 }
 
-/// The slots of fields that take these numbers, in the order of declaration.
+/// The slots of fields by their ids, in the order of declaration.
 fn slots_by_id(
     alloc: Global,
-    fields: &[ResolvedField<'_, '_>],
-    numbers: &[u64],
+    fields: Vec<ResolvedField<'_, '_>>,
 ) -> Result<Vec<FieldInfo>, AllocError>
-    requires { numbers.now ≡ numbers_by_id fields.now }
-    ensures { IfOk result (λ v. map field_seen v.items ≡ slots_by_id fields.now) }
+    ensures { IfOk result (λ v. map field_seen v.items ≡ slots_by_id fields.entry.items) }
 {
-    let mut slots = Vec::with_capacity(alloc, numbers.len())?;
+    let mut slots = Vec::with_capacity(alloc, fields.len())?;
     for field in fields {
-        push_slots(alloc, field, numbers[slots.len()], &mut slots)?;
+        let first = slot_by_id(&field).unwrap_or(0);
+        push_slots(alloc, field, first, &mut slots)?;
     }
     Ok(slots)
 }
@@ -134,16 +118,15 @@ fn slots_by_id(
 /// The slots of a table, each at the place of its number. The only error is a refused allocation.
 pub fn table_slots(
     alloc: Global,
-    table: &ResolvedTable<'_, '_>,
+    table: ResolvedTable<'_, '_>,
 ) -> Result<Vec<FieldInfo>, AllocError>
-    requires { are_ids_wrong table.now.fields ≡ false }
-    ensures { IfOk result (λ v. AreInPlace (slots_read table.now.fields) (map field_seen v.items)) }
+    requires { are_ids_wrong table.fields ≡ false }
+    ensures { IfOk result (λ v. AreInPlace (slots_read table.entry.fields) (map field_seen v.items)) }
 {
-    let fields = table.fields.as_slice();
-    match &table.slots {
-        Slots::InOrder => slots_in_order(alloc, fields),
-        Slots::ById(numbers) => {
-            let mut slots = slots_by_id(alloc, fields, numbers.as_slice())?;
+    match table.slots {
+        Slots::InOrder => slots_in_order(alloc, table.fields),
+        Slots::ById => {
+            let mut slots = slots_by_id(alloc, table.fields)?;
             slots.sort_by_key(|slot| slot.slot)?;
             Ok(slots)
         }

@@ -18,6 +18,7 @@ mod scope;
 mod slots;
 mod structs;
 mod types_read;
+mod uses;
 mod value_names;
 mod value_numbers;
 
@@ -33,7 +34,7 @@ pub use outline::{Outline, RootRead, TypeRead, name_of_type, word_of};
 pub use resolve::Resolved;
 pub use resolved::{
     ResolvedDecl, ResolvedEnum, ResolvedField, ResolvedMember, ResolvedStruct, ResolvedTable,
-    ResolvedType, ResolvedUnion, ResolvedValue,
+    ResolvedType, ResolvedUnion, ResolvedValue, UnionCode,
 };
-pub use slots::{name_of_code, union_in};
+pub use slots::union_in;
 pub use structs::{align_of_type, forced_align, natural_of_type, parts_read};

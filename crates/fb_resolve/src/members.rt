@@ -29,10 +29,13 @@ pub fn is_table(meaning: Meaning) -> bool
     matches!(meaning, Meaning::Known(Kind::Table(_)))
 }
 
-/// A table's name with underscores for dots.
-fn with_underscores(alloc: Global, name: &str) -> Result<String, AllocError>
-    ensures { IfOk result (λ s. string_bytes s ≡ with_underscores name.now) }
+/// A table's name with underscores for dots, borrowed if it has none.
+fn underscored(alloc: Global, name: &str) -> Result<CowStr<'_>, AllocError>
+    ensures { IfOk result (λ s. cow_str_bytes s ≡ with_underscores name.now) }
 {
+    let Some(_) = name.split_once('.') else {
+        return Ok(CowStr::Borrowed(name));
+    };
     let mut underscored = String::new(alloc);
     let mut rest = name;
     while let Some((word, behind)) = rest.split_once('.') {
@@ -41,17 +44,7 @@ fn with_underscores(alloc: Global, name: &str) -> Result<String, AllocError>
         rest = behind;
     }
     underscored.push_str(rest)?;
-    Ok(underscored)
-}
-
-/// A table's name with underscores for dots, borrowed if it has none.
-fn underscored(alloc: Global, name: &str) -> Result<CowStr<'_>, AllocError>
-    ensures { IfOk result (λ s. cow_str_bytes s ≡ with_underscores name.now) }
-{
-    match name.split_once('.') {
-        None => Ok(CowStr::Borrowed(name)),
-        Some(_) => Ok(CowStr::Owned(with_underscores(alloc, name)?)),
-    }
+    Ok(CowStr::Owned(underscored))
 }
 
 /// The name of a member: its alias or that of its table. The only error is a refused allocation.
@@ -75,11 +68,11 @@ pub(crate) fn member_name<'d>(
 /// allocation.
 pub fn member_read(
     alloc: Global,
-    resolved: &ResolvedMember<'_, '_>,
+    resolved: ResolvedMember<'_, '_>,
 ) -> Result<(String, TypeId), AllocError>
-    ensures { IfOk result (λ m. (string_bytes m.0, m.1.0) ≡ member_read resolved.now) }
+    ensures { IfOk result (λ m. (string_bytes m.0, m.1.0) ≡ member_read resolved.entry) }
 {
-    let name = String::from_str(alloc, resolved.name.text.as_str())?;
+    let name = resolved.name.text.into_owned(alloc)?;
     let table = table_of(resolved.meaning).unwrap_or(TypeId(0));
     Ok((name, table))
 }

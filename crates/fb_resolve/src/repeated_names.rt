@@ -1,6 +1,6 @@
 //! Full names that a type before has, told by the numbers of their paths.
-ghost use Rattle.std.specs.Prelude.{◌<◌, All, IfOk};
-ghost use Rattle.fb_resolve.specs.RepeatedNames.{AreRepeatedNumbers};
+ghost use Rattle.std.specs.Prelude.{◌≡◌, ◌<◌, All, IfOk};
+ghost use Rattle.fb_resolve.specs.RepeatedNames.{repeated_numbers};
 
 use std::alloc::{AllocError, Global};
 
@@ -12,7 +12,7 @@ pub(crate) fn repeated_numbers(
     bound: usize,
 ) -> Result<Vec<bool>, AllocError>
     requires { All (λ n. n < bound) numbers.now }
-    ensures { IfOk result (λ r. AreRepeatedNumbers numbers.now r.items) }
+    ensures { IfOk result (λ r. r.items ≡ repeated_numbers numbers.now) }
 {
     let mut seen = vec![in alloc; false; bound]?;
     let mut repeats = Vec::with_capacity(alloc, numbers.len())?;

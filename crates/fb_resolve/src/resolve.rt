@@ -10,13 +10,15 @@ ghost use Rattle.fb_resolve.specs.Uses.{uses_of_fields, uses_of_members, uses_of
 ghost use Rattle.fb_resolve.specs.Paths.{IsPath};
 ghost use Rattle.fb_resolve.specs.RepeatedNames.{AreRepeats};
 ghost use Rattle.fb_resolve.specs.Scope.{IsScope};
+ghost use Rattle.fb_resolve.specs.EnumsRead.{resolved_values, values_declared};
+ghost use Rattle.fb_resolve.specs.ValueNumbers.{AreValues};
 ghost use Rattle.fb_resolve.specs.Resolved.{resolved_fields, resolved_table, resolved_enum, resolved_members};
 ghost use Rattle.fb_resolve.specs.Resolved.{resolved_union, resolved_declaration, resolved_types};
 ghost use Rattle.fb_resolve.specs.Resolved.{meaning_of_root};
 
 use crate::attributes::{BuiltInAttribute, field_attributes, number_called};
 use crate::defaults::given_by;
-use crate::enums::{has_flags, resolved_values};
+use crate::enums::has_flags;
 use crate::ids::Slots;
 use crate::meanings::Meaning;
 use crate::members::member_name;
@@ -25,11 +27,12 @@ use crate::paths::Paths;
 use crate::repeated_names::repeated_numbers;
 use crate::resolved::{
     ResolvedDecl, ResolvedEnum, ResolvedField, ResolvedMember, ResolvedStruct, ResolvedTable,
-    ResolvedType, ResolvedUnion,
+    ResolvedType, ResolvedUnion, ResolvedValue,
 };
 use crate::scope::Scope;
+use crate::slots::code_of;
 use crate::types_read::TypesRead;
-use crate::value_numbers::ValueNumbers;
+use crate::value_numbers::{ValueNumbers, values_of};
 use fb_scopes::Scopes;
 use fb_syntax::{Decls, EnumDecl, Field, TableDecl, TypeDecl, UnionDecl, UnionMember};
 use std::alloc::{AllocError, Global};
@@ -54,6 +57,7 @@ impl<'d, 's> Scope<'_, 'd, 's> {
                 meaning,
                 attributes: field_attributes(field.attributes.as_slice()),
                 given: given_by(self.types, &field.kind, meaning, default),
+                code: code_of(alloc, field, meaning)?,
             })?;
         }
         Ok(resolved)
@@ -102,22 +106,21 @@ impl<'d, 's> Scope<'_, 'd, 's> {
 
     fn resolved_enum(
         self,
-        alloc: Global,
         declared: &'d EnumDecl<'s>,
-    ) -> Result<ResolvedEnum<'d, 's>, AllocError>
+        values: Vec<ResolvedValue<'d, 's>>,
+    ) -> ResolvedEnum<'d, 's>
         requires scope { IsScope self }
         requires used { IsUse (names_of self.scopes.now) declared.now.underlying.bytes }
-        ensures { IfOk result (λ e. e
-            ≡ resolved_enum self.entry.types.types.now (option_copied self.entry.name) declared.now) }
+        requires values { values.items ≡ resolved_values declared.now.values }
+        ensures { result
+            ≡ resolved_enum self.entry.types.types.now (option_copied self.entry.name) declared.now }
     {
-        let underlying = self.meaning(declared.underlying.as_str());
-        let values = resolved_values(alloc, declared.values.as_slice())?;
-        Ok(ResolvedEnum {
+        ResolvedEnum {
             declared,
-            underlying,
+            underlying: self.meaning(declared.underlying.as_str()),
             bit_flags: has_flags(declared),
             values,
-        })
+        }
     }
 
     fn resolved_members(
@@ -161,9 +164,11 @@ impl<'d, 's> Scope<'_, 'd, 's> {
         self,
         alloc: Global,
         declaration: &'d TypeDecl<'s>,
+        values: Vec<ResolvedValue<'d, 's>>,
     ) -> Result<ResolvedDecl<'d, 's>, AllocError>
         requires scope { IsScope self }
         requires used { AreUses (names_of self.scopes.now) (uses_of declaration.now) }
+        requires values { values.items ≡ values_declared declaration.now }
         ensures { IfOk result (λ d. d
             ≡ resolved_declaration self.entry.types.types.now (option_copied self.entry.name)
             declaration.now) }
@@ -171,22 +176,24 @@ impl<'d, 's> Scope<'_, 'd, 's> {
         Ok(match declaration {
             TypeDecl::Table(table) => ResolvedDecl::Table(self.resolved_table(alloc, table)?),
             TypeDecl::Struct(table) => ResolvedDecl::Struct(self.resolved_struct(alloc, table)?),
-            TypeDecl::Enum(declared) => ResolvedDecl::Enum(self.resolved_enum(alloc, declared)?),
+            TypeDecl::Enum(declared) => ResolvedDecl::Enum(self.resolved_enum(declared, values)),
             TypeDecl::Union(union) => ResolvedDecl::Union(self.resolved_union(alloc, union)?),
         })
     }
 }
 
-/// Each type with what the names in its declaration mean, where these are the numbers of the paths
-/// of their namespaces.
+/// Each type with what the names in its declaration mean, where these are each type's values and the number of its
+/// namespace's path.
 fn resolved_types<'t, 'd, 's>(
     alloc: Global,
     types: &'t [TypeRead<'d, 's>],
     numbered: TypesRead<'_, 'd, 's>,
+    values: Vec<Vec<ResolvedValue<'d, 's>>>,
     scopes: &Scopes<'d>,
     numbers: &[usize],
 ) -> Result<Vec<ResolvedType<'t, 'd, 's>>, AllocError>
     requires numbered { numbered.types.now ≡ types.now }
+    requires values { AreValues types.now values.items }
     requires scopes { AreScopes scopes.now (paths_of_types types.now) }
     requires numbers { AllZip (λ n r. IsPath (tree_of scopes.now) n (words_of_scope r.scope))
         numbers.now types.now }
@@ -194,14 +201,18 @@ fn resolved_types<'t, 'd, 's>(
     ensures { IfOk result (λ v. v.items ≡ resolved_types types.now) }
 {
     let mut resolved = Vec::with_capacity(alloc, types.len())?;
+    let mut values = values.into_iter();
     for (number, read) in types.iter().enumerate() {
+        let Some(values) = values.next() else {
+            unreachable!()
+        };
         let scope = Scope {
             types: numbered,
             scopes,
             path: numbers[number],
             name: read.scope,
         };
-        let declaration = scope.resolved_declaration(alloc, read.declaration)?;
+        let declaration = scope.resolved_declaration(alloc, read.declaration, values)?;
         resolved.push(ResolvedType { read, declaration })?;
     }
     Ok(resolved)
@@ -234,13 +245,17 @@ fn meaning_of_root<'d>(
     scope.meaning(name.as_str())
 }
 
-/// The types of a text, and what each name in them and the root's mean.
+/// What a text declares, and what each name in its types and the root's mean.
 #[derive(Drop)]
 pub struct Resolved<'t, 'd, 's> {
+    pub outline: &'t Outline<'d, 's>,
     pub types: Vec<ResolvedType<'t, 'd, 's>>,
     /// Of each type whether one before it has its full name.
     pub repeats: Vec<bool>,
     pub root: Meaning,
+    ghost meant: { types.items ≡ resolved_types outline.now.types },
+    ghost repeated: { AreRepeats outline.now.types repeats.items },
+    ghost root_meant: { root ≡ meaning_of_root outline.now.types outline.now.root },
 }
 
 impl<'t, 'd, 's> Resolved<'t, 'd, 's> {
@@ -251,9 +266,7 @@ impl<'t, 'd, 's> Resolved<'t, 'd, 's> {
         outline: &'t Outline<'d, 's>,
     ) -> Result<Resolved<'t, 'd, 's>, AllocError>
         requires { outline.now ≡ outline_of decls.now }
-        ensures types { IfOk result (λ r. r.types.items ≡ resolved_types outline.now.types) }
-        ensures repeats { IfOk result (λ r. AreRepeats outline.now.types r.repeats.items) }
-        ensures root { IfOk result (λ r. r.root ≡ meaning_of_root outline.now.types outline.now.root) }
+        ensures { IfOk result (λ r. r.outline.now ≡ outline.now) }
     {
         let Paths {
             tree,
@@ -266,13 +279,15 @@ impl<'t, 'd, 's> Resolved<'t, 'd, 's> {
         let repeats = repeated_numbers(alloc, names, tree.len())?;
         let scopes = Scopes::of(alloc, tree, used, names)?;
         let types = outline.types.as_slice();
-        let values = ValueNumbers::of(alloc, types)?;
+        let values = values_of(alloc, types)?;
+        let value_numbers = ValueNumbers::of(alloc, types, values.as_slice())?;
         let numbered = TypesRead {
             types,
-            values: &values,
+            values: &value_numbers,
         };
         Ok(Resolved {
-            types: resolved_types(alloc, types, numbered, &scopes, numbers.as_slice())?,
+            outline,
+            types: resolved_types(alloc, types, numbered, values, &scopes, numbers.as_slice())?,
             repeats,
             root: meaning_of_root(numbered, &scopes, root, outline.root.as_ref()),
         })

@@ -5,21 +5,31 @@ use crate::ids::Slots;
 use crate::located_names::LocatedName;
 use crate::meanings::Meaning;
 use crate::outline::TypeRead;
+use fb_schema::TypeId;
 use fb_syntax::{EnumDecl, EnumValue, Field, TableDecl, UnionDecl, UnionMember};
 use std::marker::Model;
 
-/// A field of a table or struct, what the name in its type means, what its attributes say, and what
-/// a table's field is given where none is stored.
+/// The code of a union's field: the union, and the name of the slot that holds the code.
+#[derive(Drop)]
+pub struct UnionCode {
+    pub union: TypeId,
+    pub name: String,
+}
+
+/// A field of a table or struct, what the name in its type means, what its attributes say, what a table's field is
+/// given where none is stored, and the code that comes with it if it is a union's.
 #[derive(Drop)]
 pub struct ResolvedField<'d, 's> {
     pub field: &'d Field<'s>,
     pub meaning: Meaning,
     pub attributes: FieldAttributes,
     pub given: Given,
+    pub code: Option<UnionCode>,
 }
 
 impl<'d, 's> Model for ResolvedField<'d, 's> {
     ghost use Rattle.fb_resolve.specs.ResolvedFields.{ResolvedField as Resolved};
+    ghost use Rattle.fb_resolve.specs.UnionCodes.{IsCodeOf};
 
     ghost Value = { Resolved };
 
@@ -29,6 +39,8 @@ impl<'d, 's> Model for ResolvedField<'d, 's> {
       attributes = f.attributes;
       given = f.given;
     } };
+
+    ghost invariant = { λ f. IsCodeOf f.field.now f.meaning f.code };
 }
 
 /// A table, what its fields mean, and which slots they take.

@@ -1,9 +1,8 @@
 //! What the names of types mean inside a namespace.
-ghost use Rattle.std.specs.Prelude.{◌≡◌, slice_get};
+ghost use Rattle.std.specs.Prelude.{◌≡◌};
 ghost use Rattle.std.specs.Option.{option_copied};
-ghost use Rattle.fb_scopes.specs.Scopes.{names_of, IsUsed};
-ghost use Rattle.fb_resolve.specs.Scopes.{type_meant};
-ghost use Rattle.fb_resolve.specs.Meaning.{type_name, use_of_read, meaning_of, meaning_in};
+ghost use Rattle.fb_scopes.specs.Scopes.{names_of};
+ghost use Rattle.fb_resolve.specs.Meaning.{type_name, meaning_of, meaning_in};
 ghost use Rattle.fb_resolve.specs.Uses.{IsUse};
 ghost use Rattle.fb_resolve.specs.Scope.{IsScope};
 
@@ -24,31 +23,6 @@ pub(crate) struct Scope<'f, 'd, 's> {
 }
 
 impl<'d> Scope<'_, 'd, '_> {
-    /// A use of the type of a number.
-    fn use_of(self, number: usize) -> Meaning
-        ensures { result ≡ use_of_read number (slice_get self.entry.types.types.now number) }
-    {
-        let Some(read) = self.types.types.get(number) else {
-            return Meaning::Unknown;
-        };
-        let id = TypeId(number as u64);
-        match read.declaration {
-            TypeDecl::Table(_) => Meaning::Known(Kind::Table(id)),
-            TypeDecl::Struct(_) => Meaning::Known(Kind::Struct(id)),
-            TypeDecl::Enum(_) => Meaning::Known(Kind::Enum(id)),
-            TypeDecl::Union(_) => Meaning::Known(Kind::Union(id)),
-        }
-    }
-
-    /// The number of the type that a used name means.
-    fn type_meant(self, name: &'d str) -> Option<usize>
-        requires scope { IsScope self }
-        requires used { IsUsed (names_of self.scopes.now) name.now }
-        ensures { result ≡ type_meant self.entry.types.types.now (option_copied self.entry.name) name.now }
-    {
-        self.scopes.meant(self.path, name)
-    }
-
     /// What a type's name means.
     #[tactic(auto, unfolding(crate::specs::Meaning::meaning_of))]
     pub(crate) fn meaning(self, name: &'d str) -> Meaning
@@ -66,9 +40,18 @@ impl<'d> Scope<'_, 'd, '_> {
         if is_float_type(name) {
             return Meaning::Float;
         }
-        match self.type_meant(name) {
-            Some(number) => self.use_of(number),
-            None => Meaning::Unknown,
+        let Some(number) = self.scopes.meant(self.path, name) else {
+            return Meaning::Unknown;
+        };
+        let Some(read) = self.types.types.get(number) else {
+            return Meaning::Unknown;
+        };
+        let id = TypeId(number as u64);
+        match read.declaration {
+            TypeDecl::Table(_) => Meaning::Known(Kind::Table(id)),
+            TypeDecl::Struct(_) => Meaning::Known(Kind::Struct(id)),
+            TypeDecl::Enum(_) => Meaning::Known(Kind::Enum(id)),
+            TypeDecl::Union(_) => Meaning::Known(Kind::Union(id)),
         }
     }
 

@@ -1,16 +1,18 @@
 //! The slots that the fields of a table take.
 ghost use Rattle.std.specs.Prelude.{◌≡◌, ◌<◌, ◌-◌, ◌++◌, ◌^◌, IfOk, OnOk, IsSome, map};
-ghost use Rattle.std.specs.Prelude.{string_bytes};
+ghost use Rattle.std.specs.Prelude.{Some, string_bytes};
+ghost use Rattle.std.specs.Option.{option_map};
 ghost use Rattle.fb_schema.specs.Seen.{field_seen};
 ghost use Rattle.fb_resolve.specs.SlotsRead.{union_of, union_in, value_slot, name_of_code, code_slot};
 ghost use Rattle.fb_resolve.specs.SlotsRead.{slots_of_field, slots_in_order};
+ghost use Rattle.fb_resolve.specs.UnionCodes.{IsCodeOf};
 
 use crate::defaults::Given;
 use crate::meanings::Meaning;
-use crate::resolved::ResolvedField;
+use crate::resolved::{ResolvedField, UnionCode};
 use crate::structs::shape_of;
 use fb_schema::{FieldInfo, Kind, Shape, TypeId};
-use fb_syntax::FieldType;
+use fb_syntax::{Field, FieldType};
 use std::alloc::{AllocError, Global};
 
 /// The union of a union's use.
@@ -49,7 +51,7 @@ fn value_slot(
 }
 
 /// Of a union field `x`, the name of its code.
-pub fn name_of_code(alloc: Global, name: &str) -> Result<String, AllocError>
+fn name_of_code(alloc: Global, name: &str) -> Result<String, AllocError>
     ensures { IfOk result (λ s. string_bytes s ≡ name_of_code name.now) }
 {
     let mut code = String::with_capacity(alloc, name.len() + "_type".len())?;
@@ -58,52 +60,74 @@ pub fn name_of_code(alloc: Global, name: &str) -> Result<String, AllocError>
     Ok(code)
 }
 
-fn code_slot(
+/// The code that comes with a field whose type means this. The only error is a refused allocation.
+pub(crate) fn code_of(
     alloc: Global,
-    resolved: &ResolvedField<'_, '_>,
-    union: TypeId,
-    slot: u64,
-) -> Result<FieldInfo, AllocError>
-    ensures { IfOk result (λ f. field_seen f ≡ code_slot resolved.now union slot) }
+    field: &Field<'_>,
+    meaning: Meaning,
+) -> Result<Option<UnionCode>, AllocError>
+    ensures { IfOk result (IsCodeOf field.now meaning) }
 {
-    let field = resolved.field;
-    Ok(FieldInfo {
-        name: name_of_code(alloc, field.name.text)?,
-        shape: Shape::One(Kind::Code(union)),
-        default: 0,
-        optional: false,
-        required: false,
-        deprecated: resolved.attributes.deprecated,
-        slot,
-    })
+    let Some(union) = union_of(&field.kind, meaning) else {
+        return Ok(None);
+    };
+    let name = name_of_code(alloc, field.name.text)?;
+    Ok(Some(UnionCode { union, name }))
 }
 
 /// The union of a union's field.
 pub fn union_in(resolved: &ResolvedField<'_, '_>) -> Option<TypeId>
     ensures { result ≡ union_in resolved.now }
 {
-    let field = resolved.field;
-    union_of(&field.kind, resolved.meaning)
+    match &resolved.code {
+        Some(code) => Some(code.union),
+        None => None,
+    }
+}
+
+/// The slot of the code of a union's field.
+fn code_slot(resolved: ResolvedField<'_, '_>, slot: u64) -> FieldInfo
+    requires { IsSome (union_in resolved) }
+    ensures { Some (field_seen result)
+        ≡ option_map (λ u. code_slot resolved.entry u slot) (union_in resolved.entry) }
+{
+    let ResolvedField {
+        attributes,
+        code,
+        ..
+    } = resolved;
+    let Some(code) = code else { unreachable!() };
+    FieldInfo {
+        name: code.name,
+        shape: Shape::One(Kind::Code(code.union)),
+        default: 0,
+        optional: false,
+        required: false,
+        deprecated: attributes.deprecated,
+        slot,
+    }
 }
 
 /// Adds the slots of a field from this one on: a union's code comes before its value.
 #[tactic(auto, unfolding(crate::specs::SlotsRead::slots_of_field))]
 pub(crate) fn push_slots(
     alloc: Global,
-    resolved: &ResolvedField<'_, '_>,
+    resolved: ResolvedField<'_, '_>,
     slot: u64,
     slots: &mut Vec<FieldInfo>,
 ) -> Result<(), AllocError>
-    requires { IsSome (union_in resolved.now) → slot < 2 ^ 64 - 1 }
+    requires { IsSome (union_in resolved) → slot < 2 ^ 64 - 1 }
     ensures { OnOk result (map field_seen slots.new.items ≡ map field_seen slots.old.items
-        ++ slots_of_field resolved.now slot) }
+        ++ slots_of_field resolved.entry slot) }
 {
-    match union_in(resolved) {
-        Some(union) => {
-            slots.push(code_slot(alloc, resolved, union, slot)?)?;
-            slots.push(value_slot(alloc, resolved, slot + 1)?)?;
+    match union_in(&resolved) {
+        Some(_) => {
+            // made first, since the code's slot takes the field
+            let value = value_slot(alloc, &resolved, slot + 1)?;
+            slots.push(code_slot(resolved, slot))?;
+            slots.push(value)?;
         }
-        None => slots.push(value_slot(alloc, resolved, slot)?)?,
+        None => slots.push(value_slot(alloc, &resolved, slot)?)?,
     }
     Ok(())
 }
@@ -113,10 +137,10 @@ pub(crate) fn push_slots(
 #[tactic(auto, unfolding(crate::specs::SlotsRead::slots_in_order))]
 pub(crate) fn slots_in_order(
     alloc: Global,
-    fields: &[ResolvedField<'_, '_>],
+    fields: Vec<ResolvedField<'_, '_>>,
 ) -> Result<Vec<FieldInfo>, AllocError>
     ensures { IfOk result
-        (λ v. map field_seen v.items ≡ slots_in_order 0 fields.now) }
+        (λ v. map field_seen v.items ≡ slots_in_order 0 fields.entry.items) }
 {
     let mut slots = Vec::with_capacity(alloc, fields.len())?;
     for field in fields {

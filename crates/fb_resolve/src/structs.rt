@@ -3,9 +3,9 @@ ghost use Rattle.std.specs.Prelude.{◌≡◌, ◌≤◌, ℕ, List, IfOk, Some,
 ghost use Rattle.std.specs.Option.{option_map_or};
 ghost use Rattle.fb_schema.specs.Alignments.{base_size};
 ghost use Rattle.fb_schema.specs.Seen.{field_seen};
-ghost use Rattle.fb_resolve.specs.StructsRead.{align_by, align_in, natural_align, alignment_in, forced_align};
-ghost use Rattle.fb_resolve.specs.StructsRead.{natural_of_type, align_of_type, part_read, parts_from};
-ghost use Rattle.fb_resolve.specs.SlotsRead.{kind_or_text, shape_of};
+ghost use Rattle.fb_resolve.specs.StructsRead.{align_in, natural_align, forced_align};
+ghost use Rattle.fb_resolve.specs.StructsRead.{natural_of_type, align_of_type, parts_from};
+ghost use Rattle.fb_resolve.specs.SlotsRead.{shape_of};
 ghost use Rattle.fb_resolve.specs.Outline.{TypeRead};
 
 use crate::attributes::is_alignment;
@@ -17,36 +17,27 @@ use fb_schema::{Base, FieldInfo, Kind, Shape, TypeId};
 use fb_syntax::FieldType;
 use std::alloc::{AllocError, Global};
 
-/// The kind of a use; a type at fault stands as a text.
-fn kind_or_text(meaning: Meaning) -> Kind
-    ensures { result ≡ kind_or_text meaning }
-{
-    match meaning {
-        Meaning::Known(kind) => kind,
-        Meaning::Float | Meaning::Unknown => Kind::Text,
-    }
-}
-
-/// The shape of a field of this type.
+/// The shape of a field of this type; a type at fault stands as a text.
 pub(crate) fn shape_of(kind: &FieldType<'_>, meaning: Meaning) -> Shape
     ensures { result ≡ shape_of kind.now meaning }
 {
+    let meant = match meaning {
+        Meaning::Known(kind) => kind,
+        Meaning::Float | Meaning::Unknown => Kind::Text,
+    };
     match kind {
-        FieldType::One(_) => Shape::One(kind_or_text(meaning)),
-        FieldType::Many(_, _) => Shape::Many(kind_or_text(meaning)),
+        FieldType::One(_) => Shape::One(meant),
+        FieldType::Many(_, _) => Shape::Many(meant),
     }
 }
 
 /// The alignment that a field of a struct needs; 0 for a type at fault.
-fn align_by(
-    types: &[TypeRead<'_, '_>],
-    lower: &[u16],
-    kind: &FieldType<'_>,
-    meaning: Meaning,
-) -> u16
-    ensures { result ≡ align_by types.now lower.now kind.now meaning }
+#[tactic(auto, unfolding(crate::specs::StructsRead::align_in))]
+fn align_in(types: &[TypeRead<'_, '_>], lower: &[u16], resolved: &ResolvedField<'_, '_>) -> u16
+    ensures { result ≡ align_in types.now lower.now resolved.now }
 {
-    match (kind, meaning) {
+    let field = resolved.field;
+    match (&field.kind, resolved.meaning) {
         (FieldType::One(_), Meaning::Known(Kind::Scalar(base))) => base.size(),
         (FieldType::One(_), Meaning::Known(Kind::Enum(TypeId(number)))) => {
             underlying_at(types, number as usize).map_or(0, Base::size)
@@ -56,14 +47,6 @@ fn align_by(
         }
         _ => 0,
     }
-}
-
-#[tactic(auto, unfolding(crate::specs::StructsRead::align_in))]
-fn align_in(types: &[TypeRead<'_, '_>], lower: &[u16], resolved: &ResolvedField<'_, '_>) -> u16
-    ensures { result ≡ align_in types.now lower.now resolved.now }
-{
-    let field = resolved.field;
-    align_by(types, lower, &field.kind, resolved.meaning)
 }
 
 /// The greatest alignment that the fields of a struct need, where these are the alignments of the
@@ -79,23 +62,18 @@ fn natural_align(types: &[TypeRead<'_, '_>], lower: &[u16], fields: &[ResolvedFi
     natural
 }
 
-fn alignment_in(least: u16, number: i128) -> Option<u16>
-    ensures { result ≡ alignment_in least number }
-{
-    if is_alignment(least, number) {
-        u16::try_from(number).ok()
-    } else {
-        None
-    }
-}
-
 /// The alignment that the integer of a `force_align` names, if it is a power of two from the least
 /// one to 256.
 #[tactic(auto, unfolding(crate::specs::StructsRead::forced_align))]
 pub fn forced_align(least: u16, number: Option<i128>) -> Option<u16>
     ensures { result ≡ forced_align least number }
 {
-    alignment_in(least, number?)
+    let number = number?;
+    if is_alignment(least, number) {
+        u16::try_from(number).ok()
+    } else {
+        None
+    }
 }
 
 /// The natural alignment of a type: the greatest that its fields need if it is a struct, where these
@@ -126,25 +104,6 @@ pub fn align_of_type(natural: u16, resolved: &ResolvedType<'_, '_, '_>) -> u16
     }
 }
 
-fn part_read(
-    alloc: Global,
-    resolved: &ResolvedField<'_, '_>,
-    number: u64,
-) -> Result<FieldInfo, AllocError>
-    ensures { IfOk result (λ f. field_seen f ≡ part_read resolved.now number) }
-{
-    let field = resolved.field;
-    Ok(FieldInfo {
-        name: String::from_str(alloc, field.name.text)?,
-        shape: shape_of(&field.kind, resolved.meaning),
-        default: 0,
-        optional: false,
-        required: false,
-        deprecated: false,
-        slot: number,
-    })
-}
-
 /// The fields of a struct with their numbers. The only error is a refused allocation.
 #[tactic(auto, unfolding(crate::specs::StructsRead::parts_from))]
 pub fn parts_read(
@@ -154,8 +113,17 @@ pub fn parts_read(
     ensures { IfOk result (λ v. map field_seen v.items ≡ parts_from 0 fields.now) }
 {
     let mut parts = Vec::with_capacity(alloc, fields.len())?;
-    for (number, field) in fields.iter().enumerate() {
-        parts.push(part_read(alloc, field, number as u64)?)?;
+    for (number, resolved) in fields.iter().enumerate() {
+        let field = resolved.field;
+        parts.push(FieldInfo {
+            name: String::from_str(alloc, field.name.text)?,
+            shape: shape_of(&field.kind, resolved.meaning),
+            default: 0,
+            optional: false,
+            required: false,
+            deprecated: false,
+            slot: number as u64,
+        })?;
     }
     Ok(parts)
 }

@@ -1,11 +1,11 @@
 //! What the name of an enum's value means.
 ghost use Rattle.std.specs.Prelude.{◌≡◌};
 ghost use Rattle.std.specs.Option.{option_copied, option_and_then};
-ghost use Rattle.fb_resolve.specs.Outline.{inside, full_name};
-ghost use Rattle.fb_resolve.specs.EnumsRead.{values_at, number_named, behind_dot, behind, value_named, value_at};
+ghost use Rattle.fb_resolve.specs.Outline.{full_name};
+ghost use Rattle.fb_resolve.specs.EnumsRead.{values_at, number_named, behind, value_at};
 
 use crate::types_read::TypesRead;
-use fb_syntax::{EnumDecl, TypeDecl};
+use fb_syntax::TypeDecl;
 
 /// The number of the value of a name, which may be missing, in the enum of a number.
 fn number_behind(types: TypesRead<'_, '_, '_>, number: usize, name: Option<&[u8]>) -> Option<i128>
@@ -15,65 +15,30 @@ fn number_behind(types: TypesRead<'_, '_, '_>, number: usize, name: Option<&[u8]
     types.values.number(number, name?)
 }
 
-fn behind_dot(name: &[u8]) -> Option<&[u8]>
-    ensures { option_copied result ≡ behind_dot name.now }
-{
-    match name {
-        [b'.', rest @ ..] => Some(rest),
-        _ => None,
-    }
-}
-
 /// What stands behind a name and a dot.
 #[tactic(auto, unfolding(crate::specs::EnumsRead::behind))]
 fn behind<'n>(prefix: &[u8], name: &'n [u8]) -> Option<&'n [u8]>
     ensures { option_copied result ≡ behind prefix.now name.now }
 {
-    if name.starts_with(prefix) {
-        behind_dot(&name[prefix.len()..])
-    } else {
-        None
+    if !name.starts_with(prefix) {
+        return None;
     }
-}
-
-/// What stands behind the name of a type inside a namespace, and a dot.
-#[tactic(auto, using(crate::proofs::Behind::behind_inside))]
-fn behind_inside<'n>(scope: &[u8], declared: &[u8], name: &'n [u8]) -> Option<&'n [u8]>
-    ensures { option_copied result ≡ behind (inside scope.now declared.now) name.now }
-{
-    match behind(scope, name) {
-        Some(rest) => behind(declared, rest),
-        None => None,
+    match &name[prefix.len()..] {
+        [b'.', rest @ ..] => Some(rest),
+        _ => None,
     }
 }
 
 /// What stands behind the full name of a type and a dot.
+#[tactic(auto, using(crate::proofs::Behind::behind_inside))]
 fn behind_full_name<'n>(scope: Option<&str>, declared: &[u8], name: &'n [u8]) -> Option<&'n [u8]>
     ensures { option_copied result
         ≡ behind (full_name (option_copied scope.entry) declared.now) name.now }
 {
     match scope {
-        Some(scope) => behind_inside(scope.as_bytes(), declared, name),
+        Some(scope) => behind(declared, behind(scope.as_bytes(), name)?),
         None => behind(declared, name),
     }
-}
-
-/// The number of the value that a name means in an enum, of which this is the type's number.
-fn value_named(
-    types: TypesRead<'_, '_, '_>,
-    number: usize,
-    scope: Option<&str>,
-    read: &EnumDecl<'_>,
-    name: &[u8],
-) -> Option<i128>
-    ensures { result ≡ value_named (option_copied scope.entry) read.now
-        (values_at types.entry.types.now number) name.now }
-{
-    let declared = read.name.text.as_bytes();
-    let alone = types.values.number(number, name);
-    let behind_name = number_behind(types, number, behind(declared, name));
-    let full_name = behind_full_name(scope, declared, name);
-    alone.or(behind_name.or(number_behind(types, number, full_name)))
 }
 
 /// The number of the value that a name means in the enum of a number.
@@ -82,10 +47,13 @@ pub(crate) fn value_at(types: TypesRead<'_, '_, '_>, number: usize, name: &str) 
     ensures { result ≡ value_at types.entry.types.now number name.now }
 {
     let read = types.types.get(number)?;
-    match read.declaration {
-        TypeDecl::Enum(declaration) => {
-            value_named(types, number, read.scope, declaration, name.as_bytes())
-        }
-        _ => None,
-    }
+    let TypeDecl::Enum(declaration) = read.declaration else {
+        return None;
+    };
+    let declared = declaration.name.text.as_bytes();
+    let name = name.as_bytes();
+    let alone = types.values.number(number, name);
+    let behind_name = number_behind(types, number, behind(declared, name));
+    let full_name = behind_full_name(read.scope, declared, name);
+    alone.or(behind_name.or(number_behind(types, number, full_name)))
 }

@@ -2,11 +2,14 @@
 ghost use Rattle.std.specs.Prelude.{◌≡◌, List, Option, IfOk, OnOk};
 ghost use Rattle.fb_schema.specs.Schema.{Name};
 ghost use Rattle.fb_resolve.specs.Outline.{TypeRead};
-ghost use Rattle.fb_resolve.specs.EnumsRead.{values_read, values_in, number_named};
+ghost use Rattle.fb_resolve.specs.EnumsRead.{resolved_values, values_declared, values_read, values_in};
+ghost use Rattle.fb_resolve.specs.EnumsRead.{number_named};
 ghost use Rattle.fb_resolve.specs.ValueNumbers.{number_of, number_in, NotesNumber, IndexesValues};
+ghost use Rattle.fb_resolve.specs.ValueNumbers.{AreValues};
 
-use crate::enums::{has_flags, resolved_values, underlying, value_number};
+use crate::enums::{has_flags, underlying, value_number, values_declared};
 use crate::outline::TypeRead;
+use crate::resolved::ResolvedValue;
 use fb_schema::Base;
 use fb_syntax::{EnumDecl, TypeDecl};
 use std::alloc::{AllocError, Global};
@@ -21,16 +24,19 @@ pub(crate) struct ValueNumbers<'s> {
 }
 
 impl<'s> ValueNumbers<'s> {
-    /// The numbers of the values of all enums. The only error is a refused allocation.
+    /// The numbers of the values of all enums, where these are the values. The only error is a refused allocation.
     pub(crate) fn of(
         alloc: Global,
         types: &[TypeRead<'_, 's>],
+        values: &[Vec<ResolvedValue<'_, 's>>],
     ) -> Result<ValueNumbers<'s>, AllocError>
+        requires { AreValues types.now values.now }
         ensures { IfOk result (λ v. IndexesValues v types.now) }
     {
         let mut numbers = Vec::with_capacity(alloc, types.len())?;
         for read in types {
-            numbers.push(numbers_in(alloc, read.declaration)?)?;
+            let declared = values[numbers.len()].as_slice();
+            numbers.push(numbers_in(alloc, read.declaration, declared)?)?;
         }
         Ok(ValueNumbers { numbers })
     }
@@ -43,33 +49,50 @@ impl<'s> ValueNumbers<'s> {
     }
 }
 
-/// The numbers of the values of a type.
+/// Each type's values with their numbers; none for a type that is no enum. The only error is a refused allocation.
+pub(crate) fn values_of<'d, 's>(
+    alloc: Global,
+    types: &[TypeRead<'d, 's>],
+) -> Result<Vec<Vec<ResolvedValue<'d, 's>>>, AllocError>
+    ensures { IfOk result (λ v. AreValues types.now v.items) }
+{
+    let mut values = Vec::with_capacity(alloc, types.len())?;
+    for read in types {
+        values.push(values_declared(alloc, read.declaration)?)?;
+    }
+    Ok(values)
+}
+
+/// The numbers of the values of a type, where these are the values.
 fn numbers_in<'s>(
     alloc: Global,
     declaration: &TypeDecl<'s>,
+    values: &[ResolvedValue<'_, 's>],
 ) -> Result<BTreeMap<&'s [u8], i128>, AllocError>
+    requires { values.now ≡ values_declared declaration.now }
     ensures { (types : List TypeRead) (scope : Option Name) (name : Name) → IfOk result
         (λ m. number_of m name ≡ number_named (values_in types scope declaration.now) name) }
 {
     match declaration {
-        TypeDecl::Enum(read) => enum_numbers(alloc, read),
+        TypeDecl::Enum(read) => enum_numbers(alloc, read, values),
         _ => Ok(BTreeMap::new(alloc)),
     }
 }
 
-/// The numbers of the values of an enum.
+/// The numbers of the values of an enum, where these are the values.
 fn enum_numbers<'s>(
     alloc: Global,
     read: &EnumDecl<'s>,
+    values: &[ResolvedValue<'_, 's>],
 ) -> Result<BTreeMap<&'s [u8], i128>, AllocError>
+    requires { values.now ≡ resolved_values read.now.values }
     ensures { (types : List TypeRead) (scope : Option Name) (name : Name) → IfOk result
         (λ m. number_of m name ≡ number_named (values_read types scope read.now) name) }
 {
     let base = underlying(read).unwrap_or(Base::U8);
     let flags = has_flags(read);
     let mut numbers = BTreeMap::new(alloc);
-    let values = resolved_values(alloc, read.values.as_slice())?;
-    for resolved in values.as_slice() {
+    for resolved in values {
         let value = resolved.value;
         let name = value.name.text.as_bytes();
         note(

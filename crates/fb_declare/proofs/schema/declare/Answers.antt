@@ -4,7 +4,7 @@ use Rattle.fb_declare.specs.TypeFaults.{faults_of_outline, faults_of}
 use Rattle.fb_declare.specs.Declares.{Stands}
 use Rattle.fb_declare.specs.declared.faults.SchemaFault.TheVariants.{Memory}
 use Rattle.fb_declare.specs.Faults.{least_of}
-use Rattle.fb_declare.proofs.Building.{least-some}
+use Rattle.fb_declare.proofs.Least.{least-some}
 use Rattle.fb_declare.proofs.schema.declare.Goals as goal
 
 pub returns-clause-fault : goal.returns-clause-fault

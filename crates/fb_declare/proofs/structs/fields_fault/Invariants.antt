@@ -1,10 +1,9 @@
-use Rattle.std.proofs.Common.{◌≡◌, drop}
+use Rattle.std.proofs.Common.{◌≡◌, take}
 use Rattle.std.specs.List.{flat_map}
-use Rattle.fb_declare.specs.Faults.{earlier, least_of}
+use Rattle.fb_declare.specs.Faults.{least_of}
 use Rattle.fb_declare.specs.DeclaredNames.{names_declared}
 use Rattle.fb_declare.specs.TypeFaults.{struct_field_faults}
 use Rattle.fb_declare.proofs.structs.fields_fault.Given as goal
 
 abbrev pub invariant-loop-field : goal.invariant-loop-field
-invariant-loop-field l = let faults = struct_field_faults (names_declared l.declared) l.number in
-    earlier l.least (least_of (flat_map faults (drop l.field-index l.fields))) ≡ least_of (flat_map faults l.fields)
+invariant-loop-field l = l.least ≡ least_of (flat_map (struct_field_faults (names_declared l.declared) l.number) (take l.field-index l.fields))

@@ -1,12 +1,29 @@
-use Rattle.std.proofs.Common.{◌+◌, map, take, subst, sym}
+use Rattle.std.proofs.Common.{rules, ◌≡◌, ◌++◌, ◌∷◌, ◌∙◌, [], suc, length, map, subst, sym, ap, append_assoc}
 use Rattle.std.specs.List.{AllZip}
+use Rattle.std.proofs.lemmas.List.{append-nil, map-append, nil_from_length}
 use Rattle.fb_schema.specs.Seen.{type_seen}
+use Rattle.fb_declare.specs.Buildable.{AreBuildable}
 use Rattle.fb_declare.specs.Declares.{IsType}
-use Rattle.fb_declare.proofs.Zipped.{zipped-more}
 use Rattle.fb_declare.proofs.types.types_of.Goals as goal
 
 pub loop-read-preserved : goal.loop-read-preserved
 loop-read-preserved c =
-    let rs = c.args.resolved.now in
-    subst (λ items. AllZip IsType (take (c.loop-read.read-index + 1) rs) (map type_seen items)) (sym c.in_ok-push.ensures.items)
-    (zipped-more IsType type_seen rs c.loop-read.made.items c.loop-read.read-index c.read-item.result c.in_ok-type_of.field-0 c.loop-read-test.true c.read-item.is c.loop-read.invariant c.in_ok-type_of.ensures)
+    let types = map type_seen c.loop-read.made.items in
+    let type = type_seen c.in_ok-type_of.field-0 in
+    let rest = c.next.new.self.rest.items in
+    let split = c.in-Some.ensures.steps.0 in
+    let pushed : map type_seen c.push.new.self.items ≡ types ++ type ∷ [] =
+    ap (map type_seen) c.in_ok-push.ensures.items ∙ map-append type_seen c.loop-read.made.items (c.in_ok-type_of.field-0 ∷ []) in
+    record {
+      left = λ t r e. subst AreBuildable split c.loop-read.invariant.left (suc t) r e;
+      so_far = λ later zip. subst (AllZip IsType c.args.resolved.items)
+          (sym (ap (λ ts. ts ++ later) pushed ∙ append_assoc types (type ∷ []) later))
+          (c.loop-read.invariant.so_far (type ∷ later) (subst (λ rs. AllZip IsType rs (type ∷ later)) (sym split) (c.in_ok-type_of.ensures, zip)));
+    }
+
+pub returns : goal.returns
+returns c =
+    let left : length c.loop-read.read-iterator.rest.items ≡ 0 = search (rules, c.in-None.ensures.steps.0) in
+    let none = nil_from_length c.loop-read.read-iterator.rest.items left in
+    subst (AllZip IsType c.args.resolved.items) (append-nil (map type_seen c.loop-read.made.items))
+    (c.loop-read.invariant.so_far [] (subst (λ rs. AllZip IsType rs []) (sym none) tt))

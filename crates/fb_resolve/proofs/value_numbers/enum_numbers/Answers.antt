@@ -3,7 +3,7 @@ use Rattle.std.specs.Int.{w128}
 use Rattle.std.specs.Option.{option_or}
 use Rattle.std.specs.Str.{bytes_eq}
 use Rattle.std.proofs.lemmas.Int.{to_z-of_z}
-use Rattle.fb_resolve.specs.EnumsRead.{value_number, value_over, resolved_values, number_named, base_or_ubyte, underlying, values_read}
+use Rattle.fb_resolve.specs.EnumsRead.{value_number, value_over, number_named, base_or_ubyte, underlying, values_read}
 use Rattle.fb_resolve.specs.ValueNumbers.{number_of}
 use Rattle.fb_resolve.proofs.NumberNamed.{number_named-at, number_named-end}
 use Rattle.fb_resolve.proofs.Numbers.{noted_value, none_left}
@@ -14,7 +14,7 @@ loop-resolved-preserved c = λ other.
     let r = c.resolved-item.result in
     let base = c.unwrap_or-base.result in
     let flags = c.has_flags-flags.result in
-    let values = c.as_slice-resolved-items.result.now in
+    let values = c.args.values.now in
     let i = c.loop-resolved.resolved-index in
     let noted = number_of c.loop-resolved.numbers other in
     let fits : FitsSigned w128 c.value_number.result = search rules in
@@ -30,11 +30,10 @@ returns c = λ types scope other.
     let read = c.args.read.now in
     let base = c.unwrap_or-base.result in
     let flags = c.has_flags-flags.result in
-    let values = c.as_slice-resolved-items.result.now in
+    let values = c.args.values.now in
     let noted = number_of c.loop-resolved.numbers other in
     let base_is : base ≡ base_or_ubyte (underlying types scope read) = c.unwrap_or-base.ensures ∙ ap base_or_ubyte (c.underlying.ensures types scope) in
-    let values_are : values ≡ resolved_values read.values = grind rules in
-    let all : map (value_over base flags) values ≡ values_read types scope read = rw (base_is, c.has_flags-flags.ensures, values_are) refl in
+    let all : map (value_over base flags) values ≡ values_read types scope read = rw (base_is, c.has_flags-flags.ensures, c.requires) refl in
     sym (none_left noted)
     ∙ ap (option_or noted) (sym (number_named-end (value_over base flags) values c.loop-resolved.resolved-index other c.loop-resolved-test.false))
     ∙ c.loop-resolved.invariant other

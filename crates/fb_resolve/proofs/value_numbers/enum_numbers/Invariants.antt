@@ -5,5 +5,5 @@ use Rattle.fb_resolve.specs.ValueNumbers.{number_of}
 use Rattle.fb_resolve.proofs.value_numbers.enum_numbers.Given as goal
 
 abbrev pub invariant-loop-resolved : goal.invariant-loop-resolved
-invariant-loop-resolved l = (other : List ℕ) → option_or (number_of l.numbers other) (number_named (map (value_over l.base l.flags) (drop l.resolved-index l.resolved-items)) other)
-    ≡ number_named (map (value_over l.base l.flags) l.resolved-items) other
+invariant-loop-resolved l = (other : List ℕ) → option_or (number_of l.numbers other) (number_named (map (value_over l.base l.flags) (drop l.resolved-index l.values)) other)
+    ≡ number_named (map (value_over l.base l.flags) l.values) other

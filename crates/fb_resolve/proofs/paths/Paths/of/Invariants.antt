@@ -1,6 +1,6 @@
 use Rattle.std.proofs.Common.{drop}
-use Rattle.fb_resolve.proofs.PathsKept.{IsWalked}
+use Rattle.fb_resolve.specs.Paths.{IsWalked}
 use Rattle.fb_resolve.proofs.paths.Paths.of.Given as goal
 
 abbrev pub invariant-loop-declaration : goal.invariant-loop-declaration
-invariant-loop-declaration l = IsWalked l.paths l.scope (drop l.declaration-index l.declaration-items) l.decls.declarations
+invariant-loop-declaration l = IsWalked l.walk (drop l.declaration-index l.declaration-items) l.decls.declarations

@@ -1,13 +1,13 @@
-use Rattle.std.proofs.Common.{rules, ◌≡◌, get_or, subst}
+use Rattle.std.proofs.Common.{rules}
 use Rattle.fb_scopes.specs.Scopes.{names_of}
 use Rattle.fb_resolve.specs.Meaning.{type_name}
-use Rattle.fb_resolve.specs.Uses.{IsUse}
 use Rattle.fb_resolve.proofs.UsesKept.{use_at}
 use Rattle.fb_resolve.proofs.scope.Scope.resolved_fields.Goals as goal
 
 pub meaning_in-meaning-requires-clause-used : goal.meaning_in-meaning-requires-clause-used
 meaning_in-meaning-requires-clause-used c =
-    let item = c.field-item.result in
-    let name : (type_name (get_or c.args.fields.now c.loop-field.field-index item).kind).bytes ≡ (type_name c.field.inside.kind).bytes = grind rules in
-    subst (IsUse (names_of c.args.self.scopes.now)) name
-    (use_at (λ f. (type_name f.kind).bytes) (names_of c.args.self.scopes.now) c.args.fields.now c.loop-field.field-index item c.loop-field-test.true c.requires.used)
+    grind (
+      rules,
+      use_at (λ f. (type_name f.kind).bytes) (names_of c.args.self.scopes.now)
+          c.args.fields.now c.loop-field.field-index c.field-item.result c.loop-field-test.true c.requires.used,
+    )

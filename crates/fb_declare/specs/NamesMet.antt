@@ -1,0 +1,11 @@
+-- Names that were met.
+use Rattle.std.specs.Prelude.{Bool}
+use Rattle.std.specs.Borrow.{Bor}
+use Rattle.std.specs.BTreeSet.{BTreeSet, contains_by}
+use Rattle.std.specs.Cmp.Lexicographic.{slice_cmp}
+use Rattle.std.specs.Ordering.{nat_cmp}
+use Rattle.fb_schema.specs.Schema.{Name}
+
+-- whether a name is in a set of names
+abbrev pub is_met : BTreeSet (Bor Name) → Name → Bool
+is_met met name = contains_by (λ k. slice_cmp nat_cmp name k.now) met
