@@ -13,7 +13,7 @@ use Rattle.fb_syntax.specs.declared.declarations.AttributeValue.TheVariants.{Int
 use Rattle.fb_syntax.specs.declared.declarations.FieldType.{FieldType}
 use Rattle.fb_syntax.specs.declared.declarations.FieldType.TheVariants.{One}
 use Rattle.fb_schema.specs.declared.kinds.Kind.TheVariants.{Scalar, Enum, Struct}
-use Rattle.fb_schema.specs.Schema.{Name, DeclaredBody, struct_body, DeclaredSchema, body_at, parts_in, force_align_in, is_struct}
+use Rattle.fb_schema.specs.Schema.{DeclaredBody, struct_body, DeclaredSchema, body_at, parts_in, force_align_in, is_struct}
 use Rattle.fb_schema.specs.Alignments.{base_size, greatest_in, part_align, natural_align_in, AreAligned}
 use Rattle.fb_resolve.specs.declared.meanings.Meaning.{Meaning}
 use Rattle.fb_resolve.specs.declared.meanings.Meaning.TheVariants.{Known}
@@ -26,7 +26,7 @@ use Rattle.fb_resolve.specs.ResolvedType.{ResolvedType}
 use Rattle.fb_resolve.specs.Resolved.{resolved_declaration, resolved_type, resolved_types}
 use Rattle.fb_resolve.specs.ResolvedFields.{ResolvedField, ResolvedTable}
 use Rattle.fb_resolve.specs.Attributes.{is_alignment, attribute_called, integer_value_in, number_called}
-use Rattle.fb_declare.specs.AttributeFaults.{may_stand, metadata_faults}
+use Rattle.fb_declare.specs.AttributeFaults.{may_stand}
 use Rattle.fb_resolve.specs.SlotsRead.{shape_of}
 use Rattle.fb_resolve.specs.StructsRead.{align_by, align_in, natural_align, alignment_in, forced_align, align_of_struct, align_of_declaration, align_of_type, parts_from}
 use Rattle.fb_declare.specs.FaultRows.{struct_field_type}
@@ -84,12 +84,6 @@ module _ (types : List TypeRead) where
 
 -- ---- `force_align`
 
--- an alignment that may stand is the same from 0 on
-same_alignment : (natural n : ℕ) → is_alignment natural (pos n) ≡ true → (alignment_in natural (pos n) ≡ Some n) × (alignment_in 0 (pos n) ≡ Some n)
-same_alignment natural n h =
-    let split = and_parts (list_any (λ a. a == n) alignments) (nat_le natural n) h in
-    (ap (λ b. cond b (Some n) None) h, ap (λ b. cond b (Some n) None) (ap (λ b. b && nat_le 0 n) split.0 ∙ le-leb 0 n (omega arith)))
-
 -- a right `force_align` is the same from 0 on, and isn't below the natural alignment
 record IsForced (natural : ℕ) (number : Option ℤ) : Type 0 where
   pub same : forced_align natural number ≡ forced_align 0 number
@@ -99,8 +93,10 @@ record IsForced (natural : ℕ) (number : Option ℤ) : Type 0 where
 number_forced : (natural : ℕ) (number : Option ℤ) → ((n : ℤ) → number ≡ Some n → is_alignment natural n ≡ true) → IsForced natural number
 unfolding forced_align
 number_forced natural None stands = record { same = refl; enough = λ a is. absurd (none-some a is) }
-number_forced natural (Some (pos n)) stands = let h = stands (pos n) refl in let found = same_alignment natural n h in
-    record { same = found.0 ∙ sym found.1; enough = λ a is. subst (λ (a : ℕ). natural ≤ a) (same_Some n a (sym found.1 ∙ is)) (alignment_right natural n h).1 }
+number_forced natural (Some (pos n)) stands =
+    let h = stands (pos n) refl in let split = and_parts (list_any (λ a. a == n) alignments) (nat_le natural n) h in
+    let first : alignment_in 0 (pos n) ≡ Some n = ap (λ b. cond b (Some n) None) (ap (λ b. b && nat_le 0 n) split.0 ∙ le-leb 0 n (omega arith)) in
+    record { same = ap (λ b. cond b (Some n) None) h ∙ sym first; enough = λ a is. subst (λ (a : ℕ). natural ≤ a) (same_Some n a (sym first ∙ is)) (alignment_right natural n h).1 }
 number_forced natural (Some (negsuc n)) stands = absurd (false≢true (stands (negsuc n) refl))
 
 -- the integer of a value that may stand
@@ -114,12 +110,6 @@ called_forced : (natural : ℕ) (called : Option Attribute) (n : ℤ) → ((a : 
     → option_and_then (λ a. integer_value_in a.value) called ≡ Some n → is_alignment natural n ≡ true
 called_forced natural None n stands e = absurd (none-some n e)
 called_forced natural (Some a) n stands e = value_stands natural a.value n (stands a refl) e
-
--- the `force_align` of a struct with no fault
-forced_right : (declared : List Name) (natural : ℕ) (attributes : List Attribute) → metadata_faults declared (hosts.Struct natural) attributes ≡ [] → IsForced natural (number_called ForceAlign attributes)
-unfolding number_called
-forced_right declared natural attributes h = number_forced natural (number_called ForceAlign attributes)
-    (λ n e. called_forced natural (attribute_called ForceAlign attributes) n (λ a is. called_stands declared (hosts.Struct natural) attributes h ForceAlign a is) e)
 
 -- ---- the structs
 
@@ -182,8 +172,11 @@ module _ (o : Outline) (S : DeclaredSchema) (gives : Gives o S) (none : faults_o
 
   -- its `force_align` is right
   struct_forced : (s : ℕ) (at : IsStructAt s) → IsForced (natural_align o.types (aligns_before o.types s) at.read.fields) at.read.force_align
-  struct_forced s at = let natural = natural_align o.types (aligns_before o.types s) at.read.fields in
-      subst (IsForced natural) (sym at.means.1) (forced_right o.attributes natural at.read.declared.attributes (struct_right o.types o.attributes (aligns_before o.types s) at.read at.right).metadata)
+  unfolding number_called
+  struct_forced s at =
+      let natural = natural_align o.types (aligns_before o.types s) at.read.fields in let attributes = at.read.declared.attributes in
+      let stands = called_stands o.attributes (hosts.Struct natural) attributes (struct_right o.types o.attributes (aligns_before o.types s) at.read at.right).metadata ForceAlign in
+      number_forced natural at.read.force_align (λ n e. called_forced natural (attribute_called ForceAlign attributes) n stands (sym at.means.1 ∙ e))
 
   -- The structs are aligned as they are declared.
   pub are_aligned : AreAligned S aligns

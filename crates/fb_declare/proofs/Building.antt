@@ -1,24 +1,22 @@
 -- What a schema is built from, where no fault stands.
-use Rattle.std.proofs.Common.{◌≡◌, ℕ, true, false, List, [], take, Option, None, Some, refl, true≢false}
+use Rattle.std.proofs.Common.{◌≡◌, ℕ, false, List, [], take, Option, None, Some}
 use Rattle.std.specs.List.{flat_map}
-use Rattle.std.specs.Option.{is_some, is_none}
+use Rattle.std.specs.Option.{is_none}
 use Rattle.fb_resolve.specs.declared.meanings.Meaning.{Meaning}
 use Rattle.fb_resolve.specs.declared.resolved.ResolvedDecl.{ResolvedDecl}
 use Rattle.fb_resolve.specs.declared.resolved.ResolvedDecl.TheVariants as resolved
 use Rattle.fb_resolve.specs.ResolvedType.{ResolvedType}
-use Rattle.fb_resolve.specs.Resolved.{meaning_of_root}
 use Rattle.fb_schema.specs.Schema.{Name}
 use Rattle.fb_declare.specs.declared.faults.SchemaFault.TheVariants.{BadIds, BadRoot}
 use Rattle.fb_declare.specs.declared.attribute_faults.AttributeHost.TheVariants as hosts
-use Rattle.fb_resolve.specs.Outline.{Outline, TypeRead, RootRead}
+use Rattle.fb_resolve.specs.Outline.{TypeRead, RootRead}
 use Rattle.fb_declare.specs.AttributeFaults.{metadata_faults}
 use Rattle.fb_resolve.specs.SlotsRead.{are_ids_wrong}
 use Rattle.fb_resolve.specs.MembersRead.{table_of}
 use Rattle.fb_declare.specs.FaultRows.{when, names_again, use_faults, root_faults}
-use Rattle.fb_declare.specs.TypeFaults.{names_of_field, table_field_faults, table_faults, declaration_faults, aligns_from, faults_of_types, faults_of_outline}
+use Rattle.fb_declare.specs.TypeFaults.{names_of_field, table_field_faults, table_faults, declaration_faults, aligns_from, faults_of_types}
 use Rattle.fb_declare.specs.Buildable.{IsBuildable, AreBuildable}
 use Rattle.fb_declare.proofs.FaultFree.{both_none, four_none, when-none, none_of_type}
-use Rattle.fb_declare.proofs.Kept.{outline_right}
 
 -- a declaration with no fault gives a body
 buildable_by : (types : List TypeRead) (declared : List Name) (lower : List ℕ) (d : ResolvedDecl) → declaration_faults types declared lower d ≡ [] → IsBuildable d
@@ -33,16 +31,8 @@ pub buildable : (types : List TypeRead) (declared : List Name) (rs : List Resolv
 buildable types declared rs h t r e = buildable_by types declared (aligns_from types [] (take t rs)) r.declaration (none_of_type types declared rs h t r e)
 
 -- a root with no fault is a table
-pub root_some : (text_len : ℕ) (root : Option RootRead) (m : Meaning) → root_faults text_len root m ≡ [] → is_some (table_of m) ≡ true
+pub root_some : (text_len : ℕ) (root : Option RootRead) (m : Meaning) → root_faults text_len root m ≡ [] → is_none (table_of m) ≡ false
 unfolding root_faults
 root_some text_len None m h = cc
 root_some text_len (Some r) m h =
-    by (table_of m) (when-none (is_none (table_of m)) (BadRoot r.name.at) (both_none (use_faults m r.name.at) (when (is_none (table_of m)) (BadRoot r.name.at)) h).1)
-  where
-    by : (o : Option ℕ) → is_none o ≡ false → is_some o ≡ true
-    by None e = absurd (true≢false e)
-    by (Some n) e = refl
-
--- the root's part of an outline with no fault
-pub root_right : (o : Outline) → faults_of_outline o ≡ [] → root_faults o.text_len o.root (meaning_of_root o.types o.root) ≡ []
-root_right o h = (outline_right o h).root
+    when-none (is_none (table_of m)) (BadRoot r.name.at) (both_none (use_faults m r.name.at) (when (is_none (table_of m)) (BadRoot r.name.at)) h).1

@@ -98,5 +98,4 @@ value_found P scope e values name h =
 -- `null` gives 0
 pub null_is_zero : (given : Given) → IsTrue (is_null given) → number_given given ≡ pos 0
 null_is_zero (Number n) h = cc
-null_is_zero Null h = refl
-null_is_zero Wrong h = refl
+null_is_zero _ h = refl

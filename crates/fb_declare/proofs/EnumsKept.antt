@@ -1,5 +1,5 @@
 -- The body of an enum with no fault: its values have different names and numbers of its type, with `bit_flags` one bit each.
-use Rattle.std.proofs.Common.{◌≡◌, ◌≢◌, ℕ, ◌*◌, ◌^◌, ◌<◌, ◌||◌, Bool, true, false, List, [], length, map, take, get_or, All, AllPairs, Option, None, Some, is_none, cond, refl, ap, sym, ◌∙◌, arith, if◌then◌else◌, ⊎_elim, true≢false}
+use Rattle.std.proofs.Common.{◌≡◌, ◌≢◌, ℕ, ◌*◌, ◌^◌, ◌<◌, ◌||◌, Bool, true, false, List, [], length, map, take, get_or, All, AllPairs, Option, None, Some, is_none, refl, ap, sym, ◌∙◌, arith, if◌then◌else◌, ⊎_elim, true≢false}
 use Rattle.std.specs.Prelude.{ℤ, pos, negsuc, int_le}
 use Rattle.std.specs.List.{list_any, slice_get}
 use Rattle.std.specs.Ordering.{int_eq}
@@ -10,7 +10,6 @@ use Rattle.std.proofs.lemmas.Simd.{map-map}
 use Rattle.std.proofs.lemmas.List.Elements.{All-map}
 use Rattle.std.proofs.lemmas.Nat.{pow_below}
 use Rattle.std.proofs.lemmas.Option.{slice_get-get_or}
-use Rattle.fb_syntax.specs.declared.declarations.Attribute.{Attribute}
 use Rattle.fb_syntax.specs.declared.declarations.AttributeValue.{AttributeValue}
 use Rattle.fb_schema.specs.declared.kinds.Base.{Base}
 use Rattle.fb_schema.specs.declared.kinds.Base.TheVariants.{Bool as Boolean, U8, U16, U32, U64}
@@ -26,7 +25,6 @@ use Rattle.fb_declare.specs.declared.attribute_faults.AttributeHost.TheVariants 
 use Rattle.fb_schema.specs.Ranges.{is_between, holds}
 use Rattle.fb_resolve.specs.ResolvedFields.{ResolvedValue, ResolvedEnum}
 use Rattle.fb_declare.specs.AttributeFaults.{may_stand, metadata_faults}
-use Rattle.fb_resolve.specs.Attributes.{has_attribute}
 use Rattle.fb_resolve.specs.EnumsRead.{integer_type, has_flags, value_number, may_be_written, base_or_ubyte, value_over, values_over}
 use Rattle.fb_declare.specs.FaultRows.{faults_in_turn, names_again, underlying_faults, is_out_of_range, bad_value}
 use Rattle.fb_declare.specs.TypeFaults.{host_of_enum, enum_faults}
@@ -80,17 +78,13 @@ number_kept base true (pos k) unsigned h = rw h ((bit_in_range base k (unsigned 
 number_kept base true (negsuc k) unsigned h = absurd (true≢false (sym h))
 number_kept base false n unsigned h = (held_in_range base n h, λ e. absurd (true≢false (sym e)))
 
--- the value of a written bit
-flag_value : (base : Base) (k : ℕ) → may_be_written base true (pos k) ≡ true → value_number base true (pos k) ≡ pos (2 ^ k)
-flag_value base k h = ap (λ b. cond b (pos (2 ^ k)) (pos k)) h
-
 -- a bit is known by its power of two
 pow_same : (j k : ℕ) → 2 ^ j ≡ 2 ^ k → j ≡ k
 pow_same j k e = ⊎_elim (λ same. same) (λ unlike. absurd (⊎_elim (λ l. omega (arith, pow_below j k l)) (λ l. omega (arith, pow_below k j l)) unlike)) (cases_order j k)
 
 -- different numbers that may be written give different numbers
 numbers_apart : (base : Base) (flags : Bool) (n m : ℤ) → may_be_written base flags n ≡ true → may_be_written base flags m ≡ true → value_number base flags n ≡ value_number base flags m → n ≡ m
-numbers_apart base true (pos j) (pos k) g h e = let same : pos (2 ^ j) ≡ pos (2 ^ k) = sym (flag_value base j g) ∙ (e ∙ flag_value base k h) in ap pos (pow_same j k (grind (arith, same)))
+numbers_apart base true (pos j) (pos k) g h e = let same : pos (2 ^ j) ≡ pos (2 ^ k) = rw (g, h) at e in ap pos (pow_same j k (grind (arith, same)))
 numbers_apart base true (negsuc j) (pos k) g h e = absurd (true≢false (sym g))
 numbers_apart base true n (negsuc k) g h e = absurd (true≢false (sym h))
 numbers_apart base false n m g h e = e
@@ -126,17 +120,15 @@ module _ (base : Base) (flags : Bool) (vs : List ResolvedValue) (none : faults_i
         bits = λ is. (unsigned is, All-map (λ v. IsFlag base v.1) (value_over base flags) vs (λ k d within. (kept k d within).1 is));
       }
 
--- with flags the type under an enum is unsigned
-unsigned_under : (declared : List Name) (base : Base) (attributes : List Attribute) → metadata_faults declared (host_of_enum (Some base)) attributes ≡ [] → has_attribute BitFlags attributes ≡ true → is_unsigned base ≡ true
-unsigned_under declared base attributes h is = let stands = noted_stands declared (host_of_enum (Some base)) attributes h BitFlags is in flags_unsigned (is_unsigned base) stands.0.value stands.1
-
 -- an enum over a type with no fault in its parts
 over_kept : (declared : List Name) (under : Option Base) (e : ResolvedEnum) → e.bit_flags ≡ has_flags e.declared → base_or_ubyte under ≢ Boolean
     → is_none under ≡ false → metadata_faults declared (host_of_enum under) e.declared.attributes ≡ [] → names_again (map (λ v. v.value.name) e.values) ≡ [] → faults_in_turn (bad_value under e.bit_flags) e.values ≡ []
     → (under ≡ Some (base_or_ubyte under)) × IsEnumBody (base_or_ubyte under) e.bit_flags (values_over under e.bit_flags e.values)
 over_kept declared None e read integers some metadata names numbers = absurd (true≢false some)
 over_kept declared (Some base) e read integers some metadata names numbers =
-    (refl, values_kept base e.bit_flags e.values numbers integers (λ is. unsigned_under declared base e.declared.attributes metadata (sym read ∙ is)) names)
+    let unsigned = λ (is : e.bit_flags ≡ true).
+    let stands = noted_stands declared (host_of_enum (Some base)) e.declared.attributes metadata BitFlags (sym read ∙ is) in flags_unsigned (is_unsigned base) stands.0.value stands.1 in
+    (refl, values_kept base e.bit_flags e.values numbers integers unsigned names)
 
 -- an enum with no fault is over an integer type, and has a right body
 pub enum_kept : (declared : List Name) (e : ResolvedEnum) → e.bit_flags ≡ has_flags e.declared → enum_faults declared e ≡ [] → let base = integer_type e.underlying in

@@ -33,22 +33,14 @@ by_tests f g h false false p q up down = rw (p, q, down refl refl, p)
 earlier_assoc : (f g h : Option SchemaFault) → earlier (earlier f g) h ≡ earlier f (earlier g h)
 earlier_assoc None g h = refl
 earlier_assoc (Some f) None h = refl
-earlier_assoc (Some f) (Some g) None = by (earlier (Some f) (Some g))
-  where
-    by : (o : Option SchemaFault) → earlier o None ≡ o
-    by None = refl
-    by (Some f) = refl
+earlier_assoc (Some f) (Some g) None = either (λ o. earlier o None ≡ o) (comes_before g f) (Some g) (Some f) (λ is. refl) refl
 earlier_assoc (Some f) (Some g) (Some h) = by_tests f g h (comes_before g f) (comes_before h g) refl refl
     (less_less (at_of f) (number_of f) (at_of g) (number_of g) (at_of h) (number_of h)) (not_less (at_of f) (number_of f) (at_of g) (number_of g) (at_of h) (number_of h))
 
-pub least_of-append : (fs gs : List SchemaFault) → least_of (fs ++ gs) ≡ earlier (least_of fs) (least_of gs)
-unfolding least_of
-least_of-append [] gs = refl
-least_of-append (f ∷ fs) gs = ap (earlier (Some f)) (least_of-append fs gs) ∙ sym (earlier_assoc (Some f) (least_of fs) (least_of gs))
-
--- the same, by a name that an attribute can cite
 pub least_of_append : (fs gs : List SchemaFault) → least_of (fs ++ gs) ≡ earlier (least_of fs) (least_of gs)
-least_of_append = least_of-append
+unfolding least_of
+least_of_append [] gs = refl
+least_of_append (f ∷ fs) gs = ap (earlier (Some f)) (least_of_append fs gs) ∙ sym (earlier_assoc (Some f) (least_of fs) (least_of gs))
 
 -- ---- one element more at a time
 
@@ -66,13 +58,13 @@ faults_behind-snoc rule before (y ∷ xs) x =
 -- the next element, by a rule that looks at those before it
 pub least_more : {X : Type 0} (rule : List X → X → List SchemaFault) (xs : List X) (i : ℕ) (x : X) → i < length xs → x ≡ get_or xs i x
     → earlier (least_of (faults_in_turn rule (take i xs))) (least_of (rule (take i xs) x)) ≡ least_of (faults_in_turn rule (take (i + 1) xs))
-least_more rule xs i x h e = sym (least_of-append (faults_behind rule [] (take i xs)) (rule (take i xs) x))
+least_more rule xs i x h e = sym (least_of_append (faults_behind rule [] (take i xs)) (rule (take i xs) x))
     ∙ ap least_of (sym (ap (faults_behind rule []) (taken xs i x h e) ∙ faults_behind-snoc rule [] (take i xs) x))
 
 -- the next element, by a rule that looks at it alone
 pub least_each : {X : Type 0} (rule : X → List SchemaFault) (xs : List X) (i : ℕ) (x : X) → i < length xs → x ≡ get_or xs i x
     → earlier (least_of (flat_map rule (take i xs))) (least_of (rule x)) ≡ least_of (flat_map rule (take (i + 1) xs))
-least_each rule xs i x h e = sym (least_of-append (flat_map rule (take i xs)) (rule x))
+least_each rule xs i x h e = sym (least_of_append (flat_map rule (take i xs)) (rule x))
     ∙ ap (λ fs. least_of (flat_map rule (take i xs) ++ fs)) (sym (append-nil (rule x)))
     ∙ ap least_of (sym (ap (flat_map rule) (taken xs i x h e) ∙ flat_map-append rule (take i xs) (x ∷ [])))
 

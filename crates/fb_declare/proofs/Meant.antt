@@ -7,7 +7,7 @@ use Rattle.std.proofs.lemmas.Option.{slice_get_within, same_Some}
 use Rattle.fb_syntax.specs.FieldRead.{FieldRead}
 use Rattle.fb_syntax.specs.declared.declarations.TypeDecl.{TypeDecl}
 use Rattle.fb_syntax.specs.declared.declarations.TypeDecl.TheVariants as decls
-use Rattle.fb_schema.specs.Schema.{Name, DeclaredBody, table_body, struct_body, enum_body, union_body, DeclaredType, DeclaredSchema, body_in, is_table, is_struct, is_enum, is_union}
+use Rattle.fb_schema.specs.Schema.{Name, DeclaredBody, table_body, struct_body, enum_body, union_body, DeclaredSchema, body_in, is_table, is_struct, is_enum, is_union}
 use Rattle.fb_schema.specs.WellDeclared.{Names, KindNames}
 use Rattle.fb_schema.specs.declared.kinds.Base.{Base}
 use Rattle.fb_schema.specs.declared.kinds.Kind.{Kind}
@@ -62,7 +62,7 @@ module _ {A B C : Type 0} (R : B → C → Type 0) (f : A → B) where
   at_left (a ∷ xs) (y ∷ ys) z (suc t) x e = at_left xs ys z.1 t x e
   at_left _ _ z t x e = absurd (grind arith)
 
-  at_right : (xs : List A) (ys : List C) → AllZip R (map f xs) ys → (t : ℕ) (y : C) → slice_get ys t ≡ Some y → (x : A) × (slice_get xs t ≡ Some x) × R (f x) y
+  pub at_right : (xs : List A) (ys : List C) → AllZip R (map f xs) ys → (t : ℕ) (y : C) → slice_get ys t ≡ Some y → (x : A) × (slice_get xs t ≡ Some x) × R (f x) y
   at_right (x ∷ xs) (b ∷ ys) z zero y e = (x, refl, subst (R (f x)) (same_Some b y e) z.0)
   at_right (x ∷ xs) (b ∷ ys) z (suc t) y e = at_right xs ys z.1 t y e
   at_right _ _ z t y e = absurd (grind arith)
@@ -86,9 +86,6 @@ table_named S (Known (Table t)) means h = means.0
 table_named S m means h = absurd (true≢false h)
 
 module _ (o : Outline) (S : DeclaredSchema) (g : Gives o S) where
-  pub read_from_type : (t : ℕ) (type : DeclaredType) → slice_get S.types t ≡ Some type → (r : TypeRead) × (slice_get o.types t ≡ Some r) × IsType (resolved_type o.types r) type
-  read_from_type t type e = at_right IsType (resolved_type o.types) o.types S.types g.types t type e
-
   means_read : (t : ℕ) (r : Option TypeRead) → slice_get o.types t ≡ r → MeansIn S (use_of_read t r)
   means_read t None e = tt
   means_read t (Some r) e =

@@ -11,9 +11,9 @@ use Rattle.fb_resolve.specs.Resolved.{resolved_types}
 use Rattle.fb_resolve.specs.declared.resolved.ResolvedDecl.{ResolvedDecl}
 use Rattle.fb_resolve.specs.declared.resolved.ResolvedDecl.TheVariants as resolved
 use Rattle.fb_schema.specs.Schema.{DeclaredField, DeclaredBody, table_body, struct_body, enum_body, union_body, DeclaredType, DeclaredSchema}
-use Rattle.fb_resolve.specs.Outline.{Outline, outline_of}
+use Rattle.fb_resolve.specs.Outline.{outline_of}
 use Rattle.fb_resolve.specs.SlotsRead.{slots_read, AreInPlace}
-use Rattle.fb_declare.specs.Declares.{HasBody, IsType, Gives, Declares}
+use Rattle.fb_declare.specs.Declares.{HasBody, IsType, Declares}
 
 -- The slot at a place stands there in each order.
 same_slot : (read p q : List DeclaredField) → AreInPlace read p → AreInPlace read q → (d : DeclaredField) (k : ℕ) → k < length p → get_or p k d ≡ get_or q k d
@@ -51,14 +51,10 @@ same_types [] [] [] x y = refl
 same_types (r ∷ rs) (t ∷ ts) (u ∷ us) x y = let head : t ≡ u = same_type r t u x.0 y.0 in let tail : ts ≡ us = same_types rs ts us x.1 y.1 in cc
 same_types _ _ _ x y = grind arith
 
--- An outline gives one schema at most.
-one_given : (o : Outline) (S T : DeclaredSchema) → Gives o S → Gives o T → S ≡ T
-one_given o S T x y =
-    let types : S.types ≡ T.types = same_types (resolved_types o.types) S.types T.types x.types y.types in
-    let root : S.root ≡ T.root = same_Some S.root T.root (x.root ∙ sym y.root) in
-    let identifier : S.identifier ≡ T.identifier = x.identifier ∙ sym y.identifier in
-    λ i. record { types = types i; root = root i; identifier = identifier i }
-
 -- The declarations of a text give one schema at most.
 pub one_declared : (d : DeclsRead) (S T : DeclaredSchema) → Declares d S → Declares d T → S ≡ T
-one_declared d S T x y = one_given (outline_of d) S T x.given y.given
+one_declared d S T x y =
+    let types : S.types ≡ T.types = same_types (resolved_types (outline_of d).types) S.types T.types x.given.types y.given.types in
+    let root : S.root ≡ T.root = same_Some S.root T.root (x.given.root ∙ sym y.given.root) in
+    let identifier : S.identifier ≡ T.identifier = x.given.identifier ∙ sym y.given.identifier in
+    λ i. record { types = types i; root = root i; identifier = identifier i }

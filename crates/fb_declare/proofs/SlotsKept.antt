@@ -56,17 +56,15 @@ pub record IsFrom (fs : List ResolvedField) (all : List DeclaredField) (p : Decl
   pub here : Contains (slots_of_field field slot) p
   pub whole : (q : DeclaredField) → Contains (slots_of_field field slot) q → Contains all q
 
+-- so it is among more fields and more slots
+wider : (fs gs : List ResolvedField) (all wide : List DeclaredField) (p : DeclaredField) → ((f : ResolvedField) → Contains fs f → Contains gs f) → ((q : DeclaredField) → Contains all q → Contains wide q) → IsFrom fs all p → IsFrom gs wide p
+wider fs gs all wide p fields slots x = record { field = x.field; slot = x.slot; among = fields x.field x.among; here = x.here; whole = λ q d. slots q (x.whole q d) }
+
 slot_from : (fs : List ResolvedField) (all : List DeclaredField) → Numbered fs all → (p : DeclaredField) → Contains all p → IsFrom fs all p
 slot_from fs all none p (k, less, is) = absurd (omega arith)
 slot_from fs all (more f gs slot rest n) p c = ⊎_elim
     (λ here. record { field = f; slot = slot; among = (0, omega arith, refl); here = here; whole = λ q d. Contains-append_left (slots_of_field f slot) rest q d })
-    (λ later. let x = slot_from gs rest n p later in record {
-      field = x.field;
-      slot = x.slot;
-      among = Contains-append_right (f ∷ []) gs x.field x.among;
-      here = x.here;
-      whole = λ q d. Contains-append_right (slots_of_field f slot) rest q (x.whole q d);
-    })
+    (λ later. wider gs (f ∷ gs) rest (slots_of_field f slot ++ rest) p (Contains-append_right (f ∷ []) gs) (Contains-append_right (slots_of_field f slot) rest) (slot_from gs rest n p later))
     (Contains-append_cases (slots_of_field f slot) rest p c)
 
 -- each slot is of a field, where the slots stand at the places of their numbers
@@ -74,14 +72,8 @@ pub slot_placed : (fs : List ResolvedField) (slots : List DeclaredField) → Are
     → (k : ℕ) (p : DeclaredField) → slice_get slots k ≡ Some p → IsFrom fs slots p
 slot_placed fs slots placed k p e =
     let c : Contains slots p = (k, slice_get_within slots k p e, get_or_from_slice_get slots k p p e) in
-    let x = slot_from fs (slots_read fs) (numbered fs) p (Contains-permutation slots (slots_read fs) p (IsPermutation-sym (slots_read fs) slots placed.same) c) in
-    record {
-      field = x.field;
-      slot = x.slot;
-      among = x.among;
-      here = x.here;
-      whole = λ q d. Contains-permutation (slots_read fs) slots q placed.same (x.whole q d);
-    }
+    wider fs fs (slots_read fs) slots p (λ f d. d) (λ q d. Contains-permutation (slots_read fs) slots q placed.same d)
+    (slot_from fs (slots_read fs) (numbered fs) p (Contains-permutation slots (slots_read fs) p (IsPermutation-sym (slots_read fs) slots placed.same) c))
 
 -- ---- names
 

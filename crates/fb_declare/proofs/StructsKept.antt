@@ -1,6 +1,6 @@
 -- The body of a struct with no fault: some plain fields of different names, in order, of scalars, enums and structs before it.
 use Rattle.std.proofs.Common.{◌≡◌, ◌≢◌, ℕ, zero, suc, ◌+◌, ◌^◌, ◌<◌, ◌≤◌, ◌++◌, ◌==◌, nat_le, true, false, List, [], ◌∷◌, length, map, get_or, AllPairs, Option, None, Some, refl, ap, sym, subst, ◌∙◌, arith, true≢false}
-use Rattle.std.specs.Prelude.{ℤ, pos, negsuc, slice_get}
+use Rattle.std.specs.Prelude.{ℤ, pos, slice_get}
 use Rattle.std.specs.List.{flat_map, list_any, range_with_len, All}
 use Rattle.std.specs.Option.{ForSome}
 use Rattle.std.proofs.lemmas.Bool.{and_parts, eqb-true, leb-true, leb-false}
@@ -34,10 +34,6 @@ use Rattle.fb_declare.proofs.Meant.{MeansIn, IsRead}
 abbrev pub alignments : List ℕ
 alignments = 1 ∷ 2 ∷ 4 ∷ 8 ∷ 16 ∷ 32 ∷ 64 ∷ 128 ∷ 256 ∷ []
 
--- each is a power of two by its place
-power_at : (k d : ℕ) → k < 9 → get_or alignments k d ≡ 2 ^ k
-power_at k d h = get_or-map (λ j. 2 ^ j) (range_with_len 0 9) k 0 d h ∙ ap (λ j. 2 ^ j) (get_or-range_with_len 0 9 k 0 h ∙ omega arith)
-
 -- an alignment is a power of two that isn't below the least
 pub alignment_right : (least n : ℕ) → is_alignment least (pos n) ≡ true → IsForceAlign n × (least ≤ n)
 alignment_right least n h =
@@ -46,16 +42,17 @@ alignment_right least n h =
     let k : ℕ = found.0 in
     let a : ℕ = found.1 in
     let within : k < 9 = found.2 in
+    -- each is a power of two by its place
+    let power : get_or alignments k a ≡ 2 ^ k = get_or-map (λ j. 2 ^ j) (range_with_len 0 9) k 0 a within ∙ ap (λ j. 2 ^ j) (get_or-range_with_len 0 9 k 0 within ∙ omega arith) in
     let same : n ≡ a = sym (eqb-true a n found.4) in
-    ((k, omega arith, same ∙ (sym found.3 ∙ power_at k a within)), leb-true least n split.1)
+    ((k, omega arith, same ∙ (sym found.3 ∙ power)), leb-true least n split.1)
 
 -- a right `force_align` is a power of two
 forced_aligned : (least : ℕ) (number : Option ℤ) → ForSome (forced_align least number) IsForceAlign
 unfolding forced_align
 forced_aligned least (Some (pos n)) = either (λ o. ForSome o IsForceAlign) (is_alignment least (pos n)) (Some n) None
     (λ is a e. subst IsForceAlign (same_Some n a e) (alignment_right least n is).0) (λ a e. absurd (none-some a e))
-forced_aligned least (Some (negsuc n)) = λ a e. absurd (none-some a e)
-forced_aligned least None = λ a e. absurd (none-some a e)
+forced_aligned least _ = λ a e. absurd (none-some a e)
 
 -- a field of a struct with no fault is of a scalar, an enum or a lower struct
 pub part_right : (S : DeclaredSchema) (t : ℕ) (kind : FieldType) (m : Meaning) → MeansIn S m → struct_field_type t kind m ≡ [] → IsPart S t (shape_of kind m)
@@ -86,15 +83,6 @@ unfolding parts_from
 some_parts [] h = absurd (true≢false h)
 some_parts (f ∷ fs) h = omega arith
 
--- the types of the fields of a struct with no fault
-field_types_right : (declared : List Name) (t : ℕ) (fs : List ResolvedField) → flat_map (struct_field_faults declared t) fs ≡ [] → All (λ f. struct_field_type t f.field.kind f.meaning ≡ []) fs
-unfolding struct_field_faults
-field_types_right declared t fs h k d within =
-    let f = get_or fs k d in
-    let type = struct_field_type t f.field.kind f.meaning in
-    let default = bad_default f.field.default Wrong in
-    (both_none type default (both_none (type ++ default) (metadata_faults declared hosts.StructField f.field.attributes) (none_of_each (struct_field_faults declared t) fs h k d within)).0).0
-
 -- what is empty where a struct has no fault
 pub record IsStructRight (types : List TypeRead) (declared : List Name) (lower : List ℕ) (s : ResolvedTable) : Type 0 where
   pub metadata : metadata_faults declared (hosts.Struct (natural_align types lower s.fields)) s.declared.attributes ≡ []
@@ -103,11 +91,18 @@ pub record IsStructRight (types : List TypeRead) (declared : List Name) (lower :
   pub fields : All (λ f. struct_field_type (length lower) f.field.kind f.meaning ≡ []) s.fields
 
 pub struct_right : (types : List TypeRead) (declared : List Name) (lower : List ℕ) (s : ResolvedTable) → struct_faults types declared lower s ≡ [] → IsStructRight types declared lower s
-unfolding struct_faults
+unfolding struct_faults struct_field_faults
 struct_right types declared lower s h =
     let none = four_none (metadata_faults declared (hosts.Struct (natural_align types lower s.fields)) s.declared.attributes) (when (length s.fields == 0) (EmptyStruct s.declared.name.at))
     (names_again (map (λ r. r.field.name) s.fields)) (flat_map (struct_field_faults declared (length lower)) s.fields) h in
-    record { metadata = none.0; some = when-none (length s.fields == 0) (EmptyStruct s.declared.name.at) none.1; names = none.2; fields = field_types_right declared (length lower) s.fields none.3 }
+    record {
+      metadata = none.0;
+      some = when-none (length s.fields == 0) (EmptyStruct s.declared.name.at) none.1;
+      names = none.2;
+      fields = λ k d within.
+          let f = get_or s.fields k d in let type = struct_field_type (length lower) f.field.kind f.meaning in let default = bad_default f.field.default Wrong in
+          (both_none type default (both_none (type ++ default) (metadata_faults declared hosts.StructField f.field.attributes) (none_of_each (struct_field_faults declared (length lower)) s.fields none.3 k d within)).0).0;
+    }
 
 -- a struct with no fault has a right body
 pub struct_kept : (types : List TypeRead) (S : DeclaredSchema) (declared : List Name) (lower : List ℕ) (s : ResolvedTable) → All (IsRead types S) s.fields → struct_faults types declared lower s ≡ []

@@ -12,11 +12,11 @@ use Rattle.fb_resolve.specs.Outline.{TypeRead, Outline}
 use Rattle.fb_resolve.specs.Resolved.{resolved_enum, resolved_declaration, resolved_type, resolved_types}
 use Rattle.fb_resolve.specs.EnumsRead.{underlying_in, underlying_of_read, underlying_at, value_in, value_of_read, value_at, values_read}
 use Rattle.fb_declare.specs.TypeFaults.{declaration_faults, aligns_from, faults_of_types}
-use Rattle.fb_declare.specs.Declares.{HasBody, Gives}
+use Rattle.fb_declare.specs.Declares.{HasBody, IsType, Gives}
 use Rattle.fb_declare.proofs.DefaultsKept.{value_found}
 use Rattle.fb_declare.proofs.EnumsKept.{enum_kept}
 use Rattle.fb_declare.proofs.FaultFree.{none_of_type}
-use Rattle.fb_declare.proofs.Meant.{read_from_type}
+use Rattle.fb_declare.proofs.Meant.{at_right}
 
 -- the alignments of the types before one
 abbrev pub aligns_before : List TypeRead → ℕ → List ℕ
@@ -53,7 +53,7 @@ AreEnumsKept types S = (e : ℕ) → Names is_enum S e → IsEnumKept (underlyin
 
 module _ (o : Outline) (S : DeclaredSchema) (g : Gives o S) (none : faults_of_types o.types o.attributes (resolved_types o.types) ≡ []) where
   pub type_at : (t : ℕ) (type : DeclaredType) → slice_get S.types t ≡ Some type → IsDeclaredBy o t type.body
-  type_at t type e = let x = read_from_type o S g t type e in record {
+  type_at t type e = let x = at_right IsType (resolved_type o.types) o.types S.types g.types t type e in record {
     read = x.0;
     at = x.1;
     has = x.2.body;

@@ -1,5 +1,5 @@
 -- The body of a union with no fault: 255 members at most, tables of different names, none of them NONE.
-use Rattle.std.proofs.Common.{◌≡◌, ◌≢◌, ℕ, ◌<◌, ◌++◌, ◌||◌, nat_le, false, List, [], length, map, take, All, is_none, Some, ap, sym, subst, ◌∙◌, arith, true≢false}
+use Rattle.std.proofs.Common.{◌≡◌, ◌≢◌, ℕ, ◌<◌, ◌++◌, ◌||◌, nat_le, List, [], length, map, take, All, is_none, Some, sym, subst, ◌∙◌, arith, true≢false, ⊎_elim}
 use Rattle.std.specs.Prelude.{codes}
 use Rattle.std.specs.List.{slice_get}
 use Rattle.std.specs.Str.{bytes_eq}
@@ -7,7 +7,7 @@ use Rattle.std.proofs.Math.Nat.{lt_of_not-le}
 use Rattle.std.proofs.lemmas.Bool.{or_parts, leb-false}
 use Rattle.std.proofs.lemmas.List.{length-map, length-take-le}
 use Rattle.std.proofs.lemmas.List.Elements.{All-map}
-use Rattle.std.proofs.lemmas.Option.{slice_get-get_or, slice_get_within}
+use Rattle.std.proofs.lemmas.Option.{slice_get-get_or, slice_get_within, slice_get_cases}
 use Rattle.std.proofs.lemmas.Simd.{map-map}
 use Rattle.fb_schema.specs.Schema.{Name, DeclaredSchema, is_table}
 use Rattle.fb_schema.specs.WellDeclared.{Names, IsUnionBody}
@@ -18,14 +18,10 @@ use Rattle.fb_resolve.specs.MembersRead.{table_of, member_read}
 use Rattle.fb_resolve.specs.ResolvedFields.{ResolvedMember, ResolvedUnion}
 use Rattle.fb_declare.specs.FaultRows.{when, faults_in_turn, names_again, use_faults, member_faults}
 use Rattle.fb_declare.specs.TypeFaults.{member_behind, union_faults}
-use Rattle.fb_resolve.proofs.Bytes.{bytes_eq-refl}
-use Rattle.fb_declare.proofs.FaultFree.{both_none, none_behind, when-none, all_at, there}
+use Rattle.std.proofs.lemmas.Slice.Eq.{bytes_eq-Decides}
+use Rattle.fb_declare.proofs.FaultFree.{both_none, none_behind, when-none, all_at}
 use Rattle.fb_declare.proofs.NamesApart.{named_apart}
 use Rattle.fb_declare.proofs.Meant.{MeansIn, table_named}
-
--- names that a test tells apart differ
-not_called : (name other : Name) → bytes_eq name other ≡ false → name ≢ other
-not_called name other h e = true≢false (sym (bytes_eq-refl other) ∙ ap (λ n. bytes_eq n other) (sym e) ∙ h)
 
 -- what a right member keeps, behind so many
 record IsMember (S : DeclaredSchema) (before : ℕ) (m : Name × ℕ) : Type 0 where
@@ -43,7 +39,7 @@ member_right S before r means h =
     let parts = both_none (when called (DuplicateName r.name.at) ++ use_faults r.meaning at) (when bad (BadMember at)) h in
     let few = or_parts (is_none (table_of r.meaning)) (nat_le 255 before) (when-none bad (BadMember at) parts.1) in
     record {
-      not_none = not_called r.name.bytes (codes "NONE") (when-none called (DuplicateName r.name.at) (both_none (when called (DuplicateName r.name.at)) (use_faults r.meaning at) parts.0).0);
+      not_none = λ e. true≢false (sym ((bytes_eq-Decides r.name.bytes (codes "NONE")).1 e) ∙ when-none called (DuplicateName r.name.at) (both_none (when called (DuplicateName r.name.at)) (use_faults r.meaning at) parts.0).0);
       table = table_named S r.meaning means few.0;
       few = leb-false 255 before few.1;
     }
@@ -58,7 +54,7 @@ module _ (S : DeclaredSchema) (ms : List ResolvedMember) (means : All (λ m. Mea
 
   members_kept : names_again (map (λ m. m.name) ms) ≡ [] → IsUnionBody S (map member_read ms)
   members_kept names = record {
-    few = let below = lt_of_not-le {n = 256} {m = length ms} (λ over. let m = there ms 255 (omega arith) in let few = (member_at 255 m.0 m.1).few in omega arith) in
+    few = let below = lt_of_not-le {n = 256} {m = length ms} (λ over. ⊎_elim (λ m. let few = (member_at 255 m.0 m.2).few in omega arith) (λ past. omega (arith, past.0)) (slice_get_cases ms 255).1) in
         omega (arith, length-map ms member_read);
     no_none = All-map (λ m. m.0 ≢ codes "NONE") member_read ms (λ k d within. (member_at k _ (slice_get-get_or ms k d within)).not_none);
     names = named_apart (λ m. m.0) (map (λ m. m.name) ms) (map member_read ms) (map-map (λ n. n.bytes) (λ m. m.name) ms ∙ sym (map-map (λ m. m.0) member_read ms)) names;

@@ -1,24 +1,18 @@
-//! Enums: what is wrong with one, and its body.
+//! Enums: what is wrong with one.
 ghost use Rattle.std.specs.Prelude.{◌≡◌, IfOk, map, ℤ, ◌||◌, OnOk};
-ghost use Rattle.fb_schema.specs.WellDeclared.{is_unsigned};
 ghost use Rattle.fb_declare.specs.Faults.{least_of};
 ghost use Rattle.fb_declare.specs.FaultRows.{underlying_faults, is_out_of_range, faults_in_turn, bad_value};
 ghost use Rattle.fb_declare.specs.DeclaredNames.{names_declared};
 ghost use Rattle.fb_declare.specs.TypeFaults.{host_of_enum, enum_faults};
 ghost use Rattle.std.specs.List.{list_any};
 ghost use Rattle.std.specs.Ordering.{int_eq};
-ghost use Rattle.fb_schema.specs.Seen.{body_seen};
-ghost use Rattle.fb_declare.specs.Declares.{HasBody};
-ghost use Rattle.fb_resolve.specs.declared.resolved.ResolvedDecl.TheVariants as ResolvedDecl;
 
 use crate::attribute_faults::{AttributeHost, metadata_fault};
 use crate::declared_names::DeclaredNames;
 use crate::faults::{SchemaFault, earlier, when};
 use crate::names_again::names_again;
-use fb_resolve::{
-    LocatedName, Meaning, ResolvedEnum, ResolvedValue, integer_type, may_be_written, values_over,
-};
-use fb_schema::{Base, Body};
+use fb_resolve::{LocatedName, Meaning, ResolvedEnum, ResolvedValue, integer_type, may_be_written};
+use fb_schema::Base;
 use std::alloc::{AllocError, Global};
 use std::collections::BTreeSet;
 
@@ -36,19 +30,13 @@ fn underlying_fault(meaning: Meaning, at: u64) -> Option<SchemaFault>
     }
 }
 
-fn is_unsigned(base: Base) -> bool
-    ensures { result ≡ is_unsigned base }
-{
-    matches!(base, Base::U8 | Base::U16 | Base::U32 | Base::U64)
-}
-
 /// What an enum over a type is to its attributes.
 fn host_of_enum(base: Option<Base>) -> AttributeHost
     ensures { result ≡ host_of_enum base }
 {
     match base {
-        Some(base) if !is_unsigned(base) => AttributeHost::SignedEnum,
-        _ => AttributeHost::Enum,
+        Some(Base::U8 | Base::U16 | Base::U32 | Base::U64) | None => AttributeHost::Enum,
+        Some(_) => AttributeHost::SignedEnum,
     }
 }
 
@@ -129,15 +117,4 @@ pub(crate) fn bad_values(
         least = earlier(least, bad);
     }
     Ok(least)
-}
-
-/// The body that a right one gives. The only error is a refused allocation.
-pub(crate) fn enum_body(alloc: Global, resolved: ResolvedEnum<'_, '_>) -> Result<Body, AllocError>
-    ensures { IfOk result (λ b. HasBody (ResolvedDecl.Enum resolved.entry) (body_seen b)) }
-{
-    let under = integer_type(resolved.underlying);
-    let flags = resolved.bit_flags;
-    let values = values_over(alloc, under, flags, resolved.values.as_slice())?;
-    let base = under.unwrap_or(Base::U8);
-    Ok(Body::Enum(base, flags, values))
 }

@@ -1,4 +1,7 @@
 //! Why declarations are refused.
+ghost use Rattle.std.specs.Prelude.{◌≡◌};
+ghost use Rattle.fb_declare.specs.declared.faults.SchemaFault.TheVariants.{Memory};
+
 use std::alloc::{AllocError, AllocFailed};
 use thiserror::Error;
 
@@ -38,9 +41,6 @@ pub enum SchemaFault {
 }
 
 impl From<AllocError> for SchemaFault {
-    ghost use Rattle.std.specs.Prelude.{◌≡◌};
-    ghost use Rattle.fb_declare.specs.declared.faults.SchemaFault.TheVariants.{Memory};
-
     ghost from_gives = { λ _ e. e ≡ Memory };
 
     fn from(_refused: AllocError) -> SchemaFault {
@@ -49,9 +49,6 @@ impl From<AllocError> for SchemaFault {
 }
 
 impl<T: Drop> From<AllocFailed<T>> for SchemaFault {
-    ghost use Rattle.std.specs.Prelude.{◌≡◌};
-    ghost use Rattle.fb_declare.specs.declared.faults.SchemaFault.TheVariants.{Memory};
-
     ghost from_gives = { λ _ e. e ≡ Memory };
 
     fn from(_refused: AllocFailed<T>) -> SchemaFault {
@@ -60,7 +57,6 @@ impl<T: Drop> From<AllocFailed<T>> for SchemaFault {
 }
 
 impl SchemaFault {
-    ghost use Rattle.std.specs.Prelude.{◌≡◌};
     ghost use Rattle.fb_declare.specs.FaultTable.{number_of, name_of, offset_of};
     ghost use Rattle.fb_declare.specs.Faults.{comes_before};
 
@@ -118,7 +114,6 @@ impl SchemaFault {
     }
 }
 
-ghost use Rattle.std.specs.Prelude.{◌≡◌};
 ghost use Rattle.fb_declare.specs.Faults.{earlier, least_of};
 ghost use Rattle.fb_declare.specs.FaultRows.{when};
 

@@ -28,16 +28,10 @@ pub(crate) fn root_fault(
     earlier(use_fault(meaning, name.at()), bad_root)
 }
 
-fn is_printable(byte: u8) -> bool
-    ensures { result ≡ is_printable byte }
-{
-    32 <= byte && byte <= 126
-}
-
 fn are_printable(text: &[u8]) -> bool
     ensures { result ≡ list_all is_printable text.now }
 {
-    text.iter().all(|byte| is_printable(*byte))
+    text.iter().all(|byte| 32 <= *byte && *byte <= 126)
 }
 
 fn is_identifier(text: &[u8]) -> bool

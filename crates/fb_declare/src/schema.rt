@@ -42,10 +42,8 @@ fn least_fault(
     let again = types_again(types, resolved.repeats.as_slice());
     let in_types = types_fault(alloc, declared, types, resolved.types.as_slice())?;
     let root = root_fault(outline.text_len, outline.root.as_ref(), resolved.root);
-    Ok(earlier(
-        earlier(earlier(again, in_types), root),
-        identifier_fault(outline.identifier),
-    ))
+    let identifier = identifier_fault(outline.identifier);
+    Ok(earlier(earlier(earlier(again, in_types), root), identifier))
 }
 
 /// The schema that declarations with no fault give. The only error is a refused allocation.

@@ -1,4 +1,4 @@
-//! Structs: what is wrong with one, and its body.
+//! Structs: what is wrong with one.
 ghost use Rattle.std.specs.Prelude.{◌≡◌, ℕ, List, IfOk, length, map};
 ghost use Rattle.std.specs.List.{flat_map};
 ghost use Rattle.fb_resolve.specs.Outline.{TypeRead};
@@ -6,19 +6,13 @@ ghost use Rattle.fb_resolve.specs.StructsRead.{natural_align};
 ghost use Rattle.fb_declare.specs.Faults.{least_of};
 ghost use Rattle.fb_declare.specs.DeclaredNames.{names_declared};
 ghost use Rattle.fb_declare.specs.TypeFaults.{struct_field_faults, struct_faults};
-ghost use Rattle.fb_schema.specs.Seen.{body_seen};
-ghost use Rattle.fb_declare.specs.Declares.{HasBody};
-ghost use Rattle.fb_resolve.specs.declared.resolved.ResolvedDecl.TheVariants as ResolvedDecl;
 
 use crate::attribute_faults::{AttributeHost, metadata_fault};
 use crate::declared_names::DeclaredNames;
 use crate::faults::{SchemaFault, earlier, when};
 use crate::field_faults::{bad_default, part_fault, use_fault};
 use crate::names_again::names_again;
-use fb_resolve::{
-    Given, LocatedName, ResolvedField, ResolvedStruct, forced_align, parts_read, type_name,
-};
-use fb_schema::Body;
+use fb_resolve::{Given, LocatedName, ResolvedField, ResolvedStruct, type_name};
 use std::alloc::{AllocError, Global};
 
 fn field_names<'s>(
@@ -53,10 +47,8 @@ fn field_fault(
     let default = field.default.as_ref();
     let fault = earlier(type_fault, bad_default(default, Given::Wrong));
     let attributes = field.attributes.as_slice();
-    Ok(earlier(
-        fault,
-        metadata_fault(alloc, declared, AttributeHost::StructField, attributes)?,
-    ))
+    let metadata = metadata_fault(alloc, declared, AttributeHost::StructField, attributes)?;
+    Ok(earlier(fault, metadata))
 }
 
 #[tactic(auto, unfolding(crate::specs::Faults::least_of))]
@@ -98,19 +90,6 @@ pub(crate) fn struct_fault(
     let empty = when(fields.is_empty(), SchemaFault::EmptyStruct(read.name.at));
     let names = field_names(alloc, fields)?;
     let again = names_again(alloc, names.as_slice())?;
-    Ok(earlier(
-        earlier(earlier(metadata, empty), again),
-        fields_fault(alloc, declared, number, fields)?,
-    ))
-}
-
-/// The body that a right one gives. The only error is a refused allocation.
-pub(crate) fn struct_body(
-    alloc: Global,
-    resolved: ResolvedStruct<'_, '_>,
-) -> Result<Body, AllocError>
-    ensures { IfOk result (λ b. HasBody (ResolvedDecl.Struct resolved.entry) (body_seen b)) }
-{
-    let parts = parts_read(alloc, resolved.fields.as_slice())?;
-    Ok(Body::Struct(parts, forced_align(0, resolved.force_align)))
+    let in_fields = fields_fault(alloc, declared, number, fields)?;
+    Ok(earlier(earlier(earlier(metadata, empty), again), in_fields))
 }

@@ -1,23 +1,17 @@
-//! Tables: what is wrong with one, and its body.
+//! Tables: what is wrong with one.
 ghost use Rattle.std.specs.Prelude.{◌≡◌, ◌++◌, IfOk, OnOk};
 ghost use Rattle.std.specs.List.{flat_map};
 ghost use Rattle.fb_declare.specs.Faults.{least_of};
 ghost use Rattle.fb_declare.specs.DeclaredNames.{names_declared};
 ghost use Rattle.fb_declare.specs.TypeFaults.{names_of_field, host_of_field, table_field_faults, table_faults};
-ghost use Rattle.fb_schema.specs.Seen.{body_seen};
-ghost use Rattle.fb_declare.specs.Declares.{HasBody};
-ghost use Rattle.fb_declare.specs.Buildable.{IsBuildable};
-ghost use Rattle.fb_resolve.specs.declared.resolved.ResolvedDecl.TheVariants as ResolvedDecl;
 
 use crate::attribute_faults::{AttributeHost, metadata_fault};
 use crate::declared_names::DeclaredNames;
 use crate::faults::{SchemaFault, earlier, when};
 use crate::field_faults::{bad_default, union_vector, use_fault};
 use crate::names_again::names_again;
-use fb_resolve::{
-    LocatedName, Meaning, ResolvedField, ResolvedTable, are_ids_wrong, table_slots, type_name,
-};
-use fb_schema::{Body, Kind};
+use fb_resolve::{LocatedName, Meaning, ResolvedField, ResolvedTable, are_ids_wrong, type_name};
+use fb_schema::Kind;
 use fb_syntax::FieldType;
 use std::alloc::{AllocError, Global};
 use std::borrow::CowStr;
@@ -113,25 +107,11 @@ pub(crate) fn table_fault(
 {
     let read = resolved.declared;
     let fields = resolved.fields.as_slice();
-    let metadata = metadata_fault(
-        alloc,
-        declared,
-        AttributeHost::Table,
-        read.attributes.as_slice(),
-    )?;
+    let attributes = read.attributes.as_slice();
+    let metadata = metadata_fault(alloc, declared, AttributeHost::Table, attributes)?;
     let ids = when(are_ids_wrong(resolved), SchemaFault::BadIds(read.name.at));
     let names = field_names(alloc, fields)?;
     let again = names_again(alloc, names.as_slice())?;
-    Ok(earlier(
-        earlier(earlier(metadata, ids), again),
-        fields_fault(alloc, declared, fields)?,
-    ))
-}
-
-/// The body that a right one gives. The only error is a refused allocation.
-pub(crate) fn table_body(alloc: Global, resolved: ResolvedTable<'_, '_>) -> Result<Body, AllocError>
-    requires { IsBuildable (ResolvedDecl.Table resolved) }
-    ensures { IfOk result (λ b. HasBody (ResolvedDecl.Table resolved.entry) (body_seen b)) }
-{
-    Ok(Body::Table(table_slots(alloc, resolved)?))
+    let in_fields = fields_fault(alloc, declared, fields)?;
+    Ok(earlier(earlier(earlier(metadata, ids), again), in_fields))
 }

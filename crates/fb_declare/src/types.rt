@@ -12,16 +12,16 @@ ghost use Rattle.fb_declare.specs.Buildable.{IsBuildable, AreBuildable};
 ghost use Rattle.fb_resolve.specs.declared.resolved.ResolvedDecl.TheVariants as ResolvedDecl;
 
 use crate::declared_names::DeclaredNames;
-use crate::enums::{enum_body, enum_fault};
+use crate::enums::enum_fault;
 use crate::faults::{SchemaFault, earlier, when};
-use crate::structs::{struct_body, struct_fault};
-use crate::tables::{table_body, table_fault};
-use crate::unions::{union_body, union_fault};
+use crate::structs::struct_fault;
+use crate::tables::table_fault;
+use crate::unions::{members_read, union_fault};
 use fb_resolve::{
-    ResolvedDecl, ResolvedType, TypeRead, align_of_type, is_reserved, name_of_type,
-    natural_of_type, word_of,
+    ResolvedDecl, ResolvedType, TypeRead, align_of_type, forced_align, integer_type, is_reserved,
+    name_of_type, natural_of_type, parts_read, table_slots, values_over, word_of,
 };
-use fb_schema::{Body, TypeInfo};
+use fb_schema::{Base, Body, TypeInfo};
 use std::alloc::{AllocError, Global};
 
 /// The least fault of the type of a number and of a natural alignment.
@@ -77,10 +77,18 @@ fn body_of(alloc: Global, declaration: ResolvedDecl<'_, '_>) -> Result<Body, All
     ensures { IfOk result (λ b. HasBody declaration.entry (body_seen b)) }
 {
     match declaration {
-        ResolvedDecl::Table(table) => table_body(alloc, table),
-        ResolvedDecl::Struct(table) => struct_body(alloc, table),
-        ResolvedDecl::Enum(resolved) => enum_body(alloc, resolved),
-        ResolvedDecl::Union(union) => union_body(alloc, union),
+        ResolvedDecl::Table(table) => Ok(Body::Table(table_slots(alloc, table)?)),
+        ResolvedDecl::Struct(table) => {
+            let parts = parts_read(alloc, table.fields.as_slice())?;
+            Ok(Body::Struct(parts, forced_align(0, table.force_align)))
+        }
+        ResolvedDecl::Enum(resolved) => {
+            let under = integer_type(resolved.underlying);
+            let flags = resolved.bit_flags;
+            let values = values_over(alloc, under, flags, resolved.values.as_slice())?;
+            Ok(Body::Enum(under.unwrap_or(Base::U8), flags, values))
+        }
+        ResolvedDecl::Union(union) => Ok(Body::Union(members_read(alloc, union.members)?)),
     }
 }
 

@@ -1,13 +1,10 @@
-//! Unions: what is wrong with one, and its body.
+//! Unions: what is wrong with one, and its members.
 ghost use Rattle.std.specs.Prelude.{◌≡◌, IfOk, map, string_bytes};
 ghost use Rattle.fb_declare.specs.Faults.{least_of};
 ghost use Rattle.fb_declare.specs.DeclaredNames.{names_declared};
 ghost use Rattle.fb_resolve.specs.MembersRead.{member_read};
 ghost use Rattle.fb_declare.specs.FaultRows.{faults_in_turn, member_faults};
 ghost use Rattle.fb_declare.specs.TypeFaults.{member_behind, union_faults};
-ghost use Rattle.fb_schema.specs.Seen.{body_seen};
-ghost use Rattle.fb_declare.specs.Declares.{HasBody};
-ghost use Rattle.fb_resolve.specs.declared.resolved.ResolvedDecl.TheVariants as ResolvedDecl;
 
 use crate::attribute_faults::{AttributeHost, metadata_fault};
 use crate::declared_names::DeclaredNames;
@@ -15,7 +12,7 @@ use crate::faults::{SchemaFault, earlier, when};
 use crate::field_faults::use_fault;
 use crate::names_again::names_again;
 use fb_resolve::{LocatedName, ResolvedMember, ResolvedUnion, is_table, member_read};
-use fb_schema::{Body, TypeId};
+use fb_schema::TypeId;
 use std::alloc::{AllocError, Global};
 use std::borrow::CowStr;
 
@@ -57,12 +54,8 @@ pub(crate) fn union_fault(
         (λ f. f ≡ least_of (union_faults (names_declared declared.entry) resolved.now)) }
 {
     let read = resolved.declared;
-    let metadata = metadata_fault(
-        alloc,
-        declared,
-        AttributeHost::Union,
-        read.attributes.as_slice(),
-    )?;
+    let attributes = read.attributes.as_slice();
+    let metadata = metadata_fault(alloc, declared, AttributeHost::Union, attributes)?;
     let members = resolved.members.as_slice();
     let names = member_names(alloc, members)?;
     let again = names_again(alloc, names.as_slice())?;
@@ -84,7 +77,8 @@ fn member_fault(before: usize, resolved: &ResolvedMember<'_, '_>) -> Option<Sche
     earlier(earlier(none_name, use_fault(meaning, at)), bad_member)
 }
 
-fn members_read(
+/// What is read of the members. The only error is a refused allocation.
+pub(crate) fn members_read(
     alloc: Global,
     members: Vec<ResolvedMember<'_, '_>>,
 ) -> Result<Vec<(String, TypeId)>, AllocError>
@@ -96,11 +90,4 @@ fn members_read(
         read.push(member_read(alloc, member)?)?;
     }
     Ok(read)
-}
-
-/// The body that a right one gives. The only error is a refused allocation.
-pub(crate) fn union_body(alloc: Global, resolved: ResolvedUnion<'_, '_>) -> Result<Body, AllocError>
-    ensures { IfOk result (λ b. HasBody (ResolvedDecl.Union resolved.entry) (body_seen b)) }
-{
-    Ok(Body::Union(members_read(alloc, resolved.members)?))
 }

@@ -1,5 +1,5 @@
 -- Numbers that are noted for the names of an enum's values.
-use Rattle.std.proofs.Common.{◌≡◌, ◌≢◌, ◌<◌, ◌≤◌, ◌∷◌, ⊎_elim, zero, suc, length, slice_get, Bor, ℤ, arith, ℕ, Bool, true, false, Option, None, Some, refl, ap, sym, ◌∙◌, cond, List, [], if◌then◌else◌}
+use Rattle.std.proofs.Common.{◌≡◌, ◌≢◌, ◌++◌, subst, ◌<◌, ◌≤◌, ◌∷◌, ⊎_elim, zero, suc, length, slice_get, Bor, ℤ, arith, ℕ, Bool, true, false, Option, None, Some, refl, ap, sym, ◌∙◌, cond, List, [], if◌then◌else◌}
 use Rattle.std.specs.BTreeMap.{BTreeMap}
 use Rattle.std.proofs.lemmas.Bool.{cases_lt}
 use Rattle.std.proofs.lemmas.Option.{slice_get_past}
@@ -42,6 +42,14 @@ no_values types scope _ other = refl
 -- each of these maps has the numbers of the type of its place
 abbrev pub HaveNumbers : List TypeRead → List (BTreeMap (Bor Name) ℤ) → Type 0
 HaveNumbers types maps = (t : ℕ) (m : BTreeMap (Bor Name) ℤ) → slice_get maps t ≡ Some m → (name : Name) → number_of m name ≡ number_named (values_at types t) name
+
+-- what holds of each item, and of one more behind them
+pub each_more : {M : Type 0} (Q : ℕ → M → Type 0) (ms : List M) (last : M) → Q (length ms) last → ((k : ℕ) (m : M) → slice_get ms k ≡ Some m → Q k m)
+    → (k : ℕ) (m : M) → slice_get (ms ++ last ∷ []) k ≡ Some m → Q k m
+each_more Q [] last here each zero m at = let same : last ≡ m = cc in subst (Q 0) same here
+each_more Q [] last here each (suc k) m at = absurd cc
+each_more Q (x ∷ xs) last here each zero m at = each 0 m at
+each_more Q (x ∷ xs) last here each (suc k) m at = each_more (λ k. Q (suc k)) xs last here (λ k. each (suc k)) k m at
 
 -- maps of all types are an index
 pub numbers_all : (types : List TypeRead) (index : ValueNumbers) → length index.numbers.items ≡ length types → HaveNumbers types index.numbers.items → (t : ℕ) (name : Name) → number_in index t name ≡ number_named (values_at types t) name

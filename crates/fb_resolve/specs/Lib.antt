@@ -14,6 +14,5 @@ pub mod MembersRead
 pub mod ValueNumbers
 pub mod Uses
 pub mod Paths
-pub mod Scope
 pub mod RepeatedNames
 pub mod UnionCodes

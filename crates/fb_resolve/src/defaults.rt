@@ -5,8 +5,8 @@ ghost use Rattle.fb_resolve.specs.Defaults.{number_within, null_or_wrong, given_
 
 use crate::enums::underlying_at;
 use crate::meanings::Meaning;
-use crate::types_read::TypesRead;
 use crate::value_names::value_at;
+use crate::value_numbers::TypesRead;
 use fb_schema::{Base, Kind};
 use fb_syntax::{DefaultValue, FieldType};
 

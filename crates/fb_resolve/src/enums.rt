@@ -72,10 +72,7 @@ fn bits_of(base: Base) -> u8
 fn is_bit_of(base: Base, number: i128) -> bool
     ensures { result ≡ is_bit_of base number }
 {
-    match u128::try_from(number) {
-        Ok(bit) => bit < u128::from(bits_of(base)),
-        Err(_) => false,
-    }
+    number >= 0 && number < i128::from(bits_of(base))
 }
 
 /// The number that a value has where this one is written.

@@ -17,7 +17,6 @@ mod resolved;
 mod scope;
 mod slots;
 mod structs;
-mod types_read;
 mod uses;
 mod value_names;
 mod value_numbers;

@@ -9,11 +9,10 @@ ghost use Rattle.fb_resolve.specs.Scopes.{words_of_scope, paths_of_types};
 ghost use Rattle.fb_resolve.specs.Uses.{uses_of_fields, uses_of_members, uses_of, IsUse, AreUses};
 ghost use Rattle.fb_resolve.specs.Paths.{IsPath};
 ghost use Rattle.fb_resolve.specs.RepeatedNames.{AreRepeats};
-ghost use Rattle.fb_resolve.specs.Scope.{IsScope};
-ghost use Rattle.fb_resolve.specs.EnumsRead.{resolved_values, values_declared};
+ghost use Rattle.fb_resolve.specs.EnumsRead.{values_declared};
 ghost use Rattle.fb_resolve.specs.ValueNumbers.{AreValues};
-ghost use Rattle.fb_resolve.specs.Resolved.{resolved_fields, resolved_table, resolved_enum, resolved_members};
-ghost use Rattle.fb_resolve.specs.Resolved.{resolved_union, resolved_declaration, resolved_types};
+ghost use Rattle.fb_resolve.specs.Resolved.{resolved_fields, resolved_table, resolved_members};
+ghost use Rattle.fb_resolve.specs.Resolved.{resolved_declaration, resolved_types};
 ghost use Rattle.fb_resolve.specs.Resolved.{meaning_of_root};
 
 use crate::attributes::{BuiltInAttribute, field_attributes, number_called};
@@ -31,10 +30,9 @@ use crate::resolved::{
 };
 use crate::scope::Scope;
 use crate::slots::code_of;
-use crate::types_read::TypesRead;
-use crate::value_numbers::{ValueNumbers, values_of};
+use crate::value_numbers::{TypesRead, values_of};
 use fb_scopes::Scopes;
-use fb_syntax::{Decls, EnumDecl, Field, TableDecl, TypeDecl, UnionDecl, UnionMember};
+use fb_syntax::{Decls, Field, TableDecl, TypeDecl, UnionMember};
 use std::alloc::{AllocError, Global};
 
 impl<'d, 's> Scope<'_, 'd, 's> {
@@ -43,7 +41,7 @@ impl<'d, 's> Scope<'_, 'd, 's> {
         alloc: Global,
         fields: &'d [Field<'s>],
     ) -> Result<Vec<ResolvedField<'d, 's>>, AllocError>
-        requires scope { IsScope self }
+        requires scopes { AreScopes self.scopes.now (paths_of_types self.types.types.now) }
         requires used { AreUses (names_of self.scopes.now) (uses_of_fields fields.now) }
         ensures { IfOk result (λ v. v.items
             ≡ resolved_fields self.entry.types.types.now (option_copied self.entry.name) fields.now) }
@@ -68,7 +66,7 @@ impl<'d, 's> Scope<'_, 'd, 's> {
         alloc: Global,
         declared: &'d TableDecl<'s>,
     ) -> Result<ResolvedTable<'d, 's>, AllocError>
-        requires scope { IsScope self }
+        requires scopes { AreScopes self.scopes.now (paths_of_types self.types.types.now) }
         requires used { AreUses (names_of self.scopes.now) (uses_of_fields declared.now.fields) }
         ensures { IfOk result (λ t. t
             ≡ resolved_table self.entry.types.types.now (option_copied self.entry.name) declared.now) }
@@ -87,7 +85,7 @@ impl<'d, 's> Scope<'_, 'd, 's> {
         alloc: Global,
         declared: &'d TableDecl<'s>,
     ) -> Result<ResolvedStruct<'d, 's>, AllocError>
-        requires scope { IsScope self }
+        requires scopes { AreScopes self.scopes.now (paths_of_types self.types.types.now) }
         requires used { AreUses (names_of self.scopes.now) (uses_of_fields declared.now.fields) }
         ensures { IfOk result (λ s. s
             ≡ resolved_table self.entry.types.types.now (option_copied self.entry.name) declared.now) }
@@ -104,31 +102,12 @@ impl<'d, 's> Scope<'_, 'd, 's> {
         })
     }
 
-    fn resolved_enum(
-        self,
-        declared: &'d EnumDecl<'s>,
-        values: Vec<ResolvedValue<'d, 's>>,
-    ) -> ResolvedEnum<'d, 's>
-        requires scope { IsScope self }
-        requires used { IsUse (names_of self.scopes.now) declared.now.underlying.bytes }
-        requires values { values.items ≡ resolved_values declared.now.values }
-        ensures { result
-            ≡ resolved_enum self.entry.types.types.now (option_copied self.entry.name) declared.now }
-    {
-        ResolvedEnum {
-            declared,
-            underlying: self.meaning(declared.underlying.as_str()),
-            bit_flags: has_flags(declared),
-            values,
-        }
-    }
-
     fn resolved_members(
         self,
         alloc: Global,
         members: &'d [UnionMember<'s>],
     ) -> Result<Vec<ResolvedMember<'d, 's>>, AllocError>
-        requires scope { IsScope self }
+        requires scopes { AreScopes self.scopes.now (paths_of_types self.types.types.now) }
         requires used { AreUses (names_of self.scopes.now) (uses_of_members members.now) }
         ensures { IfOk result (λ v. v.items
             ≡ resolved_members self.entry.types.types.now (option_copied self.entry.name) members.now) }
@@ -146,27 +125,13 @@ impl<'d, 's> Scope<'_, 'd, 's> {
         Ok(resolved)
     }
 
-    fn resolved_union(
-        self,
-        alloc: Global,
-        declared: &'d UnionDecl<'s>,
-    ) -> Result<ResolvedUnion<'d, 's>, AllocError>
-        requires scope { IsScope self }
-        requires used { AreUses (names_of self.scopes.now) (uses_of_members declared.now.members) }
-        ensures { IfOk result (λ u. u
-            ≡ resolved_union self.entry.types.types.now (option_copied self.entry.name) declared.now) }
-    {
-        let members = self.resolved_members(alloc, declared.members.as_slice())?;
-        Ok(ResolvedUnion { declared, members })
-    }
-
     fn resolved_declaration(
         self,
         alloc: Global,
         declaration: &'d TypeDecl<'s>,
         values: Vec<ResolvedValue<'d, 's>>,
     ) -> Result<ResolvedDecl<'d, 's>, AllocError>
-        requires scope { IsScope self }
+        requires scopes { AreScopes self.scopes.now (paths_of_types self.types.types.now) }
         requires used { AreUses (names_of self.scopes.now) (uses_of declaration.now) }
         requires values { values.items ≡ values_declared declaration.now }
         ensures { IfOk result (λ d. d
@@ -176,8 +141,16 @@ impl<'d, 's> Scope<'_, 'd, 's> {
         Ok(match declaration {
             TypeDecl::Table(table) => ResolvedDecl::Table(self.resolved_table(alloc, table)?),
             TypeDecl::Struct(table) => ResolvedDecl::Struct(self.resolved_struct(alloc, table)?),
-            TypeDecl::Enum(declared) => ResolvedDecl::Enum(self.resolved_enum(declared, values)),
-            TypeDecl::Union(union) => ResolvedDecl::Union(self.resolved_union(alloc, union)?),
+            TypeDecl::Enum(declared) => ResolvedDecl::Enum(ResolvedEnum {
+                declared,
+                underlying: self.meaning(declared.underlying.as_str()),
+                bit_flags: has_flags(declared),
+                values,
+            }),
+            TypeDecl::Union(declared) => {
+                let members = self.resolved_members(alloc, declared.members.as_slice())?;
+                ResolvedDecl::Union(ResolvedUnion { declared, members })
+            }
         })
     }
 }
@@ -279,8 +252,7 @@ impl<'t, 'd, 's> Resolved<'t, 'd, 's> {
         let repeats = repeated_numbers(alloc, names, tree.len())?;
         let scopes = Scopes::of(alloc, tree, used, names)?;
         let types = outline.types.as_slice();
-        let values = values_of(alloc, types)?;
-        let value_numbers = ValueNumbers::of(alloc, types, values.as_slice())?;
+        let (values, value_numbers) = values_of(alloc, types)?;
         let numbered = TypesRead {
             types,
             values: &value_numbers,

@@ -1,14 +1,15 @@
 //! What the names of types mean inside a namespace.
 ghost use Rattle.std.specs.Prelude.{◌≡◌};
 ghost use Rattle.std.specs.Option.{option_copied};
-ghost use Rattle.fb_scopes.specs.Scopes.{names_of};
+ghost use Rattle.fb_scopes.specs.Scopes.{tree_of, names_of, AreScopes};
 ghost use Rattle.fb_resolve.specs.Meaning.{type_name, meaning_of, meaning_in};
 ghost use Rattle.fb_resolve.specs.Uses.{IsUse};
-ghost use Rattle.fb_resolve.specs.Scope.{IsScope};
+ghost use Rattle.fb_resolve.specs.Scopes.{words_of_scope, paths_of_types};
+ghost use Rattle.fb_resolve.specs.Paths.{IsPath};
 
 use crate::basic_types::{basic_type, is_float_type, is_text_type};
 use crate::meanings::{Meaning, type_name};
-use crate::types_read::TypesRead;
+use crate::value_numbers::TypesRead;
 use fb_schema::{Kind, TypeId};
 use fb_scopes::Scopes;
 use fb_syntax::{FieldType, TypeDecl};
@@ -20,13 +21,14 @@ pub(crate) struct Scope<'f, 'd, 's> {
     pub scopes: &'f Scopes<'d>,
     pub path: usize,
     pub name: Option<&'d str>,
+    ghost here: { IsPath (tree_of scopes.now) path (words_of_scope (option_copied name)) },
 }
 
 impl<'d> Scope<'_, 'd, '_> {
     /// What a type's name means.
     #[tactic(auto, unfolding(crate::specs::Meaning::meaning_of))]
     pub(crate) fn meaning(self, name: &'d str) -> Meaning
-        requires scope { IsScope self }
+        requires scopes { AreScopes self.scopes.now (paths_of_types self.types.types.now) }
         requires used { IsUse (names_of self.scopes.now) name.now }
         ensures { result
             ≡ meaning_of self.entry.types.types.now (option_copied self.entry.name) name.now }
@@ -57,7 +59,7 @@ impl<'d> Scope<'_, 'd, '_> {
 
     /// What the name in a field's type means.
     pub(crate) fn meaning_in(self, kind: &'d FieldType<'_>) -> Meaning
-        requires scope { IsScope self }
+        requires scopes { AreScopes self.scopes.now (paths_of_types self.types.types.now) }
         requires used { IsUse (names_of self.scopes.now) (type_name kind.now).bytes }
         ensures { result
             ≡ meaning_in self.entry.types.types.now (option_copied self.entry.name) kind.now }

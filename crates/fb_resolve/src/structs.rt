@@ -49,19 +49,6 @@ fn align_in(types: &[TypeRead<'_, '_>], lower: &[u16], resolved: &ResolvedField<
     }
 }
 
-/// The greatest alignment that the fields of a struct need, where these are the alignments of the
-/// types before it.
-#[tactic(auto, unfolding(crate::specs::StructsRead::natural_align))]
-fn natural_align(types: &[TypeRead<'_, '_>], lower: &[u16], fields: &[ResolvedField<'_, '_>]) -> u16
-    ensures { result ≡ natural_align types.now lower.now fields.now }
-{
-    let mut natural = 0;
-    for field in fields {
-        natural = natural.max(align_in(types, lower, field));
-    }
-    natural
-}
-
 /// The alignment that the integer of a `force_align` names, if it is a power of two from the least
 /// one to 256.
 #[tactic(auto, unfolding(crate::specs::StructsRead::forced_align))]
@@ -78,6 +65,7 @@ pub fn forced_align(least: u16, number: Option<i128>) -> Option<u16>
 
 /// The natural alignment of a type: the greatest that its fields need if it is a struct, where these
 /// are the alignments of the types before it; 0 of another type.
+#[tactic(auto, unfolding(crate::specs::StructsRead::natural_align))]
 pub fn natural_of_type(
     types: &[TypeRead<'_, '_>],
     lower: &[u16],
@@ -85,10 +73,14 @@ pub fn natural_of_type(
 ) -> u16
     ensures { result ≡ natural_of_type types.now lower.now resolved.now }
 {
-    match &resolved.declaration {
-        ResolvedDecl::Struct(table) => natural_align(types, lower, table.fields.as_slice()),
-        _ => 0,
+    let ResolvedDecl::Struct(table) = &resolved.declaration else {
+        return 0;
+    };
+    let mut natural = 0;
+    for field in table.fields.as_slice() {
+        natural = natural.max(align_in(types, lower, field));
     }
+    natural
 }
 
 /// The alignment of a type of this natural one, 0 of what is no struct.

@@ -4,7 +4,7 @@ ghost use Rattle.std.specs.Option.{option_copied, option_and_then};
 ghost use Rattle.fb_resolve.specs.Outline.{full_name};
 ghost use Rattle.fb_resolve.specs.EnumsRead.{values_at, number_named, behind, value_at};
 
-use crate::types_read::TypesRead;
+use crate::value_numbers::TypesRead;
 use fb_syntax::TypeDecl;
 
 /// The number of the value of a name, which may be missing, in the enum of a number.

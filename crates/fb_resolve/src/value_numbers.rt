@@ -24,23 +24,6 @@ pub(crate) struct ValueNumbers<'s> {
 }
 
 impl<'s> ValueNumbers<'s> {
-    /// The numbers of the values of all enums, where these are the values. The only error is a refused allocation.
-    pub(crate) fn of(
-        alloc: Global,
-        types: &[TypeRead<'_, 's>],
-        values: &[Vec<ResolvedValue<'_, 's>>],
-    ) -> Result<ValueNumbers<'s>, AllocError>
-        requires { AreValues types.now values.now }
-        ensures { IfOk result (λ v. IndexesValues v types.now) }
-    {
-        let mut numbers = Vec::with_capacity(alloc, types.len())?;
-        for read in types {
-            let declared = values[numbers.len()].as_slice();
-            numbers.push(numbers_in(alloc, read.declaration, declared)?)?;
-        }
-        Ok(ValueNumbers { numbers })
-    }
-
     /// The number of the first value of a name in the enum of a number.
     pub(crate) fn number(&self, type_number: usize, name: &[u8]) -> Option<i128>
         ensures { result ≡ number_in self.now type_number name.now }
@@ -49,18 +32,31 @@ impl<'s> ValueNumbers<'s> {
     }
 }
 
-/// Each type's values with their numbers; none for a type that is no enum. The only error is a refused allocation.
+/// The types of a text, and the numbers of the values of enums.
+#[derive(Clone, Copy)]
+pub(crate) struct TypesRead<'t, 'd, 's> {
+    pub types: &'t [TypeRead<'d, 's>],
+    pub values: &'t ValueNumbers<'s>,
+    ghost numbered: { IndexesValues values.now types.now },
+}
+
+/// Each type's values with their numbers, none for a type that is no enum, and these numbers by their
+/// names. The only error is a refused allocation.
 pub(crate) fn values_of<'d, 's>(
     alloc: Global,
     types: &[TypeRead<'d, 's>],
-) -> Result<Vec<Vec<ResolvedValue<'d, 's>>>, AllocError>
-    ensures { IfOk result (λ v. AreValues types.now v.items) }
+) -> Result<(Vec<Vec<ResolvedValue<'d, 's>>>, ValueNumbers<'s>), AllocError>
+    ensures values { IfOk result (λ v. AreValues types.now v.0.items) }
+    ensures numbers { IfOk result (λ v. IndexesValues v.1 types.now) }
 {
     let mut values = Vec::with_capacity(alloc, types.len())?;
+    let mut numbers = Vec::with_capacity(alloc, types.len())?;
     for read in types {
-        values.push(values_declared(alloc, read.declaration)?)?;
+        let declared = values_declared(alloc, read.declaration)?;
+        numbers.push(numbers_in(alloc, read.declaration, declared.as_slice())?)?;
+        values.push(declared)?;
     }
-    Ok(values)
+    Ok((values, ValueNumbers { numbers }))
 }
 
 /// The numbers of the values of a type, where these are the values.

@@ -2,12 +2,12 @@
 use Rattle.std.proofs.Common.{◌≡◌, ◌<◌, ◌≤◌, inl, inr, Bool, true, false, ◌&&◌, ◌||◌, not, List, [], ◌∷◌, ◌++◌, length, Some, None, refl, sym, ap, arith}
 use Rattle.std.specs.List.{list_all}
 use Rattle.fb_syntax.specs.Located.{Located}
-use Rattle.std.proofs.lemmas.Option.{some_pair_parts}
+use Rattle.std.proofs.lemmas.Option.{some_pair_parts, cond_some}
 use Rattle.fb_syntax.specs.Lexemes.{Lexeme}
-use Rattle.fb_syntax.specs.Rules.{Rule, IsToken, token_at, token, give, ◌>>=◌, with_token, ahead}
+use Rattle.fb_syntax.specs.Rules.{Front, Rule, behind, IsToken, token_at, token, give, ◌>>=◌, with_token, ahead}
 use Rattle.fb_syntax.specs.declared.tokens.TokenKind.{TokenKind}
 use Rattle.std.proofs.lemmas.Bool.{and_parts, and_from, and_cases}
-use Rattle.fb_syntax.proofs.Steps.{bind-some, lands, chose_first, chose_second, chosen, stood, lacked, behind-ways}
+use Rattle.fb_syntax.proofs.Steps.{bind-some}
 use Rattle.fb_syntax.proofs.Names.{but, token_found, token_read, other_token}
 
 -- no token of these kinds stands next
@@ -56,8 +56,7 @@ give-agrees x = record {
 
 pub ahead-agrees : (test : List Lexeme → Bool) → Agrees (ahead test) true all_kinds []
 ahead-agrees test = record {
-  found = λ x ts rest e.
-      elim (chosen (test ts) e) [ chose_first b read ↦ lands (λ (u : Unit {0}) (r : List Lexeme). (ts ≡ r) × (test ts ≡ true)) read (refl, b) | chose_second b none ↦ absurd cc ];
+  found = λ x ts rest e. let p = cond_some (test ts) (tt, ts) (x, rest) e in (ap (λ (f : Unit {0} × List Lexeme). f.1) p.1, p.0);
   read = λ x ts rest h l. rw (h.1, h.0) refl;
   starts = λ k x ts rest h other e. rw h.0 (e refl);
   shorter = λ x ts rest h. (omega (arith, ap length h.0), λ e. absurd cc);
@@ -105,13 +104,13 @@ module _ {A B : Type 0} {first : Rule A} {next : A → Rule B} {e1 e2 : Bool} {a
       (lacks_first g1 x y mid rest all h (kept e2 g1 rest parts.1), parts.0)))
 
 module _ {X : Type 0} {kind : TokenKind} {next : Located → Rule X} {other : Rule X} {e1 e2 : Bool} {a1 a2 : TokenKind → Bool} {g1 g2 : List TokenKind} (there : (t : Located) → Agrees (next t) e1 a1 g1) (instead : Agrees other e2 a2 g2) where
+  with_found : (front : Front Located) (x : X) (ts rest : List Lexeme) → token_at kind ts ≡ front → behind front (λ t after. (next t).read after) (other.read ts) ≡ Some (x, rest) → (with_token kind next other).Is ts x rest
+  with_found (Some t) x ts rest stands e = inl (t.0, t.1, token_found kind ts t.1 t.0 stands, (there t.0).found x t.1 rest e)
+  with_found None x ts rest none e = inr (instead.found x ts rest e)
+
   pub with_token-agrees : a2 kind ≡ true → Agrees (with_token kind next other) e2 (besides kind a2) (g1 ++ (g2 ++ where_empty e2 (kind ∷ [])))
   with_token-agrees apart = record {
-    found = λ x ts rest e.
-        elim (behind-ways {front = token_at kind ts} e) [
-          | stood t after stands read ↦ inl (t, after, token_found kind ts after t stands, (there t).found x after rest read)
-          | lacked none read ↦ inr (instead.found x ts rest read)
-        ];
+    found = λ x ts rest e. with_found (token_at kind ts) x ts rest refl e;
     read = λ x ts rest h l.
         let parts = lacks_parts g1 (g2 ++ where_empty e2 (kind ∷ [])) rest l in
         let others = lacks_parts g2 (where_empty e2 (kind ∷ [])) rest parts.1 in

@@ -1,33 +1,22 @@
 -- The sum of digits, read from the front.
 use Rattle.std.proofs.Common.{◌≡◌, ℕ, zero, suc, ◌+◌, ◌*◌, ◌^◌, ◌<◌, ◌≤◌, List, [], ◌∷◌, length, get_or, drop, arith}
-use Rattle.std.proofs.Math.Nat.{pow-suc, pow-zero, mul-le-mul_left}
+use Rattle.std.proofs.Math.Nat.{pow-suc, pow-zero, one-le-pow, mul-le-mul_left}
 use Rattle.fb_syntax.specs.Integers.{digits_value, digit_value}
 
 -- the value of digits of which those before `cs` have the value `high`
 pub carried : ℕ → ℕ → List ℕ → ℕ
 carried base high cs = high * base ^ length cs + digits_value base cs
 
-power_positive : (base k : ℕ) → 0 < base → 0 < base ^ k
-power_positive base zero h = rw (pow-zero base) (omega arith)
-power_positive base (suc k) h =
-    let rest = power_positive base k h in
-    let more : base ^ k * 1 ≤ base ^ k * base = mul-le-mul_left (base ^ k) (omega arith) in
-    rw (pow-suc base k) (omega arith)
-
 pub carried-grows : (base high : ℕ) (cs : List ℕ) → 0 < base → high ≤ carried base high cs
 unfolding carried
 carried-grows base high cs h =
-    let positive = power_positive base (length cs) h in
-    let more : high * 1 ≤ high * base ^ length cs = mul-le-mul_left high (omega arith) in
+    let more : high * 1 ≤ high * base ^ length cs = mul-le-mul_left high (one-le-pow (length cs) base h) in
     omega arith
 
-one_digit_more : (base high c : ℕ) (cs : List ℕ) → carried base high (c ∷ cs) ≡ carried base (high * base + digit_value c) cs
-unfolding carried
-one_digit_more base high c cs = rw (pow-suc base (length cs)) (omega arith)
-
 pub carried-step : (base high i : ℕ) (cs : List ℕ) → i < length cs → carried base high (drop i cs) ≡ carried base (high * base + digit_value (get_or cs i 0)) (drop (suc i) cs)
+unfolding carried
 carried-step base high i [] h = absurd (omega arith)
-carried-step base high zero (c ∷ cs) h = one_digit_more base high c cs
+carried-step base high zero (c ∷ cs) h = rw (pow-suc base (length cs)) (omega arith)
 carried-step base high (suc i) (c ∷ cs) h = carried-step base high i cs (omega arith)
 
 pub carried-nil : (base high : ℕ) → carried base high [] ≡ high

@@ -18,7 +18,7 @@ dot_word-agrees : Agrees dot_word false (but (Punct dot)) []
 dot_word-agrees = then-agrees (token-agrees (Punct dot)) (λ _. token-agrees Word) refl
 
 dot_first : (w : Located) (ts rest : List Lexeme) → dot_word.Is ts w rest → no_dot ts ≡ false
-dot_first w ts rest h = rw (sign_stands dot ts h.1 (h.0, h.2)) refl
+dot_first w ts rest h = rw (sign_stands dot ts h.1 h.0 h.2) refl
 
 dot_lacks : (ts : List Lexeme) → token_at (Punct dot) ts ≡ None → no_dot ts ≡ true
 dot_lacks ts e = rw (sign_lacks dot ts e) refl
@@ -42,7 +42,7 @@ pub record NameSoFar (first : Located) (begun : List Lexeme) (name : Located) (r
   pub spelled : name ≡ with_words first words
 
 dot_found : (d : Located) (ts inside : List Lexeme) → token_at (Punct dot) ts ≡ Some (d, inside) → no_dot ts ≡ false
-dot_found d ts inside e = rw (sign_stands dot ts inside (d, token_found (Punct dot) ts inside d e)) refl
+dot_found d ts inside e = rw (sign_stands dot ts inside d (token_found (Punct dot) ts inside d e)) refl
 
 pub name_begins : (first : Located) (ts : List Lexeme) → NameSoFar first ts first ts
 name_begins first ts = record { words = []; read = begins dot_word.read no_dot ts; spelled = refl }

@@ -1,7 +1,7 @@
 -- The first byte of what stands at the front: it decides the kind.
-use Rattle.std.proofs.Common.{◌≡◌, ℕ, zero, suc, ◌≤◌, Bool, true, false, cond, ◌==◌, ◌||◌, List, [], ◌∷◌, length, take, refl, ap, sym, ◌∙◌, drop, get_or, ◌<◌, arith}
+use Rattle.std.proofs.Common.{◌≡◌, ℕ, zero, suc, ◌≤◌, true, false, cond, ◌==◌, ◌||◌, List, [], ◌∷◌, length, take, refl, ap, sym, ◌∙◌, get_or, ◌<◌, arith}
 use Rattle.std.proofs.lemmas.Bool.Decides.{nat_tests}
-use Rattle.std.proofs.lemmas.Bool.{and_parts, or_left, or_right}
+use Rattle.std.proofs.lemmas.Bool.{and_parts}
 use Rattle.std.specs.List.{list_all}
 use Rattle.fb_syntax.specs.declared.tokens.TokenKind.{TokenKind}
 use Rattle.fb_syntax.specs.declared.tokens.TokenKind.TheVariants.{Word, Integer, Quoted, Punct}
@@ -10,22 +10,18 @@ use Rattle.fb_syntax.specs.declared.scan.Piece.TheVariants as pieces
 use Rattle.fb_syntax.specs.Bytes.{is_letter, is_digit, is_sign, is_punct, is_blank, is_word_byte}
 use Rattle.fb_syntax.specs.Integers.{is_unsigned}
 use Rattle.fb_syntax.specs.TokenBytes.{is_token, starts, is_closed_by_quote, IsLongest, IsSmall}
-use Rattle.fb_syntax.specs.Fronts.{Stands}
+use Rattle.fb_syntax.specs.Fronts.{IsAtFront}
 use Rattle.fb_syntax.specs.Gaps.{IsGap}
 use Rattle.fb_syntax.proofs.Gaps.{gap_starts, gap_within, same_gap}
 
 unsigned_starts : (c : ℕ) (s : List ℕ) → is_unsigned (c ∷ s) ≡ true → is_digit c ≡ true
-unsigned_starts c [] e = grind (arith, nat_tests)
-unsigned_starts c (x ∷ []) e = grind (arith, nat_tests)
 unsigned_starts c (x ∷ h ∷ s) e = grind (arith, nat_tests)
+unsigned_starts c _ e = grind (arith, nat_tests)
 
 pub token_starts : (k : TokenKind) (c : ℕ) (s : List ℕ) → is_token k (c ∷ s) ≡ true → starts k c ≡ true
 unfolding is_token
 token_starts Word c s e = (and_parts (is_letter c) (list_all is_word_byte s) e).0
-token_starts Integer c s e = by_sign (is_sign c) refl e where
-  by_sign : (b : Bool) → is_sign c ≡ b → is_unsigned (drop (cond b 1 0) (c ∷ s)) ≡ true → (is_digit c || is_sign c) ≡ true
-  by_sign true h f = or_right (is_digit c) (is_sign c) h
-  by_sign false h f = or_left (is_digit c) (is_sign c) (unsigned_starts c s f)
+token_starts Integer c s e = grind (arith, nat_tests, unsigned_starts c s)
 token_starts Quoted c s e = (and_parts (c == 34) (is_closed_by_quote s) e).0
 token_starts (Punct p) c [] e = e
 token_starts (Punct p) c (d ∷ s) e = absurd cc
@@ -36,17 +32,13 @@ kind_of c = cond (is_letter c) Word (cond (c == 34) Quoted (cond (is_punct c) (P
 -- No gap begins with a byte that begins a token, and no token of another kind.
 started_kind : (k : TokenKind) (c : ℕ) → starts k c ≡ true → (k ≡ kind_of c) × ((is_blank c || c == 47) ≡ false)
 unfolding kind_of
-started_kind Word c e = grind (arith, nat_tests)
-started_kind Integer c e = grind (arith, nat_tests)
-started_kind Quoted c e = grind (arith, nat_tests)
 started_kind (Punct p) c e = grind (arith, nat_tests)
+started_kind _ c e = grind (arith, nat_tests)
 
 pub token_some : (k : TokenKind) (n : ℕ) (text : List ℕ) → IsLongest k n text → 0 < n
 unfolding is_token
-token_some Word zero text h = let e = h.spelled in absurd cc
-token_some Integer zero text h = let e = h.spelled in absurd cc
-token_some Quoted zero text h = let e = h.spelled in absurd cc
 token_some (Punct p) zero text h = let e = h.spelled in absurd cc
+token_some _ zero text h = let e = h.spelled in absurd cc
 token_some k (suc n) text h = omega arith
 
 longest_starts : (k : TokenKind) (n c : ℕ) (cs : List ℕ) → IsLongest k n (c ∷ cs) → starts k c ≡ true
@@ -66,22 +58,22 @@ gap_or_token : {c : ℕ} {cs : List ℕ} (m : ℕ) (k : TokenKind) → IsGap m (
 gap_or_token {c = c} m k g s = let a = gap_starts g in let b = (started_kind k c s).1 in cc
 
 -- Where a byte begins tokens of a kind, nothing else stands.
-pub only_kind : (kind : TokenKind) (c : ℕ) (cs : List ℕ) → starts kind c ≡ true → ((n : ℕ) → IsLongest kind n (c ∷ cs) → IsSmall kind (take n (c ∷ cs)) → ⊥) → (piece : Piece) → Stands (c ∷ cs) piece → ⊥
+pub only_kind : (kind : TokenKind) (c : ℕ) (cs : List ℕ) → starts kind c ≡ true → ((n : ℕ) → IsLongest kind n (c ∷ cs) → IsSmall kind (take n (c ∷ cs)) → ⊥) → (piece : Piece) → IsAtFront (c ∷ cs) piece → ⊥
 only_kind kind c cs s none (pieces.Gap n) g = gap_or_token n kind g s
 only_kind kind c cs s none (pieces.Token k n) h =
     let same : k ≡ kind = (started_kind k c (longest_starts k n c cs h.0)).0 ∙ sym (started_kind kind c s).0 in
     none n (rw same at h.0) (rw same at h.1)
 
-pub only_gaps : (c : ℕ) (cs : List ℕ) → (is_blank c || c == 47) ≡ true → ((n : ℕ) → IsGap n (c ∷ cs) → ⊥) → (piece : Piece) → Stands (c ∷ cs) piece → ⊥
+pub only_gaps : (c : ℕ) (cs : List ℕ) → (is_blank c || c == 47) ≡ true → ((n : ℕ) → IsGap n (c ∷ cs) → ⊥) → (piece : Piece) → IsAtFront (c ∷ cs) piece → ⊥
 only_gaps c cs s none (pieces.Gap n) g = none n g
 only_gaps c cs s none (pieces.Token k n) h = let a = (started_kind k c (longest_starts k n c cs h.0)).1 in cc
 
-pub nowhere : (piece : Piece) → Stands [] piece → ⊥
+pub nowhere : (piece : Piece) → IsAtFront [] piece → ⊥
 nowhere (pieces.Gap n) g = let w = gap_within g in omega (arith, w.0, w.1)
 nowhere (pieces.Token k n) h = let w = (h.0).within in omega (arith, token_some k n [] h.0)
 
 -- One piece at most stands at the front.
-pub one_piece : (text : List ℕ) (p q : Piece) → Stands text p → Stands text q → p ≡ q
+pub one_piece : (text : List ℕ) (p q : Piece) → IsAtFront text p → IsAtFront text q → p ≡ q
 one_piece [] p q h i = absurd (nowhere p h)
 one_piece (c ∷ cs) (pieces.Gap m) (pieces.Gap n) h i = ap pieces.Gap (same_gap h i)
 one_piece (c ∷ cs) (pieces.Gap m) (pieces.Token k n) h i = absurd (gap_or_token m k h (longest_starts k n c cs i.0))
@@ -94,12 +86,10 @@ one_piece (c ∷ cs) (pieces.Token j m) (pieces.Token k n) h i =
     rw (kinds, lengths) refl
 
 -- Nothing begins with any other byte.
-pub no_start : (text : List ℕ) → (is_blank (get_or text 0 0) || get_or text 0 0 == 47) ≡ false → is_letter (get_or text 0 0) ≡ false → (is_digit (get_or text 0 0) || is_sign (get_or text 0 0)) ≡ false → (get_or text 0 0 == 34) ≡ false → is_punct (get_or text 0 0) ≡ false → (piece : Piece) → Stands text piece → ⊥
+pub no_start : (text : List ℕ) → (is_blank (get_or text 0 0) || get_or text 0 0 == 47) ≡ false → is_letter (get_or text 0 0) ≡ false → (is_digit (get_or text 0 0) || is_sign (get_or text 0 0)) ≡ false → (get_or text 0 0 == 34) ≡ false → is_punct (get_or text 0 0) ≡ false → (piece : Piece) → IsAtFront text piece → ⊥
 no_start [] gap letter number quote mark piece h = nowhere piece h
 no_start (c ∷ cs) gap letter number quote mark (pieces.Gap n) g = let e = gap_starts g in cc
 no_start (c ∷ cs) gap letter number quote mark (pieces.Token k n) h = other k (longest_starts k n c cs h.0) where
   other : (k : TokenKind) → starts k c ≡ true → ⊥
-  other Word e = cc
-  other Integer e = cc
-  other Quoted e = cc
   other (Punct p) e = let both = and_parts (c == p) (is_punct c) e in cc
+  other _ e = cc

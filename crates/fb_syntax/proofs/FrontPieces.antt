@@ -4,7 +4,7 @@ use Rattle.fb_syntax.specs.declared.tokens.Token.{Token}
 use Rattle.fb_syntax.specs.declared.scan.Piece.{Piece}
 use Rattle.fb_syntax.specs.declared.scan.Piece.TheVariants as pieces
 use Rattle.fb_syntax.specs.Spells.{Spells, finished, gap, token, mark_len, OneSpelling}
-use Rattle.fb_syntax.specs.Fronts.{Stands}
+use Rattle.fb_syntax.specs.Fronts.{IsAtFront}
 use Rattle.fb_syntax.proofs.Gaps.{gap_within}
 use Rattle.fb_syntax.proofs.FirstBytes.{nowhere, one_piece, token_some}
 
@@ -17,23 +17,23 @@ abbrev pub tokens_of : ℕ → Piece → List Token
 tokens_of at (pieces.Gap n) = []
 tokens_of at (pieces.Token kind n) = record { kind = kind; at = at; len = n } ∷ []
 
-pub piece_within : (piece : Piece) (text : List ℕ) → Stands text piece → (0 < len_of piece) × (len_of piece ≤ length text)
+pub piece_within : (piece : Piece) (text : List ℕ) → IsAtFront text piece → (0 < len_of piece) × (len_of piece ≤ length text)
 piece_within (pieces.Gap n) text g = gap_within g
 piece_within (pieces.Token kind n) text h = (token_some kind n text h.0, (h.0).within)
 
 -- Where a piece stands, the tokens are its own and those behind it.
-pub in_front : (at : ℕ) (text : List ℕ) (piece : Piece) (rest : List Token) → Stands text piece → Spells (at + len_of piece) (drop (len_of piece) text) rest → Spells at text (tokens_of at piece ++ rest)
+pub in_front : (at : ℕ) (text : List ℕ) (piece : Piece) (rest : List Token) → IsAtFront text piece → Spells (at + len_of piece) (drop (len_of piece) text) rest → Spells at text (tokens_of at piece ++ rest)
 in_front at text (pieces.Gap n) rest g s = gap n g s
 in_front at text (pieces.Token kind n) rest h s = token kind n h.0 h.1 s
 
-pub behind : (at : ℕ) (text : List ℕ) (piece : Piece) (tokens : List Token) → Stands text piece → Spells at text tokens → (rest : List Token) × (tokens ≡ tokens_of at piece ++ rest) × Spells (at + len_of piece) (drop (len_of piece) text) rest
+pub behind : (at : ℕ) (text : List ℕ) (piece : Piece) (tokens : List Token) → IsAtFront text piece → Spells at text tokens → (rest : List Token) × (tokens ≡ tokens_of at piece ++ rest) × Spells (at + len_of piece) (drop (len_of piece) text) rest
 behind at text piece tokens h finished = absurd (nowhere piece h)
 behind at text piece tokens h (gap n g rest) = rw (one_piece text piece (pieces.Gap n) h g) (tokens, refl, rest)
 behind at text piece tokens h (token {tokens = others} kind n longest small rest) =
     rw (one_piece text piece (pieces.Token kind n) h (longest, small)) (others, refl, rest)
 
 -- Where nothing stands, the text has no tokens.
-pub no_piece : (at : ℕ) (text : List ℕ) (tokens : List Token) → ((piece : Piece) → Stands text piece → ⊥) → 0 < length text → Spells at text tokens → ⊥
+pub no_piece : (at : ℕ) (text : List ℕ) (tokens : List Token) → ((piece : Piece) → IsAtFront text piece → ⊥) → 0 < length text → Spells at text tokens → ⊥
 no_piece at text tokens none long finished = absurd (omega arith)
 no_piece at text tokens none long (gap n g rest) = none (pieces.Gap n) g
 no_piece at text tokens none long (token kind n longest small rest) = none (pieces.Token kind n) (longest, small)

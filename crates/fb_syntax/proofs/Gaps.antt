@@ -1,31 +1,25 @@
 -- Blanks and comments: one at most stands at a place.
-use Rattle.std.proofs.Common.{◌≡◌, ℕ, ◌+◌, ◌<◌, ◌≤◌, ◌||◌, ◌==◌, not, true, false, List, [], ◌∷◌, length, drop, get_or, refl, ap, arith, length-drop}
+use Rattle.std.proofs.Common.{◌≡◌, ℕ, ◌+◌, ◌<◌, ◌≤◌, ◌||◌, ◌==◌, not, true, false, List, [], ◌∷◌, length, drop, get_or, refl, arith, length-drop}
 use Rattle.std.proofs.lemmas.Bool.{or_left}
 use Rattle.std.proofs.lemmas.List.Sums.{prefix_len-le-length}
 use Rattle.fb_syntax.specs.Bytes.{is_blank}
 use Rattle.fb_syntax.specs.Gaps.{is_close, ClosesBehind, line_len, IsGap, blank, block, line}
 
 close_long : (text : List ℕ) → is_close text ≡ true → 2 ≤ length text
-close_long [] e = absurd cc
-close_long (a ∷ []) e = absurd cc
 close_long (a ∷ b ∷ cs) e = omega arith
+close_long _ e = absurd cc
 
 pub gap_within : {n : ℕ} {text : List ℕ} → IsGap n text → (0 < n) × (n ≤ length text)
 gap_within (blank e) = (omega arith, omega arith)
 gap_within (block {cs = cs} n closes) = (omega arith, omega (arith, close_long (drop n cs) closes.closed, length-drop n cs))
 gap_within (line {cs = cs}) = (omega arith, omega (arith, prefix_len-le-length (λ c. not (c == 10)) cs))
 
-same_close : (m n : ℕ) (text : List ℕ) → ClosesBehind m text → ClosesBehind n text → m ≡ n
-same_close m n text a b = grind (arith, a.open_before n, b.open_before m)
-
 pub same_gap : {m n : ℕ} {text : List ℕ} → IsGap m text → IsGap n text → m ≡ n
 same_gap (blank e) (blank f) = refl
-same_gap (blank e) (block n f) = absurd cc
-same_gap (blank e) line = absurd cc
-same_gap (block m e) (blank f) = absurd cc
-same_gap (block {cs = cs} m e) (block n f) = ap (λ k. k + 4) (same_close m n cs e f)
-same_gap line (blank f) = absurd cc
+same_gap (blank e) _ = absurd cc
+same_gap (block m e) (block n f) = grind (arith, e.open_before n, f.open_before m)
 same_gap line line = refl
+same_gap _ (blank f) = absurd cc
 
 pub gap_starts : {n c : ℕ} {cs : List ℕ} → IsGap n (c ∷ cs) → (is_blank c || c == 47) ≡ true
 gap_starts {c = c} (blank e) = or_left (is_blank c) (c == 47) e

@@ -1,7 +1,8 @@
 -- The grammar's rules read what they say.
-use Rattle.std.proofs.Common.{◌++◌, ◌≡◌, ℕ, true, false, List, [], ◌∷◌, Some, refl, ap, ◌∙◌, arith, length, Bool}
+use Rattle.std.proofs.Common.{◌++◌, ◌≡◌, ℕ, inl, inr, true, false, List, [], ◌∷◌, Some, refl, ap, ◌∙◌, arith, length, Bool}
 use Rattle.std.specs.List.{find}
 use Rattle.std.specs.Str.{bytes_eq}
+use Rattle.std.proofs.lemmas.Bool.{cases_Bool}
 use Rattle.std.proofs.lemmas.Option.{same_Some}
 use Rattle.std.proofs.lemmas.Slice.Eq.{bytes_eq-Decides}
 use Rattle.fb_syntax.specs.Located.{Located}
@@ -15,7 +16,7 @@ use Rattle.fb_syntax.specs.declared.tokens.TokenKind.{TokenKind}
 use Rattle.fb_syntax.specs.declared.tokens.TokenKind.TheVariants.{Word, Integer, Quoted, Punct}
 use Rattle.fb_syntax.specs.declared.parser.keywords.Keyword.{Keyword}
 use Rattle.fb_syntax.specs.declared.parser.keywords.Keyword.TheVariants as keywords
-use Rattle.fb_syntax.proofs.Steps.{bind-some, lands, chose_first, chose_second, chosen}
+use Rattle.fb_syntax.proofs.Steps.{bind-some, lands}
 use Rattle.fb_syntax.proofs.Names.{but, token_found, token_read, other_token}
 use Rattle.fb_syntax.proofs.Agrees.{Agrees, where_empty, all_kinds, besides, token-agrees, give-agrees, then-agrees, with_token-agrees}
 use Rattle.fb_syntax.proofs.DottedNames.{more-agrees}
@@ -106,35 +107,23 @@ union-agrees =
 first_found : (ks : List Keyword) (word : List ℕ) (k : Keyword) → find (λ j. bytes_eq word (spelling j)) ks ≡ Some k → word ≡ spelling k
 first_found [] word k e = absurd cc
 first_found (j ∷ ks) word k e =
-    elim (chosen (bytes_eq word (spelling j)) e) [
-      | chose_first b same ↦ (bytes_eq-Decides word (spelling j)).0 b ∙ ap spelling (same_Some j k same)
-      | chose_second b later ↦ first_found ks word k later
+    elim (cases_Bool (bytes_eq word (spelling j))) [
+      | inl b ↦ (bytes_eq-Decides word (spelling j)).0 b ∙ ap spelling (same_Some j k (rw b at e))
+      | inr b ↦ first_found ks word k (rw b at e)
     ]
-
-keyword_found : (word : List ℕ) (k : Keyword) → keyword_of word ≡ Some k → word ≡ spelling k
-unfolding keyword_of
-keyword_found word k e = first_found all_keywords word k e
 
 own_spelling : (k : Keyword) → keyword_of (spelling k) ≡ Some k
 unfolding keyword_of
 own_spelling keywords.Namespace = refl
-own_spelling keywords.Attribute = refl
-own_spelling keywords.Table = refl
-own_spelling keywords.Struct = refl
-own_spelling keywords.Enum = refl
-own_spelling keywords.Union = refl
-own_spelling keywords.Root = refl
-own_spelling keywords.Extension = refl
-own_spelling keywords.Identifier = refl
+own_spelling _ = refl
 
 keyword-agrees : Agrees keyword false (but Word) []
-unfolding keyword_at
+unfolding keyword_at keyword_of
 keyword-agrees = record {
   found = λ k ts rest e.
       let word = bind-some {m = token_at Word ts} e in
       let found = bind-some {m = keyword_of (word.0.0).bytes} word.2 in
-      let stands : IsToken Word ts word.0.0 word.0.1 = token_found Word ts word.0.1 word.0.0 word.1 in
-      lands (λ (j : Keyword) (r : List Lexeme). (at : ℕ) × IsToken Word ts (record { bytes = spelling j; at = at }) r) found.2 ((word.0.0).at, rw (← keyword_found (word.0.0).bytes found.0 found.1) stands);
+      lands (λ (j : Keyword) (r : List Lexeme). (at : ℕ) × IsToken Word ts (record { bytes = spelling j; at = at }) r) found.2 ((word.0.0).at, rw (← first_found all_keywords (word.0.0).bytes found.0 found.1) (token_found Word ts word.0.1 word.0.0 word.1));
   read = λ k ts rest h l. rw (token_read Word ts rest (record { bytes = spelling k; at = h.0 }) h.1, own_spelling k) refl;
   starts = λ j k ts rest h other e. other_token Word j ts rest (record { bytes = spelling k; at = h.0 }) other h.1;
   shorter = λ k ts rest h. (omega (arith, ap length h.1), λ e. omega (arith, ap length h.1));

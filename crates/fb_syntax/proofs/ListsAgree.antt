@@ -1,13 +1,13 @@
 -- What lists are read is what the grammar has, and the other way round.
 use Rattle.std.proofs.Common.{◌≡◌, ℕ, zero, suc, ◌≤◌, inl, inr, Bool, true, false, ◌||◌, not, List, [], length, drop, Some, None, refl, arith}
-use Rattle.std.proofs.lemmas.Bool.{not-true}
+use Rattle.std.proofs.lemmas.Bool.{not-true, cases_Bool}
 use Rattle.std.specs.List.{list_all}
 use Rattle.fb_syntax.specs.Lexemes.{Lexeme}
 use Rattle.fb_syntax.specs.Signs.{comma}
-use Rattle.fb_syntax.specs.Rules.{Rule, is_sign, token_at, Repeated, no_more, one_more, many, until, repeated, block, divider, entry, listed}
+use Rattle.fb_syntax.specs.Rules.{Rule, is_sign, token_at, Repeated, no_more, one_more, many, until, repeated, block, divider, listed_item, listed}
 use Rattle.fb_syntax.specs.declared.tokens.TokenKind.{TokenKind}
 use Rattle.fb_syntax.specs.declared.tokens.TokenKind.TheVariants.{Punct}
-use Rattle.fb_syntax.proofs.Steps.{bind-some, lands, chose_first, chose_second, chosen}
+use Rattle.fb_syntax.proofs.Steps.{bind-some, lands}
 use Rattle.fb_syntax.proofs.Names.{but, token_read, other_token, sign_of, sign_lacks}
 use Rattle.fb_syntax.proofs.Agrees.{Lacks, Agrees, all_kinds, besides, begins, token_lacks, token-agrees, give-agrees, ahead-agrees, sequence-agrees, then-agrees, with_token-agrees}
 
@@ -17,13 +17,13 @@ module _ {X : Type 0} {item : Rule X} {a : TokenKind → Bool} (agrees : Agrees 
   unfolding many
   many_found zero xs ts rest e = absurd cc
   many_found (suc n) xs ts rest e =
-      elim (chosen (stop ts) e) [
-        | chose_first b read ↦ lands ((repeated item stop).Is ts) read (no_more, b)
-        | chose_second b read ↦
-            let x = bind-some {m = item.read ts} read in
+      elim (cases_Bool (stop ts)) [
+        | inl b ↦ lands ((repeated item stop).Is ts) (rw b at e) (no_more, b)
+        | inr b ↦
+            (let x = bind-some {m = item.read ts} (rw b at e) in
             let more = bind-some {m = many item.read stop n x.0.1} x.2 in
             let others = many_found n more.0.0 x.0.1 more.0.1 more.1 in
-            lands ((repeated item stop).Is ts) more.2 (one_more x.0.1 (agrees.found x.0.0 ts x.0.1 x.1) others.0, others.1)
+            lands ((repeated item stop).Is ts) more.2 (one_more x.0.1 (agrees.found x.0.0 ts x.0.1 x.1) others.0, others.1))
       ]
 
   many_read : (n : ℕ) (xs : List X) (ts rest : List Lexeme) → Repeated item.Is ts xs rest → stop rest ≡ true → length ts ≤ n → many item.read stop (suc n) ts ≡ Some (xs, rest)
@@ -78,18 +78,18 @@ module _ (trailing : Bool) (close : ℕ) (apart : but (Punct close) (Punct comma
 
 -- items with commas between
 module _ {X : Type 0} {item : Rule X} {a : TokenKind → Bool} {g : List TokenKind} (agrees : Agrees item false a g) (trailing : Bool) (close : ℕ) (opens : a (Punct close) ≡ true) (apart : but (Punct close) (Punct comma) ≡ true) (by_comma : list_all (but (Punct comma)) g ≡ true) (by_close : list_all (but (Punct close)) g ≡ true) where
-  entry-agrees : Agrees (entry item trailing close) false a []
-  unfolding entry
-  entry-agrees =
+  listed_item-agrees : Agrees (listed_item item trailing close) false a []
+  unfolding listed_item
+  listed_item-agrees =
       sequence-agrees agrees (λ x. then-agrees (divider-agrees trailing close apart) (λ _. give-agrees x) refl) [] (λ x y mid rest h l. (divided trailing close apart g h.0 mid h.1 by_comma by_close h.2, tt))
 
-  some_start : {xs : List X} {ts mid : List Lexeme} (k : TokenKind) → Repeated (entry item trailing close).Is ts xs mid → is_sign close mid ≡ true → is_sign close ts ≡ false → a k ≡ true → token_at k ts ≡ None
+  some_start : {xs : List X} {ts mid : List Lexeme} (k : TokenKind) → Repeated (listed_item item trailing close).Is ts xs mid → is_sign close mid ≡ true → is_sign close ts ≡ false → a k ≡ true → token_at k ts ≡ None
   some_start k no_more at_close goes_on other = absurd cc
-  some_start k (one_more {ts = ts} {x = x} mid here more) at_close goes_on other = entry-agrees.starts k x ts mid here other (λ e. absurd cc)
+  some_start k (one_more {ts = ts} {x = x} mid here more) at_close goes_on other = listed_item-agrees.starts k x ts mid here other (λ e. absurd cc)
 
   pub listed-agrees : Agrees (listed item trailing close) false a []
   listed-agrees =
-      let all = then-agrees (ahead-agrees (λ ts. not (is_sign close ts))) (λ _. block-agrees entry-agrees close opens) refl in
+      let all = then-agrees (ahead-agrees (λ ts. not (is_sign close ts))) (λ _. block-agrees listed_item-agrees close opens) refl in
       record {
         found = all.found;
         read = all.read;

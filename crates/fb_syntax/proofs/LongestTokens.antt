@@ -10,7 +10,7 @@ use Rattle.fb_syntax.specs.declared.tokens.TokenKind.TheVariants.{Word, Quoted, 
 use Rattle.fb_syntax.specs.declared.scan.Piece.{Piece}
 use Rattle.fb_syntax.specs.Bytes.{is_letter, is_word_byte, is_quotable, is_punct}
 use Rattle.fb_syntax.specs.TokenBytes.{is_closed_by_quote, is_token, IsLongest}
-use Rattle.fb_syntax.specs.Fronts.{Stands}
+use Rattle.fb_syntax.specs.Fronts.{IsAtFront}
 use Rattle.fb_syntax.proofs.FirstBytes.{longest_of, only_kind}
 
 -- bytes that pass are no more than those that pass from the front on
@@ -47,25 +47,21 @@ punct_longest (c ∷ cs) e = longest_of (Punct c) 1 c cs alone (omega arith) alo
   one_byte (suc m) (d ∷ cs) w t = absurd cc
 
 closed-sound : (cs : List ℕ) (n : ℕ) → list_all is_quotable (take n cs) ≡ true → get_or cs n 0 ≡ 34 → (is_closed_by_quote (take (suc n) cs) ≡ true) × (suc n ≤ length cs)
-closed-sound [] n all e = absurd cc
 closed-sound (c ∷ cs) zero all e = (eq-eqb c 34 e, omega arith)
-closed-sound (c ∷ []) (suc n) all e = absurd cc
 closed-sound (c ∷ d ∷ cs) (suc n) all e =
     let both = and_parts (is_quotable c) _ all in
     let next = closed-sound (d ∷ cs) n both.1 e in
     (and_from (is_quotable c) _ both.0 next.0, omega (arith, next.1))
+closed-sound _ _ all e = absurd cc
 
 closed-complete : (cs : List ℕ) (m : ℕ) → m ≤ length cs → is_closed_by_quote (take m cs) ≡ true → (m ≡ suc (prefix_len is_quotable cs)) × (get_or cs (prefix_len is_quotable cs) 0 ≡ 34)
 closed-complete cs zero w e = absurd cc
-closed-complete [] (suc m) w e = absurd (omega arith)
-closed-complete (c ∷ cs) (suc zero) w e =
-    let same : c ≡ 34 = eqb-true c 34 e in
-    rw same (refl, refl)
-closed-complete (c ∷ []) (suc (suc m)) w e = absurd (omega arith)
+closed-complete (c ∷ cs) (suc zero) w e = rw (eqb-true c 34 e) (refl, refl)
 closed-complete (c ∷ d ∷ cs) (suc (suc m)) w e =
     let both = and_parts (is_quotable c) _ e in
     let next = closed-complete (d ∷ cs) (suc m) (omega arith) both.1 in
     rw (both.0, one-add) (ap suc next.0, next.1)
+closed-complete _ _ w e = absurd (omega arith)
 
 pub quoted_longest : (cs : List ℕ) (p : ℕ) → p ≡ prefix_len is_quotable cs → get_or cs p 0 ≡ 34 → IsLongest Quoted (p + 2) (34 ∷ cs)
 unfolding is_token
@@ -74,7 +70,7 @@ quoted_longest cs p run q =
     let two : p + 2 ≡ suc (suc (prefix_len is_quotable cs)) = omega arith in
     longest_of Quoted (p + 2) 34 cs refl (omega (arith, found.1)) (rw two found.0) (λ m w t. omega (arith, (closed-complete cs m w t).0))
 
-pub no_quoted : (cs : List ℕ) (p : ℕ) → p ≡ prefix_len is_quotable cs → (get_or cs p 0 ≡ 34 → ⊥) → (piece : Piece) → Stands (34 ∷ cs) piece → ⊥
+pub no_quoted : (cs : List ℕ) (p : ℕ) → p ≡ prefix_len is_quotable cs → (get_or cs p 0 ≡ 34 → ⊥) → (piece : Piece) → IsAtFront (34 ∷ cs) piece → ⊥
 unfolding is_token
 no_quoted cs p run other = only_kind Quoted 34 cs refl (λ n h small. never n h) where
   never : (n : ℕ) → IsLongest Quoted n (34 ∷ cs) → ⊥

@@ -1,23 +1,21 @@
 -- Tokens at the front.
 use Rattle.std.proofs.Common.{◌≡◌, ℕ, List, [], ◌∷◌, Some, None, Bool, true, false, not, drop, refl, ap, eq-eqb}
-use Rattle.std.proofs.lemmas.Bool.{eqb-true, not-true}
+use Rattle.std.proofs.lemmas.Bool.{eqb-true, not-true, false_from_ne_true}
+use Rattle.std.proofs.lemmas.Option.{cond_some}
 use Rattle.fb_syntax.specs.Located.{Located}
 use Rattle.fb_syntax.specs.Lexemes.{Lexeme}
 use Rattle.fb_syntax.specs.Grammar.{dotted_name}
-use Rattle.fb_syntax.specs.Rules.{IsToken, IsSign, is_kind, is_sign, token_at}
+use Rattle.fb_syntax.specs.Rules.{IsToken, is_kind, is_sign, token_at}
 use Rattle.fb_syntax.specs.declared.tokens.TokenKind.{TokenKind}
 use Rattle.fb_syntax.specs.declared.tokens.TokenKind.TheVariants.{Word, Integer, Quoted, Punct}
-use Rattle.fb_syntax.proofs.Steps.{lands, chose_first, chose_second, chosen}
 
 -- the kinds that a token of this kind is not of
 abbrev pub but : TokenKind → TokenKind → Bool
 but kind k = not (is_kind kind k)
 
 own_kind : (kind : TokenKind) → is_kind kind kind ≡ true
-own_kind Word = refl
-own_kind Integer = refl
-own_kind Quoted = refl
 own_kind (Punct c) = eq-eqb c c refl
+own_kind _ = refl
 
 same_kind : (a b : TokenKind) → is_kind a b ≡ true → a ≡ b
 same_kind Word Word e = refl
@@ -33,10 +31,8 @@ pub token_found : (kind : TokenKind) (ts rest : List Lexeme) (t : Located) → t
 unfolding token_at
 token_found kind [] rest t e = absurd cc
 token_found kind (l ∷ ls) rest t e =
-    elim (chosen (is_kind l.kind kind) e) [
-      | chose_first b read ↦ lands (IsToken kind (l ∷ ls)) read (built l.kind kind l.text l.text ls ls (same_kind l.kind kind b) refl refl)
-      | chose_second b none ↦ absurd cc
-    ]
+    let p = cond_some (is_kind l.kind kind) (l.text, ls) (t, rest) e in
+    built l.kind kind l.text t ls rest (same_kind l.kind kind p.0) (ap (λ (f : Located × List Lexeme). f.0) p.1) (ap (λ (f : Located × List Lexeme). f.1) p.1)
 
 pub token_read : (kind : TokenKind) (ts rest : List Lexeme) (t : Located) → IsToken kind ts t rest → token_at kind ts ≡ Some (t, rest)
 unfolding token_at
@@ -46,17 +42,17 @@ pub other_token : (kind k : TokenKind) (ts rest : List Lexeme) (t : Located) →
 unfolding token_at
 other_token kind k ts rest t other e = rw e (rw (not-true (is_kind kind k) other) refl)
 
-pub sign_stands : (c : ℕ) (ts rest : List Lexeme) → IsSign c ts rest → is_sign c ts ≡ true
-sign_stands c ts rest s = rw s.1 (own_kind (Punct c))
+pub sign_stands : (c : ℕ) (ts rest : List Lexeme) (t : Located) → IsToken (Punct c) ts t rest → is_sign c ts ≡ true
+sign_stands c ts rest t e = rw e (own_kind (Punct c))
 
-pub sign_of : (c : ℕ) (ts : List Lexeme) → is_sign c ts ≡ true → IsSign c ts (drop 1 ts)
+pub sign_of : (c : ℕ) (ts : List Lexeme) → is_sign c ts ≡ true → (t : Located) × IsToken (Punct c) ts t (drop 1 ts)
 sign_of c [] e = absurd cc
 sign_of c (t ∷ ts) e = (t.text, built t.kind (Punct c) t.text t.text ts ts (same_kind t.kind (Punct c) e) refl refl)
 
 pub sign_lacks : (c : ℕ) (ts : List Lexeme) → token_at (Punct c) ts ≡ None → is_sign c ts ≡ false
 unfolding token_at
 sign_lacks c [] e = refl
-sign_lacks c (t ∷ rest) e = elim (chosen (is_kind t.kind (Punct c)) e) [ chose_first b some ↦ absurd cc | chose_second b none ↦ b ]
+sign_lacks c (t ∷ rest) e = false_from_ne_true (is_kind t.kind (Punct c)) (λ b. let some = rw b at e in cc)
 
 -- A sign is no name.
 pub sign_no_name : (c : ℕ) (ts : List Lexeme) → is_sign c ts ≡ true → dotted_name.read ts ≡ None

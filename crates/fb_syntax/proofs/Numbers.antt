@@ -1,5 +1,5 @@
 -- Integers: the longest at the front.
-use Rattle.std.proofs.Common.{◌≡◌, ℕ, zero, suc, ◌+◌, ◌-◌, ◌<◌, ◌≤◌, ◌⊎◌, inl, inr, true, false, eqb, ◌==◌, ◌&&◌, ◌||◌, List, [], ◌∷◌, length, take, drop, refl, sym, ◌∙◌, arith, length-drop, get_or}
+use Rattle.std.proofs.Common.{◌≡◌, ℕ, zero, suc, ◌+◌, ◌-◌, ◌<◌, ◌≤◌, inl, inr, true, false, eqb, ◌==◌, ◌&&◌, ◌||◌, List, [], ◌∷◌, length, take, drop, refl, sym, ◌∙◌, arith, length-drop, get_or}
 use Rattle.std.proofs.lemmas.Bool.Decides.{nat_tests}
 use Rattle.std.proofs.lemmas.Bool.{eq-eqb, ne_eqb, cases_eq, false_from_ne_true, and_parts, and_from, or_cases, or_left, or_right}
 use Rattle.std.proofs.lemmas.List.{drop-take}
@@ -12,8 +12,8 @@ use Rattle.fb_syntax.specs.declared.tokens.TokenKind.TheVariants.{Integer}
 use Rattle.fb_syntax.specs.declared.scan.Piece.{Piece}
 use Rattle.fb_syntax.specs.Bytes.{is_digit, is_hex}
 use Rattle.fb_syntax.specs.Integers.{is_unsigned, is_decimal, is_hexadecimal, is_prefixed, is_integer, sign_len, without_sign, IsNumberLen, magnitude, greatest_magnitude}
-use Rattle.fb_syntax.specs.TokenBytes.{is_token, starts, IsLongest, IsSmall}
-use Rattle.fb_syntax.specs.Fronts.{Stands}
+use Rattle.fb_syntax.specs.TokenBytes.{is_token, starts, IsLongest}
+use Rattle.fb_syntax.specs.Fronts.{IsAtFront}
 use Rattle.fb_syntax.proofs.FirstBytes.{longest_of, only_kind}
 use Rattle.fb_syntax.proofs.LongestTokens.{all-take, all-prefix}
 
@@ -22,13 +22,11 @@ decimal_all [] e = refl
 decimal_all (c ∷ cs) e = e
 
 prefix_kept : (u : List ℕ) (m : ℕ) → is_prefixed (take m u) ≡ true → is_prefixed u ≡ true
-prefix_kept u zero e = absurd cc
-prefix_kept [] (suc m) e = absurd cc
-prefix_kept (a ∷ u) (suc zero) e = absurd cc
-prefix_kept (a ∷ []) (suc (suc m)) e = absurd cc
-prefix_kept (a ∷ b ∷ u) (suc (suc zero)) e = absurd cc
-prefix_kept (a ∷ b ∷ []) (suc (suc (suc m))) e = absurd cc
 prefix_kept (a ∷ b ∷ c ∷ u) (suc (suc (suc m))) e = e
+prefix_kept (a ∷ b ∷ []) (suc (suc (suc m))) e = absurd cc
+prefix_kept (a ∷ []) (suc (suc m)) e = absurd cc
+prefix_kept [] (suc m) e = absurd cc
+prefix_kept _ _ e = absurd cc
 
 decimal_from : (s : List ℕ) → 0 < length s → list_all is_digit s ≡ true → is_decimal s ≡ true
 decimal_from [] some e = absurd (omega arith)
@@ -45,9 +43,6 @@ decimal_len u plain = record {
 }
 
 pub hexadecimal_len : (u : List ℕ) → is_prefixed u ≡ true → IsNumberLen (2 + prefix_len is_hex (drop 2 u)) u
-hexadecimal_len [] p = absurd cc
-hexadecimal_len (z ∷ []) p = absurd cc
-hexadecimal_len (z ∷ x ∷ []) p = absurd cc
 hexadecimal_len (z ∷ x ∷ h ∷ hs) p =
     record { within = omega (arith, prefix_len-le-length is_hex (h ∷ hs)); spelled = λ some. or_right _ _ spelled; longest = longest } where
       parts : ((z == 48 && (x == 120 || x == 88)) ≡ true) × (is_hex h ≡ true)
@@ -60,12 +55,12 @@ hexadecimal_len (z ∷ x ∷ h ∷ hs) p =
           rw three (and_from (is_prefixed (z ∷ x ∷ h ∷ take (prefix_len is_hex hs) hs)) _ p (and_from (is_hex h) _ parts.1 (all-prefix is_hex hs)))
 
       longest : (m : ℕ) → m ≤ length (z ∷ x ∷ h ∷ hs) → is_unsigned (take m (z ∷ x ∷ h ∷ hs)) ≡ true → m ≤ 2 + prefix_len is_hex (h ∷ hs)
-      longest zero w e = omega arith
-      longest (suc zero) w e = omega arith
       longest (suc (suc m)) w e = elim (or_cases (is_decimal (z ∷ x ∷ take m (h ∷ hs))) _ e) [
         | inl d ↦ absurd (grind (arith, nat_tests, parts.0, d))
         | inr i ↦ (let digits = all-take is_hex (h ∷ hs) m (omega arith) (and_parts (is_prefixed (z ∷ x ∷ take m (h ∷ hs))) _ i).1 in omega arith)
       ]
+      longest _ w e = omega arith
+hexadecimal_len _ p = absurd cc
 
 sign_kept : (text : List ℕ) (m : ℕ) → 0 < m → sign_len (take m text) ≡ sign_len text
 sign_kept text zero h = absurd (omega arith)
@@ -80,16 +75,13 @@ digits_taken : (text : List ℕ) (k : ℕ) → 0 < sign_len text + k → is_inte
 digits_taken text k h = rw (sign_kept text (sign_len text + k) h, drop-take (sign_len text) k text) refl
 
 -- the digits of an integer at the front
-data Digits (text : List ℕ) (m : ℕ) : Type 0 where
-  digits : (k : ℕ) → m ≡ sign_len text + k → 0 < k → k ≤ length (without_sign text) → is_unsigned (take k (without_sign text)) ≡ true → Digits text m
-
-digits_of : (text : List ℕ) (m : ℕ) → m ≤ length text → is_integer (take m text) ≡ true → Digits text m
+digits_of : (text : List ℕ) (m : ℕ) → m ≤ length text → is_integer (take m text) ≡ true → (k : ℕ) × (m ≡ sign_len text + k) × (0 < k) × (k ≤ length (without_sign text)) × (is_unsigned (take k (without_sign text)) ≡ true)
 digits_of text zero w e = absurd cc
 digits_of text (suc m) w e =
     let sign = sign_short text in
     let same : suc m ≡ sign_len text + (suc m - sign_len text) = omega arith in
     let spelled : is_unsigned (take (suc m - sign_len text) (without_sign text)) ≡ true = sym (digits_taken text (suc m - sign_len text) (omega arith)) ∙ (rw same at e) in
-    digits (suc m - sign_len text) same (some (suc m - sign_len text) spelled) (omega (arith, length-drop (sign_len text) text)) spelled where
+    (suc m - sign_len text, same, some (suc m - sign_len text) spelled, omega (arith, length-drop (sign_len text) text), spelled) where
       some : (k : ℕ) → is_unsigned (take k (without_sign text)) ≡ true → 0 < k
       some zero e = absurd cc
       some (suc k) e = omega arith
@@ -101,31 +93,27 @@ integer_longest (c ∷ cs) sign n s signed count some =
     let short = sign_short (c ∷ cs) in
     let number : IsNumberLen n (without_sign (c ∷ cs)) = rw signed at count in
     rw signed (longest_of Integer (sign_len (c ∷ cs) + n) c cs s (omega (arith, number.within, length-drop (sign_len (c ∷ cs)) (c ∷ cs))) (digits_taken (c ∷ cs) n (omega arith) ∙ number.spelled some)
-    (λ m w t. elim (digits_of (c ∷ cs) (suc m) (omega arith) t) [ digits k same positive within spelled ↦ omega (arith, number.longest k within spelled) ]))
+    (λ m w t. let d = digits_of (c ∷ cs) (suc m) (omega arith) t in omega (arith, d.1, number.longest d.0 d.3 d.4)))
 
 -- No integer stands there, or one that is too great.
-pub no_integer : (text : List ℕ) (sign n : ℕ) → starts Integer (get_or text 0 0) ≡ true → sign ≡ sign_len text → IsNumberLen n (drop sign text) → (0 < n → greatest_magnitude < magnitude (take (sign + n) text)) → (piece : Piece) → Stands text piece → ⊥
+pub no_integer : (text : List ℕ) (sign n : ℕ) → starts Integer (get_or text 0 0) ≡ true → sign ≡ sign_len text → IsNumberLen n (drop sign text) → (0 < n → greatest_magnitude < magnitude (take (sign + n) text)) → (piece : Piece) → IsAtFront text piece → ⊥
 unfolding is_token
 no_integer [] sign n s signed number great = absurd cc
-no_integer (c ∷ cs) sign n s signed count great = only_kind Integer c cs s never where
-  never : (m : ℕ) → IsLongest Integer m (c ∷ cs) → IsSmall Integer (take m (c ∷ cs)) → ⊥
-  never m h small = elim (digits_of (c ∷ cs) m h.within h.spelled) [
-    | digits k same positive within spelled ↦
-        (let number : IsNumberLen n (without_sign (c ∷ cs)) = rw signed at count in
-        let up = number.longest k within spelled in
-        let counted = integer_longest (c ∷ cs) sign n s signed count (omega arith) in
-        let down = h.longest Integer (sign + n) counted.within counted.spelled in
-        let all : m ≡ sign + n = omega arith in
-        omega (arith, rw all at small, great (omega arith)))
-  ]
+no_integer (c ∷ cs) sign n s signed count great = only_kind Integer c cs s (λ m h small.
+    (let number : IsNumberLen n (without_sign (c ∷ cs)) = rw signed at count in
+    let d = digits_of (c ∷ cs) m h.within h.spelled in
+    let up = number.longest d.0 d.3 d.4 in
+    let counted = integer_longest (c ∷ cs) sign n s signed count (omega (arith, d.2)) in
+    let down = h.longest Integer (sign + n) counted.within counted.spelled in
+    let all : m ≡ sign + n = omega (arith, d.1) in
+    omega (arith, rw all at small, great (omega (arith, d.2)))))
 
 -- All bytes are an integer's where no more and no fewer are counted.
 pub whole_number : (n : ℕ) (u : List ℕ) → eqb (length u) 0 ≡ false → IsNumberLen n u → eqb n (length u) ≡ is_unsigned u
-whole_number n u some number = by_length (cases_eq n (length u)) where
-  by_length : (n ≡ length u) ⊎ (n ≡ length u → ⊥) → eqb n (length u) ≡ is_unsigned u
-  by_length (inl same) =
-      let spelled = number.spelled (grind (arith, nat_tests)) in
-      eq-eqb n (length u) same ∙ sym (rw (same, take-length u) at spelled)
-  by_length (inr other) =
-      let short : is_unsigned u ≡ true → ⊥ = λ e. let enough = number.longest (length u) (omega arith) (rw (take-length u) e) in let within = number.within in other (omega arith) in
-      ne_eqb n (length u) other ∙ sym (false_from_ne_true (is_unsigned u) short)
+whole_number n u some number =
+    elim (cases_eq n (length u)) [
+      | inl same ↦ eq-eqb n (length u) same ∙ sym (rw (same, take-length u) at (number.spelled (grind (arith, nat_tests))))
+      | inr other ↦
+          (let short : is_unsigned u ≡ true → ⊥ = λ e. other (omega (arith, number.within, number.longest (length u) (omega arith) (rw (take-length u) e))) in
+          ne_eqb n (length u) other ∙ sym (false_from_ne_true (is_unsigned u) short))
+    ]

@@ -9,7 +9,7 @@ use Rattle.fb_syntax.specs.GrammarSchema.{declaration, Reads}
 use Rattle.fb_syntax.specs.OneReading.{OneReading}
 use Rattle.fb_syntax.specs.declared.faults.SyntaxFault.TheVariants as faults
 use Rattle.fb_syntax.specs.declared.parser.stop.Stop.{Stop}
-use Rattle.fb_syntax.specs.declared.parser.stop.Stop.TheVariants.{Memory, Unexpected, NestedVector}
+use Rattle.fb_syntax.specs.declared.parser.stop.Stop.TheVariants.{Memory}
 use Rattle.fb_syntax.specs.declared.tokens.Token.{Token}
 use Rattle.fb_syntax.specs.declared.declarations.Declaration.{Declaration}
 use Rattle.fb_syntax.specs.declared.tokens.TokenKind.TheVariants.{Word}
@@ -41,8 +41,7 @@ until_declarations text tokens d h = declarations-agree.read d.declarations (lex
 -- Where tokens read as declarations, only memory fails.
 pub memory_alone : (text : List ℕ) (tokens : List Token) (d : DeclsRead) (stop : Stop) (offset : ℕ) → Reads text tokens d → Fails stop (until declaration.read is_empty (lexemes text tokens)) → fault_at stop offset ≡ faults.Memory
 memory_alone text tokens d Memory offset h e = refl
-memory_alone text tokens d Unexpected offset h e = (let read = until_declarations text tokens d h in absurd cc)
-memory_alone text tokens d NestedVector offset h e = (let read = until_declarations text tokens d h in absurd cc)
+memory_alone text tokens d _ offset h e = (let read = until_declarations text tokens d h in absurd cc)
 
 pub one_reading_shown : OneReading
 one_reading_shown text tokens d e h k =

@@ -4,7 +4,7 @@ use Rattle.std.proofs.lemmas.Grind.{common_steps}
 use Rattle.fb_syntax.specs.declared.tokens.Token.{Token}
 use Rattle.fb_syntax.specs.Spells.{Spells, finished}
 use Rattle.fb_syntax.specs.declared.scan.Piece.{Piece}
-use Rattle.fb_syntax.specs.Fronts.{Stands}
+use Rattle.fb_syntax.specs.Fronts.{IsAtFront}
 use Rattle.fb_syntax.proofs.FrontPieces.{len_of, tokens_of, piece_within, in_front, behind, no_piece, at_end}
 
 -- Before the place `at` stand the tokens `found`: with those behind it they are all, and none else are.
@@ -19,7 +19,7 @@ begun start text h = record { within = h; sound = λ rest s. s; only = λ every 
 abbrev pub Passed : (start : ℕ) (text : List ℕ) (at : ℕ) (found : List Token) (piece : Piece) → Type 0
 Passed start text at found piece = (at + len_of piece ≤ length text) × (0 < len_of piece) × Scanned start text (at + len_of piece) (found ++ tokens_of at piece)
 
-pub over_piece : (start : ℕ) (text : List ℕ) (at : ℕ) (found : List Token) (piece : Piece) → Scanned start text at found → Stands (drop at text) piece → Passed start text at found piece
+pub over_piece : (start : ℕ) (text : List ℕ) (at : ℕ) (found : List Token) (piece : Piece) → Scanned start text at found → IsAtFront (drop at text) piece → Passed start text at found piece
 over_piece start text at found piece s here =
     let w = piece_within piece (drop at text) here in
     let room : at + len_of piece ≤ length text = omega (arith, w.1, s.within, length-drop at text) in
@@ -36,7 +36,7 @@ over_piece start text at found piece s here =
       },
     )
 
-pub over_fault : (start : ℕ) (text : List ℕ) (at : ℕ) (found : List Token) → Scanned start text at found → at < length text → ((piece : Piece) → Stands (drop at text) piece → ⊥) → (every : List Token) → Spells start (drop start text) every → ⊥
+pub over_fault : (start : ℕ) (text : List ℕ) (at : ℕ) (found : List Token) → Scanned start text at found → at < length text → ((piece : Piece) → IsAtFront (drop at text) piece → ⊥) → (every : List Token) → Spells start (drop start text) every → ⊥
 over_fault start text at found s h none every spelled =
     let split = s.only every spelled in
     no_piece at (drop at text) split.0 none (omega (arith, length-drop at text)) split.2

@@ -7,7 +7,7 @@ use Rattle.std.specs.List.{list_all}
 use Rattle.fb_syntax.specs.declared.tokens.TokenKind.{TokenKind}
 use Rattle.fb_syntax.specs.declared.tokens.TokenKind.TheVariants.{Word, Integer, Quoted, Punct}
 use Rattle.fb_syntax.specs.Bytes.{is_letter, is_digit, is_word_byte, is_hex, is_quotable}
-use Rattle.fb_syntax.specs.Integers.{is_unsigned, is_integer}
+use Rattle.fb_syntax.specs.Integers.{is_unsigned}
 use Rattle.fb_syntax.specs.Lexemes.{margin}
 use Rattle.fb_syntax.specs.TokenBytes.{is_token, is_closed_by_quote}
 
@@ -17,20 +17,12 @@ is_ascii c = ltb c 128
 all_ascii : (p : ℕ → Bool) → ((c : ℕ) → p c ≡ true → is_ascii c ≡ true) → (s : List ℕ) → list_all p s ≡ true → list_all is_ascii s ≡ true
 all_ascii p ascii s e = list_all-from_AllPass is_ascii s (λ k d h. ascii _ (AllPass-from_list_all p s e k d h))
 
-digits_ascii : (s : List ℕ) → list_all is_digit s ≡ true → list_all is_ascii s ≡ true
-digits_ascii = all_ascii is_digit (λ c e. grind (arith, nat_tests))
-
-hex_ascii : (s : List ℕ) → list_all is_hex s ≡ true → list_all is_ascii s ≡ true
-hex_ascii = all_ascii is_hex (λ c e. grind (arith, nat_tests))
-
 unsigned_ascii : (s : List ℕ) → is_unsigned s ≡ true → list_all is_ascii s ≡ true
-unsigned_ascii [] e = refl
-unsigned_ascii (c ∷ []) e = grind (arith, nat_tests)
-unsigned_ascii (z ∷ x ∷ []) e = grind (arith, nat_tests)
-unsigned_ascii (z ∷ x ∷ h ∷ s) e = grind (arith, nat_tests, digits_ascii (h ∷ s), hex_ascii (h ∷ s))
-
-integer_ascii : (c : ℕ) (cs : List ℕ) → is_integer (c ∷ cs) ≡ true → list_all is_ascii (c ∷ cs) ≡ true
-integer_ascii c cs e = grind (arith, nat_tests, unsigned_ascii cs, unsigned_ascii (c ∷ cs))
+unsigned_ascii (z ∷ x ∷ h ∷ s) e =
+    let digits = all_ascii is_digit (λ c e. grind (arith, nat_tests)) (h ∷ s) in
+    let hex = all_ascii is_hex (λ c e. grind (arith, nat_tests)) (h ∷ s) in
+    grind (arith, nat_tests, digits, hex)
+unsigned_ascii _ e = grind (arith, nat_tests)
 
 -- A token has bytes, a quoted text its quotes, and the first and the last are of ASCII.
 pub record HasEnds (kind : TokenKind) (s : List ℕ) : Type 0 where
@@ -54,18 +46,14 @@ last_quote (c ∷ d ∷ cs) e =
 
 pub token_ends : (kind : TokenKind) (s : List ℕ) → is_token kind s ≡ true → HasEnds kind s
 unfolding is_token
-token_ends Word [] e = absurd cc
 token_ends Word (c ∷ cs) e =
     let both = and_parts (is_letter c) (list_all is_word_byte cs) e in
     bare_ends Word c cs refl (and_from (is_ascii c) _ (grind (arith, nat_tests)) (all_ascii is_word_byte (λ c e. grind (arith, nat_tests)) cs both.1))
-token_ends Integer [] e = absurd cc
-token_ends Integer (c ∷ cs) e = bare_ends Integer c cs refl (integer_ascii c cs e)
-token_ends Quoted [] e = absurd cc
+token_ends Integer (c ∷ cs) e = bare_ends Integer c cs refl (grind (arith, nat_tests, unsigned_ascii cs, unsigned_ascii (c ∷ cs)))
 token_ends Quoted (c ∷ cs) e =
     let parts = and_parts (c == 34) (is_closed_by_quote cs) e in
     let next = last_quote cs parts.1 in
     let last : length (c ∷ cs) - 1 ≡ suc (length cs - 1) = omega (arith, next.0) in
     record { some = omega arith; quotes = omega (arith, next.0); first = omega (arith, eqb-true c 34 parts.0); last = rw (last, next.1) (omega arith) }
-token_ends (Punct p) [] e = absurd cc
 token_ends (Punct p) (c ∷ []) e = bare_ends (Punct p) c [] refl (grind (arith, nat_tests))
-token_ends (Punct p) (c ∷ d ∷ cs) e = absurd cc
+token_ends _ _ e = absurd cc

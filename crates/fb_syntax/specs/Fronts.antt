@@ -7,11 +7,11 @@ use Rattle.fb_syntax.specs.Gaps.{IsGap}
 use Rattle.fb_syntax.specs.TokenBytes.{IsLongest, IsSmall}
 
 -- a blank or comment, or the longest token
-abbrev pub Stands : List ℕ → Piece → Type 0
-Stands text (Gap n) = IsGap n text
-Stands text (Token kind n) = IsLongest kind n text × IsSmall kind (take n text)
+abbrev pub IsAtFront : List ℕ → Piece → Type 0
+IsAtFront text (Gap n) = IsGap n text
+IsAtFront text (Token kind n) = IsLongest kind n text × IsSmall kind (take n text)
 
 -- what stands there; a fault where nothing does
 abbrev pub IsFront : List ℕ → Result Piece SyntaxFault → Type 0
-IsFront text (Ok piece) = Stands text piece
-IsFront text (Err fault) = (piece : Piece) → ¬ (Stands text piece)
+IsFront text (Ok piece) = IsAtFront text piece
+IsFront text (Err fault) = (piece : Piece) → ¬ (IsAtFront text piece)

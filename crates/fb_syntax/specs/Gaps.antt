@@ -1,13 +1,12 @@
 -- What may stand between tokens: blanks and comments (Writing a schema: comments as in C).
-use Rattle.std.specs.Prelude.{ℕ, ◌≡◌, ◌<◌, ◌+◌, Bool, true, false, ◌==◌, ◌&&◌, not, List, [], ◌∷◌, drop}
+use Rattle.std.specs.Prelude.{ℕ, ◌≡◌, ◌<◌, ◌+◌, Bool, true, false, ◌==◌, ◌&&◌, not, List, ◌∷◌, drop}
 use Rattle.std.specs.List.{prefix_len}
 use Rattle.fb_syntax.specs.Bytes.{is_blank}
 
 -- */ stands here
 abbrev pub is_close : List ℕ → Bool
-is_close [] = false
-is_close (a ∷ []) = false
 is_close (a ∷ b ∷ cs) = a == 42 && b == 47
+is_close _ = false
 
 -- The first */ stands behind n bytes.
 pub record ClosesBehind (n : ℕ) (text : List ℕ) : Type 0 where

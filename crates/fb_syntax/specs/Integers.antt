@@ -20,10 +20,8 @@ is_decimal (c ∷ cs) = list_all is_digit (c ∷ cs)
 
 -- 0x or 0X, and a digit behind it
 abbrev pub is_prefixed : List ℕ → Bool
-is_prefixed [] = false
-is_prefixed (z ∷ []) = false
-is_prefixed (z ∷ x ∷ []) = false
 is_prefixed (z ∷ x ∷ h ∷ hs) = z == 48 && (x == 120 || x == 88) && is_hex h
+is_prefixed _ = false
 
 abbrev pub is_hexadecimal : List ℕ → Bool
 is_hexadecimal s = is_prefixed s && list_all is_hex (drop 2 s)

@@ -1,8 +1,9 @@
 -- What each fault of a schema text says of the text (Writing a schema; Grammar).
-use Rattle.std.specs.Prelude.{ℕ, ◌≤◌, List, IsUtf8}
+use Rattle.std.specs.Prelude.{ℕ, ◌≤◌, List, IsUtf8, IfSome}
 use Rattle.fb_syntax.specs.declared.tokens.Token.{Token}
 use Rattle.fb_syntax.specs.declared.faults.SyntaxFault.{SyntaxFault}
-use Rattle.fb_syntax.specs.declared.faults.SyntaxFault.TheVariants.{NotUtf8, BadByte, Unterminated, NumberTooBig, Unexpected, NestedVector, Memory}
+use Rattle.fb_syntax.specs.declared.faults.SyntaxFault.TheVariants.{NotUtf8, BadByte, Unterminated, NumberTooBig, Unexpected, NestedVector}
+use Rattle.fb_syntax.specs.FaultTable.{offset_of}
 use Rattle.fb_syntax.specs.Spells.{SpellsText}
 
 -- Every fault but NotUtf8, also want of memory, is told of a text that is UTF-8.
@@ -25,13 +26,7 @@ IsToldOfTokens text _ = Unit {0}
 
 -- Where the fault stands, the text hasn't ended before it.
 abbrev pub StandsWithin : ℕ → SyntaxFault → Type 0
-StandsWithin len (NotUtf8 at) = at ≤ len
-StandsWithin len (BadByte at) = at ≤ len
-StandsWithin len (Unterminated at) = at ≤ len
-StandsWithin len (NumberTooBig at) = at ≤ len
-StandsWithin len (Unexpected at) = at ≤ len
-StandsWithin len (NestedVector at) = at ≤ len
-StandsWithin len Memory = Unit {0}
+StandsWithin len fault = IfSome (offset_of fault) (λ at. at ≤ len)
 
 -- what a text that is UTF-8 may be refused for before its grammar is looked at
 abbrev pub IsTokenFault : SyntaxFault → Type 0

@@ -68,9 +68,6 @@ with_token kind next other = record {
 abbrev pub ahead : (List Lexeme → Bool) → Rule (Unit {0})
 ahead test = record { Is = λ ts x rest. (ts ≡ rest) × (test ts ≡ true); read = λ ts. if test ts then Some (tt, ts) else None }
 
-abbrev pub IsSign : ℕ → List Lexeme → List Lexeme → Type 0
-IsSign c ts rest = (t : Located) × IsToken (Punct c) ts t rest
-
 abbrev pub is_sign : ℕ → List Lexeme → Bool
 is_sign c [] = false
 is_sign c (t ∷ rest) = is_kind t.kind (Punct c)
@@ -127,27 +124,24 @@ block item close = do
   _ ← sign close
   give xs
 
+-- item { item } and a closing sign
+abbrev pub some_block : {X : Type 0} → Rule X → ℕ → Rule (List X)
+some_block item close = do
+  _ ← ahead (λ ts. not (is_sign close ts))
+  block item close
+
 -- what divides an item from the next, or ends a list: a comma, right before the closing sign only where `trailing` is
 -- true; or nothing, before that sign
 unfoldable pub divider : Bool → ℕ → Rule (Unit {0})
 divider trailing close = with_token (Punct comma) (λ _. ahead (λ ts. trailing || not (is_sign close ts))) (ahead (is_sign close))
 
 -- an item of a list, and what stands behind it
-unfoldable pub entry : {X : Type 0} → Rule X → Bool → ℕ → Rule X
-entry item trailing close = do
+unfoldable pub listed_item : {X : Type 0} → Rule X → Bool → ℕ → Rule X
+listed_item item trailing close = do
   x ← item
   _ ← divider trailing close
   give x
 
 -- item { "," item } and a closing sign; a comma before that where `trailing` is true
 abbrev pub listed : {X : Type 0} → Rule X → Bool → ℕ → Rule (List X)
-listed item trailing close = do
-  _ ← ahead (λ ts. not (is_sign close ts))
-  block (entry item trailing close) close
-
--- how a block and a list are read, from how an item is
-abbrev pub block_at : {X : Type 0} → (List Lexeme → Front X) → ℕ → List Lexeme → Front (List X)
-block_at item close ts = and_then (until item (is_sign close) ts) (λ xs. and_then (token_at (Punct close) xs.1) (λ end. Some (xs.0, end.1)))
-
-abbrev pub listed_at : {X : Type 0} → (List Lexeme → Front X) → ℕ → List Lexeme → Front (List X)
-listed_at item close ts = and_then ((ahead (λ ts. not (is_sign close ts))).read ts) (λ x. block_at item close x.1)
+listed item trailing close = some_block (listed_item item trailing close) close

@@ -17,6 +17,5 @@ inside_of n = record { is_negative = is_below_zero n.value; magnitude = magnitud
 pub inside_of-view : (n : Inside) → (n.is_negative ≡ true → 0 < n.magnitude) → inside_of (record { value = signed n.is_negative n.magnitude; at = n.at }) ≡ n
 inside_of-view n h = by_sign n.is_negative n.magnitude n.at h where
   by_sign : (b : Bool) (m at : ℕ) → (b ≡ true → 0 < m) → inside_of (record { value = signed b m; at = at }) ≡ record { is_negative = b; magnitude = m; at = at }
-  by_sign false m at h = refl
   by_sign true zero at h = absurd (omega (arith, h refl))
-  by_sign true (suc m) at h = refl
+  by_sign _ _ at h = refl

@@ -22,9 +22,8 @@ is_quoted (c ∷ cs) = c == 34 && is_closed_by_quote cs
 
 -- that byte alone
 abbrev pub is_punctuation : ℕ → List ℕ → Bool
-is_punctuation p [] = false
 is_punctuation p (c ∷ []) = c == p && is_punct c
-is_punctuation p (c ∷ d ∷ cs) = false
+is_punctuation p _ = false
 
 -- the bytes are a token of that kind
 unfoldable pub is_token : TokenKind → List ℕ → Bool

@@ -116,10 +116,7 @@ impl<'t, 's> Parser<'t, 's> {
         ensures shorter { IfOk result (λ _. length self.new < length self.old) }
         ensures small { IfOk result (λ t. IsSmall kind t.bytes) }
     {
-        match self.take(kind) {
-            Some(token) => Ok(token),
-            None => Err(Stop::Unexpected),
-        }
+        self.take(kind).ok_or(Stop::Unexpected)
     }
 
     fn is_sign(&self, sign: u8) -> bool

@@ -1,7 +1,7 @@
 //! Enums.
 ghost use Rattle.std.specs.Prelude.{◌<◌, length, IfOk, true};
 ghost use Rattle.fb_syntax.specs.Signs.{close_brace};
-ghost use Rattle.fb_syntax.specs.Rules.{entry};
+ghost use Rattle.fb_syntax.specs.Rules.{listed_item};
 ghost use Rattle.fb_syntax.specs.Grammar.{enum_value, enumeration};
 ghost use Rattle.fb_syntax.specs.Stops.{Gives};
 
@@ -12,9 +12,9 @@ use crate::integers::number_of;
 use crate::tokens::TokenKind::{Integer, Punct, Word};
 
 impl<'t> Item<'t> for EnumValue<'t> {
-    ghost item_at = { (entry enum_value true close_brace).read };
+    ghost rule = { listed_item enum_value true close_brace };
 
-    #[tactic(auto, unfolding(crate::specs::Rules::entry, crate::specs::Grammar::enum_value))]
+    #[tactic(auto, unfolding(crate::specs::Rules::listed_item, crate::specs::Grammar::enum_value))]
     fn read(parser: &mut Parser<'t, '_>) -> Result<EnumValue<'t>, Stop> {
         let name = parser.token(Word)?;
         let number = match parser.take(Punct(b'=')) {

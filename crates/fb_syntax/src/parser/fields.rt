@@ -10,7 +10,7 @@ use crate::integers::number_of;
 use crate::tokens::TokenKind::{Integer, Punct, Word};
 
 impl<'t> Item<'t> for Field<'t> {
-    ghost item_at = { field.read };
+    ghost rule = { field };
 
     #[tactic(auto, unfolding(crate::specs::Grammar::field, crate::specs::Grammar::default_part))]
     fn read(parser: &mut Parser<'t, '_>) -> Result<Field<'t>, Stop> {

@@ -1,7 +1,6 @@
 //! Lists: items up to a closing sign, or up to the end.
-ghost use Rattle.std.specs.Prelude.{◌≡◌, ◌<◌, ◌≤◌, length, IfOk, List, Option};
-ghost use Rattle.fb_syntax.specs.Lexemes.{Lexeme};
-ghost use Rattle.fb_syntax.specs.Rules.{block_at, closes, divider, listed_at, until};
+ghost use Rattle.std.specs.Prelude.{◌≡◌, ◌<◌, ◌≤◌, length, IfOk};
+ghost use Rattle.fb_syntax.specs.Rules.{Rule, block, closes, divider, some_block, until};
 ghost use Rattle.fb_syntax.specs.Stops.{Gives};
 
 use super::{Parser, Stop};
@@ -9,12 +8,12 @@ use crate::tokens::TokenKind::Punct;
 
 /// What lists consist of: fields, attributes, values, members and declarations.
 pub(super) trait Item<'t>: Drop + Sized {
-    /// What stands at the front of the tokens, and the tokens behind it.
-    ghost item_at: { List Lexeme → Option (Self × List Lexeme) };
+    /// The rule of the grammar for one, and for what divides it from the next.
+    ghost rule: { Rule Self };
 
     /// Passes an item, and what divides it from the next.
     fn read(parser: &mut Parser<'t, '_>) -> Result<Self, Stop>
-        ensures exact { Gives (λ x. (x, parser.new)) result (item_at parser.old) }
+        ensures exact { Gives (λ x. (x, parser.new)) result (rule.read parser.old) }
         ensures shorter { IfOk result (λ _. length parser.new < length parser.old) };
 }
 
@@ -30,7 +29,7 @@ impl<'t> Parser<'t, '_> {
 
     /// The items before a closing sign or, with none, before the end.
     pub(super) fn items<T: Item<'t>>(&mut self, close: Option<u8>) -> Result<Vec<T>, Stop>
-        ensures exact { Gives (λ v. (v.items, self.new)) result (until T.item_at (closes close) self.old) }
+        ensures exact { Gives (λ v. (v.items, self.new)) result (until T.rule.read (closes close) self.old) }
         ensures shorter { IfOk result (λ _. length self.new ≤ length self.old) }
     {
         let mut items = Vec::new(self.alloc);
@@ -43,7 +42,7 @@ impl<'t> Parser<'t, '_> {
 
     /// Items and the closing sign behind them.
     pub(super) fn block<T: Item<'t>>(&mut self, close: u8) -> Result<Vec<T>, Stop>
-        ensures exact { Gives (λ v. (v.items, self.new)) result (block_at T.item_at close self.old) }
+        ensures exact { Gives (λ v. (v.items, self.new)) result ((block T.rule close).read self.old) }
         ensures shorter { IfOk result (λ _. length self.new < length self.old) }
     {
         let items = self.items(Some(close))?;
@@ -53,7 +52,7 @@ impl<'t> Parser<'t, '_> {
 
     /// At least one item, and the closing sign.
     pub(super) fn listed<T: Item<'t>>(&mut self, close: u8) -> Result<Vec<T>, Stop>
-        ensures exact { Gives (λ v. (v.items, self.new)) result (listed_at T.item_at close self.old) }
+        ensures exact { Gives (λ v. (v.items, self.new)) result ((some_block T.rule close).read self.old) }
         ensures shorter { IfOk result (λ _. length self.new < length self.old) }
     {
         if self.is_sign(close) {
@@ -73,10 +72,6 @@ impl<'t> Parser<'t, '_> {
             Some(_) => trailing || !self.is_sign(close),
             None => self.is_sign(close),
         };
-        if divides {
-            Ok(())
-        } else {
-            Err(Stop::Unexpected)
-        }
+        divides.then_some(()).ok_or(Stop::Unexpected)
     }
 }

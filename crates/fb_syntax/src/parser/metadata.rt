@@ -1,7 +1,7 @@
 //! Attributes behind a name or a type.
 ghost use Rattle.std.specs.Prelude.{◌<◌, ◌≤◌, length, IfOk, false};
 ghost use Rattle.fb_syntax.specs.Signs.{close_round};
-ghost use Rattle.fb_syntax.specs.Rules.{entry};
+ghost use Rattle.fb_syntax.specs.Rules.{listed_item};
 ghost use Rattle.fb_syntax.specs.Grammar.{attribute_value, attribute, metadata};
 ghost use Rattle.fb_syntax.specs.Stops.{Gives};
 
@@ -12,9 +12,9 @@ use crate::integers::number_of;
 use crate::tokens::TokenKind::{Integer, Punct, Quoted, Word};
 
 impl<'t> Item<'t> for Attribute<'t> {
-    ghost item_at = { (entry attribute false close_round).read };
+    ghost rule = { listed_item attribute false close_round };
 
-    #[tactic(auto, unfolding(crate::specs::Rules::entry, crate::specs::Grammar::attribute))]
+    #[tactic(auto, unfolding(crate::specs::Rules::listed_item, crate::specs::Grammar::attribute))]
     fn read(parser: &mut Parser<'t, '_>) -> Result<Attribute<'t>, Stop> {
         let name = parser.token(Word)?;
         let value = match parser.take(Punct(b':')) {

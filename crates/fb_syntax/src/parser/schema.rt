@@ -18,7 +18,7 @@ use crate::tokens::TokenKind::{Punct, Quoted, Word};
 use std::alloc::Global;
 
 impl<'t> Item<'t> for Declaration<'t> {
-    ghost item_at = { declaration.read };
+    ghost rule = { declaration };
 
     #[tactic(auto, unfolding(crate::specs::GrammarSchema::declaration, crate::specs::GrammarSchema::keyword_at))]
     fn read(parser: &mut Parser<'t, '_>) -> Result<Declaration<'t>, Stop> {
@@ -100,10 +100,8 @@ fn offset_of(text: &str, tokens: &[Token], left: usize) -> u64
     requires { AreReadable text.now tokens.now }
     ensures { result ≤ length text.now }
 {
-    match tokens.get(tokens.len().saturating_sub(left)) {
-        Some(token) => token.at,
-        None => text.len() as u64,
-    }
+    let next = tokens.get(tokens.len().saturating_sub(left));
+    next.map_or(text.len() as u64, |token| token.at)
 }
 
 /// What the tokens of a text declare.

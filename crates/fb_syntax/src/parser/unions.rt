@@ -1,7 +1,7 @@
 //! Unions.
 ghost use Rattle.std.specs.Prelude.{◌<◌, length, IfOk, true};
 ghost use Rattle.fb_syntax.specs.Signs.{close_brace};
-ghost use Rattle.fb_syntax.specs.Rules.{entry};
+ghost use Rattle.fb_syntax.specs.Rules.{listed_item};
 ghost use Rattle.fb_syntax.specs.Grammar.{union, union_member};
 ghost use Rattle.fb_syntax.specs.Stops.{Gives};
 
@@ -11,9 +11,9 @@ use crate::declarations::{UnionDecl, UnionMember};
 use crate::tokens::TokenKind::{Punct, Word};
 
 impl<'t> Item<'t> for UnionMember<'t> {
-    ghost item_at = { (entry union_member true close_brace).read };
+    ghost rule = { listed_item union_member true close_brace };
 
-    #[tactic(auto, unfolding(crate::specs::Rules::entry, crate::specs::Grammar::union_member))]
+    #[tactic(auto, unfolding(crate::specs::Rules::listed_item, crate::specs::Grammar::union_member))]
     fn read(parser: &mut Parser<'t, '_>) -> Result<UnionMember<'t>, Stop> {
         let word = parser.token(Word)?;
         let member = match parser.take(Punct(b':')) {

@@ -1,4 +1,4 @@
-use Rattle.std.proofs.Common.{rules, ◌≡◌, ◌∙◌, ap, sym, subst, true≢false, is_some, None}
+use Rattle.std.proofs.Common.{rules, ◌≡◌, ◌∙◌, ap, sym, subst, true≢false, is_none, None}
 use Rattle.std.specs.List.{AllZip}
 use Rattle.std.specs.Option.{option_copied, option_map}
 use Rattle.fb_schema.specs.Seen.{schema_of}
@@ -6,7 +6,7 @@ use Rattle.fb_resolve.specs.MembersRead.{table_of}
 use Rattle.fb_resolve.specs.Resolved.{resolved_types, meaning_of_root}
 use Rattle.fb_declare.specs.Buildable.{AreBuildable}
 use Rattle.fb_declare.specs.Declares.{IsType, root_table}
-use Rattle.fb_declare.proofs.Building.{buildable, root_some, root_right}
+use Rattle.fb_declare.proofs.Building.{buildable, root_some}
 use Rattle.fb_declare.proofs.Kept.{outline_right, identifier_kept, kept}
 use Rattle.fb_declare.proofs.schema.build_schema.Goals as goal
 
@@ -14,7 +14,7 @@ pub unreachable-requires : goal.unreachable-requires
 unreachable-requires c =
     let o = c.args.resolved.outline.now in
     let none : root_table o.types o.root ≡ None = ap table_of (sym c.args.resolved.root_meant) ∙ sym c.table_of.ensures ∙ ap (option_map (λ n. n.0)) c.in_default.is in
-    true≢false (sym (root_some o.text_len o.root (meaning_of_root o.types o.root) (root_right o c.requires)) ∙ ap is_some none)
+    true≢false (sym (ap is_none none) ∙ root_some o.text_len o.root (meaning_of_root o.types o.root) (outline_right o c.requires).root)
 
 pub types_of-requires : goal.types_of-requires
 types_of-requires c =

@@ -14,12 +14,12 @@ pub bounds-numbers-number : goal.bounds-numbers-number
 bounds-numbers-number c =
     omega (arith, AllZip-long (λ n r. IsPath (tree_of c.args.scopes.now) n (words_of_scope r.scope)) c.args.numbers.now c.args.types.now c.requires.numbers)
 
-pub resolved_declaration-requires-clause-scope : goal.resolved_declaration-requires-clause-scope
-resolved_declaration-requires-clause-scope c =
+pub invariant_of-scope : goal.invariant_of-scope
+invariant_of-scope c =
     let there = zip_at (λ n r. IsPath (tree_of c.args.scopes.now) n (words_of_scope r.scope))
     c.args.numbers.now c.args.types.now c.loop-number.number 0 c.index-types-number.result
     c.requires.numbers c.loop-number-test.true in
-    record { scopes = rw c.requires.numbered c.requires.scopes; here = grind (rules, there) }
+    record { here = grind (rules, there) }
 
 pub loop-number-preserved : goal.loop-number-preserved
 loop-number-preserved c =

@@ -23,7 +23,7 @@ resolved_types-requires-clause-scopes c = let p = c.in_ok-tree.field-0 in
 pub resolved_types-requires-clause-numbers : goal.resolved_types-requires-clause-numbers
 resolved_types-requires-clause-numbers c =
     let types : c.as_slice-types.result.now ≡ types_in None c.args.decls.now.declarations = grind rules in
-    rw (types, c.as_slice-2.ensures.value, c.in_ok-scopes.ensures.tree) c.in_ok-tree.ensures.scopes
+    rw (types, c.as_slice.ensures.value, c.in_ok-scopes.ensures.tree) c.in_ok-tree.ensures.scopes
 
 pub resolved_types-requires-clause-uses : goal.resolved_types-requires-clause-uses
 resolved_types-requires-clause-uses c =
