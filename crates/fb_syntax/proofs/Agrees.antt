@@ -108,15 +108,14 @@ module _ {X : Type 0} {kind : TokenKind} {next : Located → Rule X} {other : Ru
   with_found (Some t) x ts rest stands e = inl (t.0, t.1, token_found kind ts t.1 t.0 stands, (there t.0).found x t.1 rest e)
   with_found None x ts rest none e = inr (instead.found x ts rest e)
 
-  pub with_token-agrees : a2 kind ≡ true → Agrees (with_token kind next other) e2 (besides kind a2) (g1 ++ (g2 ++ where_empty e2 (kind ∷ [])))
-  with_token-agrees apart = record {
+  -- where what stands behind the other rule begins with no token of that kind
+  pub choice-agrees : (g : List TokenKind) → ((x : X) (ts rest : List Lexeme) → other.Is ts x rest → Lacks g rest → (token_at kind ts ≡ None) × Lacks g2 rest) → ((rest : List Lexeme) → Lacks g rest → Lacks g1 rest) → Agrees (with_token kind next other) e2 (besides kind a2) g
+  choice-agrees g apart follows = record {
     found = λ x ts rest e. with_found (token_at kind ts) x ts rest refl e;
     read = λ x ts rest h l.
-        let parts = lacks_parts g1 (g2 ++ where_empty e2 (kind ∷ [])) rest l in
-        let others = lacks_parts g2 (where_empty e2 (kind ∷ [])) rest parts.1 in
         elim h [
-          | inl i ↦ rw (token_read kind ts i.1 i.0 i.2) ((there i.0).read x i.1 rest i.3 parts.0)
-          | inr i ↦ rw (instead.starts kind x ts rest i apart (λ e. (kept e2 (kind ∷ []) rest others.1 e).0)) (instead.read x ts rest i others.0)
+          | inl i ↦ rw (token_read kind ts i.1 i.0 i.2) ((there i.0).read x i.1 rest i.3 (follows rest l))
+          | inr i ↦ (let none = apart x ts rest i l in rw none.0 (instead.read x ts rest i none.1))
         ];
     starts = λ k x ts rest h other e.
         let both = and_parts (but kind k) (a2 k) other in
@@ -127,3 +126,8 @@ module _ {X : Type 0} {kind : TokenKind} {next : Located → Rule X} {other : Ru
           | inr i ↦ instead.shorter x ts rest i
         ];
   }
+
+  pub with_token-agrees : a2 kind ≡ true → Agrees (with_token kind next other) e2 (besides kind a2) (g1 ++ (g2 ++ where_empty e2 (kind ∷ [])))
+  with_token-agrees apart = choice-agrees _ (λ x ts rest i l.
+      (let parts = lacks_parts g2 (where_empty e2 (kind ∷ [])) rest (lacks_parts g1 _ rest l).1 in
+      (instead.starts kind x ts rest i apart (λ e. (kept e2 (kind ∷ []) rest parts.1 e).0), parts.0))) (λ rest l. (lacks_parts g1 _ rest l).0)

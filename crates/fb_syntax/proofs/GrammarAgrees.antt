@@ -30,15 +30,11 @@ name-agrees : Agrees dotted_name false (but Word) (Punct dot ∷ [])
 unfolding dotted_name
 name-agrees = after Word more-agrees
 
-attribute_value-agrees : Agrees attribute_value false (besides Integer (besides Quoted (but Word))) []
-unfolding attribute_value
-attribute_value-agrees =
-    with_token-agrees (λ digits. give-agrees _) (with_token-agrees (λ text. give-agrees _) (after Word (λ word. give-agrees _)) refl) refl
-
 attribute-agrees : Agrees attribute false (but Word) (Punct colon ∷ [])
-unfolding attribute
+unfolding attribute attribute_value
 attribute-agrees =
-    after Word (λ name. with_token-agrees (λ _. then-agrees attribute_value-agrees (λ value. give-agrees _) refl) (give-agrees _) refl)
+    let value = with_token-agrees (λ digits. give-agrees _) (with_token-agrees (λ text. give-agrees _) (after Word (λ word. give-agrees _)) refl) refl in
+    after Word (λ name. with_token-agrees (λ _. then-agrees value (λ value. give-agrees _) refl) (give-agrees _) refl)
 
 metadata-agrees : Agrees metadata true (besides (Punct open_round) all_kinds) (Punct open_round ∷ [])
 unfolding metadata

@@ -1,38 +1,41 @@
 -- What lists are read is what the grammar has, and the other way round.
-use Rattle.std.proofs.Common.{◌≡◌, ℕ, zero, suc, ◌≤◌, inl, inr, Bool, true, false, ◌||◌, not, List, [], length, drop, Some, None, refl, arith}
+use Rattle.std.proofs.Common.{◌≡◌, ℕ, zero, suc, ◌≤◌, inl, inr, Bool, true, false, ◌||◌, not, List, [], ◌∷◌, ◌++◌, length, drop, Some, None, refl, sym, ap, ◌∙◌, append_assoc, arith}
 use Rattle.std.proofs.lemmas.Bool.{not-true, cases_Bool}
-use Rattle.std.specs.List.{list_all}
+use Rattle.std.proofs.lemmas.List.{append-nil}
+use Rattle.std.specs.List.{fold, list_all}
 use Rattle.fb_syntax.specs.Lexemes.{Lexeme}
 use Rattle.fb_syntax.specs.Signs.{comma}
-use Rattle.fb_syntax.specs.Rules.{Rule, is_sign, token_at, Repeated, no_more, one_more, many, until, repeated, block, divider, listed_item, listed}
+use Rattle.fb_syntax.specs.Rules.{Rule, is_sign, token_at, Repeated, no_more, one_more, many, until, push, repeated, block, divider, listed_item, listed}
 use Rattle.fb_syntax.specs.declared.tokens.TokenKind.{TokenKind}
 use Rattle.fb_syntax.specs.declared.tokens.TokenKind.TheVariants.{Punct}
 use Rattle.fb_syntax.proofs.Steps.{bind-some, lands}
-use Rattle.fb_syntax.proofs.Names.{but, token_read, other_token, sign_of, sign_lacks}
-use Rattle.fb_syntax.proofs.Agrees.{Lacks, Agrees, all_kinds, besides, begins, token_lacks, token-agrees, give-agrees, ahead-agrees, sequence-agrees, then-agrees, with_token-agrees}
+use Rattle.fb_syntax.proofs.Names.{but, other_token, sign_of, sign_lacks}
+use Rattle.fb_syntax.proofs.Agrees.{Lacks, Agrees, all_kinds, besides, begins, token_lacks, token-agrees, give-agrees, ahead-agrees, sequence-agrees, then-agrees, choice-agrees}
+
+pushed : {X : Type 0} (front xs : List X) → fold push front xs ≡ front ++ xs
+pushed front [] = sym (append-nil front)
+pushed front (x ∷ xs) = pushed (push front x) xs ∙ simp append_assoc
 
 -- items one after another
 module _ {X : Type 0} {item : Rule X} {a : TokenKind → Bool} (agrees : Agrees item false a []) (stop : List Lexeme → Bool) (opens : (x : X) (ts rest : List Lexeme) → item.Is ts x rest → stop ts ≡ false) where
-  many_found : (n : ℕ) (xs : List X) (ts rest : List Lexeme) → many item.read stop n ts ≡ Some (xs, rest) → (repeated item stop).Is ts xs rest
+  pub many_found : {B : Type 0} (add : B → X → B) (n : ℕ) (start made : B) (ts rest : List Lexeme) → many item.read stop add n start ts ≡ Some (made, rest) → (xs : List X) × Repeated item.Is ts xs rest × (made ≡ fold add start xs) × (stop rest ≡ true)
   unfolding many
-  many_found zero xs ts rest e = absurd cc
-  many_found (suc n) xs ts rest e =
+  many_found add zero start made ts rest e = absurd cc
+  many_found add (suc n) start made ts rest e =
       elim (cases_Bool (stop ts)) [
-        | inl b ↦ lands ((repeated item stop).Is ts) (rw b at e) (no_more, b)
+        | inl b ↦ lands (λ m left. (xs : List X) × Repeated item.Is ts xs left × (m ≡ fold add start xs) × (stop left ≡ true)) (rw b at e) ([], no_more, refl, b)
         | inr b ↦
             (let x = bind-some {m = item.read ts} (rw b at e) in
-            let more = bind-some {m = many item.read stop n x.0.1} x.2 in
-            let others = many_found n more.0.0 x.0.1 more.0.1 more.1 in
-            lands ((repeated item stop).Is ts) more.2 (one_more x.0.1 (agrees.found x.0.0 ts x.0.1 x.1) others.0, others.1))
+            let others = many_found add n (add start x.0.0) made x.0.1 rest x.2 in
+            (x.0.0 ∷ others.0, one_more x.0.1 (agrees.found x.0.0 ts x.0.1 x.1) others.1, others.2, others.3))
       ]
 
-  many_read : (n : ℕ) (xs : List X) (ts rest : List Lexeme) → Repeated item.Is ts xs rest → stop rest ≡ true → length ts ≤ n → many item.read stop (suc n) ts ≡ Some (xs, rest)
+  pub many_read : {B : Type 0} (add : B → X → B) (n : ℕ) (start : B) (xs : List X) (ts rest : List Lexeme) → Repeated item.Is ts xs rest → stop rest ≡ true → length ts ≤ n → many item.read stop add (suc n) start ts ≡ Some (fold add start xs, rest)
   unfolding many
-  many_read n xs ts rest no_more b enough = rw b refl
-  many_read zero xs ts rest (one_more {x = x} mid here more) b enough = absurd (omega (arith, (agrees.shorter x ts mid here).1 refl))
-  many_read (suc n) xs ts rest (one_more {x = x} {xs = ys} mid here more) b enough =
-      let next = many_read n ys mid rest more b (omega (arith, (agrees.shorter x ts mid here).1 refl)) in
-      rw (opens x ts mid here, agrees.read x ts mid here tt) (rw next refl)
+  many_read add n start xs ts rest no_more b enough = rw b refl
+  many_read add zero start xs ts rest (one_more {x = x} mid here more) b enough = absurd (omega (arith, (agrees.shorter x ts mid here).1 refl))
+  many_read add (suc n) start xs ts rest (one_more {x = x} {xs = ys} mid here more) b enough =
+      rw (opens x ts mid here, agrees.read x ts mid here tt) (many_read add n (add start x) ys mid rest more b (omega (arith, (agrees.shorter x ts mid here).1 refl)))
 
   pub repeated_shorter : {xs : List X} {ts rest : List Lexeme} → Repeated item.Is ts xs rest → length rest ≤ length ts
   repeated_shorter no_more = omega arith
@@ -45,8 +48,8 @@ module _ {X : Type 0} {item : Rule X} {a : TokenKind → Bool} (agrees : Agrees 
   pub repeated-agrees : Agrees (repeated item stop) true a []
   unfolding until
   repeated-agrees = record {
-    found = λ xs ts rest e. many_found (suc (length ts)) xs ts rest e;
-    read = λ xs ts rest h l. many_read (length ts) xs ts rest h.0 h.1 (omega arith);
+    found = λ xs ts rest e. let f = many_found push _ [] xs ts rest e in rw (f.2 ∙ pushed [] f.0) (f.1, f.3);
+    read = λ xs ts rest h l. many_read push (length ts) [] xs ts rest h.0 h.1 (omega arith) ∙ ap (λ ys. Some (ys, rest)) (pushed [] xs);
     starts = λ k xs ts rest h other e. repeated_starts k h.0 other (e refl);
     shorter = λ xs ts rest h. (repeated_shorter h.0, λ e. absurd cc);
   }
@@ -59,17 +62,8 @@ module _ (trailing : Bool) (close : ℕ) (apart : but (Punct close) (Punct comma
   divider-agrees : Agrees (divider trailing close) true (besides (Punct comma) all_kinds) []
   unfolding divider
   divider-agrees =
-      let ways = with_token-agrees {kind = Punct comma} (λ t. ahead-agrees (λ ts. trailing || not (is_sign close ts))) (ahead-agrees (is_sign close)) refl in
-      record {
-        found = ways.found;
-        read = λ u ts rest h l.
-            elim h [
-              | inl i ↦ rw (token_read (Punct comma) ts i.1 i.0 i.2, (i.3).1, (i.3).0) refl
-              | inr i ↦ (let s = sign_of close ts i.1 in rw (other_token (Punct close) (Punct comma) ts (drop 1 ts) s.0 apart s.1, i.1, i.0) refl)
-            ];
-        starts = ways.starts;
-        shorter = ways.shorter;
-      }
+      choice-agrees (λ t. ahead-agrees (λ ts. trailing || not (is_sign close ts))) (ahead-agrees (is_sign close)) []
+      (λ u ts rest h l. let s = sign_of close ts h.1 in (other_token (Punct close) (Punct comma) ts (drop 1 ts) s.0 apart s.1, tt)) (λ rest l. tt)
 
   divided : (g : List TokenKind) (u : Unit {0}) (ts rest : List Lexeme) → list_all (but (Punct comma)) g ≡ true → list_all (but (Punct close)) g ≡ true → (divider trailing close).Is ts u rest → Lacks g ts
   unfolding divider

@@ -4,7 +4,7 @@ use Rattle.fb_syntax.specs.DeclsRead.{DeclsRead}
 use Rattle.std.proofs.lemmas.Option.{some_pair_parts}
 use Rattle.fb_syntax.specs.Lexemes.{Lexeme, lexemes}
 use Rattle.fb_syntax.specs.Stops.{Fails, fault_at}
-use Rattle.fb_syntax.specs.Rules.{is_empty, until, repeated}
+use Rattle.fb_syntax.specs.Rules.{is_empty, repeated}
 use Rattle.fb_syntax.specs.GrammarSchema.{declaration, Reads}
 use Rattle.fb_syntax.specs.OneReading.{OneReading}
 use Rattle.fb_syntax.specs.declared.faults.SyntaxFault.TheVariants as faults
@@ -30,16 +30,16 @@ declarations-agree : Agrees (repeated declaration is_empty) true (but Word) []
 declarations-agree = repeated-agrees declaration-agrees is_empty (λ x ts rest h. some_left ts rest ((declaration-agrees.shorter x ts rest h).1 refl))
 
 -- What is read to the end is what the tokens read as.
-pub reads_found : (text : List ℕ) (tokens : List Token) (ds : List Declaration) (rest : List Lexeme) → until declaration.read is_empty (lexemes text tokens) ≡ Some (ds, rest) → Reads text tokens (record { declarations = ds; text_len = length text })
+pub reads_found : (text : List ℕ) (tokens : List Token) (ds : List Declaration) (rest : List Lexeme) → (repeated declaration is_empty).read (lexemes text tokens) ≡ Some (ds, rest) → Reads text tokens (record { declarations = ds; text_len = length text })
 reads_found text tokens ds rest e =
     let found = declarations-agree.found ds (lexemes text tokens) rest e in
     record { whole = rw (empty_list rest found.1) at found.0; len = refl }
 
-until_declarations : (text : List ℕ) (tokens : List Token) (d : DeclsRead) → Reads text tokens d → until declaration.read is_empty (lexemes text tokens) ≡ Some (d.declarations, [])
+until_declarations : (text : List ℕ) (tokens : List Token) (d : DeclsRead) → Reads text tokens d → (repeated declaration is_empty).read (lexemes text tokens) ≡ Some (d.declarations, [])
 until_declarations text tokens d h = declarations-agree.read d.declarations (lexemes text tokens) [] (h.whole, refl) tt
 
 -- Where tokens read as declarations, only memory fails.
-pub memory_alone : (text : List ℕ) (tokens : List Token) (d : DeclsRead) (stop : Stop) (offset : ℕ) → Reads text tokens d → Fails stop (until declaration.read is_empty (lexemes text tokens)) → fault_at stop offset ≡ faults.Memory
+pub memory_alone : (text : List ℕ) (tokens : List Token) (d : DeclsRead) (stop : Stop) (offset : ℕ) → Reads text tokens d → Fails stop ((repeated declaration is_empty).read (lexemes text tokens)) → fault_at stop offset ≡ faults.Memory
 memory_alone text tokens d Memory offset h e = refl
 memory_alone text tokens d _ offset h e = (let read = until_declarations text tokens d h in absurd cc)
 

@@ -1,5 +1,5 @@
 -- Rules of the grammar: what stands at the front of the tokens, and which are left behind it. `Is` says it, and `read` finds it.
-use Rattle.std.specs.Prelude.{ℕ, zero, suc, ◌≡◌, ◌==◌, Bool, true, false, ◌||◌, ◌⊎◌, not, List, [], ◌∷◌, length, Option, Some, None, if◌then◌else◌}
+use Rattle.std.specs.Prelude.{ℕ, zero, suc, ◌≡◌, ◌==◌, Bool, true, false, ◌||◌, ◌⊎◌, not, List, [], ◌∷◌, ◌++◌, length, Option, Some, None, if◌then◌else◌}
 use Rattle.std.specs.List.{fold}
 use Rattle.fb_syntax.specs.Located.{Located, joined}
 use Rattle.fb_syntax.specs.Lexemes.{Lexeme}
@@ -85,13 +85,13 @@ abbrev pub closes : Option ℕ → List Lexeme → Bool
 closes (Some c) = is_sign c
 closes None = is_empty
 
--- items to where they stop, n of them at most
-unfoldable pub many : {X : Type 0} → (List Lexeme → Front X) → (List Lexeme → Bool) → ℕ → List Lexeme → Front (List X)
-many item stop zero ts = None
-many item stop (suc n) ts = if stop ts then Some ([], ts) else and_then (item ts) (λ x. and_then (many item stop n x.1) (λ xs. Some (x.0 ∷ xs.0, xs.1)))
+-- items to where they stop, n of them at most, each added to what those before it made
+unfoldable pub many : {X B : Type 0} → (List Lexeme → Front X) → (List Lexeme → Bool) → (B → X → B) → ℕ → B → List Lexeme → Front B
+many item stop add zero made ts = None
+many item stop add (suc n) made ts = if stop ts then Some (made, ts) else and_then (item ts) (λ x. many item stop add n (add made x.0) x.1)
 
-unfoldable pub until : {X : Type 0} → (List Lexeme → Front X) → (List Lexeme → Bool) → List Lexeme → Front (List X)
-until item stop ts = many item stop (suc (length ts)) ts
+unfoldable pub until : {X B : Type 0} → (List Lexeme → Front X) → (List Lexeme → Bool) → (B → X → B) → B → List Lexeme → Front B
+until item stop add made ts = many item stop add (suc (length ts)) made ts
 
 -- "." Word
 abbrev pub dot_word : Rule Located
@@ -102,20 +102,23 @@ dot_word = do
 abbrev pub no_dot : List Lexeme → Bool
 no_dot ts = not (is_sign dot ts)
 
--- a name, and further words behind it
-abbrev pub with_words : Located → List Located → Located
-with_words = fold (λ name word. joined name word.bytes)
+-- a name, and a further word behind it
+abbrev pub with_word : Located → Located → Located
+with_word name word = joined name word.bytes
 
 -- { "." Word } behind a name whose words so far are s
 abbrev pub more : Located → Rule Located
 more s = record {
-  Is = λ ts name rest. (words : List Located) × Repeated dot_word.Is ts words rest × (name ≡ with_words s words);
-  read = λ ts. and_then (until dot_word.read no_dot ts) (λ words. Some (with_words s words.0, words.1));
+  Is = λ ts name rest. (words : List Located) × Repeated dot_word.Is ts words rest × (name ≡ fold with_word s words);
+  read = until dot_word.read no_dot with_word s;
 }
+
+abbrev pub push : {X : Type 0} → List X → X → List X
+push xs x = xs ++ x ∷ []
 
 -- items until a test of the tokens that are left holds
 abbrev pub repeated : {X : Type 0} → Rule X → (List Lexeme → Bool) → Rule (List X)
-repeated item stop = record { Is = λ ts xs rest. Repeated item.Is ts xs rest × (stop rest ≡ true); read = until item.read stop }
+repeated item stop = record { Is = λ ts xs rest. Repeated item.Is ts xs rest × (stop rest ≡ true); read = until item.read stop push [] }
 
 -- { item } and a closing sign
 abbrev pub block : {X : Type 0} → Rule X → ℕ → Rule (List X)

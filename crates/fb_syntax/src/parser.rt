@@ -76,6 +76,7 @@ impl<'t, 's> Parser<'t, 's> {
     }
 
     /// Passes the next token.
+    #[tactic(auto, using(std::proofs::lemmas::Grind::pieces))]
     fn advance(&mut self)
         ensures { self.new ≡ drop 1 self.old }
     {
@@ -142,7 +143,7 @@ impl<'t, 's> Parser<'t, 's> {
         let mut name = DottedName::new(first);
         while let Some(_) = self.take(TokenKind::Punct(b'.')) {
             let word = self.token(TokenKind::Word)?;
-            name = name.join(self.alloc, word.text)?;
+            name = name.join(self.alloc, word.text).or(Err(Stop::Memory))?;
         }
         Ok(name)
     }

@@ -145,7 +145,7 @@ fn tokens_from(alloc: Global, start: usize, text: &[u8]) -> Result<Vec<Token>, S
                     at: at as u64,
                     len: len as u64,
                 };
-                found.push(token)?;
+                found.push(token).or(Err(SyntaxFault::Memory))?;
                 at += len;
             }
             Err(fault) => return Err(fault),

@@ -1,6 +1,6 @@
 //! Lists: items up to a closing sign, or up to the end.
-ghost use Rattle.std.specs.Prelude.{◌≡◌, ◌<◌, ◌≤◌, length, IfOk};
-ghost use Rattle.fb_syntax.specs.Rules.{Rule, block, closes, divider, some_block, until};
+ghost use Rattle.std.specs.Prelude.{◌≡◌, ◌<◌, ◌≤◌, [], length, IfOk};
+ghost use Rattle.fb_syntax.specs.Rules.{Rule, block, closes, divider, push, some_block, until};
 ghost use Rattle.fb_syntax.specs.Stops.{Gives};
 
 use super::{Parser, Stop};
@@ -29,13 +29,13 @@ impl<'t> Parser<'t, '_> {
 
     /// The items before a closing sign or, with none, before the end.
     pub(super) fn items<T: Item<'t>>(&mut self, close: Option<u8>) -> Result<Vec<T>, Stop>
-        ensures exact { Gives (λ v. (v.items, self.new)) result (until T.rule.read (closes close) self.old) }
+        ensures exact { Gives (λ v. (v.items, self.new)) result (until T.rule.read (closes close) push [] self.old) }
         ensures shorter { IfOk result (λ _. length self.new ≤ length self.old) }
     {
         let mut items = Vec::new(self.alloc);
         while !self.is_closed(close) {
             let item = T::read(self)?;
-            items.push(item)?;
+            items.push(item).or(Err(Stop::Memory))?;
         }
         Ok(items)
     }

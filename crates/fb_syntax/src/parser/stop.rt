@@ -3,7 +3,6 @@ ghost use Rattle.std.specs.Prelude.{◌≡◌};
 ghost use Rattle.fb_syntax.specs.Stops.{fault_at};
 
 use crate::faults::SyntaxFault;
-use std::alloc::{AllocError, AllocFailed};
 
 /// Why the parser stops, at its next token.
 #[derive(Clone, Copy, Drop)]
@@ -25,27 +24,5 @@ impl Stop {
             Stop::NestedVector => SyntaxFault::NestedVector(offset),
             Stop::Memory => SyntaxFault::Memory,
         }
-    }
-}
-
-impl From<AllocError> for Stop {
-    ghost use Rattle.std.specs.Prelude.{◌≡◌};
-    ghost use Rattle.fb_syntax.specs.declared.parser.stop.Stop.TheVariants.{Memory};
-
-    ghost from_gives = { λ _ e. e ≡ Memory };
-
-    fn from(_refused: AllocError) -> Stop {
-        Stop::Memory
-    }
-}
-
-impl<T: Drop> From<AllocFailed<T>> for Stop {
-    ghost use Rattle.std.specs.Prelude.{◌≡◌};
-    ghost use Rattle.fb_syntax.specs.declared.parser.stop.Stop.TheVariants.{Memory};
-
-    ghost from_gives = { λ _ e. e ≡ Memory };
-
-    fn from(_refused: AllocFailed<T>) -> Stop {
-        Stop::Memory
     }
 }

@@ -1,6 +1,7 @@
-use Rattle.std.proofs.Common.{arith}
+use Rattle.std.proofs.Common.{arith, sym, ◌∙◌}
 use Rattle.std.proofs.lemmas.List.{take_rest}
 use Rattle.fb_syntax.proofs.ScanSteps.{begun, Passed, over_piece, over_fault, over}
+use Rattle.fb_syntax.proofs.Steps.{kept_ok}
 use Rattle.std.proofs.lemmas.List.{append-nil}
 use Rattle.fb_syntax.specs.declared.scan.Piece.TheVariants as pieces
 use Rattle.fb_syntax.proofs.scan.tokens_from.Goals as goal
@@ -31,7 +32,7 @@ pub loop-at-smaller : goal.loop-at-smaller
 loop-at-smaller c = let h = token_here (goal.at.loop-at-smaller c).In-Ok-Token in omega (arith, h.0, h.1)
 
 pub loop-at-preserved : goal.loop-at-preserved
-loop-at-preserved c = let h = token_here (goal.at.loop-at-preserved c).In-Ok-Token in rw c.in_ok-push-in-Ok-Token.ensures.items h.2
+loop-at-preserved c = let h = token_here (goal.at.loop-at-preserved c).In-Ok-Token in rw (rw (kept_ok c.push.result _ _ (sym c.or.ensures ∙ c.in_ok-or-in-Ok-Token.was)) at c.push.ensures.items) h.2
 
 pub returns-in-Err-clause-only : goal.returns-in-Err-clause-only
 returns-in-Err-clause-only c =

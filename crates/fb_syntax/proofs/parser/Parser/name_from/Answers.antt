@@ -1,22 +1,28 @@
-use Rattle.std.proofs.Common.{ap, arith}
+use Rattle.std.proofs.Common.{ap, sym, arith, ◌∙◌}
 use Rattle.std.proofs.lemmas.Result.{err_from_is_err_and}
 use Rattle.fb_syntax.specs.Located.{Located}
-use Rattle.fb_syntax.proofs.DottedNames.{name_begins, name_goes_on, name_fails, name_ends}
+use Rattle.fb_syntax.specs.Rules.{dot_word, no_dot, with_word}
+use Rattle.fb_syntax.proofs.DottedNames.{dot_lacks, dot_read}
+use Rattle.fb_syntax.proofs.Steps.{kept_ok}
+use Rattle.fb_syntax.proofs.Repeat.{begins, goes_on, ends, fails}
 use Rattle.fb_syntax.proofs.parser.Parser.name_from.Goals as goal
 
 pub loop-self-init : goal.loop-self-init
-loop-self-init c = record { so_far = rw c.new-name.ensures (name_begins _ _); within = omega arith }
+loop-self-init c = record { so_far = rw c.new-name.ensures (begins dot_word.read no_dot with_word _ _); within = omega arith }
 
 pub returns-in_err-word-clause-exact : goal.returns-in_err-word-clause-exact
 returns-in_err-word-clause-exact c =
     let p = err_from_is_err_and c.from_residual.result c.from_residual.ensures.1 in
-    rw (p.1, p.2) (name_fails _ _ _ c.in_err-word.field-0.0 _ _ _ c.loop-self.invariant.so_far c.in-Some.ensures.exact c.in_err-word.ensures.exact)
+    let dot = dot_read _ _ _ c.in-Some.ensures.exact in
+    rw (p.1, p.2) (fails dot_word.read no_dot with_word _ c.in_err-word.field-0.0 _ _ _ c.loop-self.invariant.so_far dot.0 (rw dot.1 c.in_err-word.ensures.exact))
 
 pub loop-self-preserved : goal.loop-self-preserved
-loop-self-preserved c = record {
-  within = omega (arith, c.in-Some.ensures.shorter, c.in_ok-word.ensures.shorter, c.loop-self.invariant.within);
-  so_far = rw (c.in_ok-name.ensures, ap (λ (t : Located). t.bytes) c.word.view_is) (name_goes_on _ _ _ _ _ _ _ _ c.loop-self.invariant.so_far c.in-Some.ensures.exact c.in_ok-word.ensures.exact (omega (arith, c.in-Some.ensures.shorter, c.in_ok-word.ensures.shorter)));
-}
+loop-self-preserved c =
+    let dot = dot_read _ _ _ c.in-Some.ensures.exact in
+    record {
+      within = omega (arith, c.in-Some.ensures.shorter, c.in_ok-word.ensures.shorter, c.loop-self.invariant.within);
+      so_far = rw (rw (kept_ok c.join.result _ _ (sym c.or.ensures ∙ c.in_ok-name.was)) at c.join.ensures, ap (λ (t : Located). t.bytes) c.word.view_is) (goes_on dot_word.read no_dot with_word _ _ _ _ _ _ (omega (arith, c.in-Some.ensures.shorter, c.in_ok-word.ensures.shorter)) c.loop-self.invariant.so_far dot.0 (dot.1 ∙ c.in_ok-word.ensures.exact));
+    }
 
 pub returns-clause-exact : goal.returns-clause-exact
-returns-clause-exact c = rw c.in_default.ensures.exact.1 (name_ends _ _ _ _ c.loop-self.invariant.so_far c.in_default.ensures.exact.0)
+returns-clause-exact c = rw c.in_default.ensures.exact.1 (ends dot_word.read no_dot with_word _ _ _ _ c.loop-self.invariant.so_far (dot_lacks _ c.in_default.ensures.exact.0))
