@@ -41,7 +41,7 @@ token_some (Punct p) zero text h = let e = h.spelled in absurd cc
 token_some _ zero text h = let e = h.spelled in absurd cc
 token_some k (suc n) text h = omega arith
 
-longest_starts : (k : TokenKind) (n c : ℕ) (cs : List ℕ) → IsLongest k n (c ∷ cs) → starts k c ≡ true
+pub longest_starts : (k : TokenKind) (n c : ℕ) (cs : List ℕ) → IsLongest k n (c ∷ cs) → starts k c ≡ true
 longest_starts k zero c cs h = absurd (omega (arith, token_some k zero (c ∷ cs) h))
 longest_starts k (suc n) c cs h = token_starts k c (take n cs) h.spelled
 

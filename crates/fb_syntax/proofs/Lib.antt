@@ -5,7 +5,6 @@ pub mod LongestTokens
 pub mod Numbers
 pub mod FrontPieces
 pub mod ScanSteps
-pub mod TokenEnds
 pub mod Steps
 pub mod Names
 pub mod Repeat

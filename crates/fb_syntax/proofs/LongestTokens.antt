@@ -54,7 +54,7 @@ closed-sound (c ∷ d ∷ cs) (suc n) all e =
     (and_from (is_quotable c) _ both.0 next.0, omega (arith, next.1))
 closed-sound _ _ all e = absurd cc
 
-closed-complete : (cs : List ℕ) (m : ℕ) → m ≤ length cs → is_closed_by_quote (take m cs) ≡ true → (m ≡ suc (prefix_len is_quotable cs)) × (get_or cs (prefix_len is_quotable cs) 0 ≡ 34)
+pub closed-complete : (cs : List ℕ) (m : ℕ) → m ≤ length cs → is_closed_by_quote (take m cs) ≡ true → (m ≡ suc (prefix_len is_quotable cs)) × (get_or cs (prefix_len is_quotable cs) 0 ≡ 34)
 closed-complete cs zero w e = absurd cc
 closed-complete (c ∷ cs) (suc zero) w e = rw (eqb-true c 34 e) (refl, refl)
 closed-complete (c ∷ d ∷ cs) (suc (suc m)) w e =

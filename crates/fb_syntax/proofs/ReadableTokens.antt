@@ -1,27 +1,53 @@
 -- What a text's tokens say can be read.
-use Rattle.std.proofs.Common.{◌≡◌, ℕ, zero, suc, ◌+◌, ◌-◌, ◌<◌, ◌≤◌, List, IsUtf8, length, take, drop, get_or, refl, ap, ◌∙◌, arith, length-drop}
-use Rattle.std.proofs.lemmas.Grind.{common_steps}
-use Rattle.std.proofs.lemmas.List.{get_or-take, get_or-drop, length-take-le}
+use Rattle.std.proofs.Common.{◌≡◌, ℕ, zero, suc, ◌+◌, ◌-◌, ◌<◌, ◌≤◌, ◌==◌, true, List, [], ◌∷◌, IsUtf8, length, take, drop, get_or, refl, sym, ap, ◌∙◌, arith, length-drop}
+use Rattle.std.proofs.lemmas.Bool.Decides.{nat_tests}
+use Rattle.std.proofs.lemmas.Bool.{and_parts, eqb-true}
+use Rattle.std.proofs.lemmas.List.{get_or-drop, drop-drop}
 use Rattle.std.proofs.lemmas.List.Elements.{All-nil, All-cons}
 use Rattle.std.proofs.lemmas.Str.{IsCharBoundary-before_ascii, IsCharBoundary-after_ascii}
+use Rattle.std.specs.List.{prefix_len}
 use Rattle.std.specs.Str.{IsCharBoundary}
 use Rattle.fb_syntax.specs.declared.tokens.TokenKind.{TokenKind}
-use Rattle.fb_syntax.specs.declared.tokens.TokenKind.TheVariants.{Integer, Quoted}
+use Rattle.fb_syntax.specs.declared.tokens.TokenKind.TheVariants.{Integer, Quoted, Punct}
 use Rattle.fb_syntax.specs.declared.tokens.Token.{Token}
-use Rattle.fb_syntax.specs.TokenBytes.{IsLongest, IsSmall}
-use Rattle.fb_syntax.specs.Lexemes.{IsReadable, AreReadable, margin, content}
+use Rattle.fb_syntax.specs.declared.scan.Piece.{Piece}
+use Rattle.fb_syntax.specs.declared.scan.Piece.TheVariants as pieces
+use Rattle.fb_syntax.specs.Bytes.{is_quotable}
+use Rattle.fb_syntax.specs.TokenBytes.{is_token, is_closed_by_quote, starts, IsLongest, IsSmall}
+use Rattle.fb_syntax.specs.Fronts.{IsAtFront}
+use Rattle.fb_syntax.specs.Lexemes.{IsReadable, AreReadable, content}
 use Rattle.fb_syntax.specs.Spells.{Spells, finished, gap, token, SpellsText, mark_len}
-use Rattle.fb_syntax.proofs.TokenEnds.{token_ends}
+use Rattle.fb_syntax.proofs.Gaps.{gap_starts}
+use Rattle.fb_syntax.proofs.FirstBytes.{longest_starts}
+use Rattle.fb_syntax.proofs.FrontPieces.{piece_within}
+use Rattle.fb_syntax.proofs.LongestTokens.{closed-complete}
 
-margin_short : (kind : TokenKind) → margin kind ≤ 1
-margin_short Quoted = omega arith
-margin_short _ = omega arith
+ascii_first : (text : List ℕ) (piece : Piece) → IsAtFront text piece → get_or text 0 0 < 128
+ascii_first [] piece h = omega arith
+ascii_first (c ∷ cs) (pieces.Gap n) g = let e = gap_starts g in grind (arith, nat_tests)
+ascii_first (c ∷ cs) (pieces.Token k n) h = by_kind k (longest_starts k n c cs h.0) where
+  by_kind : (k : TokenKind) → starts k c ≡ true → c < 128
+  by_kind (Punct p) e = grind (arith, nat_tests)
+  by_kind _ e = grind (arith, nat_tests)
 
--- A text may be cut before a byte of ASCII, and behind it.
-cut : (text : List ℕ) (i m : ℕ) → IsUtf8 text → i < length text → get_or text i 0 < 128 → m ≤ 1 → IsCharBoundary text (i + m)
-cut text i zero u w ascii short = let same : i + 0 ≡ i = omega arith in rw same (IsCharBoundary-before_ascii text i w ascii)
-cut text i (suc zero) u w ascii short = IsCharBoundary-after_ascii text i u w ascii
-cut text i (suc (suc m)) u w ascii short = absurd (omega arith)
+-- A text may be cut before a gap or a token: it begins with a byte of ASCII.
+cut_before : (text : List ℕ) (at : ℕ) (piece : Piece) → IsAtFront (drop at text) piece → IsCharBoundary text at
+cut_before text at piece h =
+    let w = piece_within piece (drop at text) h in
+    let here : at + 0 ≡ at = omega arith in
+    IsCharBoundary-before_ascii text at (omega (arith, w.0, w.1, length-drop at text)) (rw (get_or-drop at text 0 0, here) at (ascii_first (drop at text) piece h))
+
+quote_ends : (text : List ℕ) (n : ℕ) → IsLongest Quoted n text → (2 ≤ n) × (get_or text 0 0 ≡ 34) × (get_or text (n - 1) 0 ≡ 34)
+unfolding is_token
+quote_ends (c ∷ cs) (suc (suc m)) h =
+    let both = and_parts (c == 34) _ h.spelled in
+    let close = closed-complete cs (suc m) (omega (arith, h.within)) both.1 in
+    let last : m ≡ prefix_len is_quotable cs = omega (arith, close.0) in
+    let behind : suc (suc m) - 1 ≡ suc m = omega arith in
+    (omega arith, eqb-true c 34 both.0, rw (behind, last) close.1)
+quote_ends (c ∷ cs) (suc zero) h = let none = (and_parts (c == 34) (is_closed_by_quote []) h.spelled).1 in absurd cc
+quote_ends [] (suc n) h = let none = h.spelled in absurd cc
+quote_ends text zero h = let none = h.spelled in absurd cc
 
 small_content : (kind : TokenKind) (text : List ℕ) (at n : ℕ) → IsSmall kind (take n (drop at text)) → IsSmall kind (content text (record { kind = kind; at = at; len = n }))
 small_content Integer text at n small =
@@ -30,32 +56,42 @@ small_content Integer text at n small =
     rw (start, len) small
 small_content _ text at n small = tt
 
-readable : (text : List ℕ) (at n : ℕ) (kind : TokenKind) → IsUtf8 text → IsLongest kind n (drop at text) → IsSmall kind (take n (drop at text)) → IsReadable text (record { kind = kind; at = at; len = n })
-readable text at n kind u longest small =
-    let ends = token_ends kind (take n (drop at text)) longest.spelled in
-    let long : length (take n (drop at text)) ≡ n = length-take-le n (drop at text) longest.within in
-    let some : 0 < n = rw long at ends.some in
-    let room : at + n ≤ length text = omega (arith, longest.within, length-drop at text) in
-    let byte : (i : ℕ) → i < n → get_or (take n (drop at text)) i 0 ≡ get_or text (at + i) 0 = λ i h. get_or-take n (drop at text) i 0 h ∙ get_or-drop at text i 0 in
-    let here : at + 0 ≡ at = omega arith in
-    let short = margin_short kind in
-    let end : at + n - margin kind ≡ (at + (n - 1)) + (1 - margin kind) = omega arith in
+readable : (text : List ℕ) (at n : ℕ) (kind : TokenKind) → IsUtf8 text → IsAtFront (drop at text) (pieces.Token kind n) → IsCharBoundary text (at + n) → IsReadable text (record { kind = kind; at = at; len = n })
+readable text at n Quoted u h behind =
+    let q = quote_ends (drop at text) n h.0 in
+    let first : get_or text (at + 0) 0 ≡ 34 = sym (get_or-drop at text 0 0) ∙ q.1 in
+    let last : get_or text (at + (n - 1)) 0 ≡ 34 = sym (get_or-drop at text (n - 1) 0) ∙ q.2 in
+    let start : at + 0 ≡ at = omega arith in
+    let end : at + n - 1 ≡ at + (n - 1) = omega (arith, q.0) in
     record {
-      quotes = rw long at ends.quotes;
-      within = room;
-      starts = cut text at (margin kind) u (omega arith) (rw (byte 0 some, here) at ends.first) short;
-      ends = rw end (cut text (at + (n - 1)) (1 - margin kind) u (omega arith) (rw (long, byte (n - 1) (omega arith)) at ends.last) (omega arith));
-      small = small_content kind text at n small;
+      quotes = q.0;
+      within = behind.0;
+      starts = IsCharBoundary-after_ascii text at u (omega (arith, q.0, behind.0)) (omega (arith, rw start at first));
+      ends = rw end (IsCharBoundary-before_ascii text (at + (n - 1)) (omega (arith, q.0, behind.0)) (omega (arith, last)));
+      small = tt;
     }
+readable text at n kind u h behind =
+    let start : at + 0 ≡ at = omega arith in
+    let end : at + n - 0 ≡ at + n = omega arith in
+    record { quotes = omega arith; within = behind.0; starts = rw start (cut_before text at (pieces.Token kind n) h); ends = rw end behind; small = small_content kind text at n h.1 }
 
-further : (whole : List ℕ) (at n : ℕ) → drop (at + n) whole ≡ drop n (drop at whole)
-further whole at n = grind (arith, common_steps)
+-- The tokens from a place on can be read, and the text may be cut there.
+from_place : (whole : List ℕ) (at : ℕ) (text : List ℕ) (tokens : List Token) → IsUtf8 whole → drop at whole ≡ text → at ≤ length whole → Spells at text tokens → AreReadable whole tokens × IsCharBoundary whole at
+from_place whole at text tokens u e w finished = (All-nil (IsReadable whole), (w, λ h. absurd (omega (arith, ap length e, length-drop at whole))))
+from_place whole at text tokens u e w (gap n g rest) =
+    let here : IsAtFront (drop at whole) (pieces.Gap n) = rw e g in
+    let room = piece_within (pieces.Gap n) (drop at whole) here in
+    let others = from_place whole (at + n) (drop n text) tokens u (sym (drop-drop n at whole) ∙ ap (drop n) e) (omega (arith, room.0, room.1, length-drop at whole)) rest in
+    (others.0, cut_before whole at (pieces.Gap n) here)
+from_place whole at text tokens u e w (token {tokens = behind} kind n longest small rest) =
+    let here : IsAtFront (drop at whole) (pieces.Token kind n) = (rw e longest, rw e small) in
+    let room = piece_within (pieces.Token kind n) (drop at whole) here in
+    let others = from_place whole (at + n) (drop n text) behind u (sym (drop-drop n at whole) ∙ ap (drop n) e) (omega (arith, room.0, room.1, length-drop at whole)) rest in
+    (All-cons (IsReadable whole) (record { kind = kind; at = at; len = n }) behind (readable whole at n kind u here others.1) others.0, cut_before whole at (pieces.Token kind n) here)
 
-from_place : (whole : List ℕ) (at : ℕ) (text : List ℕ) (tokens : List Token) → IsUtf8 whole → drop at whole ≡ text → Spells at text tokens → AreReadable whole tokens
-from_place whole at text tokens u e finished = All-nil (IsReadable whole)
-from_place whole at text tokens u e (gap n g rest) = from_place whole (at + n) (drop n text) tokens u (further whole at n ∙ ap (drop n) e) rest
-from_place whole at text tokens u e (token {tokens = others} kind n longest small rest) =
-    All-cons (IsReadable whole) (record { kind = kind; at = at; len = n }) others (readable whole at n kind u (rw e longest) (rw e small)) (from_place whole (at + n) (drop n text) others u (further whole at n ∙ ap (drop n) e) rest)
+mark_within : (text : List ℕ) → mark_len text ≤ length text
+mark_within (a ∷ b ∷ c ∷ text) = grind (arith, nat_tests)
+mark_within _ = grind (arith, nat_tests)
 
 pub all_readable : (text : List ℕ) (tokens : List Token) → SpellsText text tokens → AreReadable text tokens
-all_readable text tokens s = from_place text (mark_len text) (drop (mark_len text) text) tokens s.utf8 refl s.spelled
+all_readable text tokens s = (from_place text (mark_len text) (drop (mark_len text) text) tokens s.utf8 refl (mark_within text) s.spelled).0

@@ -7,7 +7,7 @@ ghost use Rattle.fb_syntax.specs.declared.tokens.TokenKind.TheVariants.{Integer}
 ghost use Rattle.fb_syntax.specs.Gaps.{is_close, ClosesBehind};
 ghost use Rattle.fb_syntax.specs.Fronts.{IsFront};
 ghost use Rattle.fb_syntax.specs.TokenBytes.{starts};
-ghost use Rattle.fb_syntax.specs.Spells.{Spells, SpellsText, OneSpelling, mark_len};
+ghost use Rattle.fb_syntax.specs.Spells.{SpellsText, OneSpelling, mark_len};
 ghost use Rattle.fb_syntax.specs.Refusals.{StandsWithin, IsTokenFault};
 
 use crate::bytes::{
@@ -124,36 +124,6 @@ fn next_piece(at: u64, text: &[u8]) -> Result<Piece, SyntaxFault>
     }
 }
 
-// The tokens from `start` on.
-fn tokens_from(alloc: Global, start: usize, text: &[u8]) -> Result<Vec<Token>, SyntaxFault>
-    requires { start ≤ length text.now }
-    ensures found { IfOk result (λ v. Spells start (drop start text.now) v.items) }
-    ensures only { (tokens : List Token) →
-        Spells start (drop start text.now) tokens
-        → MatchResult result (λ v. v.items ≡ tokens) (λ e. e ≡ SyntaxFault.Memory) }
-    ensures fault { IfErr result IsTokenFault }
-    ensures within { IfErr result (StandsWithin (length text.now)) }
-{
-    let mut found = Vec::new(alloc);
-    let mut at = start;
-    while at < text.len() {
-        match next_piece(at as u64, &text[at..]) {
-            Ok(Piece::Gap(len)) => at += len,
-            Ok(Piece::Token(kind, len)) => {
-                let token = Token {
-                    kind,
-                    at: at as u64,
-                    len: len as u64,
-                };
-                found.push(token).or(Err(SyntaxFault::Memory))?;
-                at += len;
-            }
-            Err(fault) => return Err(fault),
-        }
-    }
-    Ok(found)
-}
-
 fn mark_len(text: &[u8]) -> usize
     ensures len { result ≡ mark_len text.now }
     ensures within { result ≤ length text.now }
@@ -184,7 +154,24 @@ pub(crate) fn tokens_in(alloc: Global, text: &str) -> Result<Vec<Token>, SyntaxF
     ensures within { IfErr result (StandsWithin (length text.now)) }
 {
     let bytes = text.as_bytes();
-    tokens_from(alloc, mark_len(bytes), bytes)
+    let mut found = Vec::new(alloc);
+    let mut at = mark_len(bytes);
+    while at < bytes.len() {
+        match next_piece(at as u64, &bytes[at..]) {
+            Ok(Piece::Gap(len)) => at += len,
+            Ok(Piece::Token(kind, len)) => {
+                let token = Token {
+                    kind,
+                    at: at as u64,
+                    len: len as u64,
+                };
+                found.push(token).or(Err(SyntaxFault::Memory))?;
+                at += len;
+            }
+            Err(fault) => return Err(fault),
+        }
+    }
+    Ok(found)
 }
 
 /// A text is spelled by one list of tokens at most.

@@ -1,9 +1,47 @@
-use Rattle.std.proofs.lemmas.Result.{IfOk-weaker}
+use Rattle.std.proofs.Common.{arith, sym, ◌∙◌}
+use Rattle.std.proofs.lemmas.List.{append-nil, take_rest}
+use Rattle.fb_syntax.specs.Spells.{mark_len}
+use Rattle.fb_syntax.specs.declared.scan.Piece.TheVariants as pieces
+use Rattle.fb_syntax.proofs.Steps.{kept_ok}
+use Rattle.fb_syntax.proofs.ScanSteps.{begun, Passed, over_piece, over_fault, over}
 use Rattle.fb_syntax.proofs.scan.tokens_in.Goals as goal
+use Rattle.fb_syntax.proofs.scan.tokens_in.Goals.{In-Ok-Gap, In-Ok-Token}
+
+pub loop-at-init : goal.loop-at-init
+loop-at-init c = rw (c.new-found.ensures.items, c.mark_len-at.ensures.len) (begun _ _ (rw c.mark_len-at.ensures.len at c.mark_len-at.ensures.within))
+
+gap_here : (c : In-Ok-Gap) → Passed (mark_len c.as_bytes-bytes.result.now) c.as_bytes-bytes.result.now c.loop-at.at c.loop-at.found.items (pieces.Gap c.in-Ok-Gap.len)
+gap_here c = over_piece _ _ _ _ (pieces.Gap c.in-Ok-Gap.len) c.loop-at.invariant (rw (take_rest c.as_bytes-bytes.result.now c.loop-at.at, c.in-Ok-Gap.field-0-is) at c.in-Ok-Gap.ensures.piece)
+
+token_here : (c : In-Ok-Token) → Passed (mark_len c.as_bytes-bytes.result.now) c.as_bytes-bytes.result.now c.loop-at.at c.loop-at.found.items (pieces.Token c.in-Ok-Token.kind c.in-Ok-Token.len)
+token_here c = over_piece _ _ _ _ (pieces.Token c.in-Ok-Token.kind c.in-Ok-Token.len) c.loop-at.invariant (rw (take_rest c.as_bytes-bytes.result.now c.loop-at.at, c.in-Ok-Token.field-0-is) at c.in-Ok-Token.ensures.piece)
+
+pub overflow_add-at : goal.overflow_add-at
+overflow_add-at c = let h = gap_here (goal.at.overflow_add-at c).In-Ok-Gap in omega (arith, h.0)
+
+pub loop-at-smaller-in-Ok-Gap : goal.loop-at-smaller-in-Ok-Gap
+loop-at-smaller-in-Ok-Gap c = let h = gap_here (goal.at.loop-at-smaller-in-Ok-Gap c).In-Ok-Gap in omega (arith, h.0, h.1)
+
+pub loop-at-preserved-in-Ok-Gap : goal.loop-at-preserved-in-Ok-Gap
+loop-at-preserved-in-Ok-Gap c = rw append-nil at (gap_here (goal.at.loop-at-preserved-in-Ok-Gap c).In-Ok-Gap).2
+
+pub overflow_add-at-in-Ok-Token : goal.overflow_add-at-in-Ok-Token
+overflow_add-at-in-Ok-Token c = let h = token_here (goal.at.overflow_add-at-in-Ok-Token c).In-Ok-Token in omega (arith, h.0)
+
+pub loop-at-smaller : goal.loop-at-smaller
+loop-at-smaller c = let h = token_here (goal.at.loop-at-smaller c).In-Ok-Token in omega (arith, h.0, h.1)
+
+pub loop-at-preserved : goal.loop-at-preserved
+loop-at-preserved c =
+    let h = token_here (goal.at.loop-at-preserved c).In-Ok-Token in
+    rw (rw (kept_ok c.push.result _ _ (sym c.or.ensures ∙ c.in_ok-or-in-Ok-Token.was)) at c.push.ensures.items) h.2
+
+pub returns-in-Err-clause-only : goal.returns-in-Err-clause-only
+returns-in-Err-clause-only c =
+    λ tokens spelled. absurd (over_fault _ _ _ _ c.loop-at.invariant c.loop-at-test.true (rw take_rest at c.in-Err.ensures.piece) tokens (rw c.as_bytes-bytes.ensures.value spelled.spelled))
 
 pub returns-clause-found : goal.returns-clause-found
-returns-clause-found c =
-    IfOk-weaker c.tokens_from.result _ _ (λ v s. record { utf8 = c.utf8.text; spelled = rw (c.mark_len.ensures.len, c.as_bytes-bytes.ensures.value) at s }) c.tokens_from.ensures.found
+returns-clause-found c = record { utf8 = c.utf8.text; spelled = rw c.as_bytes-bytes.ensures.value at (over _ _ _ _ c.loop-at.invariant c.loop-at-test.false).0 }
 
 pub returns-clause-only : goal.returns-clause-only
-returns-clause-only c = λ tokens s. c.tokens_from.ensures.only tokens (rw (c.mark_len.ensures.len, c.as_bytes-bytes.ensures.value) s.spelled)
+returns-clause-only c = λ tokens spelled. (over _ _ _ _ c.loop-at.invariant c.loop-at-test.false).1 tokens (rw c.as_bytes-bytes.ensures.value spelled.spelled)

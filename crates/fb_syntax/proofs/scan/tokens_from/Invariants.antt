@@ -1,9 +1,0 @@
-use Rattle.std.proofs.Common.{◌-◌, length}
-use Rattle.fb_syntax.proofs.ScanSteps.{Scanned}
-use Rattle.fb_syntax.proofs.scan.tokens_from.Given as goal
-
-abbrev pub invariant-loop-at : goal.invariant-loop-at
-invariant-loop-at l = Scanned l.fn.start l.text l.at l.found.items
-
-abbrev pub decreases-loop-at : goal.decreases-loop-at
-decreases-loop-at l = length l.text - l.at
