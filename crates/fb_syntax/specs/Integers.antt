@@ -1,5 +1,6 @@
 -- Integers and their values (Grammar: integer_constant, dec_integer_constant, hex_integer_constant).
-use Rattle.std.specs.Prelude.{ℕ, ◌≡◌, ◌≤◌, ◌<◌, ◌+◌, ◌-◌, ◌*◌, ◌^◌, Bool, true, false, ◌==◌, ◌||◌, ◌&&◌, List, [], ◌∷◌, length, take, drop, if◌then◌else◌, ℤ, pos, ◌-ℤ◌}
+use Rattle.std.specs.Prelude.{ℕ, ◌≡◌, ◌≤◌, ◌<◌, ◌-◌, Bool, true, false, ◌==◌, ◌||◌, ◌&&◌, not, List, [], ◌∷◌, length, take, drop, map, if◌then◌else◌, ℤ, pos, ◌-ℤ◌}
+use Rattle.std.specs.Int.Digits.{number_from_digits}
 use Rattle.std.specs.List.{list_all}
 use Rattle.fb_syntax.specs.Located.{Located}
 use Rattle.fb_syntax.specs.NumberRead.{NumberRead}
@@ -15,8 +16,7 @@ abbrev pub without_sign : List ℕ → List ℕ
 without_sign s = drop (sign_len s) s
 
 abbrev pub is_decimal : List ℕ → Bool
-is_decimal [] = false
-is_decimal (c ∷ cs) = list_all is_digit (c ∷ cs)
+is_decimal s = not (length s == 0) && list_all is_digit s
 
 -- 0x or 0X, and a digit behind it
 abbrev pub is_prefixed : List ℕ → Bool
@@ -41,10 +41,8 @@ pub record IsNumberLen (n : ℕ) (text : List ℕ) : Type 0 where
 abbrev pub digit_value : ℕ → ℕ
 digit_value c = if is_digit c then c - 48 else (if is_between 97 102 c then c - 87 else (if is_between 65 70 c then c - 55 else 0))
 
--- the sum of the digits, each times the base to the number of digits behind it
 abbrev pub digits_value : ℕ → List ℕ → ℕ
-digits_value base [] = 0
-digits_value base (c ∷ cs) = digit_value c * base ^ length cs + digits_value base cs
+digits_value base digits = number_from_digits base (map digit_value digits)
 
 abbrev pub unsigned_value : List ℕ → ℕ
 unsigned_value s = if is_prefixed s then digits_value 16 (drop 2 s) else digits_value 10 s

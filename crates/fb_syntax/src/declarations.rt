@@ -1,7 +1,6 @@
 //! What a schema text declares.
 ghost use Rattle.std.specs.Prelude.{◌≡◌, ◌<ℤ◌, pos, negsuc, IfOk};
 ghost use Rattle.fb_syntax.specs.Located.{joined};
-ghost use Rattle.fb_syntax.specs.NumberRead.{signed};
 
 use std::alloc::{AllocError, Global};
 use std::marker::Model;
@@ -94,46 +93,30 @@ impl<'t> DottedName<'t> {
 /// An integer constant: its value, and the offset of its token.
 #[derive(Clone, Copy, Debug, PartialEq, Eq)]
 pub struct Number {
-    is_negative: bool,
-    magnitude: u64,
-    at: u64,
+    pub(crate) value: i128,
+    pub(crate) at: u64,
 }
 
 impl Model for Number {
-    ghost use Rattle.std.specs.Prelude.{◌≡◌, ◌<◌, true};
-    ghost use Rattle.fb_syntax.specs.NumberRead.{NumberRead, signed};
+    ghost use Rattle.std.specs.Prelude.{◌<ℤ◌, pos, negsuc};
+    ghost use Rattle.fb_syntax.specs.NumberRead.{NumberRead};
 
     ghost Value = { NumberRead };
 
-    ghost use Rattle.fb_syntax.specs.Signed.{inside_of, inside_of-view};
+    ghost view = { λ n. record { value = n.value; at = n.at } };
 
-    ghost view = { λ n. record { value = signed n.is_negative n.magnitude; at = n.at } };
+    ghost invariant = { λ n. (negsuc 18446744073709551615 <ℤ n.value) × (n.value <ℤ pos 18446744073709551616) };
 
-    ghost invariant = { λ n. (n.is_negative ≡ true → 0 < n.magnitude) × (n.magnitude < 18446744073709551616) };
-
-    ghost inverse = { inside_of };
-
-    ghost inverse_ok = { λ n h. inside_of-view n h.0 };
+    ghost inverse = { λ n. record { value = n.value; at = n.at } };
 }
 
 impl Number {
-    pub(crate) fn new(is_negative: bool, magnitude: u64, at: u64) -> Number
-        ensures { result ≡ record { value = signed is_negative magnitude; at = at } }
-    {
-        Number {
-            is_negative: is_negative && magnitude > 0,
-            magnitude,
-            at,
-        }
-    }
-
     /// Its value.
     pub fn value(self) -> i128
         ensures exact { result ≡ self.value }
         ensures small { (negsuc 18446744073709551615 <ℤ result) × (result <ℤ pos 18446744073709551616) }
     {
-        let value = i128::from(self.magnitude);
-        if self.is_negative { -value } else { value }
+        self.value
     }
 
     /// The offset of its token.

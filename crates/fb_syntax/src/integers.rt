@@ -1,11 +1,13 @@
 //! Integers, their lengths and their values.
 ghost use Rattle.std.specs.Prelude.{◌≡◌, ◌≤◌, ◌<◌, ◌+◌, ◌*◌, ◌↔◌, length};
 ghost use Rattle.std.specs.Prelude.{MatchOption, IsTrue, IsSome, IfSome};
+ghost use Rattle.std.specs.List.{list_all};
+ghost use Rattle.fb_syntax.specs.Bytes.{is_digit, is_hex};
 ghost use Rattle.fb_syntax.specs.Integers.{is_integer, is_prefixed, sign_len, digit_value, digits_value, IsNumberLen};
 ghost use Rattle.fb_syntax.specs.Integers.{magnitude, is_negative, signed_value, number_of};
 ghost use Rattle.fb_syntax.specs.Integers.{greatest_magnitude, IsInteger};
 
-use crate::bytes::{digit_run, hex_run, is_hex, is_sign};
+use crate::bytes::{digit_run, hex_run, is_digit, is_hex, is_sign};
 use crate::declarations::{Number, Text};
 
 fn digit_value(byte: u8) -> u64
@@ -21,22 +23,15 @@ fn digit_value(byte: u8) -> u64
     u64::from(value)
 }
 
-fn with_digit(high: u64, base: u64, digit: u64) -> Option<u64>
-    ensures { let value = high * base + digit in
-        MatchOption result (greatest_magnitude < value) (λ v. v ≡ value) }
-{
-    high.checked_mul(base)?.checked_add(digit)
-}
-
 #[tactic(auto, using(crate::proofs::DigitSums::valuing))]
 fn digits_value(base: u64, digits: &[u8]) -> Option<u64>
     requires { 0 < base }
     ensures { let value = digits_value base digits.now in
         MatchOption result (greatest_magnitude < value) (λ v. v ≡ value) }
 {
-    let mut high = 0;
+    let mut high: u64 = 0;
     for byte in digits {
-        high = with_digit(high, base, digit_value(*byte))?;
+        high = high.checked_mul(base)?.checked_add(digit_value(*byte))?;
     }
     Some(high)
 }
@@ -80,11 +75,23 @@ pub(crate) fn number_len(text: &[u8]) -> usize
     }
 }
 
+fn are_digits(bytes: &[u8]) -> bool
+    ensures { result ≡ list_all is_digit bytes.now }
+{
+    bytes.iter().all(|b| is_digit(*b))
+}
+
+fn are_hex(bytes: &[u8]) -> bool
+    ensures { result ≡ list_all is_hex bytes.now }
+{
+    bytes.iter().all(|b| is_hex(*b))
+}
+
 fn is_integer(spelling: &[u8]) -> bool
     ensures { result ≡ is_integer spelling.now }
 {
     let digits = &spelling[sign_len(spelling)..];
-    !digits.is_empty() && number_len(digits) == digits.len()
+    !digits.is_empty() && are_digits(digits) || is_prefixed(digits) && are_hex(&digits[2..])
 }
 
 fn is_negative(spelling: &[u8]) -> bool
@@ -93,13 +100,23 @@ fn is_negative(spelling: &[u8]) -> bool
     matches!(spelling, [b'-', ..])
 }
 
+fn signed_value(spelling: &[u8]) -> Option<i128>
+    ensures found { IsSome result ↔ (magnitude spelling.now ≤ greatest_magnitude) }
+    ensures value { IfSome result (λ v. v ≡ signed_value spelling.now) }
+{
+    let value = i128::from(magnitude(spelling)?);
+    Some(if is_negative(spelling) { -value } else { value })
+}
+
 /// The number that an integer constant is.
 pub(crate) fn number_of(digits: Text<'_>) -> Number
     requires { magnitude digits.bytes ≤ greatest_magnitude }
     ensures { result ≡ number_of digits.entry }
 {
-    let bytes = digits.text.as_bytes();
-    Number::new(is_negative(bytes), magnitude(bytes).unwrap(), digits.at)
+    Number {
+        value: signed_value(digits.text.as_bytes()).unwrap(),
+        at: digits.at,
+    }
 }
 
 /// The value of an integer, with its sign; `None` for what is no integer or too great.
@@ -108,9 +125,9 @@ pub fn integer_value(spelling: &str) -> Option<i128>
     ensures value { IfSome result (λ v. v ≡ signed_value spelling.now) }
 {
     let bytes = spelling.as_bytes();
-    if !is_integer(bytes) {
-        return None;
+    if is_integer(bytes) {
+        signed_value(bytes)
+    } else {
+        None
     }
-    let value = i128::from(magnitude(bytes)?);
-    Some(if is_negative(bytes) { -value } else { value })
 }
