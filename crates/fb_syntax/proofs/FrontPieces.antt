@@ -1,5 +1,5 @@
 -- What stands at the front decides which tokens a text has.
-use Rattle.std.proofs.Common.{◌≡◌, ℕ, ◌+◌, ◌<◌, List, [], ◌∷◌, ◌++◌, ◌≤◌, length, drop, refl, ap, sym, arith}
+use Rattle.std.proofs.Common.{◌≡◌, ℕ, ◌+◌, ◌<◌, List, [], ◌∷◌, ◌++◌, ◌≤◌, length, drop, refl, ap, sym}
 use Rattle.fb_syntax.specs.declared.tokens.Token.{Token}
 use Rattle.fb_syntax.specs.declared.scan.Piece.{Piece}
 use Rattle.fb_syntax.specs.declared.scan.Piece.TheVariants as pieces
@@ -32,20 +32,15 @@ behind at text piece tokens h (gap n g rest) = rw (one_piece text piece (pieces.
 behind at text piece tokens h (token {tokens = others} kind n longest small rest) =
     rw (one_piece text piece (pieces.Token kind n) h (longest, small)) (others, refl, rest)
 
--- Where nothing stands, the text has no tokens.
-pub no_piece : (at : ℕ) (text : List ℕ) (tokens : List Token) → ((piece : Piece) → IsAtFront text piece → ⊥) → 0 < length text → Spells at text tokens → ⊥
-no_piece at text tokens none long finished = absurd (omega arith)
-no_piece at text tokens none long (gap n g rest) = none (pieces.Gap n) g
-no_piece at text tokens none long (token kind n longest small rest) = none (pieces.Token kind n) (longest, small)
-
-pub at_end : (at : ℕ) (tokens : List Token) → Spells at [] tokens → tokens ≡ []
-at_end at tokens finished = refl
-at_end at tokens (gap n g rest) = absurd (nowhere (pieces.Gap n) g)
-at_end at tokens (token kind n longest small rest) = absurd (nowhere (pieces.Token kind n) (longest, small))
+-- Where nothing stands, only the end of the text is spelled.
+pub nothing : (at : ℕ) (text : List ℕ) (tokens : List Token) → ((piece : Piece) → IsAtFront text piece → ⊥) → Spells at text tokens → (length text ≡ 0) × (tokens ≡ [])
+nothing at text tokens none finished = (refl, refl)
+nothing at text tokens none (gap n g rest) = absurd (none (pieces.Gap n) g)
+nothing at text tokens none (token kind n longest small rest) = absurd (none (pieces.Token kind n) (longest, small))
 
 -- A text has one list of tokens.
 pub same_tokens : (at : ℕ) (text : List ℕ) (xs ys : List Token) → Spells at text xs → Spells at text ys → xs ≡ ys
-same_tokens at text xs ys finished other = sym (at_end at ys other)
+same_tokens at text xs ys finished other = sym (nothing at [] ys nowhere other).1
 same_tokens at text xs ys (gap n g rest) other =
     let split = behind at text (pieces.Gap n) ys g other in
     rw split.1 (same_tokens (at + n) (drop n text) xs split.0 rest split.2)

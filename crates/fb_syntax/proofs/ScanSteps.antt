@@ -5,7 +5,8 @@ use Rattle.fb_syntax.specs.declared.tokens.Token.{Token}
 use Rattle.fb_syntax.specs.Spells.{Spells, finished}
 use Rattle.fb_syntax.specs.declared.scan.Piece.{Piece}
 use Rattle.fb_syntax.specs.Fronts.{IsAtFront}
-use Rattle.fb_syntax.proofs.FrontPieces.{len_of, tokens_of, piece_within, in_front, behind, no_piece, at_end}
+use Rattle.fb_syntax.proofs.FirstBytes.{nowhere}
+use Rattle.fb_syntax.proofs.FrontPieces.{len_of, tokens_of, piece_within, in_front, behind, nothing}
 
 -- Before the place `at` stand the tokens `found`: with those behind it they are all, and none else are.
 pub record Scanned (start : ℕ) (text : List ℕ) (at : ℕ) (found : List Token) : Type 0 where
@@ -39,12 +40,12 @@ over_piece start text at found piece s here =
 pub over_fault : (start : ℕ) (text : List ℕ) (at : ℕ) (found : List Token) → Scanned start text at found → at < length text → ((piece : Piece) → IsAtFront (drop at text) piece → ⊥) → (every : List Token) → Spells start (drop start text) every → ⊥
 over_fault start text at found s h none every spelled =
     let split = s.only every spelled in
-    no_piece at (drop at text) split.0 none (omega (arith, length-drop at text)) split.2
+    let end = nothing at (drop at text) split.0 none split.2 in omega (arith, end.0, length-drop at text)
 
 pub over : (start : ℕ) (text : List ℕ) (at : ℕ) (found : List Token) → Scanned start text at found → length text ≤ at → Spells start (drop start text) found × ((every : List Token) → Spells start (drop start text) every → found ≡ every)
 over start text at found s h =
     let none : drop at text ≡ [] = grind (arith, common_steps) in
     let whole : found ++ [] ≡ found = grind (arith, common_steps) in (
       rw whole at (s.sound [] (rw none finished)),
-      λ every spelled. let split = s.only every spelled in let last = at_end at split.0 (rw none at split.2) in sym (split.1 ∙ ap (λ r. found ++ r) last ∙ whole),
+      λ every spelled. let split = s.only every spelled in let last = nothing at [] split.0 nowhere (rw none at split.2) in sym (split.1 ∙ ap (λ r. found ++ r) last.1 ∙ whole),
     )

@@ -6,7 +6,6 @@ pub mod TokenBytes
 pub mod Fronts
 pub mod Located
 pub mod NumberRead
-pub mod Spelled
 pub mod FieldRead
 pub mod TypesRead
 pub mod DeclsRead

@@ -3,6 +3,7 @@ ghost use Rattle.std.specs.Prelude.{◌≡◌, ◌<ℤ◌, pos, negsuc, IfOk};
 ghost use Rattle.fb_syntax.specs.Located.{joined};
 
 use std::alloc::{AllocError, Global};
+use std::borrow::CowStr;
 use std::marker::Model;
 
 /// A word of a schema text, or what is between the quotes of a quoted text, and its token's offset.
@@ -20,28 +21,20 @@ impl<'t> Model for Text<'t> {
     ghost view = { λ t. record { bytes = t.text.now; at = t.at } };
 }
 
-/// A name's words: one that stands in the schema text, or several with dots between them.
-#[derive(Debug, Drop)]
-enum Spelling<'t> {
-    Word(&'t str),
-    Dotted(String),
-}
-
 /// A name of words with dots between them, and the offset of its first word.
 #[derive(Debug, Drop)]
 pub struct DottedName<'t> {
-    spelling: Spelling<'t>,
+    words: CowStr<'t>,
     at: u64,
 }
 
 impl<'t> Model for DottedName<'t> {
+    ghost use Rattle.std.specs.Cow.{cow_str_bytes};
     ghost use Rattle.fb_syntax.specs.Located.{Located};
 
     ghost Value = { Located };
 
-    ghost use Rattle.fb_syntax.specs.Spelled.{spelled};
-
-    ghost view = { λ n. record { bytes = spelled n.spelling; at = n.at } };
+    ghost view = { λ n. record { bytes = cow_str_bytes n.words; at = n.at } };
 }
 
 impl<'t> DottedName<'t> {
@@ -50,7 +43,7 @@ impl<'t> DottedName<'t> {
         ensures { result ≡ word.entry }
     {
         DottedName {
-            spelling: Spelling::Word(word.text),
+            words: CowStr::Borrowed(word.text),
             at: word.at,
         }
     }
@@ -59,15 +52,12 @@ impl<'t> DottedName<'t> {
     pub(crate) fn join(self, alloc: Global, word: &str) -> Result<DottedName<'t>, AllocError>
         ensures { IfOk result (λ n. n ≡ joined self.entry word.now) }
     {
-        let DottedName { spelling, at } = self;
-        let mut name = match spelling {
-            Spelling::Word(first) => String::from_str(alloc, first)?,
-            Spelling::Dotted(name) => name,
-        };
+        let DottedName { words, at } = self;
+        let mut name = words.into_owned(alloc)?;
         name.push_str(".")?;
         name.push_str(word)?;
         Ok(DottedName {
-            spelling: Spelling::Dotted(name),
+            words: CowStr::Owned(name),
             at,
         })
     }
@@ -76,10 +66,7 @@ impl<'t> DottedName<'t> {
     pub fn as_str(&self) -> &str
         ensures { result.now ≡ self.now.bytes }
     {
-        match &self.spelling {
-            Spelling::Word(word) => *word,
-            Spelling::Dotted(name) => name.as_str(),
-        }
+        self.words.as_str()
     }
 
     /// The offset of its first word.

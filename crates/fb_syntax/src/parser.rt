@@ -57,17 +57,6 @@ fn located<'t>(text: &'t str, token: Token) -> Text<'t>
 }
 
 impl<'t, 's> Parser<'t, 's> {
-    fn new(alloc: Global, text: &'t str, tokens: &'s [Token]) -> Parser<'t, 's>
-        requires { AreReadable text.now tokens.now }
-        ensures { result ≡ lexemes text.now tokens.now }
-    {
-        Parser {
-            alloc,
-            text,
-            tokens,
-        }
-    }
-
     /// How many tokens are left.
     fn left(&self) -> usize
         ensures { result ≡ length self.now }

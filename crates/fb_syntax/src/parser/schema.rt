@@ -11,7 +11,8 @@ ghost use Rattle.fb_syntax.specs.Stops.{Gives, IsGrammarFault};
 use super::keywords::{Keyword, keyword_of};
 use super::lists::Item;
 use super::{Parser, Stop};
-use crate::declarations::{Declaration, Decls, Directive, DottedName, Text, TypeDecl};
+use crate::declarations::Directive::{FileExtension, FileIdentifier, RootType};
+use crate::declarations::{Declaration, Decls, DottedName, Text, TypeDecl};
 use crate::faults::SyntaxFault;
 use crate::tokens::Token;
 use crate::tokens::TokenKind::{Punct, Quoted, Word};
@@ -83,14 +84,10 @@ impl<'t> Parser<'t, '_> {
             Keyword::Root => {
                 let name = self.name()?;
                 self.token(Punct(b';'))?;
-                Ok(Declaration::Directive(Directive::RootType(name)))
+                Ok(Declaration::Directive(RootType(name)))
             }
-            Keyword::Extension => Ok(Declaration::Directive(Directive::FileExtension(
-                self.quoted()?,
-            ))),
-            Keyword::Identifier => Ok(Declaration::Directive(Directive::FileIdentifier(
-                self.quoted()?,
-            ))),
+            Keyword::Extension => Ok(Declaration::Directive(FileExtension(self.quoted()?))),
+            Keyword::Identifier => Ok(Declaration::Directive(FileIdentifier(self.quoted()?))),
         }
     }
 }
@@ -120,7 +117,11 @@ pub(crate) fn declarations_of<'t>(
     ensures fault { IfErr result IsGrammarFault }
     ensures within { IfErr result (StandsWithin (length text.now)) }
 {
-    let mut parser = Parser::new(alloc, text, tokens);
+    let mut parser = Parser {
+        alloc,
+        text,
+        tokens,
+    };
     match parser.items(None) {
         Ok(declarations) => Ok(Decls::new(declarations, text.len() as u64)),
         Err(stop) => Err(stop.at(offset_of(text, tokens, parser.left()))),

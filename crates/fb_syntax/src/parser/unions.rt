@@ -16,18 +16,12 @@ impl<'t> Item<'t> for UnionMember<'t> {
     #[tactic(auto, unfolding(crate::specs::Rules::listed_item, crate::specs::Grammar::union_member))]
     fn read(parser: &mut Parser<'t, '_>) -> Result<UnionMember<'t>, Stop> {
         let word = parser.token(Word)?;
-        let member = match parser.take(Punct(b':')) {
-            Some(_) => UnionMember {
-                alias: Some(word),
-                table: parser.name()?,
-            },
-            None => UnionMember {
-                alias: None,
-                table: parser.name_from(word)?,
-            },
+        let (alias, table) = match parser.take(Punct(b':')) {
+            Some(_) => (Some(word), parser.name()?),
+            None => (None, parser.name_from(word)?),
         };
         parser.comma(true, b'}')?;
-        Ok(member)
+        Ok(UnionMember { alias, table })
     }
 }
 
