@@ -24,8 +24,8 @@ impl<'t> Model for Text<'t> {
 /// A name of words with dots between them, and the offset of its first word.
 #[derive(Debug, Drop)]
 pub struct DottedName<'t> {
-    words: CowStr<'t>,
-    at: u64,
+    pub(crate) words: CowStr<'t>,
+    pub(crate) at: u64,
 }
 
 impl<'t> Model for DottedName<'t> {
@@ -38,16 +38,6 @@ impl<'t> Model for DottedName<'t> {
 }
 
 impl<'t> DottedName<'t> {
-    /// A name of one word.
-    pub(crate) fn new(word: Text<'t>) -> DottedName<'t>
-        ensures { result ≡ word.entry }
-    {
-        DottedName {
-            words: CowStr::Borrowed(word.text),
-            at: word.at,
-        }
-    }
-
     /// The name with a dot and a word behind it.
     pub(crate) fn join(self, alloc: Global, word: &str) -> Result<DottedName<'t>, AllocError>
         ensures { IfOk result (λ n. n ≡ joined self.entry word.now) }
@@ -277,8 +267,8 @@ pub enum Declaration<'t> {
 /// What a schema text declares, in its order.
 #[derive(Debug, Drop)]
 pub struct Decls<'t> {
-    declarations: Vec<Declaration<'t>>,
-    text_len: u64,
+    pub(crate) declarations: Vec<Declaration<'t>>,
+    pub(crate) text_len: u64,
 }
 
 impl<'t> Model for Decls<'t> {
@@ -293,15 +283,6 @@ impl<'t> Model for Decls<'t> {
 }
 
 impl<'t> Decls<'t> {
-    pub(crate) fn new(declarations: Vec<Declaration<'t>>, text_len: u64) -> Decls<'t>
-        ensures { result ≡ record { declarations = declarations.entry.items; text_len = text_len } }
-    {
-        Decls {
-            declarations,
-            text_len,
-        }
-    }
-
     /// The declarations in the order of the text.
     pub fn declarations(&self) -> &[Declaration<'t>]
         ensures { result.now ≡ self.now.declarations }

@@ -20,6 +20,7 @@ use crate::declarations::{DottedName, Text};
 use crate::tokens::{Token, TokenKind};
 pub(crate) use schema::declarations_of;
 use std::alloc::Global;
+use std::borrow::CowStr;
 use std::marker::Model;
 use stop::Stop;
 
@@ -129,7 +130,10 @@ impl<'t, 's> Parser<'t, 's> {
         ensures exact { Gives (λ n. (n, self.new)) result ((more first.entry).read self.old) }
         ensures shorter { IfOk result (λ _. length self.new ≤ length self.old) }
     {
-        let mut name = DottedName::new(first);
+        let mut name = DottedName {
+            words: CowStr::Borrowed(first.text),
+            at: first.at,
+        };
         while let Some(_) = self.take(TokenKind::Punct(b'.')) {
             let word = self.token(TokenKind::Word)?;
             name = name.join(self.alloc, word.text).or(Err(Stop::Memory))?;

@@ -123,7 +123,10 @@ pub(crate) fn declarations_of<'t>(
         tokens,
     };
     match parser.items(None) {
-        Ok(declarations) => Ok(Decls::new(declarations, text.len() as u64)),
+        Ok(declarations) => Ok(Decls {
+            declarations,
+            text_len: text.len() as u64,
+        }),
         Err(stop) => Err(stop.at(offset_of(text, tokens, parser.left()))),
     }
 }

@@ -8,7 +8,7 @@ use Rattle.fb_syntax.proofs.Repeat.{begins, goes_on, ends, fails}
 use Rattle.fb_syntax.proofs.parser.Parser.name_from.Goals as goal
 
 pub loop-self-init : goal.loop-self-init
-loop-self-init c = record { so_far = rw c.new-name.ensures (begins dot_word.read no_dot with_word _ _); within = omega arith }
+loop-self-init c = record { so_far = rw c.first.view_is (begins dot_word.read no_dot with_word _ _); within = omega arith }
 
 pub returns-in_err-word-clause-exact : goal.returns-in_err-word-clause-exact
 returns-in_err-word-clause-exact c =
