@@ -7,7 +7,7 @@ use Rattle.std.proofs.lemmas.Option.{same_Some}
 use Rattle.std.proofs.lemmas.Slice.Eq.{bytes_eq-Decides}
 use Rattle.fb_syntax.specs.Located.{Located}
 use Rattle.fb_syntax.specs.Lexemes.{Lexeme}
-use Rattle.fb_syntax.specs.Signs.{dot, open_round, close_round, colon, semicolon, equals, open_square, close_square, open_brace, close_brace}
+use Rattle.fb_syntax.specs.Signs.{dot, byte}
 use Rattle.fb_syntax.specs.Keywords.{spelling, keywords as all_keywords, keyword_of}
 use Rattle.fb_syntax.specs.Rules.{Rule, IsToken, token_at, token, ◌>>=◌}
 use Rattle.fb_syntax.specs.Grammar.{dotted_name, attribute_value, attribute, metadata, field_type, default_value, default_part, field, table, enum_value, enumeration, union_member, union}
@@ -30,49 +30,47 @@ name-agrees : Agrees dotted_name false (but Word) (Punct dot ∷ [])
 unfolding dotted_name
 name-agrees = after Word more-agrees
 
-attribute-agrees : Agrees attribute false (but Word) (Punct colon ∷ [])
+attribute-agrees : Agrees attribute false (but Word) (Punct (byte ":") ∷ [])
 unfolding attribute attribute_value
 attribute-agrees =
     let value = with_token-agrees (λ digits. give-agrees _) (with_token-agrees (λ text. give-agrees _) (after Word (λ word. give-agrees _)) refl) refl in
     after Word (λ name. with_token-agrees (λ _. then-agrees value (λ value. give-agrees _) refl) (give-agrees _) refl)
 
-metadata-agrees : Agrees metadata true (besides (Punct open_round) all_kinds) (Punct open_round ∷ [])
+metadata-agrees : Agrees metadata true (besides (Punct (byte "(")) all_kinds) (Punct (byte "(") ∷ [])
 unfolding metadata
 metadata-agrees =
-    with_token-agrees (λ _. with_token-agrees (λ _. give-agrees _) (listed-agrees attribute-agrees false close_round refl refl refl refl) refl) (give-agrees _) refl
+    with_token-agrees (λ _. with_token-agrees (λ _. give-agrees _) (listed-agrees attribute-agrees false (byte ")") refl refl refl refl) refl) (give-agrees _) refl
 
-field_type-agrees : Agrees field_type false (besides (Punct open_square) (but Word)) (Punct dot ∷ [])
+field_type-agrees : Agrees field_type false (besides (Punct (byte "[")) (but Word)) (Punct dot ∷ [])
 unfolding field_type
 field_type-agrees =
-    with_token-agrees (λ bracket. then-agrees name-agrees (λ name. after (Punct close_square) (λ _. give-agrees _)) refl) (then-agrees name-agrees (λ name. give-agrees _) refl) refl
+    with_token-agrees (λ bracket. then-agrees name-agrees (λ name. after (Punct (byte "]")) (λ _. give-agrees _)) refl) (then-agrees name-agrees (λ name. give-agrees _) refl) refl
 
-default_value-agrees : Agrees default_value false (besides Integer (but Word)) (Punct dot ∷ [])
-unfolding default_value
-default_value-agrees = with_token-agrees (λ digits. give-agrees _) (then-agrees name-agrees (λ name. give-agrees _) refl) refl
-
-default_part-agrees : Agrees default_part true (besides (Punct equals) all_kinds) (Punct dot ∷ Punct equals ∷ [])
-unfolding default_part
-default_part-agrees = with_token-agrees (λ _. then-agrees default_value-agrees (λ value. give-agrees _) refl) (give-agrees _) refl
+default_part-agrees : Agrees default_part true (besides (Punct (byte "=")) all_kinds) (Punct dot ∷ Punct (byte "=") ∷ [])
+unfolding default_part default_value
+default_part-agrees =
+    let value = with_token-agrees (λ digits. give-agrees _) (then-agrees name-agrees (λ name. give-agrees _) refl) refl in
+    with_token-agrees (λ _. then-agrees value (λ value. give-agrees _) refl) (give-agrees _) refl
 
 field-agrees : Agrees field false (but Word) []
 unfolding field
 field-agrees =
     after Word (λ name.
-    after (Punct colon) (λ _.
+    after (Punct (byte ":")) (λ _.
     then-agrees field_type-agrees (λ kind.
     then-agrees default_part-agrees (λ default.
     then-agrees metadata-agrees (λ attributes.
-    after (Punct semicolon) (λ _. give-agrees _)) refl) refl) refl))
+    after (Punct (byte ";")) (λ _. give-agrees _)) refl) refl) refl))
 
 table-agrees : Agrees table false (but Word) []
 unfolding table
 table-agrees =
     after Word (λ name.
     then-agrees metadata-agrees (λ attributes.
-    after (Punct open_brace) (λ _.
-    then-agrees (block-agrees field-agrees close_brace refl) (λ fields. give-agrees _) refl)) refl)
+    after (Punct (byte "{")) (λ _.
+    then-agrees (block-agrees field-agrees (byte "}") refl) (λ fields. give-agrees _) refl)) refl)
 
-enum_value-agrees : Agrees enum_value false (but Word) (Punct equals ∷ [])
+enum_value-agrees : Agrees enum_value false (but Word) (Punct (byte "=") ∷ [])
 unfolding enum_value
 enum_value-agrees = after Word (λ name. with_token-agrees (λ _. after Integer (λ digits. give-agrees _)) (give-agrees _) refl)
 
@@ -80,13 +78,13 @@ enumeration-agrees : Agrees enumeration false (but Word) []
 unfolding enumeration
 enumeration-agrees =
     after Word (λ name.
-    after (Punct colon) (λ _.
+    after (Punct (byte ":")) (λ _.
     then-agrees name-agrees (λ underlying.
     then-agrees metadata-agrees (λ attributes.
-    after (Punct open_brace) (λ _.
-    then-agrees (listed-agrees enum_value-agrees true close_brace refl refl refl refl) (λ values. give-agrees _) refl)) refl) refl))
+    after (Punct (byte "{")) (λ _.
+    then-agrees (listed-agrees enum_value-agrees true (byte "}") refl refl refl refl) (λ values. give-agrees _) refl)) refl) refl))
 
-union_member-agrees : Agrees union_member false (but Word) (Punct dot ∷ Punct dot ∷ Punct colon ∷ [])
+union_member-agrees : Agrees union_member false (but Word) (Punct dot ∷ Punct dot ∷ Punct (byte ":") ∷ [])
 unfolding union_member
 union_member-agrees =
     after Word (λ word.
@@ -97,8 +95,8 @@ unfolding union
 union-agrees =
     after Word (λ name.
     then-agrees metadata-agrees (λ attributes.
-    after (Punct open_brace) (λ _.
-    then-agrees (listed-agrees union_member-agrees true close_brace refl refl refl refl) (λ members. give-agrees _) refl)) refl)
+    after (Punct (byte "{")) (λ _.
+    then-agrees (listed-agrees union_member-agrees true (byte "}") refl refl refl refl) (λ members. give-agrees _) refl)) refl)
 
 first_found : (ks : List Keyword) (word : List ℕ) (k : Keyword) → find (λ j. bytes_eq word (spelling j)) ks ≡ Some k → word ≡ spelling k
 first_found [] word k e = absurd cc
@@ -125,20 +123,6 @@ keyword-agrees = record {
   shorter = λ k ts rest h. (omega (arith, ap length h.1), λ e. omega (arith, ap length h.1));
 }
 
-namespace-agrees : Agrees namespace false (besides (Punct semicolon) (but Word)) []
-unfolding namespace
-namespace-agrees =
-    with_token-agrees (λ _. give-agrees _) (then-agrees name-agrees (λ name. after (Punct semicolon) (λ _. give-agrees _)) refl) refl
-
-attribute_decl-agrees : Agrees attribute_decl false (besides Quoted (but Word)) []
-unfolding attribute_decl
-attribute_decl-agrees =
-    then-agrees (with_token-agrees (λ text. give-agrees text) (token-agrees Word) refl) (λ name. after (Punct semicolon) (λ _. give-agrees _)) refl
-
-quoted-agrees : Agrees quoted false (but Quoted) []
-unfolding quoted
-quoted-agrees = after Quoted (λ text. after (Punct semicolon) (λ _. give-agrees _))
-
 -- Behind a keyword, it doesn't matter what a declaration begins with.
 no_kinds : TokenKind → Bool
 no_kinds k = false
@@ -147,15 +131,23 @@ any_start : {X : Type 0} {rule : Rule X} {avoids : TokenKind → Bool} → Agree
 unfolding no_kinds
 any_start agrees = record { found = agrees.found; read = agrees.read; starts = λ k x ts rest h other e. absurd cc; shorter = agrees.shorter }
 
+quoted-agrees : Agrees quoted false (but Quoted) []
+unfolding quoted
+quoted-agrees = after Quoted (λ text. after (Punct (byte ";")) (λ _. give-agrees _))
+
 declared-agrees : (k : Keyword) → Agrees (declared k) false no_kinds []
-unfolding declared
-declared-agrees keywords.Namespace = any_start (then-agrees namespace-agrees (λ n. give-agrees _) refl)
-declared-agrees keywords.Attribute = any_start (then-agrees attribute_decl-agrees (λ a. give-agrees _) refl)
+unfolding declared namespace attribute_decl
+declared-agrees keywords.Namespace =
+    let name = then-agrees name-agrees (λ name. after (Punct (byte ";")) (λ _. give-agrees _)) refl in
+    any_start (then-agrees (with_token-agrees (λ _. give-agrees _) name refl) (λ n. give-agrees _) refl)
+declared-agrees keywords.Attribute =
+    let name = with_token-agrees (λ text. give-agrees text) (token-agrees Word) refl in
+    any_start (then-agrees (then-agrees name (λ name. after (Punct (byte ";")) (λ _. give-agrees _)) refl) (λ a. give-agrees _) refl)
 declared-agrees keywords.Table = any_start (then-agrees table-agrees (λ t. give-agrees _) refl)
 declared-agrees keywords.Struct = any_start (then-agrees table-agrees (λ t. give-agrees _) refl)
 declared-agrees keywords.Enum = any_start (then-agrees enumeration-agrees (λ e. give-agrees _) refl)
 declared-agrees keywords.Union = any_start (then-agrees union-agrees (λ u. give-agrees _) refl)
-declared-agrees keywords.Root = any_start (then-agrees name-agrees (λ n. after (Punct semicolon) (λ _. give-agrees _)) refl)
+declared-agrees keywords.Root = any_start (then-agrees name-agrees (λ n. after (Punct (byte ";")) (λ _. give-agrees _)) refl)
 declared-agrees keywords.Extension = any_start (then-agrees quoted-agrees (λ t. give-agrees _) refl)
 declared-agrees keywords.Identifier = any_start (then-agrees quoted-agrees (λ t. give-agrees _) refl)
 

@@ -4,7 +4,7 @@ use Rattle.std.proofs.lemmas.Bool.{not-true, cases_Bool}
 use Rattle.std.proofs.lemmas.List.{append-nil}
 use Rattle.std.specs.List.{fold, list_all}
 use Rattle.fb_syntax.specs.Lexemes.{Lexeme}
-use Rattle.fb_syntax.specs.Signs.{comma}
+use Rattle.fb_syntax.specs.Signs.{byte}
 use Rattle.fb_syntax.specs.Rules.{Rule, is_sign, token_at, Repeated, no_more, one_more, many, until, push, repeated, block, divider, listed_item, listed}
 use Rattle.fb_syntax.specs.declared.tokens.TokenKind.{TokenKind}
 use Rattle.fb_syntax.specs.declared.tokens.TokenKind.TheVariants.{Punct}
@@ -58,20 +58,20 @@ pub block-agrees : {X : Type 0} {item : Rule X} {a : TokenKind → Bool} → Agr
 block-agrees agrees close apart =
     then-agrees (repeated-agrees agrees (is_sign close) (λ x ts rest h. sign_lacks close ts (agrees.starts (Punct close) x ts rest h apart (λ e. absurd cc)))) (λ xs. then-agrees (token-agrees (Punct close)) (λ _. give-agrees xs) refl) refl
 
-module _ (trailing : Bool) (close : ℕ) (apart : but (Punct close) (Punct comma) ≡ true) where
-  divider-agrees : Agrees (divider trailing close) true (besides (Punct comma) all_kinds) []
+module _ (trailing : Bool) (close : ℕ) (apart : but (Punct close) (Punct (byte ",")) ≡ true) where
+  divider-agrees : Agrees (divider trailing close) true (besides (Punct (byte ",")) all_kinds) []
   unfolding divider
   divider-agrees =
       choice-agrees (λ t. ahead-agrees (λ ts. trailing || not (is_sign close ts))) (ahead-agrees (is_sign close)) []
-      (λ u ts rest h l. let s = sign_of close ts h.1 in (other_token (Punct close) (Punct comma) ts (drop 1 ts) s.0 apart s.1, tt)) (λ rest l. tt)
+      (λ u ts rest h l. let s = sign_of close ts h.1 in (other_token (Punct close) (Punct (byte ",")) ts (drop 1 ts) s.0 apart s.1, tt)) (λ rest l. tt)
 
-  divided : (g : List TokenKind) (u : Unit {0}) (ts rest : List Lexeme) → list_all (but (Punct comma)) g ≡ true → list_all (but (Punct close)) g ≡ true → (divider trailing close).Is ts u rest → Lacks g ts
+  divided : (g : List TokenKind) (u : Unit {0}) (ts rest : List Lexeme) → list_all (but (Punct (byte ","))) g ≡ true → list_all (but (Punct close)) g ≡ true → (divider trailing close).Is ts u rest → Lacks g ts
   unfolding divider
-  divided g u ts rest by_comma by_close (inl i) = token_lacks (Punct comma) g ts i.1 i.0 by_comma i.2
+  divided g u ts rest by_comma by_close (inl i) = token_lacks (Punct (byte ",")) g ts i.1 i.0 by_comma i.2
   divided g u ts rest by_comma by_close (inr i) = let s = sign_of close ts i.1 in token_lacks (Punct close) g ts (drop 1 ts) s.0 by_close s.1
 
 -- items with commas between
-module _ {X : Type 0} {item : Rule X} {a : TokenKind → Bool} {g : List TokenKind} (agrees : Agrees item false a g) (trailing : Bool) (close : ℕ) (opens : a (Punct close) ≡ true) (apart : but (Punct close) (Punct comma) ≡ true) (by_comma : list_all (but (Punct comma)) g ≡ true) (by_close : list_all (but (Punct close)) g ≡ true) where
+module _ {X : Type 0} {item : Rule X} {a : TokenKind → Bool} {g : List TokenKind} (agrees : Agrees item false a g) (trailing : Bool) (close : ℕ) (opens : a (Punct close) ≡ true) (apart : but (Punct close) (Punct (byte ",")) ≡ true) (by_comma : list_all (but (Punct (byte ","))) g ≡ true) (by_close : list_all (but (Punct close)) g ≡ true) where
   listed_item-agrees : Agrees (listed_item item trailing close) false a []
   unfolding listed_item
   listed_item-agrees =

@@ -4,7 +4,7 @@ use Rattle.fb_syntax.specs.Located.{Located}
 use Rattle.fb_syntax.specs.Integers.{number_of}
 use Rattle.fb_syntax.specs.FieldRead.{FieldRead}
 use Rattle.fb_syntax.specs.TypesRead.{TableRead, EnumRead, UnionRead}
-use Rattle.fb_syntax.specs.Signs.{open_round, close_round, colon, semicolon, equals, open_square, close_square, open_brace, close_brace}
+use Rattle.fb_syntax.specs.Signs.{byte}
 use Rattle.fb_syntax.specs.Rules.{Rule, token, sign, give, ◌>>=◌, with_token, more, block, listed}
 use Rattle.fb_syntax.specs.declared.tokens.TokenKind.TheVariants.{Word, Integer, Quoted, Punct}
 use Rattle.fb_syntax.specs.declared.declarations.Attribute.{Attribute}
@@ -31,15 +31,15 @@ attribute_value = with_token Integer (λ digits. give (values.Integer (number_of
 unfoldable pub attribute : Rule Attribute
 attribute = do
   name ← token Word
-  with_token (Punct colon) (λ _. do value ← attribute_value; give (record { name = name; value = Some value })) (give (record { name = name; value = None }))
+  with_token (Punct (byte ":")) (λ _. do value ← attribute_value; give (record { name = name; value = Some value })) (give (record { name = name; value = None }))
 
 -- [ "(" [ attribute { "," attribute } ] ")" ]
 unfoldable pub metadata : Rule (List Attribute)
-metadata = with_token (Punct open_round) (λ _. with_token (Punct close_round) (λ _. give []) (listed attribute false close_round)) (give [])
+metadata = with_token (Punct (byte "(")) (λ _. with_token (Punct (byte ")")) (λ _. give []) (listed attribute false (byte ")"))) (give [])
 
 -- "[" name "]" | name
 unfoldable pub field_type : Rule FieldType
-field_type = with_token (Punct open_square) (λ bracket. do name ← dotted_name; _ ← sign close_square; give (types.Many bracket.at name)) (do name ← dotted_name; give (types.One name))
+field_type = with_token (Punct (byte "[")) (λ bracket. do name ← dotted_name; _ ← sign (byte "]"); give (types.Many bracket.at name)) (do name ← dotted_name; give (types.One name))
 
 -- Integer | name
 unfoldable pub default_value : Rule DefaultValue
@@ -47,17 +47,17 @@ default_value = with_token Integer (λ digits. give (defaults.Integer (number_of
 
 -- [ "=" default_value ]
 unfoldable pub default_part : Rule (Option DefaultValue)
-default_part = with_token (Punct equals) (λ _. do value ← default_value; give (Some value)) (give None)
+default_part = with_token (Punct (byte "=")) (λ _. do value ← default_value; give (Some value)) (give None)
 
 -- Word ":" type [ "=" default_value ] metadata ";"
 unfoldable pub field : Rule FieldRead
 field = do
   name ← token Word
-  _ ← sign colon
+  _ ← sign (byte ":")
   kind ← field_type
   default ← default_part
   attributes ← metadata
-  _ ← sign semicolon
+  _ ← sign (byte ";")
   give (record { name = name; kind = kind; default = default; attributes = attributes })
 
 -- Word metadata "{" { field } "}", of a table or a struct
@@ -65,38 +65,38 @@ unfoldable pub table : Rule TableRead
 table = do
   name ← token Word
   attributes ← metadata
-  _ ← sign open_brace
-  fields ← block field close_brace
+  _ ← sign (byte "{")
+  fields ← block field (byte "}")
   give (record { name = name; attributes = attributes; fields = fields })
 
 -- Word [ "=" Integer ]
 unfoldable pub enum_value : Rule EnumValue
 enum_value = do
   name ← token Word
-  with_token (Punct equals) (λ _. do digits ← token Integer; give (record { name = name; number = Some (number_of digits) })) (give (record { name = name; number = None }))
+  with_token (Punct (byte "=")) (λ _. do digits ← token Integer; give (record { name = name; number = Some (number_of digits) })) (give (record { name = name; number = None }))
 
 -- Word ":" name metadata "{" value { "," value } [ "," ] "}"
 unfoldable pub enumeration : Rule EnumRead
 enumeration = do
   name ← token Word
-  _ ← sign colon
+  _ ← sign (byte ":")
   underlying ← dotted_name
   attributes ← metadata
-  _ ← sign open_brace
-  values ← listed enum_value true close_brace
+  _ ← sign (byte "{")
+  values ← listed enum_value true (byte "}")
   give (record { name = name; underlying = underlying; attributes = attributes; values = values })
 
 -- Word ":" name | name
 unfoldable pub union_member : Rule UnionMember
 union_member = do
   word ← token Word
-  with_token (Punct colon) (λ _. do table ← dotted_name; give (record { alias = Some word; table = table })) (do table ← more word; give (record { alias = None; table = table }))
+  with_token (Punct (byte ":")) (λ _. do table ← dotted_name; give (record { alias = Some word; table = table })) (do table ← more word; give (record { alias = None; table = table }))
 
 -- Word metadata "{" member { "," member } [ "," ] "}"
 unfoldable pub union : Rule UnionRead
 union = do
   name ← token Word
   attributes ← metadata
-  _ ← sign open_brace
-  members ← listed union_member true close_brace
+  _ ← sign (byte "{")
+  members ← listed union_member true (byte "}")
   give (record { name = name; attributes = attributes; members = members })

@@ -3,7 +3,7 @@ use Rattle.std.specs.Prelude.{ℕ, zero, suc, ◌≡◌, ◌==◌, Bool, true, f
 use Rattle.std.specs.List.{fold}
 use Rattle.fb_syntax.specs.Located.{Located, joined}
 use Rattle.fb_syntax.specs.Lexemes.{Lexeme}
-use Rattle.fb_syntax.specs.Signs.{dot, comma}
+use Rattle.fb_syntax.specs.Signs.{dot, byte}
 use Rattle.fb_syntax.specs.declared.tokens.TokenKind.{TokenKind}
 use Rattle.fb_syntax.specs.declared.tokens.TokenKind.TheVariants.{Word, Integer, Quoted, Punct}
 
@@ -136,7 +136,7 @@ some_block item close = do
 -- what divides an item from the next, or ends a list: a comma, right before the closing sign only where `trailing` is
 -- true; or nothing, before that sign
 unfoldable pub divider : Bool → ℕ → Rule (Unit {0})
-divider trailing close = with_token (Punct comma) (λ _. ahead (λ ts. trailing || not (is_sign close ts))) (ahead (is_sign close))
+divider trailing close = with_token (Punct (byte ",")) (λ _. ahead (λ ts. trailing || not (is_sign close ts))) (ahead (is_sign close))
 
 -- an item of a list, and what stands behind it
 unfoldable pub listed_item : {X : Type 0} → Rule X → Bool → ℕ → Rule X

@@ -58,23 +58,6 @@ fn located<'t>(text: &'t str, token: Token) -> Text<'t>
 }
 
 impl<'t, 's> Parser<'t, 's> {
-    /// How many tokens are left.
-    fn left(&self) -> usize
-        ensures { result ≡ length self.now }
-    {
-        self.tokens.len()
-    }
-
-    /// Passes the next token.
-    #[tactic(auto, using(std::proofs::lemmas::Grind::pieces))]
-    fn advance(&mut self)
-        ensures { self.new ≡ drop 1 self.old }
-    {
-        if let [_, rest @ ..] = self.tokens {
-            self.tokens = rest;
-        }
-    }
-
     /// What the next token says, if it is of a kind.
     #[tactic(auto, unfolding(crate::specs::Rules::token_at))]
     fn peek(&self, kind: TokenKind) -> Option<Text<'t>>
@@ -90,6 +73,7 @@ impl<'t, 's> Parser<'t, 's> {
     }
 
     /// Passes the next token, if it is of a kind.
+    #[tactic(auto, using(std::proofs::lemmas::Grind::pieces))]
     fn take(&mut self, kind: TokenKind) -> Option<Text<'t>>
         ensures exact { MatchOption result
             ((token_at kind self.old ≡ None) × (self.new ≡ self.old))
@@ -98,7 +82,9 @@ impl<'t, 's> Parser<'t, 's> {
         ensures small { IfSome result (λ t. IsSmall kind t.bytes) }
     {
         let token = self.peek(kind)?;
-        self.advance();
+        if let [_, rest @ ..] = self.tokens {
+            self.tokens = rest;
+        }
         Some(token)
     }
 

@@ -1,6 +1,6 @@
 //! Enums.
 ghost use Rattle.std.specs.Prelude.{◌<◌, length, IfOk, true};
-ghost use Rattle.fb_syntax.specs.Signs.{close_brace};
+ghost use Rattle.fb_syntax.specs.Signs.{byte};
 ghost use Rattle.fb_syntax.specs.Rules.{listed_item};
 ghost use Rattle.fb_syntax.specs.Grammar.{enum_value, enumeration};
 ghost use Rattle.fb_syntax.specs.Stops.{Gives};
@@ -12,7 +12,7 @@ use crate::integers::number_of;
 use crate::tokens::TokenKind::{Integer, Punct, Word};
 
 impl<'t> Item<'t> for EnumValue<'t> {
-    ghost rule = { listed_item enum_value true close_brace };
+    ghost rule = { listed_item enum_value true (byte "}") };
 
     #[tactic(auto, unfolding(crate::specs::Rules::listed_item, crate::specs::Grammar::enum_value))]
     fn read(parser: &mut Parser<'t, '_>) -> Result<EnumValue<'t>, Stop> {

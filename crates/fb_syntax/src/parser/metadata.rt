@@ -1,6 +1,6 @@
 //! Attributes behind a name or a type.
 ghost use Rattle.std.specs.Prelude.{◌<◌, ◌≤◌, length, IfOk, false};
-ghost use Rattle.fb_syntax.specs.Signs.{close_round};
+ghost use Rattle.fb_syntax.specs.Signs.{byte};
 ghost use Rattle.fb_syntax.specs.Rules.{listed_item};
 ghost use Rattle.fb_syntax.specs.Grammar.{attribute_value, attribute, metadata};
 ghost use Rattle.fb_syntax.specs.Stops.{Gives};
@@ -12,7 +12,7 @@ use crate::integers::number_of;
 use crate::tokens::TokenKind::{Integer, Punct, Quoted, Word};
 
 impl<'t> Item<'t> for Attribute<'t> {
-    ghost rule = { listed_item attribute false close_round };
+    ghost rule = { listed_item attribute false (byte ")") };
 
     #[tactic(auto, unfolding(crate::specs::Rules::listed_item, crate::specs::Grammar::attribute))]
     fn read(parser: &mut Parser<'t, '_>) -> Result<Attribute<'t>, Stop> {

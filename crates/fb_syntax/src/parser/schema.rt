@@ -25,7 +25,7 @@ impl<'t> Item<'t> for Declaration<'t> {
     fn read(parser: &mut Parser<'t, '_>) -> Result<Declaration<'t>, Stop> {
         let word = parser.peek(Word).ok_or(Stop::Unexpected)?;
         let keyword = keyword_of(word.text).ok_or(Stop::Unexpected)?;
-        parser.advance();
+        parser.take(Word);
         parser.declared(keyword)
     }
 }
@@ -127,6 +127,6 @@ pub(crate) fn declarations_of<'t>(
             declarations,
             text_len: text.len() as u64,
         }),
-        Err(stop) => Err(stop.at(offset_of(text, tokens, parser.left()))),
+        Err(stop) => Err(stop.at(offset_of(text, tokens, parser.tokens.len()))),
     }
 }

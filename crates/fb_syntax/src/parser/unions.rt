@@ -1,6 +1,6 @@
 //! Unions.
 ghost use Rattle.std.specs.Prelude.{◌<◌, length, IfOk, true};
-ghost use Rattle.fb_syntax.specs.Signs.{close_brace};
+ghost use Rattle.fb_syntax.specs.Signs.{byte};
 ghost use Rattle.fb_syntax.specs.Rules.{listed_item};
 ghost use Rattle.fb_syntax.specs.Grammar.{union, union_member};
 ghost use Rattle.fb_syntax.specs.Stops.{Gives};
@@ -11,7 +11,7 @@ use crate::declarations::{UnionDecl, UnionMember};
 use crate::tokens::TokenKind::{Punct, Word};
 
 impl<'t> Item<'t> for UnionMember<'t> {
-    ghost rule = { listed_item union_member true close_brace };
+    ghost rule = { listed_item union_member true (byte "}") };
 
     #[tactic(auto, unfolding(crate::specs::Rules::listed_item, crate::specs::Grammar::union_member))]
     fn read(parser: &mut Parser<'t, '_>) -> Result<UnionMember<'t>, Stop> {
