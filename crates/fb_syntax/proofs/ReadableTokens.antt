@@ -1,5 +1,5 @@
 -- What a text's tokens say can be read.
-use Rattle.std.proofs.Common.{◌≡◌, ℕ, zero, suc, ◌+◌, ◌-◌, ◌<◌, ◌≤◌, ◌==◌, true, List, [], ◌∷◌, IsUtf8, length, take, drop, get_or, refl, sym, ap, ◌∙◌, arith, length-drop}
+use Rattle.std.proofs.Common.{◌≡◌, ℕ, zero, suc, ◌+◌, ◌-◌, ◌<◌, ◌≤◌, ◌==◌, true, List, [], ◌∷◌, ◌++◌, IsUtf8, length, take, drop, get_or, refl, sym, ap, ◌∙◌, arith, length-drop}
 use Rattle.std.proofs.lemmas.Bool.Decides.{nat_tests}
 use Rattle.std.proofs.lemmas.Bool.{and_parts, eqb-true}
 use Rattle.std.proofs.lemmas.List.{get_or-drop, drop-drop}
@@ -14,16 +14,16 @@ use Rattle.fb_syntax.specs.declared.scan.Piece.{Piece}
 use Rattle.fb_syntax.specs.declared.scan.Piece.TheVariants as pieces
 use Rattle.fb_syntax.specs.Bytes.{is_quotable}
 use Rattle.fb_syntax.specs.TokenBytes.{is_token, is_closed_by_quote, starts, IsLongest, IsSmall}
-use Rattle.fb_syntax.specs.Fronts.{IsAtFront}
+use Rattle.fb_syntax.specs.Fronts.{IsAtFront, len_of, tokens_of}
 use Rattle.fb_syntax.specs.Lexemes.{IsReadable, AreReadable, content}
-use Rattle.fb_syntax.specs.Spells.{Spells, finished, gap, token, SpellsText, mark_len}
+use Rattle.fb_syntax.specs.Spells.{Spells, finished, piece, SpellsText, mark_len}
 use Rattle.fb_syntax.proofs.Gaps.{gap_starts}
 use Rattle.fb_syntax.proofs.FirstBytes.{longest_starts}
 use Rattle.fb_syntax.proofs.FrontPieces.{piece_within}
 use Rattle.fb_syntax.proofs.LongestTokens.{closed-complete}
 
-ascii_first : (text : List ℕ) (piece : Piece) → IsAtFront text piece → get_or text 0 0 < 128
-ascii_first [] piece h = omega arith
+ascii_first : (text : List ℕ) (p : Piece) → IsAtFront text p → get_or text 0 0 < 128
+ascii_first [] p h = omega arith
 ascii_first (c ∷ cs) (pieces.Gap n) g = let e = gap_starts g in grind (arith, nat_tests)
 ascii_first (c ∷ cs) (pieces.Token k n) h = by_kind k (longest_starts k n c cs h.0) where
   by_kind : (k : TokenKind) → starts k c ≡ true → c < 128
@@ -31,11 +31,11 @@ ascii_first (c ∷ cs) (pieces.Token k n) h = by_kind k (longest_starts k n c cs
   by_kind _ e = grind (arith, nat_tests)
 
 -- A text may be cut before a gap or a token: it begins with a byte of ASCII.
-cut_before : (text : List ℕ) (at : ℕ) (piece : Piece) → IsAtFront (drop at text) piece → IsCharBoundary text at
-cut_before text at piece h =
-    let w = piece_within piece (drop at text) h in
+cut_before : (text : List ℕ) (at : ℕ) (p : Piece) → IsAtFront (drop at text) p → IsCharBoundary text at
+cut_before text at p h =
+    let w = piece_within p (drop at text) h in
     let here : at + 0 ≡ at = omega arith in
-    IsCharBoundary-before_ascii text at (omega (arith, w.0, w.1, length-drop at text)) (rw (get_or-drop at text 0 0, here) at (ascii_first (drop at text) piece h))
+    IsCharBoundary-before_ascii text at (omega (arith, w.0, w.1, length-drop at text)) (rw (get_or-drop at text 0 0, here) at (ascii_first (drop at text) p h))
 
 quote_ends : (text : List ℕ) (n : ℕ) → IsLongest Quoted n text → (2 ≤ n) × (get_or text 0 0 ≡ 34) × (get_or text (n - 1) 0 ≡ 34)
 unfolding is_token
@@ -78,16 +78,14 @@ readable text at n kind u h behind =
 -- The tokens from a place on can be read, and the text may be cut there.
 from_place : (whole : List ℕ) (at : ℕ) (text : List ℕ) (tokens : List Token) → IsUtf8 whole → drop at whole ≡ text → at ≤ length whole → Spells at text tokens → AreReadable whole tokens × IsCharBoundary whole at
 from_place whole at text tokens u e w finished = (All-nil (IsReadable whole), (w, λ h. absurd (omega (arith, ap length e, length-drop at whole))))
-from_place whole at text tokens u e w (gap n g rest) =
-    let here : IsAtFront (drop at whole) (pieces.Gap n) = rw e g in
-    let room = piece_within (pieces.Gap n) (drop at whole) here in
-    let others = from_place whole (at + n) (drop n text) tokens u (sym (drop-drop n at whole) ∙ ap (drop n) e) (omega (arith, room.0, room.1, length-drop at whole)) rest in
-    (others.0, cut_before whole at (pieces.Gap n) here)
-from_place whole at text tokens u e w (token {tokens = behind} kind n longest small rest) =
-    let here : IsAtFront (drop at whole) (pieces.Token kind n) = (rw e longest, rw e small) in
-    let room = piece_within (pieces.Token kind n) (drop at whole) here in
-    let others = from_place whole (at + n) (drop n text) behind u (sym (drop-drop n at whole) ∙ ap (drop n) e) (omega (arith, room.0, room.1, length-drop at whole)) rest in
-    (All-cons (IsReadable whole) (record { kind = kind; at = at; len = n }) behind (readable whole at n kind u here others.1) others.0, cut_before whole at (pieces.Token kind n) here)
+from_place whole at text tokens u e w (piece {rest = rest} p h s) =
+    let here : IsAtFront (drop at whole) p = rw e h in
+    let room = piece_within p (drop at whole) here in
+    let others = from_place whole (at + len_of p) (drop (len_of p) text) rest u (sym (drop-drop (len_of p) at whole) ∙ ap (drop (len_of p)) e) (omega (arith, room.0, room.1, length-drop at whole)) s in
+    (with_piece p here others, cut_before whole at p here) where
+      with_piece : (p : Piece) → IsAtFront (drop at whole) p → AreReadable whole rest × IsCharBoundary whole (at + len_of p) → AreReadable whole (tokens_of at p ++ rest)
+      with_piece (pieces.Gap n) here others = others.0
+      with_piece (pieces.Token kind n) here others = All-cons (IsReadable whole) (record { kind = kind; at = at; len = n }) rest (readable whole at n kind u here others.1) others.0
 
 mark_within : (text : List ℕ) → mark_len text ≤ length text
 mark_within (a ∷ b ∷ c ∷ text) = grind (arith, nat_tests)

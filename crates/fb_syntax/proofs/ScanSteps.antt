@@ -3,10 +3,11 @@ use Rattle.std.proofs.Common.{◌≡◌, ℕ, ◌+◌, ◌<◌, ◌≤◌, List,
 use Rattle.std.proofs.lemmas.Grind.{common_steps}
 use Rattle.fb_syntax.specs.declared.tokens.Token.{Token}
 use Rattle.fb_syntax.specs.Spells.{Spells, finished}
+use Rattle.fb_syntax.specs.Spells as spells
 use Rattle.fb_syntax.specs.declared.scan.Piece.{Piece}
-use Rattle.fb_syntax.specs.Fronts.{IsAtFront}
+use Rattle.fb_syntax.specs.Fronts.{IsAtFront, len_of, tokens_of}
 use Rattle.fb_syntax.proofs.FirstBytes.{nowhere}
-use Rattle.fb_syntax.proofs.FrontPieces.{len_of, tokens_of, piece_within, in_front, behind, nothing}
+use Rattle.fb_syntax.proofs.FrontPieces.{piece_within, behind, nothing}
 
 -- Before the place `at` stand the tokens `found`: with those behind it they are all, and none else are.
 pub record Scanned (start : ℕ) (text : List ℕ) (at : ℕ) (found : List Token) : Type 0 where
@@ -29,7 +30,7 @@ over_piece start text at found piece s here =
       w.0,
       record {
         within = room;
-        sound = λ rest spelled. rw append_assoc (s.sound (tokens_of at piece ++ rest) (in_front at (drop at text) piece rest here (rw further spelled)));
+        sound = λ rest spelled. rw append_assoc (s.sound (tokens_of at piece ++ rest) (spells.piece piece here (rw further spelled)));
         only = λ every spelled.
             let split = s.only every spelled in
             let first = behind at (drop at text) piece split.0 here split.2 in

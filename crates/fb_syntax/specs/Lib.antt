@@ -1,9 +1,9 @@
 pub mod Bytes
 pub mod Gaps
 pub mod Integers
-pub mod Spells
 pub mod TokenBytes
 pub mod Fronts
+pub mod Spells
 pub mod Located
 pub mod NumberRead
 pub mod FieldRead

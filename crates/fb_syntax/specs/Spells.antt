@@ -1,16 +1,14 @@
 -- Which tokens spell a text: a relation between the whole text and its tokens (Writing a schema; Grammar).
-use Rattle.std.specs.Prelude.{ℕ, ◌≡◌, ◌+◌, List, [], ◌∷◌, take, drop, IsUtf8, nat_eq, if◌then◌else◌}
+use Rattle.std.specs.Prelude.{ℕ, ◌≡◌, ◌+◌, List, [], ◌∷◌, ◌++◌, drop, IsUtf8, nat_eq, if◌then◌else◌}
 use Rattle.std.specs.List.{starts_with}
-use Rattle.fb_syntax.specs.declared.tokens.TokenKind.{TokenKind}
 use Rattle.fb_syntax.specs.declared.tokens.Token.{Token}
-use Rattle.fb_syntax.specs.TokenBytes.{IsLongest, IsSmall}
-use Rattle.fb_syntax.specs.Gaps.{IsGap}
+use Rattle.fb_syntax.specs.declared.scan.Piece.{Piece}
+use Rattle.fb_syntax.specs.Fronts.{IsAtFront, len_of, tokens_of}
 
 -- These tokens, with blanks and comments between, are the text that begins at the place `at`. Each is the longest there.
 pub data Spells : ℕ → List ℕ → List Token → Type 0 where
   finished : {at : ℕ} → Spells at [] []
-  gap : {at : ℕ} {text : List ℕ} {tokens : List Token} (n : ℕ) → IsGap n text → Spells (at + n) (drop n text) tokens → Spells at text tokens
-  token : {at : ℕ} {text : List ℕ} {tokens : List Token} (kind : TokenKind) (n : ℕ) → IsLongest kind n text → IsSmall kind (take n text) → Spells (at + n) (drop n text) tokens → Spells at text (record { kind = kind; at = at; len = n } ∷ tokens)
+  piece : {at : ℕ} {text : List ℕ} {rest : List Token} (p : Piece) → IsAtFront text p → Spells (at + len_of p) (drop (len_of p) text) rest → Spells at text (tokens_of at p ++ rest)
 
 abbrev pub byte_order_mark : List ℕ
 byte_order_mark = 0xef ∷ 0xbb ∷ 0xbf ∷ []
