@@ -1,14 +1,76 @@
--- What a rule reads is what it says, and what it says is read.
-use Rattle.std.proofs.Common.{◌≡◌, ◌<◌, ◌≤◌, inl, inr, Bool, true, false, ◌&&◌, ◌||◌, not, List, [], ◌∷◌, ◌++◌, length, Some, None, refl, sym, ap, arith}
-use Rattle.std.specs.List.{list_all}
+-- Rules of the grammar and their parts: what is read is what they say, and what they say is read.
+use Rattle.std.proofs.Common.{◌≡◌, ℕ, List, [], ◌∷◌, Some, None, Bool, true, false, not, drop, refl, ap, eq-eqb, Option, Result, Ok, Err, ◌<◌, ◌≤◌, inl, inr, ◌&&◌, ◌||◌, ◌++◌, length, sym, arith, zero, suc, ◌∙◌, append_assoc}
+use Rattle.std.proofs.lemmas.Bool.{eqb-true, not-true, false_from_ne_true, and_parts, and_from, and_cases, cases_Bool}
+use Rattle.std.proofs.lemmas.Option.{cond_some, some_pair_parts}
 use Rattle.fb_syntax.specs.Located.{Located}
-use Rattle.std.proofs.lemmas.Option.{some_pair_parts, cond_some}
 use Rattle.fb_syntax.specs.Lexemes.{Lexeme}
-use Rattle.fb_syntax.specs.Rules.{Front, Rule, behind, IsToken, token_at, token, give, ◌>>=◌, with_token, ahead}
+use Rattle.fb_syntax.specs.Grammar.{dotted_name}
+use Rattle.fb_syntax.specs.Rules.{IsToken, is_kind, is_sign, token_at, Front, and_then, Rule, behind, token, give, ◌>>=◌, with_token, ahead, Repeated, no_more, one_more, many, until, push, repeated, block, divider, listed_item, listed, dot_word, no_dot, with_word, more}
 use Rattle.fb_syntax.specs.declared.tokens.TokenKind.{TokenKind}
-use Rattle.std.proofs.lemmas.Bool.{and_parts, and_from, and_cases}
-use Rattle.fb_syntax.proofs.Steps.{bind-some}
-use Rattle.fb_syntax.proofs.Names.{but, token_found, token_read, other_token}
+use Rattle.fb_syntax.specs.declared.tokens.TokenKind.TheVariants.{Word, Integer, Quoted, Punct}
+use Rattle.std.specs.Result.{result_or}
+use Rattle.std.specs.List.{list_all, fold}
+use Rattle.std.proofs.lemmas.List.{append-nil}
+use Rattle.fb_syntax.specs.Signs.{byte, dot}
+
+-- the kinds that a token of this kind is not of
+abbrev pub but : TokenKind → TokenKind → Bool
+but kind k = not (is_kind kind k)
+
+own_kind : (kind : TokenKind) → is_kind kind kind ≡ true
+own_kind (Punct c) = eq-eqb c c refl
+own_kind _ = refl
+
+same_kind : (a b : TokenKind) → is_kind a b ≡ true → a ≡ b
+same_kind Word Word e = refl
+same_kind Integer Integer e = refl
+same_kind Quoted Quoted e = refl
+same_kind (Punct c) (Punct d) e = ap Punct (eqb-true c d e)
+same_kind _ _ e = absurd cc
+
+built : (k j : TokenKind) (t u : Located) (r q : List Lexeme) → k ≡ j → t ≡ u → r ≡ q → ◌≡◌ {A = List Lexeme} (record { kind = k; text = t } ∷ r) (record { kind = j; text = u } ∷ q)
+built k j t u r q a b c = rw (a, b, c) refl
+
+pub token_found : (kind : TokenKind) (ts rest : List Lexeme) (t : Located) → token_at kind ts ≡ Some (t, rest) → IsToken kind ts t rest
+unfolding token_at
+token_found kind [] rest t e = absurd cc
+token_found kind (l ∷ ls) rest t e =
+    let p = cond_some (is_kind l.kind kind) (l.text, ls) (t, rest) e in
+    built l.kind kind l.text t ls rest (same_kind l.kind kind p.0) (ap (λ (f : Located × List Lexeme). f.0) p.1) (ap (λ (f : Located × List Lexeme). f.1) p.1)
+
+pub token_read : (kind : TokenKind) (ts rest : List Lexeme) (t : Located) → IsToken kind ts t rest → token_at kind ts ≡ Some (t, rest)
+unfolding token_at
+token_read kind ts rest t e = rw e (rw (own_kind kind) refl)
+
+pub other_token : (kind k : TokenKind) (ts rest : List Lexeme) (t : Located) → but kind k ≡ true → IsToken kind ts t rest → token_at k ts ≡ None
+unfolding token_at
+other_token kind k ts rest t other e = rw e (rw (not-true (is_kind kind k) other) refl)
+
+pub sign_stands : (c : ℕ) (ts rest : List Lexeme) (t : Located) → IsToken (Punct c) ts t rest → is_sign c ts ≡ true
+sign_stands c ts rest t e = rw e (own_kind (Punct c))
+
+pub sign_of : (c : ℕ) (ts : List Lexeme) → is_sign c ts ≡ true → (t : Located) × IsToken (Punct c) ts t (drop 1 ts)
+sign_of c [] e = absurd cc
+sign_of c (t ∷ ts) e = (t.text, built t.kind (Punct c) t.text t.text ts ts (same_kind t.kind (Punct c) e) refl refl)
+
+pub sign_lacks : (c : ℕ) (ts : List Lexeme) → token_at (Punct c) ts ≡ None → is_sign c ts ≡ false
+unfolding token_at
+sign_lacks c [] e = refl
+sign_lacks c (t ∷ rest) e = false_from_ne_true (is_kind t.kind (Punct c)) (λ b. let some = rw b at e in cc)
+
+-- A sign is no name.
+pub sign_no_name : (c : ℕ) (ts : List Lexeme) → is_sign c ts ≡ true → dotted_name.read ts ≡ None
+unfolding dotted_name
+sign_no_name c ts e = let s = sign_of c ts e in rw (other_token (Punct c) Word ts (drop 1 ts) s.0 refl s.1) refl
+
+-- A step that was read, and what was read after it.
+pub bind-some : {A B : Type 0} {m : Option A} {f : A → Option B} {y : B} → and_then m f ≡ Some y → (x : A) × (m ≡ Some x) × (f x ≡ Some y)
+bind-some {m = Some x} e = (x, refl, e)
+bind-some {m = None} e = absurd cc
+
+-- What holds of what was read holds of what it is said to be.
+pub lands : {A : Type 0} (R : A → List Lexeme → Type 0) {a c : A} {b d : List Lexeme} → ◌≡◌ {A = Front A} (Some (a, b)) (Some (c, d)) → R a b → R c d
+lands R {a} {c} {b} {d} e h = let p = some_pair_parts a c b d e in rw (← p.0, ← p.1) h
 
 -- no token of these kinds stands next
 abbrev pub Lacks : List TokenKind → List Lexeme → Type 0
@@ -131,3 +193,104 @@ module _ {X : Type 0} {kind : TokenKind} {next : Located → Rule X} {other : Ru
   with_token-agrees apart = choice-agrees _ (λ x ts rest i l.
       (let parts = lacks_parts g2 (where_empty e2 (kind ∷ [])) rest (lacks_parts g1 _ rest l).1 in
       (instead.starts kind x ts rest i apart (λ e. (kept e2 (kind ∷ []) rest parts.1 e).0), parts.0))) (λ rest l. (lacks_parts g1 _ rest l).0)
+
+pushed : {X : Type 0} (front xs : List X) → fold push front xs ≡ front ++ xs
+pushed front [] = sym (append-nil front)
+pushed front (x ∷ xs) = pushed (push front x) xs ∙ simp append_assoc
+
+-- items one after another
+module _ {X : Type 0} {item : Rule X} {a : TokenKind → Bool} (agrees : Agrees item false a []) (stop : List Lexeme → Bool) (opens : (x : X) (ts rest : List Lexeme) → item.Is ts x rest → stop ts ≡ false) where
+  pub many_found : {B : Type 0} (add : B → X → B) (n : ℕ) (start made : B) (ts rest : List Lexeme) → many item.read stop add n start ts ≡ Some (made, rest) → (xs : List X) × Repeated item.Is ts xs rest × (made ≡ fold add start xs) × (stop rest ≡ true)
+  unfolding many
+  many_found add zero start made ts rest e = absurd cc
+  many_found add (suc n) start made ts rest e =
+      elim (cases_Bool (stop ts)) [
+        | inl b ↦ lands (λ m left. (xs : List X) × Repeated item.Is ts xs left × (m ≡ fold add start xs) × (stop left ≡ true)) (rw b at e) ([], no_more, refl, b)
+        | inr b ↦
+            (let x = bind-some {m = item.read ts} (rw b at e) in
+            let others = many_found add n (add start x.0.0) made x.0.1 rest x.2 in
+            (x.0.0 ∷ others.0, one_more x.0.1 (agrees.found x.0.0 ts x.0.1 x.1) others.1, others.2, others.3))
+      ]
+
+  pub many_read : {B : Type 0} (add : B → X → B) (n : ℕ) (start : B) (xs : List X) (ts rest : List Lexeme) → Repeated item.Is ts xs rest → stop rest ≡ true → length ts ≤ n → many item.read stop add (suc n) start ts ≡ Some (fold add start xs, rest)
+  unfolding many
+  many_read add n start xs ts rest no_more b enough = rw b refl
+  many_read add zero start xs ts rest (one_more {x = x} mid here more) b enough = absurd (omega (arith, (agrees.shorter x ts mid here).1 refl))
+  many_read add (suc n) start xs ts rest (one_more {x = x} {xs = ys} mid here more) b enough =
+      rw (opens x ts mid here, agrees.read x ts mid here tt) (many_read add n (add start x) ys mid rest more b (omega (arith, (agrees.shorter x ts mid here).1 refl)))
+
+  pub repeated_shorter : {xs : List X} {ts rest : List Lexeme} → Repeated item.Is ts xs rest → length rest ≤ length ts
+  repeated_shorter no_more = omega arith
+  repeated_shorter (one_more {ts = ts} {x = x} mid here more) = omega (arith, (agrees.shorter x ts mid here).0, repeated_shorter more)
+
+  pub repeated_starts : {xs : List X} {ts mid : List Lexeme} (k : TokenKind) → Repeated item.Is ts xs mid → a k ≡ true → token_at k mid ≡ None → token_at k ts ≡ None
+  repeated_starts k no_more other e = e
+  repeated_starts k (one_more {ts = ts} {x = x} mid here more) other e = agrees.starts k x ts mid here other (λ e. absurd cc)
+
+  pub repeated-agrees : Agrees (repeated item stop) true a []
+  unfolding until
+  repeated-agrees = record {
+    found = λ xs ts rest e. let f = many_found push _ [] xs ts rest e in rw (f.2 ∙ pushed [] f.0) (f.1, f.3);
+    read = λ xs ts rest h l. many_read push (length ts) [] xs ts rest h.0 h.1 (omega arith) ∙ ap (λ ys. Some (ys, rest)) (pushed [] xs);
+    starts = λ k xs ts rest h other e. repeated_starts k h.0 other (e refl);
+    shorter = λ xs ts rest h. (repeated_shorter h.0, λ e. absurd cc);
+  }
+
+pub block-agrees : {X : Type 0} {item : Rule X} {a : TokenKind → Bool} → Agrees item false a [] → (close : ℕ) → a (Punct close) ≡ true → Agrees (block item close) false (begins true a (but (Punct close))) []
+block-agrees agrees close apart =
+    then-agrees (repeated-agrees agrees (is_sign close) (λ x ts rest h. sign_lacks close ts (agrees.starts (Punct close) x ts rest h apart (λ e. absurd cc)))) (λ xs. then-agrees (token-agrees (Punct close)) (λ _. give-agrees xs) refl) refl
+
+module _ (trailing : Bool) (close : ℕ) (apart : but (Punct close) (Punct (byte ",")) ≡ true) where
+  divider-agrees : Agrees (divider trailing close) true (besides (Punct (byte ",")) all_kinds) []
+  unfolding divider
+  divider-agrees =
+      choice-agrees (λ t. ahead-agrees (λ ts. trailing || not (is_sign close ts))) (ahead-agrees (is_sign close)) []
+      (λ u ts rest h l. let s = sign_of close ts h.1 in (other_token (Punct close) (Punct (byte ",")) ts (drop 1 ts) s.0 apart s.1, tt)) (λ rest l. tt)
+
+  divided : (g : List TokenKind) (u : Unit {0}) (ts rest : List Lexeme) → list_all (but (Punct (byte ","))) g ≡ true → list_all (but (Punct close)) g ≡ true → (divider trailing close).Is ts u rest → Lacks g ts
+  unfolding divider
+  divided g u ts rest by_comma by_close (inl i) = token_lacks (Punct (byte ",")) g ts i.1 i.0 by_comma i.2
+  divided g u ts rest by_comma by_close (inr i) = let s = sign_of close ts i.1 in token_lacks (Punct close) g ts (drop 1 ts) s.0 by_close s.1
+
+-- items with commas between
+module _ {X : Type 0} {item : Rule X} {a : TokenKind → Bool} {g : List TokenKind} (agrees : Agrees item false a g) (trailing : Bool) (close : ℕ) (opens : a (Punct close) ≡ true) (apart : but (Punct close) (Punct (byte ",")) ≡ true) (by_comma : list_all (but (Punct (byte ","))) g ≡ true) (by_close : list_all (but (Punct close)) g ≡ true) where
+  listed_item-agrees : Agrees (listed_item item trailing close) false a []
+  unfolding listed_item
+  listed_item-agrees =
+      sequence-agrees agrees (λ x. then-agrees (divider-agrees trailing close apart) (λ _. give-agrees x) refl) [] (λ x y mid rest h l. (divided trailing close apart g h.0 mid h.1 by_comma by_close h.2, tt))
+
+  some_start : {xs : List X} {ts mid : List Lexeme} (k : TokenKind) → Repeated (listed_item item trailing close).Is ts xs mid → is_sign close mid ≡ true → is_sign close ts ≡ false → a k ≡ true → token_at k ts ≡ None
+  some_start k no_more at_close goes_on other = absurd cc
+  some_start k (one_more {ts = ts} {x = x} mid here more) at_close goes_on other = listed_item-agrees.starts k x ts mid here other (λ e. absurd cc)
+
+  pub listed-agrees : Agrees (listed item trailing close) false a []
+  listed-agrees =
+      let all = then-agrees (ahead-agrees (λ ts. not (is_sign close ts))) (λ _. block-agrees listed_item-agrees close opens) refl in
+      record {
+        found = all.found;
+        read = all.read;
+        starts = λ k xs ts rest h other e. rw (h.2).0 (some_start k ((h.3).2).0 ((h.3).2).1 (not-true _ (rw (h.2).0 at (h.2).1)) other);
+        shorter = all.shorter;
+      }
+
+dot_word-agrees : Agrees dot_word false (but (Punct dot)) []
+dot_word-agrees = then-agrees (token-agrees (Punct dot)) (λ _. token-agrees Word) refl
+
+dot_first : (w : Located) (ts rest : List Lexeme) → dot_word.Is ts w rest → no_dot ts ≡ false
+dot_first w ts rest h = rw (sign_stands dot ts h.1 h.0 h.2) refl
+
+pub dot_lacks : (ts : List Lexeme) → token_at (Punct dot) ts ≡ None → no_dot ts ≡ true
+dot_lacks ts e = rw (sign_lacks dot ts e) refl
+
+pub more-agrees : (s : Located) → Agrees (more s) true (but (Punct dot)) (Punct dot ∷ [])
+unfolding until
+more-agrees s = record {
+  found = λ n ts rest e. let f = many_found dot_word-agrees no_dot dot_first with_word _ s n ts rest e in (f.0, f.1, f.2);
+  read = λ n ts rest h l. rw h.2 (many_read dot_word-agrees no_dot dot_first with_word (length ts) s h.0 ts rest h.1 (dot_lacks rest l.0) (omega arith));
+  starts = λ k n ts rest h other e. repeated_starts dot_word-agrees no_dot dot_first k h.1 other (e refl);
+  shorter = λ n ts rest h. (repeated_shorter dot_word-agrees no_dot dot_first h.1, λ e. absurd cc);
+}
+
+-- Behind a dot, a word is read.
+pub dot_read : (d : Located) (ts inside : List Lexeme) → token_at (Punct dot) ts ≡ Some (d, inside) → (no_dot ts ≡ false) × (dot_word.read ts ≡ token_at Word inside)
+dot_read d ts inside e = (rw (sign_stands dot ts inside d (token_found (Punct dot) ts inside d e)) refl, rw e refl)

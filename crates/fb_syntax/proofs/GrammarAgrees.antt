@@ -16,11 +16,7 @@ use Rattle.fb_syntax.specs.declared.tokens.TokenKind.{TokenKind}
 use Rattle.fb_syntax.specs.declared.tokens.TokenKind.TheVariants.{Word, Integer, Quoted, Punct}
 use Rattle.fb_syntax.specs.declared.parser.keywords.Keyword.{Keyword}
 use Rattle.fb_syntax.specs.declared.parser.keywords.Keyword.TheVariants as keywords
-use Rattle.fb_syntax.proofs.Steps.{bind-some, lands}
-use Rattle.fb_syntax.proofs.Names.{but, token_found, token_read, other_token}
-use Rattle.fb_syntax.proofs.Agrees.{Agrees, where_empty, all_kinds, besides, token-agrees, give-agrees, then-agrees, with_token-agrees}
-use Rattle.fb_syntax.proofs.DottedNames.{more-agrees}
-use Rattle.fb_syntax.proofs.ListsAgree.{block-agrees, listed-agrees}
+use Rattle.fb_syntax.proofs.Agrees.{bind-some, lands, but, token_found, token_read, other_token, Agrees, where_empty, all_kinds, besides, token-agrees, give-agrees, then-agrees, with_token-agrees, more-agrees, block-agrees, listed-agrees}
 
 -- a token, and what stands behind it
 after : {X : Type 0} (kind : TokenKind) {next : Located → Rule X} {empty : Bool} {avoids : TokenKind → Bool} {goes_on : List TokenKind} → ((t : Located) → Agrees (next t) empty avoids goes_on) → Agrees (token kind >>= next) false (but kind) (goes_on ++ where_empty empty [])

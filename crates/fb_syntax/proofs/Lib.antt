@@ -5,12 +5,8 @@ pub mod LongestTokens
 pub mod Numbers
 pub mod FrontPieces
 pub mod ScanSteps
-pub mod Steps
-pub mod Names
 pub mod Repeat
 pub mod Agrees
-pub mod ListsAgree
-pub mod DottedNames
 pub mod GrammarAgrees
 pub mod ReadsAs
 pub mod ReadableTokens

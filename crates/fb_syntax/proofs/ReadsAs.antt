@@ -13,9 +13,7 @@ use Rattle.fb_syntax.specs.declared.parser.stop.Stop.TheVariants.{Memory}
 use Rattle.fb_syntax.specs.declared.tokens.Token.{Token}
 use Rattle.fb_syntax.specs.declared.declarations.Declaration.{Declaration}
 use Rattle.fb_syntax.specs.declared.tokens.TokenKind.TheVariants.{Word}
-use Rattle.fb_syntax.proofs.Names.{but}
-use Rattle.fb_syntax.proofs.Agrees.{Agrees}
-use Rattle.fb_syntax.proofs.ListsAgree.{repeated-agrees}
+use Rattle.fb_syntax.proofs.Agrees.{but, Agrees, repeated-agrees}
 use Rattle.fb_syntax.proofs.GrammarAgrees.{declaration-agrees}
 
 empty_list : (ts : List Lexeme) → is_empty ts ≡ true → ts ≡ []

@@ -1,5 +1,6 @@
 -- Loops over items.
-use Rattle.std.proofs.Common.{◌≡◌, ℕ, suc, ◌<◌, ◌≤◌, ◌-◌, List, length, Bool, true, false, Option, Some, None, refl, sym, arith}
+use Rattle.std.proofs.Common.{◌≡◌, ℕ, suc, ◌<◌, ◌≤◌, ◌-◌, List, length, Bool, true, false, Option, Some, None, Result, Ok, Err, refl, sym, arith}
+use Rattle.std.specs.Result.{result_or}
 use Rattle.fb_syntax.specs.declared.parser.stop.Stop.{Stop}
 use Rattle.fb_syntax.specs.declared.parser.stop.Stop.TheVariants.{Memory}
 use Rattle.fb_syntax.specs.Lexemes.{Lexeme}
@@ -36,3 +37,8 @@ module _ {X B : Type 0} (item : List Lexeme → Front X) (stop : List Lexeme →
   pub fails : (why : Stop) (begun rest : List Lexeme) (made : B) → Repeats item stop add start begun made rest → stop rest ≡ false → Fails why (item rest) → Fails why (until item stop add start begun)
   unfolding many
   fails why begun rest made so_far goes_on = fails_with why (item rest) (until item stop add start begun) (λ none. sym (rw (goes_on, none) at so_far.same))
+
+-- What isn't replaced by an error was found.
+pub kept_ok : {T E D : Type 0} (r : Result T E) (d : D) (x : T) → result_or r (Err d) ≡ Ok x → r ≡ Ok x
+kept_ok (Ok y) d x e = cc
+kept_ok (Err f) d x e = absurd cc

@@ -33,7 +33,7 @@ impl<'t> Item<'t> for Field<'t> {
 }
 
 impl<'t> Parser<'t, '_> {
-    #[tactic(auto, using(crate::proofs::Names::sign_no_name), unfolding(crate::specs::Grammar::field_type))]
+    #[tactic(auto, using(crate::proofs::Agrees::sign_no_name), unfolding(crate::specs::Grammar::field_type))]
     fn field_type(&mut self) -> Result<FieldType<'t>, Stop>
         ensures exact { Gives (λ t. (t, self.new)) result (field_type.read self.old) }
         ensures shorter { IfOk result (λ _. length self.new < length self.old) }

@@ -1,8 +1,7 @@
 use Rattle.std.proofs.Common.{[], sym, ◌∙◌, arith}
 use Rattle.std.proofs.lemmas.Result.{err_from_is_err_and}
 use Rattle.fb_syntax.specs.Rules.{closes, push}
-use Rattle.fb_syntax.proofs.Steps.{kept_ok}
-use Rattle.fb_syntax.proofs.Repeat.{begins, goes_on, ends, fails}
+use Rattle.fb_syntax.proofs.Repeat.{kept_ok, begins, goes_on, ends, fails}
 use Rattle.fb_syntax.proofs.parser.Parser.items.Goals as goal
 
 pub loop-close-init : goal.loop-close-init

@@ -2,9 +2,8 @@ use Rattle.std.proofs.Common.{ap, sym, arith, ◌∙◌}
 use Rattle.std.proofs.lemmas.Result.{err_from_is_err_and}
 use Rattle.fb_syntax.specs.Located.{Located}
 use Rattle.fb_syntax.specs.Rules.{dot_word, no_dot, with_word}
-use Rattle.fb_syntax.proofs.DottedNames.{dot_lacks, dot_read}
-use Rattle.fb_syntax.proofs.Steps.{kept_ok}
-use Rattle.fb_syntax.proofs.Repeat.{begins, goes_on, ends, fails}
+use Rattle.fb_syntax.proofs.Agrees.{dot_lacks, dot_read}
+use Rattle.fb_syntax.proofs.Repeat.{kept_ok, begins, goes_on, ends, fails}
 use Rattle.fb_syntax.proofs.parser.Parser.name_from.Goals as goal
 
 pub loop-self-init : goal.loop-self-init
