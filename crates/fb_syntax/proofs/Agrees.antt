@@ -1,5 +1,5 @@
 -- Rules of the grammar and their parts: what is read is what they say, and what they say is read.
-use Rattle.std.proofs.Common.{◌≡◌, ℕ, List, [], ◌∷◌, Some, None, Bool, true, false, not, drop, refl, ap, eq-eqb, Option, Result, Ok, Err, ◌<◌, ◌≤◌, inl, inr, ◌&&◌, ◌||◌, ◌++◌, length, sym, arith, zero, suc, ◌∙◌, append_assoc}
+use Rattle.std.proofs.Common.{◌≡◌, ℕ, List, [], ◌∷◌, Some, None, Bool, true, false, not, drop, refl, ap, eq-eqb, Option, ◌<◌, ◌≤◌, inl, inr, ◌&&◌, ◌||◌, ◌++◌, length, sym, arith, zero, suc, ◌∙◌, append_assoc}
 use Rattle.std.proofs.lemmas.Bool.{eqb-true, not-true, false_from_ne_true, and_parts, and_from, and_cases, cases_Bool}
 use Rattle.std.proofs.lemmas.Option.{cond_some, some_pair_parts}
 use Rattle.fb_syntax.specs.Located.{Located}
@@ -8,7 +8,6 @@ use Rattle.fb_syntax.specs.Grammar.{dotted_name}
 use Rattle.fb_syntax.specs.Rules.{IsToken, is_kind, is_sign, token_at, Front, and_then, Rule, behind, token, give, ◌>>=◌, with_token, ahead, Repeated, no_more, one_more, many, until, push, repeated, block, divider, listed_item, listed, dot_word, no_dot, with_word, more}
 use Rattle.fb_syntax.specs.declared.tokens.TokenKind.{TokenKind}
 use Rattle.fb_syntax.specs.declared.tokens.TokenKind.TheVariants.{Word, Integer, Quoted, Punct}
-use Rattle.std.specs.Result.{result_or}
 use Rattle.std.specs.List.{list_all, fold}
 use Rattle.std.proofs.lemmas.List.{append-nil}
 use Rattle.fb_syntax.specs.Signs.{byte, dot}

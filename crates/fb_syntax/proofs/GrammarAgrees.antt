@@ -26,73 +26,59 @@ name-agrees : Agrees dotted_name false (but Word) (Punct dot ∷ [])
 unfolding dotted_name
 name-agrees = after Word more-agrees
 
-attribute-agrees : Agrees attribute false (but Word) (Punct (byte ":") ∷ [])
-unfolding attribute attribute_value
-attribute-agrees =
-    let value = with_token-agrees (λ digits. give-agrees _) (with_token-agrees (λ text. give-agrees _) (after Word (λ word. give-agrees _)) refl) refl in
-    after Word (λ name. with_token-agrees (λ _. then-agrees value (λ value. give-agrees _) refl) (give-agrees _) refl)
-
 metadata-agrees : Agrees metadata true (besides (Punct (byte "(")) all_kinds) (Punct (byte "(") ∷ [])
-unfolding metadata
+unfolding metadata attribute attribute_value
 metadata-agrees =
-    with_token-agrees (λ _. with_token-agrees (λ _. give-agrees _) (listed-agrees attribute-agrees false (byte ")") refl refl refl refl) refl) (give-agrees _) refl
-
-field_type-agrees : Agrees field_type false (besides (Punct (byte "[")) (but Word)) (Punct dot ∷ [])
-unfolding field_type
-field_type-agrees =
-    with_token-agrees (λ bracket. then-agrees name-agrees (λ name. after (Punct (byte "]")) (λ _. give-agrees _)) refl) (then-agrees name-agrees (λ name. give-agrees _) refl) refl
-
-default_part-agrees : Agrees default_part true (besides (Punct (byte "=")) all_kinds) (Punct dot ∷ Punct (byte "=") ∷ [])
-unfolding default_part default_value
-default_part-agrees =
-    let value = with_token-agrees (λ digits. give-agrees _) (then-agrees name-agrees (λ name. give-agrees _) refl) refl in
-    with_token-agrees (λ _. then-agrees value (λ value. give-agrees _) refl) (give-agrees _) refl
-
-field-agrees : Agrees field false (but Word) []
-unfolding field
-field-agrees =
-    after Word (λ name.
-    after (Punct (byte ":")) (λ _.
-    then-agrees field_type-agrees (λ kind.
-    then-agrees default_part-agrees (λ default.
-    then-agrees metadata-agrees (λ attributes.
-    after (Punct (byte ";")) (λ _. give-agrees _)) refl) refl) refl))
+    let value : Agrees attribute_value _ _ _ =
+    with_token-agrees (λ digits. give-agrees _) (with_token-agrees (λ text. give-agrees _) (after Word (λ word. give-agrees _)) refl) refl in
+    let item : Agrees attribute _ _ _ =
+    after Word (λ name. with_token-agrees (λ _. then-agrees value (λ value. give-agrees _) refl) (give-agrees _) refl) in
+    with_token-agrees (λ _. with_token-agrees (λ _. give-agrees _) (listed-agrees item false (byte ")") refl refl refl refl) refl) (give-agrees _) refl
 
 table-agrees : Agrees table false (but Word) []
-unfolding table
+unfolding table field field_type default_part default_value
 table-agrees =
+    let type : Agrees field_type _ _ _ =
+    with_token-agrees (λ bracket. then-agrees name-agrees (λ name. after (Punct (byte "]")) (λ _. give-agrees _)) refl)
+    (then-agrees name-agrees (λ name. give-agrees _) refl) refl in
+    let value : Agrees default_value _ _ _ =
+    with_token-agrees (λ digits. give-agrees _) (then-agrees name-agrees (λ name. give-agrees _) refl) refl in
+    let part : Agrees default_part _ _ _ =
+    with_token-agrees (λ _. then-agrees value (λ value. give-agrees _) refl) (give-agrees _) refl in
+    let item : Agrees field _ _ _ =
+    after Word (λ name.
+    after (Punct (byte ":")) (λ _.
+    then-agrees type (λ kind.
+    then-agrees part (λ default.
+    then-agrees metadata-agrees (λ attributes.
+    after (Punct (byte ";")) (λ _. give-agrees _)) refl) refl) refl)) in
     after Word (λ name.
     then-agrees metadata-agrees (λ attributes.
     after (Punct (byte "{")) (λ _.
-    then-agrees (block-agrees field-agrees (byte "}") refl) (λ fields. give-agrees _) refl)) refl)
-
-enum_value-agrees : Agrees enum_value false (but Word) (Punct (byte "=") ∷ [])
-unfolding enum_value
-enum_value-agrees = after Word (λ name. with_token-agrees (λ _. after Integer (λ digits. give-agrees _)) (give-agrees _) refl)
+    then-agrees (block-agrees item (byte "}") refl) (λ fields. give-agrees _) refl)) refl)
 
 enumeration-agrees : Agrees enumeration false (but Word) []
-unfolding enumeration
+unfolding enumeration enum_value
 enumeration-agrees =
+    let item : Agrees enum_value _ _ _ =
+    after Word (λ name. with_token-agrees (λ _. after Integer (λ digits. give-agrees _)) (give-agrees _) refl) in
     after Word (λ name.
     after (Punct (byte ":")) (λ _.
     then-agrees name-agrees (λ underlying.
     then-agrees metadata-agrees (λ attributes.
     after (Punct (byte "{")) (λ _.
-    then-agrees (listed-agrees enum_value-agrees true (byte "}") refl refl refl refl) (λ values. give-agrees _) refl)) refl) refl))
-
-union_member-agrees : Agrees union_member false (but Word) (Punct dot ∷ Punct dot ∷ Punct (byte ":") ∷ [])
-unfolding union_member
-union_member-agrees =
-    after Word (λ word.
-    with_token-agrees (λ _. then-agrees name-agrees (λ table. give-agrees _) refl) (then-agrees (more-agrees word) (λ table. give-agrees _) refl) refl)
+    then-agrees (listed-agrees item true (byte "}") refl refl refl refl) (λ values. give-agrees _) refl)) refl) refl))
 
 union-agrees : Agrees union false (but Word) []
-unfolding union
+unfolding union union_member
 union-agrees =
+    let item : Agrees union_member _ _ _ =
+    after Word (λ word.
+    with_token-agrees (λ _. then-agrees name-agrees (λ table. give-agrees _) refl) (then-agrees (more-agrees word) (λ table. give-agrees _) refl) refl) in
     after Word (λ name.
     then-agrees metadata-agrees (λ attributes.
     after (Punct (byte "{")) (λ _.
-    then-agrees (listed-agrees union_member-agrees true (byte "}") refl refl refl refl) (λ members. give-agrees _) refl)) refl)
+    then-agrees (listed-agrees item true (byte "}") refl refl refl refl) (λ members. give-agrees _) refl)) refl)
 
 first_found : (ks : List Keyword) (word : List ℕ) (k : Keyword) → find (λ j. bytes_eq word (spelling j)) ks ≡ Some k → word ≡ spelling k
 first_found [] word k e = absurd cc

@@ -11,16 +11,9 @@ use crate::bytes::{digit_run, hex_run, is_digit, is_hex, is_sign};
 use crate::declarations::{Number, Text};
 
 fn digit_value(byte: u8) -> u64
-    ensures value { result ≡ digit_value byte }
-    ensures small { result < 16 }
+    ensures { result ≡ digit_value byte }
 {
-    let value = match byte {
-        b'0'..=b'9' => byte - b'0',
-        b'a'..=b'f' => byte - b'a' + 10,
-        b'A'..=b'F' => byte - b'A' + 10,
-        _ => 0,
-    };
-    u64::from(value)
+    u64::from(char::from(byte).to_digit(16).unwrap_or(0))
 }
 
 #[tactic(auto, using(crate::proofs::DigitSums::valuing))]
