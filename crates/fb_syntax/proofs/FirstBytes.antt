@@ -12,7 +12,7 @@ use Rattle.fb_syntax.specs.Integers.{is_unsigned}
 use Rattle.fb_syntax.specs.TokenBytes.{is_token, starts, is_closed_by_quote, IsLongest, IsSmall}
 use Rattle.fb_syntax.specs.Fronts.{IsAtFront}
 use Rattle.fb_syntax.specs.Gaps.{IsGap}
-use Rattle.fb_syntax.proofs.Gaps.{gap_starts, gap_within, same_gap}
+use Rattle.fb_syntax.proofs.Gaps.{gap_starts, gap_within, same_gap, behind_first, line_gap, block_gap, no_comment}
 
 unsigned_starts : (c : ℕ) (s : List ℕ) → is_unsigned (c ∷ s) ≡ true → is_digit c ≡ true
 unsigned_starts c (x ∷ h ∷ s) e = grind (arith, nat_tests)
@@ -67,6 +67,8 @@ only_kind kind c cs s none (pieces.Token k n) h =
 pub only_gaps : (c : ℕ) (cs : List ℕ) → (is_blank c || c == 47) ≡ true → ((n : ℕ) → IsGap n (c ∷ cs) → ⊥) → (piece : Piece) → IsAtFront (c ∷ cs) piece → ⊥
 only_gaps c cs s none (pieces.Gap n) g = none n g
 only_gaps c cs s none (pieces.Token k n) h = let a = (started_kind k c (longest_starts k n c cs h.0)).1 in cc
+
+pub ruleset comments = (line_gap, block_gap, no_comment, only_gaps, behind_first)
 
 pub nowhere : (piece : Piece) → IsAtFront [] piece → ⊥
 nowhere (pieces.Gap n) g = let w = gap_within g in omega (arith, w.0, w.1)

@@ -1,6 +1,7 @@
 -- Blanks and comments: one at most stands at a place.
-use Rattle.std.proofs.Common.{◌≡◌, ℕ, ◌+◌, ◌<◌, ◌≤◌, ◌||◌, ◌==◌, not, true, false, List, [], ◌∷◌, length, drop, get_or, refl, arith, length-drop}
+use Rattle.std.proofs.Common.{take, ◌-◌, ◌≡◌, ℕ, ◌+◌, ◌<◌, ◌≤◌, ◌||◌, ◌==◌, not, true, false, List, [], ◌∷◌, length, drop, get_or, refl, arith, length-drop}
 use Rattle.std.proofs.lemmas.Bool.{or_left}
+use Rattle.std.proofs.lemmas.List.{take_rest}
 use Rattle.std.proofs.lemmas.List.Sums.{prefix_len-le-length}
 use Rattle.fb_syntax.specs.Bytes.{is_blank}
 use Rattle.fb_syntax.specs.Gaps.{is_close, ClosesBehind, line_len, IsGap, blank, block, line}
@@ -25,6 +26,9 @@ pub gap_starts : {n c : ℕ} {cs : List ℕ} → IsGap n (c ∷ cs) → (is_blan
 gap_starts {c = c} (blank e) = or_left (is_blank c) (c == 47) e
 gap_starts (block n e) = refl
 gap_starts line = refl
+
+pub behind_first : (text : List ℕ) → take (length text - 1) (drop 1 text) ≡ drop 1 text
+behind_first text = take_rest text 1
 
 -- A gap from the first bytes of a text, and where there is none.
 pub blank_gap : (text : List ℕ) → is_blank (get_or text 0 0) ≡ true → IsGap 1 text

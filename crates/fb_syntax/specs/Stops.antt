@@ -1,5 +1,7 @@
 -- What the parser's calls return, and why they stop.
-use Rattle.std.specs.Prelude.{ℕ, ◌≡◌, Option, Some, None, Result, Ok, Err}
+use Rattle.std.specs.Prelude.{ℕ, ◌≡◌, ◌<◌, List, length, IfOk, Option, Some, None, Result, Ok, Err}
+use Rattle.fb_syntax.specs.Lexemes.{Lexeme}
+use Rattle.fb_syntax.specs.Rules.{Rule}
 use Rattle.fb_syntax.specs.declared.faults.SyntaxFault.{SyntaxFault}
 use Rattle.fb_syntax.specs.declared.faults.SyntaxFault.TheVariants.{Unexpected, NestedVector, Memory}
 use Rattle.fb_syntax.specs.declared.parser.stop.Stop.{Stop}
@@ -26,3 +28,8 @@ IsGrammarFault _ = ⊥
 abbrev pub Gives : {X Y : Type 0} → (X → Y) → Result X Stop → Option Y → Type 0
 Gives view (Ok x) read = read ≡ Some (view x)
 Gives view (Err e) read = Fails e read
+
+-- What a call answered and left is what the rule reads, and it took a token.
+pub record Passes {X Y : Type 0} (view : X → Y) (result : Result X Stop) (rule : Rule Y) (old new : List Lexeme) : Type 0 where
+  pub exact : Gives (λ x. (view x, new)) result (rule.read old)
+  pub shorter : IfOk result (λ x. length new < length old)

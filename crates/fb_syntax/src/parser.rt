@@ -13,7 +13,7 @@ ghost use Rattle.fb_syntax.specs.Lexemes.{IsReadable, AreReadable, lexemes, loca
 ghost use Rattle.fb_syntax.specs.TokenBytes.{IsSmall};
 ghost use Rattle.fb_syntax.specs.Rules.{is_sign, more, token_at};
 ghost use Rattle.fb_syntax.specs.Grammar.{dotted_name};
-ghost use Rattle.fb_syntax.specs.Stops.{Gives};
+ghost use Rattle.fb_syntax.specs.Stops.{Gives, Passes};
 ghost use Rattle.fb_syntax.specs.declared.tokens.TokenKind.TheVariants.{Punct};
 
 use crate::declarations::{DottedName, Text};
@@ -104,8 +104,7 @@ impl<'t, 's> Parser<'t, 's> {
 
     #[tactic(auto, unfolding(crate::specs::Grammar::dotted_name))]
     fn name(&mut self) -> Result<DottedName<'t>, Stop>
-        ensures exact { Gives (λ n. (n, self.new)) result (dotted_name.read self.old) }
-        ensures shorter { IfOk result (λ _. length self.new < length self.old) }
+        ensures { Passes (λ n. n) result dotted_name self.old self.new }
     {
         let first = self.token(TokenKind::Word)?;
         self.name_from(first)

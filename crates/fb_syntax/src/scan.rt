@@ -48,6 +48,7 @@ fn before_close(text: &[u8]) -> Option<usize>
 }
 
 // The comment behind a slash that stands at `at`.
+#[tactic(auto, using(crate::proofs::FirstBytes::comments))]
 fn comment(at: u64, text: &[u8]) -> Result<Piece, SyntaxFault>
     ensures piece { IsFront (47 ∷ text.now) result }
     ensures fault { IfErr result IsTokenFault }
@@ -64,6 +65,7 @@ fn comment(at: u64, text: &[u8]) -> Result<Piece, SyntaxFault>
 }
 
 // The quoted text behind a quote that stands at `at`.
+#[tactic(auto, using(crate::proofs::LongestTokens::no_quoted))]
 fn quoted(at: u64, text: &[u8]) -> Result<Piece, SyntaxFault>
     requires { at + length text.now < 2 ^ 64 }
     ensures piece { IsFront (34 ∷ text.now) result }
@@ -79,6 +81,7 @@ fn quoted(at: u64, text: &[u8]) -> Result<Piece, SyntaxFault>
 }
 
 // The integer at `at`.
+#[tactic(auto, using(crate::proofs::Numbers::no_integer, std::proofs::lemmas::List::take_rest))]
 fn integer(at: u64, text: &[u8]) -> Result<Piece, SyntaxFault>
     requires { IsTrue (starts Integer (get_or text.now 0 0)) }
     ensures piece { IsFront text.now result }
@@ -97,6 +100,7 @@ fn integer(at: u64, text: &[u8]) -> Result<Piece, SyntaxFault>
 }
 
 // What stands at `at`, where `text` begins.
+#[tactic(auto, using(crate::proofs::Gaps::blank_gap, crate::proofs::LongestTokens::punct_longest))]
 fn next_piece(at: u64, text: &[u8]) -> Result<Piece, SyntaxFault>
     requires { at + length text.now < 2 ^ 64 }
     ensures piece { IsFront text.now result }

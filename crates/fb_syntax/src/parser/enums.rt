@@ -1,9 +1,9 @@
 //! Enums.
-ghost use Rattle.std.specs.Prelude.{◌<◌, length, IfOk, true};
+ghost use Rattle.std.specs.Prelude.{◌<◌, true};
 ghost use Rattle.fb_syntax.specs.Signs.{byte};
 ghost use Rattle.fb_syntax.specs.Rules.{listed_item};
 ghost use Rattle.fb_syntax.specs.Grammar.{enum_value, enumeration};
-ghost use Rattle.fb_syntax.specs.Stops.{Gives};
+ghost use Rattle.fb_syntax.specs.Stops.{Passes};
 
 use super::lists::Item;
 use super::{Parser, Stop};
@@ -30,8 +30,7 @@ impl<'t> Parser<'t, '_> {
     /// An enum behind its first word.
     #[tactic(auto, unfolding(crate::specs::Grammar::enumeration))]
     pub(super) fn enumeration(&mut self) -> Result<EnumDecl<'t>, Stop>
-        ensures exact { Gives (λ e. (e, self.new)) result (enumeration.read self.old) }
-        ensures shorter { IfOk result (λ _. length self.new < length self.old) }
+        ensures { Passes (λ e. e) result enumeration self.old self.new }
     {
         let name = self.token(Word)?;
         self.token(Punct(b':'))?;

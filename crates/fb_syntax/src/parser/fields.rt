@@ -1,7 +1,7 @@
 //! Tables, structs and their fields.
-ghost use Rattle.std.specs.Prelude.{◌<◌, length, IfOk};
+ghost use Rattle.std.specs.Prelude.{◌<◌};
 ghost use Rattle.fb_syntax.specs.Grammar.{field_type, default_value, field, table};
-ghost use Rattle.fb_syntax.specs.Stops.{Gives};
+ghost use Rattle.fb_syntax.specs.Stops.{Passes};
 
 use super::lists::Item;
 use super::{Parser, Stop};
@@ -35,8 +35,7 @@ impl<'t> Item<'t> for Field<'t> {
 impl<'t> Parser<'t, '_> {
     #[tactic(auto, using(crate::proofs::Agrees::sign_no_name), unfolding(crate::specs::Grammar::field_type))]
     fn field_type(&mut self) -> Result<FieldType<'t>, Stop>
-        ensures exact { Gives (λ t. (t, self.new)) result (field_type.read self.old) }
-        ensures shorter { IfOk result (λ _. length self.new < length self.old) }
+        ensures { Passes (λ t. t) result field_type self.old self.new }
     {
         match self.take(Punct(b'[')) {
             Some(bracket) => {
@@ -53,8 +52,7 @@ impl<'t> Parser<'t, '_> {
 
     #[tactic(auto, unfolding(crate::specs::Grammar::default_value))]
     fn default_value(&mut self) -> Result<DefaultValue<'t>, Stop>
-        ensures exact { Gives (λ v. (v, self.new)) result (default_value.read self.old) }
-        ensures shorter { IfOk result (λ _. length self.new < length self.old) }
+        ensures { Passes (λ v. v) result default_value self.old self.new }
     {
         match self.take(Integer) {
             Some(digits) => Ok(DefaultValue::Integer(number_of(digits))),
@@ -65,8 +63,7 @@ impl<'t> Parser<'t, '_> {
     /// A table or struct behind its first word.
     #[tactic(auto, unfolding(crate::specs::Grammar::table))]
     pub(super) fn table(&mut self) -> Result<TableDecl<'t>, Stop>
-        ensures exact { Gives (λ t. (t, self.new)) result (table.read self.old) }
-        ensures shorter { IfOk result (λ _. length self.new < length self.old) }
+        ensures { Passes (λ t. t) result table self.old self.new }
     {
         let name = self.token(Word)?;
         let attributes = self.metadata()?;

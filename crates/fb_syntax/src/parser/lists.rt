@@ -1,7 +1,7 @@
 //! Lists: items up to a closing sign, or up to the end.
 ghost use Rattle.std.specs.Prelude.{◌≡◌, ◌<◌, ◌≤◌, [], length, IfOk};
 ghost use Rattle.fb_syntax.specs.Rules.{Rule, block, closes, divider, push, some_block, until};
-ghost use Rattle.fb_syntax.specs.Stops.{Gives};
+ghost use Rattle.fb_syntax.specs.Stops.{Gives, Passes};
 
 use super::{Parser, Stop};
 use crate::tokens::TokenKind::Punct;
@@ -13,8 +13,7 @@ pub(super) trait Item<'t>: Drop + Sized {
 
     /// Passes an item, and what divides it from the next.
     fn read(parser: &mut Parser<'t, '_>) -> Result<Self, Stop>
-        ensures exact { Gives (λ x. (x, parser.new)) result (rule.read parser.old) }
-        ensures shorter { IfOk result (λ _. length parser.new < length parser.old) };
+        ensures { Passes (λ x. x) result rule parser.old parser.new };
 }
 
 impl<'t> Parser<'t, '_> {
@@ -42,8 +41,7 @@ impl<'t> Parser<'t, '_> {
 
     /// Items and the closing sign behind them.
     pub(super) fn block<T: Item<'t>>(&mut self, close: u8) -> Result<Vec<T>, Stop>
-        ensures exact { Gives (λ v. (v.items, self.new)) result ((block T.rule close).read self.old) }
-        ensures shorter { IfOk result (λ _. length self.new < length self.old) }
+        ensures { Passes (λ v. v.items) result (block T.rule close) self.old self.new }
     {
         let items = self.items(Some(close))?;
         self.token(Punct(close))?;
@@ -52,8 +50,7 @@ impl<'t> Parser<'t, '_> {
 
     /// At least one item, and the closing sign.
     pub(super) fn listed<T: Item<'t>>(&mut self, close: u8) -> Result<Vec<T>, Stop>
-        ensures exact { Gives (λ v. (v.items, self.new)) result ((some_block T.rule close).read self.old) }
-        ensures shorter { IfOk result (λ _. length self.new < length self.old) }
+        ensures { Passes (λ v. v.items) result (some_block T.rule close) self.old self.new }
     {
         if self.is_sign(close) {
             return Err(Stop::Unexpected);

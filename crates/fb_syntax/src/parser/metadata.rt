@@ -3,7 +3,7 @@ ghost use Rattle.std.specs.Prelude.{◌<◌, ◌≤◌, length, IfOk, false};
 ghost use Rattle.fb_syntax.specs.Signs.{byte};
 ghost use Rattle.fb_syntax.specs.Rules.{listed_item};
 ghost use Rattle.fb_syntax.specs.Grammar.{attribute_value, attribute, metadata};
-ghost use Rattle.fb_syntax.specs.Stops.{Gives};
+ghost use Rattle.fb_syntax.specs.Stops.{Gives, Passes};
 
 use super::lists::Item;
 use super::{Parser, Stop};
@@ -29,8 +29,7 @@ impl<'t> Item<'t> for Attribute<'t> {
 impl<'t> Parser<'t, '_> {
     #[tactic(auto, unfolding(crate::specs::Grammar::attribute_value))]
     fn attribute_value(&mut self) -> Result<AttributeValue<'t>, Stop>
-        ensures exact { Gives (λ v. (v, self.new)) result (attribute_value.read self.old) }
-        ensures shorter { IfOk result (λ _. length self.new < length self.old) }
+        ensures { Passes (λ v. v) result attribute_value self.old self.new }
     {
         if let Some(digits) = self.take(Integer) {
             return Ok(AttributeValue::Integer(number_of(digits)));

@@ -6,7 +6,7 @@ ghost use Rattle.fb_syntax.specs.GrammarSchema.{Reads, namespace, attribute_decl
 ghost use Rattle.fb_syntax.specs.GrammarSchema.{declared, declaration};
 ghost use Rattle.fb_syntax.specs.Lexemes.{AreReadable};
 ghost use Rattle.fb_syntax.specs.Refusals.{StandsWithin};
-ghost use Rattle.fb_syntax.specs.Stops.{Gives, IsGrammarFault};
+ghost use Rattle.fb_syntax.specs.Stops.{IsGrammarFault, Passes};
 
 use super::keywords::{Keyword, keyword_of};
 use super::lists::Item;
@@ -33,8 +33,7 @@ impl<'t> Item<'t> for Declaration<'t> {
 impl<'t> Parser<'t, '_> {
     #[tactic(auto, unfolding(crate::specs::GrammarSchema::namespace))]
     fn namespace(&mut self) -> Result<Option<DottedName<'t>>, Stop>
-        ensures exact { Gives (λ n. (n, self.new)) result (namespace.read self.old) }
-        ensures shorter { IfOk result (λ _. length self.new < length self.old) }
+        ensures { Passes (λ n. n) result namespace self.old self.new }
     {
         if let Some(_) = self.take(Punct(b';')) {
             return Ok(None);
@@ -46,8 +45,7 @@ impl<'t> Parser<'t, '_> {
 
     #[tactic(auto, unfolding(crate::specs::GrammarSchema::attribute_decl))]
     fn attribute_decl(&mut self) -> Result<Text<'t>, Stop>
-        ensures exact { Gives (λ t. (t, self.new)) result (attribute_decl.read self.old) }
-        ensures shorter { IfOk result (λ _. length self.new < length self.old) }
+        ensures { Passes (λ t. t) result attribute_decl self.old self.new }
     {
         let name = match self.take(Quoted) {
             Some(text) => text,
@@ -60,8 +58,7 @@ impl<'t> Parser<'t, '_> {
     /// What a file's name ends in, or its identifier.
     #[tactic(auto, unfolding(crate::specs::GrammarSchema::quoted))]
     fn quoted(&mut self) -> Result<Text<'t>, Stop>
-        ensures exact { Gives (λ t. (t, self.new)) result (quoted.read self.old) }
-        ensures shorter { IfOk result (λ _. length self.new < length self.old) }
+        ensures { Passes (λ t. t) result quoted self.old self.new }
     {
         let text = self.token(Quoted)?;
         self.token(Punct(b';'))?;
@@ -71,8 +68,7 @@ impl<'t> Parser<'t, '_> {
     /// The declaration that a word begins.
     #[tactic(auto, unfolding(crate::specs::GrammarSchema::declared))]
     fn declared(&mut self, keyword: Keyword) -> Result<Declaration<'t>, Stop>
-        ensures exact { Gives (λ d. (d, self.new)) result ((declared keyword).read self.old) }
-        ensures shorter { IfOk result (λ _. length self.new < length self.old) }
+        ensures { Passes (λ d. d) result (declared keyword) self.old self.new }
     {
         match keyword {
             Keyword::Namespace => Ok(Declaration::Namespace(self.namespace()?)),

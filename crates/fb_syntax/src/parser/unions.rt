@@ -1,9 +1,9 @@
 //! Unions.
-ghost use Rattle.std.specs.Prelude.{◌<◌, length, IfOk, true};
+ghost use Rattle.std.specs.Prelude.{◌<◌, true};
 ghost use Rattle.fb_syntax.specs.Signs.{byte};
 ghost use Rattle.fb_syntax.specs.Rules.{listed_item};
 ghost use Rattle.fb_syntax.specs.Grammar.{union, union_member};
-ghost use Rattle.fb_syntax.specs.Stops.{Gives};
+ghost use Rattle.fb_syntax.specs.Stops.{Passes};
 
 use super::lists::Item;
 use super::{Parser, Stop};
@@ -29,8 +29,7 @@ impl<'t> Parser<'t, '_> {
     /// A union behind its first word.
     #[tactic(auto, unfolding(crate::specs::Grammar::union))]
     pub(super) fn union(&mut self) -> Result<UnionDecl<'t>, Stop>
-        ensures exact { Gives (λ u. (u, self.new)) result (union.read self.old) }
-        ensures shorter { IfOk result (λ _. length self.new < length self.old) }
+        ensures { Passes (λ u. u) result union self.old self.new }
     {
         let name = self.token(Word)?;
         let attributes = self.metadata()?;

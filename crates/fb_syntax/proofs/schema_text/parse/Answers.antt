@@ -1,19 +1,12 @@
 use Rattle.std.proofs.Common.{◌≡◌, ℕ, List}
 use Rattle.std.proofs.lemmas.Result.{err_from_is_err_and}
-use Rattle.std.proofs.lemmas.Str.{utf8_valid_len_le}
 use Rattle.fb_syntax.specs.declared.tokens.Token.{Token}
 use Rattle.fb_syntax.specs.declared.faults.SyntaxFault.{SyntaxFault}
 use Rattle.fb_syntax.specs.declared.faults.SyntaxFault.TheVariants.{BadByte, Unterminated, NumberTooBig, Memory}
 use Rattle.fb_syntax.specs.Spells.{SpellsText}
 use Rattle.fb_syntax.specs.Refusals.{IsToldOfNoTokens}
-use Rattle.fb_syntax.proofs.FrontPieces.{one_spelling_shown}
 use Rattle.fb_syntax.proofs.ReadableTokens.{all_readable}
 use Rattle.fb_syntax.proofs.schema_text.parse.Goals as goal
-
-pub returns-in_err-tokens-clause-exact : goal.returns-in_err-tokens-clause-exact
-returns-in_err-tokens-clause-exact c =
-    let p = err_from_is_err_and c.from_residual-in_err-tokens.result c.from_residual-in_err-tokens.ensures.1 in
-    λ d parses. rw (p.1, p.2) (c.in_err-tokens.ensures.only parses.0 (rw c.in_ok-readable.ensures.text.0 parses.1))
 
 -- Where tokens that spell a text are found unless memory runs out, a fault of tokens says that none do.
 told_of_no_tokens : (text : List ℕ) (fault : SyntaxFault) → ((tokens : List Token) → SpellsText text tokens → fault ≡ Memory) → IsToldOfNoTokens text fault
@@ -27,15 +20,5 @@ returns-in_err-tokens-clause-spelled_by_none c =
     let p = err_from_is_err_and c.from_residual-in_err-tokens.result c.from_residual-in_err-tokens.ensures.1 in
     rw (p.1, p.2) (told_of_no_tokens _ _ (λ tokens spells. c.in_err-tokens.ensures.only tokens (rw c.in_ok-readable.ensures.text.0 spells)))
 
-pub returns-in_err-readable-clause-within : goal.returns-in_err-readable-clause-within
-returns-in_err-readable-clause-within c =
-    let p = err_from_is_err_and c.from_residual.result c.from_residual.ensures.1 in
-    rw (p.1, p.2, c.in_err-readable.ensures.not_utf8.1) (utf8_valid_len_le c.args.text.now)
-
 pub declarations_of-requires : goal.declarations_of-requires
 declarations_of-requires c = rw c.as_slice.ensures.value (all_readable c.in_ok-readable.readable.now c.in_ok-tokens.tokens.items c.in_ok-tokens.ensures.found)
-
-pub returns-clause-exact : goal.returns-clause-exact
-returns-clause-exact c = λ d parses.
-    (let same = one_spelling_shown c.args.text.now parses.0 c.in_ok-tokens.tokens.items parses.1 (rw c.in_ok-readable.ensures.text.0 at c.in_ok-tokens.ensures.found) in
-    c.declarations_of.ensures.exact d (rw (c.as_slice.ensures.value, c.in_ok-readable.ensures.text.0, ← same) parses.2))
