@@ -111,6 +111,7 @@ impl<'t, 's> Parser<'t, 's> {
     }
 
     /// A name whose first word is read already.
+    #[tactic(auto, using(crate::proofs::Repeat::begins))]
     fn name_from(&mut self, first: Text<'t>) -> Result<DottedName<'t>, Stop>
         ensures exact { Gives (λ n. (n, self.new)) result ((more first.entry).read self.old) }
         ensures shorter { IfOk result (λ _. length self.new ≤ length self.old) }

@@ -149,6 +149,7 @@ pub(crate) fn text_of(bytes: &[u8]) -> Result<&str, SyntaxFault>
 }
 
 /// The tokens of a text, behind its byte order mark if it has one; offsets count the mark.
+#[tactic(auto, using(crate::proofs::ScanSteps::over_piece, std::proofs::lemmas::List::take_rest))]
 pub(crate) fn tokens_in(alloc: Global, text: &str) -> Result<Vec<Token>, SyntaxFault>
     ensures found { IfOk result (λ v. SpellsText text.now v.items) }
     ensures only { (tokens : List Token) →

@@ -27,6 +27,7 @@ impl<'t> Parser<'t, '_> {
     }
 
     /// The items before a closing sign or, with none, before the end.
+    #[tactic(auto, using(crate::proofs::Repeat::begins))]
     pub(super) fn items<T: Item<'t>>(&mut self, close: Option<u8>) -> Result<Vec<T>, Stop>
         ensures exact { Gives (λ v. (v.items, self.new)) result (until T.rule.read (closes close) push [] self.old) }
         ensures shorter { IfOk result (λ _. length self.new ≤ length self.old) }

@@ -101,6 +101,7 @@ fn offset_of(text: &str, tokens: &[Token], left: usize) -> u64
 ///
 /// A refusal names the first token that the grammar doesn't allow, or the text's length; a vector
 /// inside a vector is one of its own.
+#[tactic(auto, using(crate::proofs::ReadsAs::reads_found, crate::proofs::ReadsAs::memory_alone))]
 pub(crate) fn declarations_of<'t>(
     alloc: Global,
     text: &'t str,

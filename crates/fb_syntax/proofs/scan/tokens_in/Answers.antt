@@ -3,12 +3,9 @@ use Rattle.std.proofs.lemmas.List.{append-nil, take_rest}
 use Rattle.fb_syntax.specs.Spells.{mark_len}
 use Rattle.fb_syntax.specs.declared.scan.Piece.TheVariants as pieces
 use Rattle.fb_syntax.proofs.Repeat.{kept_ok}
-use Rattle.fb_syntax.proofs.ScanSteps.{begun, Passed, over_piece, over_fault, over}
+use Rattle.fb_syntax.proofs.ScanSteps.{Passed, over_piece, over_fault, over}
 use Rattle.fb_syntax.proofs.scan.tokens_in.Goals as goal
 use Rattle.fb_syntax.proofs.scan.tokens_in.Goals.{In-Ok-Gap, In-Ok-Token}
-
-pub loop-at-init : goal.loop-at-init
-loop-at-init c = rw (c.new-found.ensures.items, c.mark_len-at.ensures.len) (begun _ _ (rw c.mark_len-at.ensures.len at c.mark_len-at.ensures.within))
 
 gap_here : (c : In-Ok-Gap) → Passed (mark_len c.as_bytes-bytes.result.now) c.as_bytes-bytes.result.now c.loop-at.at c.loop-at.found.items (pieces.Gap c.in-Ok-Gap.len)
 gap_here c = over_piece _ _ _ _ (pieces.Gap c.in-Ok-Gap.len) c.loop-at.invariant (rw (take_rest c.as_bytes-bytes.result.now c.loop-at.at, c.in-Ok-Gap.field-0-is) at c.in-Ok-Gap.ensures.piece)
@@ -19,14 +16,8 @@ token_here c = over_piece _ _ _ _ (pieces.Token c.in-Ok-Token.kind c.in-Ok-Token
 pub overflow_add-at : goal.overflow_add-at
 overflow_add-at c = let h = gap_here (goal.at.overflow_add-at c).In-Ok-Gap in omega (arith, h.0)
 
-pub loop-at-smaller-in-Ok-Gap : goal.loop-at-smaller-in-Ok-Gap
-loop-at-smaller-in-Ok-Gap c = let h = gap_here (goal.at.loop-at-smaller-in-Ok-Gap c).In-Ok-Gap in omega (arith, h.0, h.1)
-
 pub loop-at-preserved-in-Ok-Gap : goal.loop-at-preserved-in-Ok-Gap
 loop-at-preserved-in-Ok-Gap c = rw append-nil at (gap_here (goal.at.loop-at-preserved-in-Ok-Gap c).In-Ok-Gap).2
-
-pub overflow_add-at-in-Ok-Token : goal.overflow_add-at-in-Ok-Token
-overflow_add-at-in-Ok-Token c = let h = token_here (goal.at.overflow_add-at-in-Ok-Token c).In-Ok-Token in omega (arith, h.0)
 
 pub loop-at-smaller : goal.loop-at-smaller
 loop-at-smaller c = let h = token_here (goal.at.loop-at-smaller c).In-Ok-Token in omega (arith, h.0, h.1)

@@ -1,11 +1,8 @@
 use Rattle.std.proofs.Common.{[], sym, ◌∙◌, arith}
 use Rattle.std.proofs.lemmas.Result.{err_from_is_err_and}
 use Rattle.fb_syntax.specs.Rules.{closes, push}
-use Rattle.fb_syntax.proofs.Repeat.{kept_ok, begins, goes_on, ends, fails}
+use Rattle.fb_syntax.proofs.Repeat.{kept_ok, goes_on, ends, fails}
 use Rattle.fb_syntax.proofs.parser.Parser.items.Goals as goal
-
-pub loop-close-init : goal.loop-close-init
-loop-close-init g c = record { within = omega arith; so_far = rw c.new-items.ensures.items (begins g.T.Item.rule.read (closes c.args.close) push [] _) }
 
 pub returns-in_err-item-clause-exact : goal.returns-in_err-item-clause-exact
 returns-in_err-item-clause-exact g c =

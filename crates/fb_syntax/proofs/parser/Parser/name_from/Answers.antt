@@ -3,11 +3,8 @@ use Rattle.std.proofs.lemmas.Result.{err_from_is_err_and}
 use Rattle.fb_syntax.specs.Located.{Located}
 use Rattle.fb_syntax.specs.Rules.{dot_word, no_dot, with_word}
 use Rattle.fb_syntax.proofs.Agrees.{dot_lacks, dot_read}
-use Rattle.fb_syntax.proofs.Repeat.{kept_ok, begins, goes_on, ends, fails}
+use Rattle.fb_syntax.proofs.Repeat.{kept_ok, goes_on, ends, fails}
 use Rattle.fb_syntax.proofs.parser.Parser.name_from.Goals as goal
-
-pub loop-self-init : goal.loop-self-init
-loop-self-init c = record { so_far = rw c.first.view_is (begins dot_word.read no_dot with_word _ _); within = omega arith }
 
 pub returns-in_err-word-clause-exact : goal.returns-in_err-word-clause-exact
 returns-in_err-word-clause-exact c =
