@@ -10,7 +10,7 @@ use Rattle.fb_syntax.specs.declared.scan.Piece.TheVariants as pieces
 use Rattle.fb_syntax.specs.Bytes.{is_letter, is_digit, is_sign, is_punct, is_blank, is_word_byte}
 use Rattle.fb_syntax.specs.Integers.{is_unsigned}
 use Rattle.fb_syntax.specs.TokenBytes.{is_token, starts, is_closed_by_quote, IsLongest, IsSmall}
-use Rattle.fb_syntax.specs.Fronts.{IsAtFront}
+use Rattle.fb_syntax.specs.Spells.{IsAtFront}
 use Rattle.fb_syntax.specs.Gaps.{IsGap}
 use Rattle.fb_syntax.proofs.Gaps.{gap_starts, gap_within, same_gap, behind_first, line_gap, block_gap, no_comment}
 

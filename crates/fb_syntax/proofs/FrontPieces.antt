@@ -1,12 +1,12 @@
--- What stands at the front decides which tokens a text has.
-use Rattle.std.proofs.Common.{◌≡◌, ℕ, ◌+◌, ◌<◌, List, [], ◌++◌, ◌≤◌, length, drop, refl, ap, sym}
+-- What stands at the front decides which tokens a text has; the scanner goes from piece to piece.
+use Rattle.std.proofs.Common.{◌≡◌, ℕ, ◌+◌, ◌<◌, List, [], ◌++◌, ◌≤◌, length, drop, refl, ap, sym, arith, ◌∙◌, append_assoc, length-drop}
 use Rattle.fb_syntax.specs.declared.tokens.Token.{Token}
 use Rattle.fb_syntax.specs.declared.scan.Piece.{Piece}
-use Rattle.fb_syntax.specs.declared.scan.Piece.TheVariants as pieces
-use Rattle.fb_syntax.specs.Spells.{Spells, finished, piece, mark_len, OneSpelling}
-use Rattle.fb_syntax.specs.Fronts.{IsAtFront, len_of, tokens_of}
+use Rattle.fb_syntax.specs.Spells.{Spells, finished, piece, mark_len, OneSpelling, IsAtFront, len_of, tokens_of}
 use Rattle.fb_syntax.proofs.Gaps.{gap_within}
 use Rattle.fb_syntax.proofs.FirstBytes.{nowhere, one_piece, token_some}
+use Rattle.std.proofs.lemmas.Grind.{common_steps}
+use Rattle.fb_syntax.specs.declared.scan.Piece.TheVariants as pieces
 
 pub piece_within : (piece : Piece) (text : List ℕ) → IsAtFront text piece → (0 < len_of piece) × (len_of piece ≤ length text)
 piece_within (pieces.Gap n) text g = gap_within g
@@ -32,3 +32,45 @@ same_tokens at text xs ys (piece {rest = rest} p h s) other =
 -- A text is spelled by one list of tokens at most.
 pub one_spelling_shown : OneSpelling
 one_spelling_shown bytes xs ys a b = same_tokens (mark_len bytes) (drop (mark_len bytes) bytes) xs ys a.spelled b.spelled
+
+-- Before the place `at` stand the tokens `found`: with those behind it they are all, and none else are.
+pub record Scanned (start : ℕ) (text : List ℕ) (at : ℕ) (found : List Token) : Type 0 where
+  pub within : at ≤ length text
+  pub sound : (rest : List Token) → Spells at (drop at text) rest → Spells start (drop start text) (found ++ rest)
+  pub only : (every : List Token) → Spells start (drop start text) every → (rest : List Token) × (every ≡ found ++ rest) × Spells at (drop at text) rest
+
+pub begun : (start : ℕ) (text : List ℕ) → start ≤ length text → Scanned start text start []
+begun start text h = record { within = h; sound = λ rest s. s; only = λ every s. (every, refl, s) }
+
+abbrev pub Passed : (start : ℕ) (text : List ℕ) (at : ℕ) (found : List Token) (p : Piece) → Type 0
+Passed start text at found p = (at + len_of p ≤ length text) × (0 < len_of p) × Scanned start text (at + len_of p) (found ++ tokens_of at p)
+
+pub over_piece : (start : ℕ) (text : List ℕ) (at : ℕ) (found : List Token) (p : Piece) → Scanned start text at found → IsAtFront (drop at text) p → Passed start text at found p
+over_piece start text at found p s here =
+    let w = piece_within p (drop at text) here in
+    let room : at + len_of p ≤ length text = omega (arith, w.1, s.within, length-drop at text) in
+    let further : drop (len_of p) (drop at text) ≡ drop (at + len_of p) text = grind (arith, common_steps) in (
+      room,
+      w.0,
+      record {
+        within = room;
+        sound = λ rest spelled. rw append_assoc (s.sound (tokens_of at p ++ rest) (piece p here (rw further spelled)));
+        only = λ every spelled.
+            let split = s.only every spelled in
+            let first = behind at (drop at text) p split.0 here split.2 in
+            (first.0, rw append_assoc (split.1 ∙ ap (λ r. found ++ r) first.1), rw further at first.2);
+      },
+    )
+
+pub over_fault : (start : ℕ) (text : List ℕ) (at : ℕ) (found : List Token) → Scanned start text at found → at < length text → ((p : Piece) → IsAtFront (drop at text) p → ⊥) → (every : List Token) → Spells start (drop start text) every → ⊥
+over_fault start text at found s h none every spelled =
+    let split = s.only every spelled in
+    let end = nothing at (drop at text) split.0 none split.2 in omega (arith, end.0, length-drop at text)
+
+pub over : (start : ℕ) (text : List ℕ) (at : ℕ) (found : List Token) → Scanned start text at found → length text ≤ at → Spells start (drop start text) found × ((every : List Token) → Spells start (drop start text) every → found ≡ every)
+over start text at found s h =
+    let none : drop at text ≡ [] = grind (arith, common_steps) in
+    let whole : found ++ [] ≡ found = grind (arith, common_steps) in (
+      rw whole at (s.sound [] (rw none finished)),
+      λ every spelled. let split = s.only every spelled in let last = nothing at [] split.0 nowhere (rw none at split.2) in sym (split.1 ∙ ap (λ r. found ++ r) last.1 ∙ whole),
+    )

@@ -2,9 +2,7 @@ pub mod DigitSums
 pub mod Gaps
 pub mod FirstBytes
 pub mod LongestTokens
-pub mod Numbers
 pub mod FrontPieces
-pub mod ScanSteps
 pub mod Repeat
 pub mod Agrees
 pub mod GrammarAgrees

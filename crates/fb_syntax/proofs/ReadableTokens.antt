@@ -14,9 +14,8 @@ use Rattle.fb_syntax.specs.declared.scan.Piece.{Piece}
 use Rattle.fb_syntax.specs.declared.scan.Piece.TheVariants as pieces
 use Rattle.fb_syntax.specs.Bytes.{is_quotable}
 use Rattle.fb_syntax.specs.TokenBytes.{is_token, is_closed_by_quote, starts, IsLongest, IsSmall}
-use Rattle.fb_syntax.specs.Fronts.{IsAtFront, len_of, tokens_of}
+use Rattle.fb_syntax.specs.Spells.{IsAtFront, len_of, tokens_of, Spells, finished, piece, SpellsText, mark_len}
 use Rattle.fb_syntax.specs.Lexemes.{IsReadable, AreReadable, content}
-use Rattle.fb_syntax.specs.Spells.{Spells, finished, piece, SpellsText, mark_len}
 use Rattle.fb_syntax.proofs.Gaps.{gap_starts}
 use Rattle.fb_syntax.proofs.FirstBytes.{longest_starts}
 use Rattle.fb_syntax.proofs.FrontPieces.{piece_within}

@@ -2,7 +2,6 @@ pub mod Bytes
 pub mod Gaps
 pub mod Integers
 pub mod TokenBytes
-pub mod Fronts
 pub mod Spells
 pub mod Located
 pub mod NumberRead

@@ -57,7 +57,7 @@ pub(crate) fn magnitude(spelling: &[u8]) -> Option<u64>
 }
 
 // How many bytes at the front are an integer without its sign.
-#[tactic(auto, using(crate::proofs::Numbers::decimal_len))]
+#[tactic(auto, using(crate::proofs::LongestTokens::decimal_len))]
 pub(crate) fn number_len(text: &[u8]) -> usize
     ensures len { IsNumberLen result text.now }
     ensures within { result ≤ length text.now }

@@ -5,9 +5,8 @@ ghost use Rattle.std.specs.Str.Lossy.{utf8_valid_len};
 ghost use Rattle.fb_syntax.specs.declared.tokens.Token.{Token};
 ghost use Rattle.fb_syntax.specs.declared.tokens.TokenKind.TheVariants.{Integer};
 ghost use Rattle.fb_syntax.specs.Gaps.{is_close, ClosesBehind};
-ghost use Rattle.fb_syntax.specs.Fronts.{IsFront};
+ghost use Rattle.fb_syntax.specs.Spells.{IsFront, SpellsText, OneSpelling, mark_len};
 ghost use Rattle.fb_syntax.specs.TokenBytes.{starts};
-ghost use Rattle.fb_syntax.specs.Spells.{SpellsText, OneSpelling, mark_len};
 ghost use Rattle.fb_syntax.specs.Refusals.{StandsWithin, IsTokenFault};
 
 use crate::bytes::{
@@ -81,7 +80,7 @@ fn quoted(at: u64, text: &[u8]) -> Result<Piece, SyntaxFault>
 }
 
 // The integer at `at`.
-#[tactic(auto, using(crate::proofs::Numbers::no_integer, std::proofs::lemmas::List::take_rest))]
+#[tactic(auto, using(crate::proofs::LongestTokens::no_integer, std::proofs::lemmas::List::take_rest))]
 fn integer(at: u64, text: &[u8]) -> Result<Piece, SyntaxFault>
     requires { IsTrue (starts Integer (get_or text.now 0 0)) }
     ensures piece { IsFront text.now result }
@@ -149,7 +148,7 @@ pub(crate) fn text_of(bytes: &[u8]) -> Result<&str, SyntaxFault>
 }
 
 /// The tokens of a text, behind its byte order mark if it has one; offsets count the mark.
-#[tactic(auto, using(crate::proofs::ScanSteps::over_piece, std::proofs::lemmas::List::take_rest))]
+#[tactic(auto, using(crate::proofs::FrontPieces::over_piece, std::proofs::lemmas::List::take_rest))]
 pub(crate) fn tokens_in(alloc: Global, text: &str) -> Result<Vec<Token>, SyntaxFault>
     ensures found { IfOk result (λ v. SpellsText text.now v.items) }
     ensures only { (tokens : List Token) →

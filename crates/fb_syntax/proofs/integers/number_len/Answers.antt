@@ -1,6 +1,6 @@
 use Rattle.std.proofs.Common.{sym, ◌∙◌}
 use Rattle.std.proofs.lemmas.List.{take_rest}
-use Rattle.fb_syntax.proofs.Numbers.{hexadecimal_len}
+use Rattle.fb_syntax.proofs.LongestTokens.{hexadecimal_len}
 use Rattle.fb_syntax.proofs.integers.number_len.Goals as goal
 
 pub returns-then-is_prefixed-clause-len : goal.returns-then-is_prefixed-clause-len

@@ -1,7 +1,7 @@
 use Rattle.std.proofs.Common.{arith}
 use Rattle.std.proofs.lemmas.List.{take_rest}
 use Rattle.std.proofs.lemmas.Grind.{common_steps}
-use Rattle.fb_syntax.proofs.Numbers.{integer_longest, no_integer}
+use Rattle.fb_syntax.proofs.LongestTokens.{integer_longest, no_integer}
 use Rattle.fb_syntax.proofs.scan.integer.Goals as goal
 
 pub returns-then-len-eq0-clause-piece : goal.returns-then-len-eq0-clause-piece

@@ -3,7 +3,7 @@ use Rattle.std.proofs.lemmas.List.{append-nil, take_rest}
 use Rattle.fb_syntax.specs.Spells.{mark_len}
 use Rattle.fb_syntax.specs.declared.scan.Piece.TheVariants as pieces
 use Rattle.fb_syntax.proofs.Repeat.{kept_ok}
-use Rattle.fb_syntax.proofs.ScanSteps.{Passed, over_piece, over_fault, over}
+use Rattle.fb_syntax.proofs.FrontPieces.{Passed, over_piece, over_fault, over}
 use Rattle.fb_syntax.proofs.scan.tokens_in.Goals as goal
 use Rattle.fb_syntax.proofs.scan.tokens_in.Goals.{In-Ok-Gap, In-Ok-Token}
 

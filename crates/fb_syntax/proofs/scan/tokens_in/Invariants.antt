@@ -1,6 +1,6 @@
 use Rattle.std.proofs.Common.{◌-◌, length}
 use Rattle.fb_syntax.specs.Spells.{mark_len}
-use Rattle.fb_syntax.proofs.ScanSteps.{Scanned}
+use Rattle.fb_syntax.proofs.FrontPieces.{Scanned}
 use Rattle.fb_syntax.proofs.scan.tokens_in.Given as goal
 
 abbrev pub invariant-loop-at : goal.invariant-loop-at
