@@ -1,5 +1,5 @@
 -- The first byte of what stands at the front: it decides the kind.
-use Rattle.std.proofs.Common.{◌≡◌, ℕ, zero, suc, ◌≤◌, true, false, cond, ◌==◌, ◌||◌, List, [], ◌∷◌, length, take, refl, ap, sym, ◌∙◌, get_or, ◌<◌, arith}
+use Rattle.std.proofs.Common.{◌≡◌, ◌≢◌, ℕ, zero, suc, ◌≤◌, true, false, cond, ◌==◌, ◌||◌, List, [], ◌∷◌, length, take, refl, ap, sym, ◌∙◌, get_or, ◌<◌, arith}
 use Rattle.std.proofs.lemmas.Bool.Decides.{nat_tests}
 use Rattle.std.proofs.lemmas.Bool.{and_parts}
 use Rattle.std.specs.List.{list_all}
@@ -70,13 +70,13 @@ only_gaps c cs s none (pieces.Token k n) h = let a = (started_kind k c (longest_
 
 pub ruleset comments = (line_gap, block_gap, no_comment, only_gaps, behind_first)
 
-pub nowhere : (piece : Piece) → IsAtFront [] piece → ⊥
-nowhere (pieces.Gap n) g = let w = gap_within g in omega (arith, w.0, w.1)
-nowhere (pieces.Token k n) h = let w = (h.0).within in omega (arith, token_some k n [] h.0)
+pub nowhere : (text : List ℕ) (piece : Piece) → length text ≡ 0 → IsAtFront text piece → ⊥
+nowhere text (pieces.Gap n) e g = let w = gap_within g in omega (arith, w.0, w.1)
+nowhere text (pieces.Token k n) e h = let w = (h.0).within in omega (arith, token_some k n text h.0)
 
 -- One piece at most stands at the front.
 pub one_piece : (text : List ℕ) (p q : Piece) → IsAtFront text p → IsAtFront text q → p ≡ q
-one_piece [] p q h i = absurd (nowhere p h)
+one_piece [] p q h i = absurd (nowhere [] p refl h)
 one_piece (c ∷ cs) (pieces.Gap m) (pieces.Gap n) h i = ap pieces.Gap (same_gap h i)
 one_piece (c ∷ cs) (pieces.Gap m) (pieces.Token k n) h i = absurd (gap_or_token m k h (longest_starts k n c cs i.0))
 one_piece (c ∷ cs) (pieces.Token j m) (pieces.Gap n) h i = absurd (gap_or_token n j i (longest_starts j m c cs h.0))
@@ -88,10 +88,10 @@ one_piece (c ∷ cs) (pieces.Token j m) (pieces.Token k n) h i =
     rw (kinds, lengths) refl
 
 -- Nothing begins with any other byte.
-pub no_start : (text : List ℕ) → (is_blank (get_or text 0 0) || get_or text 0 0 == 47) ≡ false → is_letter (get_or text 0 0) ≡ false → (is_digit (get_or text 0 0) || is_sign (get_or text 0 0)) ≡ false → (get_or text 0 0 == 34) ≡ false → is_punct (get_or text 0 0) ≡ false → (piece : Piece) → IsAtFront text piece → ⊥
-no_start [] gap letter number quote mark piece h = nowhere piece h
-no_start (c ∷ cs) gap letter number quote mark (pieces.Gap n) g = let e = gap_starts g in cc
-no_start (c ∷ cs) gap letter number quote mark (pieces.Token k n) h = other k (longest_starts k n c cs h.0) where
+pub no_start : (text : List ℕ) → is_blank (get_or text 0 0) ≡ false → get_or text 0 0 ≢ 47 → is_letter (get_or text 0 0) ≡ false → is_digit (get_or text 0 0) ≡ false → is_sign (get_or text 0 0) ≡ false → get_or text 0 0 ≢ 34 → is_punct (get_or text 0 0) ≡ false → (piece : Piece) → IsAtFront text piece → ⊥
+no_start [] blank slash letter digit sign quote mark piece h = nowhere [] piece refl h
+no_start (c ∷ cs) blank slash letter digit sign quote mark (pieces.Gap n) g = let e = gap_starts g in grind (arith, nat_tests)
+no_start (c ∷ cs) blank slash letter digit sign quote mark (pieces.Token k n) h = other k (longest_starts k n c cs h.0) where
   other : (k : TokenKind) → starts k c ≡ true → ⊥
-  other (Punct p) e = let both = and_parts (c == p) (is_punct c) e in cc
-  other _ e = cc
+  other (Punct p) e = grind (arith, nat_tests)
+  other _ e = grind (arith, nat_tests)

@@ -14,7 +14,7 @@ piece_within (pieces.Token kind n) text h = (token_some kind n text h.0, (h.0).w
 
 -- Where a piece stands, the tokens are its own and those behind it.
 pub behind : (at : ℕ) (text : List ℕ) (p : Piece) (tokens : List Token) → IsAtFront text p → Spells at text tokens → (rest : List Token) × (tokens ≡ tokens_of at p ++ rest) × Spells (at + len_of p) (drop (len_of p) text) rest
-behind at text p tokens h finished = absurd (nowhere p h)
+behind at text p tokens h finished = absurd (nowhere [] p refl h)
 behind at text p tokens h (piece {rest = rest} q g s) = rw (one_piece text p q h g) (rest, refl, s)
 
 -- Where nothing stands, only the end of the text is spelled.
@@ -24,7 +24,7 @@ nothing at text tokens none (piece p h s) = absurd (none p h)
 
 -- A text has one list of tokens.
 pub same_tokens : (at : ℕ) (text : List ℕ) (xs ys : List Token) → Spells at text xs → Spells at text ys → xs ≡ ys
-same_tokens at text xs ys finished other = sym (nothing at [] ys nowhere other).1
+same_tokens at text xs ys finished other = sym (nothing at [] ys (λ p h. nowhere [] p refl h) other).1
 same_tokens at text xs ys (piece {rest = rest} p h s) other =
     let split = behind at text p ys h other in
     rw split.1 (ap (λ ts. tokens_of at p ++ ts) (same_tokens (at + len_of p) (drop (len_of p) text) rest split.0 s split.2))
@@ -72,5 +72,5 @@ over start text at found s h =
     let none : drop at text ≡ [] = grind (arith, common_steps) in
     let whole : found ++ [] ≡ found = grind (arith, common_steps) in (
       rw whole at (s.sound [] (rw none finished)),
-      λ every spelled. let split = s.only every spelled in let last = nothing at [] split.0 nowhere (rw none at split.2) in sym (split.1 ∙ ap (λ r. found ++ r) last.1 ∙ whole),
+      λ every spelled. let split = s.only every spelled in let last = nothing at [] split.0 (λ p h. nowhere [] p refl h) (rw none at split.2) in sym (split.1 ∙ ap (λ r. found ++ r) last.1 ∙ whole),
     )

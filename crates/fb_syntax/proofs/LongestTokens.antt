@@ -1,5 +1,5 @@
 -- The longest token at the front, of each kind.
-use Rattle.std.proofs.Common.{◌≡◌, ℕ, zero, suc, ◌+◌, ◌<◌, ◌≤◌, Bool, true, ◌==◌, ◌&&◌, List, [], ◌∷◌, length, take, drop, get_or, refl, ap, eq-eqb, arith, inl, inr, not, false, ◌||◌}
+use Rattle.std.proofs.Common.{◌-◌, ◌≡◌, ℕ, zero, suc, ◌+◌, ◌<◌, ◌≤◌, Bool, true, ◌==◌, ◌&&◌, List, [], ◌∷◌, length, take, drop, get_or, refl, ap, eq-eqb, arith, inl, inr, not, false, ◌||◌}
 use Rattle.std.proofs.lemmas.Bool.{eqb-true, and_parts, and_from, cases_Bool, or_cases, or_left, or_right}
 use Rattle.std.proofs.lemmas.List.Sums.{prefix_len-le-length, prefix_len_passes, list_all-from_AllPass}
 use Rattle.std.proofs.lemmas.List.Folds.{length-prefix_len}
@@ -11,7 +11,8 @@ use Rattle.fb_syntax.specs.declared.scan.Piece.{Piece}
 use Rattle.fb_syntax.specs.Bytes.{is_letter, is_word_byte, is_quotable, is_punct, is_digit, is_hex, is_sign}
 use Rattle.fb_syntax.specs.TokenBytes.{is_closed_by_quote, is_token, IsLongest, starts}
 use Rattle.fb_syntax.specs.Spells.{IsAtFront}
-use Rattle.fb_syntax.proofs.FirstBytes.{longest_of, only_kind}
+use Rattle.fb_syntax.proofs.FirstBytes.{longest_of, only_kind, no_start, nowhere}
+use Rattle.fb_syntax.proofs.Gaps.{blank_gap, behind_first}
 use Rattle.std.proofs.lemmas.Bool.Decides.{nat_tests}
 use Rattle.fb_syntax.specs.Integers.{is_unsigned, is_decimal, is_hexadecimal, is_prefixed, is_integer, sign_len, without_sign, IsNumberLen, magnitude, greatest_magnitude}
 
@@ -29,11 +30,11 @@ all-prefix p cs = list_all-from_AllPass p (take (prefix_len p cs) cs) (λ k d h.
     (let short : k < prefix_len p cs = omega (arith, h, length-prefix_len p cs) in
     rw get_or-take (prefix_len_passes p cs k d short)))
 
-pub word_longest : (text : List ℕ) (n : ℕ) → is_letter (get_or text 0 0) ≡ true → n ≡ prefix_len is_word_byte (drop 1 text) → IsLongest Word (1 + n) text
+pub word_longest : (text : List ℕ) (n : ℕ) → is_letter (get_or text 0 0) ≡ true → n ≡ prefix_len is_word_byte (take (length text - 1) (drop 1 text)) → IsLongest Word (1 + n) text
 unfolding is_token
 word_longest [] n e run = absurd cc
 word_longest (c ∷ cs) n e run =
-    rw run (longest_of Word (1 + prefix_len is_word_byte cs) c cs e (omega (arith, prefix_len-le-length is_word_byte cs)) (rw one-add (and_from (is_letter c) _ e (all-prefix is_word_byte cs)))
+    rw (rw (behind_first (c ∷ cs)) at run) (longest_of Word (1 + prefix_len is_word_byte cs) c cs e (omega (arith, prefix_len-le-length is_word_byte cs)) (rw one-add (and_from (is_letter c) _ e (all-prefix is_word_byte cs)))
     (λ m w t. omega (arith, all-take is_word_byte cs m w (and_parts (is_letter c) _ t).1)))
 
 pub punct_longest : (text : List ℕ) → is_punct (get_or text 0 0) ≡ true → IsLongest (Punct (get_or text 0 0)) 1 text
@@ -47,6 +48,8 @@ punct_longest (c ∷ cs) e = longest_of (Punct c) 1 c cs alone (omega arith) alo
   one_byte zero cs w t = omega arith
   one_byte (suc m) [] w t = absurd (omega arith)
   one_byte (suc m) (d ∷ cs) w t = absurd cc
+
+pub ruleset fronts = (blank_gap, punct_longest, no_start, nowhere)
 
 closed-sound : (cs : List ℕ) (n : ℕ) → list_all is_quotable (take n cs) ≡ true → get_or cs n 0 ≡ 34 → (is_closed_by_quote (take (suc n) cs) ≡ true) × (suc n ≤ length cs)
 closed-sound (c ∷ cs) zero all e = (eq-eqb c 34 e, omega arith)

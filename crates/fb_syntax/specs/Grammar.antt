@@ -25,21 +25,28 @@ dotted_name = do
 
 -- Integer | Quoted | Word
 unfoldable pub attribute_value : Rule AttributeValue
-attribute_value = with_token Integer (λ digits. give (values.Integer (number_of digits))) (with_token Quoted (λ text. give (values.Quoted text)) (do word ← token Word; give (values.Word word)))
+attribute_value = with_token Integer (λ digits. give (values.Integer (number_of digits)))
+    (with_token Quoted (λ text. give (values.Quoted text)) (do word ← token Word; give (values.Word word)))
 
 -- Word [ ":" value ]
 unfoldable pub attribute : Rule Attribute
 attribute = do
   name ← token Word
-  with_token (Punct (byte ":")) (λ _. do value ← attribute_value; give (record { name = name; value = Some value })) (give (record { name = name; value = None }))
+  with_token (Punct (byte ":"))
+      (λ _. do value ← attribute_value; give (record { name = name; value = Some value }))
+      (give (record { name = name; value = None }))
 
 -- [ "(" [ attribute { "," attribute } ] ")" ]
 unfoldable pub metadata : Rule (List Attribute)
-metadata = with_token (Punct (byte "(")) (λ _. with_token (Punct (byte ")")) (λ _. give []) (listed attribute false (byte ")"))) (give [])
+metadata = with_token (Punct (byte "("))
+    (λ _. with_token (Punct (byte ")")) (λ _. give []) (listed attribute false (byte ")")))
+    (give [])
 
 -- "[" name "]" | name
 unfoldable pub field_type : Rule FieldType
-field_type = with_token (Punct (byte "[")) (λ bracket. do name ← dotted_name; _ ← sign (byte "]"); give (types.Many bracket.at name)) (do name ← dotted_name; give (types.One name))
+field_type = with_token (Punct (byte "["))
+    (λ bracket. do name ← dotted_name; _ ← sign (byte "]"); give (types.Many bracket.at name))
+    (do name ← dotted_name; give (types.One name))
 
 -- Integer | name
 unfoldable pub default_value : Rule DefaultValue
@@ -73,7 +80,9 @@ table = do
 unfoldable pub enum_value : Rule EnumValue
 enum_value = do
   name ← token Word
-  with_token (Punct (byte "=")) (λ _. do digits ← token Integer; give (record { name = name; number = Some (number_of digits) })) (give (record { name = name; number = None }))
+  with_token (Punct (byte "="))
+      (λ _. do digits ← token Integer; give (record { name = name; number = Some (number_of digits) }))
+      (give (record { name = name; number = None }))
 
 -- Word ":" name metadata "{" value { "," value } [ "," ] "}"
 unfoldable pub enumeration : Rule EnumRead
@@ -90,7 +99,9 @@ enumeration = do
 unfoldable pub union_member : Rule UnionMember
 union_member = do
   word ← token Word
-  with_token (Punct (byte ":")) (λ _. do table ← dotted_name; give (record { alias = Some word; table = table })) (do table ← more word; give (record { alias = None; table = table }))
+  with_token (Punct (byte ":"))
+      (λ _. do table ← dotted_name; give (record { alias = Some word; table = table }))
+      (do table ← more word; give (record { alias = None; table = table }))
 
 -- Word metadata "{" member { "," member } [ "," ] "}"
 unfoldable pub union : Rule UnionRead

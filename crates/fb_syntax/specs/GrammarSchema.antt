@@ -25,7 +25,8 @@ keyword = record { Is = λ ts k rest. (at : ℕ) × IsToken Word ts (record { by
 
 -- [ name ] ";"
 unfoldable pub namespace : Rule (Option Located)
-namespace = with_token (Punct (byte ";")) (λ _. give None) (do name ← dotted_name; _ ← sign (byte ";"); give (Some name))
+namespace = with_token (Punct (byte ";")) (λ _. give None)
+    (do name ← dotted_name; _ ← sign (byte ";"); give (Some name))
 
 -- ( Quoted | Word ) ";"
 unfoldable pub attribute_decl : Rule Located

@@ -86,11 +86,14 @@ closes (Some c) = is_sign c
 closes None = is_empty
 
 -- items to where they stop, n of them at most, each added to what those before it made
-unfoldable pub many : {X B : Type 0} → (List Lexeme → Front X) → (List Lexeme → Bool) → (B → X → B) → ℕ → B → List Lexeme → Front B
+unfoldable pub many : {X B : Type 0} → (List Lexeme → Front X) → (List Lexeme → Bool) → (B → X → B) → ℕ → B
+    → List Lexeme → Front B
 many item stop add zero made ts = None
-many item stop add (suc n) made ts = if stop ts then Some (made, ts) else and_then (item ts) (λ x. many item stop add n (add made x.0) x.1)
+many item stop add (suc n) made ts =
+    if stop ts then Some (made, ts) else and_then (item ts) (λ x. many item stop add n (add made x.0) x.1)
 
-unfoldable pub until : {X B : Type 0} → (List Lexeme → Front X) → (List Lexeme → Bool) → (B → X → B) → B → List Lexeme → Front B
+unfoldable pub until : {X B : Type 0} → (List Lexeme → Front X) → (List Lexeme → Bool) → (B → X → B) → B
+    → List Lexeme → Front B
 until item stop add made ts = many item stop add (suc (length ts)) made ts
 
 -- "." Word
@@ -118,7 +121,10 @@ push xs x = xs ++ x ∷ []
 
 -- items until a test of the tokens that are left holds
 abbrev pub repeated : {X : Type 0} → Rule X → (List Lexeme → Bool) → Rule (List X)
-repeated item stop = record { Is = λ ts xs rest. Repeated item.Is ts xs rest × (stop rest ≡ true); read = until item.read stop push [] }
+repeated item stop = record {
+  Is = λ ts xs rest. Repeated item.Is ts xs rest × (stop rest ≡ true);
+  read = until item.read stop push [];
+}
 
 -- { item } and a closing sign
 abbrev pub block : {X : Type 0} → Rule X → ℕ → Rule (List X)
@@ -136,7 +142,8 @@ some_block item close = do
 -- what divides an item from the next, or ends a list: a comma, right before the closing sign only where `trailing` is
 -- true; or nothing, before that sign
 unfoldable pub divider : Bool → ℕ → Rule (Unit {0})
-divider trailing close = with_token (Punct (byte ",")) (λ _. ahead (λ ts. trailing || not (is_sign close ts))) (ahead (is_sign close))
+divider trailing close =
+    with_token (Punct (byte ",")) (λ _. ahead (λ ts. trailing || not (is_sign close ts))) (ahead (is_sign close))
 
 -- an item of a list, and what stands behind it
 unfoldable pub listed_item : {X : Type 0} → Rule X → Bool → ℕ → Rule X

@@ -30,6 +30,7 @@ Gives view (Ok x) read = read ≡ Some (view x)
 Gives view (Err e) read = Fails e read
 
 -- What a call answered and left is what the rule reads, and it took a token.
-pub record Passes {X Y : Type 0} (view : X → Y) (result : Result X Stop) (rule : Rule Y) (old new : List Lexeme) : Type 0 where
+pub record Passes {X Y : Type 0} (view : X → Y) (result : Result X Stop) (rule : Rule Y) (old new : List Lexeme)
+    : Type 0 where
   pub exact : Gives (λ x. (view x, new)) result (rule.read old)
   pub shorter : IfOk result (λ x. length new < length old)

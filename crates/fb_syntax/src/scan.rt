@@ -99,7 +99,7 @@ fn integer(at: u64, text: &[u8]) -> Result<Piece, SyntaxFault>
 }
 
 // What stands at `at`, where `text` begins.
-#[tactic(auto, using(crate::proofs::Gaps::blank_gap, crate::proofs::LongestTokens::punct_longest))]
+#[tactic(auto, using(crate::proofs::LongestTokens::fronts))]
 fn next_piece(at: u64, text: &[u8]) -> Result<Piece, SyntaxFault>
     requires { at + length text.now < 2 ^ 64 }
     ensures piece { IsFront text.now result }
