@@ -14,8 +14,8 @@ use Rattle.fb_syntax.specs.Grammar.{dotted_name, attribute_value, attribute, met
 use Rattle.fb_syntax.specs.GrammarSchema.{keyword_at, keyword, namespace, attribute_decl, quoted, declared, declaration}
 use Rattle.fb_syntax.specs.declared.tokens.TokenKind.{TokenKind}
 use Rattle.fb_syntax.specs.declared.tokens.TokenKind.TheVariants.{Word, Integer, Quoted, Punct}
-use Rattle.fb_syntax.specs.declared.parser.keywords.Keyword.{Keyword}
-use Rattle.fb_syntax.specs.declared.parser.keywords.Keyword.TheVariants as keywords
+use Rattle.fb_syntax.specs.declared.parser.schema.Keyword.{Keyword}
+use Rattle.fb_syntax.specs.declared.parser.schema.Keyword.TheVariants as keywords
 use Rattle.fb_syntax.proofs.Agrees.{bind-some, lands, but, token_found, token_read, other_token, Agrees, where_empty, all_kinds, besides, token-agrees, give-agrees, then-agrees, with_token-agrees, more-agrees, block-agrees, listed-agrees}
 
 -- a token, and what stands behind it

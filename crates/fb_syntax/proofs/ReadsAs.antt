@@ -8,8 +8,8 @@ use Rattle.fb_syntax.specs.Rules.{is_empty, repeated}
 use Rattle.fb_syntax.specs.GrammarSchema.{declaration, Reads}
 use Rattle.fb_syntax.specs.OneReading.{OneReading}
 use Rattle.fb_syntax.specs.declared.faults.SyntaxFault.TheVariants as faults
-use Rattle.fb_syntax.specs.declared.parser.stop.Stop.{Stop}
-use Rattle.fb_syntax.specs.declared.parser.stop.Stop.TheVariants.{Memory}
+use Rattle.fb_syntax.specs.declared.parser.Stop.{Stop}
+use Rattle.fb_syntax.specs.declared.parser.Stop.TheVariants.{Memory}
 use Rattle.fb_syntax.specs.declared.tokens.Token.{Token}
 use Rattle.fb_syntax.specs.declared.declarations.Declaration.{Declaration}
 use Rattle.fb_syntax.specs.declared.tokens.TokenKind.TheVariants.{Word}

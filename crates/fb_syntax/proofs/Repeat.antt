@@ -1,8 +1,8 @@
 -- Loops over items.
 use Rattle.std.proofs.Common.{◌≡◌, ℕ, suc, ◌<◌, ◌≤◌, ◌-◌, List, length, Bool, true, false, Option, Some, None, Result, Ok, Err, refl, sym, arith}
 use Rattle.std.specs.Result.{result_or}
-use Rattle.fb_syntax.specs.declared.parser.stop.Stop.{Stop}
-use Rattle.fb_syntax.specs.declared.parser.stop.Stop.TheVariants.{Memory}
+use Rattle.fb_syntax.specs.declared.parser.Stop.{Stop}
+use Rattle.fb_syntax.specs.declared.parser.Stop.TheVariants.{Memory}
 use Rattle.fb_syntax.specs.Lexemes.{Lexeme}
 use Rattle.fb_syntax.specs.Stops.{Fails}
 use Rattle.fb_syntax.specs.Rules.{Front, many, until}

@@ -9,8 +9,8 @@ use Rattle.fb_syntax.specs.Rules.{Front, Rule, and_then, IsToken, token_at, toke
 use Rattle.fb_syntax.specs.Grammar.{dotted_name, table, enumeration, union}
 use Rattle.fb_syntax.specs.declared.tokens.Token.{Token}
 use Rattle.fb_syntax.specs.declared.tokens.TokenKind.TheVariants.{Word, Quoted, Punct}
-use Rattle.fb_syntax.specs.declared.parser.keywords.Keyword.{Keyword}
-use Rattle.fb_syntax.specs.declared.parser.keywords.Keyword.TheVariants as keywords
+use Rattle.fb_syntax.specs.declared.parser.schema.Keyword.{Keyword}
+use Rattle.fb_syntax.specs.declared.parser.schema.Keyword.TheVariants as keywords
 use Rattle.fb_syntax.specs.declared.declarations.Declaration.{Declaration}
 use Rattle.fb_syntax.specs.declared.declarations.Declaration.TheVariants as declarations
 use Rattle.fb_syntax.specs.declared.declarations.TypeDecl.TheVariants as types

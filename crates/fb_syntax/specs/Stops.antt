@@ -4,8 +4,8 @@ use Rattle.fb_syntax.specs.Lexemes.{Lexeme}
 use Rattle.fb_syntax.specs.Rules.{Rule}
 use Rattle.fb_syntax.specs.declared.faults.SyntaxFault.{SyntaxFault}
 use Rattle.fb_syntax.specs.declared.faults.SyntaxFault.TheVariants.{Unexpected, NestedVector, Memory}
-use Rattle.fb_syntax.specs.declared.parser.stop.Stop.{Stop}
-use Rattle.fb_syntax.specs.declared.parser.stop.Stop.TheVariants as stops
+use Rattle.fb_syntax.specs.declared.parser.Stop.{Stop}
+use Rattle.fb_syntax.specs.declared.parser.Stop.TheVariants as stops
 
 -- What a call answered and left is what reading gives, unless memory ran out.
 abbrev pub Fails : {Y : Type 0} → Stop → Option Y → Type 0

@@ -1,11 +1,9 @@
 //! The grammar, one token ahead.
 mod enums;
 mod fields;
-mod keywords;
 mod lists;
 mod metadata;
 mod schema;
-mod stop;
 mod unions;
 
 ghost use Rattle.std.specs.Prelude.{◌≡◌, ◌<◌, ◌≤◌, length, drop, Some, None, IfOk, IfSome, MatchOption};
@@ -13,16 +11,39 @@ ghost use Rattle.fb_syntax.specs.Lexemes.{IsReadable, AreReadable, lexemes, loca
 ghost use Rattle.fb_syntax.specs.TokenBytes.{IsSmall};
 ghost use Rattle.fb_syntax.specs.Rules.{is_sign, more, token_at};
 ghost use Rattle.fb_syntax.specs.Grammar.{dotted_name};
-ghost use Rattle.fb_syntax.specs.Stops.{Gives, Passes};
+ghost use Rattle.fb_syntax.specs.Stops.{Gives, Passes, fault_at};
 ghost use Rattle.fb_syntax.specs.declared.tokens.TokenKind.TheVariants.{Punct};
 
 use crate::declarations::{DottedName, Text};
+use crate::faults::SyntaxFault;
 use crate::tokens::{Token, TokenKind};
 pub(crate) use schema::declarations_of;
 use std::alloc::Global;
 use std::borrow::CowStr;
 use std::marker::Model;
-use stop::Stop;
+
+/// Why the parser stops, at its next token.
+#[derive(Clone, Copy, Drop)]
+enum Stop {
+    /// The grammar doesn't allow the token there.
+    Unexpected,
+    /// A vector stands inside a vector.
+    NestedVector,
+    Memory,
+}
+
+impl Stop {
+    /// The fault of a parser whose next token stands at an offset.
+    fn at(self, offset: u64) -> SyntaxFault
+        ensures { result ≡ fault_at self offset }
+    {
+        match self {
+            Stop::Unexpected => SyntaxFault::Unexpected(offset),
+            Stop::NestedVector => SyntaxFault::NestedVector(offset),
+            Stop::Memory => SyntaxFault::Memory,
+        }
+    }
+}
 
 /// The tokens that are left, and the text that they stand in.
 #[derive(Drop)]

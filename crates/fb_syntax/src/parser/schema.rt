@@ -4,11 +4,11 @@ ghost use Rattle.fb_syntax.specs.declared.faults.SyntaxFault.TheVariants.{Memory
 ghost use Rattle.fb_syntax.specs.DeclsRead.{DeclsRead};
 ghost use Rattle.fb_syntax.specs.GrammarSchema.{Reads, namespace, attribute_decl, quoted};
 ghost use Rattle.fb_syntax.specs.GrammarSchema.{declared, declaration};
+ghost use Rattle.fb_syntax.specs.Keywords.{keyword_of};
 ghost use Rattle.fb_syntax.specs.Lexemes.{AreReadable};
 ghost use Rattle.fb_syntax.specs.Refusals.{StandsWithin};
 ghost use Rattle.fb_syntax.specs.Stops.{IsGrammarFault, Passes};
 
-use super::keywords::{Keyword, keyword_of};
 use super::lists::Item;
 use super::{Parser, Stop};
 use crate::declarations::Directive::{FileExtension, FileIdentifier, RootType};
@@ -17,6 +17,38 @@ use crate::faults::SyntaxFault;
 use crate::tokens::Token;
 use crate::tokens::TokenKind::{Punct, Quoted, Word};
 use std::alloc::Global;
+
+/// What a declaration's first word says that it is.
+#[derive(Clone, Copy, Drop)]
+enum Keyword {
+    Namespace,
+    Attribute,
+    Table,
+    Struct,
+    Enum,
+    Union,
+    Root,
+    Extension,
+    Identifier,
+}
+
+#[tactic(auto, unfolding(crate::specs::Keywords::keyword_of))]
+fn keyword_of(word: &str) -> Option<Keyword>
+    ensures { result ≡ keyword_of word.now }
+{
+    match word {
+        "namespace" => Some(Keyword::Namespace),
+        "attribute" => Some(Keyword::Attribute),
+        "table" => Some(Keyword::Table),
+        "struct" => Some(Keyword::Struct),
+        "enum" => Some(Keyword::Enum),
+        "union" => Some(Keyword::Union),
+        "root_type" => Some(Keyword::Root),
+        "file_extension" => Some(Keyword::Extension),
+        "file_identifier" => Some(Keyword::Identifier),
+        _ => None,
+    }
+}
 
 impl<'t> Item<'t> for Declaration<'t> {
     ghost rule = { declaration };
