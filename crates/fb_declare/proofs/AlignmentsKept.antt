@@ -21,6 +21,7 @@ use Rattle.fb_resolve.specs.declared.attributes.BuiltInAttribute.TheVariants.{Fo
 use Rattle.fb_resolve.specs.declared.resolved.ResolvedDecl.{ResolvedDecl}
 use Rattle.fb_resolve.specs.declared.resolved.ResolvedDecl.TheVariants as resolved
 use Rattle.fb_declare.specs.declared.attribute_faults.AttributeHost.TheVariants as hosts
+use Rattle.fb_declare.specs.declared.field_faults.FieldHost.TheVariants as fields
 use Rattle.fb_resolve.specs.Outline.{TypeRead, Outline}
 use Rattle.fb_resolve.specs.ResolvedType.{ResolvedType}
 use Rattle.fb_resolve.specs.Resolved.{resolved_declaration, resolved_type, resolved_types}
@@ -29,9 +30,10 @@ use Rattle.fb_resolve.specs.Attributes.{is_alignment, attribute_called, integer_
 use Rattle.fb_declare.specs.AttributeFaults.{may_stand}
 use Rattle.fb_resolve.specs.SlotsRead.{shape_of}
 use Rattle.fb_resolve.specs.StructsRead.{align_by, align_in, natural_align, alignment_in, forced_align, align_of_struct, align_of_declaration, align_of_type, parts_from}
-use Rattle.fb_declare.specs.FaultRows.{struct_field_type}
-use Rattle.fb_declare.specs.TypeFaults.{struct_faults, declaration_faults, aligns_from, faults_of_types}
+use Rattle.fb_declare.specs.FaultRows.{faults_in_turn, field_type}
+use Rattle.fb_declare.specs.TypeFaults.{struct_faults, declaration_faults, aligns_from, type_behind, declared_in}
 use Rattle.fb_declare.specs.Declares.{HasBody, Gives}
+use Rattle.fb_declare.proofs.FaultFree.{IsFieldRight, fields_right}
 use Rattle.fb_declare.proofs.Least.{taken}
 use Rattle.fb_declare.proofs.AttributesKept.{called_stands}
 use Rattle.fb_declare.proofs.Meant.{MeansIn, IsRead, IsReadIn, read_in}
@@ -119,14 +121,14 @@ struct_from (resolved.Struct s) (struct_body parts force) h is = (s, refl, λ i.
 struct_from d (struct_body parts force) h is = absurd h
 struct_from d body h is = absurd (false≢true is)
 
-module _ (o : Outline) (S : DeclaredSchema) (gives : Gives o S) (none : faults_of_types o.types o.attributes (resolved_types o.types) ≡ []) where
+module _ (o : Outline) (S : DeclaredSchema) (gives : Gives o S) (none : faults_in_turn (type_behind o.types (declared_in o)) (resolved_types o.types) ≡ []) where
   -- the alignments of all types
   abbrev pub aligns : List ℕ
   aligns = aligns_from o.types [] (resolved_types o.types)
 
   -- a struct's field has its size in the schema as it is declared
   part_size : (lower : List ℕ) → ((j : ℕ) → j < length lower → slice_index aligns j ≡ slice_index lower j) → (kind : FieldType) (m : Meaning) → MeansIn S m
-      → struct_field_type (length lower) kind m ≡ [] → part_align S aligns (shape_of kind m) ≡ align_by o.types lower kind m
+      → field_type (fields.Struct (length lower)) kind m ≡ [] → part_align S aligns (shape_of kind m) ≡ align_by o.types lower kind m
   part_size lower below (One n) (Known (Scalar base)) means h = refl
   part_size lower below (One n) (Known (Enum e)) means h = sym (ap (λ b. option_map_or base_size b 0) (enums_kept o S gives none e.0 means.0).0)
   part_size lower below (One n) (Known (Struct s)) means h = below s.0 (part_right S (length lower) (One n) (Known (Struct s)) means h).0
@@ -134,13 +136,13 @@ module _ (o : Outline) (S : DeclaredSchema) (gives : Gives o S) (none : faults_o
 
   -- the same of all fields of a struct
   part_sizes : (lower : List ℕ) → ((j : ℕ) → j < length lower → slice_index aligns j ≡ slice_index lower j) → (k : ℕ) (fs : List ResolvedField) → All (IsRead o.types S) fs
-      → All (λ f. struct_field_type (length lower) f.field.kind f.meaning ≡ []) fs → map (λ f. part_align S aligns f.shape) (parts_from k fs) ≡ map (align_in o.types lower) fs
+      → All (IsFieldRight (declared_in o) (fields.Struct (length lower))) fs → map (λ f. part_align S aligns f.shape) (parts_from k fs) ≡ map (align_in o.types lower) fs
   unfolding parts_from align_in
   part_sizes lower below k [] read h = refl
   part_sizes lower below k (f ∷ fs) read h =
-      let right = All-head (λ f. struct_field_type (length lower) f.field.kind f.meaning ≡ []) f fs h in
+      let right = (All-head (IsFieldRight (declared_in o) (fields.Struct (length lower))) f fs h).type in
       let size = part_size lower below f.field.kind f.meaning (All-head (IsRead o.types S) f fs read).means right in
-      let sizes = part_sizes lower below (k + 1) fs (All-tail (IsRead o.types S) f fs read) (All-tail (λ f. struct_field_type (length lower) f.field.kind f.meaning ≡ []) f fs h) in
+      let sizes = part_sizes lower below (k + 1) fs (All-tail (IsRead o.types S) f fs read) (All-tail (IsFieldRight (declared_in o) (fields.Struct (length lower))) f fs h) in
       λ i. size i ∷ sizes i
 
   -- what is known of a struct of the schema
@@ -148,7 +150,7 @@ module _ (o : Outline) (S : DeclaredSchema) (gives : Gives o S) (none : faults_o
     pub read : ResolvedTable
     pub body : body_at S s ≡ struct_body (parts_from 0 read.fields) (forced_align 0 read.force_align)
     pub means : IsReadIn o.types S (resolved.Struct read)
-    pub right : struct_faults o.types o.attributes (aligns_before o.types s) read ≡ []
+    pub right : struct_faults o.types (declared_in o) (aligns_before o.types s) read ≡ []
     pub align : slice_index aligns s ≡ align_of_struct o.types (aligns_before o.types s) read
 
   struct_at : (s : ℕ) → IsTrue (is_struct (body_at S s)) → IsStructAt s
@@ -160,7 +162,7 @@ module _ (o : Outline) (S : DeclaredSchema) (gives : Gives o S) (none : faults_o
         read = from.0;
         body = from.2;
         means = subst (IsReadIn o.types S) from.1 (read_in o S gives x.read.scope x.read.declaration);
-        right = subst (λ d. declaration_faults o.types o.attributes (aligns_before o.types s) d ≡ []) from.1 x.right;
+        right = subst (λ d. declaration_faults o.types (declared_in o) (aligns_before o.types s) d ≡ []) from.1 x.right;
         align = aligns-at o.types (resolved_types o.types) s (resolved_type o.types x.read) (resolved_at o.types s x.read x.at) ∙ ap (align_of_declaration o.types (aligns_before o.types s)) from.1;
       }
 
@@ -168,14 +170,14 @@ module _ (o : Outline) (S : DeclaredSchema) (gives : Gives o S) (none : faults_o
   natural_same : (s : ℕ) (at : IsStructAt s) → natural_align_in S aligns s ≡ natural_align o.types (aligns_before o.types s) at.read.fields
   unfolding natural_align
   natural_same s at = ap (λ b. greatest_in (map (λ f. part_align S aligns f.shape) (parts_in b))) at.body
-      ∙ ap greatest_in (part_sizes (aligns_before o.types s) (aligns-below o.types [] (resolved_types o.types) s) 0 at.read.fields at.means.0 (struct_right o.types o.attributes (aligns_before o.types s) at.read at.right).fields)
+      ∙ ap greatest_in (part_sizes (aligns_before o.types s) (aligns-below o.types [] (resolved_types o.types) s) 0 at.read.fields at.means.0 (fields_right (declared_in o) (fields.Struct (length (aligns_before o.types s))) at.read.fields (struct_right o.types (declared_in o) (aligns_before o.types s) at.read at.right).fields))
 
   -- its `force_align` is right
   struct_forced : (s : ℕ) (at : IsStructAt s) → IsForced (natural_align o.types (aligns_before o.types s) at.read.fields) at.read.force_align
   unfolding number_called
   struct_forced s at =
       let natural = natural_align o.types (aligns_before o.types s) at.read.fields in let attributes = at.read.declared.attributes in
-      let stands = called_stands o.attributes (hosts.Struct natural) attributes (struct_right o.types o.attributes (aligns_before o.types s) at.read at.right).metadata ForceAlign in
+      let stands = called_stands (declared_in o) (hosts.Struct natural) attributes (struct_right o.types (declared_in o) (aligns_before o.types s) at.read at.right).metadata ForceAlign in
       number_forced natural at.read.force_align (λ n e. called_forced natural (attribute_called ForceAlign attributes) n stands (sym at.means.1 ∙ e))
 
   -- The structs are aligned as they are declared.

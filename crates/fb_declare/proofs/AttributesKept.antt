@@ -1,6 +1,6 @@
 -- Where no attribute of a list is at fault, each known one may stand where it does.
 use Rattle.std.proofs.Common.{◌≡◌, ◌||◌, ℕ, not, Bool, true, List, [], ◌∷◌, take, Some, refl, ap, sym, subst, ◌∙◌}
-use Rattle.std.specs.List.{list_any, position_or_len, slice_get}
+use Rattle.std.specs.List.{position_or_len, slice_get}
 use Rattle.std.specs.Str.{bytes_eq}
 use Rattle.std.proofs.lemmas.Bool.{not-false, or_parts}
 use Rattle.std.proofs.lemmas.List.Folds.{Any-from_list_any, find_at}
@@ -14,6 +14,7 @@ use Rattle.fb_resolve.specs.declared.attributes.BuiltInAttribute.TheVariants.{Id
 use Rattle.fb_declare.specs.declared.attribute_faults.AttributeHost.{AttributeHost}
 use Rattle.fb_resolve.specs.Attributes.{spelling, built_in_attribute, attribute_called, has_attribute}
 use Rattle.fb_declare.specs.AttributeFaults.{is_left_out, is_force_align_of_field, may_stand, faults_by_name, attribute_faults, attribute_behind, metadata_faults}
+use Rattle.fb_declare.specs.FaultRows.{is_again}
 use Rattle.fb_resolve.proofs.Bytes.{bytes_eq-equal}
 use Rattle.fb_declare.proofs.FaultFree.{none_behind, when-none, either}
 
@@ -23,12 +24,12 @@ unfolding built_in_attribute
 known_spelling Id = refl
 known_spelling _ = refl
 
-module _ (declared : List Name) (host : AttributeHost) (attributes : List Attribute) (none : metadata_faults declared host attributes ≡ []) (k : BuiltInAttribute) where
+module _ (declared : Name → Bool) (host : AttributeHost) (attributes : List Attribute) (none : metadata_faults declared host attributes ≡ []) (k : BuiltInAttribute) where
   -- an attribute that is spelled like a known one may stand as such
   stands_at : (i : ℕ) (a : Attribute) → slice_get attributes i ≡ Some a → bytes_eq a.name.bytes (spelling k) ≡ true → may_stand host k a.value ≡ true
   unfolding attribute_faults
   stands_at i a at spelt =
-      let again : Bool = list_any (λ b. bytes_eq a.name.bytes b.name.bytes) (take i attributes) in
+      let again = is_again bytes_eq (λ b. b.name.bytes) (take i attributes) a in
       let built_in = built_in_attribute a.name.bytes in
       let known : built_in ≡ Some k = ap built_in_attribute (bytes_eq-equal a.name.bytes (spelling k) spelt) ∙ known_spelling k in
       let named = faults_by_name declared host again a built_in in

@@ -1,6 +1,7 @@
 -- What an outline with no fault gives is well declared.
-use Rattle.std.proofs.Common.{◌≡◌, ◌≢◌, ℕ, ◌==◌, not, List, [], ◌∷◌, length, take, map, AllPairs, refl, sym, ap, ◌∙◌, subst, Option, None, Some}
-use Rattle.std.specs.List.{AllZip, list_all, slice_get}
+use Rattle.std.proofs.Common.{◌≡◌, ◌≢◌, ℕ, ◌==◌, not, Bool, false, List, [], ◌∷◌, length, take, map, AllPairs, refl, sym, ap, ◌∙◌, subst, Option, None, Some}
+use Rattle.std.specs.List.{AllZip, list_all, slice_get, IsDistinct}
+use Rattle.std.proofs.lemmas.Cmp.{nat_list_eq_equiv}
 use Rattle.std.specs.Option.{option_map, is_none, unwrap_or, ForSome}
 use Rattle.std.proofs.lemmas.Bool.{and_parts, eqb-true, not-false}
 use Rattle.std.proofs.lemmas.Option.{none-some}
@@ -9,21 +10,28 @@ use Rattle.std.specs.Str.{bytes_eq}
 use Rattle.fb_syntax.specs.Located.{Located}
 use Rattle.fb_schema.specs.Schema.{Name, DeclaredBody, table_body, struct_body, enum_body, union_body, DeclaredType, DeclaredSchema, is_table}
 use Rattle.fb_schema.specs.WellDeclared.{Names, IsUnionBody, IsBody, IsDeclared}
-use Rattle.fb_resolve.specs.Outline.{TypeRead, RootRead, Outline, name_of_type, word_of}
+use Rattle.fb_resolve.specs.Outline.{TypeRead, RootRead, Outline, name_of_type}
 use Rattle.fb_resolve.specs.Meaning.{meaning_of}
-use Rattle.fb_resolve.specs.RepeatedNames.{has_name}
+use Rattle.fb_resolve.specs.MembersRead.{table_of}
+use Rattle.fb_resolve.specs.ResolvedType.{ResolvedType}
+use Rattle.fb_resolve.specs.SlotsRead.{are_ids_wrong}
+use Rattle.fb_resolve.specs.declared.meanings.Meaning.{Meaning}
 use Rattle.fb_resolve.specs.Resolved.{resolved_declaration, resolved_type, resolved_types, meaning_of_root}
 use Rattle.fb_resolve.specs.declared.resolved.ResolvedDecl.{ResolvedDecl}
 use Rattle.fb_resolve.specs.declared.resolved.ResolvedDecl.TheVariants as resolved
-use Rattle.fb_declare.specs.FaultRows.{faults_in_turn, type_again, root_faults, is_identifier, identifier_faults, is_printable}
-use Rattle.fb_declare.specs.TypeFaults.{declaration_faults, faults_of_types, faults_of_outline}
+use Rattle.fb_declare.specs.AttributeFaults.{metadata_faults}
+use Rattle.fb_declare.specs.FaultRows.{when, faults_in_turn, use_faults, root_faults, is_identifier, identifier_faults, is_printable}
+use Rattle.fb_declare.specs.TypeFaults.{field_behind, table_faults, declaration_faults, aligns_from, type_behind, declared_in, faults_of_outline}
 use Rattle.fb_declare.specs.Declares.{HasBody, IsType, root_table, Gives}
-use Rattle.fb_declare.specs.declared.faults.SchemaFault.TheVariants.{BadIdentifier, DuplicateName}
+use Rattle.fb_declare.specs.declared.faults.SchemaFault.TheVariants.{BadIds, BadRoot, BadIdentifier}
+use Rattle.fb_declare.specs.declared.attribute_faults.AttributeHost.TheVariants as hosts
+use Rattle.fb_declare.specs.declared.field_faults.FieldHost.TheVariants as fields
+use Rattle.fb_declare.specs.Buildable.{IsBuildable, AreBuildable}
 use Rattle.fb_declare.proofs.AlignmentsKept.{length-before, aligns, are_aligned}
 use Rattle.fb_declare.proofs.EnumsKept.{enum_kept}
-use Rattle.fb_declare.proofs.FaultFree.{four_none, none_behind, when-none}
+use Rattle.fb_declare.proofs.FaultFree.{both_none, three_none, none_behind, when-none, type_right}
 use Rattle.fb_declare.proofs.Meant.{IsReadIn, table_named, means_in, read_in}
-use Rattle.fb_declare.proofs.NamesApart.{apart, same_apart}
+use Rattle.fb_declare.proofs.NamesApart.{keys_distinct, keys_apart}
 use Rattle.fb_declare.proofs.StructsKept.{struct_kept}
 use Rattle.fb_declare.proofs.TablesKept.{table_kept}
 use Rattle.fb_declare.proofs.TypesKept.{AreEnumsKept, aligns_before, resolved_at, type_at, enums_kept}
@@ -31,15 +39,15 @@ use Rattle.fb_declare.proofs.UnionsKept.{union_kept}
 
 -- ---- names
 
-names_given : (types rs : List TypeRead) (ts : List DeclaredType) → AllZip IsType (map (resolved_type types) rs) ts → map name_of_type rs ≡ map (λ t. t.name) ts
+names_given : (types rs : List TypeRead) (ts : List DeclaredType) → AllZip IsType (map (resolved_type types) rs) ts → map (λ r. name_of_type r.read) (map (resolved_type types) rs) ≡ map (λ t. t.name) ts
 names_given types [] [] z = refl
 names_given types (r ∷ rs) (t ∷ ts) z = let first = sym z.0.name in let rest = names_given types rs ts z.1 in λ i. first i ∷ rest i
 names_given types _ _ z = absurd z
 
 -- The types have different names.
-type_names_differ : (o : Outline) (S : DeclaredSchema) → Gives o S → faults_in_turn type_again o.types ≡ [] → AllPairs (λ a b. a.name ≢ b.name) S.types
-type_names_differ o S g h = same_apart name_of_type (λ t. t.name) o.types S.types (names_given o.types o.types S.types g.types)
-    (apart bytes_eq bytes_eq-Decides name_of_type o.types (λ k r e. when-none (has_name (take k o.types) (name_of_type r)) (DuplicateName (word_of r.declaration).at) (none_behind type_again [] o.types h k r e)))
+type_names_differ : (o : Outline) (S : DeclaredSchema) → Gives o S → faults_in_turn (type_behind o.types (declared_in o)) (resolved_types o.types) ≡ [] → AllPairs (λ a b. a.name ≢ b.name) S.types
+type_names_differ o S g h = keys_apart bytes_eq-Decides (λ t. t.name) S.types (subst (IsDistinct bytes_eq) (names_given o.types o.types S.types g.types)
+    (keys_distinct nat_list_eq_equiv (λ r. name_of_type r.read) (type_behind o.types (declared_in o)) (λ before r none. (type_right o.types (declared_in o) before r none).0) (resolved_types o.types) h))
 
 -- ---- the root and the identifier
 
@@ -47,6 +55,13 @@ type_names_differ o S g h = same_apart name_of_type (λ t. t.name) o.types S.typ
 root_kept : (o : Outline) (S : DeclaredSchema) → Gives o S → (root : Option RootRead) → Some S.root ≡ root_table o.types root → Names is_table S S.root
 root_kept o S g None e = cc
 root_kept o S g (Some r) e = subst (λ t. Names is_table S (unwrap_or t 0)) (sym e) (table_named S (meaning_of o.types r.scope r.name.bytes) (means_in o S g r.scope r.name.bytes) (ap is_none (sym e)))
+
+-- a root with no fault is a table
+pub root_some : (text_len : ℕ) (root : Option RootRead) (m : Meaning) → root_faults text_len root m ≡ [] → is_none (table_of m) ≡ false
+unfolding root_faults
+root_some text_len None m h = cc
+root_some text_len (Some r) m h =
+    when-none (is_none (table_of m)) (BadRoot r.name.at) (both_none (use_faults m r.name.at) (when (is_none (table_of m)) (BadRoot r.name.at)) h).1
 
 -- The identifier has four bytes.
 pub identifier_kept : (t : Option Located) → identifier_faults t ≡ [] → ForSome (option_map (λ t. t.bytes) t) (λ id. length id ≡ 4)
@@ -60,7 +75,18 @@ identifier_kept (Some t) h id e =
 
 -- ---- bodies
 
-body_kept : (types : List TypeRead) (S : DeclaredSchema) → AreEnumsKept types S → (declared : List Name) (lower : List ℕ) (d : ResolvedDecl) (b : DeclaredBody) → IsReadIn types S d → declaration_faults types declared lower d ≡ []
+-- a declaration with no fault gives a body
+buildable_by : (types : List TypeRead) (declared : Name → Bool) (lower : List ℕ) (d : ResolvedDecl) → declaration_faults types declared lower d ≡ [] → IsBuildable d
+unfolding table_faults
+buildable_by types declared lower (resolved.Table t) h = when-none (are_ids_wrong t.fields) (BadIds t.declared.name.at)
+    (three_none (metadata_faults declared hosts.Table t.declared.attributes) (when (are_ids_wrong t.fields) (BadIds t.declared.name.at)) (faults_in_turn (field_behind declared fields.Table) t.fields) h).1
+buildable_by types declared lower _ h = tt
+
+pub buildable : (types : List TypeRead) (declared : Name → Bool) (rs : List ResolvedType) → faults_in_turn (type_behind types declared) rs ≡ [] → AreBuildable rs
+buildable types declared rs h t r e =
+    buildable_by types declared (aligns_from types [] (take t rs)) r.declaration (type_right types declared (take t rs) r (none_behind (type_behind types declared) [] rs h t r e)).1
+
+body_kept : (types : List TypeRead) (S : DeclaredSchema) → AreEnumsKept types S → (declared : Name → Bool) (lower : List ℕ) (d : ResolvedDecl) (b : DeclaredBody) → IsReadIn types S d → declaration_faults types declared lower d ≡ []
     → HasBody d b → IsBody S (length lower) b
 body_kept types S enums declared lower (resolved.Table t) (table_body slots) read h body = table_kept types S enums declared t read h slots body
 body_kept types S enums declared lower (resolved.Struct s) (struct_body parts force) read h body =
@@ -71,26 +97,25 @@ body_kept types S enums declared lower (resolved.Union u) (union_body members) r
 body_kept types S enums declared lower d b read h body = absurd body
 
 -- Each type has the body that its declaration needs.
-bodies_kept : (o : Outline) (S : DeclaredSchema) → Gives o S → faults_of_types o.types o.attributes (resolved_types o.types) ≡ [] → (t : ℕ) (type : DeclaredType) → slice_get S.types t ≡ Some type → IsBody S t type.body
+bodies_kept : (o : Outline) (S : DeclaredSchema) → Gives o S → faults_in_turn (type_behind o.types (declared_in o)) (resolved_types o.types) ≡ [] → (t : ℕ) (type : DeclaredType) → slice_get S.types t ≡ Some type → IsBody S t type.body
 bodies_kept o S g none t type at =
     let x = type_at o S g none t type at in
     subst (λ n. IsBody S n type.body) (length-before o.types (resolved_types o.types) t (resolved_type o.types x.read) (resolved_at o.types t x.read x.at))
-    (body_kept o.types S (enums_kept o S g none) o.attributes (aligns_before o.types t) (resolved_declaration o.types x.read.scope x.read.declaration) type.body (read_in o S g x.read.scope x.read.declaration) x.right x.has)
+    (body_kept o.types S (enums_kept o S g none) (declared_in o) (aligns_before o.types t) (resolved_declaration o.types x.read.scope x.read.declaration) type.body (read_in o S g x.read.scope x.read.declaration) x.right x.has)
 
 -- ---- the whole
 
 -- what is empty where an outline has no fault
 pub record IsOutlineRight (o : Outline) : Type 0 where
-  pub names : faults_in_turn type_again o.types ≡ []
-  pub types : faults_of_types o.types o.attributes (resolved_types o.types) ≡ []
+  pub types : faults_in_turn (type_behind o.types (declared_in o)) (resolved_types o.types) ≡ []
   pub root : root_faults o.text_len o.root (meaning_of_root o.types o.root) ≡ []
   pub identifier : identifier_faults o.identifier ≡ []
 
 pub outline_right : (o : Outline) → faults_of_outline o ≡ [] → IsOutlineRight o
 unfolding faults_of_outline
 outline_right o h =
-    let none = four_none (faults_in_turn type_again o.types) (faults_of_types o.types o.attributes (resolved_types o.types)) (root_faults o.text_len o.root (meaning_of_root o.types o.root)) (identifier_faults o.identifier) h in
-    record { names = none.0; types = none.1; root = none.2; identifier = none.3 }
+    let none = three_none (faults_in_turn (type_behind o.types (declared_in o)) (resolved_types o.types)) (root_faults o.text_len o.root (meaning_of_root o.types o.root)) (identifier_faults o.identifier) h in
+    record { types = none.0; root = none.1; identifier = none.2 }
 
 -- What an outline with no fault gives is well declared.
 pub kept : (o : Outline) (S : DeclaredSchema) → faults_of_outline o ≡ [] → Gives o S → IsDeclared S
@@ -98,7 +123,7 @@ kept o S h g =
     let right = outline_right o h in
     record {
       bodies = bodies_kept o S g right.types;
-      names = type_names_differ o S g right.names;
+      names = type_names_differ o S g right.types;
       aligned = (aligns o S g right.types, are_aligned o S g right.types);
       root = root_kept o S g o.root g.root;
       identifier = subst (λ i. ForSome i (λ id. length id ≡ 4)) (sym g.identifier) (identifier_kept o.identifier right.identifier);

@@ -1,16 +1,19 @@
 -- The least fault of lists: of joined ones, of a list in turn, and what it says of the list.
-use Rattle.std.proofs.Common.{◌≡◌, ◌<◌, ◌+◌, ◌++◌, ◌==◌, ◌&&◌, ◌||◌, nat_lt, ℕ, Bool, true, false, List, [], ◌∷◌, length, map, take, get_or, cond, Contains, Option, None, Some, refl, ap, sym, ◌∙◌, append_assoc, arith}
-use Rattle.std.specs.List.{list_any, flat_map}
-use Rattle.std.proofs.Math.Bool.{or_comm}
-use Rattle.std.proofs.lemmas.Grind.{flat_map-append}
-use Rattle.std.proofs.lemmas.List.{append-nil, take_more}
+use Rattle.std.proofs.Common.{◌≡◌, ◌<◌, ◌+◌, ◌++◌, ◌==◌, ◌&&◌, ◌||◌, nat_lt, ℕ, Bool, true, false, List, [], ◌∷◌, length, map, take, get_or, cond, Contains, Option, None, Some, refl, ap, sym, subst, ◌∙◌, append_assoc, arith}
+use Rattle.std.specs.Borrow.{Bor}
+use Rattle.std.specs.BTreeSet.{BTreeSet}
+use Rattle.std.specs.List.{list_any}
+use Rattle.std.proofs.Math.Bool.{or-false, or_comm}
+use Rattle.std.proofs.lemmas.List.{append-nil, map_push, take_more}
+use Rattle.std.proofs.lemmas.List.Folds.{list_any-append}
 use Rattle.std.proofs.lemmas.List.Elements.{Contains-append_right}
 use Rattle.std.proofs.lemmas.Option.{none-some, same_Some}
-use Rattle.fb_resolve.proofs.Steps.{list_any-snoc}
+use Rattle.fb_schema.specs.Schema.{Name}
 use Rattle.fb_declare.specs.declared.faults.SchemaFault.{SchemaFault}
 use Rattle.fb_declare.specs.FaultTable.{number_of}
 use Rattle.fb_declare.specs.Faults.{at_of, comes_before, earlier, least_of}
 use Rattle.fb_declare.specs.FaultRows.{faults_behind, faults_in_turn}
+use Rattle.fb_declare.specs.NamesMet.{AreMet}
 use Rattle.fb_declare.proofs.FaultFree.{either}
 
 abbrev is_less : ℕ → ℕ → ℕ → ℕ → Bool
@@ -61,17 +64,18 @@ pub least_more : {X : Type 0} (rule : List X → X → List SchemaFault) (xs : L
 least_more rule xs i x h e = sym (least_of_append (faults_behind rule [] (take i xs)) (rule (take i xs) x))
     ∙ ap least_of (sym (ap (faults_behind rule []) (taken xs i x h e) ∙ faults_behind-snoc rule [] (take i xs) x))
 
--- the next element, by a rule that looks at it alone
-pub least_each : {X : Type 0} (rule : X → List SchemaFault) (xs : List X) (i : ℕ) (x : X) → i < length xs → x ≡ get_or xs i x
-    → earlier (least_of (flat_map rule (take i xs))) (least_of (rule x)) ≡ least_of (flat_map rule (take (i + 1) xs))
-least_each rule xs i x h e = sym (least_of_append (flat_map rule (take i xs)) (rule x))
-    ∙ ap (λ fs. least_of (flat_map rule (take i xs) ++ fs)) (sym (append-nil (rule x)))
-    ∙ ap least_of (sym (ap (flat_map rule) (taken xs i x h e) ∙ flat_map-append rule (take i xs) (x ∷ [])))
+-- the next name is met too
+pub met_more : {X : Type 0} (met : BTreeSet (Bor Name)) (key : X → Name) (xs : List X) (i : ℕ) (x : X) → i < length xs → x ≡ get_or xs i x
+    → AreMet met (map key (take i xs) ++ key x ∷ []) → AreMet met (map key (take (i + 1) xs))
+met_more met key xs i x h e = subst (AreMet met) (sym (ap (map key) (taken xs i x h e) ∙ map_push key (take i xs) x))
 
--- the next one is met too
-pub met_more : {X K : Type 0} (eq : K → K → Bool) (key : X → K) (xs : List X) (i : ℕ) (x : X) (n : K) (met : Bool) → i < length xs → x ≡ get_or xs i x
-    → met ≡ list_any (λ y. eq n (key y)) (take i xs) → met || eq n (key x) ≡ list_any (λ y. eq n (key y)) (take (i + 1) xs)
-met_more eq key xs i x n met h e was = ap (λ b. b || eq n (key x)) was ∙ sym (list_any-snoc (λ y. eq n (key y)) (take i xs) x) ∙ ap (list_any (λ y. eq n (key y))) (sym (taken xs i x h e))
+pub list_any-snoc : {X : Type 0} (test : X → Bool) (xs : List X) (x : X) → list_any test (xs ++ x ∷ []) ≡ list_any test xs || test x
+list_any-snoc test xs x = list_any-append test xs (x ∷ []) ∙ ap (λ b. list_any test xs || b) (or-false (test x))
+
+-- a test of the keys of one more
+pub list_any_pushed : {X K : Type 0} (test : K → Bool) (key : X → K) (xs : List X) (i : ℕ) (x : X) → i < length xs → x ≡ get_or xs i x
+    → list_any test (map key (take (i + 1) xs)) ≡ list_any test (map key (take i xs)) || test (key x)
+list_any_pushed test key xs i x h e = ap (list_any test) (ap (map key) (taken xs i x h e) ∙ map_push key (take i xs) x) ∙ list_any-snoc test (map key (take i xs)) (key x)
 
 -- a test of what a list is read as
 pub list_any-map : {X Y : Type 0} (test : Y → Bool) (f : X → Y) (xs : List X) → list_any test (map f xs) ≡ list_any (λ x. test (f x)) xs

@@ -12,5 +12,4 @@ pub mod TablesKept
 pub mod StructsKept
 pub mod AlignmentsKept
 pub mod Kept
-pub mod Building
 pub mod OneSchema

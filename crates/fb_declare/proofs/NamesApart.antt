@@ -1,46 +1,57 @@
 -- What differs where no fault is told: keys of which each is new behind those before it.
-use Rattle.std.proofs.Common.{◌≡◌, ◌≢◌, ℕ, ◌<◌, Bool, false, List, ◌∷◌, [], length, map, take, get_or, AllPairs, sym, subst, ap, ◌∙◌, arith, true≢false, Some}
+use Rattle.std.proofs.Common.{◌≡◌, ◌≢◌, ◌<◌, ◌++◌, Bool, false, List, ◌∷◌, [], length, map, AllPairs, sym, subst, append_assoc, arith}
 use Rattle.std.specs.Bool.{Decides}
-use Rattle.std.specs.List.{list_any, slice_get}
+use Rattle.std.specs.Cmp.{IsEquivalence}
+use Rattle.std.specs.List.{flat_map, IsDistinct}
 use Rattle.std.specs.Str.{bytes_eq}
-use Rattle.std.proofs.lemmas.List.{get_or-map, get_or-take, length-map, length-take-le}
-use Rattle.std.proofs.lemmas.List.Folds.{list_any_at}
-use Rattle.std.proofs.lemmas.Option.{slice_get-get_or}
-use Rattle.std.proofs.lemmas.Slice.Eq.{bytes_eq-Decides}
-use Rattle.fb_syntax.specs.Located.{Located}
+use Rattle.std.proofs.lemmas.Cmp.{nat_list_eq_equiv}
+use Rattle.std.proofs.lemmas.List.{append-nil, flat_map_more, map_push, get_or-map, length-map}
+use Rattle.std.proofs.lemmas.Map.Keys.{IsDistinct-push}
+use Rattle.std.proofs.lemmas.Map.Made.{AllPairs-from_IsDistinct}
 use Rattle.fb_schema.specs.Schema.{Name}
+use Rattle.fb_resolve.specs.ResolvedFields.{ResolvedField}
+use Rattle.fb_declare.specs.declared.faults.SchemaFault.{SchemaFault}
 use Rattle.fb_declare.specs.declared.faults.SchemaFault.TheVariants.{DuplicateName}
-use Rattle.fb_declare.specs.FaultRows.{is_among, name_again, names_again}
-use Rattle.fb_declare.proofs.FaultFree.{none_behind, when-none}
+use Rattle.fb_declare.specs.declared.field_faults.FieldHost.{FieldHost}
+use Rattle.fb_declare.specs.FaultRows.{faults_behind, faults_in_turn, is_among, is_again, name_again}
+use Rattle.fb_declare.specs.TypeFaults.{names_of_field, field_faults, field_behind}
+use Rattle.fb_declare.proofs.FaultFree.{both_none, when-none}
 
-pub apart : {X K : Type 0} (eq : K → K → Bool) → ((a b : K) → Decides (eq a b) (a ≡ b)) → (key : X → K) (xs : List X)
-    → ((k : ℕ) (x : X) → slice_get xs k ≡ Some x → list_any (λ y. eq (key x) (key y)) (take k xs) ≡ false) → AllPairs (λ a b. key a ≢ key b) xs
-apart eq same key xs new i j d before within e =
-    let first = get_or (take j xs) i d in let last = get_or xs j d in
-    let alike = (same (key last) (key first)).1 (sym (ap key (get_or-take j xs i d before) ∙ e)) in
-    true≢false (sym (list_any_at (λ y. eq (key last) (key y)) (take j xs) i d (omega (arith, length-take-le j xs (omega arith))) alike) ∙ new j last (slice_get-get_or xs j d within))
+-- what each element with no fault keeps holds in the end
+kept_behind : {X : Type 0} (rule : List X → X → List SchemaFault) (P : List X → Type 0) → ((before : List X) (x : X) → rule before x ≡ [] → P before → P (before ++ x ∷ []))
+    → (before xs : List X) → faults_behind rule before xs ≡ [] → P before → P (before ++ xs)
+unfolding faults_behind
+kept_behind rule P step before [] h p = subst P (sym (append-nil before)) p
+kept_behind rule P step before (x ∷ xs) h p =
+    let parts = both_none (rule before x) (faults_behind rule (before ++ x ∷ []) xs) h in
+    subst P (append_assoc before (x ∷ []) xs) (kept_behind rule P step (before ++ x ∷ []) xs parts.1 (step before x parts.0 p))
 
--- what has different keys has a list of keys that differ
+-- keys of which none is there again are distinct
+pub keys_distinct : {X K : Type 0} {eq : K → K → Bool} → IsEquivalence eq → (key : X → K) (rule : List X → X → List SchemaFault)
+    → ((before : List X) (x : X) → rule before x ≡ [] → is_again eq key before x ≡ false) → (xs : List X) → faults_in_turn rule xs ≡ [] → IsDistinct eq (map key xs)
+unfolding IsDistinct
+keys_distinct {eq = eq} laws key rule new xs h = kept_behind rule (λ ys. IsDistinct eq (map key ys))
+    (λ before x none differ. subst (IsDistinct eq) (sym (map_push key before x)) (IsDistinct-push laws (map key before) (key x) differ (new before x none))) [] xs h tt
+
+-- the names of fields with no fault are distinct
+pub fields_distinct : (declared : Name → Bool) (host : FieldHost) (fs : List ResolvedField) → faults_in_turn (field_behind declared host) fs ≡ [] → IsDistinct bytes_eq (flat_map (names_of_field host) fs)
+unfolding IsDistinct
+fields_distinct declared host fs h = let names = names_of_field host in kept_behind (field_behind declared host) (λ gs. IsDistinct bytes_eq (flat_map names gs))
+    (λ before f none differ.
+    let at = f.field.name.at in let met = flat_map names before in
+    subst (IsDistinct bytes_eq) (flat_map_more names [] before f)
+    (kept_behind (name_again at) (IsDistinct bytes_eq) (λ ns n new apart. IsDistinct-push nat_list_eq_equiv ns n apart (when-none (is_among n ns) (DuplicateName at) new)) met (names f)
+    (both_none (faults_behind (name_again at) met (names f)) (field_faults declared host f) none).0 differ)) [] fs h tt
+
+-- what has distinct keys differs by them
+pub keys_apart : {X K : Type 0} {eq : K → K → Bool} → ((a b : K) → Decides (eq a b) (a ≡ b)) → (key : X → K) (xs : List X) → IsDistinct eq (map key xs) → AllPairs (λ a b. key a ≢ key b) xs
+keys_apart same key xs distinct i j d before within =
+    rw (← get_or-map key xs i d (key d) (omega arith), ← get_or-map key xs j d (key d) within)
+    (AllPairs-from_IsDistinct same (map key xs) distinct i j (key d) before (omega (arith, length-map xs key)))
+
+-- a list of what differs differs
 pub pairs_map : {X K : Type 0} (Apart : K → K → Type 0) (key : X → K) (xs : List X) → AllPairs (λ a b. Apart (key a) (key b)) xs → AllPairs Apart (map key xs)
 pairs_map Apart key [] apart i j d before within = absurd (omega arith)
 pairs_map Apart key (x ∷ xs) apart i j d before within =
     let inside : j < length (x ∷ xs) = omega (arith, length-map (x ∷ xs) key) in
     rw (get_or-map key (x ∷ xs) i x d (omega arith), get_or-map key (x ∷ xs) j x d inside) (apart i j x before inside)
-
--- and so does what else has these keys
-pub same_apart : {X Y K : Type 0} (f : X → K) (key : Y → K) (xs : List X) (ys : List Y) → map f xs ≡ map key ys → AllPairs (λ a b. f a ≢ f b) xs → AllPairs (λ a b. key a ≢ key b) ys
-same_apart f key xs ys same apart i j d before within =
-    let inside : j < length (map key ys) = omega (arith, length-map ys key) in
-    rw (← get_or-map key ys i d (key d) (omega arith), ← get_or-map key ys j d (key d) within)
-    (subst (λ ks. AllPairs (λ a b. a ≢ b) ks) same (pairs_map (λ a b. a ≢ b) f xs apart) i j (key d) before inside)
-
--- names of which none occurs again differ
-names_differ : (ns : List Located) → names_again ns ≡ [] → AllPairs (λ a b. a.bytes ≢ b.bytes) ns
-names_differ ns h = apart bytes_eq bytes_eq-Decides (λ n. n.bytes) ns (λ k n e. when-none (is_among n.bytes (take k ns)) (DuplicateName n.at) (none_behind name_again [] ns h k n e))
-
-pub names_apart : (ns : List Located) → names_again ns ≡ [] → AllPairs (λ a b. a ≢ b) (map (λ n. n.bytes) ns)
-names_apart ns h = pairs_map (λ a b. a ≢ b) (λ n. n.bytes) ns (names_differ ns h)
-
--- also as the names of what has them
-pub named_apart : {Y : Type 0} (key : Y → Name) (ns : List Located) (ys : List Y) → map (λ n. n.bytes) ns ≡ map key ys → names_again ns ≡ [] → AllPairs (λ a b. key a ≢ key b) ys
-named_apart key ns ys same h = same_apart (λ n. n.bytes) key ns ys same (names_differ ns h)

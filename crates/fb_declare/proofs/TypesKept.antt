@@ -11,11 +11,12 @@ use Rattle.fb_schema.specs.declared.kinds.Base.{Base}
 use Rattle.fb_resolve.specs.Outline.{TypeRead, Outline}
 use Rattle.fb_resolve.specs.Resolved.{resolved_enum, resolved_declaration, resolved_type, resolved_types}
 use Rattle.fb_resolve.specs.EnumsRead.{underlying_in, underlying_of_read, underlying_at, value_in, value_of_read, value_at, values_read}
-use Rattle.fb_declare.specs.TypeFaults.{declaration_faults, aligns_from, faults_of_types}
+use Rattle.fb_declare.specs.FaultRows.{faults_in_turn}
+use Rattle.fb_declare.specs.TypeFaults.{declaration_faults, aligns_from, type_behind, declared_in}
 use Rattle.fb_declare.specs.Declares.{HasBody, IsType, Gives}
 use Rattle.fb_declare.proofs.DefaultsKept.{value_found}
 use Rattle.fb_declare.proofs.EnumsKept.{enum_kept}
-use Rattle.fb_declare.proofs.FaultFree.{none_of_type}
+use Rattle.fb_declare.proofs.FaultFree.{none_behind, type_right}
 use Rattle.fb_declare.proofs.Meant.{at_right}
 
 -- the alignments of the types before one
@@ -31,13 +32,13 @@ pub record IsDeclaredBy (o : Outline) (t : ℕ) (body : DeclaredBody) : Type 0 w
   pub read : TypeRead
   pub at : slice_get o.types t ≡ Some read
   pub has : HasBody (resolved_declaration o.types read.scope read.declaration) body
-  pub right : declaration_faults o.types o.attributes (aligns_before o.types t) (resolved_declaration o.types read.scope read.declaration) ≡ []
+  pub right : declaration_faults o.types (declared_in o) (aligns_before o.types t) (resolved_declaration o.types read.scope read.declaration) ≡ []
 
 -- what an enum's declaration says of its body: its underlying type, and that its values are in range
 abbrev IsEnumKept : Option Base → (Name → Option ℤ) → DeclaredBody → Type 0
 IsEnumKept under value body = (under ≡ Some (base_in body)) × ((name : Name) → IfSome (value name) (InRange (base_in body)))
 
-enum_facts : (types : List TypeRead) (declared : List Name) (lower : List ℕ) (scope : Option Name) (d : TypeDecl) (b : DeclaredBody) → declaration_faults types declared lower (resolved_declaration types scope d) ≡ []
+enum_facts : (types : List TypeRead) (declared : Name → Bool) (lower : List ℕ) (scope : Option Name) (d : TypeDecl) (b : DeclaredBody) → declaration_faults types declared lower (resolved_declaration types scope d) ≡ []
     → HasBody (resolved_declaration types scope d) b → IsTrue (is_enum b) → IsEnumKept (underlying_in types scope d) (value_in types scope d) b
 enum_facts types declared lower scope (decls.Enum e) (enum_body base flags values) h has is =
     let kept = enum_kept declared (resolved_enum types scope e) refl h in (
@@ -51,13 +52,14 @@ enum_facts types declared lower scope d b h has is = absurd (true≢false (sym i
 abbrev pub AreEnumsKept : List TypeRead → DeclaredSchema → Type 0
 AreEnumsKept types S = (e : ℕ) → Names is_enum S e → IsEnumKept (underlying_at types e) (value_at types e) (body_at S e)
 
-module _ (o : Outline) (S : DeclaredSchema) (g : Gives o S) (none : faults_of_types o.types o.attributes (resolved_types o.types) ≡ []) where
+module _ (o : Outline) (S : DeclaredSchema) (g : Gives o S) (none : faults_in_turn (type_behind o.types (declared_in o)) (resolved_types o.types) ≡ []) where
   pub type_at : (t : ℕ) (type : DeclaredType) → slice_get S.types t ≡ Some type → IsDeclaredBy o t type.body
   type_at t type e = let x = at_right IsType (resolved_type o.types) o.types S.types g.types t type e in record {
     read = x.0;
     at = x.1;
     has = x.2.body;
-    right = none_of_type o.types o.attributes (resolved_types o.types) none t (resolved_type o.types x.0) (resolved_at o.types t x.0 x.1);
+    right = (type_right o.types (declared_in o) (take t (resolved_types o.types)) (resolved_type o.types x.0)
+        (none_behind (type_behind o.types (declared_in o)) [] (resolved_types o.types) none t (resolved_type o.types x.0) (resolved_at o.types t x.0 x.1))).1;
   }
 
   -- a body that passes a test which an absent one fails
@@ -73,4 +75,4 @@ module _ (o : Outline) (S : DeclaredSchema) (g : Gives o S) (none : faults_of_ty
   enums_kept e named =
       let x = body_at_by is_enum e refl named.1 in
       subst (λ r. IsEnumKept (underlying_of_read o.types r) (value_of_read o.types r) (body_at S e)) (sym x.at)
-      (enum_facts o.types o.attributes (aligns_before o.types e) x.read.scope x.read.declaration (body_at S e) x.right x.has named.1)
+      (enum_facts o.types (declared_in o) (aligns_before o.types e) x.read.scope x.read.declaration (body_at S e) x.right x.has named.1)

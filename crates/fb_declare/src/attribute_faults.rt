@@ -6,9 +6,8 @@ ghost use Rattle.std.specs.Option.{option_copied};
 ghost use Rattle.fb_declare.specs.AttributeFaults.{is_left_out, may_stand, is_force_align_of_field};
 ghost use Rattle.fb_declare.specs.AttributeFaults.{attribute_faults, metadata_faults};
 ghost use Rattle.fb_declare.specs.Faults.{least_of};
-ghost use Rattle.fb_declare.specs.DeclaredNames.{names_declared};
+ghost use Rattle.fb_declare.specs.NamesMet.{is_met};
 
-use crate::declared_names::DeclaredNames;
 use crate::faults::{SchemaFault, earlier, when};
 use crate::names_met::meet;
 use fb_resolve::{BuiltInAttribute, built_in_attribute, is_alignment};
@@ -93,13 +92,13 @@ fn is_force_align_of_field(host: AttributeHost, built_in: Option<BuiltInAttribut
 /// What is wrong with an attribute, where this says whether one before it has its name.
 #[tactic(auto, unfolding(crate::specs::AttributeFaults::attribute_faults, crate::specs::Faults::least_of))]
 fn attribute_fault(
-    declared: DeclaredNames<'_, '_>,
+    declared: &BTreeSet<&[u8]>,
     host: AttributeHost,
     again: bool,
     attribute: &Attribute<'_>,
 ) -> Option<SchemaFault>
     ensures { result ≡ least_of
-        (attribute_faults (names_declared declared.entry) host again attribute.now) }
+        (attribute_faults (is_met declared.now) host again attribute.now) }
 {
     let at = attribute.name.at;
     let name = attribute.name.text;
@@ -112,7 +111,10 @@ fn attribute_fault(
             let is_bad = !may_stand(host, built_in, attribute.value.as_ref()) || again;
             when(is_bad, SchemaFault::BadAttribute(at))
         }
-        None => when(!declared.has(name), SchemaFault::UnknownAttribute(at)),
+        None => when(
+            !declared.contains(name.as_bytes()),
+            SchemaFault::UnknownAttribute(at),
+        ),
     }
 }
 
@@ -120,12 +122,12 @@ fn attribute_fault(
 #[tactic(auto, unfolding(crate::specs::FaultRows::faults_behind, crate::specs::Faults::least_of))]
 pub(crate) fn metadata_fault(
     alloc: Global,
-    declared: DeclaredNames<'_, '_>,
+    declared: &BTreeSet<&[u8]>,
     host: AttributeHost,
     attributes: &[Attribute<'_>],
 ) -> Result<Option<SchemaFault>, AllocError>
     ensures { IfOk result (λ f. f ≡ least_of
-        (metadata_faults (names_declared declared.entry) host attributes.now)) }
+        (metadata_faults (is_met declared.now) host attributes.now)) }
 {
     let mut least = None;
     let mut met = BTreeSet::new(alloc);

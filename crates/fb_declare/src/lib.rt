@@ -2,12 +2,10 @@
 #![tactic(auto)]
 
 mod attribute_faults;
-mod declared_names;
 mod enums;
 mod faults;
 mod field_faults;
 mod laws;
-mod names_again;
 mod names_met;
 mod root;
 mod schema;

@@ -7,9 +7,7 @@ ghost use Rattle.fb_resolve.specs.Outline.{outline_of};
 ghost use Rattle.fb_declare.specs.TypeFaults.{faults_of_outline, faults_of};
 ghost use Rattle.fb_declare.specs.Declares.{Gives, Declares, Stands};
 
-use crate::declared_names::DeclaredNames;
 use crate::faults::{SchemaFault, earlier};
-use crate::names_again::types_again;
 use crate::names_met::names_met;
 use crate::root::{identifier_fault, root_fault};
 use crate::types::{types_fault, types_of};
@@ -35,15 +33,13 @@ fn least_fault(
     ensures { IfOk result (λ f. f ≡ least_of (faults_of_outline resolved.now.outline.now)) }
 {
     let outline = resolved.outline;
+    let declared = names_met(alloc, outline.attributes.as_slice())?;
     let types = outline.types.as_slice();
-    let names = outline.attributes.as_slice();
-    let met = names_met(alloc, names)?;
-    let declared = DeclaredNames { names, met: &met };
-    let again = types_again(types, resolved.repeats.as_slice());
-    let in_types = types_fault(alloc, declared, types, resolved.types.as_slice())?;
+    let repeats = resolved.repeats.as_slice();
+    let in_types = types_fault(alloc, &declared, types, resolved.types.as_slice(), repeats)?;
     let root = root_fault(outline.text_len, outline.root.as_ref(), resolved.root);
     let identifier = identifier_fault(outline.identifier);
-    Ok(earlier(earlier(earlier(again, in_types), root), identifier))
+    Ok(earlier(earlier(in_types, root), identifier))
 }
 
 /// The schema that declarations with no fault give. The only error is a refused allocation.

@@ -5,9 +5,9 @@ use Rattle.fb_schema.specs.Seen.{schema_of}
 use Rattle.fb_resolve.specs.MembersRead.{table_of}
 use Rattle.fb_resolve.specs.Resolved.{resolved_types, meaning_of_root}
 use Rattle.fb_declare.specs.Buildable.{AreBuildable}
+use Rattle.fb_declare.specs.TypeFaults.{declared_in}
 use Rattle.fb_declare.specs.Declares.{IsType, root_table}
-use Rattle.fb_declare.proofs.Building.{buildable, root_some}
-use Rattle.fb_declare.proofs.Kept.{outline_right, identifier_kept, kept}
+use Rattle.fb_declare.proofs.Kept.{outline_right, root_some, buildable, identifier_kept, kept}
 use Rattle.fb_declare.proofs.schema.build_schema.Goals as goal
 
 pub unreachable-requires : goal.unreachable-requires
@@ -19,7 +19,7 @@ unreachable-requires c =
 pub types_of-requires : goal.types_of-requires
 types_of-requires c =
     let o = c.args.resolved.outline.now in
-    subst AreBuildable (sym c.args.resolved.meant) (buildable o.types o.attributes (resolved_types o.types) (outline_right o c.requires).types)
+    subst AreBuildable (sym c.args.resolved.meant) (buildable o.types (declared_in o) (resolved_types o.types) (outline_right o c.requires).types)
 
 pub identifier_of-requires : goal.identifier_of-requires
 identifier_of-requires c = λ t e.
