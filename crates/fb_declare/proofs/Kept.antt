@@ -4,7 +4,7 @@ use Rattle.std.specs.List.{AllZip, list_all, slice_get, IsDistinct}
 use Rattle.std.proofs.lemmas.Cmp.{nat_list_eq_equiv}
 use Rattle.std.specs.Option.{option_map, is_none, unwrap_or, ForSome}
 use Rattle.std.proofs.lemmas.Bool.{and_parts, eqb-true, not-false}
-use Rattle.std.proofs.lemmas.Option.{none-some}
+use Rattle.std.proofs.lemmas.Option.{none-some, slice_get_within}
 use Rattle.std.proofs.lemmas.Slice.Eq.{bytes_eq-Decides}
 use Rattle.std.specs.Str.{bytes_eq}
 use Rattle.fb_syntax.specs.Located.{Located}
@@ -100,7 +100,7 @@ body_kept types S enums declared lower d b read h body = absurd body
 bodies_kept : (o : Outline) (S : DeclaredSchema) → Gives o S → faults_in_turn (type_behind o.types (declared_in o)) (resolved_types o.types) ≡ [] → (t : ℕ) (type : DeclaredType) → slice_get S.types t ≡ Some type → IsBody S t type.body
 bodies_kept o S g none t type at =
     let x = type_at o S g none t type at in
-    subst (λ n. IsBody S n type.body) (length-before o.types (resolved_types o.types) t (resolved_type o.types x.read) (resolved_at o.types t x.read x.at))
+    subst (λ n. IsBody S n type.body) (length-before o.types (resolved_types o.types) t (slice_get_within (resolved_types o.types) t (resolved_type o.types x.read) (resolved_at o.types t x.read x.at)))
     (body_kept o.types S (enums_kept o S g none) (declared_in o) (aligns_before o.types t) (resolved_declaration o.types x.read.scope x.read.declaration) type.body (read_in o S g x.read.scope x.read.declaration) x.right x.has)
 
 -- ---- the whole

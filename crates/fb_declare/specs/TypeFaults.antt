@@ -1,7 +1,7 @@
 -- The faults of a table, struct, enum or union, and of all that a text declares.
 -- From the FlatBuffers documentation, "Writing a schema".
 use Rattle.std.specs.Prelude.{ℕ, ◌++◌, ◌==◌, ◌||◌, Bool, List, [], ◌∷◌, length, Option, None, Some, if◌then◌else◌}
-use Rattle.std.specs.List.{flat_map}
+use Rattle.std.specs.List.{flat_map, fold}
 use Rattle.std.specs.Str.{bytes_eq}
 use Rattle.fb_syntax.specs.DeclsRead.{DeclsRead}
 use Rattle.fb_schema.specs.Schema.{Name}
@@ -105,8 +105,7 @@ type_faults types declared lower again r = let name = word_of r.read.declaration
 
 -- the alignments of some types, behind those of the types before them
 abbrev pub aligns_from : List TypeRead → List ℕ → List ResolvedType → List ℕ
-aligns_from types lower [] = lower
-aligns_from types lower (r ∷ rs) = aligns_from types (lower ++ align_of_type types lower r ∷ []) rs
+aligns_from types lower rs = fold (λ lower r. lower ++ align_of_type types lower r ∷ []) lower rs
 
 -- the faults of a type behind others
 abbrev pub type_behind : List TypeRead → (Name → Bool) → List ResolvedType → ResolvedType → List SchemaFault

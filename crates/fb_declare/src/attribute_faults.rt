@@ -55,26 +55,19 @@ fn may_stand(
 ) -> bool
     ensures { result ≡ may_stand host built_in (option_copied value.entry) }
 {
-    match (host, built_in, value) {
-        (
-            AttributeHost::ScalarField | AttributeHost::TableField,
-            BuiltInAttribute::Id,
-            Some(AttributeValue::Integer(_)),
-        ) => true,
-        (AttributeHost::TableField, BuiltInAttribute::Required, None) => true,
-        (
-            AttributeHost::ScalarField | AttributeHost::TableField,
-            BuiltInAttribute::Deprecated,
-            None,
-        ) => true,
-        (
-            AttributeHost::Struct(natural),
-            BuiltInAttribute::ForceAlign,
-            Some(AttributeValue::Integer(number)),
-        ) => { is_alignment(natural, number.value()) }
-        (AttributeHost::Enum, BuiltInAttribute::BitFlags, None) => true,
-        (AttributeHost::Table | AttributeHost::Struct(_), BuiltInAttribute::OriginalOrder, None) =>
-            true,
+    let is_table_field = matches!(host, AttributeHost::ScalarField | AttributeHost::TableField);
+    match (built_in, value) {
+        (BuiltInAttribute::Id, Some(AttributeValue::Integer(_))) => is_table_field,
+        (BuiltInAttribute::Deprecated, None) => is_table_field,
+        (BuiltInAttribute::Required, None) => matches!(host, AttributeHost::TableField),
+        (BuiltInAttribute::BitFlags, None) => matches!(host, AttributeHost::Enum),
+        (BuiltInAttribute::OriginalOrder, None) => {
+            matches!(host, AttributeHost::Table | AttributeHost::Struct(_))
+        }
+        (BuiltInAttribute::ForceAlign, Some(AttributeValue::Integer(number))) => match host {
+            AttributeHost::Struct(natural) => is_alignment(natural, number.value()),
+            _ => false,
+        },
         _ => false,
     }
 }

@@ -11,8 +11,8 @@ use Rattle.fb_resolve.specs.StructsRead.{natural_of_type}
 use Rattle.fb_declare.specs.FaultRows.{is_again}
 use Rattle.fb_declare.specs.NamesMet.{is_met}
 use Rattle.fb_declare.specs.TypeFaults.{aligns_from, type_behind}
-use Rattle.fb_declare.proofs.Least.{least_more, taken, list_any-map}
-use Rattle.fb_declare.proofs.AlignmentsKept.{aligns_from-snoc, length-before}
+use Rattle.fb_declare.proofs.Least.{least_more, list_any-map}
+use Rattle.fb_declare.proofs.AlignmentsKept.{aligns-more, length-before}
 use Rattle.fb_declare.proofs.types.types_fault.Goals as goal
 
 -- what is told of a type's name among those before it
@@ -41,8 +41,8 @@ loop-number-preserved c =
     let again = is_again bytes_eq (λ q. name_of_type q.read) (take i rs) r in
     let told : get_or repeats i false ≡ again = get_or_from_slice_get repeats i again false (repeated rs repeats c.requires i r at) in
     record {
-      least = rw (c.earlier-least.ensures, c.in_ok-fault.ensures types lower (length-before types rs i r at) natural, told, c.loop-number.invariant.least)
+      least = rw (c.earlier-least.ensures, c.in_ok-fault.ensures types lower (length-before types rs i h) natural, told, c.loop-number.invariant.least)
           (least_more (type_behind types (is_met c.args.declared.now)) rs i r h e);
       lower = rw (c.in_ok-push.ensures.items, c.align_of_type.ensures types lower natural, c.loop-number.invariant.lower)
-          (sym (ap (aligns_from types []) (taken rs i r h e) ∙ aligns_from-snoc types [] (take i rs) r));
+          (sym (aligns-more types rs i r h e));
     }
