@@ -9,7 +9,6 @@ mod laws;
 mod names_met;
 mod root;
 mod schema;
-mod structs;
 mod tables;
 mod types;
 mod unions;

@@ -3,7 +3,7 @@ ghost use Rattle.std.specs.Prelude.{◌≡◌};
 ghost use Rattle.std.specs.List.{list_all};
 ghost use Rattle.std.specs.Option.{option_copied};
 ghost use Rattle.fb_declare.specs.Faults.{least_of};
-ghost use Rattle.fb_declare.specs.FaultRows.{root_faults, is_printable, is_identifier, identifier_faults};
+ghost use Rattle.fb_declare.specs.FaultRows.{root_faults, is_printable, identifier_faults};
 
 use crate::faults::{SchemaFault, earlier, when};
 use crate::field_faults::use_fault;
@@ -34,18 +34,13 @@ fn are_printable(text: &[u8]) -> bool
     text.iter().all(|byte| 32 <= *byte && *byte <= 126)
 }
 
-fn is_identifier(text: &[u8]) -> bool
-    ensures { result ≡ is_identifier text.now }
-{
-    text.len() == 4 && are_printable(text)
-}
-
 /// A file identifier that isn't four printable bytes.
 #[tactic(auto, unfolding(crate::specs::FaultRows::identifier_faults, crate::specs::Faults::least_of))]
 pub(crate) fn identifier_fault(identifier: Option<&Text<'_>>) -> Option<SchemaFault>
     ensures { result ≡ least_of (identifier_faults (option_copied identifier.entry)) }
 {
     let text = identifier?;
-    let is_right = is_identifier(text.text.as_bytes());
+    let bytes = text.text.as_bytes();
+    let is_right = bytes.len() == 4 && are_printable(bytes);
     when(!is_right, SchemaFault::BadIdentifier(text.at))
 }

@@ -55,24 +55,6 @@ fn build_schema(alloc: Global, resolved: Resolved<'_, '_, '_>) -> Result<Schema,
     Schema::new(alloc, types, root, identifier_of(outline.identifier))
 }
 
-/// The schema that the outline of a text gives, or the least of its faults.
-fn declare_outline<'d, 's>(
-    alloc: Global,
-    decls: &'d Decls<'s>,
-    outline: &Outline<'d, 's>,
-) -> Result<Schema, SchemaFault>
-    requires { outline.now ≡ outline_of decls.now }
-    ensures sound { OnOk result (faults_of_outline outline.now ≡ []) }
-    ensures given { IfOk result (Gives outline.now) }
-    ensures least { IfErr result (λ f. f ≢ Memory → least_of (faults_of_outline outline.now) ≡ Some f) }
-{
-    let resolved = Resolved::of(alloc, decls, outline)?;
-    if let Some(fault) = least_fault(alloc, &resolved)? {
-        return Err(fault);
-    }
-    Ok(build_schema(alloc, resolved)?)
-}
-
 /// The schema that declarations give.
 ///
 /// A refusal tells the fault of least offset and, there, of the lowest number; `Memory` is a
@@ -83,5 +65,9 @@ pub fn declare(alloc: Global, decls: &Decls<'_>) -> Result<Schema, SchemaFault>
     ensures least { IfErr result (λ f. f ≢ Memory → least_of (faults_of decls.now) ≡ Some f) }
 {
     let outline = Outline::of(alloc, decls)?;
-    declare_outline(alloc, decls, &outline)
+    let resolved = Resolved::of(alloc, decls, &outline)?;
+    if let Some(fault) = least_fault(alloc, &resolved)? {
+        return Err(fault);
+    }
+    Ok(build_schema(alloc, resolved)?)
 }

@@ -1,13 +1,15 @@
-//! Tables: what is wrong with one.
-ghost use Rattle.std.specs.Prelude.{◌≡◌, IfOk};
+//! Tables and structs: what is wrong with one.
+ghost use Rattle.std.specs.Prelude.{◌≡◌, ℕ, List, IfOk, length};
+ghost use Rattle.fb_resolve.specs.Outline.{TypeRead};
+ghost use Rattle.fb_resolve.specs.StructsRead.{natural_align};
 ghost use Rattle.fb_declare.specs.Faults.{least_of};
 ghost use Rattle.fb_declare.specs.NamesMet.{is_met};
-ghost use Rattle.fb_declare.specs.TypeFaults.{table_faults};
+ghost use Rattle.fb_declare.specs.TypeFaults.{table_faults, struct_faults};
 
 use crate::attribute_faults::{AttributeHost, metadata_fault};
 use crate::faults::{SchemaFault, earlier, when};
 use crate::field_faults::{FieldHost, fields_fault};
-use fb_resolve::{ResolvedTable, are_ids_wrong};
+use fb_resolve::{ResolvedStruct, ResolvedTable, are_ids_wrong};
 use std::alloc::{AllocError, Global};
 use std::collections::BTreeSet;
 
@@ -27,4 +29,28 @@ pub(crate) fn table_fault(
     let fields = resolved.fields.as_slice();
     let in_fields = fields_fault(alloc, declared, FieldHost::Table, fields)?;
     Ok(earlier(earlier(metadata, ids), in_fields))
+}
+
+/// The least fault of the struct of a number, whose fields need this alignment. The only error is a
+/// refused allocation.
+#[tactic(auto, using(crate::proofs::Least::least_of_append), unfolding(crate::specs::TypeFaults::struct_faults))]
+pub(crate) fn struct_fault(
+    alloc: Global,
+    declared: &BTreeSet<&[u8]>,
+    number: usize,
+    natural: u16,
+    resolved: &ResolvedStruct<'_, '_>,
+) -> Result<Option<SchemaFault>, AllocError>
+    ensures { (types : List TypeRead) (lower : List ℕ) → length lower ≡ number
+        → natural_align types lower resolved.now.fields ≡ natural
+        → IfOk result (λ f. f ≡ least_of
+        (struct_faults types (is_met declared.now) lower resolved.now)) }
+{
+    let read = resolved.declared;
+    let fields = resolved.fields.as_slice();
+    let host = AttributeHost::Struct(natural);
+    let metadata = metadata_fault(alloc, declared, host, read.attributes.as_slice())?;
+    let empty = when(fields.is_empty(), SchemaFault::EmptyStruct(read.name.at));
+    let in_fields = fields_fault(alloc, declared, FieldHost::Struct(number), fields)?;
+    Ok(earlier(earlier(metadata, empty), in_fields))
 }

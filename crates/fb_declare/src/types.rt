@@ -15,8 +15,7 @@ ghost use Rattle.fb_resolve.specs.declared.resolved.ResolvedDecl.TheVariants as 
 
 use crate::enums::enum_fault;
 use crate::faults::{SchemaFault, earlier, when};
-use crate::structs::struct_fault;
-use crate::tables::table_fault;
+use crate::tables::{struct_fault, table_fault};
 use crate::unions::{members_read, union_fault};
 use fb_resolve::{
     ResolvedDecl, ResolvedType, TypeRead, align_of_type, forced_align, integer_type, is_reserved,
