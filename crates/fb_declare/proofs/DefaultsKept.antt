@@ -34,7 +34,7 @@ InRange-zero Boolean = held_in_range Boolean (pos 0) refl
 InRange-zero base = held_in_range base (pos 0) refl
 
 -- what is given is in a range
-abbrev GivesIn : Base → Given → Type 0
+abbrev pub GivesIn : Base → Given → Type 0
 GivesIn base given = InRange base (number_given given)
 
 number_in : (base : Base) (n : ℤ) → GivesIn base (number_within base n)

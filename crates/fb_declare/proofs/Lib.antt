@@ -6,7 +6,6 @@ pub mod AttributesKept
 pub mod EnumsKept
 pub mod UnionsKept
 pub mod DefaultsKept
-pub mod SlotsKept
 pub mod TypesKept
 pub mod TablesKept
 pub mod StructsKept
