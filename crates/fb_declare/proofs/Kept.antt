@@ -27,15 +27,12 @@ use Rattle.fb_declare.specs.declared.faults.SchemaFault.TheVariants.{BadIds, Bad
 use Rattle.fb_declare.specs.declared.attribute_faults.AttributeHost.TheVariants as hosts
 use Rattle.fb_declare.specs.declared.field_faults.FieldHost.TheVariants as fields
 use Rattle.fb_declare.specs.Buildable.{IsBuildable, AreBuildable}
-use Rattle.fb_declare.proofs.AlignmentsKept.{length-before, aligns, are_aligned}
-use Rattle.fb_declare.proofs.EnumsKept.{enum_kept}
-use Rattle.fb_declare.proofs.FaultFree.{both_none, three_none, none_behind, when-none, type_right}
+use Rattle.fb_declare.proofs.StructsKept.{length-before, aligns, are_aligned, struct_kept}
+use Rattle.fb_declare.proofs.EnumsKept.{enum_kept, union_kept}
+use Rattle.fb_declare.proofs.FaultFree.{both_none, three_none, none_behind, when-none, type_right, keys_distinct, keys_apart}
 use Rattle.fb_declare.proofs.Meant.{IsReadIn, table_named, means_in, read_in}
-use Rattle.fb_declare.proofs.NamesApart.{keys_distinct, keys_apart}
-use Rattle.fb_declare.proofs.StructsKept.{struct_kept}
 use Rattle.fb_declare.proofs.TablesKept.{table_kept}
 use Rattle.fb_declare.proofs.TypesKept.{AreEnumsKept, aligns_before, resolved_at, type_at, enums_kept}
-use Rattle.fb_declare.proofs.UnionsKept.{union_kept}
 
 -- ---- names
 

@@ -1,49 +1,103 @@
 -- The body of a table with no fault: the slots of its fields have names of their own, shapes of the schema and marks that fit them, and unions have pairs.
-use Rattle.std.proofs.Common.{◌≡◌, ℕ, ◌+◌, Bool, true, false, List, [], refl, sym, ap, ◌∙◌, subst, Option, None, Some, pos, true≢false, arith, ◌≢◌, ◌++◌, ◌∷◌, length, slice_get, suc, get_or}
+use Rattle.std.proofs.Common.{◌≡◌, List, [], ◌∷◌, refl, sym, subst, Option, None, Some, ℤ, pos, codes, IsTrue, IfSome, ℕ, ◌+◌, Bool, true, false, ap, ◌∙◌, true≢false, arith, ◌≢◌, ◌++◌, length, slice_get, suc, get_or}
 use Rattle.std.specs.List.{All, Contains, flat_map, IsDistinct}
-use Rattle.std.proofs.lemmas.List.Elements.{All-contains, Contains-append_left, Contains-append_right, All-cons, All-nil, All-head, All-tail, All-append, Contains-get_or}
+use Rattle.std.specs.Option.{unwrap_or}
+use Rattle.std.specs.Str.{bytes_eq}
+use Rattle.std.proofs.lemmas.List.Elements.{All-head, All-tail, All-contains, Contains-append_left, Contains-append_right, All-cons, All-nil, All-append, Contains-get_or}
+use Rattle.std.proofs.lemmas.Option.{same_Some, get_or_from_slice_get, slice_get_within, slice_get-get_or}
 use Rattle.fb_syntax.specs.Located.{Located}
-use Rattle.fb_declare.specs.declared.field_faults.FieldHost.TheVariants as fields
-use Rattle.fb_syntax.specs.declared.declarations.Attribute.{Attribute}
+use Rattle.fb_syntax.specs.declared.declarations.FieldType.TheVariants.{One}
 use Rattle.fb_syntax.specs.declared.declarations.DefaultValue.{DefaultValue}
-use Rattle.fb_syntax.specs.declared.declarations.FieldType.{FieldType}
-use Rattle.fb_syntax.specs.declared.declarations.FieldType.TheVariants as types_read
+use Rattle.fb_syntax.specs.declared.declarations.DefaultValue.TheVariants.{Integer, Name as Named}
 use Rattle.fb_schema.specs.Schema.{Name, DeclaredField, DeclaredSchema, body_at, base_in, is_union}
-use Rattle.fb_schema.specs.WellDeclared.{Names, IsShape, MayBeElement, MarksFit, IsTableBody, names_of, IsUnionPair}
+use Rattle.fb_schema.specs.WellDeclared.{InRange, Names, IsShape, MayBeElement, MarksFit, IsTableBody, names_of, IsUnionPair}
+use Rattle.fb_schema.specs.declared.kinds.Base.{Base}
+use Rattle.fb_schema.specs.declared.kinds.Base.TheVariants.{Bool as Boolean}
 use Rattle.fb_schema.specs.declared.kinds.TypeId.{TypeId}
-use Rattle.fb_schema.specs.declared.kinds.Kind.{Kind}
 use Rattle.fb_schema.specs.declared.kinds.Kind.TheVariants.{Scalar, Enum, Union, Code}
 use Rattle.fb_resolve.specs.Outline.{TypeRead}
+use Rattle.fb_schema.specs.Ranges.{holds}
+use Rattle.fb_resolve.specs.EnumsRead.{underlying_at, value_at}
+use Rattle.fb_resolve.specs.Defaults.{number_within, null_or_wrong, scalar_named, enum_number, enum_named, given_to, given_by}
+use Rattle.fb_resolve.specs.SlotsRead.{number_given, is_null, union_of, shape_of, value_slot, slots_read, AreInPlace, are_ids_wrong, union_in, slots_by_union, slots_of_field, slots_in_order, slot_by_id, slots_by_id, have_ids, code_slot}
+use Rattle.fb_resolve.specs.declared.meanings.Meaning.TheVariants.{Known}
+use Rattle.fb_resolve.specs.declared.defaults.Given.{Given}
+use Rattle.fb_resolve.specs.declared.defaults.Given.TheVariants.{Number, Null, Wrong}
+use Rattle.fb_declare.proofs.EnumsKept.{held_in_range}
+use Rattle.fb_declare.proofs.FaultFree.{either, three_none, IsFieldRight, fields_right, noted_stands, fields_distinct}
+use Rattle.fb_declare.specs.declared.field_faults.FieldHost.TheVariants as fields
+use Rattle.fb_syntax.specs.declared.declarations.Attribute.{Attribute}
+use Rattle.fb_syntax.specs.declared.declarations.FieldType.{FieldType}
+use Rattle.fb_syntax.specs.declared.declarations.FieldType.TheVariants as types_read
+use Rattle.fb_schema.specs.declared.kinds.Kind.{Kind}
 use Rattle.fb_resolve.specs.ResolvedFields.{ResolvedField, ResolvedTable}
 use Rattle.fb_resolve.specs.Attributes.{has_attribute}
 use Rattle.fb_declare.specs.AttributeFaults.{may_stand, metadata_faults}
-use Rattle.fb_resolve.specs.Defaults.{given_to, given_by}
-use Rattle.fb_resolve.specs.SlotsRead.{union_of, shape_of, number_given, is_null, value_slot, slots_read, AreInPlace, are_ids_wrong, union_in, slots_by_union, slots_of_field, slots_in_order, slot_by_id, slots_by_id, have_ids, code_slot}
 use Rattle.fb_declare.specs.FaultRows.{when, faults_in_turn, use_faults, misplaced_type, field_type}
 use Rattle.fb_declare.specs.TypeFaults.{host_of_field, field_behind, table_faults, names_of_field}
 use Rattle.fb_resolve.specs.declared.attributes.BuiltInAttribute.TheVariants.{Required}
 use Rattle.fb_declare.specs.declared.attribute_faults.AttributeHost.TheVariants as hosts
-use Rattle.fb_resolve.specs.declared.defaults.Given.{Given}
-use Rattle.fb_resolve.specs.declared.defaults.Given.TheVariants.{Wrong}
 use Rattle.fb_declare.specs.declared.faults.SchemaFault.TheVariants.{BadIds}
 use Rattle.fb_resolve.specs.declared.meanings.Meaning.{Meaning}
-use Rattle.fb_resolve.specs.declared.meanings.Meaning.TheVariants.{Known}
-use Rattle.fb_declare.proofs.AttributesKept.{noted_stands}
-use Rattle.fb_declare.proofs.DefaultsKept.{scalar_default, enum_default, null_is_zero, GivesIn}
-use Rattle.fb_declare.proofs.FaultFree.{three_none, IsFieldRight, fields_right, either}
-use Rattle.fb_declare.proofs.NamesApart.{fields_distinct}
 use Rattle.fb_declare.proofs.Meant.{MeansIn, IsRead}
 use Rattle.fb_declare.proofs.TypesKept.{AreEnumsKept}
-use Rattle.std.specs.Option.{unwrap_or}
-use Rattle.std.specs.Str.{bytes_eq}
 use Rattle.std.proofs.lemmas.Cmp.{nat_list_eq_equiv}
 use Rattle.std.proofs.lemmas.List.{map-append}
 use Rattle.std.proofs.lemmas.List.Sorted.{Contains-permutation, IsPermutation-sym, IsPermutation-map}
 use Rattle.std.proofs.lemmas.Map.Keys.{IsDistinct-IsPermutation}
 use Rattle.std.proofs.lemmas.Map.Made.{AllPairs-from_IsDistinct}
-use Rattle.std.proofs.lemmas.Option.{get_or_from_slice_get, slice_get_within, slice_get-get_or}
 use Rattle.std.proofs.lemmas.Slice.Eq.{bytes_eq-Decides}
 use Rattle.fb_schema.specs.declared.kinds.Shape.TheVariants.{One}
+
+-- 0 is in the range of each basic type
+InRange-zero : (base : Base) → InRange base (pos 0)
+unfolding holds
+InRange-zero Boolean = held_in_range Boolean (pos 0) refl
+InRange-zero base = held_in_range base (pos 0) refl
+
+-- what is given is in a range
+abbrev pub GivesIn : Base → Given → Type 0
+GivesIn base given = InRange base (number_given given)
+
+number_in : (base : Base) (n : ℤ) → GivesIn base (number_within base n)
+number_in base n = either (GivesIn base) (holds base n) (Number n) Wrong (held_in_range base n) (InRange-zero base)
+
+null_in : (base : Base) (name : Name) → GivesIn base (null_or_wrong name)
+null_in base name = either (GivesIn base) (bytes_eq name (codes "null")) Null Wrong (λ is. InRange-zero base) (InRange-zero base)
+
+named_in : (base : Base) (name : Name) → GivesIn base (scalar_named base name)
+unfolding holds
+named_in Boolean name = either (GivesIn Boolean) (bytes_eq name (codes "true")) (Number (pos 1)) _ (λ is. held_in_range Boolean (pos 1) refl)
+    (either (GivesIn Boolean) (bytes_eq name (codes "false")) (Number (pos 0)) (null_or_wrong name) (λ is. InRange-zero Boolean) (null_in Boolean name))
+named_in base name = null_in base name
+
+-- a scalar's default
+pub scalar_default : (types : List TypeRead) (n : Located) (base : Base) (d : Option DefaultValue) → GivesIn base (given_by types (One n) (Known (Scalar base)) d)
+unfolding given_to
+scalar_default types n base None = InRange-zero base
+scalar_default types n base (Some (Integer t)) = number_in base t.value
+scalar_default types n base (Some (Named t)) = named_in base t.bytes
+
+enum_number_in : (base : Base) (under : Option Base) (n : ℤ) → under ≡ Some base → GivesIn base (enum_number under n)
+enum_number_in base None n e = cc
+enum_number_in base (Some b) n e = subst (λ c. GivesIn base (number_within c n)) (sym (same_Some b base e)) (number_in base n)
+
+enum_named_in : (base : Base) (value : Option ℤ) (name : Name) → IfSome value (InRange base) → GivesIn base (enum_named value name)
+enum_named_in base None name h = null_in base name
+enum_named_in base (Some n) name h = h
+
+-- an enum's default, where its values are in range
+pub enum_default : (types : List TypeRead) (n : Located) (e : TypeId) (base : Base) (d : Option DefaultValue) → underlying_at types e.0 ≡ Some base
+    → ((name : Name) → IfSome (value_at types e.0 name) (InRange base)) → GivesIn base (given_by types (One n) (Known (Enum e)) d)
+unfolding given_to
+enum_default types n e base None under values = InRange-zero base
+enum_default types n e base (Some (Integer t)) under values = enum_number_in base (underlying_at types e.0) t.value under
+enum_default types n e base (Some (Named t)) under values = enum_named_in base (value_at types e.0 t.bytes) t.bytes (values t.bytes)
+
+-- `null` gives 0
+pub null_is_zero : (given : Given) → IsTrue (is_null given) → number_given given ≡ pos 0
+null_is_zero (Number n) h = cc
+null_is_zero _ h = refl
 
 -- ---- the slots of fields
 
@@ -164,18 +218,18 @@ value_no_union _ _ u absent e = cc
 -- what stands beside the slot of a number: behind a union's code its value, before that the code, and beside another nothing that counts
 data Beside (slots : List DeclaredField) (k : ℕ) (p : DeclaredField) : Type 0 where
   plain : ((u : TypeId) → p.shape ≢ One (Code u)) → ((u : TypeId) → p.shape ≢ One (Union u)) → Beside slots k p
-  behind : (u : TypeId) (g : DeclaredField) → slice_get slots (suc k) ≡ Some g → IsUnionPair p g u → Beside slots k p
-  before : (u : TypeId) (j : ℕ) (f : DeclaredField) → k ≡ suc j → slice_get slots j ≡ Some f → IsUnionPair f p u → Beside slots k p
+  of_code : (u : TypeId) (g : DeclaredField) → slice_get slots (suc k) ≡ Some g → IsUnionPair p g u → Beside slots k p
+  of_value : (u : TypeId) (j : ℕ) (f : DeclaredField) → k ≡ suc j → slice_get slots j ≡ Some f → IsUnionPair f p u → Beside slots k p
 
 follows : (slots : List DeclaredField) (k : ℕ) (p : DeclaredField) (u : TypeId) → p.shape ≡ One (Code u) → Beside slots k p → (g : DeclaredField) × (slice_get slots (suc k) ≡ Some g) × IsUnionPair p g u
 follows slots k p u shape (plain no_code no_union) = absurd (no_code u shape)
-follows slots k p u shape (behind v g at pair) = let same : v ≡ u = cc (pair.code) in (g, at, subst (IsUnionPair p g) same pair)
-follows slots k p u shape (before v j f last at pair) = cc (pair.value)
+follows slots k p u shape (of_code v g at pair) = let same : v ≡ u = cc (pair.code) in (g, at, subst (IsUnionPair p g) same pair)
+follows slots k p u shape (of_value v j f last at pair) = cc (pair.value)
 
 leads : (slots : List DeclaredField) (k : ℕ) (p : DeclaredField) (u : TypeId) → p.shape ≡ One (Union u) → Beside slots k p → (j : ℕ) × (f : DeclaredField) × (k ≡ suc j) × (slice_get slots j ≡ Some f) × IsUnionPair f p u
 leads slots k p u shape (plain no_code no_union) = absurd (no_union u shape)
-leads slots k p u shape (behind v g at pair) = cc (pair.code)
-leads slots k p u shape (before v j f last at pair) = let same : v ≡ u = cc (pair.value) in (j, f, last, at, subst (IsUnionPair f p) same pair)
+leads slots k p u shape (of_code v g at pair) = cc (pair.code)
+leads slots k p u shape (of_value v j f last at pair) = let same : v ≡ u = cc (pair.value) in (j, f, last, at, subst (IsUnionPair f p) same pair)
 
 -- ---- the whole table
 
@@ -203,7 +257,7 @@ module _ (fs : List ResolvedField) (slots : List DeclaredField) (placed : AreInP
       let pair : IsUnionPair code value u = record { named = refl; code = refl; value = union_shape f.field.kind f.meaning u e; marks = refl } in
       let first = its_place code (All-head (Contains slots) code (value ∷ []) whole) in
       let second = its_place value (All-head (Contains slots) value [] (All-tail (Contains slots) code (value ∷ []) whole)) in
-      All-cons P code (value ∷ []) (behind u value (sym (ap (slice_get slots) next) ∙ second) pair) (All-cons P value [] (before u slot code next first pair) (All-nil P)))
+      All-cons P code (value ∷ []) (of_code u value (sym (ap (slice_get slots) next) ∙ second) pair) (All-cons P value [] (of_value u slot code next first pair) (All-nil P)))
 
 -- The slots of a table with no fault, in their places, are a table's.
 pub table_kept : (types : List TypeRead) (S : DeclaredSchema) → AreEnumsKept types S → (declared : Name → Bool) (t : ResolvedTable) → All (IsRead types S) t.fields → table_faults declared t ≡ []
@@ -215,7 +269,7 @@ table_kept types S enums declared t read h slots placed =
     let right = fields_right declared fields.Table fs none.2 in
     let read_at = λ (f : ResolvedField) (among : Contains fs f). All-contains (IsRead types S) fs f read among in
     let beside_at = λ (k : ℕ) (p : DeclaredField) (e : slice_get slots k ≡ Some p). subst (λ n. Beside slots n p) (placed.slots k p e)
-        (at_place fs slots placed (λ p. Beside slots p.slot p) (λ f slot among. beside fs slots placed S f slot (read_at f among).means) k p e) in
+    (at_place fs slots placed (λ p. Beside slots p.slot p) (λ f slot among. beside fs slots placed S f slot (read_at f among).means) k p e) in
     record {
       slots = placed.slots;
       names = AllPairs-from_IsDistinct bytes_eq-Decides (names_of slots)

@@ -1,23 +1,48 @@
 -- Each type of the schema that an outline with no fault gives, by what declares it; and the enums that fields name.
-use Rattle.std.proofs.Common.{◌≡◌, ℕ, ◌∙◌, Bool, false, List, [], take, refl, ap, sym, subst, true≢false, Option, None, Some, IsTrue, IfSome, ℤ}
-use Rattle.std.specs.List.{slice_get, All}
-use Rattle.std.specs.Option.{option_map}
+use Rattle.std.proofs.Common.{◌≡◌, List, [], ◌∷◌, refl, sym, subst, Option, None, Some, ℤ, IsTrue, IfSome, ℕ, ◌∙◌, Bool, false, take, ap, true≢false}
+use Rattle.std.specs.List.{All, find, slice_get}
+use Rattle.std.specs.Option.{option_map, option_or, option_and_then}
+use Rattle.std.specs.Str.{bytes_eq}
+use Rattle.std.proofs.lemmas.List.Elements.{All-head, All-tail}
 use Rattle.std.proofs.lemmas.Option.{slice_get-map}
-use Rattle.fb_syntax.specs.declared.declarations.TypeDecl.{TypeDecl}
-use Rattle.fb_syntax.specs.declared.declarations.TypeDecl.TheVariants as decls
+use Rattle.fb_syntax.specs.TypesRead.{EnumRead}
 use Rattle.fb_schema.specs.Schema.{Name, DeclaredBody, table_body, enum_body, DeclaredType, DeclaredSchema, body_in, body_at, base_in, is_enum}
 use Rattle.fb_schema.specs.WellDeclared.{InRange, Names}
 use Rattle.fb_schema.specs.declared.kinds.Base.{Base}
-use Rattle.fb_resolve.specs.Outline.{TypeRead, Outline}
+use Rattle.fb_resolve.specs.Outline.{TypeRead, full_name, Outline}
+use Rattle.fb_resolve.specs.EnumsRead.{underlying_at, value_at, number_named, value_named, behind, underlying_in, underlying_of_read, value_in, value_of_read, values_read}
+use Rattle.fb_declare.proofs.EnumsKept.{enum_kept}
+use Rattle.fb_declare.proofs.FaultFree.{either, none_behind, type_right}
+use Rattle.fb_syntax.specs.declared.declarations.TypeDecl.{TypeDecl}
+use Rattle.fb_syntax.specs.declared.declarations.TypeDecl.TheVariants as decls
 use Rattle.fb_resolve.specs.Resolved.{resolved_enum, resolved_declaration, resolved_type, resolved_types}
-use Rattle.fb_resolve.specs.EnumsRead.{underlying_in, underlying_of_read, underlying_at, value_in, value_of_read, value_at, values_read}
 use Rattle.fb_declare.specs.FaultRows.{faults_in_turn}
 use Rattle.fb_declare.specs.TypeFaults.{declaration_faults, aligns_from, type_behind, declared_in}
 use Rattle.fb_declare.specs.Declares.{HasBody, IsType, Gives}
-use Rattle.fb_declare.proofs.DefaultsKept.{value_found}
-use Rattle.fb_declare.proofs.EnumsKept.{enum_kept}
-use Rattle.fb_declare.proofs.FaultFree.{none_behind, type_right}
 use Rattle.fb_declare.proofs.Meant.{at_right}
+
+-- what a name finds among values of which something holds
+number_found : (P : ℤ → Type 0) (values : List (Name × ℤ)) (name : Name) → All (λ v. P v.1) values → IfSome (number_named values name) P
+unfolding number_named
+number_found P [] name h = tt
+number_found P (v ∷ vs) name h = either (λ o. IfSome (option_map (λ w. w.1) o) P) (bytes_eq name v.0) (Some v) (find (λ w. bytes_eq name w.0) vs)
+    (λ is. All-head (λ w. P w.1) v vs h) (number_found P vs name (All-tail (λ w. P w.1) v vs h))
+
+either_found : (P : ℤ → Type 0) (a b : Option ℤ) → IfSome a P → IfSome b P → IfSome (option_or a b) P
+either_found P None b p q = q
+either_found P (Some n) b p q = p
+
+then_found : {X : Type 0} (P : ℤ → Type 0) (f : X → Option ℤ) (o : Option X) → ((x : X) → IfSome (f x) P) → IfSome (option_and_then f o) P
+then_found P f None h = tt
+then_found P f (Some x) h = h x
+
+-- the number of a value's name
+pub value_found : (P : ℤ → Type 0) (scope : Option Name) (e : EnumRead) (values : List (Name × ℤ)) (name : Name) → All (λ v. P v.1) values → IfSome (value_named scope e values name) P
+value_found P scope e values name h =
+    either_found P (number_named values name) _ (number_found P values name h)
+    (either_found P (option_and_then (number_named values) (behind e.name.bytes name)) (option_and_then (number_named values) (behind (full_name scope e.name.bytes) name))
+    (then_found P (number_named values) (behind e.name.bytes name) (λ x. number_found P values x h))
+    (then_found P (number_named values) (behind (full_name scope e.name.bytes) name) (λ x. number_found P values x h)))
 
 -- the alignments of the types before one
 abbrev pub aligns_before : List TypeRead → ℕ → List ℕ

@@ -12,7 +12,7 @@ use Rattle.fb_declare.specs.FaultRows.{is_again}
 use Rattle.fb_declare.specs.NamesMet.{is_met}
 use Rattle.fb_declare.specs.TypeFaults.{aligns_from, type_behind}
 use Rattle.fb_declare.proofs.Least.{least_more, list_any-map}
-use Rattle.fb_declare.proofs.AlignmentsKept.{aligns-more, length-before}
+use Rattle.fb_declare.proofs.StructsKept.{aligns-more, length-before}
 use Rattle.fb_declare.proofs.types.types_fault.Goals as goal
 
 -- what is told of a type's name among those before it
