@@ -49,7 +49,6 @@ integer_under m at h = when-none (is_none (integer_type m)) (Unsupported at) h
 
 -- flags stand on unsigned types alone
 flags_unsigned : (b : Bool) (value : Option AttributeValue) → may_stand (if b then hosts.Enum else hosts.SignedEnum) BitFlags value ≡ true → b ≡ true
-unfolding may_stand
 flags_unsigned true value h = refl
 flags_unsigned false value h = absurd (true≢false (sym h))
 
@@ -148,7 +147,6 @@ over_kept declared (Some base) e read integers some metadata values =
 -- an enum with no fault is over an integer type, and has a right body
 pub enum_kept : (declared : Name → Bool) (e : ResolvedEnum) → e.bit_flags ≡ has_flags e.declared → enum_faults declared e ≡ [] → let base = integer_type e.underlying in
     (base ≡ Some (base_or_ubyte base)) × IsEnumBody (base_or_ubyte base) e.bit_flags (values_over base e.bit_flags e.values)
-unfolding enum_faults
 enum_kept declared e read h =
     let base = integer_type e.underlying in
     let right = three_none (underlying_faults e.underlying e.declared.underlying.at) (metadata_faults declared (host_of_enum base) e.declared.attributes)
@@ -163,7 +161,6 @@ record IsMember (before : List ResolvedMember) (m : ResolvedMember) : Type 0 whe
   pub few : length before < 255
 
 member_right : (before : List ResolvedMember) (m : ResolvedMember) → member_faults before m ≡ [] → IsMember before m
-unfolding member_faults
 member_right before m h =
     let at = m.member.table.at in
     let called = bytes_eq m.name.bytes (codes "NONE") in let again = is_again bytes_eq (λ m. m.name.bytes) before m in
@@ -194,5 +191,4 @@ module _ (S : DeclaredSchema) (ms : List ResolvedMember) (means : All (λ m. Mea
   }
 
 pub union_kept : (S : DeclaredSchema) (declared : Name → Bool) (u : ResolvedUnion) → All (λ m. MeansIn S m.meaning) u.members → union_faults declared u ≡ [] → IsUnionBody S (map member_read u.members)
-unfolding union_faults
 union_kept S declared u means h = members_kept S u.members means (both_none (metadata_faults declared hosts.Union u.declared.attributes) (faults_in_turn member_faults u.members) h).1

@@ -13,9 +13,9 @@ use Rattle.fb_resolve.specs.BasicTypes.{is_reserved}
 use Rattle.fb_declare.specs.declared.faults.SchemaFault.{SchemaFault}
 use Rattle.fb_declare.specs.declared.faults.SchemaFault.TheVariants.{DuplicateName, BadAttribute, Unsupported}
 use Rattle.fb_declare.specs.declared.field_faults.FieldHost.{FieldHost}
-use Rattle.fb_declare.specs.AttributeFaults.{metadata_faults, is_left_out, is_force_align_of_field, may_stand, faults_by_name, attribute_faults, attribute_behind}
+use Rattle.fb_declare.specs.AttributeFaults.{metadata_faults, is_left_out, is_force_align_of_field, may_stand, faults_by_name, attribute_behind}
 use Rattle.fb_declare.specs.FaultRows.{when, faults_behind, faults_in_turn, is_again, name_again, field_type, bad_default, is_among}
-use Rattle.fb_declare.specs.TypeFaults.{names_of_field, host_of_field, given_in, field_faults, field_behind, declaration_faults, aligns_from, type_faults, type_behind}
+use Rattle.fb_declare.specs.TypeFaults.{names_of_field, host_of_field, given_in, field_faults, field_behind, declaration_faults, aligns_from, type_behind}
 use Rattle.std.proofs.lemmas.List.Folds.{Any-from_list_any, find_at}
 use Rattle.std.proofs.lemmas.List.Sums.{passes_at_first}
 use Rattle.fb_syntax.specs.declared.declarations.Attribute.{Attribute}
@@ -46,7 +46,6 @@ when-none false fault h = refl
 -- what is empty for all together is empty for each
 pub none_behind : {X : Type 0} (rule : List X → X → List SchemaFault) (before xs : List X) → faults_behind rule before xs ≡ []
     → (k : ℕ) (x : X) → slice_get xs k ≡ Some x → rule (before ++ take k xs) x ≡ []
-unfolding faults_behind
 none_behind rule before [] h k x e = absurd (none-some x e)
 none_behind rule before (y ∷ xs) h zero x e =
     ap (λ b. rule b x) (append-nil before) ∙ subst (λ z. rule before z ≡ []) (same_Some y x e) (both_none (rule before y) (faults_behind rule (before ++ y ∷ []) xs) h).0
@@ -60,7 +59,6 @@ pub record IsFieldRight (declared : Name → Bool) (host : FieldHost) (f : Resol
   pub metadata : metadata_faults declared (host_of_field host f.field.kind f.meaning) f.field.attributes ≡ []
 
 pub fields_right : (declared : Name → Bool) (host : FieldHost) (fs : List ResolvedField) → faults_in_turn (field_behind declared host) fs ≡ [] → All (IsFieldRight declared host) fs
-unfolding field_faults
 fields_right declared host fs h k d within =
     let f = get_or fs k d in
     let names = faults_behind (name_again f.field.name.at) (flat_map (names_of_field host) (take k fs)) (names_of_field host f) in
@@ -72,7 +70,6 @@ fields_right declared host fs h k d within =
 -- a type with no fault has another full name than those before it, and none in its declaration by their alignments
 pub type_right : (types : List TypeRead) (declared : Name → Bool) (before : List ResolvedType) (r : ResolvedType) → type_behind types declared before r ≡ []
     → (is_again bytes_eq (λ q. name_of_type q.read) before r ≡ false) × (declaration_faults types declared (aligns_from types [] before) r.declaration ≡ [])
-unfolding type_faults
 type_right types declared before r h =
     let name = word_of r.read.declaration in let again = is_again bytes_eq (λ q. name_of_type q.read) before r in
     let parts = both_none (when (again || is_reserved name.bytes) (DuplicateName name.at)) (declaration_faults types declared (aligns_from types [] before) r.declaration) h in
@@ -96,7 +93,6 @@ known_spelling _ = refl
 module _ (declared : Name → Bool) (host : AttributeHost) (attributes : List Attribute) (none : metadata_faults declared host attributes ≡ []) (k : BuiltInAttribute) where
   -- an attribute that is spelled like a known one may stand as such
   stands_at : (i : ℕ) (a : Attribute) → slice_get attributes i ≡ Some a → bytes_eq a.name.bytes (spelling k) ≡ true → may_stand host k a.value ≡ true
-  unfolding attribute_faults
   stands_at i a at spelt =
       let again = is_again bytes_eq (λ b. b.name.bytes) (take i attributes) a in
       let built_in = built_in_attribute a.name.bytes in
@@ -124,7 +120,6 @@ module _ (declared : Name → Bool) (host : AttributeHost) (attributes : List At
 -- what each element with no fault keeps holds in the end
 kept_behind : {X : Type 0} (rule : List X → X → List SchemaFault) (P : List X → Type 0) → ((before : List X) (x : X) → rule before x ≡ [] → P before → P (before ++ x ∷ []))
     → (before xs : List X) → faults_behind rule before xs ≡ [] → P before → P (before ++ xs)
-unfolding faults_behind
 kept_behind rule P step before [] h p = subst P (sym (append-nil before)) p
 kept_behind rule P step before (x ∷ xs) h p =
     let parts = both_none (rule before x) (faults_behind rule (before ++ x ∷ []) xs) h in

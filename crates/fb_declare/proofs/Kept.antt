@@ -21,7 +21,7 @@ use Rattle.fb_resolve.specs.declared.resolved.ResolvedDecl.{ResolvedDecl}
 use Rattle.fb_resolve.specs.declared.resolved.ResolvedDecl.TheVariants as resolved
 use Rattle.fb_declare.specs.AttributeFaults.{metadata_faults}
 use Rattle.fb_declare.specs.FaultRows.{when, faults_in_turn, use_faults, root_faults, is_identifier, identifier_faults, is_printable}
-use Rattle.fb_declare.specs.TypeFaults.{field_behind, table_faults, declaration_faults, aligns_from, type_behind, declared_in, faults_of_outline}
+use Rattle.fb_declare.specs.TypeFaults.{field_behind, declaration_faults, aligns_from, type_behind, declared_in, faults_of_outline}
 use Rattle.fb_declare.specs.Declares.{HasBody, IsType, root_table, Gives}
 use Rattle.fb_declare.specs.declared.faults.SchemaFault.TheVariants.{BadIds, BadRoot, BadIdentifier}
 use Rattle.fb_declare.specs.declared.attribute_faults.AttributeHost.TheVariants as hosts
@@ -55,14 +55,12 @@ root_kept o S g (Some r) e = subst (λ t. Names is_table S (unwrap_or t 0)) (sym
 
 -- a root with no fault is a table
 pub root_some : (text_len : ℕ) (root : Option RootRead) (m : Meaning) → root_faults text_len root m ≡ [] → is_none (table_of m) ≡ false
-unfolding root_faults
 root_some text_len None m h = cc
 root_some text_len (Some r) m h =
     when-none (is_none (table_of m)) (BadRoot r.name.at) (both_none (use_faults m r.name.at) (when (is_none (table_of m)) (BadRoot r.name.at)) h).1
 
 -- The identifier has four bytes.
 pub identifier_kept : (t : Option Located) → identifier_faults t ≡ [] → ForSome (option_map (λ t. t.bytes) t) (λ id. length id ≡ 4)
-unfolding identifier_faults
 identifier_kept None h id e = absurd (none-some id e)
 identifier_kept (Some t) h id e =
     let right = not-false (is_identifier t.bytes) (when-none (not (is_identifier t.bytes)) (BadIdentifier t.at) h) in
@@ -74,7 +72,6 @@ identifier_kept (Some t) h id e =
 
 -- a declaration with no fault gives a body
 buildable_by : (types : List TypeRead) (declared : Name → Bool) (lower : List ℕ) (d : ResolvedDecl) → declaration_faults types declared lower d ≡ [] → IsBuildable d
-unfolding table_faults
 buildable_by types declared lower (resolved.Table t) h = when-none (are_ids_wrong t.fields) (BadIds t.declared.name.at)
     (three_none (metadata_faults declared hosts.Table t.declared.attributes) (when (are_ids_wrong t.fields) (BadIds t.declared.name.at)) (faults_in_turn (field_behind declared fields.Table) t.fields) h).1
 buildable_by types declared lower _ h = tt

@@ -41,7 +41,6 @@ earlier_assoc (Some f) (Some g) (Some h) = by_tests f g h (comes_before g f) (co
     (less_less (at_of f) (number_of f) (at_of g) (number_of g) (at_of h) (number_of h)) (not_less (at_of f) (number_of f) (at_of g) (number_of g) (at_of h) (number_of h))
 
 pub least_of_append : (fs gs : List SchemaFault) → least_of (fs ++ gs) ≡ earlier (least_of fs) (least_of gs)
-unfolding least_of
 least_of_append [] gs = refl
 least_of_append (f ∷ fs) gs = ap (earlier (Some f)) (least_of_append fs gs) ∙ sym (earlier_assoc (Some f) (least_of fs) (least_of gs))
 
@@ -52,7 +51,6 @@ pub taken : {X : Type 0} (xs : List X) (i : ℕ) (x : X) → i < length xs → x
 taken xs i x h e = take_more xs i x h ∙ ap (λ y. take i xs ++ y ∷ []) (sym e)
 
 faults_behind-snoc : {X : Type 0} (rule : List X → X → List SchemaFault) (before xs : List X) (x : X) → faults_behind rule before (xs ++ x ∷ []) ≡ faults_behind rule before xs ++ rule (before ++ xs) x
-unfolding faults_behind
 faults_behind-snoc rule before [] x = append-nil (rule before x) ∙ ap (λ b. rule b x) (sym (append-nil before))
 faults_behind-snoc rule before (y ∷ xs) x =
     ap (λ fs. rule before y ++ fs) (faults_behind-snoc rule (before ++ y ∷ []) xs x ∙ ap (λ b. faults_behind rule (before ++ y ∷ []) xs ++ rule b x) (append_assoc before (y ∷ []) xs))
@@ -95,7 +93,6 @@ earlier_some f (Some g) h = either (λ o. o ≡ None → ⊥) (comes_before g f)
 
 -- no least fault: none at all
 pub least-none : (fs : List SchemaFault) → least_of fs ≡ None → fs ≡ []
-unfolding least_of
 least-none [] h = refl
 least-none (f ∷ fs) h = absurd (earlier_some f (least_of fs) h)
 
@@ -106,6 +103,5 @@ contained_by f g fs (Some h) rest e = either (λ o. o ≡ Some f → Contains (g
 
 -- the least fault is one of them
 pub least-some : (fs : List SchemaFault) (f : SchemaFault) → least_of fs ≡ Some f → Contains fs f
-unfolding least_of
 least-some [] f e = cc
 least-some (g ∷ fs) f e = contained_by f g fs (least_of fs) (λ h is. least-some fs h is) e

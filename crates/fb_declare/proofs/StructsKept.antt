@@ -72,7 +72,6 @@ forced_aligned least _ = λ a e. absurd (none-some a e)
 
 -- a field of a struct with no fault is of a scalar, an enum or a lower struct
 pub part_right : (S : DeclaredSchema) (t : ℕ) (kind : FieldType) (m : Meaning) → MeansIn S m → field_type (fields.Struct t) kind m ≡ [] → IsPart S t (shape_of kind m)
-unfolding use_faults misplaced_type
 part_right S t (One n) (Known (Scalar base)) means h = tt
 part_right S t (One n) (Known (Enum e)) means h = means.0
 part_right S t (One n) (Known (Struct s)) means h = (leb-false t s.0 (when-none (nat_le t s.0) (IncompleteStruct n.at) h), means.0)
@@ -106,7 +105,6 @@ pub record IsStructRight (types : List TypeRead) (declared : Name → Bool) (low
   pub fields : faults_in_turn (field_behind declared (fields.Struct (length lower))) s.fields ≡ []
 
 pub struct_right : (types : List TypeRead) (declared : Name → Bool) (lower : List ℕ) (s : ResolvedTable) → struct_faults types declared lower s ≡ [] → IsStructRight types declared lower s
-unfolding struct_faults
 struct_right types declared lower s h =
     let none = three_none (metadata_faults declared (hosts.Struct (natural_align types lower s.fields)) s.declared.attributes) (when (length s.fields == 0) (EmptyStruct s.declared.name.at))
     (faults_in_turn (field_behind declared (fields.Struct (length lower))) s.fields) h in
@@ -186,7 +184,6 @@ number_forced natural (negsuc n) h = absurd (false≢true h)
 
 -- what the value of an attribute that may stand forces
 value_forced : (natural : ℕ) (value : Option AttributeValue) → may_stand (hosts.Struct natural) ForceAlign value ≡ true → IsForced natural (integer_value_in value)
-unfolding may_stand
 value_forced natural (Some (Integer m)) h = number_forced natural m.value h
 value_forced natural value h = absurd (false≢true h)
 

@@ -32,8 +32,8 @@ use Rattle.fb_syntax.specs.declared.declarations.FieldType.TheVariants as types_
 use Rattle.fb_schema.specs.declared.kinds.Kind.{Kind}
 use Rattle.fb_resolve.specs.ResolvedFields.{ResolvedField, ResolvedTable}
 use Rattle.fb_resolve.specs.Attributes.{has_attribute}
-use Rattle.fb_declare.specs.AttributeFaults.{may_stand, metadata_faults}
-use Rattle.fb_declare.specs.FaultRows.{when, faults_in_turn, use_faults, misplaced_type, field_type}
+use Rattle.fb_declare.specs.AttributeFaults.{metadata_faults}
+use Rattle.fb_declare.specs.FaultRows.{when, faults_in_turn, misplaced_type, field_type}
 use Rattle.fb_declare.specs.TypeFaults.{host_of_field, field_behind, table_faults, names_of_field}
 use Rattle.fb_resolve.specs.declared.attributes.BuiltInAttribute.TheVariants.{Required}
 use Rattle.fb_declare.specs.declared.attribute_faults.AttributeHost.TheVariants as hosts
@@ -153,7 +153,6 @@ names_numbered fs all (more f gs slot rest n) = map-append (λ s. s.name) (slots
 
 -- `required` isn't written at a scalar
 no_required : (declared : Name → Bool) (attributes : List Attribute) (required : Bool) → required ≡ has_attribute Required attributes → metadata_faults declared hosts.ScalarField attributes ≡ [] → required ≡ false
-unfolding may_stand
 no_required declared attributes false has h = refl
 no_required declared attributes true has h = let x = noted_stands declared hosts.ScalarField attributes h Required (sym has) in absurd (true≢false (sym x.1))
 
@@ -164,7 +163,6 @@ none_given types k m None given h e = (ap number_given e, ap is_null e)
 none_given types k m (Some v) given h e = (ap number_given (e ∙ h v), ap is_null (e ∙ h v))
 
 may_be_element : (S : DeclaredSchema) (at : ℕ) (n : Located) (kind : Kind) → MeansIn S (Known kind) → misplaced_type fields.Table (types_read.Many at n) (Known kind) ≡ [] → MayBeElement kind
-unfolding misplaced_type
 may_be_element S at n (Union t) means free = cc
 may_be_element S at n (Code t) means free = absurd means.1
 may_be_element S at n _ means free = tt
@@ -181,7 +179,7 @@ module _ (types : List TypeRead) (S : DeclaredSchema) (enums : AreEnumsKept type
   -- by its type, what it is given, and its attributes
   value_right : (f : ResolvedField) (slot : ℕ) (k : FieldType) (m : Meaning) → MeansIn S m → field_type fields.Table k m ≡ [] → metadata_faults declared (host_of_field fields.Table k m) f.field.attributes ≡ []
       → f.given ≡ given_by types k m f.field.default → f.attributes.required ≡ has_attribute Required f.field.attributes → IsShape S (shape_of k m) × MarksFit S (value_slot f slot) (shape_of k m)
-  unfolding use_faults given_to
+  unfolding given_to
   value_right f slot (types_read.One n) (Known (Scalar base)) means type marks given required =
       (tt, (subst (GivesIn base) (sym given) (scalar_default types n base f.field.default), null_is_zero f.given, no_required declared f.field.attributes f.attributes.required required marks))
   value_right f slot (types_read.One n) (Known (Enum e)) means type marks given required = let base = base_in (body_at S e.0) in let kept = enums e.0 means.0 in
@@ -262,7 +260,6 @@ module _ (fs : List ResolvedField) (slots : List DeclaredField) (placed : AreInP
 -- The slots of a table with no fault, in their places, are a table's.
 pub table_kept : (types : List TypeRead) (S : DeclaredSchema) → AreEnumsKept types S → (declared : Name → Bool) (t : ResolvedTable) → All (IsRead types S) t.fields → table_faults declared t ≡ []
     → (slots : List DeclaredField) → AreInPlace (slots_read t.fields) slots → IsTableBody S slots
-unfolding table_faults
 table_kept types S enums declared t read h slots placed =
     let fs = t.fields in
     let none = three_none (metadata_faults declared hosts.Table t.declared.attributes) (when (are_ids_wrong fs) (BadIds t.declared.name.at)) (faults_in_turn (field_behind declared fields.Table) fs) h in

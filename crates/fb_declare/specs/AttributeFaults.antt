@@ -18,7 +18,7 @@ use Rattle.fb_declare.specs.declared.attribute_faults.AttributeHost.{AttributeHo
 use Rattle.fb_declare.specs.declared.attribute_faults.AttributeHost.TheVariants.{Table, Struct, Enum, ScalarField, TableField, StructField}
 
 -- the attributes of FlatBuffers that this project leaves out
-unfoldable pub is_left_out : Name → Bool
+abbrev pub is_left_out : Name → Bool
 is_left_out name =
     (bytes_eq name (codes "key") || bytes_eq name (codes "hash") || bytes_eq name (codes "shared")
     || bytes_eq name (codes "nested_flatbuffer") || bytes_eq name (codes "flexbuffer"))
@@ -32,7 +32,7 @@ is_force_align_of_field StructField (Some ForceAlign) = true
 is_force_align_of_field _ _ = false
 
 -- where each built-in attribute may stand, and with which value
-unfoldable pub may_stand : AttributeHost → BuiltInAttribute → Option AttributeValue → Bool
+abbrev pub may_stand : AttributeHost → BuiltInAttribute → Option AttributeValue → Bool
 may_stand ScalarField Id (Some (Integer n)) = true
 may_stand TableField Id (Some (Integer n)) = true
 may_stand TableField Required None = true
@@ -50,7 +50,7 @@ faults_by_name declared host again a (Some k) = when (not (may_stand host k a.va
 faults_by_name declared host again a None = when (not (declared a.name.bytes)) (UnknownAttribute a.name.at)
 
 -- the faults of one attribute, where this says whether one before it has its name
-unfoldable pub attribute_faults : (Name → Bool) → AttributeHost → Bool → Attribute → List SchemaFault
+abbrev pub attribute_faults : (Name → Bool) → AttributeHost → Bool → Attribute → List SchemaFault
 attribute_faults declared host again a = let built_in = built_in_attribute a.name.bytes in
     if is_left_out a.name.bytes || is_force_align_of_field host built_in then Unsupported a.name.at ∷ [] else
     faults_by_name declared host again a built_in

@@ -31,7 +31,7 @@ abbrev pub when : Bool → SchemaFault → List SchemaFault
 when fails fault = if fails then fault ∷ [] else []
 
 -- the faults of a list's elements, by a rule that looks at an element and all before it; these stand before the list
-unfoldable pub faults_behind : {X : Type 0} → (List X → X → List SchemaFault) → List X → List X → List SchemaFault
+abbrev pub faults_behind : {X : Type 0} → (List X → X → List SchemaFault) → List X → List X → List SchemaFault
 faults_behind rule before [] = []
 faults_behind rule before (x ∷ xs) = rule before x ++ faults_behind rule (before ++ x ∷ []) xs
 
@@ -52,13 +52,13 @@ abbrev pub name_again : ℕ → List Name → Name → List SchemaFault
 name_again at before name = when (is_among name before) (DuplicateName at)
 
 -- a type isn't found, or is a float type's
-unfoldable pub use_faults : Meaning → ℕ → List SchemaFault
+abbrev pub use_faults : Meaning → ℕ → List SchemaFault
 use_faults Unknown at = UnknownType at ∷ []
 use_faults Float at = Unsupported at ∷ []
 use_faults (Known kind) at = []
 
 -- A table has no vector of unions. A struct has no vector, text, table or union, and of structs only those before it.
-unfoldable pub misplaced_type : FieldHost → FieldType → Meaning → List SchemaFault
+abbrev pub misplaced_type : FieldHost → FieldType → Meaning → List SchemaFault
 misplaced_type hosts.Table (Many at n) (Known (Union u)) = Unsupported n.at ∷ []
 misplaced_type hosts.Table _ _ = []
 misplaced_type (hosts.Struct struct) (Many at n) m = BadMember at ∷ []
@@ -77,7 +77,7 @@ default_at (Integer t) = t.at
 default_at (Named t) = t.at
 
 -- a default that gives nothing
-unfoldable pub bad_default : Option DefaultValue → Given → List SchemaFault
+abbrev pub bad_default : Option DefaultValue → Given → List SchemaFault
 bad_default (Some d) Wrong = BadDefault (default_at d) ∷ []
 bad_default _ _ = []
 
@@ -97,14 +97,14 @@ value_faults base flags before v =
     ++ when (is_out_of_range base flags v.number || is_again int_eq (λ w. w.number) before v) (BadEnumValue v.value.name.at)
 
 -- a member that is called NONE or like one before it, isn't a table, or is past the 255th
-unfoldable pub member_faults : List ResolvedMember → ResolvedMember → List SchemaFault
+abbrev pub member_faults : List ResolvedMember → ResolvedMember → List SchemaFault
 member_faults before r = let at = r.member.table.at in
     when (bytes_eq r.name.bytes (codes "NONE") || is_again bytes_eq (λ m. m.name.bytes) before r) (DuplicateName r.name.at)
     ++ use_faults r.meaning at
     ++ when (is_none (table_of r.meaning) || nat_le 255 (length before)) (BadMember at)
 
 -- a root that is missing, or isn't a table
-unfoldable pub root_faults : ℕ → Option RootRead → Meaning → List SchemaFault
+abbrev pub root_faults : ℕ → Option RootRead → Meaning → List SchemaFault
 root_faults text_len None m = BadRoot text_len ∷ []
 root_faults text_len (Some r) m = use_faults m r.name.at ++ when (is_none (table_of m)) (BadRoot r.name.at)
 
@@ -115,6 +115,6 @@ is_printable c = nat_le 32 c && nat_le c 126
 abbrev pub is_identifier : Name → Bool
 is_identifier name = length name == 4 && list_all is_printable name
 
-unfoldable pub identifier_faults : Option Located → List SchemaFault
+abbrev pub identifier_faults : Option Located → List SchemaFault
 identifier_faults None = []
 identifier_faults (Some t) = when (not (is_identifier t.bytes)) (BadIdentifier t.at)

@@ -50,7 +50,7 @@ abbrev pub given_in : FieldHost → Given → Given
 given_in fields.Table given = given
 given_in (fields.Struct struct) given = Wrong
 
-unfoldable pub field_faults : (Name → Bool) → FieldHost → ResolvedField → List SchemaFault
+abbrev pub field_faults : (Name → Bool) → FieldHost → ResolvedField → List SchemaFault
 field_faults declared host r =
     field_type host r.field.kind r.meaning
     ++ bad_default r.field.default (given_in host r.given)
@@ -62,14 +62,14 @@ field_behind declared host before r =
     faults_behind (name_again r.field.name.at) (flat_map (names_of_field host) before) (names_of_field host r)
     ++ field_faults declared host r
 
-unfoldable pub table_faults : (Name → Bool) → ResolvedTable → List SchemaFault
+abbrev pub table_faults : (Name → Bool) → ResolvedTable → List SchemaFault
 table_faults declared t =
     metadata_faults declared hosts.Table t.declared.attributes
     ++ when (are_ids_wrong t.fields) (BadIds t.declared.name.at)
     ++ faults_in_turn (field_behind declared fields.Table) t.fields
 
 -- the faults of a struct, where these are the alignments of the types before it
-unfoldable pub struct_faults : List TypeRead → (Name → Bool) → List ℕ → ResolvedTable → List SchemaFault
+abbrev pub struct_faults : List TypeRead → (Name → Bool) → List ℕ → ResolvedTable → List SchemaFault
 struct_faults types declared lower s =
     metadata_faults declared (hosts.Struct (natural_align types lower s.fields)) s.declared.attributes
     ++ when (length s.fields == 0) (EmptyStruct s.declared.name.at)
@@ -80,13 +80,13 @@ abbrev pub host_of_enum : Option Base → AttributeHost
 host_of_enum None = hosts.Enum
 host_of_enum (Some base) = if is_unsigned base then hosts.Enum else hosts.SignedEnum
 
-unfoldable pub enum_faults : (Name → Bool) → ResolvedEnum → List SchemaFault
+abbrev pub enum_faults : (Name → Bool) → ResolvedEnum → List SchemaFault
 enum_faults declared e = let base = integer_type e.underlying in
     underlying_faults e.underlying e.declared.underlying.at
     ++ metadata_faults declared (host_of_enum base) e.declared.attributes
     ++ faults_in_turn (value_faults base e.bit_flags) e.values
 
-unfoldable pub union_faults : (Name → Bool) → ResolvedUnion → List SchemaFault
+abbrev pub union_faults : (Name → Bool) → ResolvedUnion → List SchemaFault
 union_faults declared u =
     metadata_faults declared hosts.Union u.declared.attributes
     ++ faults_in_turn member_faults u.members
@@ -99,7 +99,7 @@ declaration_faults types declared lower (resolved.Union u) = union_faults declar
 
 -- the faults of a type behind types of these alignments, where this says whether one of them has its full name; the name may
 -- not be that of a basic or float type
-unfoldable pub type_faults : List TypeRead → (Name → Bool) → List ℕ → Bool → ResolvedType → List SchemaFault
+abbrev pub type_faults : List TypeRead → (Name → Bool) → List ℕ → Bool → ResolvedType → List SchemaFault
 type_faults types declared lower again r = let name = word_of r.read.declaration in
     when (again || is_reserved name.bytes) (DuplicateName name.at) ++ declaration_faults types declared lower r.declaration
 

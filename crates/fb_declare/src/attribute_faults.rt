@@ -36,7 +36,6 @@ fn is_native(name: &str) -> bool
 }
 
 /// Whether an attribute of the name is left out.
-#[tactic(auto, unfolding(crate::specs::AttributeFaults::is_left_out))]
 fn is_left_out(name: &str) -> bool
     ensures { result ≡ is_left_out name.now }
 {
@@ -47,7 +46,6 @@ fn is_left_out(name: &str) -> bool
 }
 
 /// Whether a built-in attribute may stand on a host with a value.
-#[tactic(auto, unfolding(crate::specs::AttributeFaults::may_stand))]
 fn may_stand(
     host: AttributeHost,
     built_in: BuiltInAttribute,
@@ -83,7 +81,6 @@ fn is_force_align_of_field(host: AttributeHost, built_in: Option<BuiltInAttribut
 }
 
 /// What is wrong with an attribute, where this says whether one before it has its name.
-#[tactic(auto, unfolding(crate::specs::AttributeFaults::attribute_faults, crate::specs::Faults::least_of))]
 fn attribute_fault(
     declared: &BTreeSet<&[u8]>,
     host: AttributeHost,
@@ -112,7 +109,6 @@ fn attribute_fault(
 }
 
 /// The least fault of the attributes at a host. The only error is a refused allocation.
-#[tactic(auto, unfolding(crate::specs::FaultRows::faults_behind, crate::specs::Faults::least_of))]
 pub(crate) fn metadata_fault(
     alloc: Global,
     declared: &BTreeSet<&[u8]>,

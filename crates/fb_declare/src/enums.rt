@@ -16,7 +16,6 @@ use std::alloc::{AllocError, Global};
 use std::collections::BTreeSet;
 
 /// The fault of the type under an enum.
-#[tactic(auto, unfolding(crate::specs::Faults::least_of))]
 fn underlying_fault(meaning: Meaning, at: u64) -> Option<SchemaFault>
     ensures { result ≡ least_of (underlying_faults meaning at) }
 {
@@ -60,7 +59,6 @@ fn meet_number(met: &mut BTreeSet<i128>, number: i128) -> Result<bool, AllocErro
 }
 
 /// The least fault of an enum's values. The only error is a refused allocation.
-#[tactic(auto, unfolding(crate::specs::FaultRows::faults_behind, crate::specs::Faults::least_of))]
 fn values_fault(
     alloc: Global,
     base: Option<Base>,
@@ -85,7 +83,6 @@ fn values_fault(
 }
 
 /// The least fault of an enum. The only error is a refused allocation.
-#[tactic(auto, using(crate::proofs::Least::least_of_append), unfolding(crate::specs::TypeFaults::enum_faults))]
 pub(crate) fn enum_fault(
     alloc: Global,
     declared: &BTreeSet<&[u8]>,

@@ -124,7 +124,6 @@ pub(crate) fn earlier(
 }
 
 /// The fault, where its rule fails.
-#[tactic(auto, unfolding(crate::specs::Faults::least_of))]
 pub(crate) fn when(fails: bool, fault: SchemaFault) -> Option<SchemaFault>
     ensures { result ≡ least_of (when fails fault) }
 {

@@ -25,7 +25,6 @@ pub(crate) enum FieldHost {
 }
 
 /// A type that isn't found, or is a float type.
-#[tactic(auto, unfolding(crate::specs::FaultRows::use_faults, crate::specs::Faults::least_of))]
 pub(crate) fn use_fault(meaning: Meaning, at: u64) -> Option<SchemaFault>
     ensures { result ≡ least_of (use_faults meaning at) }
 {
@@ -37,7 +36,6 @@ pub(crate) fn use_fault(meaning: Meaning, at: u64) -> Option<SchemaFault>
 }
 
 /// A type that is found, but that a field of such a host may not have.
-#[tactic(auto, unfolding(crate::specs::FaultRows::misplaced_type, crate::specs::Faults::least_of))]
 fn misplaced_type(host: FieldHost, kind: &FieldType<'_>, meaning: Meaning) -> Option<SchemaFault>
     ensures { result ≡ least_of (misplaced_type host kind.now meaning) }
 {
@@ -70,7 +68,6 @@ fn default_at(default: &DefaultValue<'_>) -> u64
 }
 
 /// The fault of a default that gives nothing.
-#[tactic(auto, unfolding(crate::specs::FaultRows::bad_default, crate::specs::Faults::least_of))]
 fn bad_default(default: Option<&DefaultValue<'_>>, given: Given) -> Option<SchemaFault>
     ensures { result ≡ least_of (bad_default (option_copied default.entry) given) }
 {
@@ -115,7 +112,6 @@ fn names_fault<'f>(
 }
 
 /// What else is wrong with a field.
-#[tactic(auto, using(crate::proofs::Least::least_of_append), unfolding(crate::specs::TypeFaults::field_faults))]
 fn field_fault(
     alloc: Global,
     declared: &BTreeSet<&[u8]>,
@@ -142,7 +138,6 @@ fn field_fault(
 }
 
 /// The least fault of the fields of a table or struct. The only error is a refused allocation.
-#[tactic(auto, unfolding(crate::specs::FaultRows::faults_behind, crate::specs::Faults::least_of))]
 pub(crate) fn fields_fault(
     alloc: Global,
     declared: &BTreeSet<&[u8]>,

@@ -11,7 +11,6 @@ use fb_resolve::{Meaning, RootRead, is_table};
 use fb_syntax::Text;
 
 /// The least fault of the root.
-#[tactic(auto, using(crate::proofs::Least::least_of_append), unfolding(crate::specs::FaultRows::root_faults))]
 pub(crate) fn root_fault(
     text_len: u64,
     root: Option<&RootRead<'_, '_>>,
@@ -35,7 +34,6 @@ fn are_printable(text: &[u8]) -> bool
 }
 
 /// A file identifier that isn't four printable bytes.
-#[tactic(auto, unfolding(crate::specs::FaultRows::identifier_faults, crate::specs::Faults::least_of))]
 pub(crate) fn identifier_fault(identifier: Option<&Text<'_>>) -> Option<SchemaFault>
     ensures { result ≡ least_of (identifier_faults (option_copied identifier.entry)) }
 {

@@ -25,7 +25,6 @@ fn identifier_of(identifier: Option<&Text<'_>>) -> Option<[u8; 4]>
 }
 
 /// The least of all faults. The only error is a refused allocation.
-#[tactic(auto, using(crate::proofs::Least::least_of_append), unfolding(crate::specs::TypeFaults::faults_of_outline))]
 fn least_fault(
     alloc: Global,
     resolved: &Resolved<'_, '_, '_>,

@@ -14,7 +14,6 @@ use std::alloc::{AllocError, Global};
 use std::collections::BTreeSet;
 
 /// The least fault of a table. The only error is a refused allocation.
-#[tactic(auto, using(crate::proofs::Least::least_of_append), unfolding(crate::specs::TypeFaults::table_faults))]
 pub(crate) fn table_fault(
     alloc: Global,
     declared: &BTreeSet<&[u8]>,
@@ -33,7 +32,6 @@ pub(crate) fn table_fault(
 
 /// The least fault of the struct of a number, whose fields need this alignment. The only error is a
 /// refused allocation.
-#[tactic(auto, using(crate::proofs::Least::least_of_append), unfolding(crate::specs::TypeFaults::struct_faults))]
 pub(crate) fn struct_fault(
     alloc: Global,
     declared: &BTreeSet<&[u8]>,

@@ -27,7 +27,6 @@ use std::collections::BTreeSet;
 
 /// The least fault of the type of a number and of a natural alignment, where this says whether one
 /// before it has its full name.
-#[tactic(auto, using(crate::proofs::Least::least_of_append), unfolding(crate::specs::TypeFaults::type_faults))]
 fn type_fault(
     alloc: Global,
     declared: &BTreeSet<&[u8]>,
@@ -56,7 +55,6 @@ fn type_fault(
 
 /// The least fault of the types, where these say of each whether one before it has its full name.
 /// The only error is a refused allocation.
-#[tactic(auto, unfolding(crate::specs::FaultRows::faults_behind, crate::specs::Faults::least_of))]
 pub(crate) fn types_fault(
     alloc: Global,
     declared: &BTreeSet<&[u8]>,

@@ -18,7 +18,6 @@ use std::alloc::{AllocError, Global};
 use std::collections::BTreeSet;
 
 /// What is wrong with a member with so many before it, where this says whether one of them has its name.
-#[tactic(auto, using(crate::proofs::Least::least_of_append), unfolding(crate::specs::FaultRows::member_faults))]
 fn member_fault(
     number: usize,
     again: bool,
@@ -38,7 +37,6 @@ fn member_fault(
     earlier(earlier(bad_name, use_fault(meaning, at)), bad_member)
 }
 
-#[tactic(auto, unfolding(crate::specs::FaultRows::faults_behind, crate::specs::Faults::least_of))]
 fn members_fault(
     alloc: Global,
     members: &[ResolvedMember<'_, '_>],
@@ -55,7 +53,6 @@ fn members_fault(
 }
 
 /// The least fault of a union. The only error is a refused allocation.
-#[tactic(auto, using(crate::proofs::Least::least_of_append), unfolding(crate::specs::TypeFaults::union_faults))]
 pub(crate) fn union_fault(
     alloc: Global,
     declared: &BTreeSet<&[u8]>,

@@ -15,12 +15,10 @@ use Rattle.fb_declare.proofs.field_faults.names_fault.Goals as goal
 use Rattle.fb_declare.proofs.field_faults.names_fault.Goals.{in-Table-Some+in_ok-of_code-in-Table-Some, in_default, in_default-2}
 
 one : (at : ℕ) (before : List Name) (n : Name) → least_of (faults_behind (name_again at) before (n ∷ [])) ≡ least_of (name_again at before n)
-unfolding faults_behind
 one at before n = ap least_of (append-nil (name_again at before n))
 
 two : (at : ℕ) (before : List Name) (m n : Name)
     → least_of (faults_behind (name_again at) before (m ∷ n ∷ [])) ≡ earlier (least_of (name_again at before m)) (least_of (name_again at (before ++ m ∷ []) n))
-unfolding faults_behind
 two at before m n = ap (λ fs. least_of (name_again at before m ++ fs)) (append-nil (name_again at (before ++ m ∷ []) n)) ∙ least_of_append (name_again at before m) (name_again at (before ++ m ∷ []) n)
 
 names_by : (r : ResolvedField) (u : Option TypeId) → union_in r ≡ u → names_of (slots_of_field r 0) ≡ names_of (slots_by_union r u 0)
@@ -28,7 +26,6 @@ unfolding slots_of_field
 names_by r u e = ap (λ u. names_of (slots_by_union r u 0)) e
 
 pub returns : goal.returns
-unfolding least_of
 returns c = λ before met.
     let r = c.args.resolved.now in let n = r.field.name.bytes in let at = r.field.name.at in
     let text : c.name.inside.text.now ≡ n = grind rules in let place : c.name.inside.at ≡ at = grind rules in
