@@ -22,11 +22,10 @@ use Rattle.fb_resolve.specs.declared.resolved.ResolvedDecl.TheVariants as resolv
 use Rattle.fb_declare.specs.AttributeFaults.{metadata_faults}
 use Rattle.fb_declare.specs.FaultRows.{when, faults_in_turn, use_faults, root_faults, is_identifier, identifier_faults, is_printable}
 use Rattle.fb_declare.specs.TypeFaults.{field_behind, declaration_faults, aligns_from, type_behind, declared_in, faults_of_outline}
-use Rattle.fb_declare.specs.Declares.{HasBody, IsType, root_table, Gives}
+use Rattle.fb_declare.specs.Declares.{HasBody, IsType, root_table, Gives, IsBuildable, AreBuildable}
 use Rattle.fb_declare.specs.declared.faults.SchemaFault.TheVariants.{BadIds, BadRoot, BadIdentifier}
 use Rattle.fb_declare.specs.declared.attribute_faults.AttributeHost.TheVariants as hosts
 use Rattle.fb_declare.specs.declared.field_faults.FieldHost.TheVariants as fields
-use Rattle.fb_declare.specs.Buildable.{IsBuildable, AreBuildable}
 use Rattle.fb_declare.proofs.StructsKept.{length-before, aligns, are_aligned, struct_kept}
 use Rattle.fb_declare.proofs.EnumsKept.{enum_kept, union_kept}
 use Rattle.fb_declare.proofs.FaultFree.{both_none, three_none, none_behind, when-none, type_right, keys_distinct, keys_apart}

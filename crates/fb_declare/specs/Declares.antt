@@ -1,6 +1,6 @@
 -- Which schema a text declares, and where it is at fault.
 -- From the FlatBuffers documentation, "Writing a schema".
-use Rattle.std.specs.Prelude.{ℕ, ◌≡◌, List, [], Option, Some, map}
+use Rattle.std.specs.Prelude.{ℕ, ◌≡◌, false, List, [], Option, Some, map, slice_get}
 use Rattle.std.specs.List.{AllZip, Contains}
 use Rattle.std.specs.Option.{option_map}
 use Rattle.fb_syntax.specs.DeclsRead.{DeclsRead}
@@ -11,7 +11,7 @@ use Rattle.fb_resolve.specs.ResolvedType.{ResolvedType}
 use Rattle.fb_resolve.specs.declared.resolved.ResolvedDecl.{ResolvedDecl}
 use Rattle.fb_resolve.specs.declared.resolved.ResolvedDecl.TheVariants as resolved
 use Rattle.fb_resolve.specs.EnumsRead.{integer_type, base_or_ubyte, values_over}
-use Rattle.fb_resolve.specs.SlotsRead.{slots_read, AreInPlace}
+use Rattle.fb_resolve.specs.SlotsRead.{slots_read, AreInPlace, are_ids_wrong}
 use Rattle.fb_resolve.specs.StructsRead.{parts_from, forced_align}
 use Rattle.fb_resolve.specs.MembersRead.{member_read, table_of}
 use Rattle.fb_declare.specs.TypeFaults.{faults_of}
@@ -29,6 +29,14 @@ HasBody _ _ = ⊥
 pub record IsType (r : ResolvedType) (t : DeclaredType) : Type 0 where
   pub name : t.name ≡ name_of_type r.read
   pub body : HasBody r.declaration t.body
+
+-- what gives a body: a table whose ids are right, or another type
+abbrev pub IsBuildable : ResolvedDecl → Type 0
+IsBuildable (resolved.Table t) = are_ids_wrong t.fields ≡ false
+IsBuildable _ = Unit {0}
+
+abbrev pub AreBuildable : List ResolvedType → Type 0
+AreBuildable types = (t : ℕ) (r : ResolvedType) → slice_get types t ≡ Some r → IsBuildable r.declaration
 
 -- the number of the root's table
 abbrev pub root_table : List TypeRead → Option RootRead → Option ℕ

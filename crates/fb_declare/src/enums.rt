@@ -1,11 +1,9 @@
 //! Enums: what is wrong with one.
-ghost use Rattle.std.specs.Prelude.{◌≡◌, IfOk, ℤ, ◌||◌, OnOk};
+ghost use Rattle.std.specs.Prelude.{◌≡◌, ◌||◌, IfOk};
 ghost use Rattle.fb_declare.specs.Faults.{least_of};
 ghost use Rattle.fb_declare.specs.FaultRows.{underlying_faults, is_out_of_range, faults_in_turn, value_faults};
 ghost use Rattle.fb_declare.specs.NamesMet.{is_met};
 ghost use Rattle.fb_declare.specs.TypeFaults.{host_of_enum, enum_faults};
-ghost use Rattle.std.specs.List.{list_any};
-ghost use Rattle.std.specs.Ordering.{int_eq};
 
 use crate::attribute_faults::{AttributeHost, metadata_fault};
 use crate::faults::{SchemaFault, earlier, when};
@@ -38,24 +36,11 @@ fn host_of_enum(base: Option<Base>) -> AttributeHost
     }
 }
 
-/// Whether a number is out of range, or that of a value before.
+/// Whether a number is out of range, or again that of a value before.
 fn is_bad_number(base: Option<Base>, flags: bool, number: i128, again: bool) -> bool
     ensures { result ≡ (is_out_of_range base flags number || again) }
 {
-    match base {
-        Some(base) => !may_be_written(base, flags, number) || again,
-        None => again,
-    }
-}
-
-/// Whether a number was met before; it is from now on.
-fn meet_number(met: &mut BTreeSet<i128>, number: i128) -> Result<bool, AllocError>
-    ensures before { IfOk result (λ again. again ≡ list_any (int_eq number) met.old.keys) }
-    ensures met { OnOk result ((n : ℤ) → list_any (int_eq n) met.new.keys
-        ≡ (list_any (int_eq n) met.old.keys || int_eq n number)) }
-{
-    let is_new = met.insert(number)?;
-    Ok(!is_new)
+    base.is_some_and(|base| !may_be_written(base, flags, number)) || again
 }
 
 /// The least fault of an enum's values. The only error is a refused allocation.
@@ -73,8 +58,8 @@ fn values_fault(
     for resolved in values {
         let name = &resolved.value.name;
         let again = meet(&mut names, name.text)?;
-        let again_number = meet_number(&mut numbers, resolved.number)?;
-        let is_bad = is_bad_number(base, flags, resolved.number, again_number);
+        let is_new = numbers.insert(resolved.number)?;
+        let is_bad = is_bad_number(base, flags, resolved.number, !is_new);
         let bad_name = when(again, SchemaFault::DuplicateName(name.at));
         let bad_number = when(is_bad, SchemaFault::BadEnumValue(name.at));
         least = earlier(least, earlier(bad_name, bad_number));

@@ -5,7 +5,7 @@ ghost use Rattle.fb_schema.specs.Schema.{Name};
 ghost use Rattle.fb_declare.specs.Faults.{least_of};
 ghost use Rattle.fb_declare.specs.NamesMet.{is_met, AreMet};
 ghost use Rattle.fb_declare.specs.FaultRows.{faults_behind, faults_in_turn, name_again};
-ghost use Rattle.fb_declare.specs.FaultRows.{use_faults, misplaced_type, default_at, bad_default};
+ghost use Rattle.fb_declare.specs.FaultRows.{use_faults, misplaced_type, bad_default};
 ghost use Rattle.fb_declare.specs.TypeFaults.{names_of_field, host_of_field, field_faults, field_behind};
 
 use crate::attribute_faults::{AttributeHost, metadata_fault};
@@ -57,22 +57,15 @@ fn misplaced_type(host: FieldHost, kind: &FieldType<'_>, meaning: Meaning) -> Op
     }
 }
 
-/// Where a default stands.
-fn default_at(default: &DefaultValue<'_>) -> u64
-    ensures { result ≡ default_at default.now }
-{
-    match default {
-        DefaultValue::Integer(number) => number.at(),
-        DefaultValue::Name(name) => name.at(),
-    }
-}
-
 /// The fault of a default that gives nothing.
 fn bad_default(default: Option<&DefaultValue<'_>>, given: Given) -> Option<SchemaFault>
     ensures { result ≡ least_of (bad_default (option_copied default.entry) given) }
 {
     match (default, given) {
-        (Some(default), Given::Wrong) => Some(SchemaFault::BadDefault(default_at(default))),
+        (Some(DefaultValue::Integer(number)), Given::Wrong) => {
+            Some(SchemaFault::BadDefault(number.at()))
+        }
+        (Some(DefaultValue::Name(name)), Given::Wrong) => Some(SchemaFault::BadDefault(name.at())),
         _ => None,
     }
 }

@@ -9,8 +9,7 @@ ghost use Rattle.fb_declare.specs.NamesMet.{is_met};
 ghost use Rattle.fb_declare.specs.TypeFaults.{type_faults, type_behind};
 ghost use Rattle.std.specs.List.{AllZip};
 ghost use Rattle.fb_schema.specs.Seen.{body_seen, type_seen};
-ghost use Rattle.fb_declare.specs.Declares.{HasBody, IsType};
-ghost use Rattle.fb_declare.specs.Buildable.{IsBuildable, AreBuildable};
+ghost use Rattle.fb_declare.specs.Declares.{HasBody, IsType, IsBuildable, AreBuildable};
 ghost use Rattle.fb_resolve.specs.declared.resolved.ResolvedDecl.TheVariants as ResolvedDecl;
 
 use crate::enums::enum_fault;

@@ -4,9 +4,8 @@ use Rattle.std.specs.Option.{option_copied, option_map}
 use Rattle.fb_schema.specs.Seen.{schema_of}
 use Rattle.fb_resolve.specs.MembersRead.{table_of}
 use Rattle.fb_resolve.specs.Resolved.{resolved_types, meaning_of_root}
-use Rattle.fb_declare.specs.Buildable.{AreBuildable}
+use Rattle.fb_declare.specs.Declares.{AreBuildable, IsType, root_table}
 use Rattle.fb_declare.specs.TypeFaults.{declared_in}
-use Rattle.fb_declare.specs.Declares.{IsType, root_table}
 use Rattle.fb_declare.proofs.Kept.{outline_right, root_some, buildable, identifier_kept, kept}
 use Rattle.fb_declare.proofs.schema.build_schema.Goals as goal
 

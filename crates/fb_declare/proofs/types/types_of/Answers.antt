@@ -2,8 +2,7 @@ use Rattle.std.proofs.Common.{rules, ◌≡◌, ◌++◌, ◌∷◌, ◌∙◌, 
 use Rattle.std.specs.List.{AllZip}
 use Rattle.std.proofs.lemmas.List.{append-nil, map-append, nil_from_length}
 use Rattle.fb_schema.specs.Seen.{type_seen}
-use Rattle.fb_declare.specs.Buildable.{AreBuildable}
-use Rattle.fb_declare.specs.Declares.{IsType}
+use Rattle.fb_declare.specs.Declares.{AreBuildable, IsType}
 use Rattle.fb_declare.proofs.types.types_of.Goals as goal
 
 pub loop-read-preserved : goal.loop-read-preserved
