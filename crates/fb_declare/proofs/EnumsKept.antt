@@ -4,7 +4,7 @@ use Rattle.std.proofs.Common.{◌≡◌, ◌≢◌, ℕ, ◌*◌, ◌^◌, ◌<�
 use Rattle.std.specs.Prelude.{ℤ, pos, negsuc, int_le, codes}
 use Rattle.std.specs.Ordering.{int_eq}
 use Rattle.std.specs.Str.{bytes_eq}
-use Rattle.std.proofs.lemmas.Bool.{or_parts, and_parts, not-false, ltb-true, cases_order, leb-false}
+use Rattle.std.proofs.lemmas.Bool.{and_parts, not-false, ltb-true, cases_order, leb-false}
 use Rattle.std.proofs.lemmas.Bool.Decides.{Decides-int_eq}
 use Rattle.std.proofs.lemmas.Cmp.{nat_list_eq_equiv, int_eq_equiv}
 use Rattle.std.proofs.lemmas.Int.{ints}
@@ -30,7 +30,7 @@ use Rattle.fb_declare.specs.AttributeFaults.{may_stand, metadata_faults}
 use Rattle.fb_resolve.specs.EnumsRead.{integer_type, has_flags, value_number, may_be_written, base_or_ubyte, value_over, values_over}
 use Rattle.fb_declare.specs.FaultRows.{when, faults_in_turn, is_again, underlying_faults, is_out_of_range, value_faults, use_faults, member_faults}
 use Rattle.fb_declare.specs.TypeFaults.{host_of_enum, enum_faults, union_faults}
-use Rattle.fb_declare.proofs.FaultFree.{keys_distinct, keys_apart, pairs_map, both_none, three_none, none_behind, when-none, noted_stands}
+use Rattle.fb_declare.proofs.FaultFree.{either-none, keys_distinct, keys_apart, pairs_map, both_none, three_none, none_behind, when-none, noted_stands}
 use Rattle.std.proofs.Math.Nat.{lt_of_not-le}
 use Rattle.std.proofs.lemmas.List.{length-map, length-take-le}
 use Rattle.fb_resolve.specs.MembersRead.{table_of, member_read}
@@ -103,7 +103,7 @@ value_right base flags before v h =
     let named = is_again bytes_eq (λ w. w.value.name.bytes) before v in let again = is_again int_eq (λ w. w.number) before v in
     let wrong = is_out_of_range (Some base) flags v.number in let at = v.value.name.at in
     let parts = both_none (when named (DuplicateName at)) (when (wrong || again) (BadEnumValue at)) h in
-    let right = or_parts wrong again (when-none (wrong || again) (BadEnumValue at) parts.1) in
+    let right = either-none wrong again (BadEnumValue at) parts.1 in
     record { name = when-none named (DuplicateName at) parts.0; written = not-false (may_be_written base flags v.number) right.0; number = right.1 }
 
 -- the values of an enum over an integer type with no fault in them
@@ -164,10 +164,9 @@ member_right : (before : List ResolvedMember) (m : ResolvedMember) → member_fa
 member_right before m h =
     let at = m.member.table.at in
     let called = bytes_eq m.name.bytes (codes "NONE") in let again = is_again bytes_eq (λ m. m.name.bytes) before m in
-    let bad = is_none (table_of m.meaning) || nat_le 255 (length before) in
-    let parts = three_none (when (called || again) (DuplicateName m.name.at)) (use_faults m.meaning at) (when bad (BadMember at)) h in
-    let free = or_parts called again (when-none (called || again) (DuplicateName m.name.at) parts.0) in
-    let few = or_parts (is_none (table_of m.meaning)) (nat_le 255 (length before)) (when-none bad (BadMember at) parts.2) in
+    let parts = three_none (when (called || again) (DuplicateName m.name.at)) (use_faults m.meaning at) (when (is_none (table_of m.meaning) || nat_le 255 (length before)) (BadMember at)) h in
+    let free = either-none called again (DuplicateName m.name.at) parts.0 in
+    let few = either-none (is_none (table_of m.meaning)) (nat_le 255 (length before)) (BadMember at) parts.2 in
     record {
       not_none = λ e. true≢false (sym ((bytes_eq-Decides m.name.bytes (codes "NONE")).1 e) ∙ free.0);
       new = free.1;

@@ -43,6 +43,10 @@ pub when-none : (b : Bool) (fault : SchemaFault) → when b fault ≡ [] → b �
 when-none true fault h = cc
 when-none false fault h = refl
 
+-- a rule of two parts
+pub either-none : (a b : Bool) (fault : SchemaFault) → when (a || b) fault ≡ [] → (a ≡ false) × (b ≡ false)
+either-none a b fault h = or_parts a b (when-none (a || b) fault h)
+
 -- what is empty for all together is empty for each
 pub none_behind : {X : Type 0} (rule : List X → X → List SchemaFault) (before xs : List X) → faults_behind rule before xs ≡ []
     → (k : ℕ) (x : X) → slice_get xs k ≡ Some x → rule (before ++ take k xs) x ≡ []
@@ -73,7 +77,7 @@ pub type_right : (types : List TypeRead) (declared : Name → Bool) (before : Li
 type_right types declared before r h =
     let name = word_of r.read.declaration in let again = is_again bytes_eq (λ q. name_of_type q.read) before r in
     let parts = both_none (when (again || is_reserved name.bytes) (DuplicateName name.at)) (declaration_faults types declared (aligns_from types [] before) r.declaration) h in
-    ((or_parts again (is_reserved name.bytes) (when-none (again || is_reserved name.bytes) (DuplicateName name.at) parts.0)).0, parts.1)
+    ((either-none again (is_reserved name.bytes) (DuplicateName name.at) parts.0).0, parts.1)
 
 -- what holds of each element holds of the one at a place
 pub all_at : {X : Type 0} (P : X → Type 0) (xs : List X) → All P xs → (k : ℕ) (x : X) → slice_get xs k ≡ Some x → P x
@@ -100,8 +104,7 @@ module _ (declared : Name → Bool) (host : AttributeHost) (attributes : List At
       let named = faults_by_name declared host again a built_in in
       let right = either (λ fs. fs ≡ [] → named ≡ []) (is_left_out a.name.bytes || is_force_align_of_field host built_in) (Unsupported a.name.at ∷ []) named (λ is e. cc) (λ e. e)
       (none_behind (attribute_behind declared host) [] attributes none i a at) in
-      let fits = when-none (not (may_stand host k a.value) || again) (BadAttribute a.name.at) (subst (λ b. faults_by_name declared host again a b ≡ []) known right) in
-      not-false (may_stand host k a.value) (or_parts (not (may_stand host k a.value)) again fits).0
+      not-false (may_stand host k a.value) (either-none (not (may_stand host k a.value)) again (BadAttribute a.name.at) (subst (λ b. faults_by_name declared host again a b ≡ []) known right)).0
 
   -- the first attribute of a known name may stand
   pub called_stands : (a : Attribute) → attribute_called k attributes ≡ Some a → may_stand host k a.value ≡ true

@@ -98,26 +98,20 @@ bodies_kept o S g none t type at =
 
 -- ---- the whole
 
--- what is empty where an outline has no fault
-pub record IsOutlineRight (o : Outline) : Type 0 where
-  pub types : faults_in_turn (type_behind o.types (declared_in o)) (resolved_types o.types) ≡ []
-  pub root : root_faults o.text_len o.root (meaning_of_root o.types o.root) ≡ []
-  pub identifier : identifier_faults o.identifier ≡ []
-
-pub outline_right : (o : Outline) → faults_of_outline o ≡ [] → IsOutlineRight o
+-- an outline with no fault has none in its types, its root and its identifier
+pub outline_right : (o : Outline) → faults_of_outline o ≡ []
+    → (faults_in_turn (type_behind o.types (declared_in o)) (resolved_types o.types) ≡ []) × (root_faults o.text_len o.root (meaning_of_root o.types o.root) ≡ []) × (identifier_faults o.identifier ≡ [])
 unfolding faults_of_outline
-outline_right o h =
-    let none = three_none (faults_in_turn (type_behind o.types (declared_in o)) (resolved_types o.types)) (root_faults o.text_len o.root (meaning_of_root o.types o.root)) (identifier_faults o.identifier) h in
-    record { types = none.0; root = none.1; identifier = none.2 }
+outline_right o h = three_none (faults_in_turn (type_behind o.types (declared_in o)) (resolved_types o.types)) (root_faults o.text_len o.root (meaning_of_root o.types o.root)) (identifier_faults o.identifier) h
 
 -- What an outline with no fault gives is well declared.
 pub kept : (o : Outline) (S : DeclaredSchema) → faults_of_outline o ≡ [] → Gives o S → IsDeclared S
 kept o S h g =
     let right = outline_right o h in
     record {
-      bodies = bodies_kept o S g right.types;
-      names = type_names_differ o S g right.types;
-      aligned = (aligns o S g right.types, are_aligned o S g right.types);
+      bodies = bodies_kept o S g right.0;
+      names = type_names_differ o S g right.0;
+      aligned = (aligns o S g right.0, are_aligned o S g right.0);
       root = root_kept o S g o.root g.root;
-      identifier = subst (λ i. ForSome i (λ id. length id ≡ 4)) (sym g.identifier) (identifier_kept o.identifier right.identifier);
+      identifier = subst (λ i. ForSome i (λ id. length id ≡ 4)) (sym g.identifier) (identifier_kept o.identifier right.2);
     }

@@ -98,17 +98,12 @@ unfolding parts_from
 some_parts [] h = absurd (true≢false h)
 some_parts (f ∷ fs) h = omega arith
 
--- what is empty where a struct has no fault
-pub record IsStructRight (types : List TypeRead) (declared : Name → Bool) (lower : List ℕ) (s : ResolvedTable) : Type 0 where
-  pub metadata : metadata_faults declared (hosts.Struct (natural_align types lower s.fields)) s.declared.attributes ≡ []
-  pub some : (length s.fields == 0) ≡ false
-  pub fields : faults_in_turn (field_behind declared (fields.Struct (length lower))) s.fields ≡ []
-
-pub struct_right : (types : List TypeRead) (declared : Name → Bool) (lower : List ℕ) (s : ResolvedTable) → struct_faults types declared lower s ≡ [] → IsStructRight types declared lower s
-struct_right types declared lower s h =
-    let none = three_none (metadata_faults declared (hosts.Struct (natural_align types lower s.fields)) s.declared.attributes) (when (length s.fields == 0) (EmptyStruct s.declared.name.at))
-    (faults_in_turn (field_behind declared (fields.Struct (length lower))) s.fields) h in
-    record { metadata = none.0; some = when-none (length s.fields == 0) (EmptyStruct s.declared.name.at) none.1; fields = none.2 }
+-- a struct with no fault has none in its attributes and its fields, and some of these
+struct_right : (types : List TypeRead) (declared : Name → Bool) (lower : List ℕ) (s : ResolvedTable) → struct_faults types declared lower s ≡ []
+    → (metadata_faults declared (hosts.Struct (natural_align types lower s.fields)) s.declared.attributes ≡ []) × (when (length s.fields == 0) (EmptyStruct s.declared.name.at) ≡ [])
+    × (faults_in_turn (field_behind declared (fields.Struct (length lower))) s.fields ≡ [])
+struct_right types declared lower s h = three_none (metadata_faults declared (hosts.Struct (natural_align types lower s.fields)) s.declared.attributes)
+    (when (length s.fields == 0) (EmptyStruct s.declared.name.at)) (faults_in_turn (field_behind declared (fields.Struct (length lower))) s.fields) h
 
 -- a struct with no fault has a right body
 pub struct_kept : (types : List TypeRead) (S : DeclaredSchema) (declared : Name → Bool) (lower : List ℕ) (s : ResolvedTable) → All (IsRead types S) s.fields → struct_faults types declared lower s ≡ []
@@ -116,14 +111,14 @@ pub struct_kept : (types : List TypeRead) (S : DeclaredSchema) (declared : Name 
 struct_kept types S declared lower s read h =
     let host = fields.Struct (length lower) in let right = struct_right types declared lower s h in
     record {
-      some = some_parts s.fields right.some;
+      some = some_parts s.fields (when-none (length s.fields == 0) (EmptyStruct s.declared.name.at) right.1);
       aligned = forced_aligned 0 s.force_align;
       slots = λ k p e. let f = part_at 0 s.fields k p e in ap (λ q. q.slot) f.2 ∙ omega arith;
       names = subst (AllPairs (λ a b. a ≢ b)) (names_of_parts (length lower) 0 s.fields)
-          (AllPairs-from_IsDistinct bytes_eq-Decides (flat_map (names_of_field host) s.fields) (fields_distinct declared host s.fields right.fields));
+          (AllPairs-from_IsDistinct bytes_eq-Decides (flat_map (names_of_field host) s.fields) (fields_distinct declared host s.fields right.2));
       parts = λ k p e.
           let x = part_at 0 s.fields k p e in let f = x.0 in
-          let own = all_at (IsFieldRight declared host) s.fields (fields_right declared host s.fields right.fields) k f x.1 in
+          let own = all_at (IsFieldRight declared host) s.fields (fields_right declared host s.fields right.2) k f x.1 in
           subst (λ (q : DeclaredField). IsPart S (length lower) q.shape × IsPlain q) (sym x.2)
           (part_right S (length lower) f.field.kind f.meaning (all_at (IsRead types S) s.fields read k f x.1).means own.type, (refl, refl, refl, refl));
     }
@@ -229,9 +224,9 @@ module _ (o : Outline) (S : DeclaredSchema) (gives : Gives o S) (none : faults_i
     unfolding natural_align number_called
     struct_aligned (resolved.Struct s) (struct_body parts force) h is read free =
         let right = struct_right o.types (declared_in o) lower s free in let natural = natural_align o.types lower s.fields in
-        let sizes = part_sizes 0 s.fields read.0 (fields_right (declared_in o) (fields.Struct (length lower)) s.fields right.fields) in
+        let sizes = part_sizes 0 s.fields read.0 (fields_right (declared_in o) (fields.Struct (length lower)) s.fields right.2) in
         let own : greatest_in (map (λ f. part_align S aligns f.shape) parts) ≡ natural = ap (λ ps. greatest_in (map (λ f. part_align S aligns f.shape) ps)) h.0 ∙ ap greatest_in sizes in
-        let stands = called_stands (declared_in o) (hosts.Struct natural) s.declared.attributes right.metadata ForceAlign in
+        let stands = called_stands (declared_in o) (hosts.Struct natural) s.declared.attributes right.0 ForceAlign in
         let forced = subst (IsForced natural) (sym read.1) (attribute_forced natural (attribute_called ForceAlign s.declared.attributes) stands) in (
           λ a e. subst (λ (n : ℕ). n ≤ a) (sym own) (forced.enough a (sym h.1 ∙ e)),
           λ i. unwrap_or ((forced.same ∙ sym h.1) i) (sym own i),

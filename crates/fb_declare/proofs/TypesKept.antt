@@ -32,17 +32,15 @@ either_found : (P : ℤ → Type 0) (a b : Option ℤ) → IfSome a P → IfSome
 either_found P None b p q = q
 either_found P (Some n) b p q = p
 
-then_found : {X : Type 0} (P : ℤ → Type 0) (f : X → Option ℤ) (o : Option X) → ((x : X) → IfSome (f x) P) → IfSome (option_and_then f o) P
-then_found P f None h = tt
-then_found P f (Some x) h = h x
+-- what holds of values holds of the number that a value's name means
+module _ (P : ℤ → Type 0) (values : List (Name × ℤ)) (h : All (λ v. P v.1) values) where
+  found_behind : (o : Option Name) → IfSome (option_and_then (number_named values) o) P
+  found_behind None = tt
+  found_behind (Some name) = number_found P values name h
 
--- the number of a value's name
-pub value_found : (P : ℤ → Type 0) (scope : Option Name) (e : EnumRead) (values : List (Name × ℤ)) (name : Name) → All (λ v. P v.1) values → IfSome (value_named scope e values name) P
-value_found P scope e values name h =
-    either_found P (number_named values name) _ (number_found P values name h)
-    (either_found P (option_and_then (number_named values) (behind e.name.bytes name)) (option_and_then (number_named values) (behind (full_name scope e.name.bytes) name))
-    (then_found P (number_named values) (behind e.name.bytes name) (λ x. number_found P values x h))
-    (then_found P (number_named values) (behind (full_name scope e.name.bytes) name) (λ x. number_found P values x h)))
+  value_found : (scope : Option Name) (e : EnumRead) (name : Name) → IfSome (value_named scope e values name) P
+  value_found scope e name = either_found P (number_named values name) _ (number_found P values name h)
+      (either_found P (option_and_then (number_named values) (behind e.name.bytes name)) _ (found_behind (behind e.name.bytes name)) (found_behind (behind (full_name scope e.name.bytes) name)))
 
 -- the alignments of the types before one
 abbrev pub aligns_before : List TypeRead → ℕ → List ℕ
@@ -68,7 +66,7 @@ enum_facts : (types : List TypeRead) (declared : Name → Bool) (lower : List �
 enum_facts types declared lower scope (decls.Enum e) (enum_body base flags values) h has is =
     let kept = enum_kept declared (resolved_enum types scope e) refl h in (
       kept.0 ∙ ap Some (sym has.0),
-      λ name. value_found (InRange base) scope e (values_read types scope e) name (subst (λ b. All (λ v. InRange b v.1) (values_read types scope e)) (sym has.0) kept.1.ranges),
+      value_found (InRange base) (values_read types scope e) (subst (λ b. All (λ v. InRange b v.1) (values_read types scope e)) (sym has.0) kept.1.ranges) scope e,
     )
 enum_facts types declared lower scope d (enum_body base flags values) h has is = absurd has
 enum_facts types declared lower scope d b h has is = absurd (true≢false (sym is))

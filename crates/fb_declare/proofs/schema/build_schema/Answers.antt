@@ -13,18 +13,18 @@ pub unreachable-requires : goal.unreachable-requires
 unreachable-requires c =
     let o = c.args.resolved.outline.now in
     let none : root_table o.types o.root ≡ None = ap table_of (sym c.args.resolved.root_meant) ∙ sym c.table_of.ensures ∙ ap (option_map (λ n. n.0)) c.in_default.is in
-    true≢false (sym (ap is_none none) ∙ root_some o.text_len o.root (meaning_of_root o.types o.root) (outline_right o c.requires).root)
+    true≢false (sym (ap is_none none) ∙ root_some o.text_len o.root (meaning_of_root o.types o.root) (outline_right o c.requires).1)
 
 pub types_of-requires : goal.types_of-requires
 types_of-requires c =
     let o = c.args.resolved.outline.now in
-    subst AreBuildable (sym c.args.resolved.meant) (buildable o.types (declared_in o) (resolved_types o.types) (outline_right o c.requires).types)
+    subst AreBuildable (sym c.args.resolved.meant) (buildable o.types (declared_in o) (resolved_types o.types) (outline_right o c.requires).0)
 
 pub identifier_of-requires : goal.identifier_of-requires
 identifier_of-requires c = λ t e.
     let o = c.args.resolved.outline.now in
     let same : o.identifier ≡ option_copied c.outline.inside.identifier = grind rules in
-    identifier_kept o.identifier (outline_right o c.requires).identifier t.bytes (ap (option_map (λ t. t.bytes)) (same ∙ e))
+    identifier_kept o.identifier (outline_right o c.requires).2 t.bytes (ap (option_map (λ t. t.bytes)) (same ∙ e))
 
 pub new-requires : goal.new-requires
 new-requires c =
