@@ -1,6 +1,5 @@
 pub mod Least
 pub mod FaultFree
-pub mod Meant
 pub mod EnumsKept
 pub mod TypesKept
 pub mod TablesKept

@@ -30,7 +30,7 @@ use Rattle.fb_resolve.specs.StructsRead.{natural_align, forced_align, part_read,
 use Rattle.fb_declare.specs.FaultRows.{when, faults_in_turn, use_faults, misplaced_type, field_type}
 use Rattle.fb_declare.specs.TypeFaults.{names_of_field, field_behind, struct_faults, declaration_faults, aligns_from, type_behind, declared_in}
 use Rattle.fb_declare.proofs.FaultFree.{both_none, three_none, when-none, IsFieldRight, fields_right, all_at, either, fields_distinct, called_stands}
-use Rattle.fb_declare.proofs.Meant.{MeansIn, IsRead, IsReadIn, read_in}
+use Rattle.fb_declare.proofs.TypesKept.{MeansIn, IsRead, IsReadIn, read_in, aligns_before, resolved_at, body_at_by, enums_kept}
 use Rattle.std.proofs.lemmas.List.Elements.{All-head, All-tail}
 use Rattle.std.proofs.lemmas.List.Sums.{fold-append, fold_push}
 use Rattle.fb_syntax.specs.declared.declarations.Attribute.{Attribute}
@@ -44,7 +44,6 @@ use Rattle.fb_resolve.specs.ResolvedType.{ResolvedType}
 use Rattle.fb_resolve.specs.Resolved.{resolved_declaration, resolved_type, resolved_types}
 use Rattle.fb_declare.specs.Declares.{HasBody, Gives}
 use Rattle.fb_declare.proofs.Least.{taken}
-use Rattle.fb_declare.proofs.TypesKept.{aligns_before, resolved_at, body_at_by, enums_kept}
 
 -- the alignments that may be forced
 abbrev pub alignments : List ℕ

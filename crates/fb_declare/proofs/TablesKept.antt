@@ -39,8 +39,7 @@ use Rattle.fb_resolve.specs.declared.attributes.BuiltInAttribute.TheVariants.{Re
 use Rattle.fb_declare.specs.declared.attribute_faults.AttributeHost.TheVariants as hosts
 use Rattle.fb_declare.specs.declared.faults.SchemaFault.TheVariants.{BadIds}
 use Rattle.fb_resolve.specs.declared.meanings.Meaning.{Meaning}
-use Rattle.fb_declare.proofs.Meant.{MeansIn, IsRead}
-use Rattle.fb_declare.proofs.TypesKept.{AreEnumsKept}
+use Rattle.fb_declare.proofs.TypesKept.{MeansIn, IsRead, AreEnumsKept}
 use Rattle.std.proofs.lemmas.Cmp.{nat_list_eq_equiv}
 use Rattle.std.proofs.lemmas.List.{map-append}
 use Rattle.std.proofs.lemmas.List.Sorted.{Contains-permutation, IsPermutation-sym, IsPermutation-map}

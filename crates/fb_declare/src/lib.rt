@@ -5,7 +5,6 @@ mod attribute_faults;
 mod enums;
 mod faults;
 mod field_faults;
-mod laws;
 mod names_met;
 mod root;
 mod schema;
@@ -14,5 +13,4 @@ mod types;
 mod unions;
 
 pub use faults::SchemaFault;
-pub use laws::one_schema;
-pub use schema::declare;
+pub use schema::{declare, one_schema};

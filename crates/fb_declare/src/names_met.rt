@@ -2,7 +2,7 @@
 ghost use Rattle.std.specs.Prelude.{◌≡◌, ◌++◌, ◌∷◌, [], List, IfOk, map};
 ghost use Rattle.fb_schema.specs.Schema.{Name};
 ghost use Rattle.fb_declare.specs.FaultRows.{is_among};
-ghost use Rattle.fb_declare.specs.NamesMet.{is_met, AreMet};
+ghost use Rattle.fb_declare.specs.NamesMet.{AreMet};
 
 use std::alloc::{AllocError, Global};
 use std::collections::BTreeSet;

@@ -1,9 +1,10 @@
 //! From declarations to a schema.
-ghost use Rattle.std.specs.Prelude.{◌≡◌, ◌≢◌, [], IfOk, IfErr, OnOk, Some, length};
+ghost use Rattle.std.specs.Prelude.{◌≡◌, ◌≢◌, [], IfOk, IfErr, Some, length};
 ghost use Rattle.std.specs.Option.{ForSome, option_copied, option_map};
+ghost use Rattle.fb_syntax.specs.DeclsRead.{DeclsRead};
+ghost use Rattle.fb_schema.specs.Schema.{DeclaredSchema};
 ghost use Rattle.fb_declare.specs.declared.faults.SchemaFault.TheVariants.{Memory};
 ghost use Rattle.fb_declare.specs.Faults.{least_of};
-ghost use Rattle.fb_resolve.specs.Outline.{outline_of};
 ghost use Rattle.fb_declare.specs.TypeFaults.{faults_of_outline, faults_of};
 ghost use Rattle.fb_declare.specs.Declares.{Gives, Declares, Stands};
 
@@ -70,3 +71,9 @@ pub fn declare(alloc: Global, decls: &Decls<'_>) -> Result<Schema, SchemaFault>
     }
     Ok(build_schema(alloc, resolved)?)
 }
+
+/// Declarations give at most one schema.
+#[tactic(auto, using(crate::proofs::OneSchema::one_declared))]
+pub fn one_schema()
+    ensures { (d : DeclsRead) (S T : DeclaredSchema) → Declares d S → Declares d T → S ≡ T }
+{}

@@ -1,28 +1,15 @@
-use Rattle.std.proofs.Common.{◌≡◌, ◌∙◌, ℕ, Bool, false, List, [], Some, refl, ap, sym, length, map, take, get_or, slice_get}
-use Rattle.std.specs.List.{list_any}
-use Rattle.std.specs.Option.{option_map}
+use Rattle.std.proofs.Common.{◌≡◌, ◌∙◌, false, [], refl, ap, sym, length, take, get_or}
 use Rattle.std.specs.Str.{bytes_eq}
-use Rattle.std.proofs.lemmas.List.{take-map}
-use Rattle.std.proofs.lemmas.Option.{slice_get-map, slice_get_read, slice_get_within, get_or_from_slice_get}
+use Rattle.std.proofs.lemmas.Option.{slice_get_read, slice_get_within, get_or_from_slice_get}
 use Rattle.fb_resolve.specs.Outline.{name_of_type}
-use Rattle.fb_resolve.specs.RepeatedNames.{AreRepeats}
-use Rattle.fb_resolve.specs.ResolvedType.{ResolvedType}
 use Rattle.fb_resolve.specs.StructsRead.{natural_of_type}
 use Rattle.fb_declare.specs.FaultRows.{is_again}
 use Rattle.fb_declare.specs.NamesMet.{is_met}
 use Rattle.fb_declare.specs.TypeFaults.{aligns_from, type_behind}
-use Rattle.fb_declare.proofs.Least.{least_more, list_any-map}
+use Rattle.fb_declare.proofs.Least.{least_more}
 use Rattle.fb_declare.proofs.StructsKept.{aligns-more, length-before}
 use Rattle.fb_declare.proofs.types.types_fault.Goals as goal
-
--- what is told of a type's name among those before it
-repeated : (rs : List ResolvedType) (repeats : List Bool) → AreRepeats (map (λ r. r.read) rs) repeats → (i : ℕ) (r : ResolvedType) → slice_get rs i ≡ Some r
-    → slice_get repeats i ≡ Some (is_again bytes_eq (λ q. name_of_type q.read) (take i rs) r)
-repeated rs repeats told i r at =
-    let name = name_of_type r.read in
-    told i r.read (slice_get-map (λ q. q.read) rs i ∙ ap (option_map (λ q. q.read)) at)
-    ∙ ap Some (ap (list_any (λ q. bytes_eq name (name_of_type q))) (take-map (λ q. q.read) i rs) ∙ list_any-map (λ q. bytes_eq name (name_of_type q)) (λ q. q.read) (take i rs)
-    ∙ sym (list_any-map (bytes_eq name) (λ q. name_of_type q.read) (take i rs)))
+use Rattle.fb_declare.proofs.TypesKept.{repeated}
 
 pub bounds-repeats-number : goal.bounds-repeats-number
 bounds-repeats-number c =

@@ -9,7 +9,6 @@ pub loop-read-preserved : goal.loop-read-preserved
 loop-read-preserved c =
     let types = map type_seen c.loop-read.made.items in
     let type = type_seen c.in_ok-type_of.field-0 in
-    let rest = c.next.new.self.rest.items in
     let split = c.in-Some.ensures.steps.0 in
     let pushed : map type_seen c.push.new.self.items ≡ types ++ type ∷ [] =
     ap (map type_seen) c.in_ok-push.ensures.items ∙ map-append type_seen c.loop-read.made.items (c.in_ok-type_of.field-0 ∷ []) in
