@@ -1,10 +1,10 @@
 -- The body of a table with no fault: the slots of its fields have names of their own, shapes of the schema and marks that fit them, and unions have pairs.
-use Rattle.std.proofs.Common.{◌≡◌, List, [], ◌∷◌, refl, sym, subst, Option, None, Some, ℤ, pos, codes, IsTrue, IfSome, ℕ, ◌+◌, Bool, true, false, ap, ◌∙◌, true≢false, arith, ◌≢◌, ◌++◌, length, slice_get, suc, get_or}
+use Rattle.std.proofs.Common.{◌≡◌, List, [], ◌∷◌, refl, sym, subst, Option, None, Some, ℤ, pos, codes, IsTrue, IfSome, ℕ, ◌+◌, Bool, true, false, ap, ◌∙◌, true≢false, arith, ◌++◌, length, slice_get, suc, get_or}
 use Rattle.std.specs.List.{All, Contains, flat_map, IsDistinct}
 use Rattle.std.specs.Option.{unwrap_or}
 use Rattle.std.specs.Str.{bytes_eq}
 use Rattle.std.proofs.lemmas.List.Elements.{All-head, All-tail, All-contains, Contains-append_left, Contains-append_right, All-cons, All-nil, All-append, Contains-get_or}
-use Rattle.std.proofs.lemmas.Option.{same_Some, get_or_from_slice_get, slice_get_within, slice_get-get_or}
+use Rattle.std.proofs.lemmas.Option.{get_or_from_slice_get, slice_get_within, slice_get-get_or}
 use Rattle.fb_syntax.specs.Located.{Located}
 use Rattle.fb_syntax.specs.declared.declarations.FieldType.TheVariants.{One}
 use Rattle.fb_syntax.specs.declared.declarations.DefaultValue.{DefaultValue}
@@ -18,7 +18,7 @@ use Rattle.fb_schema.specs.declared.kinds.Kind.TheVariants.{Scalar, Enum, Union,
 use Rattle.fb_resolve.specs.Outline.{TypeRead}
 use Rattle.fb_schema.specs.Ranges.{holds}
 use Rattle.fb_resolve.specs.EnumsRead.{underlying_at, value_at}
-use Rattle.fb_resolve.specs.Defaults.{number_within, null_or_wrong, scalar_named, enum_number, enum_named, given_to, given_by}
+use Rattle.fb_resolve.specs.Defaults.{number_within, null_or_wrong, scalar_named, enum_named, given_to, given_by}
 use Rattle.fb_resolve.specs.SlotsRead.{number_given, is_null, union_of, shape_of, value_slot, slots_read, AreInPlace, are_ids_wrong, union_in, slots_by_union, slots_of_field, slots_in_order, slot_by_id, slots_by_id, have_ids, code_slot}
 use Rattle.fb_resolve.specs.declared.meanings.Meaning.TheVariants.{Known}
 use Rattle.fb_resolve.specs.declared.defaults.Given.{Given}
@@ -77,10 +77,6 @@ scalar_default types n base None = InRange-zero base
 scalar_default types n base (Some (Integer t)) = number_in base t.value
 scalar_default types n base (Some (Named t)) = named_in base t.bytes
 
-enum_number_in : (base : Base) (under : Option Base) (n : ℤ) → under ≡ Some base → GivesIn base (enum_number under n)
-enum_number_in base None n e = cc
-enum_number_in base (Some b) n e = subst (λ c. GivesIn base (number_within c n)) (sym (same_Some b base e)) (number_in base n)
-
 enum_named_in : (base : Base) (value : Option ℤ) (name : Name) → IfSome value (InRange base) → GivesIn base (enum_named value name)
 enum_named_in base None name h = null_in base name
 enum_named_in base (Some n) name h = h
@@ -90,7 +86,7 @@ pub enum_default : (types : List TypeRead) (n : Located) (e : TypeId) (base : Ba
     → ((name : Name) → IfSome (value_at types e.0 name) (InRange base)) → GivesIn base (given_by types (One n) (Known (Enum e)) d)
 unfolding given_to
 enum_default types n e base None under values = InRange-zero base
-enum_default types n e base (Some (Integer t)) under values = enum_number_in base (underlying_at types e.0) t.value under
+enum_default types n e base (Some (Integer t)) under values = rw under (number_in base t.value)
 enum_default types n e base (Some (Named t)) under values = enum_named_in base (value_at types e.0 t.bytes) t.bytes (values t.bytes)
 
 -- `null` gives 0
@@ -212,21 +208,10 @@ value_no_union : (k : FieldType) (m : Meaning) (u : TypeId) → union_of k m ≡
 value_no_union (types_read.One n) (Known (Union v)) u absent e = cc
 value_no_union _ _ u absent e = cc
 
--- what stands beside the slot of a number: behind a union's code its value, before that the code, and beside another nothing that counts
-data Beside (slots : List DeclaredField) (k : ℕ) (p : DeclaredField) : Type 0 where
-  plain : ((u : TypeId) → p.shape ≢ One (Code u)) → ((u : TypeId) → p.shape ≢ One (Union u)) → Beside slots k p
-  of_code : (u : TypeId) (g : DeclaredField) → slice_get slots (suc k) ≡ Some g → IsUnionPair p g u → Beside slots k p
-  of_value : (u : TypeId) (j : ℕ) (f : DeclaredField) → k ≡ suc j → slice_get slots j ≡ Some f → IsUnionPair f p u → Beside slots k p
-
-follows : (slots : List DeclaredField) (k : ℕ) (p : DeclaredField) (u : TypeId) → p.shape ≡ One (Code u) → Beside slots k p → (g : DeclaredField) × (slice_get slots (suc k) ≡ Some g) × IsUnionPair p g u
-follows slots k p u shape (plain no_code no_union) = absurd (no_code u shape)
-follows slots k p u shape (of_code v g at pair) = let same : v ≡ u = cc (pair.code) in (g, at, subst (IsUnionPair p g) same pair)
-follows slots k p u shape (of_value v j f last at pair) = cc (pair.value)
-
-leads : (slots : List DeclaredField) (k : ℕ) (p : DeclaredField) (u : TypeId) → p.shape ≡ One (Union u) → Beside slots k p → (j : ℕ) × (f : DeclaredField) × (k ≡ suc j) × (slice_get slots j ≡ Some f) × IsUnionPair f p u
-leads slots k p u shape (plain no_code no_union) = absurd (no_union u shape)
-leads slots k p u shape (of_code v g at pair) = cc (pair.code)
-leads slots k p u shape (of_value v j f last at pair) = let same : v ≡ u = cc (pair.value) in (j, f, last, at, subst (IsUnionPair f p) same pair)
+-- behind the slot of a union's code stands its value, and before that the code
+abbrev IsPaired : List DeclaredField → ℕ → DeclaredField → Type 0
+IsPaired slots k p = ((u : TypeId) → p.shape ≡ One (Code u) → (g : DeclaredField) × (slice_get slots (suc k) ≡ Some g) × IsUnionPair p g u)
+    × ((u : TypeId) → p.shape ≡ One (Union u) → (j : ℕ) × (f : DeclaredField) × (k ≡ suc j) × (slice_get slots j ≡ Some f) × IsUnionPair f p u)
 
 -- ---- the whole table
 
@@ -243,18 +228,21 @@ module _ (fs : List ResolvedField) (slots : List DeclaredField) (placed : AreInP
   its_place : (q : DeclaredField) → Contains slots q → slice_get slots q.slot ≡ Some q
   its_place q c = let here = slice_get-get_or slots c.0 q c.1 ∙ ap Some c.2 in ap (slice_get slots) (placed.slots c.0 q here) ∙ here
 
-  -- beside each of a field's slots
-  beside : (S : DeclaredSchema) (f : ResolvedField) (slot : ℕ) → MeansIn S f.meaning → All (Contains slots) (slots_of_field f slot) → All (λ p. Beside slots p.slot p) (slots_of_field f slot)
-  beside S f slot means = let P : DeclaredField → Type 0 = λ p. Beside slots p.slot p in
+  -- so are the slots of a field
+  paired : (S : DeclaredSchema) (f : ResolvedField) (slot : ℕ) → MeansIn S f.meaning → All (Contains slots) (slots_of_field f slot) → All (λ p. IsPaired slots p.slot p) (slots_of_field f slot)
+  paired S f slot means = let P : DeclaredField → Type 0 = λ p. IsPaired slots p.slot p in
       field_slots f slot (λ ss. All (Contains slots) ss → All P ss)
       (λ none whole. All-cons P (value_slot f slot) []
-      (plain (λ u. value_no_code S f.field.kind f.meaning u means) (λ u. value_no_union f.field.kind f.meaning u none)) (All-nil P))
+      (λ u shape. absurd (value_no_code S f.field.kind f.meaning u means shape), λ u shape. absurd (value_no_union f.field.kind f.meaning u none shape)) (All-nil P))
       (λ u e whole.
       let code = code_slot f u slot in let value = value_slot f (slot + 1) in let next : slot + 1 ≡ suc slot = omega arith in
-      let pair : IsUnionPair code value u = record { named = refl; code = refl; value = union_shape f.field.kind f.meaning u e; marks = refl } in
+      let is_union = union_shape f.field.kind f.meaning u e in
+      let pair : IsUnionPair code value u = record { named = refl; code = refl; value = is_union; marks = refl } in
       let first = its_place code (All-head (Contains slots) code (value ∷ []) whole) in
       let second = its_place value (All-head (Contains slots) value [] (All-tail (Contains slots) code (value ∷ []) whole)) in
-      All-cons P code (value ∷ []) (of_code u value (sym (ap (slice_get slots) next) ∙ second) pair) (All-cons P value [] (of_value u slot code next first pair) (All-nil P)))
+      let coded : P code = (λ v shape. let same : u ≡ v = cc in (value, sym (ap (slice_get slots) next) ∙ second, subst (IsUnionPair code value) same pair), λ v shape. cc) in
+      let valued : P value = (λ v shape. cc, λ v shape. let same : u ≡ v = cc in (slot, code, next, first, subst (IsUnionPair code value) same pair)) in
+      All-cons P code (value ∷ []) coded (All-cons P value [] valued (All-nil P)))
 
 -- The slots of a table with no fault, in their places, are a table's.
 pub table_kept : (types : List TypeRead) (S : DeclaredSchema) → AreEnumsKept types S → (declared : Name → Bool) (t : ResolvedTable) → All (IsRead types S) t.fields → table_faults declared t ≡ []
@@ -264,8 +252,8 @@ table_kept types S enums declared t read h slots placed =
     let none = three_none (metadata_faults declared hosts.Table t.declared.attributes) (when (are_ids_wrong fs) (BadIds t.declared.name.at)) (faults_in_turn (field_behind declared fields.Table) fs) h in
     let right = fields_right declared fields.Table fs none.2 in
     let read_at = λ (f : ResolvedField) (among : Contains fs f). All-contains (IsRead types S) fs f read among in
-    let beside_at = λ (k : ℕ) (p : DeclaredField) (e : slice_get slots k ≡ Some p). subst (λ n. Beside slots n p) (placed.slots k p e)
-    (at_place fs slots placed (λ p. Beside slots p.slot p) (λ f slot among. beside fs slots placed S f slot (read_at f among).means) k p e) in
+    let paired_at = λ (k : ℕ) (p : DeclaredField) (e : slice_get slots k ≡ Some p). subst (λ n. IsPaired slots n p) (placed.slots k p e)
+    (at_place fs slots placed (λ p. IsPaired slots p.slot p) (λ f slot among. paired fs slots placed S f slot (read_at f among).means) k p e) in
     record {
       slots = placed.slots;
       names = AllPairs-from_IsDistinct bytes_eq-Decides (names_of slots)
@@ -273,5 +261,5 @@ table_kept types S enums declared t read h slots placed =
           (subst (IsDistinct bytes_eq) (sym (names_numbered fs (slots_read fs) (numbered fs))) (fields_distinct declared fields.Table fs none.2)));
       shapes = at_place fs slots placed (IsSlotRight S)
           (λ f slot among whole. slots_right types S enums declared f slot (read_at f among) (All-contains (IsFieldRight declared fields.Table) fs f right among));
-      unions = record { followed = λ k p u e shape. follows slots k p u shape (beside_at k p e); led = λ k p u e shape. leads slots k p u shape (beside_at k p e) };
+      unions = record { followed = λ k p u e. (paired_at k p e).0 u; led = λ k p u e. (paired_at k p e).1 u };
     }

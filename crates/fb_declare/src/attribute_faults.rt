@@ -3,7 +3,7 @@ ghost use Rattle.std.specs.Prelude.{◌≡◌, codes, IfOk};
 ghost use Rattle.std.specs.List.{starts_with};
 ghost use Rattle.std.specs.Bool.{nat_eq};
 ghost use Rattle.std.specs.Option.{option_copied};
-ghost use Rattle.fb_declare.specs.AttributeFaults.{is_left_out, may_stand, is_force_align_of_field};
+ghost use Rattle.fb_declare.specs.AttributeFaults.{is_left_out, may_stand};
 ghost use Rattle.fb_declare.specs.AttributeFaults.{attribute_faults, metadata_faults};
 ghost use Rattle.fb_declare.specs.Faults.{least_of};
 ghost use Rattle.fb_declare.specs.NamesMet.{is_met};
@@ -70,16 +70,6 @@ fn may_stand(
     }
 }
 
-fn is_force_align_of_field(host: AttributeHost, built_in: Option<BuiltInAttribute>) -> bool
-    ensures { result ≡ is_force_align_of_field host built_in }
-{
-    let is_field = matches!(
-        host,
-        AttributeHost::ScalarField | AttributeHost::TableField | AttributeHost::StructField
-    );
-    is_field && matches!(built_in, Some(BuiltInAttribute::ForceAlign))
-}
-
 /// What is wrong with an attribute, where this says whether one before it has its name.
 fn attribute_fault(
     declared: &BTreeSet<&[u8]>,
@@ -93,7 +83,12 @@ fn attribute_fault(
     let at = attribute.name.at;
     let name = attribute.name.text;
     let built_in = built_in_attribute(name);
-    if is_left_out(name) || is_force_align_of_field(host, built_in) {
+    let is_field = matches!(
+        host,
+        AttributeHost::ScalarField | AttributeHost::TableField | AttributeHost::StructField
+    );
+    let forces_field = is_field && matches!(built_in, Some(BuiltInAttribute::ForceAlign));
+    if is_left_out(name) || forces_field {
         return Some(SchemaFault::Unsupported(at));
     }
     match built_in {
