@@ -1,19 +1,15 @@
 -- The least fault of lists: of joined ones, of a list in turn, and what it says of the list.
-use Rattle.std.proofs.Common.{◌≡◌, ◌<◌, ◌+◌, ◌++◌, ◌==◌, ◌&&◌, ◌||◌, nat_lt, ℕ, Bool, true, false, List, [], ◌∷◌, length, map, take, get_or, cond, Contains, Option, None, Some, refl, ap, sym, subst, ◌∙◌, append_assoc, arith}
-use Rattle.std.specs.Borrow.{Bor}
-use Rattle.std.specs.BTreeSet.{BTreeSet}
+use Rattle.std.proofs.Common.{◌≡◌, ◌<◌, ◌+◌, ◌++◌, ◌==◌, ◌&&◌, ◌||◌, nat_lt, ℕ, Bool, true, false, List, [], ◌∷◌, length, map, take, get_or, cond, Contains, Option, None, Some, refl, ap, sym, ◌∙◌, append_assoc, arith}
 use Rattle.std.specs.List.{list_any}
 use Rattle.std.proofs.Math.Bool.{or-false, or_comm}
 use Rattle.std.proofs.lemmas.List.{append-nil, map_push, take_more}
 use Rattle.std.proofs.lemmas.List.Folds.{list_any-append}
 use Rattle.std.proofs.lemmas.List.Elements.{Contains-append_right}
 use Rattle.std.proofs.lemmas.Option.{none-some, same_Some}
-use Rattle.fb_schema.specs.Schema.{Name}
 use Rattle.fb_declare.specs.declared.faults.SchemaFault.{SchemaFault}
 use Rattle.fb_declare.specs.FaultTable.{number_of}
 use Rattle.fb_declare.specs.Faults.{at_of, comes_before, earlier, least_of}
 use Rattle.fb_declare.specs.FaultRows.{faults_behind, faults_in_turn}
-use Rattle.fb_declare.specs.NamesMet.{AreMet}
 use Rattle.fb_declare.proofs.FaultFree.{either}
 
 abbrev is_less : ℕ → ℕ → ℕ → ℕ → Bool
@@ -62,18 +58,11 @@ pub least_more : {X : Type 0} (rule : List X → X → List SchemaFault) (xs : L
 least_more rule xs i x h e = sym (least_of_append (faults_behind rule [] (take i xs)) (rule (take i xs) x))
     ∙ ap least_of (sym (ap (faults_behind rule []) (taken xs i x h e) ∙ faults_behind-snoc rule [] (take i xs) x))
 
--- the next name is met too
-pub met_more : {X : Type 0} (met : BTreeSet (Bor Name)) (key : X → Name) (xs : List X) (i : ℕ) (x : X) → i < length xs → x ≡ get_or xs i x
-    → AreMet met (map key (take i xs) ++ key x ∷ []) → AreMet met (map key (take (i + 1) xs))
-met_more met key xs i x h e = subst (AreMet met) (sym (ap (map key) (taken xs i x h e) ∙ map_push key (take i xs) x))
+pub map-taken : {X K : Type 0} (key : X → K) (xs : List X) (i : ℕ) (x : X) → i < length xs → x ≡ get_or xs i x → map key (take (i + 1) xs) ≡ map key (take i xs) ++ key x ∷ []
+map-taken key xs i x h e = ap (map key) (taken xs i x h e) ∙ map_push key (take i xs) x
 
 pub list_any-snoc : {X : Type 0} (test : X → Bool) (xs : List X) (x : X) → list_any test (xs ++ x ∷ []) ≡ list_any test xs || test x
 list_any-snoc test xs x = list_any-append test xs (x ∷ []) ∙ ap (λ b. list_any test xs || b) (or-false (test x))
-
--- a test of the keys of one more
-pub list_any_pushed : {X K : Type 0} (test : K → Bool) (key : X → K) (xs : List X) (i : ℕ) (x : X) → i < length xs → x ≡ get_or xs i x
-    → list_any test (map key (take (i + 1) xs)) ≡ list_any test (map key (take i xs)) || test (key x)
-list_any_pushed test key xs i x h e = ap (list_any test) (ap (map key) (taken xs i x h e) ∙ map_push key (take i xs) x) ∙ list_any-snoc test (map key (take i xs)) (key x)
 
 -- a test of what a list is read as
 pub list_any-map : {X Y : Type 0} (test : Y → Bool) (f : X → Y) (xs : List X) → list_any test (map f xs) ≡ list_any (λ x. test (f x)) xs

@@ -54,13 +54,10 @@ pub alignment_right : (least n : ℕ) → is_alignment least (pos n) ≡ true �
 alignment_right least n h =
     let split = and_parts (list_any (λ a. a == n) alignments) (nat_le least n) h in
     let found = Any-from_list_any (λ a. a == n) alignments split.0 in
-    let k : ℕ = found.0 in
-    let a : ℕ = found.1 in
-    let within : k < 9 = found.2 in
+    let k : ℕ = found.0 in let a : ℕ = found.1 in let within : k < 9 = found.2 in
     -- each is a power of two by its place
     let power : get_or alignments k a ≡ 2 ^ k = get_or-map (λ j. 2 ^ j) (range_with_len 0 9) k 0 a within ∙ ap (λ j. 2 ^ j) (get_or-range_with_len 0 9 k 0 within ∙ omega arith) in
-    let same : n ≡ a = sym (eqb-true a n found.4) in
-    ((k, omega arith, same ∙ (sym found.3 ∙ power)), leb-true least n split.1)
+    ((k, omega arith, sym (eqb-true a n found.4) ∙ sym found.3 ∙ power), leb-true least n split.1)
 
 -- a right `force_align` is a power of two
 forced_aligned : (least : ℕ) (number : Option ℤ) → ForSome (forced_align least number) IsForceAlign

@@ -19,8 +19,7 @@ pub(crate) fn root_fault(
     ensures { result ≡ least_of (root_faults text_len (option_copied root.entry) meaning) }
 {
     let Some(root) = root else {
-        // by `when`, as each rule, since what is proved speaks of it
-        return when(true, SchemaFault::BadRoot(text_len));
+        return Some(SchemaFault::BadRoot(text_len));
     };
     let name = root.name;
     let bad_root = when(!is_table(meaning), SchemaFault::BadRoot(name.at()));

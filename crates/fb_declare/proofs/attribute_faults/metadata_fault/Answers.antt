@@ -1,7 +1,7 @@
-use Rattle.std.proofs.Common.{◌≡◌, ap, map, take}
+use Rattle.std.proofs.Common.{◌≡◌, ap, sym, subst, map, take}
 use Rattle.fb_declare.specs.AttributeFaults.{attribute_behind}
-use Rattle.fb_declare.specs.NamesMet.{is_met}
-use Rattle.fb_declare.proofs.Least.{least_more, met_more}
+use Rattle.fb_declare.specs.NamesMet.{is_met, AreMet}
+use Rattle.fb_declare.proofs.Least.{least_more, map-taken}
 use Rattle.fb_declare.proofs.attribute_faults.metadata_fault.Goals as goal
 
 pub loop-attribute-preserved : goal.loop-attribute-preserved
@@ -12,5 +12,5 @@ loop-attribute-preserved c =
     record {
       least = rw (c.earlier-least.ensures, c.attribute_fault.ensures, met.0, c.loop-attribute.invariant.least)
           (least_more (attribute_behind (is_met c.args.declared.now) c.args.host) attributes i a c.loop-attribute-test.true c.attribute-item.is);
-      met = met_more c.meet.new.met (λ b. b.name.bytes) attributes i a c.loop-attribute-test.true c.attribute-item.is met.1;
+      met = subst (AreMet c.meet.new.met) (sym (map-taken (λ b. b.name.bytes) attributes i a c.loop-attribute-test.true c.attribute-item.is)) met.1;
     }

@@ -1,4 +1,4 @@
-use Rattle.std.proofs.Common.{◌≡◌, refl, FitsSigned, true, cond, not, ◌∙◌, ◌||◌, rules, ap, sym, map, take}
+use Rattle.std.proofs.Common.{◌≡◌, refl, FitsSigned, true, cond, not, ◌∙◌, ◌||◌, rules, ap, sym, subst, map, take}
 use Rattle.std.specs.Int.{w128}
 use Rattle.std.specs.List.{list_any}
 use Rattle.std.proofs.Math.Bool.{not-not}
@@ -9,7 +9,8 @@ use Rattle.std.specs.Str.{bytes_eq}
 use Rattle.fb_declare.specs.declared.faults.SchemaFault.TheVariants.{DuplicateName, BadEnumValue}
 use Rattle.fb_declare.specs.Faults.{least_of}
 use Rattle.fb_declare.specs.FaultRows.{when, is_again, is_out_of_range, value_faults}
-use Rattle.fb_declare.proofs.Least.{least_of_append, least_more, met_more, list_any_pushed, one_more}
+use Rattle.fb_declare.specs.NamesMet.{AreMet}
+use Rattle.fb_declare.proofs.Least.{least_of_append, least_more, map-taken, list_any-snoc, one_more}
 use Rattle.fb_declare.proofs.enums.values_fault.Goals as goal
 
 pub loop-resolved-preserved : goal.loop-resolved-preserved
@@ -28,10 +29,10 @@ loop-resolved-preserved c =
     record {
       least = rw (c.earlier-least.ensures, c.earlier.ensures, bad_name, bad_number, c.loop-resolved.invariant.least, ← least_of_append name_faults number_faults)
           (least_more (value_faults c.args.base c.args.flags) values i v h e);
-      names = met_more c.meet.new.met (λ v. v.value.name.bytes) values i v h e named.1;
+      names = subst (AreMet c.meet.new.met) (sym (map-taken (λ v. v.value.name.bytes) values i v h e)) named.1;
       numbers = λ n.
           let met = list_any (int_eq n) keys in
           let more : list_any (int_eq n) c.insert.new.self.keys ≡ cond (int_eq m n) true met = grind (rules, c.in_ok-is_new.ensures.updates.0 n, to_z-of_z w128 m fits) in
           more ∙ one_more (int_eq m n) met ∙ ap (λ b. met || b) (int_eq_equiv.symm m n)
-          ∙ ap (λ b. b || int_eq n m) (c.loop-resolved.invariant.numbers n) ∙ sym (list_any_pushed (int_eq n) (λ v. v.number) values i v h e);
+          ∙ ap (λ b. b || int_eq n m) (c.loop-resolved.invariant.numbers n) ∙ sym (ap (list_any (int_eq n)) (map-taken (λ v. v.number) values i v h e) ∙ list_any-snoc (int_eq n) (map (λ v. v.number) (take i values)) m);
     }
