@@ -5,6 +5,7 @@ use Rattle.std.specs.Str.{bytes_eq}
 use Rattle.std.proofs.lemmas.Bool.{or_parts, not-false}
 use Rattle.std.proofs.lemmas.List.{append-nil, flat_map_more, map_push, get_or-map, length-map}
 use Rattle.std.proofs.lemmas.Option.{none-some, same_Some, get_or_from_slice_get, slice_get_within, slice_get-get_or}
+pub use Rattle.std.proofs.lemmas.Str.Pattern.{starts_text}
 use Rattle.fb_schema.specs.Schema.{Name}
 use Rattle.fb_resolve.specs.Outline.{TypeRead, name_of_type, word_of}
 use Rattle.fb_resolve.specs.ResolvedFields.{ResolvedField}

@@ -31,7 +31,7 @@ use Rattle.fb_resolve.specs.SlotsRead.{are_ids_wrong}
 use Rattle.fb_resolve.specs.Resolved.{resolved_declaration, resolved_type, resolved_types, meaning_of_root}
 use Rattle.fb_resolve.specs.declared.resolved.ResolvedDecl.{ResolvedDecl}
 use Rattle.fb_resolve.specs.declared.resolved.ResolvedDecl.TheVariants as resolved
-use Rattle.fb_declare.specs.Declares.{HasBody, IsType, root_table, Gives, IsBuildable, AreBuildable}
+use Rattle.fb_declare.specs.Declares.{HasBody, IsType, Gives, IsBuildable, AreBuildable}
 use Rattle.fb_declare.specs.declared.field_faults.FieldHost.TheVariants as fields
 use Rattle.fb_declare.proofs.StructsKept.{length-before, aligns, are_aligned, struct_kept}
 use Rattle.fb_declare.proofs.EnumsKept.{enum_kept}
@@ -91,7 +91,7 @@ type_names_differ o S g h = keys_apart bytes_eq-Decides (λ t. t.name) S.types (
 -- ---- the root and the identifier
 
 -- The root is a table.
-root_kept : (o : Outline) (S : DeclaredSchema) → Gives o S → (root : Option RootRead) → Some S.root ≡ root_table o.types root → Names is_table S S.root
+root_kept : (o : Outline) (S : DeclaredSchema) → Gives o S → (root : Option RootRead) → Some S.root ≡ table_of (meaning_of_root o.types root) → Names is_table S S.root
 root_kept o S g None e = cc
 root_kept o S g (Some r) e = subst (λ t. Names is_table S (unwrap_or t 0)) (sym e) (table_named S (meaning_of o.types r.scope r.name.bytes) (means_in o S g r.scope r.name.bytes) (ap is_none (sym e)))
 

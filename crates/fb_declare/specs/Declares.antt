@@ -1,11 +1,11 @@
 -- Which schema a text declares, and where it is at fault.
 -- From the FlatBuffers documentation, "Writing a schema".
-use Rattle.std.specs.Prelude.{ℕ, ◌≡◌, false, List, [], Option, Some, map, slice_get}
+use Rattle.std.specs.Prelude.{ℕ, ◌≡◌, false, List, [], Some, map, slice_get}
 use Rattle.std.specs.List.{AllZip, Contains}
 use Rattle.std.specs.Option.{option_map}
 use Rattle.fb_syntax.specs.DeclsRead.{DeclsRead}
 use Rattle.fb_schema.specs.Schema.{DeclaredBody, table_body, struct_body, enum_body, union_body, DeclaredType, DeclaredSchema}
-use Rattle.fb_resolve.specs.Outline.{TypeRead, RootRead, Outline, outline_of, name_of_type}
+use Rattle.fb_resolve.specs.Outline.{Outline, outline_of, name_of_type}
 use Rattle.fb_resolve.specs.Resolved.{resolved_types, meaning_of_root}
 use Rattle.fb_resolve.specs.ResolvedType.{ResolvedType}
 use Rattle.fb_resolve.specs.declared.resolved.ResolvedDecl.{ResolvedDecl}
@@ -38,13 +38,9 @@ IsBuildable _ = Unit {0}
 abbrev pub AreBuildable : List ResolvedType → Type 0
 AreBuildable types = (t : ℕ) (r : ResolvedType) → slice_get types t ≡ Some r → IsBuildable r.declaration
 
--- the number of the root's table
-abbrev pub root_table : List TypeRead → Option RootRead → Option ℕ
-root_table types root = table_of (meaning_of_root types root)
-
 pub record Gives (o : Outline) (S : DeclaredSchema) : Type 0 where
   pub types : AllZip IsType (resolved_types o.types) S.types
-  pub root : Some S.root ≡ root_table o.types o.root
+  pub root : Some S.root ≡ table_of (meaning_of_root o.types o.root)
   pub identifier : S.identifier ≡ option_map (λ t. t.bytes) o.identifier
 
 -- No rule fails anywhere, and the schema has what the declarations give.

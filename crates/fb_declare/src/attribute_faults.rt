@@ -29,6 +29,7 @@ pub(crate) enum AttributeHost {
     StructField,
 }
 
+#[tactic(auto, using(crate::proofs::FaultFree::starts_text))]
 fn is_native(name: &str) -> bool
     ensures { result ≡ starts_with nat_eq name.now (codes "native_") }
 {

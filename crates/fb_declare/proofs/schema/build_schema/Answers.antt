@@ -4,7 +4,7 @@ use Rattle.std.specs.Option.{option_copied, option_map}
 use Rattle.fb_schema.specs.Seen.{schema_of}
 use Rattle.fb_resolve.specs.MembersRead.{table_of}
 use Rattle.fb_resolve.specs.Resolved.{resolved_types, meaning_of_root}
-use Rattle.fb_declare.specs.Declares.{AreBuildable, IsType, root_table}
+use Rattle.fb_declare.specs.Declares.{AreBuildable, IsType}
 use Rattle.fb_declare.specs.TypeFaults.{declared_in}
 use Rattle.fb_declare.proofs.Kept.{outline_right, root_some, buildable, identifier_kept, kept}
 use Rattle.fb_declare.proofs.schema.build_schema.Goals as goal
@@ -12,7 +12,7 @@ use Rattle.fb_declare.proofs.schema.build_schema.Goals as goal
 pub unreachable-requires : goal.unreachable-requires
 unreachable-requires c =
     let o = c.args.resolved.outline.now in
-    let none : root_table o.types o.root ≡ None = ap table_of (sym c.args.resolved.root_meant) ∙ sym c.table_of.ensures ∙ ap (option_map (λ n. n.0)) c.in_default.is in
+    let none : table_of (meaning_of_root o.types o.root) ≡ None = ap table_of (sym c.args.resolved.root_meant) ∙ sym c.table_of.ensures ∙ ap (option_map (λ n. n.0)) c.in_default.is in
     true≢false (sym (ap is_none none) ∙ root_some o.text_len o.root (meaning_of_root o.types o.root) (outline_right o c.requires).1)
 
 pub types_of-requires : goal.types_of-requires
