@@ -81,9 +81,9 @@ earlier_some f None h = none-some f (sym h)
 earlier_some f (Some g) h = either (λ o. o ≡ None → ⊥) (comes_before g f) (Some g) (Some f) (λ is e. none-some g (sym e)) (λ e. none-some f (sym e)) h
 
 -- no least fault: none at all
-pub least-none : (fs : List SchemaFault) → least_of fs ≡ None → fs ≡ []
-least-none [] h = refl
-least-none (f ∷ fs) h = absurd (earlier_some f (least_of fs) h)
+pub least_none : (fs : List SchemaFault) → least_of fs ≡ None → fs ≡ []
+least_none [] h = refl
+least_none (f ∷ fs) h = absurd (earlier_some f (least_of fs) h)
 
 contained_by : (f g : SchemaFault) (fs : List SchemaFault) (o : Option SchemaFault) → ((h : SchemaFault) → o ≡ Some h → Contains fs h) → earlier (Some g) o ≡ Some f → Contains (g ∷ fs) f
 contained_by f g fs None rest e = (0, omega arith, same_Some g f e)
@@ -91,6 +91,6 @@ contained_by f g fs (Some h) rest e = either (λ o. o ≡ Some f → Contains (g
     (λ is e. Contains-append_right (g ∷ []) fs f (rest f e)) (λ e. (0, omega arith, same_Some g f e)) e
 
 -- the least fault is one of them
-pub least-some : (fs : List SchemaFault) (f : SchemaFault) → least_of fs ≡ Some f → Contains fs f
-least-some [] f e = cc
-least-some (g ∷ fs) f e = contained_by f g fs (least_of fs) (λ h is. least-some fs h is) e
+pub least_some : (fs : List SchemaFault) (f : SchemaFault) → least_of fs ≡ Some f → Contains fs f
+least_some [] f e = cc
+least_some (g ∷ fs) f e = contained_by f g fs (least_of fs) (λ h is. least_some fs h is) e

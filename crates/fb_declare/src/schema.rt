@@ -59,6 +59,7 @@ fn build_schema(alloc: Global, resolved: Resolved<'_, '_, '_>) -> Result<Schema,
 ///
 /// A refusal tells the fault of least offset and, there, of the lowest number; `Memory` is a
 /// refused allocation. The rules are those of "Writing a schema".
+#[tactic(auto, using(crate::proofs::Least::least_none, crate::proofs::Least::least_some))]
 pub fn declare(alloc: Global, decls: &Decls<'_>) -> Result<Schema, SchemaFault>
     ensures declared { IfOk result (Declares decls.now) }
     ensures fault { IfErr result (λ f. f ≢ Memory → Stands decls.now f) }
