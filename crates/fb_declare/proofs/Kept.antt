@@ -5,7 +5,7 @@ use Rattle.std.specs.Str.{bytes_eq}
 use Rattle.std.proofs.lemmas.Bool.{and_parts, not-false, leb-false, eqb-true}
 use Rattle.std.proofs.lemmas.Cmp.{nat_list_eq_equiv}
 use Rattle.std.proofs.lemmas.List.Elements.{All-map}
-use Rattle.std.proofs.lemmas.Option.{slice_get-get_or, slice_get_cases, none-some, slice_get_within}
+use Rattle.std.proofs.lemmas.Option.{slice_get-get_or, slice_get_cases, none-some, same_Some, slice_get_within}
 use Rattle.std.proofs.lemmas.Slice.Eq.{bytes_eq-Decides}
 use Rattle.fb_schema.specs.Schema.{Name, DeclaredSchema, is_table, DeclaredBody, table_body, struct_body, enum_body, union_body, DeclaredType}
 use Rattle.fb_schema.specs.WellDeclared.{Names, IsUnionBody, IsBody, IsDeclared}
@@ -95,21 +95,6 @@ root_kept : (o : Outline) (S : DeclaredSchema) → Gives o S → (root : Option 
 root_kept o S g None e = cc
 root_kept o S g (Some r) e = subst (λ t. Names is_table S (unwrap_or t 0)) (sym e) (table_named S (meaning_of o.types r.scope r.name.bytes) (means_in o S g r.scope r.name.bytes) (ap is_none (sym e)))
 
--- a root with no fault is a table
-pub root_some : (text_len : ℕ) (root : Option RootRead) (m : Meaning) → root_faults text_len root m ≡ [] → is_none (table_of m) ≡ false
-root_some text_len None m h = cc
-root_some text_len (Some r) m h =
-    when-none (is_none (table_of m)) (BadRoot r.name.at) (both_none (use_faults m r.name.at) (when (is_none (table_of m)) (BadRoot r.name.at)) h).1
-
--- The identifier has four bytes.
-pub identifier_kept : (t : Option Located) → identifier_faults t ≡ [] → ForSome (option_map (λ t. t.bytes) t) (λ id. length id ≡ 4)
-identifier_kept None h id e = absurd (none-some id e)
-identifier_kept (Some t) h id e =
-    let right = not-false (is_identifier t.bytes) (when-none (not (is_identifier t.bytes)) (BadIdentifier t.at) h) in
-    let four = eqb-true (length t.bytes) 4 (and_parts (length t.bytes == 4) (list_all is_printable t.bytes) right).0 in
-    let same : t.bytes ≡ id = cc in
-    ap length (sym same) ∙ four
-
 -- ---- bodies
 
 -- a declaration with no fault gives a body
@@ -117,10 +102,6 @@ buildable_by : (types : List TypeRead) (declared : Name → Bool) (lower : List 
 buildable_by types declared lower (resolved.Table t) h = when-none (are_ids_wrong t.fields) (BadIds t.declared.name.at)
     (three_none (metadata_faults declared hosts.Table t.declared.attributes) (when (are_ids_wrong t.fields) (BadIds t.declared.name.at)) (faults_in_turn (field_behind declared fields.Table) t.fields) h).1
 buildable_by types declared lower _ h = tt
-
-pub buildable : (types : List TypeRead) (declared : Name → Bool) (rs : List ResolvedType) → faults_in_turn (type_behind types declared) rs ≡ [] → AreBuildable rs
-buildable types declared rs h t r e =
-    buildable_by types declared (aligns_from types [] (take t rs)) r.declaration (type_right types declared (take t rs) r (none_behind (type_behind types declared) [] rs h t r e)).1
 
 body_kept : (types : List TypeRead) (S : DeclaredSchema) → AreEnumsKept types S → (declared : Name → Bool) (lower : List ℕ) (d : ResolvedDecl) (b : DeclaredBody) → IsReadIn types S d → declaration_faults types declared lower d ≡ []
     → HasBody d b → IsBody S (length lower) b
@@ -147,6 +128,37 @@ pub outline_right : (o : Outline) → faults_of_outline o ≡ []
 unfolding faults_of_outline
 outline_right o h = three_none (faults_in_turn (type_behind o.types (declared_in o)) (resolved_types o.types)) (root_faults o.text_len o.root (meaning_of_root o.types o.root)) (identifier_faults o.identifier) h
 
+-- its types give bodies
+pub buildable : (o : Outline) (rs : List ResolvedType) → faults_of_outline o ≡ [] → rs ≡ resolved_types o.types → AreBuildable rs
+buildable o rs h same t r e =
+    let none = none_behind (type_behind o.types (declared_in o)) [] (resolved_types o.types) (outline_right o h).0 t r (ap (λ qs. slice_get qs t) (sym same) ∙ e) in
+    let before = take t (resolved_types o.types) in
+    buildable_by o.types (declared_in o) (aligns_from o.types [] before) r.declaration (type_right o.types (declared_in o) before r none).1
+
+-- its root is a table
+root_by : (text_len : ℕ) (root : Option RootRead) (m : Meaning) → root_faults text_len root m ≡ [] → is_none (table_of m) ≡ false
+root_by text_len None m h = cc
+root_by text_len (Some r) m h =
+    when-none (is_none (table_of m)) (BadRoot r.name.at) (both_none (use_faults m r.name.at) (when (is_none (table_of m)) (BadRoot r.name.at)) h).1
+
+pub has_root : (o : Outline) (m : Meaning) → faults_of_outline o ≡ [] → m ≡ meaning_of_root o.types o.root → table_of m ≡ None → ⊥
+has_root o m h same none = true≢false (sym (ap is_none (ap table_of (sym same) ∙ none)) ∙ root_by o.text_len o.root (meaning_of_root o.types o.root) (outline_right o h).1)
+
+-- its identifier has four bytes
+four_by : (i : Option Located) → identifier_faults i ≡ [] → ForSome i (λ t. length t.bytes ≡ 4)
+four_by None h t e = absurd (none-some t e)
+four_by (Some q) h t e =
+    let right = not-false (is_identifier q.bytes) (when-none (not (is_identifier q.bytes)) (BadIdentifier q.at) h) in
+    let four = eqb-true (length q.bytes) 4 (and_parts (length q.bytes == 4) (list_all is_printable q.bytes) right).0 in
+    ap (λ x. length x.bytes) (sym (same_Some q t e)) ∙ four
+
+pub four_bytes : (o : Outline) (i : Option Located) → faults_of_outline o ≡ [] → i ≡ o.identifier → ForSome i (λ t. length t.bytes ≡ 4)
+four_bytes o i h same = subst (λ i. ForSome i (λ t. length t.bytes ≡ 4)) (sym same) (four_by o.identifier (outline_right o h).2)
+
+bytes_of : (i : Option Located) → ForSome i (λ t. length t.bytes ≡ 4) → ForSome (option_map (λ t. t.bytes) i) (λ id. length id ≡ 4)
+bytes_of None h id e = absurd (none-some id e)
+bytes_of (Some t) h id e = subst (λ x. length x ≡ 4) (same_Some t.bytes id e) (h t refl)
+
 -- What an outline with no fault gives is well declared.
 pub kept : (o : Outline) (S : DeclaredSchema) → faults_of_outline o ≡ [] → Gives o S → IsDeclared S
 kept o S h g =
@@ -156,5 +168,5 @@ kept o S h g =
       names = type_names_differ o S g right.0;
       aligned = (aligns o S g right.0, are_aligned o S g right.0);
       root = root_kept o S g o.root g.root;
-      identifier = subst (λ i. ForSome i (λ id. length id ≡ 4)) (sym g.identifier) (identifier_kept o.identifier right.2);
+      identifier = subst (λ i. ForSome i (λ id. length id ≡ 4)) (sym g.identifier) (bytes_of o.identifier (four_bytes o o.identifier h refl));
     }

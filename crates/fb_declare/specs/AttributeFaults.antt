@@ -44,8 +44,10 @@ may_stand Table OriginalOrder None = true
 may_stand (Struct natural) OriginalOrder None = true
 may_stand _ _ _ = false
 
--- By what names are declared: a built-in attribute on a wrong host, with a wrong value, or again; or another that isn't declared
-abbrev pub faults_by_name : (Name → Bool) → AttributeHost → Bool → Attribute → Option BuiltInAttribute → List SchemaFault
+-- By what names are declared: a built-in attribute on a wrong host, with a wrong value, or again;
+-- or another that isn't declared
+abbrev pub faults_by_name : (Name → Bool) → AttributeHost → Bool → Attribute → Option BuiltInAttribute
+    → List SchemaFault
 faults_by_name declared host again a (Some k) = when (not (may_stand host k a.value) || again) (BadAttribute a.name.at)
 faults_by_name declared host again a None = when (not (declared a.name.bytes)) (UnknownAttribute a.name.at)
 
@@ -57,7 +59,8 @@ attribute_faults declared host again a = let built_in = built_in_attribute a.nam
 
 -- the faults of one attribute behind others
 abbrev pub attribute_behind : (Name → Bool) → AttributeHost → List Attribute → Attribute → List SchemaFault
-attribute_behind declared host before a = attribute_faults declared host (is_again bytes_eq (λ b. b.name.bytes) before a) a
+attribute_behind declared host before a =
+    attribute_faults declared host (is_again bytes_eq (λ b. b.name.bytes) before a) a
 
 -- the faults of attributes
 abbrev pub metadata_faults : (Name → Bool) → AttributeHost → List Attribute → List SchemaFault

@@ -94,12 +94,14 @@ is_out_of_range (Some base) flags n = not (may_be_written base flags n)
 abbrev pub value_faults : Option Base → Bool → List ResolvedValue → ResolvedValue → List SchemaFault
 value_faults base flags before v =
     when (is_again bytes_eq (λ w. w.value.name.bytes) before v) (DuplicateName v.value.name.at)
-    ++ when (is_out_of_range base flags v.number || is_again int_eq (λ w. w.number) before v) (BadEnumValue v.value.name.at)
+    ++ when (is_out_of_range base flags v.number || is_again int_eq (λ w. w.number) before v)
+    (BadEnumValue v.value.name.at)
 
 -- a member that is called NONE or like one before it, isn't a table, or is past the 255th
 abbrev pub member_faults : List ResolvedMember → ResolvedMember → List SchemaFault
 member_faults before r = let at = r.member.table.at in
-    when (bytes_eq r.name.bytes (codes "NONE") || is_again bytes_eq (λ m. m.name.bytes) before r) (DuplicateName r.name.at)
+    when (bytes_eq r.name.bytes (codes "NONE") || is_again bytes_eq (λ m. m.name.bytes) before r)
+    (DuplicateName r.name.at)
     ++ use_faults r.meaning at
     ++ when (is_none (table_of r.meaning) || nat_le 255 (length before)) (BadMember at)
 

@@ -43,6 +43,7 @@ fn least_fault(
 }
 
 /// The schema that declarations with no fault give. The only error is a refused allocation.
+#[tactic(auto, using(crate::proofs::Kept::buildable, crate::proofs::Kept::has_root, crate::proofs::Kept::four_bytes))]
 fn build_schema(alloc: Global, resolved: Resolved<'_, '_, '_>) -> Result<Schema, AllocError>
     requires { faults_of_outline resolved.outline.now ≡ [] }
     ensures { IfOk result (Gives resolved.entry.outline.now) }
