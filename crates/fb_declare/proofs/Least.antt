@@ -21,20 +21,15 @@ less_less a n b m c k p q = grind (arith)
 not_less : (a n b m c k : ℕ) → is_less c k b m ≡ false → is_less b m a n ≡ false → is_less c k a n ≡ false
 not_less a n b m c k p q = grind (arith)
 
--- of three faults, by which of two of them come first
-by_tests : (f g h : SchemaFault) (gf hg : Bool) → comes_before g f ≡ gf → comes_before h g ≡ hg → (hg ≡ true → gf ≡ true → comes_before h f ≡ true) → (hg ≡ false → gf ≡ false → comes_before h f ≡ false)
-    → earlier (earlier (Some f) (Some g)) (Some h) ≡ earlier (Some f) (earlier (Some g) (Some h))
-by_tests f g h true true p q up down = rw (p, q, up refl refl)
-by_tests f g h true false p q up down = rw (p, q, p)
-by_tests f g h false true p q up down = rw (p, q)
-by_tests f g h false false p q up down = rw (p, q, down refl refl, p)
+-- the first of three faults is the first in whichever order they are compared
+three : (f g h : SchemaFault) → earlier (earlier (Some f) (Some g)) (Some h) ≡ earlier (Some f) (earlier (Some g) (Some h))
+three f g h = grind (arith, less_less (at_of f) (number_of f) (at_of g) (number_of g) (at_of h) (number_of h), not_less (at_of f) (number_of f) (at_of g) (number_of g) (at_of h) (number_of h))
 
 earlier_assoc : (f g h : Option SchemaFault) → earlier (earlier f g) h ≡ earlier f (earlier g h)
 earlier_assoc None g h = refl
 earlier_assoc (Some f) None h = refl
 earlier_assoc (Some f) (Some g) None = either (λ o. earlier o None ≡ o) (comes_before g f) (Some g) (Some f) (λ is. refl) refl
-earlier_assoc (Some f) (Some g) (Some h) = by_tests f g h (comes_before g f) (comes_before h g) refl refl
-    (less_less (at_of f) (number_of f) (at_of g) (number_of g) (at_of h) (number_of h)) (not_less (at_of f) (number_of f) (at_of g) (number_of g) (at_of h) (number_of h))
+earlier_assoc (Some f) (Some g) (Some h) = three f g h
 
 pub least_of_append : (fs gs : List SchemaFault) → least_of (fs ++ gs) ≡ earlier (least_of fs) (least_of gs)
 least_of_append [] gs = refl
