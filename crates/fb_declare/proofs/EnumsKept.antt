@@ -1,15 +1,16 @@
 -- The body of an enum with no fault: its values have different names and numbers of its type, with `bit_flags` one bit each.
-use Rattle.std.proofs.Common.{◌≡◌, ◌≢◌, ℕ, ◌*◌, ◌^◌, ◌<◌, ◌||◌, Bool, true, false, List, [], length, map, take, get_or, All, AllPairs, Option, None, Some, is_none, refl, ap, sym, ◌∙◌, arith, if◌then◌else◌, ⊎_elim, true≢false}
+use Rattle.std.proofs.Common.{◌≡◌, ◌≢◌, ℕ, ◌*◌, ◌^◌, ◌<◌, ◌||◌, Bool, true, false, List, [], take, get_or, All, AllPairs, Option, None, Some, is_none, refl, ap, sym, ◌∙◌, arith, if◌then◌else◌, ⊎_elim, true≢false}
 use Rattle.std.specs.Prelude.{ℤ, pos, negsuc, int_le}
-use Rattle.std.specs.List.{list_any, slice_get}
 use Rattle.std.specs.Ordering.{int_eq}
-use Rattle.std.proofs.lemmas.Bool.{or_parts, and_parts, not-false, ltb-true, cases_order}
+use Rattle.std.specs.Str.{bytes_eq}
+use Rattle.std.proofs.lemmas.Bool.{and_parts, not-false, ltb-true, cases_order}
 use Rattle.std.proofs.lemmas.Bool.Decides.{Decides-int_eq}
+use Rattle.std.proofs.lemmas.Cmp.{nat_list_eq_equiv, int_eq_equiv}
 use Rattle.std.proofs.lemmas.Int.{ints}
-use Rattle.std.proofs.lemmas.Simd.{map-map}
 use Rattle.std.proofs.lemmas.List.Elements.{All-map}
 use Rattle.std.proofs.lemmas.Nat.{pow_below}
 use Rattle.std.proofs.lemmas.Option.{slice_get-get_or}
+use Rattle.std.proofs.lemmas.Slice.Eq.{bytes_eq-Decides}
 use Rattle.fb_syntax.specs.declared.declarations.AttributeValue.{AttributeValue}
 use Rattle.fb_schema.specs.declared.kinds.Base.{Base}
 use Rattle.fb_schema.specs.declared.kinds.Base.TheVariants.{Bool as Boolean, U8, U16, U32, U64}
@@ -17,7 +18,7 @@ use Rattle.fb_schema.specs.declared.kinds.Kind.TheVariants.{Scalar}
 use Rattle.fb_schema.specs.Schema.{Name}
 use Rattle.fb_schema.specs.Alignments.{base_size}
 use Rattle.fb_schema.specs.WellDeclared.{IsBetween, InRange, is_unsigned, IsFlag, IsEnumBody}
-use Rattle.fb_declare.specs.declared.faults.SchemaFault.TheVariants.{BadEnumValue, Unsupported}
+use Rattle.fb_declare.specs.declared.faults.SchemaFault.TheVariants.{DuplicateName, BadEnumValue, Unsupported}
 use Rattle.fb_resolve.specs.declared.meanings.Meaning.{Meaning}
 use Rattle.fb_resolve.specs.declared.meanings.Meaning.TheVariants.{Known, Unknown}
 use Rattle.fb_resolve.specs.declared.attributes.BuiltInAttribute.TheVariants.{BitFlags}
@@ -26,11 +27,9 @@ use Rattle.fb_schema.specs.Ranges.{is_between, holds}
 use Rattle.fb_resolve.specs.ResolvedFields.{ResolvedValue, ResolvedEnum}
 use Rattle.fb_declare.specs.AttributeFaults.{may_stand, metadata_faults}
 use Rattle.fb_resolve.specs.EnumsRead.{integer_type, has_flags, value_number, may_be_written, base_or_ubyte, value_over, values_over}
-use Rattle.fb_declare.specs.FaultRows.{faults_in_turn, names_again, underlying_faults, is_out_of_range, bad_value}
+use Rattle.fb_declare.specs.FaultRows.{when, faults_in_turn, is_again, underlying_faults, is_out_of_range, value_faults}
 use Rattle.fb_declare.specs.TypeFaults.{host_of_enum, enum_faults}
-use Rattle.fb_declare.proofs.NamesApart.{apart, pairs_map, named_apart}
-use Rattle.fb_declare.proofs.FaultFree.{four_none, none_behind, when-none}
-use Rattle.fb_declare.proofs.AttributesKept.{noted_stands}
+use Rattle.fb_declare.proofs.FaultFree.{either-none, keys_distinct, keys_apart, pairs_map, both_none, three_none, none_behind, when-none, noted_stands}
 
 -- no enum is one of `bool`
 not_boolean : (m : Meaning) → base_or_ubyte (integer_type m) ≢ Boolean
@@ -45,7 +44,6 @@ integer_under m at h = when-none (is_none (integer_type m)) (Unsupported at) h
 
 -- flags stand on unsigned types alone
 flags_unsigned : (b : Bool) (value : Option AttributeValue) → may_stand (if b then hosts.Enum else hosts.SignedEnum) BitFlags value ≡ true → b ≡ true
-unfolding may_stand
 flags_unsigned true value h = refl
 flags_unsigned false value h = absurd (true≢false (sym h))
 
@@ -89,53 +87,63 @@ numbers_apart base true (negsuc j) (pos k) g h e = absurd (true≢false (sym g))
 numbers_apart base true n (negsuc k) g h e = absurd (true≢false (sym h))
 numbers_apart base false n m g h e = e
 
--- the values of an enum over an integer type with no fault in their numbers
-module _ (base : Base) (flags : Bool) (vs : List ResolvedValue) (none : faults_in_turn (bad_value (Some base) flags) vs ≡ []) where
-  -- each number may be written, and is new
-  number_right : (k : ℕ) (v : ResolvedValue) → slice_get vs k ≡ Some v → (may_be_written base flags v.number ≡ true) × (list_any (λ w. int_eq v.number w.number) (take k vs) ≡ false)
-  number_right k v e =
-      let again : Bool = list_any (λ w. int_eq v.number w.number) (take k vs) in
-      let wrong = is_out_of_range (Some base) flags v.number in
-      let right = or_parts wrong again (when-none (wrong || again) (BadEnumValue v.value.name.at) (none_behind (bad_value (Some base) flags) [] vs none k v e)) in
-      (not-false (may_be_written base flags v.number) right.0, right.1)
+-- what is known of a value with no fault, behind others
+record IsValueRight (base : Base) (flags : Bool) (before : List ResolvedValue) (v : ResolvedValue) : Type 0 where
+  pub name : is_again bytes_eq (λ w. w.value.name.bytes) before v ≡ false
+  pub written : may_be_written base flags v.number ≡ true
+  pub number : is_again int_eq (λ w. w.number) before v ≡ false
 
-  written_at : (k : ℕ) (d : ResolvedValue) → k < length vs → may_be_written base flags (get_or vs k d).number ≡ true
-  written_at k d within = (number_right k (get_or vs k d) (slice_get-get_or vs k d within)).0
+value_right : (base : Base) (flags : Bool) (before : List ResolvedValue) (v : ResolvedValue) → value_faults (Some base) flags before v ≡ [] → IsValueRight base flags before v
+value_right base flags before v h =
+    let named = is_again bytes_eq (λ w. w.value.name.bytes) before v in let again = is_again int_eq (λ w. w.number) before v in
+    let wrong = is_out_of_range (Some base) flags v.number in let at = v.value.name.at in
+    let parts = both_none (when named (DuplicateName at)) (when (wrong || again) (BadEnumValue at)) h in
+    let right = either-none wrong again (BadEnumValue at) parts.1 in
+    record { name = when-none named (DuplicateName at) parts.0; written = not-false (may_be_written base flags v.number) right.0; number = right.1 }
 
-  -- no two values have one number
+-- the values of an enum over an integer type with no fault in them
+module _ (base : Base) (flags : Bool) (vs : List ResolvedValue) (none : faults_in_turn (value_faults (Some base) flags) vs ≡ []) where
+  written : All (λ v. may_be_written base flags v.number ≡ true) vs
+  written k d within = (value_right base flags (take k vs) (get_or vs k d) (none_behind (value_faults (Some base) flags) [] vs none k (get_or vs k d) (slice_get-get_or vs k d within))).written
+
+  -- no two values have one name
+  names_differ : AllPairs (λ v w. v.value.name.bytes ≢ w.value.name.bytes) vs
+  names_differ = keys_apart bytes_eq-Decides (λ v. v.value.name.bytes) vs
+      (keys_distinct nat_list_eq_equiv (λ v. v.value.name.bytes) (value_faults (Some base) flags) (λ before v h. (value_right base flags before v h).name) vs none)
+
+  -- nor one number
   numbers_differ : AllPairs (λ v w. value_number base flags v.number ≢ value_number base flags w.number) vs
   numbers_differ i j d before within e =
-      apart int_eq Decides-int_eq (λ v. v.number) vs (λ k v e. (number_right k v e).1) i j d before within
-      (numbers_apart base flags (get_or vs i d).number (get_or vs j d).number (written_at i d (omega arith)) (written_at j d within) e)
+      keys_apart Decides-int_eq (λ v. v.number) vs (keys_distinct int_eq_equiv (λ v. v.number) (value_faults (Some base) flags) (λ before v h. (value_right base flags before v h).number) vs none) i j d before within
+      (numbers_apart base flags (get_or vs i d).number (get_or vs j d).number (written i d (omega arith)) (written j d within) e)
 
   -- the values are a right body
-  values_kept : base ≢ Boolean → (flags ≡ true → is_unsigned base ≡ true) → names_again (map (λ v. v.value.name) vs) ≡ [] → IsEnumBody base flags (values_over (Some base) flags vs)
-  values_kept integers unsigned names =
-      let kept : All (λ v. NumberKept base flags (value_number base flags v.number)) vs = λ k d within. number_kept base flags (get_or vs k d).number unsigned (written_at k d within) in
+  values_kept : base ≢ Boolean → (flags ≡ true → is_unsigned base ≡ true) → IsEnumBody base flags (values_over (Some base) flags vs)
+  values_kept integers unsigned =
+      let kept : All (λ v. NumberKept base flags (value_number base flags v.number)) vs = λ k d within. number_kept base flags (get_or vs k d).number unsigned (written k d within) in
       record {
         integers = integers;
-        names = named_apart (λ v. v.0) (map (λ v. v.value.name) vs) (values_over (Some base) flags vs) (map-map (λ n. n.bytes) (λ v. v.value.name) vs ∙ sym (map-map (λ v. v.0) (value_over base flags) vs)) names;
+        names = pairs_map (λ a b. a.0 ≢ b.0) (value_over base flags) vs names_differ;
         numbers = pairs_map (λ a b. a.1 ≢ b.1) (value_over base flags) vs numbers_differ;
         ranges = All-map (λ v. InRange base v.1) (value_over base flags) vs (λ k d within. (kept k d within).0);
         bits = λ is. (unsigned is, All-map (λ v. IsFlag base v.1) (value_over base flags) vs (λ k d within. (kept k d within).1 is));
       }
 
 -- an enum over a type with no fault in its parts
-over_kept : (declared : List Name) (under : Option Base) (e : ResolvedEnum) → e.bit_flags ≡ has_flags e.declared → base_or_ubyte under ≢ Boolean
-    → is_none under ≡ false → metadata_faults declared (host_of_enum under) e.declared.attributes ≡ [] → names_again (map (λ v. v.value.name) e.values) ≡ [] → faults_in_turn (bad_value under e.bit_flags) e.values ≡ []
+over_kept : (declared : Name → Bool) (under : Option Base) (e : ResolvedEnum) → e.bit_flags ≡ has_flags e.declared → base_or_ubyte under ≢ Boolean
+    → is_none under ≡ false → metadata_faults declared (host_of_enum under) e.declared.attributes ≡ [] → faults_in_turn (value_faults under e.bit_flags) e.values ≡ []
     → (under ≡ Some (base_or_ubyte under)) × IsEnumBody (base_or_ubyte under) e.bit_flags (values_over under e.bit_flags e.values)
-over_kept declared None e read integers some metadata names numbers = absurd (true≢false some)
-over_kept declared (Some base) e read integers some metadata names numbers =
+over_kept declared None e read integers some metadata values = absurd (true≢false some)
+over_kept declared (Some base) e read integers some metadata values =
     let unsigned = λ (is : e.bit_flags ≡ true).
     let stands = noted_stands declared (host_of_enum (Some base)) e.declared.attributes metadata BitFlags (sym read ∙ is) in flags_unsigned (is_unsigned base) stands.0.value stands.1 in
-    (refl, values_kept base e.bit_flags e.values numbers integers unsigned names)
+    (refl, values_kept base e.bit_flags e.values values integers unsigned)
 
 -- an enum with no fault is over an integer type, and has a right body
-pub enum_kept : (declared : List Name) (e : ResolvedEnum) → e.bit_flags ≡ has_flags e.declared → enum_faults declared e ≡ [] → let base = integer_type e.underlying in
+pub enum_kept : (declared : Name → Bool) (e : ResolvedEnum) → e.bit_flags ≡ has_flags e.declared → enum_faults declared e ≡ [] → let base = integer_type e.underlying in
     (base ≡ Some (base_or_ubyte base)) × IsEnumBody (base_or_ubyte base) e.bit_flags (values_over base e.bit_flags e.values)
-unfolding enum_faults
 enum_kept declared e read h =
     let base = integer_type e.underlying in
-    let right = four_none (underlying_faults e.underlying e.declared.underlying.at) (metadata_faults declared (host_of_enum base) e.declared.attributes)
-    (names_again (map (λ v. v.value.name) e.values)) (faults_in_turn (bad_value base e.bit_flags) e.values) h in
-    over_kept declared base e read (not_boolean e.underlying) (integer_under e.underlying e.declared.underlying.at right.0) right.1 right.2 right.3
+    let right = three_none (underlying_faults e.underlying e.declared.underlying.at) (metadata_faults declared (host_of_enum base) e.declared.attributes)
+    (faults_in_turn (value_faults base e.bit_flags) e.values) h in
+    over_kept declared base e read (not_boolean e.underlying) (integer_under e.underlying e.declared.underlying.at right.0) right.1 right.2

@@ -1,12 +1,11 @@
 -- The least fault of lists: of joined ones, of a list in turn, and what it says of the list.
 use Rattle.std.proofs.Common.{◌≡◌, ◌<◌, ◌+◌, ◌++◌, ◌==◌, ◌&&◌, ◌||◌, nat_lt, ℕ, Bool, true, false, List, [], ◌∷◌, length, map, take, get_or, cond, Contains, Option, None, Some, refl, ap, sym, ◌∙◌, append_assoc, arith}
-use Rattle.std.specs.List.{list_any, flat_map}
-use Rattle.std.proofs.Math.Bool.{or_comm}
-use Rattle.std.proofs.lemmas.Grind.{flat_map-append}
-use Rattle.std.proofs.lemmas.List.{append-nil, take_more}
+use Rattle.std.specs.List.{list_any}
+use Rattle.std.proofs.Math.Bool.{or-false, or_comm}
+use Rattle.std.proofs.lemmas.List.{append-nil, map_push, take_more}
+use Rattle.std.proofs.lemmas.List.Folds.{list_any-append}
 use Rattle.std.proofs.lemmas.List.Elements.{Contains-append_right}
 use Rattle.std.proofs.lemmas.Option.{none-some, same_Some}
-use Rattle.fb_resolve.proofs.Steps.{list_any-snoc}
 use Rattle.fb_declare.specs.declared.faults.SchemaFault.{SchemaFault}
 use Rattle.fb_declare.specs.FaultTable.{number_of}
 use Rattle.fb_declare.specs.Faults.{at_of, comes_before, earlier, least_of}
@@ -22,23 +21,17 @@ less_less a n b m c k p q = grind (arith)
 not_less : (a n b m c k : ℕ) → is_less c k b m ≡ false → is_less b m a n ≡ false → is_less c k a n ≡ false
 not_less a n b m c k p q = grind (arith)
 
--- of three faults, by which of two of them come first
-by_tests : (f g h : SchemaFault) (gf hg : Bool) → comes_before g f ≡ gf → comes_before h g ≡ hg → (hg ≡ true → gf ≡ true → comes_before h f ≡ true) → (hg ≡ false → gf ≡ false → comes_before h f ≡ false)
-    → earlier (earlier (Some f) (Some g)) (Some h) ≡ earlier (Some f) (earlier (Some g) (Some h))
-by_tests f g h true true p q up down = rw (p, q, up refl refl)
-by_tests f g h true false p q up down = rw (p, q, p)
-by_tests f g h false true p q up down = rw (p, q)
-by_tests f g h false false p q up down = rw (p, q, down refl refl, p)
+-- the first of three faults is the first in whichever order they are compared
+three : (f g h : SchemaFault) → earlier (earlier (Some f) (Some g)) (Some h) ≡ earlier (Some f) (earlier (Some g) (Some h))
+three f g h = grind (arith, less_less (at_of f) (number_of f) (at_of g) (number_of g) (at_of h) (number_of h), not_less (at_of f) (number_of f) (at_of g) (number_of g) (at_of h) (number_of h))
 
 earlier_assoc : (f g h : Option SchemaFault) → earlier (earlier f g) h ≡ earlier f (earlier g h)
 earlier_assoc None g h = refl
 earlier_assoc (Some f) None h = refl
 earlier_assoc (Some f) (Some g) None = either (λ o. earlier o None ≡ o) (comes_before g f) (Some g) (Some f) (λ is. refl) refl
-earlier_assoc (Some f) (Some g) (Some h) = by_tests f g h (comes_before g f) (comes_before h g) refl refl
-    (less_less (at_of f) (number_of f) (at_of g) (number_of g) (at_of h) (number_of h)) (not_less (at_of f) (number_of f) (at_of g) (number_of g) (at_of h) (number_of h))
+earlier_assoc (Some f) (Some g) (Some h) = three f g h
 
 pub least_of_append : (fs gs : List SchemaFault) → least_of (fs ++ gs) ≡ earlier (least_of fs) (least_of gs)
-unfolding least_of
 least_of_append [] gs = refl
 least_of_append (f ∷ fs) gs = ap (earlier (Some f)) (least_of_append fs gs) ∙ sym (earlier_assoc (Some f) (least_of fs) (least_of gs))
 
@@ -49,7 +42,6 @@ pub taken : {X : Type 0} (xs : List X) (i : ℕ) (x : X) → i < length xs → x
 taken xs i x h e = take_more xs i x h ∙ ap (λ y. take i xs ++ y ∷ []) (sym e)
 
 faults_behind-snoc : {X : Type 0} (rule : List X → X → List SchemaFault) (before xs : List X) (x : X) → faults_behind rule before (xs ++ x ∷ []) ≡ faults_behind rule before xs ++ rule (before ++ xs) x
-unfolding faults_behind
 faults_behind-snoc rule before [] x = append-nil (rule before x) ∙ ap (λ b. rule b x) (sym (append-nil before))
 faults_behind-snoc rule before (y ∷ xs) x =
     ap (λ fs. rule before y ++ fs) (faults_behind-snoc rule (before ++ y ∷ []) xs x ∙ ap (λ b. faults_behind rule (before ++ y ∷ []) xs ++ rule b x) (append_assoc before (y ∷ []) xs))
@@ -61,17 +53,11 @@ pub least_more : {X : Type 0} (rule : List X → X → List SchemaFault) (xs : L
 least_more rule xs i x h e = sym (least_of_append (faults_behind rule [] (take i xs)) (rule (take i xs) x))
     ∙ ap least_of (sym (ap (faults_behind rule []) (taken xs i x h e) ∙ faults_behind-snoc rule [] (take i xs) x))
 
--- the next element, by a rule that looks at it alone
-pub least_each : {X : Type 0} (rule : X → List SchemaFault) (xs : List X) (i : ℕ) (x : X) → i < length xs → x ≡ get_or xs i x
-    → earlier (least_of (flat_map rule (take i xs))) (least_of (rule x)) ≡ least_of (flat_map rule (take (i + 1) xs))
-least_each rule xs i x h e = sym (least_of_append (flat_map rule (take i xs)) (rule x))
-    ∙ ap (λ fs. least_of (flat_map rule (take i xs) ++ fs)) (sym (append-nil (rule x)))
-    ∙ ap least_of (sym (ap (flat_map rule) (taken xs i x h e) ∙ flat_map-append rule (take i xs) (x ∷ [])))
+pub map-taken : {X K : Type 0} (key : X → K) (xs : List X) (i : ℕ) (x : X) → i < length xs → x ≡ get_or xs i x → map key (take (i + 1) xs) ≡ map key (take i xs) ++ key x ∷ []
+map-taken key xs i x h e = ap (map key) (taken xs i x h e) ∙ map_push key (take i xs) x
 
--- the next one is met too
-pub met_more : {X K : Type 0} (eq : K → K → Bool) (key : X → K) (xs : List X) (i : ℕ) (x : X) (n : K) (met : Bool) → i < length xs → x ≡ get_or xs i x
-    → met ≡ list_any (λ y. eq n (key y)) (take i xs) → met || eq n (key x) ≡ list_any (λ y. eq n (key y)) (take (i + 1) xs)
-met_more eq key xs i x n met h e was = ap (λ b. b || eq n (key x)) was ∙ sym (list_any-snoc (λ y. eq n (key y)) (take i xs) x) ∙ ap (list_any (λ y. eq n (key y))) (sym (taken xs i x h e))
+pub list_any-snoc : {X : Type 0} (test : X → Bool) (xs : List X) (x : X) → list_any test (xs ++ x ∷ []) ≡ list_any test xs || test x
+list_any-snoc test xs x = list_any-append test xs (x ∷ []) ∙ ap (λ b. list_any test xs || b) (or-false (test x))
 
 -- a test of what a list is read as
 pub list_any-map : {X Y : Type 0} (test : Y → Bool) (f : X → Y) (xs : List X) → list_any test (map f xs) ≡ list_any (λ x. test (f x)) xs
@@ -90,10 +76,9 @@ earlier_some f None h = none-some f (sym h)
 earlier_some f (Some g) h = either (λ o. o ≡ None → ⊥) (comes_before g f) (Some g) (Some f) (λ is e. none-some g (sym e)) (λ e. none-some f (sym e)) h
 
 -- no least fault: none at all
-pub least-none : (fs : List SchemaFault) → least_of fs ≡ None → fs ≡ []
-unfolding least_of
-least-none [] h = refl
-least-none (f ∷ fs) h = absurd (earlier_some f (least_of fs) h)
+pub least_none : (fs : List SchemaFault) → least_of fs ≡ None → fs ≡ []
+least_none [] h = refl
+least_none (f ∷ fs) h = absurd (earlier_some f (least_of fs) h)
 
 contained_by : (f g : SchemaFault) (fs : List SchemaFault) (o : Option SchemaFault) → ((h : SchemaFault) → o ≡ Some h → Contains fs h) → earlier (Some g) o ≡ Some f → Contains (g ∷ fs) f
 contained_by f g fs None rest e = (0, omega arith, same_Some g f e)
@@ -101,7 +86,6 @@ contained_by f g fs (Some h) rest e = either (λ o. o ≡ Some f → Contains (g
     (λ is e. Contains-append_right (g ∷ []) fs f (rest f e)) (λ e. (0, omega arith, same_Some g f e)) e
 
 -- the least fault is one of them
-pub least-some : (fs : List SchemaFault) (f : SchemaFault) → least_of fs ≡ Some f → Contains fs f
-unfolding least_of
-least-some [] f e = cc
-least-some (g ∷ fs) f e = contained_by f g fs (least_of fs) (λ h is. least-some fs h is) e
+pub least_some : (fs : List SchemaFault) (f : SchemaFault) → least_of fs ≡ Some f → Contains fs f
+least_some [] f e = cc
+least_some (g ∷ fs) f e = contained_by f g fs (least_of fs) (λ h is. least_some fs h is) e

@@ -1,16 +1,8 @@
 pub mod Least
 pub mod FaultFree
-pub mod NamesApart
-pub mod Meant
-pub mod AttributesKept
 pub mod EnumsKept
-pub mod UnionsKept
-pub mod DefaultsKept
-pub mod SlotsKept
 pub mod TypesKept
 pub mod TablesKept
 pub mod StructsKept
-pub mod AlignmentsKept
 pub mod Kept
-pub mod Building
 pub mod OneSchema

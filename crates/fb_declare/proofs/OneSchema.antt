@@ -38,17 +38,12 @@ same_body (resolved.Enum e) (enum_body a f vs) (enum_body b g ws) x y =
 same_body (resolved.Union u) (union_body ms) (union_body ns) x y = ap union_body (x ∙ sym y)
 same_body _ _ _ x y = grind arith
 
--- What is read of a type gives one type at most.
-same_type : (r : ResolvedType) (t u : DeclaredType) → IsType r t → IsType r u → t ≡ u
-same_type r t u x y =
-    let name : t.name ≡ u.name = x.name ∙ sym y.name in
-    let body : t.body ≡ u.body = same_body r.declaration t.body u.body x.body y.body in
-    λ i. record { name = name i; body = body i }
-
 -- Declarations give one list of types at most.
 same_types : (rs : List ResolvedType) (ts us : List DeclaredType) → AllZip IsType rs ts → AllZip IsType rs us → ts ≡ us
 same_types [] [] [] x y = refl
-same_types (r ∷ rs) (t ∷ ts) (u ∷ us) x y = let head : t ≡ u = same_type r t u x.0 y.0 in let tail : ts ≡ us = same_types rs ts us x.1 y.1 in cc
+same_types (r ∷ rs) (t ∷ ts) (u ∷ us) x y =
+    let name : t.name ≡ u.name = x.0.name ∙ sym y.0.name in let body = same_body r.declaration t.body u.body x.0.body y.0.body in let rest = same_types rs ts us x.1 y.1 in
+    λ i. record { name = name i; body = body i } ∷ rest i
 same_types _ _ _ x y = grind arith
 
 -- The declarations of a text give one schema at most.

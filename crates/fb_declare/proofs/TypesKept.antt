@@ -1,22 +1,147 @@
--- Each type of the schema that an outline with no fault gives, by what declares it; and the enums that fields name.
-use Rattle.std.proofs.Common.{◌≡◌, ℕ, ◌∙◌, Bool, false, List, [], take, refl, ap, sym, subst, true≢false, Option, None, Some, IsTrue, IfSome, ℤ}
-use Rattle.std.specs.List.{slice_get, All}
-use Rattle.std.specs.Option.{option_map}
-use Rattle.std.proofs.lemmas.Option.{slice_get-map}
+-- What the uses of names mean in the schema that an outline with no fault gives, each type of it by what declares it, and the enums that fields name.
+use Rattle.std.proofs.Common.{◌≡◌, ℕ, zero, suc, Bool, List, ◌∷◌, map, get_or, false, true≢false, refl, sym, subst, arith, Option, None, Some, IsTrue, [], ℤ, IfSome, ◌∙◌, take, ap, slice_get}
+use Rattle.std.specs.List.{slice_get, All, AllZip, find, list_any}
+use Rattle.std.specs.Option.{is_none, unwrap_or, option_map, option_or, option_and_then}
+use Rattle.std.proofs.lemmas.List.Elements.{All-map, All-head, All-tail}
+use Rattle.std.proofs.lemmas.Option.{slice_get_within, same_Some, slice_get-map}
+use Rattle.fb_syntax.specs.FieldRead.{FieldRead}
 use Rattle.fb_syntax.specs.declared.declarations.TypeDecl.{TypeDecl}
 use Rattle.fb_syntax.specs.declared.declarations.TypeDecl.TheVariants as decls
-use Rattle.fb_schema.specs.Schema.{Name, DeclaredBody, table_body, enum_body, DeclaredType, DeclaredSchema, body_in, body_at, base_in, is_enum}
-use Rattle.fb_schema.specs.WellDeclared.{InRange, Names}
+use Rattle.fb_schema.specs.Schema.{Name, DeclaredBody, table_body, struct_body, enum_body, union_body, DeclaredSchema, body_in, is_table, is_struct, is_enum, is_union, DeclaredType, body_at, base_in}
+use Rattle.fb_schema.specs.WellDeclared.{Names, KindNames, InRange}
 use Rattle.fb_schema.specs.declared.kinds.Base.{Base}
-use Rattle.fb_resolve.specs.Outline.{TypeRead, Outline}
-use Rattle.fb_resolve.specs.Resolved.{resolved_enum, resolved_declaration, resolved_type, resolved_types}
-use Rattle.fb_resolve.specs.EnumsRead.{underlying_in, underlying_of_read, underlying_at, value_in, value_of_read, value_at, values_read}
-use Rattle.fb_declare.specs.TypeFaults.{declaration_faults, aligns_from, faults_of_types}
+use Rattle.fb_schema.specs.declared.kinds.Kind.{Kind}
+use Rattle.fb_schema.specs.declared.kinds.Kind.TheVariants.{Table, Code, Text}
+use Rattle.fb_resolve.specs.Outline.{TypeRead, Outline, full_name, name_of_type}
+use Rattle.fb_resolve.specs.Scopes.{type_meant}
+use Rattle.fb_resolve.specs.Attributes.{has_attribute, number_called}
+use Rattle.fb_resolve.specs.BasicTypes.{basic_type, is_text_type, is_float_type}
+use Rattle.fb_resolve.specs.Defaults.{given_by}
+use Rattle.fb_resolve.specs.EnumsRead.{has_flags, underlying_at, value_at, number_named, value_named, behind, underlying_in, underlying_of_read, value_in, value_of_read, values_read}
+use Rattle.fb_resolve.specs.Meaning.{use_of, use_of_read, use_of_type, or_scalar, meaning_of, type_name}
+use Rattle.fb_resolve.specs.MembersRead.{table_of}
+use Rattle.fb_resolve.specs.ResolvedFields.{ResolvedField}
+use Rattle.fb_resolve.specs.Resolved.{resolved_field, resolved_fields, resolved_member, resolved_declaration, resolved_type, resolved_enum, resolved_types}
+use Rattle.fb_resolve.specs.declared.attributes.BuiltInAttribute.TheVariants.{Required, ForceAlign}
+use Rattle.fb_resolve.specs.declared.meanings.Meaning.{Meaning}
+use Rattle.fb_resolve.specs.declared.meanings.Meaning.TheVariants.{Known, Float}
+use Rattle.fb_resolve.specs.declared.resolved.ResolvedDecl.{ResolvedDecl}
+use Rattle.fb_resolve.specs.declared.resolved.ResolvedDecl.TheVariants as resolved
 use Rattle.fb_declare.specs.Declares.{HasBody, IsType, Gives}
-use Rattle.fb_declare.proofs.DefaultsKept.{value_found}
+use Rattle.fb_declare.proofs.FaultFree.{either, none_behind, type_right}
+use Rattle.std.specs.Str.{bytes_eq}
+use Rattle.fb_syntax.specs.TypesRead.{EnumRead}
 use Rattle.fb_declare.proofs.EnumsKept.{enum_kept}
-use Rattle.fb_declare.proofs.FaultFree.{none_of_type}
-use Rattle.fb_declare.proofs.Meant.{at_right}
+use Rattle.fb_declare.specs.FaultRows.{faults_in_turn, is_again}
+use Rattle.fb_declare.specs.TypeFaults.{declaration_faults, aligns_from, type_behind, declared_in}
+use Rattle.std.proofs.lemmas.List.{take-map}
+use Rattle.fb_resolve.specs.RepeatedNames.{AreRepeats}
+use Rattle.fb_resolve.specs.ResolvedType.{ResolvedType}
+use Rattle.fb_declare.proofs.Least.{list_any-map}
+
+-- ---- what is known of a declaration that is resolved
+
+-- no use of a name is that of a union's code
+abbrev pub IsNoCode : Kind → Type 0
+IsNoCode (Code u) = ⊥
+IsNoCode _ = Unit {0}
+
+-- what a meaning says of the schema
+abbrev pub MeansIn : DeclaredSchema → Meaning → Type 0
+MeansIn S (Known kind) = KindNames S kind × IsNoCode kind
+MeansIn S _ = Unit {0}
+
+-- a field's type is in the schema, and its marks are those that are written
+pub record IsRead (types : List TypeRead) (S : DeclaredSchema) (f : ResolvedField) : Type 0 where
+  pub means : MeansIn S f.meaning
+  pub required : f.attributes.required ≡ has_attribute Required f.field.attributes
+  pub given : f.given ≡ given_by types f.field.kind f.meaning f.field.default
+
+abbrev pub IsReadIn : List TypeRead → DeclaredSchema → ResolvedDecl → Type 0
+IsReadIn types S (resolved.Table t) = All (IsRead types S) t.fields
+IsReadIn types S (resolved.Struct s) = All (IsRead types S) s.fields × (s.force_align ≡ number_called ForceAlign s.declared.attributes)
+IsReadIn types S (resolved.Enum e) = e.bit_flags ≡ has_flags e.declared
+IsReadIn types S (resolved.Union u) = All (λ m. MeansIn S m.meaning) u.members
+
+-- ---- a type and what is read of it
+
+module _ {A B C : Type 0} (R : B → C → Type 0) (f : A → B) where
+  at_left : (xs : List A) (ys : List C) → AllZip R (map f xs) ys → (t : ℕ) (x : A) → slice_get xs t ≡ Some x → (y : C) × (slice_get ys t ≡ Some y) × R (f x) y
+  at_left (a ∷ xs) (y ∷ ys) z zero x e = (y, refl, subst (λ a. R (f a) y) (same_Some a x e) z.0)
+  at_left (a ∷ xs) (y ∷ ys) z (suc t) x e = at_left xs ys z.1 t x e
+  at_left _ _ z t x e = absurd (grind arith)
+
+  pub at_right : (xs : List A) (ys : List C) → AllZip R (map f xs) ys → (t : ℕ) (y : C) → slice_get ys t ≡ Some y → (x : A) × (slice_get xs t ≡ Some x) × R (f x) y
+  at_right (x ∷ xs) (b ∷ ys) z zero y e = (x, refl, subst (R (f x)) (same_Some b y e) z.0)
+  at_right (x ∷ xs) (b ∷ ys) z (suc t) y e = at_right xs ys z.1 t y e
+  at_right _ _ z t y e = absurd (grind arith)
+
+-- a use of a type that has the body of its declaration
+means_use : (S : DeclaredSchema) (types : List TypeRead) (scope : Option Name) (t : ℕ) (d : TypeDecl) (b : DeclaredBody) → ((test : DeclaredBody → Bool) → IsTrue (test b) → Names test S t)
+    → HasBody (resolved_declaration types scope d) b → MeansIn S (use_of t d)
+means_use S types scope t (decls.Table d) (table_body slots) names h = (names is_table refl, tt)
+means_use S types scope t (decls.Struct d) (struct_body parts force) names h = (names is_struct refl, tt)
+means_use S types scope t (decls.Enum d) (enum_body base flags values) names h = (names is_enum refl, tt)
+means_use S types scope t (decls.Union d) (union_body members) names h = (names is_union refl, tt)
+means_use S types scope t d b names h = absurd h
+
+means_name : (S : DeclaredSchema) (base : Option Base) (m : Meaning) → MeansIn S m → MeansIn S (or_scalar base m)
+means_name S None m h = h
+means_name S (Some base) m h = (tt, tt)
+
+-- the number of the table that a use names
+pub table_named : (S : DeclaredSchema) (m : Meaning) → MeansIn S m → is_none (table_of m) ≡ false → Names is_table S (unwrap_or (table_of m) 0)
+table_named S (Known (Table t)) means h = means.0
+table_named S m means h = absurd (true≢false h)
+
+module _ (o : Outline) (S : DeclaredSchema) (g : Gives o S) where
+  means_read : (t : ℕ) (r : Option TypeRead) → slice_get o.types t ≡ r → MeansIn S (use_of_read t r)
+  means_read t None e = tt
+  means_read t (Some r) e =
+      let x = at_left IsType (resolved_type o.types) o.types S.types g.types t r e in
+      means_use S o.types r.scope t r.declaration x.0.body (λ test is. (slice_get_within S.types t x.0 x.1, subst (λ o. IsTrue (test (body_in o))) (sym x.1) is)) x.2.body
+
+  means_type : (t : Option ℕ) → MeansIn S (use_of_type o.types t)
+  means_type None = tt
+  means_type (Some t) = means_read t (slice_get o.types t) refl
+
+  -- what a name means is there in the schema
+  pub means_in : (scope : Option Name) (name : Name) → MeansIn S (meaning_of o.types scope name)
+  unfolding meaning_of
+  means_in scope name = means_name S (basic_type name) _
+      (either (MeansIn S) (is_text_type name) (Known Text) _ (λ is. (tt, tt)) (either (MeansIn S) (is_float_type name) Float _ (λ is. tt) (means_type (type_meant o.types scope name))))
+
+  fields_read : (scope : Option Name) (fs : List FieldRead) → All (IsRead o.types S) (resolved_fields o.types scope fs)
+  fields_read scope fs = All-map (IsRead o.types S) (resolved_field o.types scope) fs
+      (λ k d within. record { means = means_in scope (type_name (get_or fs k d).kind).bytes; required = refl; given = refl })
+
+  -- and so is all that a declaration names
+  pub read_in : (scope : Option Name) (d : TypeDecl) → IsReadIn o.types S (resolved_declaration o.types scope d)
+  read_in scope (decls.Table d) = fields_read scope d.fields
+  read_in scope (decls.Struct d) = (fields_read scope d.fields, refl)
+  read_in scope (decls.Enum d) = refl
+  read_in scope (decls.Union d) = All-map (λ m. MeansIn S m.meaning) (resolved_member o.types scope) d.members (λ k m within. means_in scope (get_or d.members k m).table.bytes)
+
+-- what a name finds among values of which something holds
+number_found : (P : ℤ → Type 0) (values : List (Name × ℤ)) (name : Name) → All (λ v. P v.1) values → IfSome (number_named values name) P
+unfolding number_named
+number_found P [] name h = tt
+number_found P (v ∷ vs) name h = either (λ o. IfSome (option_map (λ w. w.1) o) P) (bytes_eq name v.0) (Some v) (find (λ w. bytes_eq name w.0) vs)
+    (λ is. All-head (λ w. P w.1) v vs h) (number_found P vs name (All-tail (λ w. P w.1) v vs h))
+
+either_found : (P : ℤ → Type 0) (a b : Option ℤ) → IfSome a P → IfSome b P → IfSome (option_or a b) P
+either_found P None b p q = q
+either_found P (Some n) b p q = p
+
+-- what holds of values holds of the number that a value's name means
+module _ (P : ℤ → Type 0) (values : List (Name × ℤ)) (h : All (λ v. P v.1) values) where
+  found_behind : (o : Option Name) → IfSome (option_and_then (number_named values) o) P
+  found_behind None = tt
+  found_behind (Some name) = number_found P values name h
+
+  value_found : (scope : Option Name) (e : EnumRead) (name : Name) → IfSome (value_named scope e values name) P
+  value_found scope e name = either_found P (number_named values name) _ (number_found P values name h)
+      (either_found P (option_and_then (number_named values) (behind e.name.bytes name)) _ (found_behind (behind e.name.bytes name)) (found_behind (behind (full_name scope e.name.bytes) name)))
 
 -- the alignments of the types before one
 abbrev pub aligns_before : List TypeRead → ℕ → List ℕ
@@ -31,18 +156,18 @@ pub record IsDeclaredBy (o : Outline) (t : ℕ) (body : DeclaredBody) : Type 0 w
   pub read : TypeRead
   pub at : slice_get o.types t ≡ Some read
   pub has : HasBody (resolved_declaration o.types read.scope read.declaration) body
-  pub right : declaration_faults o.types o.attributes (aligns_before o.types t) (resolved_declaration o.types read.scope read.declaration) ≡ []
+  pub right : declaration_faults o.types (declared_in o) (aligns_before o.types t) (resolved_declaration o.types read.scope read.declaration) ≡ []
 
 -- what an enum's declaration says of its body: its underlying type, and that its values are in range
 abbrev IsEnumKept : Option Base → (Name → Option ℤ) → DeclaredBody → Type 0
 IsEnumKept under value body = (under ≡ Some (base_in body)) × ((name : Name) → IfSome (value name) (InRange (base_in body)))
 
-enum_facts : (types : List TypeRead) (declared : List Name) (lower : List ℕ) (scope : Option Name) (d : TypeDecl) (b : DeclaredBody) → declaration_faults types declared lower (resolved_declaration types scope d) ≡ []
+enum_facts : (types : List TypeRead) (declared : Name → Bool) (lower : List ℕ) (scope : Option Name) (d : TypeDecl) (b : DeclaredBody) → declaration_faults types declared lower (resolved_declaration types scope d) ≡ []
     → HasBody (resolved_declaration types scope d) b → IsTrue (is_enum b) → IsEnumKept (underlying_in types scope d) (value_in types scope d) b
 enum_facts types declared lower scope (decls.Enum e) (enum_body base flags values) h has is =
     let kept = enum_kept declared (resolved_enum types scope e) refl h in (
       kept.0 ∙ ap Some (sym has.0),
-      λ name. value_found (InRange base) scope e (values_read types scope e) name (subst (λ b. All (λ v. InRange b v.1) (values_read types scope e)) (sym has.0) kept.1.ranges),
+      value_found (InRange base) (values_read types scope e) (subst (λ b. All (λ v. InRange b v.1) (values_read types scope e)) (sym has.0) kept.1.ranges) scope e,
     )
 enum_facts types declared lower scope d (enum_body base flags values) h has is = absurd has
 enum_facts types declared lower scope d b h has is = absurd (true≢false (sym is))
@@ -51,13 +176,14 @@ enum_facts types declared lower scope d b h has is = absurd (true≢false (sym i
 abbrev pub AreEnumsKept : List TypeRead → DeclaredSchema → Type 0
 AreEnumsKept types S = (e : ℕ) → Names is_enum S e → IsEnumKept (underlying_at types e) (value_at types e) (body_at S e)
 
-module _ (o : Outline) (S : DeclaredSchema) (g : Gives o S) (none : faults_of_types o.types o.attributes (resolved_types o.types) ≡ []) where
+module _ (o : Outline) (S : DeclaredSchema) (g : Gives o S) (none : faults_in_turn (type_behind o.types (declared_in o)) (resolved_types o.types) ≡ []) where
   pub type_at : (t : ℕ) (type : DeclaredType) → slice_get S.types t ≡ Some type → IsDeclaredBy o t type.body
   type_at t type e = let x = at_right IsType (resolved_type o.types) o.types S.types g.types t type e in record {
     read = x.0;
     at = x.1;
     has = x.2.body;
-    right = none_of_type o.types o.attributes (resolved_types o.types) none t (resolved_type o.types x.0) (resolved_at o.types t x.0 x.1);
+    right = (type_right o.types (declared_in o) (take t (resolved_types o.types)) (resolved_type o.types x.0)
+        (none_behind (type_behind o.types (declared_in o)) [] (resolved_types o.types) none t (resolved_type o.types x.0) (resolved_at o.types t x.0 x.1))).1;
   }
 
   -- a body that passes a test which an absent one fails
@@ -73,4 +199,13 @@ module _ (o : Outline) (S : DeclaredSchema) (g : Gives o S) (none : faults_of_ty
   enums_kept e named =
       let x = body_at_by is_enum e refl named.1 in
       subst (λ r. IsEnumKept (underlying_of_read o.types r) (value_of_read o.types r) (body_at S e)) (sym x.at)
-      (enum_facts o.types o.attributes (aligns_before o.types e) x.read.scope x.read.declaration (body_at S e) x.right x.has named.1)
+      (enum_facts o.types (declared_in o) (aligns_before o.types e) x.read.scope x.read.declaration (body_at S e) x.right x.has named.1)
+
+-- what is told of a type's name among those before it
+pub repeated : (rs : List ResolvedType) (repeats : List Bool) → AreRepeats (map (λ r. r.read) rs) repeats → (i : ℕ) (r : ResolvedType) → slice_get rs i ≡ Some r
+    → slice_get repeats i ≡ Some (is_again bytes_eq (λ q. name_of_type q.read) (take i rs) r)
+repeated rs repeats told i r at =
+    let name = name_of_type r.read in
+    told i r.read (slice_get-map (λ q. q.read) rs i ∙ ap (option_map (λ q. q.read)) at)
+    ∙ ap Some (ap (list_any (λ q. bytes_eq name (name_of_type q))) (take-map (λ q. q.read) i rs) ∙ list_any-map (λ q. bytes_eq name (name_of_type q)) (λ q. q.read) (take i rs)
+    ∙ sym (list_any-map (bytes_eq name) (λ q. name_of_type q.read) (take i rs)))

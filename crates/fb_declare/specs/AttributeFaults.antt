@@ -1,7 +1,7 @@
 -- Where each attribute may stand and with which value, and which are at fault.
 -- From the FlatBuffers documentation, "Writing a schema": Attributes.
 use Rattle.std.specs.Prelude.{◌||◌, not, Bool, true, false, List, [], ◌∷◌, Option, None, Some, codes, if◌then◌else◌}
-use Rattle.std.specs.List.{list_any, starts_with}
+use Rattle.std.specs.List.{starts_with}
 use Rattle.std.specs.Bool.{nat_eq}
 use Rattle.std.specs.Str.{bytes_eq}
 use Rattle.fb_syntax.specs.declared.declarations.Attribute.{Attribute}
@@ -9,7 +9,7 @@ use Rattle.fb_syntax.specs.declared.declarations.AttributeValue.{AttributeValue}
 use Rattle.fb_syntax.specs.declared.declarations.AttributeValue.TheVariants.{Integer}
 use Rattle.fb_schema.specs.Schema.{Name}
 use Rattle.fb_resolve.specs.Attributes.{built_in_attribute, is_alignment}
-use Rattle.fb_declare.specs.FaultRows.{when, faults_in_turn}
+use Rattle.fb_declare.specs.FaultRows.{when, faults_in_turn, is_again}
 use Rattle.fb_declare.specs.declared.faults.SchemaFault.{SchemaFault}
 use Rattle.fb_declare.specs.declared.faults.SchemaFault.TheVariants.{BadAttribute, UnknownAttribute, Unsupported}
 use Rattle.fb_resolve.specs.declared.attributes.BuiltInAttribute.{BuiltInAttribute}
@@ -18,7 +18,7 @@ use Rattle.fb_declare.specs.declared.attribute_faults.AttributeHost.{AttributeHo
 use Rattle.fb_declare.specs.declared.attribute_faults.AttributeHost.TheVariants.{Table, Struct, Enum, ScalarField, TableField, StructField}
 
 -- the attributes of FlatBuffers that this project leaves out
-unfoldable pub is_left_out : Name → Bool
+abbrev pub is_left_out : Name → Bool
 is_left_out name =
     (bytes_eq name (codes "key") || bytes_eq name (codes "hash") || bytes_eq name (codes "shared")
     || bytes_eq name (codes "nested_flatbuffer") || bytes_eq name (codes "flexbuffer"))
@@ -32,7 +32,7 @@ is_force_align_of_field StructField (Some ForceAlign) = true
 is_force_align_of_field _ _ = false
 
 -- where each built-in attribute may stand, and with which value
-unfoldable pub may_stand : AttributeHost → BuiltInAttribute → Option AttributeValue → Bool
+abbrev pub may_stand : AttributeHost → BuiltInAttribute → Option AttributeValue → Bool
 may_stand ScalarField Id (Some (Integer n)) = true
 may_stand TableField Id (Some (Integer n)) = true
 may_stand TableField Required None = true
@@ -44,21 +44,24 @@ may_stand Table OriginalOrder None = true
 may_stand (Struct natural) OriginalOrder None = true
 may_stand _ _ _ = false
 
--- a built-in attribute on a wrong host, with a wrong value, or again; or another that isn't declared
-abbrev pub faults_by_name : List Name → AttributeHost → Bool → Attribute → Option BuiltInAttribute → List SchemaFault
+-- By what names are declared: a built-in attribute on a wrong host, with a wrong value, or again;
+-- or another that isn't declared
+abbrev pub faults_by_name : (Name → Bool) → AttributeHost → Bool → Attribute → Option BuiltInAttribute
+    → List SchemaFault
 faults_by_name declared host again a (Some k) = when (not (may_stand host k a.value) || again) (BadAttribute a.name.at)
-faults_by_name declared host again a None = when (not (list_any (bytes_eq a.name.bytes) declared)) (UnknownAttribute a.name.at)
+faults_by_name declared host again a None = when (not (declared a.name.bytes)) (UnknownAttribute a.name.at)
 
 -- the faults of one attribute, where this says whether one before it has its name
-unfoldable pub attribute_faults : List Name → AttributeHost → Bool → Attribute → List SchemaFault
+abbrev pub attribute_faults : (Name → Bool) → AttributeHost → Bool → Attribute → List SchemaFault
 attribute_faults declared host again a = let built_in = built_in_attribute a.name.bytes in
     if is_left_out a.name.bytes || is_force_align_of_field host built_in then Unsupported a.name.at ∷ [] else
     faults_by_name declared host again a built_in
 
 -- the faults of one attribute behind others
-abbrev pub attribute_behind : List Name → AttributeHost → List Attribute → Attribute → List SchemaFault
-attribute_behind declared host before a = attribute_faults declared host (list_any (λ b. bytes_eq a.name.bytes b.name.bytes) before) a
+abbrev pub attribute_behind : (Name → Bool) → AttributeHost → List Attribute → Attribute → List SchemaFault
+attribute_behind declared host before a =
+    attribute_faults declared host (is_again bytes_eq (λ b. b.name.bytes) before a) a
 
 -- the faults of attributes
-abbrev pub metadata_faults : List Name → AttributeHost → List Attribute → List SchemaFault
+abbrev pub metadata_faults : (Name → Bool) → AttributeHost → List Attribute → List SchemaFault
 metadata_faults declared host attributes = faults_in_turn (attribute_behind declared host) attributes

@@ -1,17 +1,17 @@
 -- Which schema a text declares, and where it is at fault.
 -- From the FlatBuffers documentation, "Writing a schema".
-use Rattle.std.specs.Prelude.{ℕ, ◌≡◌, List, [], Option, Some, map}
+use Rattle.std.specs.Prelude.{ℕ, ◌≡◌, false, List, [], Some, map, slice_get}
 use Rattle.std.specs.List.{AllZip, Contains}
 use Rattle.std.specs.Option.{option_map}
 use Rattle.fb_syntax.specs.DeclsRead.{DeclsRead}
 use Rattle.fb_schema.specs.Schema.{DeclaredBody, table_body, struct_body, enum_body, union_body, DeclaredType, DeclaredSchema}
-use Rattle.fb_resolve.specs.Outline.{TypeRead, RootRead, Outline, outline_of, name_of_type}
+use Rattle.fb_resolve.specs.Outline.{Outline, outline_of, name_of_type}
 use Rattle.fb_resolve.specs.Resolved.{resolved_types, meaning_of_root}
 use Rattle.fb_resolve.specs.ResolvedType.{ResolvedType}
 use Rattle.fb_resolve.specs.declared.resolved.ResolvedDecl.{ResolvedDecl}
 use Rattle.fb_resolve.specs.declared.resolved.ResolvedDecl.TheVariants as resolved
 use Rattle.fb_resolve.specs.EnumsRead.{integer_type, base_or_ubyte, values_over}
-use Rattle.fb_resolve.specs.SlotsRead.{slots_read, AreInPlace}
+use Rattle.fb_resolve.specs.SlotsRead.{slots_read, AreInPlace, are_ids_wrong}
 use Rattle.fb_resolve.specs.StructsRead.{parts_from, forced_align}
 use Rattle.fb_resolve.specs.MembersRead.{member_read, table_of}
 use Rattle.fb_declare.specs.TypeFaults.{faults_of}
@@ -30,13 +30,17 @@ pub record IsType (r : ResolvedType) (t : DeclaredType) : Type 0 where
   pub name : t.name ≡ name_of_type r.read
   pub body : HasBody r.declaration t.body
 
--- the number of the root's table
-abbrev pub root_table : List TypeRead → Option RootRead → Option ℕ
-root_table types root = table_of (meaning_of_root types root)
+-- what gives a body: a table whose ids are right, or another type
+abbrev pub IsBuildable : ResolvedDecl → Type 0
+IsBuildable (resolved.Table t) = are_ids_wrong t.fields ≡ false
+IsBuildable _ = Unit {0}
+
+abbrev pub AreBuildable : List ResolvedType → Type 0
+AreBuildable types = (t : ℕ) (r : ResolvedType) → slice_get types t ≡ Some r → IsBuildable r.declaration
 
 pub record Gives (o : Outline) (S : DeclaredSchema) : Type 0 where
   pub types : AllZip IsType (resolved_types o.types) S.types
-  pub root : Some S.root ≡ root_table o.types o.root
+  pub root : Some S.root ≡ table_of (meaning_of_root o.types o.root)
   pub identifier : S.identifier ≡ option_map (λ t. t.bytes) o.identifier
 
 -- No rule fails anywhere, and the schema has what the declarations give.

@@ -1,6 +1,6 @@
 -- Where each rule on declarations fails: of names, types, defaults, ids, structs, enums, unions, the root and the identifier.
 -- From the FlatBuffers documentation, "Writing a schema".
-use Rattle.std.specs.Prelude.{ℕ, ◌==◌, ◌++◌, ◌&&◌, ◌||◌, not, Bool, false, List, [], ◌∷◌, length, Option, None, Some, ℤ, codes, if◌then◌else◌, nat_le}
+use Rattle.std.specs.Prelude.{ℕ, ◌==◌, ◌++◌, ◌&&◌, ◌||◌, not, Bool, false, List, [], ◌∷◌, length, map, Option, None, Some, ℤ, codes, if◌then◌else◌, nat_le}
 use Rattle.std.specs.List.{list_any, list_all}
 use Rattle.std.specs.Option.{is_none}
 use Rattle.std.specs.Ordering.{int_eq}
@@ -11,8 +11,7 @@ use Rattle.fb_syntax.specs.declared.declarations.FieldType.TheVariants.{One, Man
 use Rattle.fb_syntax.specs.declared.declarations.DefaultValue.{DefaultValue}
 use Rattle.fb_syntax.specs.declared.declarations.DefaultValue.TheVariants.{Integer, Name as Named}
 use Rattle.fb_schema.specs.Schema.{Name}
-use Rattle.fb_resolve.specs.Outline.{TypeRead, RootRead, name_of_type, word_of}
-use Rattle.fb_resolve.specs.RepeatedNames.{has_name}
+use Rattle.fb_resolve.specs.Outline.{RootRead}
 use Rattle.fb_resolve.specs.Meaning.{type_name}
 use Rattle.fb_resolve.specs.EnumsRead.{may_be_written, integer_type}
 use Rattle.fb_resolve.specs.MembersRead.{table_of}
@@ -23,6 +22,8 @@ use Rattle.fb_resolve.specs.declared.meanings.Meaning.{Meaning}
 use Rattle.fb_resolve.specs.declared.meanings.Meaning.TheVariants.{Known, Float, Unknown}
 use Rattle.fb_resolve.specs.declared.defaults.Given.{Given}
 use Rattle.fb_resolve.specs.declared.defaults.Given.TheVariants.{Wrong}
+use Rattle.fb_declare.specs.declared.field_faults.FieldHost.{FieldHost}
+use Rattle.fb_declare.specs.declared.field_faults.FieldHost.TheVariants as hosts
 use Rattle.fb_declare.specs.declared.faults.SchemaFault.{SchemaFault}
 use Rattle.fb_declare.specs.declared.faults.SchemaFault.TheVariants.{DuplicateName, UnknownType, BadDefault, IncompleteStruct, Unsupported, BadEnumValue, BadMember, BadRoot, BadIdentifier}
 
@@ -30,7 +31,7 @@ abbrev pub when : Bool → SchemaFault → List SchemaFault
 when fails fault = if fails then fault ∷ [] else []
 
 -- the faults of a list's elements, by a rule that looks at an element and all before it; these stand before the list
-unfoldable pub faults_behind : {X : Type 0} → (List X → X → List SchemaFault) → List X → List X → List SchemaFault
+abbrev pub faults_behind : {X : Type 0} → (List X → X → List SchemaFault) → List X → List X → List SchemaFault
 faults_behind rule before [] = []
 faults_behind rule before (x ∷ xs) = rule before x ++ faults_behind rule (before ++ x ∷ []) xs
 
@@ -38,55 +39,45 @@ faults_behind rule before (x ∷ xs) = rule before x ++ faults_behind rule (befo
 abbrev pub faults_in_turn : {X : Type 0} → (List X → X → List SchemaFault) → List X → List SchemaFault
 faults_in_turn rule xs = faults_behind rule [] xs
 
-abbrev pub is_among : Name → List Located → Bool
-is_among name earlier = list_any (λ e. bytes_eq name e.bytes) earlier
+-- a name that is one of some names
+abbrev pub is_among : Name → List Name → Bool
+is_among name names = list_any (bytes_eq name) names
 
--- a name that is among those before it
-abbrev pub name_again : List Located → Located → List SchemaFault
-name_again before n = when (is_among n.bytes before) (DuplicateName n.at)
+-- an element with the key of one before it
+abbrev pub is_again : {X K : Type 0} → (K → K → Bool) → (X → K) → List X → X → Bool
+is_again eq key before x = list_any (eq (key x)) (map key before)
 
--- the names that occur again
-abbrev pub names_again : List Located → List SchemaFault
-names_again ns = faults_in_turn name_again ns
-
--- a type whose full name one before it has
-abbrev pub type_again : List TypeRead → TypeRead → List SchemaFault
-type_again before r = when (has_name before (name_of_type r)) (DuplicateName (word_of r.declaration).at)
+-- a name, at this offset, that is among those before it
+abbrev pub name_again : ℕ → List Name → Name → List SchemaFault
+name_again at before name = when (is_among name before) (DuplicateName at)
 
 -- a type isn't found, or is a float type's
-unfoldable pub use_faults : Meaning → ℕ → List SchemaFault
+abbrev pub use_faults : Meaning → ℕ → List SchemaFault
 use_faults Unknown at = UnknownType at ∷ []
 use_faults Float at = Unsupported at ∷ []
 use_faults (Known kind) at = []
 
--- a vector of unions
-abbrev pub union_vector : FieldType → Meaning → List SchemaFault
-union_vector (Many at n) (Known (Union u)) = Unsupported n.at ∷ []
-union_vector _ _ = []
+-- A table has no vector of unions. A struct has no vector, text, table or union, and of structs only those before it.
+abbrev pub misplaced_type : FieldHost → FieldType → Meaning → List SchemaFault
+misplaced_type hosts.Table (Many at n) (Known (Union u)) = Unsupported n.at ∷ []
+misplaced_type hosts.Table _ _ = []
+misplaced_type (hosts.Struct struct) (Many at n) m = BadMember at ∷ []
+misplaced_type (hosts.Struct struct) (One n) (Known (Scalar base)) = []
+misplaced_type (hosts.Struct struct) (One n) (Known (Enum e)) = []
+misplaced_type (hosts.Struct struct) (One n) (Known (Struct t)) = when (nat_le struct t.0) (IncompleteStruct n.at)
+misplaced_type (hosts.Struct struct) (One n) (Known _) = BadMember n.at ∷ []
+misplaced_type (hosts.Struct struct) (One n) _ = []
 
--- the type of a table's field
-abbrev pub table_field_type : FieldType → Meaning → List SchemaFault
-table_field_type kind m = use_faults m (type_name kind).at ++ union_vector kind m
-
--- a struct's field that is a vector, text, table or union, or a struct that isn't declared before
-unfoldable pub part_faults : ℕ → FieldType → Meaning → List SchemaFault
-part_faults struct (Many at n) m = BadMember at ∷ []
-part_faults struct (One n) (Known (Scalar base)) = []
-part_faults struct (One n) (Known (Enum e)) = []
-part_faults struct (One n) (Known (Struct t)) = when (nat_le struct t.0) (IncompleteStruct n.at)
-part_faults struct (One n) (Known _) = BadMember n.at ∷ []
-part_faults struct (One n) _ = []
-
--- the type of a struct's field
-abbrev pub struct_field_type : ℕ → FieldType → Meaning → List SchemaFault
-struct_field_type struct kind m = use_faults m (type_name kind).at ++ part_faults struct kind m
+-- the type of a field
+abbrev pub field_type : FieldHost → FieldType → Meaning → List SchemaFault
+field_type host kind m = use_faults m (type_name kind).at ++ misplaced_type host kind m
 
 abbrev pub default_at : DefaultValue → ℕ
 default_at (Integer t) = t.at
 default_at (Named t) = t.at
 
 -- a default that gives nothing
-unfoldable pub bad_default : Option DefaultValue → Given → List SchemaFault
+abbrev pub bad_default : Option DefaultValue → Given → List SchemaFault
 bad_default (Some d) Wrong = BadDefault (default_at d) ∷ []
 bad_default _ _ = []
 
@@ -99,20 +90,23 @@ abbrev pub is_out_of_range : Option Base → Bool → ℤ → Bool
 is_out_of_range None flags n = false
 is_out_of_range (Some base) flags n = not (may_be_written base flags n)
 
--- a value whose number is out of range, or that of a value before
-abbrev pub bad_value : Option Base → Bool → List ResolvedValue → ResolvedValue → List SchemaFault
-bad_value base flags before v =
-    when (is_out_of_range base flags v.number || list_any (λ w. int_eq v.number w.number) before) (BadEnumValue v.value.name.at)
+-- a value that has the name of one before it; and one whose number is out of range, or that of one before it
+abbrev pub value_faults : Option Base → Bool → List ResolvedValue → ResolvedValue → List SchemaFault
+value_faults base flags before v =
+    when (is_again bytes_eq (λ w. w.value.name.bytes) before v) (DuplicateName v.value.name.at)
+    ++ when (is_out_of_range base flags v.number || is_again int_eq (λ w. w.number) before v)
+    (BadEnumValue v.value.name.at)
 
--- a member with so many before it that is called NONE, isn't a table, or is past the 255th
-unfoldable pub member_faults : ℕ → ResolvedMember → List SchemaFault
+-- a member that is called NONE or like one before it, isn't a table, or is past the 255th
+abbrev pub member_faults : List ResolvedMember → ResolvedMember → List SchemaFault
 member_faults before r = let at = r.member.table.at in
-    when (bytes_eq r.name.bytes (codes "NONE")) (DuplicateName r.name.at)
+    when (bytes_eq r.name.bytes (codes "NONE") || is_again bytes_eq (λ m. m.name.bytes) before r)
+    (DuplicateName r.name.at)
     ++ use_faults r.meaning at
-    ++ when (is_none (table_of r.meaning) || nat_le 255 before) (BadMember at)
+    ++ when (is_none (table_of r.meaning) || nat_le 255 (length before)) (BadMember at)
 
 -- a root that is missing, or isn't a table
-unfoldable pub root_faults : ℕ → Option RootRead → Meaning → List SchemaFault
+abbrev pub root_faults : ℕ → Option RootRead → Meaning → List SchemaFault
 root_faults text_len None m = BadRoot text_len ∷ []
 root_faults text_len (Some r) m = use_faults m r.name.at ++ when (is_none (table_of m)) (BadRoot r.name.at)
 
@@ -123,6 +117,6 @@ is_printable c = nat_le 32 c && nat_le c 126
 abbrev pub is_identifier : Name → Bool
 is_identifier name = length name == 4 && list_all is_printable name
 
-unfoldable pub identifier_faults : Option Located → List SchemaFault
+abbrev pub identifier_faults : Option Located → List SchemaFault
 identifier_faults None = []
 identifier_faults (Some t) = when (not (is_identifier t.bytes)) (BadIdentifier t.at)

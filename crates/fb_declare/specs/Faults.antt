@@ -17,6 +17,6 @@ earlier (Some f) None = Some f
 earlier (Some f) (Some g) = if comes_before g f then Some g else Some f
 
 -- the fault that is told of some
-unfoldable pub least_of : List SchemaFault → Option SchemaFault
+abbrev pub least_of : List SchemaFault → Option SchemaFault
 least_of [] = None
 least_of (f ∷ fs) = earlier (Some f) (least_of fs)

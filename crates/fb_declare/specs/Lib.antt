@@ -4,6 +4,4 @@ pub mod TypeFaults
 pub mod Declares
 pub mod FaultTable
 pub mod Faults
-pub mod DeclaredNames
-pub mod Buildable
 pub mod NamesMet

@@ -3,12 +3,11 @@ ghost use Rattle.std.specs.Prelude.{◌≡◌, codes, IfOk};
 ghost use Rattle.std.specs.List.{starts_with};
 ghost use Rattle.std.specs.Bool.{nat_eq};
 ghost use Rattle.std.specs.Option.{option_copied};
-ghost use Rattle.fb_declare.specs.AttributeFaults.{is_left_out, may_stand, is_force_align_of_field};
+ghost use Rattle.fb_declare.specs.AttributeFaults.{is_left_out, may_stand};
 ghost use Rattle.fb_declare.specs.AttributeFaults.{attribute_faults, metadata_faults};
 ghost use Rattle.fb_declare.specs.Faults.{least_of};
-ghost use Rattle.fb_declare.specs.DeclaredNames.{names_declared};
+ghost use Rattle.fb_declare.specs.NamesMet.{is_met};
 
-use crate::declared_names::DeclaredNames;
 use crate::faults::{SchemaFault, earlier, when};
 use crate::names_met::meet;
 use fb_resolve::{BuiltInAttribute, built_in_attribute, is_alignment};
@@ -30,6 +29,7 @@ pub(crate) enum AttributeHost {
     StructField,
 }
 
+#[tactic(auto, using(crate::proofs::FaultFree::starts_text))]
 fn is_native(name: &str) -> bool
     ensures { result ≡ starts_with nat_eq name.now (codes "native_") }
 {
@@ -37,7 +37,6 @@ fn is_native(name: &str) -> bool
 }
 
 /// Whether an attribute of the name is left out.
-#[tactic(auto, unfolding(crate::specs::AttributeFaults::is_left_out))]
 fn is_left_out(name: &str) -> bool
     ensures { result ≡ is_left_out name.now }
 {
@@ -48,7 +47,6 @@ fn is_left_out(name: &str) -> bool
 }
 
 /// Whether a built-in attribute may stand on a host with a value.
-#[tactic(auto, unfolding(crate::specs::AttributeFaults::may_stand))]
 fn may_stand(
     host: AttributeHost,
     built_in: BuiltInAttribute,
@@ -56,55 +54,42 @@ fn may_stand(
 ) -> bool
     ensures { result ≡ may_stand host built_in (option_copied value.entry) }
 {
-    match (host, built_in, value) {
-        (
-            AttributeHost::ScalarField | AttributeHost::TableField,
-            BuiltInAttribute::Id,
-            Some(AttributeValue::Integer(_)),
-        ) => true,
-        (AttributeHost::TableField, BuiltInAttribute::Required, None) => true,
-        (
-            AttributeHost::ScalarField | AttributeHost::TableField,
-            BuiltInAttribute::Deprecated,
-            None,
-        ) => true,
-        (
-            AttributeHost::Struct(natural),
-            BuiltInAttribute::ForceAlign,
-            Some(AttributeValue::Integer(number)),
-        ) => { is_alignment(natural, number.value()) }
-        (AttributeHost::Enum, BuiltInAttribute::BitFlags, None) => true,
-        (AttributeHost::Table | AttributeHost::Struct(_), BuiltInAttribute::OriginalOrder, None) =>
-            true,
+    let is_table_field = matches!(host, AttributeHost::ScalarField | AttributeHost::TableField);
+    match (built_in, value) {
+        (BuiltInAttribute::Id, Some(AttributeValue::Integer(_))) => is_table_field,
+        (BuiltInAttribute::Deprecated, None) => is_table_field,
+        (BuiltInAttribute::Required, None) => matches!(host, AttributeHost::TableField),
+        (BuiltInAttribute::BitFlags, None) => matches!(host, AttributeHost::Enum),
+        (BuiltInAttribute::OriginalOrder, None) => {
+            matches!(host, AttributeHost::Table | AttributeHost::Struct(_))
+        }
+        (BuiltInAttribute::ForceAlign, Some(AttributeValue::Integer(number))) => match host {
+            AttributeHost::Struct(natural) => is_alignment(natural, number.value()),
+            _ => false,
+        },
         _ => false,
     }
 }
 
-fn is_force_align_of_field(host: AttributeHost, built_in: Option<BuiltInAttribute>) -> bool
-    ensures { result ≡ is_force_align_of_field host built_in }
-{
-    let is_field = matches!(
-        host,
-        AttributeHost::ScalarField | AttributeHost::TableField | AttributeHost::StructField
-    );
-    is_field && matches!(built_in, Some(BuiltInAttribute::ForceAlign))
-}
-
 /// What is wrong with an attribute, where this says whether one before it has its name.
-#[tactic(auto, unfolding(crate::specs::AttributeFaults::attribute_faults, crate::specs::Faults::least_of))]
 fn attribute_fault(
-    declared: DeclaredNames<'_, '_>,
+    declared: &BTreeSet<&[u8]>,
     host: AttributeHost,
     again: bool,
     attribute: &Attribute<'_>,
 ) -> Option<SchemaFault>
     ensures { result ≡ least_of
-        (attribute_faults (names_declared declared.entry) host again attribute.now) }
+        (attribute_faults (is_met declared.now) host again attribute.now) }
 {
     let at = attribute.name.at;
     let name = attribute.name.text;
     let built_in = built_in_attribute(name);
-    if is_left_out(name) || is_force_align_of_field(host, built_in) {
+    let is_field = matches!(
+        host,
+        AttributeHost::ScalarField | AttributeHost::TableField | AttributeHost::StructField
+    );
+    let forces_field = is_field && matches!(built_in, Some(BuiltInAttribute::ForceAlign));
+    if is_left_out(name) || forces_field {
         return Some(SchemaFault::Unsupported(at));
     }
     match built_in {
@@ -112,20 +97,22 @@ fn attribute_fault(
             let is_bad = !may_stand(host, built_in, attribute.value.as_ref()) || again;
             when(is_bad, SchemaFault::BadAttribute(at))
         }
-        None => when(!declared.has(name), SchemaFault::UnknownAttribute(at)),
+        None => when(
+            !declared.contains(name.as_bytes()),
+            SchemaFault::UnknownAttribute(at),
+        ),
     }
 }
 
 /// The least fault of the attributes at a host. The only error is a refused allocation.
-#[tactic(auto, unfolding(crate::specs::FaultRows::faults_behind, crate::specs::Faults::least_of))]
 pub(crate) fn metadata_fault(
     alloc: Global,
-    declared: DeclaredNames<'_, '_>,
+    declared: &BTreeSet<&[u8]>,
     host: AttributeHost,
     attributes: &[Attribute<'_>],
 ) -> Result<Option<SchemaFault>, AllocError>
     ensures { IfOk result (λ f. f ≡ least_of
-        (metadata_faults (names_declared declared.entry) host attributes.now)) }
+        (metadata_faults (is_met declared.now) host attributes.now)) }
 {
     let mut least = None;
     let mut met = BTreeSet::new(alloc);

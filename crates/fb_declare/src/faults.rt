@@ -2,7 +2,7 @@
 ghost use Rattle.std.specs.Prelude.{◌≡◌};
 ghost use Rattle.fb_declare.specs.declared.faults.SchemaFault.TheVariants.{Memory};
 
-use std::alloc::{AllocError, AllocFailed};
+use std::alloc::AllocError;
 use thiserror::Error;
 
 /// The rule on declarations that fails, and the offset in bytes from the text's start.
@@ -44,14 +44,6 @@ impl From<AllocError> for SchemaFault {
     ghost from_gives = { λ _ e. e ≡ Memory };
 
     fn from(_refused: AllocError) -> SchemaFault {
-        SchemaFault::Memory
-    }
-}
-
-impl<T: Drop> From<AllocFailed<T>> for SchemaFault {
-    ghost from_gives = { λ _ e. e ≡ Memory };
-
-    fn from(_refused: AllocFailed<T>) -> SchemaFault {
         SchemaFault::Memory
     }
 }
@@ -132,7 +124,6 @@ pub(crate) fn earlier(
 }
 
 /// The fault, where its rule fails.
-#[tactic(auto, unfolding(crate::specs::Faults::least_of))]
 pub(crate) fn when(fails: bool, fault: SchemaFault) -> Option<SchemaFault>
     ensures { result ≡ least_of (when fails fault) }
 {

@@ -1,16 +1,30 @@
-//! Where the types and the defaults of fields are at fault.
-ghost use Rattle.std.specs.Prelude.{◌≡◌};
+//! Fields: where they are at fault.
+ghost use Rattle.std.specs.Prelude.{◌≡◌, ◌++◌, List, IfOk};
 ghost use Rattle.std.specs.Option.{option_copied};
+ghost use Rattle.fb_schema.specs.Schema.{Name};
 ghost use Rattle.fb_declare.specs.Faults.{least_of};
-ghost use Rattle.fb_declare.specs.FaultRows.{use_faults, union_vector, part_faults, default_at, bad_default};
+ghost use Rattle.fb_declare.specs.NamesMet.{is_met, AreMet};
+ghost use Rattle.fb_declare.specs.FaultRows.{faults_behind, faults_in_turn, name_again};
+ghost use Rattle.fb_declare.specs.FaultRows.{use_faults, misplaced_type, bad_default};
+ghost use Rattle.fb_declare.specs.TypeFaults.{names_of_field, host_of_field, field_faults, field_behind};
 
-use crate::faults::{SchemaFault, when};
-use fb_resolve::{Given, Meaning};
-use fb_schema::{Kind, TypeId};
+use crate::attribute_faults::{AttributeHost, metadata_fault};
+use crate::faults::{SchemaFault, earlier, when};
+use crate::names_met::meet;
+use fb_resolve::{Given, Meaning, ResolvedField, type_name};
+use fb_schema::Kind;
 use fb_syntax::{DefaultValue, FieldType};
+use std::alloc::{AllocError, Global};
+use std::collections::BTreeSet;
+
+/// What a field is of: a table, or the struct of a number.
+#[derive(Clone, Copy, Debug, PartialEq, Eq, Drop)]
+pub(crate) enum FieldHost {
+    Table,
+    Struct(usize),
+}
 
 /// A type that isn't found, or is a float type.
-#[tactic(auto, unfolding(crate::specs::FaultRows::use_faults, crate::specs::Faults::least_of))]
 pub(crate) fn use_fault(meaning: Meaning, at: u64) -> Option<SchemaFault>
     ensures { result ≡ least_of (use_faults meaning at) }
 {
@@ -21,57 +35,117 @@ pub(crate) fn use_fault(meaning: Meaning, at: u64) -> Option<SchemaFault>
     }
 }
 
-/// A vector of unions.
-#[tactic(auto, unfolding(crate::specs::Faults::least_of))]
-pub(crate) fn union_vector(kind: &FieldType<'_>, meaning: Meaning) -> Option<SchemaFault>
-    ensures { result ≡ least_of (union_vector kind.now meaning) }
+/// A type that is found, but that a field of such a host may not have.
+fn misplaced_type(host: FieldHost, kind: &FieldType<'_>, meaning: Meaning) -> Option<SchemaFault>
+    ensures { result ≡ least_of (misplaced_type host kind.now meaning) }
 {
-    match (kind, meaning) {
-        (FieldType::Many(_, name), Meaning::Known(Kind::Union(_))) => {
+    match (host, kind, meaning) {
+        (FieldHost::Table, FieldType::Many(_, name), Meaning::Known(Kind::Union(_))) => {
             Some(SchemaFault::Unsupported(name.at()))
         }
-        _ => None,
-    }
-}
-
-/// A field of a struct, of which this is the number, whose type a struct's field may not have.
-#[tactic(auto, unfolding(crate::specs::FaultRows::part_faults, crate::specs::Faults::least_of))]
-pub(crate) fn part_fault(
-    number: usize,
-    kind: &FieldType<'_>,
-    meaning: Meaning,
-) -> Option<SchemaFault>
-    ensures { result ≡ least_of (part_faults number kind.now meaning) }
-{
-    match (kind, meaning) {
-        (FieldType::Many(at, _), _) => Some(SchemaFault::BadMember(*at)),
-        (FieldType::One(_), Meaning::Known(Kind::Scalar(_) | Kind::Enum(_))) => None,
-        (FieldType::One(name), Meaning::Known(Kind::Struct(TypeId(part)))) => when(
-            number as u64 <= part,
-            SchemaFault::IncompleteStruct(name.at()),
-        ),
-        (FieldType::One(name), Meaning::Known(_)) => Some(SchemaFault::BadMember(name.at())),
-        (FieldType::One(_), Meaning::Float | Meaning::Unknown) => None,
-    }
-}
-
-/// Where a default stands.
-fn default_at(default: &DefaultValue<'_>) -> u64
-    ensures { result ≡ default_at default.now }
-{
-    match default {
-        DefaultValue::Integer(number) => number.at(),
-        DefaultValue::Name(name) => name.at(),
+        (FieldHost::Table, _, _) => None,
+        (FieldHost::Struct(_), FieldType::Many(at, _), _) => Some(SchemaFault::BadMember(*at)),
+        (_, FieldType::One(_), Meaning::Known(Kind::Scalar(_) | Kind::Enum(_))) => None,
+        (FieldHost::Struct(number), FieldType::One(name), Meaning::Known(Kind::Struct(part))) => {
+            when(
+                number as u64 <= part.0,
+                SchemaFault::IncompleteStruct(name.at()),
+            )
+        }
+        (_, FieldType::One(name), Meaning::Known(_)) => Some(SchemaFault::BadMember(name.at())),
+        (_, FieldType::One(_), Meaning::Float | Meaning::Unknown) => None,
     }
 }
 
 /// The fault of a default that gives nothing.
-#[tactic(auto, unfolding(crate::specs::FaultRows::bad_default, crate::specs::Faults::least_of))]
-pub(crate) fn bad_default(default: Option<&DefaultValue<'_>>, given: Given) -> Option<SchemaFault>
+fn bad_default(default: Option<&DefaultValue<'_>>, given: Given) -> Option<SchemaFault>
     ensures { result ≡ least_of (bad_default (option_copied default.entry) given) }
 {
     match (default, given) {
-        (Some(default), Given::Wrong) => Some(SchemaFault::BadDefault(default_at(default))),
+        (Some(DefaultValue::Integer(number)), Given::Wrong) => {
+            Some(SchemaFault::BadDefault(number.at()))
+        }
+        (Some(DefaultValue::Name(name)), Given::Wrong) => Some(SchemaFault::BadDefault(name.at())),
         _ => None,
     }
+}
+
+/// The place of a field's attributes: a scalar or enum can't be required.
+fn host_of_field(host: FieldHost, kind: &FieldType<'_>, meaning: Meaning) -> AttributeHost
+    ensures { result ≡ host_of_field host kind.now meaning }
+{
+    match (host, kind, meaning) {
+        (FieldHost::Struct(_), _, _) => AttributeHost::StructField,
+        (_, FieldType::One(_), Meaning::Known(Kind::Scalar(_) | Kind::Enum(_))) =>
+            AttributeHost::ScalarField,
+        _ => AttributeHost::TableField,
+    }
+}
+
+/// The fault of a field one of whose names is among those met; these are met from now on.
+fn names_fault<'f>(
+    met: &mut BTreeSet<&'f [u8]>,
+    host: FieldHost,
+    resolved: &'f ResolvedField<'_, '_>,
+) -> Result<Option<SchemaFault>, AllocError>
+    ensures { (before : List Name) → AreMet met.old before → IfOk result (λ f.
+        (f ≡ least_of (faults_behind (name_again resolved.now.field.name.at) before
+        (names_of_field host resolved.now)))
+        × AreMet met.new (before ++ names_of_field host resolved.now)) }
+{
+    let field = resolved.field;
+    let name = &field.name;
+    let of_code = match (host, &resolved.code) {
+        (FieldHost::Table, Some(code)) => meet(met, code.name.as_str())?,
+        _ => false,
+    };
+    let again = meet(met, name.text)?;
+    let fault = SchemaFault::DuplicateName(name.at);
+    Ok(earlier(when(of_code, fault), when(again, fault)))
+}
+
+/// What else is wrong with a field.
+fn field_fault(
+    alloc: Global,
+    declared: &BTreeSet<&[u8]>,
+    host: FieldHost,
+    resolved: &ResolvedField<'_, '_>,
+) -> Result<Option<SchemaFault>, AllocError>
+    ensures { IfOk result (λ f. f ≡ least_of (field_faults (is_met declared.now) host resolved.now)) }
+{
+    let field = resolved.field;
+    let kind = &field.kind;
+    let meaning = resolved.meaning;
+    let not_found = use_fault(meaning, type_name(kind).at());
+    let in_type = earlier(not_found, misplaced_type(host, kind, meaning));
+    let given = match host {
+        FieldHost::Table => resolved.given,
+        // a field of a struct takes no default, whatever it would give
+        FieldHost::Struct(_) => Given::Wrong,
+    };
+    let fault = earlier(in_type, bad_default(field.default.as_ref(), given));
+    let attribute_host = host_of_field(host, kind, meaning);
+    let attributes = field.attributes.as_slice();
+    let metadata = metadata_fault(alloc, declared, attribute_host, attributes)?;
+    Ok(earlier(fault, metadata))
+}
+
+/// The least fault of the fields of a table or struct. The only error is a refused allocation.
+pub(crate) fn fields_fault(
+    alloc: Global,
+    declared: &BTreeSet<&[u8]>,
+    host: FieldHost,
+    fields: &[ResolvedField<'_, '_>],
+) -> Result<Option<SchemaFault>, AllocError>
+    ensures { IfOk result (λ f. f ≡ least_of
+        (faults_in_turn (field_behind (is_met declared.now) host) fields.now)) }
+{
+    let mut least = None;
+    let mut met = BTreeSet::new(alloc);
+    for field in fields {
+        let again = names_fault(&mut met, host, field)?;
+        let fault = field_fault(alloc, declared, host, field)?;
+        least = earlier(least, earlier(again, fault));
+    }
+    Ok(least)
 }

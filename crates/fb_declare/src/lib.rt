@@ -1,21 +1,16 @@
 //! What the declarations of a FlatBuffers schema text give, and where they are at fault.
-#![tactic(auto)]
+#![tactic(auto, using(crate::proofs::Least::least_of_append))]
 
 mod attribute_faults;
-mod declared_names;
 mod enums;
 mod faults;
 mod field_faults;
-mod laws;
-mod names_again;
 mod names_met;
 mod root;
 mod schema;
-mod structs;
 mod tables;
 mod types;
 mod unions;
 
 pub use faults::SchemaFault;
-pub use laws::one_schema;
-pub use schema::declare;
+pub use schema::{declare, one_schema};

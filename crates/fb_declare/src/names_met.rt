@@ -1,17 +1,16 @@
 //! Names that were met. A look-up isn't slow, whoever chose the names: nothing is hashed.
-ghost use Rattle.std.specs.Prelude.{◌≡◌, ◌||◌, IfOk, OnOk};
-ghost use Rattle.std.specs.List.{list_any};
-ghost use Rattle.std.specs.Str.{bytes_eq};
+ghost use Rattle.std.specs.Prelude.{◌≡◌, ◌++◌, ◌∷◌, [], List, IfOk, map};
 ghost use Rattle.fb_schema.specs.Schema.{Name};
-ghost use Rattle.fb_declare.specs.NamesMet.{is_met};
+ghost use Rattle.fb_declare.specs.FaultRows.{is_among};
+ghost use Rattle.fb_declare.specs.NamesMet.{AreMet};
 
 use std::alloc::{AllocError, Global};
 use std::collections::BTreeSet;
 
 /// Whether a name was met before; it is from now on.
 pub(crate) fn meet<'n>(met: &mut BTreeSet<&'n [u8]>, name: &'n str) -> Result<bool, AllocError>
-    ensures before { IfOk result (λ again. again ≡ is_met met.old name.now) }
-    ensures met { OnOk result ((n : Name) → is_met met.new n ≡ (is_met met.old n || bytes_eq n name.now)) }
+    ensures { (before : List Name) → AreMet met.old before → IfOk result
+        (λ again. (again ≡ is_among name.now before) × AreMet met.new (before ++ name.now ∷ [])) }
 {
     let is_new = met.insert(name.as_bytes())?;
     Ok(!is_new)
@@ -22,7 +21,7 @@ pub(crate) fn names_met<'n>(
     alloc: Global,
     names: &[&'n str],
 ) -> Result<BTreeSet<&'n [u8]>, AllocError>
-    ensures { IfOk result (λ met. (n : Name) → is_met met n ≡ list_any (λ y. bytes_eq n y.now) names.now) }
+    ensures { IfOk result (λ met. AreMet met (map (λ name. name.now) names.now)) }
 {
     let mut met = BTreeSet::new(alloc);
     for name in names {

@@ -3,7 +3,7 @@ ghost use Rattle.std.specs.Prelude.{◌≡◌};
 ghost use Rattle.std.specs.List.{list_all};
 ghost use Rattle.std.specs.Option.{option_copied};
 ghost use Rattle.fb_declare.specs.Faults.{least_of};
-ghost use Rattle.fb_declare.specs.FaultRows.{root_faults, is_printable, is_identifier, identifier_faults};
+ghost use Rattle.fb_declare.specs.FaultRows.{root_faults, is_printable, identifier_faults};
 
 use crate::faults::{SchemaFault, earlier, when};
 use crate::field_faults::use_fault;
@@ -11,7 +11,6 @@ use fb_resolve::{Meaning, RootRead, is_table};
 use fb_syntax::Text;
 
 /// The least fault of the root.
-#[tactic(auto, using(crate::proofs::Least::least_of_append), unfolding(crate::specs::FaultRows::root_faults))]
 pub(crate) fn root_fault(
     text_len: u64,
     root: Option<&RootRead<'_, '_>>,
@@ -20,8 +19,7 @@ pub(crate) fn root_fault(
     ensures { result ≡ least_of (root_faults text_len (option_copied root.entry) meaning) }
 {
     let Some(root) = root else {
-        // by `when`, as each rule, since what is proved speaks of it
-        return when(true, SchemaFault::BadRoot(text_len));
+        return Some(SchemaFault::BadRoot(text_len));
     };
     let name = root.name;
     let bad_root = when(!is_table(meaning), SchemaFault::BadRoot(name.at()));
@@ -34,18 +32,12 @@ fn are_printable(text: &[u8]) -> bool
     text.iter().all(|byte| 32 <= *byte && *byte <= 126)
 }
 
-fn is_identifier(text: &[u8]) -> bool
-    ensures { result ≡ is_identifier text.now }
-{
-    text.len() == 4 && are_printable(text)
-}
-
 /// A file identifier that isn't four printable bytes.
-#[tactic(auto, unfolding(crate::specs::FaultRows::identifier_faults, crate::specs::Faults::least_of))]
 pub(crate) fn identifier_fault(identifier: Option<&Text<'_>>) -> Option<SchemaFault>
     ensures { result ≡ least_of (identifier_faults (option_copied identifier.entry)) }
 {
     let text = identifier?;
-    let is_right = is_identifier(text.text.as_bytes());
+    let bytes = text.text.as_bytes();
+    let is_right = bytes.len() == 4 && are_printable(bytes);
     when(!is_right, SchemaFault::BadIdentifier(text.at))
 }

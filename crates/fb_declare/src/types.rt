@@ -2,20 +2,19 @@
 ghost use Rattle.std.specs.Prelude.{◌≡◌, ℕ, List, IfOk, length, map};
 ghost use Rattle.fb_resolve.specs.Outline.{TypeRead};
 ghost use Rattle.fb_resolve.specs.StructsRead.{natural_of_type};
+ghost use Rattle.fb_resolve.specs.RepeatedNames.{AreRepeats};
 ghost use Rattle.fb_declare.specs.Faults.{least_of};
-ghost use Rattle.fb_declare.specs.DeclaredNames.{names_declared};
-ghost use Rattle.fb_declare.specs.TypeFaults.{type_faults, faults_of_types};
+ghost use Rattle.fb_declare.specs.FaultRows.{faults_in_turn};
+ghost use Rattle.fb_declare.specs.NamesMet.{is_met};
+ghost use Rattle.fb_declare.specs.TypeFaults.{type_faults, type_behind};
 ghost use Rattle.std.specs.List.{AllZip};
 ghost use Rattle.fb_schema.specs.Seen.{body_seen, type_seen};
-ghost use Rattle.fb_declare.specs.Declares.{HasBody, IsType};
-ghost use Rattle.fb_declare.specs.Buildable.{IsBuildable, AreBuildable};
+ghost use Rattle.fb_declare.specs.Declares.{HasBody, IsType, IsBuildable, AreBuildable};
 ghost use Rattle.fb_resolve.specs.declared.resolved.ResolvedDecl.TheVariants as ResolvedDecl;
 
-use crate::declared_names::DeclaredNames;
 use crate::enums::enum_fault;
 use crate::faults::{SchemaFault, earlier, when};
-use crate::structs::struct_fault;
-use crate::tables::table_fault;
+use crate::tables::{struct_fault, table_fault};
 use crate::unions::{members_read, union_fault};
 use fb_resolve::{
     ResolvedDecl, ResolvedType, TypeRead, align_of_type, forced_align, integer_type, is_reserved,
@@ -23,49 +22,54 @@ use fb_resolve::{
 };
 use fb_schema::{Base, Body, TypeInfo};
 use std::alloc::{AllocError, Global};
+use std::collections::BTreeSet;
 
-/// The least fault of the type of a number and of a natural alignment.
-#[tactic(auto, using(crate::proofs::Least::least_of_append), unfolding(crate::specs::TypeFaults::type_faults))]
+/// The least fault of the type of a number and of a natural alignment, where this says whether one
+/// before it has its full name.
 fn type_fault(
     alloc: Global,
-    declared: DeclaredNames<'_, '_>,
+    declared: &BTreeSet<&[u8]>,
     number: usize,
     natural: u16,
+    again: bool,
     resolved: &ResolvedType<'_, '_, '_>,
 ) -> Result<Option<SchemaFault>, AllocError>
     ensures { (types : List TypeRead) (lower : List ℕ) → length lower ≡ number
         → natural_of_type types lower resolved.now ≡ natural
         → IfOk result (λ f. f ≡ least_of
-        (type_faults types (names_declared declared.entry) lower resolved.now)) }
+        (type_faults types (is_met declared.now) lower again resolved.now)) }
 {
     let read = resolved.read;
     let name = word_of(read.declaration);
-    let reserved = when(is_reserved(name.text), SchemaFault::DuplicateName(name.at));
+    let is_taken = again || is_reserved(name.text);
+    let bad_name = when(is_taken, SchemaFault::DuplicateName(name.at));
     let fault = match &resolved.declaration {
         ResolvedDecl::Table(table) => table_fault(alloc, declared, table)?,
         ResolvedDecl::Struct(table) => struct_fault(alloc, declared, number, natural, table)?,
         ResolvedDecl::Enum(resolved) => enum_fault(alloc, declared, resolved)?,
         ResolvedDecl::Union(union) => union_fault(alloc, declared, union)?,
     };
-    Ok(earlier(reserved, fault))
+    Ok(earlier(bad_name, fault))
 }
 
-/// The least fault of the types. The only error is a refused allocation.
-#[tactic(auto, unfolding(crate::specs::FaultRows::faults_behind, crate::specs::Faults::least_of))]
+/// The least fault of the types, where these say of each whether one before it has its full name.
+/// The only error is a refused allocation.
 pub(crate) fn types_fault(
     alloc: Global,
-    declared: DeclaredNames<'_, '_>,
+    declared: &BTreeSet<&[u8]>,
     types: &[TypeRead<'_, '_>],
     resolved: &[ResolvedType<'_, '_, '_>],
+    repeats: &[bool],
 ) -> Result<Option<SchemaFault>, AllocError>
-    ensures { IfOk result (λ f. f ≡ least_of (faults_of_types types.now
-        (names_declared declared.entry) resolved.now)) }
+    requires { AreRepeats (map (λ r. r.read) resolved.now) repeats.now }
+    ensures { IfOk result (λ f. f ≡ least_of
+        (faults_in_turn (type_behind types.now (is_met declared.now)) resolved.now)) }
 {
     let mut least = None;
     let mut lower = Vec::with_capacity(alloc, resolved.len())?;
-    for read in resolved {
+    for (number, read) in resolved.iter().enumerate() {
         let natural = natural_of_type(types, lower.as_slice(), read);
-        let fault = type_fault(alloc, declared, lower.len(), natural, read)?;
+        let fault = type_fault(alloc, declared, number, natural, repeats[number], read)?;
         least = earlier(least, fault);
         lower.push(align_of_type(natural, read))?;
     }

@@ -2,15 +2,13 @@ use Rattle.std.proofs.Common.{rules, ◌≡◌, ◌++◌, ◌∷◌, ◌∙◌, 
 use Rattle.std.specs.List.{AllZip}
 use Rattle.std.proofs.lemmas.List.{append-nil, map-append, nil_from_length}
 use Rattle.fb_schema.specs.Seen.{type_seen}
-use Rattle.fb_declare.specs.Buildable.{AreBuildable}
-use Rattle.fb_declare.specs.Declares.{IsType}
+use Rattle.fb_declare.specs.Declares.{AreBuildable, IsType}
 use Rattle.fb_declare.proofs.types.types_of.Goals as goal
 
 pub loop-read-preserved : goal.loop-read-preserved
 loop-read-preserved c =
     let types = map type_seen c.loop-read.made.items in
     let type = type_seen c.in_ok-type_of.field-0 in
-    let rest = c.next.new.self.rest.items in
     let split = c.in-Some.ensures.steps.0 in
     let pushed : map type_seen c.push.new.self.items ≡ types ++ type ∷ [] =
     ap (map type_seen) c.in_ok-push.ensures.items ∙ map-append type_seen c.loop-read.made.items (c.in_ok-type_of.field-0 ∷ []) in

@@ -2,8 +2,7 @@ use Rattle.std.proofs.Common.{◌++◌, List, map}
 use Rattle.std.specs.List.{AllZip}
 use Rattle.fb_schema.specs.Schema.{DeclaredType}
 use Rattle.fb_schema.specs.Seen.{type_seen}
-use Rattle.fb_declare.specs.Buildable.{AreBuildable}
-use Rattle.fb_declare.specs.Declares.{IsType}
+use Rattle.fb_declare.specs.Declares.{AreBuildable, IsType}
 use Rattle.fb_declare.proofs.types.types_of.Given as goal
 
 abbrev pub invariant-loop-read : goal.invariant-loop-read

@@ -1,8 +1,11 @@
-use Rattle.std.proofs.Common.{◌≡◌, take}
+use Rattle.std.proofs.Common.{◌≡◌, map, take}
 use Rattle.fb_declare.specs.Faults.{least_of}
-use Rattle.fb_declare.specs.FaultRows.{faults_in_turn}
-use Rattle.fb_declare.specs.TypeFaults.{member_behind}
+use Rattle.fb_declare.specs.FaultRows.{faults_in_turn, member_faults}
+use Rattle.fb_declare.specs.NamesMet.{AreMet}
 use Rattle.fb_declare.proofs.unions.members_fault.Given as goal
 
-abbrev pub invariant-loop-before : goal.invariant-loop-before
-invariant-loop-before l = l.least ≡ least_of (faults_in_turn member_behind (take l.before l.members))
+abbrev pub invariant-loop-number : goal.invariant-loop-number
+invariant-loop-number l = record {
+  least : l.least ≡ least_of (faults_in_turn member_faults (take l.number l.members));
+  met : AreMet l.met (map (λ m. m.name.bytes) (take l.number l.members));
+}
