@@ -4,7 +4,6 @@ pub mod Underscores
 pub mod ValuesFrom
 pub mod Written
 pub mod Behind
-pub mod NumberNamed
 pub mod PlacesTaken
 pub mod InOrder
 pub mod IntegerAlone

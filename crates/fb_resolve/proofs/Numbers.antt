@@ -1,19 +1,16 @@
 -- Numbers that are noted for the names of an enum's values.
-use Rattle.std.proofs.Common.{◌≡◌, ◌≢◌, ◌++◌, subst, ◌<◌, ◌≤◌, ◌∷◌, ⊎_elim, zero, suc, length, slice_get, Bor, ℤ, arith, ℕ, Bool, true, false, Option, None, Some, refl, ap, sym, ◌∙◌, cond, List, [], if◌then◌else◌}
+use Rattle.std.proofs.Common.{◌≡◌, ◌++◌, ◌+◌, ◌<◌, ◌∷◌, zero, suc, length, slice_get, get_or, take, map, Bor, ℤ, ℕ, Bool, true, false, Option, None, Some, refl, ap, sym, ◌∙◌, cond, List, [], if◌then◌else◌}
 use Rattle.std.specs.BTreeMap.{BTreeMap}
-use Rattle.std.proofs.lemmas.Bool.{cases_lt}
-use Rattle.std.proofs.lemmas.Option.{slice_get_past}
-use Rattle.std.specs.Option.{option_or, option_and_then}
+use Rattle.std.specs.List.{AllZip, find}
+use Rattle.std.specs.Option.{option_or, option_and_then, option_map, option_map_or}
 use Rattle.std.specs.Str.{bytes_eq}
-use Rattle.fb_syntax.specs.TypesRead.{EnumRead}
-use Rattle.fb_syntax.specs.declared.declarations.TypeDecl.{TypeDecl}
-use Rattle.fb_syntax.specs.declared.declarations.TypeDecl.TheVariants as decls
+use Rattle.std.proofs.lemmas.List.{map-append, take_more}
+use Rattle.std.proofs.lemmas.List.Folds.{find-append}
+use Rattle.std.proofs.lemmas.Slice.Zip.{all_zipped_more}
 use Rattle.fb_schema.specs.Schema.{Name}
 use Rattle.fb_resolve.specs.Outline.{TypeRead}
-use Rattle.fb_resolve.specs.EnumsRead.{values_in, values_at, values_of_read, number_named}
-use Rattle.fb_resolve.specs.ValueNumbers.{number_of, number_in}
-use Rattle.fb_resolve.specs.declared.value_numbers.ValueNumbers.{ValueNumbers}
-use Rattle.fb_resolve.proofs.NumberNamed.{number_named-nil}
+use Rattle.fb_resolve.specs.EnumsRead.{values_in, number_named}
+use Rattle.fb_resolve.specs.ValueNumbers.{number_of}
 use Rattle.fb_resolve.proofs.Bytes.{bytes_eq-equal, bytes_eq-sym, noted_once}
 
 -- a number that is noted for a name that had none
@@ -23,50 +20,42 @@ noted_number f name other x none =
     noted_once (bytes_eq name other) (f other) x (λ e. ap f (sym (bytes_eq-equal name other e)) ∙ none)
     ∙ ap (λ b. option_or (f other) (if b then Some x else None)) (bytes_eq-sym name other)
 
--- one value more is noted, and one less is left
-pub noted_value : {X : Type 0} (before : Option X) (same : Bool) (x : X) (rest : Option X)
-    → option_or (option_or before (if same then Some x else None)) rest ≡ option_or before (if same then Some x else rest)
-noted_value None true x rest = refl
-noted_value None false x rest = refl
-noted_value (Some n) same x rest = refl
+pub number_named-nil : (name : Name) → number_named [] name ≡ None
+unfolding number_named
+number_named-nil name = refl
 
-pub none_left : {X : Type 0} (noted : Option X) → option_or noted None ≡ noted
-none_left None = refl
-none_left (Some n) = refl
+-- the number of a value's name among some values and one more
+number_named-push : (values : List (Name × ℤ)) (v : Name × ℤ) (name : Name)
+    → number_named (values ++ v ∷ []) name ≡ option_or (number_named values name) (if bytes_eq name v.0 then Some v.1 else None)
+unfolding number_named
+number_named-push values v name = ap (option_map (λ w. w.1)) (find-append (λ w. bytes_eq name w.0) values (v ∷ [])) ∙ by (find (λ w. bytes_eq name w.0) values) (bytes_eq name v.0)
+  where
+    by : (o : Option (Name × ℤ)) (same : Bool) → option_map (λ w. w.1) (option_or o (cond same (Some v) None)) ≡ option_or (option_map (λ w. w.1) o) (if same then Some v.1 else None)
+    by None true = refl
+    by None false = refl
+    by (Some w) same = refl
 
--- a type that is no enum has no values
-pub no_values : (types : List TypeRead) (scope : Option Name) (d : TypeDecl) → ((e : EnumRead) → d ≢ decls.Enum e) → values_in types scope d ≡ []
-no_values types scope (decls.Enum e) other = absurd (other e refl)
-no_values types scope _ other = refl
+pub number_named-more : {X : Type 0} (f : X → Name × ℤ) (xs : List X) (i : ℕ) (x : X) (name : Name) → i < length xs → x ≡ get_or xs i x
+    → number_named (map f (take (i + 1) xs)) name ≡ option_or (number_named (map f (take i xs)) name) (if bytes_eq name (f x).0 then Some (f x).1 else None)
+number_named-more f xs i x name h e =
+    ap (λ vs. number_named vs name) (ap (map f) (take_more xs i x h ∙ ap (λ y. take i xs ++ y ∷ []) (sym e)) ∙ map-append f (take i xs) (x ∷ []))
+    ∙ number_named-push (map f (take i xs)) (f x) name
 
--- each of these maps has the numbers of the type of its place
-abbrev pub HaveNumbers : List TypeRead → List (BTreeMap (Bor Name) ℤ) → Type 0
-HaveNumbers types maps = (t : ℕ) (m : BTreeMap (Bor Name) ℤ) → slice_get maps t ≡ Some m → (name : Name) → number_of m name ≡ number_named (values_at types t) name
+-- each of these maps has the numbers of its type's values, where these are all types
+abbrev pub HaveNumbers : List TypeRead → List (BTreeMap (Bor Name) ℤ) → List TypeRead → Type 0
+HaveNumbers all maps types = AllZip (λ m r. (name : Name) → number_of m name ≡ number_named (values_in all r.scope r.declaration) name) maps types
 
--- what holds of each item, and of one more behind them
-pub each_more : {M : Type 0} (Q : ℕ → M → Type 0) (ms : List M) (last : M) → Q (length ms) last → ((k : ℕ) (m : M) → slice_get ms k ≡ Some m → Q k m)
-    → (k : ℕ) (m : M) → slice_get (ms ++ last ∷ []) k ≡ Some m → Q k m
-each_more Q [] last here each zero m at = let same : last ≡ m = cc in subst (Q 0) same here
-each_more Q [] last here each (suc k) m at = absurd cc
-each_more Q (x ∷ xs) last here each zero m at = each 0 m at
-each_more Q (x ∷ xs) last here each (suc k) m at = each_more (λ k. Q (suc k)) xs last here (λ k. each (suc k)) k m at
+-- one map more
+pub numbers_more : (types : List TypeRead) (maps : List (BTreeMap (Bor Name) ℤ)) (i : ℕ) (r : TypeRead) (m : BTreeMap (Bor Name) ℤ) → i < length types → r ≡ get_or types i r
+    → ((name : Name) → number_of m name ≡ number_named (values_in types r.scope r.declaration) name) → HaveNumbers types maps (take i types) → HaveNumbers types (maps ++ m ∷ []) (take (i + 1) types)
+numbers_more types maps i r m h e one so_far = rw (take_more types i r h, ← e)
+    (all_zipped_more (λ m r. (name : Name) → number_of m name ≡ number_named (values_in types r.scope r.declaration) name) maps (take i types) m r so_far one)
 
 -- maps of all types are an index
-pub numbers_all : (types : List TypeRead) (index : ValueNumbers) → length index.numbers.items ≡ length types → HaveNumbers types index.numbers.items → (t : ℕ) (name : Name) → number_in index t name ≡ number_named (values_at types t) name
-numbers_all types index long have t name = ⊎_elim within past (cases_lt t (length index.numbers.items))
-  where
-    maps : List (BTreeMap (Bor Name) ℤ)
-    maps = index.numbers.items
-
-    within : t < length maps → number_in index t name ≡ number_named (values_at types t) name
-    within less = by maps t less (have t)
-      where
-        by : (ms : List (BTreeMap (Bor Name) ℤ)) (k : ℕ) → k < length ms → ((m : BTreeMap (Bor Name) ℤ) → slice_get ms k ≡ Some m → (name : Name) → number_of m name ≡ number_named (values_at types t) name)
-            → option_and_then (λ m. number_of m name) (slice_get ms k) ≡ number_named (values_at types t) name
-        by [] k less h = absurd (omega (arith, less))
-        by (m ∷ ms) zero less h = h m refl name
-        by (m ∷ ms) (suc k) less h = by ms k (omega (arith, less)) h
-
-    past : length maps ≤ t → number_in index t name ≡ number_named (values_at types t) name
-    past more = ap (option_and_then (λ m. number_of m name)) (slice_get_past maps t more)
-        ∙ sym (ap (λ r. number_named (values_of_read types r) name) (slice_get_past types t (omega (arith, long, more))) ∙ number_named-nil name)
+pub numbers_all : (all types : List TypeRead) (maps : List (BTreeMap (Bor Name) ℤ)) → HaveNumbers all maps types → (t : ℕ) (name : Name)
+    → option_and_then (λ m. number_of m name) (slice_get maps t) ≡ number_named (option_map_or (λ r. values_in all r.scope r.declaration) (slice_get types t) []) name
+numbers_all all [] [] h t name = sym (number_named-nil name)
+numbers_all all [] (m ∷ ms) h t name = absurd h
+numbers_all all (r ∷ rs) [] h t name = absurd h
+numbers_all all (r ∷ rs) (m ∷ ms) h zero name = h.0 name
+numbers_all all (r ∷ rs) (m ∷ ms) h (suc t) name = numbers_all all rs ms h.1 t name

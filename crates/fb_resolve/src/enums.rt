@@ -6,7 +6,7 @@ ghost use Rattle.fb_schema.specs.Schema.{Name};
 ghost use Rattle.fb_resolve.specs.Outline.{TypeRead};
 ghost use Rattle.fb_resolve.specs.EnumsRead.{integer_type, underlying, underlying_at, has_flags, bits_of};
 ghost use Rattle.fb_resolve.specs.EnumsRead.{is_bit_of, value_number, may_be_written, written_number};
-ghost use Rattle.fb_resolve.specs.EnumsRead.{resolved_values, values_declared, value_over, values_over};
+ghost use Rattle.fb_resolve.specs.EnumsRead.{resolved_values, value_over, values_over};
 
 use crate::attributes::{BuiltInAttribute, has_attribute};
 use crate::basic_types::basic_type;
@@ -109,7 +109,7 @@ fn written_number(next: i128, value: &EnumValue<'_>) -> i128
 }
 
 /// The values of an enum with their numbers. The only error is a refused allocation.
-fn resolved_values<'d, 's>(
+pub(crate) fn resolved_values<'d, 's>(
     alloc: Global,
     values: &'d [EnumValue<'s>],
 ) -> Result<Vec<ResolvedValue<'d, 's>>, AllocError>
@@ -123,19 +123,6 @@ fn resolved_values<'d, 's>(
         next = number + 1;
     }
     Ok(resolved)
-}
-
-/// The values of a type with their numbers; none for a type that is no enum. The only error is a refused allocation.
-pub(crate) fn values_declared<'d, 's>(
-    alloc: Global,
-    declaration: &'d TypeDecl<'s>,
-) -> Result<Vec<ResolvedValue<'d, 's>>, AllocError>
-    ensures { IfOk result (λ r. r.items ≡ values_declared declaration.now) }
-{
-    match declaration {
-        TypeDecl::Enum(read) => resolved_values(alloc, read.values.as_slice()),
-        _ => Ok(Vec::new(alloc)),
-    }
 }
 
 fn value_over(
