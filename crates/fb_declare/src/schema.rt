@@ -70,7 +70,7 @@ fn declare_outline<'d, 's>(
     ensures given { IfOk result (Gives outline.now) }
     ensures least { IfErr result (λ f. f ≢ Memory → least_of (faults_of_outline outline.now) ≡ Some f) }
 {
-    let resolved = Resolved::of(alloc, decls, outline)?;
+    let resolved = Resolved::of(alloc, outline)?;
     if let Some(fault) = least_fault(alloc, &resolved)? {
         return Err(fault);
     }

@@ -1,12 +1,11 @@
 -- What stands behind a full name and a dot.
-use Rattle.std.proofs.Common.{◌≡◌, ℕ, ◌==◌, ◌&&◌, [], ◌∷◌, length, drop, Bool, true, false, Option, None, Some, refl, sym, arith, if◌then◌else◌}
+use Rattle.std.proofs.Common.{◌≡◌, ◌++◌, ℕ, ◌==◌, ◌&&◌, [], ◌∷◌, length, drop, Bool, true, false, Option, None, Some, refl, sym, arith, if◌then◌else◌}
 use Rattle.std.specs.Bool.{nat_eq}
 use Rattle.std.specs.List.{starts_with}
 use Rattle.std.specs.Option.{option_and_then}
 use Rattle.std.proofs.lemmas.Bool.Decides.{nat_tests}
 use Rattle.fb_syntax.specs.Signs.{dot}
 use Rattle.fb_schema.specs.Schema.{Name}
-use Rattle.fb_resolve.specs.Outline.{inside}
 use Rattle.fb_resolve.specs.EnumsRead.{behind, behind_dot}
 
 then_if : {A B : Type 0} (f : A → Option B) (b : Bool) (o : Option A) → option_and_then f (if b then o else None) ≡ (if b then option_and_then f o else None)
@@ -21,11 +20,11 @@ behind-cons a prefix c name = by (a == c)
     by true = refl
     by false = refl
 
-pub behind_inside : (scope n name : Name) → behind (inside scope n) name ≡ option_and_then (behind n) (behind scope name)
+pub behind_inside : (scope n name : Name) → behind (scope ++ dot ∷ n) name ≡ option_and_then (behind n) (behind scope name)
 unfolding behind
 behind_inside [] n [] = refl
 behind_inside [] n (c ∷ name) = let flip : (dot == c) ≡ (c == dot) = grind (arith, nat_tests) in
     rw (behind-cons dot n c name, flip) (sym (then_if (behind n) (c == dot) (Some name)))
 behind_inside (a ∷ scope) n [] = refl
 behind_inside (a ∷ scope) n (c ∷ name) =
-    rw (behind-cons a (inside scope n) c name, behind-cons a scope c name, then_if (behind n) (a == c) (behind scope name), behind_inside scope n name) refl
+    rw (behind-cons a (scope ++ dot ∷ n) c name, behind-cons a scope c name, then_if (behind n) (a == c) (behind scope name), behind_inside scope n name) refl

@@ -8,7 +8,7 @@ use Rattle.fb_syntax.specs.declared.declarations.TypeDecl.{TypeDecl}
 use Rattle.fb_syntax.specs.declared.declarations.TypeDecl.TheVariants as decls
 use Rattle.fb_schema.specs.Schema.{Name}
 use Rattle.fb_resolve.specs.Outline.{TypeRead, RootRead}
-use Rattle.fb_resolve.specs.Meaning.{meaning_of, meaning_in}
+use Rattle.fb_resolve.specs.Meaning.{type_name, meaning_of}
 use Rattle.fb_resolve.specs.Attributes.{number_called, field_attributes}
 use Rattle.fb_resolve.specs.EnumsRead.{has_flags, resolved_values}
 use Rattle.fb_resolve.specs.Defaults.{given_by}
@@ -22,11 +22,11 @@ use Rattle.fb_resolve.specs.declared.resolved.ResolvedDecl.{ResolvedDecl}
 use Rattle.fb_resolve.specs.declared.resolved.ResolvedDecl.TheVariants.{Table, Struct, Enum, Union}
 
 abbrev pub resolved_field : List TypeRead → Option Name → FieldRead → ResolvedField
-resolved_field types scope f = record {
+resolved_field types scope f = let meant = meaning_of types scope (type_name f.kind).bytes in record {
   field = f;
-  meaning = meaning_in types scope f.kind;
+  meaning = meant;
   attributes = field_attributes f.attributes;
-  given = given_by types f.kind (meaning_in types scope f.kind) f.default;
+  given = given_by types f.kind meant f.default;
 }
 
 abbrev pub resolved_fields : List TypeRead → Option Name → List FieldRead → List ResolvedField

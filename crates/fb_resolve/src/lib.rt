@@ -9,8 +9,8 @@ mod ids;
 mod located_names;
 mod meanings;
 mod members;
+mod names;
 mod outline;
-mod paths;
 mod repeated_names;
 mod resolve;
 mod resolved;
@@ -20,6 +20,7 @@ mod structs;
 mod uses;
 mod value_names;
 mod value_numbers;
+mod walk;
 
 pub use attributes::{BuiltInAttribute, FieldAttributes, built_in_attribute, is_alignment};
 pub use basic_types::is_reserved;

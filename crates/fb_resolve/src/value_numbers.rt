@@ -10,6 +10,7 @@ use crate::enums::{has_flags, resolved_values, underlying, value_number};
 use crate::outline::TypeRead;
 use crate::resolved::ResolvedValue;
 use fb_schema::Base;
+use fb_scopes::Scopes;
 use fb_syntax::TypeDecl;
 use std::alloc::{AllocError, Global};
 use std::collections::BTreeMap;
@@ -31,11 +32,12 @@ impl<'s> ValueNumbers<'s> {
     }
 }
 
-/// The types of a text, and the numbers of the values of enums.
+/// The types of a text, the numbers of the values of enums, and what names mean.
 #[derive(Clone, Copy)]
 pub(crate) struct TypesRead<'t, 'd, 's> {
     pub types: &'t [TypeRead<'d, 's>],
     pub values: &'t ValueNumbers<'s>,
+    pub scopes: &'t Scopes<'d>,
     ghost numbered: { IndexesValues values.now types.now },
 }
 

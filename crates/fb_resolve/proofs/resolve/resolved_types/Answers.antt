@@ -10,15 +10,15 @@ use Rattle.fb_resolve.specs.Paths.{IsPath}
 use Rattle.fb_resolve.proofs.PathsKept.{zip_at}
 use Rattle.fb_resolve.proofs.resolve.resolved_types.Goals as goal
 
-pub bounds-numbers-number : goal.bounds-numbers-number
-bounds-numbers-number c =
-    omega (arith, AllZip-long (λ n r. IsPath (tree_of c.args.scopes.now) n (words_of_scope r.scope)) c.args.numbers.now c.args.types.now c.requires.numbers)
+pub bounds-namespaces-number : goal.bounds-namespaces-number
+bounds-namespaces-number c =
+    omega (arith, AllZip-long (λ n r. IsPath (tree_of c.args.known.scopes.now) n (words_of_scope r.scope)) c.args.namespaces.now c.args.types.now c.requires.namespaces)
 
 pub invariant_of-scope : goal.invariant_of-scope
 invariant_of-scope c =
-    let there = zip_at (λ n r. IsPath (tree_of c.args.scopes.now) n (words_of_scope r.scope))
-    c.args.numbers.now c.args.types.now c.loop-number.number 0 c.index-types-number.result
-    c.requires.numbers c.loop-number-test.true in
+    let there = zip_at (λ n r. IsPath (tree_of c.args.known.scopes.now) n (words_of_scope r.scope))
+    c.args.namespaces.now c.args.types.now c.loop-number.number 0 c.index-types-number.result
+    c.requires.namespaces c.loop-number-test.true in
     record { here = grind (rules, there) }
 
 pub loop-number-preserved : goal.loop-number-preserved

@@ -1,4 +1,4 @@
-use Rattle.std.proofs.Common.{◌≡◌, ◌∙◌, sym, map, take, to_z, of_z, ap, FitsSigned, rules}
+use Rattle.std.proofs.Common.{◌≡◌, ◌∙◌, sym, map, to_z, of_z, ap, FitsSigned, rules}
 use Rattle.std.specs.Int.{w128}
 use Rattle.std.specs.Map.{lookup}
 use Rattle.std.proofs.lemmas.Int.{to_z-of_z}
