@@ -5,9 +5,6 @@ use Rattle.std.specs.Bool.{one_answer}
 use Rattle.std.specs.Option.{option_or}
 use Rattle.std.specs.Str.{bytes_eq}
 
-pub bytes_eq-refl : (a : List ℕ) → bytes_eq a a ≡ true
-bytes_eq-refl a = (bytes_eq-Decides a a).1 refl
-
 pub bytes_eq-equal : (a b : List ℕ) → bytes_eq a b ≡ true → a ≡ b
 bytes_eq-equal a b h = (bytes_eq-Decides a b).0 h
 

@@ -1,8 +1,5 @@
 pub mod Bytes
 pub mod Steps
-pub mod Underscores
-pub mod ValuesFrom
-pub mod Written
 pub mod Behind
 pub mod PlacesTaken
 pub mod InOrder
@@ -10,4 +7,3 @@ pub mod IntegerAlone
 pub mod Numbers
 pub mod UsesKept
 pub mod PathsKept
-pub mod RepeatedNames

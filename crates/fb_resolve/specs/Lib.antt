@@ -15,4 +15,3 @@ pub mod ValueNumbers
 pub mod Uses
 pub mod Paths
 pub mod RepeatedNames
-pub mod UnionCodes

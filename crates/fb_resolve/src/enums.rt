@@ -109,6 +109,7 @@ fn written_number(next: i128, value: &EnumValue<'_>) -> i128
 }
 
 /// The values of an enum with their numbers. The only error is a refused allocation.
+#[tactic(auto, unfolding(crate::specs::EnumsRead::values_from))]
 pub(crate) fn resolved_values<'d, 's>(
     alloc: Global,
     values: &'d [EnumValue<'s>],

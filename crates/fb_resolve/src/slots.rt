@@ -4,8 +4,7 @@ ghost use Rattle.std.specs.Prelude.{Some, string_bytes};
 ghost use Rattle.std.specs.Option.{option_map};
 ghost use Rattle.fb_schema.specs.Seen.{field_seen};
 ghost use Rattle.fb_resolve.specs.SlotsRead.{union_of, union_in, value_slot, name_of_code, code_slot};
-ghost use Rattle.fb_resolve.specs.SlotsRead.{slots_of_field, slots_in_order};
-ghost use Rattle.fb_resolve.specs.UnionCodes.{IsCodeOf};
+ghost use Rattle.fb_resolve.specs.SlotsRead.{IsCodeOf, slots_of_field, slots_in_order};
 
 use crate::defaults::Given;
 use crate::meanings::Meaning;

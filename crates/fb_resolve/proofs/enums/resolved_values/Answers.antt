@@ -1,12 +1,36 @@
-use Rattle.std.proofs.Common.{◌≡◌, ◌≤◌, ◌+◌, ◌∙◌, sym, arith, to_z, of_z, FitsSigned, rules}
+use Rattle.std.proofs.Common.{◌≡◌, ◌≤◌, ◌+◌, ◌∙◌, sym, arith, to_z, of_z, FitsSigned, rules, ℕ, ◌<◌, ◌^◌, ℤ, pos, negsuc, ◌+ℤ◌, ap, ◌++◌, List, [], ◌∷◌, length, get_or, drop, append_assoc, refl}
 use Rattle.std.specs.Int.{w128}
 use Rattle.std.specs.Int.RustNames.{unsigned_abs}
-use Rattle.std.proofs.lemmas.Int.{to_z-of_z}
+use Rattle.std.proofs.lemmas.Int.{to_z-of_z, ints}
 use Rattle.fb_syntax.specs.Integers.{greatest_magnitude}
-use Rattle.fb_resolve.specs.EnumsRead.{written_number}
-use Rattle.fb_resolve.proofs.Written.{next-near, next-sum, sum-fits}
-use Rattle.fb_resolve.proofs.ValuesFrom.{values_from-pushed, values_from-all}
+use Rattle.fb_resolve.specs.EnumsRead.{written_number, values_from}
+use Rattle.fb_syntax.specs.declared.declarations.EnumValue.{EnumValue}
+use Rattle.fb_resolve.specs.ResolvedFields.{ResolvedValue}
+use Rattle.std.proofs.lemmas.List.{append-nil, drop_more, drop_all}
+use Rattle.std.proofs.lemmas.Grind.{common_steps}
 use Rattle.fb_resolve.proofs.enums.resolved_values.Goals as goal
+
+-- The number behind one that is written for an enum's value: the code's sum doesn't overflow.
+
+next-near : (n : ℤ) (i : ℕ) → unsigned_abs n ≤ greatest_magnitude + i → unsigned_abs (n +ℤ pos 1) ≤ greatest_magnitude + (i + 1)
+next-near (pos n) i h = omega (arith, ints)
+next-near (negsuc n) i h = omega (arith, ints)
+
+near-fits : (n : ℤ) (i : ℕ) → unsigned_abs n ≤ greatest_magnitude + i → i < 2 ^ 64 → FitsSigned w128 n
+near-fits (pos n) i h small = omega (arith, ints)
+near-fits (negsuc n) i h small = omega (arith, ints)
+
+-- what the code's sum gives
+next-sum : (n : ℤ) (i : ℕ) → unsigned_abs n ≤ greatest_magnitude + i → i + 1 < 2 ^ 64 → to_z w128 (of_z w128 (to_z w128 (of_z w128 n) +ℤ pos 1)) ≡ n +ℤ pos 1
+next-sum n i h small =
+    let fits : FitsSigned w128 n = near-fits n i h (omega arith) in
+    let next_fits : FitsSigned w128 (n +ℤ pos 1) = near-fits (n +ℤ pos 1) (i + 1) (next-near n i h) small in
+    ap (λ m. to_z w128 (of_z w128 (m +ℤ pos 1))) (to_z-of_z w128 n fits) ∙ to_z-of_z w128 (n +ℤ pos 1) next_fits
+
+sum-fits : (n : ℤ) (i : ℕ) → unsigned_abs n ≤ greatest_magnitude + i → i + 1 < 2 ^ 64 → FitsSigned w128 (to_z w128 (of_z w128 n) +ℤ pos 1)
+sum-fits n i h small =
+    let fits : FitsSigned w128 n = near-fits n i h (omega arith) in
+    rw (to_z-of_z w128 n fits) (near-fits (n +ℤ pos 1) (i + 1) (next-near n i h) small)
 
 pub overflow_add-next : goal.overflow_add-next
 overflow_add-next c =
@@ -16,6 +40,7 @@ overflow_add-next c =
     sum-fits n i near (omega arith)
 
 pub loop-value-preserved : goal.loop-value-preserved
+unfolding values_from
 loop-value-preserved c =
     let i = c.loop-value.value-index in
     let n = c.written_number-number.result in
@@ -25,10 +50,9 @@ loop-value-preserved c =
     let sum = next-sum n i near (omega arith) in
     let fits : FitsSigned w128 n = search rules in
     let number : to_z w128 (of_z w128 n) ≡ written_number next v = to_z-of_z w128 n fits ∙ c.written_number-number.ensures.number in
+    let values = c.args.values.now in
+    let rest : drop i values ≡ v ∷ drop (i + 1) values = drop_more values i v c.loop-value-test.true ∙ ap (λ x. x ∷ drop (i + 1) values) (sym c.value-item.is) in
     record {
-      so_far = rw (sum, c.in_ok-push.ensures.items, number, c.written_number-number.ensures.number) (values_from-pushed c.loop-value.resolved.items next c.args.values.now i v c.loop-value-test.true c.value-item.is ∙ c.loop-value.invariant.so_far);
+      so_far = rw (sum, c.in_ok-push.ensures.items, number, c.written_number-number.ensures.number) (grind (arith, common_steps, rest, c.loop-value.invariant.so_far));
       near = rw sum (next-near n i near);
     }
-
-pub returns : goal.returns
-returns c = sym (values_from-all c.loop-value.resolved.items (to_z w128 c.loop-value.next-bits) c.args.values.now c.loop-value.value-index c.loop-value-test.false) ∙ c.loop-value.invariant.so_far

@@ -28,10 +28,7 @@ loop-number-preserved c =
     let item = c.index-types-number.result in
     let next : drop i types ≡ item ∷ drop (i + 1) types =
     drop_more types i item c.loop-number-test.true ∙ ap (λ r. r ∷ drop (i + 1) types) (sym c.index-types-number.is) in
-    let declared = λ (r : TypeRead). values_declared r.declaration in
-    let values = c.in-Some.values in
-    let more = c.next.new.self.rest.items in
-    let split : c.loop-number.values.rest.items ≡ values ∷ more = grind rules in
-    let both : values.items ∷ map (λ v. v.items) more ≡ declared item ∷ map declared (drop (i + 1) types) =
-    sym (ap (map (λ v. v.items)) split) ∙ c.loop-number.invariant.left ∙ ap (map declared) next in
-    record { so_far = grind (arith, common_steps, next, c.loop-number.invariant.so_far); left = ap (drop 1) both }
+    let split : c.loop-number.values.rest.items ≡ c.in-Some.values ∷ c.next.new.self.rest.items = grind rules in record {
+      so_far = grind (arith, common_steps, next, c.loop-number.invariant.so_far);
+      left = grind (arith, common_steps, next, split, c.loop-number.invariant.left);
+    }

@@ -1,5 +1,6 @@
-use Rattle.std.proofs.Common.{rules, ◌≡◌, ◌++◌, ◌+◌, ◌∷◌, ◌∙◌, length, map, ap, sym, append_assoc}
+use Rattle.std.proofs.Common.{arith, rules, ◌≡◌, ◌++◌, ◌+◌, ◌∷◌, ◌∙◌, length, map, ap, sym, append_assoc}
 use Rattle.std.proofs.Common.{length-append}
+use Rattle.std.proofs.lemmas.Grind.{common_steps}
 use Rattle.std.proofs.lemmas.List.{length-map}
 use Rattle.fb_schema.specs.Seen.{field_seen}
 use Rattle.fb_resolve.specs.SlotsRead.{slots_of_field, slots_in_order}
@@ -16,8 +17,4 @@ loop-field-preserved c =
     let split : c.loop-field.field-iterator.rest.items ≡ field ∷ rest = grind rules in
     let pushed : map field_seen new ≡ map field_seen old ++ here = grind rules in
     let long : length new ≡ length old + length here = sym (length-map new field_seen) ∙ ap length pushed ∙ length-append (map field_seen old) here ∙ ap (λ n. n + length here) (length-map old field_seen) in
-    ap (λ n. map field_seen new ++ slots_in_order n rest) long
-    ∙ ap (λ ss. ss ++ slots_in_order (length old + length here) rest) pushed
-    ∙ append_assoc (map field_seen old) here (slots_in_order (length old + length here) rest)
-    ∙ ap (λ fs. map field_seen old ++ slots_in_order (length old) fs) (sym split)
-    ∙ c.loop-field.invariant
+    grind (arith, common_steps, split, pushed, long, c.loop-field.invariant)
