@@ -3,7 +3,6 @@ pub mod Steps
 pub mod Behind
 pub mod PlacesTaken
 pub mod InOrder
-pub mod IntegerAlone
 pub mod Numbers
 pub mod UsesKept
 pub mod PathsKept

@@ -1,5 +1,5 @@
 -- Numbers that are noted for the names of an enum's values.
-use Rattle.std.proofs.Common.{◌≡◌, ◌++◌, ◌+◌, ◌<◌, ◌∷◌, zero, suc, length, slice_get, get_or, take, map, Bor, ℤ, ℕ, Bool, true, false, Option, None, Some, refl, ap, sym, ◌∙◌, cond, List, [], if◌then◌else◌}
+use Rattle.std.proofs.Common.{arith, ◌≡◌, ◌++◌, ◌+◌, ◌<◌, ◌∷◌, zero, suc, length, slice_get, get_or, take, map, Bor, ℤ, ℕ, Bool, true, false, Option, None, Some, refl, ap, sym, ◌∙◌, cond, List, [], if◌then◌else◌}
 use Rattle.std.specs.BTreeMap.{BTreeMap}
 use Rattle.std.specs.List.{AllZip, find}
 use Rattle.std.specs.Option.{option_or, option_and_then, option_map, option_map_or}
@@ -11,14 +11,7 @@ use Rattle.fb_schema.specs.Schema.{Name}
 use Rattle.fb_resolve.specs.Outline.{TypeRead}
 use Rattle.fb_resolve.specs.EnumsRead.{values_in, number_named}
 use Rattle.fb_resolve.specs.ValueNumbers.{number_of}
-use Rattle.fb_resolve.proofs.Bytes.{bytes_eq-equal, bytes_eq-sym, noted_once}
-
--- a number that is noted for a name that had none
-pub noted_number : {X : Type 0} (f : Name → Option X) (name other : Name) (x : X) → f name ≡ None
-    → cond (bytes_eq name other) (Some x) (f other) ≡ option_or (f other) (if bytes_eq other name then Some x else None)
-noted_number f name other x none =
-    noted_once (bytes_eq name other) (f other) x (λ e. ap f (sym (bytes_eq-equal name other e)) ∙ none)
-    ∙ ap (λ b. option_or (f other) (if b then Some x else None)) (bytes_eq-sym name other)
+use Rattle.fb_resolve.proofs.Bytes.{bytes_eq-equal, bytes_eq-sym}
 
 pub number_named-nil : (name : Name) → number_named [] name ≡ None
 unfolding number_named
@@ -28,12 +21,7 @@ number_named-nil name = refl
 number_named-push : (values : List (Name × ℤ)) (v : Name × ℤ) (name : Name)
     → number_named (values ++ v ∷ []) name ≡ option_or (number_named values name) (if bytes_eq name v.0 then Some v.1 else None)
 unfolding number_named
-number_named-push values v name = ap (option_map (λ w. w.1)) (find-append (λ w. bytes_eq name w.0) values (v ∷ [])) ∙ by (find (λ w. bytes_eq name w.0) values) (bytes_eq name v.0)
-  where
-    by : (o : Option (Name × ℤ)) (same : Bool) → option_map (λ w. w.1) (option_or o (cond same (Some v) None)) ≡ option_or (option_map (λ w. w.1) o) (if same then Some v.1 else None)
-    by None true = refl
-    by None false = refl
-    by (Some w) same = refl
+number_named-push values v name = grind (arith, find-append (λ w. bytes_eq name w.0) values (v ∷ []))
 
 pub number_named-more : {X : Type 0} (f : X → Name × ℤ) (xs : List X) (i : ℕ) (x : X) (name : Name) → i < length xs → x ≡ get_or xs i x
     → number_named (map f (take (i + 1) xs)) name ≡ option_or (number_named (map f (take i xs)) name) (if bytes_eq name (f x).0 then Some (f x).1 else None)

@@ -46,7 +46,7 @@ words-full (Some scope) name = words-inside scope name
 pub path_inside : (old new : PathTree) (scope n : ℕ) (name : Option Name) (word : Name) → IsPath old scope (words_of_scope name)
     → IsPath new n (get_or (paths old) scope [] ++ words word) → IsPath new n (words (full_name name word))
 path_inside old new scope n name word here there =
-    there ∙ ap Some (ap (λ outer. outer ++ words word) (get_or_from_slice_get (paths old) scope (words_of_scope name) [] here) ∙ sym (words-full name word))
+    grind (arith, words-full name word, get_or_from_slice_get (paths old) scope (words_of_scope name) [] here, there)
 
 -- a pair of items of two lists that are related item by item
 pub zip_at : {A B : Type 0} (R : A → B → Type 0) (xs : List A) (ys : List B) (i : ℕ) (d : A) (e : B) → AllZip R xs ys → i < length ys

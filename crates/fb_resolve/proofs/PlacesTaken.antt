@@ -2,8 +2,8 @@
 use Rattle.std.proofs.Common.{◌≡◌, ◌==◌, ℕ, zero, suc, ◌<◌, ◌≤◌, ◌+◌, ◌-◌, Bool, true, false, List, length, get_or, set, take, sym, ap, ◌∙◌, arith, inl, inr, zero-add}
 use Rattle.std.proofs.Math.Bool.{or-false, or-true}
 use Rattle.std.proofs.lemmas.Bool.{cases_lt}
-use Rattle.std.proofs.lemmas.Bool.Decides.{Decides-eqb, eqb_tells}
-use Rattle.std.proofs.lemmas.Grind.{get_or-set_at}
+use Rattle.std.proofs.lemmas.Bool.Decides.{Decides-eqb, nat_tests}
+use Rattle.std.proofs.lemmas.Grind.{common_steps}
 use Rattle.std.proofs.lemmas.List.{get_or_default, get_or-set_other}
 use Rattle.std.proofs.lemmas.List.Folds.{list_any_more}
 use Rattle.std.proofs.lemmas.List.FromFn.{get_or-range_with_len, length-range_with_len}
@@ -17,10 +17,7 @@ use Rattle.fb_resolve.specs.SlotsRead.{are_places}
 -- the place of the next number is marked
 pub marked-more : (marks : List Bool) (ns : List ℕ) (i k : ℕ) → i < length ns → k < length marks → get_or marks k false ≡ list_any (λ n. k == n) (take i ns)
     → get_or (set marks (get_or ns i 0) true) k false ≡ list_any (λ n. k == n) (take (i + 1) ns)
-marked-more marks ns i k l h e = rw (list_any_more (λ n. k == n) ns i 0 l) (elim (eqb_tells k (get_or ns i 0)) [
-  | inl t ↦ rw (t.0, or-true (list_any (λ n. k == n) (take i ns))) (get_or-set_at marks (get_or ns i 0) k true false t.1 (omega arith))
-  | inr t ↦ rw (t.0, or-false (list_any (λ n. k == n) (take i ns))) (get_or-set_other marks (get_or ns i 0) k true false t.1 ∙ e)
-])
+marked-more marks ns i k l h e = grind (arith, common_steps, nat_tests, list_any_more (λ n. k == n) ns i 0 l, e)
 
 -- each place below the count is one of the numbers, at some index
 abbrev HasEach : List ℕ → Type 0
@@ -35,10 +32,7 @@ each_place ns placed right same k h =
 
 -- where the numbers don't fall, the next greater number stands behind
 behind : (ns : List ℕ) (i j k : ℕ) → IsNonDecreasingBy (λ n. n) ns → i < length ns → get_or ns i 0 ≡ k → get_or ns j 0 ≡ suc k → i < j
-behind ns i j k up l e f = elim (cases_lt i j) [
-  | inl h ↦ h
-  | inr h ↦ absurd (omega (arith, up j i 0 h l, e, f))
-]
+behind ns i j k up l e f = grind (arith, up j i 0)
 
 -- so a place's index is no less than the place
 at_least : (ns : List ℕ) → IsNonDecreasingBy (λ n. n) ns → (at : HasEach ns) → (k : ℕ) → (h : k < length ns) → k ≤ (at k h).0

@@ -54,11 +54,8 @@ resolved_member types scope m = record {
   meaning = meaning_of types scope m.table.bytes;
 }
 
-abbrev pub resolved_members : List TypeRead → Option Name → List UnionMember → List ResolvedMember
-resolved_members types scope ms = map (resolved_member types scope) ms
-
 abbrev pub resolved_union : List TypeRead → Option Name → UnionRead → ResolvedUnion
-resolved_union types scope u = record { declared = u; members = resolved_members types scope u.members }
+resolved_union types scope u = record { declared = u; members = map (resolved_member types scope) u.members }
 
 -- a declaration whose names mean what they do inside a namespace
 abbrev pub resolved_declaration : List TypeRead → Option Name → TypeDecl → ResolvedDecl

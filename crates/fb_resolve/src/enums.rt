@@ -30,7 +30,7 @@ pub fn integer_type(meaning: Meaning) -> Option<Base>
 
 /// The underlying type of an enum, if it is an integer type. Its name alone tells, whatever types
 /// the text declares.
-#[tactic(auto, using(crate::proofs::IntegerAlone::underlying_alone))]
+#[tactic(auto, unfolding(crate::specs::Meaning::meaning_of))]
 pub fn underlying(read: &EnumDecl<'_>) -> Option<Base>
     ensures { (types : List TypeRead) (scope : Option Name)
         → result ≡ underlying types scope read.now }

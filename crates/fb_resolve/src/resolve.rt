@@ -1,5 +1,5 @@
 //! Each name and attribute in the declarations of types looked up once.
-ghost use Rattle.std.specs.Prelude.{◌≡◌, All, IfOk};
+ghost use Rattle.std.specs.Prelude.{◌≡◌, All, IfOk, map};
 ghost use Rattle.std.specs.List.{AllZip};
 ghost use Rattle.std.specs.Option.{option_copied};
 ghost use Rattle.fb_scopes.specs.Scopes.{tree_of, names_of, AreScopes};
@@ -9,7 +9,7 @@ ghost use Rattle.fb_resolve.specs.Paths.{IsPath, IsRootPlaced};
 ghost use Rattle.fb_resolve.specs.RepeatedNames.{AreRepeats};
 ghost use Rattle.fb_resolve.specs.EnumsRead.{values_declared};
 ghost use Rattle.fb_resolve.specs.ValueNumbers.{AreValues};
-ghost use Rattle.fb_resolve.specs.Resolved.{resolved_fields, resolved_members};
+ghost use Rattle.fb_resolve.specs.Resolved.{resolved_fields, resolved_member};
 ghost use Rattle.fb_resolve.specs.Resolved.{resolved_declaration, resolved_types, meaning_of_root};
 
 use crate::attributes::{BuiltInAttribute, field_attributes, number_called};
@@ -63,7 +63,7 @@ impl<'d, 's> Scope<'_, 'd, 's> {
         requires scopes { AreScopes self.types.scopes.now (paths_of_types self.types.types.now) }
         requires used { AreMemberUses (names_of self.types.scopes.now) members.now }
         ensures { IfOk result (λ v. v.items
-            ≡ resolved_members self.entry.types.types.now (option_copied self.entry.name) members.now) }
+            ≡ map (resolved_member self.entry.types.types.now (option_copied self.entry.name)) members.now) }
     {
         let mut resolved = Vec::with_capacity(alloc, members.len())?;
         for member in members {

@@ -78,10 +78,7 @@ pub(crate) fn code_of(
 pub fn union_in(resolved: &ResolvedField<'_, '_>) -> Option<TypeId>
     ensures { result ≡ union_in resolved.now }
 {
-    match &resolved.code {
-        Some(code) => Some(code.union),
-        None => None,
-    }
+    resolved.code.as_ref().map(|code| code.union)
 }
 
 /// The slot of the code of a union's field.
@@ -90,19 +87,17 @@ fn code_slot(resolved: ResolvedField<'_, '_>, slot: u64) -> FieldInfo
     ensures { Some (field_seen result)
         ≡ option_map (λ u. code_slot resolved.entry u slot) (union_in resolved.entry) }
 {
-    let ResolvedField {
-        attributes,
-        code,
-        ..
-    } = resolved;
-    let Some(code) = code else { unreachable!() };
+    let deprecated = resolved.attributes.deprecated;
+    let Some(code) = resolved.code else {
+        unreachable!()
+    };
     FieldInfo {
         name: code.name,
         shape: Shape::One(Kind::Code(code.union)),
         default: 0,
         optional: false,
         required: false,
-        deprecated: attributes.deprecated,
+        deprecated,
         slot,
     }
 }

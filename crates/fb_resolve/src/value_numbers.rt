@@ -61,6 +61,7 @@ pub(crate) fn values_of<'d, 's>(
 }
 
 /// The values of a type with their numbers, and these numbers by their names.
+#[tactic(auto, unfolding(crate::specs::EnumsRead::number_named))]
 fn values_in<'d, 's>(
     alloc: Global,
     declaration: &'d TypeDecl<'s>,
@@ -79,6 +80,7 @@ fn values_in<'d, 's>(
 }
 
 /// The numbers that these values have in an enum over a type, by their names.
+#[tactic(auto, unfolding(crate::specs::EnumsRead::number_named))]
 fn numbers_over<'s>(
     alloc: Global,
     base: Base,

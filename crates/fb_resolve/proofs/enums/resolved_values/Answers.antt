@@ -13,12 +13,10 @@ use Rattle.fb_resolve.proofs.enums.resolved_values.Goals as goal
 -- The number behind one that is written for an enum's value: the code's sum doesn't overflow.
 
 next-near : (n : ℤ) (i : ℕ) → unsigned_abs n ≤ greatest_magnitude + i → unsigned_abs (n +ℤ pos 1) ≤ greatest_magnitude + (i + 1)
-next-near (pos n) i h = omega (arith, ints)
-next-near (negsuc n) i h = omega (arith, ints)
+next-near n i h = grind (arith, ints)
 
 near-fits : (n : ℤ) (i : ℕ) → unsigned_abs n ≤ greatest_magnitude + i → i < 2 ^ 64 → FitsSigned w128 n
-near-fits (pos n) i h small = omega (arith, ints)
-near-fits (negsuc n) i h small = omega (arith, ints)
+near-fits n i h small = grind (arith, ints)
 
 -- what the code's sum gives
 next-sum : (n : ℤ) (i : ℕ) → unsigned_abs n ≤ greatest_magnitude + i → i + 1 < 2 ^ 64 → to_z w128 (of_z w128 (to_z w128 (of_z w128 n) +ℤ pos 1)) ≡ n +ℤ pos 1

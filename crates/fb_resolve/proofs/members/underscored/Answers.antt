@@ -5,6 +5,7 @@ use Rattle.std.proofs.lemmas.List.Folds.{map_fixed}
 use Rattle.std.proofs.lemmas.List.Sums.{fails_before_first, passes_at_first, split_at_first}
 use Rattle.std.specs.List.{position_or_len, before_first, after_first}
 use Rattle.fb_schema.specs.Schema.{Name}
+use Rattle.std.proofs.lemmas.Grind.{common_steps}
 use Rattle.fb_resolve.proofs.members.underscored.Goals as goal
 
 -- Underscores for dots, up to the first dot and behind it.
@@ -29,23 +30,10 @@ underscored-dot s there =
     ap with_underscores (split_at_first p s 0 there) ∙ map-append underscore_for_dot (before_first p s) (dot ∷ after_first p s)
     ∙ rw (same_before s, passes_at_first p s 0 there) refl
 
--- a word and what stands behind the first dot, laid behind u
-underscored-around : (u s word behind : Name) → word ≡ before_first (λ d. d == 46) s → behind ≡ after_first (λ d. d == 46) s → position_or_len (λ d. d == 46) s < length s
-    → u ++ word ++ 95 ∷ [] ++ with_underscores behind ≡ u ++ with_underscores s
-underscored-around u s word behind w b p =
-    append_assoc (u ++ word) (95 ∷ []) (with_underscores behind) ∙ append_assoc u word (95 ∷ with_underscores behind)
-    ∙ ap (λ r. u ++ r) (rw (w, b) (sym (underscored-dot s p)))
-
 pub loop-word-preserved : goal.loop-word-preserved
 loop-word-preserved c =
     let split = c.in-Some-split_once.ensures.byte (omega arith) (λ w o h. h) in
-    let laid = c.in_ok-push_str-2.ensures.bytes ∙ ap (λ r. r ++ 95 ∷ []) c.in_ok-push_str.ensures.bytes in (
-      search rules,
-      ap (λ r. r ++ with_underscores c.in-Some-split_once.behind.now) laid
-          ∙ underscored-around (string_bytes c.loop-word.underscored) c.loop-word.rest.now c.in-Some-split_once.word.now c.in-Some-split_once.behind.now
-          split.0 split.1 split.2
-          ∙ c.loop-word.invariant.1,
-    )
+    let dot = underscored-dot c.loop-word.rest.now split.2 in (search rules, grind (arith, common_steps, split.0, split.1, dot, c.loop-word.invariant.1))
 
 pub returns : goal.returns
 returns c =

@@ -7,9 +7,6 @@ use Rattle.fb_resolve.specs.EnumsRead.{value_number, value_over, number_named}
 use Rattle.fb_resolve.proofs.Numbers.{number_named-more, number_named-nil}
 use Rattle.fb_resolve.proofs.value_numbers.numbers_over.Goals as goal
 
-pub loop-resolved-init : goal.loop-resolved-init
-loop-resolved-init c = λ other. ap (lookup _) c.new-numbers.ensures.empty ∙ sym (number_named-nil other)
-
 pub loop-resolved-preserved : goal.loop-resolved-preserved
 loop-resolved-preserved c = λ other.
     let r = c.resolved-item.result in
@@ -20,8 +17,3 @@ loop-resolved-preserved c = λ other.
     let text : c.as_bytes-name.result.now ≡ r.value.name.bytes = grind rules in
     rw (c.in_ok-note.ensures other, text, number, c.loop-resolved.invariant other)
     (sym (number_named-more (value_over base flags) c.args.values.now c.loop-resolved.resolved-index r other c.loop-resolved-test.true c.resolved-item.is))
-
-pub returns : goal.returns
-returns c = λ other.
-    c.loop-resolved.invariant other
-    ∙ ap (λ vs. number_named (map (value_over c.args.base c.args.flags) vs) other) (take_all c.loop-resolved.resolved-index c.args.values.now c.loop-resolved-test.false)
