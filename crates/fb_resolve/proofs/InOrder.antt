@@ -25,10 +25,9 @@ in_place read placed right same up = record {
   same = same;
   slots = λ k s e.
       let h : k < length placed = slice_get_within placed k s e in
-      ap (λ x. x.slot) (sym (get_or_from_slice_get placed k s s e))
-      ∙ sym (get_or-map (λ x. x.slot) placed k s 0 h)
-      ∙ places_at (map (λ x. x.slot) read) (map (λ x. x.slot) placed) right (IsPermutation-map (λ x. x.slot) read placed same)
-      (rises-map (λ n. n) (λ x. x.slot) placed up) k (rw (length-map placed (λ x. x.slot)) h);
+      let at = places_at (map (λ x. x.slot) read) (map (λ x. x.slot) placed) right (IsPermutation-map (λ x. x.slot) read placed same)
+      (rises-map (λ n. n) (λ x. x.slot) placed up) k (rw (length-map placed (λ x. x.slot)) h) in
+      grind (arith, get_or_from_slice_get placed k s s e, get_or-map (λ x. x.slot) placed k s 0 h, at);
 }
 
 -- slots by their ids, sorted by their numbers

@@ -4,5 +4,4 @@ pub mod Behind
 pub mod PlacesTaken
 pub mod InOrder
 pub mod Numbers
-pub mod UsesKept
 pub mod PathsKept

@@ -11,7 +11,7 @@ use Rattle.fb_resolve.specs.Outline.{TypeRead, RootRead, name_of_type}
 use Rattle.fb_resolve.specs.Scopes.{words_of_scope, paths_of_types}
 use Rattle.fb_resolve.specs.RepeatedNames.{AreRepeats}
 use Rattle.fb_resolve.specs.Uses.{IsUse, AreUses}
-use Rattle.fb_resolve.specs.declared.names.Names.{Names}
+use Rattle.fb_resolve.specs.declared.outline.Names.{Names}
 use Rattle.fb_resolve.specs.declared.walk.Walk.TheInside.{Inside}
 
 -- a number is that of a path

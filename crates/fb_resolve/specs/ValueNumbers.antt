@@ -21,10 +21,6 @@ number_of numbers name = get_by (λ k. slice_cmp nat_cmp name k.now) numbers
 abbrev pub number_in : ValueNumbers → ℕ → Name → Option ℤ
 number_in index t name = option_and_then (λ m. number_of m name) (slice_get index.numbers.items t)
 
--- a map has one number more: that of a name, where it had none
-abbrev pub NotesNumber : BTreeMap (Bor Name) ℤ → BTreeMap (Bor Name) ℤ → Name → ℤ → Type 0
-NotesNumber old new name n = (other : Name) → number_of new other ≡ option_or (number_of old other) (if bytes_eq other name then Some n else None)
-
 -- an index has the number of the first value of each name in each enum, and no other
 abbrev pub IndexesValues : ValueNumbers → List TypeRead → Type 0
 IndexesValues index types = (t : ℕ) (name : Name) → number_in index t name ≡ number_named (values_at types t) name

@@ -5,7 +5,7 @@ ghost use Rattle.fb_syntax.specs.Integers.{greatest_magnitude};
 ghost use Rattle.fb_schema.specs.Schema.{Name};
 ghost use Rattle.fb_resolve.specs.Outline.{TypeRead};
 ghost use Rattle.fb_resolve.specs.EnumsRead.{integer_type, underlying, underlying_at, has_flags, bits_of};
-ghost use Rattle.fb_resolve.specs.EnumsRead.{is_bit_of, value_number, may_be_written, written_number};
+ghost use Rattle.fb_resolve.specs.EnumsRead.{value_number, may_be_written, written_number};
 ghost use Rattle.fb_resolve.specs.EnumsRead.{resolved_values, value_over, values_over};
 
 use crate::attributes::{BuiltInAttribute, has_attribute};
@@ -68,13 +68,6 @@ fn bits_of(base: Base) -> u8
     }
 }
 
-/// Whether a number is that of a bit of a type.
-fn is_bit_of(base: Base, number: i128) -> bool
-    ensures { result ≡ is_bit_of base number }
-{
-    number >= 0 && number < i128::from(bits_of(base))
-}
-
 /// The number that a value has where this one is written.
 pub(crate) fn value_number(base: Base, flags: bool, number: i128) -> i128
     ensures { result ≡ value_number base flags number }
@@ -90,7 +83,7 @@ pub fn may_be_written(base: Base, flags: bool, number: i128) -> bool
     ensures { result ≡ may_be_written base flags number }
 {
     if flags {
-        is_bit_of(base, number)
+        number >= 0 && number < i128::from(bits_of(base))
     } else {
         base.holds(number)
     }

@@ -116,6 +116,7 @@ fn slots_by_id(
 }
 
 /// The slots of a table, each at the place of its number. The only error is a refused allocation.
+#[tactic(auto, using(crate::proofs::InOrder::placed_in_order))]
 pub fn table_slots(
     alloc: Global,
     table: ResolvedTable<'_, '_>,

@@ -9,7 +9,6 @@ mod ids;
 mod located_names;
 mod meanings;
 mod members;
-mod names;
 mod outline;
 mod repeated_names;
 mod resolve;

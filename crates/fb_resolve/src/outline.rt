@@ -2,8 +2,8 @@
 ghost use Rattle.std.specs.Prelude.{◌≡◌, IfOk, string_bytes};
 ghost use Rattle.fb_resolve.specs.Outline.{outline_of, word_of, name_of_type};
 
-use crate::names::Names;
 use crate::walk::Walk;
+use fb_scopes::Scopes;
 use fb_syntax::{Declaration, Decls, Directive, DottedName, Text, TypeDecl};
 use std::alloc::{AllocError, Global};
 use std::marker::Model;
@@ -38,6 +38,18 @@ impl<'d, 's> Model for RootRead<'d, 's> {
     ghost Value = { Read };
 
     ghost view = { λ r. record { scope = option_copied r.scope; name = r.name.now } };
+}
+
+/// The types that names mean, and where the types and the root of a text stand.
+#[derive(Drop)]
+pub(crate) struct Names<'d> {
+    pub scopes: Scopes<'d>,
+    /// Of each type the number of its namespace's path.
+    pub namespaces: Vec<usize>,
+    /// The number of the path of the namespace in which the root is named.
+    pub root: usize,
+    /// Of each type whether one before it has its full name.
+    pub repeats: Vec<bool>,
 }
 
 /// What a schema text declares, sorted by kind.

@@ -3,7 +3,7 @@ ghost use Rattle.std.specs.Prelude.{◌≡◌, ◌<◌, ◌-◌, ◌++◌, ◌^�
 ghost use Rattle.std.specs.Prelude.{Some, string_bytes};
 ghost use Rattle.std.specs.Option.{option_map};
 ghost use Rattle.fb_schema.specs.Seen.{field_seen};
-ghost use Rattle.fb_resolve.specs.SlotsRead.{union_of, union_in, value_slot, name_of_code, code_slot};
+ghost use Rattle.fb_resolve.specs.SlotsRead.{union_in, value_slot, name_of_code, code_slot};
 ghost use Rattle.fb_resolve.specs.SlotsRead.{IsCodeOf, slots_of_field, slots_in_order};
 
 use crate::defaults::Given;
@@ -13,16 +13,6 @@ use crate::structs::shape_of;
 use fb_schema::{FieldInfo, Kind, Shape, TypeId};
 use fb_syntax::{Field, FieldType};
 use std::alloc::{AllocError, Global};
-
-/// The union of a union's use.
-fn union_of(kind: &FieldType<'_>, meaning: Meaning) -> Option<TypeId>
-    ensures { result ≡ union_of kind.now meaning }
-{
-    match (kind, meaning) {
-        (FieldType::One(_), Meaning::Known(Kind::Union(union))) => Some(union),
-        _ => None,
-    }
-}
 
 fn value_slot(
     alloc: Global,
@@ -67,11 +57,13 @@ pub(crate) fn code_of(
 ) -> Result<Option<UnionCode>, AllocError>
     ensures { IfOk result (IsCodeOf field.now meaning) }
 {
-    let Some(union) = union_of(&field.kind, meaning) else {
-        return Ok(None);
-    };
-    let name = name_of_code(alloc, field.name.text)?;
-    Ok(Some(UnionCode { union, name }))
+    match (&field.kind, meaning) {
+        (FieldType::One(_), Meaning::Known(Kind::Union(union))) => {
+            let name = name_of_code(alloc, field.name.text)?;
+            Ok(Some(UnionCode { union, name }))
+        }
+        _ => Ok(None),
+    }
 }
 
 /// The union of a union's field.

@@ -1,9 +1,9 @@
 //! The numbers of enums' values, by their names.
-ghost use Rattle.std.specs.Prelude.{◌≡◌, List, Option, IfOk, OnOk, map};
+ghost use Rattle.std.specs.Prelude.{◌≡◌, List, Option, IfOk, map};
 ghost use Rattle.fb_schema.specs.Schema.{Name};
 ghost use Rattle.fb_resolve.specs.Outline.{TypeRead};
 ghost use Rattle.fb_resolve.specs.EnumsRead.{values_declared, values_in, value_over, number_named};
-ghost use Rattle.fb_resolve.specs.ValueNumbers.{number_of, number_in, NotesNumber, IndexesValues};
+ghost use Rattle.fb_resolve.specs.ValueNumbers.{number_of, number_in, IndexesValues};
 ghost use Rattle.fb_resolve.specs.ValueNumbers.{AreValues};
 
 use crate::enums::{has_flags, resolved_values, underlying, value_number};
@@ -79,7 +79,7 @@ fn values_in<'d, 's>(
     Ok((values, numbers))
 }
 
-/// The numbers that these values have in an enum over a type, by their names.
+/// The numbers that these values have in an enum over a type, by their names, of which the first stands.
 #[tactic(auto, unfolding(crate::specs::EnumsRead::number_named))]
 fn numbers_over<'s>(
     alloc: Global,
@@ -94,22 +94,9 @@ fn numbers_over<'s>(
     for resolved in values {
         let value = resolved.value;
         let name = value.name.text.as_bytes();
-        let number = value_number(base, flags, resolved.number);
-        note(&mut numbers, name, number)?;
+        if !numbers.contains_key(name) {
+            numbers.insert(name, value_number(base, flags, resolved.number))?;
+        }
     }
     Ok(numbers)
-}
-
-/// Notes the number of a name that has none yet.
-fn note<'s>(
-    numbers: &mut BTreeMap<&'s [u8], i128>,
-    name: &'s [u8],
-    number: i128,
-) -> Result<(), AllocError>
-    ensures { OnOk result (NotesNumber numbers.old numbers.new name.now number) }
-{
-    if !numbers.contains_key(name) {
-        numbers.insert(name, number)?;
-    }
-    Ok(())
 }

@@ -3,8 +3,7 @@ ghost use Rattle.std.specs.Prelude.{◌≡◌, ◌++◌, [], ◌∷◌, None, So
 ghost use Rattle.std.specs.Option.{option_copied};
 ghost use Rattle.fb_resolve.specs.Outline.{scope_named};
 
-use crate::names::Names;
-use crate::outline::{Outline, RootRead, TypeRead, word_of};
+use crate::outline::{Names, Outline, RootRead, TypeRead, word_of};
 use crate::repeated_names::repeated_numbers;
 use crate::uses::{note_use, note_uses};
 use fb_scopes::{PathTree, Scopes};

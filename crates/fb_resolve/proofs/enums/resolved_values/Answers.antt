@@ -15,27 +15,15 @@ use Rattle.fb_resolve.proofs.enums.resolved_values.Goals as goal
 next-near : (n : ℤ) (i : ℕ) → unsigned_abs n ≤ greatest_magnitude + i → unsigned_abs (n +ℤ pos 1) ≤ greatest_magnitude + (i + 1)
 next-near n i h = grind (arith, ints)
 
-near-fits : (n : ℤ) (i : ℕ) → unsigned_abs n ≤ greatest_magnitude + i → i < 2 ^ 64 → FitsSigned w128 n
-near-fits n i h small = grind (arith, ints)
-
--- what the code's sum gives
-next-sum : (n : ℤ) (i : ℕ) → unsigned_abs n ≤ greatest_magnitude + i → i + 1 < 2 ^ 64 → to_z w128 (of_z w128 (to_z w128 (of_z w128 n) +ℤ pos 1)) ≡ n +ℤ pos 1
-next-sum n i h small =
-    let fits : FitsSigned w128 n = near-fits n i h (omega arith) in
-    let next_fits : FitsSigned w128 (n +ℤ pos 1) = near-fits (n +ℤ pos 1) (i + 1) (next-near n i h) small in
-    ap (λ m. to_z w128 (of_z w128 (m +ℤ pos 1))) (to_z-of_z w128 n fits) ∙ to_z-of_z w128 (n +ℤ pos 1) next_fits
-
-sum-fits : (n : ℤ) (i : ℕ) → unsigned_abs n ≤ greatest_magnitude + i → i + 1 < 2 ^ 64 → FitsSigned w128 (to_z w128 (of_z w128 n) +ℤ pos 1)
-sum-fits n i h small =
-    let fits : FitsSigned w128 n = near-fits n i h (omega arith) in
-    rw (to_z-of_z w128 n fits) (near-fits (n +ℤ pos 1) (i + 1) (next-near n i h) small)
+next-fits : (n : ℤ) (i : ℕ) → unsigned_abs n ≤ greatest_magnitude + i → i + 1 < 2 ^ 64 → FitsSigned w128 (n +ℤ pos 1)
+next-fits n i h small = grind (arith, ints)
 
 pub overflow_add-next : goal.overflow_add-next
 overflow_add-next c =
     let i = c.loop-value.value-index in
     let n = c.written_number-number.result in
-    let near : unsigned_abs n ≤ greatest_magnitude + i = c.written_number-number.ensures.near i c.loop-value.invariant.near in
-    sum-fits n i near (omega arith)
+    let fits : FitsSigned w128 n = search rules in
+    rw (to_z-of_z w128 n fits) (next-fits n i (c.written_number-number.ensures.near i c.loop-value.invariant.near) (omega arith))
 
 pub loop-value-preserved : goal.loop-value-preserved
 unfolding values_from
@@ -43,14 +31,13 @@ loop-value-preserved c =
     let i = c.loop-value.value-index in
     let n = c.written_number-number.result in
     let v = c.value-item.result in
-    let next = to_z w128 c.loop-value.next-bits in
     let near : unsigned_abs n ≤ greatest_magnitude + i = c.written_number-number.ensures.near i c.loop-value.invariant.near in
-    let sum = next-sum n i near (omega arith) in
     let fits : FitsSigned w128 n = search rules in
-    let number : to_z w128 (of_z w128 n) ≡ written_number next v = to_z-of_z w128 n fits ∙ c.written_number-number.ensures.number in
+    let number : to_z w128 (of_z w128 n) ≡ n = to_z-of_z w128 n fits in
+    let sum : to_z w128 (of_z w128 (n +ℤ pos 1)) ≡ n +ℤ pos 1 = to_z-of_z w128 (n +ℤ pos 1) (next-fits n i near (omega arith)) in
     let values = c.args.values.now in
     let rest : drop i values ≡ v ∷ drop (i + 1) values = drop_more values i v c.loop-value-test.true ∙ ap (λ x. x ∷ drop (i + 1) values) (sym c.value-item.is) in
     record {
-      so_far = rw (sum, c.in_ok-push.ensures.items, number, c.written_number-number.ensures.number) (grind (arith, common_steps, rest, c.loop-value.invariant.so_far));
-      near = rw sum (next-near n i near);
+      so_far = rw (number, sum, c.in_ok-push.ensures.items, c.written_number-number.ensures.number) (grind (arith, common_steps, rest, c.loop-value.invariant.so_far));
+      near = rw (number, sum) (next-near n i near);
     }

@@ -6,13 +6,6 @@ use Rattle.fb_resolve.specs.SlotsRead.{slots_in_order, slots_read, AreInPlace}
 use Rattle.fb_resolve.proofs.InOrder.{placed_in_order, placed_by_id}
 use Rattle.fb_resolve.proofs.ids.table_slots.Goals as goal
 
-pub returns-in-InOrder : goal.returns-in-InOrder
-returns-in-InOrder c =
-    let fields = c.args.table.fields in
-    IfOk-weaker c.slots_in_order.result (λ v. map field_seen v.items ≡ slots_in_order 0 fields) (λ v. AreInPlace (slots_read fields) (map field_seen v.items))
-    (λ v h. placed_in_order fields v.items (grind rules) h)
-    (grind rules)
-
 pub returns-in_ok-sort_by_key-in-ById : goal.returns-in_ok-sort_by_key-in-ById
 returns-in_ok-sort_by_key-in-ById c =
     let up = IsNonDecreasingBy-from_sort_by_key (λ s. s.slot) _ c.in_ok-sort_by_key-in-ById.ensures.sorted (λ a r q k. search rules) in

@@ -27,8 +27,7 @@ underscored-dot : (s : Name) → position_or_len (λ d. d == 46) s < length s �
 underscored-dot s there =
     let p = λ (d : Rattle.std.proofs.Common.ℕ). d == 46 in
     let dot = get_or s (position_or_len p s) 0 in
-    ap with_underscores (split_at_first p s 0 there) ∙ map-append underscore_for_dot (before_first p s) (dot ∷ after_first p s)
-    ∙ rw (same_before s, passes_at_first p s 0 there) refl
+    grind (arith, split_at_first p s 0 there, map-append underscore_for_dot (before_first p s) (dot ∷ after_first p s), same_before s, passes_at_first p s 0 there)
 
 pub loop-word-preserved : goal.loop-word-preserved
 loop-word-preserved c =
@@ -38,7 +37,7 @@ loop-word-preserved c =
 pub returns : goal.returns
 returns c =
     let law = underscored-plain c.loop-word.rest.now (c.in_default-split_once.ensures.byte (omega arith) (λ w o h. h)) in
-    c.in_ok-push_str-3.ensures.bytes ∙ ap (λ r. string_bytes c.loop-word.underscored ++ r) (sym law) ∙ c.loop-word.invariant.1
+    grind (arith, common_steps, law, c.loop-word.invariant.1)
 
 pub returns-in_default : goal.returns-in_default
 returns-in_default c = sym (underscored-plain c.args.name.now (c.in_default.ensures.byte (omega arith) (λ w o h. h)))

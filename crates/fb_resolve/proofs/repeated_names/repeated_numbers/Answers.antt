@@ -8,7 +8,10 @@ use Rattle.fb_resolve.proofs.repeated_names.repeated_numbers.Goals as goal
 
 pub loop-number-preserved : goal.loop-number-preserved
 loop-number-preserved c =
-    let ns = c.args.numbers.now in let i = c.loop-number.number-index in let n = get_or ns i 0 in let marks = c.loop-number.seen.items in
+    let ns = c.args.numbers.now in
+    let i = c.loop-number.number-index in
+    let n = get_or ns i 0 in
+    let marks = c.loop-number.seen.items in
     let low : n < c.args.bound = c.requires i 0 c.loop-number-test.true in
     let marked : n < length marks = omega (arith, low, c.loop-number.invariant.count) in
     let told : c.index.result.now ≡ list_any (λ m. n == m) (take i ns) =

@@ -28,7 +28,5 @@ loop-number-preserved c =
     let item = c.index-types-number.result in
     let next : drop i types ≡ item ∷ drop (i + 1) types =
     drop_more types i item c.loop-number-test.true ∙ ap (λ r. r ∷ drop (i + 1) types) (sym c.index-types-number.is) in
-    let split : c.loop-number.values.rest.items ≡ c.in-Some.values ∷ c.next.new.self.rest.items = grind rules in record {
-      so_far = grind (arith, common_steps, next, c.loop-number.invariant.so_far);
-      left = grind (arith, common_steps, next, split, c.loop-number.invariant.left);
-    }
+    let split : c.loop-number.values.rest.items ≡ c.in-Some.values ∷ c.next.new.self.rest.items = grind rules in
+    grind (arith, common_steps, next, split)

@@ -2,7 +2,7 @@ use Rattle.std.proofs.Common.{rules, ◌≡◌, inl, inr, subst}
 use Rattle.std.proofs.lemmas.List.{take_all}
 use Rattle.fb_resolve.specs.Meaning.{type_name}
 use Rattle.fb_resolve.specs.Uses.{AreFieldUses, AreMemberUses}
-use Rattle.fb_resolve.proofs.UsesKept.{uses_more}
+use Rattle.fb_resolve.proofs.PathsKept.{uses_more}
 use Rattle.fb_resolve.proofs.uses.note_uses.Goals as goal
 
 pub loop-field-preserved : goal.loop-field-preserved

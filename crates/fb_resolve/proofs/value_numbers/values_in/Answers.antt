@@ -6,7 +6,6 @@ use Rattle.fb_syntax.specs.declared.declarations.TypeDecl.TheVariants.{Enum}
 use Rattle.fb_schema.specs.Schema.{Name}
 use Rattle.fb_resolve.specs.Outline.{TypeRead}
 use Rattle.fb_resolve.specs.EnumsRead.{resolved_values, value_over, number_named, base_or_ubyte, underlying, values_in}
-use Rattle.fb_resolve.proofs.Numbers.{number_named-nil}
 use Rattle.fb_resolve.proofs.value_numbers.values_in.Goals as goal
 
 pub returns-clause-numbers : goal.returns-clause-numbers

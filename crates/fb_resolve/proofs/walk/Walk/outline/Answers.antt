@@ -34,8 +34,7 @@ same_among tree is n name there (suc t) [] [] zipped = refl
 same_among tree is n name there (suc t) [] (r ∷ rs) zipped = absurd zipped
 same_among tree is n name there (suc t) (m ∷ ns) [] zipped = absurd zipped
 same_among tree is n name there (suc t) (m ∷ ns) (r ∷ rs) zipped =
-    ap (λ b. b || list_any (λ k. n == k) (take t ns)) (same_number tree is m n (name_of_type r) name zipped.0 there)
-    ∙ ap (λ b. bytes_eq name (name_of_type r) || b) (same_among tree is n name there t ns rs zipped.1)
+    grind (arith, same_number tree is m n (name_of_type r) name zipped.0 there, same_among tree is n name there t ns rs zipped.1)
 
 -- types of repeated numbers are those of repeated names
 names_repeated : (tree : PathTree) → IsTree tree → (ns : List ℕ) (rs : List TypeRead)
@@ -44,9 +43,8 @@ names_repeated tree is ns rs zipped t r at =
     let within = slice_get_within rs t r at in
     let long = AllZip-long (λ n r. IsPath tree n (words (name_of_type r))) ns rs zipped in
     let told = λ (k : ℕ). list_any (λ m. get_or ns k 0 == m) (take k ns) in
-    let path : IsPath tree (get_or ns t 0) (words (name_of_type (get_or rs t r))) =
-    zip_at (λ n r. IsPath tree n (words (name_of_type r))) ns rs t 0 r zipped within in
-    let named : IsPath tree (get_or ns t 0) (words (name_of_type r)) = subst (λ e. IsPath tree (get_or ns t 0) (words (name_of_type e))) (get_or_from_slice_get rs t r r at) path in
+    let path = zip_at (λ n r. IsPath tree n (words (name_of_type r))) ns rs t 0 r zipped within in
+    let named : IsPath tree (get_or ns t 0) (words (name_of_type r)) = rw (get_or_from_slice_get rs t r r at) at path in
     slice_get-get_or (repeated_numbers ns) t false (omega (arith, within, long, length-map-range_with_len told 0 (length ns)))
     ∙ ap Some (get_or-map-range_with_len told 0 (length ns) t t false (omega (arith, within, long)) (zero-add t)
     ∙ same_among tree is (get_or ns t 0) (name_of_type r) named t ns rs zipped)
@@ -61,7 +59,9 @@ repeated_numbers-requires c = let w = c.self.inside in
 
 pub invariant_of-result : goal.invariant_of-result
 invariant_of-result c =
-    let w = c.self.inside in let placed = c.self.invariant in let made = c.in_ok-of.ensures in
+    let w = c.self.inside in
+    let placed = c.self.invariant in
+    let made = c.in_ok-of.ensures in
     let full_names = c.as_slice-full_names.ensures.value in
     record {
       scopes = rw (← (names_numbered w.tree w.full_names.items w.types.items placed.full_names).1, ← full_names) made.scopes;

@@ -8,8 +8,10 @@ use Rattle.fb_resolve.proofs.walk.Walk.with_root.Goals as goal
 
 pub invariant_of-self : goal.invariant_of-self
 invariant_of-self c =
-    let w = c.self.inside in let used = c.note_use.new.used in let noted = c.in_ok-note_use.ensures in
-    let grown = placed_grown w w.tree used c.self.invariant.tree (λ n p h. h) noted.tree noted.kept c.self.invariant in
+    let w = c.self.inside in
+    let used = c.note_use.new.used in
+    let noted = c.in_ok-note_use.ensures in
+    let grown = placed_grown w w.tree used w.scope w.path c.self.invariant.tree (λ n p h. h) noted.tree noted.kept c.self.invariant.scope c.self.invariant in
     let named : IsUse used c.args.name.now.bytes = grind (rules, noted.used) in record {
       tree = grown.tree;
       used = grown.used;

@@ -12,11 +12,14 @@ use Rattle.fb_resolve.proofs.walk.Walk.with_type.Goals as goal
 
 pub invariant_of-self : goal.invariant_of-self
 invariant_of-self c =
-    let w = c.self.inside in let tree = c.insert_words.new.self in let used = c.note_uses.new.used in
-    let noted = c.in_ok-note_uses.ensures in let made = c.in_ok-full_name.ensures in
+    let w = c.self.inside in
+    let tree = c.insert_words.new.self in
+    let used = c.note_uses.new.used in
+    let noted = c.in_ok-note_uses.ensures in
+    let made = c.in_ok-full_name.ensures in
     let one : TypeRead = record { scope = option_copied w.scope; declaration = c.args.declaration.now } in
     let full_name = c.in_ok-full_name.full_name in
-    let grown = placed_grown w tree used made.tree made.kept noted.tree noted.kept c.self.invariant in
+    let grown = placed_grown w tree used w.scope w.path made.tree made.kept noted.tree noted.kept (made.kept w.path _ c.self.invariant.scope) c.self.invariant in
     let word : c.behind-declaration.inside.text.now ≡ (word_of c.args.declaration.now).bytes = grind rules in
     let named : IsPath tree full_name (words (name_of_type one)) =
     path_inside w.tree tree w.path full_name one.scope (word_of one.declaration).bytes c.self.invariant.scope (rw (← word) made.path) in
