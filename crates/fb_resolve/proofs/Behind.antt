@@ -1,12 +1,10 @@
 -- What stands behind a full name and a dot.
-use Rattle.std.proofs.Common.{◌≡◌, ◌++◌, ℕ, ◌==◌, ◌&&◌, [], ◌∷◌, length, drop, Bool, true, false, Option, None, Some, refl, sym, arith, if◌then◌else◌}
-use Rattle.std.specs.Bool.{nat_eq}
-use Rattle.std.specs.List.{starts_with}
+use Rattle.std.proofs.Common.{◌≡◌, ◌++◌, ℕ, ◌==◌, [], ◌∷◌, None, refl, arith, if◌then◌else◌}
 use Rattle.std.specs.Option.{option_and_then}
 use Rattle.std.proofs.lemmas.Bool.Decides.{nat_tests}
 use Rattle.fb_syntax.specs.Signs.{dot}
 use Rattle.fb_schema.specs.Schema.{Name}
-use Rattle.fb_resolve.specs.EnumsRead.{behind, behind_dot}
+use Rattle.fb_resolve.specs.EnumsRead.{behind}
 
 behind-cons : (a : ℕ) (prefix : Name) (c : ℕ) (name : Name) → behind (a ∷ prefix) (c ∷ name) ≡ (if a == c then behind prefix name else None)
 unfolding behind

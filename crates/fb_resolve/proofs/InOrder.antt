@@ -1,5 +1,5 @@
 -- Slots that stand at the places of their numbers.
-use Rattle.std.proofs.Common.{◌≡◌, ℕ, zero, suc, ◌<◌, ◌+◌, true, false, List, [], ◌∷◌, ◌++◌, length, sym, ap, ◌∙◌, arith, map, Option, None, Some, slice_get}
+use Rattle.std.proofs.Common.{◌≡◌, ℕ, zero, suc, ◌<◌, ◌+◌, true, false, List, [], ◌∷◌, ◌++◌, length, ap, arith, map, Option, None, Some, slice_get}
 use Rattle.std.proofs.lemmas.List.{length-map, get_or-map}
 use Rattle.std.proofs.lemmas.List.Sorted.{IsPermutation-refl, IsPermutation-map}
 use Rattle.std.proofs.lemmas.Option.{none-some, slice_get_within, get_or_from_slice_get}
@@ -15,8 +15,7 @@ use Rattle.fb_resolve.proofs.PlacesTaken.{places_at}
 rises-map : {X Y : Type 0} (number : Y → ℕ) (g : X → Y) (xs : List X) → IsNonDecreasingBy (λ x. number (g x)) xs → IsNonDecreasingBy number (map g xs)
 rises-map number g [] up i j d h l = absurd (omega arith)
 rises-map number g (x ∷ xs) up i j d h l =
-    let short : j < length (x ∷ xs) = rw (← length-map (x ∷ xs) g) l in
-    rw (get_or-map g (x ∷ xs) i x d (omega arith), get_or-map g (x ∷ xs) j x d short) (up i j x h short)
+    grind (arith, get_or-map g (x ∷ xs) i x d, get_or-map g (x ∷ xs) j x d, length-map (x ∷ xs) g, up i j x h)
 
 -- slots in the order of their numbers, which are places
 in_place : (read placed : List DeclaredField) → are_places (map (λ s. s.slot) read) ≡ true → IsPermutation read placed → IsNonDecreasingBy (λ s. s.slot) placed

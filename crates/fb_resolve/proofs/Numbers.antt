@@ -1,17 +1,12 @@
 -- Numbers that are noted for the names of an enum's values.
-use Rattle.std.proofs.Common.{arith, ◌≡◌, ◌++◌, ◌+◌, ◌<◌, ◌∷◌, zero, suc, length, slice_get, get_or, take, map, Bor, ℤ, ℕ, Bool, true, false, Option, None, Some, refl, ap, sym, ◌∙◌, cond, List, [], if◌then◌else◌}
+use Rattle.std.proofs.Common.{◌≡◌, ◌∷◌, zero, suc, slice_get, Bor, ℤ, ℕ, refl, List, []}
 use Rattle.std.specs.BTreeMap.{BTreeMap}
-use Rattle.std.specs.List.{AllZip, find}
-use Rattle.std.specs.Option.{option_or, option_and_then, option_map, option_map_or}
-use Rattle.std.specs.Str.{bytes_eq}
-use Rattle.std.proofs.lemmas.List.{map-append, take_more}
-use Rattle.std.proofs.lemmas.List.Folds.{find-append}
-use Rattle.std.proofs.lemmas.Slice.Zip.{all_zipped_more}
+use Rattle.std.specs.List.{AllZip}
+use Rattle.std.specs.Option.{option_and_then, option_map_or}
 use Rattle.fb_schema.specs.Schema.{Name}
 use Rattle.fb_resolve.specs.Outline.{TypeRead}
 use Rattle.fb_resolve.specs.EnumsRead.{values_in, number_named}
 use Rattle.fb_resolve.specs.ValueNumbers.{number_of}
-use Rattle.fb_resolve.proofs.Bytes.{bytes_eq-equal, bytes_eq-sym}
 
 -- a map has the numbers of a type's values, where these are all types
 abbrev pub HasNumbers : List TypeRead → BTreeMap (Bor Name) ℤ → TypeRead → Type 0

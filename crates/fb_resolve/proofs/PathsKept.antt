@@ -1,5 +1,5 @@
 -- The paths of a text and the names that are used stay what they are while more are noted.
-use Rattle.std.proofs.Common.{Bor, option_copied, ◌≡◌, ◌++◌, ◌<◌, ◌∙◌, ℕ, zero, suc, All, List, [], ◌∷◌, Option, None, Some, length, get_or, sym, ap, refl, arith, ◌+◌, take}
+use Rattle.std.proofs.Common.{Bor, option_copied, ◌≡◌, ◌++◌, ◌<◌, ℕ, zero, suc, All, List, [], ◌∷◌, Option, None, Some, length, get_or, refl, arith, ◌+◌, take}
 use Rattle.std.specs.List.{AllZip}
 use Rattle.std.proofs.lemmas.Option.{get_or_from_slice_get, slice_get_within}
 use Rattle.std.proofs.lemmas.List.Elements.{All-cons, All-nil, All-weaker, All-more}
@@ -11,8 +11,7 @@ use Rattle.fb_scopes.proofs.WordsOf.{words-inside}
 use Rattle.fb_schema.specs.Schema.{Name}
 use Rattle.fb_resolve.specs.Outline.{TypeRead, full_name, name_of_type}
 use Rattle.fb_resolve.specs.Scopes.{words_of_scope, paths_of_types}
-use Rattle.fb_resolve.specs.Uses.{AreUses, IsUse}
-use Rattle.fb_resolve.specs.Paths.{IsPath, IsPlaced}
+use Rattle.fb_resolve.specs.Paths.{IsPath, IsPlaced, AreUses, IsUse}
 use Rattle.fb_resolve.specs.declared.walk.Walk.TheInside.{Inside}
 use Rattle.fb_syntax.specs.declared.declarations.TypeDecl.{TypeDecl}
 use Rattle.fb_syntax.specs.declared.declarations.TypeDecl.TheVariants.{Table, Struct, Enum, Union}
@@ -57,16 +56,11 @@ placed_grown w tree used scope path is kept is_used kept_uses here h = record {
   root = λ r e. let root = h.root r e in (kept w.root_path _ root.0, use_kept w.used used r.name.bytes kept_uses root.1);
 }
 
--- the words of a name inside a namespace
-words-full : (scope : Option Name) (name : Name) → words (full_name scope name) ≡ words_of_scope scope ++ words name
-words-full None name = refl
-words-full (Some scope) name = words-inside scope name
-
 -- a path behind a namespace's is that of the full name
 pub path_inside : (old new : PathTree) (scope n : ℕ) (name : Option Name) (word : Name) → IsPath old scope (words_of_scope name)
     → IsPath new n (get_or (paths old) scope [] ++ words word) → IsPath new n (words (full_name name word))
 path_inside old new scope n name word here there =
-    grind (arith, words-full name word, get_or_from_slice_get (paths old) scope (words_of_scope name) [] here, there)
+    grind (arith, words-inside, get_or_from_slice_get (paths old) scope (words_of_scope name) [] here, there)
 
 -- a pair of items of two lists that are related item by item
 pub zip_at : {A B : Type 0} (R : A → B → Type 0) (xs : List A) (ys : List B) (i : ℕ) (d : A) (e : B) → AllZip R xs ys → i < length ys

@@ -31,7 +31,8 @@ built_in_attribute name =
 
 -- a power of two from the least alignment to 256
 abbrev pub is_alignment : ℕ → ℤ → Bool
-is_alignment least (pos n) = list_any (λ a. a == n) (1 ∷ 2 ∷ 4 ∷ 8 ∷ 16 ∷ 32 ∷ 64 ∷ 128 ∷ 256 ∷ []) && nat_le least n
+is_alignment least (pos n) =
+    list_any (λ a. a == n) (1 ∷ 2 ∷ 4 ∷ 8 ∷ 16 ∷ 32 ∷ 64 ∷ 128 ∷ 256 ∷ []) && nat_le least n
 is_alignment least (negsuc n) = false
 
 -- the first attribute of a name

@@ -68,12 +68,9 @@ abbrev pub values_declared : TypeDecl → List ResolvedValue
 values_declared (decls.Enum e) = resolved_values e.values
 values_declared _ = []
 
-abbrev pub bits_of : Base → ℕ
-bits_of base = 8 * base_size base
-
 -- with `bit_flags` a written number is that of a bit
 abbrev pub is_bit_of : Base → ℤ → Bool
-is_bit_of base (pos n) = nat_lt n (bits_of base)
+is_bit_of base (pos n) = nat_lt n (8 * base_size base)
 is_bit_of base (negsuc n) = false
 
 abbrev pub power_of : ℤ → ℤ

@@ -48,7 +48,8 @@ attributes_in (_ ∷ ds) = attributes_in ds
 abbrev pub root_in : Option Name → List Declaration → Option RootRead
 root_in scope [] = None
 root_in scope (declarations.Namespace n ∷ ds) = root_in (scope_named n) ds
-root_in scope (declarations.Directive (RootType r) ∷ ds) = option_or (root_in scope ds) (Some (record { scope = scope; name = r }))
+root_in scope (declarations.Directive (RootType r) ∷ ds) =
+    option_or (root_in scope ds) (Some (record { scope = scope; name = r }))
 root_in scope (_ ∷ ds) = root_in scope ds
 
 -- the last file identifier

@@ -2,7 +2,7 @@
 -- From the FlatBuffers documentation, "Writing a schema": Types, Namespaces, Attributes.
 use Rattle.std.specs.Prelude.{List, map, Option, None, Some}
 use Rattle.fb_syntax.specs.FieldRead.{FieldRead}
-use Rattle.fb_syntax.specs.TypesRead.{TableRead, EnumRead, UnionRead}
+use Rattle.fb_syntax.specs.TypesRead.{TableRead, EnumRead}
 use Rattle.fb_syntax.specs.declared.declarations.UnionMember.{UnionMember}
 use Rattle.fb_syntax.specs.declared.declarations.TypeDecl.{TypeDecl}
 use Rattle.fb_syntax.specs.declared.declarations.TypeDecl.TheVariants as decls
@@ -13,7 +13,7 @@ use Rattle.fb_resolve.specs.Attributes.{number_called, field_attributes}
 use Rattle.fb_resolve.specs.EnumsRead.{has_flags, resolved_values}
 use Rattle.fb_resolve.specs.Defaults.{given_by}
 use Rattle.fb_resolve.specs.MembersRead.{member_name}
-use Rattle.fb_resolve.specs.ResolvedFields.{ResolvedField, ResolvedTable, ResolvedEnum, ResolvedMember, ResolvedUnion}
+use Rattle.fb_resolve.specs.ResolvedFields.{ResolvedField, ResolvedTable, ResolvedEnum, ResolvedMember}
 use Rattle.fb_resolve.specs.ResolvedType.{ResolvedType}
 use Rattle.fb_resolve.specs.declared.attributes.BuiltInAttribute.TheVariants.{ForceAlign}
 use Rattle.fb_resolve.specs.declared.meanings.Meaning.{Meaning}
@@ -54,15 +54,13 @@ resolved_member types scope m = record {
   meaning = meaning_of types scope m.table.bytes;
 }
 
-abbrev pub resolved_union : List TypeRead → Option Name → UnionRead → ResolvedUnion
-resolved_union types scope u = record { declared = u; members = map (resolved_member types scope) u.members }
-
 -- a declaration whose names mean what they do inside a namespace
 abbrev pub resolved_declaration : List TypeRead → Option Name → TypeDecl → ResolvedDecl
 resolved_declaration types scope (decls.Table t) = Table (resolved_table types scope t)
 resolved_declaration types scope (decls.Struct s) = Struct (resolved_table types scope s)
 resolved_declaration types scope (decls.Enum e) = Enum (resolved_enum types scope e)
-resolved_declaration types scope (decls.Union u) = Union (resolved_union types scope u)
+resolved_declaration types scope (decls.Union u) =
+    Union (record { declared = u; members = map (resolved_member types scope) u.members })
 
 abbrev pub resolved_type : List TypeRead → TypeRead → ResolvedType
 resolved_type types r = record { read = r; declaration = resolved_declaration types r.scope r.declaration }

@@ -1,10 +1,11 @@
 //! The numbers of an enum's values, and what the name of a value means.
-ghost use Rattle.std.specs.Prelude.{◌≡◌, ◌≤◌, ◌+◌, ℕ, List, Option, IfOk, map, string_bytes};
+ghost use Rattle.std.specs.Prelude.{◌≡◌, ◌≤◌, ◌+◌, ◌*◌, ℕ, List, Option, IfOk, map, string_bytes};
 ghost use Rattle.std.specs.Int.RustNames.{unsigned_abs};
 ghost use Rattle.fb_syntax.specs.Integers.{greatest_magnitude};
 ghost use Rattle.fb_schema.specs.Schema.{Name};
+ghost use Rattle.fb_schema.specs.Alignments.{base_size};
 ghost use Rattle.fb_resolve.specs.Outline.{TypeRead};
-ghost use Rattle.fb_resolve.specs.EnumsRead.{integer_type, underlying, underlying_at, has_flags, bits_of};
+ghost use Rattle.fb_resolve.specs.EnumsRead.{integer_type, underlying, underlying_at, has_flags};
 ghost use Rattle.fb_resolve.specs.EnumsRead.{value_number, may_be_written, written_number};
 ghost use Rattle.fb_resolve.specs.EnumsRead.{resolved_values, value_over, values_over};
 
@@ -57,7 +58,7 @@ pub(crate) fn has_flags(read: &EnumDecl<'_>) -> bool
 }
 
 fn bits_of(base: Base) -> u8
-    ensures bits { result ≡ bits_of base }
+    ensures bits { result ≡ 8 * base_size base }
     ensures few { result ≤ 64 }
 {
     match base {

@@ -16,7 +16,6 @@ mod resolved;
 mod scope;
 mod slots;
 mod structs;
-mod uses;
 mod value_names;
 mod value_numbers;
 mod walk;

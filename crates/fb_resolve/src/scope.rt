@@ -3,9 +3,8 @@ ghost use Rattle.std.specs.Prelude.{◌≡◌};
 ghost use Rattle.std.specs.Option.{option_copied};
 ghost use Rattle.fb_scopes.specs.Scopes.{tree_of, names_of, AreScopes};
 ghost use Rattle.fb_resolve.specs.Meaning.{meaning_of};
-ghost use Rattle.fb_resolve.specs.Uses.{IsUse};
 ghost use Rattle.fb_resolve.specs.Scopes.{words_of_scope, paths_of_types};
-ghost use Rattle.fb_resolve.specs.Paths.{IsPath};
+ghost use Rattle.fb_resolve.specs.Paths.{IsPath, IsUse};
 
 use crate::basic_types::{basic_type, is_float_type, is_text_type};
 use crate::meanings::Meaning;

@@ -1,11 +1,14 @@
 //! One walk over a text's declarations.
-ghost use Rattle.std.specs.Prelude.{◌≡◌, ◌++◌, [], ◌∷◌, None, Some, IfOk, map};
+ghost use Rattle.std.specs.Prelude.{◌≡◌, ◌++◌, [], ◌∷◌, None, Some, IfOk, OnOk, map};
 ghost use Rattle.std.specs.Option.{option_copied};
+ghost use Rattle.fb_scopes.specs.PathTree.{IsTree, KeepsPaths};
 ghost use Rattle.fb_resolve.specs.Outline.{scope_named};
+ghost use Rattle.fb_resolve.specs.Paths.{IsUse, AreUses};
 
+use crate::basic_types::is_reserved;
+use crate::meanings::type_name;
 use crate::outline::{Names, Outline, RootRead, TypeRead, word_of};
 use crate::repeated_names::repeated_numbers;
-use crate::uses::{note_use, note_uses};
 use fb_scopes::{PathTree, Scopes};
 use fb_syntax::{DottedName, Text, TypeDecl};
 use std::alloc::{AllocError, Global};
@@ -130,31 +133,58 @@ impl<'d, 's> Walk<'d, 's> {
           text_len = text_len;
         }) }
     {
-        let Walk {
-            types,
-            root,
-            tree,
-            used,
-            namespaces,
-            full_names,
-            root_path,
-            ..
-        } = self;
-        let full_names = full_names.as_slice();
-        let repeats = repeated_numbers(alloc, full_names, tree.len())?;
+        let numbers = self.full_names;
+        let full_names = numbers.as_slice();
+        let repeats = repeated_numbers(alloc, full_names, self.tree.len())?;
         let names = Names {
-            scopes: Scopes::of(alloc, tree, used, full_names)?,
-            namespaces,
-            root: root_path,
+            scopes: Scopes::of(alloc, self.tree, self.used, full_names)?,
+            namespaces: self.namespaces,
+            root: self.root_path,
             repeats,
         };
         Ok(Outline {
-            types,
+            types: self.types,
             attributes,
-            root,
+            root: self.root,
             identifier,
             text_len,
             names,
         })
     }
+}
+
+/// Notes a use of a type's name, unless it is that of a basic type.
+fn note_use<'d>(used: &mut PathTree<'d>, name: &'d str) -> Result<(), AllocError>
+    requires { IsTree used.now }
+    ensures tree { OnOk result (IsTree used.new) }
+    ensures kept { OnOk result (KeepsPaths used.old used.new) }
+    ensures used { OnOk result (IsUse used.new name.now) }
+{
+    if !is_reserved(name) {
+        used.insert_reversed(name)?;
+    }
+    Ok(())
+}
+
+/// Notes all names that a type's declaration uses for types.
+fn note_uses<'d>(used: &mut PathTree<'d>, declaration: &'d TypeDecl<'_>) -> Result<(), AllocError>
+    requires { IsTree used.now }
+    ensures tree { OnOk result (IsTree used.new) }
+    ensures kept { OnOk result (KeepsPaths used.old used.new) }
+    ensures used { OnOk result (AreUses used.new declaration.now) }
+{
+    match declaration {
+        TypeDecl::Table(read) | TypeDecl::Struct(read) => {
+            for field in read.fields.as_slice() {
+                note_use(used, type_name(&field.kind).as_str())?;
+            }
+        }
+        TypeDecl::Enum(read) => note_use(used, read.underlying.as_str())?,
+        TypeDecl::Union(read) => {
+            for member in read.members.as_slice() {
+                note_use(used, member.table.as_str())?;
+            }
+        }
+    }
+    Ok(())
 }

@@ -19,8 +19,7 @@ same_before s = map_fixed underscore_for_dot (before_first (λ d. d == 46) s) (�
 -- a name without a dot
 underscored-plain : (s : Name) → position_or_len (λ d. d == 46) s ≡ length s → with_underscores s ≡ s
 underscored-plain s none =
-    let whole : before_first (λ d. d == 46) s ≡ s = rw none (take_all (length s) s (omega arith)) in
-    subst (λ r. with_underscores r ≡ r) whole (same_before s)
+    grind (arith, none, take_all (length s) s, same_before s)
 
 -- a name with one
 underscored-dot : (s : Name) → position_or_len (λ d. d == 46) s < length s → with_underscores s ≡ before_first (λ d. d == 46) s ++ 95 ∷ with_underscores (after_first (λ d. d == 46) s)

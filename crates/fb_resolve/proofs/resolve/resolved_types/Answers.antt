@@ -1,10 +1,8 @@
-use Rattle.std.proofs.Common.{rules, ◌≡◌, ◌+◌, ◌∷◌, drop, map, ap, sym, ◌∙◌, arith}
+use Rattle.std.proofs.Common.{rules, ◌≡◌, ◌+◌, ◌∷◌, drop, ap, sym, ◌∙◌, arith}
 use Rattle.std.proofs.lemmas.Grind.{common_steps}
 use Rattle.std.proofs.lemmas.List.{drop_more}
 use Rattle.std.proofs.lemmas.Slice.Zip.{AllZip-long}
 use Rattle.fb_scopes.specs.Scopes.{tree_of}
-use Rattle.fb_resolve.specs.EnumsRead.{values_declared}
-use Rattle.fb_resolve.specs.Outline.{TypeRead}
 use Rattle.fb_resolve.specs.Scopes.{words_of_scope}
 use Rattle.fb_resolve.specs.Paths.{IsPath}
 use Rattle.fb_resolve.proofs.PathsKept.{zip_at}

@@ -1,9 +1,8 @@
-use Rattle.std.proofs.Common.{arith, ◌≡◌, ◌∙◌, ◌+◌, ◌++◌, ◌∷◌, [], None, take, sym, map, ap, FitsSigned, rules}
+use Rattle.std.proofs.Common.{arith, ◌≡◌, ◌∷◌, [], None, take, map, FitsSigned, rules}
 use Rattle.std.specs.Int.{w128}
 use Rattle.std.specs.Str.{bytes_eq}
 use Rattle.std.proofs.lemmas.Grind.{common_steps}
 use Rattle.std.proofs.lemmas.Int.{to_z-of_z}
-use Rattle.std.proofs.lemmas.List.{take_more}
 use Rattle.std.proofs.lemmas.List.Folds.{find-append}
 use Rattle.std.proofs.lemmas.Map.Text.{btree_map_updates_str}
 use Rattle.fb_resolve.specs.EnumsRead.{value_over, number_named}
@@ -21,15 +20,12 @@ loop-resolved-preserved c = λ other.
     let value = value_over c.args.base c.args.flags in
     let values = c.args.values.now in
     let i = c.loop-resolved.resolved-index in
-    let taken : take (i + 1) values ≡ take i values ++ r ∷ [] =
-    take_more values i r c.loop-resolved-test.true ∙ ap (λ y. take i values ++ y ∷ []) (sym c.resolved-item.is) in
     let found = find-append (λ w. bytes_eq other w.0) (map value (take i values)) (value r ∷ []) in
-    let before = c.loop-resolved.invariant other in
     elim c.if-not-contains_key.branch [
       | then-not-contains_key+in_ok-insert w ↦
           let absent : number_of c.loop-resolved.numbers name ≡ None = grind (rules, w.if-not-contains_key.true) in
           let fits : FitsSigned w128 w.value_number.result = search rules in
           let noted = btree_map_updates_str name c.loop-resolved.numbers w.insert.new.self _ w.in_ok-insert.ensures.updates other in
-          grind (arith, common_steps, taken, found, text, before, noted, absent, to_z-of_z w128 w.value_number.result fits, bytes_eq-equal name other, bytes_eq-sym name other)
-      | else-not-contains_key w ↦ grind (arith, common_steps, taken, found, text, before, bytes_eq-equal name other, bytes_eq-sym name other)
+          grind (arith, common_steps, found, text, noted, absent, c.loop-resolved.invariant other, to_z-of_z w128 w.value_number.result fits, bytes_eq-equal name other, bytes_eq-sym name other)
+      | else-not-contains_key w ↦ grind (arith, common_steps, found, text, c.loop-resolved.invariant other, bytes_eq-equal name other, bytes_eq-sym name other)
     ]

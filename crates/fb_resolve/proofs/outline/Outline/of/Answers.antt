@@ -12,7 +12,8 @@ last_stands (Some y) before x = refl
 
 pub loop-declaration-preserved : goal.loop-declaration-preserved
 loop-declaration-preserved c =
-    let i = c.loop-declaration.declaration-index in let items = c.declarations-declaration-items.result.now in
+    let i = c.loop-declaration.declaration-index in
+    let items = c.declarations-declaration-items.result.now in
     let d = c.declaration-item.result in
     let next : drop i items ≡ d ∷ drop (i + 1) items = drop_more items i d c.loop-declaration-test.true ∙ ap (λ d. d ∷ drop (i + 1) items) (sym c.declaration-item.is) in
     elim c.match-declaration.branch [

@@ -1,14 +1,15 @@
 use Rattle.fb_resolve.proofs.PathsKept.{names_numbered, zip_at}
-use Rattle.std.proofs.Common.{◌≡◌, ◌==◌, ◌∙◌, ◌||◌, ℕ, zero, suc, false, List, [], ◌∷◌, length, take, get_or, slice_get, Some, ap, sym, refl, arith, subst, zero-add}
+use Rattle.std.proofs.Common.{◌≡◌, ◌==◌, ℕ, zero, suc, false, List, [], ◌∷◌, length, take, get_or, refl, arith}
 use Rattle.std.specs.List.{AllZip, list_any}
 use Rattle.std.specs.Str.{bytes_eq}
-use Rattle.std.proofs.lemmas.Bool.Decides.{Decides-eqb, Decides-like, same_from_decides}
-use Rattle.std.proofs.lemmas.Option.{get_or_from_slice_get, same_Some, slice_get-get_or, slice_get_within}
+use Rattle.std.proofs.lemmas.Bool.Decides.{nat_tests}
+use Rattle.std.proofs.lemmas.Grind.{common_steps}
+use Rattle.std.proofs.lemmas.Option.{get_or_from_slice_get, slice_get_within, gets}
 use Rattle.std.proofs.lemmas.List.FromFn.{get_or-map-range_with_len, length-map-range_with_len}
 use Rattle.std.proofs.lemmas.Slice.Eq.{bytes_eq-Decides}
 use Rattle.std.proofs.lemmas.Slice.Zip.{AllZip-long}
 use Rattle.fb_scopes.specs.Words.{words}
-use Rattle.fb_scopes.specs.PathTree.{paths, IsTree}
+use Rattle.fb_scopes.specs.PathTree.{IsTree}
 use Rattle.fb_scopes.specs.declared.path_tree.PathTree.{PathTree}
 use Rattle.fb_scopes.proofs.WordsOf.{words-inj}
 use Rattle.fb_schema.specs.Schema.{Name}
@@ -21,10 +22,7 @@ use Rattle.fb_resolve.proofs.walk.Walk.outline.Goals as goal
 
 -- one name is another exactly where its path's number is
 same_number : (tree : PathTree) → IsTree tree → (m n : ℕ) (a b : Name) → IsPath tree m (words a) → IsPath tree n (words b) → (n == m) ≡ bytes_eq b a
-same_number tree is m n a b at there = same_from_decides (n == m) (bytes_eq b a) (Decides-eqb n m) (Decides-like (bytes_eq b a)
-    (λ e. is.apart n m (words a) (there ∙ ap (λ name. Some (words name)) e) at)
-    (λ e. words-inj b a (same_Some (words b) (words a) (sym there ∙ ap (slice_get (paths tree)) e ∙ at)))
-    (bytes_eq-Decides b a))
+same_number tree is m n a b at there = grind (arith, nat_tests, is.apart n m, words-inj b a, bytes_eq-Decides b a)
 
 -- a number is among those of types exactly where its path's name is among theirs
 same_among : (tree : PathTree) → IsTree tree → (n : ℕ) (name : Name) → IsPath tree n (words name) → (t : ℕ) (ns : List ℕ) (rs : List TypeRead)
@@ -44,10 +42,8 @@ names_repeated tree is ns rs zipped t r at =
     let long = AllZip-long (λ n r. IsPath tree n (words (name_of_type r))) ns rs zipped in
     let told = λ (k : ℕ). list_any (λ m. get_or ns k 0 == m) (take k ns) in
     let path = zip_at (λ n r. IsPath tree n (words (name_of_type r))) ns rs t 0 r zipped within in
-    let named : IsPath tree (get_or ns t 0) (words (name_of_type r)) = rw (get_or_from_slice_get rs t r r at) at path in
-    slice_get-get_or (repeated_numbers ns) t false (omega (arith, within, long, length-map-range_with_len told 0 (length ns)))
-    ∙ ap Some (get_or-map-range_with_len told 0 (length ns) t t false (omega (arith, within, long)) (zero-add t)
-    ∙ same_among tree is (get_or ns t 0) (name_of_type r) named t ns rs zipped)
+    let same = same_among tree is (get_or ns t 0) (name_of_type r) (rw (get_or_from_slice_get rs t r r at) at path) t ns rs zipped in
+    grind (arith, common_steps, gets, get_or-map-range_with_len told 0 (length ns) t t false, length-map-range_with_len told 0 (length ns), same)
 
 pub of-requires-clause-full_names : goal.of-requires-clause-full_names
 of-requires-clause-full_names c = let w = c.self.inside in

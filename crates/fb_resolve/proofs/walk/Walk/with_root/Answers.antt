@@ -1,8 +1,7 @@
 use Rattle.std.proofs.Common.{rules, subst}
 use Rattle.std.proofs.lemmas.Option.{same_Some}
 use Rattle.fb_resolve.specs.Scopes.{words_of_scope}
-use Rattle.fb_resolve.specs.Uses.{IsUse}
-use Rattle.fb_resolve.specs.Paths.{IsPath}
+use Rattle.fb_resolve.specs.Paths.{IsPath, IsUse}
 use Rattle.fb_resolve.proofs.PathsKept.{placed_grown}
 use Rattle.fb_resolve.proofs.walk.Walk.with_root.Goals as goal
 

@@ -5,8 +5,7 @@ use Rattle.std.proofs.lemmas.Slice.Zip.{all_zipped_more}
 use Rattle.fb_scopes.specs.Words.{words}
 use Rattle.fb_resolve.specs.Outline.{TypeRead, word_of, name_of_type}
 use Rattle.fb_resolve.specs.Scopes.{words_of_scope}
-use Rattle.fb_resolve.specs.Uses.{AreUses}
-use Rattle.fb_resolve.specs.Paths.{IsPath}
+use Rattle.fb_resolve.specs.Paths.{IsPath, AreUses}
 use Rattle.fb_resolve.proofs.PathsKept.{path_inside, placed_grown}
 use Rattle.fb_resolve.proofs.walk.Walk.with_type.Goals as goal
 
@@ -20,9 +19,8 @@ invariant_of-self c =
     let one : TypeRead = record { scope = option_copied w.scope; declaration = c.args.declaration.now } in
     let full_name = c.in_ok-full_name.full_name in
     let grown = placed_grown w tree used w.scope w.path made.tree made.kept noted.tree noted.kept (made.kept w.path _ c.self.invariant.scope) c.self.invariant in
-    let word : c.behind-declaration.inside.text.now ≡ (word_of c.args.declaration.now).bytes = grind rules in
     let named : IsPath tree full_name (words (name_of_type one)) =
-    path_inside w.tree tree w.path full_name one.scope (word_of one.declaration).bytes c.self.invariant.scope (rw (← word) made.path) in
+    path_inside w.tree tree w.path full_name one.scope (word_of one.declaration).bytes c.self.invariant.scope (grind (rules, made.path)) in
     record {
       tree = grown.tree;
       used = grown.used;

@@ -1,9 +1,9 @@
 use Rattle.std.proofs.Common.{rules, ◌≡◌, inl, inr, subst}
 use Rattle.std.proofs.lemmas.List.{take_all}
 use Rattle.fb_resolve.specs.Meaning.{type_name}
-use Rattle.fb_resolve.specs.Uses.{AreFieldUses, AreMemberUses}
+use Rattle.fb_resolve.specs.Paths.{AreFieldUses, AreMemberUses}
 use Rattle.fb_resolve.proofs.PathsKept.{uses_more}
-use Rattle.fb_resolve.proofs.uses.note_uses.Goals as goal
+use Rattle.fb_resolve.proofs.walk.note_uses.Goals as goal
 
 pub loop-field-preserved : goal.loop-field-preserved
 loop-field-preserved c = let noted = c.in_ok-note_use-in-Table.ensures in record {

@@ -1,7 +1,7 @@
 use Rattle.std.proofs.Common.{take}
 use Rattle.fb_scopes.specs.PathTree.{IsTree, KeepsPaths}
-use Rattle.fb_resolve.specs.Uses.{AreFieldUses, AreMemberUses}
-use Rattle.fb_resolve.proofs.uses.note_uses.Given as goal
+use Rattle.fb_resolve.specs.Paths.{AreFieldUses, AreMemberUses}
+use Rattle.fb_resolve.proofs.walk.note_uses.Given as goal
 
 abbrev pub invariant-loop-field : goal.invariant-loop-field
 invariant-loop-field l = record {
