@@ -67,7 +67,7 @@ pub fn declare(alloc: Global, decls: &Decls<'_>) -> Result<Schema, SchemaFault>
     ensures least { IfErr result (λ f. f ≢ Memory → least_of (faults_of decls.now) ≡ Some f) }
 {
     let outline = Outline::of(alloc, decls)?;
-    let resolved = Resolved::of(alloc, decls, &outline)?;
+    let resolved = Resolved::of(alloc, &outline)?;
     if let Some(fault) = least_fault(alloc, &resolved)? {
         return Err(fault);
     }

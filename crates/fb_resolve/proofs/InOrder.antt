@@ -1,5 +1,5 @@
 -- Slots that stand at the places of their numbers.
-use Rattle.std.proofs.Common.{◌≡◌, ℕ, zero, suc, ◌<◌, ◌+◌, true, false, List, [], ◌∷◌, ◌++◌, length, sym, ap, ◌∙◌, arith, map, Option, None, Some, slice_get}
+use Rattle.std.proofs.Common.{◌≡◌, ℕ, zero, suc, ◌<◌, ◌+◌, true, false, List, [], ◌∷◌, ◌++◌, length, ap, arith, map, Option, None, Some, slice_get}
 use Rattle.std.proofs.lemmas.List.{length-map, get_or-map}
 use Rattle.std.proofs.lemmas.List.Sorted.{IsPermutation-refl, IsPermutation-map}
 use Rattle.std.proofs.lemmas.Option.{none-some, slice_get_within, get_or_from_slice_get}
@@ -15,8 +15,7 @@ use Rattle.fb_resolve.proofs.PlacesTaken.{places_at}
 rises-map : {X Y : Type 0} (number : Y → ℕ) (g : X → Y) (xs : List X) → IsNonDecreasingBy (λ x. number (g x)) xs → IsNonDecreasingBy number (map g xs)
 rises-map number g [] up i j d h l = absurd (omega arith)
 rises-map number g (x ∷ xs) up i j d h l =
-    let short : j < length (x ∷ xs) = rw (← length-map (x ∷ xs) g) l in
-    rw (get_or-map g (x ∷ xs) i x d (omega arith), get_or-map g (x ∷ xs) j x d short) (up i j x h short)
+    grind (arith, get_or-map g (x ∷ xs) i x d, get_or-map g (x ∷ xs) j x d, length-map (x ∷ xs) g, up i j x h)
 
 -- slots in the order of their numbers, which are places
 in_place : (read placed : List DeclaredField) → are_places (map (λ s. s.slot) read) ≡ true → IsPermutation read placed → IsNonDecreasingBy (λ s. s.slot) placed
@@ -25,10 +24,9 @@ in_place read placed right same up = record {
   same = same;
   slots = λ k s e.
       let h : k < length placed = slice_get_within placed k s e in
-      ap (λ x. x.slot) (sym (get_or_from_slice_get placed k s s e))
-      ∙ sym (get_or-map (λ x. x.slot) placed k s 0 h)
-      ∙ places_at (map (λ x. x.slot) read) (map (λ x. x.slot) placed) right (IsPermutation-map (λ x. x.slot) read placed same)
-      (rises-map (λ n. n) (λ x. x.slot) placed up) k (rw (length-map placed (λ x. x.slot)) h);
+      let at = places_at (map (λ x. x.slot) read) (map (λ x. x.slot) placed) right (IsPermutation-map (λ x. x.slot) read placed same)
+      (rises-map (λ n. n) (λ x. x.slot) placed up) k (rw (length-map placed (λ x. x.slot)) h) in
+      grind (arith, get_or_from_slice_get placed k s s e, get_or-map (λ x. x.slot) placed k s 0 h, at);
 }
 
 -- slots by their ids, sorted by their numbers

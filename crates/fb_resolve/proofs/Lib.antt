@@ -1,14 +1,7 @@
 pub mod Bytes
 pub mod Steps
-pub mod Underscores
-pub mod ValuesFrom
-pub mod Written
 pub mod Behind
-pub mod NumberNamed
 pub mod PlacesTaken
 pub mod InOrder
-pub mod IntegerAlone
 pub mod Numbers
-pub mod UsesKept
 pub mod PathsKept
-pub mod RepeatedNames

@@ -1,71 +1,66 @@
--- The paths of a text stay what they are while more are noted.
-use Rattle.std.proofs.Common.{◌≡◌, ◌++◌, ◌<◌, ◌∙◌, ℕ, zero, suc, All, List, [], ◌∷◌, Option, None, Some, length, map, get_or, slice_get, append_assoc, sym, ap, refl, arith}
+-- The paths of a text and the names that are used stay what they are while more are noted.
+use Rattle.std.proofs.Common.{Bor, option_copied, ◌≡◌, ◌++◌, ◌<◌, ℕ, zero, suc, All, List, [], ◌∷◌, Option, length, get_or, refl, arith, ◌+◌, take}
 use Rattle.std.specs.List.{AllZip}
-use Rattle.std.specs.Option.{option_copied}
 use Rattle.std.proofs.lemmas.Option.{get_or_from_slice_get, slice_get_within}
-use Rattle.std.proofs.lemmas.List.{map-append}
-use Rattle.std.proofs.lemmas.List.Elements.{All-cons, All-nil}
+use Rattle.std.proofs.lemmas.List.Elements.{All-cons, All-nil, All-weaker, All-more}
 use Rattle.fb_scopes.specs.Words.{Path, words}
 use Rattle.fb_scopes.specs.PathTree.{paths, IsTree, KeepsPaths}
 use Rattle.fb_scopes.specs.declared.path_tree.PathTree.{PathTree}
 use Rattle.fb_scopes.specs.Scopes.{paths_at}
 use Rattle.fb_scopes.proofs.WordsOf.{words-inside}
-use Rattle.fb_syntax.specs.declared.declarations.Declaration.{Declaration}
 use Rattle.fb_schema.specs.Schema.{Name}
-use Rattle.fb_resolve.specs.Outline.{TypeRead, full_name, name_of_type, types_in}
+use Rattle.fb_resolve.specs.Outline.{TypeRead, full_name, name_of_type}
 use Rattle.fb_resolve.specs.Scopes.{words_of_scope, paths_of_types}
-use Rattle.fb_resolve.specs.Paths.{IsPath, AreNoted, IsWalked}
-use Rattle.fb_resolve.specs.declared.paths.Walk.{Walk}
+use Rattle.fb_resolve.specs.Paths.{IsPath, IsPlaced, AreUses, IsUse}
+use Rattle.fb_resolve.specs.declared.walk.Walk.TheInside.{Inside}
+use Rattle.fb_syntax.specs.declared.declarations.TypeDecl.{TypeDecl}
+use Rattle.fb_syntax.specs.declared.declarations.TypeDecl.TheVariants.{Table, Struct, Enum, Union}
+use Rattle.fb_resolve.specs.Meaning.{type_name}
 
--- numbers that are noted stay those of their paths
-pub noted_kept : (old new : PathTree) (path_of : TypeRead → Path) (ns : List ℕ) (left all : List TypeRead) → KeepsPaths old new
-    → AreNoted old path_of ns left all → AreNoted new path_of ns left all
-noted_kept old new path_of [] left all kept h = h
-noted_kept old new path_of (n ∷ ns) left [] kept h = absurd cc
-noted_kept old new path_of (n ∷ ns) left (r ∷ all) kept h =
-    let first : slice_get (paths old) n ≡ Some (path_of r) = cc in
-    rw (kept n (path_of r) first, noted_kept old new path_of ns left all kept cc) refl
+pub use_kept : (old new : PathTree) (name : Name) → KeepsPaths old new → IsUse old name → IsUse new name
+use_kept old new name kept known = λ free. let n = known free in (n.0, kept n.0 _ n.1)
 
--- one type more is noted
-pub noted_more : (tree : PathTree) (path_of : TypeRead → Path) (ns : List ℕ) (n : ℕ) (r : TypeRead) (left all : List TypeRead)
-    → IsPath tree n (path_of r) → AreNoted tree path_of ns (r ∷ left) all → AreNoted tree path_of (ns ++ n ∷ []) left all
-noted_more tree path_of ns n r left all here h =
-    rw (
-      map-append (slice_get (paths tree)) ns (n ∷ []),
-      append_assoc (map (slice_get (paths tree)) ns) (slice_get (paths tree) n ∷ []) (map (λ r. Some (path_of r)) left),
-      here,
-    ) h
+-- the names that some things use
+all_kept : {X : Type 0} (use_in : X → Name) (old new : PathTree) (xs : List X) → KeepsPaths old new → All (λ x. IsUse old (use_in x)) xs → All (λ x. IsUse new (use_in x)) xs
+all_kept use_in old new xs kept all = All-weaker (λ x. IsUse old (use_in x)) (λ x. IsUse new (use_in x)) (λ x. use_kept old new (use_in x) kept) xs all
 
--- what is noted stays right while more paths are noted
-pub walked_grown : (w : Walk) (tree : PathTree) (left all : List Declaration) → IsTree tree → KeepsPaths w.tree tree → IsWalked w left all
-    → IsWalked (record w { tree = tree }) left all
-walked_grown w tree left all is kept h = let types = types_in (option_copied w.scope.name) left in record {
+pub uses_kept : (old new : PathTree) (d : TypeDecl) → KeepsPaths old new → AreUses old d → AreUses new d
+uses_kept old new (Table t) kept uses = all_kept (λ f. (type_name f.kind).bytes) old new t.fields kept uses
+uses_kept old new (Struct s) kept uses = all_kept (λ f. (type_name f.kind).bytes) old new s.fields kept uses
+uses_kept old new (Enum e) kept uses = use_kept old new e.underlying.bytes kept uses
+uses_kept old new (Union u) kept uses = all_kept (λ m. m.table.bytes) old new u.members kept uses
+
+-- the name that one thing more uses
+pub uses_more : {X : Type 0} (use_in : X → Name) (old new : PathTree) (xs : List X) (i : ℕ) (d : X) → i < length xs → KeepsPaths old new → IsUse new (use_in (get_or xs i d))
+    → All (λ x. IsUse old (use_in x)) (take i xs) → All (λ x. IsUse new (use_in x)) (take (i + 1) xs)
+uses_more use_in old new xs i d l kept one all = All-more (λ x. IsUse new (use_in x)) xs i d l (all_kept use_in old new (take i xs) kept all) one
+
+-- numbers stay those of their paths
+paths_kept : (old new : PathTree) (path_of : TypeRead → Path) (ns : List ℕ) (rs : List TypeRead) → KeepsPaths old new
+    → AllZip (λ n r. IsPath old n (path_of r)) ns rs → AllZip (λ n r. IsPath new n (path_of r)) ns rs
+paths_kept old new path_of [] [] kept h = h
+paths_kept old new path_of [] (r ∷ rs) kept h = h
+paths_kept old new path_of (n ∷ ns) [] kept h = h
+paths_kept old new path_of (n ∷ ns) (r ∷ rs) kept h = (kept n (path_of r) h.0, paths_kept old new path_of ns rs kept h.1)
+
+-- what is noted stays right while more paths and names are noted, in a namespace that has its path
+pub placed_grown : (w : Inside) (tree used : PathTree) (scope : Option (Bor Name)) (path : ℕ) → IsTree tree → KeepsPaths w.tree tree → IsTree used → KeepsPaths w.used used
+    → IsPath tree path (words_of_scope (option_copied scope)) → IsPlaced w → IsPlaced (record w { tree = tree; used = used; scope = scope; path = path })
+placed_grown w tree used scope path is kept is_used kept_uses here h = record {
   tree = is;
-  scope = kept w.scope.path _ h.scope;
-  root = kept w.root.path _ h.root;
-  rooted = h.rooted;
-  scopes = noted_kept w.tree tree (λ r. words_of_scope r.scope) w.scopes.items types (types_in None all) kept h.scopes;
-  full_names = noted_kept w.tree tree (λ r. words (name_of_type r)) w.full_names.items types (types_in None all) kept h.full_names;
+  used = is_used;
+  scope = here;
+  namespaces = paths_kept w.tree tree (λ r. words_of_scope r.scope) w.namespaces.items w.types.items kept h.namespaces;
+  full_names = paths_kept w.tree tree (λ r. words (name_of_type r)) w.full_names.items w.types.items kept h.full_names;
+  uses = All-weaker (λ r. AreUses w.used r.declaration) (λ r. AreUses used r.declaration) (λ r. uses_kept w.used used r.declaration kept_uses) w.types.items h.uses;
+  root = λ r e. let root = h.root r e in (kept w.root_path _ root.0, use_kept w.used used r.name.bytes kept_uses root.1);
 }
-
--- once no type is left, each number is that of its type's path
-pub noted_all : (tree : PathTree) (path_of : TypeRead → Path) (ns : List ℕ) (all : List TypeRead) → AreNoted tree path_of ns [] all
-    → AllZip (λ n r. IsPath tree n (path_of r)) ns all
-noted_all tree path_of [] [] h = tt
-noted_all tree path_of [] (r ∷ all) h = absurd cc
-noted_all tree path_of (n ∷ ns) [] h = absurd cc
-noted_all tree path_of (n ∷ ns) (r ∷ all) h = (cc, noted_all tree path_of ns all cc)
-
--- the words of a name inside a namespace
-words-full : (scope : Option Name) (name : Name) → words (full_name scope name) ≡ words_of_scope scope ++ words name
-words-full None name = refl
-words-full (Some scope) name = words-inside scope name
 
 -- a path behind a namespace's is that of the full name
 pub path_inside : (old new : PathTree) (scope n : ℕ) (name : Option Name) (word : Name) → IsPath old scope (words_of_scope name)
     → IsPath new n (get_or (paths old) scope [] ++ words word) → IsPath new n (words (full_name name word))
 path_inside old new scope n name word here there =
-    there ∙ ap Some (ap (λ outer. outer ++ words word) (get_or_from_slice_get (paths old) scope (words_of_scope name) [] here) ∙ sym (words-full name word))
+    grind (arith, words-inside, get_or_from_slice_get (paths old) scope (words_of_scope name) [] here, there)
 
 -- a pair of items of two lists that are related item by item
 pub zip_at : {A B : Type 0} (R : A → B → Type 0) (xs : List A) (ys : List B) (i : ℕ) (d : A) (e : B) → AllZip R xs ys → i < length ys

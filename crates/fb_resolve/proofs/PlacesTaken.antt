@@ -1,11 +1,7 @@
--- Marks of places that numbers take, and numbers among which each place is.
-use Rattle.std.proofs.Common.{◌≡◌, ◌==◌, ℕ, zero, suc, ◌<◌, ◌≤◌, ◌+◌, ◌-◌, Bool, true, false, List, length, get_or, set, take, sym, ap, ◌∙◌, arith, inl, inr, zero-add}
-use Rattle.std.proofs.Math.Bool.{or-false, or-true}
-use Rattle.std.proofs.lemmas.Bool.{cases_lt}
-use Rattle.std.proofs.lemmas.Bool.Decides.{Decides-eqb, eqb_tells}
-use Rattle.std.proofs.lemmas.Grind.{get_or-set_at}
-use Rattle.std.proofs.lemmas.List.{get_or_default, get_or-set_other}
-use Rattle.std.proofs.lemmas.List.Folds.{list_any_more}
+-- Numbers among which each place is.
+use Rattle.std.proofs.Common.{◌≡◌, ◌==◌, ℕ, zero, suc, ◌<◌, ◌≤◌, ◌+◌, ◌-◌, true, List, length, get_or, sym, ap, ◌∙◌, arith, zero-add}
+use Rattle.std.proofs.lemmas.Bool.Decides.{Decides-eqb}
+use Rattle.std.proofs.lemmas.List.{get_or_default}
 use Rattle.std.proofs.lemmas.List.FromFn.{get_or-range_with_len, length-range_with_len}
 use Rattle.std.proofs.lemmas.List.Sorted.{Contains-permutation, length_permutation}
 use Rattle.std.proofs.lemmas.List.Sums.{AllPass-from_list_all}
@@ -13,14 +9,6 @@ use Rattle.std.proofs.lemmas.Map.Made.{is_member-Decides}
 use Rattle.std.specs.List.{list_any, range_with_len}
 use Rattle.std.specs.List.Sorted.{IsPermutation, IsNonDecreasingBy}
 use Rattle.fb_resolve.specs.SlotsRead.{are_places}
-
--- the place of the next number is marked
-pub marked-more : (marks : List Bool) (ns : List ℕ) (i k : ℕ) → i < length ns → k < length marks → get_or marks k false ≡ list_any (λ n. k == n) (take i ns)
-    → get_or (set marks (get_or ns i 0) true) k false ≡ list_any (λ n. k == n) (take (i + 1) ns)
-marked-more marks ns i k l h e = rw (list_any_more (λ n. k == n) ns i 0 l) (elim (eqb_tells k (get_or ns i 0)) [
-  | inl t ↦ rw (t.0, or-true (list_any (λ n. k == n) (take i ns))) (get_or-set_at marks (get_or ns i 0) k true false t.1 (omega arith))
-  | inr t ↦ rw (t.0, or-false (list_any (λ n. k == n) (take i ns))) (get_or-set_other marks (get_or ns i 0) k true false t.1 ∙ e)
-])
 
 -- each place below the count is one of the numbers, at some index
 abbrev HasEach : List ℕ → Type 0
@@ -33,25 +21,24 @@ each_place ns placed right same k h =
     let there = Contains-permutation ns placed k same ((is_member-Decides Decides-eqb ns k).0 (rw (get_or-range_with_len 0 (length ns) k 0 low, zero-add k) at among)) in
     (there.0, there.1, get_or_default placed there.0 0 k there.1 ∙ there.2)
 
--- where the numbers don't fall, the next greater number stands behind
-behind : (ns : List ℕ) (i j k : ℕ) → IsNonDecreasingBy (λ n. n) ns → i < length ns → get_or ns i 0 ≡ k → get_or ns j 0 ≡ suc k → i < j
-behind ns i j k up l e f = elim (cases_lt i j) [
-  | inl h ↦ h
-  | inr h ↦ absurd (omega (arith, up j i 0 h l, e, f))
-]
-
--- so a place's index is no less than the place
+-- where the numbers don't fall, a greater place stands behind, so its index is no less than the place
 at_least : (ns : List ℕ) → IsNonDecreasingBy (λ n. n) ns → (at : HasEach ns) → (k : ℕ) → (h : k < length ns) → k ≤ (at k h).0
 at_least ns up at zero h = omega arith
-at_least ns up at (suc k) h = let l : k < length ns = omega arith in let a = at k l in let b = at (suc k) h in
-    omega (arith, at_least ns up at k l, behind ns a.0 b.0 k up a.1 a.2 b.2)
+at_least ns up at (suc k) h =
+    let l : k < length ns = omega arith in
+    let a = at k l in
+    let b = at (suc k) h in
+    grind (arith, at_least ns up at k l, up b.0 a.0 0)
 
 -- and leaves room for as many indices as there are places behind it
 at_most : (ns : List ℕ) → IsNonDecreasingBy (λ n. n) ns → (at : HasEach ns) → (later k : ℕ) → (h : k < length ns) → k + later + 1 ≡ length ns
     → (at k h).0 + later < length ns
 at_most ns up at zero k h long = omega (arith, (at k h).1)
-at_most ns up at (suc later) k h long = let l : suc k < length ns = omega arith in let a = at k h in let b = at (suc k) l in
-    omega (arith, at_most ns up at later (suc k) l (omega arith), behind ns a.0 b.0 k up a.1 a.2 b.2)
+at_most ns up at (suc later) k h long =
+    let l : suc k < length ns = omega arith in
+    let a = at k h in
+    let b = at (suc k) l in
+    grind (arith, at_most ns up at later (suc k) l (omega arith), up b.0 a.0 0)
 
 -- places in order
 pub places_at : (ns placed : List ℕ) → are_places ns ≡ true → IsPermutation ns placed → IsNonDecreasingBy (λ n. n) placed

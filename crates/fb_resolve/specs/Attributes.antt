@@ -31,7 +31,8 @@ built_in_attribute name =
 
 -- a power of two from the least alignment to 256
 abbrev pub is_alignment : ℕ → ℤ → Bool
-is_alignment least (pos n) = list_any (λ a. a == n) (1 ∷ 2 ∷ 4 ∷ 8 ∷ 16 ∷ 32 ∷ 64 ∷ 128 ∷ 256 ∷ []) && nat_le least n
+is_alignment least (pos n) =
+    list_any (λ a. a == n) (1 ∷ 2 ∷ 4 ∷ 8 ∷ 16 ∷ 32 ∷ 64 ∷ 128 ∷ 256 ∷ []) && nat_le least n
 is_alignment least (negsuc n) = false
 
 -- the first attribute of a name
@@ -54,14 +55,10 @@ abbrev pub natural_in : ℤ → Option ℕ
 natural_in (pos n) = Some n
 natural_in (negsuc n) = None
 
--- the number from 0 on that the first `id` has
-abbrev pub id_in : List Attribute → Option ℕ
-id_in attributes = option_and_then natural_in (number_called Id attributes)
-
--- what the attributes of a field say of its slots
+-- what the attributes of a field say of its slots; an `id` is a number from 0 on
 abbrev pub field_attributes : List Attribute → FieldAttributes
 field_attributes attributes = record {
-  id = id_in attributes;
+  id = option_and_then natural_in (number_called Id attributes);
   has_id = has_attribute Id attributes;
   required = has_attribute Required attributes;
   deprecated = has_attribute Deprecated attributes;

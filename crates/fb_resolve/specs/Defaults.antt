@@ -25,14 +25,11 @@ number_within base n = if holds base n then Number n else Wrong
 abbrev pub null_or_wrong : Name → Given
 null_or_wrong name = if bytes_eq name (codes "null") then Null else Wrong
 
-abbrev pub boolean_named : Name → Given
-boolean_named name =
+abbrev pub scalar_named : Base → Name → Given
+scalar_named Boolean name =
     if bytes_eq name (codes "true") then Number (pos 1) else
     if bytes_eq name (codes "false") then Number (pos 0) else
     null_or_wrong name
-
-abbrev pub scalar_named : Base → Name → Given
-scalar_named Boolean name = boolean_named name
 scalar_named _ name = null_or_wrong name
 
 -- Where an enum's underlying type is at fault its numbers are let pass.

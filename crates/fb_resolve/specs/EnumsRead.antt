@@ -68,12 +68,9 @@ abbrev pub values_declared : TypeDecl → List ResolvedValue
 values_declared (decls.Enum e) = resolved_values e.values
 values_declared _ = []
 
-abbrev pub bits_of : Base → ℕ
-bits_of base = 8 * base_size base
-
 -- with `bit_flags` a written number is that of a bit
 abbrev pub is_bit_of : Base → ℤ → Bool
-is_bit_of base (pos n) = nat_lt n (bits_of base)
+is_bit_of base (pos n) = nat_lt n (8 * base_size base)
 is_bit_of base (negsuc n) = false
 
 abbrev pub power_of : ℤ → ℤ
@@ -108,13 +105,9 @@ abbrev pub values_in : List TypeRead → Option Name → TypeDecl → List (Name
 values_in types scope (decls.Enum e) = values_read types scope e
 values_in types scope _ = []
 
-abbrev pub values_of_read : List TypeRead → Option TypeRead → List (Name × ℤ)
-values_of_read types None = []
-values_of_read types (Some r) = values_in types r.scope r.declaration
-
 -- the values of the enum of a number; none of another type
 abbrev pub values_at : List TypeRead → ℕ → List (Name × ℤ)
-values_at types t = values_of_read types (slice_get types t)
+values_at types t = option_map_or (λ r. values_in types r.scope r.declaration) (slice_get types t) []
 
 -- the number of the first value of a name
 unfoldable pub number_named : List (Name × ℤ) → Name → Option ℤ

@@ -12,7 +12,5 @@ pub mod SlotsRead
 pub mod StructsRead
 pub mod MembersRead
 pub mod ValueNumbers
-pub mod Uses
 pub mod Paths
 pub mod RepeatedNames
-pub mod UnionCodes

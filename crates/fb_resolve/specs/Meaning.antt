@@ -44,7 +44,3 @@ meaning_of types scope name = or_scalar (basic_type name)
 abbrev pub type_name : FieldType → Located
 type_name (One n) = n
 type_name (Many at n) = n
-
--- what the name in a field's type means
-abbrev pub meaning_in : List TypeRead → Option Name → FieldType → Meaning
-meaning_in types scope kind = meaning_of types scope (type_name kind).bytes

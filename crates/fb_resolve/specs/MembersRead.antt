@@ -19,12 +19,8 @@ abbrev pub with_underscores : Name → Name
 with_underscores name = map underscore_for_dot name
 
 -- a member's name, and where it stands: its alias, or its table's name
-abbrev pub name_by_alias : Option Located → Located → Located
-name_by_alias (Some alias) table = alias
-name_by_alias None table = record { bytes = with_underscores table.bytes; at = table.at }
-
 abbrev pub member_name : UnionMember → Located
-member_name m = name_by_alias m.alias m.table
+member_name m = unwrap_or m.alias (record { bytes = with_underscores m.table.bytes; at = m.table.at })
 
 -- the table of a use
 abbrev pub table_of : Meaning → Option ℕ

@@ -1,6 +1,6 @@
 -- What a schema text declares, each type with the namespace that it stands in.
 -- From the FlatBuffers documentation, "Writing a schema": Namespaces, Attributes, Root type, File identification.
-use Rattle.std.specs.Prelude.{ℕ, ◌++◌, List, [], ◌∷◌, Option, None, Some, map}
+use Rattle.std.specs.Prelude.{ℕ, ◌++◌, List, [], ◌∷◌, Option, None, Some}
 use Rattle.std.specs.Option.{option_map, option_or}
 use Rattle.fb_syntax.specs.Located.{Located}
 use Rattle.fb_syntax.specs.Signs.{dot}
@@ -22,6 +22,12 @@ pub record RootRead : Type 0 where
   pub scope : Option Name
   pub name : Located
 
+-- the types and the root of some declarations, and the namespace in force behind them
+pub record Walked : Type 0 where
+  pub types : List TypeRead
+  pub root : Option RootRead
+  pub scope : Option Name
+
 abbrev pub scope_named : Option Located → Option Name
 scope_named n = option_map (λ t. t.bytes) n
 
@@ -42,7 +48,8 @@ attributes_in (_ ∷ ds) = attributes_in ds
 abbrev pub root_in : Option Name → List Declaration → Option RootRead
 root_in scope [] = None
 root_in scope (declarations.Namespace n ∷ ds) = root_in (scope_named n) ds
-root_in scope (declarations.Directive (RootType r) ∷ ds) = option_or (root_in scope ds) (Some (record { scope = scope; name = r }))
+root_in scope (declarations.Directive (RootType r) ∷ ds) =
+    option_or (root_in scope ds) (Some (record { scope = scope; name = r }))
 root_in scope (_ ∷ ds) = root_in scope ds
 
 -- the last file identifier
@@ -74,17 +81,10 @@ word_of (Struct t) = t.name
 word_of (Enum e) = e.name
 word_of (Union u) = u.name
 
--- a name inside a namespace
-abbrev pub inside : Name → Name → Name
-inside scope name = scope ++ dot ∷ name
-
 -- a name with the namespace in force before it
 abbrev pub full_name : Option Name → Name → Name
 full_name None name = name
-full_name (Some scope) name = inside scope name
+full_name (Some scope) name = scope ++ dot ∷ name
 
 abbrev pub name_of_type : TypeRead → Name
 name_of_type r = full_name r.scope (word_of r.declaration).bytes
-
-abbrev pub names_of_types : List TypeRead → List Name
-names_of_types types = map name_of_type types

@@ -1,52 +1,66 @@
--- The paths of a text's namespaces and types.
--- From the FlatBuffers documentation, "Writing a schema": Namespaces.
-use Rattle.std.specs.Prelude.{ℕ, ◌≡◌, ◌++◌, All, List, Option, None, Some, map, slice_get}
+-- The paths of a text's namespaces and types, and the names that it uses for types.
+-- From the FlatBuffers documentation, "Writing a schema": Namespaces, Types.
+use Rattle.std.specs.Prelude.{ℕ, ◌≡◌, All, List, Option, Some, slice_get, false}
 use Rattle.std.specs.List.{AllZip}
-use Rattle.std.specs.Option.{ForSome, option_copied, option_map, option_or}
+use Rattle.std.specs.Option.{ForSome, option_copied}
 use Rattle.fb_scopes.specs.Words.{Path, words}
 use Rattle.fb_scopes.specs.PathTree.{paths, IsTree}
+use Rattle.fb_scopes.specs.Scopes.{tree_of, names_of, AreScopes, IsUsed}
 use Rattle.fb_scopes.specs.declared.path_tree.PathTree.{PathTree}
-use Rattle.fb_syntax.specs.declared.declarations.Declaration.{Declaration}
+use Rattle.fb_resolve.specs.Outline.{TypeRead, RootRead, name_of_type}
+use Rattle.fb_resolve.specs.Scopes.{words_of_scope, paths_of_types}
+use Rattle.fb_resolve.specs.RepeatedNames.{AreRepeats}
+use Rattle.fb_resolve.specs.declared.outline.Names.{Names}
+use Rattle.fb_resolve.specs.declared.walk.Walk.TheInside.{Inside}
+use Rattle.fb_syntax.specs.FieldRead.{FieldRead}
+use Rattle.fb_syntax.specs.declared.declarations.UnionMember.{UnionMember}
+use Rattle.fb_syntax.specs.declared.declarations.TypeDecl.{TypeDecl}
+use Rattle.fb_syntax.specs.declared.declarations.TypeDecl.TheVariants.{Table, Struct, Enum, Union}
 use Rattle.fb_schema.specs.Schema.{Name}
-use Rattle.fb_resolve.specs.Outline.{TypeRead, RootRead, types_in, root_in, name_of_type}
-use Rattle.fb_resolve.specs.Scopes.{words_of_scope}
-use Rattle.fb_resolve.specs.Uses.{uses_of, IsUse, AreUses}
-use Rattle.fb_resolve.specs.declared.paths.Namespace.{Namespace}
-use Rattle.fb_resolve.specs.declared.paths.Walk.{Walk}
-use Rattle.fb_resolve.specs.declared.paths.Paths.{Paths}
+use Rattle.fb_resolve.specs.BasicTypes.{is_reserved}
+use Rattle.fb_resolve.specs.Meaning.{type_name}
 
 -- a number is that of a path
 abbrev pub IsPath : PathTree → ℕ → Path → Type 0
 IsPath tree n path = slice_get (paths tree) n ≡ Some path
 
--- a namespace's number is that of its path
-abbrev pub IsNamespace : PathTree → Namespace → Type 0
-IsNamespace tree n = IsPath tree n.path (words_of_scope (option_copied n.name))
+-- a name that isn't a basic type's is among those that are used
+abbrev pub IsUse : PathTree → Name → Type 0
+IsUse used name = is_reserved name ≡ false → IsUsed used name
 
--- Numbers are those of the paths of all types but these, which are left.
-abbrev pub AreNoted : PathTree → (TypeRead → Path) → List ℕ → List TypeRead → List TypeRead → Type 0
-AreNoted tree path_of numbers left all = map (slice_get (paths tree)) numbers ++ map (λ r. Some (path_of r)) left ≡ map (λ r. Some (path_of r)) all
+-- so are the names of all fields' types
+abbrev pub AreFieldUses : PathTree → List FieldRead → Type 0
+AreFieldUses used fs = All (λ f. IsUse used (type_name f.kind).bytes) fs
 
--- the namespace that a root is named in
-abbrev pub scope_of_root : Option RootRead → Option (Option Name)
-scope_of_root root = option_map (λ r. r.scope) root
+-- so are the names of all members' tables
+abbrev pub AreMemberUses : PathTree → List UnionMember → Type 0
+AreMemberUses used ms = All (λ m. IsUse used m.table.bytes) ms
 
--- What is noted on the way through declarations, of which these are left: the namespace in force has its path, and so
--- have the namespace in which the last root is named, and the types that are passed.
-pub record IsWalked (w : Walk) (left all : List Declaration) : Type 0 where
+-- so are all names that a type's declaration uses
+abbrev pub AreUses : PathTree → TypeDecl → Type 0
+AreUses used (Table t) = AreFieldUses used t.fields
+AreUses used (Struct s) = AreFieldUses used s.fields
+AreUses used (Enum e) = IsUse used e.underlying.bytes
+AreUses used (Union u) = AreMemberUses used u.members
+
+-- the namespace of a root has a path of this number, and the root's name is known
+abbrev pub IsRootPlaced : PathTree → PathTree → ℕ → Option RootRead → Type 0
+IsRootPlaced tree used n root = ForSome root (λ r. IsPath tree n (words_of_scope r.scope) × IsUse used r.name.bytes)
+
+-- The namespace in force has its path, each type its namespace's and its full name's, and all names are known.
+pub record IsPlaced (w : Inside) : Type 0 where
   pub tree : IsTree w.tree
-  pub scope : IsNamespace w.tree w.scope
-  pub root : IsNamespace w.tree w.root
-  pub rooted : option_or (scope_of_root (root_in (option_copied w.scope.name) left)) (Some (option_copied w.root.name))
-      ≡ option_or (scope_of_root (root_in None all)) (Some None)
-  pub scopes : AreNoted w.tree (λ r. words_of_scope r.scope) w.scopes.items (types_in (option_copied w.scope.name) left) (types_in None all)
-  pub full_names : AreNoted w.tree (λ r. words (name_of_type r)) w.full_names.items (types_in (option_copied w.scope.name) left) (types_in None all)
+  pub used : IsTree w.used
+  pub scope : IsPath w.tree w.path (words_of_scope (option_copied w.scope))
+  pub namespaces : AllZip (λ n r. IsPath w.tree n (words_of_scope r.scope)) w.namespaces.items w.types.items
+  pub full_names : AllZip (λ n r. IsPath w.tree n (words (name_of_type r))) w.full_names.items w.types.items
+  pub uses : All (λ r. AreUses w.used r.declaration) w.types.items
+  pub root : IsRootPlaced w.tree w.used w.root_path w.root
 
--- each type has its namespace's path and its full name's, and all names that types and the root use are known
-pub record ArePaths (p : Paths) (types : List TypeRead) (rooted : Option RootRead) : Type 0 where
-  pub tree : IsTree p.tree
-  pub used : IsTree p.used
-  pub scopes : AllZip (λ n r. IsPath p.tree n (words_of_scope r.scope)) p.scopes.items types
-  pub full_names : AllZip (λ n r. IsPath p.tree n (words (name_of_type r))) p.full_names.items types
-  pub uses : All (λ r. AreUses p.used (uses_of r.declaration)) types
-  pub root : ForSome rooted (λ r. IsPath p.tree p.root (words_of_scope r.scope) × IsUse p.used r.name.bytes)
+-- Each name has its meaning in each namespace, these are the namespaces' paths, and repeated names are marked.
+pub record AreNames (n : Names) (types : List TypeRead) (rooted : Option RootRead) : Type 0 where
+  pub scopes : AreScopes n.scopes (paths_of_types types)
+  pub namespaces : AllZip (λ k r. IsPath (tree_of n.scopes) k (words_of_scope r.scope)) n.namespaces.items types
+  pub uses : All (λ r. AreUses (names_of n.scopes) r.declaration) types
+  pub root : IsRootPlaced (tree_of n.scopes) (names_of n.scopes) n.root rooted
+  pub repeats : AreRepeats types n.repeats.items

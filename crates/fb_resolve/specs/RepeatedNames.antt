@@ -16,4 +16,5 @@ AreRepeats types repeats = (t : ℕ) (r : TypeRead) → slice_get types t ≡ So
 
 -- of each number whether it is among those before it
 abbrev pub repeated_numbers : List ℕ → List Bool
-repeated_numbers numbers = map (λ k. list_any (λ n. get_or numbers k 0 == n) (take k numbers)) (range_with_len 0 (length numbers))
+repeated_numbers numbers =
+    map (λ k. list_any (λ n. get_or numbers k 0 == n) (take k numbers)) (range_with_len 0 (length numbers))

@@ -2,18 +2,18 @@
 -- From the FlatBuffers documentation, "Writing a schema": Types, Namespaces, Attributes.
 use Rattle.std.specs.Prelude.{List, map, Option, None, Some}
 use Rattle.fb_syntax.specs.FieldRead.{FieldRead}
-use Rattle.fb_syntax.specs.TypesRead.{TableRead, EnumRead, UnionRead}
+use Rattle.fb_syntax.specs.TypesRead.{TableRead, EnumRead}
 use Rattle.fb_syntax.specs.declared.declarations.UnionMember.{UnionMember}
 use Rattle.fb_syntax.specs.declared.declarations.TypeDecl.{TypeDecl}
 use Rattle.fb_syntax.specs.declared.declarations.TypeDecl.TheVariants as decls
 use Rattle.fb_schema.specs.Schema.{Name}
 use Rattle.fb_resolve.specs.Outline.{TypeRead, RootRead}
-use Rattle.fb_resolve.specs.Meaning.{meaning_of, meaning_in}
+use Rattle.fb_resolve.specs.Meaning.{type_name, meaning_of}
 use Rattle.fb_resolve.specs.Attributes.{number_called, field_attributes}
 use Rattle.fb_resolve.specs.EnumsRead.{has_flags, resolved_values}
 use Rattle.fb_resolve.specs.Defaults.{given_by}
 use Rattle.fb_resolve.specs.MembersRead.{member_name}
-use Rattle.fb_resolve.specs.ResolvedFields.{ResolvedField, ResolvedTable, ResolvedEnum, ResolvedMember, ResolvedUnion}
+use Rattle.fb_resolve.specs.ResolvedFields.{ResolvedField, ResolvedTable, ResolvedEnum, ResolvedMember}
 use Rattle.fb_resolve.specs.ResolvedType.{ResolvedType}
 use Rattle.fb_resolve.specs.declared.attributes.BuiltInAttribute.TheVariants.{ForceAlign}
 use Rattle.fb_resolve.specs.declared.meanings.Meaning.{Meaning}
@@ -22,11 +22,11 @@ use Rattle.fb_resolve.specs.declared.resolved.ResolvedDecl.{ResolvedDecl}
 use Rattle.fb_resolve.specs.declared.resolved.ResolvedDecl.TheVariants.{Table, Struct, Enum, Union}
 
 abbrev pub resolved_field : List TypeRead → Option Name → FieldRead → ResolvedField
-resolved_field types scope f = record {
+resolved_field types scope f = let meant = meaning_of types scope (type_name f.kind).bytes in record {
   field = f;
-  meaning = meaning_in types scope f.kind;
+  meaning = meant;
   attributes = field_attributes f.attributes;
-  given = given_by types f.kind (meaning_in types scope f.kind) f.default;
+  given = given_by types f.kind meant f.default;
 }
 
 abbrev pub resolved_fields : List TypeRead → Option Name → List FieldRead → List ResolvedField
@@ -54,18 +54,13 @@ resolved_member types scope m = record {
   meaning = meaning_of types scope m.table.bytes;
 }
 
-abbrev pub resolved_members : List TypeRead → Option Name → List UnionMember → List ResolvedMember
-resolved_members types scope ms = map (resolved_member types scope) ms
-
-abbrev pub resolved_union : List TypeRead → Option Name → UnionRead → ResolvedUnion
-resolved_union types scope u = record { declared = u; members = resolved_members types scope u.members }
-
 -- a declaration whose names mean what they do inside a namespace
 abbrev pub resolved_declaration : List TypeRead → Option Name → TypeDecl → ResolvedDecl
 resolved_declaration types scope (decls.Table t) = Table (resolved_table types scope t)
 resolved_declaration types scope (decls.Struct s) = Struct (resolved_table types scope s)
 resolved_declaration types scope (decls.Enum e) = Enum (resolved_enum types scope e)
-resolved_declaration types scope (decls.Union u) = Union (resolved_union types scope u)
+resolved_declaration types scope (decls.Union u) =
+    Union (record { declared = u; members = map (resolved_member types scope) u.members })
 
 abbrev pub resolved_type : List TypeRead → TypeRead → ResolvedType
 resolved_type types r = record { read = r; declaration = resolved_declaration types r.scope r.declaration }

@@ -1,9 +1,10 @@
 -- The slots that a table's fields take.
 -- From the FlatBuffers documentation, "Writing a schema": Tables, Unions, Attributes (`id`, `required`, `deprecated`).
-use Rattle.std.specs.Prelude.{ℕ, suc, ◌+◌, ◌==◌, ◌≡◌, ◌++◌, ◌&&◌, not, Bool, true, false, List, [], ◌∷◌, length, map, Option, None, Some, ℤ, pos, codes, slice_get, if◌then◌else◌}
+use Rattle.std.specs.Prelude.{ℕ, suc, ◌+◌, ◌==◌, ◌≡◌, ◌++◌, ◌&&◌, not, Bool, true, false, List, [], ◌∷◌, length, map, Option, None, Some, ℤ, pos, codes, slice_get, string_bytes, IfSome, if◌then◌else◌}
 use Rattle.std.specs.List.{list_any, list_all, flat_map, range_with_len}
 use Rattle.std.specs.List.Sorted.{IsPermutation}
-use Rattle.std.specs.Option.{is_some, unwrap_or}
+use Rattle.std.specs.Option.{is_some, unwrap_or, option_map}
+use Rattle.fb_syntax.specs.FieldRead.{FieldRead}
 use Rattle.fb_syntax.specs.declared.declarations.FieldType.{FieldType}
 use Rattle.fb_syntax.specs.declared.declarations.FieldType.TheVariants as types_read
 use Rattle.fb_schema.specs.Schema.{Name, DeclaredField}
@@ -17,6 +18,7 @@ use Rattle.fb_resolve.specs.declared.meanings.Meaning.{Meaning}
 use Rattle.fb_resolve.specs.declared.meanings.Meaning.TheVariants.{Known}
 use Rattle.fb_resolve.specs.declared.defaults.Given.{Given}
 use Rattle.fb_resolve.specs.declared.defaults.Given.TheVariants.{Number, Null}
+use Rattle.fb_resolve.specs.declared.resolved.UnionCode.{UnionCode}
 use Rattle.fb_resolve.specs.declared.ids.Slots.{Slots}
 use Rattle.fb_resolve.specs.declared.ids.Slots.TheVariants.{InOrder, ById, Wrong}
 
@@ -73,6 +75,11 @@ code_slot r u slot = record {
   slot = slot;
 }
 
+-- of a union's field the union, and the name of its code's slot; nothing of another field
+pub record IsCodeOf (f : FieldRead) (m : Meaning) (code : Option UnionCode) : Type 0 where
+  pub union : option_map (λ c. c.union) code ≡ union_of f.kind m
+  pub name : IfSome code (λ c. string_bytes c.name ≡ name_of_code f.name.bytes)
+
 abbrev pub slots_by_union : ResolvedField → Option TypeId → ℕ → List DeclaredField
 slots_by_union r None slot = value_slot r slot ∷ []
 slots_by_union r (Some u) slot = code_slot r u slot ∷ value_slot r (slot + 1) ∷ []
@@ -123,16 +130,12 @@ have_all_ids rs = list_all (λ r. is_some (slot_by_id r)) rs
 abbrev pub numbers_by_id : List ResolvedField → List ℕ
 numbers_by_id rs = map (λ s. s.slot) (slots_by_id rs)
 
--- All fields have ids, and these name each slot once.
-abbrev pub are_ids_right : List ResolvedField → Bool
-are_ids_right rs = have_all_ids rs && are_places (numbers_by_id rs)
-
--- the slots' numbers aren't as they have to be
+-- some field has an id, but not all have one, or these don't name each slot once
 unfoldable pub are_ids_wrong : List ResolvedField → Bool
-are_ids_wrong rs = have_ids rs && not (are_ids_right rs)
+are_ids_wrong rs = have_ids rs && not (have_all_ids rs && are_places (numbers_by_id rs))
 
 -- what the slots of a table's fields are: numbered in the order of declaration, or by their ids
 abbrev pub AreSlots : List ResolvedField → Slots → Type 0
 AreSlots rs InOrder = have_ids rs ≡ false
-AreSlots rs ById = (have_ids rs ≡ true) × (are_ids_right rs ≡ true)
+AreSlots rs ById = (have_ids rs ≡ true) × (are_ids_wrong rs ≡ false)
 AreSlots rs Wrong = are_ids_wrong rs ≡ true

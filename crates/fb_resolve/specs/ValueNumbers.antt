@@ -1,12 +1,11 @@
 -- The numbers of enums' values, by their names.
-use Rattle.std.specs.Prelude.{ℕ, ◌≡◌, List, Option, None, Some, ℤ, Vec, map, slice_get, if◌then◌else◌}
+use Rattle.std.specs.Prelude.{ℕ, ◌≡◌, List, Option, ℤ, Vec, map, slice_get}
 use Rattle.std.specs.Borrow.{Bor}
 use Rattle.std.specs.Global.{Global}
 use Rattle.std.specs.BTreeMap.{BTreeMap, get_by}
 use Rattle.std.specs.Cmp.Lexicographic.{slice_cmp}
 use Rattle.std.specs.Ordering.{nat_cmp}
-use Rattle.std.specs.Option.{option_or, option_and_then}
-use Rattle.std.specs.Str.{bytes_eq}
+use Rattle.std.specs.Option.{option_and_then}
 use Rattle.fb_schema.specs.Schema.{Name}
 use Rattle.fb_resolve.specs.Outline.{TypeRead}
 use Rattle.fb_resolve.specs.ResolvedFields.{ResolvedValue}
@@ -20,10 +19,6 @@ number_of numbers name = get_by (λ k. slice_cmp nat_cmp name k.now) numbers
 -- the number that an index has for a name in the enum of a number
 abbrev pub number_in : ValueNumbers → ℕ → Name → Option ℤ
 number_in index t name = option_and_then (λ m. number_of m name) (slice_get index.numbers.items t)
-
--- a map has one number more: that of a name, where it had none
-abbrev pub NotesNumber : BTreeMap (Bor Name) ℤ → BTreeMap (Bor Name) ℤ → Name → ℤ → Type 0
-NotesNumber old new name n = (other : Name) → number_of new other ≡ option_or (number_of old other) (if bytes_eq other name then Some n else None)
 
 -- an index has the number of the first value of each name in each enum, and no other
 abbrev pub IndexesValues : ValueNumbers → List TypeRead → Type 0

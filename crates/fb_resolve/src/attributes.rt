@@ -4,7 +4,7 @@ ghost use Rattle.std.specs.Int.RustNames.{unsigned_abs};
 ghost use Rattle.fb_syntax.specs.Integers.{greatest_magnitude};
 ghost use Rattle.std.specs.Option.{option_copied};
 ghost use Rattle.fb_resolve.specs.Attributes.{spelling, built_in_attribute, is_alignment, has_attribute};
-ghost use Rattle.fb_resolve.specs.Attributes.{attribute_called, number_called, id_in, field_attributes};
+ghost use Rattle.fb_resolve.specs.Attributes.{attribute_called, number_called, field_attributes};
 
 use fb_syntax::{Attribute, AttributeValue};
 
@@ -104,19 +104,12 @@ pub(crate) fn number_called(
     }
 }
 
-/// The number from 0 on that the first `id` has.
-fn id_in(attributes: &[Attribute<'_>]) -> Option<u64>
-    ensures { result ≡ id_in attributes.now }
-{
-    u64::try_from(number_called(BuiltInAttribute::Id, attributes)?).ok()
-}
-
 /// What the attributes of a field say of its slots.
 pub(crate) fn field_attributes(attributes: &[Attribute<'_>]) -> FieldAttributes
     ensures { result ≡ field_attributes attributes.now }
 {
     FieldAttributes {
-        id: id_in(attributes),
+        id: number_called(BuiltInAttribute::Id, attributes).and_then(|id| u64::try_from(id).ok()),
         has_id: has_attribute(BuiltInAttribute::Id, attributes),
         required: has_attribute(BuiltInAttribute::Required, attributes),
         deprecated: has_attribute(BuiltInAttribute::Deprecated, attributes),

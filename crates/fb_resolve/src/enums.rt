@@ -1,12 +1,13 @@
 //! The numbers of an enum's values, and what the name of a value means.
-ghost use Rattle.std.specs.Prelude.{◌≡◌, ◌≤◌, ◌+◌, ℕ, List, Option, IfOk, map, string_bytes};
+ghost use Rattle.std.specs.Prelude.{◌≡◌, ◌≤◌, ◌+◌, ◌*◌, ℕ, List, Option, IfOk, map, string_bytes};
 ghost use Rattle.std.specs.Int.RustNames.{unsigned_abs};
 ghost use Rattle.fb_syntax.specs.Integers.{greatest_magnitude};
 ghost use Rattle.fb_schema.specs.Schema.{Name};
+ghost use Rattle.fb_schema.specs.Alignments.{base_size};
 ghost use Rattle.fb_resolve.specs.Outline.{TypeRead};
-ghost use Rattle.fb_resolve.specs.EnumsRead.{integer_type, underlying, underlying_at, has_flags, bits_of};
-ghost use Rattle.fb_resolve.specs.EnumsRead.{is_bit_of, value_number, may_be_written, written_number};
-ghost use Rattle.fb_resolve.specs.EnumsRead.{resolved_values, values_declared, value_over, values_over};
+ghost use Rattle.fb_resolve.specs.EnumsRead.{integer_type, underlying, underlying_at, has_flags};
+ghost use Rattle.fb_resolve.specs.EnumsRead.{value_number, may_be_written, written_number};
+ghost use Rattle.fb_resolve.specs.EnumsRead.{resolved_values, value_over, values_over};
 
 use crate::attributes::{BuiltInAttribute, has_attribute};
 use crate::basic_types::basic_type;
@@ -30,7 +31,7 @@ pub fn integer_type(meaning: Meaning) -> Option<Base>
 
 /// The underlying type of an enum, if it is an integer type. Its name alone tells, whatever types
 /// the text declares.
-#[tactic(auto, using(crate::proofs::IntegerAlone::underlying_alone))]
+#[tactic(auto, unfolding(crate::specs::Meaning::meaning_of))]
 pub fn underlying(read: &EnumDecl<'_>) -> Option<Base>
     ensures { (types : List TypeRead) (scope : Option Name)
         → result ≡ underlying types scope read.now }
@@ -57,7 +58,7 @@ pub(crate) fn has_flags(read: &EnumDecl<'_>) -> bool
 }
 
 fn bits_of(base: Base) -> u8
-    ensures bits { result ≡ bits_of base }
+    ensures bits { result ≡ 8 * base_size base }
     ensures few { result ≤ 64 }
 {
     match base {
@@ -66,13 +67,6 @@ fn bits_of(base: Base) -> u8
         Base::I32 | Base::U32 => 32,
         Base::I64 | Base::U64 => 64,
     }
-}
-
-/// Whether a number is that of a bit of a type.
-fn is_bit_of(base: Base, number: i128) -> bool
-    ensures { result ≡ is_bit_of base number }
-{
-    number >= 0 && number < i128::from(bits_of(base))
 }
 
 /// The number that a value has where this one is written.
@@ -90,7 +84,7 @@ pub fn may_be_written(base: Base, flags: bool, number: i128) -> bool
     ensures { result ≡ may_be_written base flags number }
 {
     if flags {
-        is_bit_of(base, number)
+        number >= 0 && number < i128::from(bits_of(base))
     } else {
         base.holds(number)
     }
@@ -109,7 +103,8 @@ fn written_number(next: i128, value: &EnumValue<'_>) -> i128
 }
 
 /// The values of an enum with their numbers. The only error is a refused allocation.
-fn resolved_values<'d, 's>(
+#[tactic(auto, unfolding(crate::specs::EnumsRead::values_from))]
+pub(crate) fn resolved_values<'d, 's>(
     alloc: Global,
     values: &'d [EnumValue<'s>],
 ) -> Result<Vec<ResolvedValue<'d, 's>>, AllocError>
@@ -123,19 +118,6 @@ fn resolved_values<'d, 's>(
         next = number + 1;
     }
     Ok(resolved)
-}
-
-/// The values of a type with their numbers; none for a type that is no enum. The only error is a refused allocation.
-pub(crate) fn values_declared<'d, 's>(
-    alloc: Global,
-    declaration: &'d TypeDecl<'s>,
-) -> Result<Vec<ResolvedValue<'d, 's>>, AllocError>
-    ensures { IfOk result (λ r. r.items ≡ values_declared declaration.now) }
-{
-    match declaration {
-        TypeDecl::Enum(read) => resolved_values(alloc, read.values.as_slice()),
-        _ => Ok(Vec::new(alloc)),
-    }
 }
 
 fn value_over(

@@ -100,22 +100,8 @@ pub fn are_ids_wrong(table: &ResolvedTable<'_, '_>) -> bool
     matches!(table.slots, Slots::Wrong)
 }
 
-/// The slots of fields by their ids, in the order of declaration.
-fn slots_by_id(
-    alloc: Global,
-    fields: Vec<ResolvedField<'_, '_>>,
-) -> Result<Vec<FieldInfo>, AllocError>
-    ensures { IfOk result (λ v. map field_seen v.items ≡ slots_by_id fields.entry.items) }
-{
-    let mut slots = Vec::with_capacity(alloc, fields.len())?;
-    for field in fields {
-        let first = slot_by_id(&field).unwrap_or(0);
-        push_slots(alloc, field, first, &mut slots)?;
-    }
-    Ok(slots)
-}
-
 /// The slots of a table, each at the place of its number. The only error is a refused allocation.
+#[tactic(auto, using(crate::proofs::InOrder::placed_in_order))]
 pub fn table_slots(
     alloc: Global,
     table: ResolvedTable<'_, '_>,
@@ -126,7 +112,11 @@ pub fn table_slots(
     match table.slots {
         Slots::InOrder => slots_in_order(alloc, table.fields),
         Slots::ById => {
-            let mut slots = slots_by_id(alloc, table.fields)?;
+            let mut slots = Vec::with_capacity(alloc, table.fields.len())?;
+            for field in table.fields {
+                let first = slot_by_id(&field).unwrap_or(0);
+                push_slots(alloc, field, first, &mut slots)?;
+            }
             slots.sort_by_key(|slot| slot.slot)?;
             Ok(slots)
         }

@@ -10,16 +10,15 @@ mod located_names;
 mod meanings;
 mod members;
 mod outline;
-mod paths;
 mod repeated_names;
 mod resolve;
 mod resolved;
 mod scope;
 mod slots;
 mod structs;
-mod uses;
 mod value_names;
 mod value_numbers;
+mod walk;
 
 pub use attributes::{BuiltInAttribute, FieldAttributes, built_in_attribute, is_alignment};
 pub use basic_types::is_reserved;

@@ -1,7 +1,9 @@
 //! What a schema text declares, each type with the namespace that it stands in.
-ghost use Rattle.std.specs.Prelude.{◌≡◌, IfOk, None, string_bytes};
-ghost use Rattle.fb_resolve.specs.Outline.{outline_of, scope_named, word_of, name_of_type};
+ghost use Rattle.std.specs.Prelude.{◌≡◌, IfOk, string_bytes};
+ghost use Rattle.fb_resolve.specs.Outline.{outline_of, word_of, name_of_type};
 
+use crate::walk::Walk;
+use fb_scopes::Scopes;
 use fb_syntax::{Declaration, Decls, Directive, DottedName, Text, TypeDecl};
 use std::alloc::{AllocError, Global};
 use std::marker::Model;
@@ -38,6 +40,18 @@ impl<'d, 's> Model for RootRead<'d, 's> {
     ghost view = { λ r. record { scope = option_copied r.scope; name = r.name.now } };
 }
 
+/// The types that names mean, and where the types and the root of a text stand.
+#[derive(Drop)]
+pub(crate) struct Names<'d> {
+    pub scopes: Scopes<'d>,
+    /// Of each type the number of its namespace's path.
+    pub namespaces: Vec<usize>,
+    /// The number of the path of the namespace in which the root is named.
+    pub root: usize,
+    /// Of each type whether one before it has its full name.
+    pub repeats: Vec<bool>,
+}
+
 /// What a schema text declares, sorted by kind.
 #[derive(Drop)]
 pub struct Outline<'d, 's> {
@@ -46,6 +60,7 @@ pub struct Outline<'d, 's> {
     pub root: Option<RootRead<'d, 's>>,
     pub identifier: Option<&'d Text<'s>>,
     pub text_len: u64,
+    pub(crate) names: Names<'d>,
 }
 
 impl<'d, 's> Model for Outline<'d, 's> {
@@ -55,6 +70,8 @@ impl<'d, 's> Model for Outline<'d, 's> {
 
     ghost Value = { Outlined };
 
+    ghost use Rattle.fb_resolve.specs.Paths.{AreNames};
+
     ghost view = { λ o. record {
       types = o.types.items;
       attributes = map (λ a. a.now) o.attributes.items;
@@ -62,6 +79,8 @@ impl<'d, 's> Model for Outline<'d, 's> {
       identifier = option_copied o.identifier;
       text_len = o.text_len;
     } };
+
+    ghost invariant = { λ o. AreNames o.names o.types.items o.root };
 }
 
 impl<'d, 's> Outline<'d, 's> {
@@ -69,31 +88,20 @@ impl<'d, 's> Outline<'d, 's> {
     pub fn of(alloc: Global, decls: &'d Decls<'s>) -> Result<Outline<'d, 's>, AllocError>
         ensures { IfOk result (λ o. o ≡ outline_of decls.now) }
     {
-        let mut outline = Outline {
-            types: Vec::new(alloc),
-            attributes: Vec::new(alloc),
-            root: None,
-            identifier: None,
-            text_len: decls.text_len(),
-        };
-        let mut scope = None;
+        let mut walk = Walk::new(alloc);
+        let mut attributes = Vec::new(alloc);
+        let mut identifier = None;
         for declaration in decls.declarations() {
             match declaration {
-                Declaration::Namespace(name) => scope = name.as_ref().map(|name| name.as_str()),
-                Declaration::Type(declaration) => {
-                    outline.types.push(TypeRead { scope, declaration })?;
-                }
-                Declaration::Attribute(name) => outline.attributes.push(name.text)?,
-                Declaration::Directive(Directive::RootType(name)) => {
-                    outline.root = Some(RootRead { scope, name });
-                }
-                Declaration::Directive(Directive::FileIdentifier(text)) => {
-                    outline.identifier = Some(text);
-                }
+                Declaration::Namespace(name) => walk = walk.inside(name.as_ref())?,
+                Declaration::Type(declaration) => walk = walk.with_type(declaration)?,
+                Declaration::Attribute(name) => attributes.push(name.text)?,
+                Declaration::Directive(Directive::RootType(name)) => walk = walk.with_root(name)?,
+                Declaration::Directive(Directive::FileIdentifier(text)) => identifier = Some(text),
                 Declaration::Directive(Directive::FileExtension(_)) => {}
             }
         }
-        Ok(outline)
+        walk.outline(alloc, attributes, identifier, decls.text_len())
     }
 }
 

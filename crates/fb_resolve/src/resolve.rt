@@ -1,29 +1,23 @@
 //! Each name and attribute in the declarations of types looked up once.
-ghost use Rattle.std.specs.Prelude.{◌≡◌, IfOk};
+ghost use Rattle.std.specs.Prelude.{◌≡◌, All, IfOk, map};
 ghost use Rattle.std.specs.List.{AllZip};
-ghost use Rattle.std.specs.Option.{ForSome, option_copied};
-ghost use Rattle.std.specs.Prelude.{All};
+ghost use Rattle.std.specs.Option.{option_copied};
 ghost use Rattle.fb_scopes.specs.Scopes.{tree_of, names_of, AreScopes};
-ghost use Rattle.fb_resolve.specs.Outline.{outline_of};
 ghost use Rattle.fb_resolve.specs.Scopes.{words_of_scope, paths_of_types};
-ghost use Rattle.fb_resolve.specs.Uses.{uses_of_fields, uses_of_members, uses_of, IsUse, AreUses};
-ghost use Rattle.fb_resolve.specs.Paths.{IsPath};
+ghost use Rattle.fb_resolve.specs.Paths.{IsPath, IsRootPlaced, AreFieldUses, AreMemberUses, AreUses};
 ghost use Rattle.fb_resolve.specs.RepeatedNames.{AreRepeats};
 ghost use Rattle.fb_resolve.specs.EnumsRead.{values_declared};
 ghost use Rattle.fb_resolve.specs.ValueNumbers.{AreValues};
-ghost use Rattle.fb_resolve.specs.Resolved.{resolved_fields, resolved_table, resolved_members};
-ghost use Rattle.fb_resolve.specs.Resolved.{resolved_declaration, resolved_types};
-ghost use Rattle.fb_resolve.specs.Resolved.{meaning_of_root};
+ghost use Rattle.fb_resolve.specs.Resolved.{resolved_fields, resolved_member};
+ghost use Rattle.fb_resolve.specs.Resolved.{resolved_declaration, resolved_types, meaning_of_root};
 
 use crate::attributes::{BuiltInAttribute, field_attributes, number_called};
 use crate::defaults::given_by;
 use crate::enums::has_flags;
 use crate::ids::Slots;
-use crate::meanings::Meaning;
+use crate::meanings::{Meaning, type_name};
 use crate::members::member_name;
 use crate::outline::{Outline, RootRead, TypeRead};
-use crate::paths::Paths;
-use crate::repeated_names::repeated_numbers;
 use crate::resolved::{
     ResolvedDecl, ResolvedEnum, ResolvedField, ResolvedMember, ResolvedStruct, ResolvedTable,
     ResolvedType, ResolvedUnion, ResolvedValue,
@@ -31,8 +25,7 @@ use crate::resolved::{
 use crate::scope::Scope;
 use crate::slots::code_of;
 use crate::value_numbers::{TypesRead, values_of};
-use fb_scopes::Scopes;
-use fb_syntax::{Decls, Field, TableDecl, TypeDecl, UnionMember};
+use fb_syntax::{Field, TypeDecl, UnionMember};
 use std::alloc::{AllocError, Global};
 
 impl<'d, 's> Scope<'_, 'd, 's> {
@@ -41,14 +34,14 @@ impl<'d, 's> Scope<'_, 'd, 's> {
         alloc: Global,
         fields: &'d [Field<'s>],
     ) -> Result<Vec<ResolvedField<'d, 's>>, AllocError>
-        requires scopes { AreScopes self.scopes.now (paths_of_types self.types.types.now) }
-        requires used { AreUses (names_of self.scopes.now) (uses_of_fields fields.now) }
+        requires scopes { AreScopes self.types.scopes.now (paths_of_types self.types.types.now) }
+        requires used { AreFieldUses (names_of self.types.scopes.now) fields.now }
         ensures { IfOk result (λ v. v.items
             ≡ resolved_fields self.entry.types.types.now (option_copied self.entry.name) fields.now) }
     {
         let mut resolved = Vec::with_capacity(alloc, fields.len())?;
         for field in fields {
-            let meaning = self.meaning_in(&field.kind);
+            let meaning = self.meaning(type_name(&field.kind).as_str());
             let default = field.default.as_ref();
             resolved.push(ResolvedField {
                 field,
@@ -61,56 +54,15 @@ impl<'d, 's> Scope<'_, 'd, 's> {
         Ok(resolved)
     }
 
-    fn resolved_table(
-        self,
-        alloc: Global,
-        declared: &'d TableDecl<'s>,
-    ) -> Result<ResolvedTable<'d, 's>, AllocError>
-        requires scopes { AreScopes self.scopes.now (paths_of_types self.types.types.now) }
-        requires used { AreUses (names_of self.scopes.now) (uses_of_fields declared.now.fields) }
-        ensures { IfOk result (λ t. t
-            ≡ resolved_table self.entry.types.types.now (option_copied self.entry.name) declared.now) }
-    {
-        let fields = self.resolved_fields(alloc, declared.fields.as_slice())?;
-        let slots = Slots::of(alloc, fields.as_slice())?;
-        Ok(ResolvedTable {
-            declared,
-            fields,
-            slots,
-        })
-    }
-
-    fn resolved_struct(
-        self,
-        alloc: Global,
-        declared: &'d TableDecl<'s>,
-    ) -> Result<ResolvedStruct<'d, 's>, AllocError>
-        requires scopes { AreScopes self.scopes.now (paths_of_types self.types.types.now) }
-        requires used { AreUses (names_of self.scopes.now) (uses_of_fields declared.now.fields) }
-        ensures { IfOk result (λ s. s
-            ≡ resolved_table self.entry.types.types.now (option_copied self.entry.name) declared.now) }
-    {
-        let fields = self.resolved_fields(alloc, declared.fields.as_slice())?;
-        let force_align = number_called(
-            BuiltInAttribute::ForceAlign,
-            declared.attributes.as_slice(),
-        );
-        Ok(ResolvedStruct {
-            declared,
-            fields,
-            force_align,
-        })
-    }
-
     fn resolved_members(
         self,
         alloc: Global,
         members: &'d [UnionMember<'s>],
     ) -> Result<Vec<ResolvedMember<'d, 's>>, AllocError>
-        requires scopes { AreScopes self.scopes.now (paths_of_types self.types.types.now) }
-        requires used { AreUses (names_of self.scopes.now) (uses_of_members members.now) }
+        requires scopes { AreScopes self.types.scopes.now (paths_of_types self.types.types.now) }
+        requires used { AreMemberUses (names_of self.types.scopes.now) members.now }
         ensures { IfOk result (λ v. v.items
-            ≡ resolved_members self.entry.types.types.now (option_copied self.entry.name) members.now) }
+            ≡ map (resolved_member self.entry.types.types.now (option_copied self.entry.name)) members.now) }
     {
         let mut resolved = Vec::with_capacity(alloc, members.len())?;
         for member in members {
@@ -131,16 +83,31 @@ impl<'d, 's> Scope<'_, 'd, 's> {
         declaration: &'d TypeDecl<'s>,
         values: Vec<ResolvedValue<'d, 's>>,
     ) -> Result<ResolvedDecl<'d, 's>, AllocError>
-        requires scopes { AreScopes self.scopes.now (paths_of_types self.types.types.now) }
-        requires used { AreUses (names_of self.scopes.now) (uses_of declaration.now) }
+        requires scopes { AreScopes self.types.scopes.now (paths_of_types self.types.types.now) }
+        requires used { AreUses (names_of self.types.scopes.now) declaration.now }
         requires values { values.items ≡ values_declared declaration.now }
         ensures { IfOk result (λ d. d
             ≡ resolved_declaration self.entry.types.types.now (option_copied self.entry.name)
             declaration.now) }
     {
         Ok(match declaration {
-            TypeDecl::Table(table) => ResolvedDecl::Table(self.resolved_table(alloc, table)?),
-            TypeDecl::Struct(table) => ResolvedDecl::Struct(self.resolved_struct(alloc, table)?),
+            TypeDecl::Table(declared) => {
+                let fields = self.resolved_fields(alloc, declared.fields.as_slice())?;
+                let slots = Slots::of(alloc, fields.as_slice())?;
+                ResolvedDecl::Table(ResolvedTable {
+                    declared,
+                    fields,
+                    slots,
+                })
+            }
+            TypeDecl::Struct(declared) => {
+                let attributes = declared.attributes.as_slice();
+                ResolvedDecl::Struct(ResolvedStruct {
+                    declared,
+                    fields: self.resolved_fields(alloc, declared.fields.as_slice())?,
+                    force_align: number_called(BuiltInAttribute::ForceAlign, attributes),
+                })
+            }
             TypeDecl::Enum(declared) => ResolvedDecl::Enum(ResolvedEnum {
                 declared,
                 underlying: self.meaning(declared.underlying.as_str()),
@@ -155,22 +122,21 @@ impl<'d, 's> Scope<'_, 'd, 's> {
     }
 }
 
-/// Each type with what the names in its declaration mean, where these are each type's values and the number of its
-/// namespace's path.
+/// Each type with what the names in its declaration mean, where these are each type's values and the
+/// number of its namespace's path.
 fn resolved_types<'t, 'd, 's>(
     alloc: Global,
     types: &'t [TypeRead<'d, 's>],
-    numbered: TypesRead<'_, 'd, 's>,
+    known: TypesRead<'_, 'd, 's>,
     values: Vec<Vec<ResolvedValue<'d, 's>>>,
-    scopes: &Scopes<'d>,
-    numbers: &[usize],
+    namespaces: &[usize],
 ) -> Result<Vec<ResolvedType<'t, 'd, 's>>, AllocError>
-    requires numbered { numbered.types.now ≡ types.now }
+    requires known { known.types.now ≡ types.now }
+    requires scopes { AreScopes known.scopes.now (paths_of_types types.now) }
     requires values { AreValues types.now values.items }
-    requires scopes { AreScopes scopes.now (paths_of_types types.now) }
-    requires numbers { AllZip (λ n r. IsPath (tree_of scopes.now) n (words_of_scope r.scope))
-        numbers.now types.now }
-    requires uses { All (λ r. AreUses (names_of scopes.now) (uses_of r.declaration)) types.now }
+    requires namespaces { AllZip (λ n r. IsPath (tree_of known.scopes.now) n (words_of_scope r.scope))
+        namespaces.now types.now }
+    requires uses { All (λ r. AreUses (names_of known.scopes.now) r.declaration) types.now }
     ensures { IfOk result (λ v. v.items ≡ resolved_types types.now) }
 {
     let mut resolved = Vec::with_capacity(alloc, types.len())?;
@@ -180,9 +146,8 @@ fn resolved_types<'t, 'd, 's>(
             unreachable!()
         };
         let scope = Scope {
-            types: numbered,
-            scopes,
-            path: numbers[number],
+            types: known,
+            path: namespaces[number],
             name: read.scope,
         };
         let declaration = scope.resolved_declaration(alloc, read.declaration, values)?;
@@ -195,14 +160,12 @@ fn resolved_types<'t, 'd, 's>(
 /// known where there is no root.
 fn meaning_of_root<'d>(
     types: TypesRead<'_, 'd, '_>,
-    scopes: &Scopes<'d>,
-    number: usize,
+    path: usize,
     root: Option<&RootRead<'d, '_>>,
 ) -> Meaning
-    requires scopes { AreScopes scopes.now (paths_of_types types.types.now) }
-    requires number { ForSome (option_copied root)
-        (λ r. IsPath (tree_of scopes.now) number (words_of_scope r.scope)) }
-    requires used { ForSome (option_copied root) (λ r. IsUse (names_of scopes.now) r.name.bytes) }
+    requires scopes { AreScopes types.scopes.now (paths_of_types types.types.now) }
+    requires root { IsRootPlaced (tree_of types.scopes.now) (names_of types.scopes.now) path
+        (option_copied root) }
     ensures { result ≡ meaning_of_root types.entry.types.now (option_copied root.entry) }
 {
     let Some(root) = root else {
@@ -210,8 +173,7 @@ fn meaning_of_root<'d>(
     };
     let scope = Scope {
         types,
-        scopes,
-        path: number,
+        path,
         name: root.scope,
     };
     let name = root.name;
@@ -235,33 +197,24 @@ impl<'t, 'd, 's> Resolved<'t, 'd, 's> {
     /// The types of the text of this outline. The only error is a refused allocation.
     pub fn of(
         alloc: Global,
-        decls: &'d Decls<'s>,
         outline: &'t Outline<'d, 's>,
     ) -> Result<Resolved<'t, 'd, 's>, AllocError>
-        requires { outline.now ≡ outline_of decls.now }
         ensures { IfOk result (λ r. r.outline.now ≡ outline.now) }
     {
-        let Paths {
-            tree,
-            used,
-            scopes: numbers,
-            full_names,
-            root,
-        } = Paths::of(alloc, decls)?;
-        let names = full_names.as_slice();
-        let repeats = repeated_numbers(alloc, names, tree.len())?;
-        let scopes = Scopes::of(alloc, tree, used, names)?;
         let types = outline.types.as_slice();
+        let names = &outline.names;
         let (values, value_numbers) = values_of(alloc, types)?;
-        let numbered = TypesRead {
+        let known = TypesRead {
             types,
             values: &value_numbers,
+            scopes: &names.scopes,
         };
+        let namespaces = names.namespaces.as_slice();
         Ok(Resolved {
             outline,
-            types: resolved_types(alloc, types, numbered, values, &scopes, numbers.as_slice())?,
-            repeats,
-            root: meaning_of_root(numbered, &scopes, root, outline.root.as_ref()),
+            types: resolved_types(alloc, types, known, values, namespaces)?,
+            repeats: names.repeats.clone()?,
+            root: meaning_of_root(known, names.root, outline.root.as_ref()),
         })
     }
 }

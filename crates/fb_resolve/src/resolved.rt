@@ -29,7 +29,7 @@ pub struct ResolvedField<'d, 's> {
 
 impl<'d, 's> Model for ResolvedField<'d, 's> {
     ghost use Rattle.fb_resolve.specs.ResolvedFields.{ResolvedField as Resolved};
-    ghost use Rattle.fb_resolve.specs.UnionCodes.{IsCodeOf};
+    ghost use Rattle.fb_resolve.specs.SlotsRead.{IsCodeOf};
 
     ghost Value = { Resolved };
 

@@ -3,9 +3,8 @@ ghost use Rattle.std.specs.Prelude.{◌≡◌, ◌<◌, ◌-◌, ◌++◌, ◌^�
 ghost use Rattle.std.specs.Prelude.{Some, string_bytes};
 ghost use Rattle.std.specs.Option.{option_map};
 ghost use Rattle.fb_schema.specs.Seen.{field_seen};
-ghost use Rattle.fb_resolve.specs.SlotsRead.{union_of, union_in, value_slot, name_of_code, code_slot};
-ghost use Rattle.fb_resolve.specs.SlotsRead.{slots_of_field, slots_in_order};
-ghost use Rattle.fb_resolve.specs.UnionCodes.{IsCodeOf};
+ghost use Rattle.fb_resolve.specs.SlotsRead.{union_in, value_slot, name_of_code, code_slot};
+ghost use Rattle.fb_resolve.specs.SlotsRead.{IsCodeOf, slots_of_field, slots_in_order};
 
 use crate::defaults::Given;
 use crate::meanings::Meaning;
@@ -14,16 +13,6 @@ use crate::structs::shape_of;
 use fb_schema::{FieldInfo, Kind, Shape, TypeId};
 use fb_syntax::{Field, FieldType};
 use std::alloc::{AllocError, Global};
-
-/// The union of a union's use.
-fn union_of(kind: &FieldType<'_>, meaning: Meaning) -> Option<TypeId>
-    ensures { result ≡ union_of kind.now meaning }
-{
-    match (kind, meaning) {
-        (FieldType::One(_), Meaning::Known(Kind::Union(union))) => Some(union),
-        _ => None,
-    }
-}
 
 fn value_slot(
     alloc: Global,
@@ -68,21 +57,20 @@ pub(crate) fn code_of(
 ) -> Result<Option<UnionCode>, AllocError>
     ensures { IfOk result (IsCodeOf field.now meaning) }
 {
-    let Some(union) = union_of(&field.kind, meaning) else {
-        return Ok(None);
-    };
-    let name = name_of_code(alloc, field.name.text)?;
-    Ok(Some(UnionCode { union, name }))
+    match (&field.kind, meaning) {
+        (FieldType::One(_), Meaning::Known(Kind::Union(union))) => {
+            let name = name_of_code(alloc, field.name.text)?;
+            Ok(Some(UnionCode { union, name }))
+        }
+        _ => Ok(None),
+    }
 }
 
 /// The union of a union's field.
 pub fn union_in(resolved: &ResolvedField<'_, '_>) -> Option<TypeId>
     ensures { result ≡ union_in resolved.now }
 {
-    match &resolved.code {
-        Some(code) => Some(code.union),
-        None => None,
-    }
+    resolved.code.as_ref().map(|code| code.union)
 }
 
 /// The slot of the code of a union's field.
@@ -91,19 +79,17 @@ fn code_slot(resolved: ResolvedField<'_, '_>, slot: u64) -> FieldInfo
     ensures { Some (field_seen result)
         ≡ option_map (λ u. code_slot resolved.entry u slot) (union_in resolved.entry) }
 {
-    let ResolvedField {
-        attributes,
-        code,
-        ..
-    } = resolved;
-    let Some(code) = code else { unreachable!() };
+    let deprecated = resolved.attributes.deprecated;
+    let Some(code) = resolved.code else {
+        unreachable!()
+    };
     FieldInfo {
         name: code.name,
         shape: Shape::One(Kind::Code(code.union)),
         default: 0,
         optional: false,
         required: false,
-        deprecated: attributes.deprecated,
+        deprecated,
         slot,
     }
 }

@@ -1,17 +1,17 @@
 //! The numbers of enums' values, by their names.
-ghost use Rattle.std.specs.Prelude.{◌≡◌, List, Option, IfOk, OnOk};
+ghost use Rattle.std.specs.Prelude.{◌≡◌, List, Option, IfOk, map};
 ghost use Rattle.fb_schema.specs.Schema.{Name};
 ghost use Rattle.fb_resolve.specs.Outline.{TypeRead};
-ghost use Rattle.fb_resolve.specs.EnumsRead.{resolved_values, values_declared, values_read, values_in};
-ghost use Rattle.fb_resolve.specs.EnumsRead.{number_named};
-ghost use Rattle.fb_resolve.specs.ValueNumbers.{number_of, number_in, NotesNumber, IndexesValues};
+ghost use Rattle.fb_resolve.specs.EnumsRead.{values_declared, values_in, value_over, number_named};
+ghost use Rattle.fb_resolve.specs.ValueNumbers.{number_of, number_in, IndexesValues};
 ghost use Rattle.fb_resolve.specs.ValueNumbers.{AreValues};
 
-use crate::enums::{has_flags, underlying, value_number, values_declared};
+use crate::enums::{has_flags, resolved_values, underlying, value_number};
 use crate::outline::TypeRead;
 use crate::resolved::ResolvedValue;
 use fb_schema::Base;
-use fb_syntax::{EnumDecl, TypeDecl};
+use fb_scopes::Scopes;
+use fb_syntax::TypeDecl;
 use std::alloc::{AllocError, Global};
 use std::collections::BTreeMap;
 
@@ -32,11 +32,12 @@ impl<'s> ValueNumbers<'s> {
     }
 }
 
-/// The types of a text, and the numbers of the values of enums.
+/// The types of a text, the numbers of the values of enums, and what names mean.
 #[derive(Clone, Copy)]
 pub(crate) struct TypesRead<'t, 'd, 's> {
     pub types: &'t [TypeRead<'d, 's>],
     pub values: &'t ValueNumbers<'s>,
+    pub scopes: &'t Scopes<'d>,
     ghost numbered: { IndexesValues values.now types.now },
 }
 
@@ -52,64 +53,50 @@ pub(crate) fn values_of<'d, 's>(
     let mut values = Vec::with_capacity(alloc, types.len())?;
     let mut numbers = Vec::with_capacity(alloc, types.len())?;
     for read in types {
-        let declared = values_declared(alloc, read.declaration)?;
-        numbers.push(numbers_in(alloc, read.declaration, declared.as_slice())?)?;
+        let (declared, by_name) = values_in(alloc, read.declaration)?;
         values.push(declared)?;
+        numbers.push(by_name)?;
     }
     Ok((values, ValueNumbers { numbers }))
 }
 
-/// The numbers of the values of a type, where these are the values.
-fn numbers_in<'s>(
+/// The values of a type with their numbers, and these numbers by their names.
+#[tactic(auto, unfolding(crate::specs::EnumsRead::number_named))]
+fn values_in<'d, 's>(
     alloc: Global,
-    declaration: &TypeDecl<'s>,
-    values: &[ResolvedValue<'_, 's>],
-) -> Result<BTreeMap<&'s [u8], i128>, AllocError>
-    requires { values.now ≡ values_declared declaration.now }
-    ensures { (types : List TypeRead) (scope : Option Name) (name : Name) → IfOk result
-        (λ m. number_of m name ≡ number_named (values_in types scope declaration.now) name) }
+    declaration: &'d TypeDecl<'s>,
+) -> Result<(Vec<ResolvedValue<'d, 's>>, BTreeMap<&'s [u8], i128>), AllocError>
+    ensures values { IfOk result (λ v. v.0.items ≡ values_declared declaration.now) }
+    ensures numbers { (types : List TypeRead) (scope : Option Name) (name : Name) → IfOk result
+        (λ v. number_of v.1 name ≡ number_named (values_in types scope declaration.now) name) }
 {
-    match declaration {
-        TypeDecl::Enum(read) => enum_numbers(alloc, read, values),
-        _ => Ok(BTreeMap::new(alloc)),
-    }
+    let TypeDecl::Enum(read) = declaration else {
+        return Ok((Vec::new(alloc), BTreeMap::new(alloc)));
+    };
+    let values = resolved_values(alloc, read.values.as_slice())?;
+    let base = underlying(read).unwrap_or(Base::U8);
+    let numbers = numbers_over(alloc, base, has_flags(read), values.as_slice())?;
+    Ok((values, numbers))
 }
 
-/// The numbers of the values of an enum, where these are the values.
-fn enum_numbers<'s>(
+/// The numbers that these values have in an enum over a type, by their names, of which the first stands.
+#[tactic(auto, unfolding(crate::specs::EnumsRead::number_named))]
+fn numbers_over<'s>(
     alloc: Global,
-    read: &EnumDecl<'s>,
+    base: Base,
+    flags: bool,
     values: &[ResolvedValue<'_, 's>],
 ) -> Result<BTreeMap<&'s [u8], i128>, AllocError>
-    requires { values.now ≡ resolved_values read.now.values }
-    ensures { (types : List TypeRead) (scope : Option Name) (name : Name) → IfOk result
-        (λ m. number_of m name ≡ number_named (values_read types scope read.now) name) }
+    ensures { (name : Name) → IfOk result
+        (λ m. number_of m name ≡ number_named (map (value_over base flags) values.now) name) }
 {
-    let base = underlying(read).unwrap_or(Base::U8);
-    let flags = has_flags(read);
     let mut numbers = BTreeMap::new(alloc);
     for resolved in values {
         let value = resolved.value;
         let name = value.name.text.as_bytes();
-        note(
-            &mut numbers,
-            name,
-            value_number(base, flags, resolved.number),
-        )?;
+        if !numbers.contains_key(name) {
+            numbers.insert(name, value_number(base, flags, resolved.number))?;
+        }
     }
     Ok(numbers)
-}
-
-/// Notes the number of a name that has none yet.
-fn note<'s>(
-    numbers: &mut BTreeMap<&'s [u8], i128>,
-    name: &'s [u8],
-    number: i128,
-) -> Result<(), AllocError>
-    ensures { OnOk result (NotesNumber numbers.old numbers.new name.now number) }
-{
-    if !numbers.contains_key(name) {
-        numbers.insert(name, number)?;
-    }
-    Ok(())
 }

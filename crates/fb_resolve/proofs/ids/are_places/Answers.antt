@@ -9,7 +9,8 @@ use Rattle.fb_resolve.proofs.ids.are_places.Goals as goal
 
 pub returns : goal.returns
 returns c =
-    let ns = c.args.numbers.now in let taken = c.loop-number.taken.items in
+    let ns = c.args.numbers.now in
+    let taken = c.loop-number.taken.items in
     let among = λ (k : ℕ). list_any (λ n. k == n) ns in
     let whole : take c.loop-number.number-index ns ≡ ns = take_all c.loop-number.number-index ns (omega (arith, c.loop-number-test.false)) in
     let marks : taken ≡ map among (range_with_len 0 (length ns)) = fill_by_all among taken (length ns) false c.loop-number.invariant.count

@@ -1,19 +1,15 @@
-use Rattle.std.proofs.Common.{rules, ◌≡◌, map}
+use Rattle.std.proofs.Common.{arith, rules, ◌≡◌, map}
 use Rattle.std.proofs.lemmas.List.Sorted.{IsNonDecreasingBy-from_sort_by_key}
-use Rattle.std.proofs.lemmas.Result.{IfOk-weaker}
+use Rattle.std.proofs.lemmas.Grind.{common_steps}
 use Rattle.fb_schema.specs.Seen.{field_seen}
-use Rattle.fb_resolve.specs.SlotsRead.{slots_in_order, slots_read, AreInPlace}
-use Rattle.fb_resolve.proofs.InOrder.{placed_in_order, placed_by_id}
+use Rattle.fb_resolve.specs.SlotsRead.{slots_by_id}
+use Rattle.fb_resolve.proofs.InOrder.{placed_by_id}
 use Rattle.fb_resolve.proofs.ids.table_slots.Goals as goal
-
-pub returns-in-InOrder : goal.returns-in-InOrder
-returns-in-InOrder c =
-    let fields = c.args.table.fields in
-    IfOk-weaker c.slots_in_order.result (λ v. map field_seen v.items ≡ slots_in_order 0 fields) (λ v. AreInPlace (slots_read fields) (map field_seen v.items))
-    (λ v h. placed_in_order fields v.items (grind rules) h)
-    (grind rules)
 
 pub returns-in_ok-sort_by_key-in-ById : goal.returns-in_ok-sort_by_key-in-ById
 returns-in_ok-sort_by_key-in-ById c =
+    let fields = c.args.table.fields in
+    let slots = c.loop-field.slots.items in
+    let read : map field_seen slots ≡ slots_by_id fields = grind (arith, common_steps, c.loop-field.invariant) in
     let up = IsNonDecreasingBy-from_sort_by_key (λ s. s.slot) _ c.in_ok-sort_by_key-in-ById.ensures.sorted (λ a r q k. search rules) in
-    placed_by_id c.args.table.fields c.in_ok-slots-in-ById.slots.items c.sort_by_key.new.self.items (grind rules) c.requires (grind rules) c.sort_by_key.ensures.permutation up
+    placed_by_id fields slots c.sort_by_key.new.self.items (grind rules) c.requires read c.sort_by_key.ensures.permutation up

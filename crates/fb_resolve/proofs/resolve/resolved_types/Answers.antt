@@ -1,24 +1,22 @@
-use Rattle.std.proofs.Common.{rules, ◌≡◌, ◌+◌, ◌∷◌, drop, map, ap, sym, ◌∙◌, arith}
+use Rattle.std.proofs.Common.{rules, ◌≡◌, ◌+◌, ◌∷◌, drop, ap, sym, ◌∙◌, arith}
 use Rattle.std.proofs.lemmas.Grind.{common_steps}
 use Rattle.std.proofs.lemmas.List.{drop_more}
 use Rattle.std.proofs.lemmas.Slice.Zip.{AllZip-long}
 use Rattle.fb_scopes.specs.Scopes.{tree_of}
-use Rattle.fb_resolve.specs.EnumsRead.{values_declared}
-use Rattle.fb_resolve.specs.Outline.{TypeRead}
 use Rattle.fb_resolve.specs.Scopes.{words_of_scope}
 use Rattle.fb_resolve.specs.Paths.{IsPath}
 use Rattle.fb_resolve.proofs.PathsKept.{zip_at}
 use Rattle.fb_resolve.proofs.resolve.resolved_types.Goals as goal
 
-pub bounds-numbers-number : goal.bounds-numbers-number
-bounds-numbers-number c =
-    omega (arith, AllZip-long (λ n r. IsPath (tree_of c.args.scopes.now) n (words_of_scope r.scope)) c.args.numbers.now c.args.types.now c.requires.numbers)
+pub bounds-namespaces-number : goal.bounds-namespaces-number
+bounds-namespaces-number c =
+    omega (arith, AllZip-long (λ n r. IsPath (tree_of c.args.known.scopes.now) n (words_of_scope r.scope)) c.args.namespaces.now c.args.types.now c.requires.namespaces)
 
 pub invariant_of-scope : goal.invariant_of-scope
 invariant_of-scope c =
-    let there = zip_at (λ n r. IsPath (tree_of c.args.scopes.now) n (words_of_scope r.scope))
-    c.args.numbers.now c.args.types.now c.loop-number.number 0 c.index-types-number.result
-    c.requires.numbers c.loop-number-test.true in
+    let there = zip_at (λ n r. IsPath (tree_of c.args.known.scopes.now) n (words_of_scope r.scope))
+    c.args.namespaces.now c.args.types.now c.loop-number.number 0 c.index-types-number.result
+    c.requires.namespaces c.loop-number-test.true in
     record { here = grind (rules, there) }
 
 pub loop-number-preserved : goal.loop-number-preserved
@@ -28,10 +26,5 @@ loop-number-preserved c =
     let item = c.index-types-number.result in
     let next : drop i types ≡ item ∷ drop (i + 1) types =
     drop_more types i item c.loop-number-test.true ∙ ap (λ r. r ∷ drop (i + 1) types) (sym c.index-types-number.is) in
-    let declared = λ (r : TypeRead). values_declared r.declaration in
-    let values = c.in-Some.values in
-    let more = c.next.new.self.rest.items in
-    let split : c.loop-number.values.rest.items ≡ values ∷ more = grind rules in
-    let both : values.items ∷ map (λ v. v.items) more ≡ declared item ∷ map declared (drop (i + 1) types) =
-    sym (ap (map (λ v. v.items)) split) ∙ c.loop-number.invariant.left ∙ ap (map declared) next in
-    record { so_far = grind (arith, common_steps, next, c.loop-number.invariant.so_far); left = ap (drop 1) both }
+    let split : c.loop-number.values.rest.items ≡ c.in-Some.values ∷ c.next.new.self.rest.items = grind rules in
+    grind (arith, common_steps, next, split)

@@ -1,22 +1,24 @@
-use Rattle.std.proofs.Common.{◌≡◌, length, arith, rules, refl}
+use Rattle.std.proofs.Common.{arith, rules, take, subst}
+use Rattle.std.specs.List.{AllZip}
 use Rattle.std.proofs.lemmas.Grind.{common_steps}
-use Rattle.std.proofs.lemmas.Option.{slice_get_read}
-use Rattle.fb_schema.specs.Schema.{Name}
-use Rattle.fb_resolve.specs.EnumsRead.{values_at, number_named}
-use Rattle.fb_resolve.specs.ValueNumbers.{number_of}
-use Rattle.fb_resolve.proofs.Numbers.{each_more, numbers_all}
+use Rattle.std.proofs.lemmas.List.{take_all, take_more}
+use Rattle.std.proofs.lemmas.Slice.Zip.{all_zipped_more}
+use Rattle.fb_resolve.proofs.Numbers.{HasNumbers, numbers_all}
 use Rattle.fb_resolve.proofs.value_numbers.values_of.Goals as goal
 
 pub loop-read-preserved : goal.loop-read-preserved
 loop-read-preserved c =
-    let here = slice_get_read c.args.types.now (length c.args.types.now) c.loop-read.read-index c.read-item.result refl c.loop-read-test.true c.read-item.is in record {
+    let types = c.args.types.now in
+    let i = c.loop-read.read-index in
+    let r = c.read-item.result in record {
       values = grind (arith, common_steps);
-      long = grind (arith, common_steps);
-      each = rw c.in_ok-push.ensures.items (each_more (λ t m. (name : Name) → number_of m name ≡ number_named (values_at c.args.types.now t) name)
-          c.loop-read.numbers.items c.in_ok-numbers_in.field-0 (λ name. rw (c.loop-read.invariant.long, here) (grind (rules, c.in_ok-numbers_in.ensures c.args.types.now c.read-item.result.scope name))) c.loop-read.invariant.each);
+      numbers = rw (c.in_ok-push-2.ensures.items, take_more types i r c.loop-read-test.true, ← c.read-item.is)
+          (all_zipped_more (HasNumbers types) c.loop-read.numbers.items (take i types) c.in_ok-declared.by_name r c.loop-read.invariant.numbers
+          (λ name. grind (rules, c.in_ok-declared.ensures.numbers types r.scope name)));
     }
 
 pub returns-clause-numbers : goal.returns-clause-numbers
 returns-clause-numbers c =
-    let all : length c.loop-read.numbers.items ≡ length c.args.types.now = omega (arith, c.loop-read.invariant.long, c.loop-read-test.false, c.loop-read.auto.read-index-end) in
-    numbers_all c.args.types.now (record { numbers = c.loop-read.numbers }) all c.loop-read.invariant.each
+    let types = c.args.types.now in
+    let maps = c.loop-read.numbers.items in
+    numbers_all types types maps (subst (AllZip (HasNumbers types) maps) (take_all c.loop-read.read-index types c.loop-read-test.false) c.loop-read.invariant.numbers)

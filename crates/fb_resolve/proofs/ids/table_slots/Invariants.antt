@@ -1,7 +1,7 @@
 use Rattle.std.proofs.Common.{◌≡◌, ◌++◌, map}
 use Rattle.fb_schema.specs.Seen.{field_seen}
 use Rattle.fb_resolve.specs.SlotsRead.{slots_by_id}
-use Rattle.fb_resolve.proofs.ids.slots_by_id.Given as goal
+use Rattle.fb_resolve.proofs.ids.table_slots.Given as goal
 
 abbrev pub invariant-loop-field : goal.invariant-loop-field
-invariant-loop-field l = map field_seen l.slots.items ++ slots_by_id l.field-iterator.rest.items ≡ slots_by_id l.fn.fields.items
+invariant-loop-field l = map field_seen l.slots.items ++ slots_by_id l.field-iterator.rest.items ≡ slots_by_id l.fn.table.fields

@@ -1,0 +1,34 @@
+use Rattle.std.proofs.Common.{rules}
+use Rattle.std.specs.Option.{option_copied}
+use Rattle.std.proofs.lemmas.List.Elements.{All-push}
+use Rattle.std.proofs.lemmas.Slice.Zip.{all_zipped_more}
+use Rattle.fb_scopes.specs.Words.{words}
+use Rattle.fb_resolve.specs.Outline.{TypeRead, word_of, name_of_type}
+use Rattle.fb_resolve.specs.Scopes.{words_of_scope}
+use Rattle.fb_resolve.specs.Paths.{IsPath, AreUses}
+use Rattle.fb_resolve.proofs.PathsKept.{path_inside, placed_grown}
+use Rattle.fb_resolve.proofs.walk.Walk.with_type.Goals as goal
+
+pub invariant_of-self : goal.invariant_of-self
+invariant_of-self c =
+    let w = c.self.inside in
+    let tree = c.insert_words.new.self in
+    let used = c.note_uses.new.used in
+    let noted = c.in_ok-note_uses.ensures in
+    let made = c.in_ok-full_name.ensures in
+    let one : TypeRead = record { scope = option_copied w.scope; declaration = c.args.declaration.now } in
+    let full_name = c.in_ok-full_name.full_name in
+    let grown = placed_grown w tree used w.scope w.path made.tree made.kept noted.tree noted.kept (made.kept w.path _ c.self.invariant.scope) c.self.invariant in
+    let named : IsPath tree full_name (words (name_of_type one)) =
+    path_inside w.tree tree w.path full_name one.scope (word_of one.declaration).bytes c.self.invariant.scope (grind (rules, made.path)) in
+    record {
+      tree = grown.tree;
+      used = grown.used;
+      scope = grown.scope;
+      namespaces = rw (c.in_ok-push.ensures.items, c.in_ok-push-3.ensures.items)
+          (all_zipped_more (λ n r. IsPath tree n (words_of_scope r.scope)) w.namespaces.items w.types.items w.path one grown.namespaces grown.scope);
+      full_names = rw (c.in_ok-push-2.ensures.items, c.in_ok-push-3.ensures.items)
+          (all_zipped_more (λ n r. IsPath tree n (words (name_of_type r))) w.full_names.items w.types.items full_name one grown.full_names named);
+      uses = rw c.in_ok-push-3.ensures.items (All-push (λ r. AreUses used r.declaration) w.types.items one grown.uses noted.used);
+      root = grown.root;
+    }

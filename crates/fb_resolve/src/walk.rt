@@ -1,0 +1,190 @@
+//! One walk over a text's declarations.
+ghost use Rattle.std.specs.Prelude.{◌≡◌, ◌++◌, [], ◌∷◌, None, Some, IfOk, OnOk, map};
+ghost use Rattle.std.specs.Option.{option_copied};
+ghost use Rattle.fb_scopes.specs.PathTree.{IsTree, KeepsPaths};
+ghost use Rattle.fb_resolve.specs.Outline.{scope_named};
+ghost use Rattle.fb_resolve.specs.Paths.{IsUse, AreUses};
+
+use crate::basic_types::is_reserved;
+use crate::meanings::type_name;
+use crate::outline::{Names, Outline, RootRead, TypeRead, word_of};
+use crate::repeated_names::repeated_numbers;
+use fb_scopes::{PathTree, Scopes};
+use fb_syntax::{DottedName, Text, TypeDecl};
+use std::alloc::{AllocError, Global};
+use std::marker::Model;
+
+/// The types and the root that are declared so far, the paths of their namespaces and full names, and
+/// the names that they use for types.
+#[derive(Drop)]
+pub(crate) struct Walk<'d, 's> {
+    types: Vec<TypeRead<'d, 's>>,
+    root: Option<RootRead<'d, 's>>,
+    /// The namespace in force.
+    scope: Option<&'d str>,
+    /// The number of its path.
+    path: usize,
+    tree: PathTree<'d>,
+    used: PathTree<'d>,
+    /// Of each type the number of its namespace's path.
+    namespaces: Vec<usize>,
+    /// Of each type the number of its full name's path.
+    full_names: Vec<usize>,
+    /// The number of the path of the namespace in which the root is named.
+    root_path: usize,
+}
+
+impl<'d, 's> Model for Walk<'d, 's> {
+    ghost use Rattle.std.specs.Option.{option_copied};
+    ghost use Rattle.fb_resolve.specs.Outline.{Walked};
+
+    ghost Value = { Walked };
+
+    ghost use Rattle.fb_resolve.specs.Paths.{IsPlaced};
+
+    ghost view = { λ w. record { types = w.types.items; root = w.root; scope = option_copied w.scope } };
+
+    ghost invariant = { IsPlaced };
+}
+
+impl<'d, 's> Walk<'d, 's> {
+    /// Nothing is declared, and no namespace is in force.
+    pub(crate) fn new(alloc: Global) -> Walk<'d, 's>
+        ensures { result ≡ record { types = []; root = None; scope = None } }
+    {
+        Walk {
+            types: Vec::new(alloc),
+            root: None,
+            scope: None,
+            path: 0,
+            tree: PathTree::new(alloc),
+            used: PathTree::new(alloc),
+            namespaces: Vec::new(alloc),
+            full_names: Vec::new(alloc),
+            root_path: 0,
+        }
+    }
+
+    /// Another namespace is in force.
+    pub(crate) fn inside(
+        mut self,
+        name: Option<&'d DottedName<'_>>,
+    ) -> Result<Walk<'d, 's>, AllocError>
+        ensures { IfOk result
+            (λ w. w ≡ record self.entry { scope = scope_named (option_copied name.entry) }) }
+    {
+        let Some(name) = name else {
+            self.scope = None;
+            self.path = 0;
+            return Ok(self);
+        };
+        let name = name.as_str();
+        self.path = self.tree.insert_words(0, name)?;
+        self.scope = Some(name);
+        Ok(self)
+    }
+
+    /// A type is declared.
+    pub(crate) fn with_type(
+        mut self,
+        declaration: &'d TypeDecl<'s>,
+    ) -> Result<Walk<'d, 's>, AllocError>
+        ensures { IfOk result (λ w. w ≡ record self.entry {
+          types = self.entry.types
+              ++ record { scope = self.entry.scope; declaration = declaration.now } ∷ [];
+        }) }
+    {
+        note_uses(&mut self.used, declaration)?;
+        let word = word_of(declaration).text;
+        let path = self.path;
+        let scope = self.scope;
+        let full_name = self.tree.insert_words(path, word)?;
+        self.namespaces.push(path)?;
+        self.full_names.push(full_name)?;
+        self.types.push(TypeRead { scope, declaration })?;
+        Ok(self)
+    }
+
+    /// The root is named.
+    pub(crate) fn with_root(mut self, name: &'d DottedName<'s>) -> Result<Walk<'d, 's>, AllocError>
+        ensures { IfOk result (λ w. w ≡ record self.entry
+            { root = Some (record { scope = self.entry.scope; name = name.now }) }) }
+    {
+        note_use(&mut self.used, name.as_str())?;
+        let scope = self.scope;
+        self.root = Some(RootRead { scope, name });
+        self.root_path = self.path;
+        Ok(self)
+    }
+
+    /// All is declared. The only error is a refused allocation.
+    pub(crate) fn outline(
+        self,
+        alloc: Global,
+        attributes: Vec<&'s str>,
+        identifier: Option<&'d Text<'s>>,
+        text_len: u64,
+    ) -> Result<Outline<'d, 's>, AllocError>
+        ensures { IfOk result (λ o. o ≡ record {
+          types = self.entry.types;
+          attributes = map (λ a. a.now) attributes.entry.items;
+          root = self.entry.root;
+          identifier = option_copied identifier.entry;
+          text_len = text_len;
+        }) }
+    {
+        let numbers = self.full_names;
+        let full_names = numbers.as_slice();
+        let repeats = repeated_numbers(alloc, full_names, self.tree.len())?;
+        let names = Names {
+            scopes: Scopes::of(alloc, self.tree, self.used, full_names)?,
+            namespaces: self.namespaces,
+            root: self.root_path,
+            repeats,
+        };
+        Ok(Outline {
+            types: self.types,
+            attributes,
+            root: self.root,
+            identifier,
+            text_len,
+            names,
+        })
+    }
+}
+
+/// Notes a use of a type's name, unless it is that of a basic type.
+fn note_use<'d>(used: &mut PathTree<'d>, name: &'d str) -> Result<(), AllocError>
+    requires { IsTree used.now }
+    ensures tree { OnOk result (IsTree used.new) }
+    ensures kept { OnOk result (KeepsPaths used.old used.new) }
+    ensures used { OnOk result (IsUse used.new name.now) }
+{
+    if !is_reserved(name) {
+        used.insert_reversed(name)?;
+    }
+    Ok(())
+}
+
+/// Notes all names that a type's declaration uses for types.
+fn note_uses<'d>(used: &mut PathTree<'d>, declaration: &'d TypeDecl<'_>) -> Result<(), AllocError>
+    requires { IsTree used.now }
+    ensures tree { OnOk result (IsTree used.new) }
+    ensures kept { OnOk result (KeepsPaths used.old used.new) }
+    ensures used { OnOk result (AreUses used.new declaration.now) }
+{
+    match declaration {
+        TypeDecl::Table(read) | TypeDecl::Struct(read) => {
+            for field in read.fields.as_slice() {
+                note_use(used, type_name(&field.kind).as_str())?;
+            }
+        }
+        TypeDecl::Enum(read) => note_use(used, read.underlying.as_str())?,
+        TypeDecl::Union(read) => {
+            for member in read.members.as_slice() {
+                note_use(used, member.table.as_str())?;
+            }
+        }
+    }
+    Ok(())
+}
