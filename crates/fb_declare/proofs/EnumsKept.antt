@@ -95,8 +95,10 @@ record IsValueRight (base : Base) (flags : Bool) (before : List ResolvedValue) (
 
 value_right : (base : Base) (flags : Bool) (before : List ResolvedValue) (v : ResolvedValue) → value_faults (Some base) flags before v ≡ [] → IsValueRight base flags before v
 value_right base flags before v h =
-    let named = is_again bytes_eq (λ w. w.value.name.bytes) before v in let again = is_again int_eq (λ w. w.number) before v in
-    let wrong = is_out_of_range (Some base) flags v.number in let at = v.value.name.at in
+    let named = is_again bytes_eq (λ w. w.value.name.bytes) before v in
+    let again = is_again int_eq (λ w. w.number) before v in
+    let wrong = is_out_of_range (Some base) flags v.number in
+    let at = v.value.name.at in
     let parts = both_none (when named (DuplicateName at)) (when (wrong || again) (BadEnumValue at)) h in
     let right = either-none wrong again (BadEnumValue at) parts.1 in
     record { name = when-none named (DuplicateName at) parts.0; written = not-false (may_be_written base flags v.number) right.0; number = right.1 }

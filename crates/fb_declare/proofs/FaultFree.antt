@@ -76,7 +76,8 @@ fields_right declared host fs h k d within =
 pub type_right : (types : List TypeRead) (declared : Name → Bool) (before : List ResolvedType) (r : ResolvedType) → type_behind types declared before r ≡ []
     → (is_again bytes_eq (λ q. name_of_type q.read) before r ≡ false) × (declaration_faults types declared (aligns_from types [] before) r.declaration ≡ [])
 type_right types declared before r h =
-    let name = word_of r.read.declaration in let again = is_again bytes_eq (λ q. name_of_type q.read) before r in
+    let name = word_of r.read.declaration in
+    let again = is_again bytes_eq (λ q. name_of_type q.read) before r in
     let parts = both_none (when (again || is_reserved name.bytes) (DuplicateName name.at)) (declaration_faults types declared (aligns_from types [] before) r.declaration) h in
     ((either-none again (is_reserved name.bytes) (DuplicateName name.at) parts.0).0, parts.1)
 
@@ -141,7 +142,8 @@ pub fields_distinct : (declared : Name → Bool) (host : FieldHost) (fs : List R
 unfolding IsDistinct
 fields_distinct declared host fs h = let names = names_of_field host in kept_behind (field_behind declared host) (λ gs. IsDistinct bytes_eq (flat_map names gs))
     (λ before f none differ.
-    let at = f.field.name.at in let met = flat_map names before in
+    let at = f.field.name.at in
+    let met = flat_map names before in
     subst (IsDistinct bytes_eq) (flat_map_more names [] before f)
     (kept_behind (name_again at) (IsDistinct bytes_eq) (λ ns n new apart. IsDistinct-push nat_list_eq_equiv ns n apart (when-none (is_among n ns) (DuplicateName at) new)) met (names f)
     (both_none (faults_behind (name_again at) met (names f)) (field_faults declared host f) none).0 differ)) [] fs h tt

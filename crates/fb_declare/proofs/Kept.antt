@@ -47,7 +47,8 @@ record IsMember (before : List ResolvedMember) (m : ResolvedMember) : Type 0 whe
 member_right : (before : List ResolvedMember) (m : ResolvedMember) → member_faults before m ≡ [] → IsMember before m
 member_right before m h =
     let at = m.member.table.at in
-    let called = bytes_eq m.name.bytes (codes "NONE") in let again = is_again bytes_eq (λ m. m.name.bytes) before m in
+    let called = bytes_eq m.name.bytes (codes "NONE") in
+    let again = is_again bytes_eq (λ m. m.name.bytes) before m in
     let parts = three_none (when (called || again) (DuplicateName m.name.at)) (use_faults m.meaning at) (when (is_none (table_of m.meaning) || nat_le 255 (length before)) (BadMember at)) h in
     let free = either-none called again (DuplicateName m.name.at) parts.0 in
     let few = either-none (is_none (table_of m.meaning)) (nat_le 255 (length before)) (BadMember at) parts.2 in

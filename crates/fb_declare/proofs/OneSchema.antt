@@ -34,7 +34,9 @@ same_body : (d : ResolvedDecl) (b c : DeclaredBody) → HasBody d b → HasBody 
 same_body (resolved.Table t) (table_body p) (table_body q) x y = ap table_body (same_slots (slots_read t.fields) p q x y)
 same_body (resolved.Struct s) (struct_body ps a) (struct_body qs b) x y = let parts : ps ≡ qs = x.0 ∙ sym y.0 in let force : a ≡ b = x.1 ∙ sym y.1 in cc
 same_body (resolved.Enum e) (enum_body a f vs) (enum_body b g ws) x y =
-    let base : a ≡ b = x.0 ∙ sym y.0 in let flags : f ≡ g = x.1 ∙ sym y.1 in let values : vs ≡ ws = x.2 ∙ sym y.2 in cc
+    let base : a ≡ b = x.0 ∙ sym y.0 in
+    let flags : f ≡ g = x.1 ∙ sym y.1 in
+    let values : vs ≡ ws = x.2 ∙ sym y.2 in cc
 same_body (resolved.Union u) (union_body ms) (union_body ns) x y = ap union_body (x ∙ sym y)
 same_body _ _ _ x y = grind arith
 
@@ -42,7 +44,9 @@ same_body _ _ _ x y = grind arith
 same_types : (rs : List ResolvedType) (ts us : List DeclaredType) → AllZip IsType rs ts → AllZip IsType rs us → ts ≡ us
 same_types [] [] [] x y = refl
 same_types (r ∷ rs) (t ∷ ts) (u ∷ us) x y =
-    let name : t.name ≡ u.name = x.0.name ∙ sym y.0.name in let body = same_body r.declaration t.body u.body x.0.body y.0.body in let rest = same_types rs ts us x.1 y.1 in
+    let name : t.name ≡ u.name = x.0.name ∙ sym y.0.name in
+    let body = same_body r.declaration t.body u.body x.0.body y.0.body in
+    let rest = same_types rs ts us x.1 y.1 in
     λ i. record { name = name i; body = body i } ∷ rest i
 same_types _ _ _ x y = grind arith
 

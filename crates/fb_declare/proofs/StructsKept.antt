@@ -54,7 +54,9 @@ pub alignment_right : (least n : ℕ) → is_alignment least (pos n) ≡ true �
 alignment_right least n h =
     let split = and_parts (list_any (λ a. a == n) alignments) (nat_le least n) h in
     let found = Any-from_list_any (λ a. a == n) alignments split.0 in
-    let k : ℕ = found.0 in let a : ℕ = found.1 in let within : k < 9 = found.2 in
+    let k : ℕ = found.0 in
+    let a : ℕ = found.1 in
+    let within : k < 9 = found.2 in
     -- each is a power of two by its place
     let power : get_or alignments k a ≡ 2 ^ k = get_or-map (λ j. 2 ^ j) (range_with_len 0 9) k 0 a within ∙ ap (λ j. 2 ^ j) (get_or-range_with_len 0 9 k 0 within ∙ omega arith) in
     ((k, omega arith, sym (eqb-true a n found.4) ∙ sym found.3 ∙ power), leb-true least n split.1)
@@ -105,7 +107,8 @@ struct_right types declared lower s h = three_none (metadata_faults declared (ho
 pub struct_kept : (types : List TypeRead) (S : DeclaredSchema) (declared : Name → Bool) (lower : List ℕ) (s : ResolvedTable) → All (IsRead types S) s.fields → struct_faults types declared lower s ≡ []
     → IsStructBody S (length lower) (parts_from 0 s.fields) (forced_align 0 s.force_align)
 struct_kept types S declared lower s read h =
-    let host = fields.Struct (length lower) in let right = struct_right types declared lower s h in
+    let host = fields.Struct (length lower) in
+    let right = struct_right types declared lower s h in
     record {
       some = some_parts s.fields (when-none (length s.fields == 0) (EmptyStruct s.declared.name.at) right.1);
       aligned = forced_aligned 0 s.force_align;
@@ -113,7 +116,8 @@ struct_kept types S declared lower s read h =
       names = subst (AllPairs (λ a b. a ≢ b)) (names_of_parts (length lower) 0 s.fields)
           (AllPairs-from_IsDistinct bytes_eq-Decides (flat_map (names_of_field host) s.fields) (fields_distinct declared host s.fields right.2));
       parts = λ k p e.
-          let x = part_at 0 s.fields k p e in let f = x.0 in
+          let x = part_at 0 s.fields k p e in
+          let f = x.0 in
           let own = all_at (IsFieldRight declared host) s.fields (fields_right declared host s.fields right.2) k f x.1 in
           subst (λ (q : DeclaredField). IsPart S (length lower) q.shape × IsPlain q) (sym x.2)
           (part_right S (length lower) f.field.kind f.meaning (all_at (IsRead types S) s.fields read k f x.1).means own.type, (refl, refl, refl, refl));
@@ -150,8 +154,11 @@ module _ (types : List TypeRead) where
   -- the alignment of a type among those of all
   pub aligns-at : (rs : List ResolvedType) (t : ℕ) (r : ResolvedType) → slice_get rs t ≡ Some r → slice_index (aligns_from types [] rs) t ≡ align_of_type types (aligns_from types [] (take t rs)) r
   aligns-at rs t r e =
-      let before = aligns_from types [] (take t rs) in let own = align_of_type types before r in let within = slice_get_within rs t r e in
-      let more = aligns-more rs t r within (sym (get_or_from_slice_get rs t r r e)) in let many = length-before rs t within in
+      let before = aligns_from types [] (take t rs) in
+      let own = align_of_type types before r in
+      let within = slice_get_within rs t r e in
+      let more = aligns-more rs t r within (sym (get_or_from_slice_get rs t r r e)) in
+      let many = length-before rs t within in
       aligns-below rs (t + 1) t (omega (arith, ap length more, length_push before own)) ∙ ap (λ all. slice_index all t) more ∙ get_or_push before own 0 t many
 
 -- ---- `force_align`
@@ -219,7 +226,8 @@ module _ (o : Outline) (S : DeclaredSchema) (gives : Gives o S) (none : faults_i
         → IsAligned (align_of_declaration o.types lower d) body
     unfolding natural_align number_called
     struct_aligned (resolved.Struct s) (struct_body parts force) h is read free =
-        let right = struct_right o.types (declared_in o) lower s free in let natural = natural_align o.types lower s.fields in
+        let right = struct_right o.types (declared_in o) lower s free in
+        let natural = natural_align o.types lower s.fields in
         let sizes = part_sizes 0 s.fields read.0 (fields_right (declared_in o) (fields.Struct (length lower)) s.fields right.2) in
         let own : greatest_in (map (λ f. part_align S aligns f.shape) parts) ≡ natural = ap (λ ps. greatest_in (map (λ f. part_align S aligns f.shape) ps)) h.0 ∙ ap greatest_in sizes in
         let stands = called_stands (declared_in o) (hosts.Struct natural) s.declared.attributes right.0 ForceAlign in
@@ -233,7 +241,9 @@ module _ (o : Outline) (S : DeclaredSchema) (gives : Gives o S) (none : faults_i
   aligned_at : (s : ℕ) → IsTrue (is_struct (body_at S s)) → IsAligned (aligns_before o.types s) (aligns-below o.types (resolved_types o.types) s) (slice_index aligns s) (body_at S s)
   unfolding align_of_type
   aligned_at s is =
-      let x = body_at_by o S gives none is_struct s refl is in let lower = aligns_before o.types s in let below = aligns-below o.types (resolved_types o.types) s in
+      let x = body_at_by o S gives none is_struct s refl is in
+      let lower = aligns_before o.types s in
+      let below = aligns-below o.types (resolved_types o.types) s in
       subst (λ n. IsAligned lower below n (body_at S s)) (sym (aligns-at o.types (resolved_types o.types) s (resolved_type o.types x.read) (resolved_at o.types s x.read x.at)))
       (struct_aligned lower below (resolved_declaration o.types x.read.scope x.read.declaration) (body_at S s) x.has is (read_in o S gives x.read.scope x.read.declaration) x.right)
 

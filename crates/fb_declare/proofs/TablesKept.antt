@@ -235,7 +235,9 @@ module _ (fs : List ResolvedField) (slots : List DeclaredField) (placed : AreInP
       (λ none whole. All-cons P (value_slot f slot) []
       (λ u shape. absurd (value_no_code S f.field.kind f.meaning u means shape), λ u shape. absurd (value_no_union f.field.kind f.meaning u none shape)) (All-nil P))
       (λ u e whole.
-      let code = code_slot f u slot in let value = value_slot f (slot + 1) in let next : slot + 1 ≡ suc slot = omega arith in
+      let code = code_slot f u slot in
+      let value = value_slot f (slot + 1) in
+      let next : slot + 1 ≡ suc slot = omega arith in
       let is_union = union_shape f.field.kind f.meaning u e in
       let pair : IsUnionPair code value u = record { named = refl; code = refl; value = is_union; marks = refl } in
       let first = its_place code (All-head (Contains slots) code (value ∷ []) whole) in

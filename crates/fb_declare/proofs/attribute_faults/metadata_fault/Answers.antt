@@ -6,7 +6,9 @@ use Rattle.fb_declare.proofs.attribute_faults.metadata_fault.Goals as goal
 
 pub loop-attribute-preserved : goal.loop-attribute-preserved
 loop-attribute-preserved c =
-    let attributes = c.args.attributes.now in let i = c.loop-attribute.attribute-index in let a = c.attribute-item.result in
+    let attributes = c.args.attributes.now in
+    let i = c.loop-attribute.attribute-index in
+    let a = c.attribute-item.result in
     let text : c.name.inside.text.now ≡ a.name.bytes = ap (λ t. t.bytes) c.name.view_is in
     let met = rw text at (c.in_ok-again.ensures (map (λ b. b.name.bytes) (take i attributes)) c.loop-attribute.invariant.met) in
     record {

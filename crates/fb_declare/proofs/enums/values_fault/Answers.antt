@@ -15,12 +15,18 @@ use Rattle.fb_declare.proofs.enums.values_fault.Goals as goal
 
 pub loop-resolved-preserved : goal.loop-resolved-preserved
 loop-resolved-preserved c =
-    let values = c.args.values.now in let i = c.loop-resolved.resolved-index in let v = c.resolved-item.result in
-    let h = c.loop-resolved-test.true in let e = c.resolved-item.is in
+    let values = c.args.values.now in
+    let i = c.loop-resolved.resolved-index in
+    let v = c.resolved-item.result in
+    let h = c.loop-resolved-test.true in
+    let e = c.resolved-item.is in
     let text : c.name.inside.text.now ≡ v.value.name.bytes = grind rules in
     let named = rw text at (c.in_ok-again.ensures (map (λ v. v.value.name.bytes) (take i values)) c.loop-resolved.invariant.names) in
-    let m = v.number in let keys = c.loop-resolved.numbers.keys in let number : c.resolved.inside.number ≡ m = grind rules in
-    let own : FitsSigned w128 c.resolved.inside.number = grind rules in let fits : FitsSigned w128 m = grind rules in
+    let m = v.number in
+    let keys = c.loop-resolved.numbers.keys in
+    let number : c.resolved.inside.number ≡ m = grind rules in
+    let own : FitsSigned w128 c.resolved.inside.number = grind rules in
+    let fits : FitsSigned w128 m = grind rules in
     let name_faults = when (is_again bytes_eq (λ v. v.value.name.bytes) (take i values) v) (DuplicateName v.value.name.at) in
     let number_faults = when (is_out_of_range c.args.base c.args.flags m || is_again int_eq (λ v. v.number) (take i values) v) (BadEnumValue v.value.name.at) in
     let again : not c.in_ok-is_new.is_new ≡ list_any (int_eq m) keys = rw (c.in_ok-is_new.ensures.added, not-not, to_z-of_z w128 c.resolved.inside.number own, number) refl in

@@ -9,9 +9,15 @@ use Rattle.fb_declare.proofs.field_faults.fields_fault.Goals as goal
 
 pub loop-field-preserved : goal.loop-field-preserved
 loop-field-preserved c =
-    let fields = c.args.fields.now in let i = c.loop-field.field-index in let r = c.field-item.result in
-    let h = c.loop-field-test.true in let e = c.field-item.is in
-    let declared = is_met c.args.declared.now in let host = c.args.host in let names = names_of_field host in let before = flat_map names (take i fields) in
+    let fields = c.args.fields.now in
+    let i = c.loop-field.field-index in
+    let r = c.field-item.result in
+    let h = c.loop-field-test.true in
+    let e = c.field-item.is in
+    let declared = is_met c.args.declared.now in
+    let host = c.args.host in
+    let names = names_of_field host in
+    let before = flat_map names (take i fields) in
     let told = c.in_ok-again.ensures before c.loop-field.invariant.met in
     record {
       least = rw (

@@ -27,8 +27,11 @@ names_by r u e = ap (λ u. names_of (slots_by_union r u 0)) e
 
 pub returns : goal.returns
 returns c = λ before met.
-    let r = c.args.resolved.now in let n = r.field.name.bytes in let at = r.field.name.at in
-    let text : c.name.inside.text.now ≡ n = grind rules in let place : c.name.inside.at ≡ at = grind rules in
+    let r = c.args.resolved.now in
+    let n = r.field.name.bytes in
+    let at = r.field.name.at in
+    let text : c.name.inside.text.now ≡ n = grind rules in
+    let place : c.name.inside.at ≡ at = grind rules in
     let Told = λ (ns : List Name). (c.earlier.result ≡ least_of (faults_behind (name_again at) before ns)) × AreMet c.meet-2.new.met (before ++ ns) in
     let union : option_map (λ x. x.union) c.resolved.inside.code ≡ union_in r = grind rules in
     let alone : c.match-host.of_code ≡ false → c.match-host.met ≡ c.args.met.now → Told (n ∷ []) = λ none same.
@@ -36,7 +39,8 @@ returns c = λ before met.
     (rw (c.earlier.ensures, c.when.ensures, c.when-2.ensures, none, last.0, place, one at before n) refl, last.1) in
     elim c.match-host.branch [
       | in-Table-Some+in_ok-of_code-in-Table-Some w ↦
-          let x = w.in-Table-Some in let m = name_of_code n in
+          let x = w.in-Table-Some in
+          let m = name_of_code n in
           let code : w.as_str.result.now ≡ m = grind rules in
           let first = rw code at (w.in_ok-of_code-in-Table-Some.ensures before met) in
           let last = rw text at (c.in_ok-again.ensures (before ++ m ∷ []) (subst (λ s. AreMet s (before ++ m ∷ [])) (sym w.met-is) first.1)) in

@@ -7,6 +7,9 @@ use Rattle.fb_declare.proofs.names_met.names_met.Goals as goal
 
 pub loop-name-preserved : goal.loop-name-preserved
 loop-name-preserved c =
-    let names = c.args.names.now in let i = c.loop-name.name-index in let h = c.loop-name-test.true in
-    let none : Bor (List ℕ) = record { ref_ptr = (0, 0); now = [] } in let name = get_or names i none in
+    let names = c.args.names.now in
+    let i = c.loop-name.name-index in
+    let h = c.loop-name-test.true in
+    let none : Bor (List ℕ) = record { ref_ptr = (0, 0); now = [] } in
+    let name = get_or names i none in
     subst (AreMet c.meet.new.met) (sym (map-taken (λ n. n.now) names i name h (get_or_default names i none name h))) (c.in_ok-meet.ensures (map (λ n. n.now) (take i names)) c.loop-name.invariant).1

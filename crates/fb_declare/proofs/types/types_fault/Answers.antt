@@ -13,15 +13,22 @@ use Rattle.fb_declare.proofs.TypesKept.{repeated}
 
 pub bounds-repeats-number : goal.bounds-repeats-number
 bounds-repeats-number c =
-    let rs = c.args.resolved.now in let i = c.loop-number.number in let r = c.index-resolved-number.result in
+    let rs = c.args.resolved.now in
+    let i = c.loop-number.number in
+    let r = c.index-resolved-number.result in
     let at = slice_get_read rs (length rs) i r refl c.loop-number-test.true c.index-resolved-number.is in
     slice_get_within c.args.repeats.now i (is_again bytes_eq (λ q. name_of_type q.read) (take i rs) r) (repeated rs c.args.repeats.now c.requires i r at)
 
 pub loop-number-preserved : goal.loop-number-preserved
 loop-number-preserved c =
-    let types = c.args.types.now in let rs = c.args.resolved.now in let repeats = c.args.repeats.now in
-    let i = c.loop-number.number in let r = c.index-resolved-number.result in let lower = aligns_from types [] (take i rs) in
-    let h = c.loop-number-test.true in let e = c.index-resolved-number.is in
+    let types = c.args.types.now in
+    let rs = c.args.resolved.now in
+    let repeats = c.args.repeats.now in
+    let i = c.loop-number.number in
+    let r = c.index-resolved-number.result in
+    let lower = aligns_from types [] (take i rs) in
+    let h = c.loop-number-test.true in
+    let e = c.index-resolved-number.is in
     let at = slice_get_read rs (length rs) i r refl h e in
     let natural : natural_of_type types lower r ≡ c.natural_of_type-natural.result =
     sym (c.natural_of_type-natural.ensures ∙ ap (λ l. natural_of_type types l r) (c.as_slice.ensures.value ∙ c.loop-number.invariant.lower)) in

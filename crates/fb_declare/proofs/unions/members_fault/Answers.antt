@@ -7,8 +7,11 @@ use Rattle.fb_declare.proofs.unions.members_fault.Goals as goal
 
 pub loop-number-preserved : goal.loop-number-preserved
 loop-number-preserved c =
-    let members = c.args.members.now in let i = c.loop-number.number in let m = c.index-members-number.result in
-    let h = c.loop-number-test.true in let e = c.index-members-number.is in
+    let members = c.args.members.now in
+    let i = c.loop-number.number in
+    let m = c.index-members-number.result in
+    let h = c.loop-number-test.true in
+    let e = c.index-members-number.is in
     let text : c.as_str.result.now ≡ m.name.bytes = grind rules in
     let met = rw text at (c.in_ok-again.ensures (map (λ m. m.name.bytes) (take i members)) c.loop-number.invariant.met) in
     record {
