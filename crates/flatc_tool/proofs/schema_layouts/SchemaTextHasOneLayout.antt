@@ -50,7 +50,6 @@ same_accepted laws text L K a b =
 -- there is no least fault where declarations declare a schema
 pub none_least : (d : DeclsRead) (S : DeclaredSchema) (f : SchemaFault) → Declares d S → least_of (faults_of d) ≡ Some f
     → ⊥
-unfolding least_of
 none_least d S f declares least = none-some f (sym (ap least_of declares.sound) ∙ least)
 
 -- what the clauses of parsing say of a refusal, together
