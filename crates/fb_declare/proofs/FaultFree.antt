@@ -16,7 +16,7 @@ use Rattle.fb_declare.specs.declared.faults.SchemaFault.TheVariants.{DuplicateNa
 use Rattle.fb_declare.specs.declared.field_faults.FieldHost.{FieldHost}
 use Rattle.fb_declare.specs.AttributeFaults.{metadata_faults, is_left_out, is_force_align_of_field, may_stand, faults_by_name, attribute_behind}
 use Rattle.fb_declare.specs.FaultRows.{when, faults_behind, faults_in_turn, is_again, name_again, field_type, bad_default, is_among}
-use Rattle.fb_declare.specs.TypeFaults.{names_of_field, host_of_field, given_in, field_faults, field_behind, declaration_faults, aligns_from, type_behind}
+use Rattle.fb_declare.specs.TypeFaults.{names_of_field, attribute_host, given_in, field_faults, field_behind, declaration_faults, aligns_from, type_behind}
 use Rattle.std.proofs.lemmas.List.Folds.{Any-from_list_any, find_at}
 use Rattle.std.proofs.lemmas.List.Sums.{passes_at_first}
 use Rattle.fb_syntax.specs.declared.declarations.Attribute.{Attribute}
@@ -61,7 +61,7 @@ none_behind rule before (y ∷ xs) h (suc k) x e =
 -- what is empty where a field has no fault
 pub record IsFieldRight (declared : Name → Bool) (host : FieldHost) (f : ResolvedField) : Type 0 where
   pub type : field_type host f.field.kind f.meaning ≡ []
-  pub metadata : metadata_faults declared (host_of_field host f.field.kind f.meaning) f.field.attributes ≡ []
+  pub metadata : metadata_faults declared (attribute_host host f.field.kind f.meaning) f.field.attributes ≡ []
 
 pub fields_right : (declared : Name → Bool) (host : FieldHost) (fs : List ResolvedField) → faults_in_turn (field_behind declared host) fs ≡ [] → All (IsFieldRight declared host) fs
 fields_right declared host fs h k d within =
@@ -69,7 +69,7 @@ fields_right declared host fs h k d within =
     let names = faults_behind (name_again f.field.name.at) (flat_map (names_of_field host) (take k fs)) (names_of_field host f) in
     let none = none_behind (field_behind declared host) [] fs h k f (slice_get-get_or fs k d within) in
     let parts = three_none (field_type host f.field.kind f.meaning) (bad_default f.field.default (given_in host f.given))
-    (metadata_faults declared (host_of_field host f.field.kind f.meaning) f.field.attributes) (both_none names (field_faults declared host f) none).1 in
+    (metadata_faults declared (attribute_host host f.field.kind f.meaning) f.field.attributes) (both_none names (field_faults declared host f) none).1 in
     record { type = parts.0; metadata = parts.2 }
 
 -- a type with no fault has another full name than those before it, and none in its declaration by their alignments

@@ -34,7 +34,7 @@ use Rattle.fb_resolve.specs.ResolvedFields.{ResolvedField, ResolvedTable}
 use Rattle.fb_resolve.specs.Attributes.{has_attribute}
 use Rattle.fb_declare.specs.AttributeFaults.{metadata_faults}
 use Rattle.fb_declare.specs.FaultRows.{when, faults_in_turn, misplaced_type, field_type}
-use Rattle.fb_declare.specs.TypeFaults.{host_of_field, field_behind, table_faults, names_of_field}
+use Rattle.fb_declare.specs.TypeFaults.{attribute_host, field_behind, table_faults, names_of_field}
 use Rattle.fb_resolve.specs.declared.attributes.BuiltInAttribute.TheVariants.{Required}
 use Rattle.fb_declare.specs.declared.attribute_faults.AttributeHost.TheVariants as hosts
 use Rattle.fb_declare.specs.declared.faults.SchemaFault.TheVariants.{BadIds}
@@ -172,7 +172,7 @@ IsSlotRight S p = IsShape S p.shape × MarksFit S p p.shape
 
 module _ (types : List TypeRead) (S : DeclaredSchema) (enums : AreEnumsKept types S) (declared : Name → Bool) where
   -- by its type, what it is given, and its attributes
-  value_right : (f : ResolvedField) (slot : ℕ) (k : FieldType) (m : Meaning) → MeansIn S m → field_type fields.Table k m ≡ [] → metadata_faults declared (host_of_field fields.Table k m) f.field.attributes ≡ []
+  value_right : (f : ResolvedField) (slot : ℕ) (k : FieldType) (m : Meaning) → MeansIn S m → field_type fields.Table k m ≡ [] → metadata_faults declared (attribute_host fields.Table k m) f.field.attributes ≡ []
       → f.given ≡ given_by types k m f.field.default → f.attributes.required ≡ has_attribute Required f.field.attributes → IsShape S (shape_of k m) × MarksFit S (value_slot f slot) (shape_of k m)
   unfolding given_to
   value_right f slot (types_read.One n) (Known (Scalar base)) means type marks given required =

@@ -44,8 +44,8 @@ may_stand Table OriginalOrder None = true
 may_stand (Struct natural) OriginalOrder None = true
 may_stand _ _ _ = false
 
--- By what names are declared: a built-in attribute on a wrong host, with a wrong value, or again;
--- or another that isn't declared
+-- where this says which names are declared: a built-in attribute on a wrong host, with a wrong value, or again; or
+-- another that isn't declared
 abbrev pub faults_by_name : (Name → Bool) → AttributeHost → Bool → Attribute → Option BuiltInAttribute
     → List SchemaFault
 faults_by_name declared host again a (Some k) = when (not (may_stand host k a.value) || again) (BadAttribute a.name.at)

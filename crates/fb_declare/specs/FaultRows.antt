@@ -23,7 +23,7 @@ use Rattle.fb_resolve.specs.declared.meanings.Meaning.TheVariants.{Known, Float,
 use Rattle.fb_resolve.specs.declared.defaults.Given.{Given}
 use Rattle.fb_resolve.specs.declared.defaults.Given.TheVariants.{Wrong}
 use Rattle.fb_declare.specs.declared.field_faults.FieldHost.{FieldHost}
-use Rattle.fb_declare.specs.declared.field_faults.FieldHost.TheVariants as hosts
+use Rattle.fb_declare.specs.declared.field_faults.FieldHost.TheVariants as fields
 use Rattle.fb_declare.specs.declared.faults.SchemaFault.{SchemaFault}
 use Rattle.fb_declare.specs.declared.faults.SchemaFault.TheVariants.{DuplicateName, UnknownType, BadDefault, IncompleteStruct, Unsupported, BadEnumValue, BadMember, BadRoot, BadIdentifier}
 
@@ -59,14 +59,14 @@ use_faults (Known kind) at = []
 
 -- A table has no vector of unions. A struct has no vector, text, table or union, and of structs only those before it.
 abbrev pub misplaced_type : FieldHost → FieldType → Meaning → List SchemaFault
-misplaced_type hosts.Table (Many at n) (Known (Union u)) = Unsupported n.at ∷ []
-misplaced_type hosts.Table _ _ = []
-misplaced_type (hosts.Struct struct) (Many at n) m = BadMember at ∷ []
-misplaced_type (hosts.Struct struct) (One n) (Known (Scalar base)) = []
-misplaced_type (hosts.Struct struct) (One n) (Known (Enum e)) = []
-misplaced_type (hosts.Struct struct) (One n) (Known (Struct t)) = when (nat_le struct t.0) (IncompleteStruct n.at)
-misplaced_type (hosts.Struct struct) (One n) (Known _) = BadMember n.at ∷ []
-misplaced_type (hosts.Struct struct) (One n) _ = []
+misplaced_type fields.Table (Many at n) (Known (Union u)) = Unsupported n.at ∷ []
+misplaced_type fields.Table _ _ = []
+misplaced_type (fields.Struct struct) (Many at n) m = BadMember at ∷ []
+misplaced_type (fields.Struct struct) (One n) (Known (Scalar base)) = []
+misplaced_type (fields.Struct struct) (One n) (Known (Enum e)) = []
+misplaced_type (fields.Struct struct) (One n) (Known (Struct t)) = when (nat_le struct t.0) (IncompleteStruct n.at)
+misplaced_type (fields.Struct struct) (One n) (Known _) = BadMember n.at ∷ []
+misplaced_type (fields.Struct struct) (One n) _ = []
 
 -- the type of a field
 abbrev pub field_type : FieldHost → FieldType → Meaning → List SchemaFault

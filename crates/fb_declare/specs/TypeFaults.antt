@@ -39,11 +39,11 @@ names_of_field fields.Table r = names_of (slots_of_field r 0)
 names_of_field (fields.Struct struct) r = r.field.name.bytes ∷ []
 
 -- A scalar or enum can't be required. Where the type is at fault `required` is let pass.
-abbrev pub host_of_field : FieldHost → FieldType → Meaning → AttributeHost
-host_of_field (fields.Struct struct) kind m = hosts.StructField
-host_of_field fields.Table (One n) (Known (Scalar base)) = hosts.ScalarField
-host_of_field fields.Table (One n) (Known (Enum e)) = hosts.ScalarField
-host_of_field fields.Table _ _ = hosts.TableField
+abbrev pub attribute_host : FieldHost → FieldType → Meaning → AttributeHost
+attribute_host (fields.Struct struct) kind m = hosts.StructField
+attribute_host fields.Table (One n) (Known (Scalar base)) = hosts.ScalarField
+attribute_host fields.Table (One n) (Known (Enum e)) = hosts.ScalarField
+attribute_host fields.Table _ _ = hosts.TableField
 
 -- a struct's field takes no default
 abbrev pub given_in : FieldHost → Given → Given
@@ -54,9 +54,9 @@ abbrev pub field_faults : (Name → Bool) → FieldHost → ResolvedField → Li
 field_faults declared host r =
     field_type host r.field.kind r.meaning
     ++ bad_default r.field.default (given_in host r.given)
-    ++ metadata_faults declared (host_of_field host r.field.kind r.meaning) r.field.attributes
+    ++ metadata_faults declared (attribute_host host r.field.kind r.meaning) r.field.attributes
 
--- a field's names that are among those of the fields before it, and its other faults
+-- where a field has a name that it or one before it has already, and its other faults
 abbrev pub field_behind : (Name → Bool) → FieldHost → List ResolvedField → ResolvedField → List SchemaFault
 field_behind declared host before r =
     faults_behind (name_again r.field.name.at) (flat_map (names_of_field host) before) (names_of_field host r)
@@ -113,7 +113,7 @@ abbrev pub type_behind : List TypeRead → (Name → Bool) → List ResolvedType
 type_behind types declared before r =
     type_faults types declared (aligns_from types [] before) (is_again bytes_eq (λ q. name_of_type q.read) before r) r
 
--- the names of attributes that a text declares
+-- whether a text declares an attribute of this name
 abbrev pub declared_in : Outline → Name → Bool
 declared_in o name = is_among name o.attributes
 

@@ -6,7 +6,7 @@ ghost use Rattle.fb_declare.specs.Faults.{least_of};
 ghost use Rattle.fb_declare.specs.NamesMet.{is_met, AreMet};
 ghost use Rattle.fb_declare.specs.FaultRows.{faults_behind, faults_in_turn, name_again};
 ghost use Rattle.fb_declare.specs.FaultRows.{use_faults, misplaced_type, bad_default};
-ghost use Rattle.fb_declare.specs.TypeFaults.{names_of_field, host_of_field, field_faults, field_behind};
+ghost use Rattle.fb_declare.specs.TypeFaults.{names_of_field, attribute_host, field_faults, field_behind};
 
 use crate::attribute_faults::{AttributeHost, metadata_fault};
 use crate::faults::{SchemaFault, earlier, when};
@@ -18,7 +18,7 @@ use std::alloc::{AllocError, Global};
 use std::collections::BTreeSet;
 
 /// What a field is of: a table, or the struct of a number.
-#[derive(Clone, Copy, Debug, PartialEq, Eq, Drop)]
+#[derive(Clone, Copy, Drop)]
 pub(crate) enum FieldHost {
     Table,
     Struct(usize),
@@ -70,9 +70,9 @@ fn bad_default(default: Option<&DefaultValue<'_>>, given: Given) -> Option<Schem
     }
 }
 
-/// The place of a field's attributes: a scalar or enum can't be required.
-fn host_of_field(host: FieldHost, kind: &FieldType<'_>, meaning: Meaning) -> AttributeHost
-    ensures { result ≡ host_of_field host kind.now meaning }
+/// What a field is to its attributes: a scalar or enum can't be required.
+fn attribute_host(host: FieldHost, kind: &FieldType<'_>, meaning: Meaning) -> AttributeHost
+    ensures { result ≡ attribute_host host kind.now meaning }
 {
     match (host, kind, meaning) {
         (FieldHost::Struct(_), _, _) => AttributeHost::StructField,
@@ -82,7 +82,7 @@ fn host_of_field(host: FieldHost, kind: &FieldType<'_>, meaning: Meaning) -> Att
     }
 }
 
-/// The fault of a field one of whose names is among those met; these are met from now on.
+/// The fault of a field that has a name met before; its names are met from now on.
 fn names_fault<'f>(
     met: &mut BTreeSet<&'f [u8]>,
     host: FieldHost,
@@ -95,13 +95,13 @@ fn names_fault<'f>(
 {
     let field = resolved.field;
     let name = &field.name;
-    let of_code = match (host, &resolved.code) {
+    let code_again = match (host, &resolved.code) {
         (FieldHost::Table, Some(code)) => meet(met, code.name.as_str())?,
         _ => false,
     };
     let again = meet(met, name.text)?;
     let fault = SchemaFault::DuplicateName(name.at);
-    Ok(earlier(when(of_code, fault), when(again, fault)))
+    Ok(earlier(when(code_again, fault), when(again, fault)))
 }
 
 /// What else is wrong with a field.
@@ -116,17 +116,17 @@ fn field_fault(
     let field = resolved.field;
     let kind = &field.kind;
     let meaning = resolved.meaning;
-    let not_found = use_fault(meaning, type_name(kind).at());
-    let in_type = earlier(not_found, misplaced_type(host, kind, meaning));
+    let in_use = use_fault(meaning, type_name(kind).at());
+    let in_type = earlier(in_use, misplaced_type(host, kind, meaning));
     let given = match host {
         FieldHost::Table => resolved.given,
         // a field of a struct takes no default, whatever it would give
         FieldHost::Struct(_) => Given::Wrong,
     };
     let fault = earlier(in_type, bad_default(field.default.as_ref(), given));
-    let attribute_host = host_of_field(host, kind, meaning);
+    let of_attributes = attribute_host(host, kind, meaning);
     let attributes = field.attributes.as_slice();
-    let metadata = metadata_fault(alloc, declared, attribute_host, attributes)?;
+    let metadata = metadata_fault(alloc, declared, of_attributes, attributes)?;
     Ok(earlier(fault, metadata))
 }
 

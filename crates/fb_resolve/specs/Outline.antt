@@ -23,7 +23,7 @@ pub record RootRead : Type 0 where
   pub name : Located
 
 -- the types and the root of some declarations, and the namespace in force behind them
-pub record Walked : Type 0 where
+pub record WalkRead : Type 0 where
   pub types : List TypeRead
   pub root : Option RootRead
   pub scope : Option Name

@@ -130,7 +130,7 @@ have_all_ids rs = list_all (λ r. is_some (slot_by_id r)) rs
 abbrev pub numbers_by_id : List ResolvedField → List ℕ
 numbers_by_id rs = map (λ s. s.slot) (slots_by_id rs)
 
--- some field has an id, but not all have one, or these don't name each slot once
+-- some field has an id, but not each has one that gives it a slot, or the slots aren't 0, 1, .. each once
 unfoldable pub are_ids_wrong : List ResolvedField → Bool
 are_ids_wrong rs = have_ids rs && not (have_all_ids rs && are_places (numbers_by_id rs))
 

@@ -1,7 +1,4 @@
 //! Names of a text, borrowed where they are in it as they are, and else put together.
-ghost use Rattle.std.specs.Prelude.{◌≡◌};
-
-use fb_syntax::Text;
 use std::borrow::CowStr;
 use std::marker::Model;
 
@@ -19,16 +16,4 @@ impl<'t> Model for LocatedName<'t> {
     ghost Value = { Located };
 
     ghost view = { λ n. record { bytes = cow_str_bytes n.text; at = n.at } };
-}
-
-impl<'t> LocatedName<'t> {
-    /// A name of one word of the text.
-    pub fn of(word: &Text<'t>) -> LocatedName<'t>
-        ensures { result ≡ word.now }
-    {
-        LocatedName {
-            text: CowStr::Borrowed(word.text),
-            at: word.at,
-        }
-    }
 }

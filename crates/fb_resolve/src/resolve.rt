@@ -186,10 +186,10 @@ pub struct Resolved<'t, 'd, 's> {
     pub outline: &'t Outline<'d, 's>,
     pub types: Vec<ResolvedType<'t, 'd, 's>>,
     /// Of each type whether one before it has its full name.
-    pub repeats: Vec<bool>,
+    pub repeats: &'t [bool],
     pub root: Meaning,
     ghost meant: { types.items ≡ resolved_types outline.now.types },
-    ghost repeated: { AreRepeats outline.now.types repeats.items },
+    ghost repeated: { AreRepeats outline.now.types repeats.now },
     ghost root_meant: { root ≡ meaning_of_root outline.now.types outline.now.root },
 }
 
@@ -213,7 +213,7 @@ impl<'t, 'd, 's> Resolved<'t, 'd, 's> {
         Ok(Resolved {
             outline,
             types: resolved_types(alloc, types, known, values, namespaces)?,
-            repeats: names.repeats.clone()?,
+            repeats: names.repeats.as_slice(),
             root: meaning_of_root(known, names.root, outline.root.as_ref()),
         })
     }

@@ -36,9 +36,9 @@ pub(crate) struct Walk<'d, 's> {
 
 impl<'d, 's> Model for Walk<'d, 's> {
     ghost use Rattle.std.specs.Option.{option_copied};
-    ghost use Rattle.fb_resolve.specs.Outline.{Walked};
+    ghost use Rattle.fb_resolve.specs.Outline.{WalkRead};
 
-    ghost Value = { Walked };
+    ghost Value = { WalkRead };
 
     ghost use Rattle.fb_resolve.specs.Paths.{IsPlaced};
 

@@ -41,6 +41,7 @@ pub record IsNumberLen (n : ℕ) (text : List ℕ) : Type 0 where
 abbrev pub digit_value : ℕ → ℕ
 digit_value c = if is_digit c then c - 48 else (if is_between 97 102 c then c - 87 else (if is_between 65 70 c then c - 55 else 0))
 
+-- the number that digits write in a base, the highest first
 abbrev pub digits_value : ℕ → List ℕ → ℕ
 digits_value base digits = number_from_digits base (map digit_value digits)
 

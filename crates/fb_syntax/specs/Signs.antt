@@ -7,4 +7,4 @@ abbrev pub byte : Char → ℕ
 byte sign = code sign
 
 abbrev pub dot : ℕ
-dot = 46
+dot = byte "."

@@ -29,7 +29,7 @@ abbrev pub Gives : {X Y : Type 0} → (X → Y) → Result X Stop → Option Y �
 Gives view (Ok x) read = read ≡ Some (view x)
 Gives view (Err e) read = Fails e read
 
--- What a call answered and left is what the rule reads, and it took a token.
+-- What a call returned and left is what the rule reads, and where it returned something it took a token.
 pub record Passes {X Y : Type 0} (view : X → Y) (result : Result X Stop) (rule : Rule Y) (old new : List Lexeme)
     : Type 0 where
   pub exact : Gives (λ x. (view x, new)) result (rule.read old)

@@ -24,7 +24,7 @@ impl<'t> Model for Text<'t> {
 /// A name of words with dots between them, and the offset of its first word.
 #[derive(Debug, Drop)]
 pub struct DottedName<'t> {
-    pub(crate) words: CowStr<'t>,
+    pub(crate) text: CowStr<'t>,
     pub(crate) at: u64,
 }
 
@@ -34,7 +34,7 @@ impl<'t> Model for DottedName<'t> {
 
     ghost Value = { Located };
 
-    ghost view = { λ n. record { bytes = cow_str_bytes n.words; at = n.at } };
+    ghost view = { λ n. record { bytes = cow_str_bytes n.text; at = n.at } };
 }
 
 impl<'t> DottedName<'t> {
@@ -42,12 +42,12 @@ impl<'t> DottedName<'t> {
     pub(crate) fn join(self, alloc: Global, word: &str) -> Result<DottedName<'t>, AllocError>
         ensures { IfOk result (λ n. n ≡ joined self.entry word.now) }
     {
-        let DottedName { words, at } = self;
-        let mut name = words.into_owned(alloc)?;
+        let DottedName { text, at } = self;
+        let mut name = text.into_owned(alloc)?;
         name.push_str(".")?;
         name.push_str(word)?;
         Ok(DottedName {
-            words: CowStr::Owned(name),
+            text: CowStr::Owned(name),
             at,
         })
     }
@@ -56,7 +56,7 @@ impl<'t> DottedName<'t> {
     pub fn as_str(&self) -> &str
         ensures { result.now ≡ self.now.bytes }
     {
-        self.words.as_str()
+        self.text.as_str()
     }
 
     /// The offset of its first word.

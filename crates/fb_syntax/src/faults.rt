@@ -1,4 +1,5 @@
 //! Why a schema text is refused.
+use std::alloc::{AllocError, AllocFailed};
 use thiserror::Error;
 
 /// What is wrong with a schema text, and the offset in bytes from its start.
@@ -69,5 +70,27 @@ impl SyntaxFault {
             | SyntaxFault::NestedVector(at) => Some(at),
             SyntaxFault::Memory => None,
         }
+    }
+}
+
+impl From<AllocError> for SyntaxFault {
+    ghost use Rattle.std.specs.Prelude.{◌≡◌};
+    ghost use Rattle.fb_syntax.specs.declared.faults.SyntaxFault.TheVariants.{Memory};
+
+    ghost from_gives = { λ _ e. e ≡ Memory };
+
+    fn from(_refused: AllocError) -> SyntaxFault {
+        SyntaxFault::Memory
+    }
+}
+
+impl<T: Drop> From<AllocFailed<T>> for SyntaxFault {
+    ghost use Rattle.std.specs.Prelude.{◌≡◌};
+    ghost use Rattle.fb_syntax.specs.declared.faults.SyntaxFault.TheVariants.{Memory};
+
+    ghost from_gives = { λ _ e. e ≡ Memory };
+
+    fn from(_refused: AllocFailed<T>) -> SyntaxFault {
+        SyntaxFault::Memory
     }
 }

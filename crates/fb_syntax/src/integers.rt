@@ -85,7 +85,7 @@ fn is_integer(spelling: &[u8]) -> bool
     ensures { result ≡ is_integer spelling.now }
 {
     let digits = &spelling[sign_len(spelling)..];
-    !digits.is_empty() && are_digits(digits) || is_prefixed(digits) && are_hex(&digits[2..])
+    (!digits.is_empty() && are_digits(digits)) || (is_prefixed(digits) && are_hex(&digits[2..]))
 }
 
 fn is_negative(spelling: &[u8]) -> bool

@@ -138,7 +138,7 @@ impl<'t, 's> Parser<'t, 's> {
         ensures shorter { IfOk result (λ _. length self.new ≤ length self.old) }
     {
         let mut name = DottedName {
-            words: CowStr::Borrowed(first.text),
+            text: CowStr::Borrowed(first.text),
             at: first.at,
         };
         while let Some(_) = self.take(TokenKind::Punct(b'.')) {

@@ -18,7 +18,7 @@ use crate::tokens::{Token, TokenKind};
 use simdutf8::compat;
 use std::alloc::Global;
 
-// What stands at a text's front, with its length.
+// What stands at a text's front, with its length. What spells a text is defined by it.
 #[derive(Clone, Copy)]
 enum Piece {
     Gap(usize),

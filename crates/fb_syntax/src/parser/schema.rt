@@ -57,6 +57,7 @@ impl<'t> Item<'t> for Declaration<'t> {
     fn read(parser: &mut Parser<'t, '_>) -> Result<Declaration<'t>, Stop> {
         let word = parser.peek(Word).ok_or(Stop::Unexpected)?;
         let keyword = keyword_of(word.text).ok_or(Stop::Unexpected)?;
+        // only now, since an unknown word is refused where it stands
         parser.take(Word);
         parser.declared(keyword)
     }

@@ -15,7 +15,7 @@ types_fault-requires c =
     let o = r.outline.now in
     let reads : map (λ r. r.read) c.as_slice-2.result.now ≡ o.types =
     ap (map (λ r. r.read)) (c.as_slice-2.ensures.value ∙ r.meant) ∙ map-map (λ r. r.read) (resolved_type o.types) o.types ∙ map-id o.types in
-    subst (λ rs. AreRepeats rs c.as_slice-repeats.result.now) (sym reads) (subst (AreRepeats o.types) (sym c.as_slice-repeats.ensures.value) r.repeated)
+    subst (λ rs. AreRepeats rs r.repeats.now) (sym reads) r.repeated
 
 pub returns : goal.returns
 unfolding faults_of_outline
