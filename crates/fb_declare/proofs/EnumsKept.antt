@@ -21,13 +21,14 @@ use Rattle.fb_schema.specs.WellDeclared.{IsBetween, InRange, is_unsigned, IsFlag
 use Rattle.fb_declare.specs.declared.faults.SchemaFault.TheVariants.{DuplicateName, BadEnumValue, Unsupported}
 use Rattle.fb_resolve.specs.declared.meanings.Meaning.{Meaning}
 use Rattle.fb_resolve.specs.declared.meanings.Meaning.TheVariants.{Known, Unknown}
-use Rattle.fb_resolve.specs.declared.attributes.BuiltInAttribute.TheVariants.{BitFlags}
+use Rattle.fb_syntax.specs.declared.attributes.BuiltInAttribute.TheVariants.{BitFlags}
 use Rattle.fb_declare.specs.declared.attribute_faults.AttributeHost.TheVariants as hosts
 use Rattle.fb_schema.specs.Ranges.{is_between, holds}
 use Rattle.fb_resolve.specs.ResolvedFields.{ResolvedValue, ResolvedEnum}
 use Rattle.fb_declare.specs.AttributeFaults.{may_stand, metadata_faults}
 use Rattle.fb_resolve.specs.EnumsRead.{integer_type, has_flags, value_number, may_be_written, base_or_ubyte, value_over, values_over}
-use Rattle.fb_declare.specs.FaultRows.{when, faults_in_turn, is_again, underlying_faults, is_out_of_range, value_faults}
+use Rattle.fb_declare.specs.FaultRows.{when, faults_in_turn, underlying_faults, is_out_of_range, value_faults}
+use Rattle.fb_resolve.specs.RepeatedNames.{is_again}
 use Rattle.fb_declare.specs.TypeFaults.{host_of_enum, enum_faults}
 use Rattle.fb_declare.proofs.FaultFree.{either-none, keys_distinct, keys_apart, pairs_map, both_none, three_none, none_behind, when-none, noted_stands}
 

@@ -1,13 +1,13 @@
 -- What an empty list of faults says of its parts: of attributes, that each known one may stand where it does, and of names, that they differ.
-use Rattle.std.proofs.Common.{◌≡◌, ◌++◌, ◌||◌, ℕ, zero, suc, Bool, true, false, List, [], ◌∷◌, take, get_or, refl, ap, sym, subst, ◌∙◌, append_assoc, Some, if◌then◌else◌, not, ◌≢◌, ◌<◌, length, map, AllPairs, arith}
+use Rattle.std.proofs.Common.{◌≡◌, ◌++◌, ◌||◌, ℕ, zero, suc, Bool, true, false, List, [], ◌∷◌, take, get_or, refl, ap, sym, subst, ◌∙◌, append_assoc, Option, None, Some, if◌then◌else◌, not, ◌≢◌, ◌<◌, length, map, AllPairs, arith}
 use Rattle.std.specs.List.{flat_map, slice_get, All, position_or_len, IsDistinct}
 use Rattle.std.specs.Str.{bytes_eq}
-use Rattle.std.proofs.lemmas.Bool.{or_parts, not-false}
+use Rattle.std.proofs.lemmas.Bool.{or_parts, not-false, false≢true}
 use Rattle.std.proofs.lemmas.List.{append-nil, flat_map_more, map_push, get_or-map, length-map}
 use Rattle.std.proofs.lemmas.Option.{none-some, same_Some, get_or_from_slice_get, slice_get_within, slice_get-get_or}
 pub use Rattle.std.proofs.lemmas.Str.Pattern.{starts_text}
 use Rattle.fb_schema.specs.Schema.{Name}
-use Rattle.fb_resolve.specs.Outline.{TypeRead, name_of_type, word_of}
+use Rattle.fb_resolve.specs.Outline.{name_of_type, word_of}
 use Rattle.fb_resolve.specs.ResolvedFields.{ResolvedField}
 use Rattle.fb_resolve.specs.ResolvedType.{ResolvedType}
 use Rattle.fb_resolve.specs.BasicTypes.{is_reserved}
@@ -15,16 +15,17 @@ use Rattle.fb_declare.specs.declared.faults.SchemaFault.{SchemaFault}
 use Rattle.fb_declare.specs.declared.faults.SchemaFault.TheVariants.{DuplicateName, BadAttribute, Unsupported}
 use Rattle.fb_declare.specs.declared.field_faults.FieldHost.{FieldHost}
 use Rattle.fb_declare.specs.AttributeFaults.{metadata_faults, is_left_out, is_force_align_of_field, may_stand, faults_by_name, attribute_behind}
-use Rattle.fb_declare.specs.FaultRows.{when, faults_behind, faults_in_turn, is_again, name_again, field_type, bad_default, is_among}
+use Rattle.fb_declare.specs.FaultRows.{when, faults_behind, faults_in_turn, name_again, field_type, bad_default, is_among}
+use Rattle.fb_resolve.specs.RepeatedNames.{is_again}
 use Rattle.fb_declare.specs.TypeFaults.{names_of_field, attribute_host, given_in, field_faults, field_behind, declaration_faults, aligns_from, type_behind}
-use Rattle.std.proofs.lemmas.List.Folds.{Any-from_list_any, find_at}
+use Rattle.std.proofs.lemmas.List.Folds.{find_at}
+use Rattle.std.specs.Option.{is_some}
 use Rattle.std.proofs.lemmas.List.Sums.{passes_at_first}
-use Rattle.fb_syntax.specs.declared.declarations.Attribute.{Attribute}
-use Rattle.fb_resolve.specs.declared.attributes.BuiltInAttribute.{BuiltInAttribute}
-use Rattle.fb_resolve.specs.declared.attributes.BuiltInAttribute.TheVariants.{Id}
+use Rattle.fb_syntax.specs.Attributes.{AttributeRead, built_in_attribute, is_same}
+use Rattle.fb_syntax.specs.declared.attributes.BuiltInAttribute.{BuiltInAttribute}
+use Rattle.fb_syntax.specs.declared.attributes.BuiltInAttribute.TheVariants.{Id, Required, Deprecated, ForceAlign, BitFlags, OriginalOrder}
 use Rattle.fb_declare.specs.declared.attribute_faults.AttributeHost.{AttributeHost}
-use Rattle.fb_resolve.specs.Attributes.{spelling, built_in_attribute, attribute_called, has_attribute}
-use Rattle.fb_resolve.proofs.Bytes.{bytes_eq-equal}
+use Rattle.fb_resolve.specs.Attributes.{attribute_called, has_attribute}
 use Rattle.std.specs.Bool.{Decides}
 use Rattle.std.specs.Cmp.{IsEquivalence}
 use Rattle.std.proofs.lemmas.Cmp.{nat_list_eq_equiv}
@@ -73,7 +74,7 @@ fields_right declared host fs h k d within =
     record { type = parts.0; metadata = parts.2 }
 
 -- a type with no fault has another full name than those before it, and none in its declaration by their alignments
-pub type_right : (types : List TypeRead) (declared : Name → Bool) (before : List ResolvedType) (r : ResolvedType) → type_behind types declared before r ≡ []
+pub type_right : (types : List ResolvedType) (declared : Name → Bool) (before : List ResolvedType) (r : ResolvedType) → type_behind types declared before r ≡ []
     → (is_again bytes_eq (λ q. name_of_type q.read) before r ≡ false) × (declaration_faults types declared (aligns_from types [] before) r.declaration ≡ [])
 type_right types declared before r h =
     let name = word_of r.read.declaration in
@@ -90,37 +91,43 @@ pub either : {X : Type 0} (P : X → Type 0) (b : Bool) (x y : X) → (b ≡ tru
 either P true x y p q = p refl
 either P false x y p q = q
 
--- a known attribute is known by its spelling
-known_spelling : (k : BuiltInAttribute) → built_in_attribute (spelling k) ≡ Some k
-unfolding built_in_attribute
-known_spelling Id = refl
-known_spelling _ = refl
+-- a built-in attribute that is the same as another is that
+known_same : (k : BuiltInAttribute) (o : Option BuiltInAttribute) → is_same k o ≡ true → o ≡ Some k
+known_same Id (Some Id) h = refl
+known_same Required (Some Required) h = refl
+known_same Deprecated (Some Deprecated) h = refl
+known_same ForceAlign (Some ForceAlign) h = refl
+known_same BitFlags (Some BitFlags) h = refl
+known_same OriginalOrder (Some OriginalOrder) h = refl
+known_same k o h = absurd (false≢true h)
 
-module _ (declared : Name → Bool) (host : AttributeHost) (attributes : List Attribute) (none : metadata_faults declared host attributes ≡ []) (k : BuiltInAttribute) where
-  -- an attribute that is spelled like a known one may stand as such
-  stands_at : (i : ℕ) (a : Attribute) → slice_get attributes i ≡ Some a → bytes_eq a.name.bytes (spelling k) ≡ true → may_stand host k a.value ≡ true
-  stands_at i a at spelt =
+some_found : {X : Type 0} (o : Option X) → is_some o ≡ true → (x : X) × (o ≡ Some x)
+some_found (Some x) h = (x, refl)
+some_found None h = absurd (false≢true h)
+
+module _ (declared : Name → Bool) (host : AttributeHost) (attributes : List AttributeRead) (none : metadata_faults declared host attributes ≡ []) (k : BuiltInAttribute) where
+  -- an attribute that is a built-in one may stand as such
+  stands_at : (i : ℕ) (a : AttributeRead) → slice_get attributes i ≡ Some a → is_same k (built_in_attribute a.name.bytes) ≡ true → may_stand host k a.value ≡ true
+  stands_at i a at same =
       let again = is_again bytes_eq (λ b. b.name.bytes) (take i attributes) a in
       let built_in = built_in_attribute a.name.bytes in
-      let known : built_in ≡ Some k = ap built_in_attribute (bytes_eq-equal a.name.bytes (spelling k) spelt) ∙ known_spelling k in
+      let known : built_in ≡ Some k = known_same k built_in same in
       let named = faults_by_name declared host again a built_in in
       let right = either (λ fs. fs ≡ [] → named ≡ []) (is_left_out a.name.bytes || is_force_align_of_field host built_in) (Unsupported a.name.at ∷ []) named (λ is e. cc) (λ e. e)
       (none_behind (attribute_behind declared host) [] attributes none i a at) in
       not-false (may_stand host k a.value) (either-none (not (may_stand host k a.value)) again (BadAttribute a.name.at) (subst (λ b. faults_by_name declared host again a b ≡ []) known right)).0
 
-  -- the first attribute of a known name may stand
-  pub called_stands : (a : Attribute) → attribute_called k attributes ≡ Some a → may_stand host k a.value ≡ true
+  -- the first that is a built-in one may stand
+  pub called_stands : (a : AttributeRead) → attribute_called k attributes ≡ Some a → may_stand host k a.value ≡ true
   called_stands a called =
-      let p : Attribute → Bool = λ b. bytes_eq b.name.bytes (spelling k) in
+      let p : AttributeRead → Bool = λ b. is_same k (built_in_attribute b.name.bytes) in
       let i : ℕ = position_or_len p attributes in
       let at : slice_get attributes i ≡ Some a = sym (find_at p attributes) ∙ called in
       stands_at i a at (ap p (sym (get_or_from_slice_get attributes i a a at)) ∙ passes_at_first p attributes a (slice_get_within attributes i a at))
 
-  -- if a known name occurs, some attribute of it may stand
-  pub noted_stands : has_attribute k attributes ≡ true → (a : Attribute) × (may_stand host k a.value ≡ true)
-  noted_stands has =
-      let x = Any-from_list_any (λ b. bytes_eq b.name.bytes (spelling k)) attributes has in
-      (x.1, stands_at x.0 x.1 (slice_get-get_or attributes x.0 x.1 x.2 ∙ ap Some x.3) x.4)
+  -- if there is one, some such attribute may stand
+  pub noted_stands : has_attribute k attributes ≡ true → (a : AttributeRead) × (may_stand host k a.value ≡ true)
+  noted_stands has = let found = some_found (attribute_called k attributes) has in (found.0, called_stands found.0 found.1)
 
 -- what each element with no fault keeps holds in the end
 kept_behind : {X : Type 0} (rule : List X → X → List SchemaFault) (P : List X → Type 0) → ((before : List X) (x : X) → rule before x ≡ [] → P before → P (before ++ x ∷ []))

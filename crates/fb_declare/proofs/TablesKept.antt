@@ -26,7 +26,7 @@ use Rattle.fb_resolve.specs.declared.defaults.Given.TheVariants.{Number, Null, W
 use Rattle.fb_declare.proofs.EnumsKept.{held_in_range}
 use Rattle.fb_declare.proofs.FaultFree.{either, three_none, IsFieldRight, fields_right, noted_stands, fields_distinct}
 use Rattle.fb_declare.specs.declared.field_faults.FieldHost.TheVariants as fields
-use Rattle.fb_syntax.specs.declared.declarations.Attribute.{Attribute}
+use Rattle.fb_syntax.specs.Attributes.{AttributeRead}
 use Rattle.fb_syntax.specs.declared.declarations.FieldType.{FieldType}
 use Rattle.fb_syntax.specs.declared.declarations.FieldType.TheVariants as types_read
 use Rattle.fb_schema.specs.declared.kinds.Kind.{Kind}
@@ -35,7 +35,7 @@ use Rattle.fb_resolve.specs.Attributes.{has_attribute}
 use Rattle.fb_declare.specs.AttributeFaults.{metadata_faults}
 use Rattle.fb_declare.specs.FaultRows.{when, faults_in_turn, misplaced_type, field_type}
 use Rattle.fb_declare.specs.TypeFaults.{attribute_host, field_behind, table_faults, names_of_field}
-use Rattle.fb_resolve.specs.declared.attributes.BuiltInAttribute.TheVariants.{Required}
+use Rattle.fb_syntax.specs.declared.attributes.BuiltInAttribute.TheVariants.{Required}
 use Rattle.fb_declare.specs.declared.attribute_faults.AttributeHost.TheVariants as hosts
 use Rattle.fb_declare.specs.declared.faults.SchemaFault.TheVariants.{BadIds}
 use Rattle.fb_resolve.specs.declared.meanings.Meaning.{Meaning}
@@ -147,7 +147,7 @@ names_numbered fs all (more f gs slot rest n) = map-append (λ s. s.name) (slots
 -- ---- marks
 
 -- `required` isn't written at a scalar
-no_required : (declared : Name → Bool) (attributes : List Attribute) (required : Bool) → required ≡ has_attribute Required attributes → metadata_faults declared hosts.ScalarField attributes ≡ [] → required ≡ false
+no_required : (declared : Name → Bool) (attributes : List AttributeRead) (required : Bool) → required ≡ has_attribute Required attributes → metadata_faults declared hosts.ScalarField attributes ≡ [] → required ≡ false
 no_required declared attributes false has h = refl
 no_required declared attributes true has h = let x = noted_stands declared hosts.ScalarField attributes h Required (sym has) in absurd (true≢false (sym x.1))
 

@@ -1,9 +1,9 @@
 -- What the uses of names mean in the schema that an outline with no fault gives, each type of it by what declares it, and the enums that fields name.
-use Rattle.std.proofs.Common.{◌≡◌, ℕ, zero, suc, Bool, List, ◌∷◌, map, get_or, false, true≢false, refl, sym, subst, arith, Option, None, Some, IsTrue, [], ℤ, IfSome, ◌∙◌, take, ap, slice_get}
-use Rattle.std.specs.List.{slice_get, All, AllZip, find, list_any}
+use Rattle.std.proofs.Common.{◌≡◌, ℕ, zero, suc, Bool, List, ◌∷◌, map, get_or, false, true≢false, refl, sym, subst, arith, Option, None, Some, IsTrue, [], ℤ, IfSome, ◌∙◌, take, ap, slice_get, append_assoc, ◌++◌}
+use Rattle.std.specs.List.{slice_get, All, AllZip, find}
 use Rattle.std.specs.Option.{is_none, unwrap_or, option_map, option_or, option_and_then}
 use Rattle.std.proofs.lemmas.List.Elements.{All-map, All-head, All-tail}
-use Rattle.std.proofs.lemmas.Option.{slice_get_within, same_Some, slice_get-map}
+use Rattle.std.proofs.lemmas.Option.{none-some, slice_get_within, same_Some, slice_get-map}
 use Rattle.fb_syntax.specs.FieldRead.{FieldRead}
 use Rattle.fb_syntax.specs.declared.declarations.TypeDecl.{TypeDecl}
 use Rattle.fb_syntax.specs.declared.declarations.TypeDecl.TheVariants as decls
@@ -12,17 +12,17 @@ use Rattle.fb_schema.specs.WellDeclared.{Names, KindNames, InRange}
 use Rattle.fb_schema.specs.declared.kinds.Base.{Base}
 use Rattle.fb_schema.specs.declared.kinds.Kind.{Kind}
 use Rattle.fb_schema.specs.declared.kinds.Kind.TheVariants.{Table, Code, Text}
-use Rattle.fb_resolve.specs.Outline.{TypeRead, Outline, full_name, name_of_type}
+use Rattle.fb_resolve.specs.Outline.{TypeRead, Outline, full_name}
 use Rattle.fb_resolve.specs.Scopes.{type_meant}
 use Rattle.fb_resolve.specs.Attributes.{has_attribute, number_called}
 use Rattle.fb_resolve.specs.BasicTypes.{basic_type, is_text_type, is_float_type}
 use Rattle.fb_resolve.specs.Defaults.{given_by}
-use Rattle.fb_resolve.specs.EnumsRead.{has_flags, underlying_at, value_at, number_named, value_named, behind, underlying_in, underlying_of_read, value_in, value_of_read, values_read}
+use Rattle.fb_resolve.specs.EnumsRead.{has_flags, underlying_at, value_at, number_named, value_named, behind, enum_values, enum_values_of, value_in, value_of_read, values_read}
 use Rattle.fb_resolve.specs.Meaning.{use_of, use_of_read, use_of_type, or_scalar, meaning_of, type_name}
 use Rattle.fb_resolve.specs.MembersRead.{table_of}
 use Rattle.fb_resolve.specs.ResolvedFields.{ResolvedField}
 use Rattle.fb_resolve.specs.Resolved.{resolved_field, resolved_fields, resolved_member, resolved_declaration, resolved_type, resolved_enum, resolved_types}
-use Rattle.fb_resolve.specs.declared.attributes.BuiltInAttribute.TheVariants.{Required, ForceAlign}
+use Rattle.fb_syntax.specs.declared.attributes.BuiltInAttribute.TheVariants.{Required, ForceAlign}
 use Rattle.fb_resolve.specs.declared.meanings.Meaning.{Meaning}
 use Rattle.fb_resolve.specs.declared.meanings.Meaning.TheVariants.{Known, Float}
 use Rattle.fb_resolve.specs.declared.resolved.ResolvedDecl.{ResolvedDecl}
@@ -32,12 +32,10 @@ use Rattle.fb_declare.proofs.FaultFree.{either, none_behind, type_right}
 use Rattle.std.specs.Str.{bytes_eq}
 use Rattle.fb_syntax.specs.TypesRead.{EnumRead}
 use Rattle.fb_declare.proofs.EnumsKept.{enum_kept}
-use Rattle.fb_declare.specs.FaultRows.{faults_in_turn, is_again}
+use Rattle.fb_declare.specs.FaultRows.{faults_in_turn}
+use Rattle.fb_resolve.specs.RepeatedNames.{is_again, again_behind, repeated_names}
 use Rattle.fb_declare.specs.TypeFaults.{declaration_faults, aligns_from, type_behind, declared_in}
-use Rattle.std.proofs.lemmas.List.{take-map}
-use Rattle.fb_resolve.specs.RepeatedNames.{AreRepeats}
-use Rattle.fb_resolve.specs.ResolvedType.{ResolvedType}
-use Rattle.fb_declare.proofs.Least.{list_any-map}
+use Rattle.std.proofs.lemmas.List.{append-nil}
 
 -- ---- what is known of a declaration that is resolved
 
@@ -145,7 +143,7 @@ module _ (P : ℤ → Type 0) (values : List (Name × ℤ)) (h : All (λ v. P v.
 
 -- the alignments of the types before one
 abbrev pub aligns_before : List TypeRead → ℕ → List ℕ
-aligns_before types t = aligns_from types [] (take t (resolved_types types))
+aligns_before types t = aligns_from (resolved_types types) [] (take t (resolved_types types))
 
 -- the type of a number, resolved
 pub resolved_at : (types : List TypeRead) (t : ℕ) (r : TypeRead) → slice_get types t ≡ Some r → slice_get (resolved_types types) t ≡ Some (resolved_type types r)
@@ -156,14 +154,14 @@ pub record IsDeclaredBy (o : Outline) (t : ℕ) (body : DeclaredBody) : Type 0 w
   pub read : TypeRead
   pub at : slice_get o.types t ≡ Some read
   pub has : HasBody (resolved_declaration o.types read.scope read.declaration) body
-  pub right : declaration_faults o.types (declared_in o) (aligns_before o.types t) (resolved_declaration o.types read.scope read.declaration) ≡ []
+  pub right : declaration_faults (resolved_types o.types) (declared_in o) (aligns_before o.types t) (resolved_declaration o.types read.scope read.declaration) ≡ []
 
 -- what an enum's declaration says of its body: its underlying type, and that its values are in range
 abbrev IsEnumKept : Option Base → (Name → Option ℤ) → DeclaredBody → Type 0
 IsEnumKept under value body = (under ≡ Some (base_in body)) × ((name : Name) → IfSome (value name) (InRange (base_in body)))
 
-enum_facts : (types : List TypeRead) (declared : Name → Bool) (lower : List ℕ) (scope : Option Name) (d : TypeDecl) (b : DeclaredBody) → declaration_faults types declared lower (resolved_declaration types scope d) ≡ []
-    → HasBody (resolved_declaration types scope d) b → IsTrue (is_enum b) → IsEnumKept (underlying_in types scope d) (value_in types scope d) b
+enum_facts : (types : List TypeRead) (declared : Name → Bool) (lower : List ℕ) (scope : Option Name) (d : TypeDecl) (b : DeclaredBody) → declaration_faults (resolved_types types) declared lower (resolved_declaration types scope d) ≡ []
+    → HasBody (resolved_declaration types scope d) b → IsTrue (is_enum b) → IsEnumKept (enum_values types scope d).base (value_in types scope d) b
 enum_facts types declared lower scope (decls.Enum e) (enum_body base flags values) h has is =
     let kept = enum_kept declared (resolved_enum types scope e) refl h in (
       kept.0 ∙ ap Some (sym has.0),
@@ -176,14 +174,14 @@ enum_facts types declared lower scope d b h has is = absurd (true≢false (sym i
 abbrev pub AreEnumsKept : List TypeRead → DeclaredSchema → Type 0
 AreEnumsKept types S = (e : ℕ) → Names is_enum S e → IsEnumKept (underlying_at types e) (value_at types e) (body_at S e)
 
-module _ (o : Outline) (S : DeclaredSchema) (g : Gives o S) (none : faults_in_turn (type_behind o.types (declared_in o)) (resolved_types o.types) ≡ []) where
+module _ (o : Outline) (S : DeclaredSchema) (g : Gives o S) (none : faults_in_turn (type_behind (resolved_types o.types) (declared_in o)) (resolved_types o.types) ≡ []) where
   pub type_at : (t : ℕ) (type : DeclaredType) → slice_get S.types t ≡ Some type → IsDeclaredBy o t type.body
   type_at t type e = let x = at_right IsType (resolved_type o.types) o.types S.types g.types t type e in record {
     read = x.0;
     at = x.1;
     has = x.2.body;
-    right = (type_right o.types (declared_in o) (take t (resolved_types o.types)) (resolved_type o.types x.0)
-        (none_behind (type_behind o.types (declared_in o)) [] (resolved_types o.types) none t (resolved_type o.types x.0) (resolved_at o.types t x.0 x.1))).1;
+    right = (type_right (resolved_types o.types) (declared_in o) (take t (resolved_types o.types)) (resolved_type o.types x.0)
+        (none_behind (type_behind (resolved_types o.types) (declared_in o)) [] (resolved_types o.types) none t (resolved_type o.types x.0) (resolved_at o.types t x.0 x.1))).1;
   }
 
   -- a body that passes a test which an absent one fails
@@ -198,14 +196,16 @@ module _ (o : Outline) (S : DeclaredSchema) (g : Gives o S) (none : faults_in_tu
   unfolding value_at
   enums_kept e named =
       let x = body_at_by is_enum e refl named.1 in
-      subst (λ r. IsEnumKept (underlying_of_read o.types r) (value_of_read o.types r) (body_at S e)) (sym x.at)
+      subst (λ r. IsEnumKept (option_and_then (λ q. (enum_values_of o.types q).base) r) (value_of_read o.types r) (body_at S e)) (sym x.at)
       (enum_facts o.types (declared_in o) (aligns_before o.types e) x.read.scope x.read.declaration (body_at S e) x.right x.has named.1)
 
--- what is told of a type's name among those before it
-pub repeated : (rs : List ResolvedType) (repeats : List Bool) → AreRepeats (map (λ r. r.read) rs) repeats → (i : ℕ) (r : ResolvedType) → slice_get rs i ≡ Some r
-    → slice_get repeats i ≡ Some (is_again bytes_eq (λ q. name_of_type q.read) (take i rs) r)
-repeated rs repeats told i r at =
-    let name = name_of_type r.read in
-    told i r.read (slice_get-map (λ q. q.read) rs i ∙ ap (option_map (λ q. q.read)) at)
-    ∙ ap Some (ap (list_any (λ q. bytes_eq name (name_of_type q))) (take-map (λ q. q.read) i rs) ∙ list_any-map (λ q. bytes_eq name (name_of_type q)) (λ q. q.read) (take i rs)
-    ∙ sym (list_any-map (bytes_eq name) (λ q. name_of_type q.read) (take i rs)))
+-- whether an element has the key of one before it
+told_again : {X K : Type 0} (eq : K → K → Bool) (key : X → K) (before xs : List X) (i : ℕ) (x : X) → slice_get xs i ≡ Some x
+    → slice_get (again_behind eq key before xs) i ≡ Some (is_again eq key (before ++ take i xs) x)
+told_again eq key before [] i x e = absurd (none-some x e)
+told_again eq key before (y ∷ xs) zero x e = ap Some (ap (is_again eq key before) (same_Some y x e) ∙ ap (λ b. is_again eq key b x) (sym (append-nil before)))
+told_again eq key before (y ∷ xs) (suc i) x e = told_again eq key (before ++ y ∷ []) xs i x e ∙ ap (λ b. Some (is_again eq key b x)) (append_assoc before (y ∷ []) (take i xs))
+
+pub told_among : {X : Type 0} (name : X → Name) (repeats : List Bool) (xs : List X) (i : ℕ) (x : X) → repeats ≡ repeated_names name xs → slice_get xs i ≡ Some x
+    → slice_get repeats i ≡ Some (is_again bytes_eq name (take i xs) x)
+told_among name repeats xs i x told at = ap (λ bs. slice_get bs i) told ∙ told_again bytes_eq name [] xs i x at

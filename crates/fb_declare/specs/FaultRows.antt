@@ -1,6 +1,6 @@
 -- Where each rule on declarations fails: of names, types, defaults, ids, structs, enums, unions, the root and the identifier.
 -- From the FlatBuffers documentation, "Writing a schema".
-use Rattle.std.specs.Prelude.{ℕ, ◌==◌, ◌++◌, ◌&&◌, ◌||◌, not, Bool, false, List, [], ◌∷◌, length, map, Option, None, Some, ℤ, codes, if◌then◌else◌, nat_le}
+use Rattle.std.specs.Prelude.{ℕ, ◌==◌, ◌++◌, ◌&&◌, ◌||◌, not, Bool, false, List, [], ◌∷◌, length, Option, None, Some, ℤ, codes, if◌then◌else◌, nat_le}
 use Rattle.std.specs.List.{list_any, list_all}
 use Rattle.std.specs.Option.{is_none}
 use Rattle.std.specs.Ordering.{int_eq}
@@ -12,6 +12,7 @@ use Rattle.fb_syntax.specs.declared.declarations.DefaultValue.{DefaultValue}
 use Rattle.fb_syntax.specs.declared.declarations.DefaultValue.TheVariants.{Integer, Name as Named}
 use Rattle.fb_schema.specs.Schema.{Name}
 use Rattle.fb_resolve.specs.Outline.{RootRead}
+use Rattle.fb_resolve.specs.RepeatedNames.{is_again}
 use Rattle.fb_resolve.specs.Meaning.{type_name}
 use Rattle.fb_resolve.specs.EnumsRead.{may_be_written, integer_type}
 use Rattle.fb_resolve.specs.MembersRead.{table_of}
@@ -42,10 +43,6 @@ faults_in_turn rule xs = faults_behind rule [] xs
 -- a name that is one of some names
 abbrev pub is_among : Name → List Name → Bool
 is_among name names = list_any (bytes_eq name) names
-
--- an element with the key of one before it
-abbrev pub is_again : {X K : Type 0} → (K → K → Bool) → (X → K) → List X → X → Bool
-is_again eq key before x = list_any (eq (key x)) (map key before)
 
 -- a name, at this offset, that is among those before it
 abbrev pub name_again : ℕ → List Name → Name → List SchemaFault

@@ -10,8 +10,8 @@ ghost use Rattle.fb_declare.specs.NamesMet.{is_met};
 
 use crate::faults::{SchemaFault, earlier, when};
 use crate::names_met::meet;
-use fb_resolve::{BuiltInAttribute, built_in_attribute, is_alignment};
-use fb_syntax::{Attribute, AttributeValue};
+use fb_resolve::is_alignment;
+use fb_syntax::{Attribute, AttributeValue, BuiltInAttribute};
 use std::alloc::{AllocError, Global};
 use std::collections::BTreeSet;
 
@@ -83,7 +83,7 @@ fn attribute_fault(
 {
     let at = attribute.name.at;
     let name = attribute.name.text;
-    let built_in = built_in_attribute(name);
+    let built_in = attribute.built_in;
     let is_field = matches!(
         host,
         AttributeHost::ScalarField | AttributeHost::TableField | AttributeHost::StructField

@@ -7,8 +7,7 @@ ghost use Rattle.fb_declare.specs.TypeFaults.{host_of_enum, enum_faults};
 
 use crate::attribute_faults::{AttributeHost, metadata_fault};
 use crate::faults::{SchemaFault, earlier, when};
-use crate::names_met::meet;
-use fb_resolve::{Meaning, ResolvedEnum, ResolvedValue, integer_type, may_be_written};
+use fb_resolve::{EnumValues, Meaning, ResolvedEnum, integer_type, may_be_written};
 use fb_schema::Base;
 use std::alloc::{AllocError, Global};
 use std::collections::BTreeSet;
@@ -46,21 +45,21 @@ fn is_bad_number(base: Option<Base>, flags: bool, number: i128, again: bool) -> 
 /// The least fault of an enum's values. The only error is a refused allocation.
 fn values_fault(
     alloc: Global,
-    base: Option<Base>,
-    flags: bool,
-    values: &[ResolvedValue<'_, '_>],
+    values: &EnumValues<'_, '_>,
 ) -> Result<Option<SchemaFault>, AllocError>
-    ensures { IfOk result (λ f. f ≡ least_of (faults_in_turn (value_faults base flags) values.now)) }
+    ensures { IfOk result (λ f. f ≡ least_of
+        (faults_in_turn (value_faults values.now.base values.now.bit_flags) values.now.values)) }
 {
+    let base = values.base;
+    let flags = values.bit_flags;
+    let repeats = values.repeats.as_slice();
     let mut least = None;
-    let mut names = BTreeSet::new(alloc);
     let mut numbers = BTreeSet::new(alloc);
-    for resolved in values {
+    for (place, resolved) in values.values.as_slice().iter().enumerate() {
         let name = &resolved.value.name;
-        let again = meet(&mut names, name.text)?;
         let is_new = numbers.insert(resolved.number)?;
         let is_bad = is_bad_number(base, flags, resolved.number, !is_new);
-        let bad_name = when(again, SchemaFault::DuplicateName(name.at));
+        let bad_name = when(repeats[place], SchemaFault::DuplicateName(name.at));
         let bad_number = when(is_bad, SchemaFault::BadEnumValue(name.at));
         least = earlier(least, earlier(bad_name, bad_number));
     }
@@ -71,17 +70,16 @@ fn values_fault(
 pub(crate) fn enum_fault(
     alloc: Global,
     declared: &BTreeSet<&[u8]>,
-    resolved: &ResolvedEnum<'_, '_>,
+    resolved: &ResolvedEnum<'_, '_, '_>,
 ) -> Result<Option<SchemaFault>, AllocError>
     ensures { IfOk result (λ f. f ≡ least_of (enum_faults (is_met declared.now) resolved.now)) }
 {
     let read = resolved.declared;
     let meaning = resolved.underlying;
-    let values = resolved.values.as_slice();
-    let base = integer_type(meaning);
+    let values = resolved.values;
     let under = underlying_fault(meaning, read.underlying.at());
-    let host = host_of_enum(base);
+    let host = host_of_enum(values.base);
     let metadata = metadata_fault(alloc, declared, host, read.attributes.as_slice())?;
-    let in_values = values_fault(alloc, base, resolved.bit_flags, values)?;
+    let in_values = values_fault(alloc, values)?;
     Ok(earlier(earlier(under, metadata), in_values))
 }

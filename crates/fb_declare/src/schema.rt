@@ -34,14 +34,8 @@ fn least_fault(
 {
     let outline = resolved.outline;
     let declared = names_met(alloc, outline.attributes.as_slice())?;
-    let types = outline.types.as_slice();
-    let in_types = types_fault(
-        alloc,
-        &declared,
-        types,
-        resolved.types.as_slice(),
-        resolved.repeats,
-    )?;
+    let types = resolved.types.as_slice();
+    let in_types = types_fault(alloc, &declared, types, resolved.repeats)?;
     let root = root_fault(outline.text_len, outline.root.as_ref(), resolved.root);
     let identifier = identifier_fault(outline.identifier);
     Ok(earlier(earlier(in_types, root), identifier))

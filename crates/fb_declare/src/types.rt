@@ -1,8 +1,9 @@
 //! Types: the least of their faults, and what they give.
 ghost use Rattle.std.specs.Prelude.{◌≡◌, ℕ, List, IfOk, length, map};
-ghost use Rattle.fb_resolve.specs.Outline.{TypeRead};
+ghost use Rattle.fb_resolve.specs.Outline.{name_of_type};
 ghost use Rattle.fb_resolve.specs.StructsRead.{natural_of_type};
-ghost use Rattle.fb_resolve.specs.RepeatedNames.{AreRepeats};
+ghost use Rattle.fb_resolve.specs.RepeatedNames.{repeated_names};
+ghost use Rattle.fb_resolve.specs.ResolvedType.{ResolvedType as Resolved};
 ghost use Rattle.fb_declare.specs.Faults.{least_of};
 ghost use Rattle.fb_declare.specs.FaultRows.{faults_in_turn};
 ghost use Rattle.fb_declare.specs.NamesMet.{is_met};
@@ -17,8 +18,8 @@ use crate::faults::{SchemaFault, earlier, when};
 use crate::tables::{struct_fault, table_fault};
 use crate::unions::{members_read, union_fault};
 use fb_resolve::{
-    ResolvedDecl, ResolvedType, TypeRead, align_of_type, forced_align, integer_type, is_reserved,
-    name_of_type, natural_of_type, parts_read, table_slots, values_over, word_of,
+    ResolvedDecl, ResolvedType, align_of_type, forced_align, is_reserved, name_of_type,
+    natural_of_type, parts_read, table_slots, values_over, word_of,
 };
 use fb_schema::{Base, Body, TypeInfo};
 use std::alloc::{AllocError, Global};
@@ -34,7 +35,7 @@ fn type_fault(
     again: bool,
     resolved: &ResolvedType<'_, '_, '_>,
 ) -> Result<Option<SchemaFault>, AllocError>
-    ensures { (types : List TypeRead) (lower : List ℕ) → length lower ≡ number
+    ensures { (types : List Resolved) (lower : List ℕ) → length lower ≡ number
         → natural_of_type types lower resolved.now ≡ natural
         → IfOk result (λ f. f ≡ least_of
         (type_faults types (is_met declared.now) lower again resolved.now)) }
@@ -57,17 +58,16 @@ fn type_fault(
 pub(crate) fn types_fault(
     alloc: Global,
     declared: &BTreeSet<&[u8]>,
-    types: &[TypeRead<'_, '_>],
-    resolved: &[ResolvedType<'_, '_, '_>],
+    types: &[ResolvedType<'_, '_, '_>],
     repeats: &[bool],
 ) -> Result<Option<SchemaFault>, AllocError>
-    requires { AreRepeats (map (λ r. r.read) resolved.now) repeats.now }
+    requires { repeats.now ≡ repeated_names (λ r. name_of_type r.read) types.now }
     ensures { IfOk result (λ f. f ≡ least_of
-        (faults_in_turn (type_behind types.now (is_met declared.now)) resolved.now)) }
+        (faults_in_turn (type_behind types.now (is_met declared.now)) types.now)) }
 {
     let mut least = None;
-    let mut lower = Vec::with_capacity(alloc, resolved.len())?;
-    for (number, read) in resolved.iter().enumerate() {
+    let mut lower = Vec::with_capacity(alloc, types.len())?;
+    for (number, read) in types.iter().enumerate() {
         let natural = natural_of_type(types, lower.as_slice(), read);
         let fault = type_fault(alloc, declared, number, natural, repeats[number], read)?;
         least = earlier(least, fault);
@@ -76,7 +76,7 @@ pub(crate) fn types_fault(
     Ok(least)
 }
 
-fn body_of(alloc: Global, declaration: ResolvedDecl<'_, '_>) -> Result<Body, AllocError>
+fn body_of(alloc: Global, declaration: ResolvedDecl<'_, '_, '_>) -> Result<Body, AllocError>
     requires { IsBuildable declaration }
     ensures { IfOk result (λ b. HasBody declaration.entry (body_seen b)) }
 {
@@ -87,10 +87,10 @@ fn body_of(alloc: Global, declaration: ResolvedDecl<'_, '_>) -> Result<Body, All
             Ok(Body::Struct(parts, forced_align(0, table.force_align)))
         }
         ResolvedDecl::Enum(resolved) => {
-            let under = integer_type(resolved.underlying);
-            let flags = resolved.bit_flags;
-            let values = values_over(alloc, under, flags, resolved.values.as_slice())?;
-            Ok(Body::Enum(under.unwrap_or(Base::U8), flags, values))
+            let values = resolved.values;
+            let flags = values.bit_flags;
+            let named = values_over(alloc, values.base, flags, values.values.as_slice())?;
+            Ok(Body::Enum(values.base.unwrap_or(Base::U8), flags, named))
         }
         ResolvedDecl::Union(union) => Ok(Body::Union(members_read(alloc, union.members)?)),
     }

@@ -5,7 +5,8 @@ ghost use Rattle.fb_resolve.specs.MembersRead.{member_read};
 ghost use Rattle.fb_resolve.specs.ResolvedFields.{ResolvedMember as Member};
 ghost use Rattle.fb_declare.specs.Faults.{least_of};
 ghost use Rattle.fb_declare.specs.NamesMet.{is_met};
-ghost use Rattle.fb_declare.specs.FaultRows.{faults_in_turn, is_again, member_faults};
+ghost use Rattle.fb_declare.specs.FaultRows.{faults_in_turn, member_faults};
+ghost use Rattle.fb_resolve.specs.RepeatedNames.{is_again};
 ghost use Rattle.fb_declare.specs.TypeFaults.{union_faults};
 
 use crate::attribute_faults::{AttributeHost, metadata_fault};

@@ -3,5 +3,4 @@ pub mod Steps
 pub mod Behind
 pub mod PlacesTaken
 pub mod InOrder
-pub mod Numbers
 pub mod PathsKept

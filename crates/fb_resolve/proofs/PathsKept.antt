@@ -18,7 +18,8 @@ use Rattle.fb_syntax.specs.declared.declarations.TypeDecl.TheVariants.{Table, St
 use Rattle.fb_resolve.specs.Meaning.{type_name}
 
 pub use_kept : (old new : PathTree) (name : Name) → KeepsPaths old new → IsUse old name → IsUse new name
-use_kept old new name kept known = λ free. let n = known free in (n.0, kept n.0 _ n.1)
+unfolding IsUse
+use_kept old new name kept used = (used.0, kept used.0 _ used.1)
 
 -- the names that some things use
 all_kept : {X : Type 0} (use_in : X → Name) (old new : PathTree) (xs : List X) → KeepsPaths old new → All (λ x. IsUse old (use_in x)) xs → All (λ x. IsUse new (use_in x)) xs

@@ -16,13 +16,13 @@ use Rattle.fb_resolve.specs.Outline.{TypeRead, full_name}
 use Rattle.fb_schema.specs.Ranges.{holds}
 use Rattle.fb_resolve.specs.Meaning.{meaning_of}
 use Rattle.fb_resolve.specs.Attributes.{has_attribute}
-use Rattle.fb_resolve.specs.ResolvedFields.{ResolvedValue}
+use Rattle.fb_resolve.specs.ResolvedFields.{ResolvedValue, EnumValues}
 use Rattle.fb_schema.specs.declared.kinds.Base.{Base}
 use Rattle.fb_schema.specs.declared.kinds.Base.TheVariants.{Bool as Boolean, U8}
 use Rattle.fb_schema.specs.declared.kinds.Kind.TheVariants.{Scalar}
 use Rattle.fb_resolve.specs.declared.meanings.Meaning.{Meaning}
 use Rattle.fb_resolve.specs.declared.meanings.Meaning.TheVariants.{Known}
-use Rattle.fb_resolve.specs.declared.attributes.BuiltInAttribute.TheVariants.{BitFlags}
+use Rattle.fb_syntax.specs.declared.attributes.BuiltInAttribute.TheVariants.{BitFlags}
 
 -- an integer type, which a `bool` isn't
 abbrev pub integer_type : Meaning → Option Base
@@ -33,18 +33,6 @@ integer_type _ = None
 -- the underlying type of an enum, if it is an integer type
 abbrev pub underlying : List TypeRead → Option Name → EnumRead → Option Base
 underlying types scope e = integer_type (meaning_of types scope e.underlying.bytes)
-
-abbrev pub underlying_in : List TypeRead → Option Name → TypeDecl → Option Base
-underlying_in types scope (decls.Enum e) = underlying types scope e
-underlying_in types scope _ = None
-
-abbrev pub underlying_of_read : List TypeRead → Option TypeRead → Option Base
-underlying_of_read types None = None
-underlying_of_read types (Some r) = underlying_in types r.scope r.declaration
-
--- the underlying type of the enum of a number
-abbrev pub underlying_at : List TypeRead → ℕ → Option Base
-underlying_at types t = underlying_of_read types (slice_get types t)
 
 abbrev pub has_flags : EnumRead → Bool
 has_flags e = has_attribute BitFlags e.attributes
@@ -63,10 +51,24 @@ values_from next (v ∷ vs) = let n = written_number next v in
 abbrev pub resolved_values : List EnumValue → List ResolvedValue
 resolved_values vs = values_from (pos 0) vs
 
--- those of a type; none for a type that is no enum
-abbrev pub values_declared : TypeDecl → List ResolvedValue
-values_declared (decls.Enum e) = resolved_values e.values
-values_declared _ = []
+-- what an enum is over, and its values; no type and none where a type is no enum
+abbrev pub enum_values : List TypeRead → Option Name → TypeDecl → EnumValues
+enum_values types scope (decls.Enum e) = record {
+  base = underlying types scope e;
+  bit_flags = has_flags e;
+  values = resolved_values e.values;
+}
+enum_values types scope _ = record { base = None; bit_flags = false; values = [] }
+
+abbrev pub enum_values_of : List TypeRead → TypeRead → EnumValues
+enum_values_of types r = enum_values types r.scope r.declaration
+
+-- the underlying type of the enum of a number
+abbrev pub underlying_at : List TypeRead → ℕ → Option Base
+underlying_at types t = option_and_then (λ r. (enum_values_of types r).base) (slice_get types t)
+
+abbrev pub name_of_value : ResolvedValue → Name
+name_of_value v = v.value.name.bytes
 
 -- with `bit_flags` a written number is that of a bit
 abbrev pub is_bit_of : Base → ℤ → Bool
@@ -92,7 +94,7 @@ base_or_ubyte b = unwrap_or b U8
 
 -- the name and number that a value has in an enum over a type
 abbrev pub value_over : Base → Bool → ResolvedValue → Name × ℤ
-value_over base flags v = (v.value.name.bytes, value_number base flags v.number)
+value_over base flags v = (name_of_value v, value_number base flags v.number)
 
 -- those of the values of an enum
 abbrev pub values_over : Option Base → Bool → List ResolvedValue → List (Name × ℤ)
@@ -100,14 +102,6 @@ values_over base flags values = map (value_over (base_or_ubyte base) flags) valu
 
 abbrev pub values_read : List TypeRead → Option Name → EnumRead → List (Name × ℤ)
 values_read types scope e = values_over (underlying types scope e) (has_flags e) (resolved_values e.values)
-
-abbrev pub values_in : List TypeRead → Option Name → TypeDecl → List (Name × ℤ)
-values_in types scope (decls.Enum e) = values_read types scope e
-values_in types scope _ = []
-
--- the values of the enum of a number; none of another type
-abbrev pub values_at : List TypeRead → ℕ → List (Name × ℤ)
-values_at types t = option_map_or (λ r. values_in types r.scope r.declaration) (slice_get types t) []
 
 -- the number of the first value of a name
 unfoldable pub number_named : List (Name × ℤ) → Name → Option ℤ

@@ -1,6 +1,6 @@
 -- The paths of a text's namespaces and types, and the names that it uses for types.
 -- From the FlatBuffers documentation, "Writing a schema": Namespaces, Types.
-use Rattle.std.specs.Prelude.{ℕ, ◌≡◌, All, List, Option, Some, slice_get, false}
+use Rattle.std.specs.Prelude.{ℕ, ◌≡◌, All, List, Option, Some, map, slice_get}
 use Rattle.std.specs.List.{AllZip}
 use Rattle.std.specs.Option.{ForSome, option_copied}
 use Rattle.fb_scopes.specs.Words.{Path, words}
@@ -9,7 +9,8 @@ use Rattle.fb_scopes.specs.Scopes.{tree_of, names_of, AreScopes, IsUsed}
 use Rattle.fb_scopes.specs.declared.path_tree.PathTree.{PathTree}
 use Rattle.fb_resolve.specs.Outline.{TypeRead, RootRead, name_of_type}
 use Rattle.fb_resolve.specs.Scopes.{words_of_scope, paths_of_types}
-use Rattle.fb_resolve.specs.RepeatedNames.{AreRepeats}
+use Rattle.fb_resolve.specs.RepeatedNames.{repeated_names}
+use Rattle.fb_resolve.specs.EnumsRead.{enum_values_of}
 use Rattle.fb_resolve.specs.declared.outline.Names.{Names}
 use Rattle.fb_resolve.specs.declared.walk.Walk.TheInside.{Inside}
 use Rattle.fb_syntax.specs.FieldRead.{FieldRead}
@@ -17,16 +18,15 @@ use Rattle.fb_syntax.specs.declared.declarations.UnionMember.{UnionMember}
 use Rattle.fb_syntax.specs.declared.declarations.TypeDecl.{TypeDecl}
 use Rattle.fb_syntax.specs.declared.declarations.TypeDecl.TheVariants.{Table, Struct, Enum, Union}
 use Rattle.fb_schema.specs.Schema.{Name}
-use Rattle.fb_resolve.specs.BasicTypes.{is_reserved}
 use Rattle.fb_resolve.specs.Meaning.{type_name}
 
 -- a number is that of a path
 abbrev pub IsPath : PathTree → ℕ → Path → Type 0
 IsPath tree n path = slice_get (paths tree) n ≡ Some path
 
--- a name that isn't a basic type's is among those that are used
-abbrev pub IsUse : PathTree → Name → Type 0
-IsUse used name = is_reserved name ≡ false → IsUsed used name
+-- a name is among those that are used
+unfoldable pub IsUse : PathTree → Name → Type 0
+IsUse used name = IsUsed used name
 
 -- so are the names of all fields' types
 abbrev pub AreFieldUses : PathTree → List FieldRead → Type 0
@@ -57,10 +57,11 @@ pub record IsPlaced (w : Inside) : Type 0 where
   pub uses : All (λ r. AreUses w.used r.declaration) w.types.items
   pub root : IsRootPlaced w.tree w.used w.root_path w.root
 
--- Each name has its meaning in each namespace, these are the namespaces' paths, and repeated names are marked.
-pub record AreNames (n : Names) (types : List TypeRead) (rooted : Option RootRead) : Type 0 where
+-- Each name has its meaning in each namespace, these are the namespaces' paths, repeated names are marked, and
+-- each enum has its values.
+pub record AreNames (n : Names) (types : List TypeRead) : Type 0 where
   pub scopes : AreScopes n.scopes (paths_of_types types)
   pub namespaces : AllZip (λ k r. IsPath (tree_of n.scopes) k (words_of_scope r.scope)) n.namespaces.items types
   pub uses : All (λ r. AreUses (names_of n.scopes) r.declaration) types
-  pub root : IsRootPlaced (tree_of n.scopes) (names_of n.scopes) n.root rooted
-  pub repeats : AreRepeats types n.repeats.items
+  pub repeats : n.repeats.items ≡ repeated_names name_of_type types
+  pub values : n.values.items ≡ map (enum_values_of types) types

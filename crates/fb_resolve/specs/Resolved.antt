@@ -15,7 +15,7 @@ use Rattle.fb_resolve.specs.Defaults.{given_by}
 use Rattle.fb_resolve.specs.MembersRead.{member_name}
 use Rattle.fb_resolve.specs.ResolvedFields.{ResolvedField, ResolvedTable, ResolvedEnum, ResolvedMember}
 use Rattle.fb_resolve.specs.ResolvedType.{ResolvedType}
-use Rattle.fb_resolve.specs.declared.attributes.BuiltInAttribute.TheVariants.{ForceAlign}
+use Rattle.fb_syntax.specs.declared.attributes.BuiltInAttribute.TheVariants.{ForceAlign}
 use Rattle.fb_resolve.specs.declared.meanings.Meaning.{Meaning}
 use Rattle.fb_resolve.specs.declared.meanings.Meaning.TheVariants.{Unknown}
 use Rattle.fb_resolve.specs.declared.resolved.ResolvedDecl.{ResolvedDecl}

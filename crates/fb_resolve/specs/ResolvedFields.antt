@@ -5,6 +5,7 @@ use Rattle.fb_syntax.specs.FieldRead.{FieldRead}
 use Rattle.fb_syntax.specs.TypesRead.{TableRead, EnumRead, UnionRead}
 use Rattle.fb_syntax.specs.declared.declarations.EnumValue.{EnumValue}
 use Rattle.fb_syntax.specs.declared.declarations.UnionMember.{UnionMember}
+use Rattle.fb_schema.specs.declared.kinds.Base.{Base}
 use Rattle.fb_resolve.specs.declared.attributes.FieldAttributes.{FieldAttributes}
 use Rattle.fb_resolve.specs.declared.defaults.Given.{Given}
 use Rattle.fb_resolve.specs.declared.meanings.Meaning.{Meaning}
@@ -26,6 +27,12 @@ pub record ResolvedTable : Type 0 where
 pub record ResolvedValue : Type 0 where
   pub value : EnumValue
   pub number : ℤ
+
+-- what an enum is over, if that is an integer type, whether it has `bit_flags`, and its values
+pub record EnumValues : Type 0 where
+  pub base : Option Base
+  pub bit_flags : Bool
+  pub values : List ResolvedValue
 
 -- an enum, what its underlying type's name means, whether it has `bit_flags`, and its values
 pub record ResolvedEnum : Type 0 where

@@ -3,15 +3,14 @@ ghost use Rattle.std.specs.Prelude.{◌≡◌};
 ghost use Rattle.std.specs.Option.{option_copied};
 ghost use Rattle.fb_resolve.specs.Defaults.{number_within, null_or_wrong, given_to, given_by};
 
-use crate::enums::underlying_at;
 use crate::meanings::Meaning;
+use crate::scope::Scope;
 use crate::value_names::value_at;
-use crate::value_numbers::TypesRead;
 use fb_schema::{Base, Kind};
 use fb_syntax::{DefaultValue, FieldType};
 
 /// What a default gives: a number, no number but the mark that the field is optional, or nothing.
-#[derive(Clone, Copy, Debug, PartialEq, Eq, Drop)]
+#[derive(Clone, Copy, Drop)]
 pub enum Given {
     Number(i128),
     Null,
@@ -41,11 +40,11 @@ fn null_or_wrong(name: &str) -> Given
 /// What a default gives to one value of a type.
 #[tactic(auto, unfolding(crate::specs::Defaults::given_to))]
 pub(crate) fn given_to(
-    types: TypesRead<'_, '_, '_>,
+    scope: Scope<'_, '_, '_>,
     meaning: Meaning,
     default: &DefaultValue<'_>,
 ) -> Given
-    ensures { result ≡ given_to types.entry.types.now meaning default.now }
+    ensures { result ≡ given_to scope.entry.types.now meaning default.now }
 {
     match (meaning, default) {
         (Meaning::Known(Kind::Scalar(base)), DefaultValue::Integer(number)) => {
@@ -60,13 +59,13 @@ pub(crate) fn given_to(
         }
         (Meaning::Known(Kind::Scalar(_)), DefaultValue::Name(name)) => null_or_wrong(name.as_str()),
         (Meaning::Known(Kind::Enum(id)), DefaultValue::Integer(number)) => {
-            match underlying_at(types.types, id.0 as usize) {
+            match scope.underlying_at(id.0 as usize) {
                 Some(base) => number_within(base, number.value()),
                 None => Given::Number(number.value()),
             }
         }
         (Meaning::Known(Kind::Enum(id)), DefaultValue::Name(name)) => {
-            match value_at(types, id.0 as usize, name.as_str()) {
+            match value_at(scope, id.0 as usize, name.as_str()) {
                 Some(number) => Given::Number(number),
                 None => null_or_wrong(name.as_str()),
             }
@@ -78,17 +77,17 @@ pub(crate) fn given_to(
 
 /// What a table's field of a type is given.
 pub(crate) fn given_by(
-    types: TypesRead<'_, '_, '_>,
+    scope: Scope<'_, '_, '_>,
     kind: &FieldType<'_>,
     meaning: Meaning,
     default: Option<&DefaultValue<'_>>,
 ) -> Given
     ensures { result
-        ≡ given_by types.entry.types.now kind.now meaning (option_copied default.entry) }
+        ≡ given_by scope.entry.types.now kind.now meaning (option_copied default.entry) }
 {
     match (kind, default) {
         (_, None) => Given::Number(0),
-        (FieldType::One(_), Some(default)) => given_to(types, meaning, default),
+        (FieldType::One(_), Some(default)) => given_to(scope, meaning, default),
         (FieldType::Many(_, _), Some(_)) => Given::Wrong,
     }
 }

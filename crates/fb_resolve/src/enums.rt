@@ -5,17 +5,15 @@ ghost use Rattle.fb_syntax.specs.Integers.{greatest_magnitude};
 ghost use Rattle.fb_schema.specs.Schema.{Name};
 ghost use Rattle.fb_schema.specs.Alignments.{base_size};
 ghost use Rattle.fb_resolve.specs.Outline.{TypeRead};
-ghost use Rattle.fb_resolve.specs.EnumsRead.{integer_type, underlying, underlying_at, has_flags};
+ghost use Rattle.fb_resolve.specs.EnumsRead.{integer_type, underlying};
 ghost use Rattle.fb_resolve.specs.EnumsRead.{value_number, may_be_written, written_number};
 ghost use Rattle.fb_resolve.specs.EnumsRead.{resolved_values, value_over, values_over};
 
-use crate::attributes::{BuiltInAttribute, has_attribute};
 use crate::basic_types::basic_type;
 use crate::meanings::Meaning;
-use crate::outline::TypeRead;
 use crate::resolved::ResolvedValue;
 use fb_schema::{Base, Kind};
-use fb_syntax::{EnumDecl, EnumValue, TypeDecl};
+use fb_syntax::{EnumDecl, EnumValue};
 use std::alloc::{AllocError, Global};
 
 /// An integer type, which a `bool` isn't.
@@ -32,29 +30,12 @@ pub fn integer_type(meaning: Meaning) -> Option<Base>
 /// The underlying type of an enum, if it is an integer type. Its name alone tells, whatever types
 /// the text declares.
 #[tactic(auto, unfolding(crate::specs::Meaning::meaning_of))]
-pub fn underlying(read: &EnumDecl<'_>) -> Option<Base>
+pub(crate) fn underlying(read: &EnumDecl<'_>) -> Option<Base>
     ensures { (types : List TypeRead) (scope : Option Name)
         → result ≡ underlying types scope read.now }
 {
     let base = basic_type(read.underlying.as_str())?;
     integer_type(Meaning::Known(Kind::Scalar(base)))
-}
-
-/// The underlying type of the enum of a number.
-pub(crate) fn underlying_at(types: &[TypeRead<'_, '_>], number: usize) -> Option<Base>
-    ensures { result ≡ underlying_at types.now number }
-{
-    match types.get(number)?.declaration {
-        TypeDecl::Enum(declaration) => underlying(declaration),
-        _ => None,
-    }
-}
-
-/// Whether an enum has the mark `bit_flags`.
-pub(crate) fn has_flags(read: &EnumDecl<'_>) -> bool
-    ensures { result ≡ has_flags read.now }
-{
-    has_attribute(BuiltInAttribute::BitFlags, read.attributes.as_slice())
 }
 
 fn bits_of(base: Base) -> u8

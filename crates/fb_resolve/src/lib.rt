@@ -4,6 +4,7 @@
 mod attributes;
 mod basic_types;
 mod defaults;
+mod enum_values;
 mod enums;
 mod ids;
 mod located_names;
@@ -17,12 +18,12 @@ mod scope;
 mod slots;
 mod structs;
 mod value_names;
-mod value_numbers;
 mod walk;
 
-pub use attributes::{BuiltInAttribute, FieldAttributes, built_in_attribute, is_alignment};
+pub use attributes::{FieldAttributes, is_alignment};
 pub use basic_types::is_reserved;
 pub use defaults::Given;
+pub use enum_values::EnumValues;
 pub use enums::{integer_type, may_be_written, values_over};
 pub use ids::{are_ids_wrong, table_slots};
 pub use located_names::LocatedName;

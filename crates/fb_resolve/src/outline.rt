@@ -2,6 +2,7 @@
 ghost use Rattle.std.specs.Prelude.{◌≡◌, IfOk, string_bytes};
 ghost use Rattle.fb_resolve.specs.Outline.{outline_of, word_of, name_of_type};
 
+use crate::enum_values::EnumValues;
 use crate::walk::Walk;
 use fb_scopes::Scopes;
 use fb_syntax::{Declaration, Decls, Directive, DottedName, Text, TypeDecl};
@@ -40,9 +41,9 @@ impl<'d, 's> Model for RootRead<'d, 's> {
     ghost view = { λ r. record { scope = option_copied r.scope; name = r.name.now } };
 }
 
-/// The types that names mean, and where the types and the root of a text stand.
+/// What the names of types and of enums' values mean, and where the types and the root of a text stand.
 #[derive(Drop)]
-pub(crate) struct Names<'d> {
+pub(crate) struct Names<'d, 's> {
     pub scopes: Scopes<'d>,
     /// Of each type the number of its namespace's path.
     pub namespaces: Vec<usize>,
@@ -50,6 +51,8 @@ pub(crate) struct Names<'d> {
     pub root: usize,
     /// Of each type whether one before it has its full name.
     pub repeats: Vec<bool>,
+    /// Of each type the values that it has as an enum.
+    pub values: Vec<EnumValues<'d, 's>>,
 }
 
 /// What a schema text declares, sorted by kind.
@@ -60,7 +63,7 @@ pub struct Outline<'d, 's> {
     pub root: Option<RootRead<'d, 's>>,
     pub identifier: Option<&'d Text<'s>>,
     pub text_len: u64,
-    pub(crate) names: Names<'d>,
+    pub(crate) names: Names<'d, 's>,
 }
 
 impl<'d, 's> Model for Outline<'d, 's> {
@@ -70,7 +73,8 @@ impl<'d, 's> Model for Outline<'d, 's> {
 
     ghost Value = { Outlined };
 
-    ghost use Rattle.fb_resolve.specs.Paths.{AreNames};
+    ghost use Rattle.fb_resolve.specs.Paths.{AreNames, IsRootPlaced};
+    ghost use Rattle.fb_scopes.specs.Scopes.{tree_of, names_of};
 
     ghost view = { λ o. record {
       types = o.types.items;
@@ -80,7 +84,8 @@ impl<'d, 's> Model for Outline<'d, 's> {
       text_len = o.text_len;
     } };
 
-    ghost invariant = { λ o. AreNames o.names o.types.items o.root };
+    ghost invariant = { λ o. AreNames o.names o.types.items
+        × IsRootPlaced (tree_of o.names.scopes) (names_of o.names.scopes) o.names.root o.root };
 }
 
 impl<'d, 's> Outline<'d, 's> {

@@ -1,43 +1,41 @@
 //! Each name and attribute in the declarations of types looked up once.
-ghost use Rattle.std.specs.Prelude.{◌≡◌, All, IfOk, map};
-ghost use Rattle.std.specs.List.{AllZip};
+ghost use Rattle.std.specs.Prelude.{◌≡◌, IfOk, map};
 ghost use Rattle.std.specs.Option.{option_copied};
 ghost use Rattle.fb_scopes.specs.Scopes.{tree_of, names_of, AreScopes};
-ghost use Rattle.fb_resolve.specs.Scopes.{words_of_scope, paths_of_types};
-ghost use Rattle.fb_resolve.specs.Paths.{IsPath, IsRootPlaced, AreFieldUses, AreMemberUses, AreUses};
-ghost use Rattle.fb_resolve.specs.RepeatedNames.{AreRepeats};
-ghost use Rattle.fb_resolve.specs.EnumsRead.{values_declared};
-ghost use Rattle.fb_resolve.specs.ValueNumbers.{AreValues};
+ghost use Rattle.fb_resolve.specs.Scopes.{paths_of_types};
+ghost use Rattle.fb_resolve.specs.Outline.{name_of_type};
+ghost use Rattle.fb_resolve.specs.Paths.{IsRootPlaced, AreFieldUses, AreMemberUses, AreUses, AreNames};
+ghost use Rattle.fb_resolve.specs.RepeatedNames.{repeated_names};
+ghost use Rattle.fb_resolve.specs.EnumsRead.{enum_values};
 ghost use Rattle.fb_resolve.specs.Resolved.{resolved_fields, resolved_member};
 ghost use Rattle.fb_resolve.specs.Resolved.{resolved_declaration, resolved_types, meaning_of_root};
 
-use crate::attributes::{BuiltInAttribute, field_attributes, number_called};
+use crate::attributes::{field_attributes, number_called};
 use crate::defaults::given_by;
-use crate::enums::has_flags;
+use crate::enum_values::EnumValues;
 use crate::ids::Slots;
 use crate::meanings::{Meaning, type_name};
 use crate::members::member_name;
-use crate::outline::{Outline, RootRead, TypeRead};
+use crate::outline::{Names, Outline, RootRead, TypeRead};
 use crate::resolved::{
     ResolvedDecl, ResolvedEnum, ResolvedField, ResolvedMember, ResolvedStruct, ResolvedTable,
-    ResolvedType, ResolvedUnion, ResolvedValue,
+    ResolvedType, ResolvedUnion,
 };
 use crate::scope::Scope;
 use crate::slots::code_of;
-use crate::value_numbers::{TypesRead, values_of};
-use fb_syntax::{Field, TypeDecl, UnionMember};
+use fb_syntax::{BuiltInAttribute, Field, TypeDecl, UnionMember};
 use std::alloc::{AllocError, Global};
 
-impl<'d, 's> Scope<'_, 'd, 's> {
+impl<'t, 'd, 's> Scope<'t, 'd, 's> {
     fn resolved_fields(
         self,
         alloc: Global,
         fields: &'d [Field<'s>],
     ) -> Result<Vec<ResolvedField<'d, 's>>, AllocError>
-        requires scopes { AreScopes self.types.scopes.now (paths_of_types self.types.types.now) }
-        requires used { AreFieldUses (names_of self.types.scopes.now) fields.now }
+        requires scopes { AreScopes self.names.now.scopes (paths_of_types self.types.now) }
+        requires used { AreFieldUses (names_of self.names.now.scopes) fields.now }
         ensures { IfOk result (λ v. v.items
-            ≡ resolved_fields self.entry.types.types.now (option_copied self.entry.name) fields.now) }
+            ≡ resolved_fields self.entry.types.now (option_copied self.entry.name) fields.now) }
     {
         let mut resolved = Vec::with_capacity(alloc, fields.len())?;
         for field in fields {
@@ -47,7 +45,7 @@ impl<'d, 's> Scope<'_, 'd, 's> {
                 field,
                 meaning,
                 attributes: field_attributes(field.attributes.as_slice()),
-                given: given_by(self.types, &field.kind, meaning, default),
+                given: given_by(self, &field.kind, meaning, default),
                 code: code_of(alloc, field, meaning)?,
             })?;
         }
@@ -59,10 +57,10 @@ impl<'d, 's> Scope<'_, 'd, 's> {
         alloc: Global,
         members: &'d [UnionMember<'s>],
     ) -> Result<Vec<ResolvedMember<'d, 's>>, AllocError>
-        requires scopes { AreScopes self.types.scopes.now (paths_of_types self.types.types.now) }
-        requires used { AreMemberUses (names_of self.types.scopes.now) members.now }
+        requires scopes { AreScopes self.names.now.scopes (paths_of_types self.types.now) }
+        requires used { AreMemberUses (names_of self.names.now.scopes) members.now }
         ensures { IfOk result (λ v. v.items
-            ≡ map (resolved_member self.entry.types.types.now (option_copied self.entry.name)) members.now) }
+            ≡ map (resolved_member self.entry.types.now (option_copied self.entry.name)) members.now) }
     {
         let mut resolved = Vec::with_capacity(alloc, members.len())?;
         for member in members {
@@ -81,13 +79,14 @@ impl<'d, 's> Scope<'_, 'd, 's> {
         self,
         alloc: Global,
         declaration: &'d TypeDecl<'s>,
-        values: Vec<ResolvedValue<'d, 's>>,
-    ) -> Result<ResolvedDecl<'d, 's>, AllocError>
-        requires scopes { AreScopes self.types.scopes.now (paths_of_types self.types.types.now) }
-        requires used { AreUses (names_of self.types.scopes.now) declaration.now }
-        requires values { values.items ≡ values_declared declaration.now }
+        values: &'t EnumValues<'d, 's>,
+    ) -> Result<ResolvedDecl<'t, 'd, 's>, AllocError>
+        requires scopes { AreScopes self.names.now.scopes (paths_of_types self.types.now) }
+        requires used { AreUses (names_of self.names.now.scopes) declaration.now }
+        requires values { values.now
+            ≡ enum_values self.types.now (option_copied self.name) declaration.now }
         ensures { IfOk result (λ d. d
-            ≡ resolved_declaration self.entry.types.types.now (option_copied self.entry.name)
+            ≡ resolved_declaration self.entry.types.now (option_copied self.entry.name)
             declaration.now) }
     {
         Ok(match declaration {
@@ -110,8 +109,7 @@ impl<'d, 's> Scope<'_, 'd, 's> {
             }
             TypeDecl::Enum(declared) => ResolvedDecl::Enum(ResolvedEnum {
                 declared,
-                underlying: self.meaning(declared.underlying.as_str()),
-                bit_flags: has_flags(declared),
+                underlying: self.meaning_over(values.base, declared.underlying.as_str()),
                 values,
             }),
             TypeDecl::Union(declared) => {
@@ -122,58 +120,48 @@ impl<'d, 's> Scope<'_, 'd, 's> {
     }
 }
 
-/// Each type with what the names in its declaration mean, where these are each type's values and the
-/// number of its namespace's path.
+/// Each type with what the names in its declaration mean.
 fn resolved_types<'t, 'd, 's>(
     alloc: Global,
     types: &'t [TypeRead<'d, 's>],
-    known: TypesRead<'_, 'd, 's>,
-    values: Vec<Vec<ResolvedValue<'d, 's>>>,
-    namespaces: &[usize],
+    names: &'t Names<'d, 's>,
 ) -> Result<Vec<ResolvedType<'t, 'd, 's>>, AllocError>
-    requires known { known.types.now ≡ types.now }
-    requires scopes { AreScopes known.scopes.now (paths_of_types types.now) }
-    requires values { AreValues types.now values.items }
-    requires namespaces { AllZip (λ n r. IsPath (tree_of known.scopes.now) n (words_of_scope r.scope))
-        namespaces.now types.now }
-    requires uses { All (λ r. AreUses (names_of known.scopes.now) r.declaration) types.now }
+    requires { AreNames names.now types.now }
     ensures { IfOk result (λ v. v.items ≡ resolved_types types.now) }
 {
     let mut resolved = Vec::with_capacity(alloc, types.len())?;
-    let mut values = values.into_iter();
     for (number, read) in types.iter().enumerate() {
-        let Some(values) = values.next() else {
-            unreachable!()
-        };
         let scope = Scope {
-            types: known,
-            path: namespaces[number],
+            types,
+            names,
+            path: names.namespaces[number],
             name: read.scope,
         };
+        let values = &names.values[number];
         let declaration = scope.resolved_declaration(alloc, read.declaration, values)?;
         resolved.push(ResolvedType { read, declaration })?;
     }
     Ok(resolved)
 }
 
-/// What the root's name means, where this is the number of its namespace's path; nothing that is
-/// known where there is no root.
-fn meaning_of_root<'d>(
-    types: TypesRead<'_, 'd, '_>,
-    path: usize,
-    root: Option<&RootRead<'d, '_>>,
+/// What the root's name means; nothing that is known where there is no root.
+fn meaning_of_root<'t, 'd, 's>(
+    types: &'t [TypeRead<'d, 's>],
+    names: &'t Names<'d, 's>,
+    root: Option<&RootRead<'d, 's>>,
 ) -> Meaning
-    requires scopes { AreScopes types.scopes.now (paths_of_types types.types.now) }
-    requires root { IsRootPlaced (tree_of types.scopes.now) (names_of types.scopes.now) path
-        (option_copied root) }
-    ensures { result ≡ meaning_of_root types.entry.types.now (option_copied root.entry) }
+    requires names { AreNames names.now types.now }
+    requires root { IsRootPlaced (tree_of names.now.scopes) (names_of names.now.scopes)
+        names.now.root (option_copied root) }
+    ensures { result ≡ meaning_of_root types.now (option_copied root.entry) }
 {
     let Some(root) = root else {
         return Meaning::Unknown;
     };
     let scope = Scope {
         types,
-        path,
+        names,
+        path: names.root,
         name: root.scope,
     };
     let name = root.name;
@@ -189,7 +177,7 @@ pub struct Resolved<'t, 'd, 's> {
     pub repeats: &'t [bool],
     pub root: Meaning,
     ghost meant: { types.items ≡ resolved_types outline.now.types },
-    ghost repeated: { AreRepeats outline.now.types repeats.now },
+    ghost repeated: { repeats.now ≡ repeated_names name_of_type outline.now.types },
     ghost root_meant: { root ≡ meaning_of_root outline.now.types outline.now.root },
 }
 
@@ -203,18 +191,11 @@ impl<'t, 'd, 's> Resolved<'t, 'd, 's> {
     {
         let types = outline.types.as_slice();
         let names = &outline.names;
-        let (values, value_numbers) = values_of(alloc, types)?;
-        let known = TypesRead {
-            types,
-            values: &value_numbers,
-            scopes: &names.scopes,
-        };
-        let namespaces = names.namespaces.as_slice();
         Ok(Resolved {
             outline,
-            types: resolved_types(alloc, types, known, values, namespaces)?,
+            types: resolved_types(alloc, types, names)?,
             repeats: names.repeats.as_slice(),
-            root: meaning_of_root(known, names.root, outline.root.as_ref()),
+            root: meaning_of_root(types, names, outline.root.as_ref()),
         })
     }
 }

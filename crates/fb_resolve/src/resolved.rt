@@ -1,6 +1,7 @@
 //! The types of a text with what the names and attributes in them mean.
 use crate::attributes::FieldAttributes;
 use crate::defaults::Given;
+use crate::enum_values::EnumValues;
 use crate::ids::Slots;
 use crate::located_names::LocatedName;
 use crate::meanings::Meaning;
@@ -53,7 +54,7 @@ pub struct ResolvedTable<'d, 's> {
 
 impl<'d, 's> Model for ResolvedTable<'d, 's> {
     ghost use Rattle.fb_resolve.specs.Attributes.{number_called};
-    ghost use Rattle.fb_resolve.specs.declared.attributes.BuiltInAttribute.TheVariants.{ForceAlign};
+    ghost use Rattle.fb_syntax.specs.declared.attributes.BuiltInAttribute.TheVariants.{ForceAlign};
     ghost use Rattle.fb_resolve.specs.ResolvedFields.{ResolvedTable as Resolved};
     ghost use Rattle.fb_resolve.specs.SlotsRead.{AreSlots};
 
@@ -103,17 +104,17 @@ impl<'d, 's> Model for ResolvedValue<'d, 's> {
     ghost view = { λ v. record { value = v.value.now; number = v.number } };
 }
 
-/// An enum, what the name of its underlying type means, whether it has `bit_flags`, and its values
-/// with their numbers.
+/// An enum, what the name of its underlying type means, and its values.
 #[derive(Drop)]
-pub struct ResolvedEnum<'d, 's> {
+pub struct ResolvedEnum<'t, 'd, 's> {
     pub declared: &'d EnumDecl<'s>,
     pub underlying: Meaning,
-    pub bit_flags: bool,
-    pub values: Vec<ResolvedValue<'d, 's>>,
+    pub values: &'t EnumValues<'d, 's>,
 }
 
-impl<'d, 's> Model for ResolvedEnum<'d, 's> {
+impl<'t, 'd, 's> Model for ResolvedEnum<'t, 'd, 's> {
+    ghost use Rattle.std.specs.Prelude.{◌≡◌};
+    ghost use Rattle.fb_resolve.specs.EnumsRead.{integer_type};
     ghost use Rattle.fb_resolve.specs.ResolvedFields.{ResolvedEnum as Resolved};
 
     ghost Value = { Resolved };
@@ -121,9 +122,11 @@ impl<'d, 's> Model for ResolvedEnum<'d, 's> {
     ghost view = { λ e. record {
       declared = e.declared.now;
       underlying = e.underlying;
-      bit_flags = e.bit_flags;
-      values = e.values.items;
+      bit_flags = e.values.now.bit_flags;
+      values = e.values.now.values;
     } };
+
+    ghost invariant = { λ e. e.values.now.base ≡ integer_type e.underlying };
 }
 
 /// A member of a union, its name, and what the name of its table means.
@@ -159,10 +162,10 @@ impl<'d, 's> Model for ResolvedUnion<'d, 's> {
 
 /// A declaration, and what the names in it mean.
 #[derive(Drop)]
-pub enum ResolvedDecl<'d, 's> {
+pub enum ResolvedDecl<'t, 'd, 's> {
     Table(ResolvedTable<'d, 's>),
     Struct(ResolvedStruct<'d, 's>),
-    Enum(ResolvedEnum<'d, 's>),
+    Enum(ResolvedEnum<'t, 'd, 's>),
     Union(ResolvedUnion<'d, 's>),
 }
 
@@ -170,7 +173,7 @@ pub enum ResolvedDecl<'d, 's> {
 #[derive(Drop)]
 pub struct ResolvedType<'t, 'd, 's> {
     pub read: &'t TypeRead<'d, 's>,
-    pub declaration: ResolvedDecl<'d, 's>,
+    pub declaration: ResolvedDecl<'t, 'd, 's>,
 }
 
 impl<'t, 'd, 's> Model for ResolvedType<'t, 'd, 's> {

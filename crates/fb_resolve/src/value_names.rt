@@ -1,19 +1,11 @@
 //! What the name of an enum's value means.
 ghost use Rattle.std.specs.Prelude.{◌≡◌};
-ghost use Rattle.std.specs.Option.{option_copied, option_and_then};
+ghost use Rattle.std.specs.Option.{option_copied};
 ghost use Rattle.fb_resolve.specs.Outline.{full_name};
-ghost use Rattle.fb_resolve.specs.EnumsRead.{values_at, number_named, behind, value_at};
+ghost use Rattle.fb_resolve.specs.EnumsRead.{behind, value_at};
 
-use crate::value_numbers::TypesRead;
+use crate::scope::Scope;
 use fb_syntax::TypeDecl;
-
-/// The number of the value of a name, which may be missing, in the enum of a number.
-fn number_behind(types: TypesRead<'_, '_, '_>, number: usize, name: Option<&[u8]>) -> Option<i128>
-    ensures { result ≡ option_and_then (number_named (values_at types.entry.types.now number))
-        (option_copied name.entry) }
-{
-    types.values.number(number, name?)
-}
 
 /// What stands behind a name and a dot.
 #[tactic(auto, unfolding(crate::specs::EnumsRead::behind))]
@@ -43,17 +35,18 @@ fn behind_full_name<'n>(scope: Option<&str>, declared: &[u8], name: &'n [u8]) ->
 
 /// The number of the value that a name means in the enum of a number.
 #[tactic(auto, unfolding(crate::specs::EnumsRead::value_at))]
-pub(crate) fn value_at(types: TypesRead<'_, '_, '_>, number: usize, name: &str) -> Option<i128>
-    ensures { result ≡ value_at types.entry.types.now number name.now }
+pub(crate) fn value_at(scope: Scope<'_, '_, '_>, number: usize, name: &str) -> Option<i128>
+    ensures { result ≡ value_at scope.entry.types.now number name.now }
 {
-    let read = types.types.get(number)?;
+    let read = scope.types.get(number)?;
     let TypeDecl::Enum(declaration) = read.declaration else {
         return None;
     };
+    let values = &scope.names.values[number];
     let declared = declaration.name.text.as_bytes();
     let name = name.as_bytes();
-    let alone = types.values.number(number, name);
-    let behind_name = number_behind(types, number, behind(declared, name));
+    let behind_name = values.number(behind(declared, name));
     let full_name = behind_full_name(read.scope, declared, name);
-    alone.or(behind_name.or(number_behind(types, number, full_name)))
+    let number = values.number(Some(name));
+    number.or(behind_name.or(values.number(full_name)))
 }

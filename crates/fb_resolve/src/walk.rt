@@ -3,9 +3,9 @@ ghost use Rattle.std.specs.Prelude.{◌≡◌, ◌++◌, [], ◌∷◌, None, So
 ghost use Rattle.std.specs.Option.{option_copied};
 ghost use Rattle.fb_scopes.specs.PathTree.{IsTree, KeepsPaths};
 ghost use Rattle.fb_resolve.specs.Outline.{scope_named};
-ghost use Rattle.fb_resolve.specs.Paths.{IsUse, AreUses};
+ghost use Rattle.fb_resolve.specs.Paths.{AreUses};
 
-use crate::basic_types::is_reserved;
+use crate::enum_values::values_of_types;
 use crate::meanings::type_name;
 use crate::outline::{Names, Outline, RootRead, TypeRead, word_of};
 use crate::repeated_names::repeated_numbers;
@@ -110,7 +110,7 @@ impl<'d, 's> Walk<'d, 's> {
         ensures { IfOk result (λ w. w ≡ record self.entry
             { root = Some (record { scope = self.entry.scope; name = name.now }) }) }
     {
-        note_use(&mut self.used, name.as_str())?;
+        self.used.insert_reversed(name.as_str())?;
         let scope = self.scope;
         self.root = Some(RootRead { scope, name });
         self.root_path = self.path;
@@ -136,11 +136,13 @@ impl<'d, 's> Walk<'d, 's> {
         let numbers = self.full_names;
         let full_names = numbers.as_slice();
         let repeats = repeated_numbers(alloc, full_names, self.tree.len())?;
+        let values = values_of_types(alloc, self.types.as_slice())?;
         let names = Names {
             scopes: Scopes::of(alloc, self.tree, self.used, full_names)?,
             namespaces: self.namespaces,
             root: self.root_path,
             repeats,
+            values,
         };
         Ok(Outline {
             types: self.types,
@@ -153,19 +155,6 @@ impl<'d, 's> Walk<'d, 's> {
     }
 }
 
-/// Notes a use of a type's name, unless it is that of a basic type.
-fn note_use<'d>(used: &mut PathTree<'d>, name: &'d str) -> Result<(), AllocError>
-    requires { IsTree used.now }
-    ensures tree { OnOk result (IsTree used.new) }
-    ensures kept { OnOk result (KeepsPaths used.old used.new) }
-    ensures used { OnOk result (IsUse used.new name.now) }
-{
-    if !is_reserved(name) {
-        used.insert_reversed(name)?;
-    }
-    Ok(())
-}
-
 /// Notes all names that a type's declaration uses for types.
 fn note_uses<'d>(used: &mut PathTree<'d>, declaration: &'d TypeDecl<'_>) -> Result<(), AllocError>
     requires { IsTree used.now }
@@ -176,13 +165,15 @@ fn note_uses<'d>(used: &mut PathTree<'d>, declaration: &'d TypeDecl<'_>) -> Resu
     match declaration {
         TypeDecl::Table(read) | TypeDecl::Struct(read) => {
             for field in read.fields.as_slice() {
-                note_use(used, type_name(&field.kind).as_str())?;
+                used.insert_reversed(type_name(&field.kind).as_str())?;
             }
         }
-        TypeDecl::Enum(read) => note_use(used, read.underlying.as_str())?,
+        TypeDecl::Enum(read) => {
+            used.insert_reversed(read.underlying.as_str())?;
+        }
         TypeDecl::Union(read) => {
             for member in read.members.as_slice() {
-                note_use(used, member.table.as_str())?;
+                used.insert_reversed(member.table.as_str())?;
             }
         }
     }

@@ -7,7 +7,7 @@ use Rattle.fb_syntax.specs.TypesRead.{TableRead, EnumRead, UnionRead}
 use Rattle.fb_syntax.specs.Signs.{byte}
 use Rattle.fb_syntax.specs.Rules.{Rule, token, sign, give, ◌>>=◌, with_token, more, block, listed}
 use Rattle.fb_syntax.specs.declared.tokens.TokenKind.TheVariants.{Word, Integer, Quoted, Punct}
-use Rattle.fb_syntax.specs.declared.declarations.Attribute.{Attribute}
+use Rattle.fb_syntax.specs.Attributes.{AttributeRead}
 use Rattle.fb_syntax.specs.declared.declarations.AttributeValue.{AttributeValue}
 use Rattle.fb_syntax.specs.declared.declarations.AttributeValue.TheVariants as values
 use Rattle.fb_syntax.specs.declared.declarations.FieldType.{FieldType}
@@ -29,7 +29,7 @@ attribute_value = with_token Integer (λ digits. give (values.Integer (number_of
     (with_token Quoted (λ text. give (values.Quoted text)) (do word ← token Word; give (values.Word word)))
 
 -- Word [ ":" value ]
-unfoldable pub attribute : Rule Attribute
+unfoldable pub attribute : Rule AttributeRead
 attribute = do
   name ← token Word
   with_token (Punct (byte ":"))
@@ -37,7 +37,7 @@ attribute = do
       (give (record { name = name; value = None }))
 
 -- [ "(" [ attribute { "," attribute } ] ")" ]
-unfoldable pub metadata : Rule (List Attribute)
+unfoldable pub metadata : Rule (List AttributeRead)
 metadata = with_token (Punct (byte "("))
     (λ _. with_token (Punct (byte ")")) (λ _. give []) (listed attribute false (byte ")")))
     (give [])

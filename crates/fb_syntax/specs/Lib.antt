@@ -5,6 +5,7 @@ pub mod TokenBytes
 pub mod Spells
 pub mod Located
 pub mod NumberRead
+pub mod Attributes
 pub mod FieldRead
 pub mod TypesRead
 pub mod DeclsRead

@@ -2,6 +2,7 @@
 ghost use Rattle.std.specs.Prelude.{◌≡◌, ◌<ℤ◌, pos, negsuc, IfOk};
 ghost use Rattle.fb_syntax.specs.Located.{joined};
 
+use crate::attributes::Attribute;
 use std::alloc::{AllocError, Global};
 use std::borrow::CowStr;
 use std::marker::Model;
@@ -110,13 +111,6 @@ pub enum AttributeValue<'t> {
     Integer(Number),
     Word(Text<'t>),
     Quoted(Text<'t>),
-}
-
-/// An attribute of a declaration's or a field's metadata.
-#[derive(Debug, Drop)]
-pub struct Attribute<'t> {
-    pub name: Text<'t>,
-    pub value: Option<AttributeValue<'t>>,
 }
 
 /// The type of a field.

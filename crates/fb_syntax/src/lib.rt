@@ -1,6 +1,7 @@
 //! Tokens and grammar of FlatBuffers schema texts.
 #![tactic(auto)]
 
+mod attributes;
 mod bytes;
 mod declarations;
 mod faults;
@@ -10,9 +11,10 @@ mod scan;
 mod schema_text;
 mod tokens;
 
+pub use attributes::{Attribute, BuiltInAttribute};
 pub use declarations::{
-    Attribute, AttributeValue, Declaration, Decls, DefaultValue, Directive, DottedName, EnumDecl,
-    EnumValue, Field, FieldType, Number, TableDecl, Text, TypeDecl, UnionDecl, UnionMember,
+    AttributeValue, Declaration, Decls, DefaultValue, Directive, DottedName, EnumDecl, EnumValue,
+    Field, FieldType, Number, TableDecl, Text, TypeDecl, UnionDecl, UnionMember,
 };
 pub use faults::SyntaxFault;
 pub use integers::integer_value;

@@ -7,7 +7,8 @@ ghost use Rattle.fb_syntax.specs.Stops.{Gives, Passes};
 
 use super::lists::Item;
 use super::{Parser, Stop};
-use crate::declarations::{Attribute, AttributeValue};
+use crate::attributes::{Attribute, built_in_attribute};
+use crate::declarations::AttributeValue;
 use crate::integers::number_of;
 use crate::tokens::TokenKind::{Integer, Punct, Quoted, Word};
 
@@ -22,7 +23,12 @@ impl<'t> Item<'t> for Attribute<'t> {
             None => None,
         };
         parser.comma(false, b')')?;
-        Ok(Attribute { name, value })
+        let built_in = built_in_attribute(name.text);
+        Ok(Attribute {
+            name,
+            value,
+            built_in,
+        })
     }
 }
 

@@ -1,4 +1,4 @@
-use Rattle.std.proofs.Common.{◌≡◌, ap, sym, subst, map, take}
+use Rattle.std.proofs.Common.{rules, ◌≡◌, sym, subst, map, take}
 use Rattle.fb_declare.specs.AttributeFaults.{attribute_behind}
 use Rattle.fb_declare.specs.NamesMet.{is_met, AreMet}
 use Rattle.fb_declare.proofs.Least.{least_more, map-taken}
@@ -9,7 +9,7 @@ loop-attribute-preserved c =
     let attributes = c.args.attributes.now in
     let i = c.loop-attribute.attribute-index in
     let a = c.attribute-item.result in
-    let text : c.name.inside.text.now ≡ a.name.bytes = ap (λ t. t.bytes) c.name.view_is in
+    let text : c.name.inside.text.now ≡ a.name.bytes = grind rules in
     let met = rw text at (c.in_ok-again.ensures (map (λ b. b.name.bytes) (take i attributes)) c.loop-attribute.invariant.met) in
     record {
       least = rw (c.earlier-least.ensures, c.attribute_fault.ensures, met.0, c.loop-attribute.invariant.least)

@@ -1,7 +1,6 @@
-use Rattle.std.proofs.Common.{arith, ◌≡◌, ◌==◌, ◌<◌, false, refl, length, get_or, take}
+use Rattle.std.proofs.Common.{arith, ◌≡◌, ◌==◌, ◌<◌, false, length, get_or, take}
 use Rattle.std.proofs.Math.ListN.{length-set}
-use Rattle.std.proofs.lemmas.List.{get_or_default}
-use Rattle.std.proofs.lemmas.List.FromFn.{map-range_with_len_more}
+use Rattle.std.proofs.lemmas.List.{get_or_default, take_more}
 use Rattle.std.specs.List.{list_any}
 use Rattle.std.proofs.lemmas.Bool.Decides.{nat_tests}
 use Rattle.std.proofs.lemmas.Grind.{common_steps}
@@ -21,5 +20,5 @@ loop-number-preserved c =
     record {
       count = simp length-set c.loop-number.invariant.count;
       marks = λ k h. grind (arith, common_steps, nat_tests, list_any_more (λ m. k == m) ns i 0 c.loop-number-test.true, c.loop-number.invariant.marks k h);
-      told = rw (c.in_ok-push.ensures.items, map-range_with_len_more (λ k. list_any (λ m. get_or ns k 0 == m) (take k ns)) 0 i i (omega arith), c.loop-number.invariant.told, told) refl;
+      told = grind (arith, common_steps, told, take_more ns i 0 c.loop-number-test.true);
     }

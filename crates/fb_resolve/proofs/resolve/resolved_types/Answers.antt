@@ -8,16 +8,16 @@ use Rattle.fb_resolve.specs.Paths.{IsPath}
 use Rattle.fb_resolve.proofs.PathsKept.{zip_at}
 use Rattle.fb_resolve.proofs.resolve.resolved_types.Goals as goal
 
-pub bounds-namespaces-number : goal.bounds-namespaces-number
-bounds-namespaces-number c =
-    omega (arith, AllZip-long (λ n r. IsPath (tree_of c.args.known.scopes.now) n (words_of_scope r.scope)) c.args.namespaces.now c.args.types.now c.requires.namespaces)
+pub index-requires : goal.index-requires
+index-requires c =
+    omega (arith, AllZip-long (λ n r. IsPath (tree_of c.args.names.now.scopes) n (words_of_scope r.scope)) c.args.names.now.namespaces.items c.args.types.now c.requires.namespaces)
 
 pub invariant_of-scope : goal.invariant_of-scope
 invariant_of-scope c =
-    let there = zip_at (λ n r. IsPath (tree_of c.args.known.scopes.now) n (words_of_scope r.scope))
-    c.args.namespaces.now c.args.types.now c.loop-number.number 0 c.index-types-number.result
+    let there = zip_at (λ n r. IsPath (tree_of c.args.names.now.scopes) n (words_of_scope r.scope))
+    c.args.names.now.namespaces.items c.args.types.now c.loop-number.number c.index.result.now c.index-types-number.result
     c.requires.namespaces c.loop-number-test.true in
-    record { here = grind (rules, there) }
+    record { valued = c.requires.values; here = grind (rules, there) }
 
 pub loop-number-preserved : goal.loop-number-preserved
 loop-number-preserved c =
@@ -26,5 +26,4 @@ loop-number-preserved c =
     let item = c.index-types-number.result in
     let next : drop i types ≡ item ∷ drop (i + 1) types =
     drop_more types i item c.loop-number-test.true ∙ ap (λ r. r ∷ drop (i + 1) types) (sym c.index-types-number.is) in
-    let split : c.loop-number.values.rest.items ≡ c.in-Some.values ∷ c.next.new.self.rest.items = grind rules in
-    grind (arith, common_steps, next, split)
+    grind (arith, common_steps, next)

@@ -4,5 +4,5 @@ use Rattle.fb_resolve.specs.Resolved.{resolved_member}
 use Rattle.fb_resolve.proofs.scope.Scope.resolved_members.Given as goal
 
 abbrev pub invariant-loop-member : goal.invariant-loop-member
-invariant-loop-member l = let resolved = resolved_member l.self.types.types.now (option_copied l.self.name) in
+invariant-loop-member l = let resolved = resolved_member l.self.types.now (option_copied l.self.name) in
     l.resolved.items ++ map resolved (drop l.member-index l.members) ≡ map resolved l.members

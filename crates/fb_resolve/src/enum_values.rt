@@ -1,0 +1,132 @@
+//! Enums' values with their numbers, and these by their names.
+ghost use Rattle.std.specs.Prelude.{◌≡◌, List, Option, IfOk, map};
+ghost use Rattle.std.specs.Option.{option_and_then, option_copied};
+ghost use Rattle.fb_schema.specs.Schema.{Name};
+ghost use Rattle.fb_resolve.specs.Outline.{TypeRead};
+ghost use Rattle.fb_resolve.specs.EnumsRead.{enum_values, enum_values_of, name_of_value, value_over};
+ghost use Rattle.fb_resolve.specs.EnumsRead.{values_over, number_named};
+ghost use Rattle.fb_resolve.specs.RepeatedNames.{repeated_names};
+ghost use Rattle.fb_resolve.specs.ValueNumbers.{IndexesValues};
+
+use crate::attributes::has_attribute;
+use crate::enums::{resolved_values, underlying, value_number};
+use crate::outline::TypeRead;
+use crate::resolved::ResolvedValue;
+use fb_schema::Base;
+use fb_syntax::{BuiltInAttribute, TypeDecl};
+use std::alloc::{AllocError, Global};
+use std::collections::BTreeMap;
+use std::marker::Model;
+
+/// What an enum is over, if that is an integer type, whether it has `bit_flags`, and its values; no
+/// type and none of what is no enum.
+///
+/// No names make it slow, whoever chose them: it doesn't hash.
+#[derive(Drop)]
+pub struct EnumValues<'d, 's> {
+    pub base: Option<Base>,
+    pub bit_flags: bool,
+    pub values: Vec<ResolvedValue<'d, 's>>,
+    /// Of each value whether one before it has its name.
+    pub repeats: Vec<bool>,
+    /// The number of the first value of each name.
+    pub(crate) numbers: BTreeMap<&'s [u8], i128>,
+}
+
+impl<'d, 's> Model for EnumValues<'d, 's> {
+    ghost use Rattle.std.specs.Prelude.{◌≡◌};
+    ghost use Rattle.fb_resolve.specs.ResolvedFields.{EnumValues as Values};
+    ghost use Rattle.fb_resolve.specs.EnumsRead.{name_of_value, values_over};
+    ghost use Rattle.fb_resolve.specs.RepeatedNames.{repeated_names};
+    ghost use Rattle.fb_resolve.specs.ValueNumbers.{IndexesValues};
+
+    ghost Value = { Values };
+
+    ghost view = { λ e. record { base = e.base; bit_flags = e.bit_flags; values = e.values.items } };
+
+    ghost invariant = { λ e. IndexesValues e.numbers (values_over e.base e.bit_flags e.values.items)
+        × (e.repeats.items ≡ repeated_names name_of_value e.values.items) };
+}
+
+impl<'d, 's> EnumValues<'d, 's> {
+    /// The values of a type. The only error is a refused allocation.
+    fn of(
+        alloc: Global,
+        declaration: &'d TypeDecl<'s>,
+    ) -> Result<EnumValues<'d, 's>, AllocError>
+        ensures { (types : List TypeRead) (scope : Option Name)
+            → IfOk result (λ e. e ≡ enum_values types scope declaration.now) }
+    {
+        let TypeDecl::Enum(read) = declaration else {
+            return Ok(EnumValues {
+                base: None,
+                bit_flags: false,
+                values: Vec::new(alloc),
+                repeats: Vec::new(alloc),
+                numbers: BTreeMap::new(alloc),
+            });
+        };
+        let base = underlying(read);
+        let bit_flags = has_attribute(BuiltInAttribute::BitFlags, read.attributes.as_slice());
+        let values = resolved_values(alloc, read.values.as_slice())?;
+        let over = base.unwrap_or(Base::U8);
+        let (repeats, numbers) = numbers_over(alloc, over, bit_flags, values.as_slice())?;
+        Ok(EnumValues {
+            base,
+            bit_flags,
+            values,
+            repeats,
+            numbers,
+        })
+    }
+
+    /// The number of the first value of a name, which may be missing.
+    pub(crate) fn number(&self, name: Option<&[u8]>) -> Option<i128>
+        ensures { result ≡ option_and_then
+            (number_named (values_over self.now.base self.now.bit_flags self.now.values))
+            (option_copied name.entry) }
+    {
+        self.numbers.get(name?).copied()
+    }
+}
+
+/// The values of each type. The only error is a refused allocation.
+pub(crate) fn values_of_types<'d, 's>(
+    alloc: Global,
+    types: &[TypeRead<'d, 's>],
+) -> Result<Vec<EnumValues<'d, 's>>, AllocError>
+    ensures { IfOk result (λ v. v.items ≡ map (enum_values_of types.now) types.now) }
+{
+    let mut values = Vec::with_capacity(alloc, types.len())?;
+    for read in types {
+        values.push(EnumValues::of(alloc, read.declaration)?)?;
+    }
+    Ok(values)
+}
+
+/// Of each value whether one before it has its name, and the numbers that they have in an enum over
+/// a type, by their names, of which the first stands.
+#[tactic(auto, unfolding(crate::specs::EnumsRead::number_named))]
+fn numbers_over<'s>(
+    alloc: Global,
+    base: Base,
+    flags: bool,
+    values: &[ResolvedValue<'_, 's>],
+) -> Result<(Vec<bool>, BTreeMap<&'s [u8], i128>), AllocError>
+    ensures repeats { IfOk result
+        (λ n. n.0.items ≡ repeated_names name_of_value values.now) }
+    ensures numbers { IfOk result (λ n. IndexesValues n.1 (map (value_over base flags) values.now)) }
+{
+    let mut repeats = Vec::with_capacity(alloc, values.len())?;
+    let mut numbers = BTreeMap::new(alloc);
+    for resolved in values {
+        let value = resolved.value;
+        let name = value.name.text.as_bytes();
+        let again = numbers.contains_key(name);
+        repeats.push(again)?;
+        if !again {
+            numbers.insert(name, value_number(base, flags, resolved.number))?;
+        }
+    }
+    Ok((repeats, numbers))
+}
