@@ -11,20 +11,22 @@ use Rattle.fb_schema.specs.Schema.{Name, DeclaredBody, table_body, struct_body, 
 use Rattle.fb_schema.specs.WellDeclared.{Names, KindNames, InRange}
 use Rattle.fb_schema.specs.declared.kinds.Base.{Base}
 use Rattle.fb_schema.specs.declared.kinds.Kind.{Kind}
-use Rattle.fb_schema.specs.declared.kinds.Kind.TheVariants.{Table, Code, Text}
+use Rattle.fb_schema.specs.declared.kinds.Kind.TheVariants.{Table, Code}
 use Rattle.fb_resolve.specs.Outline.{TypeRead, Outline, full_name}
 use Rattle.fb_resolve.specs.Scopes.{type_meant}
 use Rattle.fb_resolve.specs.Attributes.{has_attribute, number_called}
-use Rattle.fb_resolve.specs.BasicTypes.{basic_type, is_text_type, is_float_type}
+use Rattle.fb_resolve.specs.BasicTypes.{basic_type}
 use Rattle.fb_resolve.specs.Defaults.{given_by}
 use Rattle.fb_resolve.specs.EnumsRead.{has_flags, underlying_at, value_at, number_named, value_named, behind, enum_values, enum_values_of, value_in, value_of_read, values_read}
-use Rattle.fb_resolve.specs.Meaning.{use_of, use_of_read, use_of_type, or_scalar, meaning_of, type_name}
+use Rattle.fb_resolve.specs.Meaning.{use_of, use_of_read, use_of_type, basic_or, meaning_of, type_name}
 use Rattle.fb_resolve.specs.MembersRead.{table_of}
 use Rattle.fb_resolve.specs.ResolvedFields.{ResolvedField}
 use Rattle.fb_resolve.specs.Resolved.{resolved_field, resolved_fields, resolved_member, resolved_declaration, resolved_type, resolved_enum, resolved_types}
 use Rattle.fb_syntax.specs.declared.attributes.BuiltInAttribute.TheVariants.{Required, ForceAlign}
 use Rattle.fb_resolve.specs.declared.meanings.Meaning.{Meaning}
-use Rattle.fb_resolve.specs.declared.meanings.Meaning.TheVariants.{Known, Float}
+use Rattle.fb_resolve.specs.declared.meanings.Meaning.TheVariants.{Known}
+use Rattle.fb_resolve.specs.declared.basic_types.BasicType.{BasicType}
+use Rattle.fb_resolve.specs.declared.basic_types.BasicType.TheVariants.{Scalar, Text, Float}
 use Rattle.fb_resolve.specs.declared.resolved.ResolvedDecl.{ResolvedDecl}
 use Rattle.fb_resolve.specs.declared.resolved.ResolvedDecl.TheVariants as resolved
 use Rattle.fb_declare.specs.Declares.{HasBody, IsType, Gives}
@@ -83,9 +85,11 @@ means_use S types scope t (decls.Enum d) (enum_body base flags values) names h =
 means_use S types scope t (decls.Union d) (union_body members) names h = (names is_union refl, tt)
 means_use S types scope t d b names h = absurd h
 
-means_name : (S : DeclaredSchema) (base : Option Base) (m : Meaning) → MeansIn S m → MeansIn S (or_scalar base m)
+means_name : (S : DeclaredSchema) (basic : Option BasicType) (m : Meaning) → MeansIn S m → MeansIn S (basic_or basic m)
 means_name S None m h = h
-means_name S (Some base) m h = (tt, tt)
+means_name S (Some (Scalar base)) m h = (tt, tt)
+means_name S (Some Text) m h = (tt, tt)
+means_name S (Some Float) m h = tt
 
 -- the number of the table that a use names
 pub table_named : (S : DeclaredSchema) (m : Meaning) → MeansIn S m → is_none (table_of m) ≡ false → Names is_table S (unwrap_or (table_of m) 0)
@@ -106,8 +110,7 @@ module _ (o : Outline) (S : DeclaredSchema) (g : Gives o S) where
   -- what a name means is there in the schema
   pub means_in : (scope : Option Name) (name : Name) → MeansIn S (meaning_of o.types scope name)
   unfolding meaning_of
-  means_in scope name = means_name S (basic_type name) _
-      (either (MeansIn S) (is_text_type name) (Known Text) _ (λ is. (tt, tt)) (either (MeansIn S) (is_float_type name) Float _ (λ is. tt) (means_type (type_meant o.types scope name))))
+  means_in scope name = means_name S (basic_type name) _ (means_type (type_meant o.types scope name))
 
   fields_read : (scope : Option Name) (fs : List FieldRead) → All (IsRead o.types S) (resolved_fields o.types scope fs)
   fields_read scope fs = All-map (IsRead o.types S) (resolved_field o.types scope) fs

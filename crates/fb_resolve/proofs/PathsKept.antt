@@ -1,8 +1,11 @@
 -- The paths of a text and the names that are used stay what they are while more are noted.
-use Rattle.std.proofs.Common.{Bor, option_copied, ◌≡◌, ◌++◌, ◌<◌, ℕ, zero, suc, All, List, [], ◌∷◌, Option, length, get_or, refl, arith, ◌+◌, take}
+use Rattle.std.proofs.Common.{Bor, option_copied, ◌≡◌, ◌++◌, ◌<◌, ℕ, zero, suc, All, List, [], ◌∷◌, Option, length, get_or, refl, arith, ◌+◌, take, map, subst, sym, Vec}
+use Rattle.std.specs.Global.{Global}
 use Rattle.std.specs.List.{AllZip}
 use Rattle.std.proofs.lemmas.Option.{get_or_from_slice_get, slice_get_within}
-use Rattle.std.proofs.lemmas.List.Elements.{All-cons, All-nil, All-weaker, All-more}
+use Rattle.std.proofs.lemmas.List.{take_more, map_push, get_or-map, length-map}
+use Rattle.std.proofs.lemmas.List.Elements.{All-cons, All-nil}
+use Rattle.std.proofs.lemmas.Slice.Zip.{all_zipped_more, AllZip-long}
 use Rattle.fb_scopes.specs.Words.{Path, words}
 use Rattle.fb_scopes.specs.PathTree.{paths, IsTree, KeepsPaths}
 use Rattle.fb_scopes.specs.declared.path_tree.PathTree.{PathTree}
@@ -11,30 +14,37 @@ use Rattle.fb_scopes.proofs.WordsOf.{words-inside}
 use Rattle.fb_schema.specs.Schema.{Name}
 use Rattle.fb_resolve.specs.Outline.{TypeRead, full_name, name_of_type}
 use Rattle.fb_resolve.specs.Scopes.{words_of_scope, paths_of_types}
-use Rattle.fb_resolve.specs.Paths.{IsPath, IsPlaced, AreUses, IsUse}
+use Rattle.fb_resolve.specs.Paths.{IsPath, IsPlaced, names_used, IsNoted, AreUses, AreNoted, AreTypesUses}
+use Rattle.fb_resolve.specs.declared.outline.TypeUse.{TypeUse}
+use Rattle.fb_resolve.specs.declared.outline.TypeUse.TheVariants.{Basic, Named}
 use Rattle.fb_resolve.specs.declared.walk.Walk.TheInside.{Inside}
-use Rattle.fb_syntax.specs.declared.declarations.TypeDecl.{TypeDecl}
-use Rattle.fb_syntax.specs.declared.declarations.TypeDecl.TheVariants.{Table, Struct, Enum, Union}
-use Rattle.fb_resolve.specs.Meaning.{type_name}
 
-pub use_kept : (old new : PathTree) (name : Name) → KeepsPaths old new → IsUse old name → IsUse new name
-unfolding IsUse
-use_kept old new name kept used = (used.0, kept used.0 _ used.1)
+-- what is noted of used names stays right
+pub use_kept : (old new : PathTree) (u : TypeUse) (name : Name) → KeepsPaths old new → IsNoted old u name → IsNoted new u name
+use_kept old new (Basic b) name kept h = h
+use_kept old new (Named n) name kept h = (h.0, kept n _ h.1)
 
--- the names that some things use
-all_kept : {X : Type 0} (use_in : X → Name) (old new : PathTree) (xs : List X) → KeepsPaths old new → All (λ x. IsUse old (use_in x)) xs → All (λ x. IsUse new (use_in x)) xs
-all_kept use_in old new xs kept all = All-weaker (λ x. IsUse old (use_in x)) (λ x. IsUse new (use_in x)) (λ x. use_kept old new (use_in x) kept) xs all
+uses_kept : (old new : PathTree) (us : List TypeUse) (names : List Name) → KeepsPaths old new → AreUses old us names → AreUses new us names
+uses_kept old new [] [] kept h = h
+uses_kept old new [] (m ∷ ms) kept h = h
+uses_kept old new (u ∷ us) [] kept h = h
+uses_kept old new (u ∷ us) (m ∷ ms) kept h = (use_kept old new u m kept h.0, uses_kept old new us ms kept h.1)
 
-pub uses_kept : (old new : PathTree) (d : TypeDecl) → KeepsPaths old new → AreUses old d → AreUses new d
-uses_kept old new (Table t) kept uses = all_kept (λ f. (type_name f.kind).bytes) old new t.fields kept uses
-uses_kept old new (Struct s) kept uses = all_kept (λ f. (type_name f.kind).bytes) old new s.fields kept uses
-uses_kept old new (Enum e) kept uses = use_kept old new e.underlying.bytes kept uses
-uses_kept old new (Union u) kept uses = all_kept (λ m. m.table.bytes) old new u.members kept uses
+types_kept : (old new : PathTree) (uses : List (Vec TypeUse Global)) (rs : List TypeRead) → KeepsPaths old new → AreTypesUses old uses rs → AreTypesUses new uses rs
+types_kept old new [] [] kept h = h
+types_kept old new [] (r ∷ rs) kept h = h
+types_kept old new (us ∷ uses) [] kept h = h
+types_kept old new (us ∷ uses) (r ∷ rs) kept h = (uses_kept old new us.items (names_used r.declaration) kept h.0, types_kept old new uses rs kept h.1)
 
--- the name that one thing more uses
-pub uses_more : {X : Type 0} (use_in : X → Name) (old new : PathTree) (xs : List X) (i : ℕ) (d : X) → i < length xs → KeepsPaths old new → IsUse new (use_in (get_or xs i d))
-    → All (λ x. IsUse old (use_in x)) (take i xs) → All (λ x. IsUse new (use_in x)) (take (i + 1) xs)
-uses_more use_in old new xs i d l kept one all = All-more (λ x. IsUse new (use_in x)) xs i d l (all_kept use_in old new (take i xs) kept all) one
+-- one more name is noted
+pub one_noted : {X : Type 0} (use_in : X → Name) (first old new : PathTree) (us : List TypeUse) (xs : List X) (i : ℕ) (u : TypeUse) (x : X) → i < length xs → x ≡ get_or xs i x
+    → IsTree new → KeepsPaths old new → IsNoted new u (use_in x) → AreNoted first old us (map use_in (take i xs)) → AreNoted first new (us ++ u ∷ []) (map use_in (take (i + 1) xs))
+one_noted use_in first old new us xs i u x l e is kept one h = record {
+  tree = is;
+  kept = λ k p at. kept k p (h.kept k p at);
+  uses = rw (take_more xs i x l, ← e, map_push use_in (take i xs) x)
+      (all_zipped_more (IsNoted new) us (map use_in (take i xs)) u (use_in x) (uses_kept old new us (map use_in (take i xs)) kept h.uses) one);
+}
 
 -- numbers stay those of their paths
 paths_kept : (old new : PathTree) (path_of : TypeRead → Path) (ns : List ℕ) (rs : List TypeRead) → KeepsPaths old new
@@ -53,8 +63,8 @@ placed_grown w tree used scope path is kept is_used kept_uses here h = record {
   scope = here;
   namespaces = paths_kept w.tree tree (λ r. words_of_scope r.scope) w.namespaces.items w.types.items kept h.namespaces;
   full_names = paths_kept w.tree tree (λ r. words (name_of_type r)) w.full_names.items w.types.items kept h.full_names;
-  uses = All-weaker (λ r. AreUses w.used r.declaration) (λ r. AreUses used r.declaration) (λ r. uses_kept w.used used r.declaration kept_uses) w.types.items h.uses;
-  root = λ r e. let root = h.root r e in (kept w.root_path _ root.0, use_kept w.used used r.name.bytes kept_uses root.1);
+  uses = types_kept w.used used w.uses.items w.types.items kept_uses h.uses;
+  root = λ r e. let root = h.root r e in (kept w.root_path _ root.0, use_kept w.used used w.root_use r.name.bytes kept_uses root.1);
 }
 
 -- a path behind a namespace's is that of the full name
@@ -82,3 +92,23 @@ names_numbered tree (n ∷ ns) (r ∷ rs) h = let later = names_numbered tree ns
   All-cons (λ n. n < length (paths tree)) n ns (slice_get_within (paths tree) n (words (name_of_type r)) h.0) later.0,
   rw (get_or_from_slice_get (paths tree) n (words (name_of_type r)) [] h.0, later.1) refl,
 )
+
+-- what is noted of the name at a place
+module _ {X : Type 0} (use_in : X → Name) (used : PathTree) (us : List TypeUse) (xs : List X) (i : ℕ) where
+  pub use_at : (d : TypeUse) (x : X) → AreUses used us (map use_in xs) → i < length xs → x ≡ get_or xs i x → IsNoted used (get_or us i d) (use_in x)
+  use_at d x all l e = subst (λ y. IsNoted used (get_or us i d) (use_in y)) (sym e)
+      (subst (IsNoted used (get_or us i d)) (get_or-map use_in xs i x (use_in x) l) (zip_at (IsNoted used) us (map use_in xs) i d (use_in x) all (omega (arith, length-map xs use_in))))
+
+  pub uses_counted : AreUses used us (map use_in xs) → i < length xs → i < length us
+  uses_counted all l = omega (arith, AllZip-long (IsNoted used) us (map use_in xs) all, length-map xs use_in)
+
+-- what is noted of one name
+pub first_use : (used : PathTree) (us : List TypeUse) (name : Name) (d : TypeUse) → AreUses used us (name ∷ []) → IsNoted used (get_or us 0 d) name
+first_use used us name d all = zip_at (IsNoted used) us (name ∷ []) 0 d name all (omega arith)
+
+-- what is noted of the names of a type
+pub types_used_at : (used : PathTree) (uses : List (Vec TypeUse Global)) (rs : List TypeRead) (i : ℕ) (us : Vec TypeUse Global) (r : TypeRead) → AreTypesUses used uses rs → i < length rs
+    → us ≡ get_or uses i us → r ≡ get_or rs i r → AreUses used us.items (names_used r.declaration)
+types_used_at used uses rs i us r all l e f =
+    subst (λ (v : Vec TypeUse Global). AreUses used v.items (names_used r.declaration)) (sym e) (subst (λ (q : TypeRead). AreUses used (get_or uses i us).items (names_used q.declaration)) (sym f)
+    (zip_at (λ vs q. AreUses used vs.items (names_used q.declaration)) uses rs i us r all l))

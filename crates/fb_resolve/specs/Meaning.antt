@@ -1,6 +1,6 @@
 -- What the name of a type means where it is used.
 -- From the FlatBuffers documentation, "Writing a schema": Types, Namespaces.
-use Rattle.std.specs.Prelude.{ℕ, List, Option, None, Some, slice_get, if◌then◌else◌}
+use Rattle.std.specs.Prelude.{ℕ, List, Option, None, Some, slice_get}
 use Rattle.fb_syntax.specs.Located.{Located}
 use Rattle.fb_syntax.specs.declared.declarations.FieldType.{FieldType}
 use Rattle.fb_syntax.specs.declared.declarations.FieldType.TheVariants.{One, Many}
@@ -9,8 +9,9 @@ use Rattle.fb_syntax.specs.declared.declarations.TypeDecl.TheVariants as decls
 use Rattle.fb_schema.specs.Schema.{Name}
 use Rattle.fb_resolve.specs.Outline.{TypeRead}
 use Rattle.fb_resolve.specs.Scopes.{type_meant}
-use Rattle.fb_resolve.specs.BasicTypes.{basic_type, is_text_type, is_float_type}
-use Rattle.fb_schema.specs.declared.kinds.Base.{Base}
+use Rattle.fb_resolve.specs.BasicTypes.{basic_type}
+use Rattle.fb_resolve.specs.declared.basic_types.BasicType.{BasicType}
+use Rattle.fb_resolve.specs.declared.basic_types.BasicType.TheVariants as basic
 use Rattle.fb_schema.specs.declared.kinds.Kind.TheVariants.{Scalar, Enum, Struct, Table, Union, Text}
 use Rattle.fb_resolve.specs.declared.meanings.Meaning.{Meaning}
 use Rattle.fb_resolve.specs.declared.meanings.Meaning.TheVariants.{Known, Float, Unknown}
@@ -30,16 +31,16 @@ abbrev pub use_of_type : List TypeRead → Option ℕ → Meaning
 use_of_type types None = Unknown
 use_of_type types (Some t) = use_of_read t (slice_get types t)
 
-abbrev pub or_scalar : Option Base → Meaning → Meaning
-or_scalar (Some base) m = Known (Scalar base)
-or_scalar None m = m
+-- a basic type, where the name is that of one
+abbrev pub basic_or : Option BasicType → Meaning → Meaning
+basic_or (Some (basic.Scalar base)) m = Known (Scalar base)
+basic_or (Some basic.Text) m = Known Text
+basic_or (Some basic.Float) m = Float
+basic_or None m = m
 
 -- A basic type's name is always that; any other names a type of an enclosing namespace.
 unfoldable pub meaning_of : List TypeRead → Option Name → Name → Meaning
-meaning_of types scope name = or_scalar (basic_type name)
-    (if is_text_type name then Known Text else
-    if is_float_type name then Float else
-    use_of_type types (type_meant types scope name))
+meaning_of types scope name = basic_or (basic_type name) (use_of_type types (type_meant types scope name))
 
 abbrev pub type_name : FieldType → Located
 type_name (One n) = n

@@ -1,11 +1,12 @@
 -- The paths of a text's namespaces and types, and the names that it uses for types.
 -- From the FlatBuffers documentation, "Writing a schema": Namespaces, Types.
-use Rattle.std.specs.Prelude.{ℕ, ◌≡◌, All, List, Option, Some, map, slice_get}
+use Rattle.std.specs.Prelude.{ℕ, ◌≡◌, List, [], ◌∷◌, Option, None, Some, Vec, map, slice_get}
+use Rattle.std.specs.Global.{Global}
 use Rattle.std.specs.List.{AllZip}
 use Rattle.std.specs.Option.{ForSome, option_copied}
 use Rattle.fb_scopes.specs.Words.{Path, words}
-use Rattle.fb_scopes.specs.PathTree.{paths, IsTree}
-use Rattle.fb_scopes.specs.Scopes.{tree_of, names_of, AreScopes, IsUsed}
+use Rattle.fb_scopes.specs.PathTree.{paths, IsTree, KeepsPaths}
+use Rattle.fb_scopes.specs.Scopes.{tree_of, names_of, AreScopes, IsUse}
 use Rattle.fb_scopes.specs.declared.path_tree.PathTree.{PathTree}
 use Rattle.fb_resolve.specs.Outline.{TypeRead, RootRead, name_of_type}
 use Rattle.fb_resolve.specs.Scopes.{words_of_scope, paths_of_types}
@@ -19,49 +20,65 @@ use Rattle.fb_syntax.specs.declared.declarations.TypeDecl.{TypeDecl}
 use Rattle.fb_syntax.specs.declared.declarations.TypeDecl.TheVariants.{Table, Struct, Enum, Union}
 use Rattle.fb_schema.specs.Schema.{Name}
 use Rattle.fb_resolve.specs.Meaning.{type_name}
+use Rattle.fb_resolve.specs.BasicTypes.{basic_type}
+use Rattle.fb_resolve.specs.declared.outline.TypeUse.{TypeUse}
+use Rattle.fb_resolve.specs.declared.outline.TypeUse.TheVariants.{Basic, Named}
 
 -- a number is that of a path
 abbrev pub IsPath : PathTree → ℕ → Path → Type 0
 IsPath tree n path = slice_get (paths tree) n ≡ Some path
 
--- a name is among those that are used
-unfoldable pub IsUse : PathTree → Name → Type 0
-IsUse used name = IsUsed used name
+-- the names of fields' types, and of members' tables
+abbrev pub types_used : List FieldRead → List Name
+types_used fs = map (λ f. (type_name f.kind).bytes) fs
 
--- so are the names of all fields' types
-abbrev pub AreFieldUses : PathTree → List FieldRead → Type 0
-AreFieldUses used fs = All (λ f. IsUse used (type_name f.kind).bytes) fs
+abbrev pub tables_used : List UnionMember → List Name
+tables_used ms = map (λ m. m.table.bytes) ms
 
--- so are the names of all members' tables
-abbrev pub AreMemberUses : PathTree → List UnionMember → Type 0
-AreMemberUses used ms = All (λ m. IsUse used m.table.bytes) ms
+-- the names that a type's declaration uses
+abbrev pub names_used : TypeDecl → List Name
+names_used (Table t) = types_used t.fields
+names_used (Struct s) = types_used s.fields
+names_used (Enum e) = e.underlying.bytes ∷ []
+names_used (Union u) = tables_used u.members
 
--- so are all names that a type's declaration uses
-abbrev pub AreUses : PathTree → TypeDecl → Type 0
-AreUses used (Table t) = AreFieldUses used t.fields
-AreUses used (Struct s) = AreFieldUses used s.fields
-AreUses used (Enum e) = IsUse used e.underlying.bytes
-AreUses used (Union u) = AreMemberUses used u.members
+-- what is noted of a name that is used: its basic type, or else its number
+abbrev pub IsNoted : PathTree → TypeUse → Name → Type 0
+IsNoted used (Basic b) name = basic_type name ≡ Some b
+IsNoted used (Named n) name = (basic_type name ≡ None) × IsUse used n name
 
--- the namespace of a root has a path of this number, and the root's name is known
-abbrev pub IsRootPlaced : PathTree → PathTree → ℕ → Option RootRead → Type 0
-IsRootPlaced tree used n root = ForSome root (λ r. IsPath tree n (words_of_scope r.scope) × IsUse used r.name.bytes)
+abbrev pub AreUses : PathTree → List TypeUse → List Name → Type 0
+AreUses used uses names = AllZip (IsNoted used) uses names
 
--- The namespace in force has its path, each type its namespace's and its full name's, and all names are known.
+-- names are noted, and the numbers of others are kept
+pub record AreNoted (old new : PathTree) (noted : List TypeUse) (names : List Name) : Type 0 where
+  pub tree : IsTree new
+  pub kept : KeepsPaths old new
+  pub uses : AreUses new noted names
+
+-- so are the names of all types
+abbrev pub AreTypesUses : PathTree → List (Vec TypeUse Global) → List TypeRead → Type 0
+AreTypesUses used uses types = AllZip (λ us r. AreUses used us.items (names_used r.declaration)) uses types
+
+-- the namespace of a root has a path of this number, and this is noted of the root's name
+abbrev pub IsRootPlaced : PathTree → PathTree → ℕ → TypeUse → Option RootRead → Type 0
+IsRootPlaced tree used n named root = ForSome root (λ r. IsPath tree n (words_of_scope r.scope) × IsNoted used named r.name.bytes)
+
+-- The namespace in force has its path, each type its namespace's and its full name's, and each used name is noted.
 pub record IsPlaced (w : Inside) : Type 0 where
   pub tree : IsTree w.tree
   pub used : IsTree w.used
   pub scope : IsPath w.tree w.path (words_of_scope (option_copied w.scope))
   pub namespaces : AllZip (λ n r. IsPath w.tree n (words_of_scope r.scope)) w.namespaces.items w.types.items
   pub full_names : AllZip (λ n r. IsPath w.tree n (words (name_of_type r))) w.full_names.items w.types.items
-  pub uses : All (λ r. AreUses w.used r.declaration) w.types.items
-  pub root : IsRootPlaced w.tree w.used w.root_path w.root
+  pub uses : AreTypesUses w.used w.uses.items w.types.items
+  pub root : IsRootPlaced w.tree w.used w.root_path w.root_use w.root
 
 -- Each name has its meaning in each namespace, these are the namespaces' paths, repeated names are marked, and
 -- each enum has its values.
 pub record AreNames (n : Names) (types : List TypeRead) : Type 0 where
   pub scopes : AreScopes n.scopes (paths_of_types types)
   pub namespaces : AllZip (λ k r. IsPath (tree_of n.scopes) k (words_of_scope r.scope)) n.namespaces.items types
-  pub uses : All (λ r. AreUses (names_of n.scopes) r.declaration) types
+  pub uses : AreTypesUses (names_of n.scopes) n.uses.items types
   pub repeats : n.repeats.items ≡ repeated_names name_of_type types
   pub values : n.values.items ≡ map (enum_values_of types) types

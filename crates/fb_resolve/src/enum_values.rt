@@ -3,16 +3,21 @@ ghost use Rattle.std.specs.Prelude.{◌≡◌, List, Option, IfOk, map};
 ghost use Rattle.std.specs.Option.{option_and_then, option_copied};
 ghost use Rattle.fb_schema.specs.Schema.{Name};
 ghost use Rattle.fb_resolve.specs.Outline.{TypeRead};
-ghost use Rattle.fb_resolve.specs.EnumsRead.{enum_values, enum_values_of, name_of_value, value_over};
+ghost use Rattle.fb_scopes.specs.declared.path_tree.PathTree.{PathTree};
+ghost use Rattle.fb_resolve.specs.Meaning.{meaning_of};
+ghost use Rattle.fb_resolve.specs.Paths.{names_used, IsNoted, AreUses, AreTypesUses};
+ghost use Rattle.fb_resolve.specs.EnumsRead.{integer_type, enum_values, enum_values_of, name_of_value, value_over};
 ghost use Rattle.fb_resolve.specs.EnumsRead.{values_over, number_named};
 ghost use Rattle.fb_resolve.specs.RepeatedNames.{repeated_names};
 ghost use Rattle.fb_resolve.specs.ValueNumbers.{IndexesValues};
 
 use crate::attributes::has_attribute;
-use crate::enums::{resolved_values, underlying, value_number};
-use crate::outline::TypeRead;
+use crate::basic_types::BasicType;
+use crate::enums::{integer_type, resolved_values, value_number};
+use crate::meanings::Meaning;
+use crate::outline::{TypeRead, TypeUse};
 use crate::resolved::ResolvedValue;
-use fb_schema::Base;
+use fb_schema::{Base, Kind};
 use fb_syntax::{BuiltInAttribute, TypeDecl};
 use std::alloc::{AllocError, Global};
 use std::collections::BTreeMap;
@@ -49,11 +54,13 @@ impl<'d, 's> Model for EnumValues<'d, 's> {
 }
 
 impl<'d, 's> EnumValues<'d, 's> {
-    /// The values of a type. The only error is a refused allocation.
+    /// The values of a type, of whose names this is noted. The only error is a refused allocation.
     fn of(
         alloc: Global,
         declaration: &'d TypeDecl<'s>,
+        uses: &[TypeUse],
     ) -> Result<EnumValues<'d, 's>, AllocError>
+        requires { (used : PathTree) × AreUses used uses.now (names_used declaration.now) }
         ensures { (types : List TypeRead) (scope : Option Name)
             → IfOk result (λ e. e ≡ enum_values types scope declaration.now) }
     {
@@ -66,7 +73,7 @@ impl<'d, 's> EnumValues<'d, 's> {
                 numbers: BTreeMap::new(alloc),
             });
         };
-        let base = underlying(read);
+        let base = underlying(uses[0]);
         let bit_flags = has_attribute(BuiltInAttribute::BitFlags, read.attributes.as_slice());
         let values = resolved_values(alloc, read.values.as_slice())?;
         let over = base.unwrap_or(Base::U8);
@@ -90,16 +97,32 @@ impl<'d, 's> EnumValues<'d, 's> {
     }
 }
 
-/// The values of each type. The only error is a refused allocation.
+/// The underlying type of an enum of whose name this is noted, if it is an integer type. The name
+/// alone tells, whatever types the text declares.
+#[tactic(auto, unfolding(crate::specs::Meaning::meaning_of))]
+fn underlying(noted: TypeUse) -> Option<Base>
+    ensures { (used : PathTree) (types : List TypeRead) (scope : Option Name) (name : Name)
+        → IsNoted used noted name → result ≡ integer_type (meaning_of types scope name) }
+{
+    match noted {
+        TypeUse::Basic(BasicType::Scalar(base)) => integer_type(Meaning::Known(Kind::Scalar(base))),
+        _ => None,
+    }
+}
+
+/// The values of each type, of whose names this is noted. The only error is a refused allocation.
 pub(crate) fn values_of_types<'d, 's>(
     alloc: Global,
     types: &[TypeRead<'d, 's>],
+    uses: &[Vec<TypeUse>],
 ) -> Result<Vec<EnumValues<'d, 's>>, AllocError>
+    requires { (used : PathTree) × AreTypesUses used uses.now types.now }
     ensures { IfOk result (λ v. v.items ≡ map (enum_values_of types.now) types.now) }
 {
     let mut values = Vec::with_capacity(alloc, types.len())?;
-    for read in types {
-        values.push(EnumValues::of(alloc, read.declaration)?)?;
+    for (number, read) in types.iter().enumerate() {
+        let uses = uses[number].as_slice();
+        values.push(EnumValues::of(alloc, read.declaration, uses)?)?;
     }
     Ok(values)
 }

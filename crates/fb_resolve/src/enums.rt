@@ -5,15 +5,14 @@ ghost use Rattle.fb_syntax.specs.Integers.{greatest_magnitude};
 ghost use Rattle.fb_schema.specs.Schema.{Name};
 ghost use Rattle.fb_schema.specs.Alignments.{base_size};
 ghost use Rattle.fb_resolve.specs.Outline.{TypeRead};
-ghost use Rattle.fb_resolve.specs.EnumsRead.{integer_type, underlying};
+ghost use Rattle.fb_resolve.specs.EnumsRead.{integer_type};
 ghost use Rattle.fb_resolve.specs.EnumsRead.{value_number, may_be_written, written_number};
 ghost use Rattle.fb_resolve.specs.EnumsRead.{resolved_values, value_over, values_over};
 
-use crate::basic_types::basic_type;
 use crate::meanings::Meaning;
 use crate::resolved::ResolvedValue;
 use fb_schema::{Base, Kind};
-use fb_syntax::{EnumDecl, EnumValue};
+use fb_syntax::EnumValue;
 use std::alloc::{AllocError, Global};
 
 /// An integer type, which a `bool` isn't.
@@ -25,17 +24,6 @@ pub fn integer_type(meaning: Meaning) -> Option<Base>
         Meaning::Known(Kind::Scalar(base)) => Some(base),
         _ => None,
     }
-}
-
-/// The underlying type of an enum, if it is an integer type. Its name alone tells, whatever types
-/// the text declares.
-#[tactic(auto, unfolding(crate::specs::Meaning::meaning_of))]
-pub(crate) fn underlying(read: &EnumDecl<'_>) -> Option<Base>
-    ensures { (types : List TypeRead) (scope : Option Name)
-        → result ≡ underlying types scope read.now }
-{
-    let base = basic_type(read.underlying.as_str())?;
-    integer_type(Meaning::Known(Kind::Scalar(base)))
 }
 
 fn bits_of(base: Base) -> u8

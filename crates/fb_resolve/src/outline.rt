@@ -2,6 +2,7 @@
 ghost use Rattle.std.specs.Prelude.{◌≡◌, IfOk, string_bytes};
 ghost use Rattle.fb_resolve.specs.Outline.{outline_of, word_of, name_of_type};
 
+use crate::basic_types::BasicType;
 use crate::enum_values::EnumValues;
 use crate::walk::Walk;
 use fb_scopes::Scopes;
@@ -41,14 +42,25 @@ impl<'d, 's> Model for RootRead<'d, 's> {
     ghost view = { λ r. record { scope = option_copied r.scope; name = r.name.now } };
 }
 
+/// A name that is used for a type: a basic type, or the number of the name.
+#[derive(Clone, Copy, Drop)]
+pub(crate) enum TypeUse {
+    Basic(BasicType),
+    Named(usize),
+}
+
 /// What the names of types and of enums' values mean, and where the types and the root of a text stand.
 #[derive(Drop)]
 pub(crate) struct Names<'d, 's> {
     pub scopes: Scopes<'d>,
     /// Of each type the number of its namespace's path.
     pub namespaces: Vec<usize>,
+    /// Of each type what is noted of the names that it uses, in their order.
+    pub uses: Vec<Vec<TypeUse>>,
     /// The number of the path of the namespace in which the root is named.
-    pub root: usize,
+    pub root_path: usize,
+    /// What is noted of the root's name.
+    pub root_use: TypeUse,
     /// Of each type whether one before it has its full name.
     pub repeats: Vec<bool>,
     /// Of each type the values that it has as an enum.
@@ -85,7 +97,8 @@ impl<'d, 's> Model for Outline<'d, 's> {
     } };
 
     ghost invariant = { λ o. AreNames o.names o.types.items
-        × IsRootPlaced (tree_of o.names.scopes) (names_of o.names.scopes) o.names.root o.root };
+        × IsRootPlaced (tree_of o.names.scopes) (names_of o.names.scopes) o.names.root_path
+        o.names.root_use o.root };
 }
 
 impl<'d, 's> Outline<'d, 's> {
@@ -99,7 +112,7 @@ impl<'d, 's> Outline<'d, 's> {
         for declaration in decls.declarations() {
             match declaration {
                 Declaration::Namespace(name) => walk = walk.inside(name.as_ref())?,
-                Declaration::Type(declaration) => walk = walk.with_type(declaration)?,
+                Declaration::Type(declaration) => walk = walk.with_type(alloc, declaration)?,
                 Declaration::Attribute(name) => attributes.push(name.text)?,
                 Declaration::Directive(Directive::RootType(name)) => walk = walk.with_root(name)?,
                 Declaration::Directive(Directive::FileIdentifier(text)) => identifier = Some(text),

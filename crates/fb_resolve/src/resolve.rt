@@ -4,26 +4,27 @@ ghost use Rattle.std.specs.Option.{option_copied};
 ghost use Rattle.fb_scopes.specs.Scopes.{tree_of, names_of, AreScopes};
 ghost use Rattle.fb_resolve.specs.Scopes.{paths_of_types};
 ghost use Rattle.fb_resolve.specs.Outline.{name_of_type};
-ghost use Rattle.fb_resolve.specs.Paths.{IsRootPlaced, AreFieldUses, AreMemberUses, AreUses, AreNames};
+ghost use Rattle.fb_resolve.specs.Paths.{types_used, tables_used, names_used, IsRootPlaced, AreUses, AreNames};
 ghost use Rattle.fb_resolve.specs.RepeatedNames.{repeated_names};
 ghost use Rattle.fb_resolve.specs.EnumsRead.{enum_values};
-ghost use Rattle.fb_resolve.specs.Resolved.{resolved_fields, resolved_member};
+ghost use Rattle.fb_syntax.specs.declared.declarations.TypeDecl.TheVariants.{Enum};
+ghost use Rattle.fb_resolve.specs.Resolved.{resolved_fields, resolved_enum, resolved_member};
 ghost use Rattle.fb_resolve.specs.Resolved.{resolved_declaration, resolved_types, meaning_of_root};
 
 use crate::attributes::{field_attributes, number_called};
 use crate::defaults::given_by;
 use crate::enum_values::EnumValues;
 use crate::ids::Slots;
-use crate::meanings::{Meaning, type_name};
+use crate::meanings::Meaning;
 use crate::members::member_name;
-use crate::outline::{Names, Outline, RootRead, TypeRead};
+use crate::outline::{Names, Outline, RootRead, TypeRead, TypeUse};
 use crate::resolved::{
     ResolvedDecl, ResolvedEnum, ResolvedField, ResolvedMember, ResolvedStruct, ResolvedTable,
     ResolvedType, ResolvedUnion,
 };
 use crate::scope::Scope;
 use crate::slots::code_of;
-use fb_syntax::{BuiltInAttribute, Field, TypeDecl, UnionMember};
+use fb_syntax::{BuiltInAttribute, EnumDecl, Field, TypeDecl, UnionMember};
 use std::alloc::{AllocError, Global};
 
 impl<'t, 'd, 's> Scope<'t, 'd, 's> {
@@ -31,15 +32,16 @@ impl<'t, 'd, 's> Scope<'t, 'd, 's> {
         self,
         alloc: Global,
         fields: &'d [Field<'s>],
+        uses: &[TypeUse],
     ) -> Result<Vec<ResolvedField<'d, 's>>, AllocError>
         requires scopes { AreScopes self.names.now.scopes (paths_of_types self.types.now) }
-        requires used { AreFieldUses (names_of self.names.now.scopes) fields.now }
+        requires used { AreUses (names_of self.names.now.scopes) uses.now (types_used fields.now) }
         ensures { IfOk result (λ v. v.items
             ≡ resolved_fields self.entry.types.now (option_copied self.entry.name) fields.now) }
     {
         let mut resolved = Vec::with_capacity(alloc, fields.len())?;
-        for field in fields {
-            let meaning = self.meaning(type_name(&field.kind).as_str());
+        for (number, field) in fields.iter().enumerate() {
+            let meaning = self.meaning(uses[number]);
             let default = field.default.as_ref();
             resolved.push(ResolvedField {
                 field,
@@ -56,16 +58,17 @@ impl<'t, 'd, 's> Scope<'t, 'd, 's> {
         self,
         alloc: Global,
         members: &'d [UnionMember<'s>],
+        uses: &[TypeUse],
     ) -> Result<Vec<ResolvedMember<'d, 's>>, AllocError>
         requires scopes { AreScopes self.names.now.scopes (paths_of_types self.types.now) }
-        requires used { AreMemberUses (names_of self.names.now.scopes) members.now }
+        requires used { AreUses (names_of self.names.now.scopes) uses.now (tables_used members.now) }
         ensures { IfOk result (λ v. v.items
             ≡ map (resolved_member self.entry.types.now (option_copied self.entry.name)) members.now) }
     {
         let mut resolved = Vec::with_capacity(alloc, members.len())?;
-        for member in members {
+        for (number, member) in members.iter().enumerate() {
             let name = member_name(alloc, member)?;
-            let meaning = self.meaning(member.table.as_str());
+            let meaning = self.meaning(uses[number]);
             resolved.push(ResolvedMember {
                 name,
                 member,
@@ -75,14 +78,37 @@ impl<'t, 'd, 's> Scope<'t, 'd, 's> {
         Ok(resolved)
     }
 
+    fn resolved_enum(
+        self,
+        declared: &'d EnumDecl<'s>,
+        uses: &[TypeUse],
+        values: &'t EnumValues<'d, 's>,
+    ) -> ResolvedEnum<'t, 'd, 's>
+        requires scopes { AreScopes self.names.now.scopes (paths_of_types self.types.now) }
+        requires used { AreUses (names_of self.names.now.scopes) uses.now
+            (names_used (Enum declared.now)) }
+        requires values { values.now
+            ≡ enum_values self.types.now (option_copied self.name) (Enum declared.now) }
+        ensures { result
+            ≡ resolved_enum self.entry.types.now (option_copied self.entry.name) declared.now }
+    {
+        ResolvedEnum {
+            declared,
+            underlying: self.meaning(uses[0]),
+            values,
+        }
+    }
+
     fn resolved_declaration(
         self,
         alloc: Global,
         declaration: &'d TypeDecl<'s>,
+        uses: &[TypeUse],
         values: &'t EnumValues<'d, 's>,
     ) -> Result<ResolvedDecl<'t, 'd, 's>, AllocError>
         requires scopes { AreScopes self.names.now.scopes (paths_of_types self.types.now) }
-        requires used { AreUses (names_of self.names.now.scopes) declaration.now }
+        requires used { AreUses (names_of self.names.now.scopes) uses.now
+            (names_used declaration.now) }
         requires values { values.now
             ≡ enum_values self.types.now (option_copied self.name) declaration.now }
         ensures { IfOk result (λ d. d
@@ -91,7 +117,7 @@ impl<'t, 'd, 's> Scope<'t, 'd, 's> {
     {
         Ok(match declaration {
             TypeDecl::Table(declared) => {
-                let fields = self.resolved_fields(alloc, declared.fields.as_slice())?;
+                let fields = self.resolved_fields(alloc, declared.fields.as_slice(), uses)?;
                 let slots = Slots::of(alloc, fields.as_slice())?;
                 ResolvedDecl::Table(ResolvedTable {
                     declared,
@@ -103,17 +129,15 @@ impl<'t, 'd, 's> Scope<'t, 'd, 's> {
                 let attributes = declared.attributes.as_slice();
                 ResolvedDecl::Struct(ResolvedStruct {
                     declared,
-                    fields: self.resolved_fields(alloc, declared.fields.as_slice())?,
+                    fields: self.resolved_fields(alloc, declared.fields.as_slice(), uses)?,
                     force_align: number_called(BuiltInAttribute::ForceAlign, attributes),
                 })
             }
-            TypeDecl::Enum(declared) => ResolvedDecl::Enum(ResolvedEnum {
-                declared,
-                underlying: self.meaning_over(values.base, declared.underlying.as_str()),
-                values,
-            }),
+            TypeDecl::Enum(declared) => {
+                ResolvedDecl::Enum(self.resolved_enum(declared, uses, values))
+            }
             TypeDecl::Union(declared) => {
-                let members = self.resolved_members(alloc, declared.members.as_slice())?;
+                let members = self.resolved_members(alloc, declared.members.as_slice(), uses)?;
                 ResolvedDecl::Union(ResolvedUnion { declared, members })
             }
         })
@@ -137,8 +161,9 @@ fn resolved_types<'t, 'd, 's>(
             path: names.namespaces[number],
             name: read.scope,
         };
+        let uses = names.uses[number].as_slice();
         let values = &names.values[number];
-        let declaration = scope.resolved_declaration(alloc, read.declaration, values)?;
+        let declaration = scope.resolved_declaration(alloc, read.declaration, uses, values)?;
         resolved.push(ResolvedType { read, declaration })?;
     }
     Ok(resolved)
@@ -152,7 +177,7 @@ fn meaning_of_root<'t, 'd, 's>(
 ) -> Meaning
     requires names { AreNames names.now types.now }
     requires root { IsRootPlaced (tree_of names.now.scopes) (names_of names.now.scopes)
-        names.now.root (option_copied root) }
+        names.now.root_path names.now.root_use (option_copied root) }
     ensures { result ≡ meaning_of_root types.now (option_copied root.entry) }
 {
     let Some(root) = root else {
@@ -161,11 +186,10 @@ fn meaning_of_root<'t, 'd, 's>(
     let scope = Scope {
         types,
         names,
-        path: names.root,
+        path: names.root_path,
         name: root.scope,
     };
-    let name = root.name;
-    scope.meaning(name.as_str())
+    scope.meaning(names.root_use)
 }
 
 /// What a text declares, and what each name in its types and the root's mean.

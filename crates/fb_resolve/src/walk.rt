@@ -3,14 +3,15 @@ ghost use Rattle.std.specs.Prelude.{◌≡◌, ◌++◌, [], ◌∷◌, None, So
 ghost use Rattle.std.specs.Option.{option_copied};
 ghost use Rattle.fb_scopes.specs.PathTree.{IsTree, KeepsPaths};
 ghost use Rattle.fb_resolve.specs.Outline.{scope_named};
-ghost use Rattle.fb_resolve.specs.Paths.{AreUses};
+ghost use Rattle.fb_resolve.specs.Paths.{types_used, tables_used, names_used, IsNoted, AreNoted};
 
+use crate::basic_types::{BasicType, basic_type};
 use crate::enum_values::values_of_types;
 use crate::meanings::type_name;
-use crate::outline::{Names, Outline, RootRead, TypeRead, word_of};
+use crate::outline::{Names, Outline, RootRead, TypeRead, TypeUse, word_of};
 use crate::repeated_names::repeated_numbers;
 use fb_scopes::{PathTree, Scopes};
-use fb_syntax::{DottedName, Text, TypeDecl};
+use fb_syntax::{DottedName, Field, Text, TypeDecl, UnionMember};
 use std::alloc::{AllocError, Global};
 use std::marker::Model;
 
@@ -30,8 +31,12 @@ pub(crate) struct Walk<'d, 's> {
     namespaces: Vec<usize>,
     /// Of each type the number of its full name's path.
     full_names: Vec<usize>,
+    /// Of each type what is noted of the names that it uses.
+    uses: Vec<Vec<TypeUse>>,
     /// The number of the path of the namespace in which the root is named.
     root_path: usize,
+    /// What is noted of the root's name.
+    root_use: TypeUse,
 }
 
 impl<'d, 's> Model for Walk<'d, 's> {
@@ -61,7 +66,9 @@ impl<'d, 's> Walk<'d, 's> {
             used: PathTree::new(alloc),
             namespaces: Vec::new(alloc),
             full_names: Vec::new(alloc),
+            uses: Vec::new(alloc),
             root_path: 0,
+            root_use: TypeUse::Basic(BasicType::Text),
         }
     }
 
@@ -87,6 +94,7 @@ impl<'d, 's> Walk<'d, 's> {
     /// A type is declared.
     pub(crate) fn with_type(
         mut self,
+        alloc: Global,
         declaration: &'d TypeDecl<'s>,
     ) -> Result<Walk<'d, 's>, AllocError>
         ensures { IfOk result (λ w. w ≡ record self.entry {
@@ -94,13 +102,14 @@ impl<'d, 's> Walk<'d, 's> {
               ++ record { scope = self.entry.scope; declaration = declaration.now } ∷ [];
         }) }
     {
-        note_uses(&mut self.used, declaration)?;
+        let uses = uses_of(alloc, &mut self.used, declaration)?;
         let word = word_of(declaration).text;
         let path = self.path;
         let scope = self.scope;
         let full_name = self.tree.insert_words(path, word)?;
         self.namespaces.push(path)?;
         self.full_names.push(full_name)?;
+        self.uses.push(uses)?;
         self.types.push(TypeRead { scope, declaration })?;
         Ok(self)
     }
@@ -110,7 +119,7 @@ impl<'d, 's> Walk<'d, 's> {
         ensures { IfOk result (λ w. w ≡ record self.entry
             { root = Some (record { scope = self.entry.scope; name = name.now }) }) }
     {
-        self.used.insert_reversed(name.as_str())?;
+        self.root_use = type_use(&mut self.used, name.as_str())?;
         let scope = self.scope;
         self.root = Some(RootRead { scope, name });
         self.root_path = self.path;
@@ -136,11 +145,13 @@ impl<'d, 's> Walk<'d, 's> {
         let numbers = self.full_names;
         let full_names = numbers.as_slice();
         let repeats = repeated_numbers(alloc, full_names, self.tree.len())?;
-        let values = values_of_types(alloc, self.types.as_slice())?;
+        let values = values_of_types(alloc, self.types.as_slice(), self.uses.as_slice())?;
         let names = Names {
             scopes: Scopes::of(alloc, self.tree, self.used, full_names)?,
             namespaces: self.namespaces,
-            root: self.root_path,
+            uses: self.uses,
+            root_path: self.root_path,
+            root_use: self.root_use,
             repeats,
             values,
         };
@@ -155,27 +166,68 @@ impl<'d, 's> Walk<'d, 's> {
     }
 }
 
-/// Notes all names that a type's declaration uses for types.
-fn note_uses<'d>(used: &mut PathTree<'d>, declaration: &'d TypeDecl<'_>) -> Result<(), AllocError>
+/// What is noted of a name that is used for a type.
+fn type_use<'d>(used: &mut PathTree<'d>, name: &'d str) -> Result<TypeUse, AllocError>
     requires { IsTree used.now }
     ensures tree { OnOk result (IsTree used.new) }
     ensures kept { OnOk result (KeepsPaths used.old used.new) }
-    ensures used { OnOk result (AreUses used.new declaration.now) }
+    ensures noted { IfOk result (λ u. IsNoted used.new u name.now) }
+{
+    match basic_type(name) {
+        Some(basic) => Ok(TypeUse::Basic(basic)),
+        None => Ok(TypeUse::Named(used.insert_reversed(name)?)),
+    }
+}
+
+/// What is noted of the names of fields' types.
+fn field_uses<'d>(
+    alloc: Global,
+    used: &mut PathTree<'d>,
+    fields: &'d [Field<'_>],
+) -> Result<Vec<TypeUse>, AllocError>
+    requires { IsTree used.now }
+    ensures { IfOk result (λ v. AreNoted used.old used.new v.items (types_used fields.now)) }
+{
+    let mut uses = Vec::with_capacity(alloc, fields.len())?;
+    for field in fields {
+        uses.push(type_use(used, type_name(&field.kind).as_str())?)?;
+    }
+    Ok(uses)
+}
+
+/// What is noted of the names of members' tables.
+fn member_uses<'d>(
+    alloc: Global,
+    used: &mut PathTree<'d>,
+    members: &'d [UnionMember<'_>],
+) -> Result<Vec<TypeUse>, AllocError>
+    requires { IsTree used.now }
+    ensures { IfOk result (λ v. AreNoted used.old used.new v.items (tables_used members.now)) }
+{
+    let mut uses = Vec::with_capacity(alloc, members.len())?;
+    for member in members {
+        uses.push(type_use(used, member.table.as_str())?)?;
+    }
+    Ok(uses)
+}
+
+/// What is noted of the names that a type's declaration uses for types.
+fn uses_of<'d>(
+    alloc: Global,
+    used: &mut PathTree<'d>,
+    declaration: &'d TypeDecl<'_>,
+) -> Result<Vec<TypeUse>, AllocError>
+    requires { IsTree used.now }
+    ensures { IfOk result (λ v. AreNoted used.old used.new v.items (names_used declaration.now)) }
 {
     match declaration {
         TypeDecl::Table(read) | TypeDecl::Struct(read) => {
-            for field in read.fields.as_slice() {
-                used.insert_reversed(type_name(&field.kind).as_str())?;
-            }
+            field_uses(alloc, used, read.fields.as_slice())
         }
         TypeDecl::Enum(read) => {
-            used.insert_reversed(read.underlying.as_str())?;
+            let noted = type_use(used, read.underlying.as_str())?;
+            Ok(vec![in alloc; noted; 1]?)
         }
-        TypeDecl::Union(read) => {
-            for member in read.members.as_slice() {
-                used.insert_reversed(member.table.as_str())?;
-            }
-        }
+        TypeDecl::Union(read) => member_uses(alloc, used, read.members.as_slice()),
     }
-    Ok(())
 }

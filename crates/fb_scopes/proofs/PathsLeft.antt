@@ -31,11 +31,3 @@ reversed_last front word rest e = ap reverse e ∙ reverse-append front (word �
 pub if_none : {T P Q : Type 0} (o : Option T) → (P → Q) → IfNone o P → IfNone o Q
 if_none None f h = f h
 if_none (Some x) f h = tt
-
--- where a word is missing, so is the whole
-pub left_missing : (tree : PathTree) → IsTree tree → (path : ℕ) (word : Name) (rest more whole : Path) → IsLeft (paths tree) path rest whole → rest ≡ word ∷ more
-    → ((n : ℕ) → slice_get (paths tree) n ≢ Some (child_of (paths tree) path word)) → (n : ℕ) → slice_get (paths tree) n ≢ Some whole
-left_missing tree is path word rest more whole left e missing n at =
-    let p = get_or (paths tree) path [] in
-    let begins = beginning tree is (p ++ word ∷ []) more n (at ∙ ap (λ q. Some q) (sym left.left ∙ ap (λ r. p ++ r) e ∙ sym (append_assoc p (word ∷ []) more))) in
-    missing begins.0 begins.1

@@ -10,9 +10,9 @@ use Rattle.fb_scopes.specs.declared.scopes.Scopes.{Scopes}
 abbrev pub paths_at : PathTree → List ℕ → List Path
 paths_at tree numbers = map (λ n. get_or (paths tree) n []) numbers
 
--- a name is among those that are used, its last word first
-abbrev pub IsUsed : PathTree → Name → Type 0
-IsUsed used name = (n : ℕ) × (slice_get (paths used) n ≡ Some (reverse (words name)))
+-- a number is that of a used name, whose last word is first
+abbrev pub IsUse : PathTree → ℕ → Name → Type 0
+IsUse used n name = slice_get (paths used) n ≡ Some (reverse (words name))
 
 -- the paths of namespaces and types
 abbrev pub tree_of : Scopes → PathTree

@@ -116,19 +116,4 @@ impl<'t> PathTree<'t> {
         }
         self.insert(path, rest)
     }
-
-    /// The number of the path of a name's words from the last to the first, if it has one.
-    pub(crate) fn find_reversed(&self, name: &'t str) -> Option<usize>
-        requires { IsTree self.now }
-        ensures found { IfSome result (λ n. slice_get (paths self.now) n ≡ Some (reverse (words name.now))) }
-        ensures missing { IfNone result ((n : ℕ) → slice_get (paths self.now) n ≢ Some (reverse (words name.now))) }
-    {
-        let mut path = 0;
-        let mut rest = name;
-        while let Some((before, word)) = rest.rsplit_once('.') {
-            path = self.child(path, word)?;
-            rest = before;
-        }
-        self.child(path, rest)
-    }
 }

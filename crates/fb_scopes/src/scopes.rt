@@ -4,8 +4,8 @@ ghost use Rattle.std.specs.Prelude.{None, Some, ℕ, length, get_or, if◌then�
 ghost use Rattle.std.specs.Option.{option_or};
 ghost use Rattle.fb_scopes.specs.PathTree.{paths, IsTree};
 ghost use Rattle.fb_scopes.specs.NamedTypes.{noted_at, path_count, name_count, AreNoted, HasRoom};
-ghost use Rattle.fb_scopes.specs.Scopes.{paths_at, tree_of, names_of, IsUsed, AreScopes};
-ghost use Rattle.fb_scopes.specs.Words.{words, Path, named, same_path, place_of_path, meant_inside};
+ghost use Rattle.fb_scopes.specs.Scopes.{paths_at, tree_of, names_of, IsUse, AreScopes};
+ghost use Rattle.fb_scopes.specs.Words.{Name, words, Path, named, same_path, place_of_path, meant_inside};
 
 use crate::named_types::NamedTypes;
 use crate::path_tree::PathTree;
@@ -41,18 +41,16 @@ impl<'d> Scopes<'d> {
         Ok(Scopes { tree, used, noted })
     }
 
-    /// The number of the type that a used name means inside a namespace.
-    pub fn meant(&self, path: usize, name: &'d str) -> Option<usize>
+    /// The number of the type that a used name means inside a namespace, by the numbers of both.
+    pub fn meant(&self, path: usize, used: usize) -> Option<usize>
         requires path { path < length (paths (tree_of self.now)) }
-        requires used { IsUsed (names_of self.now) name.now }
+        requires used { used < length (paths (names_of self.now)) }
         requires scopes { (types : List Path) × AreScopes self.now types }
-        ensures { (types : List Path) → AreScopes self.now types
-            → result ≡ meant_inside types (get_or (paths (tree_of self.now)) path []) (words name.now) }
+        ensures { (types : List Path) (name : Name) → AreScopes self.now types
+            → IsUse (names_of self.now) used name
+            → result ≡ meant_inside types (get_or (paths (tree_of self.now)) path []) (words name) }
     {
-        let Some(number) = self.used.find_reversed(name) else {
-            unreachable!()
-        };
-        self.noted.get(path, number)
+        self.noted.get(path, used)
     }
 }
 

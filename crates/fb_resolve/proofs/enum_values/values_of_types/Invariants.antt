@@ -2,6 +2,6 @@ use Rattle.std.proofs.Common.{◌≡◌, ◌++◌, map, drop}
 use Rattle.fb_resolve.specs.EnumsRead.{enum_values_of}
 use Rattle.fb_resolve.proofs.enum_values.values_of_types.Given as goal
 
-abbrev pub invariant-loop-read : goal.invariant-loop-read
-invariant-loop-read l = let values = enum_values_of l.types in
-    l.values.items ++ map values (drop l.read-index l.types) ≡ map values l.types
+abbrev pub invariant-loop-number : goal.invariant-loop-number
+invariant-loop-number l = let values = enum_values_of l.types in
+    l.values.items ++ map values (drop l.number l.types) ≡ map values l.types

@@ -2,10 +2,10 @@ use Rattle.std.proofs.Common.{rules, ◌≡◌, ◌+◌, ◌∷◌, drop, ap, sy
 use Rattle.std.proofs.lemmas.Grind.{common_steps}
 use Rattle.std.proofs.lemmas.List.{drop_more}
 use Rattle.std.proofs.lemmas.Slice.Zip.{AllZip-long}
-use Rattle.fb_scopes.specs.Scopes.{tree_of}
+use Rattle.fb_scopes.specs.Scopes.{tree_of, names_of}
 use Rattle.fb_resolve.specs.Scopes.{words_of_scope}
-use Rattle.fb_resolve.specs.Paths.{IsPath}
-use Rattle.fb_resolve.proofs.PathsKept.{zip_at}
+use Rattle.fb_resolve.specs.Paths.{IsPath, names_used, AreUses}
+use Rattle.fb_resolve.proofs.PathsKept.{zip_at, types_used_at}
 use Rattle.fb_resolve.proofs.resolve.resolved_types.Goals as goal
 
 pub index-requires : goal.index-requires
@@ -27,3 +27,18 @@ loop-number-preserved c =
     let next : drop i types ≡ item ∷ drop (i + 1) types =
     drop_more types i item c.loop-number-test.true ∙ ap (λ r. r ∷ drop (i + 1) types) (sym c.index-types-number.is) in
     grind (arith, common_steps, next)
+
+pub index-requires-in-loop-number : goal.index-requires-in-loop-number
+index-requires-in-loop-number c =
+    omega (arith, AllZip-long (λ us r. AreUses (names_of c.args.names.now.scopes) us.items (names_used r.declaration)) c.args.names.now.uses.items c.args.types.now c.requires.uses, c.loop-number-test.true)
+
+pub resolved_declaration-requires-clause-used : goal.resolved_declaration-requires-clause-used
+resolved_declaration-requires-clause-used c =
+    let r = c.index-types-number.result in
+    let there = types_used_at (names_of c.args.names.now.scopes) c.args.names.now.uses.items c.args.types.now c.loop-number.number c.index-in-loop-number.result.now r
+    c.requires.uses c.loop-number-test.true c.index-in-loop-number.ensures c.index-types-number.is in
+    let declaration : r.declaration ≡ c.read.inside.declaration.now = grind rules in
+    rw c.as_slice-uses.ensures.value (rw declaration at there)
+
+pub returns : goal.returns
+returns c = grind (arith, common_steps, c.loop-number.invariant)

@@ -3,5 +3,5 @@ use Rattle.std.specs.Option.{option_copied}
 use Rattle.fb_resolve.specs.Resolved.{resolved_fields}
 use Rattle.fb_resolve.proofs.scope.Scope.resolved_fields.Given as goal
 
-abbrev pub invariant-loop-field : goal.invariant-loop-field
-invariant-loop-field l = l.resolved.items ++ resolved_fields l.self.types.now (option_copied l.self.name) (drop l.field-index l.fields) ≡ resolved_fields l.self.types.now (option_copied l.self.name) l.fields
+abbrev pub invariant-loop-number : goal.invariant-loop-number
+invariant-loop-number l = l.resolved.items ++ resolved_fields l.self.types.now (option_copied l.self.name) (drop l.number l.fields) ≡ resolved_fields l.self.types.now (option_copied l.self.name) l.fields

@@ -3,6 +3,6 @@ use Rattle.std.specs.Option.{option_copied}
 use Rattle.fb_resolve.specs.Resolved.{resolved_member}
 use Rattle.fb_resolve.proofs.scope.Scope.resolved_members.Given as goal
 
-abbrev pub invariant-loop-member : goal.invariant-loop-member
-invariant-loop-member l = let resolved = resolved_member l.self.types.now (option_copied l.self.name) in
-    l.resolved.items ++ map resolved (drop l.member-index l.members) ≡ map resolved l.members
+abbrev pub invariant-loop-number : goal.invariant-loop-number
+invariant-loop-number l = let resolved = resolved_member l.self.types.now (option_copied l.self.name) in
+    l.resolved.items ++ map resolved (drop l.number l.members) ≡ map resolved l.members

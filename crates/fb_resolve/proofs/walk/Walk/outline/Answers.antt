@@ -50,6 +50,9 @@ pub repeated_numbers-requires : goal.repeated_numbers-requires
 repeated_numbers-requires c = let w = c.self.inside in
     rw (c.as_slice-full_names.ensures.value, c.len.ensures) (names_numbered w.tree w.full_names.items w.types.items c.self.invariant.full_names).0
 
+pub values_of_types-requires : goal.values_of_types-requires
+values_of_types-requires c = let w = c.self.inside in (w.used, rw (c.as_slice-2.ensures.value, c.as_slice.ensures.value) c.self.invariant.uses)
+
 pub invariant_of-result : goal.invariant_of-result
 invariant_of-result c =
     let w = c.self.inside in

@@ -1,11 +1,10 @@
 use Rattle.std.proofs.Common.{rules}
 use Rattle.std.specs.Option.{option_copied}
-use Rattle.std.proofs.lemmas.List.Elements.{All-push}
 use Rattle.std.proofs.lemmas.Slice.Zip.{all_zipped_more}
 use Rattle.fb_scopes.specs.Words.{words}
 use Rattle.fb_resolve.specs.Outline.{TypeRead, word_of, name_of_type}
 use Rattle.fb_resolve.specs.Scopes.{words_of_scope}
-use Rattle.fb_resolve.specs.Paths.{IsPath, AreUses}
+use Rattle.fb_resolve.specs.Paths.{IsPath, names_used, AreUses}
 use Rattle.fb_resolve.proofs.PathsKept.{path_inside, placed_grown}
 use Rattle.fb_resolve.proofs.walk.Walk.with_type.Goals as goal
 
@@ -13,8 +12,8 @@ pub invariant_of-self : goal.invariant_of-self
 invariant_of-self c =
     let w = c.self.inside in
     let tree = c.insert_words.new.self in
-    let used = c.note_uses.new.used in
-    let noted = c.in_ok-note_uses.ensures in
+    let used = c.uses_of.new.used in
+    let noted = c.in_ok-uses.ensures in
     let made = c.in_ok-full_name.ensures in
     let one : TypeRead = record { scope = option_copied w.scope; declaration = c.args.declaration.now } in
     let full_name = c.in_ok-full_name.full_name in
@@ -25,10 +24,11 @@ invariant_of-self c =
       tree = grown.tree;
       used = grown.used;
       scope = grown.scope;
-      namespaces = rw (c.in_ok-push.ensures.items, c.in_ok-push-3.ensures.items)
+      namespaces = rw (c.in_ok-push.ensures.items, c.in_ok-push-4.ensures.items)
           (all_zipped_more (λ n r. IsPath tree n (words_of_scope r.scope)) w.namespaces.items w.types.items w.path one grown.namespaces grown.scope);
-      full_names = rw (c.in_ok-push-2.ensures.items, c.in_ok-push-3.ensures.items)
+      full_names = rw (c.in_ok-push-2.ensures.items, c.in_ok-push-4.ensures.items)
           (all_zipped_more (λ n r. IsPath tree n (words (name_of_type r))) w.full_names.items w.types.items full_name one grown.full_names named);
-      uses = rw c.in_ok-push-3.ensures.items (All-push (λ r. AreUses used r.declaration) w.types.items one grown.uses noted.used);
+      uses = rw (c.in_ok-push-3.ensures.items, c.in_ok-push-4.ensures.items)
+          (all_zipped_more (λ ns r. AreUses used ns.items (names_used r.declaration)) w.uses.items w.types.items c.in_ok-uses.uses one grown.uses noted.uses);
       root = grown.root;
     }
