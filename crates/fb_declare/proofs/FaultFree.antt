@@ -7,7 +7,7 @@ use Rattle.std.proofs.lemmas.List.{append-nil, flat_map_more, map_push, get_or-m
 use Rattle.std.proofs.lemmas.Option.{none-some, same_Some, get_or_from_slice_get, slice_get_within, slice_get-get_or}
 pub use Rattle.std.proofs.lemmas.Str.Pattern.{starts_text}
 use Rattle.fb_schema.specs.Schema.{Name}
-use Rattle.fb_resolve.specs.Outline.{name_of_type, word_of}
+use Rattle.fb_resolve.specs.Outline.{TypeRead, name_of_type, word_of}
 use Rattle.fb_resolve.specs.ResolvedFields.{ResolvedField}
 use Rattle.fb_resolve.specs.ResolvedType.{ResolvedType}
 use Rattle.fb_resolve.specs.BasicTypes.{is_reserved}
@@ -74,7 +74,7 @@ fields_right declared host fs h k d within =
     record { type = parts.0; metadata = parts.2 }
 
 -- a type with no fault has another full name than those before it, and none in its declaration by their alignments
-pub type_right : (types : List ResolvedType) (declared : Name → Bool) (before : List ResolvedType) (r : ResolvedType) → type_behind types declared before r ≡ []
+pub type_right : (types : List TypeRead) (declared : Name → Bool) (before : List ResolvedType) (r : ResolvedType) → type_behind types declared before r ≡ []
     → (is_again bytes_eq (λ q. name_of_type q.read) before r ≡ false) × (declaration_faults types declared (aligns_from types [] before) r.declaration ≡ [])
 type_right types declared before r h =
     let name = word_of r.read.declaration in

@@ -86,9 +86,9 @@ names_given types (r ∷ rs) (t ∷ ts) z = let first = sym z.0.name in let rest
 names_given types _ _ z = absurd z
 
 -- The types have different names.
-type_names_differ : (o : Outline) (S : DeclaredSchema) → Gives o S → faults_in_turn (type_behind (resolved_types o.types) (declared_in o)) (resolved_types o.types) ≡ [] → AllPairs (λ a b. a.name ≢ b.name) S.types
+type_names_differ : (o : Outline) (S : DeclaredSchema) → Gives o S → faults_in_turn (type_behind o.types (declared_in o)) (resolved_types o.types) ≡ [] → AllPairs (λ a b. a.name ≢ b.name) S.types
 type_names_differ o S g h = keys_apart bytes_eq-Decides (λ t. t.name) S.types (subst (IsDistinct bytes_eq) (names_given o.types o.types S.types g.types)
-    (keys_distinct nat_list_eq_equiv (λ r. name_of_type r.read) (type_behind (resolved_types o.types) (declared_in o)) (λ before r none. (type_right (resolved_types o.types) (declared_in o) before r none).0) (resolved_types o.types) h))
+    (keys_distinct nat_list_eq_equiv (λ r. name_of_type r.read) (type_behind o.types (declared_in o)) (λ before r none. (type_right o.types (declared_in o) before r none).0) (resolved_types o.types) h))
 
 -- ---- the root and the identifier
 
@@ -100,42 +100,42 @@ root_kept o S g (Some r) e = subst (λ t. Names is_table S (unwrap_or t 0)) (sym
 -- ---- bodies
 
 -- a declaration with no fault gives a body
-buildable_by : (types : List ResolvedType) (declared : Name → Bool) (lower : List ℕ) (d : ResolvedDecl) → declaration_faults types declared lower d ≡ [] → IsBuildable d
+buildable_by : (types : List TypeRead) (declared : Name → Bool) (lower : List ℕ) (d : ResolvedDecl) → declaration_faults types declared lower d ≡ [] → IsBuildable d
 buildable_by types declared lower (resolved.Table t) h = when-none (are_ids_wrong t.fields) (BadIds t.declared.name.at)
     (three_none (metadata_faults declared hosts.Table t.declared.attributes) (when (are_ids_wrong t.fields) (BadIds t.declared.name.at)) (faults_in_turn (field_behind declared fields.Table) t.fields) h).1
 buildable_by types declared lower _ h = tt
 
-body_kept : (types : List TypeRead) (S : DeclaredSchema) → AreEnumsKept types S → (declared : Name → Bool) (lower : List ℕ) (d : ResolvedDecl) (b : DeclaredBody) → IsReadIn types S d → declaration_faults (resolved_types types) declared lower d ≡ []
+body_kept : (types : List TypeRead) (S : DeclaredSchema) → AreEnumsKept types S → (declared : Name → Bool) (lower : List ℕ) (d : ResolvedDecl) (b : DeclaredBody) → IsReadIn types S d → declaration_faults types declared lower d ≡ []
     → HasBody d b → IsBody S (length lower) b
 body_kept types S enums declared lower (resolved.Table t) (table_body slots) read h body = table_kept types S enums declared t read h slots body
 body_kept types S enums declared lower (resolved.Struct s) (struct_body parts force) read h body =
-    subst (λ b. IsBody S (length lower) b) (sym (λ i. struct_body (body.0 i) (body.1 i))) (struct_kept types (resolved_types types) S declared lower s read.0 h)
+    subst (λ b. IsBody S (length lower) b) (sym (λ i. struct_body (body.0 i) (body.1 i))) (struct_kept types S declared lower s read.0 h)
 body_kept types S enums declared lower (resolved.Enum e) (enum_body base flags values) read h body =
     subst (λ b. IsBody S (length lower) b) (sym (λ i. enum_body (body.0 i) (body.1 i) (body.2 i))) (enum_kept declared e read h).1
 body_kept types S enums declared lower (resolved.Union u) (union_body members) read h body = subst (IsUnionBody S) (sym body) (union_kept S declared u read h)
 body_kept types S enums declared lower d b read h body = absurd body
 
 -- Each type has the body that its declaration needs.
-bodies_kept : (o : Outline) (S : DeclaredSchema) → Gives o S → faults_in_turn (type_behind (resolved_types o.types) (declared_in o)) (resolved_types o.types) ≡ [] → (t : ℕ) (type : DeclaredType) → slice_get S.types t ≡ Some type → IsBody S t type.body
+bodies_kept : (o : Outline) (S : DeclaredSchema) → Gives o S → faults_in_turn (type_behind o.types (declared_in o)) (resolved_types o.types) ≡ [] → (t : ℕ) (type : DeclaredType) → slice_get S.types t ≡ Some type → IsBody S t type.body
 bodies_kept o S g none t type at =
     let x = type_at o S g none t type at in
-    subst (λ n. IsBody S n type.body) (length-before (resolved_types o.types) (resolved_types o.types) t (slice_get_within (resolved_types o.types) t (resolved_type o.types x.read) (resolved_at o.types t x.read x.at)))
+    subst (λ n. IsBody S n type.body) (length-before o.types (resolved_types o.types) t (slice_get_within (resolved_types o.types) t (resolved_type o.types x.read) (resolved_at o.types t x.read x.at)))
     (body_kept o.types S (enums_kept o S g none) (declared_in o) (aligns_before o.types t) (resolved_declaration o.types x.read.scope x.read.declaration) type.body (read_in o S g x.read.scope x.read.declaration) x.right x.has)
 
 -- ---- the whole
 
 -- an outline with no fault has none in its types, its root and its identifier
 pub outline_right : (o : Outline) → faults_of_outline o ≡ []
-    → (faults_in_turn (type_behind (resolved_types o.types) (declared_in o)) (resolved_types o.types) ≡ []) × (root_faults o.text_len o.root (meaning_of_root o.types o.root) ≡ []) × (identifier_faults o.identifier ≡ [])
+    → (faults_in_turn (type_behind o.types (declared_in o)) (resolved_types o.types) ≡ []) × (root_faults o.text_len o.root (meaning_of_root o.types o.root) ≡ []) × (identifier_faults o.identifier ≡ [])
 unfolding faults_of_outline
-outline_right o h = three_none (faults_in_turn (type_behind (resolved_types o.types) (declared_in o)) (resolved_types o.types)) (root_faults o.text_len o.root (meaning_of_root o.types o.root)) (identifier_faults o.identifier) h
+outline_right o h = three_none (faults_in_turn (type_behind o.types (declared_in o)) (resolved_types o.types)) (root_faults o.text_len o.root (meaning_of_root o.types o.root)) (identifier_faults o.identifier) h
 
 -- its types give bodies
 pub buildable : (o : Outline) (rs : List ResolvedType) → faults_of_outline o ≡ [] → rs ≡ resolved_types o.types → AreBuildable rs
 buildable o rs h same t r e =
-    let none = none_behind (type_behind (resolved_types o.types) (declared_in o)) [] (resolved_types o.types) (outline_right o h).0 t r (ap (λ qs. slice_get qs t) (sym same) ∙ e) in
+    let none = none_behind (type_behind o.types (declared_in o)) [] (resolved_types o.types) (outline_right o h).0 t r (ap (λ qs. slice_get qs t) (sym same) ∙ e) in
     let before = take t (resolved_types o.types) in
-    buildable_by (resolved_types o.types) (declared_in o) (aligns_from (resolved_types o.types) [] before) r.declaration (type_right (resolved_types o.types) (declared_in o) before r none).1
+    buildable_by o.types (declared_in o) (aligns_from o.types [] before) r.declaration (type_right o.types (declared_in o) before r none).1
 
 -- its root is a table
 root_by : (text_len : ℕ) (root : Option RootRead) (m : Meaning) → root_faults text_len root m ≡ [] → is_none (table_of m) ≡ false

@@ -3,13 +3,13 @@
 use Rattle.std.proofs.Common.{◌≡◌, ◌≢◌, ℕ, zero, suc, ◌+◌, ◌^◌, ◌<◌, ◌≤◌, ◌==◌, nat_le, Bool, true, false, List, [], ◌∷◌, length, get_or, AllPairs, Option, None, Some, refl, ap, sym, subst, ◌∙◌, arith, true≢false, take, drop, ◌++◌, ◌&&◌, map, cond, IsTrue}
 use Rattle.std.specs.Prelude.{ℤ, pos, slice_get, negsuc, slice_index}
 use Rattle.std.specs.List.{flat_map, list_any, range_with_len, All}
-use Rattle.std.specs.Option.{ForSome, option_and_then, option_map, option_map_or, unwrap_or}
+use Rattle.std.specs.Option.{ForSome, option_and_then, option_map_or, unwrap_or}
 use Rattle.std.proofs.lemmas.Bool.{and_parts, eqb-true, leb-true, leb-false, le-leb, false≢true}
 use Rattle.std.proofs.lemmas.List.{get_or-map, get_or_append_left, get_or_push, length_push, length-take-le, take-append-drop}
 use Rattle.std.proofs.lemmas.List.Folds.{Any-from_list_any}
 use Rattle.std.proofs.lemmas.List.FromFn.{get_or-range_with_len}
 use Rattle.std.proofs.lemmas.Map.Made.{AllPairs-from_IsDistinct}
-use Rattle.std.proofs.lemmas.Option.{none-some, same_Some, get_or_from_slice_get, slice_get_within, slice_get-map}
+use Rattle.std.proofs.lemmas.Option.{none-some, same_Some, get_or_from_slice_get, slice_get_within}
 use Rattle.std.proofs.lemmas.Slice.Eq.{bytes_eq-Decides}
 use Rattle.fb_syntax.specs.declared.declarations.FieldType.{FieldType}
 use Rattle.fb_syntax.specs.declared.declarations.FieldType.TheVariants.{One, Many}
@@ -26,8 +26,7 @@ use Rattle.fb_resolve.specs.ResolvedFields.{ResolvedField, ResolvedTable}
 use Rattle.fb_resolve.specs.Attributes.{is_alignment, attribute_called, integer_value_in, number_called}
 use Rattle.fb_declare.specs.AttributeFaults.{metadata_faults, may_stand}
 use Rattle.fb_resolve.specs.SlotsRead.{shape_of}
-use Rattle.fb_resolve.specs.EnumsRead.{enum_values, enum_values_of, underlying_at}
-use Rattle.fb_resolve.specs.StructsRead.{natural_align, forced_align, part_read, parts_from, base_of_declaration, base_at, align_by, align_in, alignment_in, align_of_declaration, align_of_type}
+use Rattle.fb_resolve.specs.StructsRead.{natural_align, forced_align, part_read, parts_from, align_by, align_in, alignment_in, align_of_declaration, align_of_type}
 use Rattle.fb_declare.specs.FaultRows.{when, faults_in_turn, use_faults, misplaced_type, field_type}
 use Rattle.fb_declare.specs.TypeFaults.{names_of_field, field_behind, struct_faults, declaration_faults, aligns_from, type_behind, declared_in}
 use Rattle.fb_declare.proofs.FaultFree.{both_none, three_none, when-none, IsFieldRight, fields_right, all_at, either, fields_distinct, called_stands}
@@ -35,8 +34,6 @@ use Rattle.fb_declare.proofs.TypesKept.{MeansIn, IsRead, IsReadIn, read_in, alig
 use Rattle.std.proofs.lemmas.List.Elements.{All-head, All-tail}
 use Rattle.std.proofs.lemmas.List.Sums.{fold-append, fold_push}
 use Rattle.fb_syntax.specs.Attributes.{AttributeRead}
-use Rattle.fb_syntax.specs.declared.declarations.TypeDecl.{TypeDecl}
-use Rattle.fb_syntax.specs.declared.declarations.TypeDecl.TheVariants as decls
 use Rattle.fb_syntax.specs.declared.declarations.AttributeValue.{AttributeValue}
 use Rattle.fb_syntax.specs.declared.declarations.AttributeValue.TheVariants.{Integer}
 use Rattle.fb_schema.specs.Alignments.{base_size, greatest_in, part_align, AreAligned}
@@ -100,18 +97,18 @@ some_parts [] h = absurd (true≢false h)
 some_parts (f ∷ fs) h = omega arith
 
 -- a struct with no fault has none in its attributes and its fields, and some of these
-struct_right : (types : List ResolvedType) (declared : Name → Bool) (lower : List ℕ) (s : ResolvedTable) → struct_faults types declared lower s ≡ []
+struct_right : (types : List TypeRead) (declared : Name → Bool) (lower : List ℕ) (s : ResolvedTable) → struct_faults types declared lower s ≡ []
     → (metadata_faults declared (hosts.Struct (natural_align types lower s.fields)) s.declared.attributes ≡ []) × (when (length s.fields == 0) (EmptyStruct s.declared.name.at) ≡ [])
     × (faults_in_turn (field_behind declared (fields.Struct (length lower))) s.fields ≡ [])
 struct_right types declared lower s h = three_none (metadata_faults declared (hosts.Struct (natural_align types lower s.fields)) s.declared.attributes)
     (when (length s.fields == 0) (EmptyStruct s.declared.name.at)) (faults_in_turn (field_behind declared (fields.Struct (length lower))) s.fields) h
 
 -- a struct with no fault has a right body
-pub struct_kept : (types : List TypeRead) (all : List ResolvedType) (S : DeclaredSchema) (declared : Name → Bool) (lower : List ℕ) (s : ResolvedTable) → All (IsRead types S) s.fields → struct_faults all declared lower s ≡ []
+pub struct_kept : (types : List TypeRead) (S : DeclaredSchema) (declared : Name → Bool) (lower : List ℕ) (s : ResolvedTable) → All (IsRead types S) s.fields → struct_faults types declared lower s ≡ []
     → IsStructBody S (length lower) (parts_from 0 s.fields) (forced_align 0 s.force_align)
-struct_kept types all S declared lower s read h =
+struct_kept types S declared lower s read h =
     let host = fields.Struct (length lower) in
-    let right = struct_right all declared lower s h in
+    let right = struct_right types declared lower s h in
     record {
       some = some_parts s.fields (when-none (length s.fields == 0) (EmptyStruct s.declared.name.at) right.1);
       aligned = forced_aligned 0 s.force_align;
@@ -128,7 +125,7 @@ struct_kept types all S declared lower s read h =
 
 -- ---- the alignments of types, each behind those of the types before it
 
-module _ (types : List ResolvedType) where
+module _ (types : List TypeRead) where
   -- one more
   pub aligns-more : (rs : List ResolvedType) (i : ℕ) (r : ResolvedType) → i < length rs → r ≡ get_or rs i r
       → aligns_from types [] (take (i + 1) rs) ≡ aligns_from types [] (take i rs) ++ align_of_type types (aligns_from types [] (take i rs)) r ∷ []
@@ -195,22 +192,10 @@ attribute_forced natural (Some a) stands = value_forced natural a.value (stands 
 
 -- ---- the structs
 
-module _ (o : Outline) (S : DeclaredSchema) (gives : Gives o S) (none : faults_in_turn (type_behind (resolved_types o.types) (declared_in o)) (resolved_types o.types) ≡ []) where
+module _ (o : Outline) (S : DeclaredSchema) (gives : Gives o S) (none : faults_in_turn (type_behind o.types (declared_in o)) (resolved_types o.types) ≡ []) where
   -- the alignments of all types
   abbrev pub aligns : List ℕ
-  aligns = aligns_from (resolved_types o.types) [] (resolved_types o.types)
-
-  -- the underlying type of an enum that is resolved
-  base_resolved : (t : ℕ) → base_at (resolved_types o.types) t ≡ underlying_at o.types t
-  base_resolved t = ap (option_and_then (λ r. base_of_declaration r.declaration)) (slice_get-map (resolved_type o.types) o.types t) ∙ by (slice_get o.types t)
-    where
-      declared_by : (scope : Option Name) (d : TypeDecl) → base_of_declaration (resolved_declaration o.types scope d) ≡ (enum_values o.types scope d).base
-      declared_by scope (decls.Enum e) = refl
-      declared_by scope d = refl
-
-      by : (r : Option TypeRead) → option_and_then (λ r. base_of_declaration r.declaration) (option_map (resolved_type o.types) r) ≡ option_and_then (λ r. (enum_values_of o.types r).base) r
-      by None = refl
-      by (Some r) = declared_by r.scope r.declaration
+  aligns = aligns_from o.types [] (resolved_types o.types)
 
   -- the structs behind types of these alignments
   module _ (lower : List ℕ) (below : (j : ℕ) → j < length lower → slice_index aligns j ≡ slice_index lower j) where
@@ -218,13 +203,13 @@ module _ (o : Outline) (S : DeclaredSchema) (gives : Gives o S) (none : faults_i
     IsRight f = IsFieldRight (declared_in o) (fields.Struct (length lower)) f
 
     -- a struct's field has its size in the schema as it is declared
-    part_size : (kind : FieldType) (m : Meaning) → MeansIn S m → field_type (fields.Struct (length lower)) kind m ≡ [] → part_align S aligns (shape_of kind m) ≡ align_by (resolved_types o.types) lower kind m
+    part_size : (kind : FieldType) (m : Meaning) → MeansIn S m → field_type (fields.Struct (length lower)) kind m ≡ [] → part_align S aligns (shape_of kind m) ≡ align_by o.types lower kind m
     part_size (One n) (Known (Scalar base)) means h = refl
-    part_size (One n) (Known (Enum e)) means h = sym (ap (λ b. option_map_or base_size b 0) (base_resolved e.0 ∙ (enums_kept o S gives none e.0 means.0).0))
+    part_size (One n) (Known (Enum e)) means h = sym (ap (λ b. option_map_or base_size b 0) (enums_kept o S gives none e.0 means.0).0)
     part_size (One n) (Known (Struct s)) means h = below s.0 (part_right S (length lower) (One n) (Known (Struct s)) means h).0
     part_size _ _ means h = refl
 
-    part_sizes : (k : ℕ) (fs : List ResolvedField) → All (IsRead o.types S) fs → All IsRight fs → map (λ f. part_align S aligns f.shape) (parts_from k fs) ≡ map (align_in (resolved_types o.types) lower) fs
+    part_sizes : (k : ℕ) (fs : List ResolvedField) → All (IsRead o.types S) fs → All IsRight fs → map (λ f. part_align S aligns f.shape) (parts_from k fs) ≡ map (align_in o.types lower) fs
     unfolding parts_from align_in
     part_sizes k [] read right = refl
     part_sizes k (f ∷ fs) read right =
@@ -237,12 +222,12 @@ module _ (o : Outline) (S : DeclaredSchema) (gives : Gives o S) (none : faults_i
     IsAligned align body = let natural = greatest_in (map (λ f. part_align S aligns f.shape) (parts_in body)) in
         ForSome (force_align_in body) (λ a. natural ≤ a) × (align ≡ unwrap_or (force_align_in body) natural)
 
-    struct_aligned : (d : ResolvedDecl) (body : DeclaredBody) → HasBody d body → IsTrue (is_struct body) → IsReadIn o.types S d → declaration_faults (resolved_types o.types) (declared_in o) lower d ≡ []
-        → IsAligned (align_of_declaration (resolved_types o.types) lower d) body
+    struct_aligned : (d : ResolvedDecl) (body : DeclaredBody) → HasBody d body → IsTrue (is_struct body) → IsReadIn o.types S d → declaration_faults o.types (declared_in o) lower d ≡ []
+        → IsAligned (align_of_declaration o.types lower d) body
     unfolding natural_align number_called
     struct_aligned (resolved.Struct s) (struct_body parts force) h is read free =
-        let right = struct_right (resolved_types o.types) (declared_in o) lower s free in
-        let natural = natural_align (resolved_types o.types) lower s.fields in
+        let right = struct_right o.types (declared_in o) lower s free in
+        let natural = natural_align o.types lower s.fields in
         let sizes = part_sizes 0 s.fields read.0 (fields_right (declared_in o) (fields.Struct (length lower)) s.fields right.2) in
         let own : greatest_in (map (λ f. part_align S aligns f.shape) parts) ≡ natural = ap (λ ps. greatest_in (map (λ f. part_align S aligns f.shape) ps)) h.0 ∙ ap greatest_in sizes in
         let stands = called_stands (declared_in o) (hosts.Struct natural) s.declared.attributes right.0 ForceAlign in
@@ -253,13 +238,13 @@ module _ (o : Outline) (S : DeclaredSchema) (gives : Gives o S) (none : faults_i
     struct_aligned d (struct_body parts force) h is read free = absurd h
     struct_aligned d body h is read free = absurd (false≢true is)
 
-  aligned_at : (s : ℕ) → IsTrue (is_struct (body_at S s)) → IsAligned (aligns_before o.types s) (aligns-below (resolved_types o.types) (resolved_types o.types) s) (slice_index aligns s) (body_at S s)
+  aligned_at : (s : ℕ) → IsTrue (is_struct (body_at S s)) → IsAligned (aligns_before o.types s) (aligns-below o.types (resolved_types o.types) s) (slice_index aligns s) (body_at S s)
   unfolding align_of_type
   aligned_at s is =
       let x = body_at_by o S gives none is_struct s refl is in
       let lower = aligns_before o.types s in
-      let below = aligns-below (resolved_types o.types) (resolved_types o.types) s in
-      subst (λ n. IsAligned lower below n (body_at S s)) (sym (aligns-at (resolved_types o.types) (resolved_types o.types) s (resolved_type o.types x.read) (resolved_at o.types s x.read x.at)))
+      let below = aligns-below o.types (resolved_types o.types) s in
+      subst (λ n. IsAligned lower below n (body_at S s)) (sym (aligns-at o.types (resolved_types o.types) s (resolved_type o.types x.read) (resolved_at o.types s x.read x.at)))
       (struct_aligned lower below (resolved_declaration o.types x.read.scope x.read.declaration) (body_at S s) x.has is (read_in o S gives x.read.scope x.read.declaration) x.right)
 
   -- The structs are aligned as they are declared.

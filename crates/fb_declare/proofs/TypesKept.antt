@@ -1,6 +1,6 @@
 -- What the uses of names mean in the schema that an outline with no fault gives, each type of it by what declares it, and the enums that fields name.
 use Rattle.std.proofs.Common.{◌≡◌, ℕ, zero, suc, Bool, List, ◌∷◌, map, get_or, false, true≢false, refl, sym, subst, arith, Option, None, Some, IsTrue, [], ℤ, IfSome, ◌∙◌, take, ap, slice_get, append_assoc, ◌++◌}
-use Rattle.std.specs.List.{slice_get, All, AllZip, find}
+use Rattle.std.specs.List.{slice_get, All, AllZip, find, list_any}
 use Rattle.std.specs.Option.{is_none, unwrap_or, option_map, option_or, option_and_then}
 use Rattle.std.proofs.lemmas.List.Elements.{All-map, All-head, All-tail}
 use Rattle.std.proofs.lemmas.Option.{none-some, slice_get_within, same_Some, slice_get-map}
@@ -12,7 +12,7 @@ use Rattle.fb_schema.specs.WellDeclared.{Names, KindNames, InRange}
 use Rattle.fb_schema.specs.declared.kinds.Base.{Base}
 use Rattle.fb_schema.specs.declared.kinds.Kind.{Kind}
 use Rattle.fb_schema.specs.declared.kinds.Kind.TheVariants.{Table, Code}
-use Rattle.fb_resolve.specs.Outline.{TypeRead, Outline, full_name}
+use Rattle.fb_resolve.specs.Outline.{TypeRead, Outline, full_name, name_of_type}
 use Rattle.fb_resolve.specs.Scopes.{type_meant}
 use Rattle.fb_resolve.specs.Attributes.{has_attribute, number_called}
 use Rattle.fb_resolve.specs.BasicTypes.{basic_type}
@@ -21,6 +21,7 @@ use Rattle.fb_resolve.specs.EnumsRead.{has_flags, underlying_at, value_at, numbe
 use Rattle.fb_resolve.specs.Meaning.{use_of, use_of_read, use_of_type, basic_or, meaning_of, type_name}
 use Rattle.fb_resolve.specs.MembersRead.{table_of}
 use Rattle.fb_resolve.specs.ResolvedFields.{ResolvedField}
+use Rattle.fb_resolve.specs.ResolvedType.{ResolvedType}
 use Rattle.fb_resolve.specs.Resolved.{resolved_field, resolved_fields, resolved_member, resolved_declaration, resolved_type, resolved_enum, resolved_types}
 use Rattle.fb_syntax.specs.declared.attributes.BuiltInAttribute.TheVariants.{Required, ForceAlign}
 use Rattle.fb_resolve.specs.declared.meanings.Meaning.{Meaning}
@@ -37,7 +38,8 @@ use Rattle.fb_declare.proofs.EnumsKept.{enum_kept}
 use Rattle.fb_declare.specs.FaultRows.{faults_in_turn}
 use Rattle.fb_resolve.specs.RepeatedNames.{is_again, again_behind, repeated_names}
 use Rattle.fb_declare.specs.TypeFaults.{declaration_faults, aligns_from, type_behind, declared_in}
-use Rattle.std.proofs.lemmas.List.{append-nil}
+use Rattle.std.proofs.lemmas.List.{append-nil, take-map, map-id}
+use Rattle.std.proofs.lemmas.Simd.{map-map}
 
 -- ---- what is known of a declaration that is resolved
 
@@ -146,7 +148,7 @@ module _ (P : ℤ → Type 0) (values : List (Name × ℤ)) (h : All (λ v. P v.
 
 -- the alignments of the types before one
 abbrev pub aligns_before : List TypeRead → ℕ → List ℕ
-aligns_before types t = aligns_from (resolved_types types) [] (take t (resolved_types types))
+aligns_before types t = aligns_from types [] (take t (resolved_types types))
 
 -- the type of a number, resolved
 pub resolved_at : (types : List TypeRead) (t : ℕ) (r : TypeRead) → slice_get types t ≡ Some r → slice_get (resolved_types types) t ≡ Some (resolved_type types r)
@@ -157,13 +159,13 @@ pub record IsDeclaredBy (o : Outline) (t : ℕ) (body : DeclaredBody) : Type 0 w
   pub read : TypeRead
   pub at : slice_get o.types t ≡ Some read
   pub has : HasBody (resolved_declaration o.types read.scope read.declaration) body
-  pub right : declaration_faults (resolved_types o.types) (declared_in o) (aligns_before o.types t) (resolved_declaration o.types read.scope read.declaration) ≡ []
+  pub right : declaration_faults o.types (declared_in o) (aligns_before o.types t) (resolved_declaration o.types read.scope read.declaration) ≡ []
 
 -- what an enum's declaration says of its body: its underlying type, and that its values are in range
 abbrev IsEnumKept : Option Base → (Name → Option ℤ) → DeclaredBody → Type 0
 IsEnumKept under value body = (under ≡ Some (base_in body)) × ((name : Name) → IfSome (value name) (InRange (base_in body)))
 
-enum_facts : (types : List TypeRead) (declared : Name → Bool) (lower : List ℕ) (scope : Option Name) (d : TypeDecl) (b : DeclaredBody) → declaration_faults (resolved_types types) declared lower (resolved_declaration types scope d) ≡ []
+enum_facts : (types : List TypeRead) (declared : Name → Bool) (lower : List ℕ) (scope : Option Name) (d : TypeDecl) (b : DeclaredBody) → declaration_faults types declared lower (resolved_declaration types scope d) ≡ []
     → HasBody (resolved_declaration types scope d) b → IsTrue (is_enum b) → IsEnumKept (enum_values types scope d).base (value_in types scope d) b
 enum_facts types declared lower scope (decls.Enum e) (enum_body base flags values) h has is =
     let kept = enum_kept declared (resolved_enum types scope e) refl h in (
@@ -177,14 +179,14 @@ enum_facts types declared lower scope d b h has is = absurd (true≢false (sym i
 abbrev pub AreEnumsKept : List TypeRead → DeclaredSchema → Type 0
 AreEnumsKept types S = (e : ℕ) → Names is_enum S e → IsEnumKept (underlying_at types e) (value_at types e) (body_at S e)
 
-module _ (o : Outline) (S : DeclaredSchema) (g : Gives o S) (none : faults_in_turn (type_behind (resolved_types o.types) (declared_in o)) (resolved_types o.types) ≡ []) where
+module _ (o : Outline) (S : DeclaredSchema) (g : Gives o S) (none : faults_in_turn (type_behind o.types (declared_in o)) (resolved_types o.types) ≡ []) where
   pub type_at : (t : ℕ) (type : DeclaredType) → slice_get S.types t ≡ Some type → IsDeclaredBy o t type.body
   type_at t type e = let x = at_right IsType (resolved_type o.types) o.types S.types g.types t type e in record {
     read = x.0;
     at = x.1;
     has = x.2.body;
-    right = (type_right (resolved_types o.types) (declared_in o) (take t (resolved_types o.types)) (resolved_type o.types x.0)
-        (none_behind (type_behind (resolved_types o.types) (declared_in o)) [] (resolved_types o.types) none t (resolved_type o.types x.0) (resolved_at o.types t x.0 x.1))).1;
+    right = (type_right o.types (declared_in o) (take t (resolved_types o.types)) (resolved_type o.types x.0)
+        (none_behind (type_behind o.types (declared_in o)) [] (resolved_types o.types) none t (resolved_type o.types x.0) (resolved_at o.types t x.0 x.1))).1;
   }
 
   -- a body that passes a test which an absent one fails
@@ -212,3 +214,11 @@ told_again eq key before (y ∷ xs) (suc i) x e = told_again eq key (before ++ y
 pub told_among : {X : Type 0} (name : X → Name) (repeats : List Bool) (xs : List X) (i : ℕ) (x : X) → repeats ≡ repeated_names name xs → slice_get xs i ≡ Some x
     → slice_get repeats i ≡ Some (is_again bytes_eq name (take i xs) x)
 told_among name repeats xs i x told at = ap (λ bs. slice_get bs i) told ∙ told_again bytes_eq name [] xs i x at
+
+-- whether a type has the full name of one before it
+pub told_type : (types : List TypeRead) (repeats : List Bool) (rs : List ResolvedType) (i : ℕ) (r : ResolvedType) → repeats ≡ repeated_names name_of_type types → rs ≡ resolved_types types → slice_get rs i ≡ Some r
+    → slice_get repeats i ≡ Some (is_again bytes_eq (λ q. name_of_type q.read) (take i rs) r)
+told_type types repeats rs i r told same at =
+    let reads : map (λ q. q.read) rs ≡ types = ap (map (λ q. q.read)) same ∙ map-map (λ q. q.read) (resolved_type types) types ∙ map-id types in
+    told_among name_of_type repeats (map (λ q. q.read) rs) i r.read (told ∙ ap (repeated_names name_of_type) (sym reads)) (slice_get-map (λ q. q.read) rs i ∙ ap (option_map (λ q. q.read)) at)
+    ∙ ap (λ names. Some (list_any (bytes_eq (name_of_type r.read)) names)) (ap (map name_of_type) (take-map (λ q. q.read) i rs) ∙ map-map name_of_type (λ q. q.read) (take i rs))

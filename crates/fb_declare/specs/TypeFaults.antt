@@ -6,7 +6,7 @@ use Rattle.std.specs.Str.{bytes_eq}
 use Rattle.fb_syntax.specs.DeclsRead.{DeclsRead}
 use Rattle.fb_schema.specs.Schema.{Name}
 use Rattle.fb_schema.specs.WellDeclared.{names_of, is_unsigned}
-use Rattle.fb_resolve.specs.Outline.{Outline, outline_of, name_of_type, word_of}
+use Rattle.fb_resolve.specs.Outline.{TypeRead, Outline, outline_of, name_of_type, word_of}
 use Rattle.fb_resolve.specs.ResolvedFields.{ResolvedField, ResolvedTable, ResolvedEnum, ResolvedUnion}
 use Rattle.fb_resolve.specs.ResolvedType.{ResolvedType}
 use Rattle.fb_resolve.specs.Resolved.{resolved_types, meaning_of_root}
@@ -70,7 +70,7 @@ table_faults declared t =
     ++ faults_in_turn (field_behind declared fields.Table) t.fields
 
 -- the faults of a struct, where these are the alignments of the types before it
-abbrev pub struct_faults : List ResolvedType → (Name → Bool) → List ℕ → ResolvedTable → List SchemaFault
+abbrev pub struct_faults : List TypeRead → (Name → Bool) → List ℕ → ResolvedTable → List SchemaFault
 struct_faults types declared lower s =
     metadata_faults declared (hosts.Struct (natural_align types lower s.fields)) s.declared.attributes
     ++ when (length s.fields == 0) (EmptyStruct s.declared.name.at)
@@ -92,7 +92,7 @@ union_faults declared u =
     metadata_faults declared hosts.Union u.declared.attributes
     ++ faults_in_turn member_faults u.members
 
-abbrev pub declaration_faults : List ResolvedType → (Name → Bool) → List ℕ → ResolvedDecl → List SchemaFault
+abbrev pub declaration_faults : List TypeRead → (Name → Bool) → List ℕ → ResolvedDecl → List SchemaFault
 declaration_faults types declared lower (resolved.Table t) = table_faults declared t
 declaration_faults types declared lower (resolved.Struct s) = struct_faults types declared lower s
 declaration_faults types declared lower (resolved.Enum e) = enum_faults declared e
@@ -100,17 +100,17 @@ declaration_faults types declared lower (resolved.Union u) = union_faults declar
 
 -- the faults of a type behind types of these alignments, where this says whether one of them has its full name;
 -- the name may not be that of a basic or float type
-abbrev pub type_faults : List ResolvedType → (Name → Bool) → List ℕ → Bool → ResolvedType → List SchemaFault
+abbrev pub type_faults : List TypeRead → (Name → Bool) → List ℕ → Bool → ResolvedType → List SchemaFault
 type_faults types declared lower again r = let name = word_of r.read.declaration in
     when (again || is_reserved name.bytes) (DuplicateName name.at)
     ++ declaration_faults types declared lower r.declaration
 
 -- the alignments of some types, behind those of the types before them
-abbrev pub aligns_from : List ResolvedType → List ℕ → List ResolvedType → List ℕ
+abbrev pub aligns_from : List TypeRead → List ℕ → List ResolvedType → List ℕ
 aligns_from types lower rs = fold (λ lower r. lower ++ align_of_type types lower r ∷ []) lower rs
 
 -- the faults of a type behind others
-abbrev pub type_behind : List ResolvedType → (Name → Bool) → List ResolvedType → ResolvedType → List SchemaFault
+abbrev pub type_behind : List TypeRead → (Name → Bool) → List ResolvedType → ResolvedType → List SchemaFault
 type_behind types declared before r =
     type_faults types declared (aligns_from types [] before) (is_again bytes_eq (λ q. name_of_type q.read) before r) r
 
@@ -121,7 +121,7 @@ declared_in o name = is_among name o.attributes
 -- all that is wrong with what a text declares
 unfoldable pub faults_of_outline : Outline → List SchemaFault
 faults_of_outline o =
-    faults_in_turn (type_behind (resolved_types o.types) (declared_in o)) (resolved_types o.types)
+    faults_in_turn (type_behind o.types (declared_in o)) (resolved_types o.types)
     ++ root_faults o.text_len o.root (meaning_of_root o.types o.root)
     ++ identifier_faults o.identifier
 

@@ -1,5 +1,7 @@
 //! Enums: what is wrong with one.
 ghost use Rattle.std.specs.Prelude.{◌≡◌, ◌||◌, IfOk};
+ghost use Rattle.fb_resolve.specs.EnumsRead.{name_of_value};
+ghost use Rattle.fb_resolve.specs.RepeatedNames.{repeated_names};
 ghost use Rattle.fb_declare.specs.Faults.{least_of};
 ghost use Rattle.fb_declare.specs.FaultRows.{underlying_faults, is_out_of_range, faults_in_turn, value_faults};
 ghost use Rattle.fb_declare.specs.NamesMet.{is_met};
@@ -7,7 +9,7 @@ ghost use Rattle.fb_declare.specs.TypeFaults.{host_of_enum, enum_faults};
 
 use crate::attribute_faults::{AttributeHost, metadata_fault};
 use crate::faults::{SchemaFault, earlier, when};
-use fb_resolve::{EnumValues, Meaning, ResolvedEnum, integer_type, may_be_written};
+use fb_resolve::{Meaning, ResolvedEnum, ResolvedValue, integer_type, may_be_written};
 use fb_schema::Base;
 use std::alloc::{AllocError, Global};
 use std::collections::BTreeSet;
@@ -42,20 +44,21 @@ fn is_bad_number(base: Option<Base>, flags: bool, number: i128, again: bool) -> 
     base.is_some_and(|base| !may_be_written(base, flags, number)) || again
 }
 
-/// The least fault of an enum's values. The only error is a refused allocation.
+/// The least fault of an enum's values, where these say of each whether one before it has its name.
+/// The only error is a refused allocation.
 fn values_fault(
     alloc: Global,
-    values: &EnumValues<'_, '_>,
+    base: Option<Base>,
+    flags: bool,
+    values: &[ResolvedValue<'_, '_>],
+    repeats: &[bool],
 ) -> Result<Option<SchemaFault>, AllocError>
-    ensures { IfOk result (λ f. f ≡ least_of
-        (faults_in_turn (value_faults values.now.base values.now.bit_flags) values.now.values)) }
+    requires { repeats.now ≡ repeated_names name_of_value values.now }
+    ensures { IfOk result (λ f. f ≡ least_of (faults_in_turn (value_faults base flags) values.now)) }
 {
-    let base = values.base;
-    let flags = values.bit_flags;
-    let repeats = values.repeats.as_slice();
     let mut least = None;
     let mut numbers = BTreeSet::new(alloc);
-    for (place, resolved) in values.values.as_slice().iter().enumerate() {
+    for (place, resolved) in values.iter().enumerate() {
         let name = &resolved.value.name;
         let is_new = numbers.insert(resolved.number)?;
         let is_bad = is_bad_number(base, flags, resolved.number, !is_new);
@@ -80,6 +83,12 @@ pub(crate) fn enum_fault(
     let under = underlying_fault(meaning, read.underlying.at());
     let host = host_of_enum(values.base);
     let metadata = metadata_fault(alloc, declared, host, read.attributes.as_slice())?;
-    let in_values = values_fault(alloc, values)?;
+    let in_values = values_fault(
+        alloc,
+        values.base,
+        values.bit_flags,
+        values.values.as_slice(),
+        values.repeats.as_slice(),
+    )?;
     Ok(earlier(earlier(under, metadata), in_values))
 }

@@ -34,8 +34,7 @@ fn least_fault(
 {
     let outline = resolved.outline;
     let declared = names_met(alloc, outline.attributes.as_slice())?;
-    let types = resolved.types.as_slice();
-    let in_types = types_fault(alloc, &declared, types, resolved.repeats)?;
+    let in_types = types_fault(alloc, &declared, resolved)?;
     let root = root_fault(outline.text_len, outline.root.as_ref(), resolved.root);
     let identifier = identifier_fault(outline.identifier);
     Ok(earlier(earlier(in_types, root), identifier))

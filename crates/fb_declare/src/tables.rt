@@ -1,6 +1,6 @@
 //! Tables and structs: what is wrong with one.
 ghost use Rattle.std.specs.Prelude.{◌≡◌, ℕ, List, IfOk, length};
-ghost use Rattle.fb_resolve.specs.ResolvedType.{ResolvedType as Resolved};
+ghost use Rattle.fb_resolve.specs.Outline.{TypeRead};
 ghost use Rattle.fb_resolve.specs.StructsRead.{natural_align};
 ghost use Rattle.fb_declare.specs.Faults.{least_of};
 ghost use Rattle.fb_declare.specs.NamesMet.{is_met};
@@ -39,7 +39,7 @@ pub(crate) fn struct_fault(
     natural: u16,
     resolved: &ResolvedStruct<'_, '_>,
 ) -> Result<Option<SchemaFault>, AllocError>
-    ensures { (types : List Resolved) (lower : List ℕ) → length lower ≡ number
+    ensures { (types : List TypeRead) (lower : List ℕ) → length lower ≡ number
         → natural_align types lower resolved.now.fields ≡ natural
         → IfOk result (λ f. f ≡ least_of
         (struct_faults types (is_met declared.now) lower resolved.now)) }

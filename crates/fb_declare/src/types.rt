@@ -1,9 +1,7 @@
 //! Types: the least of their faults, and what they give.
 ghost use Rattle.std.specs.Prelude.{◌≡◌, ℕ, List, IfOk, length, map};
-ghost use Rattle.fb_resolve.specs.Outline.{name_of_type};
+ghost use Rattle.fb_resolve.specs.Outline.{TypeRead};
 ghost use Rattle.fb_resolve.specs.StructsRead.{natural_of_type};
-ghost use Rattle.fb_resolve.specs.RepeatedNames.{repeated_names};
-ghost use Rattle.fb_resolve.specs.ResolvedType.{ResolvedType as Resolved};
 ghost use Rattle.fb_declare.specs.Faults.{least_of};
 ghost use Rattle.fb_declare.specs.FaultRows.{faults_in_turn};
 ghost use Rattle.fb_declare.specs.NamesMet.{is_met};
@@ -18,7 +16,7 @@ use crate::faults::{SchemaFault, earlier, when};
 use crate::tables::{struct_fault, table_fault};
 use crate::unions::{members_read, union_fault};
 use fb_resolve::{
-    ResolvedDecl, ResolvedType, align_of_type, forced_align, is_reserved, name_of_type,
+    Resolved, ResolvedDecl, ResolvedType, align_of_type, forced_align, is_reserved, name_of_type,
     natural_of_type, parts_read, table_slots, values_over, word_of,
 };
 use fb_schema::{Base, Body, TypeInfo};
@@ -35,7 +33,7 @@ fn type_fault(
     again: bool,
     resolved: &ResolvedType<'_, '_, '_>,
 ) -> Result<Option<SchemaFault>, AllocError>
-    ensures { (types : List Resolved) (lower : List ℕ) → length lower ≡ number
+    ensures { (types : List TypeRead) (lower : List ℕ) → length lower ≡ number
         → natural_of_type types lower resolved.now ≡ natural
         → IfOk result (λ f. f ≡ least_of
         (type_faults types (is_met declared.now) lower again resolved.now)) }
@@ -53,22 +51,21 @@ fn type_fault(
     Ok(earlier(bad_name, fault))
 }
 
-/// The least fault of the types, where these say of each whether one before it has its full name.
-/// The only error is a refused allocation.
+/// The least fault of the types. The only error is a refused allocation.
 pub(crate) fn types_fault(
     alloc: Global,
     declared: &BTreeSet<&[u8]>,
-    types: &[ResolvedType<'_, '_, '_>],
-    repeats: &[bool],
+    resolved: &Resolved<'_, '_, '_>,
 ) -> Result<Option<SchemaFault>, AllocError>
-    requires { repeats.now ≡ repeated_names (λ r. name_of_type r.read) types.now }
     ensures { IfOk result (λ f. f ≡ least_of
-        (faults_in_turn (type_behind types.now (is_met declared.now)) types.now)) }
+        (faults_in_turn (type_behind resolved.now.outline.now.types (is_met declared.now))
+        resolved.now.types.items)) }
 {
+    let repeats = resolved.repeats;
     let mut least = None;
-    let mut lower = Vec::with_capacity(alloc, types.len())?;
-    for (number, read) in types.iter().enumerate() {
-        let natural = natural_of_type(types, lower.as_slice(), read);
+    let mut lower = Vec::with_capacity(alloc, resolved.types.len())?;
+    for (number, read) in resolved.types.as_slice().iter().enumerate() {
+        let natural = natural_of_type(resolved.outline, lower.as_slice(), read);
         let fault = type_fault(alloc, declared, number, natural, repeats[number], read)?;
         least = earlier(least, fault);
         lower.push(align_of_type(natural, read))?;

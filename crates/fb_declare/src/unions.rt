@@ -28,12 +28,11 @@ fn member_fault(
         → is_again bytes_eq (λ m. m.name.bytes) before resolved.now ≡ again
         → result ≡ least_of (member_faults before resolved.now) }
 {
-    let name = &resolved.name;
     let meaning = resolved.meaning;
     let at = resolved.member.table.at();
-    let is_taken = name.text.as_str() == "NONE" || again;
+    let is_taken = resolved.name.as_str() == "NONE" || again;
     let is_bad = !is_table(meaning) || 255 <= number;
-    let bad_name = when(is_taken, SchemaFault::DuplicateName(name.at));
+    let bad_name = when(is_taken, SchemaFault::DuplicateName(resolved.name_at));
     let bad_member = when(is_bad, SchemaFault::BadMember(at));
     earlier(earlier(bad_name, use_fault(meaning, at)), bad_member)
 }
@@ -47,7 +46,7 @@ fn members_fault(
     let mut least = None;
     let mut met = BTreeSet::new(alloc);
     for (number, member) in members.iter().enumerate() {
-        let again = meet(&mut met, member.name.text.as_str())?;
+        let again = meet(&mut met, member.name.as_str())?;
         least = earlier(least, member_fault(number, again, member));
     }
     Ok(least)

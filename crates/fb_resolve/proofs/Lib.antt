@@ -1,5 +1,3 @@
-pub mod Bytes
-pub mod Steps
 pub mod Behind
 pub mod PlacesTaken
 pub mod InOrder

@@ -6,7 +6,7 @@ use Rattle.std.proofs.lemmas.Option.{get_or_from_slice_get, slice_get_within}
 use Rattle.std.proofs.lemmas.List.{take_more, map_push, get_or-map, length-map}
 use Rattle.std.proofs.lemmas.List.Elements.{All-cons, All-nil}
 use Rattle.std.proofs.lemmas.Slice.Zip.{all_zipped_more, AllZip-long}
-use Rattle.fb_scopes.specs.Words.{Path, words}
+use Rattle.fb_scopes.specs.Words.{words}
 use Rattle.fb_scopes.specs.PathTree.{paths, IsTree, KeepsPaths}
 use Rattle.fb_scopes.specs.declared.path_tree.PathTree.{PathTree}
 use Rattle.fb_scopes.specs.Scopes.{paths_at}
@@ -24,17 +24,14 @@ pub use_kept : (old new : PathTree) (u : TypeUse) (name : Name) → KeepsPaths o
 use_kept old new (Basic b) name kept h = h
 use_kept old new (Named n) name kept h = (h.0, kept n _ h.1)
 
-uses_kept : (old new : PathTree) (us : List TypeUse) (names : List Name) → KeepsPaths old new → AreUses old us names → AreUses new us names
-uses_kept old new [] [] kept h = h
-uses_kept old new [] (m ∷ ms) kept h = h
-uses_kept old new (u ∷ us) [] kept h = h
-uses_kept old new (u ∷ us) (m ∷ ms) kept h = (use_kept old new u m kept h.0, uses_kept old new us ms kept h.1)
+zip_weaker : {A B : Type 0} (R S : A → B → Type 0) → ((a : A) (b : B) → R a b → S a b) → (xs : List A) (ys : List B) → AllZip R xs ys → AllZip S xs ys
+zip_weaker R S f [] [] h = h
+zip_weaker R S f [] (y ∷ ys) h = h
+zip_weaker R S f (x ∷ xs) [] h = h
+zip_weaker R S f (x ∷ xs) (y ∷ ys) h = (f x y h.0, zip_weaker R S f xs ys h.1)
 
-types_kept : (old new : PathTree) (uses : List (Vec TypeUse Global)) (rs : List TypeRead) → KeepsPaths old new → AreTypesUses old uses rs → AreTypesUses new uses rs
-types_kept old new [] [] kept h = h
-types_kept old new [] (r ∷ rs) kept h = h
-types_kept old new (us ∷ uses) [] kept h = h
-types_kept old new (us ∷ uses) (r ∷ rs) kept h = (uses_kept old new us.items (names_used r.declaration) kept h.0, types_kept old new uses rs kept h.1)
+uses_kept : (old new : PathTree) (us : List TypeUse) (names : List Name) → KeepsPaths old new → AreUses old us names → AreUses new us names
+uses_kept old new us names kept h = zip_weaker (IsNoted old) (IsNoted new) (λ u name. use_kept old new u name kept) us names h
 
 -- one more name is noted
 pub one_noted : {X : Type 0} (use_in : X → Name) (first old new : PathTree) (us : List TypeUse) (xs : List X) (i : ℕ) (u : TypeUse) (x : X) → i < length xs → x ≡ get_or xs i x
@@ -46,14 +43,6 @@ one_noted use_in first old new us xs i u x l e is kept one h = record {
       (all_zipped_more (IsNoted new) us (map use_in (take i xs)) u (use_in x) (uses_kept old new us (map use_in (take i xs)) kept h.uses) one);
 }
 
--- numbers stay those of their paths
-paths_kept : (old new : PathTree) (path_of : TypeRead → Path) (ns : List ℕ) (rs : List TypeRead) → KeepsPaths old new
-    → AllZip (λ n r. IsPath old n (path_of r)) ns rs → AllZip (λ n r. IsPath new n (path_of r)) ns rs
-paths_kept old new path_of [] [] kept h = h
-paths_kept old new path_of [] (r ∷ rs) kept h = h
-paths_kept old new path_of (n ∷ ns) [] kept h = h
-paths_kept old new path_of (n ∷ ns) (r ∷ rs) kept h = (kept n (path_of r) h.0, paths_kept old new path_of ns rs kept h.1)
-
 -- what is noted stays right while more paths and names are noted, in a namespace that has its path
 pub placed_grown : (w : Inside) (tree used : PathTree) (scope : Option (Bor Name)) (path : ℕ) → IsTree tree → KeepsPaths w.tree tree → IsTree used → KeepsPaths w.used used
     → IsPath tree path (words_of_scope (option_copied scope)) → IsPlaced w → IsPlaced (record w { tree = tree; used = used; scope = scope; path = path })
@@ -61,9 +50,11 @@ placed_grown w tree used scope path is kept is_used kept_uses here h = record {
   tree = is;
   used = is_used;
   scope = here;
-  namespaces = paths_kept w.tree tree (λ r. words_of_scope r.scope) w.namespaces.items w.types.items kept h.namespaces;
-  full_names = paths_kept w.tree tree (λ r. words (name_of_type r)) w.full_names.items w.types.items kept h.full_names;
-  uses = types_kept w.used used w.uses.items w.types.items kept_uses h.uses;
+  namespaces = zip_weaker (λ n r. IsPath w.tree n (words_of_scope r.scope)) (λ n r. IsPath tree n (words_of_scope r.scope)) (λ n r. kept n _) w.namespaces.items w.types.items h.namespaces;
+  full_names = zip_weaker (λ n r. IsPath w.tree n (words (name_of_type r))) (λ n r. IsPath tree n (words (name_of_type r))) (λ n r. kept n _) w.full_names.items w.types.items h.full_names;
+  values = h.values;
+  uses = zip_weaker (λ us r. AreUses w.used us.items (names_used r.declaration)) (λ us r. AreUses used us.items (names_used r.declaration))
+      (λ us r. uses_kept w.used used us.items (names_used r.declaration) kept_uses) w.uses.items w.types.items h.uses;
   root = λ r e. let root = h.root r e in (kept w.root_path _ root.0, use_kept w.used used w.root_use r.name.bytes kept_uses root.1);
 }
 

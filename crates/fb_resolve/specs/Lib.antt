@@ -11,6 +11,5 @@ pub mod Defaults
 pub mod SlotsRead
 pub mod StructsRead
 pub mod MembersRead
-pub mod ValueNumbers
 pub mod Paths
 pub mod RepeatedNames

@@ -72,6 +72,7 @@ pub record IsPlaced (w : Inside) : Type 0 where
   pub namespaces : AllZip (λ n r. IsPath w.tree n (words_of_scope r.scope)) w.namespaces.items w.types.items
   pub full_names : AllZip (λ n r. IsPath w.tree n (words (name_of_type r))) w.full_names.items w.types.items
   pub uses : AreTypesUses w.used w.uses.items w.types.items
+  pub values : (types : List TypeRead) → w.values.items ≡ map (enum_values_of types) w.types.items
   pub root : IsRootPlaced w.tree w.used w.root_path w.root_use w.root
 
 -- Each name has its meaning in each namespace, these are the namespaces' paths, repeated names are marked, and

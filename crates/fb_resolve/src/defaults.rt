@@ -59,7 +59,7 @@ pub(crate) fn given_to(
         }
         (Meaning::Known(Kind::Scalar(_)), DefaultValue::Name(name)) => null_or_wrong(name.as_str()),
         (Meaning::Known(Kind::Enum(id)), DefaultValue::Integer(number)) => {
-            match scope.underlying_at(id.0 as usize) {
+            match scope.names.underlying_at(id.0 as usize) {
                 Some(base) => number_within(base, number.value()),
                 None => Given::Number(number.value()),
             }

@@ -5,17 +5,17 @@ ghost use Rattle.fb_schema.specs.Schema.{Name};
 ghost use Rattle.fb_resolve.specs.Outline.{TypeRead};
 ghost use Rattle.fb_scopes.specs.declared.path_tree.PathTree.{PathTree};
 ghost use Rattle.fb_resolve.specs.Meaning.{meaning_of};
-ghost use Rattle.fb_resolve.specs.Paths.{names_used, IsNoted, AreUses, AreTypesUses};
-ghost use Rattle.fb_resolve.specs.EnumsRead.{integer_type, enum_values, enum_values_of, name_of_value, value_over};
+ghost use Rattle.fb_resolve.specs.Paths.{names_used, IsNoted, AreUses};
+ghost use Rattle.fb_resolve.specs.EnumsRead.{integer_type, enum_values, name_of_value, value_over};
 ghost use Rattle.fb_resolve.specs.EnumsRead.{values_over, number_named};
 ghost use Rattle.fb_resolve.specs.RepeatedNames.{repeated_names};
-ghost use Rattle.fb_resolve.specs.ValueNumbers.{IndexesValues};
+ghost use Rattle.fb_resolve.specs.EnumsRead.{IndexesValues};
 
 use crate::attributes::has_attribute;
 use crate::basic_types::BasicType;
 use crate::enums::{integer_type, resolved_values, value_number};
 use crate::meanings::Meaning;
-use crate::outline::{TypeRead, TypeUse};
+use crate::outline::TypeUse;
 use crate::resolved::ResolvedValue;
 use fb_schema::{Base, Kind};
 use fb_syntax::{BuiltInAttribute, TypeDecl};
@@ -43,7 +43,7 @@ impl<'d, 's> Model for EnumValues<'d, 's> {
     ghost use Rattle.fb_resolve.specs.ResolvedFields.{EnumValues as Values};
     ghost use Rattle.fb_resolve.specs.EnumsRead.{name_of_value, values_over};
     ghost use Rattle.fb_resolve.specs.RepeatedNames.{repeated_names};
-    ghost use Rattle.fb_resolve.specs.ValueNumbers.{IndexesValues};
+    ghost use Rattle.fb_resolve.specs.EnumsRead.{IndexesValues};
 
     ghost Value = { Values };
 
@@ -55,7 +55,7 @@ impl<'d, 's> Model for EnumValues<'d, 's> {
 
 impl<'d, 's> EnumValues<'d, 's> {
     /// The values of a type, of whose names this is noted. The only error is a refused allocation.
-    fn of(
+    pub(crate) fn of(
         alloc: Global,
         declaration: &'d TypeDecl<'s>,
         uses: &[TypeUse],
@@ -108,23 +108,6 @@ fn underlying(noted: TypeUse) -> Option<Base>
         TypeUse::Basic(BasicType::Scalar(base)) => integer_type(Meaning::Known(Kind::Scalar(base))),
         _ => None,
     }
-}
-
-/// The values of each type, of whose names this is noted. The only error is a refused allocation.
-pub(crate) fn values_of_types<'d, 's>(
-    alloc: Global,
-    types: &[TypeRead<'d, 's>],
-    uses: &[Vec<TypeUse>],
-) -> Result<Vec<EnumValues<'d, 's>>, AllocError>
-    requires { (used : PathTree) × AreTypesUses used uses.now types.now }
-    ensures { IfOk result (λ v. v.items ≡ map (enum_values_of types.now) types.now) }
-{
-    let mut values = Vec::with_capacity(alloc, types.len())?;
-    for (number, read) in types.iter().enumerate() {
-        let uses = uses[number].as_slice();
-        values.push(EnumValues::of(alloc, read.declaration, uses)?)?;
-    }
-    Ok(values)
 }
 
 /// Of each value whether one before it has its name, and the numbers that they have in an enum over

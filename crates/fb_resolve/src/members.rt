@@ -4,7 +4,6 @@ ghost use Rattle.std.specs.Option.{option_map};
 ghost use Rattle.std.specs.Cow.{cow_str_bytes};
 ghost use Rattle.fb_resolve.specs.MembersRead.{with_underscores, member_name, table_of, member_read};
 
-use crate::located_names::LocatedName;
 use crate::meanings::Meaning;
 use crate::resolved::ResolvedMember;
 use fb_schema::{Kind, TypeId};
@@ -47,21 +46,22 @@ fn underscored(alloc: Global, name: &str) -> Result<CowStr<'_>, AllocError>
     Ok(CowStr::Owned(underscored))
 }
 
-/// The name of a member: its alias or that of its table. The only error is a refused allocation.
+/// The name of a member, its alias or that of its table, and the offset of its first word. The only
+/// error is a refused allocation.
 pub(crate) fn member_name<'d>(
     alloc: Global,
     member: &'d UnionMember<'_>,
-) -> Result<LocatedName<'d>, AllocError>
-    ensures { IfOk result (λ n. n ≡ member_name member.now) }
+) -> Result<(CowStr<'d>, u64), AllocError>
+    ensures { IfOk result
+        (λ n. record { bytes = cow_str_bytes n.0; at = n.1 } ≡ member_name member.now) }
 {
-    let (text, at) = match &member.alias {
-        Some(alias) => (CowStr::Borrowed(alias.text), alias.at),
-        None => (
-            underscored(alloc, member.table.as_str())?,
-            member.table.at(),
-        ),
-    };
-    Ok(LocatedName { text, at })
+    match &member.alias {
+        Some(alias) => Ok((CowStr::Borrowed(alias.text), alias.at)),
+        None => {
+            let text = underscored(alloc, member.table.as_str())?;
+            Ok((text, member.table.at()))
+        }
+    }
 }
 
 /// A member's name and its table; a member at fault stands as type 0. The only error is a refused
@@ -72,7 +72,7 @@ pub fn member_read(
 ) -> Result<(String, TypeId), AllocError>
     ensures { IfOk result (λ m. (string_bytes m.0, m.1.0) ≡ member_read resolved.entry) }
 {
-    let name = resolved.name.text.into_owned(alloc)?;
+    let name = resolved.name.into_owned(alloc)?;
     let table = table_of(resolved.meaning).unwrap_or(TypeId(0));
     Ok((name, table))
 }

@@ -1,10 +1,12 @@
 //! What a schema text declares, each type with the namespace that it stands in.
-ghost use Rattle.std.specs.Prelude.{◌≡◌, IfOk, string_bytes};
-ghost use Rattle.fb_resolve.specs.Outline.{outline_of, word_of, name_of_type};
+ghost use Rattle.std.specs.Prelude.{◌≡◌, List, IfOk, map, string_bytes};
+ghost use Rattle.fb_resolve.specs.Outline.{TypeRead as Read, outline_of, word_of, name_of_type};
+ghost use Rattle.fb_resolve.specs.EnumsRead.{enum_values_of, underlying_at};
 
 use crate::basic_types::BasicType;
 use crate::enum_values::EnumValues;
 use crate::walk::Walk;
+use fb_schema::Base;
 use fb_scopes::Scopes;
 use fb_syntax::{Declaration, Decls, Directive, DottedName, Text, TypeDecl};
 use std::alloc::{AllocError, Global};
@@ -106,7 +108,7 @@ impl<'d, 's> Outline<'d, 's> {
     pub fn of(alloc: Global, decls: &'d Decls<'s>) -> Result<Outline<'d, 's>, AllocError>
         ensures { IfOk result (λ o. o ≡ outline_of decls.now) }
     {
-        let mut walk = Walk::new(alloc);
+        let mut walk = Walk::new(alloc, decls.declarations().len())?;
         let mut attributes = Vec::new(alloc);
         let mut identifier = None;
         for declaration in decls.declarations() {
@@ -120,6 +122,23 @@ impl<'d, 's> Outline<'d, 's> {
             }
         }
         walk.outline(alloc, attributes, identifier, decls.text_len())
+    }
+
+    /// The underlying type of the enum of a number.
+    pub(crate) fn underlying_at(&self, number: usize) -> Option<Base>
+        ensures { result ≡ underlying_at self.now.types number }
+    {
+        self.names.underlying_at(number)
+    }
+}
+
+impl Names<'_, '_> {
+    /// The underlying type of the enum of a number.
+    pub(crate) fn underlying_at(&self, number: usize) -> Option<Base>
+        ensures { (types : List Read) → self.now.values.items ≡ map (enum_values_of types) types
+            → result ≡ underlying_at types number }
+    {
+        self.values.get(number)?.base
     }
 }
 

@@ -67,10 +67,11 @@ impl<'t, 'd, 's> Scope<'t, 'd, 's> {
     {
         let mut resolved = Vec::with_capacity(alloc, members.len())?;
         for (number, member) in members.iter().enumerate() {
-            let name = member_name(alloc, member)?;
+            let (name, name_at) = member_name(alloc, member)?;
             let meaning = self.meaning(uses[number]);
             resolved.push(ResolvedMember {
                 name,
+                name_at,
                 member,
                 meaning,
             })?;

@@ -3,11 +3,11 @@ use crate::attributes::FieldAttributes;
 use crate::defaults::Given;
 use crate::enum_values::EnumValues;
 use crate::ids::Slots;
-use crate::located_names::LocatedName;
 use crate::meanings::Meaning;
 use crate::outline::TypeRead;
 use fb_schema::TypeId;
 use fb_syntax::{EnumDecl, EnumValue, Field, TableDecl, UnionDecl, UnionMember};
+use std::borrow::CowStr;
 use std::marker::Model;
 
 /// The code of a union's field: the union, and the name of the slot that holds the code.
@@ -132,17 +132,24 @@ impl<'t, 'd, 's> Model for ResolvedEnum<'t, 'd, 's> {
 /// A member of a union, its name, and what the name of its table means.
 #[derive(Drop)]
 pub struct ResolvedMember<'d, 's> {
-    pub name: LocatedName<'d>,
+    pub name: CowStr<'d>,
+    /// The offset of its name's first word.
+    pub name_at: u64,
     pub member: &'d UnionMember<'s>,
     pub meaning: Meaning,
 }
 
 impl<'d, 's> Model for ResolvedMember<'d, 's> {
+    ghost use Rattle.std.specs.Cow.{cow_str_bytes};
     ghost use Rattle.fb_resolve.specs.ResolvedFields.{ResolvedMember as Resolved};
 
     ghost Value = { Resolved };
 
-    ghost view = { λ m. record { name = m.name; member = m.member.now; meaning = m.meaning } };
+    ghost view = { λ m. record {
+      name = record { bytes = cow_str_bytes m.name; at = m.name_at };
+      member = m.member.now;
+      meaning = m.meaning;
+    } };
 }
 
 /// A union, and what the names of its members' tables mean.

@@ -3,7 +3,7 @@ ghost use Rattle.std.specs.Prelude.{◌≡◌, map};
 ghost use Rattle.fb_schema.specs.Schema.{Name};
 ghost use Rattle.std.specs.Option.{option_copied};
 ghost use Rattle.fb_scopes.specs.Scopes.{tree_of, names_of, AreScopes};
-ghost use Rattle.fb_resolve.specs.EnumsRead.{enum_values_of, underlying_at};
+ghost use Rattle.fb_resolve.specs.EnumsRead.{enum_values_of};
 ghost use Rattle.fb_resolve.specs.Meaning.{meaning_of};
 ghost use Rattle.fb_resolve.specs.Scopes.{words_of_scope, paths_of_types};
 ghost use Rattle.fb_resolve.specs.Paths.{IsPath, IsNoted};
@@ -11,7 +11,7 @@ ghost use Rattle.fb_resolve.specs.Paths.{IsPath, IsNoted};
 use crate::basic_types::BasicType;
 use crate::meanings::Meaning;
 use crate::outline::{Names, TypeRead, TypeUse};
-use fb_schema::{Base, Kind, TypeId};
+use fb_schema::{Kind, TypeId};
 use fb_syntax::TypeDecl;
 
 /// A namespace, by its name and by the number of its path, the types of its text, and what names mean.
@@ -53,12 +53,5 @@ impl Scope<'_, '_, '_> {
             TypeDecl::Enum(_) => Meaning::Known(Kind::Enum(id)),
             TypeDecl::Union(_) => Meaning::Known(Kind::Union(id)),
         }
-    }
-
-    /// The underlying type of the enum of a number.
-    pub(crate) fn underlying_at(self, number: usize) -> Option<Base>
-        ensures { result ≡ underlying_at self.entry.types.now number }
-    {
-        self.names.values.get(number)?.base
     }
 }

@@ -3,14 +3,14 @@ ghost use Rattle.std.specs.Prelude.{◌≡◌, ◌≤◌, ℕ, List, IfOk, Some,
 ghost use Rattle.std.specs.Option.{option_map_or};
 ghost use Rattle.fb_schema.specs.Alignments.{base_size};
 ghost use Rattle.fb_schema.specs.Seen.{field_seen};
-ghost use Rattle.fb_resolve.specs.StructsRead.{base_at, align_in, natural_align, forced_align};
+ghost use Rattle.fb_resolve.specs.StructsRead.{align_in, natural_align, forced_align};
 ghost use Rattle.fb_resolve.specs.StructsRead.{natural_of_type, align_of_type, parts_from};
 ghost use Rattle.fb_resolve.specs.SlotsRead.{shape_of};
-ghost use Rattle.fb_resolve.specs.ResolvedType.{ResolvedType as Resolved};
+ghost use Rattle.fb_resolve.specs.Outline.{TypeRead};
 
 use crate::attributes::is_alignment;
-use crate::enums::integer_type;
 use crate::meanings::Meaning;
+use crate::outline::Outline;
 use crate::resolved::{ResolvedDecl, ResolvedField, ResolvedType};
 use fb_schema::{Base, FieldInfo, Kind, Shape, TypeId};
 use fb_syntax::FieldType;
@@ -30,31 +30,16 @@ pub(crate) fn shape_of(kind: &FieldType<'_>, meaning: Meaning) -> Shape
     }
 }
 
-/// The underlying type of the enum of a number.
-fn base_at(types: &[ResolvedType<'_, '_, '_>], number: usize) -> Option<Base>
-    ensures { result ≡ base_at types.now number }
-{
-    let resolved = types.get(number)?;
-    match &resolved.declaration {
-        ResolvedDecl::Enum(resolved) => integer_type(resolved.underlying),
-        _ => None,
-    }
-}
-
 /// The alignment that a field of a struct needs; 0 for a type at fault.
 #[tactic(auto, unfolding(crate::specs::StructsRead::align_in))]
-fn align_in(
-    types: &[ResolvedType<'_, '_, '_>],
-    lower: &[u16],
-    resolved: &ResolvedField<'_, '_>,
-) -> u16
-    ensures { result ≡ align_in types.now lower.now resolved.now }
+fn align_in(outline: &Outline<'_, '_>, lower: &[u16], resolved: &ResolvedField<'_, '_>) -> u16
+    ensures { result ≡ align_in outline.now.types lower.now resolved.now }
 {
     let field = resolved.field;
     match (&field.kind, resolved.meaning) {
         (FieldType::One(_), Meaning::Known(Kind::Scalar(base))) => base.size(),
         (FieldType::One(_), Meaning::Known(Kind::Enum(TypeId(number)))) => {
-            base_at(types, number as usize).map_or(0, Base::size)
+            outline.underlying_at(number as usize).map_or(0, Base::size)
         }
         (FieldType::One(_), Meaning::Known(Kind::Struct(TypeId(number)))) => {
             lower.get(number as usize).copied().unwrap_or(0)
@@ -78,21 +63,21 @@ pub fn forced_align(least: u16, number: Option<i128>) -> Option<u16>
 }
 
 /// The natural alignment of a type: the greatest that its fields need if it is a struct, where these
-/// are all types and the alignments of those before it; 0 of another type.
+/// are the alignments of the types before it; 0 of another type.
 #[tactic(auto, unfolding(crate::specs::StructsRead::natural_align))]
 pub fn natural_of_type(
-    types: &[ResolvedType<'_, '_, '_>],
+    outline: &Outline<'_, '_>,
     lower: &[u16],
     resolved: &ResolvedType<'_, '_, '_>,
 ) -> u16
-    ensures { result ≡ natural_of_type types.now lower.now resolved.now }
+    ensures { result ≡ natural_of_type outline.now.types lower.now resolved.now }
 {
     let ResolvedDecl::Struct(table) = &resolved.declaration else {
         return 0;
     };
     let mut natural = 0;
     for field in table.fields.as_slice() {
-        natural = natural.max(align_in(types, lower, field));
+        natural = natural.max(align_in(outline, lower, field));
     }
     natural
 }
@@ -100,7 +85,7 @@ pub fn natural_of_type(
 /// The alignment of a type of this natural one, 0 of what is no struct.
 #[tactic(auto, unfolding(crate::specs::StructsRead::align_of_type))]
 pub fn align_of_type(natural: u16, resolved: &ResolvedType<'_, '_, '_>) -> u16
-    ensures { (types : List Resolved) (lower : List ℕ)
+    ensures { (types : List TypeRead) (lower : List ℕ)
         → natural_of_type types lower resolved.now ≡ natural
         → result ≡ align_of_type types lower resolved.now }
 {

@@ -1,15 +1,15 @@
 //! One walk over a text's declarations.
-ghost use Rattle.std.specs.Prelude.{◌≡◌, ◌++◌, [], ◌∷◌, None, Some, IfOk, OnOk, map};
+ghost use Rattle.std.specs.Prelude.{◌≡◌, ◌<◌, ◌++◌, [], ◌∷◌, None, Some, All, IfOk, OnOk, map};
 ghost use Rattle.std.specs.Option.{option_copied};
 ghost use Rattle.fb_scopes.specs.PathTree.{IsTree, KeepsPaths};
 ghost use Rattle.fb_resolve.specs.Outline.{scope_named};
+ghost use Rattle.fb_resolve.specs.RepeatedNames.{repeated_numbers};
 ghost use Rattle.fb_resolve.specs.Paths.{types_used, tables_used, names_used, IsNoted, AreNoted};
 
 use crate::basic_types::{BasicType, basic_type};
-use crate::enum_values::values_of_types;
+use crate::enum_values::EnumValues;
 use crate::meanings::type_name;
 use crate::outline::{Names, Outline, RootRead, TypeRead, TypeUse, word_of};
-use crate::repeated_names::repeated_numbers;
 use fb_scopes::{PathTree, Scopes};
 use fb_syntax::{DottedName, Field, Text, TypeDecl, UnionMember};
 use std::alloc::{AllocError, Global};
@@ -33,6 +33,8 @@ pub(crate) struct Walk<'d, 's> {
     full_names: Vec<usize>,
     /// Of each type what is noted of the names that it uses.
     uses: Vec<Vec<TypeUse>>,
+    /// Of each type the values that it has as an enum.
+    values: Vec<EnumValues<'d, 's>>,
     /// The number of the path of the namespace in which the root is named.
     root_path: usize,
     /// What is noted of the root's name.
@@ -53,23 +55,25 @@ impl<'d, 's> Model for Walk<'d, 's> {
 }
 
 impl<'d, 's> Walk<'d, 's> {
-    /// Nothing is declared, and no namespace is in force.
-    pub(crate) fn new(alloc: Global) -> Walk<'d, 's>
-        ensures { result ≡ record { types = []; root = None; scope = None } }
+    /// Nothing is declared, and no namespace is in force; up to `count` types have room. The only
+    /// error is a refused allocation.
+    pub(crate) fn new(alloc: Global, count: usize) -> Result<Walk<'d, 's>, AllocError>
+        ensures { IfOk result (λ w. w ≡ record { types = []; root = None; scope = None }) }
     {
-        Walk {
-            types: Vec::new(alloc),
+        Ok(Walk {
+            types: Vec::with_capacity(alloc, count)?,
             root: None,
             scope: None,
             path: 0,
             tree: PathTree::new(alloc),
             used: PathTree::new(alloc),
-            namespaces: Vec::new(alloc),
-            full_names: Vec::new(alloc),
-            uses: Vec::new(alloc),
+            namespaces: Vec::with_capacity(alloc, count)?,
+            full_names: Vec::with_capacity(alloc, count)?,
+            uses: Vec::with_capacity(alloc, count)?,
+            values: Vec::with_capacity(alloc, count)?,
             root_path: 0,
             root_use: TypeUse::Basic(BasicType::Text),
-        }
+        })
     }
 
     /// Another namespace is in force.
@@ -103,6 +107,7 @@ impl<'d, 's> Walk<'d, 's> {
         }) }
     {
         let uses = uses_of(alloc, &mut self.used, declaration)?;
+        let values = EnumValues::of(alloc, declaration, uses.as_slice())?;
         let word = word_of(declaration).text;
         let path = self.path;
         let scope = self.scope;
@@ -110,6 +115,7 @@ impl<'d, 's> Walk<'d, 's> {
         self.namespaces.push(path)?;
         self.full_names.push(full_name)?;
         self.uses.push(uses)?;
+        self.values.push(values)?;
         self.types.push(TypeRead { scope, declaration })?;
         Ok(self)
     }
@@ -145,7 +151,6 @@ impl<'d, 's> Walk<'d, 's> {
         let numbers = self.full_names;
         let full_names = numbers.as_slice();
         let repeats = repeated_numbers(alloc, full_names, self.tree.len())?;
-        let values = values_of_types(alloc, self.types.as_slice(), self.uses.as_slice())?;
         let names = Names {
             scopes: Scopes::of(alloc, self.tree, self.used, full_names)?,
             namespaces: self.namespaces,
@@ -153,7 +158,7 @@ impl<'d, 's> Walk<'d, 's> {
             root_path: self.root_path,
             root_use: self.root_use,
             repeats,
-            values,
+            values: self.values,
         };
         Ok(Outline {
             types: self.types,
@@ -230,4 +235,24 @@ fn uses_of<'d>(
         }
         TypeDecl::Union(read) => member_uses(alloc, used, read.members.as_slice()),
     }
+}
+
+/// Of each number, which is below `bound`, whether it is among those before it. The only error is a
+/// refused allocation.
+fn repeated_numbers(
+    alloc: Global,
+    numbers: &[usize],
+    bound: usize,
+) -> Result<Vec<bool>, AllocError>
+    requires { All (λ n. n < bound) numbers.now }
+    ensures { IfOk result (λ r. r.items ≡ repeated_numbers numbers.now) }
+{
+    let mut seen = vec![in alloc; false; bound]?;
+    let mut repeats = Vec::with_capacity(alloc, numbers.len())?;
+    for number in numbers {
+        let number = *number;
+        repeats.push(seen[number])?;
+        seen[number] = true;
+    }
+    Ok(repeats)
 }

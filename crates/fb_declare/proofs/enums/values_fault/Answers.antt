@@ -8,39 +8,35 @@ use Rattle.std.specs.Ordering.{int_eq}
 use Rattle.std.specs.Str.{bytes_eq}
 use Rattle.fb_declare.specs.declared.faults.SchemaFault.TheVariants.{DuplicateName, BadEnumValue}
 use Rattle.fb_declare.specs.Faults.{least_of}
-use Rattle.fb_declare.specs.FaultRows.{when, faults_in_turn, is_out_of_range, value_faults}
-use Rattle.fb_resolve.specs.RepeatedNames.{is_again, repeated_names}
+use Rattle.fb_declare.specs.FaultRows.{when, is_out_of_range, value_faults}
+use Rattle.fb_resolve.specs.RepeatedNames.{is_again}
 use Rattle.fb_resolve.specs.EnumsRead.{name_of_value}
 use Rattle.fb_declare.proofs.TypesKept.{told_among}
 use Rattle.std.proofs.lemmas.Option.{slice_get_read, slice_get_within, get_or_from_slice_get}
-use Rattle.std.proofs.lemmas.List.{take_all}
 use Rattle.fb_declare.proofs.Least.{least_of_append, least_more, map-taken, list_any-snoc, one_more}
 use Rattle.fb_declare.proofs.enums.values_fault.Goals as goal
 
 pub bounds-repeats-place : goal.bounds-repeats-place
 bounds-repeats-place c =
-    let values = c.as_slice-resolved-items.result.now in
-    let repeats = c.as_slice-repeats.result.now in
+    let values = c.args.values.now in
     let i = c.loop-place.place in
-    let v = c.resolved-item.result in
-    let told = c.as_slice-repeats.ensures.value ∙ c.values.invariant.1 ∙ ap (repeated_names name_of_value) (sym c.as_slice-resolved-items.ensures.value) in
-    let at = slice_get_read values (length values) i v refl c.loop-place-test.true c.resolved-item.is in
-    slice_get_within repeats i _ (told_among name_of_value repeats values i v told at)
+    let v = c.index-values-place.result in
+    let at = slice_get_read values (length values) i v refl c.loop-place-test.true c.index-values-place.is in
+    slice_get_within c.args.repeats.now i _ (told_among name_of_value c.args.repeats.now values i v c.requires at)
 
 pub loop-place-preserved : goal.loop-place-preserved
 loop-place-preserved c =
-    let values = c.as_slice-resolved-items.result.now in
-    let base = c.values.inside.base in
-    let flags = c.values.inside.bit_flags in
-    let repeats = c.as_slice-repeats.result.now in
+    let values = c.args.values.now in
+    let base = c.args.base in
+    let flags = c.args.flags in
+    let repeats = c.args.repeats.now in
     let i = c.loop-place.place in
-    let v = c.resolved-item.result in
+    let v = c.index-values-place.result in
     let h = c.loop-place-test.true in
-    let e = c.resolved-item.is in
-    let told = c.as_slice-repeats.ensures.value ∙ c.values.invariant.1 ∙ ap (repeated_names name_of_value) (sym c.as_slice-resolved-items.ensures.value) in
+    let e = c.index-values-place.is in
     let named = is_again bytes_eq name_of_value (take i values) v in
     let named_again : get_or repeats i false ≡ named =
-    get_or_from_slice_get repeats i named false (told_among name_of_value repeats values i v told (slice_get_read values (length values) i v refl h e)) in
+    get_or_from_slice_get repeats i named false (told_among name_of_value repeats values i v c.requires (slice_get_read values (length values) i v refl h e)) in
     let m = v.number in
     let keys = c.loop-place.numbers.keys in
     let number : c.resolved.inside.number ≡ m = grind rules in
@@ -60,10 +56,3 @@ loop-place-preserved c =
           more ∙ one_more (int_eq m n) met ∙ ap (λ b. met || b) (int_eq_equiv.symm m n)
           ∙ ap (λ b. b || int_eq n m) (c.loop-place.invariant.numbers n) ∙ sym (ap (list_any (int_eq n)) (map-taken (λ v. v.number) values i v h e) ∙ list_any-snoc (int_eq n) (map (λ v. v.number) (take i values)) m);
     }
-
-pub returns : goal.returns
-returns c =
-    let values = c.as_slice-resolved-items.result.now in
-    let faults = faults_in_turn (value_faults c.values.inside.base c.values.inside.bit_flags) in
-    c.loop-place.invariant.least ∙ ap (λ vs. least_of (faults vs)) (take_all c.loop-place.place values c.loop-place-test.false ∙ c.as_slice-resolved-items.ensures.value)
-    ∙ ap (λ v. least_of (faults_in_turn (value_faults v.base v.bit_flags) v.values)) c.values.view_is

@@ -7,6 +7,6 @@ use Rattle.fb_declare.proofs.types.types_fault.Given as goal
 
 abbrev pub invariant-loop-number : goal.invariant-loop-number
 invariant-loop-number l = record {
-  least : l.least ≡ least_of (faults_in_turn (type_behind l.types (is_met l.declared)) (take l.number l.types));
-  lower : l.lower.items ≡ aligns_from l.types [] (take l.number l.types);
+  least : l.least ≡ least_of (faults_in_turn (type_behind l.resolved.outline.now.types (is_met l.declared)) (take l.number l.read-items));
+  lower : l.lower.items ≡ aligns_from l.resolved.outline.now.types [] (take l.number l.read-items);
 }

@@ -1,4 +1,4 @@
-use Rattle.std.proofs.Common.{arith, ◌≡◌, ◌∷◌, [], None, take, map, FitsSigned, rules, refl, List, Bool}
+use Rattle.std.proofs.Common.{List, ℕ, sym, arith, ◌≡◌, ◌∷◌, [], None, take, map, FitsSigned, rules, refl, Bool}
 use Rattle.std.specs.Int.{w128}
 use Rattle.std.specs.List.{list_any}
 use Rattle.std.specs.Option.{is_some}
@@ -9,12 +9,16 @@ use Rattle.std.proofs.lemmas.List.Folds.{find-append}
 use Rattle.std.proofs.lemmas.Map.Text.{btree_map_updates_str}
 use Rattle.fb_resolve.specs.EnumsRead.{name_of_value, value_over, number_named}
 use Rattle.fb_resolve.specs.ResolvedFields.{ResolvedValue}
-use Rattle.fb_resolve.specs.ValueNumbers.{number_of}
+use Rattle.fb_resolve.specs.EnumsRead.{number_of}
 use Rattle.fb_schema.specs.Schema.{Name}
 use Rattle.fb_schema.specs.declared.kinds.Base.{Base}
-use Rattle.fb_resolve.proofs.Bytes.{bytes_eq-equal, bytes_eq-sym}
+use Rattle.std.specs.Bool.{one_answer}
+use Rattle.std.proofs.lemmas.Slice.Eq.{bytes_eq-Decides}
 use Rattle.fb_resolve.proofs.enum_values.numbers_over.Goals.{then-not-again+in_ok-insert, else-not-again}
 use Rattle.fb_resolve.proofs.enum_values.numbers_over.Goals as goal
+
+bytes_eq-sym : (a b : List ℕ) → bytes_eq a b ≡ bytes_eq b a
+bytes_eq-sym a b = one_answer (bytes_eq a b) (bytes_eq b a) (bytes_eq-Decides a b) ((λ h. sym ((bytes_eq-Decides b a).0 h)), (λ e. (bytes_eq-Decides b a).1 (sym e)))
 
 -- a name has a number exactly where a value has it
 named_again : (base : Base) (flags : Bool) (vs : List ResolvedValue) (name : Name)
@@ -44,7 +48,7 @@ loop-resolved-preserved c =
                 let absent : number_of c.loop-resolved.numbers name ≡ None = grind (rules, w.if-not-again.true) in
                 let fits : FitsSigned w128 w.value_number.result = search rules in
                 let noted = btree_map_updates_str name c.loop-resolved.numbers w.insert.new.self _ w.in_ok-insert.ensures.updates other in
-                grind (arith, common_steps, found, text, noted, absent, c.loop-resolved.invariant.numbers other, to_z-of_z w128 w.value_number.result fits, bytes_eq-equal name other, bytes_eq-sym name other)
-            | else-not-again w ↦ grind (arith, common_steps, found, text, c.loop-resolved.invariant.numbers other, bytes_eq-equal name other, bytes_eq-sym name other)
+                grind (arith, common_steps, found, text, noted, absent, c.loop-resolved.invariant.numbers other, to_z-of_z w128 w.value_number.result fits, (bytes_eq-Decides name other).0, bytes_eq-sym name other)
+            | else-not-again w ↦ grind (arith, common_steps, found, text, c.loop-resolved.invariant.numbers other, (bytes_eq-Decides name other).0, bytes_eq-sym name other)
           ];
     }

@@ -1,5 +1,5 @@
 use Rattle.fb_resolve.proofs.PathsKept.{names_numbered}
-use Rattle.std.proofs.Common.{◌≡◌, ◌==◌, ◌++◌, ◌∙◌, ℕ, List, [], ◌∷◌, map, refl, arith, rules}
+use Rattle.std.proofs.Common.{◌≡◌, ◌==◌, ◌++◌, ◌∙◌, ℕ, List, [], ◌∷◌, map, refl, arith}
 use Rattle.std.specs.List.{AllZip, list_any}
 use Rattle.std.specs.Str.{bytes_eq}
 use Rattle.std.proofs.lemmas.Bool.Decides.{nat_tests}
@@ -50,9 +50,6 @@ pub repeated_numbers-requires : goal.repeated_numbers-requires
 repeated_numbers-requires c = let w = c.self.inside in
     rw (c.as_slice-full_names.ensures.value, c.len.ensures) (names_numbered w.tree w.full_names.items w.types.items c.self.invariant.full_names).0
 
-pub values_of_types-requires : goal.values_of_types-requires
-values_of_types-requires c = let w = c.self.inside in (w.used, rw (c.as_slice-2.ensures.value, c.as_slice.ensures.value) c.self.invariant.uses)
-
 pub invariant_of-result : goal.invariant_of-result
 invariant_of-result c =
     let w = c.self.inside in
@@ -65,7 +62,7 @@ invariant_of-result c =
         namespaces = rw made.tree placed.namespaces;
         uses = rw made.names placed.uses;
         repeats = c.in_ok-repeats.ensures ∙ rw full_names (names_repeated w.tree placed.tree [] [] tt w.full_names.items w.types.items placed.full_names);
-        values = grind (rules, c.in_ok-values.ensures);
+        values = placed.values w.types.items;
       },
       rw (made.tree, made.names) placed.root,
     )

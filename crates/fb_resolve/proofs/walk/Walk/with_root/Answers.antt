@@ -20,5 +20,6 @@ invariant_of-self c =
       namespaces = grown.namespaces;
       full_names = grown.full_names;
       uses = grown.uses;
+      values = grown.values;
       root = λ r e. subst (λ r. IsPath w.tree w.path (words_of_scope r.scope) × IsNoted used number r.name.bytes) (same_Some _ r e) (grown.scope, named);
     }

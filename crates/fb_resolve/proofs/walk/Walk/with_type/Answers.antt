@@ -1,4 +1,6 @@
-use Rattle.std.proofs.Common.{rules}
+use Rattle.std.proofs.Common.{rules, refl}
+use Rattle.std.proofs.lemmas.List.{map_push}
+use Rattle.fb_resolve.specs.EnumsRead.{enum_values_of}
 use Rattle.std.specs.Option.{option_copied}
 use Rattle.std.proofs.lemmas.Slice.Zip.{all_zipped_more}
 use Rattle.fb_scopes.specs.Words.{words}
@@ -24,11 +26,15 @@ invariant_of-self c =
       tree = grown.tree;
       used = grown.used;
       scope = grown.scope;
-      namespaces = rw (c.in_ok-push.ensures.items, c.in_ok-push-4.ensures.items)
+      namespaces = rw (c.in_ok-push.ensures.items, c.in_ok-push-5.ensures.items)
           (all_zipped_more (λ n r. IsPath tree n (words_of_scope r.scope)) w.namespaces.items w.types.items w.path one grown.namespaces grown.scope);
-      full_names = rw (c.in_ok-push-2.ensures.items, c.in_ok-push-4.ensures.items)
+      full_names = rw (c.in_ok-push-2.ensures.items, c.in_ok-push-5.ensures.items)
           (all_zipped_more (λ n r. IsPath tree n (words (name_of_type r))) w.full_names.items w.types.items full_name one grown.full_names named);
-      uses = rw (c.in_ok-push-3.ensures.items, c.in_ok-push-4.ensures.items)
+      uses = rw (c.in_ok-push-3.ensures.items, c.in_ok-push-5.ensures.items)
           (all_zipped_more (λ ns r. AreUses used ns.items (names_used r.declaration)) w.uses.items w.types.items c.in_ok-uses.uses one grown.uses noted.uses);
+      values = λ types. rw (c.in_ok-push-4.ensures.items, c.in_ok-push-5.ensures.items, map_push (enum_values_of types) w.types.items one, grown.values types, c.in_ok-values.ensures types one.scope) refl;
       root = grown.root;
     }
+
+pub of-requires : goal.of-requires
+of-requires c = (c.uses_of.new.used, rw c.as_slice.ensures.value c.in_ok-uses.ensures.uses)

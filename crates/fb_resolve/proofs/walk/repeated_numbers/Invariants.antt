@@ -1,7 +1,7 @@
 use Rattle.std.proofs.Common.{◌≡◌, ◌==◌, ◌<◌, ◌++◌, ℕ, false, length, get_or, take, drop}
 use Rattle.std.specs.List.{list_any}
 use Rattle.fb_resolve.specs.RepeatedNames.{again_behind, repeated_numbers}
-use Rattle.fb_resolve.proofs.repeated_names.repeated_numbers.Given as goal
+use Rattle.fb_resolve.proofs.walk.repeated_numbers.Given as goal
 
 abbrev pub invariant-loop-number : goal.invariant-loop-number
 invariant-loop-number l = let i = l.number-index in record {
