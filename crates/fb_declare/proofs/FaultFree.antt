@@ -23,7 +23,6 @@ use Rattle.std.specs.Option.{is_some}
 use Rattle.std.proofs.lemmas.List.Sums.{passes_at_first}
 use Rattle.fb_syntax.specs.Attributes.{AttributeRead, built_in_attribute, is_same}
 use Rattle.fb_syntax.specs.declared.attributes.BuiltInAttribute.{BuiltInAttribute}
-use Rattle.fb_syntax.specs.declared.attributes.BuiltInAttribute.TheVariants.{Id, Required, Deprecated, ForceAlign, BitFlags, OriginalOrder}
 use Rattle.fb_declare.specs.declared.attribute_faults.AttributeHost.{AttributeHost}
 use Rattle.fb_resolve.specs.Attributes.{attribute_called, has_attribute}
 use Rattle.std.specs.Bool.{Decides}
@@ -93,13 +92,7 @@ either P false x y p q = q
 
 -- a built-in attribute that is the same as another is that
 known_same : (k : BuiltInAttribute) (o : Option BuiltInAttribute) → is_same k o ≡ true → o ≡ Some k
-known_same Id (Some Id) h = refl
-known_same Required (Some Required) h = refl
-known_same Deprecated (Some Deprecated) h = refl
-known_same ForceAlign (Some ForceAlign) h = refl
-known_same BitFlags (Some BitFlags) h = refl
-known_same OriginalOrder (Some OriginalOrder) h = refl
-known_same k o h = absurd (false≢true h)
+known_same k o h = grind (arith, h)
 
 some_found : {X : Type 0} (o : Option X) → is_some o ≡ true → (x : X) × (o ≡ Some x)
 some_found (Some x) h = (x, refl)

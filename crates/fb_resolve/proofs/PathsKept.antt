@@ -13,7 +13,7 @@ use Rattle.fb_scopes.specs.Scopes.{paths_at}
 use Rattle.fb_scopes.proofs.WordsOf.{words-inside}
 use Rattle.fb_schema.specs.Schema.{Name}
 use Rattle.fb_resolve.specs.Outline.{TypeRead, full_name, name_of_type}
-use Rattle.fb_resolve.specs.Scopes.{words_of_scope, paths_of_types}
+use Rattle.fb_resolve.specs.Meaning.{words_of_scope, paths_of_types}
 use Rattle.fb_resolve.specs.Paths.{IsPath, IsPlaced, names_used, IsNoted, AreUses, AreNoted, AreTypesUses}
 use Rattle.fb_resolve.specs.declared.outline.TypeUse.{TypeUse}
 use Rattle.fb_resolve.specs.declared.outline.TypeUse.TheVariants.{Basic, Named}

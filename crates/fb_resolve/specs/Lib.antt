@@ -1,5 +1,4 @@
 pub mod Outline
-pub mod Scopes
 pub mod BasicTypes
 pub mod Meaning
 pub mod ResolvedFields

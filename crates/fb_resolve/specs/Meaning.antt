@@ -1,20 +1,33 @@
 -- What the name of a type means where it is used.
 -- From the FlatBuffers documentation, "Writing a schema": Types, Namespaces.
-use Rattle.std.specs.Prelude.{ℕ, List, Option, None, Some, slice_get}
+use Rattle.std.specs.Prelude.{ℕ, List, [], map, Option, None, Some, slice_get}
 use Rattle.fb_syntax.specs.Located.{Located}
 use Rattle.fb_syntax.specs.declared.declarations.FieldType.{FieldType}
 use Rattle.fb_syntax.specs.declared.declarations.FieldType.TheVariants.{One, Many}
 use Rattle.fb_syntax.specs.declared.declarations.TypeDecl.{TypeDecl}
 use Rattle.fb_syntax.specs.declared.declarations.TypeDecl.TheVariants as decls
 use Rattle.fb_schema.specs.Schema.{Name}
-use Rattle.fb_resolve.specs.Outline.{TypeRead}
-use Rattle.fb_resolve.specs.Scopes.{type_meant}
+use Rattle.fb_resolve.specs.Outline.{TypeRead, name_of_type}
+use Rattle.fb_scopes.specs.Words.{Path, words, meant_inside}
 use Rattle.fb_resolve.specs.BasicTypes.{basic_type}
 use Rattle.fb_resolve.specs.declared.basic_types.BasicType.{BasicType}
 use Rattle.fb_resolve.specs.declared.basic_types.BasicType.TheVariants as basic
 use Rattle.fb_schema.specs.declared.kinds.Kind.TheVariants.{Scalar, Enum, Struct, Table, Union, Text}
 use Rattle.fb_resolve.specs.declared.meanings.Meaning.{Meaning}
 use Rattle.fb_resolve.specs.declared.meanings.Meaning.TheVariants.{Known, Float, Unknown}
+
+-- the words of a namespace; the one without a name has none
+abbrev pub words_of_scope : Option Name → Path
+words_of_scope None = []
+words_of_scope (Some scope) = words scope
+
+-- the full names of types, word by word
+abbrev pub paths_of_types : List TypeRead → List Path
+paths_of_types types = map (λ r. words (name_of_type r)) types
+
+-- the number of the type that a name means: the first of its full name in the innermost namespace that has one
+abbrev pub type_meant : List TypeRead → Option Name → Name → Option ℕ
+type_meant types scope name = meant_inside (paths_of_types types) (words_of_scope scope) (words name)
 
 -- a use of the type of a number
 abbrev pub use_of : ℕ → TypeDecl → Meaning

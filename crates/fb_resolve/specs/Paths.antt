@@ -9,7 +9,6 @@ use Rattle.fb_scopes.specs.PathTree.{paths, IsTree, KeepsPaths}
 use Rattle.fb_scopes.specs.Scopes.{tree_of, names_of, AreScopes, IsUse}
 use Rattle.fb_scopes.specs.declared.path_tree.PathTree.{PathTree}
 use Rattle.fb_resolve.specs.Outline.{TypeRead, RootRead, name_of_type}
-use Rattle.fb_resolve.specs.Scopes.{words_of_scope, paths_of_types}
 use Rattle.fb_resolve.specs.RepeatedNames.{repeated_names}
 use Rattle.fb_resolve.specs.EnumsRead.{enum_values_of}
 use Rattle.fb_resolve.specs.declared.outline.Names.{Names}
@@ -19,7 +18,7 @@ use Rattle.fb_syntax.specs.declared.declarations.UnionMember.{UnionMember}
 use Rattle.fb_syntax.specs.declared.declarations.TypeDecl.{TypeDecl}
 use Rattle.fb_syntax.specs.declared.declarations.TypeDecl.TheVariants.{Table, Struct, Enum, Union}
 use Rattle.fb_schema.specs.Schema.{Name}
-use Rattle.fb_resolve.specs.Meaning.{type_name}
+use Rattle.fb_resolve.specs.Meaning.{type_name, words_of_scope, paths_of_types}
 use Rattle.fb_resolve.specs.BasicTypes.{basic_type}
 use Rattle.fb_resolve.specs.declared.outline.TypeUse.{TypeUse}
 use Rattle.fb_resolve.specs.declared.outline.TypeUse.TheVariants.{Basic, Named}

@@ -7,9 +7,8 @@ ghost use Rattle.fb_scopes.specs.declared.path_tree.PathTree.{PathTree};
 ghost use Rattle.fb_resolve.specs.Meaning.{meaning_of};
 ghost use Rattle.fb_resolve.specs.Paths.{names_used, IsNoted, AreUses};
 ghost use Rattle.fb_resolve.specs.EnumsRead.{integer_type, enum_values, name_of_value, value_over};
-ghost use Rattle.fb_resolve.specs.EnumsRead.{values_over, number_named};
 ghost use Rattle.fb_resolve.specs.RepeatedNames.{repeated_names};
-ghost use Rattle.fb_resolve.specs.EnumsRead.{IndexesValues};
+ghost use Rattle.fb_resolve.specs.EnumsRead.{values_over, number_named, IndexesValues};
 
 use crate::attributes::has_attribute;
 use crate::basic_types::BasicType;
@@ -41,9 +40,8 @@ pub struct EnumValues<'d, 's> {
 impl<'d, 's> Model for EnumValues<'d, 's> {
     ghost use Rattle.std.specs.Prelude.{◌≡◌};
     ghost use Rattle.fb_resolve.specs.ResolvedFields.{EnumValues as Values};
-    ghost use Rattle.fb_resolve.specs.EnumsRead.{name_of_value, values_over};
+    ghost use Rattle.fb_resolve.specs.EnumsRead.{name_of_value, values_over, IndexesValues};
     ghost use Rattle.fb_resolve.specs.RepeatedNames.{repeated_names};
-    ghost use Rattle.fb_resolve.specs.EnumsRead.{IndexesValues};
 
     ghost Value = { Values };
 

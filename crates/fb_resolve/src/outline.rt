@@ -123,13 +123,6 @@ impl<'d, 's> Outline<'d, 's> {
         }
         walk.outline(alloc, attributes, identifier, decls.text_len())
     }
-
-    /// The underlying type of the enum of a number.
-    pub(crate) fn underlying_at(&self, number: usize) -> Option<Base>
-        ensures { result ≡ underlying_at self.now.types number }
-    {
-        self.names.underlying_at(number)
-    }
 }
 
 impl Names<'_, '_> {

@@ -2,7 +2,7 @@
 ghost use Rattle.std.specs.Prelude.{◌≡◌, IfOk, map};
 ghost use Rattle.std.specs.Option.{option_copied};
 ghost use Rattle.fb_scopes.specs.Scopes.{tree_of, names_of, AreScopes};
-ghost use Rattle.fb_resolve.specs.Scopes.{paths_of_types};
+ghost use Rattle.fb_resolve.specs.Meaning.{paths_of_types};
 ghost use Rattle.fb_resolve.specs.Outline.{name_of_type};
 ghost use Rattle.fb_resolve.specs.Paths.{types_used, tables_used, names_used, IsRootPlaced, AreUses, AreNames};
 ghost use Rattle.fb_resolve.specs.RepeatedNames.{repeated_names};

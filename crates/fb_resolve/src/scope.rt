@@ -4,8 +4,7 @@ ghost use Rattle.fb_schema.specs.Schema.{Name};
 ghost use Rattle.std.specs.Option.{option_copied};
 ghost use Rattle.fb_scopes.specs.Scopes.{tree_of, names_of, AreScopes};
 ghost use Rattle.fb_resolve.specs.EnumsRead.{enum_values_of};
-ghost use Rattle.fb_resolve.specs.Meaning.{meaning_of};
-ghost use Rattle.fb_resolve.specs.Scopes.{words_of_scope, paths_of_types};
+ghost use Rattle.fb_resolve.specs.Meaning.{meaning_of, words_of_scope, paths_of_types};
 ghost use Rattle.fb_resolve.specs.Paths.{IsPath, IsNoted};
 
 use crate::basic_types::BasicType;

@@ -11,23 +11,15 @@ pub record AttributeRead : Type 0 where
   pub name : Located
   pub value : Option AttributeValue
 
-abbrev pub spelling : BuiltInAttribute → List ℕ
-spelling Id = codes "id"
-spelling Required = codes "required"
-spelling Deprecated = codes "deprecated"
-spelling ForceAlign = codes "force_align"
-spelling BitFlags = codes "bit_flags"
-spelling OriginalOrder = codes "original_order"
-
 -- the attribute of a name that needs no declaration
 unfoldable pub built_in_attribute : List ℕ → Option BuiltInAttribute
 built_in_attribute name =
-    if bytes_eq name (spelling Id) then Some Id else
-    if bytes_eq name (spelling Required) then Some Required else
-    if bytes_eq name (spelling Deprecated) then Some Deprecated else
-    if bytes_eq name (spelling ForceAlign) then Some ForceAlign else
-    if bytes_eq name (spelling BitFlags) then Some BitFlags else
-    if bytes_eq name (spelling OriginalOrder) then Some OriginalOrder else None
+    if bytes_eq name (codes "id") then Some Id else
+    if bytes_eq name (codes "required") then Some Required else
+    if bytes_eq name (codes "deprecated") then Some Deprecated else
+    if bytes_eq name (codes "force_align") then Some ForceAlign else
+    if bytes_eq name (codes "bit_flags") then Some BitFlags else
+    if bytes_eq name (codes "original_order") then Some OriginalOrder else None
 
 abbrev pub is_same : BuiltInAttribute → Option BuiltInAttribute → Bool
 is_same Id (Some Id) = true

@@ -3,7 +3,7 @@ use Rattle.std.proofs.lemmas.Grind.{common_steps}
 use Rattle.std.proofs.lemmas.List.{drop_more}
 use Rattle.std.proofs.lemmas.Slice.Zip.{AllZip-long}
 use Rattle.fb_scopes.specs.Scopes.{tree_of, names_of}
-use Rattle.fb_resolve.specs.Scopes.{words_of_scope}
+use Rattle.fb_resolve.specs.Meaning.{words_of_scope}
 use Rattle.fb_resolve.specs.Paths.{IsPath, names_used, AreUses}
 use Rattle.fb_resolve.proofs.PathsKept.{zip_at, types_used_at}
 use Rattle.fb_resolve.proofs.resolve.resolved_types.Goals as goal

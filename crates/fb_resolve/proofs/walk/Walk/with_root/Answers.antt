@@ -1,6 +1,6 @@
 use Rattle.std.proofs.Common.{rules, ◌≡◌, subst}
 use Rattle.std.proofs.lemmas.Option.{same_Some}
-use Rattle.fb_resolve.specs.Scopes.{words_of_scope}
+use Rattle.fb_resolve.specs.Meaning.{words_of_scope}
 use Rattle.fb_resolve.specs.Paths.{IsPath, IsNoted}
 use Rattle.fb_resolve.proofs.PathsKept.{placed_grown}
 use Rattle.fb_resolve.proofs.walk.Walk.with_root.Goals as goal

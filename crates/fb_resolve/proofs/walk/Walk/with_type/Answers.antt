@@ -5,7 +5,7 @@ use Rattle.std.specs.Option.{option_copied}
 use Rattle.std.proofs.lemmas.Slice.Zip.{all_zipped_more}
 use Rattle.fb_scopes.specs.Words.{words}
 use Rattle.fb_resolve.specs.Outline.{TypeRead, word_of, name_of_type}
-use Rattle.fb_resolve.specs.Scopes.{words_of_scope}
+use Rattle.fb_resolve.specs.Meaning.{words_of_scope}
 use Rattle.fb_resolve.specs.Paths.{IsPath, names_used, AreUses}
 use Rattle.fb_resolve.proofs.PathsKept.{path_inside, placed_grown}
 use Rattle.fb_resolve.proofs.walk.Walk.with_type.Goals as goal
