@@ -114,6 +114,9 @@ pub(crate) fn metadata_fault(
     ensures { IfOk result (λ f. f ≡ least_of
         (metadata_faults (is_met declared.now) host attributes.now)) }
 {
+    if attributes.is_empty() {
+        return Ok(None);
+    }
     let mut least = None;
     let mut met = BTreeSet::new(alloc);
     for attribute in attributes {

@@ -17,6 +17,10 @@ pub(crate) enum BasicType {
 pub(crate) fn basic_type(name: &str) -> Option<BasicType>
     ensures { result ≡ basic_type name.now }
 {
+    // most names of declared types begin so, and no other
+    if let [b'A'..=b'Z', ..] = name.as_bytes() {
+        return None;
+    }
     match name {
         "bool" => Some(BasicType::Scalar(Base::Bool)),
         "byte" | "int8" => Some(BasicType::Scalar(Base::I8)),
