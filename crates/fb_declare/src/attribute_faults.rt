@@ -114,8 +114,10 @@ pub(crate) fn metadata_fault(
     ensures { IfOk result (λ f. f ≡ least_of
         (metadata_faults (is_met declared.now) host attributes.now)) }
 {
-    if attributes.is_empty() {
-        return Ok(None);
+    match attributes {
+        [] => return Ok(None),
+        [attribute] => return Ok(attribute_fault(declared, host, false, attribute)),
+        _ => {}
     }
     let mut least = None;
     let mut met = BTreeSet::new(alloc);

@@ -32,9 +32,9 @@ fn attribute_called<'a, 's>(
 ) -> Option<&'a Attribute<'s>>
     ensures { option_copied result ≡ attribute_called built_in attributes.now }
 {
-    attributes
-        .iter()
-        .find(|attribute| matches!(attribute.built_in, Some(named) if named == built_in))
+    attributes.iter().find(
+        |attribute| matches!(attribute.built_in, Some(named) if named == built_in),
+    )
 }
 
 /// Whether one of the attributes is this built-in one.

@@ -1,6 +1,5 @@
 //! The slots that the ids of fields name.
-ghost use Rattle.std.specs.Prelude.{◌≡◌, ◌<◌, ◌-◌, ◌^◌, IfOk, IfSome};
-ghost use Rattle.std.specs.Prelude.{IsSome, map, true, false};
+ghost use Rattle.std.specs.Prelude.{◌≡◌, ◌<◌, ◌-◌, ◌^◌, IfOk, IfSome, IsSome, map, true, false};
 ghost use Rattle.std.specs.Option.{is_some};
 ghost use Rattle.fb_resolve.specs.SlotsRead.{union_in, slot_by_id, have_all_ids, numbers_by_id, are_places};
 ghost use Rattle.fb_resolve.specs.SlotsRead.{have_ids, AreSlots, are_ids_wrong, slots_by_id, slots_read, AreInPlace};

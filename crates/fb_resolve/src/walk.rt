@@ -239,11 +239,7 @@ fn uses_of<'d>(
 
 /// Of each number, which is below `bound`, whether it is among those before it. The only error is a
 /// refused allocation.
-fn repeated_numbers(
-    alloc: Global,
-    numbers: &[usize],
-    bound: usize,
-) -> Result<Vec<bool>, AllocError>
+fn repeated_numbers(alloc: Global, numbers: &[usize], bound: usize) -> Result<Vec<bool>, AllocError>
     requires { All (λ n. n < bound) numbers.now }
     ensures { IfOk result (λ r. r.items ≡ repeated_numbers numbers.now) }
 {

@@ -1,11 +1,9 @@
 -- A path put together word by word.
-use Rattle.std.proofs.Common.{IfNone, None, ◌≡◌, ◌≢◌, ◌<◌, ℕ, List, [], ◌∷◌, ◌++◌, length, get_or, slice_get, reverse, Option, Some, sym, ap, ◌∙◌, append_assoc}
+use Rattle.std.proofs.Common.{IfNone, None, ◌≡◌, ◌<◌, ℕ, List, [], ◌∷◌, ◌++◌, length, get_or, slice_get, reverse, Option, Some, sym, ap, ◌∙◌, append_assoc}
 use Rattle.std.proofs.lemmas.List.{reverse-append}
 use Rattle.std.proofs.lemmas.Option.{get_or_from_slice_get, slice_get_within}
 use Rattle.fb_scopes.specs.Words.{Name, Path}
-use Rattle.fb_scopes.specs.declared.path_tree.PathTree.{PathTree}
-use Rattle.fb_scopes.specs.PathTree.{paths, child_of, IsTree}
-use Rattle.fb_scopes.proofs.Outward.{beginning}
+use Rattle.fb_scopes.specs.PathTree.{child_of}
 
 -- a path that has a number, and the words that are left, make up the whole
 pub record IsLeft (ps : List Path) (path : ℕ) (rest whole : Path) : Type 0 where

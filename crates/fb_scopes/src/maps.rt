@@ -52,7 +52,7 @@ impl Maps {
         ensures map { IfOk result (λ m. IsMap m 0) }
         ensures empty { IfOk result (λ m. (key : ℕ) → value_in m 0 key ≡ None) }
     {
-        let mut forks = Vec::new(alloc);
+        let mut forks = Vec::with_capacity(alloc, keys.saturating_add(1))?;
         forks.push(Fork { zero: 0, one: 0 })?;
         let height = usize::BITS - keys.saturating_sub(1).leading_zeros();
         Ok(Maps { forks, height })

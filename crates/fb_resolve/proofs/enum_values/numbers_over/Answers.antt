@@ -7,9 +7,8 @@ use Rattle.std.proofs.lemmas.Grind.{common_steps}
 use Rattle.std.proofs.lemmas.Int.{to_z-of_z}
 use Rattle.std.proofs.lemmas.List.Folds.{find-append}
 use Rattle.std.proofs.lemmas.Map.Text.{btree_map_updates_str}
-use Rattle.fb_resolve.specs.EnumsRead.{name_of_value, value_over, number_named}
+use Rattle.fb_resolve.specs.EnumsRead.{name_of_value, value_over, number_named, number_of}
 use Rattle.fb_resolve.specs.ResolvedFields.{ResolvedValue}
-use Rattle.fb_resolve.specs.EnumsRead.{number_of}
 use Rattle.fb_schema.specs.Schema.{Name}
 use Rattle.fb_schema.specs.declared.kinds.Base.{Base}
 use Rattle.std.specs.Bool.{one_answer}

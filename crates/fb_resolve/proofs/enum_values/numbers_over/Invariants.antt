@@ -1,8 +1,7 @@
 use Rattle.std.proofs.Common.{◌≡◌, ◌++◌, map, take, drop}
 use Rattle.std.specs.Str.{bytes_eq}
-use Rattle.fb_resolve.specs.EnumsRead.{name_of_value, value_over}
+use Rattle.fb_resolve.specs.EnumsRead.{name_of_value, value_over, IndexesValues}
 use Rattle.fb_resolve.specs.RepeatedNames.{again_behind, repeated_names}
-use Rattle.fb_resolve.specs.EnumsRead.{IndexesValues}
 use Rattle.fb_resolve.proofs.enum_values.numbers_over.Given as goal
 
 abbrev pub invariant-loop-resolved : goal.invariant-loop-resolved

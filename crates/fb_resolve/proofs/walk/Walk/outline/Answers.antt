@@ -39,8 +39,10 @@ names_repeated tree is ms qs before [] [] zipped = refl
 names_repeated tree is ms qs before [] (r ∷ rs) zipped = absurd zipped
 names_repeated tree is ms qs before (n ∷ ns) [] zipped = absurd zipped
 names_repeated tree is ms qs before (n ∷ ns) (r ∷ rs) zipped =
-    rw (same_among tree is n (name_of_type r) zipped.0 ms qs before,
-        names_repeated tree is (ms ++ n ∷ []) (qs ++ r ∷ []) (all_zipped_more (λ n r. IsPath tree n (words (name_of_type r))) ms qs n r before zipped.0) ns rs zipped.1) refl
+    rw (
+      same_among tree is n (name_of_type r) zipped.0 ms qs before,
+      names_repeated tree is (ms ++ n ∷ []) (qs ++ r ∷ []) (all_zipped_more (λ n r. IsPath tree n (words (name_of_type r))) ms qs n r before zipped.0) ns rs zipped.1,
+    ) refl
 
 pub of-requires-clause-full_names : goal.of-requires-clause-full_names
 of-requires-clause-full_names c = let w = c.self.inside in
@@ -55,8 +57,7 @@ invariant_of-result c =
     let w = c.self.inside in
     let placed = c.self.invariant in
     let made = c.in_ok-of.ensures in
-    let full_names = c.as_slice-full_names.ensures.value in
-    (
+    let full_names = c.as_slice-full_names.ensures.value in (
       record {
         scopes = rw (← (names_numbered w.tree w.full_names.items w.types.items placed.full_names).1, ← full_names) made.scopes;
         namespaces = rw made.tree placed.namespaces;

@@ -23,10 +23,10 @@ pub returns-clause-map : goal.returns-clause-map
 returns-clause-map c =
     let height = 64 - count_leading_zeros 64 c.saturating_sub.result in
     let forks = c.push.new.self.items in
-    empty-map forks (first _ forks c.new-forks.ensures.items c.in_ok-push.ensures.items) height
+    empty-map forks (first _ forks c.in_ok-forks.ensures.items c.in_ok-push.ensures.items) height
 
 pub returns-clause-empty : goal.returns-clause-empty
 returns-clause-empty c = λ key.
     let height = 64 - count_leading_zeros 64 c.saturating_sub.result in
     let forks = c.push.new.self.items in
-    ap value_of (empty-found forks (first _ forks c.new-forks.ensures.items c.in_ok-push.ensures.items) height key)
+    ap value_of (empty-found forks (first _ forks c.in_ok-forks.ensures.items c.in_ok-push.ensures.items) height key)
