@@ -13,16 +13,16 @@ either a b name = bytes_eq name a || bytes_eq name b
 
 unfoldable pub basic_type : Name → Option BasicType
 basic_type name =
+    if bytes_eq name (codes "string") then Some Text else
+    if either (codes "int") (codes "int32") name then Some (Scalar I32) else
     if bytes_eq name (codes "bool") then Some (Scalar Boolean) else
     if either (codes "byte") (codes "int8") name then Some (Scalar I8) else
     if either (codes "ubyte") (codes "uint8") name then Some (Scalar U8) else
     if either (codes "short") (codes "int16") name then Some (Scalar I16) else
     if either (codes "ushort") (codes "uint16") name then Some (Scalar U16) else
-    if either (codes "int") (codes "int32") name then Some (Scalar I32) else
     if either (codes "uint") (codes "uint32") name then Some (Scalar U32) else
     if either (codes "long") (codes "int64") name then Some (Scalar I64) else
     if either (codes "ulong") (codes "uint64") name then Some (Scalar U64) else
-    if bytes_eq name (codes "string") then Some Text else
     if either (codes "float") (codes "float32") name || either (codes "double") (codes "float64") name then Some Float else None
 
 -- no declared type may have such a name

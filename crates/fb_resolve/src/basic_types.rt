@@ -22,16 +22,16 @@ pub(crate) fn basic_type(name: &str) -> Option<BasicType>
         return None;
     }
     match name {
+        "string" => Some(BasicType::Text),
+        "int" | "int32" => Some(BasicType::Scalar(Base::I32)),
         "bool" => Some(BasicType::Scalar(Base::Bool)),
         "byte" | "int8" => Some(BasicType::Scalar(Base::I8)),
         "ubyte" | "uint8" => Some(BasicType::Scalar(Base::U8)),
         "short" | "int16" => Some(BasicType::Scalar(Base::I16)),
         "ushort" | "uint16" => Some(BasicType::Scalar(Base::U16)),
-        "int" | "int32" => Some(BasicType::Scalar(Base::I32)),
         "uint" | "uint32" => Some(BasicType::Scalar(Base::U32)),
         "long" | "int64" => Some(BasicType::Scalar(Base::I64)),
         "ulong" | "uint64" => Some(BasicType::Scalar(Base::U64)),
-        "string" => Some(BasicType::Text),
         "float" | "float32" | "double" | "float64" => Some(BasicType::Float),
         _ => None,
     }

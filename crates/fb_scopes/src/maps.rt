@@ -45,16 +45,18 @@ pub(crate) struct Maps {
 }
 
 impl Maps {
-    /// No map but the empty one, for keys below `keys`. The only error is a refused allocation.
-    pub(crate) fn new(alloc: Global, keys: usize) -> Result<Maps, AllocError>
+    /// No map but the empty one, for keys below `keys`, with room for so many entries. The only error
+    /// is a refused allocation.
+    pub(crate) fn new(alloc: Global, keys: usize, entries: usize) -> Result<Maps, AllocError>
         ensures maps { IfOk result (λ m. AreMaps m) }
         ensures room { IfOk result (λ m. keys ≤ 2 ^ m.height) }
         ensures map { IfOk result (λ m. IsMap m 0) }
         ensures empty { IfOk result (λ m. (key : ℕ) → value_in m 0 key ≡ None) }
     {
-        let mut forks = Vec::with_capacity(alloc, keys.saturating_add(1))?;
-        forks.push(Fork { zero: 0, one: 0 })?;
         let height = usize::BITS - keys.saturating_sub(1).leading_zeros();
+        let room = entries.saturating_mul(height as usize);
+        let mut forks = Vec::with_capacity(alloc, room.saturating_add(1))?;
+        forks.push(Fork { zero: 0, one: 0 })?;
         Ok(Maps { forks, height })
     }
 
@@ -182,7 +184,7 @@ mod tests {
 
     #[test]
     fn a_map_keeps_its_values_beside_later_ones(rt: HostRuntime) -> Result<(), Fail> {
-        let mut maps = Maps::new(rt.alloc(), 5)?;
+        let mut maps = Maps::new(rt.alloc(), 5, 0)?;
         let first = maps.insert(0, 4, 7)?;
         let second = maps.insert(first, 0, 8)?;
         let third = maps.insert(second, 4, 9)?;
@@ -199,7 +201,7 @@ mod tests {
 
     #[test]
     fn an_inner_map_hides_an_outer_one(rt: HostRuntime) -> Result<(), Fail> {
-        let mut maps = Maps::new(rt.alloc(), 3)?;
+        let mut maps = Maps::new(rt.alloc(), 3, 0)?;
         let one = maps.insert(0, 1, 10)?;
         let outer = maps.insert(one, 2, 20)?;
         let inner = maps.insert(0, 2, 0)?;
@@ -213,7 +215,7 @@ mod tests {
 
     #[test]
     fn maps_share_what_they_have_in_common(rt: HostRuntime) -> Result<(), Fail> {
-        let mut maps = Maps::new(rt.alloc(), 1024)?;
+        let mut maps = Maps::new(rt.alloc(), 1024, 0)?;
         let one = maps.insert(0, 1000, 1)?;
         let outer = maps.insert(one, 7, 2)?;
         let inner = maps.insert(0, 1000, 3)?;

@@ -15,12 +15,18 @@ pub(crate) struct NamedTypes {
 }
 
 impl NamedTypes {
-    /// Nothing at so many paths, for so many names. The only error is a refused allocation.
-    pub(crate) fn new(alloc: Global, paths: usize, names: usize) -> Result<NamedTypes, AllocError>
+    /// Nothing at so many paths, for so many names, with room for so many types. The only error is a
+    /// refused allocation.
+    pub(crate) fn new(
+        alloc: Global,
+        paths: usize,
+        names: usize,
+        types: usize,
+    ) -> Result<NamedTypes, AllocError>
         ensures room { IfOk result (λ t. HasRoom t paths names) }
         ensures empty { IfOk result (λ t. (p n : ℕ) → noted_at t p n ≡ None) }
     {
-        let maps = Maps::new(alloc, names)?;
+        let maps = Maps::new(alloc, names, types)?;
         let tops = vec![in alloc; 0; paths]?;
         Ok(NamedTypes { maps, tops })
     }
@@ -80,7 +86,7 @@ mod tests {
 
     #[test]
     fn the_first_number_noted_stands(rt: HostRuntime) -> Result<(), Fail> {
-        let mut types = NamedTypes::new(rt.alloc(), 2, 3)?;
+        let mut types = NamedTypes::new(rt.alloc(), 2, 3, 0)?;
         types.note(1, 2, 7)?;
         types.note(1, 2, 8)?;
         assert_eq!(rt; types.get(1, 2), Some(7));
@@ -91,7 +97,7 @@ mod tests {
 
     #[test]
     fn a_path_inherits_what_it_has_not(rt: HostRuntime) -> Result<(), Fail> {
-        let mut types = NamedTypes::new(rt.alloc(), 2, 3)?;
+        let mut types = NamedTypes::new(rt.alloc(), 2, 3, 0)?;
         types.note(0, 0, 5)?;
         types.note(0, 1, 6)?;
         types.note(1, 1, 9)?;
