@@ -15,18 +15,18 @@ pub(crate) struct NamedTypes {
 }
 
 impl NamedTypes {
-    /// Nothing at so many paths, for so many names, with room for so many types. The only error is a
+    /// Nothing at so many paths, for so many names, with room for so many entries. The only error is a
     /// refused allocation.
     pub(crate) fn new(
         alloc: Global,
         paths: usize,
         names: usize,
-        types: usize,
+        entries: usize,
     ) -> Result<NamedTypes, AllocError>
         ensures room { IfOk result (λ t. HasRoom t paths names) }
         ensures empty { IfOk result (λ t. (p n : ℕ) → noted_at t p n ≡ None) }
     {
-        let maps = Maps::new(alloc, names, types)?;
+        let maps = Maps::new(alloc, names, entries)?;
         let tops = vec![in alloc; 0; paths]?;
         Ok(NamedTypes { maps, tops })
     }

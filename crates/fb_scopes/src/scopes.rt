@@ -35,8 +35,8 @@ impl<'d> Scopes<'d> {
         ensures tree { IfOk result (λ s. tree_of s ≡ tree.entry) }
         ensures names { IfOk result (λ s. names_of s ≡ used.entry) }
     {
-        let types = full_names.len();
-        let mut noted = NamedTypes::new(alloc, tree.len(), used.len(), types)?;
+        let entries = full_names.len().saturating_add(used.len());
+        let mut noted = NamedTypes::new(alloc, tree.len(), used.len(), entries)?;
         note_types(&tree, &used, &mut noted, full_names)?;
         inherit_all(&tree, &mut noted)?;
         Ok(Scopes { tree, used, noted })
