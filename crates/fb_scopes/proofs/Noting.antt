@@ -23,7 +23,7 @@ IsNext ps ks full (Some x) = (x.0 < length ps) × (x.1 < length ks) × (named ps
 -- what is noted is what was, and the type for each path and name that are together its full name and have been noted
 pub record Noting (ps ks : List Path) (full : Path) (number : ℕ) (old new : ℕ → ℕ → Option ℕ) (next : Option (ℕ × ℕ)) : Type 0 where
   pub ahead : IsNext ps ks full next
-  pub done : (p n : ℕ) → p < length ps → n < length ks
+  pub done : (p n : ℕ) → p < length ps → 0 < n → n < length ks
       → new p n ≡ option_or (old p n) (if same_path (named ps ks p n) full && is_done ps (length (get_or ps p [])) next then Some number else None)
 
 -- one path and name more
@@ -39,7 +39,7 @@ one_noted None number false before after false h e = refl
 pub noting_first : (ps ks : List Path) (full_name number : ℕ) (old : ℕ → ℕ → Option ℕ) → full_name < length ps → slice_get ks 0 ≡ Some [] → Noting ps ks (get_or ps full_name []) number old old (Some (full_name, 0))
 noting_first ps ks full_name number old inside first = record {
   ahead = (inside, slice_get_within ks 0 [] first, ap (λ k. get_or ps full_name [] ++ reverse k) (get_or_from_slice_get ks 0 [] [] first) ∙ append-nil (get_or ps full_name []));
-  done = λ p n at_path at_name.
+  done = λ p n at_path some at_name.
       let path = get_or ps p [] in
       let rest = reverse (get_or ks n []) in
       let full = get_or ps full_name [] in
@@ -93,19 +93,19 @@ outward_of ps ks path name (Some r) a b l c d e = (omega (arith, b, l), a, c, d)
 -- one path and name noted, and the next ones found
 pub noting_more : (tree used : PathTree) → IsTree tree → IsTree used → (full : Path) (number : ℕ) (old new newer : ℕ → ℕ → Option ℕ) (path name : ℕ) (next : Option (ℕ × ℕ))
     → Noting (paths tree) (paths used) full number old new (Some (path, name))
-    → ((p n : ℕ) → p < length (paths tree) → n < length (paths used) → newer p n ≡ option_or (new p n) (if p == path && n == name then Some number else None))
+    → ((p n : ℕ) → p < length (paths tree) → 0 < n → n < length (paths used) → newer p n ≡ option_or (new p n) (if p == path && n == name then Some number else None))
     → IsOutward (paths tree) (paths used) path name next
     → Noting (paths tree) (paths used) full number old newer next
 noting_more tree used is are full number old new newer path name next noting noted out = record {
   ahead = ahead next out;
-  done = λ p n at_p at_n.
+  done = λ p n at_p some at_n.
       let same = same_path (named ps ks p n) full in
       let is_full = same_path-Decides (named ps ks p n) full in
       let here = p == path && n == name in
       let is_here = Decides-and (p == path) (n == name) (Decides-eqb p path) (Decides-eqb n name) in
       let before = nat_lt (length (get_or ps path [])) (length (get_or ps p [])) in
-      noted p n at_p at_n
-      ∙ ap (λ o. option_or o (if here then Some number else None)) (noting.done p n at_p at_n)
+      noted p n at_p some at_n
+      ∙ ap (λ o. option_or o (if here then Some number else None)) (noting.done p n at_p some at_n)
       ∙ one_noted (old p n) number same before (is_done ps (length (get_or ps p [])) next) here
       (λ h. let both = is_here.0 h in is_full.1 (ap (λ x. named ps ks x n) both.0 ∙ ap (λ x. named ps ks path x) both.1 ∙ noting.ahead.2))
       (λ h. let meant : named ps ks p n ≡ named ps ks path name = is_full.0 h ∙ sym noting.ahead.2 in

@@ -27,5 +27,5 @@ pub record AreScopes (s : Scopes) (types : List Path) : Type 0 where
   pub tree : IsTree s.tree
   pub used : IsTree s.used
   pub room : HasRoom s.noted (length (paths s.tree)) (length (paths s.used))
-  pub noted : (p n : ℕ) → p < length (paths s.tree) → n < length (paths s.used)
+  pub noted : (p n : ℕ) → p < length (paths s.tree) → 0 < n → n < length (paths s.used)
       → noted_at s.noted p n ≡ meant_inside types (get_or (paths s.tree) p []) (reverse (get_or (paths s.used) n []))

@@ -1,5 +1,5 @@
 //! Which type each used name means in each namespace.
-ghost use Rattle.std.specs.Prelude.{◌≡◌, ◌<◌, ◌≤◌, ◌+◌, ◌++◌, All, List, map, [], IfSome, IfNone, IfOk, OnOk};
+ghost use Rattle.std.specs.Prelude.{◌≡◌, ◌<◌, ◌≤◌, ◌+◌, ◌++◌, ◌==◌, ◌&&◌, All, List, map, [], IfSome, IfNone, IfOk, OnOk};
 ghost use Rattle.std.specs.Prelude.{None, Some, ℕ, length, get_or, if◌then◌else◌};
 ghost use Rattle.std.specs.Option.{option_or};
 ghost use Rattle.fb_scopes.specs.PathTree.{paths, IsTree};
@@ -35,8 +35,7 @@ impl<'d> Scopes<'d> {
         ensures tree { IfOk result (λ s. tree_of s ≡ tree.entry) }
         ensures names { IfOk result (λ s. names_of s ≡ used.entry) }
     {
-        let entries = full_names.len().saturating_add(used.len());
-        let mut noted = NamedTypes::new(alloc, tree.len(), used.len(), entries)?;
+        let mut noted = NamedTypes::new(alloc, tree.len(), used.len(), full_names.len())?;
         note_types(&tree, &used, &mut noted, full_names)?;
         inherit_all(&tree, &mut noted)?;
         Ok(Scopes { tree, used, noted })
@@ -83,6 +82,30 @@ fn outward<'d>(
     Some((outer, longer))
 }
 
+/// Notes a type for a used name at a path, where none is noted yet. The first name is empty, and
+/// isn't used.
+fn note_use(
+    noted: &mut NamedTypes,
+    path: usize,
+    name: usize,
+    number: usize,
+) -> Result<(), AllocError>
+    requires noted { AreNoted noted.now }
+    requires path { path < path_count noted.now }
+    requires name { name < name_count noted.now }
+    requires number { number < usize.MAX }
+    ensures kept { OnOk result (AreNoted noted.new) }
+    ensures paths { OnOk result (path_count noted.new ≡ path_count noted.old) }
+    ensures names { OnOk result (name_count noted.new ≡ name_count noted.old) }
+    ensures noted { OnOk result ((p n : ℕ) → 0 < n → noted_at noted.new p n
+        ≡ option_or (noted_at noted.old p n) (if p == path && n == name then Some number else None)) }
+{
+    if name == 0 {
+        return Ok(());
+    }
+    noted.note(path, name, number)
+}
+
 /// Notes a type for each used name that means it from some path, where none is noted yet.
 fn note_type<'d>(
     tree: &PathTree<'d>,
@@ -97,14 +120,14 @@ fn note_type<'d>(
     requires full_name { full_name < length (paths tree.now) }
     requires number { number < usize.MAX }
     ensures room { OnOk result (HasRoom noted.new (length (paths tree.now)) (length (paths used.now))) }
-    ensures noted { OnOk result ((p n : ℕ) → p < length (paths tree.now) → n < length (paths used.now)
-        → noted_at noted.new p n ≡ option_or (noted_at noted.old p n)
+    ensures noted { OnOk result ((p n : ℕ) → p < length (paths tree.now)
+        → 0 < n → n < length (paths used.now) → noted_at noted.new p n ≡ option_or (noted_at noted.old p n)
         (if same_path (named (paths tree.now) (paths used.now) p n) (get_or (paths tree.now) full_name [])
         then Some number else None)) }
 {
     let mut next = Some((full_name, 0));
     while let Some((path, name)) = next {
-        noted.note(path, name, number)?;
+        note_use(noted, path, name, number)?;
         next = outward(tree, used, path, name);
     }
     Ok(())
@@ -123,8 +146,8 @@ fn note_types<'d>(
     requires full_names { All (λ n. n < length (paths tree.now)) full_names.now }
     requires empty { (p n : ℕ) → noted_at noted.now p n ≡ None }
     ensures room { OnOk result (HasRoom noted.new (length (paths tree.now)) (length (paths used.now))) }
-    ensures noted { OnOk result ((p n : ℕ) → p < length (paths tree.now) → n < length (paths used.now)
-        → noted_at noted.new p n ≡ place_of_path (map (λ f. get_or (paths tree.now) f []) full_names.now)
+    ensures noted { OnOk result ((p n : ℕ) → p < length (paths tree.now)
+        → 0 < n → n < length (paths used.now) → noted_at noted.new p n ≡ place_of_path (map (λ f. get_or (paths tree.now) f []) full_names.now)
         (named (paths tree.now) (paths used.now) p n)) }
 {
     for (number, full_name) in full_names.iter().enumerate() {
