@@ -7,7 +7,7 @@ use Rattle.std.proofs.lemmas.Grind.{get_or_default_zero}
 use Rattle.std.proofs.lemmas.List.{get_or-replicate, get_or_past, get_or-set_same, get_or-set_other, length-replicate}
 use Rattle.fb_scopes.specs.declared.maps.Maps.{Maps}
 use Rattle.fb_scopes.specs.declared.named_types.NamedTypes.{NamedTypes}
-use Rattle.fb_scopes.specs.NamedTypes.{AreNoted}
+use Rattle.fb_scopes.specs.NamedTypes.{HasMaps}
 use Rattle.fb_scopes.specs.Maps.{value_in, IsMap, KeepsMaps}
 
 -- the map that was read for a path
@@ -16,7 +16,7 @@ pub top-read : (tops : List ℕ) (path top : ℕ) → path < length tops → top
 top-read tops path top h read = read ∙ get_or_default_zero tops path top h
 
 -- and is a map
-pub map_read : (t : NamedTypes) → AreNoted t → (path top : ℕ) → path < length t.tops.items → top ≡ get_or t.tops.items path top → IsMap t.maps top
+pub map_read : (t : NamedTypes) → HasMaps t → (path top : ℕ) → path < length t.tops.items → top ≡ get_or t.tops.items path top → IsMap t.maps top
 map_read t noted path top h read = subst (IsMap t.maps) (sym (top-read t.tops.items path top h read)) (noted.tops path)
 
 -- a path with another map has what that has, and each other path what it had

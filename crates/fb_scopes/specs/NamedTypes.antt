@@ -16,12 +16,12 @@ abbrev pub name_count : NamedTypes → ℕ
 name_count t = 2 ^ t.maps.height
 
 -- each path has a map among the maps
-pub record AreNoted (t : NamedTypes) : Type 0 where
+pub record HasMaps (t : NamedTypes) : Type 0 where
   pub maps : AreMaps t.maps
   pub tops : (path : ℕ) → IsMap t.maps (get_or t.tops.items path 0)
 
 -- so many paths and names have room
 pub record HasRoom (t : NamedTypes) (paths names : ℕ) : Type 0 where
-  pub noted : AreNoted t
+  pub maps : HasMaps t
   pub path : path_count t ≡ paths
   pub name : names ≤ name_count t

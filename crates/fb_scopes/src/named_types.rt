@@ -1,7 +1,7 @@
 //! The types that each path has for names, as numbers, where paths share most of what they have.
 ghost use Rattle.std.specs.Prelude.{◌≡◌, ◌<◌, ◌≤◌, ◌==◌, ◌&&◌, ℕ, IfOk, OnOk, None, Some, if◌then◌else◌};
 ghost use Rattle.std.specs.Option.{option_or};
-ghost use Rattle.fb_scopes.specs.NamedTypes.{noted_at, path_count, name_count, AreNoted, HasRoom};
+ghost use Rattle.fb_scopes.specs.NamedTypes.{noted_at, path_count, name_count, HasMaps, HasRoom};
 
 use crate::maps::Maps;
 use std::alloc::{AllocError, Global};
@@ -34,7 +34,7 @@ impl NamedTypes {
     /// What is noted for a name at a path.
     #[tactic(auto, using(crate::proofs::NamedTypesKept::map_read))]
     pub(crate) fn get(&self, path: usize, name: usize) -> Option<usize>
-        requires noted { AreNoted self.now }
+        requires maps { HasMaps self.now }
         requires path { path < path_count self.now }
         ensures { result ≡ noted_at self.now path name }
     {
@@ -44,11 +44,11 @@ impl NamedTypes {
     /// Notes a number for a name at a path, where none is noted yet. The only error is a refused allocation.
     #[tactic(auto, using(crate::proofs::NamedTypesKept::map_read))]
     pub(crate) fn note(&mut self, path: usize, name: usize, number: usize) -> Result<(), AllocError>
-        requires noted { AreNoted self.now }
+        requires maps { HasMaps self.now }
         requires path { path < path_count self.now }
         requires name { name < name_count self.now }
         requires number { number < usize.MAX }
-        ensures kept { OnOk result (AreNoted self.new) }
+        ensures kept { OnOk result (HasMaps self.new) }
         ensures paths { OnOk result (path_count self.new ≡ path_count self.old) }
         ensures names { OnOk result (name_count self.new ≡ name_count self.old) }
         ensures noted { OnOk result ((p n : ℕ) → noted_at self.new p n
@@ -64,10 +64,10 @@ impl NamedTypes {
     /// Notes at a path all that is noted at another and not at it. The only error is a refused allocation.
     #[tactic(auto, using(crate::proofs::NamedTypesKept::map_read))]
     pub(crate) fn inherit(&mut self, path: usize, outer: usize) -> Result<(), AllocError>
-        requires noted { AreNoted self.now }
+        requires maps { HasMaps self.now }
         requires path { path < path_count self.now }
         requires outer { outer < path_count self.now }
-        ensures kept { OnOk result (AreNoted self.new) }
+        ensures kept { OnOk result (HasMaps self.new) }
         ensures paths { OnOk result (path_count self.new ≡ path_count self.old) }
         ensures names { OnOk result (name_count self.new ≡ name_count self.old) }
         ensures noted { OnOk result ((p n : ℕ) → noted_at self.new p n

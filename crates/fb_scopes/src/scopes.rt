@@ -1,9 +1,9 @@
 //! Which type each used name means in each namespace.
-ghost use Rattle.std.specs.Prelude.{◌≡◌, ◌<◌, ◌≤◌, ◌+◌, ◌++◌, ◌==◌, ◌&&◌, All, List, map, [], IfSome, IfNone, IfOk, OnOk};
-ghost use Rattle.std.specs.Prelude.{None, Some, ℕ, length, get_or, if◌then◌else◌};
+ghost use Rattle.std.specs.Prelude.{◌≡◌, ◌<◌, ◌≤◌, ◌+◌, ◌++◌, ◌==◌, ◌&&◌, All, IfSome, IfNone, IfOk, OnOk};
+ghost use Rattle.std.specs.Prelude.{None, Some, ℕ, List, [], length, get_or, if◌then◌else◌};
 ghost use Rattle.std.specs.Option.{option_or};
 ghost use Rattle.fb_scopes.specs.PathTree.{paths, IsTree};
-ghost use Rattle.fb_scopes.specs.NamedTypes.{noted_at, path_count, name_count, AreNoted, HasRoom};
+ghost use Rattle.fb_scopes.specs.NamedTypes.{noted_at, path_count, name_count, HasMaps, HasRoom};
 ghost use Rattle.fb_scopes.specs.Scopes.{paths_at, tree_of, names_of, IsUse, AreScopes};
 ghost use Rattle.fb_scopes.specs.Words.{Name, words, Path, named, same_path, place_of_path, meant_inside};
 
@@ -82,19 +82,19 @@ fn outward<'d>(
     Some((outer, longer))
 }
 
-/// Notes a type for a used name at a path, where none is noted yet. The first name is empty, and
-/// isn't used.
+/// Notes a type for a used name at a path, where none is noted yet. Name 0 has no words and is never
+/// used.
 fn note_use(
     noted: &mut NamedTypes,
     path: usize,
     name: usize,
     number: usize,
 ) -> Result<(), AllocError>
-    requires noted { AreNoted noted.now }
+    requires maps { HasMaps noted.now }
     requires path { path < path_count noted.now }
     requires name { name < name_count noted.now }
     requires number { number < usize.MAX }
-    ensures kept { OnOk result (AreNoted noted.new) }
+    ensures kept { OnOk result (HasMaps noted.new) }
     ensures paths { OnOk result (path_count noted.new ≡ path_count noted.old) }
     ensures names { OnOk result (name_count noted.new ≡ name_count noted.old) }
     ensures noted { OnOk result ((p n : ℕ) → 0 < n → noted_at noted.new p n
@@ -147,8 +147,8 @@ fn note_types<'d>(
     requires empty { (p n : ℕ) → noted_at noted.now p n ≡ None }
     ensures room { OnOk result (HasRoom noted.new (length (paths tree.now)) (length (paths used.now))) }
     ensures noted { OnOk result ((p n : ℕ) → p < length (paths tree.now)
-        → 0 < n → n < length (paths used.now) → noted_at noted.new p n ≡ place_of_path (map (λ f. get_or (paths tree.now) f []) full_names.now)
-        (named (paths tree.now) (paths used.now) p n)) }
+        → 0 < n → n < length (paths used.now) → noted_at noted.new p n
+        ≡ place_of_path (paths_at tree.now full_names.now) (named (paths tree.now) (paths used.now) p n)) }
 {
     for (number, full_name) in full_names.iter().enumerate() {
         note_type(tree, used, noted, *full_name, number)?;
@@ -160,8 +160,8 @@ fn note_types<'d>(
 fn inherit_all(tree: &PathTree<'_>, noted: &mut NamedTypes) -> Result<(), AllocError>
     requires tree { IsTree tree.now }
     requires room { path_count noted.now ≡ length (paths tree.now) }
-    requires noted { AreNoted noted.now }
-    ensures kept { OnOk result (AreNoted noted.new) }
+    requires maps { HasMaps noted.now }
+    ensures kept { OnOk result (HasMaps noted.new) }
     ensures paths { OnOk result (path_count noted.new ≡ path_count noted.old) }
     ensures names { OnOk result (name_count noted.new ≡ name_count noted.old) }
     ensures inherited { (types : List Path) (rest : Path) (n : ℕ)

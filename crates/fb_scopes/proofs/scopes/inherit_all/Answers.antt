@@ -6,7 +6,7 @@ use Rattle.fb_scopes.proofs.scopes.inherit_all.Goals as goal
 
 pub loop-path-init : goal.loop-path-init
 loop-path-init c = record {
-  kept = c.requires.noted;
+  kept = c.requires.maps;
   path = search rules;
   name = search rules;
   done = λ types rest n was p at. inherited-first c.args.tree.now c.requires.tree types rest n (noted_at c.args.noted.now) was p at;

@@ -1,12 +1,12 @@
 use Rattle.std.proofs.Common.{◌≡◌, ◌<◌, ◌++◌, [], ℕ, List, length, get_or, nat_lt, if◌then◌else◌}
 use Rattle.fb_scopes.specs.PathTree.{paths}
-use Rattle.fb_scopes.specs.NamedTypes.{noted_at, path_count, name_count, AreNoted}
+use Rattle.fb_scopes.specs.NamedTypes.{noted_at, path_count, name_count, HasMaps}
 use Rattle.fb_scopes.specs.Words.{Path, place_of_path, meant_inside}
 use Rattle.fb_scopes.proofs.scopes.inherit_all.Given as goal
 
 abbrev pub invariant-loop-path : goal.invariant-loop-path
 invariant-loop-path l = record {
-  kept : AreNoted l.noted;
+  kept : HasMaps l.noted;
   path : path_count l.noted ≡ path_count l.initial.noted;
   name : name_count l.noted ≡ name_count l.initial.noted;
   done : (types : List Path) (rest : Path) (n : ℕ) → ((p : ℕ) → p < length (paths l.tree) → noted_at l.initial.noted p n ≡ place_of_path types (get_or (paths l.tree) p [] ++ rest))

@@ -22,7 +22,7 @@ loop-next-preserved c =
     let out = outward_of ps ks path name c.outward-next.result c.outward-next.ensures.name c.outward-next.ensures.path noting.ahead.0 c.outward-next.ensures.same c.outward-next.ensures.shorter c.outward-next.ensures.last in
     let kept = c.in_ok-note_use.ensures in
     record {
-      room = record { noted = search rules; path = kept.paths ∙ room.path; name = omega (arith, kept.names, room.name) };
+      room = record { maps = search rules; path = kept.paths ∙ room.path; name = omega (arith, kept.names, room.name) };
       noting = noting_more c.args.tree.now c.args.used.now c.requires.tree c.requires.used (get_or ps c.args.full_name []) c.args.number (noted_at c.args.noted.now) (noted_at before) (noted_at c.note_use.new.noted) path name c.outward-next.result
           noting (λ p n at_p some at_n. kept.noted p n some) out;
     }

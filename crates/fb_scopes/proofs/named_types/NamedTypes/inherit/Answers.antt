@@ -14,6 +14,6 @@ returns-clause-noted c = λ p n.
     let outer = top-read tops c.args.outer c.index-2.result.now c.requires.outer c.index-2.ensures in
     rw (← inner, ← outer)
     (other-top t.maps c.over.new.self tops path c.in_ok-self.field-0 c.requires.path c.in_ok-self.ensures.kept
-    c.requires.noted.tops
+    c.requires.maps.tops
     (λ k. option_or (value_in t.maps c.index.result.now k) (value_in t.maps c.index-2.result.now k))
     c.in_ok-self.ensures.entries p n)

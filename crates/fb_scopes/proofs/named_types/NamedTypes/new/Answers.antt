@@ -10,7 +10,7 @@ returns-clause-room c =
     let top : (path : ℕ) → get_or c.in_ok-tops.tops.items path 0 ≡ 0 = λ path.
     ap (λ xs. get_or xs path 0) items ∙ first-top c.args.paths path in
     record {
-      noted = record {
+      maps = record {
         maps = c.in_ok-maps.ensures.maps;
         tops = λ path. subst (IsMap c.in_ok-maps.maps) (sym (top path)) c.in_ok-maps.ensures.map;
       };

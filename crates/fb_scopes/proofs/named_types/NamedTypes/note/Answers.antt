@@ -16,7 +16,7 @@ returns-in_ok-self-clause-noted c = λ p n.
     let top = top-read tops path c.index-top.result.now c.requires.path c.index-top.ensures in
     let none : value_in t.maps c.index-top.result.now name ≡ None = sym c.get.ensures ∙ search rules in
     other-top t.maps c.insert.new.self tops path c.in_ok-self.field-0 c.requires.path c.in_ok-self.ensures.kept
-    c.requires.noted.tops (λ k. if k == name then Some number else value_in t.maps c.index-top.result.now k)
+    c.requires.maps.tops (λ k. if k == name then Some number else value_in t.maps c.index-top.result.now k)
     c.in_ok-self.ensures.entries p n
     ∙ newly-noted (value_in t.maps c.index-top.result.now n) (value_in t.maps (get_or tops p 0) n) (p == path) (n == name) number
     (λ h. ap (λ m. value_in t.maps m n) (top ∙ ap (λ q. get_or tops q 0) (sym ((Decides-eqb p path).0 h))))
