@@ -5,7 +5,7 @@ use Rattle.std.proofs.lemmas.Option.{cond_some, some_pair_parts}
 use Rattle.fb_syntax.specs.Located.{Located}
 use Rattle.fb_syntax.specs.Lexemes.{Lexeme}
 use Rattle.fb_syntax.specs.Grammar.{dotted_name}
-use Rattle.fb_syntax.specs.Rules.{IsToken, is_kind, is_sign, token_at, Front, and_then, Rule, behind, token, give, ◌>>=◌, with_token, ahead, Repeated, no_more, one_more, many, until, push, repeated, block, divider, listed_item, listed, dot_word, no_dot, with_word, more}
+use Rattle.fb_syntax.specs.Rules.{IsToken, front_text, is_kind, is_sign, token_at, Front, and_then, Rule, behind, token, give, ◌>>=◌, rule_before, with_token, ahead, Repeated, no_more, one_more, many, until, push, repeated, block, divider, listed_item, listed, dot_word, no_dot, with_word, more}
 use Rattle.fb_syntax.specs.declared.tokens.TokenKind.{TokenKind}
 use Rattle.fb_syntax.specs.declared.tokens.TokenKind.TheVariants.{Word, Integer, Quoted, Punct}
 use Rattle.std.specs.List.{list_all, fold}
@@ -36,6 +36,9 @@ token_found kind [] rest t e = absurd cc
 token_found kind (l ∷ ls) rest t e =
     let p = cond_some (is_kind l.kind kind) (l.text, ls) (t, rest) e in
     built l.kind kind l.text t ls rest (same_kind l.kind kind p.0) (ap (λ (f : Located × List Lexeme). f.0) p.1) (ap (λ (f : Located × List Lexeme). f.1) p.1)
+
+pub front_found : (kind : TokenKind) (ts rest : List Lexeme) (t : Located) → token_at kind ts ≡ Some (t, rest) → t ≡ front_text ts
+front_found kind ts rest t e = rw (token_found kind ts rest t e) refl
 
 pub token_read : (kind : TokenKind) (ts rest : List Lexeme) (t : Located) → IsToken kind ts t rest → token_at kind ts ≡ Some (t, rest)
 unfolding token_at
@@ -235,9 +238,12 @@ module _ {X : Type 0} {item : Rule X} {a : TokenKind → Bool} (agrees : Agrees 
     shorter = λ xs ts rest h. (repeated_shorter h.0, λ e. absurd cc);
   }
 
+pub rule_before-agrees : {X : Type 0} {rule : Rule X} {e : Bool} {a : TokenKind → Bool} {g : List TokenKind} → Agrees rule e a g → (c : ℕ) → list_all (but (Punct c)) g ≡ true → Agrees (rule_before rule c) (e && false) (begins e a (but (Punct c))) []
+rule_before-agrees agrees c apart = then-agrees agrees (λ x. then-agrees (token-agrees (Punct c)) (λ _. give-agrees x) refl) apart
+
 pub block-agrees : {X : Type 0} {item : Rule X} {a : TokenKind → Bool} → Agrees item false a [] → (close : ℕ) → a (Punct close) ≡ true → Agrees (block item close) false (begins true a (but (Punct close))) []
 block-agrees agrees close apart =
-    then-agrees (repeated-agrees agrees (is_sign close) (λ x ts rest h. sign_lacks close ts (agrees.starts (Punct close) x ts rest h apart (λ e. absurd cc)))) (λ xs. then-agrees (token-agrees (Punct close)) (λ _. give-agrees xs) refl) refl
+    rule_before-agrees (repeated-agrees agrees (is_sign close) (λ x ts rest h. sign_lacks close ts (agrees.starts (Punct close) x ts rest h apart (λ e. absurd cc)))) close refl
 
 module _ (trailing : Bool) (close : ℕ) (apart : but (Punct close) (Punct (byte ",")) ≡ true) where
   divider-agrees : Agrees (divider trailing close) true (besides (Punct (byte ",")) all_kinds) []

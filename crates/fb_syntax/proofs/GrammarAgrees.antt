@@ -11,12 +11,12 @@ use Rattle.fb_syntax.specs.Signs.{dot, byte}
 use Rattle.fb_syntax.specs.Keywords.{spelling, keywords as all_keywords, keyword_of}
 use Rattle.fb_syntax.specs.Rules.{Rule, IsToken, token_at, token, ◌>>=◌}
 use Rattle.fb_syntax.specs.Grammar.{dotted_name, attribute_value, attribute, metadata, field_type, default_value, default_part, field, table, enum_value, enumeration, union_member, union}
-use Rattle.fb_syntax.specs.GrammarSchema.{keyword_at, keyword, namespace, attribute_decl, quoted, declared, declaration}
+use Rattle.fb_syntax.specs.GrammarSchema.{keyword_at, keyword, namespace, attribute_decl, declared, declaration}
 use Rattle.fb_syntax.specs.declared.tokens.TokenKind.{TokenKind}
 use Rattle.fb_syntax.specs.declared.tokens.TokenKind.TheVariants.{Word, Integer, Quoted, Punct}
 use Rattle.fb_syntax.specs.declared.parser.schema.Keyword.{Keyword}
 use Rattle.fb_syntax.specs.declared.parser.schema.Keyword.TheVariants as keywords
-use Rattle.fb_syntax.proofs.Agrees.{bind-some, lands, but, token_found, token_read, other_token, Agrees, where_empty, all_kinds, besides, token-agrees, give-agrees, then-agrees, with_token-agrees, more-agrees, block-agrees, listed-agrees}
+use Rattle.fb_syntax.proofs.Agrees.{bind-some, lands, but, token_found, token_read, other_token, Agrees, where_empty, all_kinds, besides, token-agrees, give-agrees, then-agrees, with_token-agrees, rule_before-agrees, more-agrees, block-agrees, listed-agrees}
 
 -- a token, and what stands behind it
 after : {X : Type 0} (kind : TokenKind) {next : Located → Rule X} {empty : Bool} {avoids : TokenKind → Bool} {goes_on : List TokenKind} → ((t : Located) → Agrees (next t) empty avoids goes_on) → Agrees (token kind >>= next) false (but kind) (goes_on ++ where_empty empty [])
@@ -39,35 +39,30 @@ table-agrees : Agrees table false (but Word) []
 unfolding table field field_type default_part default_value
 table-agrees =
     let type : Agrees field_type _ _ _ =
-    with_token-agrees (λ bracket. then-agrees name-agrees (λ name. after (Punct (byte "]")) (λ _. give-agrees _)) refl)
+    with_token-agrees (λ bracket. then-agrees (rule_before-agrees name-agrees (byte "]") refl) (λ name. give-agrees _) refl)
     (then-agrees name-agrees (λ name. give-agrees _) refl) refl in
     let value : Agrees default_value _ _ _ =
     with_token-agrees (λ digits. give-agrees _) (then-agrees name-agrees (λ name. give-agrees _) refl) refl in
     let part : Agrees default_part _ _ _ =
     with_token-agrees (λ _. then-agrees value (λ value. give-agrees _) refl) (give-agrees _) refl in
     let item : Agrees field _ _ _ =
-    after Word (λ name.
-    after (Punct (byte ":")) (λ _.
+    then-agrees (rule_before-agrees (token-agrees Word) (byte ":") refl) (λ name.
     then-agrees type (λ kind.
     then-agrees part (λ default.
-    then-agrees metadata-agrees (λ attributes.
-    after (Punct (byte ";")) (λ _. give-agrees _)) refl) refl) refl)) in
+    then-agrees (rule_before-agrees metadata-agrees (byte ";") refl) (λ attributes. give-agrees _) refl) refl) refl) refl in
     after Word (λ name.
-    then-agrees metadata-agrees (λ attributes.
-    after (Punct (byte "{")) (λ _.
-    then-agrees (block-agrees item (byte "}") refl) (λ fields. give-agrees _) refl)) refl)
+    then-agrees (rule_before-agrees metadata-agrees (byte "{") refl) (λ attributes.
+    then-agrees (block-agrees item (byte "}") refl) (λ fields. give-agrees _) refl) refl)
 
 enumeration-agrees : Agrees enumeration false (but Word) []
 unfolding enumeration enum_value
 enumeration-agrees =
     let item : Agrees enum_value _ _ _ =
     after Word (λ name. with_token-agrees (λ _. after Integer (λ digits. give-agrees _)) (give-agrees _) refl) in
-    after Word (λ name.
-    after (Punct (byte ":")) (λ _.
+    then-agrees (rule_before-agrees (token-agrees Word) (byte ":") refl) (λ name.
     then-agrees name-agrees (λ underlying.
-    then-agrees metadata-agrees (λ attributes.
-    after (Punct (byte "{")) (λ _.
-    then-agrees (listed-agrees item true (byte "}") refl refl refl refl) (λ values. give-agrees _) refl)) refl) refl))
+    then-agrees (rule_before-agrees metadata-agrees (byte "{") refl) (λ attributes.
+    then-agrees (listed-agrees item true (byte "}") refl refl refl refl) (λ values. give-agrees _) refl) refl) refl) refl
 
 union-agrees : Agrees union false (but Word) []
 unfolding union union_member
@@ -76,9 +71,8 @@ union-agrees =
     after Word (λ word.
     with_token-agrees (λ _. then-agrees name-agrees (λ table. give-agrees _) refl) (then-agrees (more-agrees word) (λ table. give-agrees _) refl) refl) in
     after Word (λ name.
-    then-agrees metadata-agrees (λ attributes.
-    after (Punct (byte "{")) (λ _.
-    then-agrees (listed-agrees item true (byte "}") refl refl refl refl) (λ members. give-agrees _) refl)) refl)
+    then-agrees (rule_before-agrees metadata-agrees (byte "{") refl) (λ attributes.
+    then-agrees (listed-agrees item true (byte "}") refl refl refl refl) (λ members. give-agrees _) refl) refl)
 
 first_found : (ks : List Keyword) (word : List ℕ) (k : Keyword) → find (λ j. bytes_eq word (spelling j)) ks ≡ Some k → word ≡ spelling k
 first_found [] word k e = absurd cc
@@ -113,25 +107,21 @@ any_start : {X : Type 0} {rule : Rule X} {avoids : TokenKind → Bool} → Agree
 unfolding no_kinds
 any_start agrees = record { found = agrees.found; read = agrees.read; starts = λ k x ts rest h other e. absurd cc; shorter = agrees.shorter }
 
-quoted-agrees : Agrees quoted false (but Quoted) []
-unfolding quoted
-quoted-agrees = after Quoted (λ text. after (Punct (byte ";")) (λ _. give-agrees _))
-
 declared-agrees : (k : Keyword) → Agrees (declared k) false no_kinds []
 unfolding declared namespace attribute_decl
 declared-agrees keywords.Namespace =
-    let name = then-agrees name-agrees (λ name. after (Punct (byte ";")) (λ _. give-agrees _)) refl in
+    let name = then-agrees (rule_before-agrees name-agrees (byte ";") refl) (λ name. give-agrees _) refl in
     any_start (then-agrees (with_token-agrees (λ _. give-agrees _) name refl) (λ n. give-agrees _) refl)
 declared-agrees keywords.Attribute =
     let name = with_token-agrees (λ text. give-agrees text) (token-agrees Word) refl in
-    any_start (then-agrees (then-agrees name (λ name. after (Punct (byte ";")) (λ _. give-agrees _)) refl) (λ a. give-agrees _) refl)
+    any_start (then-agrees (rule_before-agrees name (byte ";") refl) (λ a. give-agrees _) refl)
 declared-agrees keywords.Table = any_start (then-agrees table-agrees (λ t. give-agrees _) refl)
 declared-agrees keywords.Struct = any_start (then-agrees table-agrees (λ t. give-agrees _) refl)
 declared-agrees keywords.Enum = any_start (then-agrees enumeration-agrees (λ e. give-agrees _) refl)
 declared-agrees keywords.Union = any_start (then-agrees union-agrees (λ u. give-agrees _) refl)
-declared-agrees keywords.Root = any_start (then-agrees name-agrees (λ n. after (Punct (byte ";")) (λ _. give-agrees _)) refl)
-declared-agrees keywords.Extension = any_start (then-agrees quoted-agrees (λ t. give-agrees _) refl)
-declared-agrees keywords.Identifier = any_start (then-agrees quoted-agrees (λ t. give-agrees _) refl)
+declared-agrees keywords.Root = any_start (then-agrees (rule_before-agrees name-agrees (byte ";") refl) (λ n. give-agrees _) refl)
+declared-agrees keywords.Extension = any_start (then-agrees (rule_before-agrees (token-agrees Quoted) (byte ";") refl) (λ t. give-agrees _) refl)
+declared-agrees keywords.Identifier = any_start (then-agrees (rule_before-agrees (token-agrees Quoted) (byte ";") refl) (λ t. give-agrees _) refl)
 
 pub declaration-agrees : Agrees declaration false (but Word) []
 unfolding declaration

@@ -11,8 +11,8 @@ use Rattle.fb_syntax.specs.declared.scan.Piece.{Piece}
 use Rattle.fb_syntax.specs.Bytes.{is_letter, is_word_byte, is_quotable, is_punct, is_digit, is_hex, is_sign}
 use Rattle.fb_syntax.specs.TokenBytes.{is_closed_by_quote, is_token, IsLongest, starts}
 use Rattle.fb_syntax.specs.Spells.{IsAtFront}
-use Rattle.fb_syntax.proofs.FirstBytes.{longest_of, only_kind, no_start, nowhere}
-use Rattle.fb_syntax.proofs.Gaps.{blank_gap, behind_first}
+use Rattle.fb_syntax.proofs.FirstBytes.{longest_of, only_kind}
+use Rattle.fb_syntax.proofs.Gaps.{behind_first}
 use Rattle.std.proofs.lemmas.Bool.Decides.{nat_tests}
 use Rattle.fb_syntax.specs.Integers.{is_unsigned, is_decimal, is_hexadecimal, is_prefixed, is_integer, sign_len, without_sign, IsNumberLen, magnitude, greatest_magnitude}
 
@@ -48,8 +48,6 @@ punct_longest (c ∷ cs) e = longest_of (Punct c) 1 c cs alone (omega arith) alo
   one_byte zero cs w t = omega arith
   one_byte (suc m) [] w t = absurd (omega arith)
   one_byte (suc m) (d ∷ cs) w t = absurd cc
-
-pub ruleset fronts = (blank_gap, punct_longest, no_start, nowhere)
 
 closed-sound : (cs : List ℕ) (n : ℕ) → list_all is_quotable (take n cs) ≡ true → get_or cs n 0 ≡ 34 → (is_closed_by_quote (take (suc n) cs) ≡ true) × (suc n ≤ length cs)
 closed-sound (c ∷ cs) zero all e = (eq-eqb c 34 e, omega arith)

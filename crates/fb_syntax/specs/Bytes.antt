@@ -1,5 +1,7 @@
 -- The bytes that tokens are made of (Grammar: ident, integer_constant, string_constant; blanks are the usual ones).
 use Rattle.std.specs.Prelude.{ℕ, Bool, ◌==◌, ◌||◌, ◌&&◌, nat_le, not}
+use Rattle.fb_syntax.specs.declared.bytes.ByteClass.{ByteClass}
+use Rattle.fb_syntax.specs.declared.bytes.ByteClass.TheVariants.{Word, Digit, Hex, Quotable, Line}
 
 abbrev pub is_between : ℕ → ℕ → ℕ → Bool
 is_between low high c = nat_le low c && nat_le c high
@@ -34,3 +36,11 @@ is_punct c = c == 123 || c == 125 || c == 40 || c == 41 || c == 91 || c == 93 ||
 -- no control byte below a space, no " and no \
 abbrev pub is_quotable : ℕ → Bool
 is_quotable c = nat_le 32 c && not (c == 34) && not (c == 92)
+
+-- the bytes of a class
+abbrev pub has : ByteClass → ℕ → Bool
+has Word = is_word_byte
+has Digit = is_digit
+has Hex = is_hex
+has Quotable = is_quotable
+has Line = λ c. not (c == 10)

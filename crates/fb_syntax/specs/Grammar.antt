@@ -5,7 +5,7 @@ use Rattle.fb_syntax.specs.Integers.{number_of}
 use Rattle.fb_syntax.specs.FieldRead.{FieldRead}
 use Rattle.fb_syntax.specs.TypesRead.{TableRead, EnumRead, UnionRead}
 use Rattle.fb_syntax.specs.Signs.{byte}
-use Rattle.fb_syntax.specs.Rules.{Rule, token, sign, give, ◌>>=◌, with_token, more, block, listed}
+use Rattle.fb_syntax.specs.Rules.{Rule, token, give, ◌>>=◌, rule_before, with_token, more, block, listed}
 use Rattle.fb_syntax.specs.declared.tokens.TokenKind.TheVariants.{Word, Integer, Quoted, Punct}
 use Rattle.fb_syntax.specs.Attributes.{AttributeRead}
 use Rattle.fb_syntax.specs.declared.declarations.AttributeValue.{AttributeValue}
@@ -45,7 +45,7 @@ metadata = with_token (Punct (byte "("))
 -- "[" name "]" | name
 unfoldable pub field_type : Rule FieldType
 field_type = with_token (Punct (byte "["))
-    (λ bracket. do name ← dotted_name; _ ← sign (byte "]"); give (types.Many bracket.at name))
+    (λ bracket. do name ← rule_before dotted_name (byte "]"); give (types.Many bracket.at name))
     (do name ← dotted_name; give (types.One name))
 
 -- Integer | name
@@ -59,20 +59,17 @@ default_part = with_token (Punct (byte "=")) (λ _. do value ← default_value; 
 -- Word ":" type [ "=" default_value ] metadata ";"
 unfoldable pub field : Rule FieldRead
 field = do
-  name ← token Word
-  _ ← sign (byte ":")
+  name ← rule_before (token Word) (byte ":")
   kind ← field_type
   default ← default_part
-  attributes ← metadata
-  _ ← sign (byte ";")
+  attributes ← rule_before metadata (byte ";")
   give (record { name = name; kind = kind; default = default; attributes = attributes })
 
 -- Word metadata "{" { field } "}", of a table or a struct
 unfoldable pub table : Rule TableRead
 table = do
   name ← token Word
-  attributes ← metadata
-  _ ← sign (byte "{")
+  attributes ← rule_before metadata (byte "{")
   fields ← block field (byte "}")
   give (record { name = name; attributes = attributes; fields = fields })
 
@@ -87,11 +84,9 @@ enum_value = do
 -- Word ":" name metadata "{" value { "," value } [ "," ] "}"
 unfoldable pub enumeration : Rule EnumRead
 enumeration = do
-  name ← token Word
-  _ ← sign (byte ":")
+  name ← rule_before (token Word) (byte ":")
   underlying ← dotted_name
-  attributes ← metadata
-  _ ← sign (byte "{")
+  attributes ← rule_before metadata (byte "{")
   values ← listed enum_value true (byte "}")
   give (record { name = name; underlying = underlying; attributes = attributes; values = values })
 
@@ -107,7 +102,6 @@ union_member = do
 unfoldable pub union : Rule UnionRead
 union = do
   name ← token Word
-  attributes ← metadata
-  _ ← sign (byte "{")
+  attributes ← rule_before metadata (byte "{")
   members ← listed union_member true (byte "}")
   give (record { name = name; attributes = attributes; members = members })

@@ -5,7 +5,8 @@ use Rattle.fb_syntax.specs.DeclsRead.{DeclsRead}
 use Rattle.fb_syntax.specs.Lexemes.{Lexeme, lexemes}
 use Rattle.fb_syntax.specs.Keywords.{spelling, keyword_of}
 use Rattle.fb_syntax.specs.Signs.{byte}
-use Rattle.fb_syntax.specs.Rules.{Front, Rule, and_then, IsToken, token_at, token, sign, give, ◌>>=◌, with_token, Repeated}
+use Rattle.fb_syntax.specs.Rules.{Front, Rule, and_then, IsToken, token_at}
+use Rattle.fb_syntax.specs.Rules.{token, rule_before, give, ◌>>=◌, with_token, Repeated}
 use Rattle.fb_syntax.specs.Grammar.{dotted_name, table, enumeration, union}
 use Rattle.fb_syntax.specs.declared.tokens.Token.{Token}
 use Rattle.fb_syntax.specs.declared.tokens.TokenKind.TheVariants.{Word, Quoted, Punct}
@@ -26,21 +27,11 @@ keyword = record { Is = λ ts k rest. (at : ℕ) × IsToken Word ts (record { by
 -- [ name ] ";"
 unfoldable pub namespace : Rule (Option Located)
 namespace = with_token (Punct (byte ";")) (λ _. give None)
-    (do name ← dotted_name; _ ← sign (byte ";"); give (Some name))
+    (do name ← rule_before dotted_name (byte ";"); give (Some name))
 
 -- ( Quoted | Word ) ";"
 unfoldable pub attribute_decl : Rule Located
-attribute_decl = do
-  name ← with_token Quoted (λ text. give text) (token Word)
-  _ ← sign (byte ";")
-  give name
-
--- Quoted ";", of a file's extension or identifier
-unfoldable pub quoted : Rule Located
-quoted = do
-  text ← token Quoted
-  _ ← sign (byte ";")
-  give text
+attribute_decl = rule_before (with_token Quoted (λ text. give text) (token Word)) (byte ";")
 
 -- the declaration that a keyword begins
 unfoldable pub declared : Keyword → Rule Declaration
@@ -50,9 +41,13 @@ declared keywords.Table = do t ← table; give (declarations.Type (types.Table t
 declared keywords.Struct = do t ← table; give (declarations.Type (types.Struct t))
 declared keywords.Enum = do e ← enumeration; give (declarations.Type (types.Enum e))
 declared keywords.Union = do u ← union; give (declarations.Type (types.Union u))
-declared keywords.Root = do n ← dotted_name; _ ← sign (byte ";"); give (declarations.Directive (directives.RootType n))
-declared keywords.Extension = do t ← quoted; give (declarations.Directive (directives.FileExtension t))
-declared keywords.Identifier = do t ← quoted; give (declarations.Directive (directives.FileIdentifier t))
+declared keywords.Root = do n ← rule_before dotted_name (byte ";"); give (declarations.Directive (directives.RootType n))
+declared keywords.Extension = do
+  t ← rule_before (token Quoted) (byte ";")
+  give (declarations.Directive (directives.FileExtension t))
+declared keywords.Identifier = do
+  t ← rule_before (token Quoted) (byte ";")
+  give (declarations.Directive (directives.FileIdentifier t))
 
 unfoldable pub declaration : Rule Declaration
 declaration = do

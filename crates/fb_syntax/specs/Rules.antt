@@ -35,6 +35,11 @@ unfoldable pub token_at : TokenKind → List Lexeme → Front Located
 token_at kind [] = None
 token_at kind (t ∷ rest) = if is_kind t.kind kind then Some (t.text, rest) else None
 
+-- what the first token says; nothing at 0 where there is none
+abbrev pub front_text : List Lexeme → Located
+front_text [] = record { bytes = []; at = 0 }
+front_text (t ∷ rest) = t.text
+
 abbrev pub IsToken : TokenKind → List Lexeme → Located → List Lexeme → Type 0
 IsToken kind ts text rest = ts ≡ record { kind = kind; text = text } ∷ rest
 
@@ -56,6 +61,13 @@ abbrev pub ◌>>=◌ : {A B : Type 0} → Rule A → (A → Rule B) → Rule B
   Is = λ ts y rest. (x : A) × (mid : List Lexeme) × first.Is ts x mid × (next x).Is mid y rest;
   read = λ ts. and_then (first.read ts) (λ x. (next x.0).read x.1);
 }
+
+-- a rule, and a sign behind it
+abbrev pub rule_before : {X : Type 0} → Rule X → ℕ → Rule X
+rule_before rule c = do
+  x ← rule
+  _ ← sign c
+  give x
 
 -- one rule behind a token of a kind, or another where no such token stands
 abbrev pub with_token : {X : Type 0} → TokenKind → (Located → Rule X) → Rule X → Rule X
@@ -128,10 +140,7 @@ repeated item stop = record {
 
 -- { item } and a closing sign
 abbrev pub block : {X : Type 0} → Rule X → ℕ → Rule (List X)
-block item close = do
-  xs ← repeated item (is_sign close)
-  _ ← sign close
-  give xs
+block item close = rule_before (repeated item (is_sign close)) close
 
 -- item { item } and a closing sign
 abbrev pub some_block : {X : Type 0} → Rule X → ℕ → Rule (List X)

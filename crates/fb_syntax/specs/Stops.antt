@@ -7,7 +7,7 @@ use Rattle.fb_syntax.specs.declared.faults.SyntaxFault.TheVariants.{Unexpected, 
 use Rattle.fb_syntax.specs.declared.parser.Stop.{Stop}
 use Rattle.fb_syntax.specs.declared.parser.Stop.TheVariants as stops
 
--- What a call answered and left is what reading gives, unless memory ran out.
+-- What a call returned and left is what reading gives, unless memory ran out.
 abbrev pub Fails : {Y : Type 0} → Stop → Option Y → Type 0
 Fails stops.Memory read = Unit {0}
 Fails _ read = read ≡ None

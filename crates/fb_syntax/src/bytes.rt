@@ -1,8 +1,7 @@
 //! The bytes that tokens are made of, and runs of them.
-ghost use Rattle.std.specs.Prelude.{◌≡◌, ◌≤◌, ◌==◌, not, length};
-ghost use Rattle.std.specs.List.{prefix_len};
-ghost use Rattle.fb_syntax.specs.Bytes.{is_letter, is_digit, is_word_byte, is_hex, is_blank, is_punct, is_quotable};
-ghost use Rattle.fb_syntax.specs.Bytes.{is_sign};
+ghost use Rattle.std.specs.Prelude.{◌≡◌, ◌≤◌, length};
+ghost use Rattle.std.specs.List.{list_all, prefix_len};
+ghost use Rattle.fb_syntax.specs.Bytes.{is_letter, is_digit, is_hex, is_blank, is_punct, is_sign, has};
 
 pub(crate) fn is_letter(byte: u8) -> bool
     ensures { result ≡ is_letter byte }
@@ -14,12 +13,6 @@ pub(crate) fn is_digit(byte: u8) -> bool
     ensures { result ≡ is_digit byte }
 {
     matches!(byte, b'0'..=b'9')
-}
-
-pub(crate) fn is_word_byte(byte: u8) -> bool
-    ensures { result ≡ is_word_byte byte }
-{
-    is_letter(byte) || is_digit(byte)
 }
 
 pub(crate) fn is_hex(byte: u8) -> bool
@@ -49,43 +42,41 @@ pub(crate) fn is_punct(byte: u8) -> bool
     )
 }
 
-pub(crate) fn is_quotable(byte: u8) -> bool
-    ensures { result ≡ is_quotable byte }
-{
-    byte >= 0x20 && byte != b'"' && byte != b'\\'
+/// A class of bytes.
+#[derive(Clone, Copy)]
+pub(crate) enum ByteClass {
+    Word,
+    Digit,
+    Hex,
+    Quotable,
+    /// Any byte but a line feed.
+    Line,
 }
 
-pub(crate) fn word_run(text: &[u8]) -> usize
-    ensures run { result ≡ prefix_len is_word_byte text.now }
-    ensures within { result ≤ length text.now }
-{
-    text.iter().take_while(|b| is_word_byte(**b)).count()
-}
+impl ByteClass {
+    fn has(self, byte: u8) -> bool
+        ensures { result ≡ has self byte }
+    {
+        match self {
+            ByteClass::Word => is_letter(byte) || is_digit(byte),
+            ByteClass::Digit => is_digit(byte),
+            ByteClass::Hex => is_hex(byte),
+            ByteClass::Quotable => byte >= 0x20 && byte != b'"' && byte != b'\\',
+            ByteClass::Line => byte != b'\n',
+        }
+    }
 
-pub(crate) fn digit_run(text: &[u8]) -> usize
-    ensures run { result ≡ prefix_len is_digit text.now }
-    ensures within { result ≤ length text.now }
-{
-    text.iter().take_while(|b| is_digit(**b)).count()
-}
+    pub(crate) fn has_all(self, bytes: &[u8]) -> bool
+        ensures { result ≡ list_all (has self) bytes.now }
+    {
+        bytes.iter().all(|b| self.has(*b))
+    }
 
-pub(crate) fn hex_run(text: &[u8]) -> usize
-    ensures run { result ≡ prefix_len is_hex text.now }
-    ensures within { result ≤ length text.now }
-{
-    text.iter().take_while(|b| is_hex(**b)).count()
-}
-
-pub(crate) fn quotable_run(text: &[u8]) -> usize
-    ensures run { result ≡ prefix_len is_quotable text.now }
-    ensures within { result ≤ length text.now }
-{
-    text.iter().take_while(|b| is_quotable(**b)).count()
-}
-
-pub(crate) fn line_run(text: &[u8]) -> usize
-    ensures run { result ≡ prefix_len (λ c. not (c == 10)) text.now }
-    ensures within { result ≤ length text.now }
-{
-    text.iter().take_while(|b| **b != b'\n').count()
+    /// How many bytes at the front are of the class.
+    pub(crate) fn run(self, text: &[u8]) -> usize
+        ensures run { result ≡ prefix_len (has self) text.now }
+        ensures within { result ≤ length text.now }
+    {
+        text.iter().take_while(|b| self.has(**b)).count()
+    }
 }

@@ -1,13 +1,10 @@
 //! Integers, their lengths and their values.
-ghost use Rattle.std.specs.Prelude.{◌≡◌, ◌≤◌, ◌<◌, ◌+◌, ◌*◌, ◌↔◌, length};
-ghost use Rattle.std.specs.Prelude.{MatchOption, IsTrue, IsSome, IfSome};
-ghost use Rattle.std.specs.List.{list_all};
-ghost use Rattle.fb_syntax.specs.Bytes.{is_digit, is_hex};
+ghost use Rattle.std.specs.Prelude.{◌≡◌, ◌≤◌, ◌<◌, ◌+◌, ◌*◌, ◌↔◌, length, MatchOption, IsTrue, IsSome, IfSome};
 ghost use Rattle.fb_syntax.specs.Integers.{is_integer, is_prefixed, sign_len, digit_value, digits_value, IsNumberLen};
 ghost use Rattle.fb_syntax.specs.Integers.{magnitude, is_negative, signed_value, number_of};
 ghost use Rattle.fb_syntax.specs.Integers.{greatest_magnitude, IsInteger};
 
-use crate::bytes::{digit_run, hex_run, is_digit, is_hex, is_sign};
+use crate::bytes::{ByteClass, is_hex, is_sign};
 use crate::declarations::{Number, Text};
 
 fn digit_value(byte: u8) -> u64
@@ -16,7 +13,7 @@ fn digit_value(byte: u8) -> u64
     u64::from(char::from(byte).to_digit(16).unwrap_or(0))
 }
 
-#[tactic(auto, using(crate::proofs::DigitSums::valuing))]
+#[tactic(auto, using(crate::proofs::DigitSums::at_least))]
 fn digits_value(base: u64, digits: &[u8]) -> Option<u64>
     requires { 0 < base }
     ensures { let value = digits_value base digits.now in
@@ -63,29 +60,18 @@ pub(crate) fn number_len(text: &[u8]) -> usize
     ensures within { result ≤ length text.now }
 {
     if is_prefixed(text) {
-        2 + hex_run(&text[2..])
+        2 + ByteClass::Hex.run(&text[2..])
     } else {
-        digit_run(text)
+        ByteClass::Digit.run(text)
     }
-}
-
-fn are_digits(bytes: &[u8]) -> bool
-    ensures { result ≡ list_all is_digit bytes.now }
-{
-    bytes.iter().all(|b| is_digit(*b))
-}
-
-fn are_hex(bytes: &[u8]) -> bool
-    ensures { result ≡ list_all is_hex bytes.now }
-{
-    bytes.iter().all(|b| is_hex(*b))
 }
 
 fn is_integer(spelling: &[u8]) -> bool
     ensures { result ≡ is_integer spelling.now }
 {
     let digits = &spelling[sign_len(spelling)..];
-    (!digits.is_empty() && are_digits(digits)) || (is_prefixed(digits) && are_hex(&digits[2..]))
+    (!digits.is_empty() && ByteClass::Digit.has_all(digits))
+        || (is_prefixed(digits) && ByteClass::Hex.has_all(&digits[2..]))
 }
 
 fn is_negative(spelling: &[u8]) -> bool

@@ -6,10 +6,11 @@ mod metadata;
 mod schema;
 mod unions;
 
-ghost use Rattle.std.specs.Prelude.{◌≡◌, ◌<◌, ◌≤◌, length, drop, Some, None, IfOk, IfSome, MatchOption};
+ghost use Rattle.std.specs.Prelude.{◌≡◌, ◌<◌, ◌≤◌, length, drop, Some, None, IfOk, IfSome, IsTrue};
+ghost use Rattle.std.specs.Prelude.{MatchBool, MatchOption};
 ghost use Rattle.fb_syntax.specs.Lexemes.{IsReadable, AreReadable, lexemes, located};
 ghost use Rattle.fb_syntax.specs.TokenBytes.{IsSmall};
-ghost use Rattle.fb_syntax.specs.Rules.{is_sign, more, token_at};
+ghost use Rattle.fb_syntax.specs.Rules.{rule_before, front_text, is_sign, more, token, token_at};
 ghost use Rattle.fb_syntax.specs.Grammar.{dotted_name};
 ghost use Rattle.fb_syntax.specs.Stops.{Gives, Passes, fault_at};
 ghost use Rattle.fb_syntax.specs.declared.tokens.TokenKind.TheVariants.{Punct};
@@ -94,7 +95,6 @@ impl<'t, 's> Parser<'t, 's> {
     }
 
     /// Passes the next token, if it is of a kind.
-    #[tactic(auto, using(std::proofs::lemmas::Grind::pieces))]
     fn take(&mut self, kind: TokenKind) -> Option<Text<'t>>
         ensures exact { MatchOption result
             ((token_at kind self.old ≡ None) × (self.new ≡ self.old))
@@ -103,9 +103,7 @@ impl<'t, 's> Parser<'t, 's> {
         ensures small { IfSome result (λ t. IsSmall kind t.bytes) }
     {
         let token = self.peek(kind)?;
-        if let [_, rest @ ..] = self.tokens {
-            self.tokens = rest;
-        }
+        self.tokens = &self.tokens[1..];
         Some(token)
     }
 
@@ -115,6 +113,23 @@ impl<'t, 's> Parser<'t, 's> {
         ensures small { IfOk result (λ t. IsSmall kind t.bytes) }
     {
         self.take(kind).ok_or(Stop::Unexpected)
+    }
+
+    /// Passes this sign, if it is the next token.
+    #[tactic(auto, using(crate::proofs::Agrees::front_found))]
+    fn skip(&mut self, sign: u8) -> bool
+        ensures exact { MatchBool result (token_at (Punct sign) self.old ≡ Some (front_text self.old, self.new))
+            ((token_at (Punct sign) self.old ≡ None) × (self.new ≡ self.old)) }
+        ensures shorter { IsTrue result → length self.new < length self.old }
+    {
+        self.take(TokenKind::Punct(sign)).is_some()
+    }
+
+    /// Passes this sign, which has to be the next token.
+    fn expect(&mut self, sign: u8) -> Result<(), Stop>
+        ensures { Passes (λ _. front_text self.old) result (token (Punct sign)) self.old self.new }
+    {
+        self.skip(sign).then_some(()).ok_or(Stop::Unexpected)
     }
 
     fn is_sign(&self, sign: u8) -> bool
@@ -131,6 +146,22 @@ impl<'t, 's> Parser<'t, 's> {
         self.name_from(first)
     }
 
+    /// A token, and this sign behind it.
+    fn token_before(&mut self, kind: TokenKind, sign: u8) -> Result<Text<'t>, Stop>
+        ensures { Passes (λ t. t) result (rule_before (token kind) sign) self.old self.new }
+    {
+        let token = self.token(kind)?;
+        self.expect(sign).and(Ok(token))
+    }
+
+    /// A name, and this sign behind it.
+    fn name_before(&mut self, sign: u8) -> Result<DottedName<'t>, Stop>
+        ensures { Passes (λ n. n) result (rule_before dotted_name sign) self.old self.new }
+    {
+        let name = self.name()?;
+        self.expect(sign).and(Ok(name))
+    }
+
     /// A name whose first word is read already.
     #[tactic(auto, using(crate::proofs::Repeat::begins))]
     fn name_from(&mut self, first: Text<'t>) -> Result<DottedName<'t>, Stop>
@@ -141,7 +172,7 @@ impl<'t, 's> Parser<'t, 's> {
             text: CowStr::Borrowed(first.text),
             at: first.at,
         };
-        while let Some(_) = self.take(TokenKind::Punct(b'.')) {
+        while self.skip(b'.') {
             let word = self.token(TokenKind::Word)?;
             name = name.join(self.alloc, word.text).or(Err(Stop::Memory))?;
         }

@@ -9,9 +9,7 @@ ghost use Rattle.fb_syntax.specs.Spells.{IsFront, SpellsText, OneSpelling, mark_
 ghost use Rattle.fb_syntax.specs.TokenBytes.{starts};
 ghost use Rattle.fb_syntax.specs.Refusals.{StandsWithin, IsTokenFault};
 
-use crate::bytes::{
-    is_blank, is_digit, is_letter, is_punct, is_sign, line_run, quotable_run, word_run,
-};
+use crate::bytes::{ByteClass, is_blank, is_digit, is_letter, is_punct, is_sign};
 use crate::faults::SyntaxFault;
 use crate::integers::{magnitude, number_len, sign_len};
 use crate::tokens::{Token, TokenKind};
@@ -54,7 +52,7 @@ fn comment(at: u64, text: &[u8]) -> Result<Piece, SyntaxFault>
     ensures within { IfErr result (StandsWithin at) }
 {
     match text {
-        [b'/', rest @ ..] => Ok(Piece::Gap(2 + line_run(rest))),
+        [b'/', rest @ ..] => Ok(Piece::Gap(2 + ByteClass::Line.run(rest))),
         [b'*', rest @ ..] => match before_close(rest) {
             Some(len) => Ok(Piece::Gap(len + 4)),
             None => Err(SyntaxFault::Unterminated(at)),
@@ -71,7 +69,7 @@ fn quoted(at: u64, text: &[u8]) -> Result<Piece, SyntaxFault>
     ensures fault { IfErr result IsTokenFault }
     ensures within { IfErr result (StandsWithin (at + length text.now)) }
 {
-    let len = quotable_run(text);
+    let len = ByteClass::Quotable.run(text);
     match text.get(len) {
         None => Err(SyntaxFault::Unterminated(at)),
         Some(b'"') => Ok(Piece::Token(TokenKind::Quoted, len + 2)),
@@ -80,7 +78,6 @@ fn quoted(at: u64, text: &[u8]) -> Result<Piece, SyntaxFault>
 }
 
 // The integer at `at`.
-#[tactic(auto, using(crate::proofs::LongestTokens::no_integer, std::proofs::lemmas::List::take_rest))]
 fn integer(at: u64, text: &[u8]) -> Result<Piece, SyntaxFault>
     requires { IsTrue (starts Integer (get_or text.now 0 0)) }
     ensures piece { IsFront text.now result }
@@ -99,7 +96,6 @@ fn integer(at: u64, text: &[u8]) -> Result<Piece, SyntaxFault>
 }
 
 // What stands at `at`, where `text` begins.
-#[tactic(auto, using(crate::proofs::LongestTokens::fronts))]
 fn next_piece(at: u64, text: &[u8]) -> Result<Piece, SyntaxFault>
     requires { at + length text.now < 2 ^ 64 }
     ensures piece { IsFront text.now result }
@@ -115,13 +111,13 @@ fn next_piece(at: u64, text: &[u8]) -> Result<Piece, SyntaxFault>
     } else if first == b'/' {
         comment(at, rest)
     } else if is_letter(first) {
-        Ok(Piece::Token(TokenKind::Word, 1 + word_run(rest)))
-    } else if is_digit(first) || is_sign(first) {
-        integer(at, text)
+        Ok(Piece::Token(TokenKind::Word, 1 + ByteClass::Word.run(rest)))
     } else if first == b'"' {
         quoted(at, rest)
     } else if is_punct(first) {
         Ok(Piece::Token(TokenKind::Punct(first), 1))
+    } else if is_digit(first) || is_sign(first) {
+        integer(at, text)
     } else {
         Err(SyntaxFault::BadByte(at))
     }
@@ -148,7 +144,6 @@ pub(crate) fn text_of(bytes: &[u8]) -> Result<&str, SyntaxFault>
 }
 
 /// The tokens of a text, behind its byte order mark if it has one; offsets count the mark.
-#[tactic(auto, using(crate::proofs::FrontPieces::over_piece, std::proofs::lemmas::List::take_rest))]
 pub(crate) fn tokens_in(alloc: Global, text: &str) -> Result<Vec<Token>, SyntaxFault>
     ensures found { IfOk result (λ v. SpellsText text.now v.items) }
     ensures only { (tokens : List Token) →

@@ -16,8 +16,7 @@ use std::alloc::Global;
 ///
 /// UTF-8 is checked over the whole text first, then tokens over the whole text, then the grammar
 /// (FlatBuffers documentation, "Grammar"); the first fault in this order and in the text is
-/// answered, with its offset in bytes.
-#[tactic(auto, using(std::proofs::lemmas::Str::utf8_valid_len_le, crate::proofs::FrontPieces::one_spelling_shown))]
+/// returned, with its offset in bytes.
 pub fn parse<'t>(alloc: Global, text: &'t [u8]) -> Result<Decls<'t>, SyntaxFault>
     ensures parses { IfOk result (Parses text.now) }
     ensures exact { (d : DeclsRead) → Parses text.now d

@@ -9,7 +9,7 @@ use super::lists::Item;
 use super::{Parser, Stop};
 use crate::declarations::{EnumDecl, EnumValue};
 use crate::integers::number_of;
-use crate::tokens::TokenKind::{Integer, Punct, Word};
+use crate::tokens::TokenKind::{Integer, Word};
 
 impl<'t> Item<'t> for EnumValue<'t> {
     ghost rule = { listed_item enum_value true (byte "}") };
@@ -17,12 +17,12 @@ impl<'t> Item<'t> for EnumValue<'t> {
     #[tactic(auto, unfolding(crate::specs::Rules::listed_item, crate::specs::Grammar::enum_value))]
     fn read(parser: &mut Parser<'t, '_>) -> Result<EnumValue<'t>, Stop> {
         let name = parser.token(Word)?;
-        let number = match parser.take(Punct(b'=')) {
-            Some(_) => Some(number_of(parser.token(Integer)?)),
-            None => None,
+        let number = if parser.skip(b'=') {
+            Some(number_of(parser.token(Integer)?))
+        } else {
+            None
         };
-        parser.comma(true, b'}')?;
-        Ok(EnumValue { name, number })
+        parser.comma(true, b'}').and(Ok(EnumValue { name, number }))
     }
 }
 
@@ -32,17 +32,11 @@ impl<'t> Parser<'t, '_> {
     pub(super) fn enumeration(&mut self) -> Result<EnumDecl<'t>, Stop>
         ensures { Passes (λ e. e) result enumeration self.old self.new }
     {
-        let name = self.token(Word)?;
-        self.token(Punct(b':'))?;
-        let underlying = self.name()?;
-        let attributes = self.metadata()?;
-        self.token(Punct(b'{'))?;
-        let values = self.listed(b'}')?;
         Ok(EnumDecl {
-            name,
-            underlying,
-            attributes,
-            values,
+            name: self.token_before(Word, b':')?,
+            underlying: self.name()?,
+            attributes: self.metadata(b'{')?,
+            values: self.listed(b'}')?,
         })
     }
 }

@@ -1,7 +1,7 @@
 //! Tables, structs and their fields.
-ghost use Rattle.std.specs.Prelude.{◌<◌};
-ghost use Rattle.fb_syntax.specs.Grammar.{field_type, default_value, field, table};
-ghost use Rattle.fb_syntax.specs.Stops.{Passes};
+ghost use Rattle.std.specs.Prelude.{◌<◌, ◌≤◌, length, IfOk};
+ghost use Rattle.fb_syntax.specs.Grammar.{field_type, default_part, field, table};
+ghost use Rattle.fb_syntax.specs.Stops.{Gives, Passes};
 
 use super::lists::Item;
 use super::{Parser, Stop};
@@ -12,22 +12,13 @@ use crate::tokens::TokenKind::{Integer, Punct, Word};
 impl<'t> Item<'t> for Field<'t> {
     ghost rule = { field };
 
-    #[tactic(auto, unfolding(crate::specs::Grammar::field, crate::specs::Grammar::default_part))]
+    #[tactic(auto, unfolding(crate::specs::Grammar::field))]
     fn read(parser: &mut Parser<'t, '_>) -> Result<Field<'t>, Stop> {
-        let name = parser.token(Word)?;
-        parser.token(Punct(b':'))?;
-        let kind = parser.field_type()?;
-        let default = match parser.take(Punct(b'=')) {
-            Some(_) => Some(parser.default_value()?),
-            None => None,
-        };
-        let attributes = parser.metadata()?;
-        parser.token(Punct(b';'))?;
         Ok(Field {
-            name,
-            kind,
-            default,
-            attributes,
+            name: parser.token_before(Word, b':')?,
+            kind: parser.field_type()?,
+            default: parser.default_part()?,
+            attributes: parser.metadata(b';')?,
         })
     }
 }
@@ -37,27 +28,29 @@ impl<'t> Parser<'t, '_> {
     fn field_type(&mut self) -> Result<FieldType<'t>, Stop>
         ensures { Passes (λ t. t) result field_type self.old self.new }
     {
-        match self.take(Punct(b'[')) {
+        Ok(match self.take(Punct(b'[')) {
             Some(bracket) => {
                 if self.is_sign(b'[') {
                     return Err(Stop::NestedVector);
                 }
-                let element = self.name()?;
-                self.token(Punct(b']'))?;
-                Ok(FieldType::Many(bracket.at, element))
+                FieldType::Many(bracket.at, self.name_before(b']')?)
             }
-            None => Ok(FieldType::One(self.name()?)),
-        }
+            None => FieldType::One(self.name()?),
+        })
     }
 
-    #[tactic(auto, unfolding(crate::specs::Grammar::default_value))]
-    fn default_value(&mut self) -> Result<DefaultValue<'t>, Stop>
-        ensures { Passes (λ v. v) result default_value self.old self.new }
+    #[tactic(auto, unfolding(crate::specs::Grammar::default_part, crate::specs::Grammar::default_value))]
+    fn default_part(&mut self) -> Result<Option<DefaultValue<'t>>, Stop>
+        ensures exact { Gives (λ v. (v, self.new)) result (default_part.read self.old) }
+        ensures shorter { IfOk result (λ _. length self.new ≤ length self.old) }
     {
-        match self.take(Integer) {
-            Some(digits) => Ok(DefaultValue::Integer(number_of(digits))),
-            None => Ok(DefaultValue::Name(self.name()?)),
+        if !self.skip(b'=') {
+            return Ok(None);
         }
+        Ok(Some(match self.take(Integer) {
+            Some(digits) => DefaultValue::Integer(number_of(digits)),
+            None => DefaultValue::Name(self.name()?),
+        }))
     }
 
     /// A table or struct behind its first word.
@@ -65,14 +58,10 @@ impl<'t> Parser<'t, '_> {
     pub(super) fn table(&mut self) -> Result<TableDecl<'t>, Stop>
         ensures { Passes (λ t. t) result table self.old self.new }
     {
-        let name = self.token(Word)?;
-        let attributes = self.metadata()?;
-        self.token(Punct(b'{'))?;
-        let fields = self.block(b'}')?;
         Ok(TableDecl {
-            name,
-            attributes,
-            fields,
+            name: self.token(Word)?,
+            attributes: self.metadata(b'{')?,
+            fields: self.block(b'}')?,
         })
     }
 }

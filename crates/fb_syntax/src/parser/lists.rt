@@ -4,7 +4,6 @@ ghost use Rattle.fb_syntax.specs.Rules.{Rule, block, closes, divider, push, some
 ghost use Rattle.fb_syntax.specs.Stops.{Gives, Passes};
 
 use super::{Parser, Stop};
-use crate::tokens::TokenKind::Punct;
 
 /// What lists consist of: fields, attributes, values, members and declarations.
 pub(super) trait Item<'t>: Drop + Sized {
@@ -27,7 +26,6 @@ impl<'t> Parser<'t, '_> {
     }
 
     /// The items before a closing sign or, with none, before the end.
-    #[tactic(auto, using(crate::proofs::Repeat::begins))]
     pub(super) fn items<T: Item<'t>>(&mut self, close: Option<u8>) -> Result<Vec<T>, Stop>
         ensures exact { Gives (λ v. (v.items, self.new)) result (until T.rule.read (closes close) push [] self.old) }
         ensures shorter { IfOk result (λ _. length self.new ≤ length self.old) }
@@ -45,8 +43,7 @@ impl<'t> Parser<'t, '_> {
         ensures { Passes (λ v. v.items) result (block T.rule close) self.old self.new }
     {
         let items = self.items(Some(close))?;
-        self.token(Punct(close))?;
-        Ok(items)
+        self.expect(close).and(Ok(items))
     }
 
     /// At least one item, and the closing sign.
@@ -66,9 +63,10 @@ impl<'t> Parser<'t, '_> {
         ensures exact { Gives (λ u. (u, self.new)) result ((divider trailing close).read self.old) }
         ensures shorter { IfOk result (λ _. length self.new ≤ length self.old) }
     {
-        let divides = match self.take(Punct(b',')) {
-            Some(_) => trailing || !self.is_sign(close),
-            None => self.is_sign(close),
+        let divides = if self.skip(b',') {
+            trailing || !self.is_sign(close)
+        } else {
+            self.is_sign(close)
         };
         divides.then_some(()).ok_or(Stop::Unexpected)
     }

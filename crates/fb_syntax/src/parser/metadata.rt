@@ -1,16 +1,16 @@
 //! Attributes behind a name or a type.
-ghost use Rattle.std.specs.Prelude.{◌<◌, ◌≤◌, length, IfOk, false};
+ghost use Rattle.std.specs.Prelude.{◌<◌, false};
 ghost use Rattle.fb_syntax.specs.Signs.{byte};
-ghost use Rattle.fb_syntax.specs.Rules.{listed_item};
+ghost use Rattle.fb_syntax.specs.Rules.{rule_before, listed_item};
 ghost use Rattle.fb_syntax.specs.Grammar.{attribute_value, attribute, metadata};
-ghost use Rattle.fb_syntax.specs.Stops.{Gives, Passes};
+ghost use Rattle.fb_syntax.specs.Stops.{Passes};
 
 use super::lists::Item;
 use super::{Parser, Stop};
 use crate::attributes::{Attribute, built_in_attribute};
 use crate::declarations::AttributeValue;
 use crate::integers::number_of;
-use crate::tokens::TokenKind::{Integer, Punct, Quoted, Word};
+use crate::tokens::TokenKind::{Integer, Quoted, Word};
 
 impl<'t> Item<'t> for Attribute<'t> {
     ghost rule = { listed_item attribute false (byte ")") };
@@ -18,17 +18,17 @@ impl<'t> Item<'t> for Attribute<'t> {
     #[tactic(auto, unfolding(crate::specs::Rules::listed_item, crate::specs::Grammar::attribute))]
     fn read(parser: &mut Parser<'t, '_>) -> Result<Attribute<'t>, Stop> {
         let name = parser.token(Word)?;
-        let value = match parser.take(Punct(b':')) {
-            Some(_) => Some(parser.attribute_value()?),
-            None => None,
+        let value = if parser.skip(b':') {
+            Some(parser.attribute_value()?)
+        } else {
+            None
         };
-        parser.comma(false, b')')?;
-        let built_in = built_in_attribute(name.text);
-        Ok(Attribute {
+        let attribute = Attribute {
+            built_in: built_in_attribute(name.text),
             name,
             value,
-            built_in,
-        })
+        };
+        parser.comma(false, b')').and(Ok(attribute))
     }
 }
 
@@ -46,14 +46,16 @@ impl<'t> Parser<'t, '_> {
         Ok(AttributeValue::Word(self.token(Word)?))
     }
 
+    /// Attributes, if there are any, and this sign behind them.
     #[tactic(auto, unfolding(crate::specs::Grammar::metadata))]
-    pub(super) fn metadata(&mut self) -> Result<Vec<Attribute<'t>>, Stop>
-        ensures exact { Gives (λ v. (v.items, self.new)) result (metadata.read self.old) }
-        ensures shorter { IfOk result (λ _. length self.new ≤ length self.old) }
+    pub(super) fn metadata(&mut self, sign: u8) -> Result<Vec<Attribute<'t>>, Stop>
+        ensures { Passes (λ v. v.items) result (rule_before metadata sign) self.old self.new }
     {
-        if self.take(Punct(b'(')).is_none() || self.take(Punct(b')')).is_some() {
-            return Ok(Vec::new(self.alloc));
-        }
-        self.listed(b')')
+        let attributes = if self.skip(b'(') && !self.skip(b')') {
+            self.listed(b')')?
+        } else {
+            Vec::new(self.alloc)
+        };
+        self.expect(sign).and(Ok(attributes))
     }
 }

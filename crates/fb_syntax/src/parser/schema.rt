@@ -2,8 +2,7 @@
 ghost use Rattle.std.specs.Prelude.{IfErr, ◌≡◌, ◌<◌, ◌≤◌, length, IfOk, MatchResult};
 ghost use Rattle.fb_syntax.specs.declared.faults.SyntaxFault.TheVariants.{Memory};
 ghost use Rattle.fb_syntax.specs.DeclsRead.{DeclsRead};
-ghost use Rattle.fb_syntax.specs.GrammarSchema.{Reads, namespace, attribute_decl, quoted};
-ghost use Rattle.fb_syntax.specs.GrammarSchema.{declared, declaration};
+ghost use Rattle.fb_syntax.specs.GrammarSchema.{Reads, keyword, namespace, attribute_decl, declaration};
 ghost use Rattle.fb_syntax.specs.Keywords.{keyword_of};
 ghost use Rattle.fb_syntax.specs.Lexemes.{AreReadable};
 ghost use Rattle.fb_syntax.specs.Refusals.{StandsWithin};
@@ -11,11 +10,12 @@ ghost use Rattle.fb_syntax.specs.Stops.{IsGrammarFault, Passes};
 
 use super::lists::Item;
 use super::{Parser, Stop};
+use crate::declarations::Declaration::{Attribute, Directive, Namespace, Type};
 use crate::declarations::Directive::{FileExtension, FileIdentifier, RootType};
 use crate::declarations::{Declaration, Decls, DottedName, Text, TypeDecl};
 use crate::faults::SyntaxFault;
 use crate::tokens::Token;
-use crate::tokens::TokenKind::{Punct, Quoted, Word};
+use crate::tokens::TokenKind::{Quoted, Word};
 use std::alloc::Global;
 
 /// What a declaration's first word says that it is.
@@ -53,71 +53,52 @@ fn keyword_of(word: &str) -> Option<Keyword>
 impl<'t> Item<'t> for Declaration<'t> {
     ghost rule = { declaration };
 
-    #[tactic(auto, unfolding(crate::specs::GrammarSchema::declaration, crate::specs::GrammarSchema::keyword_at))]
+    #[tactic(auto, unfolding(crate::specs::GrammarSchema::declaration, crate::specs::GrammarSchema::declared))]
     fn read(parser: &mut Parser<'t, '_>) -> Result<Declaration<'t>, Stop> {
-        let word = parser.peek(Word).ok_or(Stop::Unexpected)?;
-        let keyword = keyword_of(word.text).ok_or(Stop::Unexpected)?;
-        // only now, since an unknown word is refused where it stands
-        parser.take(Word);
-        parser.declared(keyword)
+        Ok(match parser.keyword()? {
+            Keyword::Namespace => Namespace(parser.namespace()?),
+            Keyword::Attribute => Attribute(parser.attribute_decl()?),
+            Keyword::Table => Type(TypeDecl::Table(parser.table()?)),
+            Keyword::Struct => Type(TypeDecl::Struct(parser.table()?)),
+            Keyword::Enum => Type(TypeDecl::Enum(parser.enumeration()?)),
+            Keyword::Union => Type(TypeDecl::Union(parser.union()?)),
+            Keyword::Root => Directive(RootType(parser.name_before(b';')?)),
+            Keyword::Extension => Directive(FileExtension(parser.token_before(Quoted, b';')?)),
+            Keyword::Identifier => Directive(FileIdentifier(parser.token_before(Quoted, b';')?)),
+        })
     }
 }
 
 impl<'t> Parser<'t, '_> {
+    /// The word that a declaration begins with; any other is refused where it stands.
+    #[tactic(auto, unfolding(crate::specs::GrammarSchema::keyword_at))]
+    fn keyword(&mut self) -> Result<Keyword, Stop>
+        ensures { Passes (λ k. k) result keyword self.old self.new }
+    {
+        let word = self.peek(Word).ok_or(Stop::Unexpected)?;
+        let keyword = keyword_of(word.text).ok_or(Stop::Unexpected)?;
+        self.take(Word);
+        Ok(keyword)
+    }
+
     #[tactic(auto, unfolding(crate::specs::GrammarSchema::namespace))]
     fn namespace(&mut self) -> Result<Option<DottedName<'t>>, Stop>
         ensures { Passes (λ n. n) result namespace self.old self.new }
     {
-        if let Some(_) = self.take(Punct(b';')) {
+        if self.skip(b';') {
             return Ok(None);
         }
-        let name = self.name()?;
-        self.token(Punct(b';'))?;
-        Ok(Some(name))
+        Ok(Some(self.name_before(b';')?))
     }
 
     #[tactic(auto, unfolding(crate::specs::GrammarSchema::attribute_decl))]
     fn attribute_decl(&mut self) -> Result<Text<'t>, Stop>
         ensures { Passes (λ t. t) result attribute_decl self.old self.new }
     {
-        let name = match self.take(Quoted) {
-            Some(text) => text,
-            None => self.token(Word)?,
-        };
-        self.token(Punct(b';'))?;
-        Ok(name)
-    }
-
-    /// What a file's name ends in, or its identifier.
-    #[tactic(auto, unfolding(crate::specs::GrammarSchema::quoted))]
-    fn quoted(&mut self) -> Result<Text<'t>, Stop>
-        ensures { Passes (λ t. t) result quoted self.old self.new }
-    {
-        let text = self.token(Quoted)?;
-        self.token(Punct(b';'))?;
-        Ok(text)
-    }
-
-    /// The declaration that a word begins.
-    #[tactic(auto, unfolding(crate::specs::GrammarSchema::declared))]
-    fn declared(&mut self, keyword: Keyword) -> Result<Declaration<'t>, Stop>
-        ensures { Passes (λ d. d) result (declared keyword) self.old self.new }
-    {
-        match keyword {
-            Keyword::Namespace => Ok(Declaration::Namespace(self.namespace()?)),
-            Keyword::Attribute => Ok(Declaration::Attribute(self.attribute_decl()?)),
-            Keyword::Table => Ok(Declaration::Type(TypeDecl::Table(self.table()?))),
-            Keyword::Struct => Ok(Declaration::Type(TypeDecl::Struct(self.table()?))),
-            Keyword::Enum => Ok(Declaration::Type(TypeDecl::Enum(self.enumeration()?))),
-            Keyword::Union => Ok(Declaration::Type(TypeDecl::Union(self.union()?))),
-            Keyword::Root => {
-                let name = self.name()?;
-                self.token(Punct(b';'))?;
-                Ok(Declaration::Directive(RootType(name)))
-            }
-            Keyword::Extension => Ok(Declaration::Directive(FileExtension(self.quoted()?))),
-            Keyword::Identifier => Ok(Declaration::Directive(FileIdentifier(self.quoted()?))),
+        if let Some(name) = self.take(Quoted) {
+            return self.expect(b';').and(Ok(name));
         }
+        self.token_before(Word, b';')
     }
 }
 

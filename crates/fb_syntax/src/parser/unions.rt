@@ -8,7 +8,7 @@ ghost use Rattle.fb_syntax.specs.Stops.{Passes};
 use super::lists::Item;
 use super::{Parser, Stop};
 use crate::declarations::{UnionDecl, UnionMember};
-use crate::tokens::TokenKind::{Punct, Word};
+use crate::tokens::TokenKind::Word;
 
 impl<'t> Item<'t> for UnionMember<'t> {
     ghost rule = { listed_item union_member true (byte "}") };
@@ -16,12 +16,14 @@ impl<'t> Item<'t> for UnionMember<'t> {
     #[tactic(auto, unfolding(crate::specs::Rules::listed_item, crate::specs::Grammar::union_member))]
     fn read(parser: &mut Parser<'t, '_>) -> Result<UnionMember<'t>, Stop> {
         let word = parser.token(Word)?;
-        let (alias, table) = match parser.take(Punct(b':')) {
-            Some(_) => (Some(word), parser.name()?),
-            None => (None, parser.name_from(word)?),
+        let (alias, table) = if parser.skip(b':') {
+            (Some(word), parser.name())
+        } else {
+            (None, parser.name_from(word))
         };
-        parser.comma(true, b'}')?;
-        Ok(UnionMember { alias, table })
+        let table = table?;
+        let member = UnionMember { alias, table };
+        parser.comma(true, b'}').and(Ok(member))
     }
 }
 
@@ -31,14 +33,10 @@ impl<'t> Parser<'t, '_> {
     pub(super) fn union(&mut self) -> Result<UnionDecl<'t>, Stop>
         ensures { Passes (λ u. u) result union self.old self.new }
     {
-        let name = self.token(Word)?;
-        let attributes = self.metadata()?;
-        self.token(Punct(b'{'))?;
-        let members = self.listed(b'}')?;
         Ok(UnionDecl {
-            name,
-            attributes,
-            members,
+            name: self.token(Word)?,
+            attributes: self.metadata(b'{')?,
+            members: self.listed(b'}')?,
         })
     }
 }

@@ -11,3 +11,7 @@ returns-then-len-eq0-clause-piece c =
 pub returns-in-Some-clause-piece : goal.returns-in-Some-clause-piece
 returns-in-Some-clause-piece c =
     (integer_longest _ _ _ c.requires c.sign_len-sign.ensures.len (rw take_rest at c.number_len-len.ensures.len) (omega arith), grind (arith, common_steps, c.in-Some.ensures, c.magnitude.type_inv))
+
+pub returns-in-None-clause-piece : goal.returns-in-None-clause-piece
+returns-in-None-clause-piece c =
+    no_integer _ _ _ c.requires c.sign_len-sign.ensures.len (rw take_rest at c.number_len-len.ensures.len) (λ some. omega (arith, c.in-None.ensures))

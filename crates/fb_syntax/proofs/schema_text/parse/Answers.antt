@@ -1,5 +1,6 @@
-use Rattle.std.proofs.Common.{◌≡◌, ℕ, List}
+use Rattle.std.proofs.Common.{◌≡◌, ℕ, List, arith}
 use Rattle.std.proofs.lemmas.Result.{err_from_is_err_and}
+use Rattle.std.proofs.lemmas.Str.{utf8_valid_len_le}
 use Rattle.fb_syntax.specs.declared.tokens.Token.{Token}
 use Rattle.fb_syntax.specs.declared.faults.SyntaxFault.{SyntaxFault}
 use Rattle.fb_syntax.specs.declared.faults.SyntaxFault.TheVariants.{BadByte, Unterminated, NumberTooBig, Memory}
@@ -14,6 +15,9 @@ told_of_no_tokens text (BadByte at) only = λ tokens s. (let e = only tokens s i
 told_of_no_tokens text (Unterminated at) only = λ tokens s. (let e = only tokens s in cc)
 told_of_no_tokens text (NumberTooBig at) only = λ tokens s. (let e = only tokens s in cc)
 told_of_no_tokens text _ only = tt
+
+pub returns-in_err-readable-clause-within : goal.returns-in_err-readable-clause-within
+returns-in_err-readable-clause-within c = grind (arith, utf8_valid_len_le)
 
 pub returns-in_err-tokens-clause-spelled_by_none : goal.returns-in_err-tokens-clause-spelled_by_none
 returns-in_err-tokens-clause-spelled_by_none c =
