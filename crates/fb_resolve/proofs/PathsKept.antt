@@ -1,6 +1,5 @@
 -- The paths of a text and the names that are used stay what they are while more are noted.
-use Rattle.std.proofs.Common.{Bor, option_copied, ◌≡◌, ◌++◌, ◌<◌, ℕ, zero, suc, All, List, [], ◌∷◌, Option, length, get_or, refl, arith, ◌+◌, take, map, subst, sym, Vec}
-use Rattle.std.specs.Global.{Global}
+use Rattle.std.proofs.Common.{Bor, option_copied, ◌≡◌, ◌++◌, ◌<◌, ℕ, zero, suc, All, List, [], ◌∷◌, Option, length, get_or, refl, arith, ◌+◌, take, map, subst, sym}
 use Rattle.std.specs.List.{AllZip}
 use Rattle.std.proofs.lemmas.Option.{get_or_from_slice_get, slice_get_within}
 use Rattle.std.proofs.lemmas.List.{take_more, map_push, get_or-map, length-map}
@@ -14,10 +13,10 @@ use Rattle.fb_scopes.proofs.WordsOf.{words-inside}
 use Rattle.fb_schema.specs.Schema.{Name}
 use Rattle.fb_resolve.specs.Outline.{TypeRead, full_name, name_of_type}
 use Rattle.fb_resolve.specs.Meaning.{words_of_scope, paths_of_types}
-use Rattle.fb_resolve.specs.Paths.{IsPath, IsPlaced, names_used, IsNoted, AreUses, AreNoted, AreTypesUses}
+use Rattle.fb_resolve.specs.Paths.{IsPath, IsPlaced, names_used, IsNoted, AreUses, AreNoted, AreNotesOf}
 use Rattle.fb_resolve.specs.declared.outline.TypeUse.{TypeUse}
 use Rattle.fb_resolve.specs.declared.outline.TypeUse.TheVariants.{Basic, Named}
-use Rattle.fb_resolve.specs.declared.walk.Walk.TheInside.{Inside}
+use Rattle.fb_resolve.specs.declared.walk.Walk.{Walk}
 
 -- what is noted of used names stays right
 pub use_kept : (old new : PathTree) (u : TypeUse) (name : Name) → KeepsPaths old new → IsNoted old u name → IsNoted new u name
@@ -44,17 +43,16 @@ one_noted use_in first old new us xs i u x l e is kept one h = record {
 }
 
 -- what is noted stays right while more paths and names are noted, in a namespace that has its path
-pub placed_grown : (w : Inside) (tree used : PathTree) (scope : Option (Bor Name)) (path : ℕ) → IsTree tree → KeepsPaths w.tree tree → IsTree used → KeepsPaths w.used used
+pub placed_grown : (w : Walk) (tree used : PathTree) (scope : Option (Bor Name)) (path : ℕ) → IsTree tree → KeepsPaths w.tree tree → IsTree used → KeepsPaths w.used used
     → IsPath tree path (words_of_scope (option_copied scope)) → IsPlaced w → IsPlaced (record w { tree = tree; used = used; scope = scope; path = path })
 placed_grown w tree used scope path is kept is_used kept_uses here h = record {
   tree = is;
   used = is_used;
   scope = here;
-  namespaces = zip_weaker (λ n r. IsPath w.tree n (words_of_scope r.scope)) (λ n r. IsPath tree n (words_of_scope r.scope)) (λ n r. kept n _) w.namespaces.items w.types.items h.namespaces;
+  notes = zip_weaker (AreNotesOf w.tree w.used) (AreNotesOf tree used)
+      (λ n r was. record { namespace = kept n.namespace _ was.namespace; uses = uses_kept w.used used n.uses.items (names_used r.declaration) kept_uses was.uses }) w.notes.items w.types.items h.notes;
   full_names = zip_weaker (λ n r. IsPath w.tree n (words (name_of_type r))) (λ n r. IsPath tree n (words (name_of_type r))) (λ n r. kept n _) w.full_names.items w.types.items h.full_names;
   values = h.values;
-  uses = zip_weaker (λ us r. AreUses w.used us.items (names_used r.declaration)) (λ us r. AreUses used us.items (names_used r.declaration))
-      (λ us r. uses_kept w.used used us.items (names_used r.declaration) kept_uses) w.uses.items w.types.items h.uses;
   root = λ r e. let root = h.root r e in (kept w.root_path _ root.0, use_kept w.used used w.root_use r.name.bytes kept_uses root.1);
 }
 
@@ -96,10 +94,3 @@ module _ {X : Type 0} (use_in : X → Name) (used : PathTree) (us : List TypeUse
 -- what is noted of one name
 pub first_use : (used : PathTree) (us : List TypeUse) (name : Name) (d : TypeUse) → AreUses used us (name ∷ []) → IsNoted used (get_or us 0 d) name
 first_use used us name d all = zip_at (IsNoted used) us (name ∷ []) 0 d name all (omega arith)
-
--- what is noted of the names of a type
-pub types_used_at : (used : PathTree) (uses : List (Vec TypeUse Global)) (rs : List TypeRead) (i : ℕ) (us : Vec TypeUse Global) (r : TypeRead) → AreTypesUses used uses rs → i < length rs
-    → us ≡ get_or uses i us → r ≡ get_or rs i r → AreUses used us.items (names_used r.declaration)
-types_used_at used uses rs i us r all l e f =
-    subst (λ (v : Vec TypeUse Global). AreUses used v.items (names_used r.declaration)) (sym e) (subst (λ (q : TypeRead). AreUses used (get_or uses i us).items (names_used q.declaration)) (sym f)
-    (zip_at (λ vs q. AreUses used vs.items (names_used q.declaration)) uses rs i us r all l))

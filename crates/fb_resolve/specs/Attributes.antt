@@ -16,7 +16,7 @@ is_alignment least (pos n) =
     list_any (λ a. a == n) (1 ∷ 2 ∷ 4 ∷ 8 ∷ 16 ∷ 32 ∷ 64 ∷ 128 ∷ 256 ∷ []) && nat_le least n
 is_alignment least (negsuc n) = false
 
--- the first attribute that is a built-in one
+-- the first attribute that is this built-in one
 abbrev pub attribute_called : BuiltInAttribute → List AttributeRead → Option AttributeRead
 attribute_called k attributes = find (λ a. is_same k (built_in_attribute a.name.bytes)) attributes
 

@@ -22,11 +22,16 @@ pub record RootRead : Type 0 where
   pub scope : Option Name
   pub name : Located
 
--- the types and the root of some declarations, and the namespace in force behind them
+-- what some declarations give, and the namespace in force behind them
 pub record WalkRead : Type 0 where
   pub types : List TypeRead
+  pub attributes : List Name
   pub root : Option RootRead
+  pub identifier : Option Located
   pub scope : Option Name
+
+abbrev pub nothing_read : WalkRead
+nothing_read = record { types = []; attributes = []; root = None; identifier = None; scope = None }
 
 abbrev pub scope_named : Option Located → Option Name
 scope_named n = option_map (λ t. t.bytes) n
@@ -72,6 +77,16 @@ outline_of d = record {
   root = root_in None d.declarations;
   identifier = identifier_in d.declarations;
   text_len = d.text_len;
+}
+
+-- what these declarations give together with those before them
+abbrev pub outline_behind : WalkRead → List Declaration → ℕ → Outline
+outline_behind w ds text_len = record {
+  types = w.types ++ types_in w.scope ds;
+  attributes = w.attributes ++ attributes_in ds;
+  root = option_or (root_in w.scope ds) w.root;
+  identifier = option_or (identifier_in ds) w.identifier;
+  text_len = text_len;
 }
 
 -- a type's name as it is declared

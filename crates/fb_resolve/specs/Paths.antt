@@ -1,18 +1,18 @@
 -- The paths of a text's namespaces and types, and the names that it uses for types.
 -- From the FlatBuffers documentation, "Writing a schema": Namespaces, Types.
-use Rattle.std.specs.Prelude.{ℕ, ◌≡◌, List, [], ◌∷◌, Option, None, Some, Vec, map, slice_get}
-use Rattle.std.specs.Global.{Global}
+use Rattle.std.specs.Prelude.{ℕ, ◌≡◌, List, [], ◌∷◌, Option, None, Some, map, slice_get}
 use Rattle.std.specs.List.{AllZip}
 use Rattle.std.specs.Option.{ForSome, option_copied}
 use Rattle.fb_scopes.specs.Words.{Path, words}
 use Rattle.fb_scopes.specs.PathTree.{paths, IsTree, KeepsPaths}
 use Rattle.fb_scopes.specs.Scopes.{tree_of, names_of, AreScopes, IsUse}
 use Rattle.fb_scopes.specs.declared.path_tree.PathTree.{PathTree}
-use Rattle.fb_resolve.specs.Outline.{TypeRead, RootRead, name_of_type}
+use Rattle.fb_resolve.specs.Outline.{TypeRead, RootRead, WalkRead, name_of_type}
 use Rattle.fb_resolve.specs.RepeatedNames.{repeated_names}
 use Rattle.fb_resolve.specs.EnumsRead.{enum_values_of}
 use Rattle.fb_resolve.specs.declared.outline.Names.{Names}
-use Rattle.fb_resolve.specs.declared.walk.Walk.TheInside.{Inside}
+use Rattle.fb_resolve.specs.declared.outline.TypeNotes.{TypeNotes}
+use Rattle.fb_resolve.specs.declared.walk.Walk.{Walk}
 use Rattle.fb_syntax.specs.FieldRead.{FieldRead}
 use Rattle.fb_syntax.specs.declared.declarations.UnionMember.{UnionMember}
 use Rattle.fb_syntax.specs.declared.declarations.TypeDecl.{TypeDecl}
@@ -55,30 +55,39 @@ pub record AreNoted (old new : PathTree) (noted : List TypeUse) (names : List Na
   pub kept : KeepsPaths old new
   pub uses : AreUses new noted names
 
--- so are the names of all types
-abbrev pub AreTypesUses : PathTree → List (Vec TypeUse Global) → List TypeRead → Type 0
-AreTypesUses used uses types = AllZip (λ us r. AreUses used us.items (names_used r.declaration)) uses types
+-- this is noted of a type: the path of its namespace, and the names that it uses
+pub record AreNotesOf (tree used : PathTree) (notes : TypeNotes) (r : TypeRead) : Type 0 where
+  pub namespace : IsPath tree notes.namespace (words_of_scope r.scope)
+  pub uses : AreUses used notes.uses.items (names_used r.declaration)
 
 -- the namespace of a root has a path of this number, and this is noted of the root's name
 abbrev pub IsRootPlaced : PathTree → PathTree → ℕ → TypeUse → Option RootRead → Type 0
 IsRootPlaced tree used n named root = ForSome root (λ r. IsPath tree n (words_of_scope r.scope) × IsNoted used named r.name.bytes)
 
--- The namespace in force has its path, each type its namespace's and its full name's, and each used name is noted.
-pub record IsPlaced (w : Inside) : Type 0 where
+-- what is read so far
+abbrev pub walk_read : Walk → WalkRead
+walk_read w = record {
+  types = w.types.items;
+  attributes = map (λ a. a.now) w.attributes.items;
+  root = w.root;
+  identifier = option_copied w.identifier;
+  scope = option_copied w.scope;
+}
+
+-- The namespace in force has its path, each type its full name's and its values, and each type and the root are noted.
+pub record IsPlaced (w : Walk) : Type 0 where
   pub tree : IsTree w.tree
   pub used : IsTree w.used
   pub scope : IsPath w.tree w.path (words_of_scope (option_copied w.scope))
-  pub namespaces : AllZip (λ n r. IsPath w.tree n (words_of_scope r.scope)) w.namespaces.items w.types.items
+  pub notes : AllZip (AreNotesOf w.tree w.used) w.notes.items w.types.items
+  pub values : (others : List TypeRead) → w.values.items ≡ map (enum_values_of others) w.types.items
   pub full_names : AllZip (λ n r. IsPath w.tree n (words (name_of_type r))) w.full_names.items w.types.items
-  pub uses : AreTypesUses w.used w.uses.items w.types.items
-  pub values : (types : List TypeRead) → w.values.items ≡ map (enum_values_of types) w.types.items
   pub root : IsRootPlaced w.tree w.used w.root_path w.root_use w.root
 
--- Each name has its meaning in each namespace, these are the namespaces' paths, repeated names are marked, and
--- each enum has its values.
+-- Each name has its meaning in each namespace, this is noted of each type, each enum has its values, and repeated
+-- names are marked.
 pub record AreNames (n : Names) (types : List TypeRead) : Type 0 where
   pub scopes : AreScopes n.scopes (paths_of_types types)
-  pub namespaces : AllZip (λ k r. IsPath (tree_of n.scopes) k (words_of_scope r.scope)) n.namespaces.items types
-  pub uses : AreTypesUses (names_of n.scopes) n.uses.items types
-  pub repeats : n.repeats.items ≡ repeated_names name_of_type types
+  pub notes : AllZip (AreNotesOf (tree_of n.scopes) (names_of n.scopes)) n.notes.items types
   pub values : n.values.items ≡ map (enum_values_of types) types
+  pub repeats : n.repeats.items ≡ repeated_names name_of_type types

@@ -55,7 +55,7 @@ fn integer_value_in(attribute: &Attribute<'_>) -> Option<i128>
     }
 }
 
-/// The integer that the first attribute of a name has.
+/// The integer value of the first attribute that is this built-in one.
 #[tactic(auto, unfolding(crate::specs::Attributes::number_called))]
 pub(crate) fn number_called(
     built_in: BuiltInAttribute,

@@ -1,10 +1,13 @@
 //! The names of basic types.
-ghost use Rattle.std.specs.Prelude.{◌≡◌};
+ghost use Rattle.std.specs.Prelude.{◌≡◌, Some};
 ghost use Rattle.fb_resolve.specs.BasicTypes.{basic_type, is_reserved};
+ghost use Rattle.fb_resolve.specs.Meaning.{basic_or};
+ghost use Rattle.fb_resolve.specs.declared.meanings.Meaning.{Meaning as Meant};
 
-use fb_schema::Base;
+use crate::meanings::Meaning;
+use fb_schema::{Base, Kind};
 
-/// A type that needs no declaration; float types are left out.
+/// A type that needs no declaration.
 #[derive(Clone, Copy, Drop)]
 pub(crate) enum BasicType {
     Scalar(Base),
@@ -12,15 +15,24 @@ pub(crate) enum BasicType {
     Float,
 }
 
+impl BasicType {
+    /// What its name means.
+    pub(crate) fn meaning(self) -> Meaning
+        ensures { (other : Meant) → result ≡ basic_or (Some self) other }
+    {
+        match self {
+            BasicType::Scalar(base) => Meaning::Known(Kind::Scalar(base)),
+            BasicType::Text => Meaning::Known(Kind::Text),
+            BasicType::Float => Meaning::Float,
+        }
+    }
+}
+
 /// The basic type of a name.
 #[tactic(auto, unfolding(crate::specs::BasicTypes::basic_type))]
 pub(crate) fn basic_type(name: &str) -> Option<BasicType>
     ensures { result ≡ basic_type name.now }
 {
-    // most names of declared types begin so, and no other
-    if let [b'A'..=b'Z', ..] = name.as_bytes() {
-        return None;
-    }
     match name {
         "string" => Some(BasicType::Text),
         "int" | "int32" => Some(BasicType::Scalar(Base::I32)),

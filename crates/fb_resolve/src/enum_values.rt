@@ -11,12 +11,10 @@ ghost use Rattle.fb_resolve.specs.RepeatedNames.{repeated_names};
 ghost use Rattle.fb_resolve.specs.EnumsRead.{values_over, number_named, IndexesValues};
 
 use crate::attributes::has_attribute;
-use crate::basic_types::BasicType;
 use crate::enums::{integer_type, resolved_values, value_number};
-use crate::meanings::Meaning;
 use crate::outline::TypeUse;
 use crate::resolved::ResolvedValue;
-use fb_schema::{Base, Kind};
+use fb_schema::Base;
 use fb_syntax::{BuiltInAttribute, TypeDecl};
 use std::alloc::{AllocError, Global};
 use std::collections::BTreeMap;
@@ -103,8 +101,8 @@ fn underlying(noted: TypeUse) -> Option<Base>
         → IsNoted used noted name → result ≡ integer_type (meaning_of types scope name) }
 {
     match noted {
-        TypeUse::Basic(BasicType::Scalar(base)) => integer_type(Meaning::Known(Kind::Scalar(base))),
-        _ => None,
+        TypeUse::Basic(basic) => integer_type(basic.meaning()),
+        TypeUse::Named(_) => None,
     }
 }
 

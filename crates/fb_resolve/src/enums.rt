@@ -1,12 +1,9 @@
-//! The numbers of an enum's values, and what the name of a value means.
-ghost use Rattle.std.specs.Prelude.{◌≡◌, ◌≤◌, ◌+◌, ◌*◌, ℕ, List, Option, IfOk, map, string_bytes};
+//! The numbers of an enum's values.
+ghost use Rattle.std.specs.Prelude.{◌≡◌, ◌≤◌, ◌+◌, ◌*◌, ℕ, IfOk, map, string_bytes};
 ghost use Rattle.std.specs.Int.RustNames.{unsigned_abs};
 ghost use Rattle.fb_syntax.specs.Integers.{greatest_magnitude};
-ghost use Rattle.fb_schema.specs.Schema.{Name};
 ghost use Rattle.fb_schema.specs.Alignments.{base_size};
-ghost use Rattle.fb_resolve.specs.Outline.{TypeRead};
-ghost use Rattle.fb_resolve.specs.EnumsRead.{integer_type};
-ghost use Rattle.fb_resolve.specs.EnumsRead.{value_number, may_be_written, written_number};
+ghost use Rattle.fb_resolve.specs.EnumsRead.{integer_type, value_number, may_be_written, written_number};
 ghost use Rattle.fb_resolve.specs.EnumsRead.{resolved_values, value_over, values_over};
 
 use crate::meanings::Meaning;

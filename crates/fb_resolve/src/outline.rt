@@ -8,7 +8,7 @@ use crate::enum_values::EnumValues;
 use crate::walk::Walk;
 use fb_schema::Base;
 use fb_scopes::Scopes;
-use fb_syntax::{Declaration, Decls, Directive, DottedName, Text, TypeDecl};
+use fb_syntax::{Decls, DottedName, Text, TypeDecl};
 use std::alloc::{AllocError, Global};
 use std::marker::Model;
 
@@ -51,22 +51,29 @@ pub(crate) enum TypeUse {
     Named(usize),
 }
 
+/// What is noted of a type.
+#[derive(Drop)]
+pub(crate) struct TypeNotes {
+    /// The number of its namespace's path.
+    pub namespace: usize,
+    /// What is noted of the names that it uses, in their order.
+    pub uses: Vec<TypeUse>,
+}
+
 /// What the names of types and of enums' values mean, and where the types and the root of a text stand.
 #[derive(Drop)]
 pub(crate) struct Names<'d, 's> {
     pub scopes: Scopes<'d>,
-    /// Of each type the number of its namespace's path.
-    pub namespaces: Vec<usize>,
-    /// Of each type what is noted of the names that it uses, in their order.
-    pub uses: Vec<Vec<TypeUse>>,
+    /// What is noted of each type, in order.
+    pub notes: Vec<TypeNotes>,
+    /// Of each type the values that it has as an enum.
+    pub values: Vec<EnumValues<'d, 's>>,
     /// The number of the path of the namespace in which the root is named.
     pub root_path: usize,
     /// What is noted of the root's name.
     pub root_use: TypeUse,
     /// Of each type whether one before it has its full name.
     pub repeats: Vec<bool>,
-    /// Of each type the values that it has as an enum.
-    pub values: Vec<EnumValues<'d, 's>>,
 }
 
 /// What a schema text declares, sorted by kind.
@@ -109,19 +116,10 @@ impl<'d, 's> Outline<'d, 's> {
         ensures { IfOk result (λ o. o ≡ outline_of decls.now) }
     {
         let mut walk = Walk::new(alloc, decls.declarations().len())?;
-        let mut attributes = Vec::new(alloc);
-        let mut identifier = None;
         for declaration in decls.declarations() {
-            match declaration {
-                Declaration::Namespace(name) => walk = walk.inside(name.as_ref())?,
-                Declaration::Type(declaration) => walk = walk.with_type(alloc, declaration)?,
-                Declaration::Attribute(name) => attributes.push(name.text)?,
-                Declaration::Directive(Directive::RootType(name)) => walk = walk.with_root(name)?,
-                Declaration::Directive(Directive::FileIdentifier(text)) => identifier = Some(text),
-                Declaration::Directive(Directive::FileExtension(_)) => {}
-            }
+            walk.pass(alloc, declaration)?;
         }
-        walk.outline(alloc, attributes, identifier, decls.text_len())
+        walk.outline(alloc, decls.text_len())
     }
 }
 

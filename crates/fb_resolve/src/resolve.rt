@@ -17,7 +17,7 @@ use crate::enum_values::EnumValues;
 use crate::ids::Slots;
 use crate::meanings::Meaning;
 use crate::members::member_name;
-use crate::outline::{Names, Outline, RootRead, TypeRead, TypeUse};
+use crate::outline::{Names, Outline, RootRead, TypeNotes, TypeRead, TypeUse};
 use crate::resolved::{
     ResolvedDecl, ResolvedEnum, ResolvedField, ResolvedMember, ResolvedStruct, ResolvedTable,
     ResolvedType, ResolvedUnion,
@@ -43,13 +43,13 @@ impl<'t, 'd, 's> Scope<'t, 'd, 's> {
         for (number, field) in fields.iter().enumerate() {
             let meaning = self.meaning(uses[number]);
             let default = field.default.as_ref();
-            resolved.push(ResolvedField {
+            resolved.push_reserved(ResolvedField {
                 field,
                 meaning,
                 attributes: field_attributes(field.attributes.as_slice()),
                 given: given_by(self, &field.kind, meaning, default),
                 code: code_of(alloc, field, meaning)?,
-            })?;
+            });
         }
         Ok(resolved)
     }
@@ -69,12 +69,12 @@ impl<'t, 'd, 's> Scope<'t, 'd, 's> {
         for (number, member) in members.iter().enumerate() {
             let (name, name_at) = member_name(alloc, member)?;
             let meaning = self.meaning(uses[number]);
-            resolved.push(ResolvedMember {
+            resolved.push_reserved(ResolvedMember {
                 name,
                 name_at,
                 member,
                 meaning,
-            })?;
+            });
         }
         Ok(resolved)
     }
@@ -82,11 +82,11 @@ impl<'t, 'd, 's> Scope<'t, 'd, 's> {
     fn resolved_enum(
         self,
         declared: &'d EnumDecl<'s>,
-        uses: &[TypeUse],
+        notes: &TypeNotes,
         values: &'t EnumValues<'d, 's>,
     ) -> ResolvedEnum<'t, 'd, 's>
         requires scopes { AreScopes self.names.now.scopes (paths_of_types self.types.now) }
-        requires used { AreUses (names_of self.names.now.scopes) uses.now
+        requires used { AreUses (names_of self.names.now.scopes) notes.now.uses.items
             (names_used (Enum declared.now)) }
         requires values { values.now
             ≡ enum_values self.types.now (option_copied self.name) (Enum declared.now) }
@@ -95,7 +95,7 @@ impl<'t, 'd, 's> Scope<'t, 'd, 's> {
     {
         ResolvedEnum {
             declared,
-            underlying: self.meaning(uses[0]),
+            underlying: self.meaning(notes.uses[0]),
             values,
         }
     }
@@ -104,11 +104,11 @@ impl<'t, 'd, 's> Scope<'t, 'd, 's> {
         self,
         alloc: Global,
         declaration: &'d TypeDecl<'s>,
-        uses: &[TypeUse],
+        notes: &TypeNotes,
         values: &'t EnumValues<'d, 's>,
     ) -> Result<ResolvedDecl<'t, 'd, 's>, AllocError>
         requires scopes { AreScopes self.names.now.scopes (paths_of_types self.types.now) }
-        requires used { AreUses (names_of self.names.now.scopes) uses.now
+        requires used { AreUses (names_of self.names.now.scopes) notes.now.uses.items
             (names_used declaration.now) }
         requires values { values.now
             ≡ enum_values self.types.now (option_copied self.name) declaration.now }
@@ -116,6 +116,7 @@ impl<'t, 'd, 's> Scope<'t, 'd, 's> {
             ≡ resolved_declaration self.entry.types.now (option_copied self.entry.name)
             declaration.now) }
     {
+        let uses = notes.uses.as_slice();
         Ok(match declaration {
             TypeDecl::Table(declared) => {
                 let fields = self.resolved_fields(alloc, declared.fields.as_slice(), uses)?;
@@ -135,7 +136,7 @@ impl<'t, 'd, 's> Scope<'t, 'd, 's> {
                 })
             }
             TypeDecl::Enum(declared) => {
-                ResolvedDecl::Enum(self.resolved_enum(declared, uses, values))
+                ResolvedDecl::Enum(self.resolved_enum(declared, notes, values))
             }
             TypeDecl::Union(declared) => {
                 let members = self.resolved_members(alloc, declared.members.as_slice(), uses)?;
@@ -156,16 +157,16 @@ fn resolved_types<'t, 'd, 's>(
 {
     let mut resolved = Vec::with_capacity(alloc, types.len())?;
     for (number, read) in types.iter().enumerate() {
+        let notes = &names.notes[number];
         let scope = Scope {
             types,
             names,
-            path: names.namespaces[number],
+            path: notes.namespace,
             name: read.scope,
         };
-        let uses = names.uses[number].as_slice();
         let values = &names.values[number];
-        let declaration = scope.resolved_declaration(alloc, read.declaration, uses, values)?;
-        resolved.push(ResolvedType { read, declaration })?;
+        let declaration = scope.resolved_declaration(alloc, read.declaration, notes, values)?;
+        resolved.push_reserved(ResolvedType { read, declaration });
     }
     Ok(resolved)
 }

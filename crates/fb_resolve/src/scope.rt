@@ -3,11 +3,10 @@ ghost use Rattle.std.specs.Prelude.{◌≡◌, map};
 ghost use Rattle.fb_schema.specs.Schema.{Name};
 ghost use Rattle.std.specs.Option.{option_copied};
 ghost use Rattle.fb_scopes.specs.Scopes.{tree_of, names_of, AreScopes};
-ghost use Rattle.fb_resolve.specs.EnumsRead.{enum_values_of};
-ghost use Rattle.fb_resolve.specs.Meaning.{meaning_of, words_of_scope, paths_of_types};
+ghost use Rattle.fb_resolve.specs.Meaning.{meaning_of, use_of_type, words_of_scope, paths_of_types};
 ghost use Rattle.fb_resolve.specs.Paths.{IsPath, IsNoted};
+ghost use Rattle.fb_resolve.specs.EnumsRead.{enum_values_of};
 
-use crate::basic_types::BasicType;
 use crate::meanings::Meaning;
 use crate::outline::{Names, TypeRead, TypeUse};
 use fb_schema::{Kind, TypeId};
@@ -33,24 +32,30 @@ impl Scope<'_, '_, '_> {
         ensures { (name : Name) → IsNoted (names_of self.entry.names.now.scopes) noted name
             → result ≡ meaning_of self.entry.types.now (option_copied self.entry.name) name }
     {
-        let number = match noted {
-            TypeUse::Basic(BasicType::Scalar(base)) => return Meaning::Known(Kind::Scalar(base)),
-            TypeUse::Basic(BasicType::Text) => return Meaning::Known(Kind::Text),
-            TypeUse::Basic(BasicType::Float) => return Meaning::Float,
-            TypeUse::Named(used) => self.names.scopes.meant(self.path, used),
-        };
-        let Some(number) = number else {
-            return Meaning::Unknown;
-        };
-        let Some(read) = self.types.get(number) else {
-            return Meaning::Unknown;
-        };
-        let id = TypeId(number as u64);
-        match read.declaration {
-            TypeDecl::Table(_) => Meaning::Known(Kind::Table(id)),
-            TypeDecl::Struct(_) => Meaning::Known(Kind::Struct(id)),
-            TypeDecl::Enum(_) => Meaning::Known(Kind::Enum(id)),
-            TypeDecl::Union(_) => Meaning::Known(Kind::Union(id)),
+        match noted {
+            TypeUse::Basic(basic) => basic.meaning(),
+            TypeUse::Named(used) => {
+                meaning_of_type(self.types, self.names.scopes.meant(self.path, used))
+            }
         }
+    }
+}
+
+/// What a name means that resolves to the type of this number; `Unknown` where it resolves to none.
+fn meaning_of_type(types: &[TypeRead<'_, '_>], number: Option<usize>) -> Meaning
+    ensures { result ≡ use_of_type types.now number }
+{
+    let Some(number) = number else {
+        return Meaning::Unknown;
+    };
+    let Some(read) = types.get(number) else {
+        return Meaning::Unknown;
+    };
+    let id = TypeId(number as u64);
+    match read.declaration {
+        TypeDecl::Table(_) => Meaning::Known(Kind::Table(id)),
+        TypeDecl::Struct(_) => Meaning::Known(Kind::Struct(id)),
+        TypeDecl::Enum(_) => Meaning::Known(Kind::Enum(id)),
+        TypeDecl::Union(_) => Meaning::Known(Kind::Union(id)),
     }
 }

@@ -1,6 +1,5 @@
 //! The slots that the fields of a table take.
-ghost use Rattle.std.specs.Prelude.{◌≡◌, ◌<◌, ◌-◌, ◌++◌, ◌^◌, IfOk, OnOk, IsSome, map};
-ghost use Rattle.std.specs.Prelude.{Some, string_bytes};
+ghost use Rattle.std.specs.Prelude.{◌≡◌, ◌<◌, ◌-◌, ◌++◌, ◌^◌, IfOk, OnOk, IsSome, map, Some, string_bytes};
 ghost use Rattle.std.specs.Option.{option_map};
 ghost use Rattle.fb_schema.specs.Seen.{field_seen};
 ghost use Rattle.fb_resolve.specs.SlotsRead.{union_in, value_slot, name_of_code, code_slot};

@@ -39,10 +39,8 @@ fn align_in(outline: &Outline<'_, '_>, lower: &[u16], resolved: &ResolvedField<'
     match (&field.kind, resolved.meaning) {
         (FieldType::One(_), Meaning::Known(Kind::Scalar(base))) => base.size(),
         (FieldType::One(_), Meaning::Known(Kind::Enum(TypeId(number)))) => {
-            outline
-                .names
-                .underlying_at(number as usize)
-                .map_or(0, Base::size)
+            let base = outline.names.underlying_at(number as usize);
+            base.map_or(0, Base::size)
         }
         (FieldType::One(_), Meaning::Known(Kind::Struct(TypeId(number)))) => {
             lower.get(number as usize).copied().unwrap_or(0)

@@ -1,170 +1,172 @@
 //! One walk over a text's declarations.
-ghost use Rattle.std.specs.Prelude.{◌≡◌, ◌<◌, ◌++◌, [], ◌∷◌, None, Some, All, IfOk, OnOk, map};
+ghost use Rattle.std.specs.Prelude.{◌≡◌, ◌<◌, ◌++◌, List, [], ◌∷◌, Some, ℕ, All, IfOk, OnOk, map};
 ghost use Rattle.std.specs.Option.{option_copied};
+ghost use Rattle.fb_syntax.specs.declared.declarations.Declaration.{Declaration as Declared};
 ghost use Rattle.fb_scopes.specs.PathTree.{IsTree, KeepsPaths};
-ghost use Rattle.fb_resolve.specs.Outline.{scope_named};
+ghost use Rattle.fb_resolve.specs.Outline.{scope_named, nothing_read, outline_behind};
 ghost use Rattle.fb_resolve.specs.RepeatedNames.{repeated_numbers};
-ghost use Rattle.fb_resolve.specs.Paths.{types_used, tables_used, names_used, IsNoted, AreNoted};
+ghost use Rattle.fb_resolve.specs.Paths.{names_used, walk_read, IsNoted, AreNoted, IsPlaced};
+ghost use Rattle.fb_resolve.specs.Meaning.{type_name};
+ghost use Rattle.fb_schema.specs.Schema.{Name};
 
 use crate::basic_types::{BasicType, basic_type};
 use crate::enum_values::EnumValues;
 use crate::meanings::type_name;
-use crate::outline::{Names, Outline, RootRead, TypeRead, TypeUse, word_of};
+use crate::outline::{Names, Outline, RootRead, TypeNotes, TypeRead, TypeUse, word_of};
 use fb_scopes::{PathTree, Scopes};
-use fb_syntax::{DottedName, Field, Text, TypeDecl, UnionMember};
+use fb_syntax::{Declaration, Directive, DottedName, Field, Text, TypeDecl, UnionMember};
 use std::alloc::{AllocError, Global};
-use std::marker::Model;
 
-/// The types and the root that are declared so far, the paths of their namespaces and full names, and
-/// the names that they use for types.
+/// What is declared so far, the paths of the namespaces and full names, and the names that are used for
+/// types.
 #[derive(Drop)]
 pub(crate) struct Walk<'d, 's> {
     types: Vec<TypeRead<'d, 's>>,
+    attributes: Vec<&'s str>,
     root: Option<RootRead<'d, 's>>,
+    identifier: Option<&'d Text<'s>>,
     /// The namespace in force.
     scope: Option<&'d str>,
     /// The number of its path.
     path: usize,
     tree: PathTree<'d>,
     used: PathTree<'d>,
-    /// Of each type the number of its namespace's path.
-    namespaces: Vec<usize>,
-    /// Of each type the number of its full name's path.
-    full_names: Vec<usize>,
-    /// Of each type what is noted of the names that it uses.
-    uses: Vec<Vec<TypeUse>>,
+    /// What is noted of each type, in order.
+    notes: Vec<TypeNotes>,
     /// Of each type the values that it has as an enum.
     values: Vec<EnumValues<'d, 's>>,
+    /// Of each type the number of its full name's path.
+    full_names: Vec<usize>,
     /// The number of the path of the namespace in which the root is named.
     root_path: usize,
     /// What is noted of the root's name.
     root_use: TypeUse,
 }
 
-impl<'d, 's> Model for Walk<'d, 's> {
-    ghost use Rattle.std.specs.Option.{option_copied};
-    ghost use Rattle.fb_resolve.specs.Outline.{WalkRead};
-
-    ghost Value = { WalkRead };
-
-    ghost use Rattle.fb_resolve.specs.Paths.{IsPlaced};
-
-    ghost view = { λ w. record { types = w.types.items; root = w.root; scope = option_copied w.scope } };
-
-    ghost invariant = { IsPlaced };
-}
-
 impl<'d, 's> Walk<'d, 's> {
     /// Nothing is declared, and no namespace is in force; up to `count` types have room. The only
     /// error is a refused allocation.
     pub(crate) fn new(alloc: Global, count: usize) -> Result<Walk<'d, 's>, AllocError>
-        ensures { IfOk result (λ w. w ≡ record { types = []; root = None; scope = None }) }
+        ensures placed { IfOk result IsPlaced }
+        ensures empty { IfOk result (λ w. walk_read w ≡ nothing_read) }
     {
         Ok(Walk {
             types: Vec::with_capacity(alloc, count)?,
+            attributes: Vec::new(alloc),
             root: None,
+            identifier: None,
             scope: None,
             path: 0,
             tree: PathTree::new(alloc),
             used: PathTree::new(alloc),
-            namespaces: Vec::with_capacity(alloc, count)?,
-            full_names: Vec::with_capacity(alloc, count)?,
-            uses: Vec::with_capacity(alloc, count)?,
+            notes: Vec::with_capacity(alloc, count)?,
             values: Vec::with_capacity(alloc, count)?,
+            full_names: Vec::with_capacity(alloc, count)?,
             root_path: 0,
             root_use: TypeUse::Basic(BasicType::Text),
         })
     }
 
-    /// Another namespace is in force.
-    pub(crate) fn inside(
-        mut self,
-        name: Option<&'d DottedName<'_>>,
-    ) -> Result<Walk<'d, 's>, AllocError>
-        ensures { IfOk result
-            (λ w. w ≡ record self.entry { scope = scope_named (option_copied name.entry) }) }
+    /// Passes a declaration. The only error is a refused allocation.
+    pub(crate) fn pass(
+        &mut self,
+        alloc: Global,
+        declaration: &'d Declaration<'s>,
+    ) -> Result<(), AllocError>
+        requires placed { IsPlaced self.now }
+        ensures placed { OnOk result (IsPlaced self.new) }
+        ensures passed { (behind : List Declared) (len : ℕ) → OnOk result
+            (outline_behind (walk_read self.new) behind len
+            ≡ outline_behind (walk_read self.old) (declaration.now ∷ behind) len) }
+    {
+        match declaration {
+            Declaration::Namespace(name) => self.enter(name.as_ref()),
+            Declaration::Type(declaration) => self.add_type(alloc, declaration),
+            Declaration::Attribute(name) => Ok(self.attributes.push(name.text)?),
+            Declaration::Directive(Directive::RootType(name)) => self.set_root(name),
+            Declaration::Directive(Directive::FileIdentifier(text)) => {
+                self.identifier = Some(text);
+                Ok(())
+            }
+            Declaration::Directive(Directive::FileExtension(_)) => Ok(()),
+        }
+    }
+
+    /// Puts another namespace in force.
+    fn enter(&mut self, name: Option<&'d DottedName<'_>>) -> Result<(), AllocError>
+        requires placed { IsPlaced self.now }
+        ensures placed { OnOk result (IsPlaced self.new) }
+        ensures entered { OnOk result (walk_read self.new
+            ≡ record (walk_read self.old) { scope = scope_named (option_copied name.entry) }) }
     {
         let Some(name) = name else {
             self.scope = None;
             self.path = 0;
-            return Ok(self);
+            return Ok(());
         };
         let name = name.as_str();
         self.path = self.tree.insert_words(0, name)?;
         self.scope = Some(name);
-        Ok(self)
+        Ok(())
     }
 
-    /// A type is declared.
-    pub(crate) fn with_type(
-        mut self,
-        alloc: Global,
-        declaration: &'d TypeDecl<'s>,
-    ) -> Result<Walk<'d, 's>, AllocError>
-        ensures { IfOk result (λ w. w ≡ record self.entry {
-          types = self.entry.types
-              ++ record { scope = self.entry.scope; declaration = declaration.now } ∷ [];
+    /// Adds a type.
+    fn add_type(&mut self, alloc: Global, declaration: &'d TypeDecl<'s>) -> Result<(), AllocError>
+        requires placed { IsPlaced self.now }
+        ensures placed { OnOk result (IsPlaced self.new) }
+        ensures added { OnOk result (walk_read self.new ≡ record (walk_read self.old) {
+          types = (walk_read self.old).types
+              ++ record { scope = (walk_read self.old).scope; declaration = declaration.now } ∷ [];
         }) }
     {
+        let scope = self.scope;
+        let namespace = self.path;
         let uses = uses_of(alloc, &mut self.used, declaration)?;
         let values = EnumValues::of(alloc, declaration, uses.as_slice())?;
         let word = word_of(declaration).text;
-        let path = self.path;
-        let scope = self.scope;
-        let full_name = self.tree.insert_words(path, word)?;
-        self.namespaces.push(path)?;
-        self.full_names.push(full_name)?;
-        self.uses.push(uses)?;
+        let full_name = self.tree.insert_words(namespace, word)?;
         self.values.push(values)?;
-        self.types.push(TypeRead { scope, declaration })?;
-        Ok(self)
+        self.full_names.push(full_name)?;
+        self.notes.push(TypeNotes { namespace, uses })?;
+        Ok(self.types.push(TypeRead { scope, declaration })?)
     }
 
-    /// The root is named.
-    pub(crate) fn with_root(mut self, name: &'d DottedName<'s>) -> Result<Walk<'d, 's>, AllocError>
-        ensures { IfOk result (λ w. w ≡ record self.entry
-            { root = Some (record { scope = self.entry.scope; name = name.now }) }) }
+    /// Sets the root.
+    fn set_root(&mut self, name: &'d DottedName<'s>) -> Result<(), AllocError>
+        requires placed { IsPlaced self.now }
+        ensures placed { OnOk result (IsPlaced self.new) }
+        ensures named { OnOk result (walk_read self.new ≡ record (walk_read self.old)
+            { root = Some (record { scope = (walk_read self.old).scope; name = name.now }) }) }
     {
-        self.root_use = type_use(&mut self.used, name.as_str())?;
         let scope = self.scope;
-        self.root = Some(RootRead { scope, name });
+        self.root_use = type_use(&mut self.used, name.as_str())?;
         self.root_path = self.path;
-        Ok(self)
+        self.root = Some(RootRead { scope, name });
+        Ok(())
     }
 
-    /// All is declared. The only error is a refused allocation.
-    pub(crate) fn outline(
-        self,
-        alloc: Global,
-        attributes: Vec<&'s str>,
-        identifier: Option<&'d Text<'s>>,
-        text_len: u64,
-    ) -> Result<Outline<'d, 's>, AllocError>
-        ensures { IfOk result (λ o. o ≡ record {
-          types = self.entry.types;
-          attributes = map (λ a. a.now) attributes.entry.items;
-          root = self.entry.root;
-          identifier = option_copied identifier.entry;
-          text_len = text_len;
-        }) }
+    /// Builds the outline of a text of this length. The only error is a refused allocation.
+    pub(crate) fn outline(self, alloc: Global, text_len: u64) -> Result<Outline<'d, 's>, AllocError>
+        requires placed { IsPlaced self }
+        ensures { IfOk result
+            (λ o. o ≡ outline_behind (walk_read self.entry) [] text_len) }
     {
         let numbers = self.full_names;
         let full_names = numbers.as_slice();
         let repeats = repeated_numbers(alloc, full_names, self.tree.len())?;
         let names = Names {
             scopes: Scopes::of(alloc, self.tree, self.used, full_names)?,
-            namespaces: self.namespaces,
-            uses: self.uses,
+            notes: self.notes,
+            values: self.values,
             root_path: self.root_path,
             root_use: self.root_use,
             repeats,
-            values: self.values,
         };
         Ok(Outline {
             types: self.types,
-            attributes,
+            attributes: self.attributes,
             root: self.root,
-            identifier,
+            identifier: self.identifier,
             text_len,
             names,
         })
@@ -184,34 +186,42 @@ fn type_use<'d>(used: &mut PathTree<'d>, name: &'d str) -> Result<TypeUse, Alloc
     }
 }
 
-/// What is noted of the names of fields' types.
-fn field_uses<'d>(
-    alloc: Global,
-    used: &mut PathTree<'d>,
-    fields: &'d [Field<'_>],
-) -> Result<Vec<TypeUse>, AllocError>
-    requires { IsTree used.now }
-    ensures { IfOk result (λ v. AreNoted used.old used.new v.items (types_used fields.now)) }
-{
-    let mut uses = Vec::with_capacity(alloc, fields.len())?;
-    for field in fields {
-        uses.push(type_use(used, type_name(&field.kind).as_str())?)?;
-    }
-    Ok(uses)
+/// What uses a name for a type: a field, or a member of a union.
+trait UsesType {
+    ghost name: { Self → Name };
+
+    fn name_used(&self) -> &str
+        ensures { result.now ≡ name self.now };
 }
 
-/// What is noted of the names of members' tables.
-fn member_uses<'d>(
+impl UsesType for Field<'_> {
+    ghost name = { λ f. (type_name f.kind).bytes };
+
+    fn name_used(&self) -> &str {
+        type_name(&self.kind).as_str()
+    }
+}
+
+impl UsesType for UnionMember<'_> {
+    ghost name = { λ m. m.table.bytes };
+
+    fn name_used(&self) -> &str {
+        self.table.as_str()
+    }
+}
+
+/// What is noted of the names that these use.
+fn uses_in<'d, T: UsesType>(
     alloc: Global,
     used: &mut PathTree<'d>,
-    members: &'d [UnionMember<'_>],
+    users: &'d [T],
 ) -> Result<Vec<TypeUse>, AllocError>
     requires { IsTree used.now }
-    ensures { IfOk result (λ v. AreNoted used.old used.new v.items (tables_used members.now)) }
+    ensures { IfOk result (λ v. AreNoted used.old used.new v.items (map T.name users.now)) }
 {
-    let mut uses = Vec::with_capacity(alloc, members.len())?;
-    for member in members {
-        uses.push(type_use(used, member.table.as_str())?)?;
+    let mut uses = Vec::with_capacity(alloc, users.len())?;
+    for user in users {
+        uses.push(type_use(used, user.name_used())?)?;
     }
     Ok(uses)
 }
@@ -227,13 +237,13 @@ fn uses_of<'d>(
 {
     match declaration {
         TypeDecl::Table(read) | TypeDecl::Struct(read) => {
-            field_uses(alloc, used, read.fields.as_slice())
+            uses_in(alloc, used, read.fields.as_slice())
         }
         TypeDecl::Enum(read) => {
             let noted = type_use(used, read.underlying.as_str())?;
             Ok(vec![in alloc; noted; 1]?)
         }
-        TypeDecl::Union(read) => member_uses(alloc, used, read.members.as_slice()),
+        TypeDecl::Union(read) => uses_in(alloc, used, read.members.as_slice()),
     }
 }
 

@@ -1,7 +1,10 @@
-use Rattle.std.proofs.Common.{◌≡◌, ◌++◌, drop}
+use Rattle.std.proofs.Common.{◌≡◌, ◌++◌, ◌+◌, ◌≤◌, drop, length, vec_len, vec_capacity}
 use Rattle.std.specs.Option.{option_copied}
 use Rattle.fb_resolve.specs.Resolved.{resolved_fields}
 use Rattle.fb_resolve.proofs.scope.Scope.resolved_fields.Given as goal
 
 abbrev pub invariant-loop-number : goal.invariant-loop-number
-invariant-loop-number l = l.resolved.items ++ resolved_fields l.self.types.now (option_copied l.self.name) (drop l.number l.fields) ≡ resolved_fields l.self.types.now (option_copied l.self.name) l.fields
+invariant-loop-number l = let resolved = resolved_fields l.self.types.now (option_copied l.self.name) in record {
+  room : vec_len l.resolved + length (drop l.number l.fields) ≤ vec_capacity l.resolved;
+  so_far : l.resolved.items ++ resolved (drop l.number l.fields) ≡ resolved l.fields;
+}

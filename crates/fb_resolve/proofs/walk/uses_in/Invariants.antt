@@ -1,0 +1,6 @@
+use Rattle.std.proofs.Common.{map, take}
+use Rattle.fb_resolve.specs.Paths.{AreNoted}
+use Rattle.fb_resolve.proofs.walk.uses_in.Given as goal
+
+abbrev pub invariant-loop-user : goal.invariant-loop-user
+invariant-loop-user g l = AreNoted l.fn.used l.used l.uses.items (map g.T.UsesType.name (take l.user-index l.users))
