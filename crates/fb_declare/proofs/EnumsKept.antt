@@ -26,7 +26,7 @@ use Rattle.fb_declare.specs.declared.attribute_faults.AttributeHost.TheVariants 
 use Rattle.fb_schema.specs.Ranges.{is_between, holds}
 use Rattle.fb_resolve.specs.ResolvedFields.{ResolvedValue, ResolvedEnum}
 use Rattle.fb_declare.specs.AttributeFaults.{may_stand, metadata_faults}
-use Rattle.fb_resolve.specs.EnumsRead.{integer_type, has_flags, value_number, may_be_written, base_or_ubyte, value_over, values_over}
+use Rattle.fb_resolve.specs.EnumsRead.{name_of_value, integer_type, has_flags, value_number, may_be_written, base_or_ubyte, value_over, values_over}
 use Rattle.fb_declare.specs.FaultRows.{when, faults_in_turn, underlying_faults, is_out_of_range, value_faults}
 use Rattle.fb_resolve.specs.RepeatedNames.{is_again}
 use Rattle.fb_declare.specs.TypeFaults.{host_of_enum, enum_faults}
@@ -90,13 +90,13 @@ numbers_apart base false n m g h e = e
 
 -- what is known of a value with no fault, behind others
 record IsValueRight (base : Base) (flags : Bool) (before : List ResolvedValue) (v : ResolvedValue) : Type 0 where
-  pub name : is_again bytes_eq (λ w. w.value.name.bytes) before v ≡ false
+  pub name : is_again bytes_eq name_of_value before v ≡ false
   pub written : may_be_written base flags v.number ≡ true
   pub number : is_again int_eq (λ w. w.number) before v ≡ false
 
 value_right : (base : Base) (flags : Bool) (before : List ResolvedValue) (v : ResolvedValue) → value_faults (Some base) flags before v ≡ [] → IsValueRight base flags before v
 value_right base flags before v h =
-    let named = is_again bytes_eq (λ w. w.value.name.bytes) before v in
+    let named = is_again bytes_eq name_of_value before v in
     let again = is_again int_eq (λ w. w.number) before v in
     let wrong = is_out_of_range (Some base) flags v.number in
     let at = v.value.name.at in

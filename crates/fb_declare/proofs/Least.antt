@@ -59,11 +59,6 @@ map-taken key xs i x h e = ap (map key) (taken xs i x h e) ∙ map_push key (tak
 pub list_any-snoc : {X : Type 0} (test : X → Bool) (xs : List X) (x : X) → list_any test (xs ++ x ∷ []) ≡ list_any test xs || test x
 list_any-snoc test xs x = list_any-append test xs (x ∷ []) ∙ ap (λ b. list_any test xs || b) (or-false (test x))
 
--- a test of what a list is read as
-pub list_any-map : {X Y : Type 0} (test : Y → Bool) (f : X → Y) (xs : List X) → list_any test (map f xs) ≡ list_any (λ x. test (f x)) xs
-list_any-map test f [] = refl
-list_any-map test f (x ∷ xs) = ap (λ b. test (f x) || b) (list_any-map test f xs)
-
 -- one more in a set
 pub one_more : (here there : Bool) → cond here true there ≡ (there || here)
 one_more true there = or_comm true there

@@ -168,10 +168,6 @@ record IsForced (natural : ℕ) (number : Option ℤ) : Type 0 where
   pub same : forced_align natural number ≡ forced_align 0 number
   pub enough : ForSome (forced_align 0 number) (λ a. natural ≤ a)
 
-none_forced : (natural : ℕ) → IsForced natural None
-unfolding forced_align
-none_forced natural = record { same = refl; enough = λ a is. absurd (none-some a is) }
-
 number_forced : (natural : ℕ) (n : ℤ) → is_alignment natural n ≡ true → IsForced natural (Some n)
 unfolding forced_align
 number_forced natural (pos n) h =
@@ -187,7 +183,8 @@ value_forced natural value h = absurd (false≢true h)
 
 attribute_forced : (natural : ℕ) (called : Option AttributeRead) → ((a : AttributeRead) → called ≡ Some a → may_stand (hosts.Struct natural) ForceAlign a.value ≡ true)
     → IsForced natural (option_and_then (λ a. integer_value_in a.value) called)
-attribute_forced natural None stands = none_forced natural
+unfolding forced_align
+attribute_forced natural None stands = record { same = refl; enough = λ a is. absurd (none-some a is) }
 attribute_forced natural (Some a) stands = value_forced natural a.value (stands a refl)
 
 -- ---- the structs

@@ -1,9 +1,9 @@
 -- What the uses of names mean in the schema that an outline with no fault gives, each type of it by what declares it, and the enums that fields name.
-use Rattle.std.proofs.Common.{◌≡◌, ℕ, zero, suc, Bool, List, ◌∷◌, map, get_or, false, true≢false, refl, sym, subst, arith, Option, None, Some, IsTrue, [], ℤ, IfSome, ◌∙◌, take, ap, slice_get, append_assoc, ◌++◌}
+use Rattle.std.proofs.Common.{◌≡◌, ℕ, zero, suc, Bool, List, ◌∷◌, map, get_or, false, true≢false, refl, sym, subst, arith, Option, None, Some, IsTrue, [], ℤ, IfSome, ◌∙◌, take, ap, slice_get, append_assoc, ◌++◌, ◌<◌, length}
 use Rattle.std.specs.List.{slice_get, All, AllZip, find, list_any}
 use Rattle.std.specs.Option.{is_none, unwrap_or, option_map, option_or, option_and_then}
 use Rattle.std.proofs.lemmas.List.Elements.{All-map, All-head, All-tail}
-use Rattle.std.proofs.lemmas.Option.{none-some, slice_get_within, same_Some, slice_get-map}
+use Rattle.std.proofs.lemmas.Option.{none-some, slice_get_within, same_Some, slice_get-map, slice_get_read, get_or_from_slice_get}
 use Rattle.fb_syntax.specs.FieldRead.{FieldRead}
 use Rattle.fb_syntax.specs.declared.declarations.TypeDecl.{TypeDecl}
 use Rattle.fb_syntax.specs.declared.declarations.TypeDecl.TheVariants as decls
@@ -37,7 +37,7 @@ use Rattle.fb_declare.proofs.EnumsKept.{enum_kept}
 use Rattle.fb_declare.specs.FaultRows.{faults_in_turn}
 use Rattle.fb_resolve.specs.RepeatedNames.{is_again, again_behind, repeated_names}
 use Rattle.fb_declare.specs.TypeFaults.{declaration_faults, aligns_from, type_behind, declared_in}
-use Rattle.std.proofs.lemmas.List.{append-nil, take-map, map-id}
+use Rattle.std.proofs.lemmas.List.{append-nil, take-map, map-id, get_or-map, length-map}
 use Rattle.std.proofs.lemmas.Simd.{map-map}
 
 -- ---- what is known of a declaration that is resolved
@@ -210,14 +210,18 @@ told_again eq key before [] i x e = absurd (none-some x e)
 told_again eq key before (y ∷ xs) zero x e = ap Some (ap (is_again eq key before) (same_Some y x e) ∙ ap (λ b. is_again eq key b x) (sym (append-nil before)))
 told_again eq key before (y ∷ xs) (suc i) x e = told_again eq key (before ++ y ∷ []) xs i x e ∙ ap (λ b. Some (is_again eq key b x)) (append_assoc before (y ∷ []) (take i xs))
 
-pub told_among : {X : Type 0} (name : X → Name) (repeats : List Bool) (xs : List X) (i : ℕ) (x : X) → repeats ≡ repeated_names name xs → slice_get xs i ≡ Some x
-    → slice_get repeats i ≡ Some (is_again bytes_eq name (take i xs) x)
-told_among name repeats xs i x told at = ap (λ bs. slice_get bs i) told ∙ told_again bytes_eq name [] xs i x at
+-- the flag at an index says whether an earlier element has the same name
+pub told_among : {X : Type 0} (name : X → Name) (repeats : List Bool) (xs : List X) (i : ℕ) (x : X) → repeats ≡ repeated_names name xs → i < length xs → x ≡ get_or xs i x
+    → (i < length repeats) × (get_or repeats i false ≡ is_again bytes_eq name (take i xs) x)
+told_among name repeats xs i x told h e =
+    let again = ap (λ bs. slice_get bs i) told ∙ told_again bytes_eq name [] xs i x (slice_get_read xs (length xs) i x refl h e) in
+    (slice_get_within repeats i _ again, get_or_from_slice_get repeats i _ false again)
 
 -- whether a type has the full name of one before it
-pub told_type : (types : List TypeRead) (repeats : List Bool) (rs : List ResolvedType) (i : ℕ) (r : ResolvedType) → repeats ≡ repeated_names name_of_type types → rs ≡ resolved_types types → slice_get rs i ≡ Some r
-    → slice_get repeats i ≡ Some (is_again bytes_eq (λ q. name_of_type q.read) (take i rs) r)
-told_type types repeats rs i r told same at =
+pub told_type : (types : List TypeRead) (repeats : List Bool) (rs : List ResolvedType) (i : ℕ) (r : ResolvedType) → repeats ≡ repeated_names name_of_type types → rs ≡ resolved_types types → i < length rs → r ≡ get_or rs i r
+    → (i < length repeats) × (get_or repeats i false ≡ is_again bytes_eq (λ q. name_of_type q.read) (take i rs) r)
+told_type types repeats rs i r told same h e =
     let reads : map (λ q. q.read) rs ≡ types = ap (map (λ q. q.read)) same ∙ map-map (λ q. q.read) (resolved_type types) types ∙ map-id types in
-    told_among name_of_type repeats (map (λ q. q.read) rs) i r.read (told ∙ ap (repeated_names name_of_type) (sym reads)) (slice_get-map (λ q. q.read) rs i ∙ ap (option_map (λ q. q.read)) at)
-    ∙ ap (λ names. Some (list_any (bytes_eq (name_of_type r.read)) names)) (ap (map name_of_type) (take-map (λ q. q.read) i rs) ∙ map-map name_of_type (λ q. q.read) (take i rs))
+    let among = told_among name_of_type repeats (map (λ q. q.read) rs) i r.read (told ∙ ap (repeated_names name_of_type) (sym reads)) (omega (arith, length-map rs (λ q. q.read)))
+    (ap (λ q. q.read) e ∙ sym (get_or-map (λ q. q.read) rs i r r.read h)) in
+    (among.0, among.1 ∙ ap (list_any (bytes_eq (name_of_type r.read))) (ap (map name_of_type) (take-map (λ q. q.read) i rs) ∙ map-map name_of_type (λ q. q.read) (take i rs)))

@@ -14,7 +14,7 @@ use Rattle.fb_schema.specs.Schema.{Name}
 use Rattle.fb_resolve.specs.Outline.{RootRead}
 use Rattle.fb_resolve.specs.RepeatedNames.{is_again}
 use Rattle.fb_resolve.specs.Meaning.{type_name}
-use Rattle.fb_resolve.specs.EnumsRead.{may_be_written, integer_type}
+use Rattle.fb_resolve.specs.EnumsRead.{may_be_written, integer_type, name_of_value}
 use Rattle.fb_resolve.specs.MembersRead.{table_of}
 use Rattle.fb_resolve.specs.ResolvedFields.{ResolvedMember, ResolvedValue}
 use Rattle.fb_schema.specs.declared.kinds.Base.{Base}
@@ -90,7 +90,7 @@ is_out_of_range (Some base) flags n = not (may_be_written base flags n)
 -- a value that has the name of one before it; and one whose number is out of range, or that of one before it
 abbrev pub value_faults : Option Base → Bool → List ResolvedValue → ResolvedValue → List SchemaFault
 value_faults base flags before v =
-    when (is_again bytes_eq (λ w. w.value.name.bytes) before v) (DuplicateName v.value.name.at)
+    when (is_again bytes_eq name_of_value before v) (DuplicateName v.value.name.at)
     ++ when (is_out_of_range base flags v.number || is_again int_eq (λ w. w.number) before v)
     (BadEnumValue v.value.name.at)
 

@@ -4,4 +4,4 @@ pub mod TypeFaults
 pub mod Declares
 pub mod FaultTable
 pub mod Faults
-pub mod NamesMet
+pub mod NameSet

@@ -3,21 +3,19 @@ ghost use Rattle.std.specs.Prelude.{◌≡◌, codes, IfOk};
 ghost use Rattle.std.specs.List.{starts_with};
 ghost use Rattle.std.specs.Bool.{nat_eq};
 ghost use Rattle.std.specs.Option.{option_copied};
-ghost use Rattle.fb_declare.specs.AttributeFaults.{is_left_out, may_stand};
-ghost use Rattle.fb_declare.specs.AttributeFaults.{attribute_faults, metadata_faults};
+ghost use Rattle.fb_declare.specs.AttributeFaults.{is_left_out, may_stand, attribute_faults, metadata_faults};
 ghost use Rattle.fb_declare.specs.Faults.{least_of};
-ghost use Rattle.fb_declare.specs.NamesMet.{is_met};
+ghost use Rattle.fb_declare.specs.NameSet.{is_met};
 
 use crate::faults::{SchemaFault, earlier, when};
-use crate::names_met::meet;
+use crate::name_set::NameSet;
 use fb_resolve::is_alignment;
 use fb_syntax::{Attribute, AttributeValue, BuiltInAttribute};
 use std::alloc::{AllocError, Global};
-use std::collections::BTreeSet;
 
 /// What an attribute stands on, as far as that decides whether it may. A struct has the alignment
 /// that its fields need; a field of a table that can't be required is a `ScalarField`.
-#[derive(Clone, Copy, Debug, PartialEq, Eq, Drop)]
+#[derive(Clone, Copy, Drop)]
 pub(crate) enum AttributeHost {
     Table,
     Struct(u16),
@@ -73,7 +71,7 @@ fn may_stand(
 
 /// What is wrong with an attribute, where this says whether one before it has its name.
 fn attribute_fault(
-    declared: &BTreeSet<&[u8]>,
+    declared: &NameSet<'_>,
     host: AttributeHost,
     again: bool,
     attribute: &Attribute<'_>,
@@ -97,33 +95,28 @@ fn attribute_fault(
             let is_bad = !may_stand(host, built_in, attribute.value.as_ref()) || again;
             when(is_bad, SchemaFault::BadAttribute(at))
         }
-        None => when(
-            !declared.contains(name.as_bytes()),
-            SchemaFault::UnknownAttribute(at),
-        ),
+        None => when(!declared.contains(name), SchemaFault::UnknownAttribute(at)),
     }
 }
 
 /// The least fault of the attributes at a host. The only error is a refused allocation.
 pub(crate) fn metadata_fault(
     alloc: Global,
-    declared: &BTreeSet<&[u8]>,
+    declared: &NameSet<'_>,
     host: AttributeHost,
     attributes: &[Attribute<'_>],
 ) -> Result<Option<SchemaFault>, AllocError>
     ensures { IfOk result (λ f. f ≡ least_of
         (metadata_faults (is_met declared.now) host attributes.now)) }
 {
-    match attributes {
-        [] => return Ok(None),
-        [attribute] => return Ok(attribute_fault(declared, host, false, attribute)),
-        _ => {}
+    if let [attribute] = attributes {
+        return Ok(attribute_fault(declared, host, false, attribute));
     }
     let mut least = None;
-    let mut met = BTreeSet::new(alloc);
+    let mut met = NameSet::new(alloc);
     for attribute in attributes {
         let name = &attribute.name;
-        let again = meet(&mut met, name.text)?;
+        let again = met.meet(name.text)?;
         least = earlier(least, attribute_fault(declared, host, again, attribute));
     }
     Ok(least)

@@ -1,15 +1,14 @@
 //! Enums: what is wrong with one.
 ghost use Rattle.std.specs.Prelude.{◌≡◌, ◌||◌, IfOk};
-ghost use Rattle.fb_resolve.specs.EnumsRead.{name_of_value};
-ghost use Rattle.fb_resolve.specs.RepeatedNames.{repeated_names};
 ghost use Rattle.fb_declare.specs.Faults.{least_of};
 ghost use Rattle.fb_declare.specs.FaultRows.{underlying_faults, is_out_of_range, faults_in_turn, value_faults};
-ghost use Rattle.fb_declare.specs.NamesMet.{is_met};
+ghost use Rattle.fb_declare.specs.NameSet.{is_met};
 ghost use Rattle.fb_declare.specs.TypeFaults.{host_of_enum, enum_faults};
 
 use crate::attribute_faults::{AttributeHost, metadata_fault};
 use crate::faults::{SchemaFault, earlier, when};
-use fb_resolve::{Meaning, ResolvedEnum, ResolvedValue, integer_type, may_be_written};
+use crate::name_set::NameSet;
+use fb_resolve::{EnumValues, Meaning, ResolvedEnum, integer_type, may_be_written};
 use fb_schema::Base;
 use std::alloc::{AllocError, Global};
 use std::collections::BTreeSet;
@@ -20,10 +19,8 @@ fn underlying_fault(meaning: Meaning, at: u64) -> Option<SchemaFault>
 {
     match meaning {
         Meaning::Unknown => Some(SchemaFault::UnknownType(at)),
-        _ => when(
-            integer_type(meaning).is_none(),
-            SchemaFault::Unsupported(at),
-        ),
+        _ if integer_type(meaning).is_none() => Some(SchemaFault::Unsupported(at)),
+        _ => None,
     }
 }
 
@@ -44,18 +41,18 @@ fn is_bad_number(base: Option<Base>, flags: bool, number: i128, again: bool) -> 
     base.is_some_and(|base| !may_be_written(base, flags, number)) || again
 }
 
-/// The least fault of an enum's values, where these say of each whether one before it has its name.
-/// The only error is a refused allocation.
+/// The least fault of an enum's values. The only error is a refused allocation.
 fn values_fault(
     alloc: Global,
-    base: Option<Base>,
-    flags: bool,
-    values: &[ResolvedValue<'_, '_>],
-    repeats: &[bool],
+    of_enum: &EnumValues<'_, '_>,
 ) -> Result<Option<SchemaFault>, AllocError>
-    requires { repeats.now ≡ repeated_names name_of_value values.now }
-    ensures { IfOk result (λ f. f ≡ least_of (faults_in_turn (value_faults base flags) values.now)) }
+    ensures { IfOk result (λ f. f ≡ least_of
+        (faults_in_turn (value_faults of_enum.now.base of_enum.now.bit_flags) of_enum.now.values)) }
 {
+    let base = of_enum.base;
+    let flags = of_enum.bit_flags;
+    let values = of_enum.values.as_slice();
+    let repeats = of_enum.repeats.as_slice();
     let mut least = None;
     let mut numbers = BTreeSet::new(alloc);
     for (place, resolved) in values.iter().enumerate() {
@@ -72,7 +69,7 @@ fn values_fault(
 /// The least fault of an enum. The only error is a refused allocation.
 pub(crate) fn enum_fault(
     alloc: Global,
-    declared: &BTreeSet<&[u8]>,
+    declared: &NameSet<'_>,
     resolved: &ResolvedEnum<'_, '_, '_>,
 ) -> Result<Option<SchemaFault>, AllocError>
     ensures { IfOk result (λ f. f ≡ least_of (enum_faults (is_met declared.now) resolved.now)) }
@@ -83,12 +80,6 @@ pub(crate) fn enum_fault(
     let under = underlying_fault(meaning, read.underlying.at());
     let host = host_of_enum(values.base);
     let metadata = metadata_fault(alloc, declared, host, read.attributes.as_slice())?;
-    let in_values = values_fault(
-        alloc,
-        values.base,
-        values.bit_flags,
-        values.values.as_slice(),
-        values.repeats.as_slice(),
-    )?;
+    let in_values = values_fault(alloc, values)?;
     Ok(earlier(earlier(under, metadata), in_values))
 }

@@ -57,14 +57,12 @@ impl<T: Drop> From<AllocFailed<T>> for SchemaFault {
 }
 
 impl SchemaFault {
-    ghost use Rattle.fb_declare.specs.FaultTable.{number_of, name_of, offset_of};
+    ghost use Rattle.fb_declare.specs.FaultTable.{entry_of, number_of, name_of, offset_of};
     ghost use Rattle.fb_declare.specs.Faults.{comes_before};
 
     // The number, the name and the offset.
     fn entry(self) -> (u8, &'static str, Option<u64>)
-        ensures number { result.0 ≡ number_of self }
-        ensures name { result.1.now ≡ name_of self }
-        ensures offset { result.2 ≡ offset_of self }
+        ensures { (result.0, result.1.now, result.2) ≡ entry_of self }
     {
         match self {
             SchemaFault::DuplicateName(at) => (10, "DuplicateName", Some(at)),

@@ -3,19 +3,18 @@ ghost use Rattle.std.specs.Prelude.{◌≡◌, ◌++◌, List, IfOk};
 ghost use Rattle.std.specs.Option.{option_copied};
 ghost use Rattle.fb_schema.specs.Schema.{Name};
 ghost use Rattle.fb_declare.specs.Faults.{least_of};
-ghost use Rattle.fb_declare.specs.NamesMet.{is_met, AreMet};
+ghost use Rattle.fb_declare.specs.NameSet.{is_met, AreMet};
 ghost use Rattle.fb_declare.specs.FaultRows.{faults_behind, faults_in_turn, name_again};
 ghost use Rattle.fb_declare.specs.FaultRows.{use_faults, misplaced_type, bad_default};
 ghost use Rattle.fb_declare.specs.TypeFaults.{names_of_field, attribute_host, field_faults, field_behind};
 
 use crate::attribute_faults::{AttributeHost, metadata_fault};
 use crate::faults::{SchemaFault, earlier, when};
-use crate::names_met::meet;
+use crate::name_set::NameSet;
 use fb_resolve::{Given, Meaning, ResolvedField, type_name};
 use fb_schema::Kind;
 use fb_syntax::{DefaultValue, FieldType};
 use std::alloc::{AllocError, Global};
-use std::collections::BTreeSet;
 
 /// What a field is of: a table, or the struct of a number.
 #[derive(Clone, Copy, Drop)]
@@ -47,10 +46,8 @@ fn misplaced_type(host: FieldHost, kind: &FieldType<'_>, meaning: Meaning) -> Op
         (FieldHost::Struct(_), FieldType::Many(at, _), _) => Some(SchemaFault::BadMember(*at)),
         (_, FieldType::One(_), Meaning::Known(Kind::Scalar(_) | Kind::Enum(_))) => None,
         (FieldHost::Struct(number), FieldType::One(name), Meaning::Known(Kind::Struct(part))) => {
-            when(
-                number as u64 <= part.0,
-                SchemaFault::IncompleteStruct(name.at()),
-            )
+            let incomplete = SchemaFault::IncompleteStruct(name.at());
+            when(number as u64 <= part.0, incomplete)
         }
         (_, FieldType::One(name), Meaning::Known(_)) => Some(SchemaFault::BadMember(name.at())),
         (_, FieldType::One(_), Meaning::Float | Meaning::Unknown) => None,
@@ -84,7 +81,7 @@ fn attribute_host(host: FieldHost, kind: &FieldType<'_>, meaning: Meaning) -> At
 
 /// The fault of a field that has a name met before; its names are met from now on.
 fn names_fault<'f>(
-    met: &mut BTreeSet<&'f [u8]>,
+    met: &mut NameSet<'f>,
     host: FieldHost,
     resolved: &'f ResolvedField<'_, '_>,
 ) -> Result<Option<SchemaFault>, AllocError>
@@ -96,10 +93,10 @@ fn names_fault<'f>(
     let field = resolved.field;
     let name = &field.name;
     let code_again = match (host, &resolved.code) {
-        (FieldHost::Table, Some(code)) => meet(met, code.name.as_str())?,
+        (FieldHost::Table, Some(code)) => met.meet(code.name.as_str())?,
         _ => false,
     };
-    let again = meet(met, name.text)?;
+    let again = met.meet(name.text)?;
     let fault = SchemaFault::DuplicateName(name.at);
     Ok(earlier(when(code_again, fault), when(again, fault)))
 }
@@ -107,7 +104,7 @@ fn names_fault<'f>(
 /// What else is wrong with a field.
 fn field_fault(
     alloc: Global,
-    declared: &BTreeSet<&[u8]>,
+    declared: &NameSet<'_>,
     host: FieldHost,
     resolved: &ResolvedField<'_, '_>,
 ) -> Result<Option<SchemaFault>, AllocError>
@@ -133,7 +130,7 @@ fn field_fault(
 /// The least fault of the fields of a table or struct. The only error is a refused allocation.
 pub(crate) fn fields_fault(
     alloc: Global,
-    declared: &BTreeSet<&[u8]>,
+    declared: &NameSet<'_>,
     host: FieldHost,
     fields: &[ResolvedField<'_, '_>],
 ) -> Result<Option<SchemaFault>, AllocError>
@@ -141,7 +138,7 @@ pub(crate) fn fields_fault(
         (faults_in_turn (field_behind (is_met declared.now) host) fields.now)) }
 {
     let mut least = None;
-    let mut met = BTreeSet::new(alloc);
+    let mut met = NameSet::new(alloc);
     for field in fields {
         let again = names_fault(&mut met, host, field)?;
         let fault = field_fault(alloc, declared, host, field)?;

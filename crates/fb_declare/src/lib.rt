@@ -5,7 +5,7 @@ mod attribute_faults;
 mod enums;
 mod faults;
 mod field_faults;
-mod names_met;
+mod name_set;
 mod root;
 mod schema;
 mod tables;

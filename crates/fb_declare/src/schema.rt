@@ -9,7 +9,7 @@ ghost use Rattle.fb_declare.specs.TypeFaults.{faults_of_outline, faults_of};
 ghost use Rattle.fb_declare.specs.Declares.{Gives, Declares, Stands};
 
 use crate::faults::{SchemaFault, earlier};
-use crate::names_met::names_met;
+use crate::name_set::names_met;
 use crate::root::{identifier_fault, root_fault};
 use crate::types::{types_fault, types_of};
 use fb_resolve::{Outline, Resolved, table_of};
@@ -42,34 +42,42 @@ fn least_fault(
 
 /// The schema that declarations with no fault give. The only error is a refused allocation.
 #[tactic(auto, using(crate::proofs::Kept::buildable, crate::proofs::Kept::has_root, crate::proofs::Kept::four_bytes))]
-fn build_schema(alloc: Global, resolved: Resolved<'_, '_, '_>) -> Result<Schema, AllocError>
+fn build_schema(alloc: Global, resolved: Resolved<'_, '_, '_>) -> Result<Schema, SchemaFault>
     requires { faults_of_outline resolved.outline.now ≡ [] }
-    ensures { IfOk result (Gives resolved.entry.outline.now) }
+    ensures given { IfOk result (Gives resolved.entry.outline.now) }
+    ensures fault { IfErr result (λ f. f ≡ Memory) }
 {
     let Some(root) = table_of(resolved.root) else {
         unreachable!()
     };
     let outline = resolved.outline;
     let types = types_of(alloc, resolved.types)?;
-    Schema::new(alloc, types, root, identifier_of(outline.identifier))
+    Ok(Schema::new(alloc, types, root, identifier_of(outline.identifier))?)
+}
+
+/// The schema of what a text declares, or the least of its faults.
+#[tactic(auto, using(crate::proofs::Least::least_none))]
+fn schema_of_outline(alloc: Global, outline: &Outline<'_, '_>) -> Result<Schema, SchemaFault>
+    ensures declared { IfOk result (λ s. (faults_of_outline outline.now ≡ []) × Gives outline.now s) }
+    ensures fault { IfErr result (λ f. f ≢ Memory → least_of (faults_of_outline outline.now) ≡ Some f) }
+{
+    let resolved = Resolved::of(alloc, outline)?;
+    if let Some(fault) = least_fault(alloc, &resolved)? {
+        return Err(fault);
+    }
+    build_schema(alloc, resolved)
 }
 
 /// The schema that declarations give.
 ///
 /// A refusal tells the fault of least offset and, there, of the lowest number; `Memory` is a
 /// refused allocation. The rules are those of "Writing a schema".
-#[tactic(auto, using(crate::proofs::Least::least_none, crate::proofs::Least::least_some))]
 pub fn declare(alloc: Global, decls: &Decls<'_>) -> Result<Schema, SchemaFault>
     ensures declared { IfOk result (Declares decls.now) }
     ensures fault { IfErr result (λ f. f ≢ Memory → Stands decls.now f) }
     ensures least { IfErr result (λ f. f ≢ Memory → least_of (faults_of decls.now) ≡ Some f) }
 {
-    let outline = Outline::of(alloc, decls)?;
-    let resolved = Resolved::of(alloc, &outline)?;
-    if let Some(fault) = least_fault(alloc, &resolved)? {
-        return Err(fault);
-    }
-    Ok(build_schema(alloc, resolved)?)
+    schema_of_outline(alloc, &Outline::of(alloc, decls)?)
 }
 
 /// Declarations give at most one schema.

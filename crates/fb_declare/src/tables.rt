@@ -3,20 +3,20 @@ ghost use Rattle.std.specs.Prelude.{◌≡◌, ℕ, List, IfOk, length};
 ghost use Rattle.fb_resolve.specs.Outline.{TypeRead};
 ghost use Rattle.fb_resolve.specs.StructsRead.{natural_align};
 ghost use Rattle.fb_declare.specs.Faults.{least_of};
-ghost use Rattle.fb_declare.specs.NamesMet.{is_met};
+ghost use Rattle.fb_declare.specs.NameSet.{is_met};
 ghost use Rattle.fb_declare.specs.TypeFaults.{table_faults, struct_faults};
 
 use crate::attribute_faults::{AttributeHost, metadata_fault};
 use crate::faults::{SchemaFault, earlier, when};
 use crate::field_faults::{FieldHost, fields_fault};
+use crate::name_set::NameSet;
 use fb_resolve::{ResolvedStruct, ResolvedTable, are_ids_wrong};
 use std::alloc::{AllocError, Global};
-use std::collections::BTreeSet;
 
 /// The least fault of a table. The only error is a refused allocation.
 pub(crate) fn table_fault(
     alloc: Global,
-    declared: &BTreeSet<&[u8]>,
+    declared: &NameSet<'_>,
     resolved: &ResolvedTable<'_, '_>,
 ) -> Result<Option<SchemaFault>, AllocError>
     ensures { IfOk result (λ f. f ≡ least_of (table_faults (is_met declared.now) resolved.now)) }
@@ -34,7 +34,7 @@ pub(crate) fn table_fault(
 /// refused allocation.
 pub(crate) fn struct_fault(
     alloc: Global,
-    declared: &BTreeSet<&[u8]>,
+    declared: &NameSet<'_>,
     number: usize,
     natural: u16,
     resolved: &ResolvedStruct<'_, '_>,

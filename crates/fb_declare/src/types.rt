@@ -4,15 +4,15 @@ ghost use Rattle.fb_resolve.specs.Outline.{TypeRead};
 ghost use Rattle.fb_resolve.specs.StructsRead.{natural_of_type};
 ghost use Rattle.fb_declare.specs.Faults.{least_of};
 ghost use Rattle.fb_declare.specs.FaultRows.{faults_in_turn};
-ghost use Rattle.fb_declare.specs.NamesMet.{is_met};
+ghost use Rattle.fb_declare.specs.NameSet.{is_met};
 ghost use Rattle.fb_declare.specs.TypeFaults.{type_faults, type_behind};
 ghost use Rattle.std.specs.List.{AllZip};
 ghost use Rattle.fb_schema.specs.Seen.{body_seen, type_seen};
 ghost use Rattle.fb_declare.specs.Declares.{HasBody, IsType, IsBuildable, AreBuildable};
-ghost use Rattle.fb_resolve.specs.declared.resolved.ResolvedDecl.TheVariants as ResolvedDecl;
 
 use crate::enums::enum_fault;
 use crate::faults::{SchemaFault, earlier, when};
+use crate::name_set::NameSet;
 use crate::tables::{struct_fault, table_fault};
 use crate::unions::{members_read, union_fault};
 use fb_resolve::{
@@ -21,13 +21,12 @@ use fb_resolve::{
 };
 use fb_schema::{Base, Body, TypeInfo};
 use std::alloc::{AllocError, Global};
-use std::collections::BTreeSet;
 
 /// The least fault of the type of a number and of a natural alignment, where this says whether one
 /// before it has its full name.
 fn type_fault(
     alloc: Global,
-    declared: &BTreeSet<&[u8]>,
+    declared: &NameSet<'_>,
     number: usize,
     natural: u16,
     again: bool,
@@ -43,29 +42,31 @@ fn type_fault(
     let is_taken = again || is_reserved(name.text);
     let bad_name = when(is_taken, SchemaFault::DuplicateName(name.at));
     let fault = match &resolved.declaration {
-        ResolvedDecl::Table(table) => table_fault(alloc, declared, table)?,
-        ResolvedDecl::Struct(table) => struct_fault(alloc, declared, number, natural, table)?,
-        ResolvedDecl::Enum(resolved) => enum_fault(alloc, declared, resolved)?,
-        ResolvedDecl::Union(union) => union_fault(alloc, declared, union)?,
-    };
+        ResolvedDecl::Table(table) => table_fault(alloc, declared, table),
+        ResolvedDecl::Struct(table) => struct_fault(alloc, declared, number, natural, table),
+        ResolvedDecl::Enum(resolved) => enum_fault(alloc, declared, resolved),
+        ResolvedDecl::Union(union) => union_fault(alloc, declared, union),
+    }?;
     Ok(earlier(bad_name, fault))
 }
 
 /// The least fault of the types. The only error is a refused allocation.
 pub(crate) fn types_fault(
     alloc: Global,
-    declared: &BTreeSet<&[u8]>,
+    declared: &NameSet<'_>,
     resolved: &Resolved<'_, '_, '_>,
 ) -> Result<Option<SchemaFault>, AllocError>
     ensures { IfOk result (λ f. f ≡ least_of
         (faults_in_turn (type_behind resolved.now.outline.now.types (is_met declared.now))
         resolved.now.types.items)) }
 {
+    let outline = resolved.outline;
     let repeats = resolved.repeats;
+    let types = resolved.types.as_slice();
     let mut least = None;
-    let mut lower = Vec::with_capacity(alloc, resolved.types.len())?;
-    for (number, read) in resolved.types.as_slice().iter().enumerate() {
-        let natural = natural_of_type(resolved.outline, lower.as_slice(), read);
+    let mut lower = Vec::with_capacity(alloc, types.len())?;
+    for (number, read) in types.iter().enumerate() {
+        let natural = natural_of_type(outline, lower.as_slice(), read);
         let fault = type_fault(alloc, declared, number, natural, repeats[number], read)?;
         least = earlier(least, fault);
         lower.push(align_of_type(natural, read))?;
@@ -112,7 +113,7 @@ pub(crate) fn types_of(
 {
     let mut made = Vec::with_capacity(alloc, resolved.len())?;
     for read in resolved {
-        made.push(type_of(alloc, read)?)?;
+        made.push_reserved(type_of(alloc, read)?);
     }
     Ok(made)
 }

@@ -4,7 +4,7 @@ ghost use Rattle.std.specs.Str.{bytes_eq};
 ghost use Rattle.fb_resolve.specs.MembersRead.{member_read};
 ghost use Rattle.fb_resolve.specs.ResolvedFields.{ResolvedMember as Member};
 ghost use Rattle.fb_declare.specs.Faults.{least_of};
-ghost use Rattle.fb_declare.specs.NamesMet.{is_met};
+ghost use Rattle.fb_declare.specs.NameSet.{is_met};
 ghost use Rattle.fb_declare.specs.FaultRows.{faults_in_turn, member_faults};
 ghost use Rattle.fb_resolve.specs.RepeatedNames.{is_again};
 ghost use Rattle.fb_declare.specs.TypeFaults.{union_faults};
@@ -12,11 +12,10 @@ ghost use Rattle.fb_declare.specs.TypeFaults.{union_faults};
 use crate::attribute_faults::{AttributeHost, metadata_fault};
 use crate::faults::{SchemaFault, earlier, when};
 use crate::field_faults::use_fault;
-use crate::names_met::meet;
+use crate::name_set::NameSet;
 use fb_resolve::{ResolvedMember, ResolvedUnion, is_table, member_read};
 use fb_schema::TypeId;
 use std::alloc::{AllocError, Global};
-use std::collections::BTreeSet;
 
 /// What is wrong with a member with so many before it, where this says whether one of them has its name.
 fn member_fault(
@@ -44,9 +43,9 @@ fn members_fault(
     ensures { IfOk result (λ f. f ≡ least_of (faults_in_turn member_faults members.now)) }
 {
     let mut least = None;
-    let mut met = BTreeSet::new(alloc);
+    let mut met = NameSet::new(alloc);
     for (number, member) in members.iter().enumerate() {
-        let again = meet(&mut met, member.name.as_str())?;
+        let again = met.meet(member.name.as_str())?;
         least = earlier(least, member_fault(number, again, member));
     }
     Ok(least)
@@ -55,7 +54,7 @@ fn members_fault(
 /// The least fault of a union. The only error is a refused allocation.
 pub(crate) fn union_fault(
     alloc: Global,
-    declared: &BTreeSet<&[u8]>,
+    declared: &NameSet<'_>,
     resolved: &ResolvedUnion<'_, '_>,
 ) -> Result<Option<SchemaFault>, AllocError>
     ensures { IfOk result (λ f. f ≡ least_of (union_faults (is_met declared.now) resolved.now)) }
@@ -77,7 +76,7 @@ pub(crate) fn members_read(
 {
     let mut read = Vec::with_capacity(alloc, members.len())?;
     for member in members {
-        read.push(member_read(alloc, member)?)?;
+        read.push_reserved(member_read(alloc, member)?);
     }
     Ok(read)
 }

@@ -1,6 +1,6 @@
 use Rattle.std.proofs.Common.{rules, ◌≡◌, sym, subst, map, take}
 use Rattle.fb_declare.specs.AttributeFaults.{attribute_behind}
-use Rattle.fb_declare.specs.NamesMet.{is_met, AreMet}
+use Rattle.fb_declare.specs.NameSet.{is_met, AreMet}
 use Rattle.fb_declare.proofs.Least.{least_more, map-taken}
 use Rattle.fb_declare.proofs.attribute_faults.metadata_fault.Goals as goal
 
@@ -14,5 +14,5 @@ loop-attribute-preserved c =
     record {
       least = rw (c.earlier-least.ensures, c.attribute_fault-in-loop-attribute.ensures, met.0, c.loop-attribute.invariant.least)
           (least_more (attribute_behind (is_met c.args.declared.now) c.args.host) attributes i a c.loop-attribute-test.true c.attribute-item-in-loop-attribute.is);
-      met = subst (AreMet c.meet.new.met) (sym (map-taken (λ b. b.name.bytes) attributes i a c.loop-attribute-test.true c.attribute-item-in-loop-attribute.is)) met.1;
+      met = subst (AreMet c.meet.new.self) (sym (map-taken (λ b. b.name.bytes) attributes i a c.loop-attribute-test.true c.attribute-item-in-loop-attribute.is)) met.1;
     }

@@ -1,4 +1,4 @@
-use Rattle.std.proofs.Common.{◌≡◌, false, length, get_or, refl, FitsSigned, true, cond, not, ◌∙◌, ◌||◌, rules, ap, sym, map, take}
+use Rattle.std.proofs.Common.{◌≡◌, refl, FitsSigned, true, cond, not, ◌∙◌, ◌||◌, rules, ap, sym, map, take}
 use Rattle.std.specs.Int.{w128}
 use Rattle.std.specs.List.{list_any}
 use Rattle.std.proofs.Math.Bool.{not-not}
@@ -9,43 +9,37 @@ use Rattle.std.specs.Str.{bytes_eq}
 use Rattle.fb_declare.specs.declared.faults.SchemaFault.TheVariants.{DuplicateName, BadEnumValue}
 use Rattle.fb_declare.specs.Faults.{least_of}
 use Rattle.fb_declare.specs.FaultRows.{when, is_out_of_range, value_faults}
-use Rattle.fb_resolve.specs.RepeatedNames.{is_again}
+use Rattle.fb_resolve.specs.RepeatedNames.{is_again, repeated_names}
 use Rattle.fb_resolve.specs.EnumsRead.{name_of_value}
 use Rattle.fb_declare.proofs.TypesKept.{told_among}
-use Rattle.std.proofs.lemmas.Option.{slice_get_read, slice_get_within, get_or_from_slice_get}
 use Rattle.fb_declare.proofs.Least.{least_of_append, least_more, map-taken, list_any-snoc, one_more}
 use Rattle.fb_declare.proofs.enums.values_fault.Goals as goal
 
 pub bounds-repeats-place : goal.bounds-repeats-place
 bounds-repeats-place c =
-    let values = c.args.values.now in
-    let i = c.loop-place.place in
-    let v = c.index-values-place.result in
-    let at = slice_get_read values (length values) i v refl c.loop-place-test.true c.index-values-place.is in
-    slice_get_within c.args.repeats.now i _ (told_among name_of_value c.args.repeats.now values i v c.requires at)
+    (told_among name_of_value c.as_slice-repeats.result.now c.as_slice-values.result.now c.loop-place.place c.index-values-place.result
+    (c.as_slice-repeats.ensures.value ∙ c.of_enum.invariant.1 ∙ ap (repeated_names name_of_value) (sym c.as_slice-values.ensures.value)) c.loop-place-test.true c.index-values-place.is).0
 
 pub loop-place-preserved : goal.loop-place-preserved
 loop-place-preserved c =
-    let values = c.args.values.now in
-    let base = c.args.base in
-    let flags = c.args.flags in
-    let repeats = c.args.repeats.now in
+    let values = c.as_slice-values.result.now in
+    let base = c.of_enum.inside.base in
+    let flags = c.of_enum.inside.bit_flags in
     let i = c.loop-place.place in
     let v = c.index-values-place.result in
     let h = c.loop-place-test.true in
     let e = c.index-values-place.is in
-    let named = is_again bytes_eq name_of_value (take i values) v in
-    let named_again : get_or repeats i false ≡ named =
-    get_or_from_slice_get repeats i named false (told_among name_of_value repeats values i v c.requires (slice_get_read values (length values) i v refl h e)) in
+    let named_again = (told_among name_of_value c.as_slice-repeats.result.now values i v (c.as_slice-repeats.ensures.value ∙ c.of_enum.invariant.1 ∙ ap (repeated_names name_of_value) (sym c.as_slice-values.ensures.value)) h e).1 in
     let m = v.number in
     let keys = c.loop-place.numbers.keys in
     let number : c.resolved.inside.number ≡ m = grind rules in
     let own : FitsSigned w128 c.resolved.inside.number = grind rules in
     let fits : FitsSigned w128 m = grind rules in
-    let name_faults = when named (DuplicateName v.value.name.at) in
+    let name_faults = when (is_again bytes_eq name_of_value (take i values) v) (DuplicateName v.value.name.at) in
     let number_faults = when (is_out_of_range base flags m || is_again int_eq (λ v. v.number) (take i values) v) (BadEnumValue v.value.name.at) in
     let again : not c.in_ok-is_new.is_new ≡ list_any (int_eq m) keys = rw (c.in_ok-is_new.ensures.added, not-not, to_z-of_z w128 c.resolved.inside.number own, number) refl in
-    let bad_name : c.when-bad_name.result ≡ least_of name_faults = grind (rules, named_again) in
+    let at : c.name.inside.at ≡ v.value.name.at = grind rules in
+    let bad_name : c.when-bad_name.result ≡ least_of name_faults = rw (c.when-bad_name.ensures, named_again, at) refl in
     let bad_number : c.when-bad_number.result ≡ least_of number_faults = grind (rules, again, c.loop-place.invariant.numbers m) in
     record {
       least = rw (c.earlier-least.ensures, c.earlier.ensures, bad_name, bad_number, c.loop-place.invariant.least, ← least_of_append name_faults number_faults)

@@ -2,7 +2,7 @@ use Rattle.std.proofs.Common.{◌∙◌, [], take, ap, sym, subst}
 use Rattle.std.specs.List.{flat_map}
 use Rattle.std.proofs.lemmas.List.{flat_map_more}
 use Rattle.fb_declare.specs.FaultRows.{faults_behind, name_again}
-use Rattle.fb_declare.specs.NamesMet.{is_met, AreMet}
+use Rattle.fb_declare.specs.NameSet.{is_met, AreMet}
 use Rattle.fb_declare.specs.TypeFaults.{names_of_field, field_faults, field_behind}
 use Rattle.fb_declare.proofs.Least.{taken, least_of_append, least_more}
 use Rattle.fb_declare.proofs.field_faults.fields_fault.Goals as goal

@@ -2,7 +2,7 @@ use Rattle.std.proofs.Common.{◌≡◌, take}
 use Rattle.std.specs.List.{flat_map}
 use Rattle.fb_declare.specs.Faults.{least_of}
 use Rattle.fb_declare.specs.FaultRows.{faults_in_turn}
-use Rattle.fb_declare.specs.NamesMet.{is_met, AreMet}
+use Rattle.fb_declare.specs.NameSet.{is_met, AreMet}
 use Rattle.fb_declare.specs.TypeFaults.{names_of_field, field_behind}
 use Rattle.fb_declare.proofs.field_faults.fields_fault.Given as goal
 

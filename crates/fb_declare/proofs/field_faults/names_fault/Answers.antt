@@ -8,7 +8,7 @@ use Rattle.fb_resolve.specs.ResolvedFields.{ResolvedField}
 use Rattle.fb_resolve.specs.SlotsRead.{union_in, name_of_code, slots_by_union, slots_of_field}
 use Rattle.fb_declare.specs.Faults.{earlier, least_of}
 use Rattle.fb_declare.specs.FaultRows.{faults_behind, name_again}
-use Rattle.fb_declare.specs.NamesMet.{AreMet}
+use Rattle.fb_declare.specs.NameSet.{AreMet}
 use Rattle.fb_declare.specs.TypeFaults.{names_of_field}
 use Rattle.fb_declare.proofs.Least.{least_of_append}
 use Rattle.fb_declare.proofs.field_faults.names_fault.Goals as goal
@@ -32,7 +32,7 @@ returns c = λ before met.
     let at = r.field.name.at in
     let text : c.name.inside.text.now ≡ n = grind rules in
     let place : c.name.inside.at ≡ at = grind rules in
-    let Told = λ (ns : List Name). (c.earlier.result ≡ least_of (faults_behind (name_again at) before ns)) × AreMet c.meet-2.new.met (before ++ ns) in
+    let Told = λ (ns : List Name). (c.earlier.result ≡ least_of (faults_behind (name_again at) before ns)) × AreMet c.meet-2.new.self (before ++ ns) in
     let union : option_map (λ x. x.union) c.resolved.inside.code ≡ union_in r = grind rules in
     let alone : c.match-host.code_again ≡ false → c.match-host.met ≡ c.args.met.now → Told (n ∷ []) = λ none same.
     let last = rw text at (c.in_ok-again.ensures before (subst (λ s. AreMet s before) (sym same) met)) in
@@ -46,7 +46,7 @@ returns c = λ before met.
           let last = rw text at (c.in_ok-again.ensures (before ++ m ∷ []) (subst (λ s. AreMet s (before ++ m ∷ [])) (sym w.met-is) first.1)) in
           subst Told (sym (ap (λ h. names_of_field h r) x.is-0 ∙ names_by r (Some x.code.union) (sym union ∙ ap (option_map (λ x. x.union)) x.is-1))) (
             rw (c.earlier.ensures, c.when.ensures, c.when-2.ensures, w.code_again-is, first.0, last.0, place, two at before m n),
-            subst (AreMet c.meet-2.new.met) (append_assoc before (m ∷ []) (n ∷ [])) last.1,
+            subst (AreMet c.meet-2.new.self) (append_assoc before (m ∷ []) (n ∷ [])) last.1,
           )
       | in_default w ↦ subst Told (sym (ap (λ h. names_of_field h r) w.in_default.is-0 ∙ names_by r None (sym union ∙ ap (option_map (λ x. x.union)) w.in_default.is-1))) (alone w.code_again-is w.met-is)
       | in_default-2 w ↦ subst Told (sym (ap (λ h. names_of_field h r) w.in_default.is-0)) (alone w.code_again-is w.met-is)

@@ -1,7 +1,7 @@
 use Rattle.std.proofs.Common.{◌≡◌, rules, sym, subst, arith, map, take}
 use Rattle.std.proofs.lemmas.List.{length-take-le}
 use Rattle.fb_declare.specs.FaultRows.{member_faults}
-use Rattle.fb_declare.specs.NamesMet.{AreMet}
+use Rattle.fb_declare.specs.NameSet.{AreMet}
 use Rattle.fb_declare.proofs.Least.{least_more, map-taken}
 use Rattle.fb_declare.proofs.unions.members_fault.Goals as goal
 
@@ -17,5 +17,5 @@ loop-number-preserved c =
     record {
       least = rw (c.earlier-least.ensures, c.member_fault.ensures (take i members) (length-take-le i members (omega (arith, h))) (sym met.0), c.loop-number.invariant.least)
           (least_more member_faults members i m h e);
-      met = subst (AreMet c.meet.new.met) (sym (map-taken (λ m. m.name.bytes) members i m h e)) met.1;
+      met = subst (AreMet c.meet.new.self) (sym (map-taken (λ m. m.name.bytes) members i m h e)) met.1;
     }

@@ -1,7 +1,7 @@
 use Rattle.std.proofs.Common.{◌≡◌, map, take}
 use Rattle.fb_declare.specs.Faults.{least_of}
 use Rattle.fb_declare.specs.FaultRows.{faults_in_turn, member_faults}
-use Rattle.fb_declare.specs.NamesMet.{AreMet}
+use Rattle.fb_declare.specs.NameSet.{AreMet}
 use Rattle.fb_declare.proofs.unions.members_fault.Given as goal
 
 abbrev pub invariant-loop-number : goal.invariant-loop-number

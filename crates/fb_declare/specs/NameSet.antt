@@ -1,16 +1,16 @@
--- Names that were met.
+-- Sets of names.
 use Rattle.std.specs.Prelude.{◌≡◌, Bool, List}
-use Rattle.std.specs.Borrow.{Bor}
-use Rattle.std.specs.BTreeSet.{BTreeSet, contains_by}
+use Rattle.std.specs.BTreeSet.{contains_by}
 use Rattle.std.specs.Cmp.Lexicographic.{slice_cmp}
 use Rattle.std.specs.Ordering.{nat_cmp}
 use Rattle.fb_schema.specs.Schema.{Name}
 use Rattle.fb_declare.specs.FaultRows.{is_among}
+use Rattle.fb_declare.specs.declared.name_set.NameSet.{NameSet}
 
 -- whether a name is in a set of names
-abbrev pub is_met : BTreeSet (Bor Name) → Name → Bool
-is_met met name = contains_by (λ k. slice_cmp nat_cmp name k.now) met
+abbrev pub is_met : NameSet → Name → Bool
+is_met met name = contains_by (λ k. slice_cmp nat_cmp name k.now) met.names
 
 -- a set has the names of a list, and no others
-abbrev pub AreMet : BTreeSet (Bor Name) → List Name → Type 0
+abbrev pub AreMet : NameSet → List Name → Type 0
 AreMet met names = (name : Name) → is_met met name ≡ is_among name names
