@@ -1,5 +1,5 @@
 //! What the declarations of a FlatBuffers schema text give, and where they are at fault.
-#![tactic(auto, using(crate::proofs::Least::least_of_append))]
+#![tactic(auto)]
 
 mod attribute_faults;
 mod enums;

@@ -1,3 +1,4 @@
 pub mod Lines
 pub mod Positions
 pub mod Printed
+pub mod Titles

@@ -2,7 +2,7 @@
 ghost use Rattle.std.specs.Prelude.{◌≡◌, ◌≢◌, ◌+◌, ◌≤◌, OnOk, IfOk, IfErr, Err};
 ghost use Rattle.fb_value.specs.Datum.{Datum};
 ghost use Rattle.fb_value.specs.View.{view};
-ghost use Rattle.fb_value.specs.Counts.{entered};
+ghost use Rattle.fb_value.specs.Counts.{depth, entered, nesting};
 ghost use Rattle.fb_value.specs.Fits.{FitsRoot};
 ghost use Rattle.fb_value.specs.Holds.{Holds, RootKeeps, Refuses};
 ghost use Rattle.fb_read.specs.Memory.{PartIsReached};
@@ -45,6 +45,8 @@ pub fn read<'a>(
 ) -> Result<Value, ReadFault>
     ensures value { IfOk result (λ v. Holds layout.now limits raw bytes.now (view v)) }
     ensures fits { IfOk result (λ v. FitsRoot layout.now (view v)) }
+    ensures deep { IfOk result (λ v. depth (view v) ≤ 127) }
+    ensures nests { IfOk result (λ v. nesting (view v) ≤ 300) }
     ensures fault { IfErr result
         (λ f. f ≢ ReadFault.Memory → Refuses layout.now limits raw bytes.now f) }
     ensures memory { result ≡ Err ReadFault.Memory →

@@ -53,7 +53,7 @@ pub struct Noted<W: Write> {
 
 impl<W: Write> Noted<W> {
     ghost use Rattle.std.specs.Prelude.{ℕ, List, Option, IsErr};
-    ghost use Rattle.fb_text.specs.Noted.{write_failed, writer_of, page_of};
+    ghost use Rattle.fb_text.specs.Noted.{write_failed, writer_of, page_of, IsWrittenUnlessFailed};
     ghost use Rattle.fb_text.specs.Pages.{pending, written_before};
     ghost use Rattle.fb_text.specs.Printed.{IfUnnamed};
     ghost use Rattle.fb_text.specs.Texts.{in_quotes};
@@ -88,6 +88,15 @@ impl<W: Write> Noted<W> {
         ensures { result ≡ write_failed self.now }
     {
         self.failed
+    }
+
+    /// Writes a text at once, without the page, until a write fails or takes none of its bytes.
+    pub fn write_whole(&mut self, text: &str)
+        requires fresh { write_failed self.old ≡ false }
+        ensures { IsWrittenUnlessFailed text.now (write_failed self.new)
+            (W.contents (writer_of self.old)) (W.contents (writer_of self.new)) }
+    {
+        write_bytes(&mut self.inner, &mut self.failed, text.as_bytes());
     }
 
     /// Begins a text: none of its bytes wait, and none were written.

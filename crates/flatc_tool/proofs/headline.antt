@@ -1,3 +1,4 @@
 -- What the proofs of src/headline.rt use.
 pub mod BytesHoldAValueOrAreRefused
 pub mod ConformingTextsFollowEachOther
+pub mod OtherJsonHasAFirstFault

@@ -1,5 +1,6 @@
 -- What holds of the tool's answers together, whichever they are.
 use Rattle.std.specs.Prelude.{ℕ, ◌≡◌, List, Bool, true, Option, Some, Result}
+use Rattle.serde_json.specs.Data.{Data}
 use Rattle.fb_layout.specs.Laid.{LaidSchema}
 use Rattle.fb_value.specs.declared.faults.ReadFault.{ReadFault}
 use Rattle.fb_value.specs.Bounds.{Bounds}
@@ -8,19 +9,23 @@ use Rattle.fb_value.specs.Datum.{Datum}
 use Rattle.fb_value.specs.Num.{Bytes}
 use Rattle.fb_value.specs.Holds.{Holds, IsLeastFault}
 use Rattle.fb_value.specs.OldSlots.{OnlyOld}
+use Rattle.fb_json.specs.declared.faults.JsonFault.{JsonFault}
+use Rattle.fb_json.specs.Means.{Means}
+use Rattle.fb_json.specs.Refuses.{IsFirst}
 use Rattle.fb_text.specs.Texts.{json_text}
 use Rattle.fb_build.specs.Covered.{Covered}
 use Rattle.fb_read.specs.declared.view.View.{View}
 use Rattle.fb_conform.specs.Carry.{carry}
 use Rattle.flatc_tool.specs.SchemaTexts.{IsAccepted}
-use Rattle.flatc_tool.specs.Jobs.{JsonMeans, IsBinary, IsText, TextRefused, IsNotMemory}
+use Rattle.flatc_tool.specs.JsonText.{IsTree}
+use Rattle.flatc_tool.specs.Jobs.{JsonMeans, IsBinary, BinaryRefused, IsText, TextRefused, IsNotMemory}
 use Rattle.flatc_tool.specs.Checks.{IsSound, CheckRefused}
 use Rattle.flatc_tool.specs.Prints.{IsSent, PrintRefused}
 use Rattle.flatc_tool.specs.Evolution.{TextsConform}
 use Rattle.flatc_tool.specs.Answers.{TextAnswer, CheckAnswer, ViewAnswer, ValueAnswer, IsTextOrMemory, IsOkOrMemory}
 use Rattle.flatc_tool.specs.Answers.{IsViewOf, IsValueOrMemory}
 use Rattle.flatc_tool.specs.declared.faults.ToolFault.{ToolFault}
-use Rattle.flatc_tool.specs.declared.faults.ToolFault.TheVariants.{Read}
+use Rattle.flatc_tool.specs.declared.faults.ToolFault.TheVariants.{Json, Read, BadJson}
 
 -- Under a schema text the bytes hold the value, and `to_json` returns its text or runs out of memory.
 pub record HoldsAndPrints (schema : List ℕ) (b : Bytes) (most : Bounds) (raw : Bool) (L : LaidSchema) (v : Datum) : Type
@@ -52,6 +57,23 @@ JsonIsCarried = (schema json : List ℕ) (most : Bounds) (unknown : Bool) (b : B
     → IsBinary schema json most unknown b
     → (L : LaidSchema) → IsAccepted schema L → (v : Datum) → JsonMeans L most unknown json v
     → CarriesValue schema b most L v
+
+-- Where JSON means no value, it has a first fault; no buffer is made of it, and no other fault is reported.
+pub record NoneIsMeant (schema json : List ℕ) (most : Bounds) (unknown : Bool) (L : LaidSchema) (t : Data) : Type 0 where
+  pub fault : JsonFault
+  pub first : IsFirst L most unknown t fault
+  pub no_buffer : (b : Bytes) → ¬ IsBinary schema json most unknown b
+  -- `to_binary` and `to_binary_segments`
+  pub refused : (f : ToolFault) → BinaryRefused schema json most unknown f → IsNotMemory f → f ≡ Json fault
+
+-- JSON that means no value is refused with its first fault, at its place; a text that isn't JSON as such.
+pub record OtherJsonIsRefused : Type 0 where
+  pub by_its_fault : (schema json : List ℕ) (most : Bounds) (unknown : Bool) (L : LaidSchema) → IsAccepted schema L
+      → (t : Data) → IsTree json t → ((v : Datum) → ¬ Means L most unknown t v)
+      → NoneIsMeant schema json most unknown L t
+  pub as_no_json : (schema json : List ℕ) (most : Bounds) (unknown : Bool) (L : LaidSchema) → IsAccepted schema L
+      → ((t : Data) → ¬ IsTree json t)
+      → (f : ToolFault) → BinaryRefused schema json most unknown f → IsNotMemory f → f ≡ BadJson
 
 -- Where no value lies, the bytes have a least fault; no call has anything to return for them, and none returns another
 -- fault.

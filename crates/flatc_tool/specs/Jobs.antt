@@ -11,16 +11,15 @@ use Rattle.fb_value.specs.Num.{Bytes}
 use Rattle.fb_value.specs.Room.{room_of}
 use Rattle.fb_value.specs.Holds.{Holds, Refuses}
 use Rattle.fb_value.specs.OldSlots.{OnlyOld}
-use Rattle.fb_json.specs.declared.faults.JsonFault.{JsonFault}
 use Rattle.fb_json.specs.declared.faults.JsonFault.TheVariants as the_json
 use Rattle.fb_text.specs.declared.faults.TextFault.TheVariants as the_text
 use Rattle.fb_json.specs.Means.{Means}
 use Rattle.fb_json.specs.Meant.{type_place}
-use Rattle.fb_json.specs.Refuses as refused_trees
 use Rattle.fb_text.specs.Texts.{json_text}
 use Rattle.fb_text.specs.Unnamed.{IsRefused as IsUnnamed}
 use Rattle.fb_build.specs.Covered.{Covered, EndsAligned}
 use Rattle.fb_build.specs.declared.faults.BuildFault.TheVariants as the_build
+use Rattle.fb_encode.specs.Encoded.{TreeRefused}
 use Rattle.flatc_tool.specs.SchemaTexts.{IsRefused, IsWant, OfLayout}
 use Rattle.flatc_tool.specs.JsonText.{IsTree}
 use Rattle.flatc_tool.specs.declared.faults.ToolFault.{ToolFault}
@@ -65,13 +64,9 @@ pub record MayBeBinaryOf (L : LaidSchema) (json : List ℕ) (most : Bounds) (unk
 abbrev pub MayBeBinary : List ℕ → List ℕ → Bounds → Bool → Type 0
 MayBeBinary schema json most unknown = OfLayout schema (λ L. MayBeBinaryOf L json most unknown)
 
--- The tree breaks the rule, and means nothing. Memory is asked for only where a table may follow.
-abbrev pub TreeRefused : LaidSchema → Bounds → Bool → Data → JsonFault → Type 0
-TreeRefused L most unknown t the_json.Memory = refused_trees.MayLackMemory most t the_json.Memory
-TreeRefused L most unknown t f = refused_trees.Refuses L most unknown t f × ((v : Datum) → ¬ Means L most unknown t v)
-
--- The refusal of the first layer that refuses, in the order JSON text, value, size.
--- Where a layer wants memory, the layers before it have passed; `Memory` alone is of the reading of the JSON text.
+-- The refusal of the first layer that refuses, in the order JSON text, value, size; of a tree that breaks rules its
+-- first fault. Where a layer wants memory, the layers before it have passed; `Memory` alone is of the reading of the
+-- JSON text.
 abbrev pub BinaryRefusedOf : LaidSchema → List ℕ → Bounds → Bool → ToolFault → Type 0
 BinaryRefusedOf L json most unknown BadJson = (t : Data) → ¬ IsTree json t
 BinaryRefusedOf L json most unknown (Json f) = (t : Data) × IsTree json t × TreeRefused L most unknown t f

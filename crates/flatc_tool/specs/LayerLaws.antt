@@ -7,7 +7,7 @@ use Rattle.fb_schema.specs.Schema.{DeclaredSchema}
 use Rattle.fb_declare.specs.Declares.{Declares}
 use Rattle.fb_layout.specs.OneLayout.{OneLayout, NoLayoutWhereRefused}
 use Rattle.fb_value.specs.Laws.{OneValue, ValueOrFault, OneLeastFault, FitsWhereHeld}
-use Rattle.fb_json.specs.Laws.{AllThatIsMeant, MeantIsWhole}
+use Rattle.fb_json.specs.Laws.{AllThatIsMeant, MeantIsWhole, OnlyWhatIsMeant}
 use Rattle.fb_conform.specs.Laws.{CarriedHolds, CarriedFits, BackHolds, ConformsOn, CarriesOn}
 
 pub record LayerLaws : Type 0 where
@@ -20,6 +20,7 @@ pub record LayerLaws : Type 0 where
   pub value_or_fault : ValueOrFault
   pub one_least_fault : OneLeastFault
   pub fits_where_held : FitsWhereHeld
+  pub only_what_is_meant : OnlyWhatIsMeant
   pub all_that_is_meant : AllThatIsMeant
   pub meant_is_whole : MeantIsWhole
   pub carried_holds : CarriedHolds

@@ -1,6 +1,7 @@
 -- What the command writes of an answer.
-use Rattle.std.specs.Prelude.{ℕ, ◌≡◌, ◌≤◌, ◌++◌, ◌⊎◌, List, [], ◌∷◌, length, take, Option, codes}
+use Rattle.std.specs.Prelude.{ℕ, ◌≡◌, ◌≤◌, ◌++◌, ◌⊎◌, List, [], ◌∷◌, length, take, Bool, Option, codes}
 use Rattle.std.specs.Io.KnownBytes.{Appends}
+use Rattle.fb_text.specs.Noted.{IsWrittenUnlessFailed}
 use Rattle.flatc_tool.specs.FaultLines.{line_of}
 use Rattle.flatc_tool.specs.declared.faults.ToolFault.{ToolFault}
 
@@ -16,3 +17,8 @@ IsLineOf f line = (line ≡ ended (line_of f)) ⊎ (line ≡ ended (codes "114 M
 abbrev pub IsTold : ToolFault → Option (List ℕ) → Option (List ℕ) → Type 0
 IsTold f start known = (line : List ℕ) × IsLineOf f line × (m : ℕ) × (m ≤ length line)
     × Appends start known (take m line)
+
+-- The line of a fault was written; or only its first bytes were, and the last write failed.
+abbrev pub IsToldUnlessFailed : ToolFault → Bool → Option (List ℕ) → Option (List ℕ) → Type 0
+IsToldUnlessFailed f failed start known =
+    (line : List ℕ) × IsLineOf f line × IsWrittenUnlessFailed line failed start known

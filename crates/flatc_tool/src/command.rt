@@ -5,4 +5,4 @@ mod reports;
 
 pub use heard::{Heard, take_all};
 pub use lines::fault_line;
-pub use reports::report;
+pub use reports::{report, report_noted};

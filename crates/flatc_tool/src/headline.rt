@@ -1,5 +1,5 @@
 //! What holds of the tool's answers together.
-ghost use Rattle.flatc_tool.specs.Headline.{JsonIsCarried, OthersAreRefused};
+ghost use Rattle.flatc_tool.specs.Headline.{JsonIsCarried, OtherJsonIsRefused, OthersAreRefused};
 ghost use Rattle.flatc_tool.specs.Chains.{OldProgramsRead, ChainsConform, ChainsCarry};
 
 use crate::laws::layer_laws;
@@ -10,6 +10,14 @@ use crate::laws::layer_laws;
 /// conforms.
 pub fn json_is_carried()
     ensures { JsonIsCarried }
+{
+    layer_laws();
+}
+
+/// JSON that means no value is refused with its first fault, at its place, and a text that isn't JSON as such: by
+/// `to_binary` and `to_binary_segments`.
+pub fn other_json_is_refused()
+    ensures { OtherJsonIsRefused }
 {
     layer_laws();
 }

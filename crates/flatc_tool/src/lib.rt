@@ -30,7 +30,8 @@ pub use fb_syntax::SyntaxFault;
 pub use fb_text::{Noted, TextFault, WriteFault};
 pub use fb_value::{Limits, ReadFault, Value};
 pub use headline::{
-    chains_carry, chains_conform, json_is_carried, old_programs_read, others_are_refused,
+    chains_carry, chains_conform, json_is_carried, old_programs_read, other_json_is_refused,
+    others_are_refused,
 };
 pub use jobs::{to_binary, to_binary_segments};
 pub use json_texts::{decode, decode_to};

@@ -38,7 +38,10 @@ impl EncodeOptions {
 }
 
 impl Default for EncodeOptions {
-    fn default() -> EncodeOptions {
+    fn default() -> EncodeOptions
+        ensures limits { result.limits ≡ usual_limits }
+        ensures unknown { result.unknown_json ≡ false }
+    {
         EncodeOptions::new()
     }
 }
@@ -71,7 +74,11 @@ impl DecodeOptions {
 }
 
 impl Default for DecodeOptions {
-    fn default() -> DecodeOptions {
+    fn default() -> DecodeOptions
+        ensures limits { result.limits ≡ usual_limits }
+        ensures raw { result.raw_binary ≡ false }
+        ensures defaults { result.defaults_json ≡ false }
+    {
         DecodeOptions::new()
     }
 }

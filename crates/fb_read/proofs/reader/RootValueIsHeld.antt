@@ -17,8 +17,10 @@ use Rattle.fb_value.specs.Holds.{Holds, RootKeeps, Refuses, header_fault, checke
 use Rattle.fb_value.specs.declared.faults.ReadFault.TheVariants.{Memory}
 use Rattle.fb_value.specs.declared.values.Value.{Value}
 use Rattle.fb_value.specs.View.{view}
+use Rattle.fb_value.specs.Counts.{depth, nesting}
 use Rattle.fb_value.specs.Fits.{FitsRoot}
 use Rattle.fb_value.proofs.held.HeldValueFitsTheRoot.{fits_where_held_shown}
+use Rattle.fb_value.proofs.types.NestingIsBoundedByDepth.{nesting_of_depth_shown}
 use Rattle.fb_read.specs.Memory.{PartIsReached}
 use Rattle.fb_read.specs.Values.{Gives}
 use Rattle.fb_read.specs.Visits.{visit}
@@ -46,6 +48,17 @@ module _ (L : LaidSchema) (most : Bounds) (raw : Bool) (b : Bytes) where
       → IfOk r (λ v. Holds L most raw b (view v)) → IfOk r (λ v. FitsRoot L (view v))
   answer_fits made small (Ok v) held = fits_where_held_shown L most raw b (view v) made small held
   answer_fits made small (Err f) held = tt
+
+  -- It is as deep as the limits allow, and so is nested at most 300 deep.
+  pub answer_deep : most.depth ≤ 127 → (r : Result Value ReadFault) → IfOk r (λ v. Holds L most raw b (view v))
+      → IfOk r (λ v. depth (view v) ≤ 127)
+  answer_deep few (Ok v) held = let deep = held.deep in omega arith
+  answer_deep few (Err f) held = tt
+
+  pub answer_nests : IsWellMade L → (r : Result Value ReadFault) → IfOk r (λ v. FitsRoot L (view v))
+      → IfOk r (λ v. depth (view v) ≤ 127) → IfOk r (λ v. nesting (view v) ≤ 300)
+  answer_nests made (Ok v) fits deep = nesting_of_depth_shown L (view v) made fits deep
+  answer_nests made (Err f) fits deep = tt
 
   -- A refusal is the least fault, unless memory ran out.
   pub answer_refused : IsWellMade L → (r : Result Value ReadFault) (n : ℕ)

@@ -1,11 +1,14 @@
 //! What the command tells of an answer.
 ghost use Rattle.std.specs.Prelude.{◌≡◌, ◌≤◌, ◌<◌, ◌++◌, ℕ, length, take, true, false, IfOk, IfErr, string_bytes};
+ghost use Rattle.std.specs.Prelude.{if◌then◌else◌};
 ghost use Rattle.std.specs.Io.KnownBytes.{Appends};
+ghost use Rattle.fb_text.specs.Noted.{write_failed, writer_of, IsWrittenUnlessFailed};
 ghost use Rattle.flatc_tool.specs.FaultLines.{line_of};
-ghost use Rattle.flatc_tool.specs.Reports.{ended, IsTold};
+ghost use Rattle.flatc_tool.specs.Reports.{ended, IsTold, IsToldUnlessFailed};
 
 use crate::command::lines::fault_line;
 use crate::faults::ToolFault;
+use fb_text::Noted;
 use std::alloc::{AllocError, Global};
 use std::io::Write;
 
@@ -48,6 +51,18 @@ fn write_line<E: Write>(alloc: Global, fault: &ToolFault, err: &mut E)
     };
 }
 
+/// The same to a writer that remembers whether its last write failed.
+fn write_noted_line<E: Write>(alloc: Global, fault: &ToolFault, err: &mut Noted<E>)
+    requires { write_failed err.old ≡ false }
+    ensures { IsToldUnlessFailed fault.now (write_failed err.new)
+        (E.contents (writer_of err.old)) (E.contents (writer_of err.new)) }
+{
+    match ended_line(alloc, fault) {
+        Ok(line) => err.write_whole(line.as_str()),
+        Err(_) => err.write_whole(NO_MEMORY),
+    }
+}
+
 /// Writes the text to `out` and returns 0, or the line of the fault and a line feed to `err` and
 /// returns 1. Where a write fails 1 is returned too.
 pub fn report<O: Write, E: Write>(
@@ -70,6 +85,39 @@ pub fn report<O: Write, E: Write>(
         Ok(text) => if write_text(text, out) { 0 } else { 1 },
         Err(fault) => {
             write_line(alloc, &fault, err);
+            1
+        }
+    }
+}
+
+/// Reports as `report` does, to writers that remember whether their last write failed.
+///
+/// A text or a line is cut only where a write failed or took none of its bytes; the status of a text is 1 exactly
+/// there.
+pub fn report_noted<O: Write, E: Write>(
+    alloc: Global,
+    answer: Result<&str, ToolFault>,
+    out: &mut Noted<O>,
+    err: &mut Noted<E>,
+) -> u8
+    requires fresh_out { write_failed out.old ≡ false }
+    requires fresh_err { write_failed err.old ≡ false }
+    ensures refused { IfErr answer.entry (λ f. result ≡ 1) }
+    ensures told { IfErr answer.entry (λ f. IsToldUnlessFailed f (write_failed err.new)
+        (E.contents (writer_of err.old)) (E.contents (writer_of err.new))) }
+    ensures quiet { IfErr answer.entry (λ f. out.new ≡ out.old) }
+    ensures status { IfOk answer.entry (λ text. result ≡ (if write_failed out.new then 1 else 0)) }
+    ensures written { IfOk answer.entry (λ text. IsWrittenUnlessFailed text.now (write_failed out.new)
+        (O.contents (writer_of out.old)) (O.contents (writer_of out.new))) }
+    ensures calm { IfOk answer.entry (λ text. err.new ≡ err.old) }
+{
+    match answer {
+        Ok(text) => {
+            out.write_whole(text);
+            if out.failed() { 1 } else { 0 }
+        }
+        Err(fault) => {
+            write_noted_line(alloc, &fault, err);
             1
         }
     }

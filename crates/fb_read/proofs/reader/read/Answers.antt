@@ -1,7 +1,7 @@
 use Rattle.std.proofs.Common.{◌≡◌, ◌<◌, All, None, arith}
 use Rattle.std.proofs.lemmas.List.Elements.{All-from_get_or}
 use Rattle.fb_value.specs.Holds.{header_fault, checked_identifier}
-use Rattle.fb_read.proofs.reader.RootValueIsHeld.{answer_held, answer_fits, answer_refused, root_reached}
+use Rattle.fb_read.proofs.reader.RootValueIsHeld.{answer_held, answer_fits, answer_deep, answer_nests, answer_refused, root_reached}
 use Rattle.fb_read.proofs.reader.read.Goals as goal
 
 pub returns-clause-value : goal.returns-clause-value
@@ -25,6 +25,18 @@ returns-clause-fits c =
     (λ i less. (let fits = c.type_inv.bytes i in omega arith)) in
     answer_fits c.args.layout.now c.args.limits c.args.raw c.args.bytes.now c.schema-schema.ensures.made small
     c.read_table_behind-value.result (returns-clause-value c)
+
+pub returns-clause-deep : goal.returns-clause-deep
+returns-clause-deep c =
+    let few = c.most_depth-most_depth.ensures.few in
+    let exact = c.most_depth-most_depth.ensures.exact in
+    answer_deep c.args.layout.now c.args.limits c.args.raw c.args.bytes.now (omega arith)
+    c.read_table_behind-value.result (returns-clause-value c)
+
+pub returns-clause-nests : goal.returns-clause-nests
+returns-clause-nests c =
+    answer_nests c.args.layout.now c.args.limits c.args.raw c.args.bytes.now c.schema-schema.ensures.made
+    c.read_table_behind-value.result (returns-clause-fits c) (returns-clause-deep c)
 
 pub returns-clause-fault : goal.returns-clause-fault
 returns-clause-fault c =

@@ -1,0 +1,100 @@
+-- What is refused of JSON that means nothing under a schema text.
+use Rattle.std.proofs.Common.{◌≡◌, ℕ, List, Bool, Ok, Err, refl, sym, ◌∙◌, subst, arith}
+use Rattle.serde_json.specs.Data.{Data}
+use Rattle.fb_schema.specs.declared.kinds.Kind.TheVariants.{Table}
+use Rattle.fb_schema.specs.declared.kinds.Shape.TheVariants.{One}
+use Rattle.fb_layout.specs.Laid.{LaidSchema}
+use Rattle.fb_value.specs.Bounds.{Bounds}
+use Rattle.fb_value.specs.Datum.{Datum}
+use Rattle.fb_value.specs.Num.{Bytes}
+use Rattle.fb_json.specs.declared.faults.JsonFault.{JsonFault}
+use Rattle.fb_json.specs.Means.{Means}
+use Rattle.fb_json.specs.Meant.{type_place}
+use Rattle.fb_json.specs.Outcome.{Counted}
+use Rattle.fb_json.specs.Refuses.{IsFirst, root_meant}
+use Rattle.fb_build.specs.declared.faults.BuildFault.TheVariants as the_build
+use Rattle.flatc_tool.specs.LayerLaws.{LayerLaws}
+use Rattle.flatc_tool.specs.JsonText.{IsTree}
+use Rattle.flatc_tool.specs.SchemaTexts.{IsAccepted}
+use Rattle.flatc_tool.specs.Jobs.{JsonMeans, IsBinary, BinaryRefused, IsNotMemory}
+use Rattle.flatc_tool.specs.Headline.{NoneIsMeant, OtherJsonIsRefused}
+use Rattle.flatc_tool.specs.declared.faults.ToolFault.{ToolFault}
+use Rattle.flatc_tool.specs.declared.faults.ToolFault.TheVariants.{Schema, Json, Build, Read, Text, Write, Breach}
+use Rattle.flatc_tool.specs.declared.faults.ToolFault.TheVariants.{Older, Newer, FileRead, FileWrite, FileTooLong}
+use Rattle.flatc_tool.specs.declared.faults.ToolFault.TheVariants.{BadJson, Memory}
+use Rattle.flatc_tool.proofs.buffers.RefusalExcludesABuffer.{same_tree, broken}
+use Rattle.flatc_tool.proofs.schema_layouts.SchemaTextHasOneLayout.{same_accepted, refused_excludes}
+
+module _ (laws : LayerLaws) (schema json : List ℕ) (most : Bounds) (unknown : Bool) (L : LaidSchema)
+    (accepted : IsAccepted schema L) where
+  module _ (t : Data) (tree : IsTree json t) (none : (v : Datum) → ¬ Means L most unknown t v) where
+    -- it means nothing under any layout of the schema text
+    none_under : (K : LaidSchema) → IsAccepted schema K → (v : Datum) → JsonMeans K most unknown json v → ⊥
+    none_under K other v means =
+        let here = subst (λ (M : LaidSchema). JsonMeans M most unknown json v)
+        (same_accepted laws schema K L other accepted) means in
+        none v (subst (λ (u : Data). Means L most unknown u v) (same_tree json here.0 t here.1 tree) here.2)
+
+    no_buffer : (b : Bytes) → IsBinary schema json most unknown b → ⊥
+    no_buffer b made = none_under made.layout made.accepted made.has.value made.has.means
+
+    module _ (fault : JsonFault) (first : IsFirst L most unknown t fault) where
+      same_fault : (f : JsonFault) (K : LaidSchema) → IsAccepted schema K → (u : Data) → IsTree json u
+          → IsFirst K most unknown u f → Json f ≡ Json fault
+      same_fault f K other u read found =
+          let here = subst (λ (M : LaidSchema). IsFirst M most unknown u f)
+          (same_accepted laws schema K L other accepted) found in
+          let there = subst (λ (d : Data). IsFirst L most unknown d f) (same_tree json u t read tree) here in
+          let both = sym there ∙ first in cc
+
+      refused : (f : ToolFault) → BinaryRefused schema json most unknown f → IsNotMemory f → f ≡ Json fault
+      refused (Schema f) told rule = absurd (refused_excludes laws schema f told rule L accepted)
+      refused (Json f) told rule =
+          let h = told.has in
+          same_fault f told.layout told.accepted h.0 h.1 (broken told.layout most unknown h.0 f h.2 rule).first
+      refused (Build the_build.TooBig) told rule = absurd (none_under told.layout told.accepted told.has.0 told.has.1)
+      refused (Build the_build.Memory) told rule = absurd rule
+      refused (Read f) told rule = absurd told.has
+      refused (Text f) told rule = absurd told.has
+      refused (Write f) told rule = absurd told.has
+      refused (Breach b) told rule = absurd told.has
+      refused (Older f) told rule = absurd told.has
+      refused (Newer f) told rule = absurd told.has
+      refused FileRead told rule = absurd told.has
+      refused FileWrite told rule = absurd told.has
+      refused FileTooLong told rule = absurd told.has
+      refused BadJson told rule = absurd (told.has t tree)
+      refused Memory told rule = absurd rule
+
+    by_outcome : (o : Counted Datum) → root_meant L most unknown t ≡ o → NoneIsMeant schema json most unknown L t
+    by_outcome (Ok p) given =
+        let means = laws.only_what_is_meant L unknown t (One (Table (record { 0 = L.schema.root })))
+        (type_place L.schema.root) most.depth most.cells p given in
+        let spent = means.1 in
+        absurd (none p.0 (means.0, means.2, omega arith))
+    by_outcome (Err fault) given =
+        record { fault = fault; first = given; no_buffer = no_buffer; refused = refused fault given }
+
+    by_its_fault : NoneIsMeant schema json most unknown L t
+    by_its_fault = by_outcome (root_meant L most unknown t) refl
+
+  module _ (none : (t : Data) → ¬ IsTree json t) where
+    as_no_json : (f : ToolFault) → BinaryRefused schema json most unknown f → IsNotMemory f → f ≡ BadJson
+    as_no_json (Schema f) told rule = absurd (refused_excludes laws schema f told rule L accepted)
+    as_no_json (Json f) told rule = absurd (none told.has.0 told.has.1)
+    as_no_json (Build the_build.TooBig) told rule = let means = told.has.1 in absurd (none means.0 means.1)
+    as_no_json (Build the_build.Memory) told rule = absurd rule
+    as_no_json (Read f) told rule = absurd told.has
+    as_no_json (Text f) told rule = absurd told.has
+    as_no_json (Write f) told rule = absurd told.has
+    as_no_json (Breach b) told rule = absurd told.has
+    as_no_json (Older f) told rule = absurd told.has
+    as_no_json (Newer f) told rule = absurd told.has
+    as_no_json FileRead told rule = absurd told.has
+    as_no_json FileWrite told rule = absurd told.has
+    as_no_json FileTooLong told rule = absurd told.has
+    as_no_json BadJson told rule = refl
+    as_no_json Memory told rule = absurd rule
+
+pub other_json_is_refused_shown : LayerLaws → OtherJsonIsRefused
+other_json_is_refused_shown laws = record { by_its_fault = by_its_fault laws; as_no_json = as_no_json laws }
