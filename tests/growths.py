@@ -32,8 +32,10 @@ CALLS = {
     "text_of": {84},
     "carry": {0},
     "encode": {114, 80, 41},
+    "encode_segments": {114, 80, 41},
     "decode": {84},
     "to_binary": SCHEMA | {114, 80, 41},
+    "to_binary_segments": SCHEMA | {114, 80, 41},
     "to_json": SCHEMA | {84},
     "print_to": SCHEMA,
     "check": SCHEMA,
@@ -42,9 +44,16 @@ CALLS = {
     "request_of": {0},
     "fault_line": {0},
     "report": {114},
+    "report_noted": {114},
+    "fault_path": {0},
+    "json_fault_path": {0},
+    "all_breaches": {0},
+    "explain_json": {0},
+    "explain_bytes": {0},
+    "explain_schema": {0},
 }
 # How many growths a call only asks for ahead, and goes on without: a buffer's bytes, before the JSON is read.
-AHEAD = {"encode": 1, "to_binary": 1}
+AHEAD = {"encode": 1, "encode_segments": 1, "to_binary": 1, "to_binary_segments": 1}
 NONE = "memoryless"
 MOST = 20_000
 # Calls on what is nested deep: tables made of JSON and printed, at the deepest limits, and a struct that is read, or

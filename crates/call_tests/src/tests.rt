@@ -1,5 +1,6 @@
 //! What the calls make of worked examples.
 use fb_value::Limits;
+use flatc_tool::EncodeOptions;
 
 mod buffer_builder;
 mod check;
@@ -8,6 +9,7 @@ mod counts;
 mod explanations;
 mod fault_lines;
 mod fault_sentences;
+mod options;
 mod pages;
 mod print_to;
 mod report;
@@ -20,8 +22,5 @@ mod views;
 mod writers;
 
 fn usual_limits() -> Limits {
-    let Some(limits) = Limits::new(64, 100_000_000) else {
-        unreachable!()
-    };
-    limits
+    EncodeOptions::new().limits
 }

@@ -39,6 +39,5 @@ pub(crate) fn page(number: u8, text: &'static str) -> Option<&'static str>
     ensures plain { IfSome result (λ page. IsPage (chars page.now ++ 10 ∷ [])) }
     ensures titled { IfSome result (λ page. first_number page.now ≡ number) }
 {
-    let _page_of = number; // for contracts alone
     Some(text)
 }

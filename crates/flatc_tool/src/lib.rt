@@ -28,7 +28,9 @@ pub use fb_schema::TypeId;
 pub use fb_segments::Segments;
 pub use fb_syntax::SyntaxFault;
 pub use fb_text::{Noted, TextFault, WriteFault};
-pub use fb_value::{Limits, ReadFault, Value};
+pub use fb_value::{
+    Limits, ReadFault, Value, cells, copy, depth, fits, nesting_of_depth, room, same, whole,
+};
 pub use headline::{
     chains_carry, chains_conform, json_is_carried, old_programs_read, other_json_is_refused,
     others_are_refused,

@@ -18,6 +18,10 @@ pub(crate) struct Example {
     pub(crate) newer: &'static [u8],
     /// The value under the newer schema, with fields that have default values.
     pub(crate) carried: &'static str,
+    /// A JSON text that means nothing under the schema.
+    pub(crate) refused_json: &'static [u8],
+    /// A schema that doesn't conform to the schema.
+    pub(crate) breaking: &'static [u8],
 }
 
 pub(crate) const EXAMPLES: &[Example] = &[
@@ -34,6 +38,8 @@ pub(crate) const EXAMPLES: &[Example] = &[
         newer: b"table P { x:int; y:int = 5; } table T { ps:[P]; n:string; } root_type T;",
         carried: "{\n  \"ps\": [\n    {\n      \"x\": 1,\n      \"y\": 5\n    },\n    {\n      \"x\": 2,\
             \n      \"y\": 5\n    }\n  ]\n}\n",
+        refused_json: b"{\"ps\":[{\"x\":1},{\"x\":2147483648}]}",
+        breaking: b"table P { x:int = 1; } table T { ps:[P]; } root_type T;",
     },
     Example {
         name: "structs",
@@ -51,6 +57,8 @@ pub(crate) const EXAMPLES: &[Example] = &[
         newer: b"struct S (force_align: 16) { a:ubyte; } table T { s:string; v:[S]; n:int; k:int = 3; } root_type T;",
         carried: "{\n  \"s\": \"hi\",\n  \"v\": [\n    {\n      \"a\": 1\n    },\n    {\n      \"a\": 2\n    }\
             \n  ],\n  \"n\": 5,\n  \"k\": 3\n}\n",
+        refused_json: b"{\"v\":[{\"a\":1},{\"a\":256}]}",
+        breaking: b"struct S (force_align: 16) { a:ubyte; } table T { s:string; v:[S]; n:uint; } root_type T;",
     },
     Example {
         name: "union",
@@ -63,5 +71,7 @@ pub(crate) const EXAMPLES: &[Example] = &[
         text: "{\n  \"u_type\": \"B\",\n  \"u\": {}\n}\n",
         newer: b"table A {} table B {} table C {} union U { A, B, C } table T { u:U; k:int = 3; } root_type T;",
         carried: "{\n  \"u_type\": \"B\",\n  \"u\": {},\n  \"k\": 3\n}\n",
+        refused_json: b"{\"u_type\":\"B\",\"u\":{\"z\":1}}",
+        breaking: b"table A {} table B {} union U { B, A } table T { u:U; } root_type T;",
     },
 ];

@@ -5,7 +5,7 @@ use crate::meanings::limits;
 use clap::Error;
 use clap::error::ErrorKind;
 use flatc_cli::{Job, Request, request_of};
-use flatc_tool::command::{Heard, fault_line, report, take_all};
+use flatc_tool::command::{Heard, fault_line, report, report_noted, take_all};
 use flatc_tool::{
     DecodeOptions, EncodeOptions, JsonFault, Noted, Place, ToolFault, TypeId, check, conform_texts,
     decode, encode, print_to, schema_of, to_binary, to_json,
@@ -217,6 +217,28 @@ fn reported(alloc: Global) -> Outcome {
     Outcome::of(err.is_first())
 }
 
+/// The same, to writers that remember whether their last write failed.
+fn reported_noted(alloc: Global) -> Outcome {
+    let mut out = Noted::over(Matching::either("", ""));
+    let mut err = Noted::over(Matching::either(ENDED, NO_MEMORY));
+    let status = report_noted(alloc, Err(FAULT), &mut out, &mut err);
+    let err = err.into_inner();
+    if status != 1 || !out.into_inner().is_first() {
+        return Outcome::Wrong;
+    }
+    if err.is_other() {
+        return Outcome::Short(114);
+    }
+    Outcome::of(err.is_first())
+}
+
+fn try_report_noted(rt: &HostRuntime) -> Both {
+    arm(rt);
+    let first = reported_noted(rt.alloc());
+    disarm(rt);
+    (first, reported_noted(rt.alloc()))
+}
+
 fn try_report(rt: &HostRuntime) -> Both {
     arm(rt);
     let first = reported(rt.alloc());
@@ -238,6 +260,7 @@ pub(crate) fn try_job(rt: &HostRuntime, call: &str, example: &Example) -> Option
         "request_of" => Some(try_request_of(rt)),
         "fault_line" => Some(try_line(rt)),
         "report" => Some(try_report(rt)),
+        "report_noted" => Some(try_report_noted(rt)),
         _ => None,
     }
 }

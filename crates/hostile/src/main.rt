@@ -5,21 +5,25 @@
 
 mod arming;
 mod deep;
+mod diagnoses;
 mod dice;
 mod examples;
 mod jobs;
 mod meanings;
 mod memoryless;
 mod schemas;
+mod segments;
 mod soak;
 mod values;
 
 use crate::arming::{Both, Outcome};
 use crate::deep::go_deep;
+use crate::diagnoses::try_diagnosis;
 use crate::examples::{EXAMPLES, Example};
 use crate::jobs::try_job;
 use crate::memoryless::try_memoryless;
 use crate::schemas::try_schema_call;
+use crate::segments::try_segments;
 use crate::soak::soak;
 use crate::values::try_value_call;
 use std::process::ExitCode;
@@ -38,8 +42,10 @@ const CALLS: &[&str] = &[
     "text_of",
     "carry",
     "encode",
+    "encode_segments",
     "decode",
     "to_binary",
+    "to_binary_segments",
     "to_json",
     "print_to",
     "check",
@@ -48,6 +54,13 @@ const CALLS: &[&str] = &[
     "request_of",
     "fault_line",
     "report",
+    "report_noted",
+    "fault_path",
+    "json_fault_path",
+    "all_breaches",
+    "explain_json",
+    "explain_bytes",
+    "explain_schema",
     "memoryless",
 ];
 
@@ -60,6 +73,12 @@ fn try_call(rt: &HostRuntime, call: &str, example: &Example) -> Option<Both> {
         return Some(both);
     }
     if let Some(both) = try_job(rt, call, example) {
+        return Some(both);
+    }
+    if let Some(both) = try_segments(rt, call, example) {
+        return Some(both);
+    }
+    if let Some(both) = try_diagnosis(rt, call, example) {
         return Some(both);
     }
     try_value_call(rt, call, example)

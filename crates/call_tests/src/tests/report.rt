@@ -1,8 +1,10 @@
 //! What is reported of an answer.
+use super::writers::Short;
 use fb_json::{JsonFault, Place};
 use fb_schema::TypeId;
-use flatc_tool::ToolFault;
-use flatc_tool::command::report;
+use flatc_tool::command::{report, report_noted};
+use flatc_tool::{Noted, ToolFault};
+use std::alloc::Global;
 
 const TEXT: &str = "{\n  \"a\": 7\n}\n";
 
@@ -29,4 +31,47 @@ fn a_fault_is_told(rt: HostRuntime) {
     assert!(rt; status == 1);
     assert!(rt; out.is_empty());
     assert!(rt; err.as_slice() == b"75 MissingMember in type 0 slot 2\n".as_slice());
+}
+
+/// A writer that takes five bytes, two a call, and then fails or takes none.
+fn short(alloc: Global, fails: bool) -> Noted<Short> {
+    Noted::over(Short {
+        left: 5,
+        each: 2,
+        fails,
+        taken: Vec::new(alloc),
+    })
+}
+
+/// Whether a report fails on a short writer for its text or its line, with the first five bytes of it there.
+fn is_cut(alloc: Global, fails: bool) -> bool {
+    let mut out = short(alloc, fails);
+    let mut err = short(alloc, fails);
+    let text = report_noted(alloc, Ok(TEXT), &mut out, &mut err);
+    let is_out_cut = text == 1 && out.failed() && !err.failed();
+    let mut other = short(alloc, fails);
+    let fault = report_noted(alloc, Err(FAULT), &mut other, &mut err);
+    let is_err_cut = fault == 1 && err.failed() && !other.failed();
+    let out = out.into_inner().taken;
+    let err = err.into_inner().taken;
+    is_out_cut
+        && is_err_cut
+        && out.as_slice() == b"{\n  \"".as_slice()
+        && err.as_slice() == b"75 Mi".as_slice()
+}
+
+#[test]
+fn a_report_is_cut_where_a_write_fails_or_takes_nothing(rt: HostRuntime) {
+    assert!(rt; is_cut(rt.alloc(), true));
+    assert!(rt; is_cut(rt.alloc(), false));
+}
+
+#[test]
+fn a_report_to_writers_that_take_all_is_whole(rt: HostRuntime) {
+    let mut out = Noted::over(Vec::new(rt.alloc()));
+    let mut err = Noted::over(Vec::new(rt.alloc()));
+    assert!(rt; report_noted(rt.alloc(), Ok(TEXT), &mut out, &mut err) == 0);
+    assert!(rt; report_noted(rt.alloc(), Err(FAULT), &mut out, &mut err) == 1);
+    assert!(rt; out.into_inner().as_slice() == TEXT.as_bytes());
+    assert!(rt; err.into_inner().as_slice() == b"75 MissingMember in type 0 slot 2\n".as_slice());
 }
