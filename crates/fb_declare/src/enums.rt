@@ -67,6 +67,7 @@ fn values_fault(
 }
 
 /// The least fault of an enum. The only error is a refused allocation.
+#[tactic(auto, using(crate::proofs::Least::least_of_append))]
 pub(crate) fn enum_fault(
     alloc: Global,
     declared: &NameSet<'_>,

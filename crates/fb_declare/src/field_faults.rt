@@ -102,6 +102,7 @@ fn names_fault<'f>(
 }
 
 /// What else is wrong with a field.
+#[tactic(auto, using(crate::proofs::Least::least_of_append))]
 fn field_fault(
     alloc: Global,
     declared: &NameSet<'_>,

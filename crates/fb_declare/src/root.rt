@@ -11,6 +11,7 @@ use fb_resolve::{Meaning, RootRead, is_table};
 use fb_syntax::Text;
 
 /// The least fault of the root.
+#[tactic(auto, using(crate::proofs::Least::least_of_append))]
 pub(crate) fn root_fault(
     text_len: u64,
     root: Option<&RootRead<'_, '_>>,

@@ -14,6 +14,7 @@ use fb_resolve::{ResolvedStruct, ResolvedTable, are_ids_wrong};
 use std::alloc::{AllocError, Global};
 
 /// The least fault of a table. The only error is a refused allocation.
+#[tactic(auto, using(crate::proofs::Least::least_of_append))]
 pub(crate) fn table_fault(
     alloc: Global,
     declared: &NameSet<'_>,
@@ -32,6 +33,7 @@ pub(crate) fn table_fault(
 
 /// The least fault of the struct of a number, whose fields need this alignment. The only error is a
 /// refused allocation.
+#[tactic(auto, using(crate::proofs::Least::least_of_append))]
 pub(crate) fn struct_fault(
     alloc: Global,
     declared: &NameSet<'_>,

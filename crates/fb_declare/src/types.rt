@@ -24,6 +24,7 @@ use std::alloc::{AllocError, Global};
 
 /// The least fault of the type of a number and of a natural alignment, where this says whether one
 /// before it has its full name.
+#[tactic(auto, using(crate::proofs::Least::least_of_append))]
 fn type_fault(
     alloc: Global,
     declared: &NameSet<'_>,

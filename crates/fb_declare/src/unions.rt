@@ -18,6 +18,7 @@ use fb_schema::TypeId;
 use std::alloc::{AllocError, Global};
 
 /// What is wrong with a member with so many before it, where this says whether one of them has its name.
+#[tactic(auto, using(crate::proofs::Least::least_of_append))]
 fn member_fault(
     number: usize,
     again: bool,
@@ -52,6 +53,7 @@ fn members_fault(
 }
 
 /// The least fault of a union. The only error is a refused allocation.
+#[tactic(auto, using(crate::proofs::Least::least_of_append))]
 pub(crate) fn union_fault(
     alloc: Global,
     declared: &NameSet<'_>,
