@@ -15,7 +15,7 @@ pub struct Position {
     pub column: usize,
 }
 
-fn is_feed(byte: u8) -> bool
+pub(crate) fn is_feed(byte: u8) -> bool
     ensures { result ≡ is_feed byte }
 {
     byte == b'\n'
