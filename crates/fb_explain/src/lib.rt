@@ -17,5 +17,5 @@ mod sides;
 mod union_codes;
 mod union_paths;
 
-pub use explanations::{FileFailure, Sources, explain, warnings};
+pub use explanations::{FileFailure, Lost, Sources, explain, warnings};
 pub use fb_pages::{Position, Source, fault_page};
