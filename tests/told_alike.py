@@ -19,7 +19,7 @@ from harness import ROOT, SECONDS, Tests, content, program_of, write
 MEGABYTE = 1 << 20
 TEXT = 50 * MEGABYTE
 # In megabytes: below the least the text can't be read, and under the most the buffer is made.
-SPACES = (*range(100, 400, 10), *range(400, 1001, 50))
+SPACES = (*range(100, 400, 25), *range(400, 1001, 50))
 NAMED = b"table T { name:string; } root_type T;"
 BAD = b"table T { name:string; hp:ubyte = 300; } root_type T;"
 NUMBER = b"table T { a:ubyte; } root_type T;"
