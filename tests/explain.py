@@ -3,7 +3,8 @@
 
 usage: tests/explain.py PROGRAM
 
-In a row's text the sign ¦ is before the place that the explanation has to point at. The last line is
+In a row's text the sign ¦ is before the place that the explanation has to point at. Each run with --explain is made
+without it too: the status, what is printed and the line of the fault are the same. The last line is
 'N passed, M failed'.
 """
 import os
@@ -249,6 +250,20 @@ HINTS = [
 ]
 
 
+class Explained(Tests):
+    """Tests that make each run with --explain without it too, unless growths of its heap are refused."""
+
+    def run(self, words, **more):
+        done = super().run(words, **more)
+        if "--explain" in words and "env" not in more:
+            alone = super().run([word for word in words if word != "--explain"], **more)
+            # a schema that conforms may have warnings, and no line before them
+            line = done.stderr.splitlines(keepends=True)[:1] if done.returncode else []
+            good = (alone.returncode, alone.stdout, alone.stderr) == (done.returncode, done.stdout, b"".join(line))
+            self.tell(f"without --explain: {' '.join(words)}", good, f"{alone!r}"[:500])
+        return done
+
+
 def position(text, offset):
     """The line and column of an offset, the line's text and what of it is before the offset."""
     start = text.rfind(b"\n", 0, offset) + 1
@@ -297,7 +312,6 @@ def schemas(tests):
             f"{fault} at {offset}", *wrap(place("s.fbs", text, offset) + sentence), *excerpt(text, offset)
         )
         tests.expect(name, ["check", "--explain", "s.fbs"], 1, err=want)
-        tests.expect(f"{name}, alone", ["check", "s.fbs"], 1, err=lines(f"{fault} at {offset}"))
 
 
 def unsupported(tests):
@@ -363,7 +377,6 @@ def changes(tests):
     for name, was, now, fault, sentences in CHANGES:
         write("new.fbs", MONSTER.replace(was, now).encode())
         tests.expect(name, ["conform", "--explain", "old.fbs", "new.fbs"], 1, err=lines(fault, *sentences))
-        tests.expect(f"{name}, alone", ["conform", "old.fbs", "new.fbs"], 1, err=lines(fault))
     new = MONSTER
     for was, now in SEVERAL:
         new = new.replace(was, now)
@@ -696,4 +709,4 @@ def numbers(tests):
 if __name__ == "__main__":
     parts = [schemas, sizes, unsupported, texts, values, changes, buffers, limits, cells, unnamed, files, memory, cuts,
              hints, numbers]
-    sys.exit(Tests("explain", program_of(sys.argv, __doc__)).main(parts))
+    sys.exit(Explained("explain", program_of(sys.argv, __doc__)).main(parts))

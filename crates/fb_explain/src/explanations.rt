@@ -23,6 +23,15 @@ pub struct FileFailure<'a> {
     pub reason: &'a str,
 }
 
+/// Why what was read of an input isn't there to be shown.
+#[derive(Clone, Copy, Debug)]
+pub enum Lost {
+    /// It came through a pipe or a device.
+    Streamed,
+    /// The file has changed since, or is gone.
+    Changed,
+}
+
 /// What a job was done with, as far as it had been read.
 #[derive(Clone, Copy, Debug)]
 pub struct Sources<'a> {
@@ -30,6 +39,8 @@ pub struct Sources<'a> {
     pub schema: Source<'a>,
     /// The JSON text, the buffer, or the new schema text.
     pub input: Source<'a>,
+    /// Why the input's bytes aren't there; `None` where they are.
+    pub lost: Option<Lost>,
     pub limits: Limits,
     /// Whether unknown JSON fields are ignored.
     pub unknown_json: bool,
@@ -57,6 +68,16 @@ fn push_written(page: &mut Page, written: u64, failure: Option<FileFailure<'_>>)
         page.push_str(failure.reason);
     }
     page.end_line();
+}
+
+/// Adds why an input isn't shown.
+fn push_lost(page: &mut Page, path: &str, lost: Lost) {
+    page.push_str(path);
+    page.push_line(match lost {
+        Lost::Streamed =>
+            ": the text isn't shown, since it isn't a regular file that can be read again",
+        Lost::Changed => ": the text isn't shown, since the file has changed",
+    });
 }
 
 /// Adds what is wrong with a JSON text or a buffer under its schema.
@@ -105,12 +126,13 @@ fn push_problem(page: &mut Page, fault: ToolFault, sources: &Sources<'_>) {
 }
 
 fn push_explanation(page: &mut Page, fault: ToolFault, sources: &Sources<'_>) {
-    match memory_use(fault) {
-        Some(what) => {
+    match (memory_use(fault), sources.lost) {
+        (Some(what), _) => {
             page.push_str("memory ran out while ");
             page.push_line(what);
         }
-        None => push_problem(page, fault, sources),
+        (None, Some(lost)) => push_lost(page, sources.input.path, lost),
+        (None, None) => push_problem(page, fault, sources),
     }
 }
 

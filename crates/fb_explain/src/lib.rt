@@ -13,9 +13,10 @@ mod json_places;
 mod json_rules;
 mod memory;
 mod moved_names;
+mod places;
 mod sides;
 mod union_codes;
 mod union_paths;
 
-pub use explanations::{FileFailure, Sources, explain, warnings};
+pub use explanations::{FileFailure, Lost, Sources, explain, warnings};
 pub use fb_pages::{Position, Source, fault_page};

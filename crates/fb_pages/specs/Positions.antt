@@ -32,3 +32,12 @@ pub record IsLineStart (text : List ℕ) (start : ℕ) : Type 0 where
 abbrev pub IsColumn : List ℕ → ℕ → ℕ → Type 0
 IsColumn text offset column = (start : ℕ) × IsLineStart (before text offset) start
     × (column ≡ 1 + count_by begins_character (drop start (before text offset)))
+
+-- the offsets behind the line feeds of a text that is itself at an offset
+abbrev pub starts_from : ℕ → List ℕ → List ℕ
+starts_from at [] = []
+starts_from at (byte ∷ bytes) = if is_feed byte then (at + 1) ∷ starts_from (at + 1) bytes else starts_from (at + 1) bytes
+
+-- where each line but the first begins: behind each line feed, in order
+abbrev pub line_starts : List ℕ → List ℕ
+line_starts text = starts_from 0 text

@@ -4,6 +4,7 @@
 mod dumps;
 mod excerpts;
 mod fault_pages;
+mod line_starts;
 mod lines;
 mod near_names;
 mod pages;
@@ -13,7 +14,8 @@ mod sources;
 pub use dumps::push_dump;
 pub use excerpts::push_excerpt;
 pub use fault_pages::fault_page;
+pub use line_starts::LineStarts;
 pub use near_names::push_nearest;
 pub use pages::Page;
 pub use positions::Position;
-pub use sources::{Source, push_place};
+pub use sources::{Source, push_place, push_position};

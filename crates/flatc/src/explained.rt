@@ -1,25 +1,13 @@
 //! What is printed of a refusal where an explanation is asked for.
+use crate::inputs::Input;
 use crate::limits;
 use crate::texts::Texts;
 use fb_explain::{FileFailure, Source, Sources, explain, fault_page, warnings};
 use flatc_cli::Job;
-use flatc_tool::ToolFault;
+use flatc_tool::{JsonFault, ToolFault};
 use std::alloc::AllocError;
 
 const USAGE: u8 = 2;
-
-/// The paths of a job's files: the schema's, and the other input's.
-fn paths_of(job: &Job) -> (&str, &str) {
-    match job {
-        Job::Binary { schema, json, .. } => (schema.as_str(), json.as_str()),
-        Job::Json { schema, bin, .. } => (schema.as_str(), bin.as_str()),
-        Job::Check { schema, bin, .. } => match bin {
-            Some(bin) => (schema.as_str(), bin.as_str()),
-            None => (schema.as_str(), ""),
-        },
-        Job::Conform { old, new } => (old.as_str(), new.as_str()),
-    }
-}
 
 /// The flags that change what is refused: unknown JSON fields, and raw bytes.
 fn flags_of(job: &Job) -> (bool, bool) {
@@ -30,19 +18,10 @@ fn flags_of(job: &Job) -> (bool, bool) {
     }
 }
 
-fn schema_source<'a>(job: &'a Job, texts: &'a Texts<'_>) -> Source<'a> {
-    let (path, _) = paths_of(job);
+fn source_of<'a>(input: &'a Input<'_>) -> Source<'a> {
     Source {
-        path,
-        bytes: texts.schema.as_slice(),
-    }
-}
-
-fn input_source<'a>(job: &'a Job, texts: &'a Texts<'_>) -> Source<'a> {
-    let (_, path) = paths_of(job);
-    Source {
-        path,
-        bytes: texts.input.as_slice(),
+        path: input.path,
+        bytes: input.bytes.as_slice(),
     }
 }
 
@@ -56,17 +35,32 @@ fn file_failure<'x>(texts: &'x Texts<'x>) -> Option<FileFailure<'x>> {
     }
 }
 
+/// Whether an explanation quotes a JSON text, which was given away.
+fn quotes_json(fault: ToolFault) -> bool {
+    match fault {
+        ToolFault::Json(JsonFault::Memory) => false,
+        ToolFault::Json(_) | ToolFault::BadJson => true,
+        _ => false,
+    }
+}
+
 /// The lines that explain a refusal.
-fn explanation<'x>(
+fn explanation(
     rt: &HostRuntime,
-    job: &'x Job,
-    texts: &'x Texts<'x>,
+    job: &Job,
+    texts: &mut Texts<'_>,
     fault: ToolFault,
 ) -> Result<String, AllocError> {
+    let lost = if quotes_json(fault) {
+        texts.input.get_again(rt)?
+    } else {
+        None
+    };
     let (unknown_json, raw_binary) = flags_of(job);
     let sources = Sources {
-        schema: schema_source(job, texts),
-        input: input_source(job, texts),
+        schema: source_of(&texts.schema),
+        input: source_of(&texts.input),
+        lost,
         limits: limits(),
         unknown_json,
         raw_binary,
@@ -76,10 +70,10 @@ fn explanation<'x>(
 }
 
 /// Prints what explains a refusal; nothing where memory runs out.
-pub(crate) fn explain_refusal<'x>(
+pub(crate) fn explain_refusal(
     rt: &HostRuntime,
-    job: &'x Job,
-    texts: &'x Texts<'x>,
+    job: &Job,
+    texts: &mut Texts<'_>,
     fault: ToolFault,
 ) {
     if let Ok(text) = explanation(rt, job, texts, fault) {
@@ -90,8 +84,8 @@ pub(crate) fn explain_refusal<'x>(
 /// Prints what may still be meant otherwise where a schema conforms.
 pub(crate) fn warn(rt: &HostRuntime, job: &Job, texts: &Texts<'_>) {
     if let Job::Conform { .. } = job {
-        let old = schema_source(job, texts);
-        let new = input_source(job, texts);
+        let old = source_of(&texts.schema);
+        let new = source_of(&texts.input);
         if let Ok(text) = warnings(rt.alloc(), old, new) {
             let _printed = eprint!(rt; "{text}");
         }

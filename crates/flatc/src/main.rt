@@ -3,6 +3,7 @@
 
 mod explained;
 mod hints;
+mod inputs;
 mod outputs;
 mod reasons;
 mod texts;
@@ -58,8 +59,9 @@ fn buffer_of(
     texts: &mut Texts<'_>,
     unknown: bool,
 ) -> Result<Segments, ToolFault> {
-    let json = texts.give_input(rt)?;
-    to_binary_segments(rt.alloc(), texts.schema.as_slice(), json, limits(), unknown)
+    let json = texts.input.give(rt);
+    let schema = texts.schema.bytes.as_slice();
+    to_binary_segments(rt.alloc(), schema, json, limits(), unknown)
 }
 
 fn write_buffer<'j>(
@@ -88,7 +90,8 @@ fn print_bytes(
     defaults: bool,
 ) -> Result<(), ToolFault> {
     let mut out = Noted::over(Reasoned::over(rt.stdout()));
-    let (schema, bytes) = (texts.schema.as_slice(), texts.input.as_slice());
+    let schema = texts.schema.bytes.as_slice();
+    let bytes = texts.input.bytes.as_slice();
     let answer = print_to(rt.alloc(), schema, bytes, limits(), raw, defaults, &mut out);
     match (answer, out.into_inner().into_reason()) {
         (Err(fault), Some(error)) => Err(texts.fail(rt, "standard output", &error, fault)),
@@ -112,27 +115,30 @@ fn print_buffer<'j>(
 fn check_files<'j>(
     rt: &HostRuntime,
     texts: &mut Texts<'j>,
-    schema: &'j str,
+    schema_path: &'j str,
     bin: Option<&'j str>,
     raw: bool,
 ) -> Result<(), ToolFault> {
-    texts.read_schema(rt, schema)?;
+    texts.read_schema(rt, schema_path)?;
     if let Some(bin) = bin {
         texts.read_input(rt, bin)?;
     }
-    let bytes = bin.map(|_| texts.input.as_slice());
-    check(rt.alloc(), texts.schema.as_slice(), bytes, limits(), raw)
+    let schema = texts.schema.bytes.as_slice();
+    let bytes = bin.map(|_| texts.input.bytes.as_slice());
+    check(rt.alloc(), schema, bytes, limits(), raw)
 }
 
 fn conform_files<'j>(
     rt: &HostRuntime,
     texts: &mut Texts<'j>,
-    old: &'j str,
-    new: &'j str,
+    old_path: &'j str,
+    new_path: &'j str,
 ) -> Result<(), ToolFault> {
-    texts.read_schema(rt, old)?;
-    texts.read_input(rt, new)?;
-    conform_texts(rt.alloc(), texts.schema.as_slice(), texts.input.as_slice())
+    texts.read_schema(rt, old_path)?;
+    texts.read_input(rt, new_path)?;
+    let old = texts.schema.bytes.as_slice();
+    let new = texts.input.bytes.as_slice();
+    conform_texts(rt.alloc(), old, new)
 }
 
 /// Does a job, and returns what is printed then.
@@ -218,16 +224,18 @@ fn words_of(rt: &HostRuntime) -> io::Result<Vec<String>> {
     Ok(env::args(rt)?.skip(1).collect(rt.alloc())?)
 }
 
-/// Does a job, reports what comes of it, and returns the status. A refusal is explained if that is
-/// asked for.
+/// Does a job, reports what comes of it, and returns the status.
+///
+/// A refusal is explained if that is asked for, which changes neither the job nor what is reported: what
+/// explaining takes is got only afterwards.
 fn do_and_report(rt: &HostRuntime, job: &Job, explained: bool) -> u8 {
-    let mut texts = Texts::new(rt, explained);
+    let mut texts = Texts::new(rt);
     let answer = do_job(rt, job, &mut texts);
     let status = report(rt.alloc(), answer, &mut rt.stdout(), &mut rt.stderr());
     if explained {
         match answer {
             Ok(_) => warn(rt, job, &texts),
-            Err(fault) => explain_refusal(rt, job, &texts, fault),
+            Err(fault) => explain_refusal(rt, job, &mut texts, fault),
         }
     }
     status

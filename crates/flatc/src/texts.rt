@@ -1,21 +1,15 @@
-//! What a job reads, kept for an explanation.
-use crate::reasons::Reasoned;
+//! What a job reads, and why a file failed.
+use crate::inputs::Input;
 use flatc_tool::ToolFault;
-use flatc_tool::command::{Heard, take_all};
-use std::{fs, io, mem};
-
-/// The longest file that is read, in bytes.
-const LONGEST: u32 = 2_147_483_647;
+use std::io;
 
 /// What a job has read so far, and why a file couldn't be read or written.
 #[derive(Drop)]
 pub(crate) struct Texts<'j> {
     /// The schema text; of `conform` the old one.
-    pub(crate) schema: Vec<u8>,
+    pub(crate) schema: Input<'j>,
     /// The JSON text, the buffer, or the new schema text.
-    pub(crate) input: Vec<u8>,
-    /// Whether an explanation may quote what was read, so that it is kept.
-    pub(crate) quoted: bool,
+    pub(crate) input: Input<'j>,
     pub(crate) failure: Option<Failure<'j>>,
 }
 
@@ -28,11 +22,10 @@ pub(crate) struct Failure<'j> {
 }
 
 impl<'j> Texts<'j> {
-    pub(crate) fn new(rt: &HostRuntime, quoted: bool) -> Texts<'j> {
+    pub(crate) fn new(rt: &HostRuntime) -> Texts<'j> {
         Texts {
-            schema: Vec::new(rt.alloc()),
-            input: Vec::new(rt.alloc()),
-            quoted,
+            schema: Input::nothing(rt),
+            input: Input::nothing(rt),
             failure: None,
         }
     }
@@ -52,25 +45,13 @@ impl<'j> Texts<'j> {
         fault
     }
 
-    // Reading takes a large buffer of its stack, which is to be free again when the job begins.
-    #[inline(never)]
-    fn read(&mut self, rt: &HostRuntime, path: &'j str) -> Result<Vec<u8>, ToolFault> {
-        let file = match fs::open(rt, path) {
-            Ok(file) => file,
-            Err(error) => return Err(self.fail(rt, path, &error, ToolFault::FileRead)),
-        };
-        let mut from = Heard::over(Reasoned::over(file));
-        match take_all(rt.alloc(), &mut from, LONGEST) {
-            Ok(bytes) => Ok(bytes),
-            Err(ToolFault::FileRead) => match from.into_inner().into_reason() {
-                Some(error) => Err(self.fail(rt, path, &error, ToolFault::FileRead)),
-                None => Err(ToolFault::FileRead),
+    fn read(&mut self, rt: &HostRuntime, path: &'j str) -> Result<Input<'j>, ToolFault> {
+        match Input::read(rt, path) {
+            Ok(input) => Ok(input),
+            Err(unread) => match &unread.reason {
+                Some(reason) => Err(self.fail(rt, path, reason, unread.fault)),
+                None => Err(unread.fault),
             },
-            Err(ToolFault::FileTooLong) => {
-                let reason = io::Error::other("it is longer than 2147483647 bytes");
-                Err(self.fail(rt, path, &reason, ToolFault::FileTooLong))
-            }
-            Err(fault) => Err(fault),
         }
     }
 
@@ -84,16 +65,5 @@ impl<'j> Texts<'j> {
     pub(crate) fn read_input(&mut self, rt: &HostRuntime, path: &'j str) -> Result<(), ToolFault> {
         self.input = self.read(rt, path)?;
         Ok(())
-    }
-
-    /// Gives what was read as input away; a copy of it where an explanation may quote it.
-    pub(crate) fn give_input(&mut self, rt: &HostRuntime) -> Result<Vec<u8>, ToolFault> {
-        if !self.quoted {
-            return Ok(mem::replace(&mut self.input, Vec::new(rt.alloc())));
-        }
-        match Vec::from_slice(rt.alloc(), self.input.as_slice()) {
-            Ok(copy) => Ok(copy),
-            Err(_) => Err(ToolFault::Memory),
-        }
     }
 }

@@ -54,6 +54,7 @@ fn a_fault_is_explained(rt: HostRuntime) -> Result<(), Fail> {
             path: "b.bin",
             bytes: BUFFER,
         },
+        lost: None,
         limits: usual_limits(),
         unknown_json: false,
         raw_binary: false,
