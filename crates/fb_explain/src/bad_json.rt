@@ -46,14 +46,18 @@ fn sentence_at(rest: &[u8], before: &[u8]) -> &'static str {
 }
 
 /// The offset at which a text isn't JSON.
-fn bad_offset(page: &Page, text: &[u8]) -> Option<usize> {
+fn bad_offset(page: &mut Page, text: &[u8]) -> Option<usize> {
     if let Err(error) = str::from_utf8(text) {
         return Some(error.valid_up_to());
     }
     match Value::from_slice(page.alloc(), text) {
         Err(error) if error.is_eof() => Some(text.len()),
-        Err(error) if !error.is_memory() => Some(offset_of(text, error.line(), error.column())),
-        _ => None,
+        Err(error) if error.is_memory() => {
+            page.run_out();
+            None
+        }
+        Err(error) => Some(offset_of(text, error.line(), error.column())),
+        Ok(_) => None,
     }
 }
 

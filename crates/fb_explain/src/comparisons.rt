@@ -1,10 +1,10 @@
 //! Two schema texts that were compared.
+use crate::memory::layout_of;
 use crate::places::Places;
 use crate::sides::{Side, Sides};
 use fb_layout::Layout;
 use fb_pages::{Page, Source};
-use fb_syntax::parse;
-use flatc_tool::schema_of;
+use fb_schema_faults::declared::declarations_of;
 
 /// What to do with two schemas side by side.
 #[derive(Clone, Copy)]
@@ -15,7 +15,7 @@ pub(crate) enum Asked {
 
 /// Where a text declares a schema.
 fn places_in(page: &mut Page, source: Source<'_>, layout: &Layout) -> Option<Places> {
-    let decls = parse(page.alloc(), source.bytes).ok()?;
+    let decls = declarations_of(page, source.bytes)?;
     let places = Places::of(page.alloc(), source.bytes, &decls, layout.schema());
     page.keep(places)
 }
@@ -29,10 +29,10 @@ fn push_asked(page: &mut Page, sides: &Sides<'_>, asked: Asked) {
 
 /// Adds what is asked of two schema texts; nothing where one is refused.
 pub(crate) fn push_comparison(page: &mut Page, old: Source<'_>, new: Source<'_>, asked: Asked) {
-    let (Ok(old_layout), Ok(new_layout)) = (
-        schema_of(page.alloc(), old.bytes),
-        schema_of(page.alloc(), new.bytes),
-    ) else {
+    let Some(old_layout) = layout_of(page, old.bytes) else {
+        return;
+    };
+    let Some(new_layout) = layout_of(page, new.bytes) else {
         return;
     };
     let Some(old_places) = places_in(page, old, &old_layout) else {

@@ -7,13 +7,13 @@ use crate::bad_json::push_bad_json;
 use crate::buffer_faults::push_buffer_fault;
 use crate::comparisons::{Asked, push_comparison};
 use crate::json_faults::push_json_fault;
-use crate::memory::memory_use;
+use crate::memory::{layout_of, memory_use};
 use crate::union_codes::push_unnamed_member;
 use fb_pages::{Page, Source};
 use fb_schema_faults::push_schema_fault;
 use fb_text::{TextFault, WriteFault};
 use fb_value::Limits;
-use flatc_tool::{BuildFault, ToolFault, schema_of};
+use flatc_tool::{BuildFault, ToolFault};
 use std::alloc::{AllocError, Global};
 
 /// A file that couldn't be read or written: its path, and the reason as the system says it.
@@ -82,7 +82,7 @@ fn push_lost(page: &mut Page, path: &str, lost: Lost) {
 
 /// Adds what is wrong with a JSON text or a buffer under its schema.
 fn push_under_layout(page: &mut Page, fault: ToolFault, sources: &Sources<'_>) {
-    let Ok(layout) = schema_of(page.alloc(), sources.schema.bytes) else {
+    let Some(layout) = layout_of(page, sources.schema.bytes) else {
         return;
     };
     match fault {

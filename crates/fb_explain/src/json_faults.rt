@@ -2,6 +2,7 @@
 use crate::explanations::Sources;
 use crate::json_places::{element_offset, member_names, member_offset, rest_of};
 use crate::json_rules::{Found, push_rule, unknown_name};
+use crate::memory::tree_of;
 use fb_json::{JsonFault, Place, Step, fault_path};
 use fb_layout::Layout;
 use fb_pages::{Page, push_excerpt, push_place};
@@ -165,7 +166,7 @@ pub(crate) fn push_json_fault(
     sources: &Sources<'_>,
     fault: JsonFault,
 ) {
-    let Ok(tree) = Value::from_slice(page.alloc(), sources.input.bytes) else {
+    let Some(tree) = tree_of(page, sources.input.bytes) else {
         return;
     };
     let steps = fault_path(

@@ -1,8 +1,11 @@
 //! Where memory ran out.
+use fb_layout::Layout;
+use fb_pages::Page;
 use flatc_tool::{
     BuildFault, JsonFault, LayoutFault, ReadFault, SchemaFault, SchemaTextFault, SyntaxFault,
-    TextFault, ToolFault,
+    TextFault, ToolFault, schema_of,
 };
+use serde_json::Value;
 
 /// What a schema text's memory was for, where it ran out.
 fn schema_use(fault: SchemaTextFault) -> Option<&'static str> {
@@ -26,5 +29,31 @@ pub(crate) fn memory_use(fault: ToolFault) -> Option<&'static str> {
         ToolFault::Text(TextFault::Memory) => Some("the text was printed"),
         ToolFault::Memory => Some("a file or a JSON text was read"),
         _ => None,
+    }
+}
+
+/// The layout of a schema text; `None` where it is refused, or memory runs out, which the page notes.
+pub(crate) fn layout_of(page: &mut Page, text: &[u8]) -> Option<Layout> {
+    match schema_of(page.alloc(), text) {
+        Ok(layout) => Some(layout),
+        Err(fault) => {
+            if schema_use(fault).is_some() {
+                page.run_out();
+            }
+            None
+        }
+    }
+}
+
+/// The tree of a JSON text; `None` where it has none, or memory runs out, which the page notes.
+pub(crate) fn tree_of(page: &mut Page, text: &[u8]) -> Option<Value> {
+    match Value::from_slice(page.alloc(), text) {
+        Ok(tree) => Some(tree),
+        Err(error) => {
+            if error.is_memory() {
+                page.run_out();
+            }
+            None
+        }
     }
 }

@@ -116,6 +116,11 @@ impl Page {
         }
     }
 
+    /// Notes that memory ran out outside of the page, which then has no text either.
+    pub fn run_out(&mut self) {
+        self.failed.get_or_insert(AllocError);
+    }
+
     /// Ends the line, which goes on in further ones where it is too long.
     pub fn end_line(&mut self) {
         if self.failed.is_none() {

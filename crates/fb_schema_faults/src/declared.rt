@@ -7,9 +7,24 @@ ghost use Rattle.fb_declare.specs.FaultRows.{default_at};
 ghost use Rattle.fb_schema_faults.specs.FoundInText.{types_of, type_of, word_bytes, fields_of, has_default_at};
 ghost use Rattle.fb_schema_faults.specs.FoundInText.{is_struct_with, is_member_at, is_union_with};
 
+use fb_pages::Page;
 use fb_resolve::word_of;
-use fb_syntax::{Declaration, Decls, DefaultValue, Field, TypeDecl, UnionMember};
+use fb_syntax::{
+    Declaration, Decls, DefaultValue, Field, SyntaxFault, TypeDecl, UnionMember, parse,
+};
 use std::alloc::{AllocError, Global};
+
+/// The declarations of a text; `None` where it has none, or memory runs out, which the page notes.
+pub fn declarations_of<'t>(page: &mut Page, text: &'t [u8]) -> Option<Decls<'t>> {
+    match parse(page.alloc(), text) {
+        Ok(decls) => Some(decls),
+        Err(SyntaxFault::Memory) => {
+            page.run_out();
+            None
+        }
+        Err(_) => None,
+    }
+}
 
 /// The type that is declared.
 pub fn type_in<'d, 't>(declaration: &'d Declaration<'t>) -> Option<&'d TypeDecl<'t>>

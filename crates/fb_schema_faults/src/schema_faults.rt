@@ -1,7 +1,7 @@
 //! What is wrong with a schema text.
 use crate::declared::{
-    field_of_default, is_in_a_struct, is_in_a_union, last_word, name_of, type_at, type_names,
-    value_names,
+    declarations_of, field_of_default, is_in_a_struct, is_in_a_union, last_word, name_of, type_at,
+    type_names, value_names,
 };
 use crate::expected::expected_at;
 use crate::first_names::first_named;
@@ -12,7 +12,7 @@ use fb_declare::SchemaFault;
 use fb_layout::LayoutFault;
 use fb_pages::{Page, Position, Source, push_excerpt, push_nearest, push_place};
 use fb_schema::Base;
-use fb_syntax::{Decls, Field, FieldType, SyntaxFault, parse};
+use fb_syntax::{Decls, Field, FieldType, SyntaxFault};
 use flatc_tool::SchemaTextFault;
 use std::str;
 
@@ -282,9 +282,9 @@ fn push_at_offset(page: &mut Page, source: &Source<'_>, fault: SchemaTextFault, 
     push_place(page, source, place);
     match fault {
         SchemaTextFault::Syntax(fault) => push_syntax_sentence(page, source.bytes, place, fault),
-        SchemaTextFault::Schema(fault) => match parse(page.alloc(), source.bytes) {
-            Ok(decls) => push_schema_sentence(page, source.bytes, offset, fault, &decls),
-            Err(_) => page.end_line(),
+        SchemaTextFault::Schema(fault) => match declarations_of(page, source.bytes) {
+            Some(decls) => push_schema_sentence(page, source.bytes, offset, fault, &decls),
+            None => page.end_line(),
         },
         SchemaTextFault::Layout(_) => page.end_line(),
     }
@@ -295,7 +295,7 @@ fn push_at_offset(page: &mut Page, source: &Source<'_>, fault: SchemaTextFault, 
 }
 
 fn push_layout_sentence(page: &mut Page, source: &Source<'_>, number: u64, what: &str) {
-    let Ok(decls) = parse(page.alloc(), source.bytes) else {
+    let Some(decls) = declarations_of(page, source.bytes) else {
         return;
     };
     let Some(declared) = type_at(&decls, number) else {

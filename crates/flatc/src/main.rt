@@ -1,6 +1,9 @@
 //! The command `flatc`: files and streams round the calls over bytes.
 #![tactic(auto)]
 
+ghost use Rattle.std.specs.Prelude.{◌≡◌};
+ghost use Rattle.flatc_tool.specs.Options.{usual_limits};
+
 mod explained;
 mod hints;
 mod inputs;
@@ -16,9 +19,9 @@ use crate::texts::Texts;
 use clap::Error;
 use clap::error::ErrorKind;
 use flatc_cli::{Job, Request, request_of};
-use flatc_tool::command::report;
+use flatc_tool::command::report_noted;
 use flatc_tool::{
-    Limits, Noted, Segments, ToolFault, check, conform_texts, print_to, to_binary,
+    EncodeOptions, Limits, Noted, Segments, ToolFault, check, conform_texts, print_to, to_binary,
     to_binary_segments, to_json,
 };
 use std::alloc::Global;
@@ -39,11 +42,20 @@ Usage: flatc <COMMAND>
 For more information, try '--help'.
 ";
 
-pub(crate) fn limits() -> Limits {
-    let Some(limits) = Limits::new(64, 100_000_000) else {
-        unreachable!()
-    };
-    limits
+/// How deep tables may be nested and how many cells there may be: the library's own limits.
+pub(crate) fn limits() -> Limits
+    ensures { result ≡ usual_limits }
+{
+    EncodeOptions::new().limits
+}
+
+/// Reports an answer on the program's streams, and returns the status.
+// Each writer has a page in its frame, which no job is to have in its own.
+#[inline(never)]
+fn tell(rt: &HostRuntime, answer: Result<&str, ToolFault>) -> u8 {
+    let mut out = Noted::over(rt.stdout());
+    let mut err = Noted::over(rt.stderr());
+    report_noted(rt.alloc(), answer, &mut out, &mut err)
 }
 
 /// A JSON text made a buffer, and the buffer's JSON text.
@@ -188,8 +200,7 @@ fn do_job<'j>(
 
 /// Tells that memory ran out, and returns the status.
 fn tell_memory(rt: &HostRuntime) -> u8 {
-    let answer = Err(ToolFault::Memory);
-    report(rt.alloc(), answer, &mut rt.stdout(), &mut rt.stderr())
+    tell(rt, Err(ToolFault::Memory))
 }
 
 /// Prints what clap says of words that ask for no job, and returns the status.
@@ -231,7 +242,7 @@ fn words_of(rt: &HostRuntime) -> io::Result<Vec<String>> {
 fn do_and_report(rt: &HostRuntime, job: &Job, explained: bool) -> u8 {
     let mut texts = Texts::new(rt);
     let answer = do_job(rt, job, &mut texts);
-    let status = report(rt.alloc(), answer, &mut rt.stdout(), &mut rt.stderr());
+    let status = tell(rt, answer);
     if explained {
         match answer {
             Ok(_) => warn(rt, job, &texts),
@@ -253,11 +264,10 @@ fn run(rt: &HostRuntime, words: &[String]) -> u8 {
 /// Shows the example, and returns the status.
 fn show_example(rt: &HostRuntime) -> u8 {
     let answer = example(rt.alloc());
-    let answer = match &answer {
-        Ok(text) => Ok(text.as_str()),
-        Err(fault) => Err(*fault),
-    };
-    report(rt.alloc(), answer, &mut rt.stdout(), &mut rt.stderr())
+    match &answer {
+        Ok(text) => tell(rt, Ok(text.as_str())),
+        Err(fault) => tell(rt, Err(*fault)),
+    }
 }
 
 fn main(rt: HostRuntime) -> ExitCode {
