@@ -1,18 +1,30 @@
 # make run        proves and builds the program, and then shows it at work on examples/
 # make try        shows the same without proofs, in about a minute
 # make build      leaves the program at crates/flatc/out/flatc; crates are proved side by side
-# make install    copies it to PREFIX/bin (default /usr/local) as NAME (default flatc)
+# make lib        leaves the library for C at lib/libflatc.a and lib/libflatc.so
+# make install    copies the program, as NAME, the library, its headers and its pkg-config file below PREFIX (/usr/local)
+# make uninstall  removes them there
+# make examples   proves and builds the library, and runs the programs in examples/ that use it
+# make valgrind   runs the C example under valgrind, outside the gate
 # make test       the gate: every proof from nothing, the must-fail edits, the tests, the program
 # make mutations  further edits that the prover has to refuse, outside the gate
 # make soak       a million damaged buffers of schemas made from SEED, and files of gigabytes, outside the gate
 # make bench      times the program on generated documents, beside Google's flatc where that is installed
+# make bench-library  counts the instructions of one call of the library, beside libflatbuffers where it is installed
 
 PREFIX = /usr/local
 NAME = flatc
 PROGRAM = crates/flatc/out/flatc
 SEED = 1
+LIBDIR = lib
+# The toolchain's own files, of which a static library wants the heap.
+KIT = $(patsubst %/,%,$(dir $(shell rt doc)))
+VERSION = $(shell sed -n 's/^.define FLATC_VERSION_STRING "\(.*\)"/\1/p' include/flatc.h)
+SONAME = libflatc.so.0
+INCLUDES = $(DESTDIR)$(PREFIX)/include
+LIBRARIES = $(DESTDIR)$(PREFIX)/$(LIBDIR)
 
-.PHONY: run try build install test mutations soak bench
+.PHONY: run try build lib install uninstall examples valgrind test mutations soak bench bench-library
 
 run: build
 	@tests/example.sh $(PROGRAM)
@@ -25,9 +37,37 @@ try:
 build:
 	@python3 tools/build.py flatc
 
-install: build
-	install -d $(DESTDIR)$(PREFIX)/bin
+lib:
+	@python3 tools/build.py flatc_c
+	@mkdir -p lib
+	@cp crates/flatc_c/out/libflatc_c.a lib/libflatc.a
+	@cd lib && ar x $(KIT)/c/liblibc_c.a heap.pic.o && ar rs libflatc.a heap.pic.o && rm heap.pic.o
+	@$(CC) -shared -Wl,-soname,$(SONAME) -Wl,--version-script=flatc.map -Wl,-z,defs -Wl,--gc-sections \
+		-Wl,--whole-archive lib/libflatc.a -Wl,--no-whole-archive -o lib/libflatc.so.$(VERSION)
+	@ln -sf libflatc.so.$(VERSION) lib/$(SONAME)
+	@ln -sf $(SONAME) lib/libflatc.so
+
+install: build lib
+	install -d $(DESTDIR)$(PREFIX)/bin $(INCLUDES) $(LIBRARIES)/pkgconfig
 	install $(PROGRAM) $(DESTDIR)$(PREFIX)/bin/$(NAME)
+	install -m 644 include/flatc.h include/flatc.hpp $(INCLUDES)
+	install -m 644 lib/libflatc.a $(LIBRARIES)
+	install lib/libflatc.so.$(VERSION) $(LIBRARIES)
+	ln -sf libflatc.so.$(VERSION) $(LIBRARIES)/$(SONAME)
+	ln -sf $(SONAME) $(LIBRARIES)/libflatc.so
+	sed 's#@PREFIX@#$(PREFIX)#; s#@LIBDIR@#$(LIBDIR)#; s#@VERSION@#$(VERSION)#' flatc.pc.in \
+		> $(LIBRARIES)/pkgconfig/flatc.pc
+
+uninstall:
+	rm -f $(DESTDIR)$(PREFIX)/bin/$(NAME) $(INCLUDES)/flatc.h $(INCLUDES)/flatc.hpp $(LIBRARIES)/libflatc.a \
+		$(LIBRARIES)/libflatc.so $(LIBRARIES)/$(SONAME) $(LIBRARIES)/libflatc.so.$(VERSION) \
+		$(LIBRARIES)/pkgconfig/flatc.pc
+
+examples: build lib
+	@python3 tests/library.py lib $(PROGRAM)
+
+valgrind: lib
+	@python3 tests/library.py lib --valgrind
 
 test:
 	@tests/gate.sh
@@ -42,3 +82,6 @@ soak: build
 bench: build
 	@python3 tools/build.py json_parse
 	@python3 bench/bench.py $(PROGRAM)
+
+bench-library: lib
+	@python3 bench/library.py lib

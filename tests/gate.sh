@@ -2,8 +2,8 @@
 # The gate: all that rt ci proves and runs, whether each mutation can still be applied and each edit in not-compiled/
 # is refused, and the built program: with words and files, with what is done to OUT, where memory, pipes and stack
 # run out, what it explains, that explaining changes nothing else, how costs grow, and how much memory it takes beside
-# a parse; and the calls with growths refused, and some thousand damaged buffers. The last line counts all of it:
-# 'N passed, M failed'.
+# a parse; the calls with growths refused, some thousand damaged buffers, and the library for C with its examples. The
+# last line counts all of it: 'N passed, M failed'.
 set -uo pipefail
 cd "$(dirname "$0")/.."
 program=crates/flatc/out/flatc
@@ -32,10 +32,12 @@ for part in growths soak; do
     python3 "tests/$part.py" "$hostile" | tee "$logs/$part" || status=1
 done
 python3 tests/memory.py "$program" "$parser" | tee "$logs/memory" || status=1
+make --silent lib || status=1
+python3 tests/library.py lib "$program" | tee "$logs/library" || status=1
 
 passed=0
 failed=0
-for log in "$logs"/{ci,mutations,not-compiled,command,outputs,hostile,explain,told_alike,costs,growths,soak,memory}; do
+for log in "$logs"/*; do
     if [[ $(tail -n 1 "$log") =~ ^([0-9]+)\ passed,\ ([0-9]+)\ failed$ ]]; then
         passed=$((passed + BASH_REMATCH[1]))
         failed=$((failed + BASH_REMATCH[2]))

@@ -1,5 +1,5 @@
 #!/usr/bin/env python3
-"""Proves and builds a program and the crates below it, side by side where they don't need one another.
+"""Proves and builds a program or library for C and the crates below it, side by side where none needs another.
 
 usage: tools/build.py PROGRAM [--jobs N]
 
@@ -130,12 +130,17 @@ def build_library(crates, name, jobs, log):
                 shutil.move(f"{there}/out", f"{own}/out")
 
 
+def is_for_c(crates, name):
+    return "staticlib" in crates[name][0].partition(":")[0].split()
+
+
 def build(crates, name, jobs, program):
     """Builds one crate; returns its status, what was printed and the seconds that it took."""
     began = time.monotonic()
     with tempfile.TemporaryFile("w+", errors="replace") as log:
         if name == program:
-            status = run(["rt", "run", "--jobs", str(jobs)], f"{ROOT}/crates/{name}", log)
+            what = "lib" if is_for_c(crates, name) else "run"
+            status = run(["rt", what, "--jobs", str(jobs)], f"{ROOT}/crates/{name}", log)
         else:
             status = build_library(crates, name, jobs, log)
         log.seek(0)

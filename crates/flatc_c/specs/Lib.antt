@@ -1,0 +1,4 @@
+pub mod Faults
+pub mod Handles
+pub mod Owned
+pub mod Settings

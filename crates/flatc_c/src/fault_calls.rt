@@ -1,0 +1,120 @@
+//! The calls over faults: name, sentence and explanation.
+ghost use Rattle.std.specs.Prelude.{◌≡◌, ◌≢◌, ◌⊎◌, None, IsTrue, chars};
+ghost use Rattle.fb_pages.specs.Lines.{IsPage};
+ghost use Rattle.flatc_tool.specs.FaultTable.{name_of, number_of};
+ghost use Rattle.flatc_tool.specs.declared.faults.ToolFault.{ToolFault};
+ghost use Rattle.flatc_c.specs.Handles.{HasBytes};
+ghost use Rattle.flatc_c.specs.Faults.{IsTold, StartsWith};
+ghost use Rattle.flatc_c.specs.Settings.{AreSet};
+
+use crate::contents::{clear, give};
+use crate::fault_lists::{fault_at, fault_of};
+use crate::faults::{Fault, FaultName, padded};
+use crate::handles::Bytes;
+use crate::options::Options;
+use crate::status::{BAD_OPTIONS, NO_FAULT, NO_MEMORY, OK};
+use fb_explain::{Source, Sources, explain};
+use flatc_tool::{Place, ToolFault, TypeId};
+use std::alloc::Global;
+
+/// The name of the fault that has this number, if a call writes such a fault.
+#[unsafe(no_mangle)]
+pub extern "C" fn flatc_fault_name(number: u8, name: &mut FaultName) -> bool
+    ensures named { IsTrue result → (f : ToolFault) × (number_of f ≡ number)
+        × StartsWith name.new.text (name_of f) }
+    ensures unnamed { ¬ IsTrue result → name.new ≡ name.old }
+{
+    let place = Place {
+        owner: TypeId(0),
+        slot: None,
+    };
+    match fault_at(number, 0, place) {
+        Some(fault) if fault.number() == number => {
+            *name = FaultName {
+                text: padded(fault.name()),
+            };
+            true
+        }
+        _ => false,
+    }
+}
+
+/// The sentence of a fault: which it is, and where.
+#[unsafe(no_mangle)]
+pub extern "C" fn flatc_fault_message(alloc: Global, fault: &Fault, out: &mut Bytes) -> u32
+    ensures told { (result ≡ 0) → (f : ToolFault) × IsTold fault.now f }
+    ensures status { (result ≡ 0) ⊎ ((result ≡ 2) ⊎ (result ≡ 5)) }
+    ensures empty { (result ≢ 0) → out.new.held.value ≡ None }
+{
+    clear(alloc, out);
+    let Some(fault) = fault_of(fault) else {
+        return NO_FAULT;
+    };
+    match fault.to_string(alloc) {
+        Ok(text) => if give(alloc, out, text.into_bytes()) {
+            OK
+        } else {
+            NO_MEMORY
+        },
+        Err(_) => NO_MEMORY,
+    }
+}
+
+/// What the schema and the other input are called in an explanation.
+fn source_names(fault: ToolFault) -> (&'static str, &'static str) {
+    match fault {
+        ToolFault::Breach(_) => ("old schema", "new schema"),
+        ToolFault::Read(_) | ToolFault::Text(_) => ("schema", "buffer"),
+        _ => ("schema", "JSON"),
+    }
+}
+
+/// What is wrong and where, in lines for people, as `explain` returns them.
+///
+/// The texts and options are those of the call that refused.
+#[unsafe(no_mangle)]
+pub extern "C" fn flatc_explain(
+    alloc: Global,
+    fault: &Fault,
+    schema: &[u8],
+    input: &[u8],
+    options: &Options,
+    out: &mut Bytes,
+) -> u32
+    ensures told { (result ≡ 0) → (f : ToolFault) × IsTold fault.now f }
+    ensures plain { (result ≡ 0) → HasBytes out.new (λ text. IsPage (chars text)) }
+    ensures bad_options { (result ≡ 4) → ¬ AreSet options.now }
+    ensures status { (result ≡ 0) ⊎ ((result ≡ 2) ⊎ ((result ≡ 4) ⊎ (result ≡ 5))) }
+    ensures empty { (result ≢ 0) → out.new.held.value ≡ None }
+{
+    clear(alloc, out);
+    let Some(limits) = options.limits() else {
+        return BAD_OPTIONS;
+    };
+    let Some(fault) = fault_of(fault) else {
+        return NO_FAULT;
+    };
+    let (schema_name, input_name) = source_names(fault);
+    let sources = Sources {
+        schema: Source {
+            path: schema_name,
+            bytes: schema,
+        },
+        input: Source {
+            path: input_name,
+            bytes: input,
+        },
+        limits,
+        unknown_json: options.ignores_unknown(),
+        raw_binary: options.is_raw(),
+        failure: None,
+    };
+    match explain(alloc, &fault, &sources) {
+        Ok(text) => if give(alloc, out, text.into_bytes()) {
+            OK
+        } else {
+            NO_MEMORY
+        },
+        Err(_) => NO_MEMORY,
+    }
+}

@@ -1,0 +1,81 @@
+//! How C wants a call done.
+ghost use Rattle.std.specs.Prelude.{◌≡◌, SomeIff};
+ghost use Rattle.flatc_c.specs.Settings.{cells_of, depth_of, unknown_of, raw_of, defaults_of};
+ghost use Rattle.flatc_c.specs.Settings.{limits_of, AreSet};
+
+use flatc_tool::Limits;
+
+/// The limits, and what is let pass.
+///
+/// `size` is the struct's size in bytes as the caller knows it; fields that end behind it have their defaults.
+#[repr(C)]
+#[derive(Clone, Copy, Drop)]
+pub struct Options {
+    pub size: u32,
+    pub max_cells: u32,
+    pub max_depth: u8,
+    pub unknown_json: bool,
+    pub raw_binary: bool,
+    pub defaults_json: bool,
+}
+
+impl Options {
+    fn cells(&self) -> u32
+        ensures { result ≡ cells_of self.now }
+    {
+        if self.size < 8 {
+            100_000_000
+        } else {
+            self.max_cells
+        }
+    }
+
+    fn depth(&self) -> u8
+        ensures { result ≡ depth_of self.now }
+    {
+        if self.size < 9 { 64 } else { self.max_depth }
+    }
+
+    /// Whether unknown JSON fields are ignored.
+    pub(crate) fn ignores_unknown(&self) -> bool
+        ensures { result ≡ unknown_of self.now }
+    {
+        if self.size < 10 {
+            false
+        } else {
+            self.unknown_json
+        }
+    }
+
+    /// Whether the file identifier check is skipped.
+    pub(crate) fn is_raw(&self) -> bool
+        ensures { result ≡ raw_of self.now }
+    {
+        if self.size < 11 {
+            false
+        } else {
+            self.raw_binary
+        }
+    }
+
+    /// Whether fields with default values are included.
+    pub(crate) fn has_defaults(&self) -> bool
+        ensures { result ≡ defaults_of self.now }
+    {
+        if self.size < 12 {
+            false
+        } else {
+            self.defaults_json
+        }
+    }
+
+    /// The limits, if the size is 4 to 12 and the depth 1 to 127.
+    pub(crate) fn limits(&self) -> Option<Limits>
+        ensures { SomeIff result (AreSet self.now) (limits_of self.now) }
+    {
+        if self.size < 4 || self.size > 12 {
+            return None;
+        }
+        Limits::new(self.depth(), self.cells())
+    }
+}

@@ -1,0 +1,152 @@
+/* flatc.h: JSON to FlatBuffers and back under schemas that are read at run time.
+ *
+ * A schema text is parsed once. Each message is then converted by one call: flatc_encode, flatc_decode, flatc_verify.
+ * What each call returns is proved of its code. Nothing proves the program that calls it. The program owes:
+ *
+ *  - A handle (flatc_schema, flatc_bytes) is all zeros before its first use, as FLATC_SCHEMA_INIT and FLATC_BYTES_INIT
+ *    make it. After that only these calls write it. A copy of the struct is no second handle.
+ *  - A handle is in one call at a time, and two handles of one call are not the same one. Any thread may use it;
+ *    a lock, a start or a join of a thread orders the calls. Threads that share a schema have a handle each
+ *    (flatc_schema_share) and then need no lock.
+ *  - An input is `size` bytes that don't change during the call. It may be NULL where size is 0, and needs no
+ *    alignment. It doesn't lie in the handle that is passed as `out`: that is cleared first.
+ *  - Every other pointer leads to a struct of its type.
+ *  - malloc, realloc and free come from one allocator. No call is made from a signal handler, nor in the forked child
+ *    of a process with threads.
+ *
+ * A call takes up to 256 KiB of stack.
+ */
+#ifndef FLATC_H
+#define FLATC_H
+
+#include <stdbool.h>
+#include <stddef.h>
+#include <stdint.h>
+
+#define FLATC_VERSION_MAJOR 0
+#define FLATC_VERSION_MINOR 1
+#define FLATC_VERSION_PATCH 0
+#define FLATC_VERSION_STRING "0.1.0"
+#define FLATC_VERSION_NUMBER (FLATC_VERSION_MAJOR * 65536u + FLATC_VERSION_MINOR * 256u + FLATC_VERSION_PATCH)
+
+#ifdef __cplusplus
+extern "C" {
+#endif
+
+/* How a call ended. */
+typedef uint32_t flatc_status;
+#define FLATC_OK 0u
+#define FLATC_REFUSED 1u     /* The input is refused; the fault says why. The same input is refused each time. */
+#define FLATC_NO_MEMORY 2u   /* Memory ran out. */
+#define FLATC_NO_SCHEMA 3u   /* A schema's handle is empty. */
+#define FLATC_BAD_OPTIONS 4u /* The `size` of the options is none that they may have, or the depth is not 1 to 127. */
+#define FLATC_NO_FAULT 5u    /* The fault is none that a call wrote. */
+
+/* A schema, or none. The struct stays as it is in later versions. */
+typedef struct flatc_schema {
+    void *held; /* private */
+    bool full;  /* private */
+} flatc_schema;
+#define FLATC_SCHEMA_INIT {NULL, false}
+
+/* Bytes that a call made, or none: `size` bytes at `data`. The library owns them until the handle is cleared or passed
+ * as `out` again. The struct stays as it is in later versions. */
+typedef struct flatc_bytes {
+    const uint8_t *data;
+    size_t size;
+    void *held; /* private */
+    bool full;  /* private */
+} flatc_bytes;
+#define FLATC_BYTES_INIT {NULL, 0, NULL, false}
+
+/* Why a call refused. Only what `has_..` names is there; the rest is 0. */
+typedef struct flatc_fault {
+    uint64_t offset;  /* in bytes from the start of the schema text or the buffer */
+    uint64_t type_id; /* the number of a declared type, from 0 */
+    uint16_t slot;    /* the slot of a field in that type */
+    uint8_t number;   /* no other fault has it, in any version */
+    bool has_offset;
+    bool has_type;
+    bool has_slot;
+    uint8_t reserved[10];
+    char name[32]; /* ends with a zero byte */
+} flatc_fault;
+#define FLATC_FAULT_INIT {0, 0, 0, 0, false, false, false, {0}, {0}}
+
+/* How a message is converted. A later version may add fields at the end, and then still takes this struct.
+ * Fields that end behind the first `size` bytes have their defaults; all of the struct is readable nonetheless. */
+typedef struct flatc_options {
+    uint32_t size;      /* sizeof(flatc_options); at least 4 */
+    uint32_t max_cells; /* the most tables, vectors and strings; 100000000 by default */
+    uint8_t max_depth;  /* how deep tables may be nested, 1 to 127; 64 by default */
+    bool unknown_json;  /* flatc_encode: ignores unknown JSON fields */
+    bool raw_binary;    /* flatc_decode, flatc_verify: skips the file identifier check */
+    bool defaults_json; /* flatc_decode: includes fields with default values */
+} flatc_options;
+#define FLATC_OPTIONS_INIT {(uint32_t)sizeof(flatc_options), 100000000u, 64, false, false, false}
+
+/* The FLATC_VERSION_NUMBER that the library was built with. */
+uint32_t flatc_version(void);
+
+/* Parses a schema text (.fbs) without includes, and keeps what encoding and decoding need of it; the text isn't needed
+ * afterwards. What `schema` held is freed first. If the status isn't FLATC_OK, the handle is empty.
+ * OK, REFUSED (the text declares no schema: the first fault), NO_MEMORY. */
+flatc_status flatc_schema_parse(flatc_schema *schema, const void *text, size_t size, flatc_fault *fault);
+
+/* Makes `to` a second handle of the schema, for another thread. The schema is freed with its last handle. What `to`
+ * held is freed first.
+ * OK, NO_MEMORY, NO_SCHEMA. */
+flatc_status flatc_schema_share(flatc_schema *from, flatc_schema *to);
+
+/* Frees what the handle holds, if it holds something. It is empty then, and may be used again. */
+void flatc_schema_clear(flatc_schema *schema);
+void flatc_bytes_clear(flatc_bytes *bytes);
+
+/* Converts a JSON text (UTF-8) to a FlatBuffer: bytes that encode exactly the value that the text means.
+ * If the status isn't FLATC_OK, `out` is empty.
+ * OK, REFUSED (there is no such buffer: the first fault of the JSON text, of the value that it means, or that the
+ * buffer would be too big), NO_MEMORY, NO_SCHEMA, BAD_OPTIONS. */
+flatc_status flatc_encode(flatc_schema *schema, const void *json, size_t size, const flatc_options *options,
+                          flatc_bytes *out, flatc_fault *fault);
+
+/* Verifies a FlatBuffer and converts it to JSON (UTF-8, no zero byte behind it).
+ * If the status isn't FLATC_OK, `out` is empty.
+ * OK, REFUSED (the bytes encode no value, or a union in it has a member that the schema doesn't name: the first
+ * fault), NO_MEMORY, NO_SCHEMA, BAD_OPTIONS. */
+flatc_status flatc_decode(flatc_schema *schema, const void *buffer, size_t size, const flatc_options *options,
+                          flatc_bytes *out, flatc_fault *fault);
+
+/* Whether the bytes encode a value. Allocates nothing.
+ * OK, REFUSED (they encode none: the first fault), NO_SCHEMA, BAD_OPTIONS. */
+flatc_status flatc_verify(flatc_schema *schema, const void *buffer, size_t size, const flatc_options *options,
+                          flatc_fault *fault);
+
+/* Whether a new schema conforms to an old one: programs of the new schema read what those of the old one write, and
+ * the other way round.
+ * OK, REFUSED (the first breach, types and slots by the old schema's numbers), NO_SCHEMA. */
+flatc_status flatc_conform(flatc_schema *old_schema, flatc_schema *new_schema, flatc_fault *fault);
+
+/* A fault's name, with zeros behind it. */
+typedef struct flatc_name {
+    char text[32];
+} flatc_name;
+
+/* The name of the fault that has this number. False, and nothing is written, if the calls write no such fault. */
+bool flatc_fault_name(uint8_t number, flatc_name *name);
+
+/* The sentence of a fault: what is wrong and where, in one line without a line feed.
+ * OK, NO_MEMORY, NO_FAULT. If the status isn't FLATC_OK, `out` is empty. */
+flatc_status flatc_fault_message(const flatc_fault *fault, flatc_bytes *out);
+
+/* What is wrong and where, in lines for people, as `flatc --explain` writes them: of at most 120 columns, each ended by
+ * a line feed, with nothing in them that could drive a terminal. `schema` is the schema text, of flatc_conform the old
+ * one's; `input` is the JSON text, the buffer or the new schema's text; the options are those of the call that
+ * refused. It reads the inputs again and takes as long as a call or two.
+ * OK, NO_MEMORY, BAD_OPTIONS, NO_FAULT. If the status isn't FLATC_OK, `out` is empty. */
+flatc_status flatc_explain(const flatc_fault *fault, const void *schema, size_t schema_size, const void *input,
+                           size_t input_size, const flatc_options *options, flatc_bytes *out);
+
+#ifdef __cplusplus
+}
+#endif
+#endif

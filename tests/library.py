@@ -1,0 +1,252 @@
+#!/usr/bin/env python3
+"""The library for C as it is built: what it exports, the headers, calls that go wrong, growths that are refused, what
+is installed, and the examples in C, C++, Python and Rust.
+
+usage: tests/library.py FOLDER PROGRAM
+       tests/library.py FOLDER --valgrind
+
+FOLDER has libflatc.a and libflatc.so; PROGRAM is the command flatc, whose version and explanations are the library's.
+A C and a C++ compiler have to be there (cc, c++, or what CC and CXX name), and pkg-config's file is read by hand. Rust
+and Google's FlatBuffers are used where they are installed. With --valgrind only the C example is run, under
+valgrind. The last line is 'N passed, M failed'.
+"""
+import os
+import re
+import shlex
+import shutil
+import subprocess
+import sys
+from concurrent.futures import ThreadPoolExecutor
+
+from harness import ROOT, Tests, content, write
+from hostile import refusing, shim
+
+INCLUDE = os.path.join(ROOT, "include")
+EXAMPLES = os.path.join(ROOT, "examples")
+SCHEMA, JSON = os.path.join(EXAMPLES, "monster.fbs"), os.path.join(EXAMPLES, "monster.json")
+WRONG = b'{\n  "name": "Orc",\n  "hp": 70000\n}\n'
+OK, NO_MEMORY = 0, 2
+# The calls that take memory, and those that take none.
+GROWING = ("schema_parse", "schema_share", "encode", "decode", "fault_message", "explain")
+STILL = ("verify", "conform")
+MOST = 20_000
+HEADERS = [
+    ("C99", "c", "CC", ["-std=c99"], "flatc.h"),
+    ("C11", "c", "CC", ["-std=c11"], "flatc.h"),
+    ("C++11", "c++", "CXX", ["-std=c++11"], "flatc.h"),
+    ("C++17", "c++", "CXX", ["-std=c++17"], "flatc.hpp"),
+    ("C++20", "c++", "CXX", ["-std=c++20"], "flatc.hpp"),
+]
+STRICT = ["-pedantic", "-Wall", "-Wextra", "-Werror"]
+FLATBUFFERS = "/usr/include/flatbuffers/flatbuffers.h"
+
+
+def compiler(variable, usual):
+    return shlex.split(os.environ.get(variable) or usual)
+
+
+def done(words, **more):
+    more.setdefault("stdin", subprocess.DEVNULL)
+    return subprocess.run(words, capture_output=True, text=True, timeout=600, check=False, **more)
+
+
+def skipped(what, why):
+    print(f"library: {what}: skipped; {why}", flush=True)
+
+
+def succeeded(tests, what, words, **more):
+    """Runs words that have to succeed, and returns what they printed, or None."""
+    ran = done(words, **more)
+    tests.tell(what, ran.returncode == 0, f"status {ran.returncode}: {(ran.stdout + ran.stderr)[-600:]}")
+    return ran.stdout if ran.returncode == 0 else None
+
+
+def built(tests, source, to, usual="cc", variable="CC", flags=()):
+    """Compiles a source file and links the static library to it."""
+    words = [*compiler(variable, usual), "-O1", *STRICT, f"-I{INCLUDE}", source, *flags]
+    words += [f"{tests.folder}/libflatc.a", "-o", to]
+    return succeeded(tests, f"{os.path.basename(source)} compiles", words) is not None
+
+
+def headers(tests):
+    for standard, usual, variable, flags, header in HEADERS:
+        source = f"header.{'c' if usual == 'c' else 'cpp'}"
+        write(source, f"#include <{header}>\nint main(void) {{ return 0; }}\n".encode())
+        words = [*compiler(variable, "cc" if usual == "c" else "c++"), *flags, *STRICT]
+        succeeded(tests, f"{header} as {standard}", [*words, f"-I{INCLUDE}", "-c", source, "-o", "header.o"])
+
+
+def declared():
+    """The calls that the header declares, and its version."""
+    header = content(os.path.join(INCLUDE, "flatc.h")).decode()
+    calls = set(re.findall(r"\b(flatc_[a-z_]+)\(", re.sub(r"/\*.*?\*/", "", header, flags=re.S)))
+    numbers = [int(re.search(rf"FLATC_VERSION_{part} (\d+)", header)[1]) for part in ("MAJOR", "MINOR", "PATCH")]
+    return calls, numbers, re.search(r'FLATC_VERSION_STRING "(.*)"', header)[1]
+
+
+def exports(tests):
+    calls, numbers, version = declared()
+    shared = f"{tests.folder}/libflatc.so"
+    symbols = succeeded(tests, "nm", ["nm", "-D", "--defined-only", shared]) or ""
+    names = {line.split()[2].partition("@")[0] for line in symbols.splitlines() if line.split()[1] != "A"}
+    tests.tell("the library exports what the header declares", names == calls, f"{sorted(names ^ calls)}")
+    tests.tell("the version's parts are its text", ".".join(map(str, numbers)) == version, version)
+    tests.tell("the program's version", tests.run(["--version"]).stdout.decode().split()[-1] == version, version)
+    flags = {"LIBFLATC": shared, "PYTHONPATH": f"{EXAMPLES}/python", "PYTHONDONTWRITEBYTECODE": "1"}
+    ask = "import flatc; print('.'.join(map(str, flatc.version())))"
+    said = succeeded(tests, "flatc_version", [sys.executable, "-c", ask], env={**os.environ, **flags})
+    tests.tell("the library's version", said == f"{version}\n", f"{said}")
+
+
+def c_example(tests):
+    if not built(tests, f"{EXAMPLES}/c/convert.c", "convert", flags=["-std=c99"]):
+        return
+    text = succeeded(tests, "convert", ["./convert", SCHEMA, JSON, "orc.bin"])
+    printed = content(os.path.join(ROOT, "tests", "monster.printed.json")).decode()
+    tests.tell("convert prints the monster", text == printed, f"{text}")
+    want = bytes.fromhex("".join(content(os.path.join(ROOT, "tests", "monster.hex")).decode().split()))
+    tests.tell("convert writes the buffer", content("orc.bin") == want, f"{content('orc.bin')}")
+    write("wrong.json", WRONG)
+    ran = done(["./convert", SCHEMA, "wrong.json", "orc.bin"])
+    tests.tell("convert refuses", ran.returncode == 1 and not ran.stdout, f"{ran}")
+    told = tests.run(["binary", "--explain", SCHEMA, "wrong.json", "out.bin"]).stderr.decode().partition("\n")[2]
+    lines, want = ran.stderr.partition("\n")[2], told.replace("wrong.json:", "JSON:")
+    tests.tell("its lines are those of --explain", lines == want != "", f"{lines}, {told}")
+
+
+def counted(tests):
+    """tests/library.c, linked so that it counts blocks of the heap."""
+    wraps = [f"-Wl,--wrap={call}" for call in ("malloc", "realloc", "free")]
+    return built(tests, os.path.join(ROOT, "tests", "library.c"), "library", flags=wraps)
+
+
+def misuse(tests):
+    if not counted(tests):
+        return
+    for line in (succeeded(tests, "calls that go wrong", ["./library", "misuse"]) or "").splitlines():
+        good, _, what = line.partition(" ")
+        if good != "fault":
+            tests.tell(what, good == "ok", "not so")
+
+
+def refuse_each(tests, library, call):
+    """Each growth of a call refused, alone and with all later ones."""
+    total = 0
+    for later in ("", "+"):
+        for wish in range(1, MOST):
+            counts = f"{call}{wish}{later}.count"
+            env = refusing(library, f"{wish}{later}", counts) | {"REFUSE_ARMED": "1"}
+            ran = done(["./library", call, SCHEMA, JSON], env=env)
+            asked, refused = map(int, content(counts).split())
+            found = re.fullmatch(r"armed\ndisarmed\nfirst (\d) full (\d)\nsecond (\d) left (-?\d+)\n", ran.stdout)
+            first, full, second, left = map(int, found.groups()) if found else (-1, -1, -1, -1)
+            ends = ((NO_MEMORY, 0), (OK, 1)) if refused else ((OK, 1),)
+            good = second == OK and left == 0 and (first, full) in ends
+            tests.tell(f"{call} without growth {wish}{later}", good, f"status {ran.returncode}, {ran.stdout!r}")
+            if not refused or not found:
+                break
+            total = max(total, asked)
+    return total
+
+
+def growths(tests):
+    if not counted(tests):
+        return
+    library = shim()
+    with ThreadPoolExecutor(os.cpu_count()) as pool:
+        totals = [*pool.map(lambda call: refuse_each(tests, library, call), GROWING)]
+    print("library: growths: " + ", ".join(f"{call} {total}" for call, total in zip(GROWING, totals)))
+    for call, total in zip(GROWING, totals):
+        tests.tell(f"{call} takes memory", total > 0)
+    for call in STILL:
+        ran = done(["./library", call, SCHEMA, JSON], env=refusing(library, "1+", "count") | {"REFUSE_ARMED": "1"})
+        want = "armed\ndisarmed\nfirst 0 full 0\nsecond 0 left 0\n"
+        tests.tell(f"{call} takes no memory", ran.stdout == want and content("count").split()[0] == b"0", f"{ran}")
+
+
+def cpp_example(tests):
+    generator = shutil.which("flatc")
+    if not generator or not os.path.exists(FLATBUFFERS):
+        skipped("the C++ example", "apt-get install libflatbuffers-dev flatbuffers-compiler")
+        return
+    succeeded(tests, "Google's flatc", [generator, "--cpp", SCHEMA])
+    # the generated code has warnings of its own
+    words = [*compiler("CXX", "c++"), "-std=c++17", "-O1", f"-I{INCLUDE}", "-I.", f"{EXAMPLES}/cpp/monsters.cpp"]
+    words += [f"{tests.folder}/libflatc.a", "-pthread", "-o", "monsters"]
+    if succeeded(tests, "monsters.cpp compiles", words) is None:
+        return
+    said = succeeded(tests, "monsters", ["./monsters", SCHEMA, JSON]) or ""
+    first = "Orc: hp 300, z -3, 2 weapons, casts fog\n"
+    elf = '{\n  "name": "Elf",\n  "at": {\n    "x": 4,\n    "y": 5,\n    "z": 6\n  },\n  "hp": 7\n}\n'
+    rest = "four threads: the same\n72 OutOfRange, slot 2\n"
+    tests.tell("what it prints", said.startswith(first + elf + rest) and "JSON:1:" in said, said)
+
+
+def python_example(tests):
+    flags = {"LIBFLATC": f"{tests.folder}/libflatc.so", "PYTHONDONTWRITEBYTECODE": "1"}
+    ran = done([sys.executable, "-m", "unittest"], cwd=f"{EXAMPLES}/python", env={**os.environ, **flags})
+    count = re.search(r"^Ran (\d+) tests", ran.stderr, re.M)
+    tests.tell("python3 -m unittest", ran.returncode == 0 and count and int(count[1]) > 0, ran.stderr[-900:])
+
+
+def rust_example(tests):
+    if not shutil.which("cargo"):
+        skipped("the Rust example", "apt-get install cargo")
+        return
+    flags = {"FLATC_LIB_DIR": tests.folder, "CARGO_TARGET_DIR": os.path.abspath("target")}
+    words = ["cargo", "test", "--offline", "--quiet"]
+    succeeded(tests, "cargo test", words, cwd=f"{EXAMPLES}/rust", env={**os.environ, **flags})
+
+
+def files_below(folder):
+    return {os.path.relpath(os.path.join(at, it), folder) for at, _, names in os.walk(folder) for it in names}
+
+
+def installed(tests):
+    """Installs into an empty folder, uses what is there as pkg-config would say, and uninstalls."""
+    _, _, version = declared()
+    prefix = os.path.abspath("usr")
+    make = ["make", "--silent", "-C", ROOT, f"PREFIX={prefix}"]
+    # what is built isn't built again
+    if succeeded(tests, "make install", [*make, "-o", "build", "-o", "lib", "install"]) is None:
+        return
+    want = {"bin/flatc", "include/flatc.h", "include/flatc.hpp", "lib/libflatc.a", "lib/libflatc.so"}
+    want |= {"lib/libflatc.so.0", f"lib/libflatc.so.{version}", "lib/pkgconfig/flatc.pc"}
+    tests.tell("what is installed", files_below(prefix) == want, f"{files_below(prefix) ^ want}")
+    words = content(f"{prefix}/lib/pkgconfig/flatc.pc").decode()
+    tests.tell("the version of flatc.pc", f"Version: {version}\n" in words and "@" not in words, words)
+    flags = re.search(r"Cflags: (.*)", words)[1] + " " + re.search(r"Libs: (.*)", words)[1]
+    flags = flags.replace("${libdir}", f"{prefix}/lib").replace("${includedir}", f"{prefix}/include").split()
+    build = [*compiler("CC", "cc"), f"{EXAMPLES}/c/convert.c", *flags, "-o", "convert"]
+    if succeeded(tests, "the example over what is installed", build) is not None:
+        env = {**os.environ, "LD_LIBRARY_PATH": f"{prefix}/lib"}
+        succeeded(tests, "it runs", ["./convert", SCHEMA, JSON, "orc.bin"], env=env)
+    succeeded(tests, "make uninstall", [*make, "uninstall"])
+    tests.tell("nothing is left of it", not files_below(prefix), f"{files_below(prefix)}")
+
+
+def valgrind(tests):
+    write("wrong.json", WRONG)
+    if not shutil.which("valgrind"):
+        skipped("valgrind", "apt-get install valgrind")
+    elif built(tests, f"{EXAMPLES}/c/convert.c", "convert", flags=["-std=c99", "-g"]):
+        words = ["valgrind", "--quiet", "--leak-check=full", "--show-leak-kinds=all", "--error-exitcode=9"]
+        for name, path, status in (("a monster", JSON, 0), ("a refusal", "wrong.json", 1)):
+            ran = done([*words, "./convert", SCHEMA, path, "orc.bin"])
+            why = f"status {ran.returncode}: {ran.stderr[-900:]}"
+            tests.tell(f"valgrind over {name}", ran.returncode == status, why)
+
+
+PARTS = (headers, exports, c_example, misuse, growths, cpp_example, python_example, rust_example, installed)
+
+
+def main():
+    if len(sys.argv) != 3:
+        sys.exit(__doc__)
+    tests = Tests("library", os.path.abspath(sys.argv[2]))
+    tests.folder = os.path.abspath(sys.argv[1])
+    return tests.main((valgrind,) if sys.argv[2] == "--valgrind" else PARTS)
+
+
+if __name__ == "__main__":
+    sys.exit(main())
