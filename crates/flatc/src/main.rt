@@ -1,14 +1,19 @@
 //! The command `flatc`: files and streams round the calls over bytes.
 #![tactic(auto)]
 
+mod batches;
 mod explained;
 mod hints;
 mod inputs;
 mod outputs;
+mod progress;
 mod reasons;
+mod streams;
+mod targets;
 mod texts;
 
-use crate::explained::{explain_number, explain_refusal, warn};
+use crate::batches::do_batch;
+use crate::explained::{explain_number, explain_refusal, flags_of, warn};
 use crate::hints::hint_for;
 use crate::outputs::write_out;
 use crate::reasons::Reasoned;
@@ -235,7 +240,7 @@ fn do_and_report(rt: &HostRuntime, job: &Job, explained: bool) -> u8 {
     if explained {
         match answer {
             Ok(_) => warn(rt, job, &texts),
-            Err(fault) => explain_refusal(rt, job, &mut texts, fault),
+            Err(fault) => explain_refusal(rt, flags_of(job), &mut texts, fault),
         }
     }
     status
@@ -245,6 +250,10 @@ fn do_and_report(rt: &HostRuntime, job: &Job, explained: bool) -> u8 {
 fn run(rt: &HostRuntime, words: &[String]) -> u8 {
     match request_of(rt.alloc(), words) {
         Ok(Request::Do(job, explained)) => do_and_report(rt, &job, explained),
+        Ok(Request::DoEach(batch, explained)) => match do_batch(rt, &batch, explained) {
+            Ok(status) => status,
+            Err(error) => refuse(rt, &error, words),
+        },
         Ok(Request::Explain(number)) => explain_number(rt, number.as_str()),
         Err(error) => refuse(rt, &error, words),
     }
