@@ -29,6 +29,8 @@ struct Printed<'b> {
 }
 
 impl Content for Printed<'_> {
+    // The page that is written at once is large, so no other task has it in its frame.
+    #[inline(never)]
     fn write_to(&mut self, file: &mut File) -> io::Result<()> {
         let mut out = Noted::over(Reasoned::over(file));
         let answer = decode_to(self.layout, self.bytes, &self.options, &mut out);

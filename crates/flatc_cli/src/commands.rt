@@ -16,6 +16,8 @@ const BINARY_USAGE: &str = "flatc binary [OPTIONS] <SCHEMA> <JSON> <OUT>
 const JSON_USAGE: &str = "flatc json [OPTIONS] <SCHEMA> <BIN>
        flatc json [OPTIONS] --out-dir <DIR> <SCHEMA> <BIN>...";
 
+const DASH: &str = "The path - is standard input; ./- is a file of that name.";
+
 const DASHES: &str =
     "The path - is standard input, and as OUT standard output; ./- is a file of that name.";
 
@@ -119,7 +121,7 @@ fn number_word<'a>(alloc: Global) -> Arg<'a>
 fn plain_job<'a>(alloc: Global, name: &'a str, about: &'a str) -> Command<'a>
     ensures { HasApp (new_app name.entry.now) result }
 {
-    Command::new(alloc, name).about(about).after_help(DASHES)
+    Command::new(alloc, name).about(about).after_help(DASH)
 }
 
 pub(crate) fn binary_command<'a>(alloc: Global) -> Result<Command<'a>, AllocError>
@@ -134,6 +136,7 @@ pub(crate) fn binary_command<'a>(alloc: Global) -> Result<Command<'a>, AllocErro
     ]?;
     plain_job(alloc, "binary", "Convert JSON to a FlatBuffer")
         .override_usage(BINARY_USAGE)
+        .after_help(DASHES)
         .args(args)
 }
 
