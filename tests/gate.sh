@@ -2,8 +2,8 @@
 # The gate: all that rt ci proves and runs, whether each mutation can still be applied and each edit in not-compiled/
 # is refused, and the built program: with words and files, with what is done to OUT, with standard streams for paths,
 # with many files in one call, where memory, pipes and stack run out, what it explains, that explaining changes nothing
-# else, and how much memory it takes beside a parse; and the calls with growths refused, and some thousand damaged
-# buffers. The last line counts all of it: 'N passed, M failed'.
+# else, how costs grow, and how much memory it takes beside a parse; and the calls with growths refused, and some
+# thousand damaged buffers. The last line counts all of it: 'N passed, M failed'.
 set -uo pipefail
 cd "$(dirname "$0")/.."
 program=crates/flatc/out/flatc
@@ -25,7 +25,7 @@ if [ ! -x "$parser" ]; then
     python3 tools/build.py json_parse || status=1
 fi
 python3 tools/mutations.py --not-compiled | tee "$logs/not-compiled" || status=1
-for part in command outputs streams batches hostile explain told_alike; do
+for part in command outputs streams batches hostile explain told_alike costs; do
     python3 "tests/$part.py" "$program" | tee "$logs/$part" || status=1
 done
 for part in growths soak; do
@@ -35,7 +35,7 @@ python3 tests/memory.py "$program" "$parser" | tee "$logs/memory" || status=1
 
 passed=0
 failed=0
-for log in "$logs"/{ci,mutations,not-compiled,command,outputs,streams,batches,hostile,explain,told_alike,growths,soak,memory}; do
+for log in "$logs"/{ci,mutations,not-compiled,command,outputs,streams,batches,hostile,explain,told_alike,costs,growths,soak,memory}; do
     if [[ $(tail -n 1 "$log") =~ ^([0-9]+)\ passed,\ ([0-9]+)\ failed$ ]]; then
         passed=$((passed + BASH_REMATCH[1]))
         failed=$((failed + BASH_REMATCH[2]))

@@ -14,12 +14,13 @@ import subprocess
 import sys
 import threading
 
-from harness import ROOT, SECONDS, Tests, content, program_of, write
+from harness import ROOT, SECONDS, Tests, program_of, write
+from hostile import MEMORY
 
 MEGABYTE = 1 << 20
 TEXT = 50 * MEGABYTE
-# In megabytes: below the least the text can't be read, and under the most the buffer is made.
-SPACES = (*range(100, 400, 10), *range(400, 1001, 50))
+# In megabytes, from where memory is too short on to where the buffer is made.
+SPACES = (*range(100, 400, 25), *range(400, 1001, 50))
 NAMED = b"table T { name:string; } root_type T;"
 BAD = b"table T { name:string; hp:ubyte = 300; } root_type T;"
 NUMBER = b"table T { a:ubyte; } root_type T;"
@@ -60,13 +61,11 @@ def short_memory(tests):
             good = alone == both and explained.startswith(err)
             tests.tell(f"{schema} within {space} MB", good, f"{alone}, {both}")
             met.setdefault(schema, set()).add(b"".join(alone[2]))
-    lines = {
-        "good.fbs": {b"114 Memory\n", b""},
-        "bad.fbs": {b"114 Memory\n", b"12 BadDefault at 34\n"},
-        "other.fbs": {b"114 Memory\n", b"74 UnknownMember in type 0\n"},
-    }
-    for schema, want in lines.items():
-        tests.tell(f"each line under {schema} was met", met[schema] >= want, f"{met[schema]}")
+    lines = {"good.fbs": b"", "bad.fbs": b"12 BadDefault at 34\n", "other.fbs": b"74 UnknownMember in type 0\n"}
+    for schema, line in lines.items():
+        tests.tell(f"{schema} with memory enough", line in met[schema], f"{met[schema]}")
+    short = {line for seen in met.values() for line in seen if MEMORY.fullmatch(line)}
+    tests.tell("memory that is too short", short, f"{met}")
 
 
 def changed_files(tests):

@@ -32,7 +32,7 @@ fn push_compared(page: &mut Page, schema: &Schema, field: &FieldInfo, compared: 
     }
 }
 
-impl<'s, 't> Sides<'s, 't> {
+impl<'s> Sides<'s> {
     /// Adds a field's name behind its type's.
     fn push_field_name(&self, page: &mut Page, old: TypeId, name: &str) {
         page.push_cut(type_name(self.old.schema(), old).as_bytes());
@@ -61,10 +61,10 @@ impl<'s, 't> Sides<'s, 't> {
         self.push_field_name(page, old, was.name.as_str());
         page.push_str(front_of(compared));
         push_compared(page, self.old.schema(), was, compared);
-        self.old.push_field_line(page, old, was.name.as_str());
+        self.old.push_field_line(page, old, was.slot);
         page.push_str(", is ");
         push_compared(page, self.new.schema(), is, compared);
-        self.new.push_field_line(page, twin.new, is.name.as_str());
+        self.new.push_field_line(page, twin.new, is.slot);
         page.end_line();
     }
 
@@ -75,7 +75,7 @@ impl<'s, 't> Sides<'s, 't> {
         };
         self.push_field_name(page, old, was.name.as_str());
         page.push_str("is gone");
-        self.old.push_field_line(page, old, was.name.as_str());
+        self.old.push_field_line(page, old, was.slot);
         page.push_line("; a field is never removed, but marked (deprecated)");
     }
 
@@ -89,7 +89,7 @@ impl<'s, 't> Sides<'s, 't> {
         };
         self.push_field_name(page, old, is.name.as_str());
         page.push_str("is new and required");
-        self.new.push_field_line(page, twin.new, is.name.as_str());
+        self.new.push_field_line(page, twin.new, is.slot);
         page.push_line("; old data doesn't have it");
     }
 }

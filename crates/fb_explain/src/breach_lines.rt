@@ -22,7 +22,7 @@ fn push_identifier(page: &mut Page, schema: &Schema) {
     }
 }
 
-impl<'s, 't> Sides<'s, 't> {
+impl<'s> Sides<'s> {
     /// Adds a type's name and where each schema declares it.
     fn push_type(&self, page: &mut Page, old: TypeId, what: &str) {
         page.push_name(type_name(self.old.schema(), old).as_bytes());
@@ -72,7 +72,7 @@ fn code_at(index: usize) -> Option<u8> {
     u8::try_from(index.checked_add(1)?).ok()
 }
 
-impl<'s, 't> Sides<'s, 't> {
+impl<'s> Sides<'s> {
     /// Adds what of an enum is gone or has another number.
     fn push_enum(&self, page: &mut Page, old: TypeId) {
         self.push_type(page, old, " has lost a value, or its type or mark changed");

@@ -13,6 +13,7 @@ mod json_places;
 mod json_rules;
 mod memory;
 mod moved_names;
+mod places;
 mod sides;
 mod union_codes;
 mod union_paths;

@@ -4,12 +4,11 @@ use fb_pages::Page;
 use fb_schema::{FieldInfo, TypeId};
 use fb_schema_faults::shapes::{fields_of, members_of, type_name};
 
-impl<'s, 't> Sides<'s, 't> {
+impl<'s> Sides<'s> {
     /// Adds a warning where the new field of an old field's name has another slot.
     fn push_moved_field(&self, page: &mut Page, twin: Twin, was: &FieldInfo) {
         let name = was.name.as_str();
-        let new = fields_of(self.new.schema(), twin.new);
-        let Some(is) = new.iter().find(|field| field.name.as_str() == name) else {
+        let Some(is) = self.new.schema().field_by_name(twin.new, name) else {
             return;
         };
         if is.slot == was.slot {
@@ -21,10 +20,10 @@ impl<'s, 't> Sides<'s, 't> {
         page.push_cut(name.as_bytes());
         page.push_str(" was field ");
         page.push_number(was.slot);
-        self.old.push_field_line(page, twin.old, name);
+        self.old.push_field_line(page, twin.old, was.slot);
         page.push_str(", is field ");
         page.push_number(is.slot);
-        self.new.push_field_line(page, twin.new, name);
+        self.new.push_field_line(page, twin.new, is.slot);
         page.push_line(": JSON texts of the old schema mean another value");
     }
 

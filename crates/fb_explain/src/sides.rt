@@ -1,67 +1,51 @@
 //! Two schemas side by side, with the texts that declare them.
+use crate::places::Places;
 use fb_layout::Layout;
-use fb_pages::{Page, Position, Source};
+use fb_pages::Page;
 use fb_schema::{Schema, TypeId};
-use fb_schema_faults::declared::{field_named, name_of, type_at};
 use fb_schema_faults::shapes::type_name;
-use fb_syntax::{Decls, TypeDecl};
 
-/// One of two schemas: its layout, its text, and what the text declares.
+/// One of two schemas: its layout, its text's path, and where the text declares what.
 #[derive(Clone, Copy)]
-pub(crate) struct Side<'s, 't> {
+pub(crate) struct Side<'s> {
     pub(crate) layout: &'s Layout,
-    pub(crate) source: Source<'t>,
-    pub(crate) decls: &'s Decls<'t>,
+    pub(crate) path: &'s str,
+    pub(crate) places: &'s Places,
 }
 
-impl<'s, 't> Side<'s, 't> {
+impl<'s> Side<'s> {
     pub(crate) fn schema(&self) -> &'s Schema {
         self.layout.schema()
     }
 
-    /// Adds the file and line of an offset.
-    fn push_line_of(&self, page: &mut Page, offset: u64) {
+    /// Adds the file and a line of it.
+    fn push_line(&self, page: &mut Page, line: Option<usize>) {
+        let Some(line) = line else {
+            return;
+        };
         page.push_str(" (");
-        page.push_str(self.source.path);
+        page.push_str(self.path);
         page.push_str(":");
-        let position = Position::of(self.source.bytes, offset as usize);
-        page.push_number(position.line as u64);
+        page.push_number(line as u64);
         page.push_str(")");
     }
 
     /// Adds where a type is declared.
     pub(crate) fn push_type_line(&self, page: &mut Page, number: TypeId) {
-        match type_at(self.decls, number.0) {
-            Some(declared) => self.push_line_of(page, name_of(declared).1),
-            None => {}
-        }
+        self.push_line(page, self.places.line_of_type(number));
     }
 
     /// Adds where a field is declared; a union's type is where the union is.
-    pub(crate) fn push_field_line(&self, page: &mut Page, number: TypeId, name: &str) {
-        let Some(declared) = type_at(self.decls, number.0) else {
-            return;
-        };
-        match offset_of_field(declared, name) {
-            Some(offset) => self.push_line_of(page, offset),
-            None => self.push_type_line(page, number),
-        }
+    pub(crate) fn push_field_line(&self, page: &mut Page, owner: TypeId, slot: u64) {
+        self.push_line(page, self.places.line_of_field(owner, slot));
     }
-}
-
-fn offset_of_field(declared: &TypeDecl<'_>, name: &str) -> Option<u64> {
-    let field = match field_named(declared, name) {
-        Some(field) => field,
-        None => field_named(declared, name.strip_suffix("_type")?)?,
-    };
-    Some(field.name.at)
 }
 
 /// A schema and the one that is to follow it.
 #[derive(Clone, Copy)]
-pub(crate) struct Sides<'s, 't> {
-    pub(crate) old: Side<'s, 't>,
-    pub(crate) new: Side<'s, 't>,
+pub(crate) struct Sides<'s> {
+    pub(crate) old: Side<'s>,
+    pub(crate) new: Side<'s>,
 }
 
 /// A type of both schemas, by its number in each.
@@ -71,7 +55,7 @@ pub(crate) struct Twin {
     pub(crate) new: TypeId,
 }
 
-impl<'s, 't> Sides<'s, 't> {
+impl<'s> Sides<'s> {
     /// The type of an old type's full name.
     pub(crate) fn twin(&self, old: TypeId) -> Option<Twin> {
         let new = self.new.schema().find(type_name(self.old.schema(), old))?;

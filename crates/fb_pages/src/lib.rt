@@ -18,4 +18,4 @@ pub use line_starts::LineStarts;
 pub use near_names::push_nearest;
 pub use pages::Page;
 pub use positions::Position;
-pub use sources::{Source, push_place};
+pub use sources::{Source, push_place, push_position};

@@ -1,8 +1,8 @@
 //! An index of a text's lines, for many offsets in one text.
 ghost use Rattle.std.specs.Prelude.{◌≡◌, ℕ, List, IfOk};
-ghost use Rattle.fb_pages.specs.Positions.{line_at, line_starts};
+ghost use Rattle.fb_pages.specs.Positions.{line_at, line_starts, IsColumn};
 
-use crate::positions::is_feed;
+use crate::positions::{Position, column_of, is_feed};
 use std::alloc::{AllocError, Global};
 use std::marker::Model;
 
@@ -39,5 +39,16 @@ impl LineStarts {
         ensures line { (text : List ℕ) → self.now ≡ line_starts text → result ≡ line_at text offset }
     {
         1 + self.starts.partition_point(|start| *start <= offset)
+    }
+
+    /// The position of an offset in the text, as `Position::of` has it.
+    pub fn position_of(&self, text: &[u8], offset: usize) -> Position
+        ensures line { self.now ≡ line_starts text.now → result.line ≡ line_at text.now offset }
+        ensures column { IsColumn text.now offset result.column }
+    {
+        Position {
+            line: self.line_of(offset),
+            column: column_of(text, offset),
+        }
     }
 }

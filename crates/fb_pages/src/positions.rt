@@ -80,6 +80,14 @@ pub(crate) fn line_start(text: &[u8]) -> usize
     start
 }
 
+/// The column of an offset.
+pub(crate) fn column_of(text: &[u8], offset: usize) -> usize
+    ensures { IsColumn text.now offset result }
+{
+    let before = before(text, offset);
+    1 + character_count(without(before, line_start(before)))
+}
+
 impl Position {
     ghost use Rattle.std.specs.Prelude.{◌≡◌};
     ghost use Rattle.fb_pages.specs.Positions.{line_at, IsColumn};
@@ -89,10 +97,9 @@ impl Position {
         ensures line { result.line ≡ line_at text.now offset }
         ensures column { IsColumn text.now offset result.column }
     {
-        let before = before(text, offset);
         Position {
-            line: 1 + feed_count(before),
-            column: 1 + character_count(without(before, line_start(before))),
+            line: 1 + feed_count(before(text, offset)),
+            column: column_of(text, offset),
         }
     }
 }

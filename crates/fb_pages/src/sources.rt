@@ -11,8 +11,12 @@ pub struct Source<'a> {
 
 /// Adds `path:line:column: ` of an offset.
 pub fn push_place(page: &mut Page, source: &Source<'_>, offset: usize) {
-    let position = Position::of(source.bytes, offset);
-    page.push_str(source.path);
+    push_position(page, source.path, Position::of(source.bytes, offset));
+}
+
+/// Adds `path:line:column: ` of a position.
+pub fn push_position(page: &mut Page, path: &str, position: Position) {
+    page.push_str(path);
     page.push_str(":");
     page.push_number(position.line as u64);
     page.push_str(":");

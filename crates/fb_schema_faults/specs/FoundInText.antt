@@ -1,5 +1,5 @@
 -- What of a schema text's declarations has a number, a name or an offset.
-use Rattle.std.specs.Prelude.{ℕ, ◌==◌, Bool, false, List, [], Option, None, Some, is_some, map, bytes_eq}
+use Rattle.std.specs.Prelude.{ℕ, ◌==◌, Bool, false, List, [], Option, None, Some, is_some, map}
 use Rattle.std.specs.List.{find, list_any}
 use Rattle.fb_syntax.specs.FieldRead.{FieldRead}
 use Rattle.fb_syntax.specs.declared.declarations.TypeDecl.{TypeDecl}
@@ -32,9 +32,6 @@ fields_of _ = []
 
 abbrev pub has_default_at : ℕ → FieldRead → Bool
 has_default_at offset field = elim field.default [ None ↦ false | Some d ↦ default_at d == offset ]
-
-abbrev pub is_called : Name → FieldRead → Bool
-is_called name field = bytes_eq field.name.bytes name
 
 -- a struct, one of whose fields has its default at an offset
 abbrev pub is_struct_with : ℕ → Declaration → Bool

@@ -5,13 +5,14 @@ ghost use Rattle.std.specs.List.{find, list_any, flat_map};
 ghost use Rattle.fb_resolve.specs.Outline.{word_of};
 ghost use Rattle.fb_declare.specs.FaultRows.{default_at};
 ghost use Rattle.fb_schema_faults.specs.FoundInText.{types_of, type_of, word_bytes, fields_of, has_default_at};
-ghost use Rattle.fb_schema_faults.specs.FoundInText.{is_called, is_struct_with, is_member_at, is_union_with};
+ghost use Rattle.fb_schema_faults.specs.FoundInText.{is_struct_with, is_member_at, is_union_with};
 
 use fb_resolve::word_of;
 use fb_syntax::{Declaration, Decls, DefaultValue, Field, TypeDecl, UnionMember};
 use std::alloc::{AllocError, Global};
 
-pub(crate) fn type_in<'d, 't>(declaration: &'d Declaration<'t>) -> Option<&'d TypeDecl<'t>>
+/// The type that is declared.
+pub fn type_in<'d, 't>(declaration: &'d Declaration<'t>) -> Option<&'d TypeDecl<'t>>
     ensures { option_copied result ≡ type_of declaration.now }
 {
     match declaration {
@@ -21,7 +22,7 @@ pub(crate) fn type_in<'d, 't>(declaration: &'d Declaration<'t>) -> Option<&'d Ty
 }
 
 /// The type of a number.
-pub fn type_at<'d, 't>(decls: &'d Decls<'t>, number: u64) -> Option<&'d TypeDecl<'t>>
+pub(crate) fn type_at<'d, 't>(decls: &'d Decls<'t>, number: u64) -> Option<&'d TypeDecl<'t>>
     ensures { option_copied result ≡ slice_get (types_of decls.now.declarations) number }
 {
     let mut left = number;
@@ -60,7 +61,8 @@ pub(crate) fn type_names<'d>(
     Ok(names)
 }
 
-fn fields_of<'d, 't>(declared: &'d TypeDecl<'t>) -> &'d [Field<'t>]
+/// The fields of a table or struct, in the order of the text.
+pub fn fields_of<'d, 't>(declared: &'d TypeDecl<'t>) -> &'d [Field<'t>]
     ensures { result.now ≡ fields_of declared.now }
 {
     match declared {
@@ -130,15 +132,6 @@ pub(crate) fn is_in_a_struct(decls: &Decls<'_>, offset: u64) -> bool
         .declarations()
         .iter()
         .any(|declaration| is_struct_with(declaration, offset))
-}
-
-/// The field of this name, of a table or struct.
-pub fn field_named<'d, 't>(declared: &'d TypeDecl<'t>, name: &str) -> Option<&'d Field<'t>>
-    ensures { option_copied result ≡ find (is_called name.now) (fields_of declared.now) }
-{
-    fields_of(declared)
-        .iter()
-        .find(|field| field.name.text == name)
 }
 
 /// Whether one of some members has its type at an offset.

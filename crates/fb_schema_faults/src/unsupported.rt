@@ -1,6 +1,6 @@
 //! What of FlatBuffers' schema language isn't supported, wherever a text has it.
 use crate::schema_tokens::{Token, Tokens};
-use fb_pages::{Page, Source, push_place};
+use fb_pages::{LineStarts, Page, Source, push_position};
 
 /// The tokens before a token, the nearest first.
 #[derive(Clone, Copy)]
@@ -88,27 +88,34 @@ pub(crate) fn unsupported_at(text: &[u8], offset: usize) -> Option<&'static str>
 fn push_unsupported_token(
     page: &mut Page,
     source: &Source<'_>,
+    starts: &LineStarts,
     token: Token<'_>,
     before: Before<'_>,
-    offset: usize,
 ) {
-    match unsupported(token.bytes, before) {
-        Some(what) if token.at != offset => {
-            push_place(page, source, token.at);
-            page.push_line(what)
-        }
-        _ => {}
+    if let Some(what) = unsupported(token.bytes, before) {
+        push_position(
+            page,
+            source.path,
+            starts.position_of(source.bytes, token.at),
+        );
+        page.push_line(what)
     }
 }
 
 /// Adds all other places at which something isn't supported.
 pub(crate) fn push_others(page: &mut Page, source: &Source<'_>, offset: usize) {
+    let indexed = LineStarts::of(page.alloc(), source.bytes);
+    let Some(starts) = page.keep(indexed) else {
+        return;
+    };
     let mut tokens = Tokens::of(source.bytes);
     let mut before = Before::nothing();
     for _ in 0..source.bytes.len() {
         match tokens.next_token() {
             Some(token) => {
-                push_unsupported_token(page, source, token, before, offset);
+                if token.at != offset {
+                    push_unsupported_token(page, source, &starts, token, before);
+                }
                 before = before.followed_by(token);
             }
             None => break,
