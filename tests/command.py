@@ -298,7 +298,7 @@ def usage():
     misused("a flag of another job", ["check", "--unknown-json", "one.fbs"])
     misused("too few paths", ["json", "one.fbs"])
     misused("one schema to compare", ["conform", "one.fbs"])
-    misused("too many paths", ["check", "one.fbs", "seven.bin", "seven.bin"])
+    misused("too many paths", ["json", "one.fbs", "seven.bin", "seven.bin"])
     misused("words that are no UTF-8", [b"check", b"\xff"])
 
 

@@ -245,7 +245,7 @@ HINTS = [
     (["--json", "a.fbs", "--", "a.bin"], "use: flatc json SCHEMA BIN"),
     (["-t", "a.fbs", "--", "a.bin"], "use: flatc json SCHEMA BIN"),
     (["--conform", "old.fbs", "new.fbs"], "use: flatc conform OLD NEW"),
-    (["-o", "out", "-b", "a.fbs", "a.json"], "OUT is an argument: flatc binary SCHEMA JSON OUT"),
+    (["-o", "out", "-b", "a.fbs", "a.json"], "use: flatc binary SCHEMA JSON OUT"),
     (["--cpp", "a.fbs"], "this program converts and checks; for generated code use Google's flatc"),
 ]
 

@@ -10,7 +10,7 @@ use std::alloc::AllocError;
 const USAGE: u8 = 2;
 
 /// The flags that change what is refused: unknown JSON fields, and raw bytes.
-fn flags_of(job: &Job) -> (bool, bool) {
+pub(crate) fn flags_of(job: &Job) -> (bool, bool) {
     match job {
         Job::Binary { unknown, .. } => (*unknown, false),
         Job::Json { raw, .. } | Job::Check { raw, .. } => (false, *raw),
@@ -47,7 +47,7 @@ fn quotes_json(fault: ToolFault) -> bool {
 /// The lines that explain a refusal.
 fn explanation(
     rt: &HostRuntime,
-    job: &Job,
+    (unknown_json, raw_binary): (bool, bool),
     texts: &mut Texts<'_>,
     fault: ToolFault,
 ) -> Result<String, AllocError> {
@@ -56,7 +56,6 @@ fn explanation(
     } else {
         None
     };
-    let (unknown_json, raw_binary) = flags_of(job);
     let sources = Sources {
         schema: source_of(&texts.schema),
         input: source_of(&texts.input),
@@ -69,14 +68,14 @@ fn explanation(
     explain(rt.alloc(), &fault, &sources)
 }
 
-/// Prints what explains a refusal; nothing where memory runs out.
+/// Prints what explains a refusal under the flags of `flags_of`; nothing where memory runs out.
 pub(crate) fn explain_refusal(
     rt: &HostRuntime,
-    job: &Job,
+    flags: (bool, bool),
     texts: &mut Texts<'_>,
     fault: ToolFault,
 ) {
-    if let Ok(text) = explanation(rt, job, texts, fault) {
+    if let Ok(text) = explanation(rt, flags, texts, fault) {
         let _printed = eprint!(rt; "{text}");
     }
 }

@@ -6,7 +6,6 @@ fn hint_of(word: &str) -> Option<&'static str> {
         "-b" | "--binary" => "use: flatc binary SCHEMA JSON OUT",
         "-t" | "--json" => "use: flatc json SCHEMA BIN",
         "--conform" => "use: flatc conform OLD NEW",
-        "-o" => "OUT is an argument: flatc binary SCHEMA JSON OUT",
         "--schema" => "to check a schema, use: flatc check SCHEMA",
         "-I" | "--conform-includes" =>
             "include isn't supported: put all declarations into one text",

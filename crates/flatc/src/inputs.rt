@@ -1,10 +1,12 @@
 //! An input of a job: what was read from it, and how that is got again once it was given away.
 use crate::reasons::Reasoned;
+use crate::streams::{Stream, metadata_of};
 use fb_explain::Lost;
+use flatc_cli::is_standard_input;
 use flatc_tool::ToolFault;
 use flatc_tool::command::{Heard, take_all};
 use std::alloc::AllocError;
-use std::fs::{self, Metadata};
+use std::fs::Metadata;
 use std::os::unix::fs::MetadataExt;
 use std::{io, mem};
 
@@ -63,17 +65,38 @@ impl<'j> Input<'j> {
         }
     }
 
-    /// Reads a file.
+    /// Reads a file, or standard input.
+    pub(crate) fn read(rt: &HostRuntime, path: &'j str) -> Result<Input<'j>, ReadFailure> {
+        let mut input = Input::read_all(rt, path, Stream::open(rt, path))?;
+        // A file that standard input is may have been read from its middle.
+        if is_standard_input(path) && !input.is_whole() {
+            input.state = None;
+        }
+        Ok(input)
+    }
+
+    /// Whether as much was read as the file has.
+    fn is_whole(&self) -> bool {
+        match self.state {
+            Some(state) => state.len == self.bytes.len() as u64,
+            None => false,
+        }
+    }
+
     // Reading takes a large buffer of its stack, which is to be free again when the job begins.
     #[inline(never)]
-    pub(crate) fn read(rt: &HostRuntime, path: &'j str) -> Result<Input<'j>, ReadFailure> {
-        let file = match fs::open(rt, path) {
-            Ok(file) => file,
+    fn read_all(
+        rt: &HostRuntime,
+        path: &'j str,
+        opened: io::Result<Stream>,
+    ) -> Result<Input<'j>, ReadFailure> {
+        let stream = match opened {
+            Ok(stream) => stream,
             Err(error) => return Err(failed(ToolFault::FileRead, Some(error))),
         };
         // Taken before the first byte is read: what is written meanwhile changes it.
-        let state = state_of(file.metadata());
-        let mut from = Heard::over(Reasoned::over(file));
+        let state = state_of(stream.metadata(rt));
+        let mut from = Heard::over(Reasoned::over(stream));
         match take_all(rt.alloc(), &mut from, LONGEST) {
             Ok(bytes) => Ok(Input {
                 path,
@@ -105,10 +128,10 @@ impl<'j> Input<'j> {
         if self.state.is_none() {
             return Ok(Some(Lost::Streamed));
         }
-        if state_of(fs::metadata(rt, self.path)) != self.state {
+        if state_of(metadata_of(rt, self.path)) != self.state {
             return Ok(Some(Lost::Changed));
         }
-        match Input::read(rt, self.path) {
+        match Input::read_all(rt, self.path, Stream::open_again(rt, self.path)) {
             Ok(again) => Ok(self.take(rt, again)),
             Err(unread) => match unread.fault {
                 ToolFault::Memory => Err(AllocError),
@@ -119,7 +142,7 @@ impl<'j> Input<'j> {
 
     /// Takes what was read again, if the file is still what it was.
     fn take(&mut self, rt: &HostRuntime, again: Input<'j>) -> Option<Lost> {
-        if again.state != self.state || state_of(fs::metadata(rt, self.path)) != self.state {
+        if again.state != self.state || state_of(metadata_of(rt, self.path)) != self.state {
             return Some(Lost::Changed);
         }
         *self = again;

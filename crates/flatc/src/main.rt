@@ -4,14 +4,19 @@
 ghost use Rattle.std.specs.Prelude.{◌≡◌};
 ghost use Rattle.flatc_tool.specs.Options.{usual_limits};
 
+mod batches;
 mod explained;
 mod hints;
 mod inputs;
 mod outputs;
+mod progress;
 mod reasons;
+mod streams;
+mod targets;
 mod texts;
 
-use crate::explained::{explain_number, explain_refusal, warn};
+use crate::batches::do_batch;
+use crate::explained::{explain_number, explain_refusal, flags_of, warn};
 use crate::hints::hint_for;
 use crate::outputs::write_out;
 use crate::reasons::Reasoned;
@@ -52,7 +57,7 @@ pub(crate) fn limits() -> Limits
 /// Reports an answer on the program's streams, and returns the status.
 // Each writer has a page in its frame, which no job is to have in its own.
 #[inline(never)]
-fn tell(rt: &HostRuntime, answer: Result<&str, ToolFault>) -> u8 {
+pub(crate) fn tell(rt: &HostRuntime, answer: Result<&str, ToolFault>) -> u8 {
     let mut out = Noted::over(rt.stdout());
     let mut err = Noted::over(rt.stderr());
     report_noted(rt.alloc(), answer, &mut out, &mut err)
@@ -246,7 +251,7 @@ fn do_and_report(rt: &HostRuntime, job: &Job, explained: bool) -> u8 {
     if explained {
         match answer {
             Ok(_) => warn(rt, job, &texts),
-            Err(fault) => explain_refusal(rt, job, &mut texts, fault),
+            Err(fault) => explain_refusal(rt, flags_of(job), &mut texts, fault),
         }
     }
     status
@@ -256,6 +261,10 @@ fn do_and_report(rt: &HostRuntime, job: &Job, explained: bool) -> u8 {
 fn run(rt: &HostRuntime, words: &[String]) -> u8 {
     match request_of(rt.alloc(), words) {
         Ok(Request::Do(job, explained)) => do_and_report(rt, &job, explained),
+        Ok(Request::DoEach(batch, explained)) => match do_batch(rt, &batch, explained) {
+            Ok(status) => status,
+            Err(error) => refuse(rt, &error, words),
+        },
         Ok(Request::Explain(number)) => explain_number(rt, number.as_str()),
         Err(error) => refuse(rt, &error, words),
     }

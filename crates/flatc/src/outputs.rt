@@ -1,10 +1,27 @@
 //! Where a buffer is written to: never over an input, and a regular file never half.
+use crate::streams::metadata_of;
+use flatc_cli::is_standard_output;
 use flatc_tool::Segments;
 use std::fs::{self, File, Metadata, OpenOptions, Permissions};
 use std::io::{self, ErrorKind};
 use std::os::unix::fs::{MetadataExt, OpenOptionsExt, PermissionsExt, chown};
 use std::path::{Path, PathBuf};
 use std::process;
+
+/// What is written to an output.
+pub(crate) trait Content {
+    fn write_to(&mut self, file: &mut File) -> io::Result<()>;
+}
+
+/// A buffer.
+#[derive(Drop)]
+pub(crate) struct Laid<'b>(pub(crate) &'b Segments);
+
+impl Content for Laid<'_> {
+    fn write_to(&mut self, file: &mut File) -> io::Result<()> {
+        self.0.write_to(file)
+    }
+}
 
 // What only its owner may read, until it has the mode of the file that it replaces.
 const PRIVATE: u32 = 0o600;
@@ -23,7 +40,7 @@ fn refused() -> io::Error {
 
 /// Whether a path leads to a file.
 fn leads_to(rt: &HostRuntime, path: &str, file: &Metadata) -> bool {
-    match fs::metadata(rt, path) {
+    match metadata_of(rt, path) {
         Ok(found) => found.dev() == file.dev() && found.ino() == file.ino(),
         Err(_) => false,
     }
@@ -33,12 +50,8 @@ fn is_named_as_text(path: &str) -> bool {
     path.as_bytes().ends_with(b".json") || path.as_bytes().ends_with(b".fbs")
 }
 
-/// Whether a path that is there leads to what isn't to be lost: an input, or a file that is named
-/// as a JSON text or a schema.
-fn is_guarded(rt: &HostRuntime, out: &str, inputs: [&str; 2]) -> bool {
-    if is_named_as_text(out) {
-        return true;
-    }
+/// Whether a path leads to a file that is one of the inputs.
+fn is_an_input(rt: &HostRuntime, out: &str, inputs: [&str; 2]) -> bool {
     let [schema, json] = inputs;
     match fs::metadata(rt, out) {
         Ok(found) if found.is_file() => {
@@ -71,59 +84,101 @@ fn take_over(rt: &HostRuntime, file: &File, path: &str, old: &Metadata) -> io::R
     file.set_permissions(Permissions::from_mode(old.mode() & PERMISSION_BITS))
 }
 
-fn fill_and_rename(
+fn fill_and_rename<C: Content>(
     rt: &HostRuntime,
     (path, mut file): (&str, File),
     out: &str,
-    buffer: &Segments,
+    content: &mut C,
     old: Option<&Metadata>,
 ) -> io::Result<()> {
-    buffer.write_to(&mut file)?;
+    content.write_to(&mut file)?;
     if let Some(old) = old {
         take_over(rt, &file, path, old)?;
     }
     fs::rename(rt, path, out)
 }
 
-/// Writes a buffer to a file beside `out`, and renames it, so that a failure leaves `out` as it was.
-fn replace(
+/// Writes to a file beside `out`, and renames it, so that a failure leaves `out` as it was.
+fn replace<C: Content>(
     rt: &HostRuntime,
     out: &str,
-    buffer: &Segments,
+    content: &mut C,
     old: Option<&Metadata>,
 ) -> io::Result<()> {
     let mode = if old.is_some() { PRIVATE } else { USUAL };
     let (path, file) = create_beside(rt, out, mode)?;
-    let done = fill_and_rename(rt, (path.as_str(), file), out, buffer, old);
+    let done = fill_and_rename(rt, (path.as_str(), file), out, content, old);
     if done.is_err() {
         let _gone = fs::remove_file(rt, path.as_str());
     }
     done
 }
 
-/// Writes a buffer to `out`.
+/// What is at `out`; none where nothing is.
+fn found_at(rt: &HostRuntime, out: &str) -> io::Result<Option<Metadata>> {
+    match fs::symlink_metadata(rt, out) {
+        Ok(old) => Ok(Some(old)),
+        Err(error) if error.kind() == ErrorKind::NotFound => Ok(None),
+        Err(error) => Err(error),
+    }
+}
+
+/// Writes to `out`, where `old` is what is there.
+fn write_over<C: Content>(
+    rt: &HostRuntime,
+    out: &str,
+    content: &mut C,
+    old: Option<&Metadata>,
+) -> io::Result<()> {
+    if let Some(old) = old {
+        if !old.is_file() {
+            return content.write_to(&mut File::create(rt, out)?);
+        }
+        // A file that may not be written isn't replaced either.
+        let _writable = OpenOptions::new().write(true).open(rt, out)?;
+    }
+    replace(rt, out, content, old)
+}
+
+/// Writes to `out`: a regular file is replaced whole or left as it was; what else is there, as a
+/// device, a pipe or a link, is written directly.
+pub(crate) fn write_file<C: Content>(
+    rt: &HostRuntime,
+    out: &str,
+    content: &mut C,
+) -> io::Result<()> {
+    match found_at(rt, out)? {
+        Some(old) => write_over(rt, out, content, Some(&old)),
+        None => write_over(rt, out, content, None),
+    }
+}
+
+/// Writes a buffer to standard output, as it was given.
+fn write_standard(rt: &HostRuntime, buffer: &Segments, inputs: [&str; 2]) -> io::Result<()> {
+    if is_an_input(rt, "/dev/fd/1", inputs) {
+        return Err(refused());
+    }
+    buffer.write_to(&mut rt.stdout())
+}
+
+/// Writes a buffer to `out`, as `write_file` does, or to standard output.
 ///
-/// A regular file is replaced whole or left as it was; what else is there, as a device, a pipe or a
-/// link, is written directly. It is an error where that fails, where `out` is one of the inputs, and
-/// where it is there and its name ends in `.json` or `.fbs`.
+/// It is an error where that fails, where `out` is one of the inputs, and where it is there and its
+/// name ends in `.json` or `.fbs`.
 pub(crate) fn write_out(
     rt: &HostRuntime,
     out: &str,
     buffer: &Segments,
     inputs: [&str; 2],
 ) -> io::Result<()> {
-    let old = match fs::symlink_metadata(rt, out) {
-        Ok(old) => old,
-        Err(error) if error.kind() == ErrorKind::NotFound => return replace(rt, out, buffer, None),
-        Err(error) => return Err(error),
+    if is_standard_output(out) {
+        return write_standard(rt, buffer, inputs);
+    }
+    let Some(old) = found_at(rt, out)? else {
+        return write_over(rt, out, &mut Laid(buffer), None);
     };
-    if is_guarded(rt, out, inputs) {
+    if is_named_as_text(out) || is_an_input(rt, out, inputs) {
         return Err(refused());
     }
-    if !old.is_file() {
-        return buffer.write_to(&mut File::create(rt, out)?);
-    }
-    // A file that may not be written isn't replaced either.
-    let _writable = OpenOptions::new().write(true).open(rt, out)?;
-    replace(rt, out, buffer, Some(&old))
+    write_over(rt, out, &mut Laid(buffer), Some(&old))
 }

@@ -30,6 +30,12 @@ impl<'j> Texts<'j> {
         }
     }
 
+    /// Forgets the input and why a file failed, for the next file of a batch.
+    pub(crate) fn forget(&mut self, rt: &HostRuntime) {
+        self.input = Input::nothing(rt);
+        self.failure = None;
+    }
+
     /// Remembers why a file failed, where there is memory for that.
     pub(crate) fn fail(
         &mut self,

@@ -104,6 +104,7 @@ pub extern "C" fn flatc_explain(
             path: input_name,
             bytes: input,
         },
+        lost: None,
         limits,
         unknown_json: options.ignores_unknown(),
         raw_binary: options.is_raw(),

@@ -2,30 +2,41 @@
 -- After the FlatBuffers documentation, "Using the schema compiler": the options keep its words.
 use Rattle.std.specs.Prelude.{◌≡◌, Bool, true, false, Some, codes}
 use Rattle.clap.specs.Words.{App, Rule, Text, app_of, new_app, new_rule, with_rule, with_subcommand}
-use Rattle.clap.specs.declared.builder.action.ArgAction.TheVariants.{SetTrue}
+use Rattle.clap.specs.declared.builder.action.ArgAction.TheVariants.{SetTrue, Append}
 use Rattle.clap.specs.declared.builder.command.Command.{Command}
 use Rattle.clap.specs.declared.builder.command.Command.TheViews.{out-Command}
 
 abbrev pub path_rule : Text → Bool → Rule
 path_rule id required = record (new_rule id) { required = required }
 
+-- all paths that are left
+abbrev pub paths_rule : Text → Bool → Rule
+paths_rule id required = record (new_rule id) { required = required; action = Some Append }
+
 abbrev pub flag_rule : Text → Rule
 flag_rule name = record (new_rule name) { long = Some name; action = Some SetTrue }
 
+-- `-o DIR`, `--out-dir DIR` (111 is `o`)
+abbrev pub dir_rule : Rule
+dir_rule = record (new_rule (codes "DIR")) { long = Some (codes "out-dir"); short = Some 111 }
+
 abbrev pub with_path : App → Text → App
 with_path a id = with_rule a (path_rule id true)
+
+abbrev pub with_paths : App → Text → App
+with_paths a id = with_rule a (paths_rule id true)
 
 abbrev pub with_flag : App → Text → App
 with_flag a name = with_rule a (flag_rule name)
 
 abbrev pub binary_app : App
-binary_app = with_path (with_path (with_path (with_flag (with_flag (new_app (codes "binary")) (codes "unknown-json")) (codes "explain")) (codes "SCHEMA")) (codes "JSON")) (codes "OUT")
+binary_app = with_paths (with_path (with_rule (with_flag (with_flag (new_app (codes "binary")) (codes "unknown-json")) (codes "explain")) dir_rule) (codes "SCHEMA")) (codes "JSON")
 
 abbrev pub json_app : App
-json_app = with_path (with_path (with_flag (with_flag (with_flag (new_app (codes "json")) (codes "raw-binary")) (codes "defaults-json")) (codes "explain")) (codes "SCHEMA")) (codes "BIN")
+json_app = with_paths (with_path (with_rule (with_flag (with_flag (with_flag (new_app (codes "json")) (codes "raw-binary")) (codes "defaults-json")) (codes "explain")) dir_rule) (codes "SCHEMA")) (codes "BIN")
 
 abbrev pub check_app : App
-check_app = with_rule (with_path (with_flag (with_flag (new_app (codes "check")) (codes "raw-binary")) (codes "explain")) (codes "SCHEMA")) (path_rule (codes "BIN") false)
+check_app = with_rule (with_path (with_flag (with_flag (new_app (codes "check")) (codes "raw-binary")) (codes "explain")) (codes "SCHEMA")) (paths_rule (codes "BIN") false)
 
 abbrev pub conform_app : App
 conform_app = with_path (with_path (with_flag (new_app (codes "conform")) (codes "explain")) (codes "OLD")) (codes "NEW")

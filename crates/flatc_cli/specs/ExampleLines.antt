@@ -1,13 +1,13 @@
--- Two lines of words that clap takes, and the jobs that they ask for, and one that asks for a number's page.
+-- Lines of words that clap takes, and what they ask for.
 use Rattle.std.specs.Prelude.{◌≡◌, true, false, refl, List, [], ◌∷◌, None, codes, String, string_bytes}
 use Rattle.std.specs.declared.alloc.Global.{Global}
 use Rattle.clap.specs.Words.{Text, takes, subcommand_of}
 use Rattle.clap.specs.Walk.{walked}
 use Rattle.clap.specs.Takes.{walk_passes}
 use Rattle.flatc_cli.specs.Commands.{flatc_app}
-use Rattle.flatc_cli.specs.Lines.{IsRequestOf}
-use Rattle.flatc_cli.specs.declared.job.Job.TheVariants.{Binary, Check}
-use Rattle.flatc_cli.specs.declared.job.Request.TheVariants.{Do, Explain}
+use Rattle.flatc_cli.specs.Lines.{IsRequestOf, is_line, is_job_line}
+use Rattle.flatc_cli.specs.declared.request.Job.TheVariants.{Binary, Check}
+use Rattle.flatc_cli.specs.declared.request.Request.TheVariants.{Do, Explain}
 
 -- flatc check s
 abbrev pub check_line : List Text
@@ -32,7 +32,7 @@ binary_is_taken = refl
 pub binary_is_a_job : (s j o : String Global) → string_bytes s ≡ codes "s" → string_bytes j ≡ codes "j" → string_bytes o ≡ codes "o"
     → IsRequestOf (subcommand_of flatc_app binary_line) (Do (Binary s j o true) true)
 unfolding walked
-binary_is_a_job s j o schema json out = ((refl, cc, cc, cc, refl), refl)
+binary_is_a_job s j o schema json out = ((refl, cc, cc, refl, refl), refl)
 
 -- flatc explain n
 abbrev pub explain_line : List Text
@@ -45,3 +45,27 @@ explain_is_taken = refl
 pub explain_asks_for_a_number : (n : String Global) → string_bytes n ≡ codes "n" → IsRequestOf (subcommand_of flatc_app explain_line) (Explain n)
 unfolding walked
 explain_asks_for_a_number n same = (refl, cc)
+
+-- flatc json --out-dir d s - b
+abbrev pub batch_line : List Text
+batch_line = codes "json" ∷ codes "--out-dir" ∷ codes "d" ∷ codes "s" ∷ codes "-" ∷ codes "b" ∷ []
+
+pub batch_is_taken : takes flatc_app batch_line ≡ true
+unfolding walked walk_passes
+batch_is_taken = refl
+
+pub batch_is_a_line : is_line (subcommand_of flatc_app batch_line) ≡ true
+unfolding walked
+batch_is_a_line = refl
+
+pub batch_is_no_job : is_job_line (subcommand_of flatc_app batch_line) ≡ false
+unfolding walked
+batch_is_no_job = refl
+
+-- flatc conform - /dev/stdin, which clap takes
+abbrev pub twice_line : List Text
+twice_line = codes "conform" ∷ codes "-" ∷ codes "/dev/stdin" ∷ []
+
+pub twice_is_no_line : is_line (subcommand_of flatc_app twice_line) ≡ false
+unfolding walked
+twice_is_no_line = refl

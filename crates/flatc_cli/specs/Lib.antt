@@ -1,3 +1,6 @@
 pub mod Commands
+pub mod Inputs
 pub mod Lines
+pub mod Misuses
+pub mod Runs
 pub mod ExampleLines

@@ -1,41 +1,128 @@
 -- What the matches of a command line ask for.
-use Rattle.std.specs.Prelude.{◌≡◌, Bool, false, List, Option, Some, None, codes, String, string_bytes, option_map}
+use Rattle.std.specs.Prelude.{◌≡◌, ◌==◌, ◌&&◌, ◌||◌, ◌≤◌, Bool, true, false, not, List, [], ◌∷◌, Option, Some, None}
+use Rattle.std.specs.Prelude.{codes, String, string_bytes, length, map, take, unwrap_or, is_some, nat_lt, if◌then◌else◌}
+use Rattle.std.specs.Borrow.{Bor}
 use Rattle.std.specs.Option.{option_map_or}
 use Rattle.std.specs.Str.{bytes_eq}
 use Rattle.std.specs.declared.alloc.Global.{Global}
-use Rattle.clap.specs.Words.{Row, Text, first_of}
-use Rattle.flatc_cli.specs.declared.job.Job.{Job}
-use Rattle.flatc_cli.specs.declared.job.Job.TheVariants.{Binary, Json, Check, Conform}
-use Rattle.flatc_cli.specs.declared.job.Request.{Request}
-use Rattle.flatc_cli.specs.declared.job.Request.TheVariants.{Do, Explain}
+use Rattle.clap.specs.Words.{Row, Text, all_of, first_of}
+use Rattle.flatc_cli.specs.Inputs.{is_read_once}
+use Rattle.flatc_cli.specs.declared.request.Job.{Job}
+use Rattle.flatc_cli.specs.declared.request.Job.TheVariants.{Binary, Json, Check, Conform}
+use Rattle.flatc_cli.specs.declared.request.Batch.{Batch}
+use Rattle.flatc_cli.specs.declared.request.Task.{Task}
+use Rattle.flatc_cli.specs.declared.request.Task.TheVariants as task
+use Rattle.flatc_cli.specs.declared.request.Request.{Request}
+use Rattle.flatc_cli.specs.declared.request.Request.TheVariants.{Do, DoEach, Explain}
+
+-- ---- what the rows have
 
 -- the flag was written
 abbrev pub is_set : Text → List Row → Bool
 is_set name rows = option_map_or (λ t. bytes_eq t (codes "true")) (first_of name rows) false
 
+-- the paths of this id, in the order of the words
+abbrev pub paths_in : Text → List Row → List Text
+paths_in id rows = unwrap_or (all_of id rows) []
+
 -- the path is the first value of this id
 abbrev pub IsPath : Text → List Row → String Global → Type 0
 IsPath id rows path = first_of id rows ≡ Some (string_bytes path)
 
+-- ---- what they ask for
+
+abbrev pub listed : Option (Bor Text) → List Text
+listed None = []
+listed (Some path) = path.now ∷ []
+
+abbrev pub bytes_of : Option (String Global) → List Text
+bytes_of None = []
+bytes_of (Some path) = string_bytes path ∷ []
+
 abbrev pub IsJob : Text → List Row → Job → Type 0
 IsJob name rows (Binary schema json out unknown) = (name ≡ codes "binary")
-    × IsPath (codes "SCHEMA") rows schema × IsPath (codes "JSON") rows json × IsPath (codes "OUT") rows out
-    × (unknown ≡ is_set (codes "unknown-json") rows)
+    × IsPath (codes "SCHEMA") rows schema × (paths_in (codes "JSON") rows ≡ string_bytes json ∷ string_bytes out ∷ [])
+    × (first_of (codes "DIR") rows ≡ None) × (unknown ≡ is_set (codes "unknown-json") rows)
 IsJob name rows (Json schema bin raw defaults) = (name ≡ codes "json")
-    × IsPath (codes "SCHEMA") rows schema × IsPath (codes "BIN") rows bin
+    × IsPath (codes "SCHEMA") rows schema × (paths_in (codes "BIN") rows ≡ string_bytes bin ∷ [])
+    × (first_of (codes "DIR") rows ≡ None)
     × (raw ≡ is_set (codes "raw-binary") rows) × (defaults ≡ is_set (codes "defaults-json") rows)
 IsJob name rows (Check schema bin raw) = (name ≡ codes "check")
-    × IsPath (codes "SCHEMA") rows schema × (first_of (codes "BIN") rows ≡ option_map string_bytes bin)
+    × IsPath (codes "SCHEMA") rows schema × (paths_in (codes "BIN") rows ≡ bytes_of bin)
     × (raw ≡ is_set (codes "raw-binary") rows)
 IsJob name rows (Conform old new) = (name ≡ codes "conform")
     × IsPath (codes "OLD") rows old × IsPath (codes "NEW") rows new
 
--- a job and whether its refusal is explained, or the number of a refusal
+-- the files are all paths behind the schema's, in their order
+abbrev pub IsTask : Text → List Row → List Text → Task → Type 0
+IsTask name rows files (task.Binary dir unknown) = (name ≡ codes "binary")
+    × (files ≡ paths_in (codes "JSON") rows) × IsPath (codes "DIR") rows dir
+    × (unknown ≡ is_set (codes "unknown-json") rows)
+IsTask name rows files (task.Json dir raw defaults) = (name ≡ codes "json")
+    × (files ≡ paths_in (codes "BIN") rows) × IsPath (codes "DIR") rows dir
+    × (raw ≡ is_set (codes "raw-binary") rows) × (defaults ≡ is_set (codes "defaults-json") rows)
+IsTask name rows files (task.Check raw) = (name ≡ codes "check")
+    × (files ≡ paths_in (codes "BIN") rows) × (2 ≤ length files)
+    × (raw ≡ is_set (codes "raw-binary") rows)
+
+abbrev pub IsBatch : Text → List Row → Batch → Type 0
+IsBatch name rows batch = IsPath (codes "SCHEMA") rows batch.schema
+    × IsTask name rows (map string_bytes batch.files.items) batch.task
+
+-- a job or a batch, and whether its refusals are explained, or the number of a refusal
 abbrev pub IsRequest : Text → List Row → Request → Type 0
 IsRequest name rows (Do job explained) = IsJob name rows job × (explained ≡ is_set (codes "explain") rows)
+IsRequest name rows (DoEach batch explained) = IsBatch name rows batch × (explained ≡ is_set (codes "explain") rows)
 IsRequest name rows (Explain number) = (name ≡ codes "explain") × IsPath (codes "NUMBER") rows number
 
 -- what a subcommand and its matches ask for
 abbrev pub IsRequestOf : Option (Text × List Row) → Request → Type 0
 IsRequestOf None request = ⊥
 IsRequestOf (Some p) request = IsRequest p.0 p.1 request
+
+-- ---- what clap can't say of a line
+
+abbrev pub has_dir : List Row → Bool
+has_dir rows = is_some (first_of (codes "DIR") rows)
+
+-- as many paths as the line takes: without a directory JSON and OUT, or one BIN
+abbrev pub is_counted : Text → List Row → Bool
+is_counted name rows = if bytes_eq name (codes "binary") then has_dir rows || length (paths_in (codes "JSON") rows) == 2
+    else if bytes_eq name (codes "json") then has_dir rows || length (paths_in (codes "BIN") rows) == 1
+    else true
+
+abbrev pub first_text : Text → List Row → Text
+first_text id rows = unwrap_or (first_of id rows) []
+
+-- the paths that are read: not OUT, the last of a line without a directory
+abbrev pub inputs_in : Text → List Row → List Text
+inputs_in name rows =
+    if bytes_eq name (codes "binary") then
+    first_text (codes "SCHEMA") rows ∷ (if has_dir rows then paths_in (codes "JSON") rows else take 1 (paths_in (codes "JSON") rows))
+    else if bytes_eq name (codes "json") then first_text (codes "SCHEMA") rows ∷ paths_in (codes "BIN") rows
+    else if bytes_eq name (codes "check") then first_text (codes "SCHEMA") rows ∷ paths_in (codes "BIN") rows
+    else if bytes_eq name (codes "conform") then first_text (codes "OLD") rows ∷ first_text (codes "NEW") rows ∷ []
+    else []
+
+abbrev pub is_line_of : Text → List Row → Bool
+is_line_of name rows = is_counted name rows && is_read_once (inputs_in name rows)
+
+-- a line has as many paths as it takes, and reads standard input once at most
+abbrev pub is_line : Option (Text × List Row) → Bool
+is_line None = false
+is_line (Some p) = is_line_of p.0 p.1
+
+-- one buffer at most
+abbrev pub is_single : Text → List Row → Bool
+is_single name rows = not (bytes_eq name (codes "check")) || nat_lt (length (paths_in (codes "BIN") rows)) 2
+
+abbrev pub is_plain : Text → List Row → Bool
+is_plain name rows = not (is_set (codes "explain") rows) && (not (has_dir rows) && is_single name rows)
+
+-- one of the four lines over one file each, without an explanation
+abbrev pub is_job_of : Text → List Row → Bool
+is_job_of name rows = is_line_of name rows && (not (bytes_eq name (codes "explain")) && is_plain name rows)
+
+abbrev pub is_job_line : Option (Text × List Row) → Bool
+is_job_line None = false
+is_job_line (Some p) = is_job_of p.0 p.1

@@ -1,7 +1,7 @@
 //! The command `flatc`, as clap builds it.
 ghost use Rattle.std.specs.Prelude.{◌≡◌, IfOk, true, false, codes};
-ghost use Rattle.clap.specs.Words.{App, rule_of, with_subcommand};
-ghost use Rattle.flatc_cli.specs.Commands.{path_rule, flag_rule, binary_app, json_app, check_app};
+ghost use Rattle.clap.specs.Words.{App, new_app, rule_of, with_subcommand};
+ghost use Rattle.flatc_cli.specs.Commands.{path_rule, paths_rule, flag_rule, dir_rule, binary_app, json_app, check_app};
 ghost use Rattle.flatc_cli.specs.Commands.{conform_app, explain_app, plain_app, flatc_app, HasApp};
 
 use clap::{Arg, ArgAction, Command};
@@ -9,6 +9,17 @@ use std::alloc::{AllocError, Global};
 
 /// The program's version.
 pub const VERSION: &str = "0.1.0";
+
+const BINARY_USAGE: &str = "flatc binary [OPTIONS] <SCHEMA> <JSON> <OUT>
+       flatc binary [OPTIONS] --out-dir <DIR> <SCHEMA> <JSON>...";
+
+const JSON_USAGE: &str = "flatc json [OPTIONS] <SCHEMA> <BIN>
+       flatc json [OPTIONS] --out-dir <DIR> <SCHEMA> <BIN>...";
+
+const DASH: &str = "The path - is standard input; ./- is a file of that name.";
+
+const DASHES: &str =
+    "The path - is standard input, and as OUT standard output; ./- is a file of that name.";
 
 fn path<'a>(alloc: Global, id: &'a str, required: bool, help: &'a str) -> Arg<'a>
     ensures rule { rule_of result ≡ path_rule id.entry.now required }
@@ -27,6 +38,17 @@ fn flag<'a>(alloc: Global, name: &'a str, help: &'a str) -> Arg<'a>
         .help(help)
 }
 
+/// All paths that are left.
+fn paths<'a>(alloc: Global, id: &'a str, required: bool, help: &'a str) -> Arg<'a>
+    ensures rule { rule_of result ≡ paths_rule id.entry.now required }
+    ensures local { result.global ≡ false }
+{
+    Arg::new(alloc, id)
+        .required(required)
+        .action(ArgAction::Append)
+        .help(help)
+}
+
 fn schema_path<'a>(alloc: Global) -> Arg<'a>
     ensures rule { rule_of result ≡ path_rule (codes "SCHEMA") true }
     ensures local { result.global ≡ false }
@@ -34,25 +56,30 @@ fn schema_path<'a>(alloc: Global) -> Arg<'a>
     path(alloc, "SCHEMA", true, "The schema text (.fbs)")
 }
 
-fn json_path<'a>(alloc: Global) -> Arg<'a>
-    ensures rule { rule_of result ≡ path_rule (codes "JSON") true }
+fn json_paths<'a>(alloc: Global) -> Arg<'a>
+    ensures rule { rule_of result ≡ paths_rule (codes "JSON") true }
     ensures local { result.global ≡ false }
 {
-    path(alloc, "JSON", true, "The JSON text")
+    paths(
+        alloc,
+        "JSON",
+        true,
+        "The JSON text, and then OUT, where the buffer goes; with -o all JSON texts",
+    )
 }
 
-fn out_path<'a>(alloc: Global) -> Arg<'a>
-    ensures rule { rule_of result ≡ path_rule (codes "OUT") true }
+fn buffer_paths<'a>(alloc: Global, required: bool, help: &'a str) -> Arg<'a>
+    ensures rule { rule_of result ≡ paths_rule (codes "BIN") required }
     ensures local { result.global ≡ false }
 {
-    path(alloc, "OUT", true, "The file that the buffer is written to")
+    paths(alloc, "BIN", required, help)
 }
 
-fn buffer_path<'a>(alloc: Global, required: bool) -> Arg<'a>
-    ensures rule { rule_of result ≡ path_rule (codes "BIN") required }
+fn dir_option<'a>(alloc: Global, help: &'a str) -> Arg<'a>
+    ensures rule { rule_of result ≡ dir_rule }
     ensures local { result.global ≡ false }
 {
-    path(alloc, "BIN", required, "The buffer")
+    Arg::new(alloc, "DIR").long("out-dir").short('o').help(help)
 }
 
 fn unknown_flag<'a>(alloc: Global) -> Arg<'a>
@@ -90,51 +117,58 @@ fn number_word<'a>(alloc: Global) -> Arg<'a>
     path(alloc, "NUMBER", true, "The number of a refusal")
 }
 
-fn binary_command<'a>(alloc: Global) -> Result<Command<'a>, AllocError>
+/// A job's command without arguments.
+fn plain_job<'a>(alloc: Global, name: &'a str, about: &'a str) -> Command<'a>
+    ensures { HasApp (new_app name.entry.now) result }
+{
+    Command::new(alloc, name).about(about).after_help(DASH)
+}
+
+pub(crate) fn binary_command<'a>(alloc: Global) -> Result<Command<'a>, AllocError>
     ensures { IfOk result (HasApp binary_app) }
 {
     let args = vec![in alloc;
         unknown_flag(alloc),
         explain_flag(alloc),
+        dir_option(alloc, "Convert each JSON to NAME.bin in this directory"),
         schema_path(alloc),
-        json_path(alloc),
-        out_path(alloc),
+        json_paths(alloc),
     ]?;
-    Command::new(alloc, "binary")
-        .about("Convert JSON to a FlatBuffer")
+    plain_job(alloc, "binary", "Convert JSON to a FlatBuffer")
+        .override_usage(BINARY_USAGE)
+        .after_help(DASHES)
         .args(args)
 }
 
-fn json_command<'a>(alloc: Global) -> Result<Command<'a>, AllocError>
+pub(crate) fn json_command<'a>(alloc: Global) -> Result<Command<'a>, AllocError>
     ensures { IfOk result (HasApp json_app) }
 {
     let args = vec![in alloc;
         raw_flag(alloc),
         defaults_flag(alloc),
         explain_flag(alloc),
+        dir_option(alloc, "Convert each BIN to NAME.json in this directory"),
         schema_path(alloc),
-        buffer_path(alloc, true),
+        buffer_paths(alloc, true, "The buffer; with -o all buffers"),
     ]?;
-    Command::new(alloc, "json")
-        .about("Convert a FlatBuffer to JSON")
+    plain_job(alloc, "json", "Convert a FlatBuffer to JSON")
+        .override_usage(JSON_USAGE)
         .args(args)
 }
 
-fn check_command<'a>(alloc: Global) -> Result<Command<'a>, AllocError>
+pub(crate) fn check_command<'a>(alloc: Global) -> Result<Command<'a>, AllocError>
     ensures { IfOk result (HasApp check_app) }
 {
     let args = vec![in alloc;
         raw_flag(alloc),
         explain_flag(alloc),
         schema_path(alloc),
-        buffer_path(alloc, false),
+        buffer_paths(alloc, false, "The buffer, or several"),
     ]?;
-    Command::new(alloc, "check")
-        .about("Check a schema, or a buffer under it")
-        .args(args)
+    plain_job(alloc, "check", "Check a schema, or buffers under it").args(args)
 }
 
-fn conform_command<'a>(alloc: Global) -> Result<Command<'a>, AllocError>
+pub(crate) fn conform_command<'a>(alloc: Global) -> Result<Command<'a>, AllocError>
     ensures { IfOk result (HasApp conform_app) }
 {
     let args = vec![in alloc;
@@ -142,9 +176,12 @@ fn conform_command<'a>(alloc: Global) -> Result<Command<'a>, AllocError>
         path(alloc, "OLD", true, "The old schema text"),
         path(alloc, "NEW", true, "The new schema text"),
     ]?;
-    Command::new(alloc, "conform")
-        .about("Check that a new schema reads data of an old one")
-        .args(args)
+    plain_job(
+        alloc,
+        "conform",
+        "Check that a new schema reads data of an old one",
+    )
+    .args(args)
 }
 
 fn explain_command<'a>(alloc: Global) -> Result<Command<'a>, AllocError>

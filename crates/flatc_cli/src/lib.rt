@@ -2,7 +2,18 @@
 #![tactic(auto)]
 
 mod commands;
-mod job;
+mod inputs;
+mod line;
+mod matched;
+mod misuse;
+mod request;
+mod run_status;
+mod targets;
 
 pub use commands::VERSION;
-pub use job::{Job, Request, request_of};
+pub use inputs::{is_standard_input, is_standard_output};
+pub use line::{job_of, request_of};
+pub use misuse::usage_error;
+pub use request::{Batch, Job, Request, Task};
+pub use run_status::RunStatus;
+pub use targets::{target_in, targets_in};

@@ -115,6 +115,7 @@ fn explained(alloc: Global, refused: &Refused<'_>) -> Result<String, AllocError>
             path: "input",
             bytes: refused.input,
         },
+        lost: None,
         limits: limits(),
         unknown_json: false,
         raw_binary: false,

@@ -1,7 +1,7 @@
 //! Lines of words, and what they ask for.
 use clap::Error;
 use clap::error::ErrorKind;
-use flatc_cli::{Job, Request, request_of};
+use flatc_cli::{Batch, Job, Request, Task, job_of, request_of};
 use std::alloc::{AllocError, Global};
 use std::test::Fail;
 
@@ -10,7 +10,14 @@ const REFUSED: &[&str] = &[
     "conform s",
     "",
     "what",
-    "check s b c",
+    "json s b c",
+    "binary s j",
+    "binary s j o p",
+    "binary -o d s",
+    "check -o d s b",
+    "check - -",
+    "conform /dev/stdin /dev/fd/0",
+    "binary -o d - /proc/self/fd/0",
     "check --what s",
     "explain",
     "explain --explain 1",
@@ -85,6 +92,69 @@ fn a_line_that_asks_for_a_comparison(rt: HostRuntime) -> Result<(), Fail> {
         new: "n".to_string(alloc)?,
     };
     assert!(rt; asked(alloc, "conform o n")? == Request::Do(want, false));
+    Ok(())
+}
+
+#[test]
+fn lines_over_many_files(rt: HostRuntime) -> Result<(), Fail> {
+    let alloc = rt.alloc();
+    let want = Batch {
+        schema: "-".to_string(alloc)?,
+        files: words(alloc, "j k j")?,
+        task: Task::Binary {
+            dir: "d".to_string(alloc)?,
+            unknown: false,
+        },
+    };
+    assert!(rt; asked(alloc, "binary -o d - j k j")? == Request::DoEach(want, false));
+    let want = Batch {
+        schema: "s".to_string(alloc)?,
+        files: words(alloc, "b")?,
+        task: Task::Json {
+            dir: "d".to_string(alloc)?,
+            raw: true,
+            defaults: false,
+        },
+    };
+    let line = "json s --out-dir=d --explain b --raw-binary";
+    assert!(rt; asked(alloc, line)? == Request::DoEach(want, true));
+    let want = Batch {
+        schema: "s".to_string(alloc)?,
+        files: words(alloc, "- -o")?,
+        task: Task::Check { raw: false },
+    };
+    assert!(rt; asked(alloc, "check s -- - -o")? == Request::DoEach(want, false));
+    Ok(())
+}
+
+#[test]
+fn a_line_that_is_one_job(rt: HostRuntime) -> Result<(), Fail> {
+    let alloc = rt.alloc();
+    let line = words(alloc, "check --raw-binary s b")?;
+    let want = Job::Check {
+        schema: "s".to_string(alloc)?,
+        bin: Some("b".to_string(alloc)?),
+        raw: true,
+    };
+    assert!(rt; job_of(alloc, line.as_slice())? == want);
+    Ok(())
+}
+
+#[test]
+fn lines_that_are_more_than_one_job(rt: HostRuntime) -> Result<(), Fail> {
+    for line in [
+        "check --explain s",
+        "explain 7",
+        "check s b c",
+        "json -o d s b",
+        "what",
+    ] {
+        let words = words(rt.alloc(), line)?;
+        match job_of(rt.alloc(), words.as_slice()) {
+            Ok(_) => Err("a refusal")?,
+            Err(error) => assert!(rt; error.exit_code() == 2, "at {line}"),
+        }
+    }
     Ok(())
 }
 

@@ -1,0 +1,269 @@
+//! A task over many files, each for itself, under one schema.
+use crate::explained::explain_refusal;
+use crate::outputs::{Content, Laid, write_file};
+use crate::progress::Progress;
+use crate::reasons::Reasoned;
+use crate::targets::{Misuse, directory_of, targets_of};
+use crate::texts::Texts;
+use crate::{limits, tell};
+use clap::Error;
+use clap::error::ErrorKind;
+use flatc_cli::{Batch, RunStatus, Task, usage_error};
+use flatc_tool::{
+    DecodeOptions, EncodeOptions, Entries, Layout, Noted, ToolFault, decode_to, encode_segments,
+    schema_of, verify,
+};
+use std::alloc::AllocError;
+use std::fs::{self, File};
+use std::io::{self, ErrorKind as IoErrorKind, Write};
+use std::path::PathBuf;
+
+/// The JSON text of a buffer, and why there is none.
+#[derive(Drop)]
+struct Printed<'b> {
+    layout: &'b Layout,
+    bytes: &'b [u8],
+    options: DecodeOptions,
+    fault: Option<ToolFault>,
+}
+
+impl Content for Printed<'_> {
+    // The page that is written at once is large, so no other task has it in its frame.
+    #[inline(never)]
+    fn write_to(&mut self, file: &mut File) -> io::Result<()> {
+        let mut out = Noted::over(Reasoned::over(file));
+        let answer = decode_to(self.layout, self.bytes, &self.options, &mut out);
+        match (answer, out.into_inner().into_reason()) {
+            (Ok(()), _) => Ok(()),
+            (Err(_), Some(error)) => Err(error),
+            (Err(fault), None) => {
+                self.fault = Some(fault);
+                Err(io::Error::other("the buffer is refused"))
+            }
+        }
+    }
+}
+
+/// Where a batch is written to, and under what.
+#[derive(Drop)]
+struct Place<'j> {
+    layout: Layout,
+    targets: &'j [PathBuf],
+}
+
+impl<'j> Place<'j> {
+    fn target(&self, at: usize) -> &'j str {
+        match self.targets.get(at) {
+            Some(target) => target.as_str(),
+            None => "",
+        }
+    }
+}
+
+fn job_name(task: &Task) -> &'static str {
+    match task {
+        Task::Binary { .. } => "binary",
+        Task::Json { .. } => "json",
+        Task::Check { .. } => "check",
+    }
+}
+
+/// The flags that change what is refused: unknown JSON fields, and raw bytes.
+fn flags_of(task: &Task) -> (bool, bool) {
+    match task {
+        Task::Binary { unknown, .. } => (*unknown, false),
+        Task::Json { raw, .. } | Task::Check { raw } => (false, *raw),
+    }
+}
+
+/// The fault of a file that couldn't be written.
+fn write_fault<'j>(
+    rt: &HostRuntime,
+    texts: &mut Texts<'j>,
+    target: &'j str,
+    error: &io::Error,
+) -> ToolFault {
+    if error.kind() == IoErrorKind::OutOfMemory {
+        return ToolFault::Memory;
+    }
+    texts.fail(rt, target, error, ToolFault::FileWrite)
+}
+
+fn write_buffer<'j>(
+    rt: &HostRuntime,
+    layout: &Layout,
+    texts: &mut Texts<'j>,
+    target: &'j str,
+    unknown_json: bool,
+) -> Result<(), ToolFault> {
+    let options = EncodeOptions {
+        limits: limits(),
+        unknown_json,
+    };
+    let json = texts.input.give(rt);
+    let buffer = encode_segments(rt.alloc(), layout, json, &options)?;
+    match write_file(rt, target, &mut Laid(&buffer)) {
+        Ok(()) => Ok(()),
+        Err(error) => Err(write_fault(rt, texts, target, &error)),
+    }
+}
+
+fn write_text<'j>(
+    rt: &HostRuntime,
+    layout: &Layout,
+    texts: &mut Texts<'j>,
+    target: &'j str,
+    (raw_binary, defaults_json): (bool, bool),
+) -> Result<(), ToolFault> {
+    let mut printed = Printed {
+        layout,
+        bytes: texts.input.bytes.as_slice(),
+        options: DecodeOptions {
+            limits: limits(),
+            raw_binary,
+            defaults_json,
+        },
+        fault: None,
+    };
+    let done = write_file(rt, target, &mut printed);
+    match (done, printed.fault) {
+        (Ok(()), _) => Ok(()),
+        (Err(_), Some(fault)) => Err(fault),
+        (Err(error), None) => Err(write_fault(rt, texts, target, &error)),
+    }
+}
+
+fn check_buffer(layout: &Layout, bytes: &[u8], raw: bool) -> Result<(), ToolFault> {
+    match verify(layout, bytes, limits(), raw, &mut Entries::new()) {
+        Ok(_view) => Ok(()),
+        Err(fault) => Err(ToolFault::Read(fault)),
+    }
+}
+
+/// Does the task at one file.
+fn do_file<'j>(
+    rt: &HostRuntime,
+    task: &Task,
+    layout: &Layout,
+    texts: &mut Texts<'j>,
+    paths: [&'j str; 2],
+) -> Result<(), ToolFault> {
+    let [file, target] = paths;
+    texts.forget(rt);
+    texts.read_input(rt, file)?;
+    match task {
+        Task::Binary { unknown, .. } => write_buffer(rt, layout, texts, target, *unknown),
+        Task::Json { raw, defaults, .. } => {
+            write_text(rt, layout, texts, target, (*raw, *defaults))
+        }
+        Task::Check { raw } => check_buffer(layout, texts.input.bytes.as_slice(), *raw),
+    }
+}
+
+/// That the directory of the outputs is there.
+fn check_directory<'j>(
+    rt: &HostRuntime,
+    task: &'j Task,
+    texts: &mut Texts<'j>,
+) -> Result<(), ToolFault> {
+    let Some((dir, _)) = directory_of(task) else {
+        return Ok(());
+    };
+    let error = match fs::metadata(rt, dir) {
+        Ok(found) if found.is_dir() => return Ok(()),
+        Ok(_) => io::Error::from(IoErrorKind::NotADirectory),
+        Err(error) => error,
+    };
+    Err(texts.fail(rt, dir, &error, ToolFault::FileWrite))
+}
+
+/// The layout that all files are read under.
+fn layout_of<'j>(
+    rt: &HostRuntime,
+    batch: &'j Batch,
+    texts: &mut Texts<'j>,
+) -> Result<Layout, ToolFault> {
+    check_directory(rt, &batch.task, texts)?;
+    texts.read_schema(rt, batch.schema.as_str())?;
+    match schema_of(rt.alloc(), texts.schema.bytes.as_slice()) {
+        Ok(layout) => Ok(layout),
+        Err(fault) => Err(ToolFault::Schema(fault)),
+    }
+}
+
+/// Reports a refusal, and explains it if that is asked for.
+fn refuse(
+    rt: &HostRuntime,
+    task: &Task,
+    texts: &mut Texts<'_>,
+    fault: ToolFault,
+    explained: bool,
+) -> u8 {
+    let status = tell(rt, Err(fault));
+    if explained {
+        explain_refusal(rt, flags_of(task), texts, fault);
+    }
+    status
+}
+
+/// Writes the path of a file that is refused, before its line.
+fn tell_path(rt: &HostRuntime, file: &str) {
+    let mut err = rt.stderr();
+    let _path = err.write_all(file.as_bytes());
+    let _colon = err.write_all(b": ");
+}
+
+/// Does the task at each file in turn. A refusal is reported behind the file's path, and the others
+/// go on. The status is 1 where one was refused.
+fn do_files<'j>(
+    rt: &HostRuntime,
+    batch: &'j Batch,
+    place: &Place<'j>,
+    texts: &mut Texts<'j>,
+    explained: bool,
+) -> u8 {
+    let mut status = RunStatus::new();
+    let mut progress = Progress::new(rt, batch.files.len());
+    for (at, file) in batch.files.iter().enumerate() {
+        progress.show(rt, at);
+        let paths = [file.as_str(), place.target(at)];
+        let answer = do_file(rt, &batch.task, &place.layout, texts, paths);
+        status.note(answer.is_ok());
+        if let Err(fault) = answer {
+            progress.clear(rt);
+            tell_path(rt, file.as_str());
+            let _refused = refuse(rt, &batch.task, texts, fault, explained);
+        }
+    }
+    progress.clear(rt);
+    status.code()
+}
+
+/// Does a batch whose outputs are known, and returns the status.
+fn do_all<'j>(rt: &HostRuntime, batch: &'j Batch, targets: &'j [PathBuf], explained: bool) -> u8 {
+    let mut texts = Texts::new(rt);
+    let layout = match layout_of(rt, batch, &mut texts) {
+        Ok(layout) => layout,
+        Err(fault) => return refuse(rt, &batch.task, &mut texts, fault, explained),
+    };
+    let place = Place { layout, targets };
+    let status = do_files(rt, batch, &place, &mut texts, explained);
+    match &batch.task {
+        Task::Check { .. } if status == 0 => { tell(rt, Ok("ok\n")) }
+        _ => status,
+    }
+}
+
+/// Does a batch, and returns the status; a usage error where its outputs can't be named.
+pub(crate) fn do_batch(rt: &HostRuntime, batch: &Batch, explained: bool) -> Result<u8, Error> {
+    match targets_of(rt, batch) {
+        Ok(targets) => Ok(do_all(rt, batch, targets.as_slice(), explained)),
+        Err(Misuse::Memory) => Err(Error::from(AllocError)),
+        Err(Misuse::Said(said)) => Err(usage_error(
+            rt.alloc(),
+            job_name(&batch.task),
+            ErrorKind::ArgumentConflict,
+            said.as_str(),
+        )),
+    }
+}

@@ -1,0 +1,63 @@
+//! How far a run over many files is, on a terminal.
+use std::io::IsTerminal;
+use std::time::{Duration, Instant};
+
+// In milliseconds: shorter work isn't told, and how long a line stays at least.
+const QUIET: u64 = 1000;
+
+const STEP: u64 = 100;
+
+/// The files that are done, of all; told on standard error where that is a terminal.
+#[derive(Drop)]
+pub(crate) struct Progress {
+    total: usize,
+    /// When the next line may come; none where nothing is told.
+    next: Option<Instant>,
+    shown: bool,
+}
+
+impl Progress {
+    pub(crate) fn new(rt: &HostRuntime, total: usize) -> Progress {
+        let next = if rt.stderr().is_terminal() {
+            later(rt, QUIET)
+        } else {
+            None
+        };
+        Progress {
+            total,
+            next,
+            shown: false,
+        }
+    }
+
+    /// Shows that so many are done, where it is time for that.
+    pub(crate) fn show(&mut self, rt: &HostRuntime, done: usize) {
+        let Some(next) = self.next else {
+            return;
+        };
+        match Instant::now(rt) {
+            Ok(now) if now >= next => {}
+            _ => return,
+        }
+        let total = self.total;
+        let _told = eprint!(rt; "\r{done} of {total}");
+        self.shown = true;
+        self.next = later(rt, STEP);
+    }
+
+    /// Clears the line that is shown.
+    pub(crate) fn clear(&mut self, rt: &HostRuntime) {
+        if self.shown {
+            let _told = eprint!(rt; "\r\u{1b}[K");
+            self.shown = false;
+        }
+    }
+}
+
+/// The time in so many milliseconds; none where the clock can't tell.
+fn later(rt: &HostRuntime, by: u64) -> Option<Instant> {
+    match Instant::now(rt) {
+        Ok(now) => now.checked_add(Duration::from_millis(by)),
+        Err(_) => None,
+    }
+}

@@ -1,0 +1,55 @@
+-- Lines that are none of the four over one file each.
+use Rattle.std.proofs.Common.{◌≡◌, ◌≤◌, ◌&&◌, Bool, true, false, not, List, Option, Some, None, map, length, refl, ap, sym, subst, is_some, nat_lt, codes, string_bytes, bytes_eq}
+use Rattle.std.proofs.lemmas.Bool.{le-ltb}
+use Rattle.clap.specs.Words.{Row, Text}
+use Rattle.flatc_cli.specs.Lines.{is_set, has_dir, paths_in, is_single, is_plain, is_line_of, is_line, is_job_of, is_job_line, IsTask, IsRequestOf}
+use Rattle.flatc_cli.specs.declared.request.Batch.{Batch}
+use Rattle.flatc_cli.specs.declared.request.Task.{Task}
+use Rattle.flatc_cli.specs.declared.request.Task.TheVariants as task
+use Rattle.flatc_cli.specs.declared.request.Request.TheVariants.{DoEach}
+
+pub and_no : (a b : Bool) → b ≡ false → (a && b) ≡ false
+and_no true b fails = fails
+and_no false b fails = refl
+
+pub not_plain : (name : Text) (rows : List Row) → is_plain name rows ≡ false → is_job_of name rows ≡ false
+not_plain name rows fails =
+    and_no (is_line_of name rows) (not (bytes_eq name (codes "explain")) && is_plain name rows)
+    (and_no (not (bytes_eq name (codes "explain"))) (is_plain name rows) fails)
+
+pub explained : (name : Text) (rows : List Row) → is_set (codes "explain") rows ≡ true → is_job_of name rows ≡ false
+explained name rows holds = not_plain name rows (rw holds refl)
+
+pub with_dir : (name : Text) (rows : List Row) → has_dir rows ≡ true → is_job_of name rows ≡ false
+with_dir name rows holds =
+    let inner : (not (has_dir rows) && is_single name rows) ≡ false = rw holds refl in
+    not_plain name rows (and_no (not (is_set (codes "explain") rows)) (not (has_dir rows) && is_single name rows) inner)
+
+pub several : (rows : List Row) → nat_lt (length (paths_in (codes "BIN") rows)) 2 ≡ false → is_job_of (codes "check") rows ≡ false
+several rows fails =
+    let single : is_single (codes "check") rows ≡ false = fails in
+    not_plain (codes "check") rows
+    (and_no (not (is_set (codes "explain") rows)) (not (has_dir rows) && is_single (codes "check") rows)
+    (and_no (not (has_dir rows)) (is_single (codes "check") rows) single))
+
+pub of_a_number : (rows : List Row) → is_job_of (codes "explain") rows ≡ false
+of_a_number rows = and_no (is_line_of (codes "explain") rows) false refl
+
+task_is_no_job : (name : Text) (rows : List Row) (files : List Text) (task : Task) → IsTask name rows files task → is_job_of name rows ≡ false
+task_is_no_job name rows files (task.Binary dir unknown) is = with_dir name rows (ap is_some is.2)
+task_is_no_job name rows files (task.Json dir raw defaults) is = with_dir name rows (ap is_some is.2)
+task_is_no_job name rows files (task.Check raw) is =
+    let many : 2 ≤ length (paths_in (codes "BIN") rows) = subst (λ paths. 2 ≤ length paths) is.1 is.2 in
+    subst (λ name. is_job_of name rows ≡ false) (sym is.0) (several rows (le-ltb (length (paths_in (codes "BIN") rows)) 2 many))
+
+pub batch_is_no_job : (line : Option (Text × List Row)) (batch : Batch) (explained : Bool) → IsRequestOf line (DoEach batch explained) → is_job_line line ≡ false
+batch_is_no_job None batch explained is = absurd is
+batch_is_no_job (Some p) batch explained is = task_is_no_job p.0 p.1 (map string_bytes batch.files.items) batch.task is.0.1
+
+and_left : (a b : Bool) → (a && b) ≡ true → a ≡ true
+and_left true b both = refl
+and_left false b both = both
+
+pub job_is_a_line : (line : Option (Text × List Row)) → is_job_line line ≡ true → is_line line ≡ true
+job_is_a_line None is = is
+job_is_a_line (Some p) is = and_left (is_line_of p.0 p.1) (not (bytes_eq p.0 (codes "explain")) && is_plain p.0 p.1) is

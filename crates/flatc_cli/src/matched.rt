@@ -1,0 +1,292 @@
+//! From the matches of a command line to what it asks for.
+ghost use Rattle.std.specs.Prelude.{◌≡◌, ◌≢◌, ◌∷◌, [], IfOk, IfErr, OnOk, OnErr, true, false, Some, None};
+ghost use Rattle.std.specs.Prelude.{map, option_map, string_bytes, codes, length};
+ghost use Rattle.clap.specs.Words.{all_of, first_of, found_of, rows_of};
+ghost use Rattle.flatc_cli.specs.Lines.{IsJob, IsRequest, IsPath, is_set};
+ghost use Rattle.flatc_cli.specs.Inputs.{is_read_once};
+ghost use Rattle.flatc_cli.specs.Lines.{paths_in, first_text, listed, is_line_of};
+
+use crate::inputs::are_read_once;
+use crate::misuse::Misuse;
+use crate::request::{Batch, Job, Request, Task};
+use clap::ArgMatches;
+use std::alloc::{AllocError, Global};
+
+/// The first value of an id.
+fn text_of<'a>(found: &ArgMatches<'a>, id: &str) -> Option<&'a str>
+    ensures { option_map (λ s. s.now) result ≡ first_of id.now (rows_of (found_of found.now)) }
+{
+    found.get_str(id)
+}
+
+/// The values of an id, in the order of the words.
+fn texts_of<'f, 'a: 'f>(found: &'f ArgMatches<'a>, id: &str) -> Option<&'f [&'a str]>
+    ensures { option_map (λ texts. map (λ text. text.now) texts.now) result
+        ≡ all_of id.now (rows_of (found_of found.now)) }
+{
+    found.get_raw(id)
+}
+
+/// The paths of an id that clap has refused the words without.
+fn paths_of<'f, 'a: 'f>(found: &'f ArgMatches<'a>, id: &str) -> Result<&'f [&'a str], Misuse<'a>>
+    ensures ok { IfOk result (λ paths. map (λ path. path.now) paths.now
+        ≡ paths_in id.now (rows_of (found_of found.now))) }
+    ensures refusal { IfErr result (λ m. m ≡ Misuse.Memory) }
+{
+    match texts_of(found, id) {
+        Some(paths) => Ok(paths),
+        None => Err(Misuse::Memory),
+    }
+}
+
+/// The path that an id has. clap has refused the words where there is none.
+fn path_of(alloc: Global, found: &ArgMatches<'_>, id: &str) -> Result<String, AllocError>
+    ensures { IfOk result (IsPath id.now (rows_of (found_of found.now))) }
+{
+    String::from_str(alloc, text_of(found, id).ok_or(AllocError)?)
+}
+
+/// The schema's path, as the line writes it.
+fn schema_of<'a>(found: &ArgMatches<'a>) -> &'a str
+    ensures { result.now ≡ first_text (codes "SCHEMA") (rows_of (found_of found.now)) }
+{
+    text_of(found, "SCHEMA").unwrap_or("")
+}
+
+fn flag_of(found: &ArgMatches<'_>, name: &str) -> bool
+    ensures { result ≡ is_set name.now (rows_of (found_of found.now)) }
+{
+    text_of(found, name).is_some_and(|text| text == "true")
+}
+
+fn is_explained(found: &ArgMatches<'_>) -> bool
+    ensures { result ≡ is_set (codes "explain") (rows_of (found_of found.now)) }
+{
+    flag_of(found, "explain")
+}
+
+fn strings_of(alloc: Global, texts: &[&str]) -> Result<Vec<String>, AllocError>
+    ensures { IfOk result (λ strings. map string_bytes strings.items ≡ map (λ text. text.now) texts.now) }
+{
+    let mut strings = Vec::with_capacity(alloc, texts.len())?;
+    for text in texts {
+        strings.push(String::from_str(alloc, text)?)?;
+    }
+    Ok(strings)
+}
+
+fn check_read_once(schema: &str, files: &[&str]) -> Result<(), Misuse<'static>>
+    ensures ok { OnOk result (is_read_once (schema.now ∷ map (λ f. f.now) files.now) ≡ true) }
+    ensures refusal { OnErr result (is_read_once (schema.now ∷ map (λ f. f.now) files.now) ≡ false) }
+{
+    if are_read_once(schema, files) {
+        Ok(())
+    } else {
+        Err(Misuse::ReadTwice)
+    }
+}
+
+/// JSON and OUT, where the paths are these two.
+fn json_and_out<'a>(paths: &[&'a str]) -> Result<(&'a str, &'a str), Misuse<'a>>
+    ensures ok { IfOk result (λ p. map (λ f. f.now) paths.now ≡ p.0.now ∷ p.1.now ∷ []) }
+    ensures refusal { OnErr result (length paths.now ≢ 2) }
+{
+    match paths {
+        [json, out] => Ok((json, out)),
+        [_, _, extra, ..] => Err(Misuse::Extra(extra)),
+        _ => Err(Misuse::NoOut),
+    }
+}
+
+/// BIN, where the paths are this one. clap has refused a line without any.
+fn only_bin<'a>(paths: &[&'a str]) -> Result<&'a str, Misuse<'a>>
+    ensures ok { IfOk result (λ bin. map (λ f. f.now) paths.now ≡ bin.now ∷ []) }
+    ensures refusal { IfErr result (λ m. length paths.now ≡ 1 → m ≡ Misuse.Memory) }
+{
+    match paths {
+        [bin] => Ok(bin),
+        [_, extra, ..] => Err(Misuse::Extra(extra)),
+        [] => Err(Misuse::Memory),
+    }
+}
+
+/// The job of a line `binary` without a directory.
+fn binary_job<'a>(alloc: Global, found: &ArgMatches<'a>) -> Result<Job, Misuse<'a>>
+    requires { first_of (codes "DIR") (rows_of (found_of found.now)) ≡ None }
+    ensures job { IfOk result (IsJob (codes "binary") (rows_of (found_of found.now))) }
+    ensures line { OnOk result (is_line_of (codes "binary") (rows_of (found_of found.now)) ≡ true) }
+    ensures refusal { IfErr result (λ m.
+        is_line_of (codes "binary") (rows_of (found_of found.now)) ≡ true → m ≡ Misuse.Memory) }
+{
+    let (json, out) = json_and_out(paths_of(found, "JSON")?)?;
+    check_read_once(schema_of(found), &[json])?;
+    Ok(Job::Binary {
+        schema: path_of(alloc, found, "SCHEMA")?,
+        json: String::from_str(alloc, json)?,
+        out: String::from_str(alloc, out)?,
+        unknown: flag_of(found, "unknown-json"),
+    })
+}
+
+/// The job of a line `json` without a directory.
+fn json_job<'a>(alloc: Global, found: &ArgMatches<'a>) -> Result<Job, Misuse<'a>>
+    requires { first_of (codes "DIR") (rows_of (found_of found.now)) ≡ None }
+    ensures job { IfOk result (IsJob (codes "json") (rows_of (found_of found.now))) }
+    ensures line { OnOk result (is_line_of (codes "json") (rows_of (found_of found.now)) ≡ true) }
+    ensures refusal { IfErr result (λ m.
+        is_line_of (codes "json") (rows_of (found_of found.now)) ≡ true → m ≡ Misuse.Memory) }
+{
+    let bin = only_bin(paths_of(found, "BIN")?)?;
+    check_read_once(schema_of(found), &[bin])?;
+    Ok(Job::Json {
+        schema: path_of(alloc, found, "SCHEMA")?,
+        bin: String::from_str(alloc, bin)?,
+        raw: flag_of(found, "raw-binary"),
+        defaults: flag_of(found, "defaults-json"),
+    })
+}
+
+/// The batch of a line whose paths behind the schema's are these.
+fn batch_of(
+    alloc: Global,
+    found: &ArgMatches<'_>,
+    files: &[&str],
+    task: Task,
+) -> Result<Batch, AllocError>
+    ensures schema { IfOk result (λ batch. IsPath (codes "SCHEMA") (rows_of (found_of found.now)) batch.schema) }
+    ensures files { IfOk result (λ batch. map string_bytes batch.files.items ≡ map (λ f. f.now) files.now) }
+    ensures task { IfOk result (λ batch. batch.task ≡ task) }
+{
+    Ok(Batch {
+        schema: path_of(alloc, found, "SCHEMA")?,
+        files: strings_of(alloc, files)?,
+        task,
+    })
+}
+
+/// What a line `binary` asks for.
+fn binary_request<'a>(alloc: Global, found: &ArgMatches<'a>) -> Result<Request, Misuse<'a>>
+    ensures request { IfOk result (IsRequest (codes "binary") (rows_of (found_of found.now))) }
+    ensures line { OnOk result (is_line_of (codes "binary") (rows_of (found_of found.now)) ≡ true) }
+    ensures refusal { IfErr result (λ m.
+        is_line_of (codes "binary") (rows_of (found_of found.now)) ≡ true → m ≡ Misuse.Memory) }
+{
+    let explained = is_explained(found);
+    match text_of(found, "DIR") {
+        None => Ok(Request::Do(binary_job(alloc, found)?, explained)),
+        Some(dir) => {
+            let files = paths_of(found, "JSON")?;
+            check_read_once(schema_of(found), files)?;
+            let task = Task::Binary {
+                dir: String::from_str(alloc, dir)?,
+                unknown: flag_of(found, "unknown-json"),
+            };
+            Ok(Request::DoEach(batch_of(alloc, found, files, task)?, explained))
+        }
+    }
+}
+
+/// What a line `json` asks for.
+fn json_request<'a>(alloc: Global, found: &ArgMatches<'a>) -> Result<Request, Misuse<'a>>
+    ensures request { IfOk result (IsRequest (codes "json") (rows_of (found_of found.now))) }
+    ensures line { OnOk result (is_line_of (codes "json") (rows_of (found_of found.now)) ≡ true) }
+    ensures refusal { IfErr result (λ m.
+        is_line_of (codes "json") (rows_of (found_of found.now)) ≡ true → m ≡ Misuse.Memory) }
+{
+    let explained = is_explained(found);
+    match text_of(found, "DIR") {
+        None => Ok(Request::Do(json_job(alloc, found)?, explained)),
+        Some(dir) => {
+            let files = paths_of(found, "BIN")?;
+            check_read_once(schema_of(found), files)?;
+            let task = Task::Json {
+                dir: String::from_str(alloc, dir)?,
+                raw: flag_of(found, "raw-binary"),
+                defaults: flag_of(found, "defaults-json"),
+            };
+            Ok(Request::DoEach(batch_of(alloc, found, files, task)?, explained))
+        }
+    }
+}
+
+/// The job of a line `check` with one buffer, or none.
+fn check_job(alloc: Global, found: &ArgMatches<'_>, bin: Option<&str>) -> Result<Job, AllocError>
+    requires { paths_in (codes "BIN") (rows_of (found_of found.now)) ≡ listed bin }
+    ensures { IfOk result (IsJob (codes "check") (rows_of (found_of found.now))) }
+{
+    let bin = match bin {
+        Some(text) => Some(String::from_str(alloc, text)?),
+        None => None,
+    };
+    Ok(Job::Check {
+        schema: path_of(alloc, found, "SCHEMA")?,
+        bin,
+        raw: flag_of(found, "raw-binary"),
+    })
+}
+
+/// What a line `check` asks for.
+fn check_request<'a>(alloc: Global, found: &ArgMatches<'a>) -> Result<Request, Misuse<'a>>
+    ensures request { IfOk result (IsRequest (codes "check") (rows_of (found_of found.now))) }
+    ensures line { OnOk result (is_line_of (codes "check") (rows_of (found_of found.now)) ≡ true) }
+    ensures refusal { IfErr result (λ m.
+        is_line_of (codes "check") (rows_of (found_of found.now)) ≡ true → m ≡ Misuse.Memory) }
+{
+    let explained = is_explained(found);
+    let Some(files) = texts_of(found, "BIN") else {
+        check_read_once(schema_of(found), &[])?;
+        return Ok(Request::Do(check_job(alloc, found, None)?, explained));
+    };
+    check_read_once(schema_of(found), files)?;
+    if files.len() < 2 {
+        let job = check_job(alloc, found, files.first().copied())?;
+        return Ok(Request::Do(job, explained));
+    }
+    let task = Task::Check {
+        raw: flag_of(found, "raw-binary"),
+    };
+    Ok(Request::DoEach(batch_of(alloc, found, files, task)?, explained))
+}
+
+/// What a line `conform` asks for.
+fn conform_request<'a>(alloc: Global, found: &ArgMatches<'a>) -> Result<Request, Misuse<'a>>
+    ensures request { IfOk result (IsRequest (codes "conform") (rows_of (found_of found.now))) }
+    ensures line { OnOk result (is_line_of (codes "conform") (rows_of (found_of found.now)) ≡ true) }
+    ensures refusal { IfErr result (λ m.
+        is_line_of (codes "conform") (rows_of (found_of found.now)) ≡ true → m ≡ Misuse.Memory) }
+{
+    let old = path_of(alloc, found, "OLD")?;
+    let new = path_of(alloc, found, "NEW")?;
+    check_read_once(old.as_str(), &[new.as_str()])?;
+    Ok(Request::Do(Job::Conform { old, new }, is_explained(found)))
+}
+
+/// What a line `explain` asks for.
+fn explain_request<'a>(alloc: Global, found: &ArgMatches<'a>) -> Result<Request, Misuse<'a>>
+    ensures request { IfOk result (IsRequest (codes "explain") (rows_of (found_of found.now))) }
+    ensures line { OnOk result (is_line_of (codes "explain") (rows_of (found_of found.now)) ≡ true) }
+    ensures refusal { IfErr result (λ m. m ≡ Misuse.Memory) }
+{
+    Ok(Request::Explain(path_of(alloc, found, "NUMBER")?))
+}
+
+/// What the matches of a job's words ask for.
+pub(crate) fn request_at<'a>(
+    alloc: Global,
+    job: &str,
+    found: &ArgMatches<'a>,
+) -> Result<Request, Misuse<'a>>
+    ensures request { IfOk result (IsRequest job.now (rows_of (found_of found.now))) }
+    ensures line { OnOk result (is_line_of job.now (rows_of (found_of found.now)) ≡ true) }
+    ensures refusal { IfErr result (λ m.
+        is_line_of job.now (rows_of (found_of found.now)) ≡ true → m ≡ Misuse.Memory) }
+{
+    match job {
+        "binary" => binary_request(alloc, found),
+        "json" => json_request(alloc, found),
+        "check" => check_request(alloc, found),
+        "conform" => conform_request(alloc, found),
+        "explain" => explain_request(alloc, found),
+        _ => Err(Misuse::Memory),
+    }
+}

@@ -1,0 +1,119 @@
+//! Lines that clap takes and that ask for nothing.
+ghost use Rattle.std.specs.Prelude.{◌≡◌, ◌≢◌, ◌⊎◌, IfOk};
+ghost use Rattle.clap.specs.Words.{kind_of};
+ghost use Rattle.flatc_cli.specs.Misuses.{IsRefusal};
+
+use crate::commands::{
+    binary_command, check_command, conform_command, flatc_command, json_command,
+};
+use clap::error::ErrorKind;
+use clap::{Command, Error};
+use std::alloc::{AllocError, Global};
+
+/// Why a line that clap takes asks for nothing.
+#[derive(Drop)]
+pub(crate) enum Misuse<'f> {
+    /// Memory ran out.
+    Memory,
+    /// There is no OUT.
+    NoOut,
+    /// A path more than the line takes.
+    Extra(&'f str),
+    /// Two paths are standard input.
+    ReadTwice,
+}
+
+impl From<AllocError> for Misuse<'_> {
+    ghost use Rattle.flatc_cli.specs.declared.misuse.Misuse.TheVariants.{Memory};
+
+    ghost from_gives = { λ _ m. m ≡ Memory };
+
+    fn from(_error: AllocError) -> Self {
+        Misuse::Memory
+    }
+}
+
+/// The command of a job, whose usage an error shows.
+fn command_of<'a>(alloc: Global, job: &str) -> Result<Command<'a>, AllocError> {
+    match job {
+        "binary" => binary_command(alloc),
+        "json" => json_command(alloc),
+        "check" => check_command(alloc)?.bin_name("flatc check"),
+        _ => conform_command(alloc)?.bin_name("flatc conform"),
+    }
+}
+
+fn told(alloc: Global, job: &str, kind: ErrorKind, message: &str) -> Result<Error, AllocError>
+    ensures { IfOk result (λ e. kind_of e ≡ kind) }
+{
+    command_of(alloc, job)?.error(kind, message)
+}
+
+/// An error about a line of a job, in clap's form and with the job's usage.
+///
+/// Where memory runs out that is the error.
+pub fn usage_error(alloc: Global, job: &str, kind: ErrorKind, message: &str) -> Error
+    ensures { (kind_of result ≡ kind) ⊎ (kind_of result ≡ ErrorKind.OutOfMemory) }
+{
+    match told(alloc, job, kind, message) {
+        Ok(error) => error,
+        Err(error) => Error::from(error),
+    }
+}
+
+fn extra_path(alloc: Global, job: &str, path: &str) -> Result<Error, AllocError>
+    ensures { IfOk result (λ e. kind_of e ≡ ErrorKind.UnknownArgument) }
+{
+    let message = format!(in alloc; "unexpected argument '{path}' found")?;
+    told(alloc, job, ErrorKind::UnknownArgument, message.as_str())
+}
+
+fn told_misuse(alloc: Global, job: &str, misuse: Misuse<'_>) -> Result<Error, AllocError>
+    ensures memory { misuse.entry ≡ Misuse.Memory → IfOk result (λ e. kind_of e ≡ ErrorKind.OutOfMemory) }
+    ensures refusal { IfOk result (λ e. IsRefusal (kind_of e)) }
+{
+    match misuse {
+        Misuse::Memory => Ok(Error::from(AllocError)),
+        Misuse::NoOut => told(
+            alloc,
+            job,
+            ErrorKind::MissingRequiredArgument,
+            "the following required arguments were not provided:\n  <OUT>",
+        ),
+        Misuse::Extra(path) => extra_path(alloc, job, path),
+        Misuse::ReadTwice => told(
+            alloc,
+            job,
+            ErrorKind::ArgumentConflict,
+            "standard input is read once, and two paths name it",
+        ),
+    }
+}
+
+/// The error about a line that asks for nothing.
+pub(crate) fn misuse_error(alloc: Global, job: &str, misuse: Misuse<'_>) -> Error
+    ensures memory { misuse.entry ≡ Misuse.Memory → kind_of result ≡ ErrorKind.OutOfMemory }
+    ensures refusal { IsRefusal (kind_of result) }
+{
+    match told_misuse(alloc, job, misuse) {
+        Ok(error) => error,
+        Err(error) => Error::from(error),
+    }
+}
+
+/// The error about a line that is none of the four over one file each.
+pub(crate) fn other_line(alloc: Global) -> Error
+    ensures { IsRefusal (kind_of result) }
+{
+    let told = match flatc_command(alloc) {
+        Ok(mut command) => command.error(
+            ErrorKind::UnknownArgument,
+            "the line is more than one job over one file",
+        ),
+        Err(error) => Err(error),
+    };
+    match told {
+        Ok(error) => error,
+        Err(error) => Error::from(error),
+    }
+}
