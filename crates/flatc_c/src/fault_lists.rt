@@ -2,7 +2,7 @@
 ghost use Rattle.std.specs.Prelude.{IfSome};
 ghost use Rattle.flatc_c.specs.Faults.{IsTold};
 
-use crate::faults::{Fault, told};
+use crate::faults::Fault;
 use flatc_tool::{
     Breach, BuildFault, JsonFault, LayoutFault, Place, ReadFault, SchemaFault, SchemaTextFault,
     SyntaxFault, TextFault, ToolFault, TypeId,
@@ -186,7 +186,7 @@ pub(crate) fn fault_of(told_fault: &Fault) -> Option<ToolFault>
         },
     };
     let fault = fault_at(told_fault.number, told_fault.offset, place)?;
-    if told(fault) == *told_fault {
+    if told_fault.tells(fault) {
         Some(fault)
     } else {
         None

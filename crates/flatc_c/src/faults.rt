@@ -1,5 +1,5 @@
 //! Faults as C reads them.
-ghost use Rattle.std.specs.Prelude.{◌≡◌, ◌≤◌, length, take, List, ℕ};
+ghost use Rattle.std.specs.Prelude.{◌≡◌, ◌≤◌, length, take, List, ℕ, IsTrue};
 ghost use Rattle.flatc_c.specs.Faults.{IsTold, StartsWith};
 
 use flatc_tool::ToolFault;
@@ -63,5 +63,14 @@ pub(crate) fn told(fault: ToolFault) -> Fault
         has_slot,
         reserved: [0; 10],
         name: padded(fault.name()),
+    }
+}
+
+impl Fault {
+    /// Whether C was told of this fault.
+    pub(crate) fn tells(&self, fault: ToolFault) -> bool
+        ensures { IsTrue result → IsTold self.now fault }
+    {
+        *self == told(fault)
     }
 }
