@@ -73,11 +73,11 @@ fn source_names(fault: ToolFault) -> (&'static str, &'static str) {
 ///
 /// The texts and options are those of the call that refused.
 #[unsafe(no_mangle)]
-pub extern "C" fn flatc_explain(
+pub extern "C" fn flatc_explain<'a>(
     alloc: Global,
     fault: &Fault,
-    schema: &[u8],
-    input: &[u8],
+    schema: &'a [u8],
+    input: &'a [u8],
     options: &Options,
     out: &mut Bytes,
 ) -> u32

@@ -1,12 +1,14 @@
 //! Faults as C reads them.
 ghost use Rattle.std.specs.Prelude.{◌≡◌, ◌≤◌, length, take, List, ℕ, IsTrue};
-ghost use Rattle.flatc_c.specs.Faults.{IsTold, StartsWith};
+ghost use Rattle.flatc_tool.specs.FaultTable.{name_of, number_of, offset_of};
+ghost use Rattle.flatc_tool.specs.FaultPlaces.{owner_of, slot_of};
+ghost use Rattle.flatc_c.specs.Faults.{IsTold, StartsWith, place};
 
 use flatc_tool::ToolFault;
 
 /// Why a call refused.
 #[repr(C)]
-#[derive(Clone, Copy, PartialEq, Eq, Drop)]
+#[derive(Clone, Copy, Drop)]
 pub struct Fault {
     pub offset: u64,
     pub type_id: u64,
@@ -66,11 +68,40 @@ pub(crate) fn told(fault: ToolFault) -> Fault
     }
 }
 
+/// A number that is there where the flag is set.
+fn place(is_there: bool, number: u64) -> Option<u64>
+    ensures { result ≡ place is_there number }
+{
+    if is_there { Some(number) } else { None }
+}
+
 impl Fault {
+    fn has_name(&self, name: &str) -> bool
+        ensures { IsTrue result → StartsWith self.now.name name.now }
+    {
+        self.name == padded(name)
+    }
+
     /// Whether C was told of this fault.
     pub(crate) fn tells(&self, fault: ToolFault) -> bool
-        ensures { IsTrue result → IsTold self.now fault }
+        ensures number { IsTrue result → self.now.number ≡ number_of fault }
+        ensures name { IsTrue result → StartsWith self.now.name (name_of fault) }
+        ensures offset { IsTrue result → place self.now.has_offset self.now.offset ≡ offset_of fault }
+        ensures owner { IsTrue result → place self.now.has_type self.now.type_id ≡ owner_of fault }
+        ensures slot { IsTrue result → place self.now.has_slot self.now.slot ≡ slot_of fault }
     {
-        *self == told(fault)
+        if self.number != fault.number() {
+            return false;
+        }
+        if place(self.has_offset, self.offset) != fault.offset() {
+            return false;
+        }
+        if place(self.has_type, self.type_id) != fault.owner().map(|owner| owner.0) {
+            return false;
+        }
+        if place(self.has_slot, self.slot as u64) != fault.slot().map(|slot| slot as u64) {
+            return false;
+        }
+        self.has_name(fault.name())
     }
 }
