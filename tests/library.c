@@ -33,9 +33,9 @@ void __wrap_free(void *block) {
     __real_free(block);
 }
 
-static const char *const TEXT = "table T { a:int; b:string; } root_type T;";
-static const char *const NEWER = "table T { a:int; b:string; c:int; } root_type T;";
-static const char *const BROKEN = "table T { a:long; b:string; } root_type T;";
+static const char *const TEXT = "table T { a:int; } root_type T;";
+static const char *const NEWER = "table T { a:int; b:int; } root_type T;";
+static const char *const BROKEN = "table T { a:long; } root_type T;";
 
 static flatc_schema schema = FLATC_SCHEMA_INIT, other = FLATC_SCHEMA_INIT;
 static flatc_bytes made = FLATC_BYTES_INIT, text = FLATC_BYTES_INIT;
