@@ -34,36 +34,45 @@ fn a_fault_is_told(rt: HostRuntime) {
 }
 
 /// A writer that takes five bytes, two a call, and then fails or takes none.
-fn short(alloc: Global, fails: bool) -> Noted<Short> {
-    Noted::over(Short {
+fn short(alloc: Global, fails: bool) -> Short {
+    Short {
         left: 5,
         each: 2,
         fails,
         taken: Vec::new(alloc),
-    })
+    }
 }
 
-/// Whether a report fails on a short writer for its text or its line, with the first five bytes of it there.
-fn is_cut(alloc: Global, fails: bool) -> bool {
-    let mut out = short(alloc, fails);
-    let mut err = short(alloc, fails);
-    let text = report_noted(alloc, Ok(TEXT), &mut out, &mut err);
-    let is_out_cut = text == 1 && out.failed() && !err.failed();
-    let mut other = short(alloc, fails);
-    let fault = report_noted(alloc, Err(FAULT), &mut other, &mut err);
-    let is_err_cut = fault == 1 && err.failed() && !other.failed();
-    let out = out.into_inner().taken;
-    let err = err.into_inner().taken;
-    is_out_cut
-        && is_err_cut
-        && out.as_slice() == b"{\n  \"".as_slice()
-        && err.as_slice() == b"75 Mi".as_slice()
+/// Whether a text that a short writer cuts has status 1, with its first bytes there.
+fn is_text_cut(alloc: Global, fails: bool) -> bool {
+    let mut out = Noted::over(short(alloc, fails));
+    let mut err = Noted::over(Vec::new(alloc));
+    let status = report_noted(alloc, Ok(TEXT), &mut out, &mut err);
+    let is_noted = out.failed() && !err.failed();
+    let taken = out.into_inner().taken;
+    status == 1 && is_noted && taken.as_slice() == b"{\n  \"".as_slice()
+}
+
+/// The same of a fault's line.
+fn is_line_cut(alloc: Global, fails: bool) -> bool {
+    let mut out = Noted::over(Vec::new(alloc));
+    let mut err = Noted::over(short(alloc, fails));
+    let status = report_noted(alloc, Err(FAULT), &mut out, &mut err);
+    let is_noted = err.failed() && !out.failed();
+    let taken = err.into_inner().taken;
+    status == 1 && is_noted && taken.as_slice() == b"75 Mi".as_slice()
 }
 
 #[test]
-fn a_report_is_cut_where_a_write_fails_or_takes_nothing(rt: HostRuntime) {
-    assert!(rt; is_cut(rt.alloc(), true));
-    assert!(rt; is_cut(rt.alloc(), false));
+fn a_text_is_cut_where_a_write_fails_or_takes_nothing(rt: HostRuntime) {
+    assert!(rt; is_text_cut(rt.alloc(), true));
+    assert!(rt; is_text_cut(rt.alloc(), false));
+}
+
+#[test]
+fn a_line_is_cut_where_a_write_fails_or_takes_nothing(rt: HostRuntime) {
+    assert!(rt; is_line_cut(rt.alloc(), true));
+    assert!(rt; is_line_cut(rt.alloc(), false));
 }
 
 #[test]
