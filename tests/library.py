@@ -88,7 +88,7 @@ def exports(tests):
     calls, numbers, version = declared()
     shared = f"{tests.folder}/libflatc.so"
     symbols = succeeded(tests, "nm", ["nm", "-D", "--defined-only", shared]) or ""
-    names = {line.split()[2].partition("@")[0] for line in symbols.splitlines() if line.split()[1] != "A"}
+    names = {line.split()[2] for line in symbols.splitlines()}
     tests.tell("the library exports what the header declares", names == calls, f"{sorted(names ^ calls)}")
     tests.tell("the version's parts are its text", ".".join(map(str, numbers)) == version, version)
     tests.tell("the program's version", tests.run(["--version"]).stdout.decode().split()[-1] == version, version)
@@ -112,6 +112,14 @@ def c_example(tests):
     told = tests.run(["binary", "--explain", SCHEMA, "wrong.json", "out.bin"]).stderr.decode().partition("\n")[2]
     lines, want = ran.stderr.partition("\n")[2], told.replace("wrong.json:", "JSON:")
     tests.tell("its lines are those of --explain", lines == want != "", f"{lines}, {told}")
+
+
+def c_message(tests):
+    """A buffer of 28 bytes: the root's offset, a vtable and its padding, a table with one reference, and the text."""
+    if built(tests, f"{EXAMPLES}/c/message.c", "message", flags=["-std=c99"]):
+        said = succeeded(tests, "message", ["./message"]) or ""
+        first, second, lines = said.partition("\n72 OutOfRange\n")
+        tests.tell("message converts, and shows a refusal", first == "28 bytes" and second and "70000" in lines, said)
 
 
 def counted(tests):
@@ -237,7 +245,7 @@ def valgrind(tests):
             tests.tell(f"valgrind over {name}", ran.returncode == status, why)
 
 
-PARTS = (headers, exports, c_example, misuse, growths, cpp_example, python_example, rust_example, installed)
+PARTS = (headers, exports, c_example, c_message, misuse, growths, cpp_example, python_example, rust_example, installed)
 
 
 def main():
