@@ -26,7 +26,7 @@ def defaults_changed(count):
     """A table of ten fields for each ten breaches, each field on a line of its own."""
     def text(default):
         fields = "".join(f"  f{k}:int = {default};\n" for k in range(10))
-        return "".join(f"table T{k} {{\n{fields}}}\n" for k in range(count // 10)) + "root_type T0;\n"
+        return "".join(f"table Row{k} {{\n{fields}}}\n" for k in range(count // 10)) + "root_type Row0;\n"
 
     return text(1), text(2)
 
@@ -58,14 +58,14 @@ def fields_rotated(count):
 def comments_ahead(count):
     """Many short lines before some tables."""
     def text(default):
-        tables = "".join(f"table T{k} {{ a:int = {default}; }}\n" for k in range(count // 50))
-        return "// a comment\n" * count + tables + "root_type T0;\n"
+        tables = "".join(f"table Row{k} {{ a:int = {default}; }}\n" for k in range(count // 50))
+        return "// a comment\n" * count + tables + "root_type Row0;\n"
 
     return text(1), text(2)
 
 
 def types_gone(count):
-    old = "".join(f"table T{k} {{ a:int; }}\n" for k in range(count)) + "table R { a:int; }\nroot_type R;\n"
+    old = "".join(f"table Row{k} {{ a:int; }}\n" for k in range(count)) + "table R { a:int; }\nroot_type R;\n"
     return old, "table R { a:int; }\nroot_type R;\n"
 
 
