@@ -12,6 +12,7 @@ import shutil
 import subprocess
 import sys
 
+import crafted_names
 from harness import Tests, program_of, write
 
 VALGRIND = shutil.which("valgrind")
@@ -99,10 +100,10 @@ def seconds(words):
     return run.returncode, least
 
 
-def grows(tests, what, make, count, words, status):
+def grows(tests, what, make, count, words, status, timed=TIMED):
     """Twice as much costs little more than twice as much; `make` writes the files of a size."""
     costs = []
-    for size in (count, 2 * count) if VALGRIND else (TIMED * count, 2 * TIMED * count):
+    for size in (count, 2 * count) if VALGRIND else (timed * count, 2 * timed * count):
         make(size)
         ended, cost = instructions(words) if VALGRIND else seconds(words)
         tests.tell(f"{what}: the status at {size}", ended == status, f"{ended}")
@@ -132,5 +133,35 @@ def unsupported(tests):
     grows(tests, "floats", make, 2000, [tests.program, "check", "--explain", "s.fbs"], 1)
 
 
+# Names that collide: what they are of, a schema of such names, half of how many there are, and the path that their
+# hash begins with, if it does.
+CRAFTED = (
+    ("enum values", crafted_names.enum_values, 40_000, None),
+    ("fields", crafted_names.fields, 25_000, None),
+    ("types", crafted_names.types, 25_000, 0),
+)
+# For which key the names were made: none, that of nothing, or that of a text that isn't this one.
+KEYS = (
+    ("without a key", crafted_names.UNKEYED),
+    ("under the key of nothing", crafted_names.key_of(b"")),
+    ("under another text's key", crafted_names.key_of(b"table T { a:int; } root_type T;")),
+)
+
+
+def crafted(tests):
+    """`check` of a schema whose names were made to have one hash, under a key that isn't the schema's."""
+    for what, text_of, count, path in CRAFTED:
+        for key, state in KEYS:
+            begun = state if path is None else crafted_names.behind_path(state, path)
+            some = crafted_names.names(begun, 2 * count)
+            hashes = {crafted_names.fold(begun, name.encode()) for name in some[:1000]}
+            tests.tell(f"{what} that collide {key}", len(hashes) == 1 and len(set(some)) == 2 * count, f"{len(hashes)}")
+
+            def make(size, text_of=text_of, some=some):
+                write("s.fbs", text_of(some[:size]).encode())
+
+            grows(tests, f"{what} that collide {key}", make, count, [tests.program, "check", "s.fbs"], 0, timed=1)
+
+
 if __name__ == "__main__":
-    sys.exit(Tests("costs", program_of(sys.argv, __doc__)).main((comparisons, unsupported)))
+    sys.exit(Tests("costs", program_of(sys.argv, __doc__)).main((comparisons, unsupported, crafted)))

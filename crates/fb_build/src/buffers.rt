@@ -41,7 +41,7 @@ pub fn plan<'v>(alloc: Global, layout: &'v Layout, value: &'v Value) -> Result<P
     let pending = vec![in alloc; 0u32; needs.waiting]?;
     // Two bytes for each slot of a vtable, behind its first four.
     let scratch = vec![in alloc; 0u8; 4 + 2 * layout.most_slots()]?;
-    let mut vtables = VtableIndex::new(alloc);
+    let mut vtables = VtableIndex::new(alloc, layout.schema().key());
     vtables.reserve(needs.tables)?;
     Ok(Plan {
         layout,

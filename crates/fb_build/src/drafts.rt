@@ -106,7 +106,7 @@ impl<'l> Draft<'l> {
             layout,
             builder: Builder {
                 tail,
-                vtables: VtableIndex::new(alloc),
+                vtables: VtableIndex::new(alloc, layout.schema().key()),
                 scratch,
             },
             pending: Vec::new(alloc),

@@ -109,11 +109,18 @@ pub(crate) fn metadata_fault(
     ensures { IfOk result (λ f. f ≡ least_of
         (metadata_faults (is_met declared.now) host attributes.now)) }
 {
-    if let [attribute] = attributes {
-        return Ok(attribute_fault(declared, host, false, attribute));
+    match attributes {
+        [] => return Ok(None),
+        [one] => return Ok(attribute_fault(declared, host, false, one)),
+        [one, other] => {
+            let again = other.name.text == one.name.text;
+            let first = attribute_fault(declared, host, false, one);
+            return Ok(earlier(first, attribute_fault(declared, host, again, other)));
+        }
+        _ => {}
     }
     let mut least = None;
-    let mut met = NameSet::new(alloc);
+    let mut met = NameSet::new(alloc, declared.key(), attributes.len())?;
     for attribute in attributes {
         let name = &attribute.name;
         let again = met.meet(name.text)?;

@@ -8,10 +8,11 @@ ghost use Rattle.fb_declare.specs.TypeFaults.{host_of_enum, enum_faults};
 use crate::attribute_faults::{AttributeHost, metadata_fault};
 use crate::faults::{SchemaFault, earlier, when};
 use crate::name_set::NameSet;
+use fb_index::HashKey;
 use fb_resolve::{EnumValues, Meaning, ResolvedEnum, integer_type, may_be_written};
 use fb_schema::Base;
+use indexmap::IndexSet;
 use std::alloc::{AllocError, Global};
-use std::collections::BTreeSet;
 
 /// The fault of the type under an enum.
 fn underlying_fault(meaning: Meaning, at: u64) -> Option<SchemaFault>
@@ -44,6 +45,7 @@ fn is_bad_number(base: Option<Base>, flags: bool, number: i128, again: bool) -> 
 /// The least fault of an enum's values. The only error is a refused allocation.
 fn values_fault(
     alloc: Global,
+    key: HashKey,
     of_enum: &EnumValues<'_, '_>,
 ) -> Result<Option<SchemaFault>, AllocError>
     ensures { IfOk result (λ f. f ≡ least_of
@@ -54,7 +56,7 @@ fn values_fault(
     let values = of_enum.values.as_slice();
     let repeats = of_enum.repeats.as_slice();
     let mut least = None;
-    let mut numbers = BTreeSet::new(alloc);
+    let mut numbers = IndexSet::with_capacity_and_hasher(alloc, values.len(), key)?;
     for (place, resolved) in values.iter().enumerate() {
         let name = &resolved.value.name;
         let is_new = numbers.insert(resolved.number)?;
@@ -81,6 +83,6 @@ pub(crate) fn enum_fault(
     let under = underlying_fault(meaning, read.underlying.at());
     let host = host_of_enum(values.base);
     let metadata = metadata_fault(alloc, declared, host, read.attributes.as_slice())?;
-    let in_values = values_fault(alloc, values)?;
+    let in_values = values_fault(alloc, declared.key(), values)?;
     Ok(earlier(earlier(under, metadata), in_values))
 }

@@ -139,7 +139,7 @@ pub(crate) fn fields_fault(
         (faults_in_turn (field_behind (is_met declared.now) host) fields.now)) }
 {
     let mut least = None;
-    let mut met = NameSet::new(alloc);
+    let mut met = NameSet::new(alloc, declared.key(), fields.len())?;
     for field in fields {
         let again = names_fault(&mut met, host, field)?;
         let fault = field_fault(alloc, declared, host, field)?;

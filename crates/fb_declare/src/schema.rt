@@ -33,7 +33,7 @@ fn least_fault(
     ensures { IfOk result (λ f. f ≡ least_of (faults_of_outline resolved.now.outline.now)) }
 {
     let outline = resolved.outline;
-    let declared = names_met(alloc, outline.attributes.as_slice())?;
+    let declared = names_met(alloc, outline.key, outline.attributes.as_slice())?;
     let in_types = types_fault(alloc, &declared, resolved)?;
     let root = root_fault(outline.text_len, outline.root.as_ref(), resolved.root);
     let identifier = identifier_fault(outline.identifier);

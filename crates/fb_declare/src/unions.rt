@@ -13,6 +13,7 @@ use crate::attribute_faults::{AttributeHost, metadata_fault};
 use crate::faults::{SchemaFault, earlier, when};
 use crate::field_faults::use_fault;
 use crate::name_set::NameSet;
+use fb_index::HashKey;
 use fb_resolve::{ResolvedMember, ResolvedUnion, is_table, member_read};
 use fb_schema::TypeId;
 use std::alloc::{AllocError, Global};
@@ -39,12 +40,13 @@ fn member_fault(
 
 fn members_fault(
     alloc: Global,
+    key: HashKey,
     members: &[ResolvedMember<'_, '_>],
 ) -> Result<Option<SchemaFault>, AllocError>
     ensures { IfOk result (λ f. f ≡ least_of (faults_in_turn member_faults members.now)) }
 {
     let mut least = None;
-    let mut met = NameSet::new(alloc);
+    let mut met = NameSet::new(alloc, key, members.len())?;
     for (number, member) in members.iter().enumerate() {
         let again = met.meet(member.name.as_str())?;
         least = earlier(least, member_fault(number, again, member));
@@ -64,7 +66,7 @@ pub(crate) fn union_fault(
     let read = resolved.declared;
     let attributes = read.attributes.as_slice();
     let metadata = metadata_fault(alloc, declared, AttributeHost::Union, attributes)?;
-    let in_members = members_fault(alloc, resolved.members.as_slice())?;
+    let in_members = members_fault(alloc, declared.key(), resolved.members.as_slice())?;
     Ok(earlier(metadata, in_members))
 }
 

@@ -1,14 +1,14 @@
 -- The numbers of an enum's values, and what the name of a value means.
 -- From the FlatBuffers documentation, "Writing a schema": Enums, Attributes (`bit_flags`).
-use Rattle.std.specs.Prelude.{ℕ, ◌≡◌, ◌==◌, ◌*◌, ◌^◌, ◌&&◌, Bool, true, false, List, [], ◌∷◌, length, drop, map, Option, None, Some, ℤ, pos, negsuc, ◌+ℤ◌, slice_get, if◌then◌else◌, nat_lt}
+use Rattle.std.specs.Prelude.{ℕ, ◌≡◌, ◌==◌, ◌*◌, ◌^◌, ◌&&◌, Bool, true, false, List, [], ◌∷◌, length, drop, map}
+use Rattle.std.specs.Prelude.{Option, None, Some, ℤ, pos, negsuc, ◌+ℤ◌, slice_get, if◌then◌else◌, nat_lt}
 use Rattle.std.specs.List.{find, starts_with}
 use Rattle.std.specs.Option.{option_map, option_map_or, option_or, option_and_then, unwrap_or}
 use Rattle.std.specs.Bool.{nat_eq}
 use Rattle.std.specs.Str.{bytes_eq}
 use Rattle.std.specs.Borrow.{Bor}
-use Rattle.std.specs.BTreeMap.{BTreeMap, get_by}
-use Rattle.std.specs.Cmp.Lexicographic.{slice_cmp}
-use Rattle.std.specs.Ordering.{nat_cmp}
+use Rattle.indexmap.specs.IndexMap.{IndexMap, get_by}
+use Rattle.fb_index.specs.declared.hash_key.HashKey.{HashKey}
 use Rattle.fb_syntax.specs.Signs.{dot}
 use Rattle.fb_syntax.specs.TypesRead.{EnumRead}
 use Rattle.fb_syntax.specs.declared.declarations.EnumValue.{EnumValue}
@@ -112,11 +112,11 @@ unfoldable pub number_named : List (Name × ℤ) → Name → Option ℤ
 number_named values name = option_map (λ v. v.1) (find (λ v. bytes_eq name v.0) values)
 
 -- the number that a map has for a name
-abbrev pub number_of : BTreeMap (Bor Name) ℤ → Name → Option ℤ
-number_of numbers name = get_by (λ k. slice_cmp nat_cmp name k.now) numbers
+abbrev pub number_of : IndexMap (Bor Name) ℤ HashKey → Name → Option ℤ
+number_of numbers name = get_by (λ k. bytes_eq name k.now) numbers
 
 -- a map has the number of the first value of each name, and no other
-abbrev pub IndexesValues : BTreeMap (Bor Name) ℤ → List (Name × ℤ) → Type 0
+abbrev pub IndexesValues : IndexMap (Bor Name) ℤ HashKey → List (Name × ℤ) → Type 0
 IndexesValues numbers values = (name : Name) → number_of numbers name ≡ number_named values name
 
 abbrev pub behind_dot : Name → Option Name

@@ -14,16 +14,15 @@ use crate::attributes::has_attribute;
 use crate::enums::{integer_type, resolved_values, value_number};
 use crate::outline::TypeUse;
 use crate::resolved::ResolvedValue;
+use fb_index::HashKey;
 use fb_schema::Base;
 use fb_syntax::{BuiltInAttribute, TypeDecl};
+use indexmap::IndexMap;
 use std::alloc::{AllocError, Global};
-use std::collections::BTreeMap;
 use std::marker::Model;
 
 /// What an enum is over, if that is an integer type, whether it has `bit_flags`, and its values; no
 /// type and none of what is no enum.
-///
-/// No names make it slow, whoever chose them: it doesn't hash.
 #[derive(Drop)]
 pub struct EnumValues<'d, 's> {
     pub base: Option<Base>,
@@ -32,7 +31,7 @@ pub struct EnumValues<'d, 's> {
     /// Of each value whether one before it has its name.
     pub repeats: Vec<bool>,
     /// The number of the first value of each name.
-    pub(crate) numbers: BTreeMap<&'s [u8], i128>,
+    pub(crate) numbers: IndexMap<&'s str, i128, HashKey>,
 }
 
 impl<'d, 's> Model for EnumValues<'d, 's> {
@@ -50,9 +49,11 @@ impl<'d, 's> Model for EnumValues<'d, 's> {
 }
 
 impl<'d, 's> EnumValues<'d, 's> {
-    /// The values of a type, of whose names this is noted. The only error is a refused allocation.
+    /// The values of a type in the text of a key, of whose names this is noted. The only error is a
+    /// refused allocation.
     pub(crate) fn of(
         alloc: Global,
+        key: HashKey,
         declaration: &'d TypeDecl<'s>,
         uses: &[TypeUse],
     ) -> Result<EnumValues<'d, 's>, AllocError>
@@ -66,14 +67,14 @@ impl<'d, 's> EnumValues<'d, 's> {
                 bit_flags: false,
                 values: Vec::new(alloc),
                 repeats: Vec::new(alloc),
-                numbers: BTreeMap::new(alloc),
+                numbers: IndexMap::with_hasher(alloc, key),
             });
         };
         let base = underlying(uses[0]);
         let bit_flags = has_attribute(BuiltInAttribute::BitFlags, read.attributes.as_slice());
         let values = resolved_values(alloc, read.values.as_slice())?;
         let over = base.unwrap_or(Base::U8);
-        let (repeats, numbers) = numbers_over(alloc, over, bit_flags, values.as_slice())?;
+        let (repeats, numbers) = numbers_over(alloc, key, over, bit_flags, values.as_slice())?;
         Ok(EnumValues {
             base,
             bit_flags,
@@ -84,7 +85,7 @@ impl<'d, 's> EnumValues<'d, 's> {
     }
 
     /// The number of the first value of a name, which may be missing.
-    pub(crate) fn number(&self, name: Option<&[u8]>) -> Option<i128>
+    pub(crate) fn number(&self, name: Option<&str>) -> Option<i128>
         ensures { result ≡ option_and_then
             (number_named (values_over self.now.base self.now.bit_flags self.now.values))
             (option_copied name.entry) }
@@ -111,23 +112,24 @@ fn underlying(noted: TypeUse) -> Option<Base>
 #[tactic(auto, unfolding(crate::specs::EnumsRead::number_named))]
 fn numbers_over<'s>(
     alloc: Global,
+    key: HashKey,
     base: Base,
     flags: bool,
     values: &[ResolvedValue<'_, 's>],
-) -> Result<(Vec<bool>, BTreeMap<&'s [u8], i128>), AllocError>
+) -> Result<(Vec<bool>, IndexMap<&'s str, i128, HashKey>), AllocError>
     ensures repeats { IfOk result
         (λ n. n.0.items ≡ repeated_names name_of_value values.now) }
     ensures numbers { IfOk result (λ n. IndexesValues n.1 (map (value_over base flags) values.now)) }
 {
     let mut repeats = Vec::with_capacity(alloc, values.len())?;
-    let mut numbers = BTreeMap::new(alloc);
+    let mut numbers = IndexMap::with_capacity_and_hasher(alloc, values.len(), key)?;
     for resolved in values {
         let value = resolved.value;
-        let name = value.name.text.as_bytes();
-        let again = numbers.contains_key(name);
-        repeats.push(again)?;
-        if !again {
-            numbers.insert(name, value_number(base, flags, resolved.number))?;
+        let name = value.name.text;
+        let first = numbers.insert(name, value_number(base, flags, resolved.number))?;
+        repeats.push(first.is_some())?;
+        if let Some(first) = first {
+            numbers.insert(name, first)?;
         }
     }
     Ok((repeats, numbers))

@@ -6,6 +6,7 @@ ghost use Rattle.fb_resolve.specs.EnumsRead.{enum_values_of, underlying_at};
 use crate::basic_types::BasicType;
 use crate::enum_values::EnumValues;
 use crate::walk::Walk;
+use fb_index::HashKey;
 use fb_schema::Base;
 use fb_scopes::Scopes;
 use fb_syntax::{Decls, DottedName, Text, TypeDecl};
@@ -84,6 +85,8 @@ pub struct Outline<'d, 's> {
     pub root: Option<RootRead<'d, 's>>,
     pub identifier: Option<&'d Text<'s>>,
     pub text_len: u64,
+    /// The key of the text, for a hash of names in it.
+    pub key: HashKey,
     pub(crate) names: Names<'d, 's>,
 }
 
@@ -115,7 +118,7 @@ impl<'d, 's> Outline<'d, 's> {
     pub fn of(alloc: Global, decls: &'d Decls<'s>) -> Result<Outline<'d, 's>, AllocError>
         ensures { IfOk result (λ o. o ≡ outline_of decls.now) }
     {
-        let mut walk = Walk::new(alloc, decls.declarations().len())?;
+        let mut walk = Walk::new(alloc, decls.key(), decls.declarations().len())?;
         for declaration in decls.declarations() {
             walk.pass(alloc, declaration)?;
         }

@@ -9,26 +9,20 @@ use fb_syntax::TypeDecl;
 
 /// What stands behind a name and a dot.
 #[tactic(auto, unfolding(crate::specs::EnumsRead::behind))]
-fn behind<'n>(prefix: &[u8], name: &'n [u8]) -> Option<&'n [u8]>
+fn behind<'n>(prefix: &str, name: &'n str) -> Option<&'n str>
     ensures { option_copied result ≡ behind prefix.now name.now }
 {
-    if !name.starts_with(prefix) {
-        return None;
-    }
-    match &name[prefix.len()..] {
-        [b'.', rest @ ..] => Some(rest),
-        _ => None,
-    }
+    name.strip_prefix(prefix)?.strip_prefix('.')
 }
 
 /// What stands behind the full name of a type and a dot.
 #[tactic(auto, using(crate::proofs::Behind::behind_inside))]
-fn behind_full_name<'n>(scope: Option<&str>, declared: &[u8], name: &'n [u8]) -> Option<&'n [u8]>
+fn behind_full_name<'n>(scope: Option<&str>, declared: &str, name: &'n str) -> Option<&'n str>
     ensures { option_copied result
         ≡ behind (full_name (option_copied scope.entry) declared.now) name.now }
 {
     match scope {
-        Some(scope) => behind(declared, behind(scope.as_bytes(), name)?),
+        Some(scope) => behind(declared, behind(scope, name)?),
         None => behind(declared, name),
     }
 }
@@ -43,8 +37,7 @@ pub(crate) fn value_at(scope: Scope<'_, '_, '_>, number: usize, name: &str) -> O
         return None;
     };
     let values = &scope.names.values[number];
-    let declared = declaration.name.text.as_bytes();
-    let name = name.as_bytes();
+    let declared = declaration.name.text;
     let behind_name = values.number(behind(declared, name));
     let full_name = behind_full_name(read.scope, declared, name);
     let number = values.number(Some(name));

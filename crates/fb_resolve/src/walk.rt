@@ -13,6 +13,7 @@ use crate::basic_types::{BasicType, basic_type};
 use crate::enum_values::EnumValues;
 use crate::meanings::type_name;
 use crate::outline::{Names, Outline, RootRead, TypeNotes, TypeRead, TypeUse, word_of};
+use fb_index::HashKey;
 use fb_scopes::{PathTree, Scopes};
 use fb_syntax::{Declaration, Directive, DottedName, Field, Text, TypeDecl, UnionMember};
 use std::alloc::{AllocError, Global};
@@ -41,12 +42,14 @@ pub(crate) struct Walk<'d, 's> {
     root_path: usize,
     /// What is noted of the root's name.
     root_use: TypeUse,
+    /// The key of the text.
+    key: HashKey,
 }
 
 impl<'d, 's> Walk<'d, 's> {
-    /// Nothing is declared, and no namespace is in force; up to `count` types have room. The only
-    /// error is a refused allocation.
-    pub(crate) fn new(alloc: Global, count: usize) -> Result<Walk<'d, 's>, AllocError>
+    /// Nothing is declared in the text of a key, and no namespace is in force; up to `count` types have
+    /// room. The only error is a refused allocation.
+    pub(crate) fn new(alloc: Global, key: HashKey, count: usize) -> Result<Walk<'d, 's>, AllocError>
         ensures placed { IfOk result IsPlaced }
         ensures empty { IfOk result (λ w. walk_read w ≡ nothing_read) }
     {
@@ -57,13 +60,14 @@ impl<'d, 's> Walk<'d, 's> {
             identifier: None,
             scope: None,
             path: 0,
-            tree: PathTree::new(alloc),
-            used: PathTree::new(alloc),
+            tree: PathTree::new(alloc, key),
+            used: PathTree::new(alloc, key),
             notes: Vec::with_capacity(alloc, count)?,
             values: Vec::with_capacity(alloc, count)?,
             full_names: Vec::with_capacity(alloc, count)?,
             root_path: 0,
             root_use: TypeUse::Basic(BasicType::Text),
+            key,
         })
     }
 
@@ -122,7 +126,7 @@ impl<'d, 's> Walk<'d, 's> {
         let scope = self.scope;
         let namespace = self.path;
         let uses = uses_of(alloc, &mut self.used, declaration)?;
-        let values = EnumValues::of(alloc, declaration, uses.as_slice())?;
+        let values = EnumValues::of(alloc, self.key, declaration, uses.as_slice())?;
         let word = word_of(declaration).text;
         let full_name = self.tree.insert_words(namespace, word)?;
         self.values.push(values)?;
@@ -168,6 +172,7 @@ impl<'d, 's> Walk<'d, 's> {
             root: self.root,
             identifier: self.identifier,
             text_len,
+            key: self.key,
             names,
         })
     }

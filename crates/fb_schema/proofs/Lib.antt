@@ -1,8 +1,11 @@
 pub mod Positions
 pub mod Distinct
+pub mod InnerNames
 pub mod LookUps
 pub mod DeclaredNames
+pub mod FoundPlaces
 pub mod Got
+pub mod NamedItems
 pub mod LastDot
 pub mod SearchedByHalves
 pub mod IndexesOfTypes

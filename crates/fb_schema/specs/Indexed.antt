@@ -1,8 +1,8 @@
 -- What a schema's indexes find.
-use Rattle.std.specs.Prelude.{ℕ, ◌<◌, ◌≢◌, List, [], length, get_or, AllPairs, map, ℤ, pos}
-use Rattle.std.specs.Ordering.{nat_cmp, int_cmp}
+use Rattle.std.specs.Prelude.{ℕ, ◌≡◌, ◌<◌, ◌≢◌, List, length, get_or, AllPairs, map, ℤ, pos}
+use Rattle.std.specs.Ordering.{int_cmp}
 use Rattle.std.specs.declared.cmp.Ordering.{Ordering}
-use Rattle.std.specs.Cmp.Lexicographic.{slice_cmp}
+use Rattle.std.specs.Option.{ForSome}
 use Rattle.std.specs.List.{range_with_len}
 use Rattle.std.specs.List.Sorted.{IsPermutation, IsSortedByKey}
 use Rattle.fb_schema.specs.declared.name_index.NameIndex.{NameIndex}
@@ -30,13 +30,13 @@ pub record IsInOrder {K : Type 0} (cmp : K → K → Ordering) (none : K) (keys 
   pub all : IsPermutation (range_with_len 0 (length keys)) places
   pub ascending : IsSortedByKey (λ p. get_or keys p none) cmp places
 
--- so few names are looked through, and have no places in order
+-- so few names are looked through, and have no digests
 abbrev pub few : ℕ
-few = 8
+few = 16
 
--- an index of names, which are ordered by their bytes
+-- an index of names, which has a digest of each
 abbrev pub IndexesNames : NameIndex → List Name → Type 0
-IndexesNames index names = few < length names → IsInOrder (slice_cmp nat_cmp) [] names index.places.items
+IndexesNames index names = few < length names → ForSome index.digests (λ digests. digests.value.strings ≡ names)
 
 -- an index of the numbers of an enum's values
 abbrev pub IndexesNumbers : NumberIndex → List ℤ → Type 0

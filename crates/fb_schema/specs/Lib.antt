@@ -5,6 +5,7 @@ pub mod Ranges
 pub mod WellDeclared
 pub mod Found
 pub mod Indexed
+pub mod Keys
 pub mod Held
 pub mod Bodies
 pub mod Paths

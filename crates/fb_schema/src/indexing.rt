@@ -8,17 +8,18 @@ ghost use Rattle.fb_schema.specs.Indexed.{IndexesNames, IndexesNumbers};
 use crate::name_index::NameIndex;
 use crate::number_index::NumberIndex;
 use crate::types::{Body, TypeInfo};
+use fb_index::HashKey;
 use std::alloc::{AllocError, Global};
 
 /// The index of the names of a type's fields, values or members.
-fn names_in(alloc: Global, body: &Body) -> Result<NameIndex, AllocError>
+fn names_in(alloc: Global, key: HashKey, body: &Body) -> Result<NameIndex, AllocError>
     ensures { IfOk result (λ index. IndexesNames index (names_of_body (body_seen body.now))) }
 {
     match body {
-        Body::Table(fields) => NameIndex::of(alloc, fields.as_slice()),
-        Body::Struct(fields, _) => NameIndex::of(alloc, fields.as_slice()),
-        Body::Enum(_, _, values) => NameIndex::of(alloc, values.as_slice()),
-        Body::Union(members) => NameIndex::of(alloc, members.as_slice()),
+        Body::Table(fields) => NameIndex::of(alloc, key, fields.as_slice()),
+        Body::Struct(fields, _) => NameIndex::of(alloc, key, fields.as_slice()),
+        Body::Enum(_, _, values) => NameIndex::of(alloc, key, values.as_slice()),
+        Body::Union(members) => NameIndex::of(alloc, key, members.as_slice()),
     }
 }
 
@@ -33,13 +34,17 @@ fn numbers_in(alloc: Global, body: &Body) -> Result<NumberIndex, AllocError>
 }
 
 /// For each type, the index of the names of its fields, values or members.
-pub(crate) fn inner_names(alloc: Global, types: &[TypeInfo]) -> Result<Vec<NameIndex>, AllocError>
+pub(crate) fn inner_names(
+    alloc: Global,
+    key: HashKey,
+    types: &[TypeInfo],
+) -> Result<Vec<NameIndex>, AllocError>
     ensures { IfOk result (λ all. AllZip (λ index t. IndexesNames index (names_of_body t.body))
         all.items (map type_seen types.now)) }
 {
     let mut all = Vec::with_capacity(alloc, types.len())?;
     for info in types {
-        all.push(names_in(alloc, &info.body)?)?;
+        all.push(names_in(alloc, key, &info.body)?)?;
     }
     Ok(all)
 }

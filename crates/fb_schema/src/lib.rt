@@ -3,12 +3,12 @@
 
 mod finding;
 mod indexing;
+mod keys;
 mod kinds;
 mod name_index;
 mod named;
 mod number_index;
 mod paths;
-mod places;
 mod schema;
 mod types;
 

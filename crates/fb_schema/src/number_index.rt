@@ -1,10 +1,10 @@
 //! Numbers that are found in few steps.
 ghost use Rattle.std.specs.Prelude.{◌≡◌, ◌≢◌, map, position, slice_get, get_or, pos, option_map};
 ghost use Rattle.std.specs.Prelude.{AllPairs, IfOk, Some, true};
+ghost use Rattle.std.specs.List.{range_with_len};
 ghost use Rattle.std.specs.Ordering.{int_eq};
 ghost use Rattle.fb_schema.specs.Indexed.{IndexesNumbers};
 
-use crate::places::places_of;
 use std::alloc::{AllocError, Global};
 
 /// Whether the value at a place has a number.
@@ -25,6 +25,17 @@ fn number_at(values: &[(String, i128)], place: usize) -> i128
         Some(value) => value.1,
         None => 0,
     }
+}
+
+/// The places 0 to `count` - 1.
+fn places_of(alloc: Global, count: usize) -> Result<Vec<usize>, AllocError>
+    ensures { IfOk result (λ places. places.items ≡ range_with_len 0 count) }
+{
+    let mut places = Vec::with_capacity(alloc, count)?;
+    for place in 0..count {
+        places.push(place)?;
+    }
+    Ok(places)
 }
 
 /// The places of an enum's values in ascending order of their numbers, so that one is found by halves. A

@@ -5,27 +5,31 @@ ghost use Rattle.fb_schema.specs.Seen.{field_seen, type_seen, schema_of};
 ghost use Rattle.fb_schema.specs.WellDeclared.{IsDeclared};
 ghost use Rattle.fb_schema.specs.Found.{type_named, field_named, member_coded, name_numbered, number_named};
 ghost use Rattle.fb_schema.specs.Found.{code_named, name_at};
+ghost use Rattle.fb_schema.specs.Keys.{key_of_schema};
 ghost use Rattle.fb_schema.specs.Paths.{number_by_path, code_by_path};
 
 use crate::finding::{code_in, field_in, member_in, name_in, number_in};
 use crate::indexing::{inner_names, inner_numbers};
+use crate::keys::key_of_types;
 use crate::kinds::TypeId;
 use crate::name_index::NameIndex;
 use crate::number_index::NumberIndex;
 use crate::paths::name_in_path;
 use crate::types::{FieldInfo, TypeInfo};
+use fb_index::HashKey;
 use std::alloc::{AllocError, Global};
 use std::marker::Model;
 
 /// A schema: its types by number, the root's type, and the identifier of its files.
 ///
-/// A look-up by a name or a number takes as many steps as the number of names has digits in base 2, at
-/// most, and no memory. Each name is held once.
+/// A look-up by a name takes a few steps, however many names there are. One by a number takes as many as
+/// the number of values has digits in base 2, at most. Neither takes memory. Each name is held once.
 #[derive(Drop)]
 pub struct Schema {
     types: Vec<TypeInfo>,
     root: TypeId,
     identifier: Option<[u8; 4]>,
+    key: HashKey,
     full_names: NameIndex,
     inner_names: Vec<NameIndex>,
     inner_numbers: Vec<NumberIndex>,
@@ -54,13 +58,15 @@ impl Schema {
         requires { IsDeclared (schema_of types.items root identifier) }
         ensures { IfOk result (λ schema. schema ≡ schema_of types.items root identifier) }
     {
-        let full_names = NameIndex::of(alloc, types.as_slice())?;
-        let inner_names = inner_names(alloc, types.as_slice())?;
+        let key = key_of_types(types.as_slice());
+        let full_names = NameIndex::of(alloc, key, types.as_slice())?;
+        let inner_names = inner_names(alloc, key, types.as_slice())?;
         let inner_numbers = inner_numbers(alloc, types.as_slice())?;
         Ok(Schema {
             types,
             root,
             identifier,
+            key,
             full_names,
             inner_names,
             inner_numbers,
@@ -87,6 +93,13 @@ impl Schema {
         ensures { result ≡ self.now.identifier }
     {
         self.identifier
+    }
+
+    /// The key of the digests of the schema's names, which is made of all of them.
+    pub fn key(&self) -> HashKey
+        ensures { result ≡ key_of_schema self.now }
+    {
+        self.key
     }
 
     /// The type that has a full name.

@@ -9,7 +9,7 @@ use crate::kinds::{Base, Shape, TypeId};
 ///
 /// `slot` is the field's place in its table's vtable, or its number in a struct. `default` is 0 where
 /// none can be written, and without effect where the field is `optional` (`= null`).
-#[derive(Debug, Drop)]
+#[derive(Drop)]
 pub struct FieldInfo {
     pub name: String,
     pub shape: Shape,
@@ -22,7 +22,7 @@ pub struct FieldInfo {
 
 /// A table's slots in order; a struct's fields in order and its `force_align`; an enum's underlying
 /// type, its `bit_flags` mark and its values; a union's members by code, from 1 on.
-#[derive(Debug, Drop)]
+#[derive(Drop)]
 pub enum Body {
     Table(Vec<FieldInfo>),
     Struct(Vec<FieldInfo>, Option<u16>),
@@ -78,7 +78,7 @@ impl Body {
 }
 
 /// A declared type. `name` is its full name, with its namespace.
-#[derive(Debug, Drop)]
+#[derive(Drop)]
 pub struct TypeInfo {
     pub name: String,
     pub body: Body,

@@ -6,14 +6,16 @@ use Rattle.std.proofs.lemmas.Bool.{cases_lt}
 use Rattle.std.proofs.lemmas.Option.{get_or_from_slice_get, slice_get-get_or}
 use Rattle.fb_scopes.specs.Words.{Name, Path, named}
 use Rattle.fb_scopes.specs.declared.path_tree.PathTree.{PathTree}
-use Rattle.fb_scopes.specs.PathTree.{paths, IsTree, child_of}
+use Rattle.fb_scopes.specs.PathTree.{links_of, paths, IsTree, child_of}
+use Rattle.fb_scopes.proofs.PathsGrown.{linked}
 
 -- each beginning of a path in a tree is in it
 pub beginning : (tree : PathTree) → IsTree tree → (p q : Path) (n : ℕ) → slice_get (paths tree) n ≡ Some (p ++ q) → (m : ℕ) × (slice_get (paths tree) m ≡ Some p)
 beginning tree is p [] n at = (n, at ∙ ap (λ x. Some x) (append-nil p))
 beginning tree is p (w ∷ q) n at =
     let longer = beginning tree is (p ++ w ∷ []) q n (at ∙ ap (λ x. Some x) (sym (append_assoc p (w ∷ []) q))) in
-    is.closed longer.0 p w longer.1
+    let link = linked (links_of tree) is longer.0 p w longer.1 in
+    (link.before, link.path)
 
 -- the last word of the path, moved to the name
 pub same_moved : (ps ks : List Path) (path name outer longer : ℕ) (w : Name) → slice_get ps path ≡ Some (child_of ps outer w) → slice_get ks longer ≡ Some (child_of ks name w)

@@ -4,30 +4,26 @@ ghost use Rattle.std.specs.Prelude.{IfSome, IfNone, IfOk, OnOk, Some};
 ghost use Rattle.fb_scopes.specs.Words.{words};
 ghost use Rattle.fb_scopes.specs.PathTree.{paths, child_of, IsTree, KeepsPaths};
 
+use fb_index::HashKey;
+use indexmap::IndexSet;
 use std::alloc::{AllocError, Global};
-use std::collections::BTreeMap;
 
 /// Paths of words, each with a number; the empty path's is 0, and that of a path without its last
 /// word is the smaller one.
-///
-/// No words make it slow, whoever chose them: it doesn't hash.
 #[derive(Drop)]
 pub struct PathTree<'t> {
-    links: Vec<(usize, &'t str)>,
-    children: BTreeMap<(usize, &'t str), usize>,
+    /// Of each path but the empty one the number of the path without its last word, and that word.
+    links: IndexSet<(usize, &'t str), HashKey>,
 }
 
 impl<'t> PathTree<'t> {
-    /// The empty path alone.
-    #[tactic(auto, using(crate::proofs::PathsGrown::tree_empty, crate::proofs::PathsGrown::paths_empty))]
-    pub fn new(alloc: Global) -> PathTree<'t>
+    /// The empty path alone. The key is that of the text whose words are put into paths.
+    pub fn new(alloc: Global, key: HashKey) -> PathTree<'t>
         ensures tree { IsTree result }
         ensures empty { paths result ≡ [] ∷ [] }
     {
-        PathTree {
-            links: Vec::new(alloc),
-            children: BTreeMap::new(alloc),
-        }
+        let links = IndexSet::with_hasher(alloc, key);
+        PathTree { links }
     }
 
     /// How many paths have numbers.
@@ -47,7 +43,9 @@ impl<'t> PathTree<'t> {
         ensures missing { IfNone result
             ((n : ℕ) → slice_get (paths self.now) n ≢ Some (child_of (paths self.now) path word.now)) }
     {
-        self.children.get(&(path, word)).copied()
+        let index = self.links.get_index_of(&(path, word))?;
+        prove!(index < self.links.len());
+        Some(index + 1)
     }
 
     /// The number of the path without its last word, and that word; the empty path has none.
@@ -59,7 +57,7 @@ impl<'t> PathTree<'t> {
             (λ l. slice_get (paths self.now) path ≡ Some (child_of (paths self.now) l.0 l.1.now)) }
         ensures empty { IfNone result (path ≡ 0) }
     {
-        Some(self.links[path.checked_sub(1)?])
+        Some(self.links.as_slice()[path.checked_sub(1)?])
     }
 
     /// The number of a path with a word behind it, which gets the next one if it has none. The only
@@ -72,13 +70,9 @@ impl<'t> PathTree<'t> {
         ensures child { IfOk result
             (λ n. slice_get (paths self.new) n ≡ Some (child_of (paths self.old) path word.now)) }
     {
-        if let Some(number) = self.child(path, word) {
-            return Ok(number);
-        }
-        self.links.push((path, word))?;
-        let number = self.links.len();
-        self.children.insert((path, word), number)?;
-        Ok(number)
+        let (index, _) = self.links.insert_full((path, word))?;
+        prove!(index < self.links.len());
+        Ok(index + 1)
     }
 
     /// The number of the path that a name's words make behind this one, each of which gets a number

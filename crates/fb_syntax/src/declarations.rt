@@ -3,12 +3,13 @@ ghost use Rattle.std.specs.Prelude.{◌≡◌, ◌<ℤ◌, pos, negsuc, IfOk};
 ghost use Rattle.fb_syntax.specs.Located.{joined};
 
 use crate::attributes::Attribute;
+use fb_index::HashKey;
 use std::alloc::{AllocError, Global};
 use std::borrow::CowStr;
 use std::marker::Model;
 
 /// A word of a schema text, or what is between the quotes of a quoted text, and its token's offset.
-#[derive(Debug, Drop)]
+#[derive(Drop)]
 pub struct Text<'t> {
     pub text: &'t str,
     pub at: u64,
@@ -23,7 +24,7 @@ impl<'t> Model for Text<'t> {
 }
 
 /// A name of words with dots between them, and the offset of its first word.
-#[derive(Debug, Drop)]
+#[derive(Drop)]
 pub struct DottedName<'t> {
     pub(crate) text: CowStr<'t>,
     pub(crate) at: u64,
@@ -69,7 +70,7 @@ impl<'t> DottedName<'t> {
 }
 
 /// An integer constant: its value, and the offset of its token.
-#[derive(Clone, Copy, Debug, PartialEq, Eq)]
+#[derive(Clone, Copy, PartialEq, Eq)]
 pub struct Number {
     pub(crate) value: i128,
     pub(crate) at: u64,
@@ -106,7 +107,7 @@ impl Number {
 }
 
 /// What stands behind an attribute's colon.
-#[derive(Debug, Drop)]
+#[derive(Drop)]
 pub enum AttributeValue<'t> {
     Integer(Number),
     Word(Text<'t>),
@@ -114,7 +115,7 @@ pub enum AttributeValue<'t> {
 }
 
 /// The type of a field.
-#[derive(Debug, Drop)]
+#[derive(Drop)]
 pub enum FieldType<'t> {
     /// A type's name.
     One(DottedName<'t>),
@@ -123,14 +124,14 @@ pub enum FieldType<'t> {
 }
 
 /// What stands behind a field's `=`.
-#[derive(Debug, Drop)]
+#[derive(Drop)]
 pub enum DefaultValue<'t> {
     Integer(Number),
     Name(DottedName<'t>),
 }
 
 /// A field of a table or struct.
-#[derive(Debug, Drop)]
+#[derive(Drop)]
 pub struct Field<'t> {
     pub name: Text<'t>,
     pub kind: FieldType<'t>,
@@ -152,7 +153,7 @@ impl<'t> Model for Field<'t> {
 }
 
 /// A table or a struct.
-#[derive(Debug, Drop)]
+#[derive(Drop)]
 pub struct TableDecl<'t> {
     pub name: Text<'t>,
     pub attributes: Vec<Attribute<'t>>,
@@ -172,14 +173,14 @@ impl<'t> Model for TableDecl<'t> {
 }
 
 /// A value of an enum: its name, and the integer behind its `=`.
-#[derive(Debug, Drop)]
+#[derive(Drop)]
 pub struct EnumValue<'t> {
     pub name: Text<'t>,
     pub number: Option<Number>,
 }
 
 /// An enum, with the name of its underlying type.
-#[derive(Debug, Drop)]
+#[derive(Drop)]
 pub struct EnumDecl<'t> {
     pub name: Text<'t>,
     pub underlying: DottedName<'t>,
@@ -201,14 +202,14 @@ impl<'t> Model for EnumDecl<'t> {
 }
 
 /// A member of a union: the name of its table, and the word before its colon.
-#[derive(Debug, Drop)]
+#[derive(Drop)]
 pub struct UnionMember<'t> {
     pub alias: Option<Text<'t>>,
     pub table: DottedName<'t>,
 }
 
 /// A union.
-#[derive(Debug, Drop)]
+#[derive(Drop)]
 pub struct UnionDecl<'t> {
     pub name: Text<'t>,
     pub attributes: Vec<Attribute<'t>>,
@@ -228,7 +229,7 @@ impl<'t> Model for UnionDecl<'t> {
 }
 
 /// A declaration of a type.
-#[derive(Debug, Drop)]
+#[derive(Drop)]
 pub enum TypeDecl<'t> {
     Table(TableDecl<'t>),
     Struct(TableDecl<'t>),
@@ -237,7 +238,7 @@ pub enum TypeDecl<'t> {
 }
 
 /// What a schema text says of files and of their roots.
-#[derive(Debug, Drop)]
+#[derive(Drop)]
 pub enum Directive<'t> {
     /// The name of the root's type.
     RootType(DottedName<'t>),
@@ -248,7 +249,7 @@ pub enum Directive<'t> {
 }
 
 /// A declaration of a schema text.
-#[derive(Debug, Drop)]
+#[derive(Drop)]
 pub enum Declaration<'t> {
     /// The namespace from here on, or none.
     Namespace(Option<DottedName<'t>>),
@@ -259,10 +260,11 @@ pub enum Declaration<'t> {
 }
 
 /// What a schema text declares, in its order.
-#[derive(Debug, Drop)]
+#[derive(Drop)]
 pub struct Decls<'t> {
     pub(crate) declarations: Vec<Declaration<'t>>,
     pub(crate) text_len: u64,
+    pub(crate) key: HashKey,
 }
 
 impl<'t> Model for Decls<'t> {
@@ -289,5 +291,10 @@ impl<'t> Decls<'t> {
         ensures { result ≡ self.now.text_len }
     {
         self.text_len
+    }
+
+    /// The key of the text, for a hash of names in it.
+    pub fn key(&self) -> HashKey {
+        self.key
     }
 }

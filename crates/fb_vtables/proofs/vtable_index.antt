@@ -1,4 +1,2 @@
 mod OneVtableStandsAtAPlace
 mod FoundVtableIsKnown
-mod ReachedVtablesStayReached
-mod ChainsGoOn

@@ -1,4 +1,2 @@
 pub mod Vtables
-pub mod Digests
-pub mod Chains
 pub mod IsIndex

@@ -1,7 +1,6 @@
 //! Finds the vtable of a buffer that has some bytes.
 #![tactic(auto)]
 
-mod data;
 mod vtable_index;
 
 pub use vtable_index::VtableIndex;

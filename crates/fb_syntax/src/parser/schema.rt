@@ -16,6 +16,7 @@ use crate::declarations::{Declaration, Decls, DottedName, Text, TypeDecl};
 use crate::faults::SyntaxFault;
 use crate::tokens::Token;
 use crate::tokens::TokenKind::{Quoted, Word};
+use fb_index::HashKey;
 use std::alloc::Global;
 
 /// What a declaration's first word says that it is.
@@ -137,6 +138,7 @@ pub(crate) fn declarations_of<'t>(
         Ok(declarations) => Ok(Decls {
             declarations,
             text_len: text.len() as u64,
+            key: HashKey::of(text.as_bytes()),
         }),
         Err(stop) => Err(stop.at(offset_of(text, tokens, parser.tokens.len()))),
     }

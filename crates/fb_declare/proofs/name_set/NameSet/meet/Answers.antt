@@ -1,7 +1,5 @@
-use Rattle.std.proofs.Common.{◌≡◌, ◌∙◌, ◌||◌, rules, not, ap, sym, cond, true, is_eq, nat_cmp}
-use Rattle.std.specs.Cmp.Lexicographic.{slice_cmp}
+use Rattle.std.proofs.Common.{◌≡◌, ◌∙◌, ◌||◌, rules, not, ap, sym, cond, true}
 use Rattle.std.proofs.lemmas.Cmp.{nat_list_eq_equiv}
-use Rattle.std.proofs.lemmas.Map.Text.{is_eq-slice_cmp}
 use Rattle.std.specs.Str.{bytes_eq}
 use Rattle.fb_declare.specs.NameSet.{is_met}
 use Rattle.fb_declare.proofs.Least.{list_any-snoc, one_more}
@@ -14,7 +12,7 @@ returns c = λ before met.
       again ∙ met name,
       λ n. let old = is_met c.args.self.now n in
           c.in_ok-is_new.ensures.updates.0 (record { ref_ptr = (0, 0); now = n })
-          ∙ ap (λ b. cond b true old) (ap (λ m. is_eq (slice_cmp nat_cmp m n)) c.as_bytes.ensures.value ∙ is_eq-slice_cmp name n ∙ nat_list_eq_equiv.symm name n)
+          ∙ ap (λ b. cond b true old) (nat_list_eq_equiv.symm name n)
           ∙ one_more (bytes_eq n name) old ∙ ap (λ b. b || bytes_eq n name) (met n)
           ∙ sym (list_any-snoc (bytes_eq n) before name),
     )

@@ -5,6 +5,7 @@ use Rattle.fb_schema.specs.declared.types.TypeInfo.{TypeInfo}
 use Rattle.fb_schema.specs.Schema.{Name, DeclaredType}
 use Rattle.fb_schema.specs.Seen.{type_seen}
 use Rattle.fb_schema.specs.Indexed.{inner_names, inner_numbers, IndexesNames, IndexesNumbers}
+use Rattle.fb_schema.specs.Keys.{key_of_types}
 use Rattle.fb_schema.proofs.schema.Schema.new.Goals as goal
 
 full_names : (types xs : List TypeInfo) → xs ≡ types → map (λ t. string_bytes t.name) xs ≡ map (λ t. t.name) (map type_seen types)
@@ -18,7 +19,8 @@ pub invariant_of-result : goal.invariant_of-result
 invariant_of-result c =
     record {
       declared = c.requires;
-      full = subst (λ (names : List Name). IndexesNames c.in_ok-full_names.full_names names) (full_names c.args.types.items c.as_slice.result.now c.as_slice.ensures.value) c.in_ok-full_names.ensures;
-      names = lent_indexes (λ index t. IndexesNames index (inner_names t.body)) c.in_ok-inner_names.inner_names.items c.args.types.items c.as_slice-2.result.now c.as_slice-2.ensures.value c.in_ok-inner_names.ensures;
-      numbers = lent_indexes (λ index t. IndexesNumbers index (inner_numbers t.body)) c.in_ok-inner_numbers.inner_numbers.items c.args.types.items c.as_slice-3.result.now c.as_slice-3.ensures.value c.in_ok-inner_numbers.ensures;
+      keyed = c.key_of_types-key.ensures ∙ ap (λ (l : List TypeInfo). key_of_types (map type_seen l)) c.as_slice.ensures.value;
+      full = subst (λ (names : List Name). IndexesNames c.in_ok-full_names.full_names names) (full_names c.args.types.items c.as_slice-2.result.now c.as_slice-2.ensures.value) c.in_ok-full_names.ensures;
+      names = lent_indexes (λ index t. IndexesNames index (inner_names t.body)) c.in_ok-inner_names.inner_names.items c.args.types.items c.as_slice-3.result.now c.as_slice-3.ensures.value c.in_ok-inner_names.ensures;
+      numbers = lent_indexes (λ index t. IndexesNumbers index (inner_numbers t.body)) c.in_ok-inner_numbers.inner_numbers.items c.args.types.items c.as_slice-4.result.now c.as_slice-4.ensures.value c.in_ok-inner_numbers.ensures;
     }

@@ -1,0 +1,3 @@
+mod Positions
+mod FreeKeys
+mod Keyed

@@ -1,0 +1,31 @@
+-- Byte strings by their places, of which an index keeps a number each.
+use Rattle.std.specs.Prelude.{ℕ, ◌≡◌, ◌≤◌, ◌<◌, ◌+◌, ◌-◌, ◌%◌, ◌^◌, true, min, List, length, nat_eq, Some, position}
+use Rattle.std.specs.Prelude.{slice_get}
+use Rattle.std.specs.List.{list_any}
+use Rattle.indexmap.specs.IndexSet.{spare, hasher_of}
+use Rattle.fb_index.specs.HashKeys.{digest_by}
+use Rattle.fb_index.specs.declared.digest_index.DigestIndex.TheInside.{Inside}
+
+-- what contracts see of an index: its byte strings by their places, and how many more it has memory for
+pub record Digested : Type 0 where
+  pub strings : List (List ℕ)
+  pub spare : ℕ
+
+-- the number of 32 bits that is so far behind a digest; behind the last of them comes 0
+abbrev pub key_behind : ℕ → ℕ → ℕ
+key_behind digest far = (digest + far) % 2 ^ 32
+
+-- The key of a byte string is the first number from its digest on that no byte string before it has.
+pub record IsKeyed (keys : List ℕ) (digest place : ℕ) : Type 0 where
+  pub far : ℕ
+  pub within : far ≤ place
+  pub at : position (nat_eq (key_behind digest far)) keys ≡ Some place
+  pub taken : (n : ℕ) → n < far → list_any (nat_eq (key_behind digest n)) keys ≡ true
+
+abbrev pub digested_seen : Inside → Digested
+digested_seen x = record { strings = x.seen.strings; spare = min (spare x.keys) (2 ^ 32 - 1 - length x.keys.keys) }
+
+pub record IsDigested (x : Inside) : Type 0 where
+  pub each : length x.seen.strings ≡ length x.keys.keys
+  pub keyed : (place : ℕ) (bytes : List ℕ) → slice_get x.seen.strings place ≡ Some bytes
+      → IsKeyed x.keys.keys (digest_by (hasher_of x.keys) bytes) place

@@ -1,0 +1,2 @@
+pub mod HashKeys
+pub mod DigestIndexes
