@@ -26,21 +26,23 @@ fn offset_of(text: &[u8], line: usize, column: usize) -> usize {
 
 /// What a reader of JSON mostly wants to know of a place that isn't JSON.
 fn sentence_at(rest: &[u8], before: &[u8]) -> &'static str {
-    match (before.trim_ascii_end(), rest) {
-        (_, []) => "the text ends here, in the middle of a value",
-        ([.., b','], [b'}' | b']', ..]) => "a comma may not be before a closing bracket",
-        (_, [b'/', b'/' | b'*', ..]) => "JSON has no comments",
-        (_, [b'\'', ..]) => "a text is written in double quotes",
-        ([.., b'{' | b','], [b'a'..=b'z' | b'A'..=b'Z' | b'_', ..]) => {
+    let Some(byte) = rest.first().copied() else {
+        return "the text ends here, in the middle of a value";
+    };
+    let last = before.trim_ascii_end().last().copied();
+    match byte {
+        b'}' | b']' if last == Some(b',') => "a comma may not be before a closing bracket",
+        b'/' if matches!(rest.get(1), Some(b'/' | b'*')) => "JSON has no comments",
+        b'\'' => "a text is written in double quotes",
+        b'a'..=b'z' | b'A'..=b'Z' | b'_' if matches!(last, Some(b'{' | b',')) => {
             "a name is written in double quotes, and so is a text"
         }
-        (_, [b'N' | b'I', ..]) => "JSON has no NaN and no Infinity",
-        (_, [b'a'..=b'z' | b'A'..=b'Z' | b'_', ..]) => {
+        b'N' | b'I' => "JSON has no NaN and no Infinity",
+        b'a'..=b'z' | b'A'..=b'Z' | b'_' => {
             "a word may only be true, false or null; a text is written in double quotes"
         }
-        (_, [b'0'..=b'9' | b'+' | b'-' | b'.', ..]) => "this isn't a number as JSON writes it",
-        (_, [0..=31, ..]) =>
-            "a control character isn't allowed here; in a text it is written as an escape",
+        b'0'..=b'9' | b'+' | b'-' | b'.' => "this isn't a number as JSON writes it",
+        0..=31 => "a control character isn't allowed here; in a text it is written as an escape",
         _ => "this isn't allowed here",
     }
 }

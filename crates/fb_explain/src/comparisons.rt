@@ -13,45 +13,46 @@ pub(crate) enum Asked {
     Warnings,
 }
 
-/// Where a text declares a schema.
-fn places_in(page: &mut Page, source: Source<'_>, layout: &Layout) -> Option<Places> {
-    let decls = declarations_of(page, source.bytes)?;
-    let places = Places::of(page.alloc(), source.bytes, &decls, layout.schema());
-    page.keep(places)
+/// A schema text's layout, and where it declares what.
+#[derive(Drop)]
+struct Known {
+    layout: Layout,
+    places: Places,
 }
 
-fn push_asked(page: &mut Page, sides: &Sides<'_>, asked: Asked) {
-    match asked {
-        Asked::Breaches => sides.push_breaches(page),
-        Asked::Warnings => sides.push_warnings(page),
+impl Known {
+    /// What a text declares; nothing where it is refused.
+    fn of(page: &mut Page, source: Source<'_>) -> Option<Known> {
+        let layout = layout_of(page, source.bytes)?;
+        let decls = declarations_of(page, source.bytes)?;
+        let places = Places::of(page.alloc(), source.bytes, &decls, layout.schema());
+        let places = page.keep(places)?;
+        Some(Known { layout, places })
+    }
+
+    fn side<'s>(&'s self, path: &'s str) -> Side<'s> {
+        Side {
+            layout: &self.layout,
+            path,
+            places: &self.places,
+        }
     }
 }
 
 /// Adds what is asked of two schema texts; nothing where one is refused.
 pub(crate) fn push_comparison(page: &mut Page, old: Source<'_>, new: Source<'_>, asked: Asked) {
-    let Some(old_layout) = layout_of(page, old.bytes) else {
+    let Some(was) = Known::of(page, old) else {
         return;
     };
-    let Some(new_layout) = layout_of(page, new.bytes) else {
-        return;
-    };
-    let Some(old_places) = places_in(page, old, &old_layout) else {
-        return;
-    };
-    let Some(new_places) = places_in(page, new, &new_layout) else {
+    let Some(is) = Known::of(page, new) else {
         return;
     };
     let sides = Sides {
-        old: Side {
-            layout: &old_layout,
-            path: old.path,
-            places: &old_places,
-        },
-        new: Side {
-            layout: &new_layout,
-            path: new.path,
-            places: &new_places,
-        },
+        old: was.side(old.path),
+        new: is.side(new.path),
     };
-    push_asked(page, &sides, asked);
+    match asked {
+        Asked::Breaches => sides.push_breaches(page),
+        Asked::Warnings => sides.push_warnings(page),
+    }
 }

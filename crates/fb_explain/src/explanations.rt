@@ -9,22 +9,23 @@ use crate::comparisons::{Asked, push_comparison};
 use crate::json_faults::push_json_fault;
 use crate::memory::{layout_of, memory_use};
 use crate::union_codes::push_unnamed_member;
+use fb_build::BuildFault;
+use fb_faults::ToolFault;
 use fb_pages::{Page, Source};
 use fb_schema_faults::push_schema_fault;
 use fb_text::{TextFault, WriteFault};
 use fb_value::Limits;
-use flatc_tool::{BuildFault, ToolFault};
 use std::alloc::{AllocError, Global};
 
 /// A file that couldn't be read or written: its path, and the reason as the system says it.
-#[derive(Clone, Copy, Debug)]
+#[derive(Clone, Copy)]
 pub struct FileFailure<'a> {
     pub path: &'a str,
     pub reason: &'a str,
 }
 
 /// Why what was read of an input isn't there to be shown.
-#[derive(Clone, Copy, Debug)]
+#[derive(Clone, Copy)]
 pub enum Lost {
     /// It came through a pipe or a device.
     Streamed,
@@ -33,7 +34,7 @@ pub enum Lost {
 }
 
 /// What a job was done with, as far as it had been read.
-#[derive(Clone, Copy, Debug)]
+#[derive(Clone, Copy)]
 pub struct Sources<'a> {
     /// The schema text; of `conform` the old one.
     pub schema: Source<'a>,

@@ -1,10 +1,14 @@
 //! Where memory ran out.
-use fb_layout::Layout;
+use fb_build::BuildFault;
+use fb_declare::SchemaFault;
+use fb_faults::ToolFault;
+use fb_json::JsonFault;
+use fb_layout::{Layout, LayoutFault};
 use fb_pages::Page;
-use flatc_tool::{
-    BuildFault, JsonFault, LayoutFault, ReadFault, SchemaFault, SchemaTextFault, SyntaxFault,
-    TextFault, ToolFault, schema_of,
-};
+use fb_schema_text::{SchemaTextFault, schema_of};
+use fb_syntax::SyntaxFault;
+use fb_text::TextFault;
+use fb_value::ReadFault;
 use serde_json::Value;
 
 /// What a schema text's memory was for, where it ran out.

@@ -9,14 +9,14 @@ ghost use Rattle.fb_layout.specs.Known.{structs_seen, struct_extent, extent_of, 
 use fb_schema::{Base, Kind, Schema, Shape, TypeId};
 
 /// The size and alignment of what is stored, in bytes.
-#[derive(Clone, Copy, Debug, Drop)]
+#[derive(Clone, Copy, Drop)]
 pub struct Extent {
     pub size: u16,
     pub align: u16,
 }
 
 /// What a struct takes: its size and alignment in bytes, and where its fields begin.
-#[derive(Debug, Drop)]
+#[derive(Drop)]
 pub struct StructSizes {
     pub size: u16,
     pub align: u16,

@@ -12,7 +12,7 @@ use fb_schema::{Body, FieldInfo, Schema, TypeId};
 use std::alloc::Global;
 
 /// A table's greatest inline size and its alignment, in bytes.
-#[derive(Clone, Copy, Debug, Drop)]
+#[derive(Clone, Copy, Drop)]
 pub struct TableSizes {
     pub widest: u16,
     pub align: u16,

@@ -12,8 +12,8 @@ use fb_declare::SchemaFault;
 use fb_layout::LayoutFault;
 use fb_pages::{Page, Position, Source, push_excerpt, push_nearest, push_place};
 use fb_schema::Base;
+use fb_schema_text::SchemaTextFault;
 use fb_syntax::{Decls, Field, FieldType, SyntaxFault};
-use flatc_tool::SchemaTextFault;
 use std::str;
 
 /// A token as a text; empty where it isn't UTF-8.

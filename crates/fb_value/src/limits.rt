@@ -5,7 +5,7 @@ ghost use Rattle.std.specs.Option.{SomeIff};
 use std::marker::Model;
 
 /// The maximum nesting depth of tables, and the maximum number of cells.
-#[derive(Clone, Copy, Debug)]
+#[derive(Clone, Copy)]
 pub struct Limits {
     depth: u8,
     cells: u32,

@@ -2,11 +2,11 @@
 use Rattle.std.specs.Prelude.{◌≡◌, ◌<◌, ℕ, List, length, take, Option, Some, None, Bool, true, false}
 use Rattle.fb_conform.specs.declared.breaches.Breach as breaches
 use Rattle.fb_value.specs.declared.faults.ReadFault.{ReadFault}
-use Rattle.flatc_tool.specs.FaultTable.{name_of, number_of, offset_of}
-use Rattle.flatc_tool.specs.FaultPlaces.{owner_of, slot_of}
-use Rattle.flatc_tool.specs.declared.faults.ToolFault.{ToolFault}
-use Rattle.flatc_tool.specs.declared.faults.ToolFault.TheVariants.{Schema, Read, Breach}
-use Rattle.flatc_tool.specs.declared.schema_layouts.SchemaTextFault.{SchemaTextFault}
+use Rattle.fb_faults.specs.FaultTable.{name_of, number_of, offset_of}
+use Rattle.fb_faults.specs.FaultPlaces.{owner_of, slot_of}
+use Rattle.fb_faults.specs.declared.faults.ToolFault.{ToolFault}
+use Rattle.fb_faults.specs.declared.faults.ToolFault.TheVariants.{Schema, Read, Breach}
+use Rattle.fb_schema_text.specs.declared.schema_layouts.SchemaTextFault.{SchemaTextFault}
 use Rattle.flatc_c.specs.declared.faults.Fault.{Fault}
 
 -- a name in a field of fixed size

@@ -1,8 +1,8 @@
 //! The calls over faults: name, sentence and explanation.
 ghost use Rattle.std.specs.Prelude.{◌≡◌, ◌≢◌, ◌⊎◌, None, IsTrue, chars};
 ghost use Rattle.fb_pages.specs.Lines.{IsPage};
-ghost use Rattle.flatc_tool.specs.FaultTable.{name_of, number_of};
-ghost use Rattle.flatc_tool.specs.declared.faults.ToolFault.{ToolFault};
+ghost use Rattle.fb_faults.specs.FaultTable.{name_of, number_of};
+ghost use Rattle.fb_faults.specs.declared.faults.ToolFault.{ToolFault};
 ghost use Rattle.flatc_c.specs.Handles.{HasBytes};
 ghost use Rattle.flatc_c.specs.Faults.{IsTold, StartsWith};
 ghost use Rattle.flatc_c.specs.Settings.{AreSet};

@@ -1,7 +1,7 @@
 //! Faults as C reads them.
 ghost use Rattle.std.specs.Prelude.{◌≡◌, ◌≤◌, length, take, List, ℕ, IsTrue};
-ghost use Rattle.flatc_tool.specs.FaultTable.{name_of, number_of, offset_of};
-ghost use Rattle.flatc_tool.specs.FaultPlaces.{owner_of, slot_of};
+ghost use Rattle.fb_faults.specs.FaultTable.{name_of, number_of, offset_of};
+ghost use Rattle.fb_faults.specs.FaultPlaces.{owner_of, slot_of};
 ghost use Rattle.flatc_c.specs.Faults.{IsTold, StartsWith, place};
 
 use flatc_tool::ToolFault;

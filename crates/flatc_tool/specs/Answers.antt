@@ -11,7 +11,7 @@ use Rattle.fb_read.specs.declared.view.View.{View}
 use Rattle.fb_read.specs.Shows.{Shows}
 use Rattle.flatc_tool.specs.Checks.{IsSound, CheckRefused}
 use Rattle.flatc_tool.specs.Jobs.{IsText, MayBeText, TextRefused, IsNotMemory}
-use Rattle.flatc_tool.specs.declared.faults.ToolFault.{ToolFault}
+use Rattle.fb_faults.specs.declared.faults.ToolFault.{ToolFault}
 
 -- the clauses `text`, `refused` and `exact` of `to_json`
 abbrev pub TextAnswer : List ℕ → Bytes → Bounds → Bool → Bool → Result (List ℕ) ToolFault → Type 0

@@ -5,9 +5,9 @@ use Rattle.fb_value.specs.Bounds.{Bounds}
 use Rattle.fb_value.specs.Datum.{Datum}
 use Rattle.fb_value.specs.Num.{Bytes}
 use Rattle.fb_value.specs.Holds.{Holds, Refuses}
-use Rattle.flatc_tool.specs.SchemaTexts.{IsAccepted, IsRefused}
-use Rattle.flatc_tool.specs.declared.faults.ToolFault.{ToolFault}
-use Rattle.flatc_tool.specs.declared.faults.ToolFault.TheVariants.{Schema, Read}
+use Rattle.fb_schema_text.specs.SchemaTexts.{IsAccepted, IsRefused}
+use Rattle.fb_faults.specs.declared.faults.ToolFault.{ToolFault}
+use Rattle.fb_faults.specs.declared.faults.ToolFault.TheVariants.{Schema, Read}
 
 -- The schema is accepted and, where there are bytes, a value lies in them.
 abbrev pub IsSound : List ℕ → Option Bytes → Bounds → Bool → Type 0

@@ -4,9 +4,9 @@ use Rattle.std.specs.Prelude.{ℕ, List}
 use Rattle.fb_layout.specs.Laid.{LaidSchema}
 use Rattle.fb_conform.specs.Conforms.{Conforms}
 use Rattle.fb_conform.specs.Order.{IsFirst}
-use Rattle.flatc_tool.specs.SchemaTexts.{IsAccepted, IsRefused}
-use Rattle.flatc_tool.specs.declared.faults.ToolFault.{ToolFault}
-use Rattle.flatc_tool.specs.declared.faults.ToolFault.TheVariants.{Breach, Older, Newer}
+use Rattle.fb_schema_text.specs.SchemaTexts.{IsAccepted, IsRefused}
+use Rattle.fb_faults.specs.declared.faults.ToolFault.{ToolFault}
+use Rattle.fb_faults.specs.declared.faults.ToolFault.TheVariants.{Breach, Older, Newer}
 
 -- Both schemas are accepted, and the new one conforms to the old one.
 abbrev pub TextsConform : List ℕ → List ℕ → Type 0

@@ -1,9 +1,9 @@
 -- The line that tells a fault: its number and name, and of its place what it has.
 use Rattle.std.specs.Prelude.{ℕ, ◌++◌, List, [], Option, None, Some, codes, decimal}
-use Rattle.flatc_tool.specs.FaultTable.{number_of, name_of, offset_of}
-use Rattle.flatc_tool.specs.FaultPlaces.{owner_of, slot_of, written_of}
-use Rattle.flatc_tool.specs.declared.faults.ToolFault.{ToolFault}
-use Rattle.flatc_tool.specs.declared.faults.ToolFault.TheVariants.{Older, Newer}
+use Rattle.fb_faults.specs.FaultTable.{number_of, name_of, offset_of}
+use Rattle.fb_faults.specs.FaultPlaces.{owner_of, slot_of, written_of}
+use Rattle.fb_faults.specs.declared.faults.ToolFault.{ToolFault}
+use Rattle.fb_faults.specs.declared.faults.ToolFault.TheVariants.{Older, Newer}
 
 abbrev pub noted : List ℕ → Option ℕ → List ℕ
 noted word None = []

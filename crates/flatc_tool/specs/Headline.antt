@@ -16,7 +16,7 @@ use Rattle.fb_text.specs.Texts.{json_text}
 use Rattle.fb_build.specs.Covered.{Covered}
 use Rattle.fb_read.specs.declared.view.View.{View}
 use Rattle.fb_conform.specs.Carry.{carry}
-use Rattle.flatc_tool.specs.SchemaTexts.{IsAccepted}
+use Rattle.fb_schema_text.specs.SchemaTexts.{IsAccepted}
 use Rattle.flatc_tool.specs.JsonText.{IsTree}
 use Rattle.flatc_tool.specs.Jobs.{JsonMeans, IsBinary, BinaryRefused, IsText, TextRefused, IsNotMemory}
 use Rattle.flatc_tool.specs.Checks.{IsSound, CheckRefused}
@@ -24,8 +24,8 @@ use Rattle.flatc_tool.specs.Prints.{IsSent, PrintRefused}
 use Rattle.flatc_tool.specs.Evolution.{TextsConform}
 use Rattle.flatc_tool.specs.Answers.{TextAnswer, CheckAnswer, ViewAnswer, ValueAnswer, IsTextOrMemory, IsOkOrMemory}
 use Rattle.flatc_tool.specs.Answers.{IsViewOf, IsValueOrMemory}
-use Rattle.flatc_tool.specs.declared.faults.ToolFault.{ToolFault}
-use Rattle.flatc_tool.specs.declared.faults.ToolFault.TheVariants.{Json, Read, BadJson}
+use Rattle.fb_faults.specs.declared.faults.ToolFault.{ToolFault}
+use Rattle.fb_faults.specs.declared.faults.ToolFault.TheVariants.{Json, Read, BadJson}
 
 -- Under a schema text the bytes hold the value, and `to_json` returns its text or runs out of memory.
 pub record HoldsAndPrints (schema : List ℕ) (b : Bytes) (most : Bounds) (raw : Bool) (L : LaidSchema) (v : Datum) : Type

@@ -1,8 +1,8 @@
 -- What a reader that remembers its last read is seen as.
 use Rattle.std.specs.Prelude.{Bool}
 use Rattle.flatc_tool.specs.declared.command.heard.Heard.{Heard}
-use Rattle.flatc_tool.specs.declared.faults.ToolFault.{ToolFault}
-use Rattle.flatc_tool.specs.declared.faults.ToolFault.TheVariants.{FileRead, FileTooLong, Memory}
+use Rattle.fb_faults.specs.declared.faults.ToolFault.{ToolFault}
+use Rattle.fb_faults.specs.declared.faults.ToolFault.TheVariants.{FileRead, FileTooLong, Memory}
 
 abbrev pub read_failed : {R : Type 0} → Heard R → Bool
 read_failed h = h.failed

@@ -20,11 +20,11 @@ use Rattle.fb_text.specs.Unnamed.{IsRefused as IsUnnamed}
 use Rattle.fb_build.specs.Covered.{Covered, EndsAligned}
 use Rattle.fb_build.specs.declared.faults.BuildFault.TheVariants as the_build
 use Rattle.fb_encode.specs.Encoded.{TreeRefused}
-use Rattle.flatc_tool.specs.SchemaTexts.{IsRefused, IsWant, OfLayout}
+use Rattle.fb_schema_text.specs.SchemaTexts.{IsRefused, IsWant, OfLayout}
 use Rattle.flatc_tool.specs.JsonText.{IsTree}
-use Rattle.flatc_tool.specs.declared.faults.ToolFault.{ToolFault}
-use Rattle.flatc_tool.specs.declared.faults.ToolFault.TheVariants.{Schema, Json, Build, Read, Text, Older, Newer}
-use Rattle.flatc_tool.specs.declared.faults.ToolFault.TheVariants.{BadJson, Memory}
+use Rattle.fb_faults.specs.declared.faults.ToolFault.{ToolFault}
+use Rattle.fb_faults.specs.declared.faults.ToolFault.TheVariants.{Schema, Json, Build, Read, Text, Older, Newer}
+use Rattle.fb_faults.specs.declared.faults.ToolFault.TheVariants.{BadJson, Memory}
 
 -- ---- JSON to a buffer
 

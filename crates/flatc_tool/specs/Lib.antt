@@ -5,9 +5,6 @@ pub mod Jobs
 pub mod Answers
 pub mod Headline
 pub mod Chains
-pub mod SchemaTexts
-pub mod FaultTable
-pub mod FaultPlaces
 pub mod FaultLines
 pub mod Reports
 pub mod Heard

@@ -12,10 +12,10 @@ use Rattle.fb_json.specs.Meant.{type_place}
 use Rattle.fb_text.specs.Unnamed.{IsRefused as IsUnnamed}
 use Rattle.fb_text.specs.Writes.{counted}
 use Rattle.fb_text.specs.declared.faults.WriteFault.TheVariants.{NoMemberName, WriteFailed}
-use Rattle.flatc_tool.specs.SchemaTexts.{IsRefused, OfLayout}
+use Rattle.fb_schema_text.specs.SchemaTexts.{IsRefused, OfLayout}
 use Rattle.flatc_tool.specs.Jobs.{IsTextOf, IsNotMemory}
-use Rattle.flatc_tool.specs.declared.faults.ToolFault.{ToolFault}
-use Rattle.flatc_tool.specs.declared.faults.ToolFault.TheVariants.{Schema, Read, Text, Write}
+use Rattle.fb_faults.specs.declared.faults.ToolFault.{ToolFault}
+use Rattle.fb_faults.specs.declared.faults.ToolFault.TheVariants.{Schema, Read, Text, Write}
 
 -- All of the text of the bytes under a layout, which is UTF-8, was written behind the bytes of the start.
 abbrev pub IsSentOf : LaidSchema → Bytes → Bounds → Bool → Bool → Option (List ℕ) → Option (List ℕ) → Type 0

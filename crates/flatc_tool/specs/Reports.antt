@@ -3,7 +3,7 @@ use Rattle.std.specs.Prelude.{ℕ, ◌≡◌, ◌≤◌, ◌++◌, ◌⊎◌, Li
 use Rattle.std.specs.Io.KnownBytes.{Appends}
 use Rattle.fb_text.specs.Noted.{IsWrittenUnlessFailed}
 use Rattle.flatc_tool.specs.FaultLines.{line_of}
-use Rattle.flatc_tool.specs.declared.faults.ToolFault.{ToolFault}
+use Rattle.fb_faults.specs.declared.faults.ToolFault.{ToolFault}
 
 -- a line ends with a line feed
 abbrev pub ended : List ℕ → List ℕ

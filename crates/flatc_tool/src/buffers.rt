@@ -7,11 +7,11 @@ ghost use Rattle.flatc_tool.specs.Encodes.{encode_fault};
 ghost use Rattle.flatc_tool.specs.Jobs.{IsBinaryOf, MayBeBinaryOf, BinaryRefusedOf, IsNotMemory};
 ghost use Rattle.flatc_tool.specs.JsonText.{IsTree};
 
-use crate::faults::ToolFault;
 use crate::laws::layer_laws;
 use crate::options::EncodeOptions;
 use fb_build::BuildFault;
 use fb_encode::{EncodeFault, encode_tree};
+use fb_faults::ToolFault;
 use fb_layout::Layout;
 use fb_segments::Segments;
 use serde_json::Value as Json;

@@ -3,10 +3,10 @@ ghost use Rattle.std.specs.Prelude.{OnOk, IfErr, option_map};
 ghost use Rattle.flatc_tool.specs.Checks.{IsSound, CheckRefused};
 ghost use Rattle.flatc_tool.specs.Jobs.{IsNotMemory};
 
-use crate::faults::ToolFault;
 use crate::laws::layer_laws;
-use crate::schema_layouts::schema_of;
+use fb_faults::ToolFault;
 use fb_read::{Entries, verify};
+use fb_schema_text::schema_of;
 use fb_value::Limits;
 use std::alloc::Global;
 

@@ -3,10 +3,10 @@ ghost use Rattle.std.specs.Prelude.{OnOk, IfErr};
 ghost use Rattle.flatc_tool.specs.Evolution.{TextsConform, ConformRefused};
 ghost use Rattle.flatc_tool.specs.Jobs.{IsNotMemory};
 
-use crate::faults::ToolFault;
 use crate::laws::layer_laws;
-use crate::schema_layouts::schema_of;
 use fb_conform::conform;
+use fb_faults::ToolFault;
+use fb_schema_text::schema_of;
 use std::alloc::Global;
 
 /// Whether a new schema text conforms to an old one: new programs then read what old ones wrote, and

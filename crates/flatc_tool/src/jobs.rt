@@ -3,10 +3,10 @@ ghost use Rattle.std.specs.Prelude.{IfOk, IfErr};
 ghost use Rattle.flatc_tool.specs.Jobs.{IsBinary, MayBeBinary, BinaryRefused, IsNotMemory};
 
 use crate::buffers::{encode, encode_segments};
-use crate::faults::ToolFault;
 use crate::laws::layer_laws;
 use crate::options::EncodeOptions;
-use crate::schema_layouts::schema_of;
+use fb_faults::ToolFault;
+use fb_schema_text::schema_of;
 use fb_segments::Segments;
 use fb_value::Limits;
 use std::alloc::Global;

@@ -4,9 +4,9 @@ ghost use Rattle.fb_text.specs.Noted.{write_failed, writer_of};
 ghost use Rattle.flatc_tool.specs.Jobs.{IsTextOf, MayBeTextOf, TextRefusedOf, IsNotMemory};
 ghost use Rattle.flatc_tool.specs.Prints.{IsSentOf, PrintRefusedOf, TellsFailure, IfUnwritten, IsOfInput, text_fault};
 
-use crate::faults::ToolFault;
 use crate::laws::layer_laws;
 use crate::options::DecodeOptions;
+use fb_faults::ToolFault;
 use fb_layout::Layout;
 use fb_read::{Entries, verify};
 use fb_text::{Noted, TextFault, WriteFault, texts_are_utf8, write_text};

@@ -2,10 +2,8 @@
 ghost use Rattle.flatc_tool.specs.LayerLaws.{LayerLaws};
 
 use fb_conform::{back_holds, carried_fits, carried_holds, carries_on, conforms_on};
-use fb_declare::one_schema;
 use fb_json::{all_that_is_meant, meant_is_whole, only_what_is_meant};
-use fb_layout::{no_layout_where_refused, one_layout};
-use fb_syntax::{one_reading, one_spelling};
+use fb_schema_text::schema_laws;
 use fb_value::{fits_where_held, one_least_fault, one_value, value_or_fault};
 
 /// What the layers promise of all texts, values and bytes. It does nothing when it runs.
@@ -13,11 +11,7 @@ use fb_value::{fits_where_held, one_least_fault, one_value, value_or_fault};
 pub(crate) fn layer_laws()
     ensures laws { LayerLaws }
 {
-    one_spelling();
-    one_reading();
-    one_schema();
-    one_layout();
-    no_layout_where_refused();
+    schema_laws();
     one_value();
     value_or_fault();
     one_least_fault();

@@ -16,7 +16,7 @@ fn usual_limits() -> Limits
 
 /// How a JSON text is made a buffer. By default: within the usual limits, and an unknown JSON field
 /// is refused.
-#[derive(Clone, Copy, Debug)]
+#[derive(Clone, Copy)]
 pub struct EncodeOptions {
     /// How deep tables may be nested, and how many cells there may be.
     pub limits: Limits,
@@ -48,7 +48,7 @@ impl Default for EncodeOptions {
 
 /// How a buffer is made a JSON text. By default: within the usual limits, the file identifier is
 /// checked, and scalars with their default values are left out.
-#[derive(Clone, Copy, Debug)]
+#[derive(Clone, Copy)]
 pub struct DecodeOptions {
     /// How deep tables may be nested, and how many cells there may be.
     pub limits: Limits,

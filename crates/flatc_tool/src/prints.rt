@@ -4,11 +4,11 @@ ghost use Rattle.fb_text.specs.Noted.{write_failed, writer_of};
 ghost use Rattle.flatc_tool.specs.Jobs.{IsText, MayBeText, TextRefused, IsNotMemory};
 ghost use Rattle.flatc_tool.specs.Prints.{IsSent, PrintRefused, TellsFailure, IfUnwritten, IsOfInput};
 
-use crate::faults::ToolFault;
 use crate::json_texts::{decode, decode_to};
 use crate::laws::layer_laws;
 use crate::options::DecodeOptions;
-use crate::schema_layouts::schema_of;
+use fb_faults::ToolFault;
+use fb_schema_text::schema_of;
 use fb_text::Noted;
 use fb_value::Limits;
 use std::alloc::Global;

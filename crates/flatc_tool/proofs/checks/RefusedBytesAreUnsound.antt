@@ -5,11 +5,11 @@ use Rattle.fb_value.specs.declared.faults.ReadFault.{ReadFault}
 use Rattle.fb_value.specs.Bounds.{Bounds}
 use Rattle.fb_value.specs.Num.{Bytes}
 use Rattle.fb_value.specs.Holds.{Holds, Refuses}
-use Rattle.flatc_tool.specs.declared.schema_layouts.SchemaTextFault.{SchemaTextFault}
+use Rattle.fb_schema_text.specs.declared.schema_layouts.SchemaTextFault.{SchemaTextFault}
 use Rattle.flatc_tool.specs.LayerLaws.{LayerLaws}
-use Rattle.flatc_tool.specs.SchemaTexts.{IsAccepted, IsRefused, IsWant}
+use Rattle.fb_schema_text.specs.SchemaTexts.{IsAccepted, IsRefused, IsWant}
 use Rattle.flatc_tool.specs.Checks.{IsSound}
-use Rattle.flatc_tool.proofs.schema_layouts.SchemaTextHasOneLayout.{refused_excludes, same_accepted}
+use Rattle.fb_schema_text.proofs.SchemaTextHasOneLayout.{refused_excludes, same_accepted}
 
 -- what is sound has an accepted schema
 accepted_of : (schema : List ℕ) (bytes : Option Bytes) (most : Bounds) (raw : Bool) → IsSound schema bytes most raw
@@ -22,13 +22,13 @@ pub schema_unsound : (laws : LayerLaws) (schema : List ℕ) (bytes : Option Byte
     (f : SchemaTextFault) → IsRefused schema f → ¬ (IsWant f) → ¬ IsSound schema bytes most raw
 schema_unsound laws schema bytes most raw f refused rule sound =
     let accepted = accepted_of schema bytes most raw sound in
-    refused_excludes laws schema f refused rule accepted.0 accepted.1
+    refused_excludes laws.schema schema f refused rule accepted.0 accepted.1
 
 -- bytes with a fault hold no value
 pub bytes_unsound : (laws : LayerLaws) (schema : List ℕ) (b : Bytes) (most : Bounds) (raw : Bool) (L : LaidSchema)
     (f : ReadFault) → IsAccepted schema L → Refuses L most raw b f → ¬ IsSound schema (Some b) most raw
 bytes_unsound laws schema b most raw L f accepted refused sound =
-    let same = same_accepted laws schema sound.0 L sound.1 accepted in
+    let same = same_accepted laws.schema schema sound.0 L sound.1 accepted in
     refused.1 sound.2 (subst (λ (K : LaidSchema). Holds K most raw b sound.2) same sound.3)
 
 -- and nothing is sound where these are the bytes

@@ -5,16 +5,16 @@ use Rattle.fb_conform.specs.declared.breaches.Breach.{Breach}
 use Rattle.fb_conform.specs.Conforms.{Conforms}
 use Rattle.fb_conform.specs.Order.{IsFirst}
 use Rattle.flatc_tool.specs.LayerLaws.{LayerLaws}
-use Rattle.flatc_tool.specs.SchemaTexts.{IsAccepted}
+use Rattle.fb_schema_text.specs.SchemaTexts.{IsAccepted}
 use Rattle.flatc_tool.specs.Evolution.{TextsConform}
-use Rattle.flatc_tool.proofs.schema_layouts.SchemaTextHasOneLayout.{same_accepted}
+use Rattle.fb_schema_text.proofs.SchemaTextHasOneLayout.{same_accepted}
 
 -- the layouts of texts that conform do so
 pub conforms_at : (laws : LayerLaws) (old new : List ℕ) (A B : LaidSchema) → IsAccepted old A → IsAccepted new B
     → TextsConform old new → Conforms A B
 conforms_at laws old new A B was is texts =
-    let one = subst (λ (L : LaidSchema). Conforms L texts.1) (same_accepted laws old texts.0 A texts.2 was) texts.4 in
-    subst (λ (L : LaidSchema). Conforms A L) (same_accepted laws new texts.1 B texts.3 is) one
+    let one = subst (λ (L : LaidSchema). Conforms L texts.1) (same_accepted laws.schema old texts.0 A texts.2 was) texts.4 in
+    subst (λ (L : LaidSchema). Conforms A L) (same_accepted laws.schema new texts.1 B texts.3 is) one
 
 pub breach_excludes : (laws : LayerLaws) (old new : List ℕ) (A B : LaidSchema) (b : Breach) → IsAccepted old A
     → IsAccepted new B → IsFirst A B b → TextsConform old new → ⊥

@@ -16,7 +16,7 @@ use Rattle.fb_text.specs.declared.faults.WriteFault.TheVariants.{NoMemberName, W
 use Rattle.fb_conform.specs.Conforms.{Conforms}
 use Rattle.fb_conform.specs.Carry.{carry}
 use Rattle.flatc_tool.specs.LayerLaws.{LayerLaws}
-use Rattle.flatc_tool.specs.SchemaTexts.{IsAccepted}
+use Rattle.fb_schema_text.specs.SchemaTexts.{IsAccepted}
 use Rattle.flatc_tool.specs.Jobs.{JsonMeans, IsBinaryOf, IsBinary, IsTextOf, IsText, TextRefused, IsNotMemory}
 use Rattle.flatc_tool.specs.Checks.{CheckRefused}
 use Rattle.flatc_tool.specs.Prints.{PrintRefused}
@@ -24,12 +24,12 @@ use Rattle.flatc_tool.specs.Evolution.{TextsConform}
 use Rattle.flatc_tool.specs.Answers.{TextAnswer, CheckAnswer, ViewAnswer, ValueAnswer, IsTextOrMemory, IsOkOrMemory}
 use Rattle.flatc_tool.specs.Answers.{IsViewOf, IsValueOrMemory}
 use Rattle.flatc_tool.specs.Headline.{HoldsAndPrints, CarriesValue, JsonIsCarried, NoneLies, OthersAreRefused}
-use Rattle.flatc_tool.specs.declared.faults.ToolFault.{ToolFault}
-use Rattle.flatc_tool.specs.declared.faults.ToolFault.TheVariants.{Schema, Json, Build, Read, Text, Write, Breach}
-use Rattle.flatc_tool.specs.declared.faults.ToolFault.TheVariants.{Older, Newer, FileRead, FileWrite, FileTooLong}
-use Rattle.flatc_tool.specs.declared.faults.ToolFault.TheVariants.{BadJson, Memory}
+use Rattle.fb_faults.specs.declared.faults.ToolFault.{ToolFault}
+use Rattle.fb_faults.specs.declared.faults.ToolFault.TheVariants.{Schema, Json, Build, Read, Text, Write, Breach}
+use Rattle.fb_faults.specs.declared.faults.ToolFault.TheVariants.{Older, Newer, FileRead, FileWrite, FileTooLong}
+use Rattle.fb_faults.specs.declared.faults.ToolFault.TheVariants.{BadJson, Memory}
 use Rattle.flatc_tool.proofs.evolution.BreachExcludesConforming.{conforms_at}
-use Rattle.flatc_tool.proofs.schema_layouts.SchemaTextHasOneLayout.{same_accepted, refused_excludes}
+use Rattle.fb_schema_text.proofs.SchemaTextHasOneLayout.{same_accepted, refused_excludes}
 use Rattle.flatc_tool.proofs.buffers.RefusalExcludesABuffer.{same_value}
 
 -- ---- what the calls return for bytes that hold a value
@@ -38,7 +38,7 @@ module _ (laws : LayerLaws) (schema : List ℕ) (b : Bytes) (most : Bounds) (raw
     (accepted : IsAccepted schema L) (v : Datum) (holds : Holds L most raw b v) where
   one_text : (defaults : Bool) (text : List ℕ) → IsText schema b most raw defaults text → text ≡ json_text L defaults v
   one_text defaults text is =
-      let same = same_accepted laws schema is.layout L is.accepted accepted in
+      let same = same_accepted laws.schema schema is.layout L is.accepted accepted in
       let here = subst (λ (K : LaidSchema). IsTextOf K b most raw defaults text) same is.has in
       let one = laws.one_value L most raw b here.value v here.holds holds in
       here.spelled ∙ ap (λ (w : Datum). json_text L defaults w) one
@@ -71,7 +71,7 @@ module _ (laws : LayerLaws) (schema json : List ℕ) (most : Bounds) (unknown : 
     (means : JsonMeans L most unknown json v) where
   here : IsBinaryOf L json most unknown b
   here = subst (λ (K : LaidSchema). IsBinaryOf K json most unknown b)
-      (same_accepted laws schema made.layout L made.accepted accepted) made.has
+      (same_accepted laws.schema schema made.layout L made.accepted accepted) made.has
 
   value : here.value ≡ v
   value = same_value laws L most unknown json here.value v here.means means
@@ -123,18 +123,18 @@ module _ (laws : LayerLaws) (schema : List ℕ) (b : Bytes) (most : Bounds) (raw
     (accepted : IsAccepted schema L) (none : (v : Datum) → ¬ Holds L most raw b v) where
   none_under : (K : LaidSchema) → IsAccepted schema K → (v : Datum) → Holds K most raw b v → ⊥
   none_under K other v holds =
-      none v (subst (λ (M : LaidSchema). Holds M most raw b v) (same_accepted laws schema K L other accepted) holds)
+      none v (subst (λ (M : LaidSchema). Holds M most raw b v) (same_accepted laws.schema schema K L other accepted) holds)
 
   module _ (fault : ReadFault) (least : IsLeastFault L most raw b fault) where
     same_fault : (f : ReadFault) (K : LaidSchema) → IsAccepted schema K → IsLeastFault K most raw b f
         → Read f ≡ Read fault
     same_fault f K other first =
         let there = subst (λ (M : LaidSchema). IsLeastFault M most raw b f)
-        (same_accepted laws schema K L other accepted) first in
+        (same_accepted laws.schema schema K L other accepted) first in
         ap Read (laws.one_least_fault L most raw b f fault there least)
 
     answered : (f : ToolFault) → TextRefused schema b most raw f → IsNotMemory f → f ≡ Read fault
-    answered (Schema f) refused rule = absurd (refused_excludes laws schema f refused rule L accepted)
+    answered (Schema f) refused rule = absurd (refused_excludes laws.schema schema f refused rule L accepted)
     answered (Read f) refused rule = same_fault f refused.layout refused.accepted refused.has.0
     answered (Text f) refused rule =
         absurd (none_under refused.layout refused.accepted refused.has.0 refused.has.1)
@@ -151,7 +151,7 @@ module _ (laws : LayerLaws) (schema : List ℕ) (b : Bytes) (most : Bounds) (raw
     answered Memory refused rule = absurd refused.has
 
     checked : (f : ToolFault) → CheckRefused schema (Some b) most raw f → IsNotMemory f → f ≡ Read fault
-    checked (Schema f) refused rule = absurd (refused_excludes laws schema f refused rule L accepted)
+    checked (Schema f) refused rule = absurd (refused_excludes laws.schema schema f refused rule L accepted)
     checked (Read f) refused rule = same_fault f refused.0 refused.1 refused.2.0
     checked (Text f) refused rule = absurd refused
     checked (Json f) refused rule = absurd refused
@@ -169,7 +169,7 @@ module _ (laws : LayerLaws) (schema : List ℕ) (b : Bytes) (most : Bounds) (raw
     printed : (defaults : Bool) (start known : Option (List ℕ)) (f : ToolFault)
         → PrintRefused schema b most raw defaults start known f → IsNotMemory f → f ≡ Read fault
     printed defaults start known (Schema f) refused rule =
-        absurd (refused_excludes laws schema f refused rule L accepted)
+        absurd (refused_excludes laws.schema schema f refused rule L accepted)
     printed defaults start known (Read f) refused rule = same_fault f refused.layout refused.accepted refused.has.0
     printed defaults start known (Write (NoMemberName at)) refused rule =
         absurd (none_under refused.layout refused.accepted refused.has.0 refused.has.1)

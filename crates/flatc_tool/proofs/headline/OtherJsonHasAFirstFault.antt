@@ -15,15 +15,15 @@ use Rattle.fb_json.specs.Refuses.{IsFirst, root_meant}
 use Rattle.fb_build.specs.declared.faults.BuildFault.TheVariants as the_build
 use Rattle.flatc_tool.specs.LayerLaws.{LayerLaws}
 use Rattle.flatc_tool.specs.JsonText.{IsTree}
-use Rattle.flatc_tool.specs.SchemaTexts.{IsAccepted}
+use Rattle.fb_schema_text.specs.SchemaTexts.{IsAccepted}
 use Rattle.flatc_tool.specs.Jobs.{JsonMeans, IsBinary, BinaryRefused, IsNotMemory}
 use Rattle.flatc_tool.specs.Headline.{NoneIsMeant, OtherJsonIsRefused}
-use Rattle.flatc_tool.specs.declared.faults.ToolFault.{ToolFault}
-use Rattle.flatc_tool.specs.declared.faults.ToolFault.TheVariants.{Schema, Json, Build, Read, Text, Write, Breach}
-use Rattle.flatc_tool.specs.declared.faults.ToolFault.TheVariants.{Older, Newer, FileRead, FileWrite, FileTooLong}
-use Rattle.flatc_tool.specs.declared.faults.ToolFault.TheVariants.{BadJson, Memory}
+use Rattle.fb_faults.specs.declared.faults.ToolFault.{ToolFault}
+use Rattle.fb_faults.specs.declared.faults.ToolFault.TheVariants.{Schema, Json, Build, Read, Text, Write, Breach}
+use Rattle.fb_faults.specs.declared.faults.ToolFault.TheVariants.{Older, Newer, FileRead, FileWrite, FileTooLong}
+use Rattle.fb_faults.specs.declared.faults.ToolFault.TheVariants.{BadJson, Memory}
 use Rattle.flatc_tool.proofs.buffers.RefusalExcludesABuffer.{same_tree, broken}
-use Rattle.flatc_tool.proofs.schema_layouts.SchemaTextHasOneLayout.{same_accepted, refused_excludes}
+use Rattle.fb_schema_text.proofs.SchemaTextHasOneLayout.{same_accepted, refused_excludes}
 
 module _ (laws : LayerLaws) (schema json : List ℕ) (most : Bounds) (unknown : Bool) (L : LaidSchema)
     (accepted : IsAccepted schema L) where
@@ -32,7 +32,7 @@ module _ (laws : LayerLaws) (schema json : List ℕ) (most : Bounds) (unknown : 
     none_under : (K : LaidSchema) → IsAccepted schema K → (v : Datum) → JsonMeans K most unknown json v → ⊥
     none_under K other v means =
         let here = subst (λ (M : LaidSchema). JsonMeans M most unknown json v)
-        (same_accepted laws schema K L other accepted) means in
+        (same_accepted laws.schema schema K L other accepted) means in
         none v (subst (λ (u : Data). Means L most unknown u v) (same_tree json here.0 t here.1 tree) here.2)
 
     no_buffer : (b : Bytes) → IsBinary schema json most unknown b → ⊥
@@ -43,12 +43,12 @@ module _ (laws : LayerLaws) (schema json : List ℕ) (most : Bounds) (unknown : 
           → IsFirst K most unknown u f → Json f ≡ Json fault
       same_fault f K other u read found =
           let here = subst (λ (M : LaidSchema). IsFirst M most unknown u f)
-          (same_accepted laws schema K L other accepted) found in
+          (same_accepted laws.schema schema K L other accepted) found in
           let there = subst (λ (d : Data). IsFirst L most unknown d f) (same_tree json u t read tree) here in
           let both = sym there ∙ first in cc
 
       refused : (f : ToolFault) → BinaryRefused schema json most unknown f → IsNotMemory f → f ≡ Json fault
-      refused (Schema f) told rule = absurd (refused_excludes laws schema f told rule L accepted)
+      refused (Schema f) told rule = absurd (refused_excludes laws.schema schema f told rule L accepted)
       refused (Json f) told rule =
           let h = told.has in
           same_fault f told.layout told.accepted h.0 h.1 (broken told.layout most unknown h.0 f h.2 rule).first
@@ -80,7 +80,7 @@ module _ (laws : LayerLaws) (schema json : List ℕ) (most : Bounds) (unknown : 
 
   module _ (none : (t : Data) → ¬ IsTree json t) where
     as_no_json : (f : ToolFault) → BinaryRefused schema json most unknown f → IsNotMemory f → f ≡ BadJson
-    as_no_json (Schema f) told rule = absurd (refused_excludes laws schema f told rule L accepted)
+    as_no_json (Schema f) told rule = absurd (refused_excludes laws.schema schema f told rule L accepted)
     as_no_json (Json f) told rule = absurd (none told.has.0 told.has.1)
     as_no_json (Build the_build.TooBig) told rule = let means = told.has.1 in absurd (none means.0 means.1)
     as_no_json (Build the_build.Memory) told rule = absurd rule

@@ -4,9 +4,9 @@ ghost use Rattle.std.specs.Prelude.{IsErr, IsErrOf};
 ghost use Rattle.std.specs.Io.{ReadsAtMost};
 ghost use Rattle.std.specs.Io.KnownBytes.{ReadConsumes};
 ghost use Rattle.flatc_tool.specs.Heard.{read_failed, reader_of, IsOfReading};
-ghost use Rattle.flatc_tool.specs.declared.faults.ToolFault.TheVariants.{FileRead, FileTooLong};
+ghost use Rattle.fb_faults.specs.declared.faults.ToolFault.TheVariants.{FileRead, FileTooLong};
 
-use crate::faults::ToolFault;
+use fb_faults::ToolFault;
 use std::alloc::Global;
 use std::io;
 use std::io::Read;

@@ -2,7 +2,7 @@
 ghost use Rattle.std.specs.Prelude.{◌≡◌, ◌++◌, IfOk, OnOk, string_bytes};
 ghost use Rattle.flatc_tool.specs.FaultLines.{line_of, noted, side_of};
 
-use crate::faults::ToolFault;
+use fb_faults::ToolFault;
 use itoa::Buffer;
 use std::alloc::{AllocError, Global};
 

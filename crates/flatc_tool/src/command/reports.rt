@@ -7,7 +7,7 @@ ghost use Rattle.flatc_tool.specs.FaultLines.{line_of};
 ghost use Rattle.flatc_tool.specs.Reports.{ended, IsTold, IsToldUnlessFailed};
 
 use crate::command::lines::fault_line;
-use crate::faults::ToolFault;
+use fb_faults::ToolFault;
 use fb_text::Noted;
 use std::alloc::{AllocError, Global};
 use std::io::Write;

@@ -4,8 +4,8 @@ use Rattle.std.proofs.Common.{true, false, Result, refl, ap, ◌∙◌, length-a
 use Rattle.std.specs.Prelude.{◌↔◌, IsTrue, IsErrOf}
 use Rattle.std.specs.Io.KnownBytes.{Consumes}
 use Rattle.std.proofs.KnownBytes.{Consumes-trans}
-use Rattle.flatc_tool.specs.declared.faults.ToolFault.{ToolFault}
-use Rattle.flatc_tool.specs.declared.faults.ToolFault.TheVariants.{FileRead}
+use Rattle.fb_faults.specs.declared.faults.ToolFault.{ToolFault}
+use Rattle.fb_faults.specs.declared.faults.ToolFault.TheVariants.{FileRead}
 
 -- a reader that gave so many bytes had as many
 had_all : (a b : Option (List ℕ)) (bs : List ℕ) (most : ℕ) → Consumes a b bs → most < length bs

@@ -1,14 +1,14 @@
 use Rattle.flatc_tool.proofs.evolution.BreachExcludesConforming.{breach_excludes}
-use Rattle.flatc_tool.proofs.schema_layouts.SchemaTextHasOneLayout.{refused_excludes}
+use Rattle.fb_schema_text.proofs.SchemaTextHasOneLayout.{refused_excludes}
 use Rattle.flatc_tool.proofs.evolution.conform_texts.Goals as goal
 
 pub returns-in-Err-clause-exact : goal.returns-in-Err-clause-exact
-returns-in-Err-clause-exact c rule texts = refused_excludes c.layer_laws.ensures.laws c.args.old.now c.in-Err.fault
+returns-in-Err-clause-exact c rule texts = refused_excludes c.layer_laws.ensures.laws.schema c.args.old.now c.in-Err.fault
     c.in-Err.ensures.refused rule texts.0 texts.2
 
 pub returns-in-Err-schema_of-clause-exact : goal.returns-in-Err-schema_of-clause-exact
 returns-in-Err-schema_of-clause-exact c rule texts =
-    refused_excludes c.layer_laws.ensures.laws c.args.new.now c.in-Err-schema_of.fault
+    refused_excludes c.layer_laws.ensures.laws.schema c.args.new.now c.in-Err-schema_of.fault
     c.in-Err-schema_of.ensures.refused rule texts.1 texts.3
 
 pub returns-clause-exact : goal.returns-clause-exact

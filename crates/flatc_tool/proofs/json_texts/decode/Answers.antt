@@ -1,6 +1,6 @@
 use Rattle.std.proofs.Common.{Some, sym, subst}
 use Rattle.flatc_tool.specs.Jobs.{TextRefusedOf}
-use Rattle.flatc_tool.specs.declared.faults.ToolFault.{ToolFault}
+use Rattle.fb_faults.specs.declared.faults.ToolFault.{ToolFault}
 use Rattle.flatc_tool.proofs.json_texts.PrintedIsTheJsonText.{text_refused}
 use Rattle.flatc_tool.proofs.json_texts.decode.Goals as goal
 

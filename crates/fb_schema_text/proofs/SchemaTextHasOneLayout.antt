@@ -18,19 +18,19 @@ use Rattle.fb_declare.specs.TypeFaults.{faults_of}
 use Rattle.fb_declare.specs.Faults.{least_of}
 use Rattle.fb_layout.specs.Laid.{LaidSchema}
 use Rattle.fb_layout.specs.WellMade.{IsSized}
-use Rattle.flatc_tool.specs.declared.schema_layouts.SchemaTextFault.{SchemaTextFault}
-use Rattle.flatc_tool.specs.declared.schema_layouts.SchemaTextFault.TheVariants.{Syntax, Schema, Layout}
-use Rattle.flatc_tool.specs.LayerLaws.{LayerLaws}
-use Rattle.flatc_tool.specs.SchemaTexts.{IsAccepted, IsSyntaxRefused, IsRefused, IsWant, OfLayout}
+use Rattle.fb_schema_text.specs.declared.schema_layouts.SchemaTextFault.{SchemaTextFault}
+use Rattle.fb_schema_text.specs.declared.schema_layouts.SchemaTextFault.TheVariants.{Syntax, Schema, Layout}
+use Rattle.fb_schema_text.specs.SchemaLaws.{SchemaLaws}
+use Rattle.fb_schema_text.specs.SchemaTexts.{IsAccepted, IsSyntaxRefused, IsRefused, IsWant, OfLayout}
 
 -- a text reads as one list of declarations
-pub one_parse : (laws : LayerLaws) (text : List ℕ) (d e : DeclsRead) → Parses text d → Parses text e → d ≡ e
+pub one_parse : (laws : SchemaLaws) (text : List ℕ) (d e : DeclsRead) → Parses text d → Parses text e → d ≡ e
 one_parse laws text d e p q =
     let same = laws.one_spelling text p.0 q.0 p.1 q.1 in
     laws.one_reading text q.0 d e (subst (λ (tokens : List Token). Reads text tokens d) same p.2) q.2
 
 -- an accepted text declares one schema
-same_schema : (laws : LayerLaws) (text : List ℕ) (L K : LaidSchema) → IsAccepted text L → IsAccepted text K
+same_schema : (laws : SchemaLaws) (text : List ℕ) (L K : LaidSchema) → IsAccepted text L → IsAccepted text K
     → L.schema ≡ K.schema
 same_schema laws text L K a b =
     laws.one_schema b.decls L.schema K.schema
@@ -38,7 +38,7 @@ same_schema laws text L K a b =
     a.declared) b.declared
 
 -- an accepted text has one layout
-pub same_accepted : (laws : LayerLaws) (text : List ℕ) (L K : LaidSchema) → IsAccepted text L → IsAccepted text K
+pub same_accepted : (laws : SchemaLaws) (text : List ℕ) (L K : LaidSchema) → IsAccepted text L → IsAccepted text K
     → L ≡ K
 same_accepted laws text L K a b =
     let schema = same_schema laws text L K a b in
@@ -82,7 +82,7 @@ syntax_excludes text (Unexpected at) h rule d parses = h.4 d parses
 syntax_excludes text (NestedVector at) h rule d parses = h.4 d parses
 
 -- A text that a layer refuses isn't accepted.
-pub refused_excludes : (laws : LayerLaws) (text : List ℕ) (f : SchemaTextFault) → IsRefused text f → ¬ (IsWant f)
+pub refused_excludes : (laws : SchemaLaws) (text : List ℕ) (f : SchemaTextFault) → IsRefused text f → ¬ (IsWant f)
     → (L : LaidSchema) → IsAccepted text L → ⊥
 refused_excludes laws text (Syntax f) refused rule L accepted =
     syntax_excludes text f refused rule accepted.decls accepted.parsed
@@ -97,13 +97,13 @@ refused_excludes laws text (Layout f) refused rule L accepted =
     laws.no_layout refused.1 f (refused.4 rule) L schema accepted.made
 
 -- nothing holds of the layout of a text that a layer refuses
-pub refused_has_none : (laws : LayerLaws) (text : List ℕ) (f : SchemaTextFault) (P : LaidSchema → Type 0)
+pub refused_has_none : (laws : SchemaLaws) (text : List ℕ) (f : SchemaTextFault) (P : LaidSchema → Type 0)
     → IsRefused text f → ¬ (IsWant f) → ¬ OfLayout text P
 refused_has_none laws text f P refused rule other =
     refused_excludes laws text f refused rule other.layout other.accepted
 
 -- what doesn't hold of a text's layout holds of no layout of it
-pub none_of_layout : (laws : LayerLaws) (text : List ℕ) (L : LaidSchema) (P : LaidSchema → Type 0)
+pub none_of_layout : (laws : SchemaLaws) (text : List ℕ) (L : LaidSchema) (P : LaidSchema → Type 0)
     → IsAccepted text L → ¬ P L → ¬ OfLayout text P
 none_of_layout laws text L P accepted none other =
     none (subst P (same_accepted laws text other.layout L other.accepted accepted) other.has)

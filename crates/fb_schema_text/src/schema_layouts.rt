@@ -3,10 +3,10 @@ ghost use Rattle.std.specs.Prelude.{◌≡◌, ◌↔◌, ℕ, IfOk, IfErr, Err,
 ghost use Rattle.std.specs.Str.Lossy.{utf8_valid_len};
 ghost use Rattle.fb_syntax.specs.declared.faults.SyntaxFault.TheVariants.{NotUtf8};
 ghost use Rattle.fb_layout.specs.Laid.{LaidSchema};
-ghost use Rattle.flatc_tool.specs.declared.schema_layouts.SchemaTextFault.TheVariants.{Syntax};
-ghost use Rattle.flatc_tool.specs.SchemaTexts.{IsAccepted, IsRefused, IsWant};
+ghost use Rattle.fb_schema_text.specs.declared.schema_layouts.SchemaTextFault.TheVariants.{Syntax};
+ghost use Rattle.fb_schema_text.specs.SchemaTexts.{IsAccepted, IsRefused, IsWant};
 
-use crate::laws::layer_laws;
+use crate::laws::schema_laws;
 use fb_declare::{SchemaFault, declare};
 use fb_layout::{Layout, LayoutFault, lay};
 use fb_schema::TypeId;
@@ -28,12 +28,11 @@ pub enum SchemaTextFault {
 
 impl SchemaTextFault {
     ghost use Rattle.std.specs.Prelude.{◌≡◌, option_map};
-    ghost use Rattle.flatc_tool.specs.FaultTable.{schema_number_of, schema_name_of, schema_offset_of};
-    ghost use Rattle.flatc_tool.specs.FaultPlaces.{schema_owner_of};
+    ghost use Rattle.fb_schema_text.specs.FaultTable.{number_of, name_of, offset_of, owner_of};
 
     /// The fault's number; no other fault has it.
     pub fn number(self) -> u8
-        ensures { result ≡ schema_number_of self }
+        ensures { result ≡ number_of self }
     {
         match self {
             SchemaTextFault::Syntax(fault) => fault.number(),
@@ -44,7 +43,7 @@ impl SchemaTextFault {
 
     /// The fault's name: that of its variant in the layer that refuses.
     pub fn name(self) -> &'static str
-        ensures { result.now ≡ schema_name_of self }
+        ensures { result.now ≡ name_of self }
     {
         match self {
             SchemaTextFault::Syntax(fault) => fault.name(),
@@ -55,7 +54,7 @@ impl SchemaTextFault {
 
     /// Its offset, in bytes from the text's start, if it has one.
     pub fn offset(self) -> Option<u64>
-        ensures { result ≡ schema_offset_of self }
+        ensures { result ≡ offset_of self }
     {
         match self {
             SchemaTextFault::Syntax(fault) => fault.offset(),
@@ -66,7 +65,7 @@ impl SchemaTextFault {
 
     /// The declared type that it is in, if it has such a place.
     pub fn owner(self) -> Option<TypeId>
-        ensures { option_map (λ owner. owner.0) result ≡ schema_owner_of self }
+        ensures { option_map (λ owner. owner.0) result ≡ owner_of self }
     {
         match self {
             SchemaTextFault::Layout(fault) => fault.type_id(),
@@ -86,7 +85,7 @@ pub fn schema_of(alloc: Global, text: &[u8]) -> Result<Layout, SchemaTextFault>
         ↔ (¬ (IsUtf8 text.now) × (at ≡ utf8_valid_len text.now))) }
     ensures exact { IfErr result (λ f. ¬ (IsWant f) → (L : LaidSchema) → ¬ (IsAccepted text.now L)) }
 {
-    layer_laws();
+    schema_laws();
     let decls = match parse(alloc, text) {
         Ok(decls) => decls,
         Err(fault) => return Err(SchemaTextFault::Syntax(fault)),

@@ -1,18 +1,16 @@
 -- What a fault of the tool says of its place, besides an offset: a declared type, a slot, how much was written.
 use Rattle.std.specs.Prelude.{ℕ, Option, None, Some, option_map}
 use Rattle.std.specs.Option.{option_map_or}
-use Rattle.fb_layout.specs.FaultTable as layout_faults
+use Rattle.fb_schema_text.specs.FaultTable as schema_faults
 use Rattle.fb_value.specs.declared.faults.ReadFault.TheVariants as the_read
 use Rattle.fb_json.specs.FaultTable as json_faults
 use Rattle.fb_json.specs.declared.faults.Place.{Place}
 use Rattle.fb_text.specs.FaultTable as write_faults
 use Rattle.fb_schema.specs.declared.kinds.TypeId.{TypeId}
 use Rattle.fb_conform.specs.BreachTable as breaches
-use Rattle.flatc_tool.specs.declared.schema_layouts.SchemaTextFault.{SchemaTextFault}
-use Rattle.flatc_tool.specs.declared.schema_layouts.SchemaTextFault.TheVariants.{Layout}
-use Rattle.flatc_tool.specs.declared.faults.ToolFault.{ToolFault}
-use Rattle.flatc_tool.specs.declared.faults.ToolFault.TheVariants.{Schema, Json, Read, Text, Write, Breach, Older}
-use Rattle.flatc_tool.specs.declared.faults.ToolFault.TheVariants.{Newer}
+use Rattle.fb_faults.specs.declared.faults.ToolFault.{ToolFault}
+use Rattle.fb_faults.specs.declared.faults.ToolFault.TheVariants.{Schema, Json, Read, Text, Write, Breach, Older}
+use Rattle.fb_faults.specs.declared.faults.ToolFault.TheVariants.{Newer}
 
 -- JSON, values and their texts have declared places, a type and one of its slots
 abbrev pub place_of : ToolFault → Option Place
@@ -21,15 +19,11 @@ place_of (Text f) = write_faults.text_place_of f
 place_of (Write f) = write_faults.place_of f
 place_of _ = None
 
-abbrev pub schema_owner_of : SchemaTextFault → Option ℕ
-schema_owner_of (Layout f) = option_map (λ (t : TypeId). t.0) (layout_faults.type_of f)
-schema_owner_of _ = None
-
 -- the number of the type, of two schemas the old one's
 abbrev pub owner_of : ToolFault → Option ℕ
-owner_of (Schema f) = schema_owner_of f
-owner_of (Older f) = schema_owner_of f
-owner_of (Newer f) = schema_owner_of f
+owner_of (Schema f) = schema_faults.owner_of f
+owner_of (Older f) = schema_faults.owner_of f
+owner_of (Newer f) = schema_faults.owner_of f
 owner_of (Breach b) = option_map (λ (t : TypeId). t.0) (breaches.type_of b)
 owner_of f = option_map (λ (p : Place). p.owner.0) (place_of f)
 

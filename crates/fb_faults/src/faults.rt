@@ -1,9 +1,9 @@
 //! Why the tool refuses.
-use crate::schema_layouts::SchemaTextFault;
 use fb_build::BuildFault;
 use fb_conform::Breach;
 use fb_json::{JsonFault, Place};
 use fb_schema::TypeId;
+use fb_schema_text::SchemaTextFault;
 use fb_text::{TextFault, WriteFault};
 use fb_value::ReadFault;
 use thiserror::Error;
@@ -49,8 +49,8 @@ pub enum ToolFault {
 
 impl ToolFault {
     ghost use Rattle.std.specs.Prelude.{◌≡◌, option_map};
-    ghost use Rattle.flatc_tool.specs.FaultTable.{number_of, name_of, offset_of};
-    ghost use Rattle.flatc_tool.specs.FaultPlaces.{place_of, owner_of, slot_of, written_of};
+    ghost use Rattle.fb_faults.specs.FaultTable.{number_of, name_of, offset_of};
+    ghost use Rattle.fb_faults.specs.FaultPlaces.{place_of, owner_of, slot_of, written_of};
 
     // The number and the name.
     fn row(self) -> (u8, &'static str)

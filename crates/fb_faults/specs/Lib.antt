@@ -1,0 +1,2 @@
+pub mod FaultTable
+pub mod FaultPlaces

@@ -1,0 +1,6 @@
+//! Why the tool refuses, whichever layer does.
+#![tactic(auto)]
+
+mod faults;
+
+pub use faults::ToolFault;

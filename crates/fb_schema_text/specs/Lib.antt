@@ -1,0 +1,3 @@
+pub mod SchemaTexts
+pub mod SchemaLaws
+pub mod FaultTable

@@ -1,2 +1,0 @@
--- What the proofs of src/schema_layouts.rt use.
-pub mod SchemaTextHasOneLayout
