@@ -12,6 +12,7 @@ import re
 import resource
 import shutil
 import stat
+import statistics
 import subprocess
 import sys
 import threading
@@ -26,7 +27,7 @@ TOLD = b"74 UnknownMember in type 0\n"
 MANY = 1000
 # For the times beside Google's: files of about a kilobyte.
 TIMED = 300
-ROUNDS = 5
+ROUNDS = 15
 GROWTHS = 2000
 # In seconds, longer than work that isn't told.
 SLOW = 1.5
@@ -199,6 +200,11 @@ def replaced(tests):
         tests.expect("an output that is there", words, 0, holds={"out/1.bin": two(1)[0]})
         tests.tell("who reads the old one reads on", old.read() == b"old")
     tests.tell("its mode is kept", stat.S_IMODE(os.stat("out/1.bin").st_mode) == 0o640)
+    was = os.stat("out/1.bin")
+    os.utime("out/1.bin", (1, 1))
+    tests.expect("an output that is as it should be", words, 0, holds={"out/1.bin": two(1)[0]})
+    found = os.stat("out/1.bin")
+    tests.tell("it stays, and its time is now", found.st_ino == was.st_ino and found.st_mtime >= was.st_mtime, f"{found}")
     write("out/2.json", b"old and longer than the text")
     tests.expect("a text that is there", ["json", "-o", "out", "one.fbs", *bins(2)], 0, holds={"out/2.json": two(2)[1]})
     write("far", b"old")
@@ -215,8 +221,9 @@ def replaced(tests):
 
     told = b"".join(path.encode() + b": " + UNWRITTEN for path in jsons(1, "noend"))
     write("in/noend.json", two(4)[1])
+    write("out/1.bin", b"old")
     words = ["binary", "-o", "out", "one.fbs", *jsons(1, "noend")]
-    holds = {"out/1.bin": two(1)[0], "out/noend.bin": None}
+    holds = {"out/1.bin": b"old", "out/noend.bin": None}
     tests.expect("no room", words, 1, err=told, holds=holds, preexec_fn=small, restore_signals=False)
     tests.tell("no other file is left", not beside("out"), f"{beside('out')}")
 
@@ -359,37 +366,43 @@ def growths(tests):
             tests.tell(f"growths of {words[0]}{later}", not problems and number > 10, f"{number} growths; {problems[:3]}")
 
 
-def best(run):
-    """The least user and wall time of some runs, in milliseconds."""
-    users, walls = [], []
-    for _ in range(ROUNDS):
+def timed(words, folder):
+    """The milliseconds that a run into a new folder takes, and one more: of the user, the processor and the clock."""
+    os.mkdir(folder)
+    taken = []
+    for _ in range(2):
         before = resource.getrusage(resource.RUSAGE_CHILDREN)
         start = time.monotonic()
-        run()
-        walls.append(time.monotonic() - start)
+        subprocess.run(words, check=True)
+        wall = time.monotonic() - start
         after = resource.getrusage(resource.RUSAGE_CHILDREN)
-        users.append(after.ru_utime + after.ru_stime - before.ru_utime - before.ru_stime)
-    return 1000 * min(users), 1000 * min(walls)
+        user = after.ru_utime - before.ru_utime
+        taken += [1000 * user, 1000 * (user + after.ru_stime - before.ru_stime), 1000 * wall]
+    return taken
 
 
 def times(tests):
-    """The same call beside Google's, where that is installed: the times are printed."""
-    google = shutil.which("flatc")
+    """The same call beside Google's, where that is installed, in turns: the medians of both are printed."""
     write("log.fbs", b"table E { id:ulong; at:long; text:string; } table L { host:string; entries:[E]; } root_type L;")
-    os.mkdir("out")
     names = []
     for number in range(TIMED):
         names.append(f"log{number:03}.json")
         entries = b",".join(b'{"id":%d,"at":%d,"text":"entry %d of a log"}' % (k, number * k, k) for k in range(20))
         write(names[-1], b'{"host":"host%d","entries":[%s]}' % (number, entries))
-    ours = [tests.program, "binary", "-o", "out", "log.fbs", *names]
-    user, wall = best(lambda: subprocess.run(ours, check=True))
-    tests.tell("each file is there", len(os.listdir("out")) == TIMED)
-    print(f"batches: {TIMED} files of 1 kB: {user:.0f} ms of the processor, {wall:.0f} ms")
-    if google:
-        theirs = [google, "-b", "-o", "out", "log.fbs", *names]
-        user, wall = best(lambda: subprocess.run(theirs, check=True))
-        print(f"batches: flatc: {user:.0f} ms of the processor, {wall:.0f} ms")
+    calls = {"this program": [tests.program, "binary", "-o"]}
+    if google := shutil.which("flatc"):
+        calls["Google's"] = [google, "-b", "-o"]
+    taken = {name: [] for name in calls}
+    # No folder is removed meanwhile: a file system may make files more slowly where many are gone.
+    for number in range(ROUNDS):
+        for name, call in calls.items():
+            folder = f"{name} {number}"
+            taken[name].append(timed([*call, folder, "log.fbs", *names], folder))
+    tests.tell("each file is there", len(os.listdir("this program 0")) == TIMED)
+    for name, rounds in taken.items():
+        medians = [f"{statistics.median(column):.1f}" for column in zip(*rounds)]
+        new, again = ", ".join(medians[:3]), ", ".join(medians[3:])
+        print(f"batches: {TIMED} files of 1 kB, {name}: user, processor, clock {new} ms, once more {again} ms")
 
 
 def main():

@@ -77,6 +77,25 @@ def replaced(tests):
     tests.tell("no other file is left", not beside(), f"{beside()}")
 
 
+def unchanged(tests):
+    """An OUT that has the buffer's bytes stays the file that it is, and its time is that of the run."""
+    inputs()
+    write("out.bin", SEVEN)
+    was = os.stat("out.bin")
+    for more in ({}, small_files(0)):
+        os.utime("out.bin", (1, 1))
+        tests.expect("OUT has the buffer", [*WORDS, "out.bin"], 0, holds={"out.bin": SEVEN}, **more)
+        found = os.stat("out.bin")
+        tests.tell("it stays, and its time is now", found.st_ino == was.st_ino and found.st_mtime >= was.st_mtime, f"{found}")
+    os.link("out.bin", "other")
+    tests.expect("OUT has another name", [*WORDS, "out.bin"], 0, holds={"out.bin": SEVEN, "other": SEVEN})
+    tests.tell("the other name keeps the old file", os.stat("other").st_ino != os.stat("out.bin").st_ino)
+    for at in range(len(SEVEN)):
+        write("out.bin", SEVEN[:at] + bytes([SEVEN[at] ^ 1]) + SEVEN[at + 1 :])
+        tests.expect(f"OUT has another byte at {at}", [*WORDS, "out.bin"], 0, holds={"out.bin": SEVEN})
+    tests.tell("no other file is left", not beside(), f"{beside()}")
+
+
 def same_names(tests, path, held):
     """OUT is the input at this path, by that name and others."""
     os.link(path, "hard")
@@ -232,7 +251,7 @@ def killed(tests):
 
 def main():
     tests = Tests("outputs", program_of(sys.argv, __doc__))
-    return tests.main((absent, replaced, guarded, direct, in_segments, forbidden, full, killed))
+    return tests.main((absent, replaced, unchanged, guarded, direct, in_segments, forbidden, full, killed))
 
 
 if __name__ == "__main__":

@@ -1,22 +1,20 @@
 //! A task over many files, each for itself, under one schema.
 use crate::explained::explain_refusal;
-use crate::outputs::{Content, Laid, write_file};
-use crate::progress::Progress;
-use crate::reasons::Reasoned;
-use crate::targets::{Misuse, directory_of, targets_of};
-use crate::texts::Texts;
+use crate::faults::{Laid, read_fault, write_fault};
 use crate::{limits, tell};
 use clap::Error;
 use clap::error::ErrorKind;
 use flatc_cli::{Batch, RunStatus, Task, usage_error};
+use flatc_files::{
+    Content, Misuse, Progress, Reasoned, Target, Texts, directory_of, targets_of, write_file,
+};
 use flatc_tool::{
     DecodeOptions, EncodeOptions, Entries, Layout, Noted, ToolFault, decode_to, encode_segments,
     schema_of, verify,
 };
 use std::alloc::AllocError;
-use std::fs::{self, File};
+use std::fs;
 use std::io::{self, ErrorKind as IoErrorKind, Write};
-use std::path::PathBuf;
 
 /// The JSON text of a buffer, and why there is none.
 #[derive(Drop)]
@@ -30,10 +28,10 @@ struct Printed<'b> {
 impl Content for Printed<'_> {
     // The page that is written at once is large, so no other task has it in its frame.
     #[inline(never)]
-    fn write_to(&mut self, file: &mut File) -> io::Result<()> {
-        let mut out = Noted::over(Reasoned::over(file));
-        let answer = decode_to(self.layout, self.bytes, &self.options, &mut out);
-        match (answer, out.into_inner().into_reason()) {
+    fn write_to<W: Write>(&mut self, out: &mut W) -> io::Result<()> {
+        let mut noted = Noted::over(Reasoned::over(out));
+        let answer = decode_to(self.layout, self.bytes, &self.options, &mut noted);
+        match (answer, noted.into_inner().into_reason()) {
             (Ok(()), _) => Ok(()),
             (Err(_), Some(error)) => Err(error),
             (Err(fault), None) => {
@@ -42,21 +40,9 @@ impl Content for Printed<'_> {
             }
         }
     }
-}
 
-/// Where a batch is written to, and under what.
-#[derive(Drop)]
-struct Place<'j> {
-    layout: Layout,
-    targets: &'j [PathBuf],
-}
-
-impl<'j> Place<'j> {
-    fn target(&self, at: usize) -> &'j str {
-        match self.targets.get(at) {
-            Some(target) => target.as_str(),
-            None => "",
-        }
+    fn len(&self) -> Option<u64> {
+        None
     }
 }
 
@@ -76,24 +62,11 @@ fn flags_of(task: &Task) -> (bool, bool) {
     }
 }
 
-/// The fault of a file that couldn't be written.
-fn write_fault<'j>(
-    rt: &HostRuntime,
-    texts: &mut Texts<'j>,
-    target: &'j str,
-    error: &io::Error,
-) -> ToolFault {
-    if error.kind() == IoErrorKind::OutOfMemory {
-        return ToolFault::Memory;
-    }
-    texts.fail(rt, target, error, ToolFault::FileWrite)
-}
-
 fn write_buffer<'j>(
     rt: &HostRuntime,
     layout: &Layout,
     texts: &mut Texts<'j>,
-    target: &'j str,
+    target: &'j Target,
     unknown_json: bool,
 ) -> Result<(), ToolFault> {
     let options = EncodeOptions {
@@ -104,7 +77,7 @@ fn write_buffer<'j>(
     let buffer = encode_segments(rt.alloc(), layout, json, &options)?;
     match write_file(rt, target, &mut Laid(&buffer)) {
         Ok(()) => Ok(()),
-        Err(error) => Err(write_fault(rt, texts, target, &error)),
+        Err(error) => Err(write_fault(rt, texts, target.path.as_str(), &error)),
     }
 }
 
@@ -112,7 +85,7 @@ fn write_text<'j>(
     rt: &HostRuntime,
     layout: &Layout,
     texts: &mut Texts<'j>,
-    target: &'j str,
+    target: &'j Target,
     (raw_binary, defaults_json): (bool, bool),
 ) -> Result<(), ToolFault> {
     let mut printed = Printed {
@@ -129,7 +102,7 @@ fn write_text<'j>(
     match (done, printed.fault) {
         (Ok(()), _) => Ok(()),
         (Err(_), Some(fault)) => Err(fault),
-        (Err(error), None) => Err(write_fault(rt, texts, target, &error)),
+        (Err(error), None) => Err(write_fault(rt, texts, target.path.as_str(), &error)),
     }
 }
 
@@ -146,17 +119,21 @@ fn do_file<'j>(
     task: &Task,
     layout: &Layout,
     texts: &mut Texts<'j>,
-    paths: [&'j str; 2],
+    file: &'j str,
+    target: Option<&'j Target>,
 ) -> Result<(), ToolFault> {
-    let [file, target] = paths;
     texts.forget(rt);
-    texts.read_input(rt, file)?;
-    match task {
-        Task::Binary { unknown, .. } => write_buffer(rt, layout, texts, target, *unknown),
-        Task::Json { raw, defaults, .. } => {
+    texts.read_input(rt, file).map_err(read_fault)?;
+    match (task, target) {
+        (Task::Check { raw }, _) => check_buffer(layout, texts.input.bytes.as_slice(), *raw),
+        (Task::Binary { unknown, .. }, Some(target)) => {
+            write_buffer(rt, layout, texts, target, *unknown)
+        }
+        (Task::Json { raw, defaults, .. }, Some(target)) => {
             write_text(rt, layout, texts, target, (*raw, *defaults))
         }
-        Task::Check { raw } => check_buffer(layout, texts.input.bytes.as_slice(), *raw),
+        // Each file of these tasks has a target.
+        (_, None) => Err(ToolFault::FileWrite),
     }
 }
 
@@ -174,7 +151,8 @@ fn check_directory<'j>(
         Ok(_) => io::Error::from(IoErrorKind::NotADirectory),
         Err(error) => error,
     };
-    Err(texts.fail(rt, dir, &error, ToolFault::FileWrite))
+    texts.fail(rt, dir, &error);
+    Err(ToolFault::FileWrite)
 }
 
 /// The layout that all files are read under.
@@ -184,7 +162,8 @@ fn layout_of<'j>(
     texts: &mut Texts<'j>,
 ) -> Result<Layout, ToolFault> {
     check_directory(rt, &batch.task, texts)?;
-    texts.read_schema(rt, batch.schema.as_str())?;
+    let schema = batch.schema.as_str();
+    texts.read_schema(rt, schema).map_err(read_fault)?;
     match schema_of(rt.alloc(), texts.schema.bytes.as_slice()) {
         Ok(layout) => Ok(layout),
         Err(fault) => Err(ToolFault::Schema(fault)),
@@ -218,7 +197,8 @@ fn tell_path(rt: &HostRuntime, file: &str) {
 fn do_files<'j>(
     rt: &HostRuntime,
     batch: &'j Batch,
-    place: &Place<'j>,
+    targets: &'j [Target],
+    layout: &Layout,
     texts: &mut Texts<'j>,
     explained: bool,
 ) -> u8 {
@@ -226,8 +206,14 @@ fn do_files<'j>(
     let mut progress = Progress::new(rt, batch.files.len());
     for (at, file) in batch.files.iter().enumerate() {
         progress.show(rt, at);
-        let paths = [file.as_str(), place.target(at)];
-        let answer = do_file(rt, &batch.task, &place.layout, texts, paths);
+        let answer = do_file(
+            rt,
+            &batch.task,
+            layout,
+            texts,
+            file.as_str(),
+            targets.get(at),
+        );
         status.note(answer.is_ok());
         if let Err(fault) = answer {
             progress.clear(rt);
@@ -240,14 +226,13 @@ fn do_files<'j>(
 }
 
 /// Does a batch whose outputs are known, and returns the status.
-fn do_all<'j>(rt: &HostRuntime, batch: &'j Batch, targets: &'j [PathBuf], explained: bool) -> u8 {
-    let mut texts = Texts::new(rt);
+fn do_all<'j>(rt: &HostRuntime, batch: &'j Batch, targets: &'j [Target], explained: bool) -> u8 {
+    let mut texts = Texts::new(rt, explained);
     let layout = match layout_of(rt, batch, &mut texts) {
         Ok(layout) => layout,
         Err(fault) => return refuse(rt, &batch.task, &mut texts, fault, explained),
     };
-    let place = Place { layout, targets };
-    let status = do_files(rt, batch, &place, &mut texts, explained);
+    let status = do_files(rt, batch, targets, &layout, &mut texts, explained);
     match &batch.task {
         Task::Check { .. } if status == 0 => { tell(rt, Ok("ok\n")) }
         _ => status,

@@ -1,9 +1,8 @@
 //! What is printed of a refusal where an explanation is asked for.
-use crate::inputs::Input;
 use crate::limits;
-use crate::texts::Texts;
 use fb_explain::{FileFailure, Source, Sources, explain, fault_page, warnings};
 use flatc_cli::Job;
+use flatc_files::{Input, Lost, Texts};
 use flatc_tool::{JsonFault, ToolFault};
 use std::alloc::AllocError;
 
@@ -44,6 +43,14 @@ fn quotes_json(fault: ToolFault) -> bool {
     }
 }
 
+/// Why a JSON text isn't quoted.
+fn unquoted(lost: Lost) -> fb_explain::Lost {
+    match lost {
+        Lost::Streamed => fb_explain::Lost::Streamed,
+        Lost::Changed => fb_explain::Lost::Changed,
+    }
+}
+
 /// The lines that explain a refusal.
 fn explanation(
     rt: &HostRuntime,
@@ -52,7 +59,7 @@ fn explanation(
     fault: ToolFault,
 ) -> Result<String, AllocError> {
     let lost = if quotes_json(fault) {
-        texts.input.get_again(rt)?
+        texts.input.get_again(rt)?.map(unquoted)
     } else {
         None
     };

@@ -6,24 +6,17 @@ ghost use Rattle.flatc_tool.specs.Options.{usual_limits};
 
 mod batches;
 mod explained;
+mod faults;
 mod hints;
-mod inputs;
-mod outputs;
-mod progress;
-mod reasons;
-mod streams;
-mod targets;
-mod texts;
 
 use crate::batches::do_batch;
 use crate::explained::{explain_number, explain_refusal, flags_of, warn};
+use crate::faults::{Laid, read_fault, write_fault};
 use crate::hints::hint_for;
-use crate::outputs::write_out;
-use crate::reasons::Reasoned;
-use crate::texts::Texts;
 use clap::Error;
 use clap::error::ErrorKind;
 use flatc_cli::{Job, Request, request_of};
+use flatc_files::{Reasoned, Texts, write_out};
 use flatc_tool::command::report_noted;
 use flatc_tool::{
     EncodeOptions, Limits, Noted, Segments, ToolFault, check, conform_texts, print_to, to_binary,
@@ -81,6 +74,16 @@ fn buffer_of(
     to_binary_segments(rt.alloc(), schema, json, limits(), unknown)
 }
 
+/// Reads a schema, and what is under it or compared with it.
+fn read_both<'j>(
+    rt: &HostRuntime,
+    texts: &mut Texts<'j>,
+    [schema, input]: [&'j str; 2],
+) -> Result<(), ToolFault> {
+    texts.read_schema(rt, schema).map_err(read_fault)?;
+    texts.read_input(rt, input).map_err(read_fault)
+}
+
 fn write_buffer<'j>(
     rt: &HostRuntime,
     texts: &mut Texts<'j>,
@@ -88,13 +91,11 @@ fn write_buffer<'j>(
     unknown: bool,
 ) -> Result<(), ToolFault> {
     let [schema, json, out] = paths;
-    texts.read_schema(rt, schema)?;
-    texts.read_input(rt, json)?;
+    read_both(rt, texts, [schema, json])?;
     let buffer = buffer_of(rt, texts, unknown)?;
-    match write_out(rt, out, &buffer, [schema, json]) {
+    match write_out(rt, out, &mut Laid(&buffer), [schema, json]) {
         Ok(()) => Ok(()),
-        Err(error) if error.kind() == io::ErrorKind::OutOfMemory => Err(ToolFault::Memory),
-        Err(error) => Err(texts.fail(rt, out, &error, ToolFault::FileWrite)),
+        Err(error) => Err(write_fault(rt, texts, out, &error)),
     }
 }
 
@@ -111,7 +112,10 @@ fn print_bytes(
     let bytes = texts.input.bytes.as_slice();
     let answer = print_to(rt.alloc(), schema, bytes, limits(), raw, defaults, &mut out);
     match (answer, out.into_inner().into_reason()) {
-        (Err(fault), Some(error)) => Err(texts.fail(rt, "standard output", &error, fault)),
+        (Err(fault), Some(error)) => {
+            texts.fail(rt, "standard output", &error);
+            Err(fault)
+        }
         (answer, _) => answer,
     }
 }
@@ -123,9 +127,7 @@ fn print_buffer<'j>(
     raw: bool,
     defaults: bool,
 ) -> Result<(), ToolFault> {
-    let [schema, bin] = paths;
-    texts.read_schema(rt, schema)?;
-    texts.read_input(rt, bin)?;
+    read_both(rt, texts, paths)?;
     print_bytes(rt, texts, raw, defaults)
 }
 
@@ -136,9 +138,9 @@ fn check_files<'j>(
     bin: Option<&'j str>,
     raw: bool,
 ) -> Result<(), ToolFault> {
-    texts.read_schema(rt, schema_path)?;
+    texts.read_schema(rt, schema_path).map_err(read_fault)?;
     if let Some(bin) = bin {
-        texts.read_input(rt, bin)?;
+        texts.read_input(rt, bin).map_err(read_fault)?;
     }
     let schema = texts.schema.bytes.as_slice();
     let bytes = bin.map(|_| texts.input.bytes.as_slice());
@@ -151,8 +153,7 @@ fn conform_files<'j>(
     old_path: &'j str,
     new_path: &'j str,
 ) -> Result<(), ToolFault> {
-    texts.read_schema(rt, old_path)?;
-    texts.read_input(rt, new_path)?;
+    read_both(rt, texts, [old_path, new_path])?;
     let old = texts.schema.bytes.as_slice();
     let new = texts.input.bytes.as_slice();
     conform_texts(rt.alloc(), old, new)
@@ -245,7 +246,7 @@ fn words_of(rt: &HostRuntime) -> io::Result<Vec<String>> {
 /// A refusal is explained if that is asked for, which changes neither the job nor what is reported: what
 /// explaining takes is got only afterwards.
 fn do_and_report(rt: &HostRuntime, job: &Job, explained: bool) -> u8 {
-    let mut texts = Texts::new(rt);
+    let mut texts = Texts::new(rt, explained);
     let answer = do_job(rt, job, &mut texts);
     let status = tell(rt, answer);
     if explained {

@@ -1,5 +1,6 @@
 //! From the words of a command line to what they ask for.
-ghost use Rattle.std.specs.Prelude.{◌≡◌, IfOk, IfErr, IfSome, IfNone, OnOk, true, false, List, Option, map, string_bytes};
+ghost use Rattle.std.specs.Prelude.{◌≡◌, IfOk, IfErr, IfSome, IfNone, OnOk, true, false, List, Option};
+ghost use Rattle.std.specs.Prelude.{map, string_bytes};
 ghost use Rattle.clap.specs.Words.{Row, Text, kind_of, subcommand_of, subcommand_rows_of, takes};
 ghost use Rattle.flatc_cli.specs.Commands.{flatc_app};
 ghost use Rattle.flatc_cli.specs.Lines.{IsRequestOf, is_line, is_job_line};

@@ -9,7 +9,7 @@ const STEP: u64 = 100;
 
 /// The files that are done, of all; told on standard error where that is a terminal.
 #[derive(Drop)]
-pub(crate) struct Progress {
+pub struct Progress {
     total: usize,
     /// When the next line may come; none where nothing is told.
     next: Option<Instant>,
@@ -17,7 +17,8 @@ pub(crate) struct Progress {
 }
 
 impl Progress {
-    pub(crate) fn new(rt: &HostRuntime, total: usize) -> Progress {
+    /// Before the first file.
+    pub fn new(rt: &HostRuntime, total: usize) -> Progress {
         let next = if rt.stderr().is_terminal() {
             later(rt, QUIET)
         } else {
@@ -31,7 +32,7 @@ impl Progress {
     }
 
     /// Shows that so many are done, where it is time for that.
-    pub(crate) fn show(&mut self, rt: &HostRuntime, done: usize) {
+    pub fn show(&mut self, rt: &HostRuntime, done: usize) {
         let Some(next) = self.next else {
             return;
         };
@@ -46,7 +47,7 @@ impl Progress {
     }
 
     /// Clears the line that is shown.
-    pub(crate) fn clear(&mut self, rt: &HostRuntime) {
+    pub fn clear(&mut self, rt: &HostRuntime) {
         if self.shown {
             let _told = eprint!(rt; "\r\u{1b}[K");
             self.shown = false;

@@ -1,21 +1,22 @@
-//! Why a read or a write failed, kept for an explanation.
+//! Why a write failed, kept for an explanation.
 ghost use Rattle.std.specs.Prelude.{◌≡◌, Ok, MatchResult, IsErr};
-ghost use Rattle.std.specs.Io.{ReadsAtMost, WritesAtMost};
-ghost use Rattle.std.specs.Io.KnownBytes.{ReadConsumes, WriteAppends, Keeps};
+ghost use Rattle.std.specs.Io.{WritesAtMost};
+ghost use Rattle.std.specs.Io.KnownBytes.{WriteAppends, Keeps};
 
-use std::io::{self, Read, Write};
+use std::io::{self, Write};
 
-/// A reader or a writer that keeps the error of its last call that failed.
+/// A writer that keeps the error of its last write that failed.
 ///
 /// An error can't be copied, so its kind alone is passed on.
 #[derive(Drop)]
-pub(crate) struct Reasoned<S> {
+pub struct Reasoned<S> {
     inner: S,
     reason: Option<io::Error>,
 }
 
 impl<S> Reasoned<S> {
-    pub(crate) fn over(inner: S) -> Reasoned<S> {
+    /// A writer over another.
+    pub fn over(inner: S) -> Reasoned<S> {
         Reasoned {
             inner,
             reason: None,
@@ -24,8 +25,8 @@ impl<S> Reasoned<S> {
 }
 
 impl<S: Drop> Reasoned<S> {
-    /// The error that is kept; none where no call failed.
-    pub(crate) fn into_reason(self) -> Option<io::Error> {
+    /// The error that is kept; none where no write failed.
+    pub fn into_reason(self) -> Option<io::Error> {
         self.reason
     }
 }
@@ -41,18 +42,6 @@ fn kept(answer: io::Result<usize>, reason: &mut Option<io::Error>) -> io::Result
             *reason = Some(error);
             Err(io::Error::from(kind))
         }
-    }
-}
-
-impl<R: Read> Read for Reasoned<R> {
-    ghost remaining = { λ r. R.remaining r.inner };
-
-    fn read(&mut self, buf: &mut [u8]) -> io::Result<usize>
-        ensures bound { ReadsAtMost result buf.new }
-        ensures bytes { ReadConsumes (R.remaining self.old.inner) (R.remaining self.new.inner) result buf.new }
-    {
-        let answer = self.inner.read(buf);
-        kept(answer, &mut self.reason)
     }
 }
 

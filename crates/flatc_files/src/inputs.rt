@@ -1,17 +1,39 @@
 //! An input of a job: what was read from it, and how that is got again once it was given away.
-use crate::reasons::Reasoned;
+ghost use Rattle.std.specs.Prelude.{◌≡◌, ◌≤◌, length, IfOk, IfSome};
+
 use crate::streams::{Stream, metadata_of};
-use fb_explain::Lost;
 use flatc_cli::is_standard_input;
-use flatc_tool::ToolFault;
-use flatc_tool::command::{Heard, take_all};
-use std::alloc::AllocError;
+use std::alloc::{AllocError, Global};
 use std::fs::Metadata;
+use std::io::{self, ErrorKind, Read};
+use std::mem;
 use std::os::unix::fs::MetadataExt;
-use std::{io, mem};
 
 /// The longest file that is read, in bytes.
-const LONGEST: u32 = 2_147_483_647;
+const LONGEST: usize = 2_147_483_647;
+
+// What a file is read into, where it has no more bytes.
+const FIRST_CAPACITY: usize = 32_768;
+
+/// Why an input couldn't be read.
+#[derive(Clone, Copy)]
+pub enum ReadFault {
+    /// It couldn't be opened, or a read failed.
+    Failed,
+    /// It has more than 2,147,483,647 bytes.
+    TooLong,
+    /// Memory ran out.
+    Memory,
+}
+
+/// Why what was read of an input can't be had again.
+#[derive(Clone, Copy)]
+pub enum Lost {
+    /// It came through a pipe or a device.
+    Streamed,
+    /// The file has changed since, or is gone.
+    Changed,
+}
 
 /// What of a regular file is another once it was replaced or written to.
 #[derive(Clone, Copy, PartialEq, Eq)]
@@ -39,16 +61,18 @@ fn state_of(found: io::Result<Metadata>) -> Option<FileState> {
 /// Why a file couldn't be read.
 #[derive(Drop)]
 pub(crate) struct ReadFailure {
-    pub(crate) fault: ToolFault,
+    pub(crate) fault: ReadFault,
     /// The reason of the system; `None` where memory ran out.
     pub(crate) reason: Option<io::Error>,
 }
 
 /// An input, with what was read from it until that is given away.
 #[derive(Drop)]
-pub(crate) struct Input<'j> {
-    pub(crate) path: &'j str,
-    pub(crate) bytes: Vec<u8>,
+pub struct Input<'j> {
+    /// As the line has it.
+    pub path: &'j str,
+    /// What was read of it; nothing once that is given away.
+    pub bytes: Vec<u8>,
     /// What the file was when it was opened; `None` of what isn't a regular file.
     state: Option<FileState>,
     is_given: bool,
@@ -56,7 +80,7 @@ pub(crate) struct Input<'j> {
 
 impl<'j> Input<'j> {
     /// What is there before anything was read.
-    pub(crate) fn nothing(rt: &HostRuntime) -> Input<'j> {
+    pub fn nothing(rt: &HostRuntime) -> Input<'j> {
         Input {
             path: "",
             bytes: Vec::new(rt.alloc()),
@@ -65,9 +89,15 @@ impl<'j> Input<'j> {
         }
     }
 
-    /// Reads a file, or standard input.
-    pub(crate) fn read(rt: &HostRuntime, path: &'j str) -> Result<Input<'j>, ReadFailure> {
-        let mut input = Input::read_all(rt, path, Stream::open(rt, path))?;
+    /// Reads a file, or standard input; what the file was is noted where it may be read again.
+    pub(crate) fn read(
+        rt: &HostRuntime,
+        path: &'j str,
+        is_read_again: bool,
+    ) -> Result<Input<'j>, ReadFailure>
+        ensures short { IfOk result (λ input. length input.bytes.items ≤ 2147483647) }
+    {
+        let mut input = Input::read_all(rt, path, Stream::open(rt, path), is_read_again)?;
         // A file that standard input is may have been read from its middle.
         if is_standard_input(path) && !input.is_whole() {
             input.state = None;
@@ -83,37 +113,35 @@ impl<'j> Input<'j> {
         }
     }
 
-    // Reading takes a large buffer of its stack, which is to be free again when the job begins.
-    #[inline(never)]
     fn read_all(
         rt: &HostRuntime,
         path: &'j str,
         opened: io::Result<Stream>,
-    ) -> Result<Input<'j>, ReadFailure> {
+        is_read_again: bool,
+    ) -> Result<Input<'j>, ReadFailure>
+        ensures short { IfOk result (λ input. length input.bytes.items ≤ 2147483647) }
+    {
         let stream = match opened {
             Ok(stream) => stream,
-            Err(error) => return Err(failed(ToolFault::FileRead, Some(error))),
+            Err(error) => return Err(failed(ReadFault::Failed, Some(error))),
         };
         // Taken before the first byte is read: what is written meanwhile changes it.
-        let state = state_of(stream.metadata(rt));
-        let mut from = Heard::over(Reasoned::over(stream));
-        match take_all(rt.alloc(), &mut from, LONGEST) {
-            Ok(bytes) => Ok(Input {
-                path,
-                bytes,
-                state,
-                is_given: false,
-            }),
-            Err(ToolFault::FileTooLong) => {
-                let reason = io::Error::other("it is longer than 2147483647 bytes");
-                Err(failed(ToolFault::FileTooLong, Some(reason)))
-            }
-            Err(fault) => Err(failed(fault, from.into_inner().into_reason())),
-        }
+        let state = if is_read_again {
+            state_of(stream.metadata(rt))
+        } else {
+            None
+        };
+        let bytes = read_whole(rt.alloc(), stream)?;
+        Ok(Input {
+            path,
+            bytes,
+            state,
+            is_given: false,
+        })
     }
 
     /// Gives away what was read.
-    pub(crate) fn give(&mut self, rt: &HostRuntime) -> Vec<u8> {
+    pub fn give(&mut self, rt: &HostRuntime) -> Vec<u8> {
         self.is_given = true;
         mem::replace(&mut self.bytes, Vec::new(rt.alloc()))
     }
@@ -121,7 +149,7 @@ impl<'j> Input<'j> {
     /// Gets what was read and given away again; it returns why that isn't possible.
     ///
     /// A regular file is read again while its length and modification time are those that it had.
-    pub(crate) fn get_again(&mut self, rt: &HostRuntime) -> Result<Option<Lost>, AllocError> {
+    pub fn get_again(&mut self, rt: &HostRuntime) -> Result<Option<Lost>, AllocError> {
         if !self.is_given {
             return Ok(None);
         }
@@ -131,10 +159,10 @@ impl<'j> Input<'j> {
         if state_of(metadata_of(rt, self.path)) != self.state {
             return Ok(Some(Lost::Changed));
         }
-        match Input::read_all(rt, self.path, Stream::open_again(rt, self.path)) {
+        match Input::read_all(rt, self.path, Stream::open_again(rt, self.path), true) {
             Ok(again) => Ok(self.take(rt, again)),
             Err(unread) => match unread.fault {
-                ToolFault::Memory => Err(AllocError),
+                ReadFault::Memory => Err(AllocError),
                 _ => Ok(Some(Lost::Changed)),
             },
         }
@@ -150,6 +178,27 @@ impl<'j> Input<'j> {
     }
 }
 
-fn failed(fault: ToolFault, reason: Option<io::Error>) -> ReadFailure {
+fn failed(fault: ReadFault, reason: Option<io::Error>) -> ReadFailure {
     ReadFailure { fault, reason }
+}
+
+/// All bytes of a reader, `LONGEST` at most.
+fn read_whole<R: Read + Drop>(alloc: Global, from: R) -> Result<Vec<u8>, ReadFailure>
+    ensures short { IfOk result (λ v. length v.items ≤ 2147483647) }
+    ensures whole { IfOk result (λ v. IfSome (R.remaining from) (λ xs. v.items ≡ xs)) }
+{
+    let Ok(mut bytes) = Vec::with_capacity(alloc, FIRST_CAPACITY) else {
+        return Err(failed(ReadFault::Memory, None));
+    };
+    match from.take(LONGEST as u64 + 1).read_to_end(&mut bytes) {
+        Ok(_) if bytes.len() <= LONGEST => Ok(bytes),
+        Ok(_) => {
+            let reason = io::Error::other("it is longer than 2147483647 bytes");
+            Err(failed(ReadFault::TooLong, Some(reason)))
+        }
+        Err(error) if error.kind() == ErrorKind::OutOfMemory => {
+            Err(failed(ReadFault::Memory, None))
+        }
+        Err(error) => Err(failed(ReadFault::Failed, Some(error))),
+    }
 }

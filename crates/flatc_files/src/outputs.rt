@@ -1,26 +1,25 @@
-//! Where a buffer is written to: never over an input, and a regular file never half.
+//! Where an output is written to: never over an input, and a regular file never half.
+ghost use Rattle.std.specs.Prelude.{◌≢◌, IfErr};
+ghost use Rattle.std.specs.IoError.{error_kind};
+
 use crate::streams::metadata_of;
+use crate::targets::Target;
+use crate::unchanged::{holds, touch};
 use flatc_cli::is_standard_output;
-use flatc_tool::Segments;
+use std::alloc::Global;
 use std::fs::{self, File, Metadata, OpenOptions, Permissions};
-use std::io::{self, ErrorKind};
+use std::io::{self, BufWriter, ErrorKind, Write};
 use std::os::unix::fs::{MetadataExt, OpenOptionsExt, PermissionsExt, chown};
 use std::path::{Path, PathBuf};
 use std::process;
 
 /// What is written to an output.
-pub(crate) trait Content {
-    fn write_to(&mut self, file: &mut File) -> io::Result<()>;
-}
+pub trait Content {
+    /// Writes all of it. After an error some of its first bytes may have been written.
+    fn write_to<W: Write>(&mut self, out: &mut W) -> io::Result<()>;
 
-/// A buffer.
-#[derive(Drop)]
-pub(crate) struct Laid<'b>(pub(crate) &'b Segments);
-
-impl Content for Laid<'_> {
-    fn write_to(&mut self, file: &mut File) -> io::Result<()> {
-        self.0.write_to(file)
-    }
+    /// How many bytes it has, where that is known before they are written.
+    fn len(&self) -> Option<u64>;
 }
 
 // What only its owner may read, until it has the mode of the file that it replaces.
@@ -80,8 +79,18 @@ fn create_beside(rt: &HostRuntime, out: &str, mode: u32) -> io::Result<(PathBuf,
 
 /// Gives a new file the mode of another, and its owner where that is allowed.
 fn take_over(rt: &HostRuntime, file: &File, path: &str, old: &Metadata) -> io::Result<()> {
-    let _owner = chown(rt, path, Some(old.uid()), Some(old.gid()));
+    let new = file.metadata()?;
+    if (new.uid(), new.gid()) != (old.uid(), old.gid()) {
+        let _owner = chown(rt, path, Some(old.uid()), Some(old.gid()));
+    }
     file.set_permissions(Permissions::from_mode(old.mode() & PERMISSION_BITS))
+}
+
+/// Writes to a new file, small pieces together.
+fn fill<C: Content>(alloc: Global, content: &mut C, file: &mut File) -> io::Result<()> {
+    let mut out = BufWriter::new(alloc, file)?;
+    content.write_to(&mut out)?;
+    out.flush()
 }
 
 fn fill_and_rename<C: Content>(
@@ -91,7 +100,7 @@ fn fill_and_rename<C: Content>(
     content: &mut C,
     old: Option<&Metadata>,
 ) -> io::Result<()> {
-    content.write_to(&mut file)?;
+    fill(rt.alloc(), content, &mut file)?;
     if let Some(old) = old {
         take_over(rt, &file, path, old)?;
     }
@@ -115,7 +124,9 @@ fn replace<C: Content>(
 }
 
 /// What is at `out`; none where nothing is.
-fn found_at(rt: &HostRuntime, out: &str) -> io::Result<Option<Metadata>> {
+fn found_at(rt: &HostRuntime, out: &str) -> io::Result<Option<Metadata>>
+    ensures { IfErr result (λ e. error_kind e ≢ ErrorKind.NotFound) }
+{
     match fs::symlink_metadata(rt, out) {
         Ok(old) => Ok(Some(old)),
         Err(error) if error.kind() == ErrorKind::NotFound => Ok(None),
@@ -123,62 +134,85 @@ fn found_at(rt: &HostRuntime, out: &str) -> io::Result<Option<Metadata>> {
     }
 }
 
+/// Whether a regular file needs no other bytes. One of several names is replaced all the same, since the others keep
+/// the old file.
+fn is_unchanged<C: Content>(
+    rt: &HostRuntime,
+    out: &str,
+    content: &mut C,
+    old: &Metadata,
+) -> io::Result<bool> {
+    if old.nlink() != 1 || content.len() != Some(old.len()) {
+        return Ok(false);
+    }
+    holds(rt, out, content)
+}
+
 /// Writes to `out`, where `old` is what is there.
 fn write_over<C: Content>(
     rt: &HostRuntime,
     out: &str,
     content: &mut C,
-    old: Option<&Metadata>,
+    old: &Metadata,
 ) -> io::Result<()> {
-    if let Some(old) = old {
-        if !old.is_file() {
-            return content.write_to(&mut File::create(rt, out)?);
-        }
-        // A file that may not be written isn't replaced either.
-        let _writable = OpenOptions::new().write(true).open(rt, out)?;
+    if !old.is_file() {
+        return content.write_to(&mut File::create(rt, out)?);
     }
-    replace(rt, out, content, old)
+    // A file that may not be written isn't replaced either.
+    let file = OpenOptions::new().write(true).open(rt, out)?;
+    if is_unchanged(rt, out, content, old)? && touch(rt, &file) {
+        return Ok(());
+    }
+    replace(rt, out, content, Some(old))
 }
 
 /// Writes to `out`: a regular file is replaced whole or left as it was; what else is there, as a
 /// device, a pipe or a link, is written directly.
-pub(crate) fn write_file<C: Content>(
+pub fn write_file<C: Content>(
     rt: &HostRuntime,
-    out: &str,
+    target: &Target,
     content: &mut C,
 ) -> io::Result<()> {
+    let out = target.path.as_str();
+    if target.is_new {
+        return replace(rt, out, content, None);
+    }
     match found_at(rt, out)? {
-        Some(old) => write_over(rt, out, content, Some(&old)),
-        None => write_over(rt, out, content, None),
+        Some(old) => write_over(rt, out, content, &old),
+        None => replace(rt, out, content, None),
     }
 }
 
-/// Writes a buffer to standard output, as it was given.
-fn write_standard(rt: &HostRuntime, buffer: &Segments, inputs: [&str; 2]) -> io::Result<()> {
+/// Writes to standard output, as it was given.
+fn write_standard<C: Content>(
+    rt: &HostRuntime,
+    content: &mut C,
+    inputs: [&str; 2],
+) -> io::Result<()> {
     if is_an_input(rt, "/dev/fd/1", inputs) {
         return Err(refused());
     }
-    buffer.write_to(&mut rt.stdout())
+    content.write_to(&mut rt.stdout())
 }
 
-/// Writes a buffer to `out`, as `write_file` does, or to standard output.
+/// Writes to `out`, as `write_file` does, or to standard output.
 ///
 /// It is an error where that fails, where `out` is one of the inputs, and where it is there and its
 /// name ends in `.json` or `.fbs`.
-pub(crate) fn write_out(
+pub fn write_out<C: Content>(
     rt: &HostRuntime,
     out: &str,
-    buffer: &Segments,
+    content: &mut C,
     inputs: [&str; 2],
 ) -> io::Result<()> {
     if is_standard_output(out) {
-        return write_standard(rt, buffer, inputs);
+        return write_standard(rt, content, inputs);
     }
     let Some(old) = found_at(rt, out)? else {
-        return write_over(rt, out, &mut Laid(buffer), None);
+        return replace(rt, out, content, None);
     };
     if is_named_as_text(out) || is_an_input(rt, out, inputs) {
         return Err(refused());
     }
-    write_over(rt, out, &mut Laid(buffer), Some(&old))
+    write_over(rt, out, content, &old)
 }

@@ -1,0 +1,41 @@
+//! Buffers as what is written, and the faults of files that failed.
+use flatc_files::{Content, ReadFault, Texts};
+use flatc_tool::{Segments, ToolFault};
+use std::io::{self, ErrorKind, Write};
+
+/// A buffer, to be written.
+#[derive(Drop)]
+pub(crate) struct Laid<'b>(pub(crate) &'b Segments);
+
+impl Content for Laid<'_> {
+    fn write_to<W: Write>(&mut self, out: &mut W) -> io::Result<()> {
+        self.0.write_to(out)
+    }
+
+    fn len(&self) -> Option<u64> {
+        Some(self.0.len() as u64)
+    }
+}
+
+/// The fault of a file that couldn't be read.
+pub(crate) fn read_fault(fault: ReadFault) -> ToolFault {
+    match fault {
+        ReadFault::Failed => ToolFault::FileRead,
+        ReadFault::TooLong => ToolFault::FileTooLong,
+        ReadFault::Memory => ToolFault::Memory,
+    }
+}
+
+/// The fault of a file that couldn't be written.
+pub(crate) fn write_fault<'j>(
+    rt: &HostRuntime,
+    texts: &mut Texts<'j>,
+    path: &'j str,
+    error: &io::Error,
+) -> ToolFault {
+    if error.kind() == ErrorKind::OutOfMemory {
+        return ToolFault::Memory;
+    }
+    texts.fail(rt, path, error);
+    ToolFault::FileWrite
+}

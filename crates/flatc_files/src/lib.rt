@@ -1,0 +1,18 @@
+//! The files and streams of a command: what it reads, and what it writes without losing what was there.
+#![tactic(auto)]
+
+mod inputs;
+mod outputs;
+mod progress;
+mod reasons;
+mod streams;
+mod targets;
+mod texts;
+mod unchanged;
+
+pub use inputs::{Input, Lost, ReadFault};
+pub use outputs::{Content, write_file, write_out};
+pub use progress::Progress;
+pub use reasons::Reasoned;
+pub use targets::{Misuse, Target, directory_of, targets_of};
+pub use texts::{Failure, Texts};

@@ -1,0 +1,157 @@
+//! The files of a directory that a batch is written to.
+use crate::streams::metadata_of;
+use flatc_cli::{Batch, Task, is_standard_input, targets_in};
+use std::alloc::{AllocError, AllocFailed, Global};
+use std::collections::BTreeSet;
+use std::fs::{self, Metadata};
+use std::io::ErrorKind;
+use std::os::unix::fs::MetadataExt;
+use std::path::PathBuf;
+
+/// Why a line can't be done: what its usage error says.
+#[derive(Drop)]
+pub enum Misuse {
+    /// Memory ran out.
+    Memory,
+    /// The sentence of a usage error.
+    Said(String),
+}
+
+impl From<AllocError> for Misuse {
+    fn from(_error: AllocError) -> Misuse {
+        Misuse::Memory
+    }
+}
+
+impl<T: Drop> From<AllocFailed<T>> for Misuse {
+    fn from(_error: AllocFailed<T>) -> Misuse {
+        Misuse::Memory
+    }
+}
+
+/// A file by its device and number.
+type Identity = (u64, u64);
+
+/// Where a file of a batch is written to, and what was there before.
+#[derive(Drop)]
+pub struct Target {
+    /// The path of the output.
+    pub path: PathBuf,
+    /// Whether nothing was there, not even a link that leads nowhere.
+    pub is_new: bool,
+    /// The file that was there, or that a link led to.
+    file: Option<Identity>,
+}
+
+impl Target {
+    /// Looks at what is there.
+    fn at(rt: &HostRuntime, path: PathBuf) -> Target {
+        let (is_new, file) = match fs::symlink_metadata(rt, path.as_str()) {
+            Ok(found) if found.is_symlink() => (false, identity_at(rt, path.as_str())),
+            Ok(found) => (false, Some(identity_of(&found))),
+            Err(error) => (error.kind() == ErrorKind::NotFound, None),
+        };
+        Target { path, is_new, file }
+    }
+}
+
+fn identity_of(found: &Metadata) -> Identity {
+    (found.dev(), found.ino())
+}
+
+/// The file that a path leads to.
+fn identity_at(rt: &HostRuntime, path: &str) -> Option<Identity> {
+    match metadata_of(rt, path) {
+        Ok(found) => Some(identity_of(&found)),
+        Err(_) => None,
+    }
+}
+
+/// The directory and the extension of a task's outputs; none where it writes no files.
+pub fn directory_of(task: &Task) -> Option<(&str, &'static str)> {
+    match task {
+        Task::Binary { dir, .. } => Some((dir.as_str(), "bin")),
+        Task::Json { dir, .. } => Some((dir.as_str(), "json")),
+        Task::Check { .. } => None,
+    }
+}
+
+fn check_named(alloc: Global, files: &[String]) -> Result<(), Misuse> {
+    for file in files {
+        if is_standard_input(file.as_str()) {
+            let said = "standard input has no name for a file in DIR";
+            return Err(Misuse::Said(String::from_str(alloc, said)?));
+        }
+    }
+    Ok(())
+}
+
+fn check_distinct(alloc: Global, paths: &[PathBuf]) -> Result<(), Misuse> {
+    let mut met = BTreeSet::new(alloc);
+    for path in paths {
+        if !met.insert(path.as_str())? {
+            let said = format!(in alloc; "two files would be written to '{}'", path.as_str())?;
+            return Err(Misuse::Said(said));
+        }
+    }
+    Ok(())
+}
+
+/// The files that a batch reads.
+fn inputs_of(rt: &HostRuntime, batch: &Batch) -> Result<BTreeSet<Identity>, AllocError> {
+    let mut inputs = BTreeSet::new(rt.alloc());
+    if let Some(schema) = identity_at(rt, batch.schema.as_str()) {
+        let _is_new = inputs.insert(schema)?;
+    }
+    for path in &batch.files {
+        if let Some(file) = identity_at(rt, path.as_str()) {
+            let _is_new = inputs.insert(file)?;
+        }
+    }
+    Ok(inputs)
+}
+
+/// That no target that is there is one of the inputs.
+fn check_apart(rt: &HostRuntime, batch: &Batch, targets: &[Target]) -> Result<(), Misuse> {
+    if targets.iter().all(|target| target.file.is_none()) {
+        return Ok(());
+    }
+    let inputs = inputs_of(rt, batch)?;
+    for target in targets {
+        if let Some(file) = target.file {
+            if inputs.contains(&file) {
+                let path = target.path.as_str();
+                let said = format!(in rt.alloc(); "the output '{path}' is one of the inputs")?;
+                return Err(Misuse::Said(said));
+            }
+        }
+    }
+    Ok(())
+}
+
+/// The targets at some paths, in their order.
+fn targets_at(rt: &HostRuntime, paths: Vec<PathBuf>) -> Result<Vec<Target>, AllocError> {
+    let mut targets = Vec::with_capacity(rt.alloc(), paths.len())?;
+    for path in paths {
+        targets.push(Target::at(rt, path))?;
+    }
+    Ok(targets)
+}
+
+/// Where each file of a batch goes, in the order of the files; nothing where none is written.
+///
+/// It is a misuse where an input has no name, where two would get one name, and where an output is
+/// one of the inputs.
+pub fn targets_of(rt: &HostRuntime, batch: &Batch) -> Result<Vec<Target>, Misuse> {
+    let alloc = rt.alloc();
+    let Some((dir, extension)) = directory_of(&batch.task) else {
+        return Ok(Vec::new(alloc));
+    };
+    let files = batch.files.as_slice();
+    check_named(alloc, files)?;
+    let paths = targets_in(alloc, dir, extension, files)?;
+    check_distinct(alloc, paths.as_slice())?;
+    let targets = targets_at(rt, paths)?;
+    check_apart(rt, batch, targets.as_slice())?;
+    Ok(targets)
+}

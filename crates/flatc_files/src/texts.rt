@@ -1,0 +1,75 @@
+//! What a job reads, and why a file failed.
+use crate::inputs::{Input, ReadFault};
+use std::io;
+
+/// What a job has read so far, and why a file couldn't be read or written.
+#[derive(Drop)]
+pub struct Texts<'j> {
+    /// The schema text; of `conform` the old one.
+    pub schema: Input<'j>,
+    /// The JSON text, the buffer, or the new schema text.
+    pub input: Input<'j>,
+    /// Why a file failed; none where none did, or memory ran out.
+    pub failure: Option<Failure<'j>>,
+    /// Whether a refusal is explained, for which an input may be read again.
+    is_explained: bool,
+}
+
+/// A file that couldn't be read or written.
+#[derive(Drop)]
+pub struct Failure<'j> {
+    /// As the line has it.
+    pub path: &'j str,
+    /// The reason as the system says it.
+    pub reason: String,
+}
+
+impl<'j> Texts<'j> {
+    /// Before anything was read.
+    pub fn new(rt: &HostRuntime, is_explained: bool) -> Texts<'j> {
+        Texts {
+            schema: Input::nothing(rt),
+            input: Input::nothing(rt),
+            failure: None,
+            is_explained,
+        }
+    }
+
+    /// Forgets the input and why a file failed, for the next file of a batch.
+    pub fn forget(&mut self, rt: &HostRuntime) {
+        self.input = Input::nothing(rt);
+        self.failure = None;
+    }
+
+    /// Remembers why a file failed, where there is memory for that.
+    pub fn fail(&mut self, rt: &HostRuntime, path: &'j str, error: &io::Error) {
+        self.failure = match format!(in rt.alloc(); "{error}") {
+            Ok(reason) => Some(Failure { path, reason }),
+            Err(_) => None,
+        };
+    }
+
+    fn read(&mut self, rt: &HostRuntime, path: &'j str) -> Result<Input<'j>, ReadFault> {
+        match Input::read(rt, path, self.is_explained) {
+            Ok(input) => Ok(input),
+            Err(unread) => {
+                if let Some(reason) = &unread.reason {
+                    self.fail(rt, path, reason);
+                }
+                Err(unread.fault)
+            }
+        }
+    }
+
+    /// Reads the schema text.
+    pub fn read_schema(&mut self, rt: &HostRuntime, path: &'j str) -> Result<(), ReadFault> {
+        self.schema = self.read(rt, path)?;
+        Ok(())
+    }
+
+    /// Reads the JSON text, the buffer or the new schema text.
+    pub fn read_input(&mut self, rt: &HostRuntime, path: &'j str) -> Result<(), ReadFault> {
+        self.input = self.read(rt, path)?;
+        Ok(())
+    }
+}
