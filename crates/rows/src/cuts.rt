@@ -15,7 +15,7 @@ fn is_settled(alloc: Global, text: &[u8]) -> bool {
 
 /// Whether each cut of a schema text, between any two of its bytes, gives a layout or a fault of
 /// its own.
-pub fn are_cuts_settled(alloc: Global, text: &str) -> bool {
+pub(crate) fn are_cuts_settled(alloc: Global, text: &str) -> bool {
     let bytes = text.as_bytes();
     (0..bytes.len()).all(|end| is_settled(alloc, &bytes[..end]))
 }

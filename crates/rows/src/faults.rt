@@ -5,7 +5,7 @@ use std::fmt;
 
 /// Why a line is no row, with the field's name where it is one's fault.
 #[derive(Clone, Copy, Drop)]
-pub enum RowFault {
+pub(crate) enum RowFault {
     NotJson(Error),
     NotAnObject,
     Missing(&'static str),

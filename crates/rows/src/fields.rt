@@ -5,7 +5,7 @@ use std::alloc::Global;
 
 /// The fields of a row that nothing has taken yet.
 #[derive(Drop)]
-pub struct Fields<'a> {
+pub(crate) struct Fields<'a> {
     left: Vec<(&'a str, Value<'a>)>,
 }
 
@@ -29,14 +29,17 @@ impl<'a> Fields<'a> {
     }
 
     /// Takes a field of any type.
-    pub fn value(&mut self, name: &'static str) -> Option<Value<'a>> {
+    pub(crate) fn value(&mut self, name: &'static str) -> Option<Value<'a>> {
         let place = self.left.iter().position(|(key, _)| *key == name)?;
         let (_, value) = self.left.remove(place);
         Some(value)
     }
 
     /// Takes a text, if it is there.
-    pub fn optional_text(&mut self, name: &'static str) -> Result<Option<&'a str>, RowFault> {
+    pub(crate) fn optional_text(
+        &mut self,
+        name: &'static str,
+    ) -> Result<Option<&'a str>, RowFault> {
         match self.value(name) {
             None => Ok(None),
             Some(Value::String(text)) => Ok(Some(text)),
@@ -45,7 +48,7 @@ impl<'a> Fields<'a> {
     }
 
     /// Takes a text.
-    pub fn text(&mut self, name: &'static str) -> Result<&'a str, RowFault> {
+    pub(crate) fn text(&mut self, name: &'static str) -> Result<&'a str, RowFault> {
         match self.optional_text(name)? {
             Some(text) => Ok(text),
             None => Err(RowFault::Missing(name)),
@@ -53,7 +56,7 @@ impl<'a> Fields<'a> {
     }
 
     /// Takes a number, if it is there.
-    pub fn number(&mut self, name: &'static str) -> Result<Option<u64>, RowFault> {
+    pub(crate) fn number(&mut self, name: &'static str) -> Result<Option<u64>, RowFault> {
         match self.value(name) {
             None => Ok(None),
             Some(value) => match value.as_u64() {
@@ -64,7 +67,7 @@ impl<'a> Fields<'a> {
     }
 
     /// Takes a flag, which is false where it isn't there.
-    pub fn flag(&mut self, name: &'static str) -> Result<bool, RowFault> {
+    pub(crate) fn flag(&mut self, name: &'static str) -> Result<bool, RowFault> {
         match self.value(name) {
             None => Ok(false),
             Some(Value::Bool(flag)) => Ok(flag),

@@ -1,26 +1,18 @@
 //! Rows that are tried.
 use crate::faults::RowFault;
 use crate::fields::Fields;
+use crate::schemas::try_schema_row;
 use crate::tally::Tally;
+use crate::values::try_value_row;
 use json::Scratch;
 use std::alloc::{AllocError, Global};
 use std::io::{self, Read, Write};
 use std::process::ExitCode;
 
-/// What is tried in each row.
-pub trait Trial {
-    /// The kinds of rows, in the order in which they are counted.
-    fn kinds(&self) -> &[&'static str];
-
-    /// Writes what comes of a row as a line, and returns the row's kind. Each field that tells of
-    /// it is taken.
-    fn run(
-        &self,
-        alloc: Global,
-        row: &mut Fields<'_>,
-        line: &mut String,
-    ) -> Result<&'static str, RowFault>;
-}
+/// The kinds of rows, in the order in which they are counted.
+const KINDS: &[&str] = &[
+    "refused", "declared", "asked", "built", "meant", "read", "damaged", "carried",
+];
 
 /// Whether a row holds: its kind, or what is wrong.
 #[derive(Drop)]
@@ -44,12 +36,20 @@ fn compare(
     Ok(Verdict::Wrong(wrong))
 }
 
+/// Writes what comes of a row as a line, and returns the row's kind. Each field that tells of it is taken.
+fn run(alloc: Global, row: &mut Fields<'_>, line: &mut String) -> Result<&'static str, RowFault> {
+    match row.optional_text("text")? {
+        Some(text) => try_schema_row(alloc, text, row, line),
+        None => try_value_row(alloc, row, line),
+    }
+}
+
 /// The verdict on a row. One with a field that isn't used is no row.
-fn try_row<T: Trial>(alloc: Global, trial: &T, row: &mut Fields<'_>) -> Result<Verdict, RowFault> {
+fn try_row(alloc: Global, row: &mut Fields<'_>) -> Result<Verdict, RowFault> {
     let name = row.text("row")?;
     let want = row.text("want")?;
     let mut line = String::new(alloc);
-    let kind = trial.run(alloc, row, &mut line)?;
+    let kind = run(alloc, row, &mut line)?;
     if !row.is_empty() {
         return Err(RowFault::Unused);
     }
@@ -57,32 +57,31 @@ fn try_row<T: Trial>(alloc: Global, trial: &T, row: &mut Fields<'_>) -> Result<V
 }
 
 /// The verdict on a line, or why it is no row.
-fn try_line<T: Trial>(alloc: Global, trial: &T, line: &str) -> Result<Verdict, RowFault> {
+fn try_line(alloc: Global, line: &str) -> Result<Verdict, RowFault> {
     let mut scratch = Scratch::new(alloc);
     match Fields::parse(alloc, line, &mut scratch) {
-        Ok(mut row) => try_row(alloc, trial, &mut row),
+        Ok(mut row) => try_row(alloc, &mut row),
         Err(fault) => Err(fault),
     }
 }
 
 /// The verdict on a line. A line that is no row is wrong.
-fn judge<T: Trial>(alloc: Global, trial: &T, line: &str) -> Result<Verdict, AllocError> {
-    match try_line(alloc, trial, line) {
+fn judge(alloc: Global, line: &str) -> Result<Verdict, AllocError> {
+    match try_line(alloc, line) {
         Ok(verdict) => Ok(verdict),
         Err(fault) => Ok(Verdict::Wrong(format!(in alloc; "{line}: no row, {fault}")?)),
     }
 }
 
 /// Tries each line of a text as a row, and writes a line for each that is wrong.
-fn try_lines<T: Trial, W: Write>(
+fn try_lines<W: Write>(
     alloc: Global,
-    trial: &T,
     text: &str,
     tally: &mut Tally,
     out: &mut W,
 ) -> io::Result<()> {
     for line in text.lines() {
-        let verdict = judge(alloc, trial, line)?;
+        let verdict = judge(alloc, line)?;
         tally.count(&verdict, out)?;
     }
     Ok(())
@@ -90,15 +89,14 @@ fn try_lines<T: Trial, W: Write>(
 
 /// Tries each line of the input as a row, and writes a line for each that is wrong, and the counts.
 /// The status is a failure where a row is wrong.
-pub fn try_rows<T: Trial, R: Read + Drop, W: Write>(
+pub(crate) fn try_rows<R: Read + Drop, W: Write>(
     alloc: Global,
-    trial: &T,
     input: R,
     out: &mut W,
 ) -> io::Result<ExitCode> {
     let text = io::read_to_string(alloc, input)?;
-    let mut tally = Tally::new(alloc, trial.kinds())?;
-    try_lines(alloc, trial, text.as_str(), &mut tally, out)?;
+    let mut tally = Tally::new(alloc, KINDS)?;
+    try_lines(alloc, text.as_str(), &mut tally, out)?;
     tally.write_to(out)?;
     Ok(tally.status())
 }

@@ -1,9 +1,9 @@
 //! Buffers that are made of JSON texts and printed.
-use crate::cases::Case;
 use crate::hex::write_hex;
-use crate::meanings::{buffer_of, meaning, write_unmeant};
-use crate::readings::{value_in, write_unread};
-use crate::texts::is_printed_alike;
+use crate::values::Case;
+use crate::values::meanings::{buffer_of, meaning, write_unmeant};
+use crate::values::readings::{value_in, write_unread};
+use crate::values::texts::is_printed_alike;
 use fb_value::Value;
 use flatc_tool::{ToolFault, to_json};
 use std::alloc::AllocError;

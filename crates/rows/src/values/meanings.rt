@@ -4,8 +4,8 @@ ghost use Rattle.fb_value.specs.View.{view};
 ghost use Rattle.fb_value.specs.Counts.{nesting};
 ghost use Rattle.fb_value.specs.Fits.{FitsRoot};
 
-use crate::cases::Case;
-use crate::texts::try_alike;
+use crate::values::Case;
+use crate::values::texts::try_alike;
 use fb_json::{JsonFault, value_of};
 use fb_value::Value;
 use flatc_tool::{ToolFault, to_binary};

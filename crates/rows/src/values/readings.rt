@@ -1,7 +1,7 @@
 //! What both readers make of bytes.
-use crate::agree::table_agrees;
-use crate::cases::Case;
-use crate::texts::try_alike;
+use crate::values::Case;
+use crate::values::agree::table_agrees;
+use crate::values::texts::try_alike;
 use fb_read::{Entries, read, verify};
 use fb_value::{ReadFault, Value};
 use std::alloc::AllocError;

@@ -2,7 +2,7 @@ use Rattle.std.proofs.Common.{◌≤◌, arith}
 use Rattle.fb_value.specs.View.{view}
 use Rattle.fb_value.specs.Counts.{depth}
 use Rattle.fb_value.proofs.types.NestingIsBoundedByDepth.{nesting_of_depth_shown}
-use Rattle.value_rows.proofs.meanings.meaning.Goals as goal
+use Rattle.rows.proofs.values.meanings.meaning.Goals as goal
 
 pub returns-in-Ok-value_of : goal.returns-in-Ok-value_of
 returns-in-Ok-value_of c =

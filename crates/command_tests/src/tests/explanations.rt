@@ -1,10 +1,9 @@
 //! What is explained where the command can't be brought to a fault, or only by gigabytes.
-use super::usual_limits;
 use fb_build::BuildFault;
 use fb_explain::{Source, Sources, explain};
 use fb_text::{TextFault, WriteFault};
 use fb_value::ReadFault;
-use flatc_tool::ToolFault;
+use flatc_tool::{EncodeOptions, ToolFault};
 use std::test::Fail;
 
 const SCHEMA: &[u8] = b"table T { a:int; } root_type T;";
@@ -55,7 +54,7 @@ fn a_fault_is_explained(rt: HostRuntime) -> Result<(), Fail> {
             bytes: BUFFER,
         },
         lost: None,
-        limits: usual_limits(),
+        limits: EncodeOptions::new().limits,
         unknown_json: false,
         raw_binary: false,
         failure: None,

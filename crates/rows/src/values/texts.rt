@@ -1,5 +1,5 @@
 //! Texts of values beside those of their bytes.
-use crate::cases::Case;
+use crate::values::Case;
 use fb_text::{TextFault, text_of};
 use fb_value::Value;
 use flatc_tool::{ToolFault, to_json};

@@ -5,10 +5,10 @@ ghost use Rattle.fb_value.specs.Counts.{nesting};
 ghost use Rattle.fb_value.specs.Fits.{FitsRoot};
 ghost use Rattle.fb_conform.specs.Conforms.{Conforms};
 
-use crate::cases::Case;
-use crate::meanings::{buffer_of, meaning, write_unmeant};
-use crate::readings::{value_in, write_unread};
-use crate::texts::try_alike;
+use crate::values::Case;
+use crate::values::meanings::{buffer_of, meaning, write_unmeant};
+use crate::values::readings::{value_in, write_unread};
+use crate::values::texts::try_alike;
 use fb_conform::{carry, conform};
 use fb_value::Value;
 use std::alloc::AllocError;

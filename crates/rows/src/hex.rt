@@ -1,5 +1,5 @@
 //! Bytes as hexadecimal text.
-use rows::RowFault;
+use crate::faults::RowFault;
 use std::alloc::{AllocError, Global};
 
 /// The value of a digit in small letters.

@@ -1,8 +1,8 @@
 //! What both readers make of a buffer that is damaged: each of its fronts, and each other value of
 //! each of its bytes.
-use crate::cases::Case;
-use crate::readings::{Unread, value_in};
-use crate::texts::is_printed_alike;
+use crate::values::Case;
+use crate::values::readings::{Unread, value_in};
+use crate::values::texts::is_printed_alike;
 use fb_value::ReadFault;
 use std::alloc::AllocError;
 

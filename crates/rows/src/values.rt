@@ -1,14 +1,24 @@
 //! Rows with values.
-use crate::buffers::{try_both, try_printed};
-use crate::damage::try_damaged;
+mod agree;
+mod buffers;
+mod damage;
+mod meanings;
+mod readings;
+mod texts;
+mod versions;
+
+use crate::cuts::are_cuts_settled;
+use crate::faults::RowFault;
+use crate::fields::Fields;
 use crate::hex::bytes_of;
-use crate::meanings::try_meaning;
-use crate::readings::try_bytes;
-use crate::versions::try_later;
+use crate::values::buffers::{try_both, try_printed};
+use crate::values::damage::try_damaged;
+use crate::values::meanings::try_meaning;
+use crate::values::readings::try_bytes;
+use crate::values::versions::try_later;
 use fb_layout::Layout;
 use fb_value::Limits;
 use flatc_tool::schema_of;
-use rows::{Fields, RowFault, Trial, are_cuts_settled};
 use std::alloc::Global;
 
 /// What a row is tried under: its schema text and the layout that it has, and limits.
@@ -20,7 +30,7 @@ pub(crate) struct Case<'s, 'l> {
     pub(crate) limits: Limits,
 }
 
-/// Rows of values: a schema text, with a JSON text, with bytes in hexadecimal or with both, and what
+/// A row of values: a schema text, with a JSON text, with bytes in hexadecimal or with both, and what
 /// has to come of them.
 ///
 /// Of a JSON text the value that it means is wanted, of bytes the value that they hold or, where it
@@ -30,24 +40,7 @@ pub(crate) struct Case<'s, 'l> {
 /// the value that it means is wanted as it is under that schema, or the breach. Wherever bytes hold
 /// a value they print as that value's text, or both name the same union without a name; and each cut
 /// of a schema text gives a schema or a fault.
-pub(crate) struct ValueRows;
-
-impl Trial for ValueRows {
-    fn kinds(&self) -> &[&'static str] {
-        &["built", "meant", "read", "damaged", "carried"]
-    }
-
-    fn run(
-        &self,
-        alloc: Global,
-        row: &mut Fields<'_>,
-        line: &mut String,
-    ) -> Result<&'static str, RowFault> {
-        try_schema(alloc, row, line)
-    }
-}
-
-fn try_schema(
+pub(crate) fn try_value_row(
     alloc: Global,
     row: &mut Fields<'_>,
     line: &mut String,

@@ -1,41 +1,31 @@
 //! Rows with schema texts.
-use crate::asked::write_asked;
-use crate::laid::write_laid;
-use crate::shown::write_schema;
-use crate::texts::{with_pieces, with_tables};
+mod asked;
+mod laid;
+mod shown;
+mod texts;
+
+use crate::cuts::are_cuts_settled;
+use crate::faults::RowFault;
+use crate::fields::Fields;
+use crate::schemas::asked::write_asked;
+use crate::schemas::laid::write_laid;
+use crate::schemas::shown::write_schema;
+use crate::schemas::texts::{with_pieces, with_tables};
 use flatc_tool::{Layout, SchemaTextFault, schema_of};
-use rows::{Fields, RowFault, Trial, are_cuts_settled};
 use std::alloc::{AllocError, Global};
 
-/// Rows of schema texts, and what each has to give.
+/// A row of a schema text, and what it has to give.
 ///
 /// `tables` is a number of tables that stand before the text, and `pieces` a number of pieces like
 /// `piece` in it, as `texts` makes them. Where `ask` is there the schema is asked for it, where
 /// `laid` is its layout, and else the schema is shown as a whole. A text that is refused gives its
 /// fault. Each cut of a text that is written out gives a schema or a fault too.
-pub(crate) struct SchemaRows;
-
-impl Trial for SchemaRows {
-    fn kinds(&self) -> &[&'static str] {
-        &["refused", "declared", "asked"]
-    }
-
-    fn run(
-        &self,
-        alloc: Global,
-        row: &mut Fields<'_>,
-        line: &mut String,
-    ) -> Result<&'static str, RowFault> {
-        try_row(alloc, row, line)
-    }
-}
-
-fn try_row(
+pub(crate) fn try_schema_row(
     alloc: Global,
+    text: &str,
     row: &mut Fields<'_>,
     line: &mut String,
 ) -> Result<&'static str, RowFault> {
-    let text = row.text("text")?;
     if let Some(tables) = row.number("tables")? {
         let text = with_tables(alloc, tables, text)?;
         return try_text(alloc, text.as_str(), row, line);

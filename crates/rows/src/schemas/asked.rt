@@ -1,7 +1,8 @@
 //! What a schema is asked for.
-use crate::shown::write_field;
+use crate::faults::RowFault;
+use crate::schemas::shown::write_field;
 use fb_schema::{FieldInfo, Schema, TypeId};
-use rows::{RowFault, Value};
+use json::Value;
 use std::alloc::AllocError;
 
 /// One look-up in a schema, with the type's number before what is sought in it.

@@ -1,5 +1,5 @@
 //! Schema texts that are too long to stand in a row.
-use rows::RowFault;
+use crate::faults::RowFault;
 use std::alloc::{AllocError, Global};
 
 /// A text behind some tables, `Link0` and so on, each with nine integers, whose default is the

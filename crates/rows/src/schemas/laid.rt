@@ -1,7 +1,8 @@
 //! What a layout is asked for.
+use crate::faults::RowFault;
 use fb_layout::Layout;
 use fb_schema::{Kind, TypeId};
-use rows::{RowFault, Value};
+use json::Value;
 use std::alloc::AllocError;
 
 /// One look into a layout: a type's number behind what it is looked into for.

@@ -1,0 +1,5 @@
+//! Tests of what the command reads and explains.
+#![tactic(auto)]
+
+#[cfg(test)]
+mod tests;

@@ -1,0 +1,3 @@
+//! Lines of words, and explanations.
+mod explanations;
+mod request_of;
