@@ -7,7 +7,10 @@
 # make examples   proves and builds the library, and runs the programs in examples/ that use it
 # make valgrind   runs the C example under valgrind, outside the gate
 # make test       the gate: every proof from nothing, the must-fail edits, the tests, the program
-# make mutations  further edits that the prover has to refuse, outside the gate
+# make check CRATE=NAME  proves one crate over the libraries below it
+# make rows       tries the rows of crates/rows, with nothing proved
+# make fmt        formats all crates
+# make mutations  further edits that the prover has to refuse, outside the gate; CRATE=NAME tries those of one crate
 # make soak       a million damaged buffers of schemas made from SEED, and files of gigabytes, outside the gate
 # make bench      times the program on generated documents, beside Google's flatc where that is installed
 # make bench-library  counts the instructions of one call of the library, beside libflatbuffers where it is installed
@@ -16,6 +19,8 @@ PREFIX = /usr/local
 NAME = flatc
 PROGRAM = crates/flatc/out/flatc
 SEED = 1
+# --over-gate: over the libraries that the gate proved
+BUILD =
 LIBDIR = lib
 # The toolchain's own files, of which a static library wants the heap.
 KIT = $(patsubst %/,%,$(dir $(shell rt doc)))
@@ -24,7 +29,7 @@ SONAME = libflatc.so.0
 INCLUDES = $(DESTDIR)$(PREFIX)/include
 LIBRARIES = $(DESTDIR)$(PREFIX)/$(LIBDIR)
 
-.PHONY: run try build lib install uninstall examples valgrind test mutations soak bench bench-library
+.PHONY: run try build check rows fmt lib install uninstall examples valgrind test mutations soak bench bench-library
 
 run: build
 	@tests/example.sh $(PROGRAM)
@@ -38,7 +43,7 @@ build:
 	@python3 tools/build.py flatc
 
 lib:
-	@python3 tools/build.py flatc_c
+	@python3 tools/build.py flatc_c $(BUILD)
 	@mkdir -p lib
 	@cp crates/flatc_c/out/libflatc_c.a lib/libflatc.a
 	@cd lib && ar x $(KIT)/c/liblibc_c.a heap.pic.o && ar rs libflatc.a heap.pic.o && rm heap.pic.o
@@ -72,8 +77,18 @@ valgrind: lib
 test:
 	@tests/gate.sh
 
-mutations: build
-	@python3 tools/mutations.py
+check:
+	@cd crates/$(CRATE) && rt check
+
+rows:
+	@cd crates/rows && rt try --steps 1 --seconds 900 < stdin | head -n 1
+
+fmt:
+	@rt all fmt
+
+mutations:
+	@python3 tools/build.py $(or $(CRATE),flatc)
+	@python3 tools/mutations.py $(CRATE)
 
 soak: build
 	@python3 tools/build.py hostile

@@ -15,6 +15,9 @@ import tempfile
 import threading
 
 ROOT = os.path.dirname(os.path.dirname(os.path.abspath(__file__)))
+sys.path.append(f"{ROOT}/tools")
+
+from version import version  # noqa: E402
 LONGEST = 2_147_483_647
 # pairs.txt has as many pairs at least.
 PAIRS = 87
@@ -292,7 +295,7 @@ def usage():
     for job in ("binary", "json", "check", "conform"):
         helped(f"help of {job}", [job, "--help"], f"Usage: flatc {job} ".encode())
         helped(f"short help of {job}", [job, "-h"], f"Usage: flatc {job} ".encode())
-    helped("the version", ["--version"], b"flatc 0.1.0\n")
+    helped("the version", ["--version"], f"flatc {version()}\n".encode())
     misused("no such job", ["nothing"])
     misused("a flag that no job has", ["check", "--nothing", "one.fbs"])
     misused("a flag of another job", ["check", "--unknown-json", "one.fbs"])

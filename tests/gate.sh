@@ -1,9 +1,10 @@
 #!/usr/bin/env bash
 # The gate: all that rt ci proves and runs, whether each mutation can still be applied and each edit in not-compiled/
-# is refused, and the built program: with words and files, with what is done to OUT, with standard streams for paths,
-# with many files in one call, where memory, pipes and stack run out, what it explains, that explaining changes nothing
-# else, how costs grow, and how much memory it takes beside a parse; the calls with growths refused, some thousand
-# damaged buffers, and the library for C with its examples. The last line counts all of it: 'N passed, M failed'.
+# is refused, whether copies of the version and of figures are right, and the built program: with words and files, with
+# what is done to OUT, with standard streams for paths, with many files in one call, where memory, pipes and stack run
+# out, what it explains, that explaining changes nothing else, how costs grow, and how much memory it takes beside a
+# parse; the calls with growths refused, some thousand damaged buffers, and the library for C with its examples. The
+# last line counts all of it: 'N passed, M failed'.
 set -uo pipefail
 cd "$(dirname "$0")/.."
 program=crates/flatc/out/flatc
@@ -15,6 +16,8 @@ status=0
 
 rt ci | tee "$logs/ci" || status=1
 python3 tools/mutations.py --applies | tee "$logs/mutations" || status=1
+python3 tools/version.py --check | tee "$logs/version" || status=1
+python3 bench/picture.py --check | tee "$logs/picture" || status=1
 if [ ! -x "$program" ]; then
     make --silent build || status=1
 fi
@@ -32,7 +35,7 @@ for part in growths soak; do
     python3 "tests/$part.py" "$hostile" | tee "$logs/$part" || status=1
 done
 python3 tests/memory.py "$program" "$parser" | tee "$logs/memory" || status=1
-make --silent lib || status=1
+make --silent lib BUILD=--over-gate || status=1
 python3 tests/library.py lib "$program" | tee "$logs/library" || status=1
 
 passed=0

@@ -1,8 +1,9 @@
 #!/usr/bin/env python3
 """Proves and builds a program or library for C and the crates below it, side by side where none needs another.
 
-usage: tools/build.py PROGRAM [--jobs N]
+usage: tools/build.py PROGRAM [--jobs N] [--over-gate]
 
+With --over-gate a library for C is built over the libraries that rt ci proved and left, which rt itself doesn't take.
 Without --jobs there is one job for each processor and each 4 GB of free memory. A crate gets one job, one on the
 longest chain of crates two; where jobs would be idle, the crate with the longest chain above it gets them too. What
 is built already and hasn't changed isn't built again.
@@ -147,6 +148,23 @@ def build(crates, name, jobs, program):
         return status, log.read(), time.monotonic() - began
 
 
+def build_over_gate(crates, name):
+    """Builds a library for C with the compiler, over libraries that hold their statements but not their proofs."""
+    kit = os.path.dirname(subprocess.run(["rt", "doc"], capture_output=True, text=True, check=True).stdout.strip())
+    listed = crates[name][0].partition(":")[2].split()
+    own = {it: f"{ROOT}/crates/{it}/out/rlib" for it in below(crates, name)}
+    words = [f"{kit}/bin/rattle", "build", "--crate-name", name, "--crate-type", "staticlib", "src/lib.rt"]
+    for it in listed:
+        words += ["--extern", f"{it}={own.get(it, f'{kit}/rlibs')}/{it}.rlib"]
+    for folder in [f"{kit}/rlibs", *own.values()]:
+        words += ["-L", f"dependency={folder}"]
+    words += ["--antt-project", f"{kit}/rattle/logic/antt-project.json", "--logic-built", f"{kit}/logic_built"]
+    words += ["--jobs", str(min(jobs_here(), MOST_JOBS_OF_A_CRATE)), "--links", f"{name}="]
+    words += ["--toolchain", f"{kit}/toolchain", "--backend", "llvm", "-o", f"out/lib{name}.a"]
+    os.makedirs(f"{ROOT}/crates/{name}/out", exist_ok=True)
+    return subprocess.run(words, cwd=f"{ROOT}/crates/{name}", check=False).returncode
+
+
 def build_all(crates, program, lanes):
     wanted = [*below(crates, program), program]
     longest = chains(crates, wanted)
@@ -179,8 +197,11 @@ def main():
     parser = argparse.ArgumentParser(description=__doc__.split("\n", 1)[0])
     parser.add_argument("program")
     parser.add_argument("--jobs", type=int, default=0)
+    parser.add_argument("--over-gate", action="store_true")
     given = parser.parse_args()
     signal.signal(signal.SIGTERM, lambda *_: sys.exit(143))
+    if given.over_gate:
+        return build_over_gate(read_crates(), given.program)
     return build_all(read_crates(), given.program, given.jobs or jobs_here())
 
 
