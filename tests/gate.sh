@@ -13,6 +13,10 @@ parser=crates/json_parse/out/json_parse
 logs=$(mktemp -d)
 trap 'rm -rf "$logs"' EXIT
 status=0
+# One job for each processor that has 4 GB of memory. By itself rt ci reckons with more memory than checks take, and
+# runs the last and largest crates one after another.
+RT_JOBS=${RT_JOBS:-$(cd tools && python3 -c 'import build; print(build.jobs_here())')}
+export RT_JOBS
 
 rt ci | tee "$logs/ci" || status=1
 python3 tools/mutations.py --applies | tee "$logs/mutations" || status=1
