@@ -15,6 +15,11 @@ impl Model for ByteStrings {
     ghost also_owns = { λ _. ftrue };
 }
 
+// It owns nothing, so any thread may have it; a struct with `also_owns` isn't `Send` or `Sync` by itself.
+unsafe impl Send for ByteStrings {}
+
+unsafe impl Sync for ByteStrings {}
+
 impl ByteStrings {
     /// No byte string.
     pub(crate) fn new() -> ByteStrings
