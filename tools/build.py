@@ -151,7 +151,8 @@ def build(crates, name, jobs, program):
 def build_over_gate(crates, name):
     """Builds a library for C with the compiler, over libraries that hold their statements but not their proofs."""
     kit = os.path.dirname(subprocess.run(["rt", "doc"], capture_output=True, text=True, check=True).stdout.strip())
-    listed = crates[name][0].partition(":")[2].split()
+    # What a crate uses without listing it comes first.
+    listed = dict.fromkeys(["std", *crates[name][0].partition(":")[2].split()])
     own = {it: f"{ROOT}/crates/{it}/out/rlib" for it in below(crates, name)}
     words = [f"{kit}/bin/rattle", "build", "--crate-name", name, "--crate-type", "staticlib", "src/lib.rt"]
     for it in listed:
