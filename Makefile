@@ -84,7 +84,7 @@ rows:
 	@cd crates/rows && rt try --steps 1 --seconds 900 < stdin | head -n 1
 
 fmt:
-	@rt all fmt
+	@for crate in crates/*/; do (cd $$crate && rt fmt) || exit 1; done
 
 mutations:
 	@python3 tools/build.py $(or $(CRATE),flatc)

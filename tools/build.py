@@ -1,7 +1,7 @@
 #!/usr/bin/env python3
-"""Proves and builds a program or library for C and the crates below it, side by side where none needs another.
+"""Proves and builds a program or library and the crates below it, side by side where none needs another.
 
-usage: tools/build.py PROGRAM [--jobs N] [--over-gate]
+usage: tools/build.py CRATE [--jobs N] [--over-gate]
 
 With --over-gate a library for C is built over the libraries that rt ci proved and left, which rt itself doesn't take.
 Without --jobs there is one job for each processor and each 4 GB of free memory. A crate gets one job, one on the
@@ -131,16 +131,12 @@ def build_library(crates, name, jobs, log):
                 shutil.move(f"{there}/out", f"{own}/out")
 
 
-def is_for_c(crates, name):
-    return "staticlib" in crates[name][0].partition(":")[0].split()
-
-
 def build(crates, name, jobs, program):
     """Builds one crate; returns its status, what was printed and the seconds that it took."""
     began = time.monotonic()
     with tempfile.TemporaryFile("w+", errors="replace") as log:
         if name == program:
-            what = "lib" if is_for_c(crates, name) else "run"
+            what = "run" if os.path.exists(f"{ROOT}/crates/{name}/src/main.rt") else "lib"
             status = run(["rt", what, "--jobs", str(jobs)], f"{ROOT}/crates/{name}", log)
         else:
             status = build_library(crates, name, jobs, log)
