@@ -7,7 +7,6 @@ tests/refuse.c, preloaded, refuses growths of the heap; the C compiler has to be
 line is 'N passed, M failed'. Where Google's flatc is installed, the times of both for the same call are printed.
 """
 import os
-import pty
 import re
 import resource
 import shutil
@@ -290,25 +289,6 @@ def many(tests):
     tests.tell("as they were", good)
 
 
-def told_on_a_terminal(program, words, stdin=None):
-    """What a run writes to a terminal as its standard error, and its status."""
-    ours, theirs = pty.openpty()
-    with subprocess.Popen([program, *words], stdin=stdin or subprocess.DEVNULL, stderr=theirs, stdout=subprocess.PIPE) as run:
-        os.close(theirs)
-        told = b""
-        while True:
-            try:
-                piece = os.read(ours, 1000)
-            except OSError:
-                break
-            if not piece:
-                break
-            told += piece
-        run.communicate()
-    os.close(ours)
-    return run.returncode, told
-
-
 def slow_file(path, what):
     """A pipe that brings its bytes late."""
     os.mkfifo(path)
@@ -324,14 +304,14 @@ def slow_file(path, what):
 def progress(tests):
     """How far long work is, on a terminal alone."""
     inputs()
-    status, told = told_on_a_terminal(tests.program, ["check", "one.fbs", *bins(1, 2, 3)])
+    status, told = tests.at_terminal(["check", "one.fbs", *bins(1, 2, 3)])
     tests.tell("short work tells nothing", (status, told) == (0, b""), f"{told}")
     slow_file("slow", SEVEN)
-    status, told = told_on_a_terminal(tests.program, ["check", "one.fbs", *bins(1), "slow", *bins(2)])
+    status, told = tests.at_terminal(["check", "one.fbs", *bins(1), "slow", *bins(2)])
     tests.tell("long work tells how far it is", (status, told) == (0, b"\r2 of 3" + CLEARED), f"{told}")
     slow_file("slow2", SEVEN)
-    status, told = told_on_a_terminal(tests.program, ["check", "one.fbs", "slow2", *bins("cut", 2)])
-    want = b"\r1 of 3" + CLEARED + b"in/cut.bin: 54 OutOfBounds at 16\r\n"
+    status, told = tests.at_terminal(["check", "one.fbs", "slow2", *bins("cut", 2)])
+    want = b"\r1 of 3" + CLEARED + b"in/cut.bin: 54 OutOfBounds at 16\n"
     tests.tell("a refusal has a line of its own", status == 1 and told.startswith(want), f"{told}")
     slow_file("slow3", SEVEN)
     tests.expect("a pipe is told nothing", ["check", "one.fbs", "slow3", *bins(2)], 0, b"ok\n")

@@ -212,6 +212,70 @@ CHANGES = [
     ("members that changed places", "{ Weapon, Spell }", "{ Spell, Weapon }", "102 UnionChanged in type 4",
      ["'Equipment' has lost a member (old.fbs:5) -> (new.fbs:5)", "  member 1 was Weapon, is Spell",
       "  member 2 was Spell, is Weapon"]),
+    ("a field that was removed before others", "  color:Color;\n", "", "96 FieldTypeChanged in type 5 slot 2",
+     ["Monster.color was removed (old.fbs:9): later fields take its place; a field is never removed, but marked "
+      "(deprecated)"]),
+    ("a union that was removed before others", "  equipped:Equipment;\n", "", "96 FieldTypeChanged in type 5 slot 5",
+     ["Monster.equipped was removed (old.fbs:12): later fields take its place; a field is never removed, but marked "
+      "(deprecated)"]),
+    ("two fields that were removed before others", "  color:Color;\n  pos:Pos;\n", "",
+     "96 FieldTypeChanged in type 5 slot 2",
+     ["Monster.color to pos were removed (old.fbs:9): later fields take their places; a field is never removed, but "
+      "marked (deprecated)"]),
+    ("a field that was inserted before others", "  hp:ubyte", "  mana:ulong;\n  hp:ubyte",
+     "96 FieldTypeChanged in type 5 slot 1",
+     ["Monster.mana was inserted (new.fbs:8): later fields lose their places; new fields go behind the others, or each "
+      "field has an (id: ..)"]),
+    ("an inserted field, and a new one that is required", "  hp:ubyte = 100;\n  color:Color;\n  pos:Pos;\n"
+     "  weapons:[Weapon];\n  equipped:Equipment;\n  old:int (deprecated);\n  big:ulong;\n  ok:bool;\n",
+     "  mana:ulong;\n  hp:ubyte = 100;\n  color:Color;\n  pos:Pos;\n"
+     "  weapons:[Weapon];\n  equipped:Equipment;\n  old:int (deprecated);\n  big:ulong;\n  ok:bool;\n"
+     "  more:string (required);\n",
+     "96 FieldTypeChanged in type 5 slot 1",
+     ["Monster.mana was inserted (new.fbs:8): later fields lose their places; new fields go behind the others, or each "
+      "field has an (id: ..)", "Monster.more: is new and required (new.fbs:17); old data doesn't have it"]),
+]
+
+HP = "table U {\n  hp:int;\n  mp:int;\n}\nroot_type U;\n"
+PAIR = "struct P { x:int; y:int; }\ntable U { p:P; }\nroot_type U;\n"
+MEMBERS = "table A { a:int; }\ntable B { b:int; }\nunion V { A, B }\ntable U { v:V; }\nroot_type U;\n"
+BY_NAME = "to every program that reads by name"
+
+# An old schema text, what of it changed, and the fault and the sentences of `conform --names`; none where it conforms.
+NAMES = [
+    ("a field before others", HP, "  hp:int;\n", "  shield:int;\n  hp:int;\n", "103 NameMoved in type 0 slot 0",
+     ["U.hp was field 0 (old.fbs:2), is field 1 (new.fbs:3): buffers of the old schema show the values of hp as shield, "
+      + BY_NAME,
+      "U.mp was field 1 (old.fbs:3), is field 2 (new.fbs:4): buffers of the old schema show the values of mp as hp, "
+      + BY_NAME]),
+    ("fields that changed places", HP, "  hp:int;\n  mp:int;\n", "  mp:int;\n  hp:int;\n", "103 NameMoved in type 0 slot 0",
+     ["U.hp was field 0 (old.fbs:2), is field 1 (new.fbs:3): buffers of the old schema show the values of hp as mp, "
+      + BY_NAME,
+      "U.mp was field 1 (old.fbs:3), is field 0 (new.fbs:2): buffers of the old schema show the values of mp as hp, "
+      + BY_NAME]),
+    ("the first field removed, and one added", HP, "  hp:int;\n  mp:int;\n", "  mp:int;\n  shield:int;\n",
+     "103 NameMoved in type 0 slot 1",
+     ["U.mp was field 1 (old.fbs:3), is field 0 (new.fbs:2): buffers of the old schema show the values of mp as shield, "
+      + BY_NAME]),
+    ("a struct's fields that changed places", PAIR, "x:int; y:int;", "y:int; x:int;", "103 NameMoved in type 0 slot 0",
+     ["P.x was field 0 (old.fbs:1), is field 1 (new.fbs:1): buffers of the old schema show the values of x as y, "
+      + BY_NAME,
+      "P.y was field 1 (old.fbs:1), is field 0 (new.fbs:1): buffers of the old schema show the values of y as x, "
+      + BY_NAME]),
+    ("members that changed names", MEMBERS, "{ A, B }", "{ B:A, A:B }", "103 NameMoved in type 2 slot 1",
+     ["V.A was member 1, is member 2: buffers of the old schema show A as B",
+      "V.B was member 2, is member 1: buffers of the old schema show B as A"]),
+    ("the name of a field that is deprecated now", HP, "  mp:int;\n", "  was_mp:int (deprecated);\n  mp:int;\n",
+     "103 NameMoved in type 0 slot 1",
+     ["U.mp was field 1 (old.fbs:3), is field 2 (new.fbs:4): programs no longer see the values that buffers of the old "
+      "schema have there"]),
+    ("a breach comes first", HP, "  hp:int;\n", "  shield:long;\n  hp:int;\n", "96 FieldTypeChanged in type 0 slot 0",
+     ["U.shield was inserted (new.fbs:2): later fields lose their places; new fields go behind the others, or each field "
+      "has an (id: ..)"]),
+    ("a field that is renamed in place", HP, "hp:int", "health:int", None, []),
+    ("a struct's field that is renamed in place", PAIR, "x:int", "left:int", None, []),
+    ("a member that is renamed in place", MEMBERS, "{ A, B }", "{ First:A, B }", None, []),
+    ("a field behind the others", HP, "  mp:int;\n", "  mp:int;\n  shield:int;\n", None, []),
 ]
 
 # Several changes of the schema at once, and the sentences on all of them.
@@ -376,19 +440,32 @@ def changes(tests):
     write("old.fbs", MONSTER.encode())
     for name, was, now, fault, sentences in CHANGES:
         write("new.fbs", MONSTER.replace(was, now).encode())
-        tests.expect(name, ["conform", "--explain", "old.fbs", "new.fbs"], 1, err=lines(fault, *sentences))
+        want = lines(fault, *[piece for sentence in sentences for piece in wrap(sentence)])
+        tests.expect(name, ["conform", "--explain", "old.fbs", "new.fbs"], 1, err=want)
     new = MONSTER
     for was, now in SEVERAL:
         new = new.replace(was, now)
     write("new.fbs", new.encode())
     tests.expect("several breaches", ["conform", "--explain", "old.fbs", "new.fbs"], 1,
                  err=lines("91 IdentifierChanged", *SEVERAL_SENTENCES))
+    deprecated = HP.replace("mp:int;", "mp:int (deprecated);")
+    again = HP.replace("  mp:int;\n", "  was_mp:int (deprecated);\n  mp:int;\n")
+    rows = [*NAMES, ("the name of a field that was deprecated", deprecated, deprecated, again, "103 NameMoved in type 0 slot 1",
+                     ["U.mp was field 1 (old.fbs:3), is field 2 (new.fbs:4): the name of a deprecated field stands for "
+                      "another one"])]
+    for name, old, was, now, fault, sentences in rows:
+        write("old.fbs", old.encode())
+        write("new.fbs", old.replace(was, now).encode())
+        words = ["conform", "--names", "--explain", "old.fbs", "new.fbs"]
+        want = lines(*([fault] if fault else []), *[piece for sentence in sentences for piece in wrap(sentence)])
+        tests.expect(f"names: {name}", words, 1 if fault else 0, b"" if fault else b"conforms\n", want)
+    write("old.fbs", MONSTER.encode())
     moved = MONSTER.replace("  big:ulong;\n", "  more:ulong;\n").replace("  ok:bool;\n", "  ok:bool;\n  big:ulong;\n")
     write("new.fbs", moved.encode())
     want = lines(
         *wrap(
-            "warning: Monster.big was field 8 (old.fbs:14), is field 10 (new.fbs:16): JSON texts of the old schema mean "
-            "another value"
+            "warning: Monster.big was field 8 (old.fbs:14), is field 10 (new.fbs:16): buffers of the old schema show the "
+            "values of big as more, to every program that reads by name"
         )
     )
     tests.expect("a name that stands for another field", ["conform", "--explain", "old.fbs", "new.fbs"], 0,
@@ -697,9 +774,12 @@ def numbers(tests):
         seen.add(number)
         tests.expect(f"explain {number}", ["explain", str(number)], 0, f"{head}\n{body.strip()}\n".encode())
     want = {*range(1, 8), *range(10, 24), *range(30, 33), 40, 41, *range(50, 61), *range(62, 65), *range(70, 83), 84}
-    want |= {*range(90, 103), *range(110, 115)}
+    want |= {*range(90, 104), *range(110, 115)}
     want.discard(83)
     tests.tell("each number has a page", seen == want, f"{seen ^ want}")
+    titles = [[it.strip() for it in page.split("\n", 3)] for page in pages]
+    listed = sorted((f"{it[0]}: {it[2]}" for it in titles), key=lambda it: int(it.split()[0]))
+    tests.expect("the list of all numbers", ["explain"], 0, lines(*listed))
     for number in sorted(set(range(256)) - want) + ["256", "-1", "x", ""]:
         done = tests.run(["explain", "--", str(number)])
         tests.tell(f"no page for {number}", done.returncode == 2 and done.stderr.startswith(b"error: ") and not done.stdout,

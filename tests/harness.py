@@ -1,9 +1,12 @@
-"""What the tests of the built program share: counts, runs with a time limit, and files that hold what they should."""
+"""What the tests of the built program share: counts, runs with a time limit or at a terminal, and files that hold what
+they should."""
 import os
+import pty
 import subprocess
 import sys
 import tempfile
 import threading
+import tty
 
 ROOT = os.path.dirname(os.path.dirname(os.path.abspath(__file__)))
 SECONDS = 120
@@ -58,6 +61,19 @@ class Tests:
                 problems.append(f"{path} holds {have and have[:99]!r}, not {want and want[:99]!r}")
         self.tell(what, not problems, "; ".join(problems))
 
+    def at_terminal(self, words, stdin=subprocess.DEVNULL, env=None):
+        """The status of a run, and what its standard error shows where that is a terminal."""
+        ours, theirs = pty.openpty()
+        tty.setraw(theirs)
+        streams = {"stdin": stdin, "stdout": subprocess.DEVNULL, "stderr": theirs}
+        with subprocess.Popen([self.program, *words], env=env, **streams) as child:
+            os.close(theirs)
+            shown = b""
+            while piece := read_some(ours):
+                shown += piece
+            os.close(ours)
+            return child.wait(SECONDS), shown
+
     def main(self, parts):
         """Runs each part in an empty folder, and returns the process's status."""
         for part in parts:
@@ -70,6 +86,14 @@ class Tests:
                 os.chdir("/")
         print(f"{self.passed} passed, {self.failed} failed", flush=True)
         return 1 if self.failed or not self.passed else 0
+
+
+def read_some(terminal):
+    """The next bytes of a terminal; none where the other side is closed."""
+    try:
+        return os.read(terminal, 65536)
+    except OSError:
+        return b""
 
 
 def content(path):

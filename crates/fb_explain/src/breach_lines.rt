@@ -1,5 +1,6 @@
 //! What in a new schema breaks with the old one, with both side by side.
 use crate::breach_fields::Compared;
+use crate::shifts::Shifts;
 use crate::sides::{Sides, Twin};
 use fb_conform::{Breach, all_breaches};
 use fb_pages::Page;
@@ -152,14 +153,17 @@ impl<'s> Sides<'s> {
         }
     }
 
-    /// Adds every breach.
+    /// Adds every breach; those of fields that were removed or inserted before others as one.
     pub(crate) fn push_breaches(&self, page: &mut Page) {
         let listed = all_breaches(page.alloc(), self.old.layout, self.new.layout);
         let Some(breaches) = page.keep(listed) else {
             return;
         };
+        let mut shifts = Shifts::new();
         for breach in &breaches {
-            self.push_breach(page, *breach);
+            if !shifts.tell(self, page, *breach) {
+                self.push_breach(page, *breach);
+            }
         }
     }
 }

@@ -10,6 +10,9 @@ use fb_schema_faults::declared::declarations_of;
 #[derive(Clone, Copy)]
 pub(crate) enum Asked {
     Breaches,
+    /// The names that moved, which are refused.
+    MovedNames,
+    /// The same, which are let through.
     Warnings,
 }
 
@@ -53,6 +56,7 @@ pub(crate) fn push_comparison(page: &mut Page, old: Source<'_>, new: Source<'_>,
     };
     match asked {
         Asked::Breaches => sides.push_breaches(page),
-        Asked::Warnings => sides.push_warnings(page),
+        Asked::MovedNames => sides.push_moved_names(page, ""),
+        Asked::Warnings => sides.push_moved_names(page, "warning: "),
     }
 }

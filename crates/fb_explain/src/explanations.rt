@@ -47,6 +47,8 @@ pub struct Sources<'a> {
     pub unknown_json: bool,
     /// Whether the file identifier check is skipped.
     pub raw_binary: bool,
+    /// How many columns lines take at most: 48 or more, and 120 or less.
+    pub columns: usize,
     /// The file that can't be read or written, or standard output.
     pub failure: Option<FileFailure<'a>>,
 }
@@ -115,6 +117,9 @@ fn push_problem(page: &mut Page, fault: ToolFault, sources: &Sources<'_>) {
         ToolFault::Breach(_) => {
             push_comparison(page, sources.schema, sources.input, Asked::Breaches)
         }
+        ToolFault::NameMoved(_) => {
+            push_comparison(page, sources.schema, sources.input, Asked::MovedNames)
+        }
         ToolFault::FileRead | ToolFault::FileWrite | ToolFault::FileTooLong => {
             push_file(page, sources.failure)
         }
@@ -137,7 +142,7 @@ fn push_explanation(page: &mut Page, fault: ToolFault, sources: &Sources<'_>) {
     }
 }
 
-/// What is wrong and where, in lines of at most 120 columns that each end with a line feed.
+/// What is wrong and where, in lines of at most the sources' columns that each end with a line feed.
 ///
 /// What isn't printable is escaped. The sources are those of the job that was refused.
 pub fn explain(
@@ -147,17 +152,22 @@ pub fn explain(
 ) -> Result<String, AllocError>
     ensures plain { IfOk result (λ text. IsPage (chars (string_bytes text))) }
 {
-    let mut page = Page::new(alloc);
+    let mut page = Page::new(alloc, sources.columns);
     push_explanation(&mut page, *fault, sources);
     page.into_text()
 }
 
 /// What may be meant otherwise under a new schema that conforms: a line for each name that stands for
-/// another field or member, since JSON texts go by names.
-pub fn warnings<'t>(alloc: Global, old: Source<'t>, new: Source<'t>) -> Result<String, AllocError>
+/// another field or member, since programs and JSON texts go by names.
+pub fn warnings<'t>(
+    alloc: Global,
+    old: Source<'t>,
+    new: Source<'t>,
+    columns: usize,
+) -> Result<String, AllocError>
     ensures plain { IfOk result (λ text. IsPage (chars (string_bytes text))) }
 {
-    let mut page = Page::new(alloc);
+    let mut page = Page::new(alloc, columns);
     push_comparison(&mut page, old, new, Asked::Warnings);
     page.into_text()
 }

@@ -14,9 +14,10 @@ mod json_rules;
 mod memory;
 mod moved_names;
 mod places;
+mod shifts;
 mod sides;
 mod union_codes;
 mod union_paths;
 
 pub use explanations::{FileFailure, Lost, Sources, explain, warnings};
-pub use fb_pages::{Position, Source, fault_page};
+pub use fb_pages::{COLUMNS, Position, Source, fault_page};

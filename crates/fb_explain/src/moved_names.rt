@@ -1,72 +1,95 @@
-//! What conforms, and may still be meant otherwise: a name that stands for another slot, field or member.
+//! What conforms by its slots, and yet shows old values under other names: names that stand for another field or
+//! member.
 use crate::sides::{Sides, Twin};
+use fb_conform::{MovedName, moved_names};
 use fb_pages::Page;
-use fb_schema::{FieldInfo, TypeId};
-use fb_schema_faults::shapes::{fields_of, members_of, type_name};
+use fb_schema::FieldInfo;
+use fb_schema_faults::shapes::{field_at, members_of, type_name};
 
 impl<'s> Sides<'s> {
-    /// Adds a warning where the new field of an old field's name has another slot.
-    fn push_moved_field(&self, page: &mut Page, twin: Twin, was: &FieldInfo) {
-        let name = was.name.as_str();
-        let Some(is) = self.new.schema().field_by_name(twin.new, name) else {
-            return;
-        };
-        if is.slot == was.slot {
-            return;
-        }
-        page.push_str("warning: ");
+    /// Adds a name behind its type's.
+    fn push_name_in(&self, page: &mut Page, twin: Twin, name: &str) {
         page.push_cut(type_name(self.old.schema(), twin.old).as_bytes());
         page.push_str(".");
         page.push_cut(name.as_bytes());
+    }
+
+    /// Adds what becomes of a field's values, whose slot has another name.
+    fn push_new_name(&self, page: &mut Page, was: &FieldInfo, now: &FieldInfo) {
+        if was.deprecated {
+            page.push_line(": the name of a deprecated field stands for another one");
+            return;
+        }
+        if now.deprecated {
+            page.push_line(": programs no longer see the values that buffers of the old schema have there");
+            return;
+        }
+        page.push_str(": buffers of the old schema show the values of ");
+        page.push_cut(was.name.as_bytes());
+        page.push_str(" as ");
+        page.push_cut(now.name.as_bytes());
+        page.push_line(", to every program that reads by name");
+    }
+
+    /// Adds that the field in a slot has its name no longer, and which has it.
+    fn push_moved_field(&self, page: &mut Page, twin: Twin, was: &FieldInfo, now: &FieldInfo) {
+        let Some(is) = self.new.schema().field_by_name(twin.new, was.name.as_str()) else {
+            return;
+        };
+        self.push_name_in(page, twin, was.name.as_str());
         page.push_str(" was field ");
         page.push_number(was.slot);
         self.old.push_field_line(page, twin.old, was.slot);
         page.push_str(", is field ");
         page.push_number(is.slot);
         self.new.push_field_line(page, twin.new, is.slot);
-        page.push_line(": JSON texts of the old schema mean another value");
+        self.push_new_name(page, was, now);
     }
 
-    /// Adds a warning where a union's member of an old name has another number.
-    fn push_moved_member(&self, page: &mut Page, twin: Twin, index: usize, name: &str) {
-        let new = members_of(self.new.schema(), twin.new);
-        let Some(place) = new.iter().position(|(other, _)| other.as_str() == name) else {
+    /// Adds that the union member of a code has its name no longer, and which has it.
+    fn push_moved_member(&self, page: &mut Page, twin: Twin, code: u16) {
+        let index = usize::from(code).saturating_sub(1);
+        let was = members_of(self.old.schema(), twin.old).get(index);
+        let members = members_of(self.new.schema(), twin.new);
+        let (Some((was, _)), Some((now, _))) = (was, members.get(index)) else {
             return;
         };
-        if place == index {
+        let Some(place) = members.iter().position(|(name, _)| name == was) else {
             return;
-        }
-        page.push_str("warning: ");
-        page.push_cut(type_name(self.old.schema(), twin.old).as_bytes());
-        page.push_str(".");
-        page.push_cut(name.as_bytes());
+        };
+        self.push_name_in(page, twin, was.as_str());
         page.push_str(" was member ");
-        page.push_number((index as u64).saturating_add(1));
+        page.push_number(u64::from(code));
         page.push_str(", is member ");
         page.push_number((place as u64).saturating_add(1));
-        page.push_line(": JSON texts of the old schema mean another value");
+        page.push_str(": buffers of the old schema show ");
+        page.push_cut(was.as_bytes());
+        page.push_str(" as ");
+        page.push_cut(now.as_bytes());
+        page.end_line();
     }
 
-    fn push_type_warnings(&self, page: &mut Page, twin: Twin) {
-        for field in fields_of(self.old.schema(), twin.old) {
-            self.push_moved_field(page, twin, field);
+    fn push_moved(&self, page: &mut Page, moved: MovedName, front: &str) {
+        let Some(twin) = self.twin(moved.type_id) else {
+            return;
+        };
+        page.push_str(front);
+        let was = field_at(self.old.schema(), twin.old, moved.slot);
+        let now = field_at(self.new.schema(), twin.new, moved.slot);
+        match (was, now) {
+            (Some(was), Some(now)) => self.push_moved_field(page, twin, was, now),
+            _ => self.push_moved_member(page, twin, moved.slot),
         }
     }
 
-    fn push_union_warnings(&self, page: &mut Page, twin: Twin) {
-        let members = members_of(self.old.schema(), twin.old);
-        for (index, (name, _)) in members.iter().enumerate() {
-            self.push_moved_member(page, twin, index, name.as_str());
-        }
-    }
-
-    /// Adds a warning for each name that stands for another field or member.
-    pub(crate) fn push_warnings(&self, page: &mut Page) {
-        for number in 0..self.old.schema().types().len() {
-            if let Some(twin) = self.twin(TypeId(number as u64)) {
-                self.push_type_warnings(page, twin);
-                self.push_union_warnings(page, twin);
-            }
+    /// Adds a line for each name that stands for another field or member, behind a word or none.
+    pub(crate) fn push_moved_names(&self, page: &mut Page, front: &str) {
+        let listed = moved_names(page.alloc(), self.old.layout, self.new.layout);
+        let Some(names) = page.keep(listed) else {
+            return;
+        };
+        for name in &names {
+            self.push_moved(page, *name, front);
         }
     }
 }

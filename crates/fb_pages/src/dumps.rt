@@ -1,7 +1,12 @@
 //! Bytes of a buffer in hexadecimal, with a place marked.
 use crate::pages::Page;
 
+// How many bytes a row has, and where there are few columns.
 const ROW: usize = 16;
+
+const SHORT_ROW: usize = 8;
+
+const FEW_COLUMNS: usize = 80;
 
 // The widths of an offset and of a byte with the space before it.
 const OFFSET_DIGITS: usize = 10;
@@ -22,18 +27,27 @@ fn push_offset(page: &mut Page, offset: usize) {
     page.push_number(offset as u64);
 }
 
+fn row_len(page: &Page) -> usize {
+    if page.columns() < FEW_COLUMNS {
+        SHORT_ROW
+    } else {
+        ROW
+    }
+}
+
 /// Adds a row of bytes, and their characters where they are ASCII.
 fn push_row(page: &mut Page, bytes: &[u8], start: usize) {
+    let most = row_len(page);
     push_offset(page, start);
     page.push_str(" ");
     let row = bytes.get(start..).unwrap_or(&[]);
-    let row = row.get(..ROW).unwrap_or(row);
+    let row = row.get(..most).unwrap_or(row);
     for byte in row {
         page.push_str(" ");
         page.push_hex(*byte);
     }
     page.push_spaces(
-        CELL.saturating_mul(ROW.saturating_sub(row.len()))
+        CELL.saturating_mul(most.saturating_sub(row.len()))
             .saturating_add(2),
     );
     for byte in row {
@@ -46,18 +60,20 @@ fn push_row(page: &mut Page, bytes: &[u8], start: usize) {
 /// Adds the bytes round an offset, with a mark below it.
 pub fn push_dump(page: &mut Page, bytes: &[u8], offset: usize) {
     let marked = offset.min(bytes.len());
-    let own = marked - marked % ROW;
-    if let Some(row_before) = own.checked_sub(ROW) {
+    let row = row_len(page);
+    let column = marked.checked_rem(row).unwrap_or(0);
+    let own = marked.saturating_sub(column);
+    if let Some(row_before) = own.checked_sub(row) {
         push_row(page, bytes, row_before);
     }
     push_row(page, bytes, own);
     page.push_spaces(
         OFFSET_DIGITS
             .saturating_add(2)
-            .saturating_add(CELL.saturating_mul(marked % ROW)),
+            .saturating_add(CELL.saturating_mul(column)),
     );
     page.push_line("^^");
-    if bytes.len().saturating_sub(own) > ROW && own == 0 {
-        push_row(page, bytes, own.saturating_add(ROW));
+    if bytes.len().saturating_sub(own) > row && own == 0 {
+        push_row(page, bytes, own.saturating_add(row));
     }
 }

@@ -8,10 +8,8 @@ const INDENT: usize = 2;
 
 const DOTS: &str = "...";
 
-// How many columns are shown before the place, and from it on, at most.
-const FRONT_COLUMNS: usize = 60;
-
-const REST_COLUMNS: usize = 50;
+// Of half the columns each, what dots and indent may take is left out of the rest's.
+const SPARED: usize = 10;
 
 /// A part of a line, and how many columns it takes.
 #[derive(Clone, Copy)]
@@ -20,14 +18,14 @@ struct Part<'t> {
     columns: usize,
 }
 
-/// The end of a line's front that is shown.
-fn end_of(front: &[u8]) -> Part<'_> {
+/// The end of a line's front that is shown in so many columns.
+fn end_of(front: &[u8], most: usize) -> Part<'_> {
     let mut start = front.len();
     let mut columns = 0usize;
-    for _ in 0..FRONT_COLUMNS {
+    for _ in 0..most {
         let (character, size) = decode_last_utf8(front.get(..start).unwrap_or(&[]));
         let width = shown_width(character, size);
-        if start == 0 || columns.saturating_add(width) > FRONT_COLUMNS {
+        if start == 0 || columns.saturating_add(width) > most {
             break;
         }
         columns = columns.saturating_add(width);
@@ -39,14 +37,14 @@ fn end_of(front: &[u8]) -> Part<'_> {
     }
 }
 
-/// The beginning of a line's rest that is shown.
-fn beginning_of(rest: &[u8]) -> Part<'_> {
+/// The beginning of a line's rest that is shown in so many columns.
+fn beginning_of(rest: &[u8], most: usize) -> Part<'_> {
     let mut end = 0usize;
     let mut columns = 0usize;
-    for _ in 0..REST_COLUMNS {
+    for _ in 0..most {
         let (character, size) = decode_utf8(rest.get(end..).unwrap_or(&[]));
         let width = shown_width(character, size);
-        if size == 0 || columns.saturating_add(width) > REST_COLUMNS {
+        if size == 0 || columns.saturating_add(width) > most {
             break;
         }
         columns = columns.saturating_add(width);
@@ -78,8 +76,9 @@ pub fn push_excerpt(page: &mut Page, text: &[u8], offset: usize) {
         front
     };
     let rest = rest_of_line(text.get(offset..).unwrap_or(&[]));
-    let left = end_of(front);
-    let right = beginning_of(rest);
+    let half = page.columns() / 2;
+    let left = end_of(front, half);
+    let right = beginning_of(rest, half.saturating_sub(SPARED));
     let mut caret = INDENT.saturating_add(left.columns);
     page.push_spaces(INDENT);
     if left.bytes.len() < front.len() {

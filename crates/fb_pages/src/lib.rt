@@ -15,6 +15,7 @@ pub use dumps::push_dump;
 pub use excerpts::push_excerpt;
 pub use fault_pages::fault_page;
 pub use line_starts::LineStarts;
+pub use lines::COLUMNS;
 pub use near_names::push_nearest;
 pub use pages::Page;
 pub use positions::Position;

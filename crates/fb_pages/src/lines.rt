@@ -9,7 +9,7 @@ use std::marker::Model;
 use unicode_width::UnicodeWidthChar;
 
 /// How many columns a line has at most.
-pub(crate) const COLUMNS: usize = 120;
+pub const COLUMNS: usize = 120;
 
 /// How many columns a character takes where it can be shown as it is.
 pub(crate) fn plain_width(character: char) -> Option<usize>

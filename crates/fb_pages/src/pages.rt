@@ -11,12 +11,17 @@ use std::alloc::{AllocError, Global};
 // How many columns a tab takes.
 const TAB: usize = 4;
 
+// What a row of bytes takes; narrower lines would tear it apart.
+const FEWEST_COLUMNS: usize = 48;
+
 /// Lines that are wrapped at spaces; of what they are made, each byte that isn't UTF-8 is escaped.
 ///
 /// Once memory ran out nothing is added any more.
 #[derive(Drop)]
 pub struct Page {
     alloc: Global,
+    /// Where lines are wrapped.
+    columns: usize,
     lines: Lines,
     /// The line that isn't ended yet, with nothing escaped.
     line: String,
@@ -60,10 +65,10 @@ fn cut_len(line: &str, columns: usize) -> usize {
     }
 }
 
-/// Adds a line, which goes on in further ones where it is too long.
-fn put_wrapped(lines: &mut Lines, line: &str) -> Result<(), AllocError> {
+/// Adds a line, which goes on in further ones where it takes more columns.
+fn put_wrapped(lines: &mut Lines, line: &str, most: usize) -> Result<(), AllocError> {
     let mut rest = line;
-    let mut columns = COLUMNS;
+    let mut columns = most;
     for _ in 0..line.len() {
         let cut = cut_len(rest, columns);
         if cut == rest.len() {
@@ -73,17 +78,18 @@ fn put_wrapped(lines: &mut Lines, line: &str) -> Result<(), AllocError> {
         lines.end()?;
         lines.put_str("    ")?;
         rest = rest.get(cut..).unwrap_or("");
-        columns = COLUMNS - 4;
+        columns = most.saturating_sub(4);
     }
     lines.put_str(rest)?;
     lines.end()
 }
 
 impl Page {
-    /// A page without lines.
-    pub fn new(alloc: Global) -> Page {
+    /// A page without lines, for so many columns: 48 at least and 120 at most.
+    pub fn new(alloc: Global, columns: usize) -> Page {
         Page {
             alloc,
+            columns: columns.clamp(FEWEST_COLUMNS, COLUMNS),
             lines: Lines::new(alloc),
             line: String::new(alloc),
             failed: None,
@@ -93,6 +99,11 @@ impl Page {
     /// Where the page takes its memory from.
     pub fn alloc(&self) -> Global {
         self.alloc
+    }
+
+    /// How many columns its lines take at most.
+    pub(crate) fn columns(&self) -> usize {
+        self.columns
     }
 
     /// The lines, unless memory ran out.
@@ -124,7 +135,7 @@ impl Page {
     /// Ends the line, which goes on in further ones where it is too long.
     pub fn end_line(&mut self) {
         if self.failed.is_none() {
-            let put = put_wrapped(&mut self.lines, self.line.as_str());
+            let put = put_wrapped(&mut self.lines, self.line.as_str(), self.columns);
             self.keep(put);
         }
         self.line.clear();

@@ -1,10 +1,12 @@
 //! What is printed of a refusal where an explanation is asked for.
 use crate::limits;
+use crate::terminal::{columns, print_explanation};
 use fb_explain::{FileFailure, Source, Sources, explain, fault_page, warnings};
 use flatc_cli::Job;
 use flatc_files::{Input, Lost, Texts};
 use flatc_tool::{JsonFault, ToolFault};
 use std::alloc::AllocError;
+use std::io;
 
 const USAGE: u8 = 2;
 
@@ -70,6 +72,7 @@ fn explanation(
         limits: limits(),
         unknown_json,
         raw_binary,
+        columns: columns(rt),
         failure: file_failure(texts),
     };
     explain(rt.alloc(), &fault, &sources)
@@ -83,7 +86,7 @@ pub(crate) fn explain_refusal(
     fault: ToolFault,
 ) {
     if let Ok(text) = explanation(rt, flags, texts, fault) {
-        let _printed = eprint!(rt; "{text}");
+        print_explanation(rt, text.as_str());
     }
 }
 
@@ -92,10 +95,31 @@ pub(crate) fn warn(rt: &HostRuntime, job: &Job, texts: &Texts<'_>) {
     if let Job::Conform { .. } = job {
         let old = source_of(&texts.schema);
         let new = source_of(&texts.input);
-        if let Ok(text) = warnings(rt.alloc(), old, new) {
-            let _printed = eprint!(rt; "{text}");
+        if let Ok(text) = warnings(rt.alloc(), old, new, columns(rt)) {
+            print_explanation(rt, text.as_str());
         }
     }
+}
+
+/// Prints the number and name that a page begins with, and its first sentence.
+fn print_title(rt: &HostRuntime, page: &str) -> io::Result<()> {
+    let mut lines = page.lines();
+    match (lines.next(), lines.next()) {
+        (Some(title), Some(meaning)) => println!(rt; "{title}: {meaning}"),
+        _ => Ok(()),
+    }
+}
+
+/// Prints the numbers of all refusals, each with its name and a sentence, and returns the status.
+pub(crate) fn list_numbers(rt: &HostRuntime) -> u8 {
+    for number in 0..=u8::MAX {
+        if let Some(page) = fault_page(number) {
+            if print_title(rt, page).is_err() {
+                return 1;
+            }
+        }
+    }
+    0
 }
 
 /// Prints what a number of a refusal means, and returns the status.
@@ -113,7 +137,7 @@ pub(crate) fn explain_number(rt: &HostRuntime, number: &str) -> u8 {
             let _printed = eprintln!(rt;
                 "error: no refusal has this number
 
-Usage: flatc explain <NUMBER>"
+Usage: flatc explain [NUMBER]"
             );
             USAGE
         }

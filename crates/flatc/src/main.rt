@@ -8,19 +8,21 @@ mod batches;
 mod explained;
 mod faults;
 mod hints;
+mod terminal;
 
 use crate::batches::do_batch;
-use crate::explained::{explain_number, explain_refusal, flags_of, warn};
+use crate::explained::{explain_number, explain_refusal, flags_of, list_numbers, warn};
 use crate::faults::{Laid, read_fault, write_fault};
 use crate::hints::hint_for;
+use crate::terminal::is_explained;
 use clap::Error;
 use clap::error::ErrorKind;
 use flatc_cli::{Job, Request, request_of};
 use flatc_files::{Reasoned, Texts, write_out};
 use flatc_tool::command::report_noted;
 use flatc_tool::{
-    EncodeOptions, Limits, Noted, Segments, ToolFault, check, conform_texts, print_to, to_binary,
-    to_binary_segments, to_json,
+    EncodeOptions, Limits, Noted, Segments, ToolFault, check, conform_names, conform_texts,
+    print_to, to_binary, to_binary_segments, to_json,
 };
 use std::alloc::Global;
 use std::process::ExitCode;
@@ -150,13 +152,17 @@ fn check_files<'j>(
 fn conform_files<'j>(
     rt: &HostRuntime,
     texts: &mut Texts<'j>,
-    old_path: &'j str,
-    new_path: &'j str,
+    paths: [&'j str; 2],
+    names: bool,
 ) -> Result<(), ToolFault> {
-    read_both(rt, texts, [old_path, new_path])?;
+    read_both(rt, texts, paths)?;
     let old = texts.schema.bytes.as_slice();
     let new = texts.input.bytes.as_slice();
-    conform_texts(rt.alloc(), old, new)
+    if names {
+        conform_names(rt.alloc(), old, new)
+    } else {
+        conform_texts(rt.alloc(), old, new)
+    }
 }
 
 /// Does a job, and returns what is printed then.
@@ -197,8 +203,8 @@ fn do_job<'j>(
             check_files(rt, texts, schema.as_str(), bin, *raw)?;
             Ok("ok\n")
         }
-        Job::Conform { old, new } => {
-            conform_files(rt, texts, old.as_str(), new.as_str())?;
+        Job::Conform { old, new, names } => {
+            conform_files(rt, texts, [old.as_str(), new.as_str()], *names)?;
             Ok("conforms\n")
         }
     }
@@ -261,12 +267,15 @@ fn do_and_report(rt: &HostRuntime, job: &Job, explained: bool) -> u8 {
 /// Does what the words ask for, and returns the status.
 fn run(rt: &HostRuntime, words: &[String]) -> u8 {
     match request_of(rt.alloc(), words) {
-        Ok(Request::Do(job, explained)) => do_and_report(rt, &job, explained),
-        Ok(Request::DoEach(batch, explained)) => match do_batch(rt, &batch, explained) {
-            Ok(status) => status,
-            Err(error) => refuse(rt, &error, words),
-        },
-        Ok(Request::Explain(number)) => explain_number(rt, number.as_str()),
+        Ok(Request::Do(job, explaining)) => do_and_report(rt, &job, is_explained(rt, explaining)),
+        Ok(Request::DoEach(batch, explaining)) => {
+            match do_batch(rt, &batch, is_explained(rt, explaining)) {
+                Ok(status) => status,
+                Err(error) => refuse(rt, &error, words),
+            }
+        }
+        Ok(Request::Explain(Some(number))) => explain_number(rt, number.as_str()),
+        Ok(Request::Explain(None)) => list_numbers(rt),
         Err(error) => refuse(rt, &error, words),
     }
 }

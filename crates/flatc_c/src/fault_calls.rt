@@ -13,7 +13,7 @@ use crate::faults::{Fault, FaultName, padded};
 use crate::handles::Bytes;
 use crate::options::Options;
 use crate::status::{BAD_OPTIONS, NO_FAULT, NO_MEMORY, OK};
-use fb_explain::{Source, Sources, explain};
+use fb_explain::{COLUMNS, Source, Sources, explain};
 use flatc_tool::{Place, ToolFault, TypeId};
 use std::alloc::Global;
 
@@ -108,6 +108,7 @@ pub extern "C" fn flatc_explain<'a>(
         limits,
         unknown_json: options.ignores_unknown(),
         raw_binary: options.is_raw(),
+        columns: COLUMNS,
         failure: None,
     };
     match explain(alloc, &fault, &sources) {

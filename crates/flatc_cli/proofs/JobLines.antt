@@ -1,36 +1,68 @@
 -- Lines that are none of the four over one file each.
-use Rattle.std.proofs.Common.{◌≡◌, ◌≤◌, ◌&&◌, Bool, true, false, not, List, Option, Some, None, map, length, refl, ap, sym, subst, is_some, nat_lt, codes, string_bytes, bytes_eq}
+use Rattle.std.proofs.Common.{◌≡◌, ◌≢◌, if◌then◌else◌, ◌≤◌, ◌&&◌, Bool, true, false, not, List, Option, Some, None, map, length, refl, ap, sym, subst, is_some, nat_lt, codes, string_bytes, bytes_eq, rules}
 use Rattle.std.proofs.lemmas.Bool.{le-ltb}
 use Rattle.clap.specs.Words.{Row, Text}
-use Rattle.flatc_cli.specs.Lines.{is_set, has_dir, paths_in, is_single, is_plain, is_line_of, is_line, is_job_of, is_job_line, IsTask, IsRequestOf}
+use Rattle.flatc_cli.specs.Lines.{is_set, explaining_in, has_dir, paths_in, is_single, is_plain, is_line_of, is_line, is_job_of, is_job_line, IsTask, IsRequestOf}
 use Rattle.flatc_cli.specs.declared.request.Batch.{Batch}
 use Rattle.flatc_cli.specs.declared.request.Task.{Task}
 use Rattle.flatc_cli.specs.declared.request.Task.TheVariants as task
-use Rattle.flatc_cli.specs.declared.request.Request.TheVariants.{DoEach}
+use Rattle.flatc_cli.specs.declared.request.Explaining.{Explaining}
+use Rattle.flatc_cli.specs.declared.request.Explaining.TheVariants.{AtTerminal, Always, Never}
+use Rattle.flatc_cli.specs.declared.request.Job.{Job}
+use Rattle.flatc_cli.specs.declared.request.Request.TheVariants.{Do, DoEach}
 
 pub and_no : (a b : Bool) → b ≡ false → (a && b) ≡ false
 and_no true b fails = fails
 and_no false b fails = refl
+
+no_word : (terse explain : Bool) (other : Explaining) (rest : Bool)
+    → other ≡ (if terse then Never else if explain then Always else AtTerminal) → other ≢ AtTerminal
+    → (not terse && (not explain && rest)) ≡ false
+no_word true explain other rest same differs = refl
+no_word false true other rest same differs = refl
+no_word false false other rest same differs = absurd (differs same)
 
 pub not_plain : (name : Text) (rows : List Row) → is_plain name rows ≡ false → is_job_of name rows ≡ false
 not_plain name rows fails =
     and_no (is_line_of name rows) (not (bytes_eq name (codes "explain")) && is_plain name rows)
     (and_no (not (bytes_eq name (codes "explain"))) (is_plain name rows) fails)
 
-pub explained : (name : Text) (rows : List Row) → is_set (codes "explain") rows ≡ true → is_job_of name rows ≡ false
-explained name rows holds = not_plain name rows (rw holds refl)
+-- a word on explanations
+pub on_explanations : (name : Text) (rows : List Row) (other : Explaining) → other ≡ explaining_in rows → other ≢ AtTerminal
+    → is_job_of name rows ≡ false
+on_explanations name rows other same differs =
+    not_plain name rows (no_word (is_set (codes "terse") rows) (is_set (codes "explain") rows) other _ same differs)
+
+always_differs : Always ≢ AtTerminal
+always_differs = search rules
+
+never_differs : Never ≢ AtTerminal
+never_differs = search rules
+
+on_explanations_of : (line : Option (Text × List Row)) (job : Job) (other : Explaining) → other ≢ AtTerminal
+    → IsRequestOf line (Do job other) → is_job_line line ≡ false
+on_explanations_of None job other differs is = absurd is
+on_explanations_of (Some p) job other differs is = on_explanations p.0 p.1 other is.1 differs
+
+pub always_is_no_job : (line : Option (Text × List Row)) (job : Job) → IsRequestOf line (Do job Always) → is_job_line line ≡ false
+always_is_no_job line job is = on_explanations_of line job Always always_differs is
+
+pub never_is_no_job : (line : Option (Text × List Row)) (job : Job) → IsRequestOf line (Do job Never) → is_job_line line ≡ false
+never_is_no_job line job is = on_explanations_of line job Never never_differs is
+
+-- more than one file, or a directory
+not_one : (name : Text) (rows : List Row) → (not (has_dir rows) && is_single name rows) ≡ false → is_job_of name rows ≡ false
+not_one name rows fails =
+    not_plain name rows
+    (and_no (not (is_set (codes "terse") rows)) _ (and_no (not (is_set (codes "explain") rows)) _ fails))
 
 pub with_dir : (name : Text) (rows : List Row) → has_dir rows ≡ true → is_job_of name rows ≡ false
-with_dir name rows holds =
-    let inner : (not (has_dir rows) && is_single name rows) ≡ false = rw holds refl in
-    not_plain name rows (and_no (not (is_set (codes "explain") rows)) (not (has_dir rows) && is_single name rows) inner)
+with_dir name rows holds = not_one name rows (rw holds refl)
 
 pub several : (rows : List Row) → nat_lt (length (paths_in (codes "BIN") rows)) 2 ≡ false → is_job_of (codes "check") rows ≡ false
 several rows fails =
     let single : is_single (codes "check") rows ≡ false = fails in
-    not_plain (codes "check") rows
-    (and_no (not (is_set (codes "explain") rows)) (not (has_dir rows) && is_single (codes "check") rows)
-    (and_no (not (has_dir rows)) (is_single (codes "check") rows) single))
+    not_one (codes "check") rows (and_no (not (has_dir rows)) (is_single (codes "check") rows) single)
 
 pub of_a_number : (rows : List Row) → is_job_of (codes "explain") rows ≡ false
 of_a_number rows = and_no (is_line_of (codes "explain") rows) false refl
@@ -42,9 +74,9 @@ task_is_no_job name rows files (task.Check raw) is =
     let many : 2 ≤ length (paths_in (codes "BIN") rows) = subst (λ paths. 2 ≤ length paths) is.1 is.2 in
     subst (λ name. is_job_of name rows ≡ false) (sym is.0) (several rows (le-ltb (length (paths_in (codes "BIN") rows)) 2 many))
 
-pub batch_is_no_job : (line : Option (Text × List Row)) (batch : Batch) (explained : Bool) → IsRequestOf line (DoEach batch explained) → is_job_line line ≡ false
-batch_is_no_job None batch explained is = absurd is
-batch_is_no_job (Some p) batch explained is = task_is_no_job p.0 p.1 (map string_bytes batch.files.items) batch.task is.0.1
+pub batch_is_no_job : (line : Option (Text × List Row)) (batch : Batch) (explaining : Explaining) → IsRequestOf line (DoEach batch explaining) → is_job_line line ≡ false
+batch_is_no_job None batch explaining is = absurd is
+batch_is_no_job (Some p) batch explaining is = task_is_no_job p.0 p.1 (map string_bytes batch.files.items) batch.task is.0.1
 
 and_left : (a b : Bool) → (a && b) ≡ true → a ≡ true
 and_left true b both = refl

@@ -29,20 +29,24 @@ with_paths a id = with_rule a (paths_rule id true)
 abbrev pub with_flag : App → Text → App
 with_flag a name = with_rule a (flag_rule name)
 
+-- `--explain` and `--terse`, which all jobs have
+abbrev pub with_explaining : App → App
+with_explaining a = with_flag (with_flag a (codes "explain")) (codes "terse")
+
 abbrev pub binary_app : App
-binary_app = with_paths (with_path (with_rule (with_flag (with_flag (new_app (codes "binary")) (codes "unknown-json")) (codes "explain")) dir_rule) (codes "SCHEMA")) (codes "JSON")
+binary_app = with_paths (with_path (with_rule (with_explaining (with_flag (new_app (codes "binary")) (codes "unknown-json"))) dir_rule) (codes "SCHEMA")) (codes "JSON")
 
 abbrev pub json_app : App
-json_app = with_paths (with_path (with_rule (with_flag (with_flag (with_flag (new_app (codes "json")) (codes "raw-binary")) (codes "defaults-json")) (codes "explain")) dir_rule) (codes "SCHEMA")) (codes "BIN")
+json_app = with_paths (with_path (with_rule (with_explaining (with_flag (with_flag (new_app (codes "json")) (codes "raw-binary")) (codes "defaults-json"))) dir_rule) (codes "SCHEMA")) (codes "BIN")
 
 abbrev pub check_app : App
-check_app = with_rule (with_path (with_flag (with_flag (new_app (codes "check")) (codes "raw-binary")) (codes "explain")) (codes "SCHEMA")) (paths_rule (codes "BIN") false)
+check_app = with_rule (with_path (with_explaining (with_flag (new_app (codes "check")) (codes "raw-binary"))) (codes "SCHEMA")) (paths_rule (codes "BIN") false)
 
 abbrev pub conform_app : App
-conform_app = with_path (with_path (with_flag (new_app (codes "conform")) (codes "explain")) (codes "OLD")) (codes "NEW")
+conform_app = with_path (with_path (with_explaining (with_flag (new_app (codes "conform")) (codes "names"))) (codes "OLD")) (codes "NEW")
 
 abbrev pub explain_app : App
-explain_app = with_path (new_app (codes "explain")) (codes "NUMBER")
+explain_app = with_rule (new_app (codes "explain")) (path_rule (codes "NUMBER") false)
 
 -- words without the program's name, the first of which names a job, and `--version`
 abbrev pub plain_app : App

@@ -1,12 +1,13 @@
 -- Lines of words that clap takes, and what they ask for.
-use Rattle.std.specs.Prelude.{◌≡◌, true, false, refl, List, [], ◌∷◌, None, codes, String, string_bytes}
+use Rattle.std.specs.Prelude.{◌≡◌, true, false, refl, List, [], ◌∷◌, None, Some, codes, String, string_bytes}
 use Rattle.std.specs.declared.alloc.Global.{Global}
 use Rattle.clap.specs.Words.{Text, takes, subcommand_of}
 use Rattle.clap.specs.Walk.{walked}
 use Rattle.clap.specs.Takes.{walk_passes}
 use Rattle.flatc_cli.specs.Commands.{flatc_app}
 use Rattle.flatc_cli.specs.Lines.{IsRequestOf, is_line, is_job_line}
-use Rattle.flatc_cli.specs.declared.request.Job.TheVariants.{Binary, Check}
+use Rattle.flatc_cli.specs.declared.request.Job.TheVariants.{Binary, Check, Conform}
+use Rattle.flatc_cli.specs.declared.request.Explaining.TheVariants.{AtTerminal, Always, Never}
 use Rattle.flatc_cli.specs.declared.request.Request.TheVariants.{Do, Explain}
 
 -- flatc check s
@@ -17,7 +18,7 @@ pub check_is_taken : takes flatc_app check_line ≡ true
 unfolding walked walk_passes
 check_is_taken = refl
 
-pub check_is_a_job : (s : String Global) → string_bytes s ≡ codes "s" → IsRequestOf (subcommand_of flatc_app check_line) (Do (Check s None false) false)
+pub check_is_a_job : (s : String Global) → string_bytes s ≡ codes "s" → IsRequestOf (subcommand_of flatc_app check_line) (Do (Check s None false) AtTerminal)
 unfolding walked
 check_is_a_job s same = ((refl, cc, refl, refl), refl)
 
@@ -30,9 +31,26 @@ unfolding walked walk_passes
 binary_is_taken = refl
 
 pub binary_is_a_job : (s j o : String Global) → string_bytes s ≡ codes "s" → string_bytes j ≡ codes "j" → string_bytes o ≡ codes "o"
-    → IsRequestOf (subcommand_of flatc_app binary_line) (Do (Binary s j o true) true)
+    → IsRequestOf (subcommand_of flatc_app binary_line) (Do (Binary s j o true) Always)
 unfolding walked
 binary_is_a_job s j o schema json out = ((refl, cc, cc, refl, refl), refl)
+
+-- flatc conform --names --explain --terse a b
+abbrev pub names_line : List Text
+names_line = codes "conform" ∷ codes "--names" ∷ codes "--explain" ∷ codes "--terse" ∷ codes "a" ∷ codes "b" ∷ []
+
+pub names_are_asked_for : (a b : String Global) → string_bytes a ≡ codes "a" → string_bytes b ≡ codes "b"
+    → IsRequestOf (subcommand_of flatc_app names_line) (Do (Conform a b true) Never)
+unfolding walked
+names_are_asked_for a b old new = ((refl, cc, cc, refl), refl)
+
+-- flatc explain
+abbrev pub list_line : List Text
+list_line = codes "explain" ∷ []
+
+pub list_is_asked_for : IsRequestOf (subcommand_of flatc_app list_line) (Explain None)
+unfolding walked
+list_is_asked_for = (refl, refl)
 
 -- flatc explain n
 abbrev pub explain_line : List Text
@@ -42,7 +60,7 @@ pub explain_is_taken : takes flatc_app explain_line ≡ true
 unfolding walked walk_passes
 explain_is_taken = refl
 
-pub explain_asks_for_a_number : (n : String Global) → string_bytes n ≡ codes "n" → IsRequestOf (subcommand_of flatc_app explain_line) (Explain n)
+pub explain_asks_for_a_number : (n : String Global) → string_bytes n ≡ codes "n" → IsRequestOf (subcommand_of flatc_app explain_line) (Explain (Some n))
 unfolding walked
 explain_asks_for_a_number n same = (refl, cc)
 

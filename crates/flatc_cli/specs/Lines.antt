@@ -1,6 +1,6 @@
 -- What the matches of a command line ask for.
 use Rattle.std.specs.Prelude.{◌≡◌, ◌==◌, ◌&&◌, ◌||◌, ◌≤◌, Bool, true, false, not, List, [], ◌∷◌, Option, Some, None}
-use Rattle.std.specs.Prelude.{codes, String, string_bytes, length, map, take, unwrap_or, is_some, nat_lt, if◌then◌else◌}
+use Rattle.std.specs.Prelude.{codes, String, string_bytes, length, map, option_map, take, unwrap_or, is_some, nat_lt, if◌then◌else◌}
 use Rattle.std.specs.Borrow.{Bor}
 use Rattle.std.specs.Option.{option_map_or}
 use Rattle.std.specs.Str.{bytes_eq}
@@ -12,6 +12,8 @@ use Rattle.flatc_cli.specs.declared.request.Job.TheVariants.{Binary, Json, Check
 use Rattle.flatc_cli.specs.declared.request.Batch.{Batch}
 use Rattle.flatc_cli.specs.declared.request.Task.{Task}
 use Rattle.flatc_cli.specs.declared.request.Task.TheVariants as task
+use Rattle.flatc_cli.specs.declared.request.Explaining.{Explaining}
+use Rattle.flatc_cli.specs.declared.request.Explaining.TheVariants.{AtTerminal, Always, Never}
 use Rattle.flatc_cli.specs.declared.request.Request.{Request}
 use Rattle.flatc_cli.specs.declared.request.Request.TheVariants.{Do, DoEach, Explain}
 
@@ -50,8 +52,8 @@ IsJob name rows (Json schema bin raw defaults) = (name ≡ codes "json")
 IsJob name rows (Check schema bin raw) = (name ≡ codes "check")
     × IsPath (codes "SCHEMA") rows schema × (paths_in (codes "BIN") rows ≡ bytes_of bin)
     × (raw ≡ is_set (codes "raw-binary") rows)
-IsJob name rows (Conform old new) = (name ≡ codes "conform")
-    × IsPath (codes "OLD") rows old × IsPath (codes "NEW") rows new
+IsJob name rows (Conform old new names) = (name ≡ codes "conform")
+    × IsPath (codes "OLD") rows old × IsPath (codes "NEW") rows new × (names ≡ is_set (codes "names") rows)
 
 -- the files are all paths behind the schema's, in their order
 abbrev pub IsTask : Text → List Row → List Text → Task → Type 0
@@ -69,11 +71,19 @@ abbrev pub IsBatch : Text → List Row → Batch → Type 0
 IsBatch name rows batch = IsPath (codes "SCHEMA") rows batch.schema
     × IsTask name rows (map string_bytes batch.files.items) batch.task
 
--- a job or a batch, and whether its refusals are explained, or the number of a refusal
+-- `--terse` wins over `--explain`; without both it depends on where standard error goes
+abbrev pub explaining_in : List Row → Explaining
+explaining_in rows =
+    if is_set (codes "terse") rows then Never
+    else if is_set (codes "explain") rows then Always
+    else AtTerminal
+
+-- a job or a batch, and when its refusals are explained, or the number of a refusal if the line has one
 abbrev pub IsRequest : Text → List Row → Request → Type 0
-IsRequest name rows (Do job explained) = IsJob name rows job × (explained ≡ is_set (codes "explain") rows)
-IsRequest name rows (DoEach batch explained) = IsBatch name rows batch × (explained ≡ is_set (codes "explain") rows)
-IsRequest name rows (Explain number) = (name ≡ codes "explain") × IsPath (codes "NUMBER") rows number
+IsRequest name rows (Do job explaining) = IsJob name rows job × (explaining ≡ explaining_in rows)
+IsRequest name rows (DoEach batch explaining) = IsBatch name rows batch × (explaining ≡ explaining_in rows)
+IsRequest name rows (Explain number) = (name ≡ codes "explain")
+    × (first_of (codes "NUMBER") rows ≡ option_map string_bytes number)
 
 -- what a subcommand and its matches ask for
 abbrev pub IsRequestOf : Option (Text × List Row) → Request → Type 0
@@ -117,9 +127,10 @@ abbrev pub is_single : Text → List Row → Bool
 is_single name rows = not (bytes_eq name (codes "check")) || nat_lt (length (paths_in (codes "BIN") rows)) 2
 
 abbrev pub is_plain : Text → List Row → Bool
-is_plain name rows = not (is_set (codes "explain") rows) && (not (has_dir rows) && is_single name rows)
+is_plain name rows = not (is_set (codes "terse") rows) && (not (is_set (codes "explain") rows)
+    && (not (has_dir rows) && is_single name rows))
 
--- one of the four lines over one file each, without an explanation
+-- one of the four lines over one file each, without a word on explanations
 abbrev pub is_job_of : Text → List Row → Bool
 is_job_of name rows = is_line_of name rows && (not (bytes_eq name (codes "explain")) && is_plain name rows)
 

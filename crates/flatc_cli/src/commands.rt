@@ -107,14 +107,41 @@ fn explain_flag<'a>(alloc: Global) -> Arg<'a>
     ensures rule { rule_of result ≡ flag_rule (codes "explain") }
     ensures local { result.global ≡ false }
 {
-    flag(alloc, "explain", "Explain a refusal in further lines")
+    flag(
+        alloc,
+        "explain",
+        "Explain a refusal in further lines, as is done at a terminal",
+    )
 }
 
 fn number_word<'a>(alloc: Global) -> Arg<'a>
-    ensures rule { rule_of result ≡ path_rule (codes "NUMBER") true }
+    ensures rule { rule_of result ≡ path_rule (codes "NUMBER") false }
     ensures local { result.global ≡ false }
 {
-    path(alloc, "NUMBER", true, "The number of a refusal")
+    path(
+        alloc,
+        "NUMBER",
+        false,
+        "The number of a refusal; without it all are listed",
+    )
+}
+
+fn terse_flag<'a>(alloc: Global) -> Arg<'a>
+    ensures rule { rule_of result ≡ flag_rule (codes "terse") }
+    ensures local { result.global ≡ false }
+{
+    flag(alloc, "terse", "Explain nothing, at a terminal either")
+}
+
+fn names_flag<'a>(alloc: Global) -> Arg<'a>
+    ensures rule { rule_of result ≡ flag_rule (codes "names") }
+    ensures local { result.global ≡ false }
+{
+    flag(
+        alloc,
+        "names",
+        "Refuse a name that stands for another field or member than before",
+    )
 }
 
 /// A job's command without arguments.
@@ -130,6 +157,7 @@ pub(crate) fn binary_command<'a>(alloc: Global) -> Result<Command<'a>, AllocErro
     let args = vec![in alloc;
         unknown_flag(alloc),
         explain_flag(alloc),
+        terse_flag(alloc),
         dir_option(alloc, "Convert each JSON to NAME.bin in this directory"),
         schema_path(alloc),
         json_paths(alloc),
@@ -147,6 +175,7 @@ pub(crate) fn json_command<'a>(alloc: Global) -> Result<Command<'a>, AllocError>
         raw_flag(alloc),
         defaults_flag(alloc),
         explain_flag(alloc),
+        terse_flag(alloc),
         dir_option(alloc, "Convert each BIN to NAME.json in this directory"),
         schema_path(alloc),
         buffer_paths(alloc, true, "The buffer; with -o all buffers"),
@@ -162,6 +191,7 @@ pub(crate) fn check_command<'a>(alloc: Global) -> Result<Command<'a>, AllocError
     let args = vec![in alloc;
         raw_flag(alloc),
         explain_flag(alloc),
+        terse_flag(alloc),
         schema_path(alloc),
         buffer_paths(alloc, false, "The buffer, or several"),
     ]?;
@@ -172,7 +202,9 @@ pub(crate) fn conform_command<'a>(alloc: Global) -> Result<Command<'a>, AllocErr
     ensures { IfOk result (HasApp conform_app) }
 {
     let args = vec![in alloc;
+        names_flag(alloc),
         explain_flag(alloc),
+        terse_flag(alloc),
         path(alloc, "OLD", true, "The old schema text"),
         path(alloc, "NEW", true, "The new schema text"),
     ]?;
@@ -189,7 +221,7 @@ fn explain_command<'a>(alloc: Global) -> Result<Command<'a>, AllocError>
 {
     let args = vec![in alloc; number_word(alloc)]?;
     Command::new(alloc, "explain")
-        .about("Explain the number of a refusal")
+        .about("Explain the number of a refusal, or list all of them")
         .args(args)
 }
 

@@ -14,6 +14,6 @@ pub use commands::VERSION;
 pub use inputs::{is_standard_input, is_standard_output};
 pub use line::{job_of, request_of};
 pub use misuse::usage_error;
-pub use request::{Batch, Job, Request, Task};
+pub use request::{Batch, Explaining, Job, Request, Task};
 pub use run_status::RunStatus;
 pub use targets::{target_in, targets_in};

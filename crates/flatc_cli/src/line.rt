@@ -9,7 +9,7 @@ ghost use Rattle.flatc_cli.specs.Misuses.{IsRefusal};
 use crate::commands::flatc_command;
 use crate::matched::request_at;
 use crate::misuse::{Misuse, misuse_error, other_line};
-use crate::request::{Job, Request};
+use crate::request::{Explaining, Job, Request};
 use clap::error::ErrorKind;
 use clap::{ArgMatches, Error};
 use std::alloc::Global;
@@ -54,25 +54,26 @@ pub fn request_of(alloc: Global, words: &[String]) -> Result<Request, Error>
 
 /// The job of a request that is one of the four lines over one file each.
 fn job_in(request: Request) -> Option<Job>
-    ensures some { IfSome result (λ job. request ≡ Request.Do job false) }
+    ensures some { IfSome result (λ job. request ≡ Request.Do job Explaining.AtTerminal) }
     ensures none { IfNone result ((line : Option (Text × List Row)) → IsRequestOf line request
         → is_job_line line ≡ false) }
 {
     match request {
-        Request::Do(job, false) => Some(job),
-        Request::Do(_, true) => None,
+        Request::Do(job, Explaining::AtTerminal) => Some(job),
+        Request::Do(_, Explaining::Always) => None,
+        Request::Do(_, Explaining::Never) => None,
         Request::DoEach(_, _) => None,
         Request::Explain(_) => None,
     }
 }
 
 /// The job that the words ask for, the program's name apart: one of the four lines over one file
-/// each, without an explanation.
+/// each, without a word on explanations.
 ///
 /// What else `request_of` knows is a usage fault here.
 pub fn job_of(alloc: Global, words: &[String]) -> Result<Job, Error>
     ensures job { IfOk result (λ job. IsRequestOf (subcommand_of flatc_app (map string_bytes words.now))
-        (Request.Do job false)) }
+        (Request.Do job Explaining.AtTerminal)) }
     ensures line { OnOk result (is_line (subcommand_of flatc_app (map string_bytes words.now)) ≡ true) }
     ensures memory { IfErr result (λ e. takes flatc_app (map string_bytes words.now) ≡ true
         → is_job_line (subcommand_of flatc_app (map string_bytes words.now)) ≡ true

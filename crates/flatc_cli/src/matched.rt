@@ -2,13 +2,13 @@
 ghost use Rattle.std.specs.Prelude.{◌≡◌, ◌≢◌, ◌∷◌, [], IfOk, IfErr, OnOk, OnErr, true, false, Some, None};
 ghost use Rattle.std.specs.Prelude.{map, option_map, string_bytes, codes, length};
 ghost use Rattle.clap.specs.Words.{all_of, first_of, found_of, rows_of};
-ghost use Rattle.flatc_cli.specs.Lines.{IsJob, IsRequest, IsPath, is_set};
+ghost use Rattle.flatc_cli.specs.Lines.{IsJob, IsRequest, IsPath, is_set, explaining_in};
 ghost use Rattle.flatc_cli.specs.Inputs.{is_read_once};
 ghost use Rattle.flatc_cli.specs.Lines.{paths_in, first_text, listed, is_line_of};
 
 use crate::inputs::are_read_once;
 use crate::misuse::Misuse;
-use crate::request::{Batch, Job, Request, Task};
+use crate::request::{Batch, Explaining, Job, Request, Task};
 use clap::ArgMatches;
 use std::alloc::{AllocError, Global};
 
@@ -59,10 +59,16 @@ fn flag_of(found: &ArgMatches<'_>, name: &str) -> bool
     text_of(found, name).is_some_and(|text| text == "true")
 }
 
-fn is_explained(found: &ArgMatches<'_>) -> bool
-    ensures { result ≡ is_set (codes "explain") (rows_of (found_of found.now)) }
+fn explaining_of(found: &ArgMatches<'_>) -> Explaining
+    ensures { result ≡ explaining_in (rows_of (found_of found.now)) }
 {
-    flag_of(found, "explain")
+    if flag_of(found, "terse") {
+        Explaining::Never
+    } else if flag_of(found, "explain") {
+        Explaining::Always
+    } else {
+        Explaining::AtTerminal
+    }
 }
 
 fn strings_of(alloc: Global, texts: &[&str]) -> Result<Vec<String>, AllocError>
@@ -171,9 +177,9 @@ fn binary_request<'a>(alloc: Global, found: &ArgMatches<'a>) -> Result<Request, 
     ensures refusal { IfErr result (λ m.
         is_line_of (codes "binary") (rows_of (found_of found.now)) ≡ true → m ≡ Misuse.Memory) }
 {
-    let explained = is_explained(found);
+    let explaining = explaining_of(found);
     match text_of(found, "DIR") {
-        None => Ok(Request::Do(binary_job(alloc, found)?, explained)),
+        None => Ok(Request::Do(binary_job(alloc, found)?, explaining)),
         Some(dir) => {
             let files = paths_of(found, "JSON")?;
             check_read_once(schema_of(found), files)?;
@@ -181,7 +187,7 @@ fn binary_request<'a>(alloc: Global, found: &ArgMatches<'a>) -> Result<Request, 
                 dir: String::from_str(alloc, dir)?,
                 unknown: flag_of(found, "unknown-json"),
             };
-            Ok(Request::DoEach(batch_of(alloc, found, files, task)?, explained))
+            Ok(Request::DoEach(batch_of(alloc, found, files, task)?, explaining))
         }
     }
 }
@@ -193,9 +199,9 @@ fn json_request<'a>(alloc: Global, found: &ArgMatches<'a>) -> Result<Request, Mi
     ensures refusal { IfErr result (λ m.
         is_line_of (codes "json") (rows_of (found_of found.now)) ≡ true → m ≡ Misuse.Memory) }
 {
-    let explained = is_explained(found);
+    let explaining = explaining_of(found);
     match text_of(found, "DIR") {
-        None => Ok(Request::Do(json_job(alloc, found)?, explained)),
+        None => Ok(Request::Do(json_job(alloc, found)?, explaining)),
         Some(dir) => {
             let files = paths_of(found, "BIN")?;
             check_read_once(schema_of(found), files)?;
@@ -204,7 +210,7 @@ fn json_request<'a>(alloc: Global, found: &ArgMatches<'a>) -> Result<Request, Mi
                 raw: flag_of(found, "raw-binary"),
                 defaults: flag_of(found, "defaults-json"),
             };
-            Ok(Request::DoEach(batch_of(alloc, found, files, task)?, explained))
+            Ok(Request::DoEach(batch_of(alloc, found, files, task)?, explaining))
         }
     }
 }
@@ -232,20 +238,20 @@ fn check_request<'a>(alloc: Global, found: &ArgMatches<'a>) -> Result<Request, M
     ensures refusal { IfErr result (λ m.
         is_line_of (codes "check") (rows_of (found_of found.now)) ≡ true → m ≡ Misuse.Memory) }
 {
-    let explained = is_explained(found);
+    let explaining = explaining_of(found);
     let Some(files) = texts_of(found, "BIN") else {
         check_read_once(schema_of(found), &[])?;
-        return Ok(Request::Do(check_job(alloc, found, None)?, explained));
+        return Ok(Request::Do(check_job(alloc, found, None)?, explaining));
     };
     check_read_once(schema_of(found), files)?;
     if files.len() < 2 {
         let job = check_job(alloc, found, files.first().copied())?;
-        return Ok(Request::Do(job, explained));
+        return Ok(Request::Do(job, explaining));
     }
     let task = Task::Check {
         raw: flag_of(found, "raw-binary"),
     };
-    Ok(Request::DoEach(batch_of(alloc, found, files, task)?, explained))
+    Ok(Request::DoEach(batch_of(alloc, found, files, task)?, explaining))
 }
 
 /// What a line `conform` asks for.
@@ -258,7 +264,8 @@ fn conform_request<'a>(alloc: Global, found: &ArgMatches<'a>) -> Result<Request,
     let old = path_of(alloc, found, "OLD")?;
     let new = path_of(alloc, found, "NEW")?;
     check_read_once(old.as_str(), &[new.as_str()])?;
-    Ok(Request::Do(Job::Conform { old, new }, is_explained(found)))
+    let names = flag_of(found, "names");
+    Ok(Request::Do(Job::Conform { old, new, names }, explaining_of(found)))
 }
 
 /// What a line `explain` asks for.
@@ -267,7 +274,11 @@ fn explain_request<'a>(alloc: Global, found: &ArgMatches<'a>) -> Result<Request,
     ensures line { OnOk result (is_line_of (codes "explain") (rows_of (found_of found.now)) ≡ true) }
     ensures refusal { IfErr result (λ m. m ≡ Misuse.Memory) }
 {
-    Ok(Request::Explain(path_of(alloc, found, "NUMBER")?))
+    let number = match text_of(found, "NUMBER") {
+        Some(text) => Some(String::from_str(alloc, text)?),
+        None => None,
+    };
+    Ok(Request::Explain(number))
 }
 
 /// What the matches of a job's words ask for.

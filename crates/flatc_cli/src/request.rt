@@ -27,6 +27,8 @@ pub enum Job {
     Conform {
         old: String,
         new: String,
+        /// Whether names have to stand for what they stood for.
+        names: bool,
     },
 }
 
@@ -59,13 +61,24 @@ pub struct Batch {
     pub task: Task,
 }
 
+/// When a refusal is explained.
+#[derive(Clone, Copy, Debug, Drop, PartialEq)]
+pub enum Explaining {
+    /// Where standard error is a terminal.
+    AtTerminal,
+    /// Anywhere: `--explain`.
+    Always,
+    /// Nowhere: `--terse`.
+    Never,
+}
+
 /// What a command line asks for.
 #[derive(Debug, Drop, PartialEq)]
 pub enum Request {
-    /// A job over one file, and whether a refusal is explained.
-    Do(Job, bool),
-    /// A task over several files, or into a directory, and whether refusals are explained.
-    DoEach(Batch, bool),
-    /// What the number of a refusal means, as the line writes it.
-    Explain(String),
+    /// A job over one file, and when a refusal is explained.
+    Do(Job, Explaining),
+    /// A task over several files, or into a directory, and when refusals are explained.
+    DoEach(Batch, Explaining),
+    /// What the number of a refusal means, as the line writes it; all numbers where it writes none.
+    Explain(Option<String>),
 }

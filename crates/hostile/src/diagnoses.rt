@@ -3,7 +3,7 @@ use crate::arming::{Both, Outcome, arm, disarm};
 use crate::examples::Example;
 use crate::meanings::limits;
 use fb_conform::all_breaches;
-use fb_explain::{Source, Sources, explain};
+use fb_explain::{COLUMNS, Source, Sources, explain};
 use fb_json::fault_path as json_fault_path;
 use fb_layout::Layout;
 use fb_read::fault_path;
@@ -119,6 +119,7 @@ fn explained(alloc: Global, refused: &Refused<'_>) -> Result<String, AllocError>
         limits: limits(),
         unknown_json: false,
         raw_binary: false,
+        columns: COLUMNS,
         failure: None,
     };
     explain(alloc, &refused.fault, &sources)

@@ -4,7 +4,7 @@ use crate::examples::Example;
 use crate::meanings::limits;
 use clap::Error;
 use clap::error::ErrorKind;
-use flatc_cli::{Job, Request, request_of};
+use flatc_cli::{Explaining, Job, Request, request_of};
 use flatc_tool::command::{Heard, fault_line, report, report_noted, take_all};
 use flatc_tool::{
     DecodeOptions, EncodeOptions, JsonFault, Noted, Place, ToolFault, TypeId, check, conform_texts,
@@ -56,7 +56,7 @@ fn is_asked(request: &Request) -> bool {
                 bin: Some(bin),
                 raw: true,
             },
-            false,
+            Explaining::AtTerminal,
         ) => schema.as_str() == "s" && bin.as_str() == "b",
         _ => false,
     }

@@ -1,6 +1,6 @@
 //! What is explained where the command can't be brought to a fault, or only by gigabytes.
 use fb_build::BuildFault;
-use fb_explain::{Source, Sources, explain};
+use fb_explain::{COLUMNS, Source, Sources, explain};
 use fb_text::{TextFault, WriteFault};
 use fb_value::ReadFault;
 use flatc_tool::{EncodeOptions, ToolFault};
@@ -57,6 +57,7 @@ fn a_fault_is_explained(rt: HostRuntime) -> Result<(), Fail> {
         limits: EncodeOptions::new().limits,
         unknown_json: false,
         raw_binary: false,
+        columns: COLUMNS,
         failure: None,
     };
     for (fault, want) in ROWS {

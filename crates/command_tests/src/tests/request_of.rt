@@ -1,7 +1,7 @@
 //! Lines of words, and what they ask for.
 use clap::Error;
 use clap::error::ErrorKind;
-use flatc_cli::{Batch, Job, Request, Task, job_of, request_of};
+use flatc_cli::{Batch, Explaining, Job, Request, Task, job_of, request_of};
 use std::alloc::{AllocError, Global};
 use std::test::Fail;
 
@@ -55,7 +55,7 @@ fn a_line_that_asks_for_a_buffer(rt: HostRuntime) -> Result<(), Fail> {
         out: "o".to_string(alloc)?,
         unknown: true,
     };
-    assert!(rt; asked(alloc, "binary --unknown-json s j o")? == Request::Do(want, false));
+    assert!(rt; asked(alloc, "binary --unknown-json s j o")? == Request::Do(want, Explaining::AtTerminal));
     Ok(())
 }
 
@@ -68,7 +68,7 @@ fn a_line_that_asks_for_a_text(rt: HostRuntime) -> Result<(), Fail> {
         raw: false,
         defaults: true,
     };
-    assert!(rt; asked(alloc, "json --defaults-json s -- -b")? == Request::Do(want, false));
+    assert!(rt; asked(alloc, "json --defaults-json s -- -b")? == Request::Do(want, Explaining::AtTerminal));
     Ok(())
 }
 
@@ -80,7 +80,7 @@ fn a_line_that_asks_for_a_check(rt: HostRuntime) -> Result<(), Fail> {
         bin: None,
         raw: false,
     };
-    assert!(rt; asked(alloc, "check --explain s")? == Request::Do(want, true));
+    assert!(rt; asked(alloc, "check --explain s")? == Request::Do(want, Explaining::Always));
     Ok(())
 }
 
@@ -90,8 +90,10 @@ fn a_line_that_asks_for_a_comparison(rt: HostRuntime) -> Result<(), Fail> {
     let want = Job::Conform {
         old: "o".to_string(alloc)?,
         new: "n".to_string(alloc)?,
+        names: true,
     };
-    assert!(rt; asked(alloc, "conform o n")? == Request::Do(want, false));
+    let line = "conform --explain --names --terse o n";
+    assert!(rt; asked(alloc, line)? == Request::Do(want, Explaining::Never));
     Ok(())
 }
 
@@ -106,7 +108,7 @@ fn lines_over_many_files(rt: HostRuntime) -> Result<(), Fail> {
             unknown: false,
         },
     };
-    assert!(rt; asked(alloc, "binary -o d - j k j")? == Request::DoEach(want, false));
+    assert!(rt; asked(alloc, "binary -o d - j k j")? == Request::DoEach(want, Explaining::AtTerminal));
     let want = Batch {
         schema: "s".to_string(alloc)?,
         files: words(alloc, "b")?,
@@ -117,13 +119,13 @@ fn lines_over_many_files(rt: HostRuntime) -> Result<(), Fail> {
         },
     };
     let line = "json s --out-dir=d --explain b --raw-binary";
-    assert!(rt; asked(alloc, line)? == Request::DoEach(want, true));
+    assert!(rt; asked(alloc, line)? == Request::DoEach(want, Explaining::Always));
     let want = Batch {
         schema: "s".to_string(alloc)?,
         files: words(alloc, "- -o")?,
         task: Task::Check { raw: false },
     };
-    assert!(rt; asked(alloc, "check s -- - -o")? == Request::DoEach(want, false));
+    assert!(rt; asked(alloc, "check s -- - -o")? == Request::DoEach(want, Explaining::AtTerminal));
     Ok(())
 }
 
@@ -144,6 +146,7 @@ fn a_line_that_is_one_job(rt: HostRuntime) -> Result<(), Fail> {
 fn lines_that_are_more_than_one_job(rt: HostRuntime) -> Result<(), Fail> {
     for line in [
         "check --explain s",
+        "check s --terse",
         "explain 7",
         "check s b c",
         "json -o d s b",
@@ -161,8 +164,9 @@ fn lines_that_are_more_than_one_job(rt: HostRuntime) -> Result<(), Fail> {
 #[test]
 fn a_line_that_asks_for_a_number(rt: HostRuntime) -> Result<(), Fail> {
     let alloc = rt.alloc();
-    let want = Request::Explain("73".to_string(alloc)?);
+    let want = Request::Explain(Some("73".to_string(alloc)?));
     assert!(rt; asked(alloc, "explain 73")? == want);
+    assert!(rt; asked(alloc, "explain")? == Request::Explain(None));
     Ok(())
 }
 

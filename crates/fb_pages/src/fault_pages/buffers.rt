@@ -111,8 +111,8 @@ The library takes a higher limit; the command doesn't.",
         63 => page(
             63,
             "63 TooManyCells
-A buffer has more than 100,000,000 tables, strings, vectors, elements and bytes of strings, those
-that are reached twice counted twice.
+A buffer has more than 100,000,000 tables, strings, vectors, elements and bytes of strings.
+What is reached twice counts twice.
 For example: a small buffer whose offsets lead to one part many times.
 The library takes a higher limit; the command doesn't.",
         ),

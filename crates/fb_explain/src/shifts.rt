@@ -1,0 +1,195 @@
+//! A field that was removed or inserted before others: each later slot breaks with the old one, and the mistake is one.
+use crate::sides::{Sides, Twin};
+use fb_conform::Breach;
+use fb_pages::Page;
+use fb_schema::{FieldInfo, Kind, Shape, TypeId};
+use fb_schema_faults::shapes::{fields_of, type_name};
+
+// How many slots that are removed or inserted side by side are looked for.
+const MOST: usize = 16;
+
+#[derive(Clone, Copy)]
+enum Change {
+    /// Old slots that the new table hasn't got there.
+    Removed,
+    /// New slots before old ones.
+    Inserted,
+}
+
+/// Slots of a table that were removed or inserted, with those behind them as they were.
+#[derive(Clone, Copy)]
+struct Shift {
+    change: Change,
+    first: usize,
+    count: usize,
+    /// How many slots, from the first on, break with the old ones by it.
+    end: usize,
+}
+
+impl Shift {
+    /// Its fields, of those of the table that has them.
+    fn of(self, fields: &[FieldInfo]) -> &[FieldInfo] {
+        let end = self.first.saturating_add(self.count);
+        fields.get(self.first..end).unwrap_or(&[])
+    }
+}
+
+/// Whether all fields of the first list are called like those that the second begins with.
+fn begin_alike(fields: &[FieldInfo], others: &[FieldInfo]) -> bool {
+    fields.len() <= others.len()
+        && fields
+            .iter()
+            .zip(others)
+            .all(|(field, other)| field.name == other.name)
+}
+
+fn rest_of(fields: &[FieldInfo], from: usize) -> &[FieldInfo] {
+    fields.get(from..).unwrap_or(&[])
+}
+
+/// Which so many slots were removed or inserted, from the first that has another name on.
+fn shift_by(old: &[FieldInfo], new: &[FieldInfo], first: usize, count: usize) -> Option<Shift> {
+    let behind = first.saturating_add(count);
+    if behind < old.len() && begin_alike(rest_of(old, behind), rest_of(new, first)) {
+        let end = old.len();
+        return Some(Shift {
+            change: Change::Removed,
+            first,
+            count,
+            end,
+        });
+    }
+    if begin_alike(rest_of(old, first), rest_of(new, behind)) {
+        let end = old.len().saturating_add(count);
+        return Some(Shift {
+            change: Change::Inserted,
+            first,
+            count,
+            end,
+        });
+    }
+    None
+}
+
+/// Which slots were removed or inserted, where that is the only change of order.
+fn shift_of(old: &[FieldInfo], new: &[FieldInfo]) -> Option<Shift> {
+    let first = old
+        .iter()
+        .zip(new)
+        .position(|(was, is)| was.name != is.name)?;
+    (1..=MOST).find_map(|count| shift_by(old, new, first, count))
+}
+
+/// The shift of the table that breaches are listed of, which is told once.
+#[derive(Clone, Copy)]
+pub(crate) struct Shifts {
+    found: Option<(TypeId, Option<Shift>)>,
+    is_told: bool,
+}
+
+impl Shifts {
+    pub(crate) fn new() -> Shifts {
+        Shifts {
+            found: None,
+            is_told: false,
+        }
+    }
+
+    /// The shift of an old table, which is looked for once.
+    fn of(&mut self, sides: &Sides<'_>, old: TypeId) -> Option<Shift> {
+        if let Some((known, shift)) = self.found
+            && known == old
+        {
+            return shift;
+        }
+        let shift = sides.twin(old).and_then(|twin| sides.shift(twin));
+        self.found = Some((old, shift));
+        self.is_told = false;
+        shift
+    }
+
+    /// Adds the shift that a breach is of, if there is one and it isn't told yet; whether there is one.
+    pub(crate) fn tell(&mut self, sides: &Sides<'_>, page: &mut Page, breach: Breach) -> bool {
+        let (Some(old), Some(slot)) = (breach.type_id(), breach.slot()) else {
+            return false;
+        };
+        let Some(shift) = self.of(sides, old) else {
+            return false;
+        };
+        let is_of_it = (shift.first..shift.end).contains(&usize::from(slot));
+        if is_of_it && !self.is_told {
+            sides.push_shift(page, old, shift);
+            self.is_told = true;
+        }
+        is_of_it
+    }
+}
+
+/// The name that some slots have together: one field's, or a union's, whose code has a slot of its own.
+fn only_name(fields: &[FieldInfo]) -> Option<&str> {
+    match fields {
+        [field] => Some(field.name.as_str()),
+        [_, field] => match field.shape {
+            Shape::One(Kind::Union(_)) => Some(field.name.as_str()),
+            _ => None,
+        },
+        _ => None,
+    }
+}
+
+impl<'s> Sides<'s> {
+    fn shift(&self, twin: Twin) -> Option<Shift> {
+        let old = fields_of(self.old.schema(), twin.old);
+        let new = fields_of(self.new.schema(), twin.new);
+        shift_of(old, new)
+    }
+
+    /// Adds which fields they are; whether it is one.
+    fn push_shifted(&self, page: &mut Page, old: TypeId, fields: &[FieldInfo]) -> bool {
+        page.push_cut(type_name(self.old.schema(), old).as_bytes());
+        page.push_str(".");
+        if let Some(name) = only_name(fields) {
+            page.push_cut(name.as_bytes());
+            return true;
+        }
+        if let (Some(first), Some(last)) = (fields.first(), fields.last()) {
+            page.push_cut(first.name.as_bytes());
+            page.push_str(" to ");
+            page.push_cut(last.name.as_bytes());
+        }
+        false
+    }
+
+    fn push_removed(&self, page: &mut Page, twin: Twin, shift: Shift) {
+        let fields = shift.of(fields_of(self.old.schema(), twin.old));
+        let is_one = self.push_shifted(page, twin.old, fields);
+        page.push_str(if is_one { " was removed" } else { " were removed" });
+        self.old.push_field_line(page, twin.old, shift.first as u64);
+        page.push_str(if is_one {
+            ": later fields take its place"
+        } else {
+            ": later fields take their places"
+        });
+        page.push_line("; a field is never removed, but marked (deprecated)");
+    }
+
+    fn push_inserted(&self, page: &mut Page, twin: Twin, shift: Shift) {
+        let fields = shift.of(fields_of(self.new.schema(), twin.new));
+        let is_one = self.push_shifted(page, twin.old, fields);
+        page.push_str(if is_one { " was inserted" } else { " were inserted" });
+        self.new.push_field_line(page, twin.new, shift.first as u64);
+        page.push_str(": later fields lose their places; ");
+        page.push_line("new fields go behind the others, or each field has an (id: ..)");
+    }
+
+    /// Adds what was removed or inserted, and where.
+    fn push_shift(&self, page: &mut Page, old: TypeId, shift: Shift) {
+        let Some(twin) = self.twin(old) else {
+            return;
+        };
+        match shift.change {
+            Change::Removed => self.push_removed(page, twin, shift),
+            Change::Inserted => self.push_inserted(page, twin, shift),
+        }
+    }
+}
