@@ -87,7 +87,6 @@ fmt:
 	@for crate in crates/*/; do (cd $$crate && rt fmt) || exit 1; done
 
 mutations:
-	@python3 tools/build.py $(or $(CRATE),flatc)
 	@python3 tools/mutations.py $(CRATE)
 
 soak: build
