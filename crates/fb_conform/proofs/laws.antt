@@ -1,17 +1,25 @@
 -- What the proofs of src/laws.rt use.
 pub mod BodiesOfOneKindAgree
+pub mod BothMeaningsAreOneValue
 pub mod CarriedEntryLiesInItsSlot
 pub mod CarriedFitsTheNewRoot
 pub mod CarriedIsNoLarger
 pub mod CarriedLiesUnderTheNewLayout
 pub mod ConformingLayoutsAgree
+pub mod DeclaredShapesByTheirNewNumbers
 pub mod EachBodyIsDeclared
 pub mod EntryTakenBackLiesInItsSlot
+pub mod JsonMeansTheCarriedValue
 pub mod LayoutsAgree
+pub mod MembersNameTheSameSlots
+pub mod NamesAreKeptUnlessMoved
 pub mod OldTypesByTheirNewNumbers
 pub mod RulesHoldUnderBothLayouts
+pub mod SlotIsReadUnderItsNewName
+pub mod SlotsMeanTheCarriedEntries
 pub mod SlotsNameTheSamePlaces
 pub mod TakenBackIsNoLarger
 pub mod TakenBackLiesUnderTheOldLayout
+pub mod TextsKeepTheirNumbers
 pub mod VersionsFollowEachOther
 pub mod WholeValuesHaveNoUnknownCode

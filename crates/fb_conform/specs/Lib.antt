@@ -5,10 +5,14 @@ pub mod BreachTable
 pub mod Order
 pub mod Told
 pub mod Listed
+pub mod Names
+pub mod MovedNames
 pub mod Carry
 pub mod CarriedEntries
 pub mod Back
+pub mod NamesStay
 pub mod Laws
 pub mod ExampleSchemas
 pub mod ExampleCarried
 pub mod ExampleBreaches
+pub mod ExampleNames

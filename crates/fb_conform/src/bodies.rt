@@ -13,7 +13,8 @@ use crate::twins::twin_of;
 use fb_layout::Layout;
 use fb_schema::{Body, Schema, TypeId};
 
-fn body_of(schema: &Schema, type_id: TypeId) -> &Body
+/// The body of a type.
+pub(crate) fn body_of(schema: &Schema, type_id: TypeId) -> &Body
     requires { type_id.0 < length schema.now.types }
     ensures { body_seen result.now ≡ body_at schema.now type_id.0 }
 {

@@ -8,6 +8,7 @@ mod comparison;
 mod laws;
 mod listing;
 mod members;
+mod names;
 mod shapes;
 mod slots;
 mod structs;
@@ -16,5 +17,9 @@ mod twins;
 pub use breaches::Breach;
 pub use carried_values::carry;
 pub use comparison::conform;
-pub use laws::{back_holds, carried_fits, carried_holds, carries_on, conforms_on};
+pub use laws::{
+    back_holds, carried_fits, carried_holds, carries_on, conforms_on, kept_unless_moved,
+    means_carried, names_carry,
+};
 pub use listing::all_breaches;
+pub use names::{MovedName, moved_names};

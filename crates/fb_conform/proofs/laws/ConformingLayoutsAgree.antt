@@ -41,14 +41,14 @@ module _ (A B : LaidSchema) (old : IsWellMade A) (new : IsWellMade B) (conforms 
       let same : to_new A B t ≡ h.0 = ap (λ o. unwrap_or o 0) h.1 in
       subst (λ (u : ℕ). Twins A.schema B.schema t u) (sym same) h.1
 
-  within : (t : ℕ) → t < types_in A → to_new A B t < types_in B
+  pub within : (t : ℕ) → t < types_in A → to_new A B t < types_in B
   within t known = twin_within A.schema B.schema t (to_new A B t) (twins t known)
 
   -- the type of that name
-  named : (t u : ℕ) → u < types_in B → SameName A.schema B.schema t u → u ≡ to_new A B t
+  pub named : (t u : ℕ) → u < types_in B → SameName A.schema B.schema t u → u ≡ to_new A B t
   named t u known same = sym (ap (λ o. unwrap_or o 0) (named_twin A.schema B.schema new.declared t u known same))
 
-  same_kind : (t : ℕ) → t < types_in A → SameKind (body_at A.schema t) (body_at B.schema (to_new A B t))
+  pub same_kind : (t : ℕ) → t < types_in A → SameKind (body_at A.schema t) (body_at B.schema (to_new A B t))
   same_kind t known = conforms (KindChanged (record { 0 = t })) (to_new A B t) (twins t known)
 
   -- named types of one name are of one kind
@@ -59,14 +59,14 @@ module _ (A B : LaidSchema) (old : IsWellMade A) (new : IsWellMade B) (conforms 
       ap (λ z. sort_of_body (body_at B.schema z)) (named t u there (name_same _ _ same))
       ∙ same_sort (body_at A.schema t) (body_at B.schema (to_new A B t)) (same_kind t known)
 
-  base_moved : (t : ℕ) → t < types_in A → base_in (body_at B.schema (to_new A B t)) ≡ base_in (body_at A.schema t)
+  pub base_moved : (t : ℕ) → t < types_in A → base_in (body_at B.schema (to_new A B t)) ≡ base_in (body_at A.schema t)
   base_moved t known =
       base_same _ _ (same_kind t known) (conforms (EnumChanged (record { 0 = t })) (to_new A B t) (twins t known))
 
   clash : (m n j k : ℕ) → m ≡ n → m ≡ j → n ≡ k → (j ≡ k → ⊥) → ⊥
   clash m n j k e first second apart = apart (sym first ∙ e ∙ second)
 
-  kind_moved : (k l : declared_kind.Kind) → KindNames A.schema k → KindNames B.schema l
+  pub kind_moved : (k l : declared_kind.Kind) → KindNames A.schema k → KindNames B.schema l
       → kind_by_name A.schema k ≡ kind_by_name B.schema l
       → stored_kind B.schema l ≡ moved_kind (to_new A B) (stored_kind A.schema k)
   kind_moved (Scalar b) (Scalar c) known there same = ap scalar_kind (sym (basic_same b c same))
@@ -159,7 +159,7 @@ module _ (A B : LaidSchema) (old : IsWellMade A) (new : IsWellMade B) (conforms 
   still_in_use true y h e = let g : y ≡ true = h refl in cc
   still_in_use false y h e = refl
 
-  slot_stays : (t k : ℕ) (d e : DeclaredField) → t < types_in A → SlotTwins A.schema B.schema t k d e
+  pub slot_stays : (t k : ℕ) (d e : DeclaredField) → t < types_in A → SlotTwins A.schema B.schema t k d e
       → IsShape A.schema d.shape → IsShape B.schema e.shape
       → SlotStays (to_new A B) (types_in A) (slot_of A.schema d) (slot_of B.schema e)
   slot_stays t k d e known pair first second =
@@ -197,7 +197,7 @@ module _ (A B : LaidSchema) (old : IsWellMade A) (new : IsWellMade B) (conforms 
       (λ k e h i. conforms (NewRequired id k) u e both
       (was_table (body_at A.schema t) (body_at B.schema u) kind (has_slot (body_at B.schema u) k e i)) h i)
 
-  members_moved : (u c t : ℕ) → u < types_in A → member_by_code A u c ≡ Some t
+  pub members_moved : (u c t : ℕ) → u < types_in A → member_by_code A u c ≡ Some t
       → (t < types_in A) × (member_by_code B (to_new A B u) c ≡ Some (to_new A B t))
   members_moved u c t known e =
       let h = members_same A.schema B.schema (body_at A.schema u) (body_at B.schema (to_new A B u)) c t
