@@ -10,7 +10,7 @@ use Rattle.fb_schema.specs.declared.kinds.TypeId.{TypeId}
 use Rattle.fb_conform.specs.BreachTable as breaches
 use Rattle.fb_faults.specs.declared.faults.ToolFault.{ToolFault}
 use Rattle.fb_faults.specs.declared.faults.ToolFault.TheVariants.{Schema, Json, Read, Text, Write, Breach, Older}
-use Rattle.fb_faults.specs.declared.faults.ToolFault.TheVariants.{Newer}
+use Rattle.fb_faults.specs.declared.faults.ToolFault.TheVariants.{Newer, NameMoved}
 
 -- JSON, values and their texts have declared places, a type and one of its slots
 abbrev pub place_of : ToolFault → Option Place
@@ -25,11 +25,13 @@ owner_of (Schema f) = schema_faults.owner_of f
 owner_of (Older f) = schema_faults.owner_of f
 owner_of (Newer f) = schema_faults.owner_of f
 owner_of (Breach b) = option_map (λ (t : TypeId). t.0) (breaches.type_of b)
+owner_of (NameMoved m) = Some m.type_id.0
 owner_of f = option_map (λ (p : Place). p.owner.0) (place_of f)
 
 abbrev pub slot_of : ToolFault → Option ℕ
 slot_of (Read (the_read.MissingRequired at slot)) = Some slot
 slot_of (Breach b) = breaches.slot_of b
+slot_of (NameMoved m) = Some m.slot
 slot_of f = option_map_or (λ (p : Place). p.slot) (place_of f) None
 
 -- how many bytes were written before a write failed

@@ -8,6 +8,7 @@ use Rattle.fb_text.specs.FaultTable as write_faults
 use Rattle.fb_conform.specs.BreachTable as breaches
 use Rattle.fb_faults.specs.declared.faults.ToolFault.{ToolFault}
 use Rattle.fb_faults.specs.declared.faults.ToolFault.TheVariants.{Schema, Json, Build, Read, Text, Write, Breach}
+use Rattle.fb_faults.specs.declared.faults.ToolFault.TheVariants.{NameMoved}
 use Rattle.fb_faults.specs.declared.faults.ToolFault.TheVariants.{Older, Newer, FileRead, FileWrite, FileTooLong}
 use Rattle.fb_faults.specs.declared.faults.ToolFault.TheVariants.{BadJson, Memory}
 
@@ -20,6 +21,7 @@ row_of (Read f) = read_faults.row_of f
 row_of (Text f) = write_faults.text_row_of f
 row_of (Write f) = write_faults.row_of f
 row_of (Breach b) = breaches.row_of b
+row_of (NameMoved m) = (103, codes "NameMoved")
 row_of (Older f) = schema_faults.row_of f
 row_of (Newer f) = schema_faults.row_of f
 row_of FileRead = (110, codes "FileRead")

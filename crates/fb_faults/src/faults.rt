@@ -1,6 +1,6 @@
 //! Why the tool refuses.
 use fb_build::BuildFault;
-use fb_conform::Breach;
+use fb_conform::{Breach, MovedName};
 use fb_json::{JsonFault, Place};
 use fb_schema::TypeId;
 use fb_schema_text::SchemaTextFault;
@@ -11,7 +11,8 @@ use thiserror::Error;
 /// The refusal of the first layer that refuses.
 ///
 /// `FileRead`, `FileWrite` and `FileTooLong` are of files, `BadJson` are bytes that are no JSON text,
-/// and `Memory` is an allocation that was refused while a file or a JSON text was read.
+/// and `Memory` is an allocation that was refused while a file or a JSON text was read, or names of two
+/// schemas were compared.
 #[derive(Clone, Copy, Debug, PartialEq, Eq, Drop, Error)]
 pub enum ToolFault {
     #[error(transparent)]
@@ -29,6 +30,9 @@ pub enum ToolFault {
     /// What in a new schema breaks with the old one.
     #[error(transparent)]
     Breach(Breach),
+    /// A name that stands for something else in a new schema that conforms.
+    #[error("the name of slot {} of type {} stands for another slot", .0.slot, .0.type_id.0)]
+    NameMoved(MovedName),
     /// The older of two schema texts is refused.
     #[error("old: {0}")]
     Older(SchemaTextFault),
@@ -67,6 +71,7 @@ impl ToolFault {
             ToolFault::Text(fault) => (fault.number(), fault.name()),
             ToolFault::Write(fault) => (fault.number(), fault.name()),
             ToolFault::Breach(breach) => (breach.number(), breach.name()),
+            ToolFault::NameMoved(_) => (103, "NameMoved"),
             ToolFault::FileRead => (110, "FileRead"),
             ToolFault::FileWrite => (111, "FileWrite"),
             ToolFault::FileTooLong => (112, "FileTooLong"),
@@ -124,6 +129,7 @@ impl ToolFault {
                 fault.owner()
             }
             ToolFault::Breach(breach) => breach.type_id(),
+            ToolFault::NameMoved(moved) => Some(moved.type_id),
             _ => self.place().map(|place| place.owner),
         }
     }
@@ -135,6 +141,7 @@ impl ToolFault {
         match self {
             ToolFault::Read(ReadFault::MissingRequired(_, slot)) => Some(slot),
             ToolFault::Breach(breach) => breach.slot(),
+            ToolFault::NameMoved(moved) => Some(moved.slot),
             _ => self.place()?.slot,
         }
     }
