@@ -21,7 +21,9 @@ impl<'s> Sides<'s> {
             return;
         }
         if now.deprecated {
-            page.push_line(": programs no longer see the values that buffers of the old schema have there");
+            page.push_line(
+                ": programs no longer see the values that buffers of the old schema have there",
+            );
             return;
         }
         page.push_str(": buffers of the old schema show the values of ");

@@ -163,7 +163,11 @@ impl<'s> Sides<'s> {
     fn push_removed(&self, page: &mut Page, twin: Twin, shift: Shift) {
         let fields = shift.of(fields_of(self.old.schema(), twin.old));
         let is_one = self.push_shifted(page, twin.old, fields);
-        page.push_str(if is_one { " was removed" } else { " were removed" });
+        page.push_str(if is_one {
+            " was removed"
+        } else {
+            " were removed"
+        });
         self.old.push_field_line(page, twin.old, shift.first as u64);
         page.push_str(if is_one {
             ": later fields take its place"
@@ -176,7 +180,11 @@ impl<'s> Sides<'s> {
     fn push_inserted(&self, page: &mut Page, twin: Twin, shift: Shift) {
         let fields = shift.of(fields_of(self.new.schema(), twin.new));
         let is_one = self.push_shifted(page, twin.old, fields);
-        page.push_str(if is_one { " was inserted" } else { " were inserted" });
+        page.push_str(if is_one {
+            " was inserted"
+        } else {
+            " were inserted"
+        });
         self.new.push_field_line(page, twin.new, shift.first as u64);
         page.push_str(": later fields lose their places; ");
         page.push_line("new fields go behind the others, or each field has an (id: ..)");

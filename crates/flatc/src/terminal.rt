@@ -57,7 +57,10 @@ fn print_coloured(rt: &HostRuntime, line: &str) {
     let words = line.trim_start_matches(' ');
     let indent = line.len().saturating_sub(words.len());
     let _printed = match place_len(line) {
-        _ if words == "^" || words == "^^" => eprintln!(rt; "{:indent$}\u{1b}[1;31m{words}\u{1b}[0m", ""),
+        _ if words == "^" || words == "^^" => eprintln!(rt;
+            "{:indent$}\u{1b}[1;31m{words}\u{1b}[0m",
+            ""
+        ),
         Some(len) if indent == 0 => {
             let (place, rest) = line.split_at(len);
             eprintln!(rt; "\u{1b}[1m{place}\u{1b}[0m{rest}")

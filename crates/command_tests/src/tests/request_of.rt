@@ -55,7 +55,9 @@ fn a_line_that_asks_for_a_buffer(rt: HostRuntime) -> Result<(), Fail> {
         out: "o".to_string(alloc)?,
         unknown: true,
     };
-    assert!(rt; asked(alloc, "binary --unknown-json s j o")? == Request::Do(want, Explaining::AtTerminal));
+    assert!(rt;
+        asked(alloc, "binary --unknown-json s j o")? == Request::Do(want, Explaining::AtTerminal)
+    );
     Ok(())
 }
 
@@ -68,7 +70,9 @@ fn a_line_that_asks_for_a_text(rt: HostRuntime) -> Result<(), Fail> {
         raw: false,
         defaults: true,
     };
-    assert!(rt; asked(alloc, "json --defaults-json s -- -b")? == Request::Do(want, Explaining::AtTerminal));
+    assert!(rt;
+        asked(alloc, "json --defaults-json s -- -b")? == Request::Do(want, Explaining::AtTerminal)
+    );
     Ok(())
 }
 
@@ -108,7 +112,9 @@ fn lines_over_many_files(rt: HostRuntime) -> Result<(), Fail> {
             unknown: false,
         },
     };
-    assert!(rt; asked(alloc, "binary -o d - j k j")? == Request::DoEach(want, Explaining::AtTerminal));
+    assert!(rt;
+        asked(alloc, "binary -o d - j k j")? == Request::DoEach(want, Explaining::AtTerminal)
+    );
     let want = Batch {
         schema: "s".to_string(alloc)?,
         files: words(alloc, "b")?,
