@@ -16,7 +16,7 @@ pub use excerpts::push_excerpt;
 pub use fault_pages::fault_page;
 pub use line_starts::LineStarts;
 pub use lines::COLUMNS;
-pub use near_names::push_nearest;
+pub use near_names::{nearest, push_few, push_meant, push_names, push_nearest};
 pub use pages::Page;
 pub use positions::Position;
 pub use sources::{Source, push_place, push_position};

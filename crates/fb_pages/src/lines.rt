@@ -11,6 +11,15 @@ use unicode_width::UnicodeWidthChar;
 /// How many columns a line has at most.
 pub const COLUMNS: usize = 120;
 
+/// Whether a character takes columns and shows nothing: a blank that isn't a space, or a filler.
+fn is_invisible(character: char) -> bool {
+    match character {
+        ' ' => false,
+        '\u{ad}' | '\u{115f}' | '\u{1160}' | '\u{2800}' | '\u{3164}' | '\u{ffa0}' => true,
+        _ => character.is_whitespace(),
+    }
+}
+
 /// How many columns a character takes where it can be shown as it is.
 pub(crate) fn plain_width(character: char) -> Option<usize>
     ensures taken { IfSome result (λ width. width ≡ columns_of character) }
@@ -18,7 +27,7 @@ pub(crate) fn plain_width(character: char) -> Option<usize>
     ensures few { IfSome result (λ width. width ≤ 3) }
 {
     match character.width() {
-        Some(width) if width > 0 => Some(width),
+        Some(width) if width > 0 && !is_invisible(character) => Some(width),
         _ => None,
     }
 }
@@ -26,7 +35,8 @@ pub(crate) fn plain_width(character: char) -> Option<usize>
 /// Lines of at most 120 columns, of which the last may go on.
 ///
 /// Nothing else writes what is shown. A character that takes no column of its own, as a control
-/// character or a mark that turns the direction of writing, is written as its escape.
+/// character or a mark that turns the direction of writing, is written as its escape; so is one that
+/// shows nothing, as a no-break space.
 #[derive(Drop)]
 pub(crate) struct Lines {
     text: String,

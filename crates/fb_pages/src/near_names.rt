@@ -8,9 +8,18 @@ const MOST_NAMES: usize = 10_000;
 
 const LONGEST: usize = 64;
 
+// One letter more or less makes any two shorter names alike.
+const SHORTEST: usize = 3;
+
+// How many names are listed where none is near.
+const MOST_LISTED: usize = 5;
+
 /// How many letters may differ.
-fn greatest_distance(name: &str) -> usize {
-    1usize.max(name.len() / 3)
+fn greatest_distance(name: &str, wanted: &str) -> usize {
+    if name.len().max(wanted.len()) < SHORTEST {
+        return 0;
+    }
+    1usize.max(wanted.len() / 3)
 }
 
 /// The distance of two names where it is small; a name in other letters of the same case is nearest.
@@ -22,36 +31,65 @@ fn distance(alloc: Global, name: &str, wanted: &str) -> Result<Option<usize>, Al
         return Ok(None);
     }
     let distance = osa_distance(alloc, name, wanted)?;
-    Ok(Some(distance).filter(|distance| *distance <= greatest_distance(wanted)))
+    Ok(Some(distance).filter(|distance| *distance <= greatest_distance(name, wanted)))
 }
 
-/// The nearest of some names, where one is near.
-pub(crate) fn nearest<'n>(
-    alloc: Global,
-    names: &[&'n str],
-    wanted: &str,
-) -> Result<Option<&'n str>, AllocError> {
-    let mut best: Option<(usize, &'n str)> = None;
-    for name in names.iter().take(MOST_NAMES) {
+/// The place of the nearest of some names, where one is near.
+fn nearest_at(alloc: Global, names: &[&str], wanted: &str) -> Result<Option<usize>, AllocError> {
+    let mut best: Option<(usize, usize)> = None;
+    for (at, name) in names.iter().take(MOST_NAMES).enumerate() {
         if let Some(distance) = distance(alloc, name, wanted)? {
             let is_nearer = match best {
                 Some((least, _)) => distance < least,
                 None => true,
             };
             if is_nearer {
-                best = Some((distance, *name));
+                best = Some((distance, at));
             }
         }
     }
-    Ok(best.map(|(_, name)| name))
+    Ok(best.map(|(_, at)| at))
 }
 
-/// Adds the nearest of some names as a question, where one is near.
-pub fn push_nearest(page: &mut Page, names: &[&str], wanted: &str) {
-    let found = nearest(page.alloc(), names, wanted);
-    if let Some(Some(name)) = page.keep(found) {
-        page.push_str("; did you mean ");
+/// The place of the nearest of some names, where one is near; none too where memory runs out.
+pub fn nearest(page: &mut Page, names: &[&str], wanted: &str) -> Option<usize> {
+    let found = nearest_at(page.alloc(), names, wanted);
+    page.keep(found)?
+}
+
+/// Adds a name as a question.
+pub fn push_meant(page: &mut Page, name: &str) {
+    page.push_str("; did you mean ");
+    page.push_name(name.as_bytes());
+    page.push_str("?");
+}
+
+/// Adds some names, as 'A', 'B' and 'C'.
+pub fn push_names(page: &mut Page, names: &[&str]) {
+    let last = names.len().saturating_sub(1);
+    for (at, name) in names.iter().enumerate() {
+        if at > 0 {
+            page.push_str(if at == last { " and " } else { ", " });
+        }
         page.push_name(name.as_bytes());
-        page.push_str("?");
+    }
+}
+
+/// Adds all of some names behind what has them, as `it has`, where they are few.
+pub fn push_few(page: &mut Page, owner: &str, names: &[&str]) {
+    if names.is_empty() || names.len() > MOST_LISTED {
+        return;
+    }
+    page.push_str("; ");
+    page.push_str(owner);
+    page.push_str(" ");
+    push_names(page, names);
+}
+
+/// Adds the nearest of some names as a question; where none is near and they are few, all of them.
+pub fn push_nearest(page: &mut Page, owner: &str, names: &[&str], wanted: &str) {
+    match nearest(page, names, wanted).and_then(|at| names.get(at)) {
+        Some(name) => push_meant(page, *name),
+        None => push_few(page, owner, names),
     }
 }

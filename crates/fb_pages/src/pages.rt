@@ -59,6 +59,12 @@ fn cut_len(line: &str, columns: usize) -> usize {
     if fitting == line.len() {
         return fitting;
     }
+    if line
+        .get(fitting..)
+        .is_some_and(|rest| rest.starts_with(' '))
+    {
+        return fitting.saturating_add(1);
+    }
     match line.get(..fitting).and_then(|front| front.rfind(' ')) {
         Some(space) if space >= columns / 2 => space.saturating_add(1),
         _ => fitting,

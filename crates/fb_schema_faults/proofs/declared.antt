@@ -1,3 +1,2 @@
 pub mod FieldsInOrder
-pub mod NamesInOrder
 pub mod TypesInOrder

@@ -60,22 +60,6 @@ pub fn name_of<'d>(declared: &'d TypeDecl<'_>) -> (&'d str, u64)
     (name.text, name.at)
 }
 
-/// The names of all types, as they are declared.
-pub(crate) fn type_names<'d>(
-    alloc: Global,
-    decls: &'d Decls<'_>,
-) -> Result<Vec<&'d str>, AllocError>
-    ensures { IfOk result (λ names. map (λ n. n.now) names.items ≡ map word_bytes (types_of decls.now.declarations)) }
-{
-    let mut names = Vec::new(alloc);
-    for declaration in decls.declarations() {
-        if let Some(declared) = type_in(declaration) {
-            names.push(name_of(declared).0)?;
-        }
-    }
-    Ok(names)
-}
-
 /// The fields of a table or struct, in the order of the text.
 pub fn fields_of<'d, 't>(declared: &'d TypeDecl<'t>) -> &'d [Field<'t>]
     ensures { result.now ≡ fields_of declared.now }
@@ -176,6 +160,18 @@ pub(crate) fn is_in_a_union(decls: &Decls<'_>, offset: u64) -> bool
         .declarations()
         .iter()
         .any(|declaration| is_union_with(declaration, offset))
+}
+
+/// Whether an enum has its underlying type at an offset.
+pub(crate) fn is_under_an_enum(decls: &Decls<'_>, offset: u64) -> bool {
+    for declaration in decls.declarations() {
+        if let Declaration::Type(TypeDecl::Enum(declared)) = declaration
+            && declared.underlying.at() == offset
+        {
+            return true;
+        }
+    }
+    false
 }
 
 /// The names of the values of each enum of this name, whatever their namespaces.

@@ -1,6 +1,6 @@
 //! Where a name that is declared twice is declared first.
-use crate::declared::{name_of, type_in};
-use fb_syntax::{Declaration, Decls, EnumValue, Field, Text, TypeDecl, UnionMember};
+use fb_resolve::{Outline, TypeRead, word_of};
+use fb_syntax::{EnumValue, Field, Text, TypeDecl, UnionMember};
 
 /// Whether a name is spelled so, and is before an offset.
 fn is_before(name: &Text<'_>, spelling: &str, offset: u64) -> bool {
@@ -44,20 +44,22 @@ fn first_member(members: &[UnionMember<'_>], spelling: &str, offset: u64) -> Opt
 }
 
 /// The last type whose name isn't behind an offset.
-fn type_around<'d, 't>(decls: &'d Decls<'t>, offset: u64) -> Option<&'d TypeDecl<'t>> {
+fn type_around<'o, 'd, 's>(
+    outline: &'o Outline<'d, 's>,
+    offset: u64,
+) -> Option<&'o TypeRead<'d, 's>> {
     let mut around = None;
-    for declaration in decls.declarations() {
-        match type_in(declaration) {
-            Some(declared) if name_of(declared).1 <= offset => around = Some(declared),
-            _ => {}
+    for read in outline.types.iter() {
+        if word_of(read.declaration).at <= offset {
+            around = Some(read);
         }
     }
     around
 }
 
-/// The offset of the first field, value or member of this name, before an offset in the same type.
-fn first_inside(decls: &Decls<'_>, spelling: &str, offset: u64) -> Option<u64> {
-    match type_around(decls, offset)? {
+/// The offset of the first field, value or member of this name in a type, before an offset.
+fn first_inside(declared: &TypeDecl<'_>, spelling: &str, offset: u64) -> Option<u64> {
+    match declared {
         TypeDecl::Table(table) | TypeDecl::Struct(table) => {
             first_field(table.fields.as_slice(), spelling, offset)
         }
@@ -66,33 +68,23 @@ fn first_inside(decls: &Decls<'_>, spelling: &str, offset: u64) -> Option<u64> {
     }
 }
 
-/// The offset of the first type of this name, before an offset in the same namespace.
-///
-/// A namespace that is opened again is another place in the text, so a type before that isn't found.
-fn first_type(decls: &Decls<'_>, spelling: &str, offset: u64) -> Option<u64> {
-    let mut first = None;
-    for declaration in decls.declarations() {
-        match declaration {
-            Declaration::Namespace(_) => first = None,
-            Declaration::Type(declared) => {
-                let (name, at) = name_of(declared);
-                if at == offset {
-                    return first;
-                }
-                if name == spelling && first.is_none() {
-                    first = Some(at);
-                }
-            }
-            _ => {}
+/// The offset of the first type with the full name of another.
+fn first_type(outline: &Outline<'_, '_>, again: &TypeRead<'_, '_>) -> Option<u64> {
+    let word = word_of(again.declaration);
+    for read in outline.types.iter() {
+        let found = word_of(read.declaration);
+        if read.scope == again.scope && is_before(found, word.text, word.at) {
+            return Some(found.at);
         }
     }
     None
 }
 
 /// The offset of the first declaration of a name that is declared again at an offset.
-pub(crate) fn first_named(decls: &Decls<'_>, spelling: &str, offset: u64) -> Option<u64> {
-    match first_type(decls, spelling, offset) {
-        Some(first) => Some(first),
-        None => first_inside(decls, spelling, offset),
+pub(crate) fn first_named(outline: &Outline<'_, '_>, spelling: &str, offset: u64) -> Option<u64> {
+    let around = type_around(outline, offset)?;
+    if word_of(around.declaration).at == offset {
+        return first_type(outline, around);
     }
+    first_inside(around.declaration, spelling, offset)
 }

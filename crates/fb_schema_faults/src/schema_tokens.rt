@@ -19,6 +19,14 @@ fn is_word_byte(byte: u8) -> bool {
     byte.is_ascii_alphanumeric() || byte == b'_'
 }
 
+/// Whether a token is a word, and no number, text or sign.
+pub(crate) fn is_word(token: &[u8]) -> bool {
+    match token.first() {
+        Some(first) => is_word_byte(*first) && !first.is_ascii_digit(),
+        None => false,
+    }
+}
+
 fn rest_from(text: &[u8], at: usize) -> &[u8] {
     text.get(at..).unwrap_or(&[])
 }
@@ -67,6 +75,20 @@ fn token_len(text: &[u8]) -> usize {
 pub(crate) fn token_at(text: &[u8], at: usize) -> &[u8] {
     let rest = rest_from(text, at);
     rest.get(..token_len(rest)).unwrap_or(rest)
+}
+
+/// The words at an offset with the dots between them; the token there where it is no word.
+pub(crate) fn name_at(text: &[u8], at: usize) -> &[u8] {
+    let token = token_at(text, at);
+    if !is_word(token) {
+        return token;
+    }
+    let rest = rest_from(text, at);
+    let len = rest
+        .iter()
+        .position(|byte| !is_word_byte(*byte) && *byte != b'.')
+        .unwrap_or(rest.len());
+    rest.get(..len).unwrap_or(rest)
 }
 
 impl<'t> Tokens<'t> {

@@ -120,6 +120,22 @@ pub fn members_of(schema: &Schema, number: TypeId) -> &[(String, TypeId)]
     }
 }
 
+/// The basic type of a name, if it has numbers.
+pub(crate) fn base_named(name: &[u8]) -> Option<Base> {
+    Some(match name {
+        b"bool" => Base::Bool,
+        b"byte" | b"int8" => Base::I8,
+        b"ubyte" | b"uint8" => Base::U8,
+        b"short" | b"int16" => Base::I16,
+        b"ushort" | b"uint16" => Base::U16,
+        b"int" | b"int32" => Base::I32,
+        b"uint" | b"uint32" => Base::U32,
+        b"long" | b"int64" => Base::I64,
+        b"ulong" | b"uint64" => Base::U64,
+        _ => return None,
+    })
+}
+
 /// The numbers of a basic type.
 pub fn range_of_base(base: Base) -> &'static str {
     match base {

@@ -1,12 +1,13 @@
 //! What of FlatBuffers' schema language isn't supported, wherever a text has it.
-use crate::schema_tokens::{Token, Tokens};
+use crate::schema_tokens::{Token, Tokens, token_at};
+use crate::shapes::base_named;
 use fb_pages::{LineStarts, Page, Source, push_position};
 
 /// The tokens before a token, the nearest first.
 #[derive(Clone, Copy)]
-struct Before<'t> {
-    last: &'t [u8],
-    second: &'t [u8],
+pub(crate) struct Before<'t> {
+    pub(crate) last: &'t [u8],
+    pub(crate) second: &'t [u8],
     /// Whether a list of attributes is open.
     in_attributes: bool,
 }
@@ -27,6 +28,19 @@ fn is_a_number(word: &[u8]) -> bool {
     matches!(word, [b'0'..=b'9', ..] | [b'+' | b'-', b'0'..=b'9', ..])
 }
 
+/// Why a default may not be a quoted text, behind the last token of its field's type.
+fn quoted_default(kind: &[u8]) -> &'static str {
+    match kind {
+        b"string" => "default values of strings aren't supported",
+        b"]" => "default values of vectors aren't supported",
+        b"bool" => "the default of a bool is true or false, without quotes",
+        _ if base_named(kind).is_some() => "the default of a number is written without quotes",
+        _ => {
+            "an enum's default is a value's name without quotes, and that of several flags the sum of their numbers"
+        }
+    }
+}
+
 /// What isn't supported at a token behind others.
 fn unsupported(token: &[u8], before: Before<'_>) -> Option<&'static str> {
     match (before.last, token) {
@@ -35,7 +49,7 @@ fn unsupported(token: &[u8], before: Before<'_>) -> Option<&'static str> {
         }
         (b"" | b";" | b"}", b"rpc_service") => Some("services ('rpc_service') aren't supported"),
         (b":" | b"[", word) if is_float(word) => Some("floats aren't supported"),
-        (b"=", [b'"', ..]) => Some("default values of strings aren't supported"),
+        (b"=", [b'"', ..]) => Some(quoted_default(before.second)),
         (b"=", [b'[']) => Some("default values of vectors aren't supported"),
         (b"(" | b",", word) if before.in_attributes && is_unsupported_attribute(word) => {
             Some("this attribute isn't supported")
@@ -71,18 +85,22 @@ impl<'t> Before<'t> {
     }
 }
 
-/// What isn't supported at an offset.
-pub(crate) fn unsupported_at(text: &[u8], offset: usize) -> Option<&'static str> {
+/// The tokens before an offset.
+pub(crate) fn before_at(text: &[u8], offset: usize) -> Before<'_> {
     let mut tokens = Tokens::of(text);
     let mut before = Before::nothing();
     for _ in 0..text.len() {
-        let token = tokens.next_token()?;
-        if token.at >= offset {
-            return unsupported(token.bytes, before);
+        match tokens.next_token() {
+            Some(token) if token.at < offset => before = before.followed_by(token),
+            _ => break,
         }
-        before = before.followed_by(token);
     }
-    None
+    before
+}
+
+/// What isn't supported at an offset.
+pub(crate) fn unsupported_at(text: &[u8], offset: usize) -> Option<&'static str> {
+    unsupported(token_at(text, offset), before_at(text, offset))
 }
 
 fn push_unsupported_token(

@@ -21,9 +21,10 @@ Write a number, text, array or object as the schema says. A number is never in q
         71 => page(
             71,
             "71 NotWhole
-A number has a fraction or an exponent.
-For example: `\"hp\": 1.5`.
-All numbers are whole; `1e3` is written 1000.",
+A number isn't written as a whole number of at most 64 bits.
+For example: `\"hp\": 1.5`, `1.0`, `1e3`, `-0`, or 18446744073709551616.
+All numbers are whole, and written with all their digits: `1e3` as 1000, `-0` as 0. Tools such as jq
+write large numbers with an exponent.",
         ),
         72 => page(
             72,

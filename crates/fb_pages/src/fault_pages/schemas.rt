@@ -22,7 +22,7 @@ Save the file as UTF-8; a byte order mark at its start is allowed.",
             2,
             "2 BadByte
 No token begins with this byte, or it may not be in a quoted text.
-For example: `table T { a:int = .5; }` with `-.5`, or a backslash in `\"a\\b\"`.
+For example: `a:int = -.5;`, or the backslash in `attribute \"a\\b\";`.
 Remove it. Quoted texts have no escapes and no control characters; numbers are whole.",
         ),
         3 => page(
