@@ -606,7 +606,7 @@ MEMORY = {
     32: "sizes were worked out",
     41: "the buffer was built",
     80: "the JSON text was converted",
-    114: "a file or a JSON text was read",
+    114: "a file or a JSON text was read, or names were compared",
 }
 
 
@@ -697,7 +697,7 @@ def numbers(tests):
         seen.add(number)
         tests.expect(f"explain {number}", ["explain", str(number)], 0, f"{head}\n{body.strip()}\n".encode())
     want = {*range(1, 8), *range(10, 24), *range(30, 33), 40, 41, *range(50, 61), *range(62, 65), *range(70, 83), 84}
-    want |= {*range(90, 103), *range(110, 115)}
+    want |= {*range(90, 104), *range(110, 115)}
     want.discard(83)
     tests.tell("each number has a page", seen == want, f"{seen ^ want}")
     for number in sorted(set(range(256)) - want) + ["256", "-1", "x", ""]:

@@ -115,6 +115,9 @@ fn push_problem(page: &mut Page, fault: ToolFault, sources: &Sources<'_>) {
         ToolFault::Breach(_) => {
             push_comparison(page, sources.schema, sources.input, Asked::Breaches)
         }
+        ToolFault::NameMoved(_) => {
+            push_comparison(page, sources.schema, sources.input, Asked::Warnings)
+        }
         ToolFault::FileRead | ToolFault::FileWrite | ToolFault::FileTooLong => {
             push_file(page, sources.failure)
         }
