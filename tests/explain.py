@@ -683,7 +683,7 @@ MEMORY = {
     32: "sizes were worked out",
     41: "the buffer was built",
     80: "the JSON text was converted",
-    114: "a file or a JSON text was read",
+    114: "a file or a JSON text was read, or names were compared",
 }
 
 

@@ -40,6 +40,7 @@ CALLS = {
     "print_to": SCHEMA,
     "check": SCHEMA,
     "conform_texts": SCHEMA,
+    "conform_names": SCHEMA | {114},
     "take_all": {114},
     "request_of": {0},
     "fault_line": {0},

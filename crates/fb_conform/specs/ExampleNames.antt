@@ -59,8 +59,8 @@ struct_row =
 abbrev a_and_b : List (Name × ℕ) → LaidSchema
 a_and_b members = with_union 2 (called 0x41 (table_body []) ∷ called 0x42 (table_body []) ∷ []) members
 
-pub union_row : IsMoved (a_and_b ((0x41 ∷ [], 0) ∷ (0x42 ∷ [], 1) ∷ [])) (a_and_b ((0x42 ∷ [], 0) ∷ (0x41 ∷ [], 1) ∷ []))
-    (moved 2 1)
+pub union_row : IsMoved (a_and_b ((0x41 ∷ [], 0) ∷ (0x42 ∷ [], 1) ∷ []))
+    (a_and_b ((0x42 ∷ [], 0) ∷ (0x41 ∷ [], 1) ∷ [])) (moved 2 1)
 union_row =
     record { name = 0x41 ∷ []; type = 2; slot = 2; twins = refl; old = refl; new = refl; moved = λ e. omega (arith, e) }
 
@@ -76,9 +76,8 @@ same_slot : (name : Name) (k j : ℕ) → slot_named (body_at hm.schema 0) name 
 same_slot name k j old new = by (bytes_eq name (0x68 ∷ [])) (bytes_eq name (0x6d ∷ [])) refl refl old
   where
     by : (x y : Bool) → bytes_eq name (0x68 ∷ []) ≡ x → bytes_eq name (0x6d ∷ []) ≡ y
-        → option_map (λ f. f.slot) (cond x (Some (named 0x68 (int_field 0))) (cond y (Some (named 0x6d (int_field 1))) None))
-        ≡ Some k
-        → j ≡ k
+        → option_map (λ f. f.slot)
+        (cond x (Some (named 0x68 (int_field 0))) (cond y (Some (named 0x6d (int_field 1))) None)) ≡ Some k → j ≡ k
     by true y is_h is_m e =
         let here = (bytes_eq-Decides name (0x68 ∷ [])).0 is_h in
         let gone : None ≡ Some j = subst (λ (n : Name). slot_named (body_at vm.schema 0) n ≡ Some j) here new in

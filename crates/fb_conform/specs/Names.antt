@@ -1,6 +1,6 @@
 -- Names that stand for what they stood for.
--- From the FlatBuffers documentation, "Evolution" and "JSON parsing": stored bytes go by slots and codes, JSON texts and
--- generated code by names. So a name that gets another slot makes old JSON texts mean something else.
+-- From the FlatBuffers documentation, "Evolution" and "JSON parsing": stored bytes go by slots and codes, JSON texts by
+-- names. So where a name gets another slot, old JSON texts mean something else.
 use Rattle.std.specs.Prelude.{ℕ, suc, ◌≡◌, ◌≢◌, ◌<◌, ◌⊎◌, Option, Some, option_map, position, bytes_eq}
 use Rattle.fb_schema.specs.Schema.{Name, DeclaredBody, union_body, body_at}
 use Rattle.fb_schema.specs.Found.{field_named}
@@ -8,7 +8,8 @@ use Rattle.fb_layout.specs.Laid.{LaidSchema}
 use Rattle.fb_conform.specs.declared.names.MovedName.{MovedName}
 use Rattle.fb_conform.specs.Twins.{Twins}
 
--- what a name stands for in a type: the slot of a table's field, the place of a struct's, the code of a union's member
+-- what a name stands for in a type: the slot of a table's field, the place of a struct's, the code of a union's member.
+-- An enum's names keep their numbers where a schema conforms.
 abbrev pub slot_named : DeclaredBody → Name → Option ℕ
 slot_named (union_body members) name = option_map (λ k. suc k) (position (λ m. bytes_eq name m.0) members)
 slot_named body name = option_map (λ f. f.slot) (field_named body name)

@@ -31,7 +31,7 @@ pub(crate) fn memory_use(fault: ToolFault) -> Option<&'static str> {
         ToolFault::Build(BuildFault::Memory) => Some("the buffer was built"),
         ToolFault::Read(ReadFault::Memory) => Some("the buffer was read"),
         ToolFault::Text(TextFault::Memory) => Some("the text was printed"),
-        ToolFault::Memory => Some("a file or a JSON text was read"),
+        ToolFault::Memory => Some("a file or a JSON text was read, or names were compared"),
         _ => None,
     }
 }

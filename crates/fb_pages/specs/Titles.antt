@@ -30,7 +30,7 @@ is_of_json number = is_from 70 82 number || is_from 84 84 number
 
 -- of comparisons of schemas, and of files
 abbrev pub is_of_command : ℕ → Bool
-is_of_command number = is_from 90 102 number || is_from 110 114 number
+is_of_command number = is_from 90 103 number || is_from 110 114 number
 
 -- the numbers of refusals
 abbrev pub is_number_of_fault : ℕ → Bool

@@ -2,7 +2,8 @@
 use Rattle.fb_schema_text.specs.SchemaLaws.{SchemaLaws}
 use Rattle.fb_value.specs.Laws.{OneValue, ValueOrFault, OneLeastFault, FitsWhereHeld}
 use Rattle.fb_json.specs.Laws.{AllThatIsMeant, MeantIsWhole, OnlyWhatIsMeant}
-use Rattle.fb_conform.specs.Laws.{CarriedHolds, CarriedFits, BackHolds, ConformsOn, CarriesOn}
+use Rattle.fb_conform.specs.Laws.{CarriedHolds, CarriedFits, BackHolds, ConformsOn, CarriesOn, KeptUnlessMoved}
+use Rattle.fb_conform.specs.Laws.{NamesCarry, MeansCarried}
 
 pub record LayerLaws : Type 0 where
   pub schema : SchemaLaws
@@ -18,3 +19,6 @@ pub record LayerLaws : Type 0 where
   pub back_holds : BackHolds
   pub conforms_on : ConformsOn
   pub carries_on : CarriesOn
+  pub kept_unless_moved : KeptUnlessMoved
+  pub names_carry : NamesCarry
+  pub means_carried : MeansCarried

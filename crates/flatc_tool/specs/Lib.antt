@@ -11,4 +11,5 @@ pub mod Heard
 pub mod Checks
 pub mod Prints
 pub mod Evolution
+pub mod Names
 pub mod Options

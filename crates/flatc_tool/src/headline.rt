@@ -1,6 +1,7 @@
 //! What holds of the tool's answers together.
 ghost use Rattle.flatc_tool.specs.Headline.{JsonIsCarried, OtherJsonIsRefused, OthersAreRefused};
 ghost use Rattle.flatc_tool.specs.Chains.{OldProgramsRead, ChainsConform, ChainsCarry};
+ghost use Rattle.flatc_tool.specs.Names.{OldTextsAreRead, OldTextsAreCarried};
 
 use crate::laws::layer_laws;
 
@@ -49,6 +50,22 @@ pub fn chains_conform()
 /// under the last, the value carried from each to the next.
 pub fn chains_carry()
     ensures { ChainsCarry }
+{
+    layer_laws();
+}
+
+/// Under a new schema text that keeps names, a JSON text of the old one means the value carried, if it
+/// names nothing that is renamed or deprecated.
+pub fn old_texts_are_read()
+    ensures { OldTextsAreRead }
+{
+    layer_laws();
+}
+
+/// Whatever bytes `to_binary` returns, under a new schema text that keeps names, for a JSON text that
+/// means a value under the old one hold that value, carried.
+pub fn old_texts_are_carried()
+    ensures { OldTextsAreCarried }
 {
     layer_laws();
 }

@@ -1,7 +1,10 @@
 //! The laws of the layers, in one place.
 ghost use Rattle.flatc_tool.specs.LayerLaws.{LayerLaws};
 
-use fb_conform::{back_holds, carried_fits, carried_holds, carries_on, conforms_on};
+use fb_conform::{
+    back_holds, carried_fits, carried_holds, carries_on, conforms_on, kept_unless_moved,
+    means_carried, names_carry,
+};
 use fb_json::{all_that_is_meant, meant_is_whole, only_what_is_meant};
 use fb_schema_text::schema_laws;
 use fb_value::{fits_where_held, one_least_fault, one_value, value_or_fault};
@@ -24,4 +27,7 @@ pub(crate) fn layer_laws()
     back_holds();
     conforms_on();
     carries_on();
+    kept_unless_moved();
+    names_carry();
+    means_carried();
 }

@@ -14,9 +14,9 @@ mod prints;
 
 pub use buffers::{encode, encode_segments};
 pub use checks::check;
-pub use evolution::conform_texts;
+pub use evolution::{conform_names, conform_texts};
 pub use fb_build::{BuildFault, build};
-pub use fb_conform::{Breach, carry, conform};
+pub use fb_conform::{Breach, MovedName, carry, conform, moved_names};
 pub use fb_declare::SchemaFault;
 pub use fb_faults::ToolFault;
 pub use fb_json::{JsonFault, Place};
@@ -31,8 +31,8 @@ pub use fb_value::{
     Limits, ReadFault, Value, cells, copy, depth, fits, nesting_of_depth, room, same, whole,
 };
 pub use headline::{
-    chains_carry, chains_conform, json_is_carried, old_programs_read, other_json_is_refused,
-    others_are_refused,
+    chains_carry, chains_conform, json_is_carried, old_programs_read, old_texts_are_carried,
+    old_texts_are_read, other_json_is_refused, others_are_refused,
 };
 pub use jobs::{to_binary, to_binary_segments};
 pub use json_texts::{decode, decode_to};

@@ -22,6 +22,8 @@ pub(crate) struct Example {
     pub(crate) refused_json: &'static [u8],
     /// A schema that doesn't conform to the schema.
     pub(crate) breaking: &'static [u8],
+    /// A schema that conforms to the schema, and in which names stand for something else.
+    pub(crate) moved: &'static [u8],
 }
 
 pub(crate) const EXAMPLES: &[Example] = &[
@@ -40,6 +42,7 @@ pub(crate) const EXAMPLES: &[Example] = &[
             \n      \"y\": 5\n    }\n  ]\n}\n",
         refused_json: b"{\"ps\":[{\"x\":1},{\"x\":2147483648}]}",
         breaking: b"table P { x:int = 1; } table T { ps:[P]; } root_type T;",
+        moved: b"table P { y:int; x:int; } table T { ps:[P]; } root_type T;",
     },
     Example {
         name: "structs",
@@ -59,6 +62,7 @@ pub(crate) const EXAMPLES: &[Example] = &[
             \n  ],\n  \"n\": 5,\n  \"k\": 3\n}\n",
         refused_json: b"{\"v\":[{\"a\":1},{\"a\":256}]}",
         breaking: b"struct S (force_align: 16) { a:ubyte; } table T { s:string; v:[S]; n:uint; } root_type T;",
+        moved: b"struct S (force_align: 16) { a:ubyte; } table T { n:string; v:[S]; s:int; } root_type T;",
     },
     Example {
         name: "union",
@@ -73,5 +77,6 @@ pub(crate) const EXAMPLES: &[Example] = &[
         carried: "{\n  \"u_type\": \"B\",\n  \"u\": {},\n  \"k\": 3\n}\n",
         refused_json: b"{\"u_type\":\"B\",\"u\":{\"z\":1}}",
         breaking: b"table A {} table B {} union U { B, A } table T { u:U; } root_type T;",
+        moved: b"table A {} table B {} union U { B:A, A:B } table T { u:U; } root_type T;",
     },
 ];

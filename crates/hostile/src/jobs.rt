@@ -7,8 +7,8 @@ use clap::error::ErrorKind;
 use flatc_cli::{Explaining, Job, Request, request_of};
 use flatc_tool::command::{Heard, fault_line, report, report_noted, take_all};
 use flatc_tool::{
-    DecodeOptions, EncodeOptions, JsonFault, Noted, Place, ToolFault, TypeId, check, conform_texts,
-    decode, encode, print_to, schema_of, to_binary, to_json,
+    DecodeOptions, EncodeOptions, JsonFault, Noted, Place, ToolFault, TypeId, check, conform_names,
+    conform_texts, decode, encode, print_to, schema_of, to_binary, to_json,
 };
 use std::alloc::{AllocError, Global};
 
@@ -44,6 +44,15 @@ fn of_text(text: &str, answer: Result<String, ToolFault>) -> Outcome {
 fn of_verdict(answer: Result<(), ToolFault>) -> Outcome {
     match answer {
         Ok(()) => Outcome::Right,
+        Err(fault) => Outcome::of_refusal(fault.number()),
+    }
+}
+
+/// A name that is moved, or want of memory.
+fn of_moved(answer: Result<(), ToolFault>) -> Outcome {
+    match answer {
+        Ok(()) => Outcome::Wrong,
+        Err(ToolFault::NameMoved(_)) => Outcome::Right,
         Err(fault) => Outcome::of_refusal(fault.number()),
     }
 }
@@ -165,6 +174,15 @@ fn try_conform(rt: &HostRuntime, example: &Example) -> Both {
     (first, of_verdict(again))
 }
 
+fn try_names(rt: &HostRuntime, example: &Example) -> Both {
+    arm(rt);
+    let first = conform_names(rt.alloc(), example.schema, example.moved);
+    disarm(rt);
+    let first = of_moved(first);
+    let again = conform_names(rt.alloc(), example.schema, example.moved);
+    (first, of_moved(again))
+}
+
 fn try_take(rt: &HostRuntime, example: &Example) -> Both {
     let mut from = Heard::over(example.bytes);
     arm(rt);
@@ -256,6 +274,7 @@ pub(crate) fn try_job(rt: &HostRuntime, call: &str, example: &Example) -> Option
         "print_to" => Some(try_print(rt, example)),
         "check" => Some(try_check(rt, example)),
         "conform_texts" => Some(try_conform(rt, example)),
+        "conform_names" => Some(try_names(rt, example)),
         "take_all" => Some(try_take(rt, example)),
         "request_of" => Some(try_request_of(rt)),
         "fault_line" => Some(try_line(rt)),

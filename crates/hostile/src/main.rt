@@ -50,6 +50,7 @@ const CALLS: &[&str] = &[
     "print_to",
     "check",
     "conform_texts",
+    "conform_names",
     "take_all",
     "request_of",
     "fault_line",

@@ -11,7 +11,7 @@ use std::process::ExitCode;
 
 /// The kinds of rows, in the order in which they are counted.
 const KINDS: &[&str] = &[
-    "refused", "declared", "asked", "built", "meant", "read", "damaged", "carried",
+    "refused", "declared", "asked", "built", "meant", "read", "damaged", "carried", "named",
 ];
 
 /// Whether a row holds: its kind, or what is wrong.

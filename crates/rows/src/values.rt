@@ -15,7 +15,7 @@ use crate::values::buffers::{try_both, try_printed};
 use crate::values::damage::try_damaged;
 use crate::values::meanings::try_meaning;
 use crate::values::readings::try_bytes;
-use crate::values::versions::try_later;
+use crate::values::versions::{try_later, write_moved_names};
 use fb_layout::Layout;
 use fb_value::Limits;
 use flatc_tool::schema_of;
@@ -37,7 +37,8 @@ pub(crate) struct Case<'s, 'l> {
 /// is `printed`, its text, or the fault. Where both are there, the text becomes exactly these bytes,
 /// they hold the value that it means, and what is wanted is the text that they print as. Of bytes
 /// that are `damaged` what comes of each damage is counted. Of a JSON text beside a `later` schema
-/// the value that it means is wanted as it is under that schema, or the breach. Wherever bytes hold
+/// the value that it means is wanted as it is under that schema, or the breach; of a `later` schema alone
+/// the names that stand for something else in it, or the breach. Wherever bytes hold
 /// a value they print as that value's text, or both name the same union without a name; and each cut
 /// of a schema text gives a schema or a fault.
 pub(crate) fn try_value_row(
@@ -85,7 +86,7 @@ fn try_case(
         (Some(json), Some(hex)) => try_built(case, row, json, hex, line),
         (Some(json), None) => try_json(case, row, json, line),
         (None, Some(hex)) => try_hex(case, row, hex, line),
-        (None, None) => Err(RowFault::Missing("json")),
+        (None, None) => try_names(case, row, line),
     }
 }
 
@@ -136,6 +137,22 @@ fn try_versions(
     };
     try_later(case, &later, json, line)?;
     Ok("carried")
+}
+
+/// A row with a later schema alone.
+fn try_names(
+    case: &Case,
+    row: &mut Fields<'_>,
+    line: &mut String,
+) -> Result<&'static str, RowFault> {
+    let Some(later) = row.optional_text("later")? else {
+        return Err(RowFault::Missing("json"));
+    };
+    let Ok(layout) = schema_of(case.alloc, later.as_bytes()) else {
+        return Err(RowFault::Invalid("later"));
+    };
+    write_moved_names(case, &layout, line)?;
+    Ok("named")
 }
 
 /// A row with bytes.

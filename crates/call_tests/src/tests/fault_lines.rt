@@ -1,6 +1,6 @@
 //! Faults in one line each.
 use fb_build::BuildFault;
-use fb_conform::Breach;
+use fb_conform::{Breach, MovedName};
 use fb_declare::SchemaFault;
 use fb_json::{JsonFault, Place};
 use fb_layout::LayoutFault;
@@ -290,6 +290,20 @@ fn lines_of_files(rt: HostRuntime) -> Result<(), Fail> {
         expect(&rt, rt.alloc(), *fault, line)?;
     }
     Ok(())
+}
+
+#[test]
+fn the_line_of_a_moved_name(rt: HostRuntime) -> Result<(), Fail> {
+    let moved = MovedName {
+        type_id: TypeId(3),
+        slot: 2,
+    };
+    expect(
+        &rt,
+        rt.alloc(),
+        ToolFault::NameMoved(moved),
+        "103 NameMoved in type 3 slot 2",
+    )
 }
 
 #[test]

@@ -1,6 +1,6 @@
 //! What faults print as errors, with the numbers of their places.
 use fb_build::BuildFault;
-use fb_conform::Breach;
+use fb_conform::{Breach, MovedName};
 use fb_declare::SchemaFault;
 use fb_json::{JsonFault, Place};
 use fb_layout::LayoutFault;
@@ -82,6 +82,13 @@ const SENTENCES: &[(ToolFault, &str)] = &[
     (
         ToolFault::Breach(Breach::SlotGone(TypeId(3), 2)),
         "slot 2 of type 3 is gone",
+    ),
+    (
+        ToolFault::NameMoved(MovedName {
+            type_id: TypeId(3),
+            slot: 2,
+        }),
+        "the name of slot 2 of type 3 stands for another slot",
     ),
     (ToolFault::FileRead, "a file can't be read"),
     (ToolFault::Memory, "out of memory"),

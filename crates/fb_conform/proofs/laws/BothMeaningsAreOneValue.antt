@@ -16,7 +16,8 @@ use Rattle.fb_value.specs.Counts.{cells}
 use Rattle.fb_value.specs.Datum.{Datum, a_vector, a_struct, a_table, a_member, Parts}
 use Rattle.fb_value.specs.Datum.{no_parts, more_parts, SlotEntries, no_entries, absent_entry, present_entry}
 use Rattle.fb_json.specs.Meant.{meant, names_known, type_place}
-use Rattle.fb_json.specs.Means.{CodeMeans, CodeAt, unless_null, member_called, IsKnown, AbsentAt, PresentAs, PresentMeans, MeansAs}
+use Rattle.fb_json.specs.Means.{CodeMeans, CodeAt, unless_null, member_called, IsKnown, AbsentAt, PresentAs}
+use Rattle.fb_json.specs.Means.{PresentMeans, MeansAs}
 use Rattle.fb_json.specs.Means.{MemberMeans, PartsMean, EachMeans, SlotsMean}
 use Rattle.fb_json.specs.Laws.{AllThatIsMeant}
 use Rattle.fb_json.specs.Outcome.{Counted}
@@ -211,7 +212,8 @@ module _ (A B : LaidSchema) (old : IsWellMade A) (new : IsWellMade B) (conforms 
 
       new_present : PresentMeans (slot_of B.schema g) g.shape (member_called g.name ms) e
           (λ u. MeansAs B false u g.shape e) (λ u n. MemberMeans B false u n d e)
-          → PresentAs (to_shape to f.shape) (MeansAs B false t (to_shape to f.shape) e) (λ n. MemberMeans B false t n d e)
+          → PresentAs (to_shape to f.shape) (MeansAs B false t (to_shape to f.shape) e)
+          (λ n. MemberMeans B false t n d e)
       new_present h =
           subst (λ (z : Shape). PresentAs z (MeansAs B false t z e) (λ n. MemberMeans B false t n d e)) agree.shape
           (subst (λ (o : Option Data). PresentMeans (slot_of B.schema g) g.shape o e

@@ -1,6 +1,7 @@
 -- A JSON tree means the value carried under a new schema that keeps names.
 use Rattle.std.proofs.Common.{◌≡◌, ℕ, zero, suc, ◌<◌, Bool, true, false, IsTrue, List, [], ◌∷◌, map}
-use Rattle.std.proofs.Common.{get_or, slice_get, Option, None, Some, option_map, IfSome, refl, sym, ap, subst, ◌∙◌, arith}
+use Rattle.std.proofs.Common.{get_or, slice_get, Option, None, Some, option_map, IfSome, refl, sym, ap, subst, ◌∙◌}
+use Rattle.std.proofs.Common.{arith}
 use Rattle.std.proofs.lemmas.Option.{slice_get_within, get_or_from_slice_get}
 use Rattle.serde_json.specs.Data.{Data, Items, no_items, item, Members}
 use Rattle.serde_json.specs.Find.{get_member}
@@ -19,7 +20,8 @@ use Rattle.fb_value.specs.Datum.{Datum, a_number, a_text, a_vector, a_struct, a_
 use Rattle.fb_value.specs.Datum.{no_parts, more_parts, SlotEntries, no_entries, absent_entry, present_entry}
 use Rattle.fb_json.specs.Meant.{names_known}
 use Rattle.fb_json.specs.Means.{member_called, IsKnown, MeansAs, MemberMeans, PartsMean, EachMeans, SlotsMean}
-use Rattle.fb_conform.specs.declared.breaches.Breach.TheVariants.{SlotGone, NewRequired, FieldTypeChanged, StructChanged}
+use Rattle.fb_conform.specs.declared.breaches.Breach.TheVariants.{SlotGone, NewRequired, FieldTypeChanged}
+use Rattle.fb_conform.specs.declared.breaches.Breach.TheVariants.{StructChanged}
 use Rattle.fb_conform.specs.ByName.{SameFields}
 use Rattle.fb_conform.specs.Carry.{carry, carry_items, carry_slots}
 use Rattle.fb_conform.specs.Conforms.{Conforms}
@@ -31,7 +33,8 @@ use Rattle.fb_conform.proofs.laws.BodiesOfOneKindAgree.{still_table, struct_kept
 use Rattle.fb_conform.proofs.laws.CarriedIsNoLarger.{depth_carried, cells_carried}
 use Rattle.fb_conform.proofs.laws.ConformingLayoutsAgree.{twins, within, same_kind, slot_stays, members_moved, agrees}
 use Rattle.fb_conform.proofs.laws.DeclaredShapesByTheirNewNumbers.{id, to_kind, to_shape, shape_renumbered}
-use Rattle.fb_conform.proofs.laws.EachBodyIsDeclared.{is_body, slots_shaped, AllParts, parts_known, part_shape, codes_first}
+use Rattle.fb_conform.proofs.laws.EachBodyIsDeclared.{is_body, slots_shaped, AllParts, parts_known, part_shape}
+use Rattle.fb_conform.proofs.laws.EachBodyIsDeclared.{codes_first}
 use Rattle.fb_conform.proofs.laws.LayoutsAgree.{CodesFirst, types_in}
 use Rattle.fb_conform.proofs.laws.MembersNameTheSameSlots.{same_member, none_of_deprecated, none_of_new}
 use Rattle.fb_conform.proofs.laws.SlotIsReadUnderItsNewName.{absent_step, present_entry_means}
@@ -199,8 +202,8 @@ module _ (A B : LaidSchema) (old : IsWellMade A) (new : IsWellMade B) (conforms 
         record { type = to t; twins = twins A B old new conforms t known; old = was; new = is } in
         let stays = slot_stays A B old new conforms t k f g known pair first second in
         record {
-          member = same_member A.schema B.schema t (to t) x y (old_body t known) (new_body t known) (kept t known) ms all
-              stay k f g (as_field k (Some f) was) (as_new_field k (Some g) is);
+          member = same_member A.schema B.schema t (to t) x y (old_body t known) (new_body t known) (kept t known) ms
+              all stay k f g (as_field k (Some f) was) (as_new_field k (Some g) is);
           none_of_deprecated = none_of_deprecated A.schema B.schema t (to t) x y (old_body t known) (new_body t known)
               (kept t known) ms all stay k f g (as_field k (Some f) was) (as_new_field k (Some g) is);
           known = first;
@@ -217,8 +220,8 @@ module _ (A B : LaidSchema) (old : IsWellMade A) (new : IsWellMade B) (conforms 
         (λ k f e. conforms (SlotGone (id t) k) (to t) f (twins A B old new conforms t known) new_table e)
         slot_agrees
         (λ k g none is. (
-          none_of_new A.schema B.schema t (to t) x y (old_body t known) (new_body t known) (kept t known) ms all stay k g
-              (as_field k None none) (as_new_field k (Some g) is),
+          none_of_new A.schema B.schema t (to t) x y (old_body t known) (new_body t known) (kept t known) ms all stay k
+              g (as_field k None none) (as_new_field k (Some g) is),
           conforms (NewRequired (id t) k) (to t) g (twins A B old new conforms t known) table none is,
         ))
 
@@ -247,7 +250,8 @@ module _ (A B : LaidSchema) (old : IsWellMade A) (new : IsWellMade B) (conforms 
         same_member A.schema B.schema s (to s) (body_at A.schema s) (body_at B.schema (to s)) (old_body s known)
         (new_body s known) (kept s known) ms all stay k f g
         (ap (λ (fs : List DeclaredField). slice_get fs k) (fields_of_struct (body_at A.schema s) struct) ∙ was)
-        (ap (λ (fs : List DeclaredField). slice_get fs k) (fields_of_struct (body_at B.schema (to s)) struct_same.0) ∙ is)
+        (ap (λ (fs : List DeclaredField). slice_get fs k) (fields_of_struct (body_at B.schema (to s)) struct_same.0)
+        ∙ is)
 
     parts_from : (fs gs : List DeclaredField)
         → ((k : ℕ) (f g : DeclaredField) → slice_get fs k ≡ Some f → slice_get gs k ≡ Some g
@@ -431,8 +435,8 @@ module _ (A B : LaidSchema) (old : IsWellMade A) (new : IsWellMade B) (conforms 
     parts_mean no_parts ms s (f ∷ fs) gs agree h stays = absurd h
     parts_mean (more_parts d ds) ms s [] gs agree h stays = absurd h
 
-    slots_mean : (es : SlotEntries) (ms : Members) (fs gs : List DeclaredField) (before : Option DeclaredField) (a b : ℕ)
-        → SlotsAgree A B ms fs gs → EndsWhole fs → Ends before fs → Told before a b
+    slots_mean : (es : SlotEntries) (ms : Members) (fs gs : List DeclaredField) (before : Option DeclaredField)
+        (a b : ℕ) → SlotsAgree A B ms fs gs → EndsWhole fs → Ends before fs → Told before a b
         → CodesFirst (option_map (slot_of B.schema) before) (map (slot_of B.schema) gs) → SlotsMean A false ms a fs es
         → SlotsStay A B ms fs es → SlotsMean B false ms b gs (carry_slots A B (map (slot_of B.schema) gs) es)
     slots_mean no_entries ms [] gs before a b agree whole ends told led h stays =

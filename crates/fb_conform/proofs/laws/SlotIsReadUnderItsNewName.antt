@@ -1,5 +1,6 @@
 -- An entry that an object's members mean in an old slot, carried, they mean in the new one.
-use Rattle.std.proofs.Common.{◌≡◌, ℕ, ◌<◌, ◌||◌, Bool, true, false, List, ◌∷◌, Option, None, Some, option_map, refl, sym, ap}
+use Rattle.std.proofs.Common.{◌≡◌, ℕ, ◌<◌, ◌||◌, Bool, true, false, List, ◌∷◌, Option, None, Some, option_map, refl}
+use Rattle.std.proofs.Common.{sym, ap}
 use Rattle.std.proofs.Common.{subst, ◌∙◌}
 use Rattle.serde_json.specs.Data.{Data, Members}
 use Rattle.serde_json.specs.Find.{get_member}
@@ -12,7 +13,8 @@ use Rattle.fb_schema.specs.WellDeclared.{IsShape}
 use Rattle.fb_layout.specs.Laid.{LaidSchema, stored_shape, default_of, slot_of}
 use Rattle.fb_layout.specs.WellMade.{IsWellMade}
 use Rattle.fb_value.specs.Datum.{Datum, SlotEntries, absent_entry, present_entry}
-use Rattle.fb_json.specs.Means.{CodeMeans, CodeAt, unless_null, member_called, AbsentMeans, AbsentAt, PresentMeans, MeansAs}
+use Rattle.fb_json.specs.Means.{CodeMeans, CodeAt, unless_null, member_called, AbsentMeans, AbsentAt, PresentMeans}
+use Rattle.fb_json.specs.Means.{MeansAs}
 use Rattle.fb_json.specs.Means.{MemberMeans, SlotsMean}
 use Rattle.fb_conform.specs.Carry.{carry, unless_gone}
 use Rattle.fb_conform.specs.Conforms.{Conforms}
@@ -22,7 +24,8 @@ use Rattle.fb_conform.specs.Twins.{to_new}
 use Rattle.fb_conform.proofs.laws.DeclaredShapesByTheirNewNumbers.{id, to_shape}
 use Rattle.fb_conform.proofs.laws.LayoutsAgree.{AfterCode, types_in}
 use Rattle.fb_conform.proofs.laws.SlotsMeanTheCarriedEntries.{is_code, Told, handed_on, told_union, absent_means}
-use Rattle.fb_conform.proofs.laws.SlotsMeanTheCarriedEntries.{absent_slot, code_default, untold, SlotAgrees, is_code_moved}
+use Rattle.fb_conform.proofs.laws.SlotsMeanTheCarriedEntries.{absent_slot, code_default, untold, SlotAgrees}
+use Rattle.fb_conform.proofs.laws.SlotsMeanTheCarriedEntries.{is_code_moved}
 use Rattle.fb_conform.proofs.laws.SlotsMeanTheCarriedEntries.{code_in_use, tells_code, used_code, handed, union_moved}
 use Rattle.fb_conform.proofs.laws.SlotsMeanTheCarriedEntries.{present_step}
 use Rattle.fb_conform.proofs.laws.TextsKeepTheirNumbers.{code_means}
@@ -39,8 +42,8 @@ absent_code L g c o (One Text) e = absurd cc
 absent_code L g c o (Many k) e = absurd cc
 
 -- nothing is present in the slot of a code
-pub present_no_code : (L : LaidSchema) (f : DeclaredField) (s : Shape) (o : Option Data) (d : Datum) (own : Data → Type 0)
-    (member : Data → ℕ → Type 0)
+pub present_no_code : (L : LaidSchema) (f : DeclaredField) (s : Shape) (o : Option Data) (d : Datum)
+    (own : Data → Type 0) (member : Data → ℕ → Type 0)
     → PresentMeans (slot_of L.schema f) s o d own member → f.shape ≡ s → is_code false s ≡ true → ⊥
 present_no_code L f (One (Code u)) None d own member h is e =
     let given : default_of (f.deprecated || f.optional) f.default (stored_shape L.schema (One (Code u))) ≡ Some h.0 =
@@ -170,7 +173,8 @@ module _ (A B : LaidSchema) (old : IsWellMade A) (new : IsWellMade B) (conforms 
           next : SlotsMean B false ms n.code gs rest
           next = later h.0 n.code n.told_next h.4
 
-          present : g.deprecated ≡ false → PresentMeans (slot_of B.schema g) g.shape (member_called g.name ms) (carry A B d)
+          present : g.deprecated ≡ false
+              → PresentMeans (slot_of B.schema g) g.shape (member_called g.name ms) (carry A B d)
               (λ t. MeansAs B false t g.shape (carry A B d)) (λ t u. MemberMeans B false t u n.code (carry A B d))
           present used =
               subst (λ (o : Option Data). PresentMeans (slot_of B.schema g) g.shape o (carry A B d)
@@ -187,6 +191,10 @@ module _ (A B : LaidSchema) (old : IsWellMade A) (new : IsWellMade B) (conforms 
 
           by : (x : Bool) → g.deprecated ≡ x
               → SlotsMean B false ms b (g ∷ gs) (unless_gone x (carry A B d) rest)
-          by true is =
-              (n.code, n.told_here, subst (λ (x : Bool). AbsentAt B g n.code (member_called g.name ms) x) (sym is) tt, next)
+          by true is = (
+            n.code,
+            n.told_here,
+            subst (λ (x : Bool). AbsentAt B g n.code (member_called g.name ms) x) (sym is) tt,
+            next,
+          )
           by false is = (n.code, n.told_here, is, present is, next)

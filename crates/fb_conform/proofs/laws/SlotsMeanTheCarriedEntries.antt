@@ -102,12 +102,18 @@ pub absent_slot : (L : LaidSchema) (f : DeclaredField) (c : ℕ) (o : Option Dat
 absent_slot L f c o (One (Code u)) h e = absurd cc
 absent_slot L f c o (One (Union u)) h e =
     record { none = h.1; no_default = h.2; free = h.3; no_code = λ u is. h.0 }
-absent_slot L f c o (One (Scalar b)) h e = record { none = h.0; no_default = h.1; free = h.2; no_code = λ u is. absurd cc }
-absent_slot L f c o (One (Enum b)) h e = record { none = h.0; no_default = h.1; free = h.2; no_code = λ u is. absurd cc }
-absent_slot L f c o (One (Fixed b)) h e = record { none = h.0; no_default = h.1; free = h.2; no_code = λ u is. absurd cc }
-absent_slot L f c o (One (Table b)) h e = record { none = h.0; no_default = h.1; free = h.2; no_code = λ u is. absurd cc }
-absent_slot L f c o (One Text) h e = record { none = h.0; no_default = h.1; free = h.2; no_code = λ u is. absurd cc }
-absent_slot L f c o (Many k) h e = record { none = h.0; no_default = h.1; free = h.2; no_code = λ u is. absurd cc }
+absent_slot L f c o (One (Scalar b)) h e =
+    record { none = h.0; no_default = h.1; free = h.2; no_code = λ u is. absurd cc }
+absent_slot L f c o (One (Enum b)) h e =
+    record { none = h.0; no_default = h.1; free = h.2; no_code = λ u is. absurd cc }
+absent_slot L f c o (One (Fixed b)) h e =
+    record { none = h.0; no_default = h.1; free = h.2; no_code = λ u is. absurd cc }
+absent_slot L f c o (One (Table b)) h e =
+    record { none = h.0; no_default = h.1; free = h.2; no_code = λ u is. absurd cc }
+absent_slot L f c o (One Text) h e =
+    record { none = h.0; no_default = h.1; free = h.2; no_code = λ u is. absurd cc }
+absent_slot L f c o (Many k) h e =
+    record { none = h.0; no_default = h.1; free = h.2; no_code = λ u is. absurd cc }
 
 -- a deprecated slot has no default, nor has a code
 pub used_default : (S : DeclaredSchema) (g : DeclaredField) (n : ℤ) → (slot_of S g).if_absent ≡ Some n
@@ -257,8 +263,8 @@ code_in_use S ms f false (One (Union x)) a c e h = absurd cc
 code_in_use S ms f false (One Text) a c e h = absurd cc
 code_in_use S ms f false (Many k) a c e h = absurd cc
 
-pub tells_code : (S : DeclaredSchema) (ms : Members) (g : DeclaredField) (gone : Bool) (s : Shape) (b c : ℕ) (u : TypeId)
-    → gone ≡ false → s ≡ One (Code u) → CodeMeans S u.0 (get_member g.name ms) c → CodeAt S ms g gone s b c
+pub tells_code : (S : DeclaredSchema) (ms : Members) (g : DeclaredField) (gone : Bool) (s : Shape) (b c : ℕ)
+    (u : TypeId) → gone ≡ false → s ≡ One (Code u) → CodeMeans S u.0 (get_member g.name ms) c → CodeAt S ms g gone s b c
 tells_code S ms g true s b c u used is h = absurd cc
 tells_code S ms g false s b c u used is h = subst (λ (z : Shape). CodeAt S ms g false z b c) (sym is) h
 
@@ -292,8 +298,8 @@ union_moved to (One Text) u e = absurd cc
 union_moved to (Many k) u e = absurd cc
 
 -- an entry that is present, from what its member means
-pub present_step : (A B : LaidSchema) (ms : Members) (f g : DeclaredField) (d : Datum) (a b : ℕ) (s : Shape) (o : Option Data)
-    → (slot_of B.schema g).if_absent ≡ (slot_of A.schema f).if_absent
+pub present_step : (A B : LaidSchema) (ms : Members) (f g : DeclaredField) (d : Datum) (a b : ℕ) (s : Shape)
+    (o : Option Data) → (slot_of B.schema g).if_absent ≡ (slot_of A.schema f).if_absent
     → ((t : Data) → o ≡ Some t → MeansAs A false t s d → MeansAs B false t (to_shape (to_new A B) s) (carry A B d))
     → ((t : Data) (u : TypeId) → o ≡ Some t → s ≡ One (Union u) → MemberMeans A false t u.0 a d
     → MemberMeans B false t (to_new A B u.0) b (carry A B d))

@@ -1,5 +1,6 @@
 -- A text that names an enum's number or a union's code names it in the new schema too.
-use Rattle.std.proofs.Common.{◌≡◌, ℕ, zero, suc, ◌<◌, Bool, true, false, cond, List, [], ◌∷◌, All, Contains, Option, None}
+use Rattle.std.proofs.Common.{◌≡◌, ℕ, zero, suc, ◌<◌, Bool, true, false, cond, List, [], ◌∷◌, All, Contains, Option}
+use Rattle.std.proofs.Common.{None}
 use Rattle.std.proofs.Common.{Some, is_some, ℤ, pos, refl, sym, ap, subst, ◌∙◌, arith}
 use Rattle.std.specs.Int.{int_bit_or, w128}
 use Rattle.std.specs.Option.{option_and_then}
@@ -52,8 +53,8 @@ path_names {X} found S t path x = by (name_at S t) refl
     by None at e = absurd cc
     by (Some full) at e = within full at (name_in_path full path) refl e
 
-found_at_path : {X : Type 0} (found : DeclaredBody → Name → Option X) (S : DeclaredSchema) (t : ℕ) (path full name : Name)
-    → name_at S t ≡ Some full → name_in_path full path ≡ Some name
+found_at_path : {X : Type 0} (found : DeclaredBody → Name → Option X) (S : DeclaredSchema) (t : ℕ)
+    (path full name : Name) → name_at S t ≡ Some full → name_in_path full path ≡ Some name
     → found_by_path found S t path ≡ found (body_at S t) name
 found_at_path found S t path full name at says =
     ap (λ (o : Option Name). option_and_then (λ f. option_and_then (found (body_at S t)) (name_in_path f path)) o) at
@@ -159,12 +160,13 @@ module _ (A B : LaidSchema) (old : IsWellMade A) (new : IsWellMade B) (conforms 
         let member = some_of (member_coded (body_at A.schema u) c) e in
         ap is_some (members_moved A B old new conforms u c member.0 known member.1).1
 
-    pub code_path : (s : List ℕ) (c d : ℕ) → code_by_path A.schema u s ≡ Some c → code_by_path B.schema (to u) s ≡ Some d
-        → d ≡ c
+    pub code_path : (s : List ℕ) (c d : ℕ) → code_by_path A.schema u s ≡ Some c
+        → code_by_path B.schema (to u) s ≡ Some d → d ≡ c
     code_path s c d was is =
         let how = path_names code_named A.schema u s c was in
         let found : code_named (body_at B.schema (to u)) how.name ≡ Some d =
-        sym (found_at_path code_named B.schema (to u) s how.full how.name (names_same u known ∙ how.at) how.says) ∙ is in
+        sym (found_at_path code_named B.schema (to u) s how.full how.name (names_same u known ∙ how.at) how.says)
+        ∙ is in
         one_code (body_at A.schema u) (body_at B.schema (to u)) how.name c d
         (λ k j one two. keeps u (to u) k j how.name (twins A B old new conforms u known) one two) how.finds found
 

@@ -135,7 +135,8 @@ module _ (A B : LaidSchema) where
   all_listed n xs past listed m = (
     λ there. listed.moved m there,
     λ moved. listed.all m
-        (inl (let known = twin_declared A.schema B.schema m.type_id.0 moved.type moved.twins in omega (arith, known, past)))
+        (inl (let known = twin_declared A.schema B.schema m.type_id.0 moved.type moved.twins in
+        omega (arith, known, past)))
         moved,
   )
 

@@ -1,5 +1,6 @@
 -- What a name stands for in a declared type, and that no other name does.
-use Rattle.std.proofs.Common.{◌≡◌, ◌≢◌, ◌≤◌, ℕ, suc, nat_lt, Bool, true, false, List, [], ◌∷◌, map, length, get_or, find, position}
+use Rattle.std.proofs.Common.{◌≡◌, ◌≢◌, ◌≤◌, ℕ, suc, nat_lt, Bool, true, false, List, [], ◌∷◌, map, length, get_or}
+use Rattle.std.proofs.Common.{find, position}
 use Rattle.std.proofs.Common.{slice_get, Option, None, Some, option_map, bytes_eq, codes, cond, AllPairs, refl}
 use Rattle.std.proofs.Common.{sym, ap, subst, ◌∙◌, arith}
 use Rattle.std.specs.Option.{option_and_then}

@@ -102,6 +102,13 @@ A union's member is gone, or its number names another table.
 For example: `Weapon, Spell`, then `Spell, Weapon`.
 Add members at the end, and keep the old ones.",
         ),
+        103 => page(
+            103,
+            "103 NameMoved
+A name stands for another field or member, so that old JSON texts mean other values.
+For example: `hp:int; mp:int;`, then `mp:int; hp:int;`.
+Add fields and members at the end. A field may be renamed where it is.",
+        ),
         110 => page(
             110,
             "110 FileRead
@@ -133,7 +140,7 @@ Correct it. `--explain` prints line and column.",
         114 => page(
             114,
             "114 Memory
-Memory ran out while a file or a JSON text was read.
+Memory ran out while a file or a JSON text was read, or names were compared.
 Give the program more memory.",
         ),
         _ => None,

@@ -26,6 +26,7 @@ use Rattle.flatc_tool.specs.Answers.{IsViewOf, IsValueOrMemory}
 use Rattle.flatc_tool.specs.Headline.{HoldsAndPrints, CarriesValue, JsonIsCarried, NoneLies, OthersAreRefused}
 use Rattle.fb_faults.specs.declared.faults.ToolFault.{ToolFault}
 use Rattle.fb_faults.specs.declared.faults.ToolFault.TheVariants.{Schema, Json, Build, Read, Text, Write, Breach}
+use Rattle.fb_faults.specs.declared.faults.ToolFault.TheVariants.{NameMoved}
 use Rattle.fb_faults.specs.declared.faults.ToolFault.TheVariants.{Older, Newer, FileRead, FileWrite, FileTooLong}
 use Rattle.fb_faults.specs.declared.faults.ToolFault.TheVariants.{BadJson, Memory}
 use Rattle.flatc_tool.proofs.evolution.BreachExcludesConforming.{conforms_at}
@@ -142,6 +143,7 @@ module _ (laws : LayerLaws) (schema : List ℕ) (b : Bytes) (most : Bounds) (raw
     answered (Build f) refused rule = absurd refused.has
     answered (Write f) refused rule = absurd refused.has
     answered (Breach b) refused rule = absurd refused.has
+    answered (NameMoved m) refused rule = absurd refused.has
     answered (Older f) refused rule = absurd refused.has
     answered (Newer f) refused rule = absurd refused.has
     answered FileRead refused rule = absurd refused.has
@@ -158,6 +160,7 @@ module _ (laws : LayerLaws) (schema : List ℕ) (b : Bytes) (most : Bounds) (raw
     checked (Build f) refused rule = absurd refused
     checked (Write f) refused rule = absurd refused
     checked (Breach b) refused rule = absurd refused
+    checked (NameMoved m) refused rule = absurd refused
     checked (Older f) refused rule = absurd refused
     checked (Newer f) refused rule = absurd refused
     checked FileRead refused rule = absurd refused
@@ -180,6 +183,7 @@ module _ (laws : LayerLaws) (schema : List ℕ) (b : Bytes) (most : Bounds) (raw
     printed defaults start known (Json f) refused rule = absurd refused.has
     printed defaults start known (Build f) refused rule = absurd refused.has
     printed defaults start known (Breach b) refused rule = absurd refused.has
+    printed defaults start known (NameMoved m) refused rule = absurd refused.has
     printed defaults start known (Older f) refused rule = absurd refused.has
     printed defaults start known (Newer f) refused rule = absurd refused.has
     printed defaults start known FileRead refused rule = absurd refused.has

@@ -20,6 +20,7 @@ use Rattle.flatc_tool.specs.Jobs.{JsonMeans, IsBinary, BinaryRefused, IsNotMemor
 use Rattle.flatc_tool.specs.Headline.{NoneIsMeant, OtherJsonIsRefused}
 use Rattle.fb_faults.specs.declared.faults.ToolFault.{ToolFault}
 use Rattle.fb_faults.specs.declared.faults.ToolFault.TheVariants.{Schema, Json, Build, Read, Text, Write, Breach}
+use Rattle.fb_faults.specs.declared.faults.ToolFault.TheVariants.{NameMoved}
 use Rattle.fb_faults.specs.declared.faults.ToolFault.TheVariants.{Older, Newer, FileRead, FileWrite, FileTooLong}
 use Rattle.fb_faults.specs.declared.faults.ToolFault.TheVariants.{BadJson, Memory}
 use Rattle.flatc_tool.proofs.buffers.RefusalExcludesABuffer.{same_tree, broken}
@@ -58,6 +59,7 @@ module _ (laws : LayerLaws) (schema json : List ℕ) (most : Bounds) (unknown : 
       refused (Text f) told rule = absurd told.has
       refused (Write f) told rule = absurd told.has
       refused (Breach b) told rule = absurd told.has
+      refused (NameMoved m) told rule = absurd told.has
       refused (Older f) told rule = absurd told.has
       refused (Newer f) told rule = absurd told.has
       refused FileRead told rule = absurd told.has
@@ -88,6 +90,7 @@ module _ (laws : LayerLaws) (schema json : List ℕ) (most : Bounds) (unknown : 
     as_no_json (Text f) told rule = absurd told.has
     as_no_json (Write f) told rule = absurd told.has
     as_no_json (Breach b) told rule = absurd told.has
+    as_no_json (NameMoved m) told rule = absurd told.has
     as_no_json (Older f) told rule = absurd told.has
     as_no_json (Newer f) told rule = absurd told.has
     as_no_json FileRead told rule = absurd told.has

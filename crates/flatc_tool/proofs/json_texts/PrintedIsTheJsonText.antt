@@ -19,6 +19,7 @@ use Rattle.flatc_tool.specs.Jobs.{IsTextOf, MayBeTextOf, TextRefusedOf}
 use Rattle.flatc_tool.specs.Prints.{IsSentOf, PrintRefusedOf, IsOfInput, text_fault}
 use Rattle.fb_faults.specs.declared.faults.ToolFault.{ToolFault}
 use Rattle.fb_faults.specs.declared.faults.ToolFault.TheVariants.{Schema, Json, Build, Read, Text, Write, Breach}
+use Rattle.fb_faults.specs.declared.faults.ToolFault.TheVariants.{NameMoved}
 use Rattle.fb_faults.specs.declared.faults.ToolFault.TheVariants.{Older, Newer, FileRead, FileWrite, FileTooLong}
 use Rattle.fb_faults.specs.declared.faults.ToolFault.TheVariants.{BadJson, Memory}
 
@@ -77,6 +78,7 @@ module _ (L : LaidSchema) (b : Bytes) (most : Bounds) (raw defaults : Bool) (sta
   text_refused (Build f) refused = absurd refused
   text_refused (Text f) refused = absurd refused
   text_refused (Breach b) refused = absurd refused
+  text_refused (NameMoved m) refused = absurd refused
   text_refused (Older f) refused = absurd refused
   text_refused (Newer f) refused = absurd refused
   text_refused FileRead refused = absurd refused

@@ -9,7 +9,8 @@ use crate::values::Case;
 use crate::values::meanings::{buffer_of, meaning, write_unmeant};
 use crate::values::readings::{value_in, write_unread};
 use crate::values::texts::try_alike;
-use fb_conform::{carry, conform};
+use fb_conform::{carry, conform, moved_names};
+use fb_layout::Layout;
 use fb_value::Value;
 use std::alloc::AllocError;
 
@@ -83,4 +84,17 @@ pub(crate) fn try_later(
         Ok(()) => try_conforming(case, later, json, line),
         Err(breach) => write!(line, "{breach:?}"),
     }
+}
+
+/// Writes the names that stand for something else in a later schema; the breach where it doesn't conform.
+pub(crate) fn write_moved_names(
+    case: &Case,
+    later: &Layout,
+    line: &mut String,
+) -> Result<(), AllocError> {
+    if let Err(breach) = conform(case.layout, later) {
+        return write!(line, "{breach:?}");
+    }
+    let names = moved_names(case.alloc, case.layout, later)?;
+    write!(line, "{names:?}")
 }
