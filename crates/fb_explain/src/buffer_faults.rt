@@ -3,7 +3,8 @@ use crate::buffer_paths::push_path;
 use crate::explanations::Sources;
 use fb_layout::Layout;
 use fb_pages::{Page, push_dump};
-use fb_read::fault_path;
+use fb_read::{Step, fault_path};
+use fb_schema_faults::{FileKind, kind_of_file};
 use fb_value::{Limits, ReadFault};
 
 /// The bytes of a number at an offset.
@@ -154,8 +155,8 @@ fn push_rule(page: &mut Page, layout: &Layout, limits: Limits, bytes: &[u8], fau
     }
 }
 
-/// Adds the path to what is wrong behind a buffer's header.
-fn push_fault_path(page: &mut Page, layout: &Layout, sources: &Sources<'_>) {
+/// Adds the path to what is wrong behind a buffer's header; returns whether that is the root.
+fn push_fault_path(page: &mut Page, layout: &Layout, sources: &Sources<'_>) -> bool {
     let steps = fault_path(
         page.alloc(),
         layout,
@@ -163,10 +164,43 @@ fn push_fault_path(page: &mut Page, layout: &Layout, sources: &Sources<'_>) {
         sources.limits,
         sources.raw_binary,
     );
-    if let Some(Some(steps)) = page.keep(steps) {
-        push_path(page, layout, steps.as_slice());
-        page.push_str(": ");
+    let Some(Some(steps)) = page.keep(steps) else {
+        return false;
+    };
+    push_path(page, layout, steps.as_slice());
+    page.push_str(": ");
+    steps.iter().all(|step| matches!(step, Step::Reference))
+}
+
+/// Adds what is wrong with the offset of the root, which a buffer's first bytes have.
+fn push_root_offset(page: &mut Page, bytes: &[u8], fault: ReadFault) -> bool {
+    match fault {
+        ReadFault::OutOfBounds(at) => push_sentence(
+            page,
+            &[
+                ("bytes 0 to 3 say that it is at ", at),
+                (", and the buffer has ", bytes.len() as u64),
+            ],
+            " bytes",
+        ),
+        ReadFault::Misaligned(at) => push_sentence(
+            page,
+            &[("bytes 0 to 3 say that it is at ", at)],
+            ", which isn't a multiple of 4",
+        ),
+        _ => return false,
     }
+    true
+}
+
+/// Adds what a file is that isn't a buffer at all; returns whether it is clear.
+fn push_another_kind(page: &mut Page, bytes: &[u8]) -> bool {
+    page.push_line(match kind_of_file(bytes) {
+        Some(FileKind::Json) => "this looks like JSON: 'flatc binary' makes a buffer of it",
+        Some(FileKind::Schema) => "this looks like a schema: SCHEMA comes first, then BIN",
+        _ => return false,
+    });
+    true
 }
 
 /// Adds what is wrong with a buffer.
@@ -179,7 +213,14 @@ pub(crate) fn push_buffer_fault(
     let source = &sources.input;
     page.push_str(source.path);
     page.push_str(": ");
-    push_fault_path(page, layout, sources);
+    if push_another_kind(page, source.bytes) {
+        return;
+    }
+    let is_root = push_fault_path(page, layout, sources);
+    if is_root && push_root_offset(page, source.bytes, fault) {
+        push_dump(page, source.bytes, 0);
+        return;
+    }
     push_rule(page, layout, sources.limits, source.bytes, fault);
     if let Some(offset) = fault.offset() {
         push_dump(page, source.bytes, offset as usize);

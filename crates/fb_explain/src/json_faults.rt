@@ -1,11 +1,13 @@
 //! What is wrong with a JSON text under a schema.
 use crate::explanations::Sources;
-use crate::json_places::{element_offset, member_names, member_offset, rest_of};
-use crate::json_rules::{Found, push_rule, unknown_name};
+use crate::json_names::is_unknown;
+use crate::json_places::{Name, element_offset, member_names, member_offset, rest_of};
+use crate::json_rules::{Found, push_rule};
 use crate::memory::tree_of;
-use fb_json::{JsonFault, Place, Step, fault_path};
+use fb_json::{JsonFault, Step, fault_path};
 use fb_layout::Layout;
 use fb_pages::{Page, push_excerpt, push_place};
+use fb_schema::TypeId;
 use fb_schema_faults::shapes::field_at;
 use serde_json::Value;
 use std::alloc::{AllocError, Global};
@@ -81,47 +83,35 @@ fn offset_of_path(
     })
 }
 
-/// The offset of an unknown member's value in the object at an offset, with its name.
-fn unknown_member(
-    page: &Page,
-    layout: &Layout,
-    text: &str,
-    found: Found,
-    place: Place,
-) -> Result<(Option<String>, Found), AllocError> {
-    let object = rest_of(text, found.offset);
-    let names = member_names(page.alloc(), object)?;
-    let Some(name) = unknown_name(layout, place.owner, names.as_slice()) else {
-        return Ok((None, found));
-    };
-    let offset = match member_offset(page.alloc(), object, name)? {
-        Some(further) => found.offset.saturating_add(further),
-        None => found.offset,
-    };
-    let name = String::from_str(page.alloc(), name)?;
-    Ok((
-        Some(name),
-        Found {
-            offset,
-            is_there: true,
-        },
-    ))
+/// The unknown member that is told of an object: of the least name, and of members of one name the last.
+fn unknown_member<'n>(layout: &Layout, owner: TypeId, names: &'n [Name]) -> Option<&'n Name> {
+    let mut least: Option<&'n Name> = None;
+    for name in names {
+        let is_before = match least {
+            Some(least) => name.text.as_str() <= least.text.as_str(),
+            None => true,
+        };
+        if is_before && is_unknown(layout.schema(), owner, name.text.as_str()) {
+            least = Some(name);
+        }
+    }
+    least
 }
 
-/// Where the value at a path's end is, and of an unknown member its name.
+/// Where the value at a path's end is, and the names of the members there where one is unknown.
 fn found_at(
-    page: &Page,
+    alloc: Global,
     layout: &Layout,
     text: &str,
     fault: JsonFault,
-    place: Place,
     steps: &[Step],
-) -> Result<(Option<String>, Found), AllocError> {
-    let found = offset_of_path(page.alloc(), layout, text, steps)?;
-    match fault {
-        JsonFault::UnknownMember(_) => unknown_member(page, layout, text, found, place),
-        _ => Ok((None, found)),
-    }
+) -> Result<(Vec<Name>, Found), AllocError> {
+    let found = offset_of_path(alloc, layout, text, steps)?;
+    let names = match fault {
+        JsonFault::UnknownMember(_) => member_names(alloc, rest_of(text, found.offset))?,
+        _ => Vec::new(alloc),
+    };
+    Ok((names, found))
 }
 
 fn push_at_path(
@@ -137,11 +127,15 @@ fn push_at_path(
     let Some(place) = fault.place() else {
         return;
     };
-    let found = found_at(page, layout, text, fault, place, steps);
-    let Some((name, found)) = page.keep(found) else {
+    let found = found_at(page.alloc(), layout, text, fault, steps);
+    let Some((names, found)) = page.keep(found) else {
         return;
     };
-    push_place(page, &sources.input, found.offset);
+    let unknown = unknown_member(layout, place.owner, names.as_slice());
+    let offset = found
+        .offset
+        .saturating_add(unknown.map_or(0, |name| name.at));
+    push_place(page, &sources.input, offset);
     if !steps.is_empty() {
         push_path(page, layout, steps);
         page.push_str(": ");
@@ -151,12 +145,12 @@ fn push_at_path(
         page,
         layout,
         sources.limits,
-        rest_of(text, found.offset),
+        (rest_of(text, found.offset), found.is_there),
         fault,
-        name.as_ref(),
+        unknown.map(|name| name.text.as_str()),
         is_element,
     );
-    push_excerpt(page, sources.input.bytes, found.offset);
+    push_excerpt(page, sources.input.bytes, offset);
 }
 
 /// Adds what is wrong with a JSON text under a schema.

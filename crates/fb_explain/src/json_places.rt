@@ -57,8 +57,15 @@ pub(crate) fn element_offset(
     Ok(Some(reader.offset()))
 }
 
+/// A member's name, and the offset of its quote.
+#[derive(Drop)]
+pub(crate) struct Name {
+    pub(crate) text: String,
+    pub(crate) at: usize,
+}
+
 /// The names of an object's members, in its order.
-pub(crate) fn member_names(alloc: Global, object: &str) -> Result<Vec<String>, AllocError> {
+pub(crate) fn member_names(alloc: Global, object: &str) -> Result<Vec<Name>, AllocError> {
     let mut scratch = Scratch::new(alloc);
     let mut reader = Reader::new(object, &mut scratch)?;
     let mut names = Vec::new(alloc);
@@ -66,11 +73,12 @@ pub(crate) fn member_names(alloc: Global, object: &str) -> Result<Vec<String>, A
         return Ok(names);
     }
     for _ in 0..object.len() {
+        let at = reader.offset();
         let Ok(Some(key)) = reader.next_key() else {
             break;
         };
-        let name = String::from_str(alloc, key)?;
-        names.push(name)?;
+        let text = String::from_str(alloc, key)?;
+        names.push(Name { text, at })?;
         if reader.skip_value(DEPTH).is_err() {
             break;
         }

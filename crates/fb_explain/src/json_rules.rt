@@ -1,35 +1,18 @@
 //! The rule that a JSON value breaks, with what is there and what would be right.
+use crate::json_names::{push_half, push_unknown_member, push_unknown_name};
+use crate::json_numbers::push_not_whole;
 use fb_json::{JsonFault, Place};
 use fb_layout::Layout;
-use fb_pages::{Page, push_nearest};
-use fb_schema::{Base, FieldInfo, Kind, Shape, TypeId};
-use fb_schema_faults::shapes::{
-    field_at, fields_of, kind_name, members_of, push_shape, range_of_base, type_name, values_of,
-};
+use fb_pages::Page;
+use fb_schema::{Base, FieldInfo, Kind, Shape};
+use fb_schema_faults::shapes::{field_at, kind_name, push_shape, range_of_base, type_name};
 use fb_value::Limits;
-use std::alloc::{AllocError, Global};
 
 /// An offset in a JSON text, and whether the value at a path's end is there, or the object that lacks it.
 #[derive(Clone, Copy)]
 pub(crate) struct Found {
     pub(crate) offset: usize,
     pub(crate) is_there: bool,
-}
-
-/// The least name that is no field's of a type.
-pub(crate) fn unknown_name<'n>(
-    layout: &Layout,
-    owner: TypeId,
-    names: &'n [String],
-) -> Option<&'n str> {
-    let fields = fields_of(layout.schema(), owner);
-    names
-        .iter()
-        .map(|name| name.as_str())
-        .filter(|name| !fields
-            .iter()
-            .any(|field| !field.deprecated && field.name.as_str() == *name))
-        .min()
 }
 
 fn number_len(text: &str) -> usize {
@@ -95,7 +78,7 @@ fn push_wrong_shape(
     page.end_line();
 }
 
-fn kind_in(shape: Shape) -> Kind {
+pub(crate) fn kind_in(shape: Shape) -> Kind {
     match shape {
         Shape::One(kind) | Shape::Many(kind) => kind,
     }
@@ -134,96 +117,6 @@ fn push_out_of_range(page: &mut Page, layout: &Layout, text: &str, field: Option
     }
 }
 
-fn push_not_whole(page: &mut Page, token: &str) {
-    page.push_cut(token.as_bytes());
-    if token
-        .bytes()
-        .all(|byte| byte.is_ascii_digit() || byte == b'-')
-    {
-        page.push_line(" is too large for 64 bits");
-        return;
-    }
-    page.push_line(" isn't written as a whole number");
-}
-
-/// The names of an enum's values or of a union's members.
-fn names_in<T>(alloc: Global, named: &[(String, T)]) -> Result<Vec<&str>, AllocError> {
-    let mut names = Vec::new(alloc);
-    for (name, _) in named {
-        names.push(name.as_str())?;
-    }
-    Ok(names)
-}
-
-fn field_names(alloc: Global, fields: &[FieldInfo]) -> Result<Vec<&str>, AllocError> {
-    let mut names = Vec::new(alloc);
-    for field in fields {
-        names.push(field.name.as_str())?;
-    }
-    Ok(names)
-}
-
-/// A text without its quotes.
-fn unquoted(token: &str) -> &str {
-    token.trim_matches('"')
-}
-
-fn push_unknown_name(page: &mut Page, layout: &Layout, text: &str, field: Option<&FieldInfo>) {
-    let Some(field) = field else {
-        page.push_line("no such name");
-        return;
-    };
-    let schema = layout.schema();
-    let token = unquoted(token_of(text));
-    let names = match kind_in(field.shape) {
-        Kind::Enum(number) => {
-            page.push_str("no value of enum ");
-            page.push_cut(type_name(schema, number).as_bytes());
-            names_in(page.alloc(), values_of(schema, number))
-        }
-        Kind::Code(number) | Kind::Union(number) => {
-            page.push_str("no member of union ");
-            page.push_cut(type_name(schema, number).as_bytes());
-            names_in(page.alloc(), members_of(schema, number))
-        }
-        _ => {
-            page.push_str("nothing");
-            Ok(Vec::new(page.alloc()))
-        }
-    };
-    page.push_str(" is called ");
-    page.push_name(token.as_bytes());
-    if let Some(names) = page.keep(names) {
-        push_nearest(page, names.as_slice(), token);
-    }
-    page.end_line();
-}
-
-fn push_unknown_member(page: &mut Page, layout: &Layout, owner: TypeId, name: Option<&String>) {
-    let schema = layout.schema();
-    let Some(name) = name else {
-        page.push_line("a member has a name that no field has");
-        return;
-    };
-    let fields = fields_of(schema, owner);
-    if fields.iter().any(|field| field.deprecated && field.name.as_str() == name.as_str()) {
-        page.push_str("the field ");
-        page.push_name(name.as_bytes());
-        page.push_str(" of ");
-        page.push_cut(type_name(schema, owner).as_bytes());
-        page.push_line(" is deprecated, and isn't written any more");
-        return;
-    }
-    page.push_cut(type_name(schema, owner).as_bytes());
-    page.push_str(" has no field called ");
-    page.push_name(name.as_bytes());
-    let names = field_names(page.alloc(), fields);
-    if let Some(names) = page.keep(names) {
-        push_nearest(page, names.as_slice(), name.as_str());
-    }
-    page.end_line();
-}
-
 fn push_missing(
     page: &mut Page,
     layout: &Layout,
@@ -248,9 +141,9 @@ pub(crate) fn push_rule(
     page: &mut Page,
     layout: &Layout,
     limits: Limits,
-    text: &str,
+    (text, is_there): (&str, bool),
     fault: JsonFault,
-    name: Option<&String>,
+    name: Option<&str>,
     is_element: bool,
 ) {
     let Some(place) = fault.place() else {
@@ -263,8 +156,18 @@ pub(crate) fn push_rule(
         JsonFault::WrongShape(_) => push_wrong_shape(page, layout, text, field, is_element),
         JsonFault::NotWhole(_) => push_not_whole(page, token_of(text)),
         JsonFault::OutOfRange(_) => push_out_of_range(page, layout, text, field),
-        JsonFault::UnknownName(_) => push_unknown_name(page, layout, text, field),
-        JsonFault::UnknownMember(_) => push_unknown_member(page, layout, place.owner, name),
+        JsonFault::UnknownName(_) => push_unknown_name(
+            page,
+            layout.schema(),
+            token_of(text),
+            field,
+        ),
+        JsonFault::UnknownMember(_) => push_unknown_member(
+            page,
+            layout.schema(),
+            place.owner,
+            name,
+        ),
         JsonFault::MissingMember(_) => {
             push_missing(page, layout, place, field, ": a struct has all its fields")
         }
@@ -275,9 +178,7 @@ pub(crate) fn push_rule(
             field,
             ": it is required",
         ),
-        JsonFault::UnionMismatch(_) => page.push_line(
-            "a union needs both its type and its value: this one has one of them alone",
-        ),
+        JsonFault::UnionMismatch(_) => push_half(page, layout.schema(), place, is_there),
         JsonFault::TooDeep(_) => push_limit(
             page,
             "tables are nested deeper than ",

@@ -1,10 +1,11 @@
 //! A union in a buffer whose code has no member.
 use crate::buffer_paths::push_path;
 use crate::explanations::Sources;
+use crate::json_names::names_in;
 use crate::union_paths::{Unnamed, first_unnamed};
 use fb_json::Place;
 use fb_layout::Layout;
-use fb_pages::Page;
+use fb_pages::{Page, push_names};
 use fb_read::{Entries, read};
 use fb_schema::{Kind, Shape};
 use fb_schema_faults::shapes::{field_at, members_of, type_name};
@@ -44,10 +45,10 @@ fn push_members(page: &mut Page, layout: &Layout, place: Place) {
     if let Shape::One(Kind::Code(union) | Kind::Union(union)) = field.shape {
         page.push_str("; ");
         page.push_cut(type_name(schema, union).as_bytes());
-        page.push_str(" has");
-        for (name, _) in members_of(schema, union) {
-            page.push_str(" ");
-            page.push_name(name.as_bytes());
+        page.push_str(" has ");
+        let names = names_in(page.alloc(), members_of(schema, union));
+        if let Some(names) = page.keep(names) {
+            push_names(page, names.as_slice());
         }
     }
 }

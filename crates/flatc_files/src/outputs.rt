@@ -33,8 +33,33 @@ const PERMISSION_BITS: u32 = 0o777;
 // How many names are tried for a file beside another.
 const NAMES: u32 = 1000;
 
-fn refused() -> io::Error {
-    io::Error::other("it is one of the inputs, or it is there and named .json or .fbs")
+fn refused_input() -> io::Error {
+    io::Error::other("it is one of the inputs, which are never written over")
+}
+
+fn refused_text() -> io::Error {
+    io::Error::other("it is there, and a file named .json or .fbs is never written over")
+}
+
+// As much of a message as an error keeps.
+const MOST_SAID: usize = 80;
+
+/// The folder in which a path's file is.
+fn folder_of(path: &str) -> &str {
+    match path.rsplit_once('/') {
+        Some(("", _)) => "/",
+        Some((folder, _)) => folder,
+        None => ".",
+    }
+}
+
+/// The error of a file that can't be made, with the folder, where a message has room for both.
+fn in_folder(alloc: Global, path: &str, error: io::Error) -> io::Error {
+    let folder = folder_of(path);
+    match format!(in alloc; "no file can be made in '{folder}': {error}") {
+        Ok(said) if said.len() <= MOST_SAID => io::Error::new(error.kind(), said.as_str()),
+        _ => error,
+    }
 }
 
 /// Whether a path leads to a file.
@@ -71,7 +96,7 @@ fn create_beside(rt: &HostRuntime, out: &str, mode: u32) -> io::Result<(PathBuf,
         match options.open(rt, path.as_str()) {
             Ok(file) => return Ok((path, file)),
             Err(error) if error.kind() == ErrorKind::AlreadyExists => {}
-            Err(error) => return Err(error),
+            Err(error) => return Err(in_folder(rt.alloc(), out, error)),
         }
     }
     Err(io::Error::from(ErrorKind::AlreadyExists))
@@ -190,7 +215,7 @@ fn write_standard<C: Content>(
     inputs: [&str; 2],
 ) -> io::Result<()> {
     if is_an_input(rt, "/dev/fd/1", inputs) {
-        return Err(refused());
+        return Err(refused_input());
     }
     content.write_to(&mut rt.stdout())
 }
@@ -211,8 +236,11 @@ pub fn write_out<C: Content>(
     let Some(old) = found_at(rt, out)? else {
         return replace(rt, out, content, None);
     };
-    if is_named_as_text(out) || is_an_input(rt, out, inputs) {
-        return Err(refused());
+    if is_an_input(rt, out, inputs) {
+        return Err(refused_input());
+    }
+    if is_named_as_text(out) {
+        return Err(refused_text());
     }
     write_over(rt, out, content, &old)
 }

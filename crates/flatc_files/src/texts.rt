@@ -61,10 +61,25 @@ impl<'j> Texts<'j> {
         }
     }
 
-    /// Reads the schema text.
+    /// Reads the schema text, which is the first file that a job reads.
     pub fn read_schema(&mut self, rt: &HostRuntime, path: &'j str) -> Result<(), ReadFault> {
-        self.schema = self.read(rt, path)?;
-        Ok(())
+        match self.read(rt, path) {
+            Ok(schema) => {
+                self.schema = schema;
+                Ok(())
+            }
+            Err(fault) => {
+                self.say_alone();
+                Err(fault)
+            }
+        }
+    }
+
+    /// Adds to why a file failed that no other was read, where there is memory for that.
+    fn say_alone(&mut self) {
+        if let Some(failure) = &mut self.failure {
+            let _added = failure.reason.push_str("; no other file was read");
+        }
     }
 
     /// Reads the JSON text, the buffer or the new schema text.
