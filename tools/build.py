@@ -144,20 +144,26 @@ def build(crates, name, jobs, program):
         return status, log.read(), time.monotonic() - began
 
 
-def build_over_gate(crates, name):
-    """Builds a library for C with the compiler, over libraries that hold their statements but not their proofs."""
+def over_gate(crates, name, verb):
+    """How rattle is called on a crate over the libraries that rt ci left, which hold their statements, but no proofs."""
     kit = os.path.dirname(subprocess.run(["rt", "doc"], capture_output=True, text=True, check=True).stdout.strip())
     # What a crate uses without listing it comes first.
     listed = dict.fromkeys(["std", *crates[name][0].partition(":")[2].split()])
     own = {it: f"{ROOT}/crates/{it}/out/rlib" for it in below(crates, name)}
-    words = [f"{kit}/bin/rattle", "build", "--crate-name", name, "--crate-type", "staticlib", "src/lib.rt"]
+    words = [f"{kit}/bin/rattle", verb, "--crate-name", name, "src/lib.rt"]
     for it in listed:
         words += ["--extern", f"{it}={own.get(it, f'{kit}/rlibs')}/{it}.rlib"]
     for folder in [f"{kit}/rlibs", *own.values()]:
         words += ["-L", f"dependency={folder}"]
     words += ["--antt-project", f"{kit}/rattle/logic/antt-project.json", "--logic-built", f"{kit}/logic_built"]
-    words += ["--jobs", str(min(jobs_here(), MOST_JOBS_OF_A_CRATE)), "--links", f"{name}="]
-    words += ["--toolchain", f"{kit}/toolchain", "--backend", "llvm", "-o", f"out/lib{name}.a"]
+    return kit, words
+
+
+def build_over_gate(crates, name):
+    """Builds a library for C with the compiler alone."""
+    kit, words = over_gate(crates, name, "build")
+    words += ["--crate-type", "staticlib", "--links", f"{name}=", "--toolchain", f"{kit}/toolchain", "--backend", "llvm"]
+    words += ["--jobs", str(min(jobs_here(), MOST_JOBS_OF_A_CRATE)), "-o", f"out/lib{name}.a"]
     os.makedirs(f"{ROOT}/crates/{name}/out", exist_ok=True)
     return subprocess.run(words, cwd=f"{ROOT}/crates/{name}", check=False).returncode
 

@@ -10,7 +10,8 @@ and 'new: TEXT', where the old text is in that file exactly once. It is tried in
 the build kept, so that only what changed is proved again. The last line is 'N refused, M not refused'.
 
 An edit in crates/*/not-compiled writes what can't even be compiled, and has a line 'error: NAME' more: the compiler has
-to refuse it with that error, and no other. The crates below have to be built. The last line is 'N passed, M failed'.
+to refuse it with that error, and no other, over the libraries that rt ci or a build left. The last line is 'N passed,
+M failed'.
 """
 import argparse
 import contextlib
@@ -23,7 +24,7 @@ import sys
 import tempfile
 from concurrent.futures import ThreadPoolExecutor
 
-from build import ROOT, copy_below, jobs_here, read_crates
+from build import ROOT, copy_below, jobs_here, over_gate, read_crates
 
 
 def edited(edit, folder):
@@ -80,9 +81,9 @@ def wanted_error(edit):
     return ""
 
 
-def compile_edit(edit, folder):
+def compile_edit(edit, folder, words):
     """Whether the compiler refuses an edit with its error alone, and why not. The copy is left as it was."""
-    status, lines = check_with(edit, folder)
+    status, lines = check_with(edit, folder, words)
     errors = [it for it in lines if re.search(r": error\b", it)]
     if status and len(errors) == 1 and f"error[{wanted_error(edit)}]" in errors[0]:
         return True, ""
@@ -95,10 +96,11 @@ def do_none_compile(crates):
         edits = sorted(glob.glob(f"{ROOT}/crates/{name}/not-compiled/*.edit"))
         if not edits:
             continue
+        words = [*over_gate(crates, name, "check")[1], "--jobs", "1", "--only", ""]
         with tempfile.TemporaryDirectory(prefix=f"not-compiled-{name}-") as room:
-            folder = copy_crate(crates, name, room)
+            folder = shutil.copytree(f"{ROOT}/crates/{name}", f"{room}/{name}", ignore=shutil.ignore_patterns("out"))
             for edit in edits:
-                well, why = compile_edit(edit, folder)
+                well, why = compile_edit(edit, folder, words)
                 passed, failed = passed + well, failed + (not well)
                 if why:
                     print(f"edit {os.path.relpath(edit, ROOT)}: {why}")
@@ -107,9 +109,9 @@ def do_none_compile(crates):
     return failed or not passed
 
 
-def check(folder):
+def check(folder, words=("rt", "check", "--jobs", "1")):
     how = {"stdin": subprocess.DEVNULL, "stdout": subprocess.PIPE, "stderr": subprocess.STDOUT, "errors": "replace"}
-    ran = subprocess.run(["rt", "check", "--jobs", "1"], cwd=folder, check=False, **how)
+    ran = subprocess.run(words, cwd=folder, check=False, **how)
     return ran.returncode, ran.stdout.rstrip("\n").split("\n")
 
 
@@ -133,13 +135,13 @@ def changed(folder, texts):
         write_all(folder, were)
 
 
-def check_with(edit, folder):
+def check_with(edit, folder, *words):
     """The status and the lines of a check with an edit; no status where it can't be applied."""
     texts, why = edited(edit, folder)
     if texts is None:
         return None, [f"can't be applied: {why}"]
     with changed(folder, texts):
-        return check(folder)
+        return check(folder, *words)
 
 
 def copy_crate(crates, name, room):
