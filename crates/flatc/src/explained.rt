@@ -1,8 +1,8 @@
 //! What is printed of a refusal where an explanation is asked for.
 use crate::limits;
-use fb_explain::{FileFailure, Source, Sources, explain, fault_page, warnings};
+use fb_explain::{FileFailure, Lost, Source, Sources, explain, fault_page, warnings};
 use flatc_cli::Job;
-use flatc_files::{Input, Lost, Texts};
+use flatc_files::{Gone, Input, Texts};
 use flatc_tool::{JsonFault, ToolFault};
 use std::alloc::AllocError;
 
@@ -44,10 +44,10 @@ fn quotes_json(fault: ToolFault) -> bool {
 }
 
 /// Why a JSON text isn't quoted.
-fn unquoted(lost: Lost) -> fb_explain::Lost {
-    match lost {
-        Lost::Streamed => fb_explain::Lost::Streamed,
-        Lost::Changed => fb_explain::Lost::Changed,
+fn unquoted(gone: Gone) -> Lost {
+    match gone {
+        Gone::Streamed => Lost::Streamed,
+        Gone::Changed => Lost::Changed,
     }
 }
 
