@@ -2,17 +2,15 @@
 use fb_value::Limits;
 use flatc_tool::EncodeOptions;
 
-mod buffer_builder;
+mod builds;
 mod check;
 mod conform;
-mod counts;
 mod fault_lines;
 mod fault_sentences;
 mod options;
 mod pages;
 mod print_to;
 mod report;
-mod rooms;
 mod take_all;
 mod to_binary;
 mod values;

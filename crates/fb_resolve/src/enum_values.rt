@@ -1,6 +1,7 @@
 //! Enums' values with their numbers, and these by their names.
-ghost use Rattle.std.specs.Prelude.{◌≡◌, List, Option, IfOk, map};
-ghost use Rattle.std.specs.Option.{option_and_then, option_copied};
+ghost use Rattle.std.specs.Prelude.{◌≡◌, List, Option, None, Some, IfOk, OnOk, if◌then◌else◌, map};
+ghost use Rattle.std.specs.Option.{option_and_then, option_copied, option_or, is_some};
+ghost use Rattle.std.specs.Str.{bytes_eq};
 ghost use Rattle.fb_schema.specs.Schema.{Name};
 ghost use Rattle.fb_resolve.specs.Outline.{TypeRead};
 ghost use Rattle.fb_scopes.specs.declared.path_tree.PathTree.{PathTree};
@@ -8,7 +9,7 @@ ghost use Rattle.fb_resolve.specs.Meaning.{meaning_of};
 ghost use Rattle.fb_resolve.specs.Paths.{names_used, IsNoted, AreUses};
 ghost use Rattle.fb_resolve.specs.EnumsRead.{integer_type, enum_values, name_of_value, value_over};
 ghost use Rattle.fb_resolve.specs.RepeatedNames.{repeated_names};
-ghost use Rattle.fb_resolve.specs.EnumsRead.{values_over, number_named, IndexesValues};
+ghost use Rattle.fb_resolve.specs.EnumsRead.{values_over, number_named, number_of, IndexesValues};
 
 use crate::attributes::has_attribute;
 use crate::enums::{integer_type, resolved_values, value_number};
@@ -107,6 +108,23 @@ fn underlying(noted: TypeUse) -> Option<Base>
     }
 }
 
+/// Notes the number of a name that has none yet; returns whether it had one, which then stays.
+fn note_number<'s>(
+    numbers: &mut IndexMap<&'s str, i128, HashKey>,
+    name: &'s str,
+    number: i128,
+) -> Result<bool, AllocError>
+    ensures again { IfOk result (λ again. again ≡ is_some (number_of numbers.old name.now)) }
+    ensures numbers { (other : Name) → OnOk result (number_of numbers.new other
+        ≡ option_or (number_of numbers.old other) (if bytes_eq other name.now then Some number else None)) }
+{
+    let first = numbers.insert(name, number)?;
+    if let Some(first) = first {
+        numbers.insert(name, first)?;
+    }
+    Ok(first.is_some())
+}
+
 /// Of each value whether one before it has its name, and the numbers that they have in an enum over
 /// a type, by their names, of which the first stands.
 #[tactic(auto, unfolding(crate::specs::EnumsRead::number_named))]
@@ -125,12 +143,8 @@ fn numbers_over<'s>(
     let mut numbers = IndexMap::with_capacity_and_hasher(alloc, values.len(), key)?;
     for resolved in values {
         let value = resolved.value;
-        let name = value.name.text;
-        let first = numbers.insert(name, value_number(base, flags, resolved.number))?;
-        repeats.push(first.is_some())?;
-        if let Some(first) = first {
-            numbers.insert(name, first)?;
-        }
+        let number = value_number(base, flags, resolved.number);
+        repeats.push(note_number(&mut numbers, value.name.text, number)?)?;
     }
     Ok((repeats, numbers))
 }

@@ -118,7 +118,7 @@ impl<'d, 's> Outline<'d, 's> {
     pub fn of(alloc: Global, decls: &'d Decls<'s>) -> Result<Outline<'d, 's>, AllocError>
         ensures { IfOk result (λ o. o ≡ outline_of decls.now) }
     {
-        let mut walk = Walk::new(alloc, decls.key(), decls.declarations().len())?;
+        let mut walk = Walk::new(alloc, decls.key());
         for declaration in decls.declarations() {
             walk.pass(alloc, declaration)?;
         }

@@ -47,14 +47,13 @@ pub(crate) struct Walk<'d, 's> {
 }
 
 impl<'d, 's> Walk<'d, 's> {
-    /// Nothing is declared in the text of a key, and no namespace is in force; up to `count` types have
-    /// room. The only error is a refused allocation.
-    pub(crate) fn new(alloc: Global, key: HashKey, count: usize) -> Result<Walk<'d, 's>, AllocError>
-        ensures placed { IfOk result IsPlaced }
-        ensures empty { IfOk result (λ w. walk_read w ≡ nothing_read) }
+    /// Nothing is declared in the text of a key, and no namespace is in force.
+    pub(crate) fn new(alloc: Global, key: HashKey) -> Walk<'d, 's>
+        ensures placed { IsPlaced result }
+        ensures empty { walk_read result ≡ nothing_read }
     {
-        Ok(Walk {
-            types: Vec::with_capacity(alloc, count)?,
+        Walk {
+            types: Vec::new(alloc),
             attributes: Vec::new(alloc),
             root: None,
             identifier: None,
@@ -62,13 +61,13 @@ impl<'d, 's> Walk<'d, 's> {
             path: 0,
             tree: PathTree::new(alloc, key),
             used: PathTree::new(alloc, key),
-            notes: Vec::with_capacity(alloc, count)?,
-            values: Vec::with_capacity(alloc, count)?,
-            full_names: Vec::with_capacity(alloc, count)?,
+            notes: Vec::new(alloc),
+            values: Vec::new(alloc),
+            full_names: Vec::new(alloc),
             root_path: 0,
             root_use: TypeUse::Basic(BasicType::Text),
             key,
-        })
+        }
     }
 
     /// Passes a declaration. The only error is a refused allocation.

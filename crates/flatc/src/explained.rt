@@ -1,9 +1,9 @@
 //! What is printed of a refusal where an explanation is asked for.
 use crate::limits;
 use crate::terminal::{columns, print_explanation};
-use fb_explain::{FileFailure, Source, Sources, explain, fault_page, warnings};
+use fb_explain::{FileFailure, Lost, Source, Sources, explain, fault_page, warnings};
 use flatc_cli::Job;
-use flatc_files::{Input, Lost, Texts};
+use flatc_files::{Gone, Input, Texts};
 use flatc_tool::{JsonFault, ToolFault};
 use std::alloc::AllocError;
 use std::io;
@@ -46,10 +46,10 @@ fn quotes_json(fault: ToolFault) -> bool {
 }
 
 /// Why a JSON text isn't quoted.
-fn unquoted(lost: Lost) -> fb_explain::Lost {
-    match lost {
-        Lost::Streamed => fb_explain::Lost::Streamed,
-        Lost::Changed => fb_explain::Lost::Changed,
+fn unquoted(gone: Gone) -> Lost {
+    match gone {
+        Gone::Streamed => Lost::Streamed,
+        Gone::Changed => Lost::Changed,
     }
 }
 

@@ -1,6 +1,6 @@
 //! Buffers as what is written, and the faults of files that failed.
-use flatc_files::{Content, ReadFault, Texts};
-use flatc_tool::{Segments, ToolFault};
+use flatc_files::{Content, TakeFault, Texts};
+use flatc_tool::{Segments, ToolFault, command};
 use std::io::{self, ErrorKind, Write};
 
 /// A buffer, to be written.
@@ -18,12 +18,8 @@ impl Content for Laid<'_> {
 }
 
 /// The fault of a file that couldn't be read.
-pub(crate) fn read_fault(fault: ReadFault) -> ToolFault {
-    match fault {
-        ReadFault::Failed => ToolFault::FileRead,
-        ReadFault::TooLong => ToolFault::FileTooLong,
-        ReadFault::Memory => ToolFault::Memory,
-    }
+pub(crate) fn read_fault(fault: TakeFault) -> ToolFault {
+    command::read_fault(fault)
 }
 
 /// The fault of a file that couldn't be written.

@@ -1,34 +1,20 @@
 //! An input of a job: what was read from it, and how that is got again once it was given away.
-ghost use Rattle.std.specs.Prelude.{◌≡◌, ◌≤◌, length, IfOk, IfSome};
+ghost use Rattle.std.specs.Prelude.{◌≤◌, length, IfOk};
 
 use crate::streams::{Stream, metadata_of};
+use fb_heard::{Heard, TakeFault, take_all};
 use flatc_cli::is_standard_input;
-use std::alloc::{AllocError, Global};
+use std::alloc::AllocError;
 use std::fs::Metadata;
-use std::io::{self, ErrorKind, Read};
-use std::mem;
 use std::os::unix::fs::MetadataExt;
+use std::{io, mem};
 
 /// The longest file that is read, in bytes.
-const LONGEST: usize = 2_147_483_647;
-
-// What a file is read into, where it has no more bytes.
-const FIRST_CAPACITY: usize = 32_768;
-
-/// Why an input couldn't be read.
-#[derive(Clone, Copy)]
-pub enum ReadFault {
-    /// It couldn't be opened, or a read failed.
-    Failed,
-    /// It has more than 2,147,483,647 bytes.
-    TooLong,
-    /// Memory ran out.
-    Memory,
-}
+const LONGEST: u32 = 2_147_483_647;
 
 /// Why what was read of an input can't be had again.
 #[derive(Clone, Copy)]
-pub enum Lost {
+pub enum Gone {
     /// It came through a pipe or a device.
     Streamed,
     /// The file has changed since, or is gone.
@@ -56,14 +42,6 @@ fn state_of(found: io::Result<Metadata>) -> Option<FileState> {
         }),
         _ => None,
     }
-}
-
-/// Why a file couldn't be read.
-#[derive(Drop)]
-pub(crate) struct ReadFailure {
-    pub(crate) fault: ReadFault,
-    /// The reason of the system; `None` where memory ran out.
-    pub(crate) reason: Option<io::Error>,
 }
 
 /// An input, with what was read from it until that is given away.
@@ -94,7 +72,7 @@ impl<'j> Input<'j> {
         rt: &HostRuntime,
         path: &'j str,
         is_read_again: bool,
-    ) -> Result<Input<'j>, ReadFailure>
+    ) -> Result<Input<'j>, TakeFault>
         ensures short { IfOk result (λ input. length input.bytes.items ≤ 2147483647) }
     {
         let mut input = Input::read_all(rt, path, Stream::open(rt, path), is_read_again)?;
@@ -118,12 +96,12 @@ impl<'j> Input<'j> {
         path: &'j str,
         opened: io::Result<Stream>,
         is_read_again: bool,
-    ) -> Result<Input<'j>, ReadFailure>
+    ) -> Result<Input<'j>, TakeFault>
         ensures short { IfOk result (λ input. length input.bytes.items ≤ 2147483647) }
     {
         let stream = match opened {
             Ok(stream) => stream,
-            Err(error) => return Err(failed(ReadFault::Failed, Some(error))),
+            Err(error) => return Err(TakeFault::Failed(error)),
         };
         // Taken before the first byte is read: what is written meanwhile changes it.
         let state = if is_read_again {
@@ -131,7 +109,7 @@ impl<'j> Input<'j> {
         } else {
             None
         };
-        let bytes = read_whole(rt.alloc(), stream)?;
+        let bytes = take_all(rt.alloc(), &mut Heard::over(stream), LONGEST)?;
         Ok(Input {
             path,
             bytes,
@@ -149,56 +127,29 @@ impl<'j> Input<'j> {
     /// Gets what was read and given away again; it returns why that isn't possible.
     ///
     /// A regular file is read again while its length and modification time are those that it had.
-    pub fn get_again(&mut self, rt: &HostRuntime) -> Result<Option<Lost>, AllocError> {
+    pub fn get_again(&mut self, rt: &HostRuntime) -> Result<Option<Gone>, AllocError> {
         if !self.is_given {
             return Ok(None);
         }
         if self.state.is_none() {
-            return Ok(Some(Lost::Streamed));
+            return Ok(Some(Gone::Streamed));
         }
         if state_of(metadata_of(rt, self.path)) != self.state {
-            return Ok(Some(Lost::Changed));
+            return Ok(Some(Gone::Changed));
         }
         match Input::read_all(rt, self.path, Stream::open_again(rt, self.path), true) {
             Ok(again) => Ok(self.take(rt, again)),
-            Err(unread) => match unread.fault {
-                ReadFault::Memory => Err(AllocError),
-                _ => Ok(Some(Lost::Changed)),
-            },
+            Err(TakeFault::Memory) => Err(AllocError),
+            Err(_) => Ok(Some(Gone::Changed)),
         }
     }
 
     /// Takes what was read again, if the file is still what it was.
-    fn take(&mut self, rt: &HostRuntime, again: Input<'j>) -> Option<Lost> {
+    fn take(&mut self, rt: &HostRuntime, again: Input<'j>) -> Option<Gone> {
         if again.state != self.state || state_of(metadata_of(rt, self.path)) != self.state {
-            return Some(Lost::Changed);
+            return Some(Gone::Changed);
         }
         *self = again;
         None
-    }
-}
-
-fn failed(fault: ReadFault, reason: Option<io::Error>) -> ReadFailure {
-    ReadFailure { fault, reason }
-}
-
-/// All bytes of a reader, `LONGEST` at most.
-fn read_whole<R: Read + Drop>(alloc: Global, from: R) -> Result<Vec<u8>, ReadFailure>
-    ensures short { IfOk result (λ v. length v.items ≤ 2147483647) }
-    ensures whole { IfOk result (λ v. IfSome (R.remaining from) (λ xs. v.items ≡ xs)) }
-{
-    let Ok(mut bytes) = Vec::with_capacity(alloc, FIRST_CAPACITY) else {
-        return Err(failed(ReadFault::Memory, None));
-    };
-    match from.take(LONGEST as u64 + 1).read_to_end(&mut bytes) {
-        Ok(_) if bytes.len() <= LONGEST => Ok(bytes),
-        Ok(_) => {
-            let reason = io::Error::other("it is longer than 2147483647 bytes");
-            Err(failed(ReadFault::TooLong, Some(reason)))
-        }
-        Err(error) if error.kind() == ErrorKind::OutOfMemory => {
-            Err(failed(ReadFault::Memory, None))
-        }
-        Err(error) => Err(failed(ReadFault::Failed, Some(error))),
     }
 }

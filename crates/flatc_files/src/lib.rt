@@ -10,7 +10,8 @@ mod targets;
 mod texts;
 mod unchanged;
 
-pub use inputs::{Input, Lost, ReadFault};
+pub use fb_heard::TakeFault;
+pub use inputs::{Gone, Input};
 pub use outputs::{Content, write_file, write_out};
 pub use progress::Progress;
 pub use reasons::Reasoned;

@@ -1,5 +1,6 @@
 //! What a job reads, and why a file failed.
-use crate::inputs::{Input, ReadFault};
+use crate::inputs::Input;
+use fb_heard::TakeFault;
 use std::io;
 
 /// What a job has read so far, and why a file couldn't be read or written.
@@ -49,20 +50,21 @@ impl<'j> Texts<'j> {
         };
     }
 
-    fn read(&mut self, rt: &HostRuntime, path: &'j str) -> Result<Input<'j>, ReadFault> {
-        match Input::read(rt, path, self.is_explained) {
-            Ok(input) => Ok(input),
-            Err(unread) => {
-                if let Some(reason) = &unread.reason {
-                    self.fail(rt, path, reason);
-                }
-                Err(unread.fault)
+    fn read(&mut self, rt: &HostRuntime, path: &'j str) -> Result<Input<'j>, TakeFault> {
+        let read = Input::read(rt, path, self.is_explained);
+        match &read {
+            Err(TakeFault::Failed(error)) => self.fail(rt, path, error),
+            Err(TakeFault::TooLong) => {
+                let error = io::Error::other("it is longer than 2147483647 bytes");
+                self.fail(rt, path, &error);
             }
+            _ => {}
         }
+        read
     }
 
     /// Reads the schema text, which is the first file that a job reads.
-    pub fn read_schema(&mut self, rt: &HostRuntime, path: &'j str) -> Result<(), ReadFault> {
+    pub fn read_schema(&mut self, rt: &HostRuntime, path: &'j str) -> Result<(), TakeFault> {
         match self.read(rt, path) {
             Ok(schema) => {
                 self.schema = schema;
@@ -83,7 +85,7 @@ impl<'j> Texts<'j> {
     }
 
     /// Reads the JSON text, the buffer or the new schema text.
-    pub fn read_input(&mut self, rt: &HostRuntime, path: &'j str) -> Result<(), ReadFault> {
+    pub fn read_input(&mut self, rt: &HostRuntime, path: &'j str) -> Result<(), TakeFault> {
         self.input = self.read(rt, path)?;
         Ok(())
     }

@@ -7,7 +7,7 @@ pub mod Headline
 pub mod Chains
 pub mod FaultLines
 pub mod Reports
-pub mod Heard
+pub mod FileFaults
 pub mod Checks
 pub mod Prints
 pub mod Evolution

@@ -3,6 +3,7 @@ mod heard;
 mod lines;
 mod reports;
 
-pub use heard::{Heard, take_all};
+pub use fb_heard::Heard;
+pub use heard::{read_fault, take_all};
 pub use lines::fault_line;
 pub use reports::{report, report_noted};

@@ -127,17 +127,3 @@ fn each_layers_fault_is_an_error(rt: HostRuntime) -> Result<(), Fail> {
     )?;
     expect(&rt, alloc, &Breach::TypeGone(TypeId(3)), "type 3 is gone")
 }
-
-#[test]
-fn each_layers_fault_has_its_name(rt: HostRuntime) {
-    assert_eq!(&rt; SyntaxFault::NotUtf8(4).name(), "NotUtf8");
-    assert_eq!(&rt; SchemaFault::BadIds(4).name(), "BadIds");
-    assert_eq!(&rt; LayoutFault::TableTooWide(TypeId(0)).name(), "TableTooWide");
-    assert_eq!(&rt; SYNTAX.name(), "Unterminated");
-    assert_eq!(&rt; JsonFault::TooDeep(OWNER).name(), "TooDeep");
-    assert_eq!(&rt; BuildFault::TooBig.name(), "TooBig");
-    assert_eq!(&rt; ReadFault::BadVtable(4).name(), "BadVtable");
-    assert_eq!(&rt; TextFault::Memory.name(), "Memory");
-    assert_eq!(&rt; WriteFault::WriteFailed(0).name(), "WriteFailed");
-    assert_eq!(&rt; Breach::RootChanged.name(), "RootChanged");
-}

@@ -9,7 +9,8 @@ use std::test::Fail;
 
 const SCHEMA: &[u8] = b"table T { v:[string]; } root_type T;";
 
-fn push_times(text: &mut String, piece: &str, times: u32) -> Result<(), AllocError> {
+/// Adds a piece so many times.
+pub(super) fn push_times(text: &mut String, piece: &str, times: u32) -> Result<(), AllocError> {
     for _ in 0..times {
         text.push_str(piece)?;
     }

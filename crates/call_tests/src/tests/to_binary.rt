@@ -4,10 +4,7 @@ use fb_declare::SchemaFault;
 use fb_json::{JsonFault, Place};
 use fb_schema::TypeId;
 use fb_value::ReadFault;
-use flatc_tool::{
-    EncodeOptions, SchemaTextFault, ToolFault, encode_segments, schema_of, to_binary,
-    to_binary_segments, to_json,
-};
+use flatc_tool::{SchemaTextFault, ToolFault, to_binary, to_json};
 use std::test::Fail;
 
 const SCHEMA: &[u8] = b"enum Color:byte { Red, Green } struct Point { x:short; y:short; } \
@@ -45,21 +42,6 @@ fn a_text_goes_to_a_buffer_and_back(rt: HostRuntime) -> Result<(), Fail> {
         false,
     )?;
     assert_eq!(rt; printed.as_str(), TEXT);
-    Ok(())
-}
-
-#[test]
-fn a_text_that_is_given_away_has_the_same_buffer(rt: HostRuntime) -> Result<(), Fail> {
-    let alloc = rt.alloc();
-    let built = to_binary(alloc, SCHEMA, TEXT.as_bytes(), usual_limits(), false)?;
-    let json = TEXT.as_bytes().to_vec(alloc)?;
-    let segments = to_binary_segments(alloc, SCHEMA, json, usual_limits(), false)?;
-    assert_eq!(rt; segments.into_bytes(alloc)?.as_slice(), built.as_slice());
-    let layout = schema_of(alloc, SCHEMA)?;
-    let json = TEXT.as_bytes().to_vec(alloc)?;
-    let segments = encode_segments(alloc, &layout, json, &EncodeOptions::new())?;
-    assert_eq!(rt; segments.len(), built.len());
-    assert_eq!(rt; segments.into_bytes(alloc)?.as_slice(), built.as_slice());
     Ok(())
 }
 

@@ -9,13 +9,7 @@ use Rattle.fb_resolve.specs.EnumsRead.{name_of_value, value_over, number_named, 
 use Rattle.fb_resolve.specs.ResolvedFields.{ResolvedValue}
 use Rattle.fb_schema.specs.Schema.{Name}
 use Rattle.fb_schema.specs.declared.kinds.Base.{Base}
-use Rattle.std.specs.Bool.{one_answer}
-use Rattle.std.proofs.lemmas.Slice.Eq.{bytes_eq-Decides}
-use Rattle.fb_resolve.proofs.enum_values.numbers_over.Goals.{in-Some+in_ok-insert, in_default}
 use Rattle.fb_resolve.proofs.enum_values.numbers_over.Goals as goal
-
-bytes_eq-sym : (a b : List ℕ) → bytes_eq a b ≡ bytes_eq b a
-bytes_eq-sym a b = one_answer (bytes_eq a b) (bytes_eq b a) (bytes_eq-Decides a b) ((λ h. sym ((bytes_eq-Decides b a).0 h)), (λ e. (bytes_eq-Decides b a).1 (sym e)))
 
 -- a name has a number exactly where a value has it
 named_again : (base : Base) (flags : Bool) (vs : List ResolvedValue) (name : Name)
@@ -42,25 +36,6 @@ named_more (w ∷ vs) v name = by (bytes_eq name w.0) (named_more vs v name)
     by true h = refl
     by false h = h
 
--- a name that had no number is noted
-noted_first : (name other : Name) (old : Name → Option ℤ) (x : ℤ) → old name ≡ None → cond (bytes_eq name other) (Some x) (old other) ≡ option_or (old other) (cond (bytes_eq other name) (Some x) None)
-noted_first name other old x none = rw (bytes_eq-sym other name) (by (bytes_eq name other) refl (old other) refl)
-  where
-    by : (b : Bool) → bytes_eq name other ≡ b → (o : Option ℤ) → old other ≡ o → cond b (Some x) o ≡ option_or o (cond b (Some x) None)
-    by true e o is = rw (sym is ∙ sym (ap old ((bytes_eq-Decides name other).0 e)) ∙ none) refl
-    by false e None is = refl
-    by false e (Some y) is = refl
-
--- a name that had a number keeps it
-noted_again : (name other : Name) (old : Name → Option ℤ) (x y : ℤ) → old name ≡ Some x
-    → cond (bytes_eq name other) (Some x) (cond (bytes_eq name other) (Some y) (old other)) ≡ option_or (old other) (cond (bytes_eq other name) (Some y) None)
-noted_again name other old x y had = rw (bytes_eq-sym other name) (by (bytes_eq name other) refl (old other) refl)
-  where
-    by : (b : Bool) → bytes_eq name other ≡ b → (o : Option ℤ) → old other ≡ o → cond b (Some x) (cond b (Some y) o) ≡ option_or o (cond b (Some y) None)
-    by true e o is = rw (sym is ∙ sym (ap old ((bytes_eq-Decides name other).0 e)) ∙ had) refl
-    by false e None is = refl
-    by false e (Some z) is = refl
-
 pub loop-resolved-preserved : goal.loop-resolved-preserved
 unfolding number_named
 loop-resolved-preserved c =
@@ -70,30 +45,20 @@ loop-resolved-preserved c =
     let values = c.args.values.now in
     let i = c.loop-resolved.resolved-index in
     let old = c.loop-resolved.numbers in
-    let number = c.value_number.result in
-    let first : c.in_ok-first.first ≡ number_of old name = grind rules in
+    let number = c.value_number-number.result in
     record {
       repeats =
-          let again : c.is_some.result ≡ list_any (bytes_eq name) (map name_of_value (take i values)) =
-          grind (arith, rules, first, c.loop-resolved.invariant.numbers name, named_again c.args.base c.args.flags (take i values) name) in
+          let again : c.in_ok-note_number.field-0 ≡ list_any (bytes_eq name) (map name_of_value (take i values)) =
+          grind (arith, rules, c.loop-resolved.invariant.numbers name, named_again c.args.base c.args.flags (take i values) name) in
           grind (arith, common_steps, again, c.loop-resolved.invariant.repeats);
       numbers = λ other.
+          let more : map value (take (i + 1) values) ≡ map value (take i values) ++ value r ∷ [] = grind (arith, common_steps) in
+          let same : (value r).1 ≡ number = grind rules in
           let fits : FitsSigned w128 number = search rules in
-          let noted : number_of c.insert.new.self other ≡ cond (bytes_eq name other) (Some number) (number_of old other) =
-          grind (arith, rules, c.in_ok-first.ensures.updates.0 (record { ref_ptr = (0, 0); now = other }), to_z-of_z w128 number fits) in
-          let longer : number_named (map value (take (i + 1) values)) other ≡ option_or (number_of old other) (cond (bytes_eq other name) (Some number) None) =
-          (let more : map value (take (i + 1) values) ≡ map value (take i values) ++ value r ∷ [] = grind (arith, common_steps) in
-          let e : (value r).1 ≡ number = grind rules in
-          ap (λ vs. number_named vs other) more ∙ named_more (map value (take i values)) (value r) other
-          ∙ ap (λ o. option_or o (cond (bytes_eq other name) (Some (value r).1) None)) (sym (c.loop-resolved.invariant.numbers other))
-          ∙ ap (λ n. option_or (number_of old other) (cond (bytes_eq other name) (Some n) None)) e) in
-          elim c.match-first.branch [
-            | in-Some+in_ok-insert w ↦
-                let x = w.in-Some.first in
-                let fits : FitsSigned w128 x = search rules in
-                let kept : number_of w.insert-in-Some.new.self other ≡ cond (bytes_eq name other) (Some x) (number_of c.insert.new.self other) =
-                grind (arith, rules, w.in_ok-insert.ensures.updates.0 (record { ref_ptr = (0, 0); now = other }), to_z-of_z w128 x fits) in
-                ap (λ m. number_of m other) w.numbers-is ∙ kept ∙ ap (cond (bytes_eq name other) (Some x)) noted ∙ noted_again name other (number_of old) x number (sym first ∙ w.in-Some.is) ∙ sym longer
-            | in_default w ↦ ap (λ m. number_of m other) w.numbers-is ∙ noted ∙ noted_first name other (number_of old) number (sym first ∙ grind rules) ∙ sym longer
-          ];
+          let noted : number_of c.note_number.new.numbers other ≡ option_or (number_of old other) (cond (bytes_eq other name) (Some number) None) =
+          grind (arith, rules, c.in_ok-note_number.ensures.numbers other, to_z-of_z w128 number fits) in
+          noted
+          ∙ ap (λ o. option_or o (cond (bytes_eq other name) (Some number) None)) (c.loop-resolved.invariant.numbers other)
+          ∙ ap (λ n. option_or (number_named (map value (take i values)) other) (cond (bytes_eq other name) (Some n) None)) (sym same)
+          ∙ sym (ap (λ vs. number_named vs other) more ∙ named_more (map value (take i values)) (value r) other);
     }

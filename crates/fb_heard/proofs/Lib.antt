@@ -1,0 +1,1 @@
+-- Lemmas are below the module that they serve: proofs/heard/ has those of src/heard.rt.
