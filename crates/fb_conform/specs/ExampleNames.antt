@@ -1,11 +1,17 @@
--- Names that are moved, and names that are kept: rows worked by hand.
+-- Names that are moved, names that are kept, and JSON texts that name what is kept: rows worked by hand.
 use Rattle.std.proofs.Common.{◌≡◌, ℕ, zero, suc, Bool, true, false, cond, List, [], ◌∷◌, None, Some, option_map}
-use Rattle.std.proofs.Common.{bytes_eq, refl, subst, arith}
+use Rattle.std.proofs.Common.{bytes_eq, pos, refl, subst, arith}
 use Rattle.std.proofs.lemmas.Slice.Eq.{bytes_eq-Decides}
+use Rattle.serde_json.specs.Data.{Data, unsigned, number, object, no_members, member}
+use Rattle.fb_schema.specs.declared.kinds.Kind.TheVariants.{Table}
+use Rattle.fb_schema.specs.declared.kinds.Shape.TheVariants.{One}
 use Rattle.fb_schema.specs.Schema.{Name, DeclaredField, table_body, body_at}
 use Rattle.fb_layout.specs.Laid.{LaidSchema}
+use Rattle.fb_value.specs.Datum.{Datum, a_number, a_table, no_entries, present_entry}
+use Rattle.fb_json.specs.Meant.{names_known}
 use Rattle.fb_conform.specs.declared.names.MovedName.{MovedName}
 use Rattle.fb_conform.specs.Names.{slot_named, KeepsNames, IsMoved}
+use Rattle.fb_conform.specs.NamesStay.{NamesStay}
 use Rattle.fb_conform.specs.ExampleSchemas.{id, int_field, byte_field, one_table, with_union, with_struct, called}
 
 -- a field of another name
@@ -95,3 +101,21 @@ renamed_row zero u k j name twins old new =
     let same : u ≡ 0 = cc in
     same_slot name k j old (subst (λ (w : ℕ). slot_named (body_at vm.schema w) name ≡ Some j) same new)
 renamed_row (suc t) u k j name twins old new = let none : None ≡ Some u = twins in absurd cc
+
+-- ---- JSON texts of a schema in which h was renamed
+
+abbrev json_of : ℕ → ℕ → Data
+json_of letter n = object (member (letter ∷ []) (number (unsigned n)) no_members)
+
+abbrev hm_value : ℕ → ℕ → Datum
+hm_value h m = a_table 0 (present_entry (a_number (pos h)) (present_entry (a_number (pos m)) no_entries))
+
+-- {"m": 5} names nothing that is renamed
+pub stays_row : NamesStay hm vm (json_of 0x6d 5) (One (Table (id 0))) (hm_value 0 5)
+unfolding names_known
+stays_row = (refl, (tt, (tt, tt)))
+
+-- {"h": 30} does
+pub gone_row : NamesStay hm vm (json_of 0x68 30) (One (Table (id 0))) (hm_value 30 0) → ⊥
+unfolding names_known
+gone_row stays = let bad : false ≡ true = stays.0 in cc
