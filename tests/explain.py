@@ -240,28 +240,23 @@ HP = "table U {\n  hp:int;\n  mp:int;\n}\nroot_type U;\n"
 PAIR = "struct P { x:int; y:int; }\ntable U { p:P; }\nroot_type U;\n"
 MEMBERS = "table A { a:int; }\ntable B { b:int; }\nunion V { A, B }\ntable U { v:V; }\nroot_type U;\n"
 BY_NAME = "to every program that reads by name"
+OLD_BUFFERS = "buffers of the old schema show the values of "
 
 # An old schema text, what of it changed, and the fault and the sentences of `conform --names`; none where it conforms.
 NAMES = [
     ("a field before others", HP, "  hp:int;\n", "  shield:int;\n  hp:int;\n", "103 NameMoved in type 0 slot 0",
-     ["U.hp was field 0 (old.fbs:2), is field 1 (new.fbs:3): buffers of the old schema show the values of hp as shield, "
-      + BY_NAME,
-      "U.mp was field 1 (old.fbs:3), is field 2 (new.fbs:4): buffers of the old schema show the values of mp as hp, "
-      + BY_NAME]),
-    ("fields that changed places", HP, "  hp:int;\n  mp:int;\n", "  mp:int;\n  hp:int;\n", "103 NameMoved in type 0 slot 0",
-     ["U.hp was field 0 (old.fbs:2), is field 1 (new.fbs:3): buffers of the old schema show the values of hp as mp, "
-      + BY_NAME,
-      "U.mp was field 1 (old.fbs:3), is field 0 (new.fbs:2): buffers of the old schema show the values of mp as hp, "
-      + BY_NAME]),
+     ["U.hp was field 0 (old.fbs:2), is field 1 (new.fbs:3): " + OLD_BUFFERS + "hp as shield, " + BY_NAME,
+      "U.mp was field 1 (old.fbs:3), is field 2 (new.fbs:4): " + OLD_BUFFERS + "mp as hp, " + BY_NAME]),
+    ("fields that changed places", HP, "  hp:int;\n  mp:int;\n", "  mp:int;\n  hp:int;\n",
+     "103 NameMoved in type 0 slot 0",
+     ["U.hp was field 0 (old.fbs:2), is field 1 (new.fbs:3): " + OLD_BUFFERS + "hp as mp, " + BY_NAME,
+      "U.mp was field 1 (old.fbs:3), is field 0 (new.fbs:2): " + OLD_BUFFERS + "mp as hp, " + BY_NAME]),
     ("the first field removed, and one added", HP, "  hp:int;\n  mp:int;\n", "  mp:int;\n  shield:int;\n",
      "103 NameMoved in type 0 slot 1",
-     ["U.mp was field 1 (old.fbs:3), is field 0 (new.fbs:2): buffers of the old schema show the values of mp as shield, "
-      + BY_NAME]),
+     ["U.mp was field 1 (old.fbs:3), is field 0 (new.fbs:2): " + OLD_BUFFERS + "mp as shield, " + BY_NAME]),
     ("a struct's fields that changed places", PAIR, "x:int; y:int;", "y:int; x:int;", "103 NameMoved in type 0 slot 0",
-     ["P.x was field 0 (old.fbs:1), is field 1 (new.fbs:1): buffers of the old schema show the values of x as y, "
-      + BY_NAME,
-      "P.y was field 1 (old.fbs:1), is field 0 (new.fbs:1): buffers of the old schema show the values of y as x, "
-      + BY_NAME]),
+     ["P.x was field 0 (old.fbs:1), is field 1 (new.fbs:1): " + OLD_BUFFERS + "x as y, " + BY_NAME,
+      "P.y was field 1 (old.fbs:1), is field 0 (new.fbs:1): " + OLD_BUFFERS + "y as x, " + BY_NAME]),
     ("members that changed names", MEMBERS, "{ A, B }", "{ B:A, A:B }", "103 NameMoved in type 2 slot 1",
      ["V.A was member 1, is member 2: buffers of the old schema show A as B",
       "V.B was member 2, is member 1: buffers of the old schema show B as A"]),
@@ -270,8 +265,8 @@ NAMES = [
      ["U.mp was field 1 (old.fbs:3), is field 2 (new.fbs:4): programs no longer see the values that buffers of the old "
       "schema have there"]),
     ("a breach comes first", HP, "  hp:int;\n", "  shield:long;\n  hp:int;\n", "96 FieldTypeChanged in type 0 slot 0",
-     ["U.shield was inserted (new.fbs:2): later fields lose their places; new fields go behind the others, or each field "
-      "has an (id: ..)"]),
+     ["U.shield was inserted (new.fbs:2): later fields lose their places; new fields go behind the others, or each "
+      "field has an (id: ..)"]),
     ("a field that is renamed in place", HP, "hp:int", "health:int", None, []),
     ("a struct's field that is renamed in place", PAIR, "x:int", "left:int", None, []),
     ("a member that is renamed in place", MEMBERS, "{ A, B }", "{ First:A, B }", None, []),
@@ -450,9 +445,9 @@ def changes(tests):
                  err=lines("91 IdentifierChanged", *SEVERAL_SENTENCES))
     deprecated = HP.replace("mp:int;", "mp:int (deprecated);")
     again = HP.replace("  mp:int;\n", "  was_mp:int (deprecated);\n  mp:int;\n")
-    rows = [*NAMES, ("the name of a field that was deprecated", deprecated, deprecated, again, "103 NameMoved in type 0 slot 1",
-                     ["U.mp was field 1 (old.fbs:3), is field 2 (new.fbs:4): the name of a deprecated field stands for "
-                      "another one"])]
+    taken = "U.mp was field 1 (old.fbs:3), is field 2 (new.fbs:4): the name of a deprecated field stands for another one"
+    rows = [*NAMES, ("the name of a field that was deprecated", deprecated, deprecated, again,
+                     "103 NameMoved in type 0 slot 1", [taken])]
     for name, old, was, now, fault, sentences in rows:
         write("old.fbs", old.encode())
         write("new.fbs", old.replace(was, now).encode())
@@ -464,8 +459,8 @@ def changes(tests):
     write("new.fbs", moved.encode())
     want = lines(
         *wrap(
-            "warning: Monster.big was field 8 (old.fbs:14), is field 10 (new.fbs:16): buffers of the old schema show the "
-            "values of big as more, to every program that reads by name"
+            "warning: Monster.big was field 8 (old.fbs:14), is field 10 (new.fbs:16): "
+            f"{OLD_BUFFERS}big as more, {BY_NAME}"
         )
     )
     tests.expect("a name that stands for another field", ["conform", "--explain", "old.fbs", "new.fbs"], 0,

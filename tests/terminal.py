@@ -21,14 +21,17 @@ EXPLAINED = LINE + PLACE + SENTENCE + EXCERPT + CARET + b"^\n"
 COLOURED = LINE + BOLD + PLACE + PLAIN + SENTENCE + EXCERPT + CARET + RED + b"^" + PLAIN + b"\n"
 # 60 columns: the sentence goes on in a second line.
 NARROW = (
-    LINE + PLACE + b": the default 300 of field 'hp'\n    doesn't fit the type ubyte: 0 to 255\n" + EXCERPT + CARET + b"^\n"
+    LINE + PLACE + b": the default 300 of field 'hp'\n    doesn't fit the type ubyte: 0 to 255\n"
+    + EXCERPT + CARET + b"^\n"
 )
 OLD = b"table U { hp:int; mp:int; }\nroot_type U;\n"
 MOVED = b"table U { shield:int; hp:int; mp:int; }\nroot_type U;\n"
 WARNINGS = (
-    b"warning: U.hp was field 0 (old.fbs:1), is field 1 (moved.fbs:1): buffers of the old schema show the values of hp as\n"
+    b"warning: U.hp was field 0 (old.fbs:1), is field 1 (moved.fbs:1): "
+    b"buffers of the old schema show the values of hp as\n"
     b"    shield, to every program that reads by name\n"
-    b"warning: U.mp was field 1 (old.fbs:1), is field 2 (moved.fbs:1): buffers of the old schema show the values of mp as\n"
+    b"warning: U.mp was field 1 (old.fbs:1), is field 2 (moved.fbs:1): "
+    b"buffers of the old schema show the values of mp as\n"
     b"    hp, to every program that reads by name\n"
 )
 

@@ -61,7 +61,8 @@ def sum_of(crates, name):
     names = [*below(crates, name), name]
     version = subprocess.run(["rt", "version"], capture_output=True, text=True, check=True).stdout
     total = hashlib.sha256(repr((version, [crates[it][0] for it in names])).encode())
-    for at, folders, files in (found for it in names for part in PARTS for found in os.walk(f"{ROOT}/crates/{it}/{part}")):
+    tops = [f"{ROOT}/crates/{it}/{part}" for it in names for part in PARTS]
+    for at, folders, files in (found for top in tops for found in os.walk(top)):
         folders.sort()
         for file in sorted(files):
             with open(f"{at}/{file}", "rb") as it:
@@ -114,7 +115,7 @@ def prove(room, count):
 
 
 def over_gate(crates, name, verb, top=ROOT):
-    """How rattle is called on a crate over the libraries that rt ci left, which hold their statements, but no proofs."""
+    """How rattle is called on a crate over the libraries that rt ci left, which hold statements without proofs."""
     kit = os.path.dirname(subprocess.run(["rt", "doc"], capture_output=True, text=True, check=True).stdout.strip())
     # What a crate uses without listing it comes first.
     listed = dict.fromkeys(["std", *crates[name][0].partition(":")[2].split()])
@@ -131,7 +132,8 @@ def over_gate(crates, name, verb, top=ROOT):
 def build_over_gate(crates, name, top=ROOT):
     """Builds a library for C with the compiler alone."""
     kit, words = over_gate(crates, name, "build", top)
-    words += ["--crate-type", "staticlib", "--links", f"{name}=", "--toolchain", f"{kit}/toolchain", "--backend", "llvm"]
+    words += ["--crate-type", "staticlib", "--links", f"{name}="]
+    words += ["--toolchain", f"{kit}/toolchain", "--backend", "llvm"]
     words += ["--jobs", str(min(jobs_here(), MOST_JOBS_OF_A_CRATE)), "-o", f"out/lib{name}.a"]
     os.makedirs(f"{top}/crates/{name}/out", exist_ok=True)
     return subprocess.run(words, cwd=f"{top}/crates/{name}", check=False).returncode

@@ -1,6 +1,7 @@
 -- What the matches of a command line ask for.
 use Rattle.std.specs.Prelude.{◌≡◌, ◌==◌, ◌&&◌, ◌||◌, ◌≤◌, Bool, true, false, not, List, [], ◌∷◌, Option, Some, None}
-use Rattle.std.specs.Prelude.{codes, String, string_bytes, length, map, option_map, take, unwrap_or, is_some, nat_lt, if◌then◌else◌}
+use Rattle.std.specs.Prelude.{codes, String, string_bytes, length, map, option_map, take, unwrap_or, is_some}
+use Rattle.std.specs.Prelude.{nat_lt, if◌then◌else◌}
 use Rattle.std.specs.Borrow.{Bor}
 use Rattle.std.specs.Option.{option_map_or}
 use Rattle.std.specs.Str.{bytes_eq}
