@@ -133,6 +133,43 @@ def unsupported(tests):
     grows(tests, "floats", make, 2000, [tests.program, "check", "--explain", "s.fbs"], 1)
 
 
+def many(count, line):
+    return "".join(line.format(k) for k in range(count))
+
+
+# Schema texts that are refused: what there is much of, a text, and how much at first.
+SCHEMAS = (
+    ("types before one that isn't there", lambda n: many(n, "table Row{0} {{ a:int; }}\n") + "table T { a:Rwo1; }\nroot_type T;",
+     4000),
+    ("ids before a gap", lambda n: "table T {\n" + many(n, "  f{0}:ubyte (id: {0});\n") + f"  g:int (id: {n + 1});\n}}\n"
+     "root_type T;", 4000),
+    ("values before a number twice", lambda n: "enum E:ulong {\n" + many(n, "  V{0},\n") + "  W = 0 }\ntable T { e:E; }\n"
+     "root_type T;", 4000),
+    ("structs before one in itself", lambda n: many(n, "struct S{0} {{ a:int; }}\n") + "struct S { s:S; }\ntable T { s:S; }\n"
+     "root_type T;", 4000),
+)
+
+
+def schemas(tests):
+    """`check --explain` of a schema that is refused at its end."""
+    for what, text_of, count in SCHEMAS:
+        def make(size, text_of=text_of):
+            write("s.fbs", text_of(size).encode())
+
+        grows(tests, what, make, count, [tests.program, "check", "--explain", "s.fbs"], 1)
+
+
+def json_texts(tests):
+    """`binary --explain` of a text with many members, of which the last is unknown, and of one that isn't JSON there."""
+    words = [tests.program, "binary", "--explain", "s.fbs", "v.json", "out.bin"]
+    for what, last in (("members before an unknown one", '"f": 1 }'), ("members before what isn't JSON", '"f": 01 }')):
+        def make(size, last=last):
+            write("s.fbs", ("table T {\n" + many(size, "  f{0}:int;\n") + "}\nroot_type T;\n").encode())
+            write("v.json", ("{\n" + many(size, '  "f{0}": 1,\n') + last).encode())
+
+        grows(tests, what, make, 2000, words, 1, timed=5)
+
+
 # Names that collide: what they are of, a schema of such names, half of how many there are, and the path that their
 # hash begins with, if it does.
 CRAFTED = (
@@ -164,4 +201,4 @@ def crafted(tests):
 
 
 if __name__ == "__main__":
-    sys.exit(Tests("costs", program_of(sys.argv, __doc__)).main((comparisons, unsupported, crafted)))
+    sys.exit(Tests("costs", program_of(sys.argv, __doc__)).main((comparisons, unsupported, schemas, json_texts, crafted)))

@@ -57,6 +57,24 @@ SCHEMAS = [
     ("an array of a fixed size", "struct S { a:[int¦:3]; }", "5 Unexpected", "fixed-size arrays aren't supported"),
     ("a default that is a text", 'table T { a:string = ¦"x"; }', "5 Unexpected",
      "default values of strings aren't supported"),
+    ("a bool's default in quotes", 'table T { c:bool = ¦"yes"; }', "5 Unexpected",
+     "the default of a bool is true or false, without quotes"),
+    ("a number's default in quotes", 'table T { a:int = ¦"3"; }', "5 Unexpected",
+     "the default of a number is written without quotes"),
+    ("flags' default in quotes", 'enum F:ubyte (bit_flags) { A, B }\ntable T { f:F = ¦"A B"; }', "5 Unexpected",
+     "an enum's default is a value's name without quotes, and that of several flags the sum of their numbers"),
+    ("a vector as other languages write it", "table T { a:float32¦[]; }", "5 Unexpected",
+     "'[' isn't expected here: a vector of 'float32' is written [float32]"),
+    ("a string with a question mark", "table T { a:string¦?; }", "2 BadByte",
+     "'?' may not be here: such a field is optional already"),
+    ("a vector with a question mark", "table T { a:[int]¦?; }", "2 BadByte",
+     "'?' may not be here: such a field is optional already"),
+    ("a number with a question mark", "table T { a:int¦?; }", "2 BadByte",
+     "'?' may not be here: a number is optional with '= null' behind its type"),
+    ("a name with a question mark", "table T { a:Color¦?; }", "2 BadByte",
+     "'?' may not be here: a table's field is optional already, and an enum with '= null' behind its type"),
+    ("a blank that can't be seen", "table T {¦\xa0a:int; }", "2 BadByte",
+     "'\\u{a0}' may not be here: no word, number or sign of the language begins with it"),
     ("a default that is a vector", "table T { a:[int] = ¦[]; }", "5 Unexpected",
      "default values of vectors aren't supported"),
     ("a fraction", "table T { a:int = 1¦.5; }", "5 Unexpected", "numbers with a fraction aren't supported"),
@@ -70,6 +88,9 @@ SCHEMAS = [
      "the name 'A' is taken: it is declared before, in line 3"),
     ("a type twice", "table A { a:int; }\nnamespace n;\ntable A { a:int; }\ntable ¦A { b:int; }\nroot_type A;",
      "10 DuplicateName", "the name 'A' is taken: it is declared before, in line 3"),
+    ("a type twice in a namespace that is opened again", "namespace a;\ntable A { a:int; }\nnamespace b;\n"
+     "table A { a:int; }\nnamespace a;\ntable ¦A { b:int; }\nroot_type A;", "10 DuplicateName",
+     "the name 'A' is taken: it is declared before, in line 2"),
     ("the name of a union's type", "table A { a:int; }\nunion U { A }\ntable T { u:U; ¦u_type:int; }\nroot_type T;",
      "10 DuplicateName", "the name 'u_type' is taken: it is declared before (a union field 'x' takes 'x_type' too)"),
     ("a table called int", "table ¦int { a:int; }\nroot_type int;", "10 DuplicateName",
@@ -80,18 +101,51 @@ SCHEMAS = [
      "no type is called 'Mosnter'; did you mean 'Monster'?"),
     ("a type in other letters", "table Monster { a:int; }\ntable T { m:¦monster; }\nroot_type T;", "11 UnknownType",
      "no type is called 'monster'; did you mean 'Monster'?"),
+    ("a type of another namespace", "namespace a.b;\ntable Weapon { d:int; }\nnamespace c;\ntable T { w:¦Weapon; }\n"
+     "root_type T;", "11 UnknownType", "no type is called 'Weapon'; did you mean 'a.b.Weapon'?"),
+    ("a mistyped namespace", "namespace a.b;\ntable Weapon { d:int; }\nnamespace c;\ntable T { w:¦a.d.Weapon; }\n"
+     "root_type T;", "11 UnknownType", "no type is called 'a.d.Weapon'; did you mean 'a.b.Weapon'?"),
+    ("a mistyped type behind its namespace", "namespace a.b;\ntable Weapon { d:int; }\nnamespace a;\n"
+     "table T { w:¦b.Waepon; }\nroot_type T;", "11 UnknownType",
+     "no type is called 'b.Waepon'; did you mean 'a.b.Weapon'?"),
+    ("a mistyped type of an outer namespace", "namespace a;\ntable Weapon { d:int; }\nnamespace a.b;\n"
+     "table T { w:¦Waepon; }\nroot_type T;", "11 UnknownType", "no type is called 'Waepon'; did you mean 'Weapon'?"),
+    ("a mistyped root", "namespace a;\ntable Weapon { d:int; }\nnamespace b;\nroot_type ¦Weapon;", "11 UnknownType",
+     "no type is called 'Weapon'; did you mean 'a.Weapon'?"),
+    ("String", "table T { a:¦String; }\nroot_type T;", "11 UnknownType",
+     "no type is called 'String'; did you mean 'string'?"),
+    ("a mistyped string", "table T { a:¦strng; }\nroot_type T;", "11 UnknownType",
+     "no type is called 'strng'; did you mean 'string'?"),
+    ("int64_t", "table T { a:¦int64_t; }\nroot_type T;", "11 UnknownType",
+     "no type is called 'int64_t'; did you mean 'int64'?"),
+    ("boolean", "table T { a:[¦boolean]; }\nroot_type T;", "11 UnknownType",
+     "no type is called 'boolean'; did you mean 'bool'?"),
+    ("u8", "struct S { a:¦u8; }\ntable T { s:S; }\nroot_type T;", "11 UnknownType",
+     "no type is called 'u8'; did you mean 'uint8'?"),
+    ("names of one letter", "table W { a:int; }\ntable T { x:¦X; }\nroot_type T;", "11 UnknownType",
+     "no type is called 'X'; the text declares 'W' and 'T'"),
+    ("a type like none of many", "".join(f"table Row{k} {{ a:int; }}\n" for k in range(6)) + "table T { m:¦Unheard; }\n"
+     "root_type T;", "11 UnknownType", "no type is called 'Unheard'"),
     ("a type like no other", "table T { m:¦Unheard; }\nroot_type T;", "11 UnknownType",
-     "no type is called 'Unheard'"),
+     "no type is called 'Unheard'; the text declares 'T'"),
     ("a type behind characters of two and three bytes", "/* ä€ */ table T { m:¦Unheard; } // ä\nroot_type T;",
-     "11 UnknownType", "no type is called 'Unheard'"),
+     "11 UnknownType", "no type is called 'Unheard'; the text declares 'T'"),
     ("a type behind a byte order mark", "\ufefftable T { m:¦Unheard; }\nroot_type T;", "11 UnknownType",
-     "no type is called 'Unheard'"),
+     "no type is called 'Unheard'; the text declares 'T'"),
     ("a line that ends with CR LF", "table T {\r\n  m:¦Unheard;\r\n}\r\nroot_type T;\r\n", "11 UnknownType",
-     "no type is called 'Unheard'"),
+     "no type is called 'Unheard'; the text declares 'T'"),
     ("a default out of range", "table Monster {\n  hp:ubyte = ¦300;\n}\nroot_type Monster;", "12 BadDefault",
      "the default 300 of field 'hp' doesn't fit the type ubyte: 0 to 255"),
     ("a default of a bool", "table T { b:bool = ¦2; }\nroot_type T;", "12 BadDefault",
      "the default 2 of field 'b' doesn't fit the type bool: true, false, 0 or 1"),
+    ("a word as a number's default", "table T { a:int = ¦true; }\nroot_type T;", "12 BadDefault",
+     "the default true of field 'a' isn't a number: the type int has -2147483648 to 2147483647"),
+    ("a word as a bool's default", "table T { b:bool = ¦yes; }\nroot_type T;", "12 BadDefault",
+     "the default yes of field 'b' doesn't fit the type bool: true, false, 0 or 1"),
+    ("a value's full name as a default", COLORS + "table T { c:Color = ¦Color.Gren; }\nroot_type T;", "12 BadDefault",
+     "the default Color.Gren of field 'c': its type is 'Color', which has no such value; did you mean 'Green'?"),
+    ("a value like no other as a default", COLORS + "table T { c:Color = ¦Purple; }\nroot_type T;", "12 BadDefault",
+     "the default Purple of field 'c': its type is 'Color', which has no such value; it has 'Red', 'Green' and 'Blue'"),
     ("a mistyped value as a default", COLORS + "table T { c:Color = ¦Gren; }\nroot_type T;", "12 BadDefault",
      "the default Gren of field 'c': its type is 'Color', which has no such value; did you mean 'Green'?"),
     ("a default in a struct", "struct S { a:int = ¦3; }\ntable T { s:S; }\nroot_type T;", "12 BadDefault",
@@ -100,10 +154,15 @@ SCHEMAS = [
      "the default 3 of field 'a': it is a vector, and only numbers and enums have a default"),
     ("a default of a string", "table T { a:string = ¦3; }\nroot_type T;", "12 BadDefault",
      "the default 3 of field 'a': its type is 'string', and only numbers and enums have a default"),
-    ("an id that is missing", "table ¦T { a:int (id: 0); b:int; }\nroot_type T;", "13 BadIds",
-     "the ids of table 'T' must be 0, 1, 2 and so on, one on each field; a union's is one more than its type's"),
     ("a struct that is declared later", "struct A { b:¦B; }\nstruct B { x:int; }\ntable T { a:A; }\nroot_type T;",
-     "14 IncompleteStruct", "the struct 'B' must be declared before the struct that has it"),
+     "14 IncompleteStruct", "the struct 'B' is declared behind the struct that has it: move it up"),
+    ("a struct in itself", "struct S { a:int; s:¦S; }\ntable T { s:S; }\nroot_type T;", "14 IncompleteStruct",
+     "the struct 'S' can't have itself as a field, since it would have no end: use a table"),
+    ("structs in one another", "struct A { b:¦B; }\nstruct B { x:int; c:C; }\nstruct C { a:A; }\ntable T { a:A; }\nroot_type T;",
+     "14 IncompleteStruct", "the struct 'B' has this struct in turn, and neither would have an end: use a table"),
+    ("a struct of another namespace that has its name", "namespace a;\nstruct S { s:¦b.S; }\nnamespace b;\n"
+     "struct S { x:int; }\ntable T { s:S; }\nroot_type T;", "14 IncompleteStruct",
+     "the struct 'b.S' is declared behind the struct that has it: move it up"),
     ("a struct without fields", "struct ¦S { }\ntable T { a:int; }\nroot_type T;", "15 EmptyStruct",
      "the struct 'S' has no field"),
     ("a required number", "table T { a:int (¦required); }\nroot_type T;", "16 BadAttribute",
@@ -112,11 +171,23 @@ SCHEMAS = [
     ("an attribute that isn't declared", "table T { a:int (¦priority: 1); }\nroot_type T;", "17 UnknownAttribute",
      "the attribute 'priority' isn't declared: add 'attribute NAME;' with its name, or remove it"),
     ("a vector of unions", "table A { a:int; }\nunion U { A }\ntable T { u:[¦U]; }\nroot_type T;", "18 Unsupported",
-     "'U' isn't supported here: an enum needs an integer type, and a vector's elements can't be unions"),
+     "'U' is a union, and a vector of unions isn't supported: put the union into a table"),
+    ("an enum over bool", "enum E:¦bool { A }\ntable T { e:E; }\nroot_type T;", "18 Unsupported",
+     "'bool' can't be an enum's type: it is an integer type, as ubyte or int"),
+    ("an enum over a struct", "struct S { a:int; }\nenum E:¦S { A }\ntable T { e:E; }\nroot_type T;", "18 Unsupported",
+     "'S' can't be an enum's type: it is an integer type, as ubyte or int"),
     ("force_align on a field", "table T { a:[ubyte] (¦force_align: 8); }\nroot_type T;", "18 Unsupported",
      "'force_align' on a field isn't supported: it goes on a struct"),
     ("a value out of range", "enum E:byte { A, ¦B = 200 }\ntable T { e:E; }\nroot_type T;", "19 BadEnumValue",
-     "the value 'B' is outside the enum's type, or its number is another value's"),
+     "the value 'B' is 200, and byte has -128 to 127"),
+    ("a value behind the last of its type", "enum E:ubyte { A = 255, ¦B }\ntable T { e:E; }\nroot_type T;",
+     "19 BadEnumValue", "the value 'B' is 256, one more than the one before, and ubyte has 0 to 255"),
+    ("a number twice", "enum E:byte { A, B, ¦C = 0 }\ntable T { e:E; }\nroot_type T;", "19 BadEnumValue",
+     "the value 'C' has the number 0, which 'A' has already"),
+    ("a flag that is written as its number", "enum F:ubyte (bit_flags) { A, ¦D = 8 }\ntable T { f:F; }\nroot_type T;",
+     "19 BadEnumValue", "with bit_flags the value 'D' is bit 8, and ubyte has bits 0 to 7"),
+    ("a flag twice", "enum F:ubyte (bit_flags) { A, B, ¦C = 1 }\ntable T { f:F; }\nroot_type T;", "19 BadEnumValue",
+     "with bit_flags the value 'C' is bit 1, as 'B' is already"),
     ("a union of numbers", "union U { ¦int }\ntable T { u:U; }\nroot_type T;", "20 BadMember",
      "'int' can't be a member of a union: its members are tables, 255 at most"),
     ("a text in a struct", "struct S { name:¦string; }\ntable T { s:S; }\nroot_type T;", "20 BadMember",
@@ -129,6 +200,22 @@ SCHEMAS = [
      "the file identifier '\"ORC\"' must have four printable ASCII characters"),
 ]
 
+# Schema texts whose ids are wrong: the first mark is before the table, at which the fault is, the second before the field.
+IDS = [
+    ("an id that is missing", "table ¦T {\n  a:int (id: 0);\n  ¦b:int;\n}\nroot_type T;",
+     "the field 'b' has no id, and others of 'T' have one: give it to each field, from 0 on"),
+    ("an id twice", "table ¦T {\n  a:int (id: 0);\n  b:int (id: 1);\n  ¦c:int (id: 1);\n}\nroot_type T;",
+     "the field 'c' has the id 1, which 'b' has already"),
+    ("a gap between ids", "table ¦T {\n  a:int (id: 0);\n  ¦b:int (id: 3);\n  c:int (id: 1);\n}\nroot_type T;",
+     "the field 'b' has the id 3, and no field has 2: ids go from 0 on without a gap"),
+    ("an id below 0", "table ¦T {\n  ¦a:int (id: -1);\n}\nroot_type T;",
+     "the field 'a' has an id that is no number from 0 on"),
+    ("a union of id 0", "union U { T }\ntable ¦T {\n  ¦u:U (id: 0);\n}\nroot_type T;",
+     "the field 'u' is a union, and its type has the id before its own: so it is 1 at least"),
+    ("a union whose type has another's id", "union U { T }\ntable ¦T {\n  a:int (id: 0);\n  ¦u:U (id: 1);\n}\nroot_type T;",
+     "the field 'u' has for its type the id 0, which 'a' has already"),
+]
+
 # A JSON text that isn't one, and the sentence.
 TEXTS = [
     ("a comma before a bracket", '{\n  "name": "Orc",\n  "hp": 3,\n¦}\n', "a comma may not be before a closing bracket"),
@@ -136,6 +223,49 @@ TEXTS = [
     ("a name without quotes", "{ ¦name: 3 }", "a name is written in double quotes, and so is a text"),
     ("a text in single quotes", "{ \"name\": ¦'Orc' }", "a text is written in double quotes"),
     ("a text that ends too early", '{ "name": "Orc",¦', "the text ends here, in the middle of a value"),
+    ("a text without a closing quote", '{ "name": "Orc¦', "this text has no closing quote"),
+    ("a file without a value", "  \n¦", "the text has no value"),
+    ("a line feed in a text", '{ "name": "Orc¦\n" }',
+     "the line ends inside a text: close it with a quote, or write the line's end as \\n"),
+    ("a tab in a text", '{ "name": "O¦\trc" }', "a tab in a text is written \\t"),
+    ("a control character in a text", '{ "name": "O¦\x01rc" }',
+     "a control character in a text is written \\u and four hexadecimal digits"),
+    ("an escape of other languages", '{ "name": "O¦\\x41rc" }',
+     "JSON has no escape \\x: write \\u and four hexadecimal digits"),
+    ("an escape of a single quote", '{ "name": "O¦\\\'rc" }', "JSON has no escape \\': a single quote needs none"),
+    ("an escape of nothing", '{ "name": "O¦\\qrc" }', "JSON has no such escape: a backslash itself is written \\\\"),
+    ("an escape of three digits", '{ "name": "O¦\\u041" }',
+     "the escape \\u has four hexadecimal digits behind it"),
+    ("the first half of a pair", '{ "name": "O¦\\ud83drc" }',
+     "half of a pair of escapes is no character: both are needed, as in \\ud83d\\ude00"),
+    ("the second half of a pair", '{ "name": "\\ud83d\\ude00¦\\ude00" }',
+     "half of a pair of escapes is no character: both are needed, as in \\ud83d\\ude00"),
+    ("a comma that is missing", '{\n  "name": "Orc"\n  ¦"hp": 3\n}', "a comma is missing before this"),
+    ("a comma that is missing between elements", '{ "weapons": [{ } ¦{ }] }', "a comma is missing before this"),
+    ("a second value", '{ "name": "Orc" }\n¦{ "name": "Ogre" }', "a JSON text is one value, and this is behind it"),
+    ("a byte order mark", '¦\ufeff{ "name": "Orc" }', "a byte order mark may not be before JSON: save the file without one"),
+    ("a colon that is missing", '{ "name" ¦"Orc" }', "a colon is missing between a name and its value"),
+    ("a value that is missing", '{ "name": ¦, "hp": 3 }', "a value is missing before this"),
+    ("a name that is missing", '{ ¦: 3 }', "a name in double quotes is missing before this"),
+    ("a bracket of another kind", '{ "weapons": [{ }¦} }', "an array is open here, and ']' closes it"),
+    ("a brace of another kind", '{ "hp": 3¦] }', "an object is open here, and '}' closes it"),
+    ("a word with a capital", '{ "ok": ¦True }', "true, false and null are written in small letters"),
+    ("no number", '{ "hp": ¦NaN }', "JSON has no NaN and no Infinity"),
+    ("a text without quotes", '{ "name": ¦Orc }',
+     "a word may only be true, false or null; a text is written in double quotes"),
+    ("a text in quotes of typesetters", '{ "name": ¦\u201cOrc\u201d }', "a text is written in double quotes"),
+    ("a zero too many", '{ "hp": ¦03 }', "a number has no zero before its other digits"),
+    ("a hexadecimal number", '{ "hp": ¦0x1f }', "numbers of JSON are decimal"),
+    ("a plus sign", '{ "hp": ¦+3 }', "a number has no plus sign"),
+    ("a point without a digit behind it", '{ "hp": ¦3. }', "a number has a digit behind its point"),
+    ("a point without a digit before it", '{ "hp": ¦.5 }', "a number has a digit before its point"),
+    ("an exponent without digits", '{ "hp": ¦3e }', "the exponent of a number has digits alone"),
+    ("a number with a letter", '{ "hp": ¦3px }', "this isn't a number as JSON writes it"),
+    ("a number past all floats", '{ "hp": ¦1e999 }', "this number is too large: none of JSON here is above 1.8e308"),
+    ("a blank that can't be seen", '{¦\xa0"name": "Orc" }', "blanks between values are spaces, tabs and line ends alone"),
+    ("a character that can't be seen", '{ "name": ¦\u200b"Orc" }', "this character can't be seen, and may not be here"),
+    ("an equals sign", '{ "name" ¦= "Orc" }', "a colon is missing between a name and its value"),
+    ("a semicolon", '{ "hp": 3¦; }', "this isn't allowed here"),
 ]
 
 # A JSON text under MONSTER's schema, the line's end, the path, and the sentence.
@@ -148,19 +278,42 @@ VALUES = [
      "weapons[1]: a number where an object must be: the field's type is [Weapon]"),
     ("an array for the root", "¦[]", "70 WrongShape in type 5", "an array where the root's object must be"),
     ("a fraction", '{ "name": "Orc", "hp": ¦1.5 }', "71 NotWhole in type 5 slot 1",
-     "hp: 1.5 isn't written as a whole number"),
+     "hp: 1.5 has a fraction, and numbers are whole here"),
+    ("a fraction of zeros", '{ "name": "Orc", "hp": ¦1.0 }', "71 NotWhole in type 5 slot 1",
+     "hp: 1.0 is written with a fraction: write 1"),
+    ("an exponent", '{ "name": "Orc", "hp": ¦1e2 }', "71 NotWhole in type 5 slot 1",
+     "hp: 1e2 is written with an exponent: write all its digits (jq writes large numbers so, and rounds them)"),
+    ("a number that jq wrote", '{ "name": "Orc", "big": ¦1.8446744073709552e+19 }', "71 NotWhole in type 5 slot 8",
+     "big: 1.8446744073709552e+19 is written with an exponent: write all its digits (jq writes large numbers so, and "
+     "rounds them)"),
+    ("a zero with a sign", '{ "name": "Orc", "hp": ¦-0 }', "71 NotWhole in type 5 slot 1",
+     "hp: -0 isn't written as a whole number: write 0"),
+    ("a zero with a sign and a fraction", '{ "name": "Orc", "hp": ¦-0.0 }', "71 NotWhole in type 5 slot 1",
+     "hp: -0.0 is written with a fraction: write 0"),
+    ("a number below those of 64 bits", '{ "name": "Orc", "big": ¦-9223372036854775809 }', "71 NotWhole in type 5 slot 8",
+     "big: -9223372036854775809 is too small for 64 bits: the least number is -9223372036854775808"),
     ("a number out of range", '{\n  "name": "Orc",\n  "weapons": [\n    { "damage": 1 },\n    { "damage": ¦70000 }\n  ]\n}',
      "72 OutOfRange in type 3 slot 0",
      "weapons[1].damage: 70000 isn't in -32768 to 32767, the range of short"),
     ("a number of more than 64 bits", '{ "name": "Orc", "big": ¦18446744073709551616 }', "71 NotWhole in type 5 slot 8",
-     "big: 18446744073709551616 is too large for 64 bits"),
+     "big: 18446744073709551616 is too large for 64 bits: the greatest number is 18446744073709551615"),
     ("a mistyped value", '{ "name": "Orc", "color": ¦"Grean" }', "73 UnknownName in type 5 slot 2",
      "color: no value of enum Color is called 'Grean'; did you mean 'Green'?"),
+    ("a value like no other", '{ "name": "Orc", "color": ¦"Purple" }', "73 UnknownName in type 5 slot 2",
+     "color: no value of enum Color is called 'Purple'; it has 'Red', 'Green' and 'Blue'"),
+    ("a mistyped value behind its enum", '{ "name": "Orc", "color": ¦"Color.Grean" }', "73 UnknownName in type 5 slot 2",
+     "color: no value of enum Color is called 'Color.Grean'; did you mean 'Green'?"),
     ("a mistyped member", '{ "name": "Orc", "equipped_type": ¦"Spel", "equipped": { } }',
      "73 UnknownName in type 5 slot 5", "equipped_type: no member of union Equipment is called 'Spel'; did you mean 'Spell'?"),
-    ("an unknown field", '{ "name": "Orc", "hpp": ¦3 }', "74 UnknownMember in type 5",
+    ("an unknown field", '{ "name": "Orc", ¦"hpp": 3 }', "74 UnknownMember in type 5",
      "Monster has no field called 'hpp'; did you mean 'hp'?"),
-    ("a deprecated field", '{ "name": "Orc", "old": ¦3 }', "74 UnknownMember in type 5",
+    ("an unknown field twice", '{ "name": "Orc", "hpp": 3, "hp": 4, ¦"hpp": 5 }', "74 UnknownMember in type 5",
+     "Monster has no field called 'hpp'; did you mean 'hp'?"),
+    ("an unknown field of few", '{ "name": "Orc", "pos": { "x": 1, ¦"depth": 2 } }', "74 UnknownMember in type 1",
+     "pos: Pos has no field called 'depth'; it has 'x' and 'y'"),
+    ("an unknown field of one letter", '{ "name": "Orc", "pos": { "x": 1, ¦"z": 2 } }', "74 UnknownMember in type 1",
+     "pos: Pos has no field called 'z'; it has 'x' and 'y'"),
+    ("a deprecated field", '{ "name": "Orc", ¦"old": 3 }', "74 UnknownMember in type 5",
      "the field 'old' of Monster is deprecated, and isn't written any more"),
     ("a field of a struct that is missing", '{ "name": "Orc", "pos": ¦{ "x": 1 } }', "75 MissingMember in type 1 slot 1",
      "pos.y: Pos needs the field 'y': a struct has all its fields"),
@@ -174,10 +327,25 @@ VALUES = [
      "hp: a text where a number must be: the field's type is ubyte"),
     ("a union's value without its type", '{ "name": "Orc", "equipped": ¦{ "damage": 3 } }',
      "77 UnionMismatch in type 5 slot 6",
-     "equipped: a union needs both its type and its value: this one has one of them alone"),
+     "equipped: the union has a value, and its type is missing or NONE: add \"equipped_type\"; it is one of 'Weapon' and "
+     "'Spell'"),
     ("a union's type without its value", '¦{ "name": "Orc", "equipped_type": "Weapon" }',
      "77 UnionMismatch in type 5 slot 6",
-     "equipped: a union needs both its type and its value: this one has one of them alone"),
+     "equipped: the union has a type and no value: add \"equipped\""),
+    ("a union's value whose type is NONE", '{ "name": "Orc", "equipped_type": "NONE", "equipped": ¦{ } }',
+     "77 UnionMismatch in type 5 slot 6",
+     "equipped: the union has a value, and its type is missing or NONE: add \"equipped_type\"; it is one of 'Weapon' and "
+     "'Spell'"),
+]
+
+# A JSON text under a schema with flags, and the sentence.
+FLAGS = "enum Moves:ubyte (bit_flags) { Walk, Swim, Fly }\ntable T { moves:Moves; }\nroot_type T;\n"
+FLAG_VALUES = [
+    ("one wrong flag of several", "Walk Swmi Fly", "'Swmi'; did you mean 'Swim'?"),
+    ("a flag like no other", "Walk Crawl", "'Crawl'; it has 'Walk', 'Swim' and 'Fly'"),
+    ("flags with a bar between them", "Fly|Swim", "'Fly|Swim': flags are separated by one space each"),
+    ("flags with a comma between them", "Fly, Swim", "'Fly,': flags are separated by one space each"),
+    ("flags with two spaces between them", "Fly  Swim", "'': flags are separated by one space each"),
 ]
 
 # Changes of MONSTER's schema, the line, and what follows.
@@ -338,7 +506,7 @@ def shown(piece):
     """A piece of a line as it is printed: tabs are four spaces, control characters and bad bytes are escaped."""
     text = piece.decode(errors="surrogateescape").replace("\t", "    ")
     text = re.sub(r"[\ud800-\udfff]", lambda it: f"\\x{ord(it[0]) - 0xdc00:02x}", text)
-    return re.sub(r"[\x00-\x1f\x7f]", lambda it: f"\\u{{{ord(it[0]):x}}}", text)
+    return re.sub(r"[\x00-\x1f\x7f\xa0\u200b\ufeff]", lambda it: f"\\u{{{ord(it[0]):x}}}", text)
 
 
 def excerpt(text, offset):
@@ -351,7 +519,7 @@ def marked(text):
     if isinstance(text, str):
         text = text.encode()
     mark = MARK.encode()
-    return text.replace(mark, b""), text.index(mark)
+    return text.replace(mark, b"", 1), text.index(mark)
 
 
 def lines(*all_lines):
@@ -398,6 +566,15 @@ SIZES = [
 ]
 
 
+def ids(tests):
+    for name, text, sentence in IDS:
+        text, table = marked(text)
+        text, field = marked(text)
+        write("s.fbs", text)
+        want = lines(f"13 BadIds at {table}", *wrap(place("s.fbs", text, field) + sentence), *excerpt(text, field))
+        tests.expect(name, ["check", "--explain", "s.fbs"], 1, err=want)
+
+
 def sizes(tests):
     for name, text, fault, sentence in SIZES:
         text, offset = marked(text)
@@ -429,6 +606,41 @@ def values(tests):
         want = lines(fault, *wrap(place("v.json", text, offset) + sentence), *excerpt(text, offset))
         tests.expect(name, ["binary", "--explain", "s.fbs", "v.json", "out.bin"], 1, err=want)
         tests.tell(f"{name}: no OUT", not os.path.exists("out.bin"))
+
+
+def flags(tests):
+    write("s.fbs", FLAGS.encode())
+    for name, text, sentence in FLAG_VALUES:
+        text = f'{{ "moves": "{text}" }}'.encode()
+        write("v.json", text)
+        want = lines("73 UnknownName in type 1 slot 0",
+                     f"v.json:1:12: moves: no value of enum Moves is called {sentence}", *excerpt(text, 11))
+        tests.expect(name, ["binary", "--explain", "s.fbs", "v.json", "out.bin"], 1, err=want)
+
+
+# What is passed for a schema, and for JSON or a buffer under it; the line, and what is told.
+KINDS = [
+    ("JSON and a schema in the wrong order", ["binary", "v.json", "s.fbs", "out.bin"], "5 Unexpected at 0",
+     "v.json: this looks like JSON: SCHEMA comes first"),
+    ("a buffer and a schema in the wrong order", ["json", "b.bin", "s.fbs"], "2 BadByte at 0",
+     "b.bin: this looks like a buffer: SCHEMA comes first"),
+    ("a buffer for JSON", ["binary", "s.fbs", "b.bin", "out.bin"], "113 BadJson",
+     "b.bin: this looks like a buffer: 'flatc json' makes JSON of it"),
+    ("a schema for JSON", ["binary", "s.fbs", "s.fbs", "out.bin"], "113 BadJson",
+     "s.fbs: this looks like a schema: SCHEMA comes first, then JSON"),
+    ("JSON for a buffer", ["json", "s.fbs", "v.json"], "53 Misaligned at 1634607739",
+     "v.json: this looks like JSON: 'flatc binary' makes a buffer of it"),
+    ("a schema for a buffer", ["check", "s.fbs", "s.fbs"], "54 OutOfBounds at 1818386804",
+     "s.fbs: this looks like a schema: SCHEMA comes first, then BIN"),
+]
+
+
+def kinds(tests):
+    write("s.fbs", b"table T { name:string (required); } root_type T;")
+    write("v.json", b'{"name":"Orc"}')
+    write("b.bin", SOUND)
+    for name, words, line, told in KINDS:
+        tests.expect(name, [words[0], "--explain", *words[1:]], 1, err=lines(line, told))
 
 
 def changes(tests):
@@ -496,9 +708,11 @@ BUFFERS = [
     ("an empty buffer", lambda b: b"", "50 Short at 0", "the buffer's length is 0: too short for the root's offset and "
      "the file identifier", 0),
     ("a root that isn't aligned", lambda b: struct.pack("<I", 13) + b[4:], "53 Misaligned at 13",
-     "the root: what is stored at 13 must be at a multiple of its alignment, and isn't", 13),
+     "the root: bytes 0 to 3 say that it is at 13, which isn't a multiple of 4", 0),
     ("a root past the end", lambda b: struct.pack("<I", 64) + b[4:], "54 OutOfBounds at 64",
-     "the root: what is stored at 64 ends past the buffer, which ends at 28", 64),
+     "the root: bytes 0 to 3 say that it is at 64, and the buffer has 28 bytes", 0),
+    ("a string past the end", lambda b: b[:20] + struct.pack("<I", 9) + b[24:], "54 OutOfBounds at 20",
+     "name: what is stored at 20 ends past the buffer, which ends at 28", 20),
     ("a root that is 0", lambda b: bytes(4) + b[4:], "55 ZeroOffset at 0",
      "the root: the offset at 0 is 0: it must lead on to a table, string or vector", 0),
     ("a vtable before the buffer", lambda b: b[:12] + struct.pack("<i", 64) + b[16:], "56 BadVtable at 12",
@@ -620,7 +834,7 @@ def unnamed(tests):
     write("b.bin", bytes.fromhex("0c000000 08000c00 07000800 08000000 00000003 08000000 04000400 04000000"))
     want = lines(
         "81 NoMemberName in type 3 slot 1",
-        "b.bin: u: the union's code 3 is one that the schema doesn't have; U has 'A' 'B'",
+        "b.bin: u: the union's code 3 is one that the schema doesn't have; U has 'A' and 'B'",
     )
     tests.expect("a union's code without a member", ["json", "--explain", "s.fbs", "b.bin"], 1, err=want)
     rest = "table A { m:M; } table B {} table M { u:U; n:int; } table T { ms:[M]; } root_type T;"
@@ -632,7 +846,7 @@ def unnamed(tests):
     tests.expect("a member that is new", ["binary", "new.fbs", "v.json", "b.bin"], 0)
     want = lines(
         "81 NoMemberName in type 3 slot 1",
-        "b.bin: ms[1].u.m.u: the union's code 3 is one that the schema doesn't have; U has 'A' 'B'",
+        "b.bin: ms[1].u.m.u: the union's code 3 is one that the schema doesn't have; U has 'A' and 'B'",
     )
     tests.expect("the first code without a member", ["json", "--explain", "s.fbs", "b.bin"], 1, err=want)
 
@@ -649,14 +863,22 @@ def files(tests):
     tests.expect("a file that isn't there", [*binary, "s.fbs", "no.json", "o"], 1,
                  err=lines("110 FileRead", "no.json: No such file or directory (os error 2)"))
     tests.expect("a schema that isn't there", ["check", "--explain", "no.fbs"], 1,
-                 err=lines("110 FileRead", "no.fbs: No such file or directory (os error 2)"))
+                 err=lines("110 FileRead", "no.fbs: No such file or directory (os error 2); no other file was read"))
+    tests.expect("a schema of three paths that isn't there", [*binary, "no.fbs", "v.json", "o"], 1,
+                 err=lines("110 FileRead", "no.fbs: No such file or directory (os error 2); no other file was read"))
     os.mkdir("folder")
     tests.expect("a folder", ["check", "--explain", "folder"], 1,
-                 err=lines("110 FileRead", "folder: Is a directory (os error 21)"))
+                 err=lines("110 FileRead", "folder: Is a directory (os error 21); no other file was read"))
     tests.expect("OUT in a folder that isn't there", [*binary, "s.fbs", "v.json", "no/o"], 1,
-                 err=lines("111 FileWrite", "no/o: No such file or directory (os error 2)"))
+                 err=lines("111 FileWrite", "no/o: no file can be made in 'no': No such file or directory (os error 2)"))
+    tests.expect("OUT in a folder of a long name", [*binary, "s.fbs", "v.json", "n" * 40 + "/o"], 1,
+                 err=lines("111 FileWrite", "n" * 40 + "/o: No such file or directory (os error 2)"))
     tests.expect("OUT is an input", [*binary, "s.fbs", "v.json", "v.json"], 1,
-                 err=lines("111 FileWrite", "v.json: it is one of the inputs, or it is there and named .json or .fbs"))
+                 err=lines("111 FileWrite", "v.json: it is one of the inputs, which are never written over"))
+    for old in ("old.json", "old.fbs"):
+        write(old, b"old")
+        tests.expect(f"OUT is {old}", [*binary, "s.fbs", "v.json", old], 1, holds={old: b"old"},
+                     err=lines("111 FileWrite", f"{old}: it is there, and a file named .json or .fbs is never written over"))
     tests.expect("OUT is full", [*binary, "s.fbs", "v.json", "/dev/full"], 1,
                  err=lines("111 FileWrite", "/dev/full: No space left on device (os error 28)"))
     with open("long.json", "wb") as file:
@@ -782,6 +1004,6 @@ def numbers(tests):
 
 
 if __name__ == "__main__":
-    parts = [schemas, sizes, unsupported, texts, values, changes, buffers, limits, cells, unnamed, files, memory, cuts,
-             hints, numbers]
+    parts = [schemas, ids, sizes, unsupported, texts, values, flags, kinds, changes, buffers, limits, cells, unnamed, files,
+             memory, cuts, hints, numbers]
     sys.exit(Explained("explain", program_of(sys.argv, __doc__)).main(parts))
