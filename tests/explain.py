@@ -711,6 +711,8 @@ BUFFERS = [
      "the root: bytes 0 to 3 say that it is at 13, which isn't a multiple of 4", 0),
     ("a root past the end", lambda b: struct.pack("<I", 64) + b[4:], "54 OutOfBounds at 64",
      "the root: bytes 0 to 3 say that it is at 64, and the buffer has 28 bytes", 0),
+    ("a root past the end that isn't aligned", lambda b: struct.pack("<I", 255) + b[4:], "53 Misaligned at 255",
+     "the root: bytes 0 to 3 say that it is at 255, and the buffer has 28 bytes", 0),
     ("a string past the end", lambda b: b[:20] + struct.pack("<I", 9) + b[24:], "54 OutOfBounds at 20",
      "name: what is stored at 20 ends past the buffer, which ends at 28", 20),
     ("a root that is 0", lambda b: bytes(4) + b[4:], "55 ZeroOffset at 0",

@@ -174,19 +174,20 @@ fn push_fault_path(page: &mut Page, layout: &Layout, sources: &Sources<'_>) -> b
 
 /// Adds what is wrong with the offset of the root, which a buffer's first bytes have.
 fn push_root_offset(page: &mut Page, bytes: &[u8], fault: ReadFault) -> bool {
+    let len = bytes.len() as u64;
     match fault {
-        ReadFault::OutOfBounds(at) => push_sentence(
-            page,
-            &[
-                ("bytes 0 to 3 say that it is at ", at),
-                (", and the buffer has ", bytes.len() as u64),
-            ],
-            " bytes",
-        ),
-        ReadFault::Misaligned(at) => push_sentence(
+        ReadFault::Misaligned(at) if at < len => push_sentence(
             page,
             &[("bytes 0 to 3 say that it is at ", at)],
             ", which isn't a multiple of 4",
+        ),
+        ReadFault::OutOfBounds(at) | ReadFault::Misaligned(at) => push_sentence(
+            page,
+            &[
+                ("bytes 0 to 3 say that it is at ", at),
+                (", and the buffer has ", len),
+            ],
+            " bytes",
         ),
         _ => return false,
     }

@@ -7,8 +7,7 @@ use Rattle.fb_syntax.specs.declared.declarations.TypeDecl.TheVariants.{Table, St
 use Rattle.fb_syntax.specs.declared.declarations.UnionMember.{UnionMember}
 use Rattle.fb_syntax.specs.declared.declarations.Declaration.{Declaration}
 use Rattle.fb_syntax.specs.declared.declarations.Declaration.TheVariants as declarations
-use Rattle.fb_schema.specs.Schema.{Name}
-use Rattle.fb_resolve.specs.Outline.{types_in, word_of}
+use Rattle.fb_resolve.specs.Outline.{types_in}
 use Rattle.fb_declare.specs.FaultRows.{default_at}
 
 -- the types in the order of the text, in which they are numbered
@@ -19,10 +18,6 @@ types_of ds = map (λ r. r.declaration) (types_in None ds)
 abbrev pub type_of : Declaration → Option TypeDecl
 type_of (declarations.Type t) = Some t
 type_of _ = None
-
--- a type's name without its namespace
-abbrev pub word_bytes : TypeDecl → Name
-word_bytes t = (word_of t).bytes
 
 -- the fields of a table or struct
 abbrev pub fields_of : TypeDecl → List FieldRead

@@ -1,10 +1,10 @@
 //! What of a schema text's declarations is at an offset or has a number.
-ghost use Rattle.std.specs.Prelude.{◌≡◌, IfOk, map, slice_get};
+ghost use Rattle.std.specs.Prelude.{◌≡◌, slice_get};
 ghost use Rattle.std.specs.Option.{option_copied, option_map};
 ghost use Rattle.std.specs.List.{find, list_any, flat_map};
 ghost use Rattle.fb_resolve.specs.Outline.{word_of};
 ghost use Rattle.fb_declare.specs.FaultRows.{default_at};
-ghost use Rattle.fb_schema_faults.specs.FoundInText.{types_of, type_of, word_bytes, fields_of, has_default_at};
+ghost use Rattle.fb_schema_faults.specs.FoundInText.{types_of, type_of, fields_of, has_default_at};
 ghost use Rattle.fb_schema_faults.specs.FoundInText.{is_struct_with, is_member_at, is_union_with};
 
 use fb_pages::Page;
