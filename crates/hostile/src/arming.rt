@@ -28,18 +28,19 @@ impl Outcome {
     }
 }
 
-/// What came of a call while growths may have been refused, and of the same call afterwards.
-pub(crate) type Both = (Outcome, Outcome);
-
-/// From here on growths may be refused, where the run is preloaded with what refuses them. A line that
-/// can't be written shows: no growth is counted then.
-pub(crate) fn arm(rt: &HostRuntime) {
-    let _sent = rt.stdout().write_all(b"armed\n");
+/// From here on growths may be refused if a call `arms`, where the run is preloaded with what refuses them. A line
+/// that can't be written shows: no growth is counted then.
+pub(crate) fn arm(rt: &HostRuntime, arms: bool) {
+    if arms {
+        let _sent = rt.stdout().write_all(b"armed\n");
+    }
 }
 
 /// From here on no growth is refused.
-pub(crate) fn disarm(rt: &HostRuntime) {
-    let _sent = rt.stdout().write_all(b"disarmed\n");
+pub(crate) fn disarm(rt: &HostRuntime, arms: bool) {
+    if arms {
+        let _sent = rt.stdout().write_all(b"disarmed\n");
+    }
 }
 
 /// A writer that takes all that it is brought, and knows whether it is one of two texts; no memory is

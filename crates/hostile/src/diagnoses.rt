@@ -1,5 +1,5 @@
 //! The calls that say where a refusal is, and why. Each is compared with what it returns before growths are refused.
-use crate::arming::{Both, Outcome, arm, disarm};
+use crate::arming::{Outcome, arm, disarm};
 use crate::examples::Example;
 use crate::meanings::limits;
 use fb_conform::all_breaches;
@@ -10,8 +10,6 @@ use fb_read::fault_path;
 use flatc_tool::{ToolFault, check, conform_texts, schema_of, to_binary};
 use serde_json::Value as Json;
 use std::alloc::{AllocError, Global};
-
-const UNTRIED: Both = (Outcome::Wrong, Outcome::Wrong);
 
 /// What an input is refused with, and the two texts or the text and the bytes.
 #[derive(Clone, Copy)]
@@ -30,17 +28,13 @@ fn cut_bytes(example: &Example) -> &'static [u8] {
     }
 }
 
-/// A count that is to be `known`, or want of memory.
-fn of_count(known: usize, answer: Result<usize, AllocError>) -> Outcome {
+/// A count that is to be the one that is `known`, or want of memory.
+fn of_count(known: Result<usize, AllocError>, answer: Result<usize, AllocError>) -> Outcome {
+    let Ok(known) = known else {
+        return Outcome::Wrong;
+    };
     match answer {
         Ok(found) => Outcome::of(found == known && known > 0),
-        Err(_) => Outcome::Short(0),
-    }
-}
-
-fn of_text(known: &str, answer: Result<String, AllocError>) -> Outcome {
-    match answer {
-        Ok(found) => Outcome::of(found.as_str() == known && !known.is_empty()),
         Err(_) => Outcome::Short(0),
     }
 }
@@ -65,44 +59,50 @@ fn count_breaches(alloc: Global, old: &Layout, new: &Layout) -> Result<usize, Al
     Ok(all_breaches(alloc, old, new)?.len())
 }
 
-fn try_path(rt: &HostRuntime, example: &Example, layout: &Layout) -> Both {
+pub(crate) fn try_path(
+    rt: &HostRuntime,
+    example: &Example,
+    layout: &Layout,
+    arms: bool,
+) -> Outcome {
     let bytes = cut_bytes(example);
-    let Ok(known) = steps_in_bytes(rt.alloc(), layout, bytes) else {
-        return UNTRIED;
-    };
-    arm(rt);
-    let first = steps_in_bytes(rt.alloc(), layout, bytes);
-    disarm(rt);
-    let again = steps_in_bytes(rt.alloc(), layout, bytes);
-    (of_count(known, first), of_count(known, again))
+    let known = steps_in_bytes(rt.alloc(), layout, bytes);
+    arm(rt, arms);
+    let found = steps_in_bytes(rt.alloc(), layout, bytes);
+    disarm(rt, arms);
+    of_count(known, found)
 }
 
-fn try_json_path(rt: &HostRuntime, example: &Example, layout: &Layout) -> Both {
+pub(crate) fn try_json_path(
+    rt: &HostRuntime,
+    example: &Example,
+    layout: &Layout,
+    arms: bool,
+) -> Outcome {
     let Ok(tree) = Json::from_slice(rt.alloc(), example.refused_json) else {
-        return UNTRIED;
+        return Outcome::Wrong;
     };
-    let Ok(known) = steps_in_tree(rt.alloc(), layout, &tree) else {
-        return UNTRIED;
-    };
-    arm(rt);
-    let first = steps_in_tree(rt.alloc(), layout, &tree);
-    disarm(rt);
-    let again = steps_in_tree(rt.alloc(), layout, &tree);
-    (of_count(known, first), of_count(known, again))
+    let known = steps_in_tree(rt.alloc(), layout, &tree);
+    arm(rt, arms);
+    let found = steps_in_tree(rt.alloc(), layout, &tree);
+    disarm(rt, arms);
+    of_count(known, found)
 }
 
-fn try_breaches(rt: &HostRuntime, example: &Example, layout: &Layout) -> Both {
+pub(crate) fn try_breaches(
+    rt: &HostRuntime,
+    example: &Example,
+    layout: &Layout,
+    arms: bool,
+) -> Outcome {
     let Ok(newer) = schema_of(rt.alloc(), example.breaking) else {
-        return UNTRIED;
+        return Outcome::Wrong;
     };
-    let Ok(known) = count_breaches(rt.alloc(), layout, &newer) else {
-        return UNTRIED;
-    };
-    arm(rt);
-    let first = count_breaches(rt.alloc(), layout, &newer);
-    disarm(rt);
-    let again = count_breaches(rt.alloc(), layout, &newer);
-    (of_count(known, first), of_count(known, again))
+    let known = count_breaches(rt.alloc(), layout, &newer);
+    arm(rt, arms);
+    let found = count_breaches(rt.alloc(), layout, &newer);
+    disarm(rt, arms);
+    of_count(known, found)
 }
 
 fn explained(alloc: Global, refused: &Refused<'_>) -> Result<String, AllocError> {
@@ -125,78 +125,61 @@ fn explained(alloc: Global, refused: &Refused<'_>) -> Result<String, AllocError>
     explain(alloc, &refused.fault, &sources)
 }
 
-fn try_explain(rt: &HostRuntime, refused: Option<Refused<'_>>) -> Both {
-    let Some(refused) = refused else {
-        return UNTRIED;
+/// What an example's JSON, its bytes that are cut, or a schema that doesn't conform to its own is refused with.
+fn refusal_of<'e>(rt: &HostRuntime, call: &str, example: &'e Example) -> Option<Refused<'e>> {
+    let schema = example.schema;
+    let (input, fault) = match call {
+        "explain_json" => {
+            let input = example.refused_json;
+            (
+                input,
+                to_binary(rt.alloc(), schema, input, limits(), false).err()?,
+            )
+        }
+        "explain_bytes" => {
+            let input = cut_bytes(example);
+            (
+                input,
+                check(rt.alloc(), schema, Some(input), limits(), false).err()?,
+            )
+        }
+        _ => (
+            example.breaking,
+            conform_texts(rt.alloc(), schema, example.breaking).err()?,
+        ),
     };
-    let Ok(known) = explained(rt.alloc(), &refused) else {
-        return UNTRIED;
+    Some(Refused {
+        fault,
+        schema,
+        input,
+    })
+}
+
+fn try_refused(rt: &HostRuntime, refused: &Refused<'_>, arms: bool) -> Outcome {
+    let Ok(known) = explained(rt.alloc(), refused) else {
+        return Outcome::Wrong;
     };
-    arm(rt);
-    let first = explained(rt.alloc(), &refused);
-    disarm(rt);
-    let first = of_text(known.as_str(), first);
-    let again = explained(rt.alloc(), &refused);
-    (first, of_text(known.as_str(), again))
-}
-
-/// The refusal of an example's JSON that means nothing.
-fn refused_json<'e>(rt: &HostRuntime, example: &'e Example) -> Option<Refused<'e>> {
-    let (schema, input) = (example.schema, example.refused_json);
-    match to_binary(rt.alloc(), schema, input, limits(), false) {
-        Ok(_) => None,
-        Err(fault) => Some(Refused {
-            fault,
-            schema,
-            input,
-        }),
+    arm(rt, arms);
+    let answer = explained(rt.alloc(), refused);
+    disarm(rt, arms);
+    match answer {
+        Ok(found) => Outcome::of(found == known && !known.is_empty()),
+        Err(_) => Outcome::Short(0),
     }
 }
 
-/// The refusal of an example's bytes that are cut.
-fn refused_bytes<'e>(rt: &HostRuntime, example: &'e Example) -> Option<Refused<'e>> {
-    let (schema, input) = (example.schema, cut_bytes(example));
-    match check(rt.alloc(), schema, Some(input), limits(), false) {
-        Ok(()) => None,
-        Err(fault) => Some(Refused {
-            fault,
-            schema,
-            input,
-        }),
+/// What comes of an explanation; None where the call is none.
+pub(crate) fn try_explain(
+    rt: &HostRuntime,
+    call: &str,
+    example: &Example,
+    arms: bool,
+) -> Option<Outcome> {
+    if !matches!(call, "explain_json" | "explain_bytes" | "explain_schema") {
+        return None;
     }
-}
-
-/// The refusal of a schema that doesn't conform to an example's.
-fn refused_schema<'e>(rt: &HostRuntime, example: &'e Example) -> Option<Refused<'e>> {
-    let (schema, input) = (example.schema, example.breaking);
-    match conform_texts(rt.alloc(), schema, input) {
-        Ok(()) => None,
-        Err(fault) => Some(Refused {
-            fault,
-            schema,
-            input,
-        }),
-    }
-}
-
-fn try_under(rt: &HostRuntime, call: &str, example: &Example) -> Both {
-    let Ok(layout) = schema_of(rt.alloc(), example.schema) else {
-        return UNTRIED;
-    };
-    match call {
-        "fault_path" => try_path(rt, example, &layout),
-        "json_fault_path" => try_json_path(rt, example, &layout),
-        _ => try_breaches(rt, example, &layout),
-    }
-}
-
-/// What comes of a call that says where a refusal is, and why; None where it is none of these.
-pub(crate) fn try_diagnosis(rt: &HostRuntime, call: &str, example: &Example) -> Option<Both> {
-    match call {
-        "fault_path" | "json_fault_path" | "all_breaches" => Some(try_under(rt, call, example)),
-        "explain_json" => Some(try_explain(rt, refused_json(rt, example))),
-        "explain_bytes" => Some(try_explain(rt, refused_bytes(rt, example))),
-        "explain_schema" => Some(try_explain(rt, refused_schema(rt, example))),
-        _ => None,
+    match refusal_of(rt, call, example) {
+        Some(refused) => Some(try_refused(rt, &refused, arms)),
+        None => Some(Outcome::Wrong),
     }
 }

@@ -4,28 +4,28 @@
 #![tactic(auto)]
 
 mod arming;
+mod commands;
 mod deep;
 mod diagnoses;
 mod dice;
 mod examples;
 mod jobs;
+mod layouts;
 mod meanings;
 mod memoryless;
 mod schemas;
-mod segments;
 mod soak;
 mod values;
 
-use crate::arming::{Both, Outcome};
+use crate::arming::Outcome;
+use crate::commands::try_command_call;
 use crate::deep::go_deep;
-use crate::diagnoses::try_diagnosis;
+use crate::diagnoses::try_explain;
 use crate::examples::{EXAMPLES, Example};
 use crate::jobs::try_job;
-use crate::memoryless::try_memoryless;
+use crate::layouts::try_layout_call;
 use crate::schemas::try_schema_call;
-use crate::segments::try_segments;
 use crate::soak::soak;
-use crate::values::try_value_call;
 use std::process::ExitCode;
 use std::{env, io};
 
@@ -65,24 +65,21 @@ const CALLS: &[&str] = &[
     "memoryless",
 ];
 
-/// What comes of a call; None where there is no such call.
-fn try_call(rt: &HostRuntime, call: &str, example: &Example) -> Option<Both> {
-    if call == "memoryless" {
-        return Some(try_memoryless(rt, example));
+/// What comes of a call, whose growths may be refused if it `arms`; None where there is no such call.
+fn try_call(rt: &HostRuntime, call: &str, example: &Example, arms: bool) -> Option<Outcome> {
+    if let Some(outcome) = try_schema_call(rt, call, example, arms) {
+        return Some(outcome);
     }
-    if let Some(both) = try_schema_call(rt, call, example) {
-        return Some(both);
+    if let Some(outcome) = try_job(rt, call, example, arms) {
+        return Some(outcome);
     }
-    if let Some(both) = try_job(rt, call, example) {
-        return Some(both);
+    if let Some(outcome) = try_command_call(rt, call, example, arms) {
+        return Some(outcome);
     }
-    if let Some(both) = try_segments(rt, call, example) {
-        return Some(both);
+    if let Some(outcome) = try_explain(rt, call, example, arms) {
+        return Some(outcome);
     }
-    if let Some(both) = try_diagnosis(rt, call, example) {
-        return Some(both);
-    }
-    try_value_call(rt, call, example)
+    try_layout_call(rt, call, example, arms)
 }
 
 fn print_outcome(rt: &HostRuntime, outcome: Outcome) -> io::Result<()> {
@@ -96,10 +93,11 @@ fn print_outcome(rt: &HostRuntime, outcome: Outcome) -> io::Result<()> {
 /// Prints what comes of a call, and returns whether it is right in the end.
 fn show(rt: &HostRuntime, call: &str, example: &Example) -> io::Result<bool> {
     let name = example.name;
-    let Some((first, again)) = try_call(rt, call, example) else {
+    let Some(first) = try_call(rt, call, example, true) else {
         println!(rt; "{call} {name}: no such call")?;
         return Ok(false);
     };
+    let again = try_call(rt, call, example, false).unwrap_or(Outcome::Wrong);
     print!(rt; "{call} {name}: ")?;
     print_outcome(rt, first)?;
     print!(rt; ", then ")?;

@@ -4,9 +4,9 @@ ghost use Rattle.fb_value.specs.View.{view};
 ghost use Rattle.fb_value.specs.Counts.{depth, nesting, is_whole};
 ghost use Rattle.fb_value.specs.Fits.{FitsRoot};
 
-use crate::arming::{Both, Matching, Outcome, arm, disarm};
+use crate::arming::{Matching, Outcome, arm, disarm};
 use crate::examples::Example;
-use crate::meanings::{limits, meaning};
+use crate::meanings::limits;
 use fb_build::{Plan, plan};
 use fb_conform::conform;
 use fb_layout::Layout;
@@ -15,8 +15,6 @@ use fb_schema::TypeId;
 use fb_text::{Noted, write_text};
 use fb_value::{Limits, Value, cells, depth, fits, room, same, whole};
 use flatc_tool::{DecodeOptions, decode_to, schema_of};
-
-const UNTRIED: Both = (Outcome::Wrong, Outcome::Wrong);
 
 /// The last table of the vector in the first slot, the struct's number in the second, or the member.
 fn are_parts_seen(view: View) -> bool {
@@ -104,11 +102,11 @@ fn is_all_right(
     is_laid && conforms && is_seen && is_counted(layout, value)
 }
 
-fn try_with(
+/// What comes of the calls that take no memory.
+pub(crate) fn try_memoryless(
     rt: &HostRuntime,
     example: &Example,
     layout: &Layout,
-    newer: &Layout,
     value: &Value,
     arms: bool,
 ) -> Outcome
@@ -117,40 +115,14 @@ fn try_with(
     requires deep { depth (view value.now) ≤ 127 }
     requires nests { nesting (view value.now) ≤ 300 }
 {
+    let Ok(newer) = schema_of(rt.alloc(), example.newer) else {
+        return Outcome::Wrong;
+    };
     let Ok(planned) = plan(rt.alloc(), layout, value) else {
         return Outcome::Wrong;
     };
-    if arms {
-        arm(rt);
-    }
-    let is_right = is_all_right(example, layout, newer, value, planned);
-    if arms {
-        disarm(rt);
-    }
+    arm(rt, arms);
+    let is_right = is_all_right(example, layout, &newer, value, planned);
+    disarm(rt, arms);
     Outcome::of(is_right)
-}
-
-fn try_between(rt: &HostRuntime, example: &Example, layout: &Layout, newer: &Layout) -> Both {
-    match meaning(rt.alloc(), layout, example.json) {
-        Some(value) => {
-            let first = try_with(rt, example, layout, newer, &value, true);
-            (first, try_with(rt, example, layout, newer, &value, false))
-        }
-        None => UNTRIED,
-    }
-}
-
-fn try_under(rt: &HostRuntime, example: &Example, layout: &Layout) -> Both {
-    match schema_of(rt.alloc(), example.newer) {
-        Ok(newer) => try_between(rt, example, layout, &newer),
-        Err(_) => UNTRIED,
-    }
-}
-
-/// What comes of the calls that take no memory.
-pub(crate) fn try_memoryless(rt: &HostRuntime, example: &Example) -> Both {
-    match schema_of(rt.alloc(), example.schema) {
-        Ok(layout) => try_under(rt, example, &layout),
-        Err(_) => UNTRIED,
-    }
 }

@@ -5,174 +5,102 @@ ghost use Rattle.fb_value.specs.Counts.{depth, nesting, is_whole};
 ghost use Rattle.fb_value.specs.Fits.{FitsRoot};
 ghost use Rattle.fb_conform.specs.Conforms.{Conforms};
 
-use crate::arming::{Both, Outcome, arm, disarm};
+use crate::arming::{Outcome, arm, disarm};
 use crate::examples::Example;
-use crate::meanings::{limits, meaning};
-use fb_build::{BuildFault, build, plan};
+use crate::meanings::meaning;
+use crate::memoryless::try_memoryless;
+use fb_build::{build, plan};
 use fb_conform::{carry, conform};
-use fb_json::{JsonFault, value_of};
 use fb_layout::Layout;
-use fb_read::{Entries, read};
-use fb_text::{TextFault, text_of};
-use fb_value::{ReadFault, Value, copy};
+use fb_text::text_of;
+use fb_value::{Value, copy};
 use flatc_tool::schema_of;
-use serde_json::Value as Json;
-use std::alloc::AllocError;
 
-const UNTRIED: Both = (Outcome::Wrong, Outcome::Wrong);
-
-fn is_printed_as(rt: &HostRuntime, layout: &Layout, value: &Value, text: &str) -> bool {
+pub(crate) fn is_printed_as(rt: &HostRuntime, layout: &Layout, value: &Value, text: &str) -> bool {
     match text_of(rt.alloc(), layout, value, false) {
         Ok(printed) => printed.as_str() == text,
         Err(_) => false,
     }
 }
 
-fn of_copy(value: &Value, answer: Result<Value, AllocError>) -> Outcome {
+fn try_copy(rt: &HostRuntime, value: &Value, arms: bool) -> Outcome
+    requires { nesting (view value.now) ≤ 300 }
+{
+    arm(rt, arms);
+    let answer = copy(rt.alloc(), value);
+    disarm(rt, arms);
     match answer {
         Ok(copied) => Outcome::of(copied == *value),
         Err(_) => Outcome::Short(0),
     }
 }
 
-fn of_bytes(example: &Example, answer: Result<Vec<u8>, BuildFault>) -> Outcome {
+/// `finish` lays the bytes while nothing may grow.
+fn try_plan(
+    rt: &HostRuntime,
+    example: &Example,
+    layout: &Layout,
+    value: &Value,
+    arms: bool,
+) -> Outcome
+    requires fits { FitsRoot layout.now (view value.now) }
+    requires whole { is_whole (view value.now) ≡ true }
+    requires deep { depth (view value.now) ≤ 127 }
+{
+    arm(rt, arms);
+    let answer = match plan(rt.alloc(), layout, value) {
+        Ok(planned) => Ok(planned.finish()),
+        Err(fault) => Err(fault),
+    };
+    disarm(rt, arms);
     match answer {
         Ok(bytes) => Outcome::of(bytes.as_slice() == example.bytes),
         Err(fault) => Outcome::of_refusal(fault.number()),
     }
 }
 
-fn of_read(
+fn try_build(
     rt: &HostRuntime,
     example: &Example,
     layout: &Layout,
-    answer: Result<Value, ReadFault>,
-) -> Outcome {
-    match answer {
-        Ok(value) => Outcome::of(is_printed_as(rt, layout, &value, example.text)),
-        Err(fault) => Outcome::of_refusal(fault.number()),
-    }
-}
-
-fn of_meaning(
-    rt: &HostRuntime,
-    example: &Example,
-    layout: &Layout,
-    answer: Result<Value, JsonFault>,
-) -> Outcome {
-    match answer {
-        Ok(value) => Outcome::of(is_printed_as(rt, layout, &value, example.text)),
-        Err(fault) => Outcome::of_refusal(fault.number()),
-    }
-}
-
-fn of_text(text: &str, answer: Result<String, TextFault>) -> Outcome {
-    match answer {
-        Ok(printed) => Outcome::of(printed.as_str() == text),
-        Err(fault) => Outcome::of_refusal(fault.number()),
-    }
-}
-
-fn of_carried(
-    rt: &HostRuntime,
-    example: &Example,
-    newer: &Layout,
-    answer: Result<Value, AllocError>,
-) -> Outcome {
-    match answer {
-        Ok(carried) => { of_text(example.carried, text_of(rt.alloc(), newer, &carried, true)) }
-        Err(_) => Outcome::Short(0),
-    }
-}
-
-fn try_copy(rt: &HostRuntime, value: &Value) -> Both
-    requires { nesting (view value.now) ≤ 300 }
-{
-    arm(rt);
-    let first = copy(rt.alloc(), value);
-    disarm(rt);
-    let first = of_copy(value, first);
-    (first, of_copy(value, copy(rt.alloc(), value)))
-}
-
-/// `finish` lays the bytes while nothing may grow.
-fn try_plan(rt: &HostRuntime, example: &Example, layout: &Layout, value: &Value) -> Both
+    value: &Value,
+    arms: bool,
+) -> Outcome
     requires fits { FitsRoot layout.now (view value.now) }
     requires whole { is_whole (view value.now) ≡ true }
     requires deep { depth (view value.now) ≤ 127 }
 {
-    arm(rt);
-    let first = match plan(rt.alloc(), layout, value) {
-        Ok(planned) => Ok(planned.finish()),
-        Err(fault) => Err(fault),
-    };
-    disarm(rt);
-    let first = of_bytes(example, first);
-    let again = match plan(rt.alloc(), layout, value) {
-        Ok(planned) => Ok(planned.finish()),
-        Err(fault) => Err(fault),
-    };
-    (first, of_bytes(example, again))
+    arm(rt, arms);
+    let answer = build(rt.alloc(), layout, value);
+    disarm(rt, arms);
+    match answer {
+        Ok(bytes) => Outcome::of(bytes.as_slice() == example.bytes),
+        Err(fault) => Outcome::of_refusal(fault.number()),
+    }
 }
 
-fn try_build(rt: &HostRuntime, example: &Example, layout: &Layout, value: &Value) -> Both
-    requires fits { FitsRoot layout.now (view value.now) }
-    requires whole { is_whole (view value.now) ≡ true }
-    requires deep { depth (view value.now) ≤ 127 }
-{
-    arm(rt);
-    let first = build(rt.alloc(), layout, value);
-    disarm(rt);
-    let first = of_bytes(example, first);
-    (first, of_bytes(example, build(rt.alloc(), layout, value)))
+fn try_text_of(
+    rt: &HostRuntime,
+    example: &Example,
+    layout: &Layout,
+    value: &Value,
+    arms: bool,
+) -> Outcome {
+    arm(rt, arms);
+    let answer = text_of(rt.alloc(), layout, value, false);
+    disarm(rt, arms);
+    match answer {
+        Ok(text) => Outcome::of(text.as_str() == example.text),
+        Err(fault) => Outcome::of_refusal(fault.number()),
+    }
 }
 
-fn try_read(rt: &HostRuntime, example: &Example, layout: &Layout) -> Both {
-    let mut entries = Entries::new();
-    let limits = limits();
-    arm(rt);
-    let first = read(
-        rt.alloc(),
-        layout,
-        example.bytes,
-        limits,
-        false,
-        &mut entries,
-    );
-    disarm(rt);
-    let first = of_read(rt, example, layout, first);
-    let mut entries = Entries::new();
-    let again = read(
-        rt.alloc(),
-        layout,
-        example.bytes,
-        limits,
-        false,
-        &mut entries,
-    );
-    (first, of_read(rt, example, layout, again))
-}
-
-fn try_value_of(rt: &HostRuntime, example: &Example, layout: &Layout) -> Both {
-    let Ok(tree) = Json::from_slice(rt.alloc(), example.json) else {
-        return UNTRIED;
-    };
-    let limits = limits();
-    arm(rt);
-    let first = value_of(rt.alloc(), layout, &tree, limits, false);
-    disarm(rt);
-    let first = of_meaning(rt, example, layout, first);
-    let again = value_of(rt.alloc(), layout, &tree, limits, false);
-    (first, of_meaning(rt, example, layout, again))
-}
-
-fn try_text_of(rt: &HostRuntime, example: &Example, layout: &Layout, value: &Value) -> Both {
-    arm(rt);
-    let first = text_of(rt.alloc(), layout, value, false);
-    disarm(rt);
-    let first = of_text(example.text, first);
-    let again = text_of(rt.alloc(), layout, value, false);
-    (first, of_text(example.text, again))
+/// Whether a value that was carried prints as an example's does under the newer schema.
+fn is_carried(rt: &HostRuntime, example: &Example, newer: &Layout, carried: &Value) -> bool {
+    match text_of(rt.alloc(), newer, carried, true) {
+        Ok(text) => text.as_str() == example.carried,
+        Err(_) => false,
+    }
 }
 
 fn try_carry_to(
@@ -181,52 +109,58 @@ fn try_carry_to(
     layout: &Layout,
     newer: &Layout,
     value: &Value,
-) -> Both
+    arms: bool,
+) -> Outcome
     requires conforms { Conforms layout.now newer.now }
     requires fits { FitsRoot layout.now (view value.now) }
     requires nests { nesting (view value.now) ≤ 300 }
 {
-    arm(rt);
-    let first = carry(rt.alloc(), layout, newer, value);
-    disarm(rt);
-    let first = of_carried(rt, example, newer, first);
-    let again = carry(rt.alloc(), layout, newer, value);
-    (first, of_carried(rt, example, newer, again))
+    arm(rt, arms);
+    let answer = carry(rt.alloc(), layout, newer, value);
+    disarm(rt, arms);
+    match answer {
+        Ok(carried) => Outcome::of(is_carried(rt, example, newer, &carried)),
+        Err(_) => Outcome::Short(0),
+    }
 }
 
-fn try_carry(rt: &HostRuntime, example: &Example, layout: &Layout, value: &Value) -> Both
+fn try_carry(
+    rt: &HostRuntime,
+    example: &Example,
+    layout: &Layout,
+    value: &Value,
+    arms: bool,
+) -> Outcome
     requires fits { FitsRoot layout.now (view value.now) }
     requires nests { nesting (view value.now) ≤ 300 }
 {
     let Ok(newer) = schema_of(rt.alloc(), example.newer) else {
-        return UNTRIED;
+        return Outcome::Wrong;
     };
     match conform(layout, &newer) {
-        Ok(()) => try_carry_to(rt, example, layout, &newer, value),
-        Err(_) => UNTRIED,
+        Ok(()) => try_carry_to(rt, example, layout, &newer, value, arms),
+        Err(_) => Outcome::Wrong,
     }
 }
 
-fn try_under(rt: &HostRuntime, call: &str, example: &Example, layout: &Layout) -> Option<Both> {
+/// What comes of a call on the value that an example's JSON means; None where it is none of these.
+pub(crate) fn try_value_call(
+    rt: &HostRuntime,
+    call: &str,
+    example: &Example,
+    layout: &Layout,
+    arms: bool,
+) -> Option<Outcome> {
     let Some(value) = meaning(rt.alloc(), layout, example.json) else {
-        return Some(UNTRIED);
+        return Some(Outcome::Wrong);
     };
     match call {
-        "copy" => Some(try_copy(rt, &value)),
-        "plan" => Some(try_plan(rt, example, layout, &value)),
-        "build" => Some(try_build(rt, example, layout, &value)),
-        "read" => Some(try_read(rt, example, layout)),
-        "value_of" => Some(try_value_of(rt, example, layout)),
-        "text_of" => Some(try_text_of(rt, example, layout, &value)),
-        "carry" => Some(try_carry(rt, example, layout, &value)),
+        "copy" => Some(try_copy(rt, &value, arms)),
+        "plan" => Some(try_plan(rt, example, layout, &value, arms)),
+        "build" => Some(try_build(rt, example, layout, &value, arms)),
+        "text_of" => Some(try_text_of(rt, example, layout, &value, arms)),
+        "carry" => Some(try_carry(rt, example, layout, &value, arms)),
+        "memoryless" => Some(try_memoryless(rt, example, layout, &value, arms)),
         _ => None,
-    }
-}
-
-/// What comes of a call on a value; None where it is none of these.
-pub(crate) fn try_value_call(rt: &HostRuntime, call: &str, example: &Example) -> Option<Both> {
-    match schema_of(rt.alloc(), example.schema) {
-        Ok(layout) => try_under(rt, call, example, &layout),
-        Err(_) => Some(UNTRIED),
     }
 }

@@ -1,3 +1,0 @@
-//! Lines of words, and explanations.
-mod explanations;
-mod request_of;

@@ -1,0 +1,107 @@
+//! The calls under a layout.
+use crate::arming::{Outcome, arm, disarm};
+use crate::diagnoses::{try_breaches, try_json_path, try_path};
+use crate::examples::Example;
+use crate::jobs::are_bytes;
+use crate::meanings::limits;
+use crate::values::{is_printed_as, try_value_call};
+use fb_json::value_of;
+use fb_layout::Layout;
+use fb_read::{Entries, read};
+use flatc_tool::{DecodeOptions, EncodeOptions, decode, encode, encode_segments, schema_of};
+use serde_json::Value as Json;
+
+fn try_encode(rt: &HostRuntime, example: &Example, layout: &Layout, arms: bool) -> Outcome {
+    let options = EncodeOptions::new();
+    arm(rt, arms);
+    let answer = encode(rt.alloc(), layout, example.json, &options);
+    disarm(rt, arms);
+    match answer {
+        Ok(bytes) => Outcome::of(bytes.as_slice() == example.bytes),
+        Err(fault) => Outcome::of_refusal(fault.number()),
+    }
+}
+
+fn try_segments(rt: &HostRuntime, example: &Example, layout: &Layout, arms: bool) -> Outcome {
+    let Ok(json) = Vec::from_slice(rt.alloc(), example.json) else {
+        return Outcome::Wrong;
+    };
+    let options = EncodeOptions::new();
+    arm(rt, arms);
+    let answer = encode_segments(rt.alloc(), layout, json, &options);
+    disarm(rt, arms);
+    match answer {
+        Ok(segments) => Outcome::of(are_bytes(rt.alloc(), segments, example.bytes)),
+        Err(fault) => Outcome::of_refusal(fault.number()),
+    }
+}
+
+fn try_decode(rt: &HostRuntime, example: &Example, layout: &Layout, arms: bool) -> Outcome {
+    let options = DecodeOptions::new();
+    arm(rt, arms);
+    let answer = decode(rt.alloc(), layout, example.bytes, &options);
+    disarm(rt, arms);
+    match answer {
+        Ok(text) => Outcome::of(text.as_str() == example.text),
+        Err(fault) => Outcome::of_refusal(fault.number()),
+    }
+}
+
+fn try_read(rt: &HostRuntime, example: &Example, layout: &Layout, arms: bool) -> Outcome {
+    let (bytes, limits) = (example.bytes, limits());
+    let mut entries = Entries::new();
+    arm(rt, arms);
+    let answer = read(rt.alloc(), layout, bytes, limits, false, &mut entries);
+    disarm(rt, arms);
+    match answer {
+        Ok(value) => Outcome::of(is_printed_as(rt, layout, &value, example.text)),
+        Err(fault) => Outcome::of_refusal(fault.number()),
+    }
+}
+
+fn try_value_of(rt: &HostRuntime, example: &Example, layout: &Layout, arms: bool) -> Outcome {
+    let Ok(tree) = Json::from_slice(rt.alloc(), example.json) else {
+        return Outcome::Wrong;
+    };
+    let limits = limits();
+    arm(rt, arms);
+    let answer = value_of(rt.alloc(), layout, &tree, limits, false);
+    disarm(rt, arms);
+    match answer {
+        Ok(value) => Outcome::of(is_printed_as(rt, layout, &value, example.text)),
+        Err(fault) => Outcome::of_refusal(fault.number()),
+    }
+}
+
+fn try_under(
+    rt: &HostRuntime,
+    call: &str,
+    example: &Example,
+    layout: &Layout,
+    arms: bool,
+) -> Option<Outcome> {
+    match call {
+        "encode" => Some(try_encode(rt, example, layout, arms)),
+        "encode_segments" => Some(try_segments(rt, example, layout, arms)),
+        "decode" => Some(try_decode(rt, example, layout, arms)),
+        "read" => Some(try_read(rt, example, layout, arms)),
+        "value_of" => Some(try_value_of(rt, example, layout, arms)),
+        "fault_path" => Some(try_path(rt, example, layout, arms)),
+        "json_fault_path" => Some(try_json_path(rt, example, layout, arms)),
+        "all_breaches" => Some(try_breaches(rt, example, layout, arms)),
+        _ => try_value_call(rt, call, example, layout, arms),
+    }
+}
+
+/// What comes of a call under a layout; None where it is none of these.
+pub(crate) fn try_layout_call(
+    rt: &HostRuntime,
+    call: &str,
+    example: &Example,
+    arms: bool,
+) -> Option<Outcome> {
+    match schema_of(rt.alloc(), example.schema) {
+        Ok(layout) => try_under(rt, call, example, &layout, arms),
+        Err(_) => Some(Outcome::Wrong),
+    }
+}

@@ -1,5 +1,0 @@
-//! Tests of fb_syntax's public calls.
-#![tactic(auto)]
-
-#[cfg(test)]
-mod tests;
