@@ -145,7 +145,7 @@ def build(crates, name, jobs, program):
 
 
 def over_gate(crates, name, verb):
-    """How rattle is called on a crate over the libraries that rt ci left, which hold their statements, but no proofs."""
+    """How rattle is called on a crate over the libraries that rt ci left, which hold statements, but no proofs."""
     kit = os.path.dirname(subprocess.run(["rt", "doc"], capture_output=True, text=True, check=True).stdout.strip())
     # What a crate uses without listing it comes first.
     listed = dict.fromkeys(["std", *crates[name][0].partition(":")[2].split()])
@@ -162,7 +162,8 @@ def over_gate(crates, name, verb):
 def build_over_gate(crates, name):
     """Builds a library for C with the compiler alone."""
     kit, words = over_gate(crates, name, "build")
-    words += ["--crate-type", "staticlib", "--links", f"{name}=", "--toolchain", f"{kit}/toolchain", "--backend", "llvm"]
+    words += ["--crate-type", "staticlib", "--links", f"{name}="]
+    words += ["--toolchain", f"{kit}/toolchain", "--backend", "llvm"]
     words += ["--jobs", str(min(jobs_here(), MOST_JOBS_OF_A_CRATE)), "-o", f"out/lib{name}.a"]
     os.makedirs(f"{ROOT}/crates/{name}/out", exist_ok=True)
     return subprocess.run(words, cwd=f"{ROOT}/crates/{name}", check=False).returncode
