@@ -1,4 +1,4 @@
-use Rattle.std.proofs.Common.{List, ℕ, sym, arith, ◌≡◌, ◌∷◌, [], None, take, map, FitsSigned, rules, refl, Bool, Some, cond, ◌+◌, ap, ◌∙◌, true, false, ℤ, Option, ◌++◌}
+use Rattle.std.proofs.Common.{List, sym, arith, ◌≡◌, ◌∷◌, [], None, take, map, FitsSigned, rules, refl, Bool, Some, cond, ◌+◌, ap, ◌∙◌, true, false, ℤ, Option, ◌++◌}
 use Rattle.std.specs.Int.{w128}
 use Rattle.std.specs.List.{find, list_any}
 use Rattle.std.specs.Option.{is_some, option_or, option_map}
