@@ -7,33 +7,38 @@ A terminal is a pseudo-terminal here. The last line is 'N passed, M failed'.
 """
 import os
 import sys
+import textwrap
 
 from harness import ONE, SEVEN, Tests, program_of, write
 
-BOLD, RED, PLAIN = b"\x1b[1m", b"\x1b[1;31m", b"\x1b[0m"
-WRONG = b"table Monster {\n  hp:ubyte = 300;\n}\nroot_type Monster;\n"
-LINE = b"12 BadDefault at 29\n"
-PLACE = b"wrong.fbs:2:14"
-SENTENCE = b": the default 300 of field 'hp' doesn't fit the type ubyte: 0 to 255\n"
-EXCERPT = b"    hp:ubyte = 300;\n"
-CARET = b"               "
-EXPLAINED = LINE + PLACE + SENTENCE + EXCERPT + CARET + b"^\n"
-COLOURED = LINE + BOLD + PLACE + PLAIN + SENTENCE + EXCERPT + CARET + RED + b"^" + PLAIN + b"\n"
-# 60 columns: the sentence goes on in a second line.
-NARROW = (
-    LINE + PLACE + b": the default 300 of field 'hp'\n    doesn't fit the type ubyte: 0 to 255\n"
-    + EXCERPT + CARET + b"^\n"
-)
-OLD = b"table U { hp:int; mp:int; }\nroot_type U;\n"
-MOVED = b"table U { shield:int; hp:int; mp:int; }\nroot_type U;\n"
-WARNINGS = (
-    b"warning: U.hp was field 0 (old.fbs:1), is field 1 (moved.fbs:1): "
-    b"buffers of the old schema show the values of hp as\n"
-    b"    shield, to every program that reads by name\n"
-    b"warning: U.mp was field 1 (old.fbs:1), is field 2 (moved.fbs:1): "
-    b"buffers of the old schema show the values of mp as\n"
-    b"    hp, to every program that reads by name\n"
-)
+BOLD, RED, PLAIN = "\x1b[1m", "\x1b[1;31m", "\x1b[0m"
+
+
+def wrapped(line, columns=120):
+    """A line that goes on in further ones, set in by four, where it takes more columns."""
+    pieces = textwrap.wrap(line, columns, subsequent_indent="    ", break_on_hyphens=False)
+    return "".join(f"{piece}\n" for piece in pieces)
+
+
+WRONG = "table Monster {\n  hp:ubyte = 300;\n}\nroot_type Monster;\n"
+LINE = "12 BadDefault at 29\n"
+PLACE = "wrong.fbs:2:14"
+SENTENCE = ": the default 300 of field 'hp' doesn't fit the type ubyte: 0 to 255"
+EXCERPT = "    hp:ubyte = 300;\n"
+CARET = " " * (2 + 13)
+EXPLAINED = f"{LINE}{PLACE}{SENTENCE}\n{EXCERPT}{CARET}^\n"
+COLOURED = f"{LINE}{BOLD}{PLACE}{PLAIN}{SENTENCE}\n{EXCERPT}{CARET}{RED}^{PLAIN}\n"
+NARROW = f"{LINE}{wrapped(PLACE + SENTENCE, 60)}{EXCERPT}{CARET}^\n"
+OLD = "table U { hp:int; mp:int; }\nroot_type U;\n"
+MOVED = "table U { shield:int; hp:int; mp:int; }\nroot_type U;\n"
+SHOWN = "buffers of the old schema show the values of"
+READ = "to every program that reads by name"
+WARNINGS = wrapped(
+    f"warning: U.hp was field 0 (old.fbs:1), is field 1 (moved.fbs:1): {SHOWN} hp as shield, {READ}"
+) + wrapped(f"warning: U.mp was field 1 (old.fbs:1), is field 2 (moved.fbs:1): {SHOWN} mp as hp, {READ}")
+SHORT = "short.bin: 50 Short at 0\n"
+SHORT_SENTENCE = "short.bin: the buffer's length is 2: too short for the root's offset and the file identifier\n"
+SHORT_BYTES = f"{0:10} {' 0c 00':<48}  ..\n"
 
 # The words, what is exported, the status, what a terminal shows, and what a pipe gets.
 ROWS = [
@@ -50,15 +55,13 @@ ROWS = [
      EXPLAINED),
     ("more columns than 120", ["check", "--explain", "wrong.fbs"], {"NO_COLOR": "1", "COLUMNS": "200"}, 1, EXPLAINED,
      EXPLAINED),
-    ("names that moved", ["conform", "old.fbs", "moved.fbs"], {}, 0, WARNINGS, b""),
+    ("names that moved", ["conform", "old.fbs", "moved.fbs"], {}, 0, WARNINGS, ""),
     ("names that moved, with --explain", ["conform", "--explain", "old.fbs", "moved.fbs"], {}, 0, WARNINGS, WARNINGS),
-    ("names that moved, with --terse", ["conform", "--terse", "old.fbs", "moved.fbs"], {}, 0, b"", b""),
-    ("no name that moved", ["conform", "old.fbs", "old.fbs"], {}, 0, b"", b""),
+    ("names that moved, with --terse", ["conform", "--terse", "old.fbs", "moved.fbs"], {}, 0, "", ""),
+    ("no name that moved", ["conform", "old.fbs", "old.fbs"], {}, 0, "", ""),
     ("files that are refused", ["check", "one.fbs", "short.bin", "seven.bin"], {}, 1,
-     b"short.bin: 50 Short at 0\n" + b"short.bin: the buffer has 2 bytes, and its header takes 4\n"
-     b"         0  0c 00                                             ..\n            " + RED + b"^^" + PLAIN + b"\n",
-     b"short.bin: 50 Short at 0\n"),
-    ("a job without a refusal", ["check", "one.fbs", "seven.bin"], {}, 0, b"", b""),
+     f"{SHORT}{SHORT_SENTENCE}{SHORT_BYTES}{' ' * 12}{RED}^^{PLAIN}\n", SHORT),
+    ("a job without a refusal", ["check", "one.fbs", "seven.bin"], {}, 0, "", ""),
 ]
 
 
@@ -68,16 +71,18 @@ def environment(exported):
 
 
 def rows(tests):
-    for name, what in (("wrong.fbs", WRONG), ("old.fbs", OLD), ("moved.fbs", MOVED), ("one.fbs", ONE)):
-        write(name, what)
+    for name, what in (("wrong.fbs", WRONG), ("old.fbs", OLD), ("moved.fbs", MOVED), ("one.fbs", ONE.decode())):
+        write(name, what.encode())
     write("seven.bin", SEVEN)
     write("short.bin", SEVEN[:2])
     for name, words, exported, status, shown, piped in ROWS:
         have = tests.at_terminal(words, env=environment(exported))
-        tests.tell(f"{name}, at a terminal", have == (status, shown), f"{have!r}, not {(status, shown)!r}")
+        want = status, shown.encode()
+        tests.tell(f"{name}, at a terminal", have == want, f"{have!r}, not {want!r}")
         done = tests.run(words, env=environment(exported))
         have = done.returncode, done.stderr
-        tests.tell(f"{name}, into a pipe", have == (status, piped), f"{have!r}, not {(status, piped)!r}")
+        want = status, piped.encode()
+        tests.tell(f"{name}, into a pipe", have == want, f"{have!r}, not {want!r}")
 
 
 def widths(tests):
