@@ -62,7 +62,8 @@ fn print_coloured(rt: &HostRuntime, line: &str) {
             ""
         ),
         Some(len) if indent == 0 => {
-            let (place, rest) = line.split_at(len);
+            let place = line.get(..len).unwrap_or("");
+            let rest = line.get(len..).unwrap_or("");
             eprintln!(rt; "\u{1b}[1m{place}\u{1b}[0m{rest}")
         }
         _ => eprintln!(rt; "{line}"),
