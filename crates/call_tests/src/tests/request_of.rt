@@ -19,7 +19,7 @@ const REFUSED: &[&str] = &[
     "conform /dev/stdin /dev/fd/0",
     "binary -o d - /proc/self/fd/0",
     "check --what s",
-    "explain",
+    "explain 1 2",
     "explain --explain 1",
 ];
 
