@@ -9,8 +9,11 @@ ghost use Rattle.fb_heard.specs.declared.heard.TakeFault.TheVariants.{TooLong};
 use std::alloc::{AllocError, Global};
 use std::io::{self, Read};
 
-// How many bytes there is room for at first, and how many more once that is filled.
-const CHUNK: usize = 32_768;
+// For how many bytes room is made: as many as there are already, and at least and at most so many. What is read into is
+// set to zero first, which a short file shouldn't pay for.
+const LEAST_ROOM: usize = 4_096;
+
+const MOST_ROOM: usize = 65_536;
 
 /// Why the bytes of a reader can't be had.
 #[derive(Drop)]
@@ -85,7 +88,7 @@ fn make_room(found: &mut Vec<u8>, filled: usize) -> Result<(), AllocError>
     ensures room { OnOk result (filled < length found.new.items) }
 {
     if found.len() == filled {
-        found.resize(filled + CHUNK, 0)?;
+        found.resize(filled + filled.clamp(LEAST_ROOM, MOST_ROOM), 0)?;
     }
     Ok(())
 }
