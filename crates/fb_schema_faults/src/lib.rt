@@ -15,6 +15,7 @@ mod struct_fields;
 mod syntax_faults;
 mod unknown_types;
 mod unsupported;
+mod words;
 
 pub use file_kinds::{FileKind, kind_of_file};
 pub use schema_faults::push_schema_fault;

@@ -1,48 +1,59 @@
 //! A name that no type has, and the one that was meant.
-use crate::declared::last_word;
+use crate::declared::{last_word, types_read};
+use crate::shapes::BASES;
+use crate::words::value_of;
 use fb_pages::{Page, nearest, push_few, push_meant};
 use fb_resolve::{Outline, TypeRead, name_of_type, word_of};
 use std::alloc::{AllocError, Global};
 
-/// The basic types, by each of their names.
-const BASIC: [&str; 18] = [
-    "bool", "byte", "ubyte", "short", "ushort", "int", "uint", "long", "ulong", "int8", "uint8",
-    "int16", "uint16", "int32", "uint32", "int64", "uint64", "string",
+/// What other languages call a type, and FlatBuffers' name of it.
+const FOREIGN: &[(&str, &str)] = &[
+    ("boolean", "bool"),
+    ("Boolean", "bool"),
+    ("str", "string"),
+    ("text", "string"),
+    ("integer", "int"),
+    ("Integer", "int"),
+    ("unsigned", "uint"),
+    ("char", "int8"),
+    ("i8", "int8"),
+    ("int8_t", "int8"),
+    ("u8", "uint8"),
+    ("uint8_t", "uint8"),
+    ("i16", "int16"),
+    ("int16_t", "int16"),
+    ("u16", "uint16"),
+    ("uint16_t", "uint16"),
+    ("i32", "int32"),
+    ("int32_t", "int32"),
+    ("u32", "uint32"),
+    ("uint32_t", "uint32"),
+    ("i64", "int64"),
+    ("int64_t", "int64"),
+    ("u64", "uint64"),
+    ("uint64_t", "uint64"),
+    ("size_t", "uint64"),
 ];
 
-/// What FlatBuffers call a type that other languages call so.
-fn foreign(name: &str) -> Option<&'static str> {
-    Some(match name {
-        "boolean" | "Boolean" => "bool",
-        "str" | "text" => "string",
-        "integer" | "Integer" => "int",
-        "unsigned" => "uint",
-        "char" | "i8" | "int8_t" => "int8",
-        "u8" | "uint8_t" => "uint8",
-        "i16" | "int16_t" => "int16",
-        "u16" | "uint16_t" => "uint16",
-        "i32" | "int32_t" => "int32",
-        "u32" | "uint32_t" => "uint32",
-        "i64" | "int64_t" => "int64",
-        "u64" | "uint64_t" | "size_t" => "uint64",
-        _ => return None,
-    })
-}
-
-/// The namespace in force at an offset.
-fn scope_at<'d>(outline: &Outline<'d, '_>, offset: u64) -> Option<&'d str> {
-    if let Some(root) = &outline.root
-        && root.name.at() == offset
-    {
-        return root.scope;
-    }
+/// The namespace in force at an offset among types.
+fn scope_at<'d>(types: &[TypeRead<'d, '_>], offset: u64) -> Option<&'d str> {
     let mut scope = None;
-    for read in outline.types.iter() {
+    for read in types {
         if word_of(read.declaration).at <= offset {
             scope = read.scope;
         }
     }
     scope
+}
+
+/// The namespace in force at the offset of a name of a type.
+fn scope_of_name<'d>(outline: &Outline<'d, '_>, offset: u64) -> Option<&'d str> {
+    if let Some(root) = &outline.root
+        && root.name.at() == offset
+    {
+        return root.scope;
+    }
+    scope_at(types_read(outline), offset)
 }
 
 /// Whether a type of a namespace is found by its own name inside another.
@@ -70,29 +81,17 @@ fn name_inside(
     }
 }
 
-/// The names of all types as they are written inside a namespace.
+/// The names of types as they are written inside a namespace.
 fn names_inside(
     alloc: Global,
-    outline: &Outline<'_, '_>,
+    types: &[TypeRead<'_, '_>],
     scope: Option<&str>,
 ) -> Result<Vec<String>, AllocError> {
-    let mut names = Vec::with_capacity(alloc, outline.types.len())?;
-    for read in outline.types.iter() {
+    let mut names = Vec::new(alloc);
+    for read in types {
         names.push(name_inside(alloc, read, scope)?)?;
     }
     Ok(names)
-}
-
-/// The names without their namespaces, and behind them the basic types.
-fn words_of<'n>(alloc: Global, names: &'n [String]) -> Result<Vec<&'n str>, AllocError> {
-    let mut words = Vec::with_capacity(alloc, names.len().saturating_add(BASIC.len()))?;
-    for name in names {
-        words.push(last_word(name.as_str()))?;
-    }
-    for name in BASIC {
-        words.push(name)?;
-    }
-    Ok(words)
 }
 
 /// The names as they are.
@@ -102,6 +101,24 @@ fn whole_names<'n>(alloc: Global, names: &'n [String]) -> Result<Vec<&'n str>, A
         whole.push(name.as_str())?;
     }
     Ok(whole)
+}
+
+/// Adds the names of basic types.
+fn push_basic(words: &mut Vec<&str>) -> Result<(), AllocError> {
+    for (name, _) in BASES {
+        words.push(*name)?;
+    }
+    Ok(words.push("string")?)
+}
+
+/// The names without their namespaces, and behind them the basic types.
+fn words_of<'n>(alloc: Global, names: &'n [String]) -> Result<Vec<&'n str>, AllocError> {
+    let mut words = Vec::new(alloc);
+    for name in names {
+        words.push(last_word(name.as_str()))?;
+    }
+    push_basic(&mut words)?;
+    Ok(words)
 }
 
 /// The type that was meant by a name, where one is near it.
@@ -126,6 +143,27 @@ fn meant<'n>(
     }
 }
 
+/// Adds the type that was meant by a name, else the few that there are.
+fn push_known<'n>(page: &mut Page, whole: &[&'n str], words: &[&'n str], wanted: &str) {
+    let near = meant(page, whole, words, wanted);
+    match (near, value_of(FOREIGN, wanted.as_bytes())) {
+        (Some(name), _) | (None, Some(name)) => push_meant(page, name),
+        (None, None) => push_few(page, "the text declares", whole),
+    }
+    page.end_line();
+}
+
+fn push_known_names(page: &mut Page, names: &[String], wanted: &str) {
+    let whole = whole_names(page.alloc(), names);
+    let Some(whole) = page.keep(whole) else {
+        return;
+    };
+    let words = words_of(page.alloc(), names);
+    if let Some(words) = page.keep(words) {
+        push_known(page, whole.as_slice(), words.as_slice(), wanted);
+    }
+}
+
 /// Adds that no type has a name, with the one that was meant.
 pub(crate) fn push_unknown_type(
     page: &mut Page,
@@ -135,22 +173,9 @@ pub(crate) fn push_unknown_type(
 ) {
     page.push_str("no type is called ");
     page.push_name(wanted.as_bytes());
-    let names = names_inside(page.alloc(), outline, scope_at(outline, offset));
-    let Some(names) = page.keep(names) else {
-        return;
-    };
-    let whole = whole_names(page.alloc(), names.as_slice());
-    let Some(whole) = page.keep(whole) else {
-        return;
-    };
-    let words = words_of(page.alloc(), names.as_slice());
-    let Some(words) = page.keep(words) else {
-        return;
-    };
-    let near = meant(page, whole.as_slice(), words.as_slice(), wanted);
-    match (near, foreign(wanted)) {
-        (Some(name), _) | (None, Some(name)) => push_meant(page, name),
-        (None, None) => push_few(page, "the text declares", whole.as_slice()),
+    let scope = scope_of_name(outline, offset);
+    let names = names_inside(page.alloc(), types_read(outline), scope);
+    if let Some(names) = page.keep(names) {
+        push_known_names(page, names.as_slice(), wanted);
     }
-    page.end_line();
 }
