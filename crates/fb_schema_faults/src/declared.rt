@@ -8,7 +8,8 @@ ghost use Rattle.fb_schema_faults.specs.FoundInText.{types_of, type_of, fields_o
 ghost use Rattle.fb_schema_faults.specs.FoundInText.{is_struct_with, is_member_at, is_union_with};
 
 use fb_pages::Page;
-use fb_resolve::{Outline, TypeRead, word_of};
+use fb_resolve::word_of;
+use fb_schema_words::words::last_word;
 use fb_syntax::{
     Declaration, Decls, DefaultValue, Field, SyntaxFault, TypeDecl, UnionMember, parse,
 };
@@ -24,13 +25,6 @@ pub fn declarations_of<'t>(page: &mut Page, text: &'t [u8]) -> Option<Decls<'t>>
         }
         Err(_) => None,
     }
-}
-
-/// The types that are declared, in the order of the text.
-pub(crate) fn types_read<'o, 'd, 's>(outline: &'o Outline<'d, 's>) -> &'o [TypeRead<'d, 's>]
-    ensures { result.now ≡ outline.now.types }
-{
-    outline.types.as_slice()
 }
 
 /// The type that is declared.
@@ -198,12 +192,4 @@ pub(crate) fn value_names<'d>(
         }
     }
     Ok(names)
-}
-
-/// What is behind the last dot of a name.
-pub(crate) fn last_word(name: &str) -> &str {
-    match name.rsplit_once('.') {
-        Some((_, word)) => word,
-        None => name,
-    }
 }

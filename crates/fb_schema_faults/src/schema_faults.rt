@@ -1,39 +1,16 @@
 //! What is wrong with a schema text.
 use crate::bad_defaults::push_bad_default;
-use crate::bad_ids::push_bad_ids;
-use crate::bad_values::push_bad_value;
-use crate::declared::{
-    declarations_of, is_in_a_union, is_under_an_enum, name_of, type_at, types_read,
-};
-use crate::first_names::first_named;
-use crate::schema_tokens::{name_at, token_at};
-use crate::shapes::base_named;
-use crate::struct_fields::{Misplaced, misplaced_at};
-use crate::syntax_faults::{another_kind, push_syntax_sentence};
-use crate::unknown_types::push_unknown_type;
-use crate::unsupported::{is_unsupported_attribute, push_others, unsupported_at};
-use crate::words::{is_one_of, value_of};
+use crate::declared::{declarations_of, is_in_a_union, is_under_an_enum, name_of, type_at};
 use fb_declare::SchemaFault;
+use fb_declared_faults::{Rule, push_broken};
 use fb_layout::LayoutFault;
-use fb_pages::{Page, Position, Source, push_excerpt, push_place};
-use fb_resolve::{Outline, Resolved, ResolvedType};
+use fb_pages::{Page, Source, push_excerpt, push_place};
 use fb_schema_text::SchemaTextFault;
+use fb_schema_words::schema_tokens::{name_at, token_at};
+use fb_schema_words::syntax_faults::{another_kind, push_syntax_sentence};
+use fb_schema_words::unsupported::{is_unsupported_attribute, push_others, unsupported_at};
+use fb_schema_words::words::value_of;
 use fb_syntax::{Decls, SyntaxFault};
-use std::str;
-
-/// A token as a text; empty where it isn't UTF-8.
-fn text_of(token: &[u8]) -> &str {
-    str::from_utf8(token).unwrap_or("")
-}
-
-/// Names beside those of basic types with numbers that no declaration may have, and why.
-const RESERVED: &[(&str, &str)] = &[
-    (
-        "NONE",
-        " is what an absent union is called, so no member may have it",
-    ),
-    ("string", " is a basic type's"),
-];
 
 /// What attributes are for.
 const USES: &[(&str, &str)] = &[
@@ -76,7 +53,7 @@ fn push_unsupported(page: &mut Page, decls: &Decls<'_>, text: &[u8], offset: u64
         page.push_line(what);
         return;
     }
-    if is_one_of(&["force_align"], token) {
+    if token == "force_align".as_bytes() {
         page.push_line("'force_align' on a field isn't supported: it goes on a struct");
         return;
     }
@@ -90,45 +67,6 @@ fn push_unsupported(page: &mut Page, decls: &Decls<'_>, text: &[u8], offset: u64
     } else {
         " is a union, and a vector of unions isn't supported: put the union into a table"
     });
-}
-
-/// Why no declaration may have a name.
-fn reserved_sentence(name: &[u8]) -> Option<&'static str> {
-    if base_named(name).is_some() {
-        return Some(" is a basic type's");
-    }
-    value_of(RESERVED, name)
-}
-
-fn push_first(page: &mut Page, text: &[u8], first: Option<u64>) {
-    page.push_str(" is taken: it is declared before");
-    match first {
-        Some(first) => {
-            page.push_str(", in line ");
-            page.push_number(Position::of(text, first as usize).line as u64);
-            page.end_line();
-        }
-        None => page.push_line(" (a union field 'x' takes 'x_type' too)"),
-    }
-}
-
-fn push_duplicate(
-    page: &mut Page,
-    outline: &Outline<'_, '_>,
-    text: &[u8],
-    token: &[u8],
-    offset: u64,
-) {
-    page.push_str("the name ");
-    page.push_name(token);
-    match reserved_sentence(token) {
-        Some(sentence) => page.push_line(sentence),
-        None => push_first(
-            page,
-            text,
-            first_named(types_read(outline), text_of(token), offset),
-        ),
-    }
 }
 
 fn push_bad_member(page: &mut Page, decls: &Decls<'_>, token: &[u8], offset: u64) {
@@ -155,23 +93,6 @@ fn push_named(page: &mut Page, front: &str, token: &[u8], rest: &str) {
     page.push_line(rest);
 }
 
-/// Adds why a struct may not have the struct that is named at an offset.
-fn push_incomplete(page: &mut Page, types: &[ResolvedType<'_, '_, '_>], name: &[u8], offset: u64) {
-    let misplaced = misplaced_at(page.alloc(), types, offset);
-    let Some(misplaced) = page.keep(misplaced) else {
-        return;
-    };
-    page.push_str("the struct ");
-    page.push_name(name);
-    page.push_line(match misplaced {
-        Misplaced::InItself =>
-            " can't have itself as a field, since it would have no end: use a table",
-        Misplaced::InACircle =>
-            " has this struct in turn, and neither would have an end: use a table",
-        Misplaced::TooLate => " is declared behind the struct that has it: move it up",
-    });
-}
-
 /// A fault of a text's declarations, and its offset there.
 #[derive(Clone, Copy)]
 struct Refusal<'s> {
@@ -180,23 +101,25 @@ struct Refusal<'s> {
     fault: SchemaFault,
 }
 
+/// The rule that is broken, where what names and numbers mean tells how.
+fn rule_of(fault: SchemaFault) -> Option<Rule> {
+    match fault {
+        SchemaFault::DuplicateName(_) => Some(Rule::NamesOnce),
+        SchemaFault::UnknownType(_) => Some(Rule::TypesDeclared),
+        SchemaFault::IncompleteStruct(_) => Some(Rule::StructsInOrder),
+        SchemaFault::BadEnumValue(_) => Some(Rule::EnumNumbers),
+        _ => None,
+    }
+}
+
 /// Adds what is wrong with the declarations of a text, and ends the line.
-fn push_schema_sentence(
-    page: &mut Page,
-    refusal: Refusal<'_>,
-    decls: &Decls<'_>,
-    outline: &Outline<'_, '_>,
-    types: &[ResolvedType<'_, '_, '_>],
-) {
+fn push_schema_sentence(page: &mut Page, refusal: Refusal<'_>, decls: &Decls<'_>) {
     let text = refusal.source.bytes;
     let offset = refusal.offset;
     let token = token_at(text, offset as usize);
     let name = name_at(text, offset as usize);
     match refusal.fault {
-        SchemaFault::DuplicateName(_) => { push_duplicate(page, outline, text, token, offset) }
-        SchemaFault::UnknownType(_) => { push_unknown_type(page, outline, text_of(name), offset) }
         SchemaFault::BadDefault(_) => push_bad_default(page, decls, name, offset),
-        SchemaFault::IncompleteStruct(_) => push_incomplete(page, types, name, offset),
         SchemaFault::EmptyStruct(_) => push_named(page, "the struct ", token, " has no field"),
         SchemaFault::BadAttribute(_) => { push_named(page, "the attribute ", token, use_of(token)) }
         SchemaFault::UnknownAttribute(_) => push_named(
@@ -206,37 +129,32 @@ fn push_schema_sentence(
             " isn't declared: add 'attribute NAME;' with its name, or remove it",
         ),
         SchemaFault::Unsupported(_) => push_unsupported(page, decls, text, offset),
-        SchemaFault::BadEnumValue(_) => push_bad_value(page, types, offset),
         SchemaFault::BadMember(_) => push_bad_member(page, decls, name, offset),
         SchemaFault::BadRoot(_) => push_bad_root(page, name),
-        SchemaFault::BadIdentifier(_) => {
-            push_named(
-                page,
-                "the file identifier ",
-                token,
-                " must have four printable ASCII characters",
-            )
-        }
-        SchemaFault::BadIds(_) | SchemaFault::Memory => {}
+        SchemaFault::BadIdentifier(_) => push_named(
+            page,
+            "the file identifier ",
+            token,
+            " must have four printable ASCII characters",
+        ),
+        SchemaFault::DuplicateName(_)
+        | SchemaFault::UnknownType(_)
+        | SchemaFault::IncompleteStruct(_)
+        | SchemaFault::BadEnumValue(_)
+        | SchemaFault::BadIds(_)
+        | SchemaFault::Memory => {}
     }
 }
 
-/// Adds what is wrong with declarations that are resolved, with the place and its line.
-fn push_resolved(
-    page: &mut Page,
-    refusal: Refusal<'_>,
-    decls: &Decls<'_>,
-    outline: &Outline<'_, '_>,
-    types: &[ResolvedType<'_, '_, '_>],
-) {
+/// Adds what is wrong with declarations, with the place and its line.
+fn push_parsed(page: &mut Page, refusal: Refusal<'_>, decls: &Decls<'_>) {
     let source = refusal.source;
-    if let SchemaFault::BadIds(_) = refusal.fault {
-        push_bad_ids(page, &source, types, refusal.offset);
-        return;
-    }
     let place = refusal.offset as usize;
     push_place(page, &source, place);
-    push_schema_sentence(page, refusal, decls, outline, types);
+    match rule_of(refusal.fault) {
+        Some(rule) => push_broken(page, &source, decls, refusal.offset, rule),
+        None => push_schema_sentence(page, refusal, decls),
+    }
     push_excerpt(page, source.bytes, place);
     if matches!(refusal.fault, SchemaFault::Unsupported(_))
         || unsupported_at(source.bytes, place).is_some()
@@ -245,31 +163,16 @@ fn push_resolved(
     }
 }
 
-/// Adds what is wrong with declarations whose types are read.
-fn push_outlined(
-    page: &mut Page,
-    refusal: Refusal<'_>,
-    decls: &Decls<'_>,
-    outline: &Outline<'_, '_>,
-) {
-    let resolved = Resolved::of(page.alloc(), outline);
-    if let Some(resolved) = page.keep(resolved) {
-        push_resolved(page, refusal, decls, outline, resolved.types.as_slice());
-    }
-}
-
-/// Adds what is wrong with declarations.
-fn push_parsed(page: &mut Page, refusal: Refusal<'_>, decls: &Decls<'_>) {
-    let outlined = Outline::of(page.alloc(), decls);
-    if let Some(outline) = page.keep(outlined) {
-        push_outlined(page, refusal, decls, &outline);
-    }
-}
-
 /// Adds what is wrong with the declarations of a text that can be parsed.
 fn push_declared(page: &mut Page, refusal: Refusal<'_>) {
-    if let Some(decls) = declarations_of(page, refusal.source.bytes) {
-        push_parsed(page, refusal, &decls);
+    let Some(decls) = declarations_of(page, refusal.source.bytes) else {
+        return;
+    };
+    match refusal.fault {
+        SchemaFault::BadIds(_) => {
+            push_broken(page, &refusal.source, &decls, refusal.offset, Rule::Ids)
+        }
+        _ => push_parsed(page, refusal, &decls),
     }
 }
 

@@ -41,7 +41,7 @@ pub(crate) struct Before<'t> {
 }
 
 /// Whether an attribute of this name changes what bytes mean.
-pub(crate) fn is_unsupported_attribute(word: &[u8]) -> bool {
+pub fn is_unsupported_attribute(word: &[u8]) -> bool {
     is_one_of(ATTRIBUTES, word) || word.starts_with(b"native_")
 }
 
@@ -125,7 +125,7 @@ pub(crate) fn before_at(text: &[u8], offset: usize) -> Before<'_> {
 }
 
 /// What isn't supported at an offset.
-pub(crate) fn unsupported_at(text: &[u8], offset: usize) -> Option<&'static str> {
+pub fn unsupported_at(text: &[u8], offset: usize) -> Option<&'static str> {
     unsupported(token_at(text, offset), before_at(text, offset))
 }
 
@@ -147,7 +147,7 @@ fn push_unsupported_token(
 }
 
 /// Adds all other places at which something isn't supported.
-pub(crate) fn push_others(page: &mut Page, source: &Source<'_>, offset: usize) {
+pub fn push_others(page: &mut Page, source: &Source<'_>, offset: usize) {
     let indexed = LineStarts::of(page.alloc(), source.bytes);
     let Some(starts) = page.keep(indexed) else {
         return;

@@ -1,6 +1,15 @@
 //! Where a name that is declared twice is declared first.
-use fb_resolve::{TypeRead, word_of};
+ghost use Rattle.std.specs.Prelude.{◌≡◌};
+
+use fb_resolve::{Outline, TypeRead, word_of};
 use fb_syntax::{EnumValue, Field, Text, TypeDecl, UnionMember};
+
+/// The types that are declared, in the order of the text.
+pub(crate) fn types_read<'o, 'd, 's>(outline: &'o Outline<'d, 's>) -> &'o [TypeRead<'d, 's>]
+    ensures { result.now ≡ outline.now.types }
+{
+    outline.types.as_slice()
+}
 
 /// Whether a name is spelled so, and is before an offset.
 fn is_before(name: &Text<'_>, spelling: &str, offset: u64) -> bool {
@@ -81,7 +90,8 @@ fn first_type(types: &[TypeRead<'_, '_>], again: &TypeRead<'_, '_>) -> Option<u6
 }
 
 /// The offset of the first declaration of a name that is declared again at an offset.
-pub(crate) fn first_named(types: &[TypeRead<'_, '_>], spelling: &str, offset: u64) -> Option<u64> {
+pub(crate) fn first_named(outline: &Outline<'_, '_>, spelling: &str, offset: u64) -> Option<u64> {
+    let types = types_read(outline);
     let around = type_around(types, offset)?;
     if word_of(around.declaration).at == offset {
         return first_type(types, around);

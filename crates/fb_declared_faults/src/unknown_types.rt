@@ -1,9 +1,9 @@
 //! A name that no type has, and the one that was meant.
-use crate::declared::{last_word, types_read};
-use crate::shapes::BASES;
-use crate::words::value_of;
+use crate::first_names::types_read;
 use fb_pages::{Page, nearest, push_few, push_meant};
 use fb_resolve::{Outline, TypeRead, name_of_type, word_of};
+use fb_schema_words::shapes::BASES;
+use fb_schema_words::words::{last_word, value_of};
 use std::alloc::{AllocError, Global};
 
 /// What other languages call a type, and FlatBuffers' name of it.

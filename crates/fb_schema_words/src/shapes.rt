@@ -16,7 +16,7 @@ pub fn type_name(schema: &Schema, number: TypeId) -> &str
     schema.name_at(number).unwrap_or("?")
 }
 
-pub(crate) fn base_name(base: Base) -> &'static str {
+pub fn base_name(base: Base) -> &'static str {
     match base {
         Base::Bool => "bool",
         Base::I8 => "byte",
@@ -122,7 +122,7 @@ pub fn members_of(schema: &Schema, number: TypeId) -> &[(String, TypeId)]
 }
 
 /// The basic types that have numbers, by each of their names.
-pub(crate) const BASES: &[(&str, Base)] = &[
+pub const BASES: &[(&str, Base)] = &[
     ("bool", Base::Bool),
     ("byte", Base::I8),
     ("ubyte", Base::U8),
@@ -143,7 +143,7 @@ pub(crate) const BASES: &[(&str, Base)] = &[
 ];
 
 /// The basic type of a name, if it has numbers.
-pub(crate) fn base_named(name: &[u8]) -> Option<Base> {
+pub fn base_named(name: &[u8]) -> Option<Base> {
     value_of(BASES, name)
 }
 

@@ -63,12 +63,7 @@ fn push_unexpected(page: &mut Page, text: &[u8], offset: usize) {
 }
 
 /// Adds what is wrong with a schema text that can't be parsed, and ends the line.
-pub(crate) fn push_syntax_sentence(
-    page: &mut Page,
-    text: &[u8],
-    offset: usize,
-    fault: SyntaxFault,
-) {
+pub fn push_syntax_sentence(page: &mut Page, text: &[u8], offset: usize, fault: SyntaxFault) {
     match fault {
         SyntaxFault::NotUtf8(_) => page.push_line("the text isn't UTF-8 from here on"),
         SyntaxFault::BadByte(_) => push_bad_byte(page, text, offset),
@@ -90,7 +85,7 @@ pub(crate) fn push_syntax_sentence(
 }
 
 /// What a file is that isn't a schema at all, behind its path.
-pub(crate) fn another_kind(text: &[u8]) -> Option<&'static str> {
+pub fn another_kind(text: &[u8]) -> Option<&'static str> {
     match kind_of_file(text)? {
         FileKind::Json => Some(": this looks like JSON: SCHEMA comes first"),
         FileKind::Buffer => Some(": this looks like a buffer: SCHEMA comes first"),
