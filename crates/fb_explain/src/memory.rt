@@ -9,7 +9,6 @@ use fb_schema_text::{SchemaTextFault, schema_of};
 use fb_syntax::SyntaxFault;
 use fb_text::TextFault;
 use fb_value::ReadFault;
-use serde_json::Value;
 
 /// What a schema text's memory was for, where it ran out.
 fn schema_use(fault: SchemaTextFault) -> Option<&'static str> {
@@ -42,19 +41,6 @@ pub(crate) fn layout_of(page: &mut Page, text: &[u8]) -> Option<Layout> {
         Ok(layout) => Some(layout),
         Err(fault) => {
             if schema_use(fault).is_some() {
-                page.run_out();
-            }
-            None
-        }
-    }
-}
-
-/// The tree of a JSON text; `None` where it has none, or memory runs out, which the page notes.
-pub(crate) fn tree_of(page: &mut Page, text: &[u8]) -> Option<Value> {
-    match Value::from_slice(page.alloc(), text) {
-        Ok(tree) => Some(tree),
-        Err(error) => {
-            if error.is_memory() {
                 page.run_out();
             }
             None

@@ -2,7 +2,7 @@
 use fb_pages::LineStarts;
 use fb_schema::{FieldInfo, Kind, Schema, Shape, TypeId};
 use fb_schema_faults::declared::{fields_of, name_of, type_in};
-use fb_schema_faults::shapes;
+use fb_schema_words::shapes;
 use fb_syntax::{Decls, TypeDecl};
 use std::alloc::{AllocError, Global};
 

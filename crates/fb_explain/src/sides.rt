@@ -3,7 +3,7 @@ use crate::places::Places;
 use fb_layout::Layout;
 use fb_pages::Page;
 use fb_schema::{Schema, TypeId};
-use fb_schema_faults::shapes::type_name;
+use fb_schema_words::shapes::type_name;
 
 /// One of two schemas: its layout, its text's path, and where the text declares what.
 #[derive(Clone, Copy)]

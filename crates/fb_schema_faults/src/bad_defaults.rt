@@ -1,8 +1,9 @@
 //! A default that isn't one of its field's type.
-use crate::declared::{field_of_default, is_in_a_struct, last_word, value_names};
-use crate::shapes::{base_named, range_of_base};
+use crate::declared::{field_of_default, is_in_a_struct, value_names};
 use fb_pages::{Page, push_nearest};
 use fb_schema::Base;
+use fb_schema_words::shapes::{base_named, range_of_base};
+use fb_schema_words::words::last_word;
 use fb_syntax::{Decls, DefaultValue, Field, FieldType};
 use std::str;
 

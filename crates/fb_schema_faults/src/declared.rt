@@ -9,6 +9,7 @@ ghost use Rattle.fb_schema_faults.specs.FoundInText.{is_struct_with, is_member_a
 
 use fb_pages::Page;
 use fb_resolve::word_of;
+use fb_schema_words::words::last_word;
 use fb_syntax::{
     Declaration, Decls, DefaultValue, Field, SyntaxFault, TypeDecl, UnionMember, parse,
 };
@@ -191,12 +192,4 @@ pub(crate) fn value_names<'d>(
         }
     }
     Ok(names)
-}
-
-/// What is behind the last dot of a name.
-pub(crate) fn last_word(name: &str) -> &str {
-    match name.rsplit_once('.') {
-        Some((_, word)) => word,
-        None => name,
-    }
 }

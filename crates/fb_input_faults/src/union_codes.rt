@@ -1,14 +1,14 @@
 //! A union in a buffer whose code has no member.
 use crate::buffer_paths::push_path;
-use crate::explanations::Sources;
 use crate::json_names::names_in;
+use crate::sources::Sources;
 use crate::union_paths::{Unnamed, first_unnamed};
 use fb_json::Place;
 use fb_layout::Layout;
 use fb_pages::{Page, push_names};
 use fb_read::{Entries, read};
 use fb_schema::{Kind, Shape};
-use fb_schema_faults::shapes::{field_at, members_of, type_name};
+use fb_schema_words::shapes::{field_at, members_of, type_name};
 use fb_value::ReadFault;
 use std::alloc::{AllocError, Global};
 
@@ -54,12 +54,7 @@ fn push_members(page: &mut Page, layout: &Layout, place: Place) {
 }
 
 /// Adds the path to the first union whose code has no member, the code, and the members that it has.
-pub(crate) fn push_unnamed_member(
-    page: &mut Page,
-    layout: &Layout,
-    sources: &Sources<'_>,
-    place: Place,
-) {
+pub fn push_unnamed_member(page: &mut Page, layout: &Layout, sources: &Sources<'_>, place: Place) {
     let found = unnamed_in(page.alloc(), layout, sources);
     let Some(Some(mut found)) = page.keep(found) else {
         return;

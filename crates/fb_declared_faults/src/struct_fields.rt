@@ -1,7 +1,5 @@
 //! Fields of a struct that it can't have.
-use fb_resolve::{
-    Meaning, Resolved, ResolvedDecl, ResolvedField, ResolvedStruct, ResolvedType, type_name,
-};
+use fb_resolve::{Meaning, ResolvedDecl, ResolvedField, ResolvedStruct, ResolvedType, type_name};
 use fb_schema::Kind;
 use std::alloc::{AllocError, Global};
 
@@ -43,6 +41,13 @@ struct Pending {
 }
 
 impl Pending {
+    /// None of this many.
+    fn none(alloc: Global, len: usize) -> Result<Pending, AllocError> {
+        let is_met = vec![in alloc; false; len]?;
+        let numbers = Vec::new(alloc);
+        Ok(Pending { numbers, is_met })
+    }
+
     fn add(&mut self, number: usize) -> Result<(), AllocError> {
         if let Some(is_met) = self.is_met.get_mut(number)
             && !*is_met
@@ -61,6 +66,19 @@ impl Pending {
         }
         Ok(())
     }
+
+    /// Looks through those that are left, and what they have inside.
+    fn look_through(&mut self, types: &[ResolvedType<'_, '_, '_>]) -> Result<(), AllocError> {
+        for _ in 0..types.len() {
+            let Some(number) = self.numbers.pop() else {
+                break;
+            };
+            if let Some(declared) = struct_at(types, number) {
+                self.add_fields(declared.fields.as_slice())?;
+            }
+        }
+        Ok(())
+    }
 }
 
 /// Whether a struct has another in it, at any depth.
@@ -70,19 +88,9 @@ fn has_inside(
     outer: usize,
     inner: usize,
 ) -> Result<bool, AllocError> {
-    let mut pending = Pending {
-        numbers: Vec::new(alloc),
-        is_met: vec![in alloc; false; types.len()]?,
-    };
+    let mut pending = Pending::none(alloc, types.len())?;
     pending.add(outer)?;
-    for _ in 0..types.len() {
-        let Some(number) = pending.numbers.pop() else {
-            break;
-        };
-        if let Some(declared) = struct_at(types, number) {
-            pending.add_fields(declared.fields.as_slice())?;
-        }
-    }
+    pending.look_through(types)?;
     Ok(pending.is_met.get(inner).copied().unwrap_or(false))
 }
 
@@ -117,10 +125,9 @@ fn numbers_at(types: &[ResolvedType<'_, '_, '_>], offset: u64) -> Option<(usize,
 /// Why the struct that is named at an offset can't be the type of the struct's field there.
 pub(crate) fn misplaced_at(
     alloc: Global,
-    resolved: &Resolved<'_, '_, '_>,
+    types: &[ResolvedType<'_, '_, '_>],
     offset: u64,
 ) -> Result<Misplaced, AllocError> {
-    let types = resolved.types.as_slice();
     match numbers_at(types, offset) {
         Some((outer, inner)) if inner == outer => Ok(Misplaced::InItself),
         Some((outer, inner)) if has_inside(alloc, types, inner, outer)? => {

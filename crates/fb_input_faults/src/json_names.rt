@@ -3,7 +3,8 @@ use crate::json_rules::kind_in;
 use fb_json::{Place, has_flags};
 use fb_pages::{Page, push_few, push_nearest};
 use fb_schema::{FieldInfo, Kind, Schema, Shape, TypeId};
-use fb_schema_faults::shapes::{field_at, fields_of, members_of, type_name, values_of};
+use fb_schema_words::shapes::{field_at, fields_of, members_of, type_name, values_of};
+use fb_schema_words::words::last_word;
 use std::alloc::{AllocError, Global};
 
 /// The names of an enum's values or of a union's members.
@@ -29,14 +30,6 @@ fn field_names(alloc: Global, fields: &[FieldInfo]) -> Result<Vec<&str>, AllocEr
 /// A text without its quotes.
 fn unquoted(token: &str) -> &str {
     token.trim_matches('"')
-}
-
-/// A name without the enum or union, or the namespace, before its last dot.
-fn last_word(name: &str) -> &str {
-    match name.rsplit_once('.') {
-        Some((_, word)) => word,
-        None => name,
-    }
 }
 
 /// Adds what no name is, and the nearest of those that there are.

@@ -1,7 +1,35 @@
 //! What of FlatBuffers' schema language isn't supported, wherever a text has it.
 use crate::schema_tokens::{Token, Tokens, token_at};
 use crate::shapes::base_named;
+use crate::words::{is_one_of, value_of};
 use fb_pages::{LineStarts, Page, Source, push_position};
+
+/// The words that begin what isn't supported, and what to say of each.
+const DECLARATIONS: &[(&str, &str)] = &[
+    (
+        "include",
+        "'include' isn't supported: put all declarations into one text",
+    ),
+    (
+        "native_include",
+        "'include' isn't supported: put all declarations into one text",
+    ),
+    ("rpc_service", "services ('rpc_service') aren't supported"),
+];
+
+const FLOATS: &[&str] = &["float", "double", "float32", "float64"];
+
+const ATTRIBUTES: &[&str] = &["key", "hash", "shared", "nested_flatbuffer", "flexbuffer"];
+
+/// The last tokens of types, and why a field of one may not have a quoted default.
+const QUOTED_DEFAULTS: &[(&str, &str)] = &[
+    ("string", "default values of strings aren't supported"),
+    ("]", "default values of vectors aren't supported"),
+    (
+        "bool",
+        "the default of a bool is true or false, without quotes",
+    ),
+];
 
 /// The tokens before a token, the nearest first.
 #[derive(Clone, Copy)]
@@ -12,16 +40,9 @@ pub(crate) struct Before<'t> {
     in_attributes: bool,
 }
 
-fn is_float(word: &[u8]) -> bool {
-    matches!(word, b"float" | b"double" | b"float32" | b"float64")
-}
-
 /// Whether an attribute of this name changes what bytes mean.
-pub(crate) fn is_unsupported_attribute(word: &[u8]) -> bool {
-    matches!(
-        word,
-        b"key" | b"hash" | b"shared" | b"nested_flatbuffer" | b"flexbuffer"
-    ) || word.starts_with(b"native_")
+pub fn is_unsupported_attribute(word: &[u8]) -> bool {
+    is_one_of(ATTRIBUTES, word) || word.starts_with(b"native_")
 }
 
 fn is_a_number(word: &[u8]) -> bool {
@@ -30,36 +51,41 @@ fn is_a_number(word: &[u8]) -> bool {
 
 /// Why a default may not be a quoted text, behind the last token of its field's type.
 fn quoted_default(kind: &[u8]) -> &'static str {
-    match kind {
-        b"string" => "default values of strings aren't supported",
-        b"]" => "default values of vectors aren't supported",
-        b"bool" => "the default of a bool is true or false, without quotes",
-        _ if base_named(kind).is_some() => "the default of a number is written without quotes",
-        _ => {
-            "an enum's default is a value's name without quotes, and that of several flags the sum of their numbers"
+    if let Some(sentence) = value_of(QUOTED_DEFAULTS, kind) {
+        return sentence;
+    }
+    if base_named(kind).is_some() {
+        return "the default of a number is written without quotes";
+    }
+    "an enum's default is a value's name without quotes, and that of several flags the sum of their numbers"
+}
+
+/// What isn't supported of a word behind others.
+fn unsupported_word(word: &[u8], before: Before<'_>) -> Option<&'static str> {
+    match before.last.first() {
+        None | Some(b';' | b'}') => value_of(DECLARATIONS, word),
+        Some(b':' | b'[') if is_one_of(FLOATS, word) => Some("floats aren't supported"),
+        Some(b'(' | b',') if before.in_attributes && is_unsupported_attribute(word) => {
+            Some("this attribute isn't supported")
         }
+        _ => None,
     }
 }
 
 /// What isn't supported at a token behind others.
 fn unsupported(token: &[u8], before: Before<'_>) -> Option<&'static str> {
-    match (before.last, token) {
-        (b"" | b";" | b"}", b"include" | b"native_include") => {
-            Some("'include' isn't supported: put all declarations into one text")
+    let last = before.last;
+    let is_default = matches!(last.first(), Some(b'='));
+    match token.first() {
+        Some(b'"') if is_default => Some(quoted_default(before.second)),
+        Some(b'[') if is_default => Some("default values of vectors aren't supported"),
+        Some(b'.') if is_default || is_a_number(last) => {
+            Some("numbers with a fraction aren't supported")
         }
-        (b"" | b";" | b"}", b"rpc_service") => Some("services ('rpc_service') aren't supported"),
-        (b":" | b"[", word) if is_float(word) => Some("floats aren't supported"),
-        (b"=", [b'"', ..]) => Some(quoted_default(before.second)),
-        (b"=", [b'[']) => Some("default values of vectors aren't supported"),
-        (b"(" | b",", word) if before.in_attributes && is_unsupported_attribute(word) => {
-            Some("this attribute isn't supported")
-        }
-        (last, b":") if matches!(before.second, b"[") && !last.is_empty() => {
+        Some(b':') if matches!(before.second.first(), Some(b'[')) && !last.is_empty() => {
             Some("fixed-size arrays aren't supported")
         }
-        (number, b".") if is_a_number(number) => Some("numbers with a fraction aren't supported"),
-        (b"=", b".") => Some("numbers with a fraction aren't supported"),
-        _ => None,
+        _ => unsupported_word(token, before),
     }
 }
 
@@ -76,9 +102,9 @@ impl<'t> Before<'t> {
         Before {
             last: token.bytes,
             second: self.last,
-            in_attributes: match token.bytes {
-                b"(" => true,
-                b")" => false,
+            in_attributes: match token.bytes.first() {
+                Some(b'(') => true,
+                Some(b')') => false,
                 _ => self.in_attributes,
             },
         }
@@ -99,7 +125,7 @@ pub(crate) fn before_at(text: &[u8], offset: usize) -> Before<'_> {
 }
 
 /// What isn't supported at an offset.
-pub(crate) fn unsupported_at(text: &[u8], offset: usize) -> Option<&'static str> {
+pub fn unsupported_at(text: &[u8], offset: usize) -> Option<&'static str> {
     unsupported(token_at(text, offset), before_at(text, offset))
 }
 
@@ -121,7 +147,7 @@ fn push_unsupported_token(
 }
 
 /// Adds all other places at which something isn't supported.
-pub(crate) fn push_others(page: &mut Page, source: &Source<'_>, offset: usize) {
+pub fn push_others(page: &mut Page, source: &Source<'_>, offset: usize) {
     let indexed = LineStarts::of(page.alloc(), source.bytes);
     let Some(starts) = page.keep(indexed) else {
         return;

@@ -1,6 +1,15 @@
 //! Where a name that is declared twice is declared first.
+ghost use Rattle.std.specs.Prelude.{◌≡◌};
+
 use fb_resolve::{Outline, TypeRead, word_of};
 use fb_syntax::{EnumValue, Field, Text, TypeDecl, UnionMember};
+
+/// The types that are declared, in the order of the text.
+pub(crate) fn types_read<'o, 'd, 's>(outline: &'o Outline<'d, 's>) -> &'o [TypeRead<'d, 's>]
+    ensures { result.now ≡ outline.now.types }
+{
+    outline.types.as_slice()
+}
 
 /// Whether a name is spelled so, and is before an offset.
 fn is_before(name: &Text<'_>, spelling: &str, offset: u64) -> bool {
@@ -45,11 +54,11 @@ fn first_member(members: &[UnionMember<'_>], spelling: &str, offset: u64) -> Opt
 
 /// The last type whose name isn't behind an offset.
 fn type_around<'o, 'd, 's>(
-    outline: &'o Outline<'d, 's>,
+    types: &'o [TypeRead<'d, 's>],
     offset: u64,
 ) -> Option<&'o TypeRead<'d, 's>> {
     let mut around = None;
-    for read in outline.types.iter() {
+    for read in types {
         if word_of(read.declaration).at <= offset {
             around = Some(read);
         }
@@ -69,9 +78,9 @@ fn first_inside(declared: &TypeDecl<'_>, spelling: &str, offset: u64) -> Option<
 }
 
 /// The offset of the first type with the full name of another.
-fn first_type(outline: &Outline<'_, '_>, again: &TypeRead<'_, '_>) -> Option<u64> {
+fn first_type(types: &[TypeRead<'_, '_>], again: &TypeRead<'_, '_>) -> Option<u64> {
     let word = word_of(again.declaration);
-    for read in outline.types.iter() {
+    for read in types {
         let found = word_of(read.declaration);
         if read.scope == again.scope && is_before(found, word.text, word.at) {
             return Some(found.at);
@@ -82,9 +91,10 @@ fn first_type(outline: &Outline<'_, '_>, again: &TypeRead<'_, '_>) -> Option<u64
 
 /// The offset of the first declaration of a name that is declared again at an offset.
 pub(crate) fn first_named(outline: &Outline<'_, '_>, spelling: &str, offset: u64) -> Option<u64> {
-    let around = type_around(outline, offset)?;
+    let types = types_read(outline);
+    let around = type_around(types, offset)?;
     if word_of(around.declaration).at == offset {
-        return first_type(outline, around);
+        return first_type(types, around);
     }
     first_inside(around.declaration, spelling, offset)
 }

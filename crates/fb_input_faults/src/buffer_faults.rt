@@ -1,10 +1,10 @@
 //! What is wrong with a buffer.
 use crate::buffer_paths::push_path;
-use crate::explanations::Sources;
+use crate::sources::Sources;
 use fb_layout::Layout;
 use fb_pages::{Page, push_dump};
 use fb_read::{Step, fault_path};
-use fb_schema_faults::{FileKind, kind_of_file};
+use fb_schema_words::{FileKind, kind_of_file};
 use fb_value::{Limits, ReadFault};
 
 /// The bytes of a number at an offset.
@@ -205,7 +205,7 @@ fn push_another_kind(page: &mut Page, bytes: &[u8]) -> bool {
 }
 
 /// Adds what is wrong with a buffer.
-pub(crate) fn push_buffer_fault(
+pub fn push_buffer_fault(
     page: &mut Page,
     layout: &Layout,
     sources: &Sources<'_>,

@@ -72,13 +72,13 @@ fn token_len(text: &[u8]) -> usize {
 }
 
 /// The token at an offset; empty at the text's end.
-pub(crate) fn token_at(text: &[u8], at: usize) -> &[u8] {
+pub fn token_at(text: &[u8], at: usize) -> &[u8] {
     let rest = rest_from(text, at);
     rest.get(..token_len(rest)).unwrap_or(rest)
 }
 
 /// The words at an offset with the dots between them; the token there where it is no word.
-pub(crate) fn name_at(text: &[u8], at: usize) -> &[u8] {
+pub fn name_at(text: &[u8], at: usize) -> &[u8] {
     let token = token_at(text, at);
     if !is_word(token) {
         return token;

@@ -2,7 +2,7 @@
 use fb_layout::Layout;
 use fb_pages::Page;
 use fb_read::Step;
-use fb_schema_faults::shapes::field_at;
+use fb_schema_words::shapes::field_at;
 
 /// Adds a step: a field's name behind a dot, or a number in brackets.
 fn push_step(page: &mut Page, layout: &Layout, step: Step, is_first: bool) {

@@ -1,5 +1,22 @@
 //! The sign that a schema text needs at a place.
 use crate::schema_tokens::{Token, Tokens};
+use crate::words::{is_one_of, value_of};
+
+/// What has fields.
+const OWNERS: &[&str] = &["table", "struct"];
+
+/// The first words of statements, and what is expected behind their names.
+const BEHIND_NAMES: &[(&str, &str)] = &[
+    ("table", ": '{' is expected"),
+    ("struct", ": '{' is expected"),
+    ("union", ": '{' is expected"),
+    ("enum", ": ':' is expected"),
+    ("root_type", ": ';' is expected"),
+    ("namespace", ": ';' is expected"),
+    ("attribute", ": ';' is expected"),
+    ("file_identifier", ": ';' is expected"),
+    ("file_extension", ": ';' is expected"),
+];
 
 /// What is before a token: the statement so far, and what it is in.
 #[derive(Clone, Copy)]
@@ -24,17 +41,24 @@ impl<'t> Statement<'t> {
     }
 
     fn followed_by(self, token: Token<'t>) -> Statement<'t> {
-        match token.bytes {
-            b"{" => Statement::of(self.first),
-            b"}" => Statement::of(b""),
-            b";" => Statement::of(self.owner),
-            word => Statement {
-                owner: self.owner,
-                first: if self.count == 0 { word } else { self.first },
-                last: word,
-                count: self.count.saturating_add(1),
-                is_in_brackets: matches!(word, b"(" | b"[")
-                    || self.is_in_brackets && !matches!(word, b")" | b"]"),
+        match token.bytes.first() {
+            Some(b'{') => Statement::of(self.first),
+            Some(b'}') => Statement::of(b""),
+            Some(b';') => Statement::of(self.owner),
+            _ => self.continued_by(token.bytes),
+        }
+    }
+
+    fn continued_by(self, word: &'t [u8]) -> Statement<'t> {
+        Statement {
+            owner: self.owner,
+            first: if self.count == 0 { word } else { self.first },
+            last: word,
+            count: self.count.saturating_add(1),
+            is_in_brackets: match word.first() {
+                Some(b'(' | b'[') => true,
+                Some(b')' | b']') => false,
+                _ => self.is_in_brackets,
             },
         }
     }
@@ -53,15 +77,17 @@ impl<'t> Statement<'t> {
         if self.is_in_brackets || !self.ends_a_value() {
             return None;
         }
-        match (self.owner, self.first, self.count) {
-            (b"table" | b"struct", _, 1) => Some(": ':' is expected"),
-            (b"table" | b"struct", _, _) => Some(": ';' is expected"),
-            (b"", b"table" | b"struct" | b"union", 2) => Some(": '{' is expected"),
-            (b"", b"enum", 2) => Some(": ':' is expected"),
-            (b"", b"root_type" | b"namespace" | b"attribute", 2) => Some(": ';' is expected"),
-            (b"", b"file_identifier" | b"file_extension", 2) => Some(": ';' is expected"),
-            _ => None,
+        if is_one_of(OWNERS, self.owner) {
+            return Some(if self.count == 1 {
+                ": ':' is expected"
+            } else {
+                ": ';' is expected"
+            });
         }
+        if self.owner.is_empty() && self.count == 2 {
+            return value_of(BEHIND_NAMES, self.first);
+        }
+        None
     }
 }
 

@@ -1,8 +1,8 @@
 //! A value of an enum whose number isn't one that it can have.
-use crate::shapes::{base_name, range_of_base};
 use fb_pages::Page;
-use fb_resolve::{EnumValues, Resolved, ResolvedDecl, ResolvedValue, may_be_written};
+use fb_resolve::{EnumValues, ResolvedDecl, ResolvedType, ResolvedValue, may_be_written};
 use fb_schema::Base;
+use fb_schema_words::shapes::{base_name, range_of_base};
 
 /// A value's name and its offset, and whether its number is written.
 #[derive(Clone, Copy)]
@@ -33,10 +33,10 @@ fn place_of(values: &[ResolvedValue<'_, '_>], offset: u64) -> Option<usize> {
 
 /// The values of the enum that has one at an offset, and its place among them.
 fn values_around<'r, 't, 'd, 's>(
-    resolved: &'r Resolved<'t, 'd, 's>,
+    types: &'r [ResolvedType<'t, 'd, 's>],
     offset: u64,
 ) -> Option<(&'t EnumValues<'d, 's>, usize)> {
-    for declared in resolved.types.iter() {
+    for declared in types {
         if let ResolvedDecl::Enum(found) = &declared.declaration {
             let values = found.values;
             if let Some(at) = place_of(values.values.as_slice(), offset) {
@@ -124,8 +124,8 @@ fn push_wrong_number(
 }
 
 /// Adds what is wrong with the number of an enum's value at an offset, and ends the line.
-pub(crate) fn push_bad_value(page: &mut Page, resolved: &Resolved<'_, '_, '_>, offset: u64) {
-    let Some((declared, at)) = values_around(resolved, offset) else {
+pub(crate) fn push_bad_value(page: &mut Page, types: &[ResolvedType<'_, '_, '_>], offset: u64) {
+    let Some((declared, at)) = values_around(types, offset) else {
         page.end_line();
         return;
     };

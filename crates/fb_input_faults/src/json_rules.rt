@@ -5,7 +5,7 @@ use fb_json::{JsonFault, Place};
 use fb_layout::Layout;
 use fb_pages::Page;
 use fb_schema::{Base, FieldInfo, Kind, Shape};
-use fb_schema_faults::shapes::{field_at, kind_name, push_shape, range_of_base, type_name};
+use fb_schema_words::shapes::{field_at, kind_name, push_shape, range_of_base, type_name};
 use fb_value::Limits;
 
 /// An offset in a JSON text, and whether the value at a path's end is there, or the object that lacks it.

@@ -1,7 +1,6 @@
 //! Ids of a table's fields that don't name each of its slots once.
 use fb_pages::{Page, Source, push_excerpt, push_place};
-use fb_resolve::{Resolved, ResolvedDecl, ResolvedField, ResolvedTable, union_in};
-use std::alloc::{AllocError, Global};
+use fb_resolve::{ResolvedDecl, ResolvedField, ResolvedTable, ResolvedType, union_in};
 
 /// What is wrong with a field's id.
 #[derive(Clone, Copy)]
@@ -16,16 +15,31 @@ enum Wrong<'s> {
     Skipped(u64),
 }
 
+/// A field whose id is wrong: its name, its offset and the id, and what is wrong with that.
+#[derive(Clone, Copy)]
+struct WrongId<'s> {
+    name: &'s str,
+    at: usize,
+    id: Option<u64>,
+    wrong: Wrong<'s>,
+}
+
+impl<'s> WrongId<'s> {
+    fn of(resolved: &ResolvedField<'_, 's>, wrong: Wrong<'s>) -> WrongId<'s> {
+        let field = resolved.field;
+        WrongId {
+            name: field.name.text,
+            at: field.name.at as usize,
+            id: resolved.attributes.id,
+            wrong,
+        }
+    }
+}
+
 /// A field's name.
 fn name_of<'s>(resolved: &ResolvedField<'_, 's>) -> &'s str {
     let field = resolved.field;
     field.name.text
-}
-
-/// The offset of a field's name.
-fn place_of(resolved: &ResolvedField<'_, '_>) -> usize {
-    let field = resolved.field;
-    field.name.at as usize
 }
 
 /// The first and the last slot that a field takes by its id.
@@ -111,50 +125,49 @@ fn least_behind<'f, 'd, 's>(
 }
 
 /// The first field whose id is wrong alone.
-fn first_alone<'f, 'd, 's>(
-    fields: &'f [ResolvedField<'d, 's>],
-) -> Option<(&'f ResolvedField<'d, 's>, Wrong<'s>)> {
+fn first_alone<'s>(fields: &[ResolvedField<'_, 's>]) -> Option<WrongId<'s>> {
     for field in fields {
         if let Some(wrong) = wrong_alone(field) {
-            return Some((field, wrong));
+            return Some(WrongId::of(field, wrong));
         }
     }
     None
 }
 
 /// The first field whose id is that of a slot which one before it has; if there is none, who has which.
-fn first_taken<'f, 'd, 's>(
-    fields: &'f [ResolvedField<'d, 's>],
+fn first_taken<'s>(
+    fields: &[ResolvedField<'_, 's>],
     owners: &mut Owners<'s>,
-) -> Option<(&'f ResolvedField<'d, 's>, Wrong<'s>)> {
+) -> Option<WrongId<'s>> {
     for field in fields {
         if let Some(wrong) = taken(owners, field) {
-            return Some((field, wrong));
+            return Some(WrongId::of(field, wrong));
         }
     }
     None
 }
 
+/// The field whose id is wrong beside the others'.
+fn wrong_together<'s>(
+    fields: &[ResolvedField<'_, 's>],
+    owners: &mut Owners<'s>,
+) -> Option<WrongId<'s>> {
+    if let Some(found) = first_taken(fields, owners) {
+        return Some(found);
+    }
+    let free = owners.first_free()?;
+    let field = least_behind(fields, free)?;
+    Some(WrongId::of(field, Wrong::Skipped(free)))
+}
+
 /// The field whose id is wrong, and why.
-fn wrong_in<'f, 'd, 's>(
-    alloc: Global,
-    fields: &'f [ResolvedField<'d, 's>],
-) -> Result<Option<(&'f ResolvedField<'d, 's>, Wrong<'s>)>, AllocError> {
+fn wrong_in<'s>(page: &mut Page, fields: &[ResolvedField<'_, 's>]) -> Option<WrongId<'s>> {
     if let Some(found) = first_alone(fields) {
-        return Ok(Some(found));
+        return Some(found);
     }
-    let names = vec![in alloc; None; slot_count(fields)]?;
-    let mut owners = Owners { names };
-    if let Some(found) = first_taken(fields, &mut owners) {
-        return Ok(Some(found));
-    }
-    let Some(free) = owners.first_free() else {
-        return Ok(None);
-    };
-    match least_behind(fields, free) {
-        Some(field) => Ok(Some((field, Wrong::Skipped(free)))),
-        None => Ok(None),
-    }
+    let names = vec![in page.alloc(); None; slot_count(fields)];
+    let names = page.keep(names)?;
+    wrong_together(fields, &mut Owners { names })
 }
 
 fn push_wrong(page: &mut Page, wrong: Wrong<'_>, id: Option<u64>, table: &str) {
@@ -199,10 +212,10 @@ fn word_of<'s>(table: &ResolvedTable<'_, 's>) -> (&'s str, u64) {
 
 /// The table whose name is at an offset.
 fn table_at<'r, 't, 'd, 's>(
-    resolved: &'r Resolved<'t, 'd, 's>,
+    types: &'r [ResolvedType<'t, 'd, 's>],
     offset: u64,
 ) -> Option<&'r ResolvedTable<'d, 's>> {
-    for declared in resolved.types.iter() {
+    for declared in types {
         if let ResolvedDecl::Table(table) = &declared.declaration
             && word_of(table).1 == offset
         {
@@ -212,23 +225,25 @@ fn table_at<'r, 't, 'd, 's>(
     None
 }
 
+/// Adds the field whose id is wrong in a table, and why.
+fn push_wrong_id(page: &mut Page, source: &Source<'_>, found: WrongId<'_>, table: &str) {
+    push_place(page, source, found.at);
+    page.push_str("the field ");
+    page.push_name(found.name.as_bytes());
+    push_wrong(page, found.wrong, found.id, table);
+    push_excerpt(page, source.bytes, found.at);
+}
+
 /// Adds the field whose id is wrong in the table at an offset, and why.
 pub(crate) fn push_bad_ids(
     page: &mut Page,
     source: &Source<'_>,
-    resolved: &Resolved<'_, '_, '_>,
+    types: &[ResolvedType<'_, '_, '_>],
     offset: u64,
 ) {
-    let Some(table) = table_at(resolved, offset) else {
-        return;
-    };
-    let found = wrong_in(page.alloc(), table.fields.as_slice());
-    let Some(Some((field, wrong))) = page.keep(found) else {
-        return;
-    };
-    push_place(page, source, place_of(field));
-    page.push_str("the field ");
-    page.push_name(name_of(field).as_bytes());
-    push_wrong(page, wrong, field.attributes.id, word_of(table).0);
-    push_excerpt(page, source.bytes, place_of(field));
+    if let Some(table) = table_at(types, offset)
+        && let Some(found) = wrong_in(page, table.fields.as_slice())
+    {
+        push_wrong_id(page, source, found, word_of(table).0);
+    }
 }

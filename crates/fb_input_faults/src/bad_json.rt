@@ -2,7 +2,7 @@
 use crate::json_syntax::flaw_of;
 use crate::json_tokens::Flaw;
 use fb_pages::{Page, Source, push_excerpt, push_place};
-use fb_schema_faults::{FileKind, kind_of_file};
+use fb_schema_words::{FileKind, kind_of_file};
 use std::str;
 
 /// Where bytes stop being JSON.
@@ -20,7 +20,7 @@ fn push_another(page: &mut Page, source: &Source<'_>, what: &str) {
 }
 
 /// Adds where a text isn't JSON, and why.
-pub(crate) fn push_bad_json(page: &mut Page, source: &Source<'_>) {
+pub fn push_bad_json(page: &mut Page, source: &Source<'_>) {
     match kind_of_file(source.bytes) {
         Some(FileKind::Buffer) => {
             push_another(

@@ -1,14 +1,13 @@
 //! What is wrong with a JSON text under a schema.
-use crate::explanations::Sources;
 use crate::json_names::is_unknown;
 use crate::json_places::{Name, element_offset, member_names, member_offset, rest_of};
 use crate::json_rules::{Found, push_rule};
-use crate::memory::tree_of;
+use crate::sources::Sources;
 use fb_json::{JsonFault, Step, fault_path};
 use fb_layout::Layout;
 use fb_pages::{Page, push_excerpt, push_place};
 use fb_schema::TypeId;
-use fb_schema_faults::shapes::field_at;
+use fb_schema_words::shapes::field_at;
 use serde_json::Value;
 use std::alloc::{AllocError, Global};
 use std::str;
@@ -153,13 +152,21 @@ fn push_at_path(
     push_excerpt(page, sources.input.bytes, offset);
 }
 
+/// The tree of a JSON text; `None` where it has none, or memory runs out, which the page notes.
+fn tree_of(page: &mut Page, text: &[u8]) -> Option<Value> {
+    match Value::from_slice(page.alloc(), text) {
+        Ok(tree) => Some(tree),
+        Err(error) => {
+            if error.is_memory() {
+                page.run_out();
+            }
+            None
+        }
+    }
+}
+
 /// Adds what is wrong with a JSON text under a schema.
-pub(crate) fn push_json_fault(
-    page: &mut Page,
-    layout: &Layout,
-    sources: &Sources<'_>,
-    fault: JsonFault,
-) {
+pub fn push_json_fault(page: &mut Page, layout: &Layout, sources: &Sources<'_>, fault: JsonFault) {
     let Some(tree) = tree_of(page, sources.input.bytes) else {
         return;
     };

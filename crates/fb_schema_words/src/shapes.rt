@@ -5,6 +5,7 @@ ghost use Rattle.fb_schema.specs.Schema.{body_at, table_body, values_in, members
 ghost use Rattle.fb_schema.specs.Seen.{field_seen, body_seen};
 ghost use Rattle.fb_schema.specs.Found.{name_at, fields_in};
 
+use crate::words::value_of;
 use fb_pages::Page;
 use fb_schema::{Base, Body, FieldInfo, Kind, Schema, Shape, TypeId};
 
@@ -15,7 +16,7 @@ pub fn type_name(schema: &Schema, number: TypeId) -> &str
     schema.name_at(number).unwrap_or("?")
 }
 
-pub(crate) fn base_name(base: Base) -> &'static str {
+pub fn base_name(base: Base) -> &'static str {
     match base {
         Base::Bool => "bool",
         Base::I8 => "byte",
@@ -120,20 +121,30 @@ pub fn members_of(schema: &Schema, number: TypeId) -> &[(String, TypeId)]
     }
 }
 
+/// The basic types that have numbers, by each of their names.
+pub const BASES: &[(&str, Base)] = &[
+    ("bool", Base::Bool),
+    ("byte", Base::I8),
+    ("ubyte", Base::U8),
+    ("short", Base::I16),
+    ("ushort", Base::U16),
+    ("int", Base::I32),
+    ("uint", Base::U32),
+    ("long", Base::I64),
+    ("ulong", Base::U64),
+    ("int8", Base::I8),
+    ("uint8", Base::U8),
+    ("int16", Base::I16),
+    ("uint16", Base::U16),
+    ("int32", Base::I32),
+    ("uint32", Base::U32),
+    ("int64", Base::I64),
+    ("uint64", Base::U64),
+];
+
 /// The basic type of a name, if it has numbers.
-pub(crate) fn base_named(name: &[u8]) -> Option<Base> {
-    Some(match name {
-        b"bool" => Base::Bool,
-        b"byte" | b"int8" => Base::I8,
-        b"ubyte" | b"uint8" => Base::U8,
-        b"short" | b"int16" => Base::I16,
-        b"ushort" | b"uint16" => Base::U16,
-        b"int" | b"int32" => Base::I32,
-        b"uint" | b"uint32" => Base::U32,
-        b"long" | b"int64" => Base::I64,
-        b"ulong" | b"uint64" => Base::U64,
-        _ => return None,
-    })
+pub fn base_named(name: &[u8]) -> Option<Base> {
+    value_of(BASES, name)
 }
 
 /// The numbers of a basic type.
