@@ -1,0 +1,28 @@
+-- Open fields as they are held: each one's bytes are among those of all.
+use Rattle.std.specs.Prelude.{ℕ, ◌+◌, ◌≤◌, List, map, length, take, drop}
+use Rattle.std.specs.List.{All}
+use Rattle.fb_value.specs.Num.{Bytes, part_of}
+use Rattle.fb_tape.specs.OpenFields.{OpenField}
+use Rattle.fb_tape.specs.declared.open_fields.OpenField.{OpenField as Held}
+use Rattle.fb_tape.specs.declared.open_fields.OpenFields.TheInside.{Inside}
+use Rattle.fb_tape.specs.declared.ops.NotedField.{NotedField}
+use Rattle.fb_tape.specs.declared.ops.NotedField.TheVariants.{Reference, Inline}
+
+-- how many bytes a field has in its table's place, beside references
+abbrev pub own_size : NotedField → ℕ
+own_size Reference = 0
+own_size (Inline n) = n
+
+abbrev pub field_seen : Bytes → Held → OpenField
+field_seen bytes x = record {
+  slot = x.slot;
+  align = x.align;
+  note = x.note;
+  bytes = part_of bytes x.first (own_size x.note);
+}
+
+abbrev pub open_seen : Inside → List OpenField
+open_seen o = map (field_seen o.bytes.items) o.fields.items
+
+abbrev pub IsOpenList : Inside → Type 0
+IsOpenList o = All (λ x. x.first + own_size x.note ≤ length o.bytes.items) o.fields.items
