@@ -16,7 +16,7 @@ invariant_of-self-2 c =
     let known = c.push_reserved.ensures.strings in
     let bytes = c.in_ok-extend_from_slice.ensures.items in
     let new : HeldLists c.push_reserved-2.new.self.items c.push_reserved.new.self.strings
-        c.extend_from_slice.new.self.items =
+    c.extend_from_slice.new.self.items =
     rw (ranges, c.reserve-2.ensures.items, known, c.reserve.ensures.strings, bytes, c.len.ensures, c.self.inside.bytes.ok.0) more in
     record { each = new.each; within = new.within; stand = new.stand; one = new.one }
 
