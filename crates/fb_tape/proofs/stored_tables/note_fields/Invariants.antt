@@ -1,11 +1,14 @@
-use Rattle.std.proofs.Common.{ℕ, ◌≡◌, ◌≤◌, ◌<◌, ◌+◌, ◌*◌, ◌++◌, List, length, drop, map, max, flat_map, OnOk, ◌-◌}
-use Rattle.std.specs.List.{All}
-use Rattle.byteorder.specs.Endian.{little_bytes}
-use Rattle.fb_schema.specs.Alignments.{greatest_in}
-use Rattle.fb_layout.specs.Sizes.{ceil4}
-use Rattle.fb_tape.specs.StoredTables.{taken_by, taken, at_align, in_order, notes_of, bytes_of, placed}
-use Rattle.fb_tape.specs.Vtables.{vtable_with}
+use Rattle.std.proofs.Common.{◌≡◌, length, drop, flat_map}
+use Rattle.fb_tape.specs.LayingOrder.{falling_alignments}
+use Rattle.fb_tape.specs.StoredTables.{at_align, in_order}
+use Rattle.fb_tape.proofs.stored_tables.FieldsInTurn.{Noting}
 use Rattle.fb_tape.proofs.stored_tables.note_fields.Given as goal
 
 abbrev pub invariant-loop-align : goal.invariant-loop-align
-invariant-loop-align l = ?
+invariant-loop-align l =
+    (l.offsets.size ≡ l.fn.offsets.size)
+    × Noting l.offsets.size
+    (flat_map (λ a. at_align a (drop l.first l.opened)) (drop l.align-index l.align-items))
+    (in_order (drop l.first l.opened))
+    l.notes.items l.fn.notes.items l.bytes.items l.fn.bytes.items l.offsets.laid l.fn.offsets.laid
+    l.offsets.slots.items l.fn.offsets.slots.items
