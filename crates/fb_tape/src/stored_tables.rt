@@ -22,6 +22,13 @@ fn size_of(note: NotedField) -> u16
     }
 }
 
+/// The greater alignment.
+fn greater(a: u16, b: u16) -> u16
+    ensures { result ≡ max a b }
+{
+    if a < b { b } else { a }
+}
+
 /// What the end of a table's fields is aligned to.
 pub(crate) fn start_align(opened: &OpenFields, first: usize) -> u16
     requires within { first ≤ length opened.now }
@@ -29,7 +36,7 @@ pub(crate) fn start_align(opened: &OpenFields, first: usize) -> u16
 {
     let mut align = 4;
     for i in first..opened.len() {
-        align = align.max(opened.field(i).align);
+        align = greater(align, opened.field(i).align);
     }
     align
 }

@@ -1,6 +1,6 @@
 -- One field after the other is noted.
 use Rattle.std.proofs.Common.{◌≡◌, ◌≤◌, ◌<◌, ◌+◌, ◌-◌, ◌++◌, ◌==◌, ◌∙◌, ℕ, zero, suc, Bool, true, false, List, [], ◌∷◌}
-use Rattle.std.proofs.Common.{Some, cond, slice_get, slice_set, length, drop, filter, map, flat_map, refl, sym, ap, arith}
+use Rattle.std.proofs.Common.{Some, cond, slice_get, slice_set, length, drop, filter, map, max, flat_map, refl, sym, ap, arith}
 use Rattle.std.proofs.lemmas.List.{append_assoc, append-nil, length-set}
 use Rattle.std.proofs.lemmas.Grind.{flat_map-append}
 use Rattle.std.proofs.lemmas.List.Elements.{All-tail}
@@ -67,11 +67,11 @@ pub all_noted : (size : ℕ) (left all : List OpenField) (notes notes_before : L
     → (notes ≡ notes_before ++ notes_of all) × (bytes ≡ bytes_before ++ bytes_of all)
     × (laid ≡ laid_before + taken all) × (slots ≡ placed size laid_before all slots_before)
 all_noted size left all notes notes_before bytes bytes_before laid laid_before slots slots_before none h = (
-    sym (append-nil notes) ∙ rw none at h.notes_are,
-    sym (append-nil bytes) ∙ rw none at h.bytes_are,
-    omega (arith, rw none at h.laid_are),
-    rw none at h.placed_are,
-  )
+  sym (append-nil notes) ∙ rw none at h.notes_are,
+  sym (append-nil bytes) ∙ rw none at h.bytes_are,
+  omega (arith, rw none at h.laid_are),
+  rw none at h.placed_are,
+)
 
 -- ---- several fields at once
 
@@ -106,11 +106,19 @@ pub several_noted : (size : ℕ) (some rest all : List OpenField) (notes new_not
     → Noting size rest all new_notes notes_before new_bytes bytes_before new_laid laid_before new_slots slots_before
 several_noted size some rest all notes new_notes notes_before bytes new_bytes bytes_before laid new_laid laid_before
     slots new_slots slots_before notes_are bytes_are laid_are slots_are long h = record {
-  notes_are = rw notes_are (append_assoc notes (notes_of some) (notes_of rest)
-      ∙ rw (notes_both some rest) at h.notes_are);
-  bytes_are = rw bytes_are (append_assoc bytes (bytes_of some) (bytes_of rest)
-      ∙ rw (bytes_both some rest) at h.bytes_are);
-  laid_are = omega (arith, laid_are, taken_both some rest, h.laid_are);
-  placed_are = rw (laid_are, slots_are) (sym (placed_both size laid some rest slots) ∙ h.placed_are);
-  slots_long = long ∙ h.slots_long;
-}
+      notes_are = rw notes_are (append_assoc notes (notes_of some) (notes_of rest)
+          ∙ rw (notes_both some rest) at h.notes_are);
+      bytes_are = rw bytes_are (append_assoc bytes (bytes_of some) (bytes_of rest)
+          ∙ rw (bytes_both some rest) at h.bytes_are);
+      laid_are = omega (arith, laid_are, taken_both some rest, h.laid_are);
+      placed_are = rw (laid_are, slots_are) (sym (placed_both size laid some rest slots) ∙ h.placed_are);
+      slots_long = long ∙ h.slots_long;
+    }
+
+-- ---- sums over the fields in the order of slots
+
+pub max_again : (a b c m : ℕ) → max a (max b c) ≡ m → max (max a b) c ≡ m
+max_again a b c m h = omega (arith, h)
+
+pub taken_more : (x : OpenField) (xs : List OpenField) → taken (x ∷ xs) ≡ taken_by x.note + taken xs
+taken_more x xs = sum_by-cons (λ (y : OpenField). taken_by y.note) x xs

@@ -37,8 +37,8 @@ loop-align-preserved c =
     let same = c.note_fields_at.ensures.size in (
       same ∙ c.loop-align.invariant.0,
       rw same (several_noted c.loop-align.offsets.size (at_align (get_or falling_alignments i 0) opens)
-      (flat_map (λ a. at_align a opens) (drop (i + 1) falling_alignments)) (in_order opens) _ _ _ _ _ _ _ _ _ _ _ _
-      now.notes now.bytes now.laid now.placed c.note_fields_at.ensures.slots inv),
+          (flat_map (λ a. at_align a opens) (drop (i + 1) falling_alignments)) (in_order opens) _ _ _ _ _ _ _ _ _ _ _ _
+          now.notes now.bytes now.laid now.placed c.note_fields_at.ensures.slots inv),
     )
 
 pub returns-clause-size : goal.returns-clause-size

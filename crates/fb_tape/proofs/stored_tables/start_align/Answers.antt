@@ -1,20 +1,23 @@
-use Rattle.std.proofs.Common.{rules, ℕ, ◌≡◌, ◌≤◌, ◌<◌, ◌+◌, ◌*◌, ◌++◌, List, length, drop, map, max, flat_map, OnOk, ◌-◌, ◌/◌, ◌%◌, Bool, true, false, nat_eq, nat_lt, [], ◌∷◌, slice_index_or, slice_set, bit_and, bit_or, Fits, w8, w32, w64, Bor, MutBor}
-use Rattle.std.specs.List.{All}
-use Rattle.byteorder.specs.Endian.{little_bytes}
+use Rattle.std.proofs.Common.{◌≡◌, ◌+◌, drop, map, max, refl, arith}
+use Rattle.std.proofs.lemmas.List.{drop_all}
 use Rattle.fb_schema.specs.Alignments.{greatest_in}
-use Rattle.fb_layout.specs.Sizes.{ceil4}
-use Rattle.fb_tape.specs.StoredTables.{taken_by, taken, at_align, in_order, notes_of, bytes_of, placed}
-use Rattle.fb_tape.specs.Vtables.{vtable_with}
+use Rattle.fb_tape.specs.OpenFields.{OpenField}
+use Rattle.fb_tape.specs.OpenList.{field_in}
+use Rattle.fb_tape.proofs.stored_tables.FieldsInTurn.{drop_next, max_again}
 use Rattle.fb_tape.proofs.stored_tables.start_align.Goals as goal
 
--- src/stored_tables.rt:31:5
 pub loop-i-init : goal.loop-i-init
-loop-i-init c = ?
+loop-i-init c = refl
 
--- src/stored_tables.rt:31:5
 pub loop-i-preserved : goal.loop-i-preserved
-loop-i-preserved c = ?
+loop-i-preserved c =
+    let x = field_in c.field.result in
+    let next = drop_next c.args.opened.now c.loop-i.i x c.field.ensures.is in
+    rw c.greater-align.ensures (max_again c.loop-i.align x.align
+    (greatest_in (map (λ (y : OpenField). y.align) (drop (c.loop-i.i + 1) c.args.opened.now))) _
+    (rw next at c.loop-i.invariant))
 
--- src/stored_tables.rt:26:1
 pub returns : goal.returns
-returns c = ?
+returns c =
+    let none = drop_all c.loop-i.i c.args.opened.now (omega (arith, c.loop-i-test.false, c.len-i-end.ensures)) in
+    omega (arith, rw none at c.loop-i.invariant)

@@ -1,36 +1,43 @@
-use Rattle.std.proofs.Common.{rules, ℕ, ◌≡◌, ◌≤◌, ◌<◌, ◌+◌, ◌*◌, ◌++◌, List, length, drop, map, max, flat_map, OnOk, ◌-◌, ◌/◌, ◌%◌, Bool, true, false, nat_eq, nat_lt, [], ◌∷◌, slice_index_or, slice_set, bit_and, bit_or, Fits, w8, w32, w64, Bor, MutBor}
-use Rattle.std.specs.List.{All}
-use Rattle.byteorder.specs.Endian.{little_bytes}
-use Rattle.fb_schema.specs.Alignments.{greatest_in}
-use Rattle.fb_layout.specs.Sizes.{ceil4}
-use Rattle.fb_tape.specs.StoredTables.{taken_by, taken, at_align, in_order, notes_of, bytes_of, placed}
-use Rattle.fb_tape.specs.Vtables.{vtable_with}
+use Rattle.std.proofs.Common.{◌≡◌, ◌+◌, ◌*◌, ◌/◌, drop, refl, arith}
+use Rattle.std.proofs.lemmas.List.{drop_all}
+use Rattle.fb_tape.specs.OpenList.{field_in}
+use Rattle.fb_tape.specs.StoredTables.{taken}
+use Rattle.fb_tape.proofs.stored_tables.FieldsInTurn.{drop_next, taken_more}
 use Rattle.fb_tape.proofs.stored_tables.table_size.Goals as goal
 
--- src/stored_tables.rt:44:5
 pub loop-i-init : goal.loop-i-init
-loop-i-init c = ?
+loop-i-init c = omega arith
 
--- src/stored_tables.rt:45:9
 pub overflow_add-size : goal.overflow_add-size
-overflow_add-size c = ?
+overflow_add-size c =
+    let next = drop_next c.args.opened.now c.loop-i.i (field_in c.field.result) c.field.ensures.is in
+    let more = taken_more (field_in c.field.result) (drop (c.loop-i.i + 1) c.args.opened.now) in
+    omega (arith, rw next at c.loop-i.invariant, more, c.size_of-size.ensures, c.requires.small)
 
--- src/stored_tables.rt:44:5
 pub loop-i-preserved : goal.loop-i-preserved
-loop-i-preserved c = ?
+loop-i-preserved c =
+    let next = drop_next c.args.opened.now c.loop-i.i (field_in c.field.result) c.field.ensures.is in
+    let more = taken_more (field_in c.field.result) (drop (c.loop-i.i + 1) c.args.opened.now) in
+    omega (arith, rw next at c.loop-i.invariant, more, c.size_of-size.ensures)
 
--- src/stored_tables.rt:47:10
 pub overflow_add-result : goal.overflow_add-result
-overflow_add-result c = ?
+overflow_add-result c =
+    let none = drop_all c.loop-i.i c.args.opened.now (omega (arith, c.loop-i-test.false, c.len-i-end.ensures)) in
+    omega (arith, rw none at c.loop-i.invariant, c.requires.small)
 
--- src/stored_tables.rt:47:9
 pub overflow_mul-result : goal.overflow_mul-result
-overflow_mul-result c = ?
+overflow_mul-result c =
+    let none = drop_all c.loop-i.i c.args.opened.now (omega (arith, c.loop-i-test.false, c.len-i-end.ensures)) in
+    omega (arith, rw none at c.loop-i.invariant, c.requires.small)
 
--- src/stored_tables.rt:47:5
 pub overflow_add-result-2 : goal.overflow_add-result-2
-overflow_add-result-2 c = ?
+overflow_add-result-2 c =
+    let none = drop_all c.loop-i.i c.args.opened.now (omega (arith, c.loop-i-test.false, c.len-i-end.ensures)) in
+    omega (arith, rw none at c.loop-i.invariant, c.requires.small)
 
--- src/stored_tables.rt:38:1
 pub returns : goal.returns
-returns c = ?
+returns c =
+    let none = drop_all c.loop-i.i c.args.opened.now (omega (arith, c.loop-i-test.false, c.len-i-end.ensures)) in
+    let all : c.loop-i.size ≡ taken (drop c.args.first c.args.opened.now) =
+    omega (arith, rw none at c.loop-i.invariant) in
+    omega (arith, all)
