@@ -1,0 +1,2 @@
+pub mod OneMoreIsLaid
+pub mod ReferencesAreLaid
