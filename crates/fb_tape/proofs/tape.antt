@@ -1,2 +1,3 @@
 pub mod OneMoreIsLaid
 pub mod ReferencesAreLaid
+pub mod RoomsAreSummedUp

@@ -1,6 +1,7 @@
 //! A tape: what is to be laid of a value.
-ghost use Rattle.std.specs.Prelude.{ℕ, ◌≡◌, ◌≤◌, ◌<◌, ◌+◌, ◌++◌, List, [], ◌∷◌, Option, Some, true, false, length, drop};
-ghost use Rattle.std.specs.Prelude.{slice_get, OnOk};
+ghost use Rattle.std.specs.Prelude.{ℕ, ◌≡◌, ◌≤◌, ◌<◌, ◌+◌, ◌^◌, ◌++◌, ◌↔◌, List, [], ◌∷◌, Option, Some, true, false, length, drop};
+ghost use Rattle.std.specs.Prelude.{slice_get, IsTrue, OnOk};
+ghost use Rattle.byteorder.specs.Endian.{little_bytes};
 ghost use Rattle.fb_layout.specs.Laid.{one_of, slots_of, align_of};
 ghost use Rattle.fb_layout.specs.Seen.{kind_seen};
 ghost use Rattle.fb_layout.specs.Widths.{greatest};
@@ -129,7 +130,7 @@ impl<'l> Tape<'l> {
 
     /// Whether the parts are too big for a buffer together.
     fn is_over(&self) -> bool
-        ensures exact { (result ≡ false → self.now.room ≤ 2147483647) }
+        ensures exact { IsTrue result ↔ (2147483647 < self.now.room) }
     {
         self.room > MOST_BYTES
     }
