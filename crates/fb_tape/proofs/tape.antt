@@ -1,3 +1,4 @@
+pub mod DataIsLaid
 pub mod OneMoreIsLaid
 pub mod ReferencesAreLaid
 pub mod RoomsAreSummedUp
