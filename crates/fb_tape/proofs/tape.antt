@@ -1,3 +1,4 @@
+pub mod AlignmentsFit
 pub mod DataIsLaid
 pub mod OneMoreIsLaid
 pub mod ReferencesAreLaid

@@ -240,13 +240,14 @@ impl<'l> Tape<'l> {
         ensures whole { OnOk result (self.new.unfinished ≡ []) }
         ensures layout { self.new.layout ≡ self.old.layout }
     {
-        self.add_room(vector_room(self.layout, kind, count));
+        let layout = self.layout;
+        let _schema = layout.schema(); // its contract: the layout is well made
+        self.add_room(vector_room(layout, kind, count));
         if self.is_over() {
             self.bytes.truncate(self.finished);
             return Ok(());
         }
-        let _schema = self.layout.schema(); // its contract: the layout is well made
-        let align = self.layout.align_of(kind).max(4) as u16;
+        let align = layout.align_of(kind).max(4) as u16;
         self.finish_data(align)
     }
 

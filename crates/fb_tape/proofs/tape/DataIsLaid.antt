@@ -1,5 +1,5 @@
 -- A text, or a vector of numbers or structs, is laid.
-use Rattle.std.proofs.Common.{ℕ, ◌+◌, ◌-◌, ◌*◌, ◌%◌, ◌^◌, ◌≡◌, ◌≤◌, ◌<◌, ◌++◌, inl, inr, max, false, List, [], ◌∷◌, length}
+use Rattle.std.proofs.Common.{ℕ, ◌+◌, ◌-◌, ◌*◌, ◌%◌, ◌^◌, ◌≡◌, ◌≤◌, ◌<◌, ◌++◌, ◌↔◌, IsTrue, inl, inr, max, false, List, [], ◌∷◌, length}
 use Rattle.std.proofs.Common.{refl, ap, sym, ◌∙◌, subst, arith, append-nil, append_assoc, length-append}
 use Rattle.std.specs.Str.{IsUtf8}
 use Rattle.byteorder.specs.Endian.{little_bytes}
@@ -9,6 +9,7 @@ use Rattle.fb_value.specs.Datum.{Datum, a_text, a_vector}
 use Rattle.fb_value.specs.Num.{Bytes}
 use Rattle.fb_value.specs.Places.{text_part, vector_part}
 use Rattle.fb_value.specs.Room.{vector_room}
+use Rattle.fb_value.specs.UpTo.{at_most_usize}
 use Rattle.fb_value.specs.View.{parts_in}
 use Rattle.fb_tape.specs.InlineBytes.{AreInlineBytes}
 use Rattle.fb_tape.specs.NamedParts.{NamedPart}
@@ -16,7 +17,7 @@ use Rattle.fb_tape.specs.StoredFields.{is_reference, ItemsKnown}
 use Rattle.fb_tape.specs.Tapes.{Taped, Waits, IsData, AreElementBytes, IsUnfinished}
 use Rattle.fb_tape.specs.declared.ops.Op.TheVariants.{Data}
 use Rattle.fb_tape.proofs.tape.OneMoreIsLaid.{AddsOne, part_waits}
-use Rattle.fb_tape.proofs.tape.RoomsAreSummedUp.{with_room}
+use Rattle.fb_tape.proofs.tape.RoomsAreSummedUp.{with_room, room_known, not_over}
 
 -- The unfinished bytes were noted as laid.
 pub record Finishes (before after : Taped) (align : ℕ) (own : Bytes) (room : ℕ) : Type 0 where
@@ -39,13 +40,16 @@ data_waits before after part align own room ps h is enough low waits =
       notes = h.notes ∙ sym (append-nil before.notes);
       bytes = h.bytes;
       room = h.room_is;
-    }) h.vtables tt (refl, record {
-      part = part;
-      is = is;
-      size_is = small;
-      enough = omega (arith, small, enough);
-      leaves = refl;
-    }) waits
+    }) h.vtables tt (
+      refl,
+      record {
+        part = part;
+        is = is;
+        size_is = small;
+        enough = omega (arith, small, enough);
+        leaves = refl;
+      },
+    ) waits
 
 -- the tape t with bytes added, and with its unfinished bytes laid
 abbrev pub with_bytes : Taped → Bytes → Taped
@@ -146,3 +150,23 @@ vector_waits before after kind ds own ps begun inline known low h small waits =
       known = known;
       low = low;
     })) (omega (arith, long)) small waits
+
+pub vector_closed : (before sized after : Taped) (kind : StoredKind) (count align room : ℕ) (ds : List Datum)
+    (ps : List NamedPart) → sized ≡ with_room before (at_most_usize (before.room + room))
+    → room ≡ at_most_usize (vector_room before.layout kind count) → (IsTrue false ↔ (2147483647 < sized.room))
+    → after ≡ with_data sized align → align ≡ max (align_of before.layout kind) 4
+    → is_reference (one_of kind) ≡ false → align_of before.layout kind ≤ greatest before.layout → count ≡ length ds
+    → ItemsKnown before.layout kind ds
+    → (before.room + vector_room before.layout kind count ≤ 2147483647
+    → IsUnfinished before.layout kind count ds before.unfinished) → Waits before ps
+    → Waits after (ps ++ (record { target = vector_part kind; value = a_vector (parts_in ds) } ∷ []))
+vector_closed before sized after kind count align room ds ps e1 own over e2 widest inline low many known begun waits
+    small =
+    let sum = room_known before sized room (vector_room before.layout kind count) e1 own over in
+    let fits : before.room + vector_room before.layout kind count ≤ 2147483647 =
+    omega (arith, sum, not_over sized.room over, ap (λ (t : Taped). t.room) e1) in
+    vector_waits before after kind ds before.unfinished ps (rw (← many) (begun fits)) inline known low
+    (finished before sized after (max 4 (align_of before.layout kind)) (vector_room before.layout kind (length ds))
+    (at_most_usize (before.room + room)) before.unfinished e1
+    (e2 ∙ ap (with_data sized) (omega (arith, widest)))
+    (rw (← many) sum)) small waits small

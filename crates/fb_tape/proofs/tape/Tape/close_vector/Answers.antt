@@ -1,31 +1,26 @@
-use Rattle.std.proofs.Common.{rules, ℕ, ◌≡◌, ◌≤◌, ◌<◌, ◌+◌, ◌^◌, ◌++◌, ◌↔◌, List, [], ◌∷◌, Option, Some, true, false, length, drop, slice_get, IsTrue, OnOk, ◌-◌, ◌*◌, ◌/◌, ◌%◌, Bool, nat_eq, nat_lt, slice_index_or, slice_set, bit_and, bit_or, w8, w32, w64, Bor, MutBor}
-use Rattle.byteorder.specs.Endian.{little_bytes}
-use Rattle.fb_layout.specs.Laid.{one_of, slots_of, align_of}
+use Rattle.std.proofs.Common.{◌≡◌, max, arith, ap, ◌∙◌, subst}
+use Rattle.std.proofs.lemmas.Result.{on_ok_weaker}
+use Rattle.fb_layout.specs.Laid.{align_of}
 use Rattle.fb_layout.specs.Seen.{kind_seen}
-use Rattle.fb_layout.specs.Widths.{greatest}
-use Rattle.fb_value.specs.Counts.{entries_whole}
-use Rattle.fb_value.specs.Datum.{Datum, a_text, a_vector, a_table}
-use Rattle.fb_value.specs.Fits.{EntriesFit, Fits}
-use Rattle.fb_value.specs.Places.{table_part, text_part, vector_part}
-use Rattle.fb_value.specs.Room.{table_room, vector_room}
+use Rattle.fb_value.specs.Room.{vector_room}
 use Rattle.fb_value.specs.UpTo.{at_most_usize}
-use Rattle.fb_value.specs.View.{view, parts_in, entries_in}
-use Rattle.fb_tape.specs.InlineBytes.{IsInline}
-use Rattle.fb_tape.specs.NamedParts.{NamedPart, elements_apart, entries_apart}
-use Rattle.fb_tape.specs.OpenFields.{IsOpenTable}
-use Rattle.fb_tape.specs.StoredFields.{is_reference, ItemsKnown}
-use Rattle.fb_tape.specs.Tapes.{IsUnfinished, Waits}
-use Rattle.fb_tape.specs.declared.ops.Op.TheVariants.{Data}
+use Rattle.fb_tape.specs.Tapes.{Taped}
+use Rattle.fb_tape.proofs.tape.AlignmentsFit.{align_fits}
+use Rattle.fb_tape.proofs.tape.DataIsLaid.{vector_closed}
 use Rattle.fb_tape.proofs.tape.Tape.close_vector.Goals as goal
 
--- src/tape.rt:233:21
 pub overflow_cast-align : goal.overflow_cast-align
-overflow_cast-align c = ?
+overflow_cast-align c =
+    let low = align_fits c.self.inside.layout.now c.schema-schema.ensures.made
+    (kind_seen c.self.inside.layout.now c.args.kind) in
+    omega (arith, low, c.align_of.ensures, c.max-align.ensures)
 
--- src/tape.rt:234:9
-pub finish_data-requires : goal.finish_data-requires
-finish_data-requires c = ?
-
--- src/tape.rt:210:5
 pub returns-clause-waits : goal.returns-clause-waits
-returns-clause-waits c = ?
+returns-clause-waits c =
+    on_ok_weaker c.finish_data.result (λ done ps ds many known begun waits.
+    vector_closed c.args.self.now c.add_room.new.self c.finish_data.new.self
+    (kind_seen c.args.self.now.layout c.args.kind) c.args.count _ c.vector_room.result ds ps c.add_room.ensures.adds
+    (subst (λ (t : Taped). c.vector_room.result ≡ at_most_usize (vector_room t.layout (kind_seen t.layout c.args.kind)
+    c.args.count)) c.self.view_is c.vector_room.ensures) c.if-is_over.ensures.exact done
+    (c.max-align.ensures ∙ ap (λ n. max n 4) (subst (λ (t : Taped). c.align_of.result ≡ align_of t.layout (kind_seen t.layout c.args.kind)) c.self.view_is
+    c.align_of.ensures)) c.requires.inline c.requires.low many known begun waits) c.finish_data.ensures.adds

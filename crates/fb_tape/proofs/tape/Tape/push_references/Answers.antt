@@ -18,12 +18,12 @@ returns-clause-waits c others ds many known waits =
     } in
     references_wait c.args.self.now after (kind_seen c.args.self.now.layout c.args.kind) c.args.count others ds
     c.requires.references (
-      subst (λ (t : Taped). AddsOne t after (References c.args.count)
-      (vector_room t.layout (kind_seen t.layout c.args.kind) c.args.count) [] []) seen (record {
-        layout = refl;
-        ops = c.in_ok-push.ensures.items;
-        notes = sym (append-nil _);
-        bytes = sym (append-nil _);
-        room = room_added _ _ _ _ c.saturating_add-self-inside.ensures c.vector_room.ensures c.if-is_over.ensures.exact;
-      })
+    subst (λ (t : Taped). AddsOne t after (References c.args.count)
+    (vector_room t.layout (kind_seen t.layout c.args.kind) c.args.count) [] []) seen (record {
+      layout = refl;
+      ops = c.in_ok-push.ensures.items;
+      notes = sym (append-nil _);
+      bytes = sym (append-nil _);
+      room = room_added _ _ _ _ c.saturating_add-self-inside.ensures c.vector_room.ensures c.if-is_over.ensures.exact;
+    })
     ) (ap (λ (t : Taped). t.vtables) seen) many known waits
