@@ -1,6 +1,7 @@
 //! A tape: what is to be laid of a value.
-ghost use Rattle.std.specs.Prelude.{ℕ, ◌≡◌, ◌≤◌, ◌<◌, ◌+◌, ◌++◌, List, [], ◌∷◌, Option, Some, true, false, length, drop};
-ghost use Rattle.std.specs.Prelude.{slice_get, OnOk};
+ghost use Rattle.std.specs.Prelude.{ℕ, ◌≡◌, ◌≤◌, ◌<◌, ◌+◌, ◌%◌, ◌^◌, ◌++◌, ◌↔◌, List, [], ◌∷◌, Option, Some, true, false, length, drop};
+ghost use Rattle.std.specs.Prelude.{slice_get, IsTrue, OnOk};
+ghost use Rattle.byteorder.specs.Endian.{little_bytes};
 ghost use Rattle.fb_layout.specs.Laid.{one_of, slots_of, align_of};
 ghost use Rattle.fb_layout.specs.Seen.{kind_seen};
 ghost use Rattle.fb_layout.specs.Widths.{greatest};
@@ -16,6 +17,7 @@ ghost use Rattle.fb_tape.specs.NamedParts.{NamedPart, elements_apart, entries_ap
 ghost use Rattle.fb_tape.specs.OpenFields.{IsOpenTable};
 ghost use Rattle.fb_tape.specs.StoredFields.{is_reference, ItemsKnown};
 ghost use Rattle.fb_tape.specs.Tapes.{IsUnfinished, Waits};
+ghost use Rattle.fb_tape.specs.declared.ops.Op.TheVariants.{Data};
 
 use crate::inline_bytes::push_inline;
 use crate::known_vtables::KnownVtables;
@@ -31,6 +33,9 @@ use std::marker::Model;
 
 /// The bytes that a buffer has at most.
 const MOST_BYTES: usize = 2_147_483_647;
+
+// how many sizes there are in 32 bits
+const SIZES: usize = 4_294_967_296;
 
 /// What is to be laid of a value, operation by operation, in the order of laying: a part comes behind all that it
 /// refers to. Once the parts are too big for a buffer together nothing more is noted, and only their rooms are summed
@@ -129,15 +134,36 @@ impl<'l> Tape<'l> {
 
     /// Whether the parts are too big for a buffer together.
     fn is_over(&self) -> bool
-        ensures exact { (result ≡ false → self.now.room ≤ 2147483647) }
+        ensures exact { IsTrue result ↔ (2147483647 < self.now.room) }
     {
         self.room > MOST_BYTES
     }
 
-    fn push_count(&mut self, count: usize) -> Result<(), AllocError> {
-        let mut bytes = [0u8; 4];
-        LittleEndian::write_u32(&mut bytes, count as u32);
-        self.bytes.extend_from_slice(&bytes)
+    /// Adds the room of a part.
+    fn add_room(&mut self, room: usize)
+        ensures adds { self.new ≡ record self.old { room = at_most_usize (self.old.room + room) } }
+    {
+        self.room = self.room.saturating_add(room);
+    }
+
+    /// Adds to the unfinished bytes.
+    fn push_bytes(&mut self, bytes: &[u8]) -> Result<(), AllocError>
+        ensures adds { OnOk result (self.new ≡ record self.old { unfinished = self.old.unfinished ++ bytes.now }) }
+        ensures layout { self.new.layout ≡ self.old.layout }
+    {
+        self.bytes.extend_from_slice(bytes)
+    }
+
+    /// Adds a count to the unfinished bytes: its lowest four bytes.
+    fn push_count(&mut self, count: usize) -> Result<(), AllocError>
+        ensures adds { OnOk result (self.new ≡ record self.old {
+          unfinished = self.old.unfinished ++ little_bytes 4 count;
+        }) }
+        ensures layout { self.new.layout ≡ self.old.layout }
+    {
+        let mut bytes = [0u8; 8];
+        LittleEndian::write_u64(&mut bytes, count as u64);
+        self.push_bytes(&bytes[..4])
     }
 
     /// Notes that a text is laid.
@@ -149,13 +175,13 @@ impl<'l> Tape<'l> {
         ensures whole { OnOk result (self.new.unfinished ≡ []) }
         ensures layout { self.new.layout ≡ self.old.layout }
     {
-        self.room = self.room.saturating_add(text_room(text));
+        self.add_room(text_room(text));
         if self.is_over() {
             return Ok(());
         }
         self.push_count(text.len())?;
-        self.bytes.extend_from_slice(text.as_bytes())?;
-        self.bytes.push(0)?;
+        self.push_bytes(text.as_bytes())?;
+        self.push_bytes(&[0])?;
         self.finish_data(4)
     }
 
@@ -214,22 +240,30 @@ impl<'l> Tape<'l> {
         ensures whole { OnOk result (self.new.unfinished ≡ []) }
         ensures layout { self.new.layout ≡ self.old.layout }
     {
-        self.room = self
-            .room
-            .saturating_add(vector_room(self.layout, kind, count));
+        let layout = self.layout;
+        let _schema = layout.schema(); // its contract: the layout is well made
+        self.add_room(vector_room(layout, kind, count));
         if self.is_over() {
             self.bytes.truncate(self.finished);
             return Ok(());
         }
-        let align = self.layout.align_of(kind).max(4) as u16;
+        let align = layout.align_of(kind).max(4) as u16;
         self.finish_data(align)
     }
 
-    fn finish_data(&mut self, align: u16) -> Result<(), AllocError> {
+    /// Notes that the unfinished bytes are laid, of which a buffer has fewer than 2^32.
+    fn finish_data(&mut self, align: u16) -> Result<(), AllocError>
+        ensures adds { OnOk result (self.new ≡ record self.old {
+          ops = self.old.ops ++ (Data align (length self.old.unfinished % 2 ^ 32) ∷ []);
+          bytes = self.old.bytes ++ self.old.unfinished;
+          unfinished = [];
+        }) }
+        ensures layout { self.new.layout ≡ self.old.layout }
+    {
         let size = self.bytes.len() - self.finished;
         self.ops.push(Op::Data {
             align,
-            size: size as u32,
+            size: (size % SIZES) as u32,
         })?;
         self.finished = self.bytes.len();
         Ok(())

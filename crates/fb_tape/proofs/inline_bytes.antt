@@ -1,0 +1,2 @@
+pub mod BytesSumToTheirNumber
+pub mod NumberStandsInItsBytes

@@ -1,0 +1,5 @@
+pub mod AlignmentsFit
+pub mod DataIsLaid
+pub mod OneMoreIsLaid
+pub mod ReferencesAreLaid
+pub mod RoomsAreSummedUp
