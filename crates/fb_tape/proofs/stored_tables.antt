@@ -1,1 +1,2 @@
 mod FieldsInTurn
+mod OpenFieldsAreStored
