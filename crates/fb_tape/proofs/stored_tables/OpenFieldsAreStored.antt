@@ -66,7 +66,7 @@ taken_is L k (f ∷ fs) (x ∷ xs) opens h =
         rw h.opens_are (omega (arith, more, own, rest))
     by_test again false h = let rest = again opens h in omega (arith, rest)
 
-same_align : (a b c : ℕ) → b ≡ c → (t : Bool) → (c == a) ≡ t → (b == a) ≡ t
+pub same_align : (a b c : ℕ) → b ≡ c → (t : Bool) → (c == a) ≡ t → (b == a) ≡ t
 same_align a b c same t is = rw same is
 
 pub taken_at_is : (L : LaidSchema) (a k : ℕ) (fs : List Slot) (xs : List (Option Datum)) (opens : List OpenField)
