@@ -2,3 +2,5 @@ mod FieldsInTurn
 mod OpenFieldsAreStored
 mod NotesFollowTheOrder
 mod AllIsInOrder
+mod OffsetsAreTold
+mod SlotsAreTold

@@ -98,6 +98,13 @@ placed_both size laid (x ∷ xs) ys slots =
     rw same (placed_both size (laid + taken_by x.note) xs ys
     (slice_set slots x.slot (size - (laid + taken_by x.note))))
 
+pub placed_long : (size laid : ℕ) (xs : List OpenField) (slots : List ℕ)
+    → length (placed size laid xs slots) ≡ length slots
+placed_long size laid [] slots = refl
+placed_long size laid (x ∷ xs) slots =
+    placed_long size (laid + taken_by x.note) xs (slice_set slots x.slot (size - (laid + taken_by x.note)))
+    ∙ length-set slots x.slot (size - (laid + taken_by x.note))
+
 pub several_noted : (size : ℕ) (some rest all : List OpenField) (notes new_notes notes_before : List NotedField)
     (bytes new_bytes bytes_before : Bytes) (laid new_laid laid_before : ℕ) (slots new_slots slots_before : List ℕ)
     → new_notes ≡ notes ++ notes_of some → new_bytes ≡ bytes ++ bytes_of some → new_laid ≡ laid + taken some
