@@ -4,3 +4,4 @@ mod NotesFollowTheOrder
 mod AllIsInOrder
 mod OffsetsAreTold
 mod SlotsAreTold
+mod OffsetsAreTrimmed
