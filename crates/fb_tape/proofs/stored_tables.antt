@@ -5,3 +5,4 @@ mod AllIsInOrder
 mod OffsetsAreTold
 mod SlotsAreTold
 mod OffsetsAreTrimmed
+mod TableIsNoted

@@ -16,26 +16,26 @@ use Rattle.fb_tape.proofs.stored_tables.FieldsInTurn.{placed_both, placed_long}
 use Rattle.fb_tape.proofs.stored_tables.OpenFieldsAreStored.{taken_at_is}
 use Rattle.fb_tape.proofs.stored_tables.OffsetsAreTold.{AreTold, all_told}
 
-abbrev among : ℕ → List ℕ → Bool
+abbrev pub among : ℕ → List ℕ → Bool
 among n [] = false
 among n (m ∷ ms) = (n == m) || among n ms
 
-abbrev EachOnce : List ℕ → Type 0
+abbrev pub EachOnce : List ℕ → Type 0
 EachOnce [] = Unit {0}
 EachOnce (m ∷ ms) = (among m ms ≡ false) × EachOnce ms
+
+-- what comes before the fields of an alignment
+abbrev pub laid_before : LaidSchema → List Slot → List (Option Datum) → List ℕ → ℕ → ℕ
+laid_before L fs xs [] a = 0
+laid_before L fs xs (b ∷ bs) a = if a == b then 0 else size_at L b fs xs + laid_before L fs xs bs a
 
 module _ (L : LaidSchema) (size : ℕ) (fs : List Slot) (xs : List (Option Datum)) (opens : List OpenField)
     (are : AreOpen L 0 fs xs opens)
   where
-  -- what comes before the fields of an alignment
-  abbrev laid_before : List ℕ → ℕ → ℕ
-  laid_before [] a = 0
-  laid_before (b ∷ bs) a = if a == b then 0 else size_at L b fs xs + laid_before bs a
-
   abbrev ToldBy : List ℕ → ℕ → List ℕ → List ℕ → Type 0
   ToldBy aligns laid slots told = (i : ℕ) (f : Slot) (x : Option Datum) → slice_get fs i ≡ Some f
       → slice_get xs i ≡ Some x → slice_index told i ≡ (if is_stored f x && among (inline_align L f.shape) aligns
-      then size - ((laid + laid_before aligns (inline_align L f.shape))
+      then size - ((laid + laid_before L fs xs aligns (inline_align L f.shape))
       + size_at L (inline_align L f.shape) (take (suc i) fs) (take (suc i) xs)) else slice_index slots i)
 
   one_more : (b : ℕ) (bs : List ℕ) (laid i s n m told : ℕ) (f : Slot) (x : Option Datum) → (t u : Bool)
@@ -43,10 +43,10 @@ module _ (L : LaidSchema) (size : ℕ) (fs : List Slot) (xs : List (Option Datum
       → n ≡ (if is_at L b f x then size - (laid + size_at L b (take (suc i) fs) (take (suc i) xs)) else s)
       → m ≡ laid + size_at L b fs xs
       → told ≡ (if is_stored f x && among (inline_align L f.shape) bs
-      then size - ((m + laid_before bs (inline_align L f.shape))
+      then size - ((m + laid_before L fs xs bs (inline_align L f.shape))
       + size_at L (inline_align L f.shape) (take (suc i) fs) (take (suc i) xs)) else n)
       → told ≡ (if is_stored f x && among (inline_align L f.shape) (b ∷ bs)
-      then size - ((laid + laid_before (b ∷ bs) (inline_align L f.shape))
+      then size - ((laid + laid_before L fs xs (b ∷ bs) (inline_align L f.shape))
       + size_at L (inline_align L f.shape) (take (suc i) fs) (take (suc i) xs)) else s)
   one_more b bs laid i s n m told f x false u stored is once own all h =
       rw stored at h ∙ (rw stored (rw stored at own))
@@ -59,11 +59,11 @@ module _ (L : LaidSchema) (size : ℕ) (fs : List Slot) (xs : List (Option Datum
       rw (stored, a_is, self, none) (told_is ∙ own_is)
   one_more b bs laid i s n m told f x true false stored is once own all h =
       let own_is = rw (stored, is) at own in
-      let sum : (laid + (size_at L b fs xs + laid_before bs (inline_align L f.shape)))
-      ≡ m + laid_before bs (inline_align L f.shape) = omega (arith, all) in
+      let sum : (laid + (size_at L b fs xs + laid_before L fs xs bs (inline_align L f.shape)))
+      ≡ m + laid_before L fs xs bs (inline_align L f.shape) = omega (arith, all) in
       rw (stored, is, sum) (rw own_is at (rw stored at h))
 
-  each_told : (aligns : List ℕ) → EachOnce aligns → (laid : ℕ) (slots : List ℕ)
+  pub each_told : (aligns : List ℕ) → EachOnce aligns → (laid : ℕ) (slots : List ℕ)
       → All (λ o. o.slot < length slots) opens
       → ToldBy aligns laid slots (placed size laid (flat_map (λ a. at_align a opens) aligns) slots)
   each_told [] once laid slots low i f x fi xi = by_test (is_stored f x)
