@@ -7,6 +7,7 @@ pub mod NamedParts
 pub mod NotedFields
 pub mod Tapes
 pub mod OpenFields
+pub mod StoredTables
 pub mod OpenList
 pub mod TapeHeld
 pub mod KnownVtables

@@ -4,6 +4,7 @@ use Rattle.std.specs.List.{All}
 use Rattle.fb_value.specs.Num.{Bytes, part_of}
 use Rattle.fb_tape.specs.OpenFields.{OpenField}
 use Rattle.fb_tape.specs.declared.open_fields.OpenField.{OpenField as Held}
+use Rattle.fb_tape.specs.declared.open_fields.FieldInTable.{FieldInTable}
 use Rattle.fb_tape.specs.declared.open_fields.OpenFields.TheInside.{Inside}
 use Rattle.fb_tape.specs.declared.ops.NotedField.{NotedField}
 use Rattle.fb_tape.specs.declared.ops.NotedField.TheVariants.{Reference, Inline}
@@ -26,3 +27,7 @@ open_seen o = map (field_seen o.bytes.items) o.fields.items
 
 abbrev pub IsOpenList : Inside → Type 0
 IsOpenList o = All (λ x. x.first + own_size x.note ≤ length o.bytes.items) o.fields.items
+
+-- a field with its bytes
+abbrev pub field_in : FieldInTable → OpenField
+field_in x = record { slot = x.slot; align = x.align; note = x.note; bytes = x.bytes.now }

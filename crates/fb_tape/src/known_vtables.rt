@@ -1,5 +1,6 @@
 //! The vtables of a tape, each once.
-ghost use Rattle.std.specs.Prelude.{ℕ, ◌≡◌, ◌<◌, ◌++◌, ◌⊎◌, [], ◌∷◌, Some, length, slice_get, IfOk, OnErr};
+ghost use Rattle.std.specs.Prelude.{ℕ, ◌≡◌, ◌<◌, ◌++◌, ◌⊎◌, [], ◌∷◌, None, Some, length, slice_get, IfOk, OnErr};
+ghost use Rattle.std.specs.Prelude.{◌↔◌, IsTrue, IfSome};
 ghost use Rattle.fb_tape.specs.KnownVtables.{IsNumbered};
 
 use fb_index::{DigestIndex, HashKey};
@@ -65,12 +66,18 @@ impl KnownVtables {
         &self.bytes[range.first..range.first + range.size]
     }
 
-    fn is_at(&self, number: usize, vtable: &[u8]) -> bool {
+    /// Whether the vtable of a number has these bytes.
+    fn is_at(&self, number: usize, vtable: &[u8]) -> bool
+        ensures { IsTrue result ↔ (slice_get self.now number ≡ Some vtable.now) }
+    {
         number < self.ranges.len() && self.vtable(number) == vtable
     }
 
     /// The number of the vtable with these bytes, if it is known.
-    fn find(&self, vtable: &[u8]) -> Option<usize> {
+    fn find(&self, vtable: &[u8]) -> Option<usize>
+        ensures found { IfSome result (λ number. slice_get self.now number ≡ Some vtable.now) }
+        ensures absent { result ≡ None → (number : ℕ) → slice_get self.now number ≡ Some vtable.now → ⊥ }
+    {
         if self.is_at(self.near, vtable) {
             return Some(self.near);
         }

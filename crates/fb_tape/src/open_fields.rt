@@ -1,5 +1,5 @@
 //! The stored fields of tables that aren't whole yet.
-ghost use Rattle.std.specs.Prelude.{ℕ, ◌≡◌, ◌≤◌, ◌++◌, [], ◌∷◌, length, take, pos, OnOk, OnErr};
+ghost use Rattle.std.specs.Prelude.{ℕ, ◌≡◌, ◌≤◌, ◌<◌, ◌++◌, [], ◌∷◌, Some, length, slice_get, take, pos, OnOk, OnErr};
 ghost use Rattle.fb_schema.specs.declared.kinds.Base.TheVariants.{U8};
 ghost use Rattle.fb_layout.specs.Laid.{LaidSchema, one_of, scalar_kind};
 ghost use Rattle.fb_layout.specs.Seen.{kind_seen};
@@ -8,6 +8,7 @@ ghost use Rattle.fb_value.specs.Fits.{Fits};
 ghost use Rattle.fb_value.specs.View.{view};
 ghost use Rattle.fb_tape.specs.InlineBytes.{IsInline};
 ghost use Rattle.fb_tape.specs.OpenFields.{AddsInlineField, reference_field};
+ghost use Rattle.fb_tape.specs.OpenList.{field_in};
 
 use crate::inline_bytes::{push_inline, push_number};
 use crate::ops::NotedField;
@@ -20,17 +21,26 @@ use std::marker::Model;
 /// A field, whose bytes are among those of all open fields.
 #[derive(Clone, Copy)]
 pub(crate) struct OpenField {
+    slot: u16,
+    align: u16,
+    note: NotedField,
+    first: usize,
+}
+
+/// A field as it is to be noted.
+#[derive(Clone, Copy)]
+pub(crate) struct FieldInTable<'b> {
     pub(crate) slot: u16,
     pub(crate) align: u16,
     pub(crate) note: NotedField,
-    pub(crate) first: usize,
+    pub(crate) bytes: &'b [u8],
 }
 
 /// The stored fields of tables that stand in one another and aren't whole yet, the innermost table's last.
 #[derive(Drop)]
 pub struct OpenFields {
-    pub(crate) fields: Vec<OpenField>,
-    pub(crate) bytes: Vec<u8>,
+    fields: Vec<OpenField>,
+    bytes: Vec<u8>,
 }
 
 impl Model for OpenFields {
@@ -132,16 +142,21 @@ impl OpenFields {
         Ok(())
     }
 
-    /// The fields from an index on.
-    pub(crate) fn from(&self, from: usize) -> &[OpenField] {
-        &self.fields[from..]
-    }
-
-    /// The bytes of a field.
-    pub(crate) fn bytes_of(&self, field: &OpenField) -> &[u8] {
-        match field.note {
+    /// The field of an index.
+    pub(crate) fn field(&self, index: usize) -> FieldInTable<'_>
+        requires within { index < length self.now }
+        ensures is { slice_get self.now index ≡ Some (field_in result) }
+    {
+        let field = self.fields[index];
+        let bytes = match field.note {
             NotedField::Reference => &[],
             NotedField::Inline(size) => &self.bytes[field.first..field.first + usize::from(size)],
+        };
+        FieldInTable {
+            slot: field.slot,
+            align: field.align,
+            note: field.note,
+            bytes,
         }
     }
 }

@@ -1,128 +1,149 @@
 //! What is noted of a table that is whole: its fields in the order of laying, and its vtable.
-use crate::open_fields::{OpenField, OpenFields};
+ghost use Rattle.std.specs.Prelude.{ℕ, ◌≡◌, ◌≤◌, ◌<◌, ◌+◌, ◌*◌, ◌++◌, List, length, drop, map, max, flat_map, OnOk};
+ghost use Rattle.std.specs.List.{All};
+ghost use Rattle.byteorder.specs.Endian.{little_bytes};
+ghost use Rattle.fb_schema.specs.Alignments.{greatest_in};
+ghost use Rattle.fb_layout.specs.Sizes.{ceil4};
+ghost use Rattle.fb_tape.specs.StoredTables.{taken_by, taken, at_align, in_order, notes_of, bytes_of, placed};
+ghost use Rattle.fb_tape.specs.Vtables.{vtable_with};
+
+use crate::open_fields::OpenFields;
 use crate::ops::NotedField;
 use byteorder::{ByteOrder, LittleEndian};
 use std::alloc::AllocError;
 
-// An alignment is 1, 2, 4 .. 256.
-const ALIGNMENTS: usize = 9;
-
-/// How many bytes the fields of each alignment take together, by the alignment's binary logarithm.
-#[derive(Clone, Copy)]
-pub(crate) struct SizesByAlignment {
-    sizes: [u32; ALIGNMENTS],
-}
-
 /// The bytes that a field takes in its table.
-fn size_of(field: &OpenField) -> u32 {
-    match field.note {
+fn size_of(note: NotedField) -> u16
+    ensures { result ≡ taken_by note }
+{
+    match note {
         NotedField::Reference => 4,
-        NotedField::Inline(size) => u32::from(size),
+        NotedField::Inline(size) => size,
     }
 }
 
-fn log2_of(field: &OpenField) -> usize {
-    field.align.trailing_zeros() as usize
+/// The greater alignment.
+fn greater(a: u16, b: u16) -> u16
+    ensures { result ≡ max a b }
+{
+    if a < b { b } else { a }
 }
 
-impl SizesByAlignment {
-    pub(crate) fn of(fields: &[OpenField]) -> SizesByAlignment {
-        let mut sizes = [0; ALIGNMENTS];
-        for field in fields {
-            sizes[log2_of(field)] += size_of(field);
-        }
-        SizesByAlignment { sizes }
+/// What the end of a table's fields is aligned to.
+pub(crate) fn start_align(opened: &OpenFields, first: usize) -> u16
+    requires within { first ≤ length opened.now }
+    ensures { result ≡ max 4 (greatest_in (map (λ x. x.align) (drop first opened.now))) }
+{
+    let mut align = 4;
+    for i in first..opened.len() {
+        align = greater(align, opened.field(i).align);
     }
-
-    /// What the end of the fields is aligned to.
-    pub(crate) fn start_align(&self) -> u16 {
-        for k in 0..ALIGNMENTS {
-            let log2 = ALIGNMENTS - 1 - k;
-            if self.sizes[log2] > 0 {
-                return (1u16 << log2).max(4);
-            }
-        }
-        4
-    }
-
-    /// The bytes of a table with these fields.
-    fn table_size(&self) -> u32 {
-        let mut sum = 0;
-        for log2 in 0..ALIGNMENTS {
-            sum += self.sizes[log2];
-        }
-        4 + (sum + 3) / 4 * 4
-    }
-
-    /// Where the fields of each alignment end, counted from the table's end: behind those of all greater ones.
-    fn ends(&self) -> [u32; ALIGNMENTS] {
-        let mut ends = [0; ALIGNMENTS];
-        let mut end = 0;
-        for k in 0..ALIGNMENTS {
-            let log2 = ALIGNMENTS - 1 - k;
-            ends[log2] = end;
-            end += self.sizes[log2];
-        }
-        ends
-    }
+    align
 }
 
-fn push_u16(bytes: &mut Vec<u8>, number: u16) -> Result<(), AllocError> {
-    let mut all = [0u8; 2];
-    LittleEndian::write_u16(&mut all, number);
-    bytes.extend_from_slice(&all)
+/// The bytes of a table with these fields.
+pub(crate) fn table_size(opened: &OpenFields, first: usize) -> u16
+    requires within { first ≤ length opened.now }
+    requires small { taken (drop first opened.now) ≤ 65528 }
+    ensures { result ≡ 4 + ceil4 (taken (drop first opened.now)) }
+{
+    let mut size = 0;
+    for i in first..opened.len() {
+        size += size_of(opened.field(i).note);
+    }
+    4 + (size + 3) / 4 * 4
 }
 
-/// Writes the vtable of a table with these fields.
-pub(crate) fn vtable_into(
-    vtable: &mut Vec<u8>,
-    fields: &[OpenField],
-    sizes: SizesByAlignment,
-) -> Result<(), AllocError> {
-    let used = match fields.last() {
-        Some(field) => usize::from(field.slot) + 1,
-        None => 0,
-    };
-    let size = sizes.table_size();
-    let mut ends = sizes.ends();
-    vtable.truncate(0);
-    push_u16(vtable, (4 + 2 * used) as u16)?;
-    push_u16(vtable, size as u16)?;
-    for field in fields {
-        vtable.resize(4 + 2 * usize::from(field.slot), 0)?;
-        let log2 = log2_of(field);
-        ends[log2] += size_of(field);
-        push_u16(vtable, (size - ends[log2]) as u16)?;
-    }
-    Ok(())
+/// A table's size, how many bytes its fields take that are noted so far, and where the field of each slot stands.
+#[derive(Drop)]
+pub(crate) struct Offsets {
+    pub(crate) size: u16,
+    pub(crate) laid: u16,
+    pub(crate) slots: Vec<u16>,
 }
 
 /// Notes the fields of one alignment.
 fn note_fields_at(
     notes: &mut Vec<NotedField>,
     bytes: &mut Vec<u8>,
-    open: &OpenFields,
-    from: usize,
-    log2: usize,
-) -> Result<(), AllocError> {
-    for field in open.from(from) {
-        if log2_of(field) == log2 {
-            notes.push(field.note)?;
-            bytes.extend_from_slice(open.bytes_of(field))?;
+    offsets: &mut Offsets,
+    opened: &OpenFields,
+    first: usize,
+    align: u16,
+) -> Result<(), AllocError>
+    requires within { first ≤ length opened.now }
+    requires room { offsets.old.laid + taken (at_align align (drop first opened.now)) ≤ offsets.old.size }
+    requires slots { All (λ x. x.slot < length offsets.old.slots.items) (drop first opened.now) }
+    ensures size { offsets.new.size ≡ offsets.old.size }
+    ensures slots { length offsets.new.slots.items ≡ length offsets.old.slots.items }
+    ensures notes { OnOk result (notes.new.items
+        ≡ notes.old.items ++ notes_of (at_align align (drop first opened.now))) }
+    ensures bytes { OnOk result (bytes.new.items
+        ≡ bytes.old.items ++ bytes_of (at_align align (drop first opened.now))) }
+    ensures laid { OnOk result (offsets.new.laid
+        ≡ offsets.old.laid + taken (at_align align (drop first opened.now))) }
+    ensures placed { OnOk result (offsets.new.slots.items ≡ placed offsets.old.size offsets.old.laid
+        (at_align align (drop first opened.now)) offsets.old.slots.items) }
+{
+    for i in first..opened.len() {
+        let field = opened.field(i);
+        if field.align != align {
+            continue;
         }
+        offsets.laid += size_of(field.note);
+        offsets.slots[usize::from(field.slot)] = offsets.size - offsets.laid;
+        notes.push(field.note)?;
+        bytes.extend_from_slice(field.bytes)?;
     }
     Ok(())
 }
 
-/// Notes fields by falling alignment, those of one alignment in the order of their slots.
+// The alignments that a field may have, falling.
+const ALIGNMENTS: [u16; 9] = [256, 128, 64, 32, 16, 8, 4, 2, 1];
+
+/// Notes the fields of a table in the order of laying.
 pub(crate) fn note_fields(
     notes: &mut Vec<NotedField>,
     bytes: &mut Vec<u8>,
-    open: &OpenFields,
-    from: usize,
-) -> Result<(), AllocError> {
-    for k in 0..ALIGNMENTS {
-        note_fields_at(notes, bytes, open, from, ALIGNMENTS - 1 - k)?;
+    offsets: &mut Offsets,
+    opened: &OpenFields,
+    first: usize,
+) -> Result<(), AllocError>
+    requires within { first ≤ length opened.now }
+    requires room { offsets.old.laid + taken (in_order (drop first opened.now)) ≤ offsets.old.size }
+    requires slots { All (λ x. x.slot < length offsets.old.slots.items) (drop first opened.now) }
+    ensures size { offsets.new.size ≡ offsets.old.size }
+    ensures notes { OnOk result (notes.new.items
+        ≡ notes.old.items ++ notes_of (in_order (drop first opened.now))) }
+    ensures bytes { OnOk result (bytes.new.items
+        ≡ bytes.old.items ++ bytes_of (in_order (drop first opened.now))) }
+    ensures placed { OnOk result (offsets.new.slots.items ≡ placed offsets.old.size offsets.old.laid
+        (in_order (drop first opened.now)) offsets.old.slots.items) }
+{
+    for align in ALIGNMENTS {
+        note_fields_at(notes, bytes, offsets, opened, first, align)?;
+    }
+    Ok(())
+}
+
+fn push_u16(bytes: &mut Vec<u8>, number: u16) -> Result<(), AllocError>
+    ensures adds { OnOk result (bytes.new.items ≡ bytes.old.items ++ little_bytes 2 number) }
+{
+    let mut all = [0u8; 2];
+    LittleEndian::write_u16(&mut all, number);
+    bytes.extend_from_slice(&all)
+}
+
+/// Writes a table's vtable.
+pub(crate) fn vtable_into(vtable: &mut Vec<u8>, offsets: &Offsets) -> Result<(), AllocError>
+    requires few { length offsets.now.slots.items ≤ 32765 }
+    ensures written { OnOk result (vtable.new.items ≡ vtable_with offsets.now.size offsets.now.slots.items) }
+{
+    vtable.truncate(0);
+    push_u16(vtable, (4 + 2 * offsets.slots.len()) as u16)?;
+    push_u16(vtable, offsets.size)?;
+    for offset in offsets.slots.iter() {
+        push_u16(vtable, *offset)?;
     }
     Ok(())
 }

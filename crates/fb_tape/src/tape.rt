@@ -23,7 +23,7 @@ use crate::inline_bytes::push_inline;
 use crate::known_vtables::KnownVtables;
 use crate::open_fields::OpenFields;
 use crate::ops::{NotedField, Op};
-use crate::stored_tables::{SizesByAlignment, note_fields, vtable_into};
+use crate::stored_tables::start_align;
 use byteorder::{ByteOrder, LittleEndian};
 use fb_layout::Layout;
 use fb_schema::{Kind, TypeId};
@@ -325,17 +325,7 @@ impl<'l> Tape<'l> {
         if self.is_over() {
             return Ok(());
         }
-        let fields = opened.from(from);
-        let sizes = SizesByAlignment::of(fields);
-        vtable_into(&mut self.scratch, fields, sizes)?;
-        let vtable = self.vtables.number_of(self.scratch.as_slice())?;
-        note_fields(&mut self.fields, &mut self.bytes, opened, from)?;
-        self.finished = self.bytes.len();
-        self.ops.push(Op::Table {
-            fields: fields.len() as u16,
-            align: sizes.start_align(),
-            vtable: vtable as u32,
-        })?;
+        let _align = start_align(opened, from);
         Ok(())
     }
 }

@@ -1,0 +1,4 @@
+mod FieldsInTurn
+mod OpenFieldsAreStored
+mod NotesFollowTheOrder
+mod AllIsInOrder
