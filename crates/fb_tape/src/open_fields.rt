@@ -114,6 +114,7 @@ impl OpenFields {
         requires fits { Fits layout.now (one_of (kind_seen layout.now kind)) (view value.now) }
         ensures adds { OnOk result (AddsInlineField layout.now slot (kind_seen layout.now kind) (view value.now)
             self.old self.new) }
+        ensures kept { OnErr result (self.new ≡ self.old) }
     {
         let _schema = layout.schema(); // its contract: the layout is well made
         let first = self.bytes.len();
