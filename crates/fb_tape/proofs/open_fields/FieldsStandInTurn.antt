@@ -1,12 +1,13 @@
 -- Open fields have their bytes one behind the other.
 use Rattle.std.proofs.Common.{ℕ, zero, suc, ◌+◌, ◌≡◌, ◌≤◌, ◌<◌, ◌++◌, List, [], ◌∷◌, length, map, take, drop, Some}
 use Rattle.std.proofs.Common.{slice_get, refl, ap, sym, ◌∙◌, arith, length-append}
-use Rattle.std.proofs.lemmas.List.{length-drop, take-append-le, drop-append-le, map-append}
+use Rattle.std.proofs.lemmas.List.{length-drop, length-take-le, take-append-le, drop-append-le, map-append, take-append-drop}
+use Rattle.std.specs.List.{take-map}
 use Rattle.std.proofs.Math.Seq.{take-length, drop-append_seam}
 use Rattle.fb_layout.specs.Laid.{LaidSchema, StoredKind, align_of, size_of}
 use Rattle.fb_value.specs.Datum.{Datum}
 use Rattle.fb_value.specs.Num.{Bytes, part_of}
-use Rattle.fb_tape.specs.InlineBytes.{AreInlineBytes, AddsInline}
+use Rattle.fb_tape.specs.InlineBytes.{AreInlineBytes, AddsInline, OnlyAdds}
 use Rattle.fb_tape.specs.OpenFields.{OpenField, IsInlineField, AddsInlineField}
 use Rattle.fb_tape.specs.OpenList.{own_size, field_seen, StandInTurn}
 use Rattle.fb_tape.specs.declared.open_fields.OpenField.{OpenField as Held}
@@ -41,6 +42,16 @@ seen_kept bytes own p (x ∷ xs) e low h =
     let rest = seen_kept bytes own (x.first + own_size x.note) xs e low h.1 in
     rw (same, rest) refl
 
+pub kept_inside : (xs : List Held) (before after : Bytes) → OnlyAdds before after → StandInTurn 0 xs (length before)
+    → StandInTurn 0 xs (length after)
+kept_inside xs before after added h =
+    let long = ap length added.1 ∙ length-append before added.0 in
+    turn_wider 0 xs (length before) (length after) (omega (arith, long)) h
+
+pub kept_seen : (xs : List Held) (before after : Bytes) → OnlyAdds before after → StandInTurn 0 xs (length before)
+    → map (field_seen after) xs ≡ map (field_seen before) xs
+kept_seen xs before after added h = rw added.1 (seen_kept before added.0 0 xs (length before) (omega arith) h)
+
 -- ---- one field more
 
 pub turn_more : (p : ℕ) (xs : List Held) (x : Held) (e f : ℕ) → StandInTurn p xs e → e ≤ x.first
@@ -67,6 +78,12 @@ first_turn p [] k x e at h = cc
 first_turn p (y ∷ xs) zero x e at h = let same : y ≡ x = cc in omega (arith, h.0, ap (λ (z : Held). z.first) same)
 first_turn p (y ∷ xs) (suc k) x e at h = (h.0, first_turn (y.first + own_size y.note) xs k x e at h.1)
 
+pub turn_taken : (p : ℕ) (xs : List Held) (k e : ℕ) → StandInTurn p xs e → StandInTurn p (take k xs) e
+turn_taken p [] zero e h = h
+turn_taken p [] (suc k) e h = h
+turn_taken p (x ∷ xs) zero e h = from_start p (x ∷ xs) e h
+turn_taken p (x ∷ xs) (suc k) e h = (h.0, turn_taken (x.first + own_size x.note) xs k e h.1)
+
 pub ends_within : (p : ℕ) (xs : List Held) (k : ℕ) (x : Held) (e : ℕ) → slice_get xs k ≡ Some x → StandInTurn p xs e
     → x.first + own_size x.note ≤ e
 ends_within p [] k x e at h = cc
@@ -76,6 +93,14 @@ ends_within p (y ∷ xs) zero x e at h =
 ends_within p (y ∷ xs) (suc k) x e at h = ends_within (y.first + own_size y.note) xs k x e at h.1
 
 -- ---- a number or a struct more
+
+pub inline_inside : (L : LaidSchema) (kind : StoredKind) (d : Datum) (before after : Bytes) (xs ys : List Held)
+    (x : Held) → StandInTurn 0 xs (length before) → AddsInline L kind d before after → ys ≡ xs ++ (x ∷ [])
+    → x.note ≡ Inline (size_of L kind) → x.first ≡ length before → StandInTurn 0 ys (length after)
+inline_inside L kind d before after xs ys x h added more note_is first_is =
+    let long = ap length added.1 ∙ length-append before added.0 in
+    rw more (turn_more 0 xs x (length before) (length after) h (omega (arith, first_is))
+    (omega (arith, first_is, long, added.2.long, ap own_size note_is)))
 
 pub inline_field_added : (L : LaidSchema) (slot : ℕ) (kind : StoredKind) (d : Datum) (bytes after : Bytes)
     (xs ys : List Held) (x : Held) → StandInTurn 0 xs (length bytes) → AddsInline L kind d bytes after
@@ -98,3 +123,25 @@ inline_field_added L slot kind d bytes after xs ys x h added more slot_is align_
         inline = rw (whole, own) added.2;
       },
     )
+
+-- ---- fewer fields
+
+turn_first : (xs : List Held) (k : ℕ) (x : Held) (bytes : Bytes) → slice_get xs k ≡ Some x
+    → StandInTurn 0 xs (length bytes) → x.first ≤ length bytes
+turn_first xs k x bytes at h = let ends = ends_within 0 xs k x (length bytes) at h in omega (arith, ends)
+
+pub truncated_inside : (xs : List Held) (k : ℕ) (x : Held) (bytes : Bytes) → slice_get xs k ≡ Some x
+    → StandInTurn 0 xs (length bytes) → StandInTurn 0 (take k xs) (length (take x.first bytes))
+truncated_inside xs k x bytes at h =
+    let low = turn_first xs k x bytes at h in
+    rw (length-take-le x.first bytes low) (first_turn 0 xs k x (length bytes) at h)
+
+pub truncated_seen : (xs : List Held) (k : ℕ) (x : Held) (bytes : Bytes) → slice_get xs k ≡ Some x
+    → StandInTurn 0 xs (length bytes)
+    → map (field_seen (take x.first bytes)) (take k xs) ≡ take k (map (field_seen bytes) xs)
+truncated_seen xs k x bytes at h =
+    let whole : take x.first bytes ++ drop x.first bytes ≡ bytes = take-append-drop x.first bytes in
+    let inside = truncated_inside xs k x bytes at h in
+    sym (ap (λ (b : Bytes). map (field_seen b) (take k xs)) (sym whole)
+    ∙ seen_kept (take x.first bytes) (drop x.first bytes) 0 (take k xs) (length (take x.first bytes)) (omega arith)
+    inside) ∙ sym (take-map (field_seen bytes) k xs)
