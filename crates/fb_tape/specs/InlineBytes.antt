@@ -101,6 +101,10 @@ pub record AreInlineBytes (L : LaidSchema) (kind : StoredKind) (d : Datum) (byte
 abbrev pub AddsInline : LaidSchema → StoredKind → Datum → Bytes → Bytes → Type 0
 AddsInline L kind d before after = (own : Bytes) × (after ≡ before ++ own) × AreInlineBytes L kind d own
 
+-- Nothing but more bytes behind came to those before.
+abbrev pub OnlyAdds : Bytes → Bytes → Type 0
+OnlyAdds before after = (own : Bytes) × (after ≡ before ++ own)
+
 -- what stands in its place: a number, or a struct that is declared
 abbrev pub IsInline : LaidSchema → StoredKind → Type 0
 IsInline L (scalar_kind base) = Unit {0}

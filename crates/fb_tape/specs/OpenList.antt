@@ -1,6 +1,5 @@
 -- Open fields as they are held: each one's bytes are among those of all.
-use Rattle.std.specs.Prelude.{ℕ, ◌+◌, ◌≤◌, List, map, length, take, drop}
-use Rattle.std.specs.List.{All}
+use Rattle.std.specs.Prelude.{ℕ, ◌+◌, ◌≤◌, List, [], ◌∷◌, map, length}
 use Rattle.fb_value.specs.Num.{Bytes, part_of}
 use Rattle.fb_tape.specs.OpenFields.{OpenField}
 use Rattle.fb_tape.specs.declared.open_fields.OpenField.{OpenField as Held}
@@ -25,8 +24,13 @@ field_seen bytes x = record {
 abbrev pub open_seen : Inside → List OpenField
 open_seen o = map (field_seen o.bytes.items) o.fields.items
 
+-- Fields have their bytes one behind the other, from a position on and up to an end.
+abbrev pub StandInTurn : ℕ → List Held → ℕ → Type 0
+StandInTurn p [] end = p ≤ end
+StandInTurn p (x ∷ xs) end = (p ≤ x.first) × StandInTurn (x.first + own_size x.note) xs end
+
 abbrev pub IsOpenList : Inside → Type 0
-IsOpenList o = All (λ x. x.first + own_size x.note ≤ length o.bytes.items) o.fields.items
+IsOpenList o = StandInTurn 0 o.fields.items (length o.bytes.items)
 
 -- a field with its bytes
 abbrev pub field_in : FieldInTable → OpenField

@@ -9,7 +9,7 @@ ghost use Rattle.fb_value.specs.Datum.{a_number, a_struct};
 ghost use Rattle.fb_value.specs.Fits.{Fits, PartsFit};
 ghost use Rattle.fb_value.specs.Num.{num, scalar_of};
 ghost use Rattle.fb_value.specs.View.{view, parts_view};
-ghost use Rattle.fb_tape.specs.InlineBytes.{AddsInline, IsBit, IsInline};
+ghost use Rattle.fb_tape.specs.InlineBytes.{AddsInline, OnlyAdds, IsBit, IsInline};
 ghost use Rattle.fb_tape.specs.StoredFields.{scalar_in};
 
 use byteorder::{ByteOrder, LittleEndian};
@@ -49,6 +49,7 @@ pub(crate) fn push_number(bytes: &mut Vec<u8>, base: Base, number: i128) -> Resu
 
 /// Adds zeros.
 fn push_zeros(bytes: &mut Vec<u8>, count: usize) -> Result<(), AllocError>
+    requires few { count ≤ 65535 }
     ensures adds { OnOk result (bytes.new.items ≡ bytes.old.items ++ replicate count 0) }
     ensures kept { OnErr result (bytes.new.items ≡ bytes.old.items) }
 {
@@ -79,6 +80,7 @@ pub(crate) fn push_inline(
     requires fits { Fits layout.now (one_of (kind_seen layout.now kind)) (view value.now) }
     ensures adds { OnOk result (AddsInline layout.now (kind_seen layout.now kind) (view value.now)
         bytes.old.items bytes.new.items) }
+    ensures kept { OnlyAdds bytes.old.items bytes.new.items }
 {
     match (value, scalar_base(layout, kind), kind) {
         (Value::Number(number), Some(base), _) => push_number(bytes, base, *number),
@@ -101,13 +103,16 @@ fn push_struct(
     requires fits { PartsFit layout.now (parts_of layout.now structure.0) (parts_view parts.now) }
     ensures adds { OnOk result (AddsInline layout.now (struct_kind structure.0) (a_struct (parts_view parts.now))
         bytes.old.items bytes.new.items) }
+    ensures kept { OnlyAdds bytes.old.items bytes.new.items }
 {
     let _schema = layout.schema(); // its contract: the layout is well made
+    let fields = layout.parts_of(structure);
     let first = bytes.len();
-    for (k, field) in layout.parts_of(structure).iter().enumerate() {
+    for k in 0..fields.len() {
+        let kind = kind_in(fields[k].shape);
         let offset = layout.offset_of(structure, k as u16) as usize;
         push_zeros(bytes, offset - (bytes.len() - first))?;
-        push_inline(bytes, layout, kind_in(field.shape), &parts[k])?;
+        push_inline(bytes, layout, kind, &parts[k])?;
     }
     let size = layout.size_of(Kind::Struct(structure)) as usize;
     push_zeros(bytes, size - (bytes.len() - first))

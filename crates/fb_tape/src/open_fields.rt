@@ -8,7 +8,7 @@ ghost use Rattle.fb_value.specs.Fits.{Fits};
 ghost use Rattle.fb_value.specs.View.{view};
 ghost use Rattle.fb_tape.specs.InlineBytes.{IsInline};
 ghost use Rattle.fb_tape.specs.OpenFields.{AddsInlineField, reference_field};
-ghost use Rattle.fb_tape.specs.OpenList.{field_in};
+ghost use Rattle.fb_tape.specs.OpenList.{field_in, own_size};
 
 use crate::inline_bytes::{push_inline, push_number};
 use crate::ops::NotedField;
@@ -34,6 +34,16 @@ pub(crate) struct FieldInTable<'b> {
     pub(crate) align: u16,
     pub(crate) note: NotedField,
     pub(crate) bytes: &'b [u8],
+}
+
+/// How many bytes of a field are noted.
+fn own_size(note: NotedField) -> usize
+    ensures { result ≡ own_size note }
+{
+    match note {
+        NotedField::Reference => 0,
+        NotedField::Inline(size) => usize::from(size),
+    }
 }
 
 /// The stored fields of tables that stand in one another and aren't whole yet, the innermost table's last.
@@ -114,6 +124,7 @@ impl OpenFields {
         requires fits { Fits layout.now (one_of (kind_seen layout.now kind)) (view value.now) }
         ensures adds { OnOk result (AddsInlineField layout.now slot (kind_seen layout.now kind) (view value.now)
             self.old self.new) }
+        ensures kept { OnErr result (self.new ≡ self.old) }
     {
         let _schema = layout.schema(); // its contract: the layout is well made
         let first = self.bytes.len();
@@ -148,15 +159,12 @@ impl OpenFields {
         ensures is { slice_get self.now index ≡ Some (field_in result) }
     {
         let field = self.fields[index];
-        let bytes = match field.note {
-            NotedField::Reference => &[],
-            NotedField::Inline(size) => &self.bytes[field.first..field.first + usize::from(size)],
-        };
+        let end = field.first + own_size(field.note);
         FieldInTable {
             slot: field.slot,
             align: field.align,
             note: field.note,
-            bytes,
+            bytes: &self.bytes[field.first..end],
         }
     }
 }

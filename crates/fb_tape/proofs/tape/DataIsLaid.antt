@@ -1,6 +1,8 @@
 -- A text, or a vector of numbers or structs, is laid.
 use Rattle.std.proofs.Common.{ℕ, ◌+◌, ◌-◌, ◌*◌, ◌%◌, ◌^◌, ◌≡◌, ◌≤◌, ◌<◌, ◌++◌, ◌↔◌, IsTrue, inl, inr, max, false, List, [], ◌∷◌, length}
 use Rattle.std.proofs.Common.{refl, ap, sym, ◌∙◌, subst, arith, append-nil, append_assoc, length-append}
+use Rattle.std.proofs.Common.{drop}
+use Rattle.std.proofs.lemmas.List.{drop-append-le}
 use Rattle.std.specs.Str.{IsUtf8}
 use Rattle.byteorder.specs.Endian.{little_bytes}
 use Rattle.fb_layout.specs.Laid.{LaidSchema, StoredKind, one_of, size_of, align_of}
@@ -11,7 +13,7 @@ use Rattle.fb_value.specs.Places.{text_part, vector_part}
 use Rattle.fb_value.specs.Room.{vector_room}
 use Rattle.fb_value.specs.UpTo.{at_most_usize}
 use Rattle.fb_value.specs.View.{parts_in}
-use Rattle.fb_tape.specs.InlineBytes.{AreInlineBytes}
+use Rattle.fb_tape.specs.InlineBytes.{AreInlineBytes, AddsInline}
 use Rattle.fb_tape.specs.NamedParts.{NamedPart}
 use Rattle.fb_tape.specs.StoredFields.{is_reference, ItemsKnown}
 use Rattle.fb_tape.specs.Tapes.{Taped, Waits, IsData, AreElementBytes, IsUnfinished}
@@ -107,7 +109,7 @@ elements_long L kind (d ∷ ds) bytes h =
     omega (arith, whole, rest, h.inline.long)
 
 -- An element more stands behind the others.
-pub one_element_more : (L : LaidSchema) (kind : StoredKind) (d : Datum) (own : Bytes) → AreInlineBytes L kind d own
+one_element_more : (L : LaidSchema) (kind : StoredKind) (d : Datum) (own : Bytes) → AreInlineBytes L kind d own
     → (ds : List Datum) (bytes : Bytes) → AreElementBytes L kind ds bytes
     → AreElementBytes L kind (ds ++ (d ∷ [])) (bytes ++ own)
 one_element_more L kind d own inline [] bytes h = record {
@@ -123,6 +125,18 @@ one_element_more L kind d own inline (first ∷ ds) bytes h = record {
   bytes_are = ap (λ (x : Bytes). x ++ own) h.bytes_are ∙ append_assoc h.own h.behind own;
   inline = h.inline;
   rest = one_element_more L kind d own inline ds h.behind h.rest;
+}
+
+pub element_added : (L : LaidSchema) (kind : StoredKind) (count : ℕ) (ds : List Datum) (d : Datum) (finished : ℕ)
+    (before after : Bytes) → finished ≤ length before → AddsInline L kind d before after
+    → IsUnfinished L kind count ds (drop finished before)
+    → IsUnfinished L kind count (ds ++ (d ∷ [])) (drop finished after)
+element_added L kind count ds d finished before after within added h = record {
+  element_bytes = h.element_bytes ++ added.0;
+  bytes_are = ap (drop finished) added.1 ∙ drop-append-le finished before added.0 within
+      ∙ ap (λ (x : Bytes). x ++ added.0) h.bytes_are
+      ∙ append_assoc (little_bytes 4 count) h.element_bytes added.0;
+  stand = one_element_more L kind d added.0 added.2 ds h.element_bytes h.stand;
 }
 
 pub vector_waits : (before after : Taped) (kind : StoredKind) (ds : List Datum) (own : Bytes) (ps : List NamedPart)
