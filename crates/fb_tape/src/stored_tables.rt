@@ -1,16 +1,20 @@
 //! What is noted of a table that is whole: its fields in the order of laying, and its vtable.
-ghost use Rattle.std.specs.Prelude.{ℕ, ◌≡◌, ◌≤◌, ◌<◌, ◌+◌, ◌*◌, ◌++◌, List, length, drop, map, max, flat_map, OnOk};
+ghost use Rattle.std.specs.Prelude.{ℕ, ◌≡◌, ◌≤◌, ◌<◌, ◌+◌, ◌*◌, ◌++◌, List, length, drop, map, max, flat_map, replicate, Option, OnOk};
 ghost use Rattle.std.specs.List.{All};
 ghost use Rattle.byteorder.specs.Endian.{little_bytes};
 ghost use Rattle.fb_schema.specs.Alignments.{greatest_in};
 ghost use Rattle.fb_layout.specs.Sizes.{ceil4};
+ghost use Rattle.fb_layout.specs.Laid.{LaidSchema, Slot};
+ghost use Rattle.fb_value.specs.Datum.{Datum};
+ghost use Rattle.fb_tape.specs.LayingOrder.{laying_order};
 ghost use Rattle.fb_tape.specs.StoredTables.{taken_by, taken, at_align, in_order, notes_of, bytes_of, placed};
-ghost use Rattle.fb_tape.specs.Vtables.{vtable_with};
+ghost use Rattle.fb_tape.specs.StoredTables.{AreStored, AddsNotes};
+ghost use Rattle.fb_tape.specs.Vtables.{vtable_with, vtable_of, table_size, trimmed, offsets_from};
 
 use crate::open_fields::OpenFields;
 use crate::ops::NotedField;
 use byteorder::{ByteOrder, LittleEndian};
-use std::alloc::AllocError;
+use std::alloc::{AllocError, Global};
 
 /// The bytes that a field takes in its table.
 fn size_of(note: NotedField) -> u16
@@ -54,12 +58,55 @@ pub(crate) fn table_size(opened: &OpenFields, first: usize) -> u16
     4 + (size + 3) / 4 * 4
 }
 
+/// How many slots there are up to the last that is stored.
+fn slots_used(opened: &OpenFields, first: usize) -> usize
+    requires within { first ≤ length opened.now }
+    requires some { (L : LaidSchema) × (fs : List Slot) × (xs : List (Option Datum))
+        × AreStored L fs xs (drop first opened.now) }
+    ensures { (L : LaidSchema) (fs : List Slot) (xs : List (Option Datum)) → AreStored L fs xs (drop first opened.now)
+        → result ≡ length (trimmed (offsets_from L fs xs 0 fs xs)) }
+{
+    if opened.len() == first {
+        return 0;
+    }
+    usize::from(opened.field(opened.len() - 1).slot) + 1
+}
+
 /// A table's size, how many bytes its fields take that are noted so far, and where the field of each slot stands.
 #[derive(Drop)]
 pub(crate) struct Offsets {
     pub(crate) size: u16,
     pub(crate) laid: u16,
     pub(crate) slots: Vec<u16>,
+}
+
+impl Offsets {
+    /// Those of no table.
+    pub(crate) fn new(alloc: Global) -> Offsets {
+        Offsets {
+            size: 0,
+            laid: 0,
+            slots: Vec::new(alloc),
+        }
+    }
+
+    /// Begins those of a table with these fields, none of which is laid.
+    fn begin(&mut self, opened: &OpenFields, first: usize) -> Result<(), AllocError>
+        requires within { first ≤ length opened.now }
+        requires some { (L : LaidSchema) × (fs : List Slot) × (xs : List (Option Datum))
+            × AreStored L fs xs (drop first opened.now) }
+        ensures laid { self.new.laid ≡ 0 }
+        ensures size { (L : LaidSchema) (fs : List Slot) (xs : List (Option Datum))
+            → AreStored L fs xs (drop first opened.now) → self.new.size ≡ table_size L fs xs }
+        ensures slots { OnOk result ((L : LaidSchema) (fs : List Slot) (xs : List (Option Datum))
+            → AreStored L fs xs (drop first opened.now) → self.new.slots.items
+            ≡ replicate (length (trimmed (offsets_from L fs xs 0 fs xs))) 0) }
+    {
+        self.size = table_size(opened, first);
+        self.laid = 0;
+        self.slots.truncate(0);
+        self.slots.resize(slots_used(opened, first), 0)
+    }
 }
 
 /// Notes the fields of one alignment.
@@ -145,5 +192,30 @@ pub(crate) fn vtable_into(vtable: &mut Vec<u8>, offsets: &Offsets) -> Result<(),
     for offset in offsets.slots.iter() {
         push_u16(vtable, *offset)?;
     }
+    Ok(())
+}
+
+/// Notes the fields of a table in the order of laying, and writes its vtable.
+pub(crate) fn note_table(
+    notes: &mut Vec<NotedField>,
+    bytes: &mut Vec<u8>,
+    offsets: &mut Offsets,
+    vtable: &mut Vec<u8>,
+    opened: &OpenFields,
+    first: usize,
+) -> Result<(), AllocError>
+    requires within { first ≤ length opened.now }
+    requires some { (L : LaidSchema) × (fs : List Slot) × (xs : List (Option Datum))
+        × AreStored L fs xs (drop first opened.now) }
+    ensures notes { OnOk result ((L : LaidSchema) (fs : List Slot) (xs : List (Option Datum))
+        → AreStored L fs xs (drop first opened.now) → AddsNotes L fs xs (laying_order L fs xs) notes.old.items
+        notes.new.items bytes.old.items bytes.new.items (notes_of (in_order (drop first opened.now)))
+        (bytes_of (in_order (drop first opened.now)))) }
+    ensures vtable { OnOk result ((L : LaidSchema) (fs : List Slot) (xs : List (Option Datum))
+        → AreStored L fs xs (drop first opened.now) → vtable.new.items ≡ vtable_of L fs xs) }
+{
+    offsets.begin(opened, first)?;
+    note_fields(notes, bytes, offsets, opened, first)?;
+    vtable_into(vtable, offsets)?;
     Ok(())
 }

@@ -111,8 +111,7 @@ inline_field_added L slot kind d bytes after xs ys x h added more slot_is align_
     let whole : after ≡ bytes ++ added.0 = added.1 in
     let long : own_size x.note ≡ length added.0 = ap own_size note_is ∙ sym added.2.long in
     let own : part_of (bytes ++ added.0) x.first (own_size x.note) ≡ added.0 =
-    rw (first_is, long) (last_part bytes added.0) in
-    (
+    rw (first_is, long) (last_part bytes added.0) in (
       field_seen after x,
       rw (more, whole) (seen_more bytes added.0 xs x h),
       record {

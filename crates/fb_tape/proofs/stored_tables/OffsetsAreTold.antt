@@ -29,28 +29,28 @@ module _ (L : LaidSchema) (a size : ℕ) where
       (same : (j : ℕ) → (j ≡ k → ⊥) → slice_index now j ≡ slice_index slots j)
       (rest : AreTold L a size (laid + n) (suc k) fs xs now told)
     where
-    here : (i : ℕ) (g : Slot) (y : Option Datum) → slice_get (f ∷ fs) i ≡ Some g → slice_get (x ∷ xs) i ≡ Some y
-        → slice_index told (k + i) ≡ (if is_at L a g y then size - (laid + size_at L a (take (suc i) (f ∷ fs)) (take (suc i) (x ∷ xs)))
-        else slice_index slots (k + i))
-    here zero g y gi yi =
-        let g_is : f ≡ g = cc in
-        let y_is : x ≡ y = cc in
-        let at : k + 0 ≡ k = omega arith in
-        let sum : laid + (size_if_at L a f x + 0) ≡ laid + n = omega (arith, takes) in
-        rw (← g_is) (rw (← y_is) (rw (at, sum) first))
-    here (suc i) g y gi yi =
-        let at : k + suc i ≡ suc k + i = omega arith in
-        let sum : laid + (size_if_at L a f x + size_at L a (take (suc i) fs) (take (suc i) xs))
-        ≡ (laid + n) + size_at L a (take (suc i) fs) (take (suc i) xs) = omega (arith, takes) in
-        let other : slice_index now (suc k + i) ≡ slice_index slots (suc k + i) =
-        same (suc k + i) (λ e. omega (arith, e)) in
-        rw (at, sum) (rw other at (rest.here i g y gi yi))
+      here : (i : ℕ) (g : Slot) (y : Option Datum) → slice_get (f ∷ fs) i ≡ Some g → slice_get (x ∷ xs) i ≡ Some y
+          → slice_index told (k + i) ≡ (if is_at L a g y then size - (laid + size_at L a (take (suc i) (f ∷ fs)) (take (suc i) (x ∷ xs)))
+          else slice_index slots (k + i))
+      here zero g y gi yi =
+          let g_is : f ≡ g = cc in
+          let y_is : x ≡ y = cc in
+          let at : k + 0 ≡ k = omega arith in
+          let sum : laid + (size_if_at L a f x + 0) ≡ laid + n = omega (arith, takes) in
+          rw (← g_is) (rw (← y_is) (rw (at, sum) first))
+      here (suc i) g y gi yi =
+          let at : k + suc i ≡ suc k + i = omega arith in
+          let sum : laid + (size_if_at L a f x + size_at L a (take (suc i) fs) (take (suc i) xs))
+          ≡ (laid + n) + size_at L a (take (suc i) fs) (take (suc i) xs) = omega (arith, takes) in
+          let other : slice_index now (suc k + i) ≡ slice_index slots (suc k + i) =
+          same (suc k + i) (λ e. omega (arith, e)) in
+          rw (at, sum) (rw other at (rest.here i g y gi yi))
 
-    pub join_told : AreTold L a size laid k (f ∷ fs) (x ∷ xs) slots told
-    join_told = record {
-      here = here;
-      before = λ j low. rest.before j (omega (arith, low)) ∙ same j (λ e. omega (arith, e, low));
-    }
+      pub join_told : AreTold L a size laid k (f ∷ fs) (x ∷ xs) slots told
+      join_told = record {
+        here = here;
+        before = λ j low. rest.before j (omega (arith, low)) ∙ same j (λ e. omega (arith, e, low));
+      }
 
   abbrev Told : ℕ → List Slot → List (Option Datum) → List OpenField → Type 0
   Told k fs xs opens = (laid : ℕ) (slots : List ℕ) → All (λ o. o.slot < length slots) opens

@@ -11,7 +11,7 @@ use Rattle.fb_value.specs.Datum.{Datum}
 use Rattle.fb_tape.specs.LayingOrder.{falling_alignments}
 use Rattle.fb_tape.specs.OpenFields.{OpenField, AreOpen}
 use Rattle.fb_tape.specs.StoredFields.{is_stored, is_at, size_at, size_above}
-use Rattle.fb_tape.specs.StoredTables.{taken, at_align, in_order, placed}
+use Rattle.fb_tape.specs.StoredTables.{taken, at_align, in_order, placed, StoredAligned}
 use Rattle.fb_tape.proofs.stored_tables.FieldsInTurn.{placed_both, placed_long}
 use Rattle.fb_tape.proofs.stored_tables.OpenFieldsAreStored.{taken_at_is}
 use Rattle.fb_tape.proofs.stored_tables.OffsetsAreTold.{AreTold, all_told}
@@ -32,58 +32,58 @@ laid_before L fs xs (b ∷ bs) a = if a == b then 0 else size_at L b fs xs + lai
 module _ (L : LaidSchema) (size : ℕ) (fs : List Slot) (xs : List (Option Datum)) (opens : List OpenField)
     (are : AreOpen L 0 fs xs opens)
   where
-  abbrev ToldBy : List ℕ → ℕ → List ℕ → List ℕ → Type 0
-  ToldBy aligns laid slots told = (i : ℕ) (f : Slot) (x : Option Datum) → slice_get fs i ≡ Some f
-      → slice_get xs i ≡ Some x → slice_index told i ≡ (if is_stored f x && among (inline_align L f.shape) aligns
-      then size - ((laid + laid_before L fs xs aligns (inline_align L f.shape))
-      + size_at L (inline_align L f.shape) (take (suc i) fs) (take (suc i) xs)) else slice_index slots i)
+    abbrev ToldBy : List ℕ → ℕ → List ℕ → List ℕ → Type 0
+    ToldBy aligns laid slots told = (i : ℕ) (f : Slot) (x : Option Datum) → slice_get fs i ≡ Some f
+        → slice_get xs i ≡ Some x → slice_index told i ≡ (if is_stored f x && among (inline_align L f.shape) aligns
+        then size - ((laid + laid_before L fs xs aligns (inline_align L f.shape))
+        + size_at L (inline_align L f.shape) (take (suc i) fs) (take (suc i) xs)) else slice_index slots i)
 
-  one_more : (b : ℕ) (bs : List ℕ) (laid i s n m told : ℕ) (f : Slot) (x : Option Datum) → (t u : Bool)
-      → is_stored f x ≡ t → (inline_align L f.shape == b) ≡ u → among b bs ≡ false
-      → n ≡ (if is_at L b f x then size - (laid + size_at L b (take (suc i) fs) (take (suc i) xs)) else s)
-      → m ≡ laid + size_at L b fs xs
-      → told ≡ (if is_stored f x && among (inline_align L f.shape) bs
-      then size - ((m + laid_before L fs xs bs (inline_align L f.shape))
-      + size_at L (inline_align L f.shape) (take (suc i) fs) (take (suc i) xs)) else n)
-      → told ≡ (if is_stored f x && among (inline_align L f.shape) (b ∷ bs)
-      then size - ((laid + laid_before L fs xs (b ∷ bs) (inline_align L f.shape))
-      + size_at L (inline_align L f.shape) (take (suc i) fs) (take (suc i) xs)) else s)
-  one_more b bs laid i s n m told f x false u stored is once own all h =
-      rw stored at h ∙ (rw stored (rw stored at own))
-  one_more b bs laid i s n m told f x true true stored is once own all h =
-      let a_is : inline_align L f.shape ≡ b = eqb-true _ _ is in
-      let none : laid + 0 ≡ laid = omega arith in
-      let own_is = rw (stored, is) at own in
-      let told_is = rw (stored, a_is, once) at h in
-      let self : (b == b) ≡ true = rw a_is at is in
-      rw (stored, a_is, self, none) (told_is ∙ own_is)
-  one_more b bs laid i s n m told f x true false stored is once own all h =
-      let own_is = rw (stored, is) at own in
-      let sum : (laid + (size_at L b fs xs + laid_before L fs xs bs (inline_align L f.shape)))
-      ≡ m + laid_before L fs xs bs (inline_align L f.shape) = omega (arith, all) in
-      rw (stored, is, sum) (rw own_is at (rw stored at h))
+    one_more : (b : ℕ) (bs : List ℕ) (laid i s n m told : ℕ) (f : Slot) (x : Option Datum) → (t u : Bool)
+        → is_stored f x ≡ t → (inline_align L f.shape == b) ≡ u → among b bs ≡ false
+        → n ≡ (if is_at L b f x then size - (laid + size_at L b (take (suc i) fs) (take (suc i) xs)) else s)
+        → m ≡ laid + size_at L b fs xs
+        → told ≡ (if is_stored f x && among (inline_align L f.shape) bs
+        then size - ((m + laid_before L fs xs bs (inline_align L f.shape))
+        + size_at L (inline_align L f.shape) (take (suc i) fs) (take (suc i) xs)) else n)
+        → told ≡ (if is_stored f x && among (inline_align L f.shape) (b ∷ bs)
+        then size - ((laid + laid_before L fs xs (b ∷ bs) (inline_align L f.shape))
+        + size_at L (inline_align L f.shape) (take (suc i) fs) (take (suc i) xs)) else s)
+    one_more b bs laid i s n m told f x false u stored is once own all h =
+        rw stored at h ∙ (rw stored (rw stored at own))
+    one_more b bs laid i s n m told f x true true stored is once own all h =
+        let a_is : inline_align L f.shape ≡ b = eqb-true _ _ is in
+        let none : laid + 0 ≡ laid = omega arith in
+        let own_is = rw (stored, is) at own in
+        let told_is = rw (stored, a_is, once) at h in
+        let self : (b == b) ≡ true = rw a_is at is in
+        rw (stored, a_is, self, none) (told_is ∙ own_is)
+    one_more b bs laid i s n m told f x true false stored is once own all h =
+        let own_is = rw (stored, is) at own in
+        let sum : (laid + (size_at L b fs xs + laid_before L fs xs bs (inline_align L f.shape)))
+        ≡ m + laid_before L fs xs bs (inline_align L f.shape) = omega (arith, all) in
+        rw (stored, is, sum) (rw own_is at (rw stored at h))
 
-  pub each_told : (aligns : List ℕ) → EachOnce aligns → (laid : ℕ) (slots : List ℕ)
-      → All (λ o. o.slot < length slots) opens
-      → ToldBy aligns laid slots (placed size laid (flat_map (λ a. at_align a opens) aligns) slots)
-  each_told [] once laid slots low i f x fi xi = by_test (is_stored f x)
-    where
-      by_test : (t : Bool) → slice_index slots i ≡ (if t && false then size - ((laid + 0)
-          + size_at L (inline_align L f.shape) (take (suc i) fs) (take (suc i) xs)) else slice_index slots i)
-      by_test true = refl
-      by_test false = refl
-  each_told (b ∷ bs) once laid slots low i f x fi xi =
-      let own = at_align b opens in
-      let rest = flat_map (λ a. at_align a opens) bs in
-      let told = placed size laid own slots in
-      let same : 0 + i ≡ i = omega arith in
-      let here = rw same at ((all_told L b size 0 fs xs opens are laid slots low).here i f x fi xi) in
-      let long : length told ≡ length slots = placed_long size laid own slots in
-      let behind = each_told bs once.1 (laid + taken own) told (rw long low) i f x fi xi in
-      let sum : laid + taken own ≡ laid + size_at L b fs xs = ap (λ (n : ℕ). laid + n) (taken_at_is L b 0 fs xs opens are) in
-      rw (placed_both size laid own rest slots)
-      (one_more b bs laid i (slice_index slots i) (slice_index told i) (laid + taken own) _ f x (is_stored f x)
-      (inline_align L f.shape == b) refl refl once.0 here sum behind)
+    pub each_told : (aligns : List ℕ) → EachOnce aligns → (laid : ℕ) (slots : List ℕ)
+        → All (λ o. o.slot < length slots) opens
+        → ToldBy aligns laid slots (placed size laid (flat_map (λ a. at_align a opens) aligns) slots)
+    each_told [] once laid slots low i f x fi xi = by_test (is_stored f x)
+      where
+        by_test : (t : Bool) → slice_index slots i ≡ (if t && false then size - ((laid + 0)
+            + size_at L (inline_align L f.shape) (take (suc i) fs) (take (suc i) xs)) else slice_index slots i)
+        by_test true = refl
+        by_test false = refl
+    each_told (b ∷ bs) once laid slots low i f x fi xi =
+        let own = at_align b opens in
+        let rest = flat_map (λ a. at_align a opens) bs in
+        let told = placed size laid own slots in
+        let same : 0 + i ≡ i = omega arith in
+        let here = rw same at ((all_told L b size 0 fs xs opens are laid slots low).here i f x fi xi) in
+        let long : length told ≡ length slots = placed_long size laid own slots in
+        let behind = each_told bs once.1 (laid + taken own) told (rw long low) i f x fi xi in
+        let sum : laid + taken own ≡ laid + size_at L b fs xs = ap (λ (n : ℕ). laid + n) (taken_at_is L b 0 fs xs opens are) in
+        rw (placed_both size laid own rest slots)
+        (one_more b bs laid i (slice_index slots i) (slice_index told i) (laid + taken own) _ f x (is_stored f x)
+        (inline_align L f.shape == b) refl refl once.0 here sum behind)
 
 -- ---- what is aligned above an alignment
 
@@ -184,11 +184,6 @@ above_other L f x fs xs out h =
       at_2 = omega (arith, up 2, at 256, at 128, at 64, at 32, at 16, at 8, at 4, h.at_2);
       at_1 = omega (arith, up 1, at 256, at 128, at 64, at 32, at 16, at 8, at 4, at 2, h.at_1);
     }
-
--- what each slot that is stored is aligned to
-abbrev pub StoredAligned : LaidSchema → List Slot → List (Option Datum) → Type 0
-StoredAligned L fs xs = (k : ℕ) (f : Slot) (x : Option Datum) → slice_get fs k ≡ Some f → slice_get xs k ≡ Some x
-    → is_stored f x ≡ true → IsAlignment (inline_align L f.shape)
 
 pub all_above : (L : LaidSchema) (fs : List Slot) (xs : List (Option Datum)) → StoredAligned L fs xs → AreAbove L fs xs
 all_above L [] xs aligned = record {
