@@ -1,5 +1,6 @@
 -- Open fields have their bytes one behind the other.
-use Rattle.std.proofs.Common.{ℕ, zero, suc, ◌+◌, ◌≡◌, ◌≤◌, ◌<◌, ◌++◌, List, [], ◌∷◌, length, map, take, drop, Some}
+use Rattle.std.proofs.Common.{ℕ, zero, suc, ◌+◌, ◌≡◌, ◌≤◌, ◌<◌, ◌++◌, List, [], ◌∷◌, length, map, take, drop, Some, Result, Ok}
+use Rattle.std.proofs.Common.{Err, OnErr}
 use Rattle.std.proofs.Common.{slice_get, refl, ap, sym, ◌∙◌, arith, length-append}
 use Rattle.std.proofs.lemmas.List.{length-drop, length-take-le, take-append-le, drop-append-le, map-append, take-append-drop}
 use Rattle.std.specs.List.{take-map}
@@ -51,6 +52,13 @@ kept_inside xs before after added h =
 pub kept_seen : (xs : List Held) (before after : Bytes) → OnlyAdds before after → StandInTurn 0 xs (length before)
     → map (field_seen after) xs ≡ map (field_seen before) xs
 kept_seen xs before after added h = rw added.1 (seen_kept before added.0 0 xs (length before) (omega arith) h)
+
+-- so that a call that fails leaves the fields as they were
+pub fails_as_before : {T E : Type 0} (r : Result T E) (before after : Bytes) (xs ys : List Held) (seen : List OpenField)
+    → OnlyAdds before after → StandInTurn 0 xs (length before) → ys ≡ xs → map (field_seen before) xs ≡ seen
+    → OnErr r (map (field_seen after) ys ≡ seen)
+fails_as_before (Ok x) before after xs ys seen added h same is = tt
+fails_as_before (Err x) before after xs ys seen added h same is = rw same (kept_seen xs before after added h ∙ is)
 
 -- ---- one field more
 
@@ -111,8 +119,7 @@ inline_field_added L slot kind d bytes after xs ys x h added more slot_is align_
     let whole : after ≡ bytes ++ added.0 = added.1 in
     let long : own_size x.note ≡ length added.0 = ap own_size note_is ∙ sym added.2.long in
     let own : part_of (bytes ++ added.0) x.first (own_size x.note) ≡ added.0 =
-    rw (first_is, long) (last_part bytes added.0) in
-    (
+    rw (first_is, long) (last_part bytes added.0) in (
       field_seen after x,
       rw (more, whole) (seen_more bytes added.0 xs x h),
       record {

@@ -13,15 +13,17 @@ invariant_of-self c =
     let fields = λ (o : Inside). take c.args.count o.fields.items in
     let bytes = λ (o : Inside). o.bytes.items in
     elim c.match-get.branch [
-      in-Some w ↦
+      | in-Some w ↦
           let x = w.in-Some.field.now in
           let looked = w.in-Some.ensures.lookup in
           let at : slice_get items c.args.count ≡ Some x =
           rw c.deref.ensures.value at (slice_get_read c.deref.result.now _ c.args.count x refl looked.3.0 looked.1) in
-          rw (c.truncate-2.ensures.items ∙ ap fields w.self-inside-is,
-          ap bytes w.self-inside-is ∙ w.truncate.ensures.items)
+          rw (
+            c.truncate-2.ensures.items ∙ ap fields w.self-inside-is,
+            ap bytes w.self-inside-is ∙ w.truncate.ensures.items,
+          )
           (truncated_inside items c.args.count x c.self.inside.bytes.items at c.self.invariant)
-    | in_default w ↦
+      | in_default w ↦
           rw (c.truncate-2.ensures.items ∙ ap fields w.self-inside-is, ap bytes w.self-inside-is)
           (turn_taken 0 items c.args.count (length c.self.inside.bytes.items) c.self.invariant)
     ]
@@ -33,17 +35,19 @@ returns c =
     let bytes = λ (o : Inside). o.bytes.items in
     let seen = ap (take c.args.count) c.self.view_is in
     elim c.match-get.branch [
-      in-Some w ↦
+      | in-Some w ↦
           let x = w.in-Some.field.now in
           let looked = w.in-Some.ensures.lookup in
           let at : slice_get items c.args.count ≡ Some x =
           rw c.deref.ensures.value at (slice_get_read c.deref.result.now _ c.args.count x refl looked.3.0 looked.1) in
           record {
-            first = rw (c.truncate-2.ensures.items ∙ ap fields w.self-inside-is,
-                ap bytes w.self-inside-is ∙ w.truncate.ensures.items)
+            first = rw (
+              c.truncate-2.ensures.items ∙ ap fields w.self-inside-is,
+              ap bytes w.self-inside-is ∙ w.truncate.ensures.items,
+            )
                 (truncated_seen items c.args.count x c.self.inside.bytes.items at c.self.invariant ∙ seen);
           }
-    | in_default w ↦
+      | in_default w ↦
           record {
             first = rw (c.truncate-2.ensures.items ∙ ap fields w.self-inside-is, ap bytes w.self-inside-is)
                 (sym (take-map (field_seen c.self.inside.bytes.items) c.args.count items) ∙ seen);
