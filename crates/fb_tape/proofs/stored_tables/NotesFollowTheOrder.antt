@@ -98,10 +98,8 @@ each_noted : (L : LaidSchema) (fs : List Slot) (xs : List (Option Datum)) (opens
     (bytes_of (flat_map (λ a. at_align a opens) aligns))
 each_noted L fs xs opens h [] = (refl, refl)
 each_noted L fs xs opens h (a ∷ aligns) =
-    rw (
-      notes_both (at_align a opens) (flat_map (λ b. at_align b opens) aligns),
-      bytes_both (at_align a opens) (flat_map (λ b. at_align b opens) aligns),
-    )
+    rw (notes_both (at_align a opens) (flat_map (λ b. at_align b opens) aligns),
+    bytes_both (at_align a opens) (flat_map (λ b. at_align b opens) aligns))
     (noted_both L fs xs (slots_at L a 0 fs xs) (flat_map (λ b. slots_at L b 0 fs xs) aligns) _ _ _ _
     (notes_at L a fs xs 0 fs xs opens (stands_whole fs) (stands_whole xs) h) (each_noted L fs xs opens h aligns))
 
