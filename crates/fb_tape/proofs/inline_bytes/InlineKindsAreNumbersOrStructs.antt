@@ -48,7 +48,7 @@ fits_wide the_base.I64 (negsuc n) h = record { sfits = omega (arith, ints, h) }
 fits_wide the_base.U64 (pos n) h = record { sfits = omega (arith, ints, h) }
 fits_wide the_base.U64 (negsuc n) h = record { sfits = omega (arith, ints, h) }
 
-same_wide : (base : Base) (n : ℤ) → InRange base n → to_z w128 (of_z w128 n) ≡ n
+pub same_wide : (base : Base) (n : ℤ) → InRange base n → to_z w128 (of_z w128 n) ≡ n
 same_wide base n h = to_z-of_z {w = w128} {z = n} (fits_wide base n h)
 
 -- A number that was added is the value's.

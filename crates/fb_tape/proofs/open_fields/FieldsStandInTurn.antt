@@ -1,9 +1,12 @@
 -- Open fields have their bytes one behind the other.
-use Rattle.std.proofs.Common.{ℕ, zero, suc, ◌+◌, ◌≡◌, ◌≤◌, ◌<◌, ◌++◌, List, [], ◌∷◌, length, map, take, drop, Some}
-use Rattle.std.proofs.Common.{slice_get, refl, ap, sym, ◌∙◌, arith, length-append}
+use Rattle.std.proofs.Common.{ℕ, zero, suc, ◌+◌, ◌-◌, ◌≡◌, ◌≤◌, ◌<◌, ◌++◌, List, [], ◌∷◌, length, map, take, drop, Some, Result, Ok}
+use Rattle.std.proofs.Common.{Err, OnErr}
+use Rattle.std.proofs.Common.{get_or, option_map, slice_get, refl, ap, sym, ◌∙◌, arith, length-append}
 use Rattle.std.proofs.lemmas.List.{length-drop, length-take-le, take-append-le, drop-append-le, map-append, take-append-drop}
 use Rattle.std.specs.List.{take-map}
 use Rattle.std.proofs.Math.Seq.{take-length, drop-append_seam}
+use Rattle.std.proofs.lemmas.List.{length-map}
+use Rattle.std.proofs.lemmas.Option.{slice_get_read, slice_get-map}
 use Rattle.fb_layout.specs.Laid.{LaidSchema, StoredKind, align_of, size_of}
 use Rattle.fb_value.specs.Datum.{Datum}
 use Rattle.fb_value.specs.Num.{Bytes, part_of}
@@ -51,6 +54,13 @@ kept_inside xs before after added h =
 pub kept_seen : (xs : List Held) (before after : Bytes) → OnlyAdds before after → StandInTurn 0 xs (length before)
     → map (field_seen after) xs ≡ map (field_seen before) xs
 kept_seen xs before after added h = rw added.1 (seen_kept before added.0 0 xs (length before) (omega arith) h)
+
+-- so that a call that fails leaves the fields as they were
+pub fails_as_before : {T E : Type 0} (r : Result T E) (before after : Bytes) (xs ys : List Held) (seen : List OpenField)
+    → OnlyAdds before after → StandInTurn 0 xs (length before) → ys ≡ xs → map (field_seen before) xs ≡ seen
+    → OnErr r (map (field_seen after) ys ≡ seen)
+fails_as_before (Ok x) before after xs ys seen added h same is = tt
+fails_as_before (Err x) before after xs ys seen added h same is = rw same (kept_seen xs before after added h ∙ is)
 
 -- ---- one field more
 
@@ -144,3 +154,29 @@ truncated_seen xs k x bytes at h =
     sym (ap (λ (b : Bytes). map (field_seen b) (take k xs)) (sym whole)
     ∙ seen_kept (take x.first bytes) (drop x.first bytes) 0 (take k xs) (length (take x.first bytes)) (omega arith)
     inside) ∙ sym (take-map (field_seen bytes) k xs)
+
+-- ---- one field
+
+pub found_field : (bytes : Bytes) (xs : List Held) (seen : List OpenField) (k : ℕ) (x : Held)
+    → map (field_seen bytes) xs ≡ seen → k < length seen → x ≡ get_or xs k x → slice_get xs k ≡ Some x
+found_field bytes xs seen k x is low found =
+    let long : length xs ≡ length seen = sym (length-map xs (field_seen bytes)) ∙ ap length is in
+    slice_get_read xs (length xs) k x refl (omega (arith, low, long)) found
+
+field_is : (bytes : Bytes) (xs : List Held) (seen : List OpenField) (k : ℕ) (x : Held)
+    → map (field_seen bytes) xs ≡ seen → slice_get xs k ≡ Some x → slice_get seen k ≡ Some (field_seen bytes x)
+field_is bytes xs seen k x is at =
+    ap (λ ys. slice_get ys k) (sym is) ∙ slice_get-map (field_seen bytes) xs k ∙ ap (option_map (field_seen bytes)) at
+
+-- its bytes, read from an equal list
+pub field_read : (bytes read : Bytes) (xs : List Held) (seen : List OpenField) (k size : ℕ) (x : Held)
+    → map (field_seen bytes) xs ≡ seen → slice_get xs k ≡ Some x → read ≡ bytes → size ≡ own_size x.note
+    → slice_get seen k ≡ Some (record {
+      slot = x.slot;
+      align = x.align;
+      note = x.note;
+      bytes = take ((x.first + size) - x.first) (drop x.first read);
+    })
+field_read bytes read xs seen k size x is at same size_is =
+    let long : (x.first + size) - x.first ≡ own_size x.note = omega (arith, size_is) in
+    rw (long, same) (field_is bytes xs seen k x is at)

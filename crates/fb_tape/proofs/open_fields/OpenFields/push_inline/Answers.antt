@@ -1,39 +1,58 @@
-use Rattle.std.proofs.Common.{rules, ℕ, ◌≡◌, ◌≤◌, ◌<◌, ◌++◌, [], ◌∷◌, Some, length, slice_get, take, pos, OnOk, OnErr, ◌+◌, ◌-◌, ◌*◌, ◌/◌, ◌%◌, Bool, true, false, nat_eq, nat_lt, List, slice_index_or, slice_set, bit_and, bit_or, w8, w32, w64, Bor, MutBor}
-use Rattle.fb_schema.specs.declared.kinds.Base.TheVariants.{U8}
-use Rattle.fb_layout.specs.Laid.{LaidSchema, one_of, scalar_kind}
+use Rattle.std.proofs.Common.{◌≡◌, List, map, refl, subst, sym, ap, arith}
 use Rattle.fb_layout.specs.Seen.{kind_seen}
-use Rattle.fb_value.specs.Datum.{a_number}
-use Rattle.fb_value.specs.Fits.{Fits}
 use Rattle.fb_value.specs.View.{view}
-use Rattle.fb_tape.specs.InlineBytes.{IsInline}
-use Rattle.fb_tape.specs.OpenFields.{AddsInlineField, reference_field}
-use Rattle.fb_tape.specs.OpenList.{field_in}
+use Rattle.fb_tape.specs.OpenFields.{OpenField, AddsInlineField}
+use Rattle.fb_tape.specs.OpenList.{field_seen}
+use Rattle.fb_tape.specs.declared.ops.NotedField.TheVariants.{Inline}
+use Rattle.fb_tape.proofs.open_fields.FieldsStandInTurn.{kept_inside, fails_as_before, inline_inside, inline_field_added}
+use Rattle.fb_tape.proofs.open_fields.SizesFit.{size_fits}
+use Rattle.fb_tape.proofs.tape.AlignmentsFit.{align_fits}
 use Rattle.fb_tape.proofs.open_fields.OpenFields.push_inline.Goals as goal
 
--- src/open_fields.rt:121:9
 pub invariant_of-self : goal.invariant_of-self
-invariant_of-self c = ?
+invariant_of-self c = kept_inside c.self.inside.fields.items c.self.inside.bytes.items c.push_inline.new.bytes.items
+    c.push_inline.ensures.kept c.self.invariant
 
--- src/open_fields.rt:121:9
 pub returns-in_err-push_inline-clause-kept : goal.returns-in_err-push_inline-clause-kept
-returns-in_err-push_inline-clause-kept c = ?
+returns-in_err-push_inline-clause-kept c =
+    fails_as_before c.from_residual.result c.self.inside.bytes.items c.push_inline.new.bytes.items
+    c.self.inside.fields.items c.self.inside.fields.items c.args.self.now c.push_inline.ensures.kept c.self.invariant
+    refl c.self.view_is
 
--- src/open_fields.rt:124:20
 pub overflow_cast-align_of : goal.overflow_cast-align_of
-overflow_cast-align_of c = ?
+overflow_cast-align_of c =
+    let low = align_fits c.args.layout.now c.schema-schema.ensures.made (kind_seen c.args.layout.now c.args.kind) in
+    omega (arith, low, c.align_of.ensures)
 
--- src/open_fields.rt:122:9
+pub overflow_cast-size_of : goal.overflow_cast-size_of
+overflow_cast-size_of c =
+    let low = size_fits c.args.layout.now c.schema-schema.ensures.made (kind_seen c.args.layout.now c.args.kind) in
+    omega (arith, low, c.size_of.ensures)
+
 pub invariant_of-self-in_err-push : goal.invariant_of-self-in_err-push
-invariant_of-self-in_err-push c = ?
+invariant_of-self-in_err-push c =
+    rw c.in_err-push.ensures.items (kept_inside c.self.inside.fields.items c.self.inside.bytes.items
+    c.push_inline.new.bytes.items c.push_inline.ensures.kept c.self.invariant)
 
--- src/open_fields.rt:122:9
 pub returns-in_err-push-clause-kept : goal.returns-in_err-push-clause-kept
-returns-in_err-push-clause-kept c = ?
+returns-in_err-push-clause-kept c =
+    fails_as_before c.from_residual-in_err-push.result c.self.inside.bytes.items c.push_inline.new.bytes.items
+    c.self.inside.fields.items c.push.new.self.items c.args.self.now c.push_inline.ensures.kept c.self.invariant
+    c.in_err-push.ensures.items c.self.view_is
 
--- src/open_fields.rt:106:5
 pub invariant_of-self-2 : goal.invariant_of-self-2
-invariant_of-self-2 c = ?
+invariant_of-self-2 c =
+    inline_inside c.args.layout.now (kind_seen c.args.layout.now c.args.kind) (view c.args.value.now)
+    c.self.inside.bytes.items c.push_inline.new.bytes.items c.self.inside.fields.items c.push.new.self.items _
+    c.self.invariant c.in_ok-push_inline.ensures.adds c.in_ok-push.ensures.items
+    (ap (λ n. Inline n) c.size_of.ensures) (omega (arith, c.len-first.ensures))
 
--- src/open_fields.rt:106:5
 pub returns-clause-adds : goal.returns-clause-adds
-returns-clause-adds c = ?
+returns-clause-adds c =
+    subst (λ (xs : List OpenField). AddsInlineField c.args.layout.now c.args.slot
+    (kind_seen c.args.layout.now c.args.kind) (view c.args.value.now) xs
+    (map (field_seen c.push_inline.new.bytes.items) c.push.new.self.items)) c.self.view_is
+    (inline_field_added c.args.layout.now c.args.slot (kind_seen c.args.layout.now c.args.kind) (view c.args.value.now)
+    c.self.inside.bytes.items c.push_inline.new.bytes.items c.self.inside.fields.items c.push.new.self.items _
+    c.self.invariant c.in_ok-push_inline.ensures.adds c.in_ok-push.ensures.items refl c.align_of.ensures
+    (ap (λ n. Inline n) c.size_of.ensures) (omega (arith, c.len-first.ensures)))
