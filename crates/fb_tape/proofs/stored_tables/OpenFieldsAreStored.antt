@@ -1,9 +1,12 @@
 -- The open fields of a table are what it stores.
 use Rattle.std.proofs.Common.{◌≡◌, ◌≤◌, ◌<◌, ◌+◌, ◌++◌, ◌==◌, ◌&&◌, ◌∙◌, ℕ, zero, suc, Bool, true, false, if◌then◌else◌}
 use Rattle.std.proofs.Common.{List, [], ◌∷◌, Option, None, Some, cond, max, map, slice_get, length, refl, sym, ap, arith}
+use Rattle.std.proofs.lemmas.List.Elements.{All-cons}
+use Rattle.std.specs.List.{All}
 use Rattle.fb_schema.specs.Alignments.{greatest_in}
 use Rattle.fb_layout.specs.Laid.{LaidSchema, Slot, StoredKind, StoredShape, one_of, vector_of, scalar_kind, struct_kind}
 use Rattle.fb_layout.specs.Laid.{table_kind, union_kind, code_kind, text_kind, size_of}
+use Rattle.fb_layout.specs.Sizes.{IsAlignment}
 use Rattle.fb_layout.specs.Widths.{inline_size, inline_align}
 use Rattle.fb_value.specs.Datum.{Datum}
 use Rattle.fb_value.specs.Num.{Bytes}
@@ -12,7 +15,7 @@ use Rattle.fb_tape.specs.NotedFields.{IsNoted}
 use Rattle.fb_tape.specs.OpenFields.{OpenField, IsOpenFirst, IsOpenIf, AreOpen}
 use Rattle.fb_tape.specs.StoredFields.{is_stored, is_at, is_reference, inline_kind, fields_size, size_at, stored_align}
 use Rattle.fb_tape.specs.StoredFields.{align_if_stored, size_if_at}
-use Rattle.fb_tape.specs.StoredTables.{taken_by, taken, at_align}
+use Rattle.fb_tape.specs.StoredTables.{taken_by, taken, at_align, StoredAligned}
 use Rattle.fb_tape.specs.declared.ops.NotedField.{NotedField}
 use Rattle.fb_tape.specs.declared.ops.NotedField.TheVariants.{Reference, Inline}
 use Rattle.fb_tape.proofs.stored_tables.FieldsInTurn.{taken_more, at_align_more, at_align_other}
@@ -105,3 +108,20 @@ greatest_is L k (f ∷ fs) (x ∷ xs) opens h =
         ≡ max (if t then inline_align L f.shape else 0) (stored_align L fs xs)
     by_test again true h = rw (h.opens_are, h.align_is, again h.behind h.rest) refl
     by_test again false h = let rest = again opens h in omega (arith, rest)
+
+-- ---- what each is aligned to
+
+pub all_aligned : (L : LaidSchema) (k : ℕ) (fs : List Slot) (xs : List (Option Datum)) (opens : List OpenField)
+    → StoredAligned L fs xs → AreOpen L k fs xs opens → All (λ x. IsAlignment x.align) opens
+all_aligned L k [] xs opens aligned h = rw h (λ i d low. absurd (omega (arith, low)))
+all_aligned L k (f ∷ fs) [] opens aligned h = rw h (λ i d low. absurd (omega (arith, low)))
+all_aligned L k (f ∷ fs) (x ∷ xs) opens aligned h =
+    by_test (λ os o. all_aligned L (suc k) fs xs os (λ j g y fj xj. aligned (suc j) g y fj xj) o) (is_stored f x) refl h
+  where
+    by_test : Rest L k fs xs (λ os. All (λ y. IsAlignment y.align) os) → (t : Bool) → is_stored f x ≡ t
+        → IsOpenIf t L k f x opens (λ behind. AreOpen L (suc k) fs xs behind)
+        → All (λ y. IsAlignment y.align) opens
+    by_test again true is h =
+        let own : IsAlignment h.field.align = rw h.align_is (aligned 0 f x refl refl is) in
+        rw h.opens_are (All-cons (λ (y : OpenField). IsAlignment y.align) h.field h.behind own (again h.behind h.rest))
+    by_test again false is h = again opens h

@@ -10,13 +10,9 @@ use Rattle.fb_tape.proofs.stored_tables.FieldsInTurn.{placed_long}
 use Rattle.fb_tape.specs.Vtables.{offsets_from, trimmed, table_size, vtable_with}
 use Rattle.fb_tape.proofs.stored_tables.AllIsInOrder.{all_taken}
 use Rattle.fb_tape.proofs.stored_tables.NotesFollowTheOrder.{all_in_order}
-use Rattle.fb_tape.proofs.stored_tables.OpenFieldsAreStored.{taken_is}
+use Rattle.fb_tape.proofs.stored_tables.OpenFieldsAreStored.{taken_is, all_aligned}
 use Rattle.fb_tape.proofs.stored_tables.TableIsNoted.{low_slots, used_few, all_placed}
 use Rattle.fb_tape.proofs.stored_tables.note_table.Goals as goal
-
-all_aligned : (L : LaidSchema) (k : ℕ) (fs : List Slot) (xs : List (Option Datum)) (opens : List OpenField)
-    → StoredAligned L fs xs → AreOpen L k fs xs opens → All (λ x. IsAlignment x.align) opens
-all_aligned L k fs xs opens aligned h = ?
 
 pub note_fields-requires-clause-room : goal.note_fields-requires-clause-room
 note_fields-requires-clause-room c =
