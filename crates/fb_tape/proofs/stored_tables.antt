@@ -1,8 +1,9 @@
 mod FieldsInTurn
-mod OpenFieldsAreStored
+pub mod OpenFieldsAreStored
 mod NotesFollowTheOrder
-mod AllIsInOrder
+pub mod AllIsInOrder
 mod OffsetsAreTold
 mod SlotsAreTold
 mod OffsetsAreTrimmed
 mod TableIsNoted
+pub mod StoredFieldsFit

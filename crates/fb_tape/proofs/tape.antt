@@ -3,3 +3,4 @@ pub mod DataIsLaid
 pub mod OneMoreIsLaid
 pub mod ReferencesAreLaid
 pub mod RoomsAreSummedUp
+mod TableIsLaid

@@ -9,7 +9,7 @@ use Rattle.fb_value.specs.Num.{Bytes}
 use Rattle.fb_value.specs.View.{entries_in}
 use Rattle.fb_tape.specs.InlineBytes.{AreInlineBytes}
 use Rattle.fb_tape.specs.NotedFields.{IsNoted}
-use Rattle.fb_tape.specs.StoredFields.{is_stored, stored_in}
+use Rattle.fb_tape.specs.StoredFields.{AreKnown, is_stored, stored_in}
 use Rattle.fb_tape.specs.declared.ops.NotedField.{NotedField}
 use Rattle.fb_tape.specs.declared.ops.NotedField.TheVariants.{Reference, Inline}
 
@@ -63,4 +63,5 @@ AreOpen L k _ _ opens = opens ≡ []
 pub record IsOpenTable (L : LaidSchema) (t : ℕ) (opens : List OpenField) (xs : List (Option Datum)) : Type 0 where
   pub fits : EntriesFit L (slots_of L t) (entries_in xs)
   pub whole : entries_whole (entries_in xs) ≡ true
+  pub known : AreKnown L (slots_of L t) (stored_in (slots_of L t) xs)
   pub stored : AreOpen L 0 (slots_of L t) (stored_in (slots_of L t) xs) opens

@@ -123,6 +123,7 @@ fn note_fields_at(
     requires slots { All (λ x. x.slot < length offsets.old.slots.items) (drop first opened.now) }
     ensures size { offsets.new.size ≡ offsets.old.size }
     ensures slots { length offsets.new.slots.items ≡ length offsets.old.slots.items }
+    ensures grown { length bytes.old.items ≤ length bytes.new.items }
     ensures notes { OnOk result (notes.new.items
         ≡ notes.old.items ++ notes_of (at_align align (drop first opened.now))) }
     ensures bytes { OnOk result (bytes.new.items
@@ -160,6 +161,7 @@ pub(crate) fn note_fields(
     requires room { offsets.old.laid + taken (in_order (drop first opened.now)) ≤ offsets.old.size }
     requires slots { All (λ x. x.slot < length offsets.old.slots.items) (drop first opened.now) }
     ensures size { offsets.new.size ≡ offsets.old.size }
+    ensures grown { length bytes.old.items ≤ length bytes.new.items }
     ensures notes { OnOk result (notes.new.items
         ≡ notes.old.items ++ notes_of (in_order (drop first opened.now))) }
     ensures bytes { OnOk result (bytes.new.items
@@ -207,6 +209,7 @@ pub(crate) fn note_table(
     requires within { first ≤ length opened.now }
     requires some { (L : LaidSchema) × (fs : List Slot) × (xs : List (Option Datum))
         × AreStored L fs xs (drop first opened.now) }
+    ensures grown { length bytes.old.items ≤ length bytes.new.items }
     ensures notes { OnOk result ((L : LaidSchema) (fs : List Slot) (xs : List (Option Datum))
         → AreStored L fs xs (drop first opened.now) → AddsNotes L fs xs (laying_order L fs xs) notes.old.items
         notes.new.items bytes.old.items bytes.new.items (notes_of (in_order (drop first opened.now)))

@@ -23,7 +23,7 @@ use crate::inline_bytes::push_inline;
 use crate::known_vtables::KnownVtables;
 use crate::open_fields::OpenFields;
 use crate::ops::{NotedField, Op};
-use crate::stored_tables::start_align;
+use crate::stored_tables::{Offsets, note_table, start_align};
 use byteorder::{ByteOrder, LittleEndian};
 use fb_layout::Layout;
 use fb_schema::{Kind, TypeId};
@@ -49,7 +49,8 @@ pub struct Tape<'l> {
     // how many of the bytes are those of an operation; behind them are those of a vector that isn't whole yet
     finished: usize,
     vtables: KnownVtables,
-    // for one vtable at a time
+    // for one table at a time
+    offsets: Offsets,
     scratch: Vec<u8>,
     room: usize,
 }
@@ -84,6 +85,7 @@ impl<'l> Tape<'l> {
             bytes: Vec::new(alloc),
             finished: 0,
             vtables: KnownVtables::new(alloc, layout.schema().key()),
+            offsets: Offsets::new(alloc),
             scratch: Vec::new(alloc),
             room: 0,
         }
@@ -320,12 +322,27 @@ impl<'l> Tape<'l> {
         ensures whole { OnOk result (self.new.unfinished ≡ []) }
         ensures layout { self.new.layout ≡ self.old.layout }
     {
-        let _schema = self.layout.schema(); // its contract: the layout is well made
-        self.room = self.room.saturating_add(table_room(self.layout, table));
+        let layout = self.layout;
+        let _schema = layout.schema(); // its contract: the layout is well made
+        self.add_room(table_room(layout, table));
         if self.is_over() {
             return Ok(());
         }
-        let _align = start_align(opened, from);
+        note_table(
+            &mut self.fields,
+            &mut self.bytes,
+            &mut self.offsets,
+            &mut self.scratch,
+            opened,
+            from,
+        )?;
+        let vtable = self.vtables.number_of(self.scratch.as_slice())?;
+        self.finished = self.bytes.len();
+        self.ops.push(Op::Table {
+            fields: (opened.len() - from) as u16,
+            align: start_align(opened, from),
+            vtable: (vtable % SIZES) as u32,
+        })?;
         Ok(())
     }
 }

@@ -1,4 +1,4 @@
-use Rattle.std.proofs.Common.{◌≡◌, length, drop, flat_map}
+use Rattle.std.proofs.Common.{◌≡◌, ◌≤◌, length, drop, flat_map}
 use Rattle.fb_tape.specs.LayingOrder.{falling_alignments}
 use Rattle.fb_tape.specs.StoredTables.{at_align, in_order}
 use Rattle.fb_tape.proofs.stored_tables.FieldsInTurn.{Noting}
@@ -6,7 +6,7 @@ use Rattle.fb_tape.proofs.stored_tables.note_fields.Given as goal
 
 abbrev pub invariant-loop-align : goal.invariant-loop-align
 invariant-loop-align l =
-    (l.offsets.size ≡ l.fn.offsets.size)
+    (l.offsets.size ≡ l.fn.offsets.size) × (length l.fn.bytes.items ≤ length l.bytes.items)
     × Noting l.offsets.size
     (flat_map (λ a. at_align a (drop l.first l.opened)) (drop l.align-index l.align-items))
     (in_order (drop l.first l.opened))

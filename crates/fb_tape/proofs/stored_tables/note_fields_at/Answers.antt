@@ -1,4 +1,4 @@
-use Rattle.std.proofs.Common.{◌≡◌, ◌∙◌, ◌≤◌, ◌<◌, ◌+◌, length, drop, refl, arith}
+use Rattle.std.proofs.Common.{◌≡◌, ◌∙◌, ◌≤◌, ◌<◌, ◌+◌, length, drop, refl, ap, length-append, arith}
 use Rattle.std.proofs.lemmas.List.{drop_all}
 use Rattle.std.proofs.lemmas.List.Elements.{All-tail}
 use Rattle.std.proofs.lemmas.Bool.{eq-eqb, ne_eqb}
@@ -54,7 +54,7 @@ loop-i-preserved-then-field-align c =
     let next = drop_next c.args.opened.now c.loop-i.i x c.field-field.ensures.is in
     let other = at_align_other c.args.align x (drop (c.loop-i.i + 1) c.args.opened.now)
     (ne_eqb _ _ c.if-field-align.true) in (
-      omega (arith, c.loop-i.invariant.0),
+      c.loop-i.invariant.0,
       c.loop-i.invariant.1,
       All-tail (λ (y : OpenField). y.slot < length c.args.offsets.now.slots.items) x _ (rw next at c.loop-i.invariant.2),
       rw (next, other) at c.loop-i.invariant.3,
@@ -67,7 +67,12 @@ loop-i-preserved c =
     let more = at_align_more c.args.align x (drop (c.loop-i.i + 1) c.args.opened.now)
     (eq-eqb _ _ c.if-field-align.false) in
     let now = noted _ _ _ _ _ _ _ _ _ _ _ _ (rw (next, more) at c.loop-i.invariant.3) in (
-      omega (arith, c.loop-i.invariant.0),
+      omega (
+        arith,
+        c.loop-i.invariant.0,
+        ap length c.in_ok-extend_from_slice.ensures.items,
+        length-append c.loop-i.bytes.items c.field-field.result.bytes.now,
+      ),
       c.loop-i.invariant.1,
       All-tail (λ (y : OpenField). y.slot < length c.args.offsets.now.slots.items) x _ (rw next at c.loop-i.invariant.2),
       rw (c.in_ok-push.ensures.items, c.in_ok-extend_from_slice.ensures.items, c.size_of.ensures, c.from.ensures) now,
