@@ -287,9 +287,8 @@ impl<'l> Tape<'l> {
         ensures whole { OnOk result (self.new.unfinished ≡ []) }
         ensures layout { self.new.layout ≡ self.old.layout }
     {
-        self.room = self
-            .room
-            .saturating_add(vector_room(self.layout, kind, count));
+        let room = vector_room(self.layout, kind, count);
+        self.add_room(room);
         if self.is_over() {
             return Ok(());
         }

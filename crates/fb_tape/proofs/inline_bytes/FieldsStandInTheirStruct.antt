@@ -1,12 +1,12 @@
 -- The fields of a struct, one behind the other with zeros between them.
-use Rattle.std.proofs.Common.{◌≡◌, ℕ, zero, suc, ◌+◌, ◌-◌, ◌<◌, ◌≤◌, ◌⊎◌, inl, inr, ◌++◌, Bool, true, false, ◌||◌}
-use Rattle.std.proofs.Common.{List, [], ◌∷◌, length, replicate, slice_index, refl, ap, sym, ◌∙◌, subst, arith}
-use Rattle.std.proofs.Common.{append_assoc, length-append}
+use Rattle.std.proofs.Common.{◌≡◌, ℕ, ◌+◌, ◌-◌, ◌<◌, ◌≤◌, inl, inr, ◌++◌, Bool, true, false, ◌||◌, List, [], ◌∷◌}
+use Rattle.std.proofs.Common.{length, replicate, slice_index, refl, ap, sym, ◌∙◌, subst, arith, append_assoc}
+use Rattle.std.proofs.Common.{length-append}
 use Rattle.std.proofs.lemmas.Bool.{false≢true, and_from, le-leb, lt-ltb, cases_lt}
 use Rattle.std.proofs.lemmas.List.{get_or-append_right, get_or_append_left, get_or-append-add, get_or-replicate}
 use Rattle.std.proofs.lemmas.List.{length-replicate}
 use Rattle.fb_layout.specs.Laid.{LaidSchema, StoredKind, struct_kind, parts_of, struct_at, size_of}
-use Rattle.fb_value.specs.Datum.{Datum, a_struct, Parts, no_parts, more_parts}
+use Rattle.fb_value.specs.Datum.{Datum, a_struct}
 use Rattle.fb_value.specs.Lies.{LiesInline, LiesParts}
 use Rattle.fb_value.specs.Num.{Bytes}
 use Rattle.fb_value.specs.View.{parts_in}
@@ -101,8 +101,8 @@ module _ (L : LaidSchema) (kinds : List StoredKind) (os : List ℕ) (ds : List D
   whole behind = (front ++ field) ++ behind
 
   begins : length front ≡ o
-  begins = length-append own (replicate (o - length own) 0) ∙ ap (λ n. length own + n) (length-replicate (o - length own) 0)
-      ∙ omega (arith, low)
+  begins = length-append own (replicate (o - length own) 0)
+      ∙ ap (λ n. length own + n) (length-replicate (o - length own) 0) ∙ omega (arith, low)
 
   apart : (behind : Bytes) → front ++ (field ++ behind) ≡ whole behind
   apart behind = sym (append_assoc front field behind)

@@ -1,7 +1,7 @@
 -- Numbers and structs that have nothing to spare have nothing to spare where the same bytes stand further on.
-use Rattle.std.proofs.Common.{◌≡◌, ℕ, ◌+◌, List, [], ◌∷◌, slice_index, ap, sym, ◌∙◌, subst, arith}
+use Rattle.std.proofs.Common.{◌≡◌, ℕ, ◌+◌, List, ◌∷◌, slice_index, ap, sym, ◌∙◌, subst, arith}
 use Rattle.fb_layout.specs.Laid.{LaidSchema, StoredKind, scalar_kind, struct_kind, parts_of, struct_at}
-use Rattle.fb_value.specs.Datum.{Datum, a_struct, Parts, no_parts, more_parts}
+use Rattle.fb_value.specs.Datum.{Datum, a_struct, Parts, more_parts}
 use Rattle.fb_value.specs.Num.{Bytes}
 use Rattle.fb_value.proofs.tails.SameBytesReadTheSameFurtherOn.{number_moved}
 use Rattle.fb_tape.specs.InlineBytes.{IsBit, PadsStructWithZeros, IsTightInline, EachInlineIn, EachFieldIn}

@@ -1,14 +1,14 @@
 -- The fields of a struct are added one by one.
-use Rattle.std.proofs.Common.{◌≡◌, ℕ, zero, suc, ◌+◌, ◌-◌, ◌<◌, ◌≤◌, ◌++◌, IsTrue, List, [], ◌∷◌, length, map, take}
-use Rattle.std.proofs.Common.{replicate, get_or, slice_get, slice_index, Some, refl, ap, sym, ◌∙◌, subst, arith}
-use Rattle.std.proofs.Common.{append_assoc, length-append, append-nil, add-one}
-use Rattle.std.proofs.lemmas.List.{length-map, length-take, length-take-le, length-replicate, take_all}
+use Rattle.std.proofs.Common.{◌≡◌, ℕ, zero, suc, ◌+◌, ◌-◌, ◌<◌, ◌≤◌, ◌++◌, List, [], ◌∷◌, length, map, take}
+use Rattle.std.proofs.Common.{replicate, get_or, slice_get, slice_index, Some, ap, sym, ◌∙◌, arith, append_assoc}
+use Rattle.std.proofs.Common.{length-append, append-nil, add-one}
+use Rattle.std.proofs.lemmas.List.{length-map, length-take-le, length-replicate, take_all}
 use Rattle.fb_layout.specs.Laid.{LaidSchema, StoredKind, struct_kind, parts_of, struct_at, size_of}
-use Rattle.fb_value.specs.Datum.{Datum, a_struct}
+use Rattle.fb_value.specs.Datum.{a_struct}
 use Rattle.fb_value.specs.Num.{Bytes}
 use Rattle.fb_value.specs.View.{view, parts_view}
 use Rattle.fb_value.specs.declared.values.Value.{Value}
-use Rattle.fb_tape.specs.InlineBytes.{AreInlineBytes, AddsInline, OnlyAdds}
+use Rattle.fb_tape.specs.InlineBytes.{AddsInline, OnlyAdds}
 use Rattle.fb_tape.proofs.inline_bytes.FieldsStandInTheirStruct.{FirstFieldsStand, no_field_stands, one_field_more}
 use Rattle.fb_tape.proofs.inline_bytes.FieldsStandInTheirStruct.{struct_stands}
 use Rattle.fb_tape.proofs.inline_bytes.StructsAreKnown.{StructKnown, begin_at, index_at, index_or, index_past}
@@ -76,7 +76,8 @@ module _ (L : LaidSchema) (s n k : ℕ) (items : List Value) (known : StructKnow
       let values_long : length (take k (map view items)) ≡ k =
       length-take-le k (map view items) (omega (arith, values, low)) in
       let stand = one_field_more L (take k (parts_of L s)) (take k (struct_at L s).offsets) (take k (map view items))
-      h.own kind o (view v) added.0 (offsets_long ∙ sym kinds_long) (values_long ∙ sym kinds_long) under added.2 h.stand in
+      h.own kind o (view v) added.0 (offsets_long ∙ sym kinds_long) (values_long ∙ sym kinds_long) under added.2
+      h.stand in
       let ended : length (front ++ added.0) ≡ o + size_of L kind =
       let all = length-append front added.0 in
       let all2 = length-append h.own (replicate (o - length h.own) 0) in

@@ -1,17 +1,17 @@
 -- Open fields have their bytes one behind the other.
-use Rattle.std.proofs.Common.{ℕ, zero, suc, ◌+◌, ◌-◌, ◌≡◌, ◌≤◌, ◌<◌, ◌++◌, List, [], ◌∷◌, length, map, take, drop, Some, Result, Ok}
-use Rattle.std.proofs.Common.{Err, OnErr}
-use Rattle.std.proofs.Common.{get_or, option_map, slice_get, refl, ap, sym, ◌∙◌, arith, length-append}
-use Rattle.std.proofs.lemmas.List.{length-drop, length-take-le, take-append-le, drop-append-le, map-append, take-append-drop}
+use Rattle.std.proofs.Common.{ℕ, zero, suc, ◌+◌, ◌-◌, ◌≡◌, ◌≤◌, ◌<◌, ◌++◌, List, [], ◌∷◌, length, map, take, drop}
+use Rattle.std.proofs.Common.{Some, Result, Ok, Err, OnErr, get_or, option_map, slice_get, refl, ap, sym, ◌∙◌, arith}
+use Rattle.std.proofs.Common.{length-append}
+use Rattle.std.proofs.lemmas.List.{length-drop, length-take-le, take-append-le, drop-append-le, map-append}
+use Rattle.std.proofs.lemmas.List.{take-append-drop, length-map}
 use Rattle.std.specs.List.{take-map}
 use Rattle.std.proofs.Math.Seq.{take-length, drop-append_seam}
-use Rattle.std.proofs.lemmas.List.{length-map}
 use Rattle.std.proofs.lemmas.Option.{slice_get_read, slice_get-map}
 use Rattle.fb_layout.specs.Laid.{LaidSchema, StoredKind, align_of, size_of}
 use Rattle.fb_value.specs.Datum.{Datum}
 use Rattle.fb_value.specs.Num.{Bytes, part_of}
-use Rattle.fb_tape.specs.InlineBytes.{AreInlineBytes, AddsInline, OnlyAdds}
-use Rattle.fb_tape.specs.OpenFields.{OpenField, IsInlineField, AddsInlineField}
+use Rattle.fb_tape.specs.InlineBytes.{AddsInline, OnlyAdds}
+use Rattle.fb_tape.specs.OpenFields.{OpenField, AddsInlineField}
 use Rattle.fb_tape.specs.OpenList.{own_size, field_seen, StandInTurn}
 use Rattle.fb_tape.specs.declared.open_fields.OpenField.{OpenField as Held}
 use Rattle.fb_tape.specs.declared.ops.NotedField.TheVariants.{Inline}

@@ -1,5 +1,5 @@
 -- What stands in its place takes 65,535 bytes at most.
-use Rattle.std.proofs.Common.{ℕ, ◌≤◌, arith}
+use Rattle.std.proofs.Common.{◌≤◌, arith}
 use Rattle.fb_schema.specs.declared.kinds.Base.{Base}
 use Rattle.fb_schema.specs.declared.kinds.Base.TheVariants as the_base
 use Rattle.fb_schema.specs.Alignments.{base_size}

@@ -1,5 +1,5 @@
 -- An alignment is 256 at most.
-use Rattle.std.proofs.Common.{ℕ, ◌^◌, ◌≡◌, ◌≤◌, arith}
+use Rattle.std.proofs.Common.{ℕ, ◌^◌, ◌≤◌, arith}
 use Rattle.std.proofs.Math.Pow.{pow_mono}
 use Rattle.fb_layout.specs.Laid.{LaidSchema, StoredKind, align_of}
 use Rattle.fb_layout.specs.Sizes.{IsAlignment}

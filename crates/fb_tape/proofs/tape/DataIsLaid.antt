@@ -1,7 +1,7 @@
 -- A text, or a vector of numbers or structs, is laid.
-use Rattle.std.proofs.Common.{ℕ, ◌+◌, ◌-◌, ◌*◌, ◌%◌, ◌^◌, ◌≡◌, ◌≤◌, ◌<◌, ◌++◌, ◌↔◌, IsTrue, inl, inr, max, false, List, [], ◌∷◌, length}
-use Rattle.std.proofs.Common.{refl, ap, sym, ◌∙◌, subst, arith, append-nil, append_assoc, length-append}
-use Rattle.std.proofs.Common.{drop}
+use Rattle.std.proofs.Common.{ℕ, ◌+◌, ◌-◌, ◌*◌, ◌%◌, ◌^◌, ◌≡◌, ◌≤◌, ◌<◌, ◌++◌, ◌↔◌, IsTrue, inl, inr, max, false}
+use Rattle.std.proofs.Common.{List, [], ◌∷◌, length, refl, ap, sym, ◌∙◌, arith, append-nil, append_assoc}
+use Rattle.std.proofs.Common.{length-append, drop}
 use Rattle.std.proofs.lemmas.List.{drop-append-le}
 use Rattle.std.specs.Str.{IsUtf8}
 use Rattle.byteorder.specs.Endian.{little_bytes}
@@ -18,7 +18,7 @@ use Rattle.fb_tape.specs.NamedParts.{NamedPart}
 use Rattle.fb_tape.specs.StoredFields.{is_reference, ItemsKnown}
 use Rattle.fb_tape.specs.Tapes.{Taped, Waits, IsData, AreElementBytes, IsUnfinished}
 use Rattle.fb_tape.specs.declared.ops.Op.TheVariants.{Data}
-use Rattle.fb_tape.proofs.tape.OneMoreIsLaid.{AddsOne, part_waits}
+use Rattle.fb_tape.proofs.tape.OneMoreIsLaid.{part_waits}
 use Rattle.fb_tape.proofs.tape.RoomsAreSummedUp.{with_room, room_known, not_over}
 
 -- The unfinished bytes were noted as laid.

@@ -1,12 +1,12 @@
 -- A tape with one operation more.
-use Rattle.std.proofs.Common.{ℕ, zero, suc, ◌+◌, ◌≡◌, ◌≤◌, ◌<◌, inl, inr, ◌++◌, List, [], ◌∷◌, length, Some, slice_get}
+use Rattle.std.proofs.Common.{ℕ, zero, suc, ◌+◌, ◌≡◌, ◌<◌, inl, inr, ◌++◌, List, [], ◌∷◌, length, Some, slice_get}
 use Rattle.std.proofs.Common.{refl, ap, sym, ◌∙◌, arith, append_assoc, length-append, append-nil, add-one}
 use Rattle.std.proofs.lemmas.Option.{slice_get_within}
 use Rattle.fb_layout.specs.Laid.{LaidSchema}
 use Rattle.fb_value.specs.Num.{Bytes}
 use Rattle.fb_tape.specs.KnownVtables.{IsNumbered}
 use Rattle.fb_tape.specs.NamedParts.{NamedPart}
-use Rattle.fb_tape.specs.Tapes.{Taped, Waits, Lays, Lay, IsInTurn, known_after, IsLaidFirst}
+use Rattle.fb_tape.specs.Tapes.{Taped, Waits, Lays, Lay, IsInTurn, known_after}
 use Rattle.fb_tape.specs.declared.ops.NotedField.{NotedField}
 use Rattle.fb_tape.specs.declared.ops.Op.{Op}
 use Rattle.fb_tape.specs.declared.ops.Op.TheVariants.{Data, References, Table}
@@ -120,7 +120,8 @@ table_is_laid L before after vtable number fields align own own_notes own_bytes 
           one_more L before after (Table fields align number) own own_notes own_bytes qs rs (λ i v e. rw same e)
           (omega (arith, low, long)) (omega (arith, low, long)) lays
       | inr new ↦
-          let long : length after ≡ suc (length before) = ap length new.0 ∙ length-append before (vtable ∷ []) ∙ add-one (length before) in
+          let long : length after ≡ suc (length before) =
+          ap length new.0 ∙ length-append before (vtable ∷ []) ∙ add-one (length before) in
           one_more L before after (Table fields align number) own own_notes own_bytes qs rs
           (λ i v e. rw new.0 (kept_in_front before vtable i v e))
           (omega (arith, new.1)) (omega (arith, new.1, long)) lays

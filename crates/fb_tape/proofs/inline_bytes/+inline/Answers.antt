@@ -1,13 +1,11 @@
-use Rattle.std.proofs.Common.{◌≡◌, ◌++◌, ◌-◌, length, replicate, slice_index, ap, ◌∙◌, sym, subst, arith, rules}
+use Rattle.std.proofs.Common.{◌≡◌, ◌++◌, ◌-◌, length, replicate, slice_index, ap, ◌∙◌, arith, rules}
 use Rattle.std.proofs.lemmas.Result.{on_ok_weaker}
-use mir.Facts.{to_z-of_z}
 use Rattle.fb_layout.specs.Laid.{stored_kind, parts_of, struct_at, scalar_kind}
 use Rattle.fb_layout.specs.Seen.{kind_seen}
-use Rattle.fb_value.specs.View.{view}
 use Rattle.fb_value.specs.declared.values.Value.{the_lemmas}
 use Rattle.fb_tape.proofs.inline_bytes.BytesAreOnlyAdded.{then_only, some_only, inline_only}
 use Rattle.fb_tape.proofs.inline_bytes.InlineKindsAreNumbersOrStructs.{number_inline}
-use Rattle.fb_tape.proofs.inline_bytes.StructFieldsAreAdded.{AddsFields, added_within, fields_only, offset_is}
+use Rattle.fb_tape.proofs.inline_bytes.StructFieldsAreAdded.{added_within, fields_only, offset_is}
 use Rattle.fb_tape.proofs.inline_bytes.StructFieldsAreAdded.{one_added, all_added}
 use Rattle.fb_tape.proofs.inline_bytes.StructsAreKnown.{struct_known, kind_found, part_fits_at, index_past}
 use Rattle.fb_tape.proofs.inline_bytes.+inline.Goals as goal

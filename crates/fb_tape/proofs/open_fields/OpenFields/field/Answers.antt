@@ -1,7 +1,4 @@
-use Rattle.std.proofs.Common.{◌≡◌, ◌+◌, ◌-◌, ◌≤◌, ◌<◌, Some, slice_get, length, map, take, drop, refl, ap, sym, ◌∙◌, subst, arith}
-use Rattle.std.proofs.lemmas.List.{length-map}
-use Rattle.std.proofs.lemmas.Option.{slice_get_read, slice_get-map}
-use Rattle.fb_tape.specs.OpenList.{field_seen, own_size}
+use Rattle.std.proofs.Common.{length, ap, arith}
 use Rattle.fb_tape.proofs.open_fields.FieldsStandInTurn.{found_field, field_read, ends_within}
 use Rattle.fb_tape.proofs.open_fields.OpenFields.field.Goals as goal
 

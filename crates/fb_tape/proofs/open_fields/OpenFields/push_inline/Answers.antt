@@ -1,10 +1,11 @@
-use Rattle.std.proofs.Common.{◌≡◌, List, map, refl, subst, sym, ap, arith}
+use Rattle.std.proofs.Common.{List, map, refl, subst, ap, arith}
 use Rattle.fb_layout.specs.Seen.{kind_seen}
 use Rattle.fb_value.specs.View.{view}
 use Rattle.fb_tape.specs.OpenFields.{OpenField, AddsInlineField}
 use Rattle.fb_tape.specs.OpenList.{field_seen}
 use Rattle.fb_tape.specs.declared.ops.NotedField.TheVariants.{Inline}
-use Rattle.fb_tape.proofs.open_fields.FieldsStandInTurn.{kept_inside, fails_as_before, inline_inside, inline_field_added}
+use Rattle.fb_tape.proofs.open_fields.FieldsStandInTurn.{kept_inside, fails_as_before, inline_inside}
+use Rattle.fb_tape.proofs.open_fields.FieldsStandInTurn.{inline_field_added}
 use Rattle.fb_tape.proofs.open_fields.SizesFit.{size_fits}
 use Rattle.fb_tape.proofs.tape.AlignmentsFit.{align_fits}
 use Rattle.fb_tape.proofs.open_fields.OpenFields.push_inline.Goals as goal

@@ -17,10 +17,13 @@ overflow_cast-align c =
 
 pub returns-clause-waits : goal.returns-clause-waits
 returns-clause-waits c =
+    let own = subst (λ (t : Taped). c.vector_room.result
+    ≡ at_most_usize (vector_room t.layout (kind_seen t.layout c.args.kind) c.args.count)) c.self.view_is
+    c.vector_room.ensures in
+    let align = subst (λ (t : Taped). c.align_of.result ≡ align_of t.layout (kind_seen t.layout c.args.kind))
+    c.self.view_is c.align_of.ensures in
     on_ok_weaker c.finish_data.result (λ done ps ds many known begun waits.
     vector_closed c.args.self.now c.add_room.new.self c.finish_data.new.self
-    (kind_seen c.args.self.now.layout c.args.kind) c.args.count _ c.vector_room.result ds ps c.add_room.ensures.adds
-    (subst (λ (t : Taped). c.vector_room.result ≡ at_most_usize (vector_room t.layout (kind_seen t.layout c.args.kind)
-    c.args.count)) c.self.view_is c.vector_room.ensures) c.if-is_over.ensures.exact done
-    (c.max-align.ensures ∙ ap (λ n. max n 4) (subst (λ (t : Taped). c.align_of.result ≡ align_of t.layout (kind_seen t.layout c.args.kind)) c.self.view_is
-    c.align_of.ensures)) c.requires.inline c.requires.low many known begun waits) c.finish_data.ensures.adds
+    (kind_seen c.args.self.now.layout c.args.kind) c.args.count _ c.vector_room.result ds ps c.add_room.ensures.adds own
+    c.if-is_over.ensures.exact done (c.max-align.ensures ∙ ap (λ n. max n 4) align) c.requires.inline c.requires.low
+    many known begun waits) c.finish_data.ensures.adds
