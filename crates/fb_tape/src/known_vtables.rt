@@ -1,9 +1,9 @@
 //! The vtables of a tape, each once.
-ghost use Rattle.std.specs.Prelude.{ℕ, ◌≡◌, ◌<◌, ◌++◌, ◌⊎◌, [], ◌∷◌, Some, length, slice_get, IfOk, OnErr};
-ghost use Rattle.fb_tape.specs.KnownVtables.{IsNumbered};
+
+ghost use Rattle.std.specs.Prelude.{◌≡◌, ◌<◌, [], Some, length, slice_get};
 
 use fb_index::{DigestIndex, HashKey};
-use std::alloc::{AllocError, Global};
+use std::alloc::Global;
 use std::marker::Model;
 
 /// Where a vtable's bytes are among those of all.
@@ -63,39 +63,5 @@ impl KnownVtables {
     {
         let range = self.ranges[number];
         &self.bytes[range.first..range.first + range.size]
-    }
-
-    fn is_at(&self, number: usize, vtable: &[u8]) -> bool {
-        number < self.ranges.len() && self.vtable(number) == vtable
-    }
-
-    /// The number of the vtable with these bytes, if it is known.
-    fn find(&self, vtable: &[u8]) -> Option<usize> {
-        if self.is_at(self.near, vtable) {
-            return Some(self.near);
-        }
-        self.digests
-            .find(vtable, |number| self.is_at(number, vtable))
-    }
-
-    /// The number of the vtable with these bytes, which is noted if it isn't known.
-    pub(crate) fn number_of(&mut self, vtable: &[u8]) -> Result<usize, AllocError>
-        ensures numbered { IfOk result (IsNumbered self.old self.new vtable.now) }
-        ensures kept { OnErr result (self.new ≡ self.old) }
-    {
-        if let Some(number) = self.find(vtable) {
-            self.near = number.saturating_add(1);
-            return Ok(number);
-        }
-        self.digests.reserve(1)?;
-        self.ranges.reserve(1)?;
-        let range = VtableRange {
-            first: self.bytes.len(),
-            size: vtable.len(),
-        };
-        self.bytes.extend_from_slice(vtable)?;
-        self.digests.push_reserved(vtable);
-        self.ranges.push_reserved(range);
-        Ok(self.ranges.len() - 1)
     }
 }
