@@ -1,5 +1,5 @@
 -- Open fields as they are held: each one's bytes are among those of all.
-use Rattle.std.specs.Prelude.{ℕ, ◌+◌, ◌≤◌, List, map, length, take, drop}
+use Rattle.std.specs.Prelude.{ℕ, ◌+◌, ◌≤◌, List, map, length}
 use Rattle.std.specs.List.{All}
 use Rattle.fb_value.specs.Num.{Bytes, part_of}
 use Rattle.fb_tape.specs.OpenFields.{OpenField}
