@@ -21,6 +21,8 @@ mod roots;
 mod structs;
 mod tables;
 mod tail;
+mod taped_data;
+mod taped_references;
 mod texts;
 mod vectors;
 mod vtables;

@@ -1,0 +1,3 @@
+pub mod BytesOfAValueLieInATail
+pub mod DataIsItsPart
+pub mod SlotsAreInLayingOrder

@@ -1,0 +1,13 @@
+-- How many bytes are laid once an operation of a tape is, told by how many were before.
+use Rattle.std.specs.Prelude.{ℕ, ◌+◌, ◌-◌, ◌*◌, ◌%◌}
+
+-- the zeros that make a count of bytes a multiple
+abbrev pub zeros_to : ℕ → ℕ → ℕ
+zeros_to align count = (align - count % align) % align
+
+-- Data are aligned behind their count, which takes 4 bytes.
+abbrev pub data_end : ℕ → ℕ → ℕ → ℕ
+data_end align size laid = laid + (zeros_to align (laid + (size - 4)) + size)
+
+abbrev pub references_end : ℕ → ℕ → ℕ
+references_end count laid = data_end 4 (4 + count * 4) laid
