@@ -103,42 +103,18 @@ module _ (L : LaidSchema) (a : ℕ) (fs : List Slot) (xs : List (Option Datum)) 
           self_equal : (a : ℕ) → (a == a) ≡ true
           self_equal a = grind (arith, nat_tests)
 
-  from_slot : (j : ℕ) (gs : List Slot) (ys : List (Option Datum)) → ((i : ℕ) → slice_get gs i ≡ slice_get fs (j + i))
-      → ((i : ℕ) → slice_get ys i ≡ slice_get xs (j + i)) → AreNext L fs xs (before L a j) (slots_at L a j gs ys ++ rest)
-  unfolding slots_at
-  from_slot j [] ys fields entries = none_left j (λ k f x fk xk. elim (lower j k) [
-    | inr less ↦ less
-    | inl over ↦ (
-      let at : j + (k - j) ≡ k = omega (arith, over) in
-      let none : None ≡ Some f = subst (λ (i : ℕ). None ≡ slice_get fs i) at (fields (k - j)) ∙ fk in cc)
-  ])
-  from_slot j (g ∷ gs) [] fields entries = none_left j (λ k f x fk xk. elim (lower j k) [
-    | inr less ↦ less
-    | inl over ↦ (
-      let at : j + (k - j) ≡ k = omega (arith, over) in
-      let none : None ≡ Some x = subst (λ (i : ℕ). None ≡ slice_get xs i) at (entries (k - j)) ∙ xk in cc)
-  ])
-  from_slot j (g ∷ gs) (y ∷ ys) fields entries = by_test (is_at L a g y) refl
+  one_slot : (j : ℕ) (g : Slot) (gs : List Slot) (y : Option Datum) (ys : List (Option Datum))
+      → slice_get fs j ≡ Some g → slice_get xs j ≡ Some y
+      → AreNext L fs xs (before L a (suc j)) (slots_at L a (suc j) gs ys ++ rest)
+      → AreNext L fs xs (before L a j)
+      ((if is_at L a g y then j ∷ slots_at L a (suc j) gs ys else slots_at L a (suc j) gs ys) ++ rest)
+  one_slot j g gs y ys fj xj behind = by_test (is_at L a g y) refl
     where
-      here : j + 0 ≡ j
-      here = omega arith
-
       one : suc j ≡ j + 1
       one = omega arith
 
-      fj : slice_get fs j ≡ Some g
-      fj = sym (subst (λ (i : ℕ). Some g ≡ slice_get fs i) here (fields 0))
-
-      xj : slice_get xs j ≡ Some y
-      xj = sym (subst (λ (i : ℕ). Some y ≡ slice_get xs i) here (entries 0))
-
       next : AreNext L fs xs (before L a (j + 1)) (slots_at L a (suc j) gs ys ++ rest)
-      next = subst (λ (i : ℕ). AreNext L fs xs (before L a i) (slots_at L a (suc j) gs ys ++ rest)) one
-          (from_slot (suc j) gs ys
-          (λ i. let e : j + suc i ≡ suc j + i = omega arith in
-          subst (λ (m : ℕ). slice_get gs i ≡ slice_get fs m) e (fields (suc i)))
-          (λ i. let e : j + suc i ≡ suc j + i = omega arith in
-          subst (λ (m : ℕ). slice_get ys i ≡ slice_get xs m) e (entries (suc i))))
+      next = subst (λ (i : ℕ). AreNext L fs xs (before L a i) (slots_at L a (suc j) gs ys ++ rest)) one behind
 
       by_test : (t : Bool) → is_at L a g y ≡ t
           → AreNext L fs xs (before L a j)
@@ -160,6 +136,31 @@ module _ (L : LaidSchema) (a : ℕ) (fs : List Slot) (xs : List (Option Datum)) 
           }
       by_test false out = next_retested L fs xs (before L a j) (before L a (j + 1)) (slots_at L a (suc j) gs ys ++ rest)
           (passed_by j g y fj xj out) next
+
+  from_slot : (j : ℕ) (gs : List Slot) (ys : List (Option Datum)) → ((i : ℕ) → slice_get gs i ≡ slice_get fs (j + i))
+      → ((i : ℕ) → slice_get ys i ≡ slice_get xs (j + i)) → AreNext L fs xs (before L a j) (slots_at L a j gs ys ++ rest)
+  unfolding slots_at
+  from_slot j [] ys fields entries = none_left j (λ k f x fk xk. elim (lower j k) [
+    | inr less ↦ less
+    | inl over ↦ (
+      let at : j + (k - j) ≡ k = omega (arith, over) in
+      let none : None ≡ Some f = subst (λ (i : ℕ). None ≡ slice_get fs i) at (fields (k - j)) ∙ fk in cc)
+  ])
+  from_slot j (g ∷ gs) [] fields entries = none_left j (λ k f x fk xk. elim (lower j k) [
+    | inr less ↦ less
+    | inl over ↦ (
+      let at : j + (k - j) ≡ k = omega (arith, over) in
+      let none : None ≡ Some x = subst (λ (i : ℕ). None ≡ slice_get xs i) at (entries (k - j)) ∙ xk in cc)
+  ])
+  from_slot j (g ∷ gs) (y ∷ ys) fields entries =
+      let here : j + 0 ≡ j = omega arith in
+      one_slot j g gs y ys (sym (subst (λ (i : ℕ). Some g ≡ slice_get fs i) here (fields 0)))
+      (sym (subst (λ (i : ℕ). Some y ≡ slice_get xs i) here (entries 0)))
+      (from_slot (suc j) gs ys
+      (λ i. let e : j + suc i ≡ suc j + i = omega arith in
+      subst (λ (m : ℕ). slice_get gs i ≡ slice_get fs m) e (fields (suc i)))
+      (λ i. let e : j + suc i ≡ suc j + i = omega arith in
+      subst (λ (m : ℕ). slice_get ys i ≡ slice_get xs m) e (entries (suc i))))
 
 -- ---- one alignment after the other
 
