@@ -1,3 +1,4 @@
 pub mod BytesOfAValueLieInATail
 pub mod DataIsItsPart
 pub mod SlotsAreInLayingOrder
+pub mod NotedFieldsAreLaidInTurn

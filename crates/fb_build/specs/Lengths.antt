@@ -11,3 +11,7 @@ data_end align size laid = laid + (zeros_to align (laid + (size - 4)) + size)
 
 abbrev pub references_end : ℕ → ℕ → ℕ
 references_end count laid = data_end 4 (4 + count * 4) laid
+
+-- The fields of a table begin at a multiple.
+abbrev pub fields_end : ℕ → ℕ → ℕ → ℕ
+fields_end align size laid = laid + (zeros_to align laid + size)

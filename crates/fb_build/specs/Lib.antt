@@ -31,6 +31,7 @@ pub mod OpenBuffer
 pub mod Roots
 pub mod Lengths
 pub mod Referred
+pub mod NotesLaid
 pub mod FieldsLaid
 pub mod StandIns
 pub mod ExampleBuffersAreCovered

@@ -22,6 +22,7 @@ mod structs;
 mod tables;
 mod tail;
 mod taped_data;
+mod taped_fields;
 mod taped_references;
 mod texts;
 mod vectors;
