@@ -32,6 +32,7 @@ pub mod Roots
 pub mod Lengths
 pub mod Referred
 pub mod NotesLaid
+pub mod NumberedVtables
 pub mod FieldsLaid
 pub mod StandIns
 pub mod ExampleBuffersAreCovered

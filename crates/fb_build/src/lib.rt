@@ -24,6 +24,7 @@ mod tail;
 mod taped_data;
 mod taped_fields;
 mod taped_references;
+mod taped_vtables;
 mod texts;
 mod vectors;
 mod vtables;
