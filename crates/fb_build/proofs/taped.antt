@@ -3,3 +3,5 @@ pub mod DataIsItsPart
 pub mod SlotsAreInLayingOrder
 pub mod NotedFieldsAreLaidInTurn
 pub mod VtablesComeInTurn
+pub mod VtableOfTheEnds
+pub mod ClosedTableIsWhole
