@@ -5,3 +5,4 @@ pub mod NotedFieldsAreLaidInTurn
 pub mod VtablesComeInTurn
 pub mod VtableOfTheEnds
 pub mod ClosedTableIsWhole
+pub mod OnePartMoreWaits

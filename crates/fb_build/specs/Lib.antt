@@ -33,6 +33,7 @@ pub mod Lengths
 pub mod Referred
 pub mod NotesLaid
 pub mod NumberedVtables
+pub mod Waiting
 pub mod FieldsLaid
 pub mod StandIns
 pub mod ExampleBuffersAreCovered
