@@ -6,3 +6,4 @@ pub mod VtablesComeInTurn
 pub mod VtableOfTheEnds
 pub mod ClosedTableIsWhole
 pub mod OnePartMoreWaits
+pub mod StepsOfALaying

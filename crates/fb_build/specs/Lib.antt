@@ -34,6 +34,7 @@ pub mod Referred
 pub mod NotesLaid
 pub mod NumberedVtables
 pub mod Waiting
+pub mod Steps
 pub mod FieldsLaid
 pub mod StandIns
 pub mod ExampleBuffersAreCovered

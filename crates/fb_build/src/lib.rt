@@ -11,6 +11,7 @@ mod drops;
 mod faults;
 mod fields;
 mod laws;
+mod laying;
 mod needs;
 mod numbers;
 mod order;
