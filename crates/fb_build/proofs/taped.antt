@@ -7,3 +7,4 @@ pub mod VtableOfTheEnds
 pub mod ClosedTableIsWhole
 pub mod OnePartMoreWaits
 pub mod StepsOfALaying
+pub mod PartsOfATable

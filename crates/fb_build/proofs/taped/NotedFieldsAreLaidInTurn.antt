@@ -94,7 +94,7 @@ four_bytes L (one_of (union_kind u)) is = refl
 four_bytes L (one_of text_kind) is = refl
 four_bytes L (vector_of kind) is = refl
 
-four_aligned : (L : LaidSchema) (shape : StoredShape) → is_reference shape ≡ true → inline_align L shape ≡ 4
+pub four_aligned : (L : LaidSchema) (shape : StoredShape) → is_reference shape ≡ true → inline_align L shape ≡ 4
 four_aligned L (one_of (scalar_kind b)) is = cc
 four_aligned L (one_of (struct_kind s)) is = cc
 four_aligned L (one_of (code_kind u)) is = cc
