@@ -8,3 +8,4 @@ pub mod ClosedTableIsWhole
 pub mod OnePartMoreWaits
 pub mod StepsOfALaying
 pub mod PartsOfATable
+pub mod TableTakesItsParts

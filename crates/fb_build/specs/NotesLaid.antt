@@ -27,6 +27,9 @@ noted_references (Inline n) = 0
 abbrev pub notes_size : List NotedField → ℕ
 notes_size notes = sum_by noted_size notes
 
+abbrev pub notes_references : List NotedField → ℕ
+notes_references notes = sum_by noted_references notes
+
 -- ---- one field
 
 -- what the first of some end-counts names may be referred to here

@@ -12,16 +12,16 @@ use Rattle.fb_build.specs.Waiting.{AreWaiting, MayStep, SomeStep}
 use Rattle.fb_build.specs.declared.laying.Laying.{Laying}
 
 -- it may be laid
-abbrev pub MayLayNext : Op → List NotedField → Bytes → Laying → Type 0
-MayLayNext op notes bytes a = SomeStep op notes bytes a.waiting.items a.places.items a.tail
+abbrev pub MayLayNext : Op → Bytes → List NotedField → Bytes → Laying → Type 0
+MayLayNext op vtable notes bytes a = SomeStep op vtable notes bytes a.waiting.items a.places.items a.tail
 
 -- What waited before tells what waits now; it takes its room at most, and no memory.
-pub record Steps (op : Op) (notes : List NotedField) (bytes : Bytes) (a b : Laying) : Type 0 where
+pub record Steps (op : Op) (vtable : Bytes) (notes : List NotedField) (bytes : Bytes) (a b : Laying) : Type 0 where
   pub waits : (L : LaidSchema) (vtables : List Bytes) (room : ℕ) (ps qs : List NamedPart)
-      → MayStep L vtables op room ps notes bytes qs a.waiting.items a.places.items a.tail
+      → MayStep L vtables op room ps vtable notes bytes qs a.waiting.items a.places.items a.tail
       → AreWaiting L vtables qs b.waiting.items b.places.items b.tail
   pub spent : (L : LaidSchema) (vtables : List Bytes) (room : ℕ) (ps qs : List NamedPart)
-      → MayStep L vtables op room ps notes bytes qs a.waiting.items a.places.items a.tail
+      → MayStep L vtables op room ps vtable notes bytes qs a.waiting.items a.places.items a.tail
       → a.tail.free ≤ b.tail.free + room
   pub come : length b.places.items ≡ known_after (length a.places.items) op
   pub most_waiting : length b.waiting.items ≤ length a.waiting.items + 1

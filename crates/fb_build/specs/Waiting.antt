@@ -9,6 +9,7 @@ use Rattle.fb_tape.specs.NamedParts.{NamedPart}
 use Rattle.fb_tape.specs.Tapes.{Lays, IsInTurn}
 use Rattle.fb_tape.specs.declared.ops.NotedField.{NotedField}
 use Rattle.fb_tape.specs.declared.ops.Op.{Op}
+use Rattle.fb_tape.specs.declared.ops.Op.TheVariants.{Table}
 use Rattle.fb_vtables.specs.Vtables.{AreDifferent}
 use Rattle.fb_build.specs.Made.{IsMade, ends_parts}
 use Rattle.fb_build.specs.NumberedVtables.{AreLaidInTurn}
@@ -29,23 +30,29 @@ pub record AreWaiting (L : LaidSchema) (vtables : List Bytes) (ps : List NamedPa
   pub four : divides 4 o.most ≡ true
   pub bound : o.most ≤ greatest L
 
+-- a table's vtable
+abbrev pub HasVtable : List Bytes → Op → Bytes → Type 0
+HasVtable vtables (Table fields align number) vtable = slice_get vtables number ≡ Some vtable
+HasVtable vtables _ vtable = Unit {0}
+
 -- Where the parts ps wait, an operation may be laid, after which the parts qs wait.
-pub record MayStep (L : LaidSchema) (vtables : List Bytes) (op : Op) (room : ℕ) (ps : List NamedPart)
+pub record MayStep (L : LaidSchema) (vtables : List Bytes) (op : Op) (room : ℕ) (ps : List NamedPart) (vtable : Bytes)
     (notes : List NotedField) (bytes : Bytes) (qs : List NamedPart) (ends places : List ℕ) (o : TailSeen)
     : Type 0 where
   pub made : IsWellMade L
   pub waiting : AreWaiting L vtables ps ends places o
   pub different : AreDifferent vtables
   pub turn : IsInTurn (length places) op
+  pub has : HasVtable vtables op vtable
   pub lays : Lays L vtables op room ps notes bytes qs
   pub enough : room ≤ o.free
 
 -- some operation
-pub record SomeStep (op : Op) (notes : List NotedField) (bytes : Bytes) (ends places : List ℕ) (o : TailSeen)
+pub record SomeStep (op : Op) (vtable : Bytes) (notes : List NotedField) (bytes : Bytes) (ends places : List ℕ) (o : TailSeen)
     : Type 0 where
   pub layout : LaidSchema
   pub vtables : List Bytes
   pub own_room : ℕ
   pub before : List NamedPart
   pub behind : List NamedPart
-  pub may : MayStep layout vtables op own_room before notes bytes behind ends places o
+  pub may : MayStep layout vtables op own_room before vtable notes bytes behind ends places o

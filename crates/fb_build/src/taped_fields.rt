@@ -6,7 +6,8 @@ ghost use Rattle.fb_tape.specs.OpenList.{own_size};
 ghost use Rattle.fb_build.specs.Fields.{fields_size};
 ghost use Rattle.fb_build.specs.Lengths.{fields_end};
 ghost use Rattle.fb_build.specs.Made.{FieldsFront};
-ghost use Rattle.fb_build.specs.NotesLaid.{noted_size, noted_references, notes_size, MayLay, LaysField};
+ghost use Rattle.fb_build.specs.NotesLaid.{noted_size, noted_references, notes_size, notes_references, MayLay};
+ghost use Rattle.fb_build.specs.NotesLaid.{LaysField};
 ghost use Rattle.fb_build.specs.NotesLaid.{AreToBeLaid, SomeToBeLaid, AreLaidNow};
 ghost use Rattle.fb_build.specs.Tails.{Grows};
 
@@ -25,13 +26,24 @@ fn bytes_of(note: NotedField) -> usize
 }
 
 /// How many of the parts that wait a field refers to.
-pub(crate) fn references_of(note: NotedField) -> usize
+fn references_of(note: NotedField) -> usize
     ensures { result ≡ noted_references note }
 {
     match note {
         NotedField::Reference => 1,
         NotedField::Inline(_) => 0,
     }
+}
+
+/// How many of the parts that wait some fields refer to.
+pub(crate) fn references_in(notes: &[NotedField]) -> usize
+    ensures { result ≡ notes_references notes.now }
+{
+    let mut count = 0;
+    for i in 0..notes.len() {
+        count += references_of(notes[i]);
+    }
+    count
 }
 
 /// Lays a field: a reference to what was laid at the first end-count, or the first bytes.

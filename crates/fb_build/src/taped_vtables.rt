@@ -67,6 +67,8 @@ pub(crate) fn close_table(
     ensures capacity { vec_capacity places.new ≡ vec_capacity places.old }
     ensures long { length out.new.bytes
         ≡ table_end (length vtable.now) number (length places.old.items) (length out.old.bytes) }
+    ensures spent { out.old.free
+        ≤ out.new.free + (zeros_to 4 (length out.old.bytes) + (4 + length vtable.now)) }
     ensures most { out.new.most ≡ max out.old.most 4 }
     ensures grows { Grows out.old out.new }
 {

@@ -285,7 +285,7 @@ refers_at (Some f) (Some z) = refers f z
 refers_at _ _ = false
 
 module _ (fs : List Slot) (zs : List (Option Datum)) (targets : List ℕ) where
-  abbrev refer_ends : List ℕ → List ℕ
+  abbrev pub refer_ends : List ℕ → List ℕ
   refer_ends [] = []
   refer_ends (k ∷ ks) =
       if refers_at (slice_get fs k) (slice_get zs k) then slice_index targets k ∷ refer_ends ks else refer_ends ks
