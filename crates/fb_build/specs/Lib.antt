@@ -35,6 +35,7 @@ pub mod NotesLaid
 pub mod NumberedVtables
 pub mod Waiting
 pub mod Steps
+pub mod TapeLaid
 pub mod FieldsLaid
 pub mod StandIns
 pub mod ExampleBuffersAreCovered

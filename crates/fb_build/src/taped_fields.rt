@@ -9,6 +9,7 @@ ghost use Rattle.fb_build.specs.Made.{FieldsFront};
 ghost use Rattle.fb_build.specs.NotesLaid.{noted_size, noted_references, notes_size, notes_references, MayLay};
 ghost use Rattle.fb_build.specs.NotesLaid.{LaysField};
 ghost use Rattle.fb_build.specs.NotesLaid.{AreToBeLaid, SomeToBeLaid, AreLaidNow};
+ghost use Rattle.fb_build.specs.TapeLaid.{notes_bytes};
 ghost use Rattle.fb_build.specs.Tails.{Grows};
 
 use crate::fields::lay_reference;
@@ -17,12 +18,25 @@ use fb_tape::NotedField;
 
 /// How many of the tape's bytes a field has.
 fn bytes_of(note: NotedField) -> usize
-    ensures { result ≡ own_size note }
+    ensures exact { result ≡ own_size note }
+    ensures small { result ≤ 65535 }
 {
     match note {
         NotedField::Reference => 0,
         NotedField::Inline(size) => size as usize,
     }
+}
+
+/// How many of the tape's bytes some fields have.
+pub(crate) fn bytes_in(notes: &[NotedField]) -> usize
+    requires few { length notes.now ≤ 65535 }
+    ensures { result ≡ notes_bytes notes.now }
+{
+    let mut count = 0;
+    for i in 0..notes.len() {
+        count += bytes_of(notes[i]);
+    }
+    count
 }
 
 /// How many of the parts that wait a field refers to.

@@ -94,10 +94,10 @@ loop-i-preserved c =
     let most = c.lay_note.ensures.most ∙ inv.most in
     let grows = then_grows _ _ _ inv.grows c.lay_note.ensures.grows in
     record {
-      at = omega (arith, within.0, length-drop c.loop-i.at bytes, inv.at, c.bytes_of-at.ensures);
+      at = omega (arith, within.0, length-drop c.loop-i.at bytes, inv.at, c.bytes_of-at.ensures.exact);
       next = omega (arith, within.1, length-drop c.loop-i.next ends, inv.next, c.references_of-next.ensures);
       laid = λ L fs xs targets is.
-          (rw (c.bytes_of-at.ensures, c.references_of-next.ensures, ← drop-drop (own_size note) c.loop-i.at bytes,
+          (rw (c.bytes_of-at.ensures.exact, c.references_of-next.ensures, ← drop-drop (own_size note) c.loop-i.at bytes,
           ← drop-drop (noted_references note) c.loop-i.next ends)
           (note_laid L fs xs is.known targets c.count-start.result a b note (drop (i + 1) notes)
           (drop c.loop-i.at bytes) (drop c.loop-i.next ends) c.lay_note.ensures.grows c.lay_note.ensures.free
