@@ -30,6 +30,7 @@ pub mod LaidApart
 pub mod OpenBuffer
 pub mod Roots
 pub mod Lengths
+pub mod Noted
 pub mod Referred
 pub mod NotesLaid
 pub mod NumberedVtables

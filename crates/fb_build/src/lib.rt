@@ -13,6 +13,7 @@ mod fields;
 mod laws;
 mod laying;
 mod needs;
+mod noting;
 mod numbers;
 mod order;
 mod places;
