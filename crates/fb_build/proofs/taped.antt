@@ -9,3 +9,4 @@ pub mod OnePartMoreWaits
 pub mod StepsOfALaying
 pub mod PartsOfATable
 pub mod TableTakesItsParts
+pub mod TapeIsLaidInTurn

@@ -1,5 +1,5 @@
 //! Lays a tape.
-ghost use Rattle.std.specs.Prelude.{ℕ, List, [], ◌≡◌, ◌≤◌, ◌<◌, ◌+◌, length};
+ghost use Rattle.std.specs.Prelude.{ℕ, List, [], ◌≡◌, ◌≤◌, ◌<◌, ◌+◌, length, take, drop};
 ghost use Rattle.std.specs.Vec.{vec_capacity};
 ghost use Rattle.fb_layout.specs.Widths.{greatest};
 ghost use Rattle.fb_tape.specs.NamedParts.{NamedPart};
@@ -18,7 +18,8 @@ use fb_tape::{NotedField, Op, Tape};
 
 /// How many fields an operation has.
 fn fields_of(op: Op) -> usize
-    ensures { result ≡ op_fields op }
+    ensures exact { result ≡ op_fields op }
+    ensures small { result ≤ 65535 }
 {
     match op {
         Op::Table { fields, .. } => fields as usize,
@@ -36,6 +37,22 @@ fn bytes_of(op: Op, notes: &[NotedField]) -> usize
         Op::References { .. } => 0,
         Op::Table { .. } => bytes_in(notes),
     }
+}
+
+/// So many fields from an index on.
+fn fields_at(fields: &[NotedField], at: usize, count: usize) -> &[NotedField]
+    requires within { at + count ≤ length fields.now }
+    ensures exact { result.now ≡ take count (drop at fields.now) }
+{
+    &fields[at..at + count]
+}
+
+/// So many bytes from an index on.
+fn bytes_at(bytes: &[u8], at: usize, count: usize) -> &[u8]
+    requires within { at + count ≤ length bytes.now }
+    ensures exact { result.now ≡ take count (drop at bytes.now) }
+{
+    &bytes[at..at + count]
 }
 
 /// Lays an operation with its fields and its bytes.
@@ -82,10 +99,12 @@ pub(crate) fn lay_tape(laying: &mut Laying, layout: &Layout, tape: &Tape)
     let mut at_byte = 0;
     for i in 0..ops.len() {
         let op = ops[i];
-        let own_fields = &fields[at_field..at_field + fields_of(op)];
+        let count = fields_of(op);
+        let own_fields = fields_at(fields, at_field, count);
         let size = bytes_of(op, own_fields);
-        lay_op(laying, tape, op, own_fields, &bytes[at_byte..at_byte + size]);
-        at_field += own_fields.len();
+        let own_bytes = bytes_at(bytes, at_byte, size);
+        lay_op(laying, tape, op, own_fields, own_bytes);
+        at_field += count;
         at_byte += size;
     }
 }
