@@ -10,3 +10,4 @@ pub mod StepsOfALaying
 pub mod PartsOfATable
 pub mod TableTakesItsParts
 pub mod TapeIsLaidInTurn
+pub mod TapeFitsItsRoom

@@ -1,5 +1,5 @@
 -- A tape, operation by operation.
-use Rattle.std.specs.Prelude.{ℕ, ◌+◌, ◌≡◌, ◌≤◌, List, [], ◌∷◌, length, take, drop, slice_get, Option, unwrap_or}
+use Rattle.std.specs.Prelude.{ℕ, ◌+◌, ◌≡◌, ◌≤◌, ◌<◌, List, [], ◌∷◌, length, take, drop, slice_get, Option, unwrap_or}
 use Rattle.std.specs.List.{sum_by}
 use Rattle.fb_layout.specs.Laid.{LaidSchema}
 use Rattle.fb_value.specs.Num.{Bytes}
@@ -83,3 +83,22 @@ pub record IsFresh (a : Laying) : Type 0 where
 pub record SomeLay (t : Taped) : Type 0 where
   pub parts : List NamedPart
   pub lay : Lay t.layout t.vtables 0 t.room [] t.ops t.notes t.bytes parts
+
+-- ---- counted, and not laid
+
+-- An alignment isn't 0, data have a count, and a table's vtable is there.
+abbrev pub MayCount : List Bytes → Op → Type 0
+MayCount vtables (Data align size) = (0 < align) × (4 ≤ size)
+MayCount vtables (References count) = Unit {0}
+MayCount vtables (Table fields align number) = (0 < align) × (number < length vtables)
+
+-- So many bytes are laid and so many vtables have come, and with the rooms of the operations that are left these are
+-- `most` at most.
+pub record IsCountedUpTo (L : LaidSchema) (vtables : List Bytes) (most known : ℕ) (ops : List Op)
+    (notes : List NotedField) (laid : ℕ) : Type 0 where
+  pub bytes : Bytes
+  pub parts : List NamedPart
+  pub behind : List NamedPart
+  pub room_left : ℕ
+  pub lay : Lay L vtables known room_left parts ops notes bytes behind
+  pub enough : laid + room_left ≤ most

@@ -24,6 +24,7 @@ mod tables;
 mod tail;
 mod taped_data;
 mod taped_fields;
+mod taped_lengths;
 mod taped_ops;
 mod taped_references;
 mod taped_vtables;

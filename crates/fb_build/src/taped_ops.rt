@@ -17,7 +17,7 @@ use fb_layout::Layout;
 use fb_tape::{NotedField, Op, Tape};
 
 /// How many fields an operation has.
-fn fields_of(op: Op) -> usize
+pub(crate) fn fields_of(op: Op) -> usize
     ensures exact { result ≡ op_fields op }
     ensures small { result ≤ 65535 }
 {
@@ -40,7 +40,7 @@ fn bytes_of(op: Op, notes: &[NotedField]) -> usize
 }
 
 /// So many fields from an index on.
-fn fields_at(fields: &[NotedField], at: usize, count: usize) -> &[NotedField]
+pub(crate) fn fields_at(fields: &[NotedField], at: usize, count: usize) -> &[NotedField]
     requires within { at + count ≤ length fields.now }
     ensures exact { result.now ≡ take count (drop at fields.now) }
 {

@@ -51,7 +51,7 @@ noted_bytes L fs zs (k ∷ ks) (Inline n ∷ notes) bytes noted =
     let sum = sum_by-cons own_size (Inline n) notes in
     omega (arith, rest, whole, parts, is.1, sum)
 
-own_fields : (L : LaidSchema) (vtables : List Bytes) (op : Op) (room : ℕ) (ps : List NamedPart)
+pub own_fields : (L : LaidSchema) (vtables : List Bytes) (op : Op) (room : ℕ) (ps : List NamedPart)
     (notes : List NotedField) (bytes : Bytes) (qs : List NamedPart) → Lays L vtables op room ps notes bytes qs
     → length notes ≡ op_fields op
 own_fields L vtables (Data align size) room ps notes bytes qs lays = ap length lays.0
