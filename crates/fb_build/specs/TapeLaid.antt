@@ -5,7 +5,8 @@ use Rattle.fb_layout.specs.Laid.{LaidSchema}
 use Rattle.fb_value.specs.Num.{Bytes}
 use Rattle.fb_tape.specs.NamedParts.{NamedPart}
 use Rattle.fb_tape.specs.OpenList.{own_size}
-use Rattle.fb_tape.specs.Tapes.{Taped, Lay, known_after}
+use Rattle.fb_value.specs.Datum.{Datum}
+use Rattle.fb_tape.specs.Tapes.{Taped, Lay, MeansRoot, known_after}
 use Rattle.fb_tape.specs.declared.ops.NotedField.{NotedField}
 use Rattle.fb_tape.specs.declared.ops.Op.{Op}
 use Rattle.fb_tape.specs.declared.ops.Op.TheVariants.{Data, References, Table}
@@ -102,3 +103,8 @@ pub record IsCountedUpTo (L : LaidSchema) (vtables : List Bytes) (most known : �
   pub room_left : ℕ
   pub lay : Lay L vtables known room_left parts ops notes bytes behind
   pub enough : laid + room_left ≤ most
+
+-- The tape means some value of the root table.
+pub record SomeRoot (t : Taped) : Type 0 where
+  pub entries : List (Option Datum)
+  pub means : MeansRoot t entries

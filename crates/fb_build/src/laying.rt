@@ -7,10 +7,9 @@ ghost use Rattle.fb_build.specs.NotesLaid.{notes_size};
 ghost use Rattle.fb_build.specs.Steps.{MayLayNext, Steps};
 
 use crate::tail::Tail;
-use crate::taped_data;
 use crate::taped_fields::{lay_fields, references_in};
-use crate::taped_references;
 use crate::taped_vtables::close_table;
+use crate::{taped_data, taped_references};
 use fb_tape::NotedField;
 
 /// What is laid of a tape: the tail, the end-counts of the parts that wait, and those of the vtables that have come.

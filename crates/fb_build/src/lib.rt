@@ -22,6 +22,7 @@ mod roots;
 mod structs;
 mod tables;
 mod tail;
+mod taped_buffers;
 mod taped_data;
 mod taped_fields;
 mod taped_lengths;

@@ -69,7 +69,14 @@ fn lay_op(laying: &mut Laying, tape: &Tape, op: Op, notes: &[NotedField], bytes:
         Op::References { count } => lay_references(laying, count as usize),
         Op::Table { align, vtable, .. } => {
             let number = vtable as usize;
-            lay_table(laying, align as usize, number, tape.vtable(number), notes, bytes);
+            lay_table(
+                laying,
+                align as usize,
+                number,
+                tape.vtable(number),
+                notes,
+                bytes,
+            );
         }
     }
 }

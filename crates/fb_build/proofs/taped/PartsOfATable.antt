@@ -231,16 +231,16 @@ spread_state L m s (g ∷ fs) (x ∷ xs) es fit lie k f z fk zk =
     let y = stored_here g.shape (next_code xs) x in
     elim (slot_parts L g x (next_code xs) (fit 0 g y refl refl)) [
       | no_part none out named leads ↦ (
-        let rest = spread_state L m s fs xs es (λ j h w hj wj. fit (suc j) h w hj wj)
-        (λ j p at. lie j p (rw none at)) in
-        rw out (by_slot k f z (0 ∷ spread fs (stored_in fs xs) es) fk zk
-        (entry_there L m s g x y 0 (no_part none out named leads) (λ _. refl) (λ p is. let bad : None ≡ Some p = sym none ∙ is in cc)) rest))
+          let rest = spread_state L m s fs xs es (λ j h w hj wj. fit (suc j) h w hj wj)
+          (λ j p at. lie j p (rw none at)) in
+          rw out (by_slot k f z (0 ∷ spread fs (stored_in fs xs) es) fk zk
+          (entry_there L m s g x y 0 (no_part none out named leads) (λ _. refl) (λ p is. let bad : None ≡ Some p = sym none ∙ is in cc)) rest))
       | one_part part d X is refer has leads stored lies same ↦ (
-        let rest = spread_state L m s fs xs (drop 1 es) (λ j h w hj wj. fit (suc j) h w hj wj)
-        (λ j p at. rw (first_dropped es j) (lie (suc j) p (rw is at))) in
-        rw refer (by_slot k f z (slice_index es 0 ∷ spread fs (stored_in fs xs) (drop 1 es)) fk zk
-        (entry_there L m s g x y (slice_index es 0) (one_part part d X is refer has leads stored lies same) (λ out. absurd (no_both (refers g y) refer out))
-        (λ p at. lie 0 p (rw at refl))) rest))
+          let rest = spread_state L m s fs xs (drop 1 es) (λ j h w hj wj. fit (suc j) h w hj wj)
+          (λ j p at. rw (first_dropped es j) (lie (suc j) p (rw is at))) in
+          rw refer (by_slot k f z (slice_index es 0 ∷ spread fs (stored_in fs xs) (drop 1 es)) fk zk
+          (entry_there L m s g x y (slice_index es 0) (one_part part d X is refer has leads stored lies same) (λ out. absurd (no_both (refers g y) refer out))
+          (λ p at. lie 0 p (rw at refl))) rest))
     ]
   where
     by_slot : (k : ℕ) (f : Slot) (z : Option Datum) (ends : List ℕ) → slice_get (g ∷ fs) k ≡ Some f
@@ -266,12 +266,12 @@ spread_parts L s (f ∷ fs) (x ∷ xs) es fit =
     elim (slot_parts L f x (next_code xs) (fit 0 f y refl refl)) [
       | no_part none out named leads ↦ rw (none, out, named) (spread_parts L s fs xs es fits)
       | one_part part d X is refer has leads stored lies same ↦ (
-        let named : named_stored f y ≡ Some (record { target = X; value = d }) =
-        ap (named_stored f) has ∙ named_some f.shape d X leads in
-        rw (is, refer, named) (ap (λ ps. ps ++ ends_parts L s (named_fields fs (stored_in fs xs))
-        (spread fs (stored_in fs xs) (drop 1 es))) (same s (slice_index es 0))
-        ∙ ap (λ ps. parts_in_tail L s part.target (slice_index es 0) part.value ++ ps)
-        (spread_parts L s fs xs (drop 1 es) fits)))
+          let named : named_stored f y ≡ Some (record { target = X; value = d }) =
+          ap (named_stored f) has ∙ named_some f.shape d X leads in
+          rw (is, refer, named) (ap (λ ps. ps ++ ends_parts L s (named_fields fs (stored_in fs xs))
+          (spread fs (stored_in fs xs) (drop 1 es))) (same s (slice_index es 0))
+          ∙ ap (λ ps. parts_in_tail L s part.target (slice_index es 0) part.value ++ ps)
+          (spread_parts L s fs xs (drop 1 es) fits)))
     ]
   where
     named_some : (shape : StoredShape) (d : Datum) (X : Target) → target_for shape d ≡ Some X

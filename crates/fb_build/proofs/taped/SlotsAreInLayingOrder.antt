@@ -143,14 +143,14 @@ module _ (L : LaidSchema) (a : ℕ) (fs : List Slot) (xs : List (Option Datum)) 
   from_slot j [] ys fields entries = none_left j (λ k f x fk xk. elim (lower j k) [
     | inr less ↦ less
     | inl over ↦ (
-      let at : j + (k - j) ≡ k = omega (arith, over) in
-      let none : None ≡ Some f = subst (λ (i : ℕ). None ≡ slice_get fs i) at (fields (k - j)) ∙ fk in cc)
+        let at : j + (k - j) ≡ k = omega (arith, over) in
+        let none : None ≡ Some f = subst (λ (i : ℕ). None ≡ slice_get fs i) at (fields (k - j)) ∙ fk in cc)
   ])
   from_slot j (g ∷ gs) [] fields entries = none_left j (λ k f x fk xk. elim (lower j k) [
     | inr less ↦ less
     | inl over ↦ (
-      let at : j + (k - j) ≡ k = omega (arith, over) in
-      let none : None ≡ Some x = subst (λ (i : ℕ). None ≡ slice_get xs i) at (entries (k - j)) ∙ xk in cc)
+        let at : j + (k - j) ≡ k = omega (arith, over) in
+        let none : None ≡ Some x = subst (λ (i : ℕ). None ≡ slice_get xs i) at (entries (k - j)) ∙ xk in cc)
   ])
   from_slot j (g ∷ gs) (y ∷ ys) fields entries =
       let here : j + 0 ≡ j = omega arith in

@@ -104,19 +104,18 @@ pub data_aligned : (L : LaidSchema) (part : NamedPart) (align : ℕ) (bytes : By
     → 4 ≤ greatest L → IsAlignment align × (4 ≤ length bytes) × (align ≤ greatest L)
 data_aligned L part align bytes is least = elim is [
   | inl d ↦ (
-    let whole = ap length d.bytes_are in
-    let parts = length-append (Rattle.byteorder.specs.Endian.little_bytes 4 (length d.text)) (d.text ++ (0 ∷ [])) in
-    let four = Rattle.byteorder.specs.Numbers.length-bytes_low_first 0 4 (length d.text) in
-    (rw d.align_is four_power, omega (arith, whole, parts, four), omega (arith, d.align_is, least)))
+      let whole = ap length d.bytes_are in
+      let parts = length-append (Rattle.byteorder.specs.Endian.little_bytes 4 (length d.text)) (d.text ++ (0 ∷ [])) in
+      let four = Rattle.byteorder.specs.Numbers.length-bytes_low_first 0 4 (length d.text) in
+      (rw d.align_is four_power, omega (arith, whole, parts, four), omega (arith, d.align_is, least)))
   | inr d ↦ (
-    let whole = ap length d.bytes_are in
-    let parts = length-append (Rattle.byteorder.specs.Endian.little_bytes 4 (length d.elements)) d.element_bytes in
-    let four = Rattle.byteorder.specs.Numbers.length-bytes_low_first 0 4 (length d.elements) in
-    (
-      rw d.align_is (element_padded L d.kind d.known.element).power,
-      omega (arith, whole, parts, four),
-      omega (arith, d.align_is, d.low, least),
-    ))
+      let whole = ap length d.bytes_are in
+      let parts = length-append (Rattle.byteorder.specs.Endian.little_bytes 4 (length d.elements)) d.element_bytes in
+      let four = Rattle.byteorder.specs.Numbers.length-bytes_low_first 0 4 (length d.elements) in (
+        rw d.align_is (element_padded L d.kind d.known.element).power,
+        omega (arith, whole, parts, four),
+        omega (arith, d.align_is, d.low, least),
+      ))
 ]
 
 pub data_now : (L : LaidSchema) (vtables : List Bytes) (ps : List NamedPart) (part : NamedPart) (align : ℕ)

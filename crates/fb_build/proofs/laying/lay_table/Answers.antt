@@ -29,14 +29,14 @@ lay_fields-start-requires c =
       ready = rw (slice_is ends c.deref.result.now c.len.result c.references_in-taken.result
           (notes_references c.args.notes.now) c.deref.ensures.value (omega (arith, c.len.ensures))
           c.references_in-taken.ensures) (record {
-        layout = w.layout;
-        slots = slots_of w.layout w.may.lays.table;
-        stored = stored_in (slots_of w.layout w.may.lays.table) w.may.lays.entries;
-        targets = spread (slots_of w.layout w.may.lays.table)
-            (stored_in (slots_of w.layout w.may.lays.table) w.may.lays.entries)
-            (drop (length ends - notes_references c.args.notes.now) ends);
-        are = to_be_laid _ _ _ _ _ _ _ _ _ _ _ _ _ _ w.may;
-      });
+            layout = w.layout;
+            slots = slots_of w.layout w.may.lays.table;
+            stored = stored_in (slots_of w.layout w.may.lays.table) w.may.lays.entries;
+            targets = spread (slots_of w.layout w.may.lays.table)
+                (stored_in (slots_of w.layout w.may.lays.table) w.may.lays.entries)
+                (drop (length ends - notes_references c.args.notes.now) ends);
+            are = to_be_laid _ _ _ _ _ _ _ _ _ _ _ _ _ _ w.may;
+          });
     }
 
 -- the fields as they are given to be laid

@@ -97,8 +97,12 @@ loop-i-preserved c =
       at = omega (arith, within.0, length-drop c.loop-i.at bytes, inv.at, c.bytes_of-at.ensures.exact);
       next = omega (arith, within.1, length-drop c.loop-i.next ends, inv.next, c.references_of-next.ensures);
       laid = λ L fs xs targets is.
-          (rw (c.bytes_of-at.ensures.exact, c.references_of-next.ensures, ← drop-drop (own_size note) c.loop-i.at bytes,
-          ← drop-drop (noted_references note) c.loop-i.next ends)
+          (rw (
+            c.bytes_of-at.ensures.exact,
+            c.references_of-next.ensures,
+            ← drop-drop (own_size note) c.loop-i.at bytes,
+            ← drop-drop (noted_references note) c.loop-i.next ends,
+          )
           (note_laid L fs xs is.known targets c.count-start.result a b note (drop (i + 1) notes)
           (drop c.loop-i.at bytes) (drop c.loop-i.next ends) c.lay_note.ensures.grows c.lay_note.ensures.free
           (fields_wide L fs xs targets c.args.align c.pad.result c.count-start.result _ _ _ c.args.out.now

@@ -90,8 +90,12 @@ loop-i-preserved c =
       few = omega (arith, steps.most_waiting, inv.few);
       waiting = steps.reserved_waiting ∙ inv.waiting;
       places = steps.reserved_places ∙ inv.places;
-      laid = λ qs lay. (rw (count, same, ← drop-drop (op_fields op) f fields,
-          ← drop-drop (op_bytes op (take (op_fields op) (drop f fields))) b bytes)
+      laid = λ qs lay. (rw (
+        count,
+        same,
+        ← drop-drop (op_fields op) f fields,
+        ← drop-drop (op_bytes op (take (op_fields op) (drop f fields))) b bytes,
+      )
           (op_laid _ _ _ _ _ _ _ _ _ (rw cons at (inv.laid qs lay)) (rw c.requires.layout c.schema-schema.ensures.made)
           c.requires.different _ steps));
       long = (let before = rw cons at inv.long in
