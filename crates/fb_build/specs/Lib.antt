@@ -33,6 +33,7 @@ pub mod Lengths
 pub mod Referred
 pub mod NotesLaid
 pub mod NumberedVtables
+pub mod OpLengths
 pub mod Waiting
 pub mod Steps
 pub mod TapeLaid

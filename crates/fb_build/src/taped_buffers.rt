@@ -34,7 +34,8 @@ pub(crate) fn fill_from_tape(
     requires different { AreDifferent tape.now.vtables }
     requires zeros { block.items ≡ replicate (length block.items) 0 }
     requires short { length block.items ≤ 2147483647 }
-    requires room { tape.now.room + (8 + (greatest layout.now - 1)) ≤ length block.items }
+    requires small { tape.now.room ≤ 2147483647 }
+    requires room { tape_end tape.now + (8 + (greatest layout.now - 1)) ≤ length block.items }
     requires none_wait { waiting.items ≡ [] }
     requires none_come { places.items ≡ [] }
     requires reserved { length tape.now.ops ≤ vec_capacity waiting }

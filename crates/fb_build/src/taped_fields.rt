@@ -119,7 +119,7 @@ pub(crate) fn lay_fields(
     ensures most { out.new.most ≡ max out.old.most align }
     ensures grows { Grows out.old out.new }
 {
-    out.pad(align, 0);
+    out.fit(align, 0);
     let start = out.count();
     let mut at = 0;
     let mut next = 0;

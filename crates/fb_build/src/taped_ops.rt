@@ -86,7 +86,7 @@ pub(crate) fn lay_tape(laying: &mut Laying, layout: &Layout, tape: &Tape)
     requires layout { tape.now.layout ≡ layout.now }
     requires means { SomeLay tape.now }
     requires different { AreDifferent tape.now.vtables }
-    requires room { tape.now.room ≤ laying.old.tail.free }
+    requires room { tape_end tape.now ≤ laying.old.tail.free }
     requires reserved { length tape.now.ops ≤ vec_capacity laying.old.waiting }
     requires places { length tape.now.vtables ≤ vec_capacity laying.old.places }
     requires fresh { IsFresh laying.old }
@@ -94,7 +94,6 @@ pub(crate) fn lay_tape(laying: &mut Laying, layout: &Layout, tape: &Tape)
         → Lay tape.now.layout tape.now.vtables 0 tape.now.room [] tape.now.ops tape.now.notes tape.now.bytes ps
         → AreWaiting tape.now.layout tape.now.vtables ps laying.new.waiting.items laying.new.places.items
         laying.new.tail }
-    ensures spent { laying.old.tail.free ≤ laying.new.tail.free + tape.now.room }
     ensures long { length laying.new.tail.bytes ≡ tape_end tape.now }
     ensures grows { Grows laying.old.tail laying.new.tail }
 {

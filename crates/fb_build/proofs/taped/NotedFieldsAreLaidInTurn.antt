@@ -24,6 +24,7 @@ use Rattle.fb_tape.specs.declared.ops.NotedField.TheVariants.{Reference, Inline}
 use Rattle.fb_build.specs.FieldOrder.{before, LinksNext, SameOfStored}
 use Rattle.fb_build.specs.Fields.{AreKnown, StoredEnd, TargetEnd, is_stored, is_reference, inline_kind, stored_align}
 use Rattle.fb_build.specs.Fields.{target_for, sort_for, fields_size}
+use Rattle.fb_build.specs.Lengths.{zeros_to}
 use Rattle.fb_build.specs.Made.{FieldLeads}
 use Rattle.fb_build.specs.NotesLaid.{noted_size, noted_references, MayLay, LaysField, AreReferences, Refers}
 use Rattle.fb_build.specs.Tails.{TailSeen, Grows, LaidInTail}
@@ -361,8 +362,8 @@ to_be_aligned L fs xs targets align notes bytes ends o is =
 module _ (L : LaidSchema) (fs : List Slot) (xs : List (Option Datum)) (targets : List ℕ) (align zeros start : ℕ)
     (notes : List NotedField) (bytes : Bytes) (ends : List ℕ) (o p out : TailSeen)
     (is : AreToBeLaid L fs xs targets align notes bytes ends o) (padded : p.free + zeros ≡ o.free)
-    (under : zeros < align) (wide : divides align p.most ≡ true) (begin : start ≡ length p.bytes) (g : Grows p out)
-    (most : out.most ≡ p.most) where
+    (exact : zeros ≡ zeros_to align (length o.bytes)) (wide : divides align p.most ≡ true) (begin : start ≡ length p.bytes)
+    (g : Grows p out) (most : out.most ≡ p.most) where
   pub fields_wide : (k : ℕ) (f : Slot) (x : Option Datum) → slice_get fs k ≡ Some f → slice_get xs k ≡ Some x
       → is_stored f x ≡ true → divides (inline_align L f.shape) out.most ≡ true
   fields_wide k f x fk xk stored =
@@ -377,7 +378,7 @@ module _ (L : LaidSchema) (fs : List Slot) (xs : List (Option Datum)) (targets :
   note_may note notes_left bytes_left ends_left h =
       let grown = grown_long p out g in
       may_lay L fs xs is.known start out bytes_left ends_left fields_wide
-      (omega (arith, grown, begin, padded, under, is.room, is.align_is)) note
+      (omega (arith, grown, begin, padded, exact, is.room)) note
       (note_next L fs xs targets start out note notes_left bytes_left ends_left h)
 
 pub taken_within : (note : NotedField) (bytes : Bytes) (ends : List ℕ) (o : TailSeen) → MayLay note bytes ends o

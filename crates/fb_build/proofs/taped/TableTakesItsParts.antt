@@ -21,7 +21,9 @@ use Rattle.fb_tape.specs.declared.ops.NotedField.{NotedField}
 use Rattle.fb_tape.specs.declared.ops.NotedField.TheVariants.{Reference, Inline}
 use Rattle.fb_tape.specs.declared.ops.Op.TheVariants.{Table}
 use Rattle.fb_build.specs.Fields.{fields_size, stored_in, stored_align}
-use Rattle.fb_build.specs.Lengths.{zeros_to}
+use Rattle.fb_build.specs.Lengths.{zeros_to, fields_end, table_end}
+use Rattle.fb_build.specs.NotesLaid.{notes_size}
+use Rattle.fb_build.proofs.taped.TapeFitsItsRoom.{sizes_noted}
 use Rattle.fb_build.specs.Made.{FieldsFront, ends_parts, named_fields}
 use Rattle.fb_build.specs.NotesLaid.{AreToBeLaid, AreLaidNow, AreReferences, noted_references, notes_references}
 use Rattle.fb_build.specs.NumberedVtables.{come, AreLaidInTurn, IsTableOpen, IsTableClosed}
@@ -159,9 +161,12 @@ module _ (L : LaidSchema) (vtables : List Bytes) (fields align number room : ℕ
       m.lays.takes k p is in
       rw taken_many at lies
 
-  fits_room : Rattle.fb_build.specs.Fields.stored_room L fs xs + (ceil4 (fields_size L fs xs) + (8 + 2 * length fs))
-      ≤ Rattle.fb_value.specs.Room.table_room L t + fields_size L fs xs
-  fits_room = table_fits_room L t xs known.known
+  pub vtable_room : (o : TailSeen) → Grows a o → length o.bytes ≡ fields_end align (notes_size notes) (length a.bytes)
+      → table_end (length vt) number (length places) (length o.bytes) ≤ length o.bytes + o.free
+  vtable_room o g long =
+      let enough = rw m.has at m.enough in
+      let grown = grown_long a o g in
+      rw long (omega (arith, enough, grown))
 
   pub to_be_laid : AreToBeLaid L fs xs targets align notes bytes es a
   to_be_laid = record {
@@ -173,7 +178,7 @@ module _ (L : LaidSchema) (vtables : List Bytes) (fields align number room : ℕ
     align_is = m.lays.align_is;
     each = spread_long fs xs es known.known.long;
     state = spread_state L a.most a.bytes fs m.lays.entries es fit there;
-    room = omega (arith, fits_room, m.lays.enough, m.enough);
+    room = omega (arith, m.enough, sizes_noted L fs xs notes bytes known.known m.lays.noted);
   }
 
   module _ (start : ℕ) (o : TailSeen) (laid : AreLaidNow L fs xs targets start o) (front : FieldsFront a o start align)
@@ -191,43 +196,11 @@ module _ (L : LaidSchema) (vtables : List Bytes) (fields align number room : ℕ
       different = m.different;
     }
 
-    open_short : length vt ≤ 4 + 2 * length fs
-    open_short = vtable_short L vtables t m.lays.entries start targets places number vt o table_open
-
     pub short_vtable : length vt ≤ 65534
-    short_vtable = omega (arith, open_short, (m.made.tables t).few)
-
-    rounded : zeros_to 4 (length o.bytes) + fields_size L fs xs ≡ ceil4 (fields_size L fs xs)
-    rounded = omega (arith, laid.laid.size, laid.laid.whole)
-
-    fields_spent : a.free ≤ o.free + ((align - 1) + fields_size L fs xs)
-    fields_spent = omega (arith, grown_long a o g, front.begin, front.under, laid.laid.size)
-
-    room_left : ceil4 (fields_size L fs xs) + (8 + 2 * length fs) ≤ o.free + fields_size L fs xs
-    room_left = omega (arith, fields_spent, fits_room, m.lays.align_is, m.lays.enough, m.enough)
-
-    pub some_room : 3 ≤ o.free
-    some_room = omega (arith, room_left, rounded)
-
-    pub vtable_room : zeros_to 4 (length o.bytes) + (4 + length vt) ≤ o.free
-    vtable_room = omega (
+    short_vtable = omega (
       arith,
-      room_left,
-      rounded,
-      open_short,
-    )
-
-    pub table_spent : (free : ℕ) → o.free ≤ free + (zeros_to 4 (length o.bytes) + (4 + length vt))
-        → a.free ≤ free + room
-    table_spent free spent = omega (
-      arith,
-      spent,
-      fields_spent,
-      rounded,
-      open_short,
-      fits_room,
-      m.lays.align_is,
-      m.lays.enough,
+      vtable_short L vtables t m.lays.entries start targets places number vt o table_open,
+      (m.made.tables t).few,
     )
 
     pub table_waits : (after : List ℕ) (e : ℕ) (b : TailSeen) → Grows o b → o.most ≡ max a.most align

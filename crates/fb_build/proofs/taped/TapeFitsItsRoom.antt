@@ -73,7 +73,7 @@ sizes_left L fs zs laid (k ∷ ks) (note ∷ notes) bytes next noted =
     let sum = sum_by-cons noted_size note notes in
     omega (arith, rest, one, size, sum)
 
-sizes_noted : (L : LaidSchema) (fs : List Slot) (zs : List (Option Datum)) (notes : List NotedField) (bytes : Bytes)
+pub sizes_noted : (L : LaidSchema) (fs : List Slot) (zs : List (Option Datum)) (notes : List NotedField) (bytes : Bytes)
     → AreKnown L fs zs → AreNoted L fs zs (laying_order L fs zs) notes bytes → notes_size notes ≡ fields_size L fs zs
 sizes_noted L fs zs notes bytes known noted =
     let all = sizes_left L fs zs (λ k f. false) (laying_order L fs zs) notes bytes (slots_ordered L fs zs known) noted in

@@ -22,6 +22,7 @@ use Rattle.fb_build.specs.Steps.{Steps}
 use Rattle.fb_build.specs.Tails.{TailSeen}
 use Rattle.fb_build.specs.TapeLaid.{op_fields, op_bytes, op_vtable, notes_bytes, MayLayOp, IsLaidUpTo, op_end, ops_end}
 use Rattle.fb_build.specs.Waiting.{AreWaiting, MayStep, HasVtable}
+use Rattle.fb_build.proofs.tail.WhatIsLaidStaysLaid.{grown_long}
 use Rattle.fb_build.specs.declared.laying.Laying.{Laying}
 
 -- ---- what an operation has of the fields and bytes
@@ -74,10 +75,25 @@ has_vtable L vtables (References count) room ps notes bytes qs lays = tt
 has_vtable L vtables (Table fields align number) room ps notes bytes qs lays =
     rw lays.vtable_is refl
 
+op_grow : (vtables : List Bytes) (known : ℕ) (op : Op) (notes : List NotedField) (laid : ℕ)
+    → laid ≤ op_end vtables known op notes laid
+op_grow vtables known (Data align size) notes laid = omega arith
+op_grow vtables known (References count) notes laid = omega arith
+op_grow vtables known (Table fields align number) notes laid = omega arith
+
+ops_grow : (vtables : List Bytes) (known : ℕ) (ops : List Op) (notes : List NotedField) (laid : ℕ)
+    → laid ≤ ops_end vtables known ops notes laid
+ops_grow vtables known [] notes laid = omega arith
+ops_grow vtables known (op ∷ ops) notes laid =
+    let one = op_grow vtables known op (take (op_fields op) notes) laid in
+    let rest = ops_grow vtables (known_after known op) ops (drop (op_fields op) notes)
+    (op_end vtables known op (take (op_fields op) notes) laid) in
+    omega (arith, one, rest)
+
 -- ---- the next operation
 
-module _ (L : LaidSchema) (vtables : List Bytes) (spare : ℕ) (op : Op) (ops : List Op) (notes : List NotedField)
-    (bytes : Bytes) (qs : List NamedPart) (a : Laying) (h : IsLaidUpTo L vtables spare (op ∷ ops) notes bytes qs a) where
+module _ (L : LaidSchema) (vtables : List Bytes) (op : Op) (ops : List Op) (notes : List NotedField)
+    (bytes : Bytes) (qs : List NamedPart) (a : Laying) (h : IsLaidUpTo L vtables (op ∷ ops) notes bytes qs a) where
   pub field_count : length h.lay.own_notes ≡ op_fields op
   field_count = own_fields L vtables op _ _ _ _ _ h.lay.lays
 
@@ -129,7 +145,9 @@ module _ (L : LaidSchema) (vtables : List Bytes) (spare : ℕ) (op : Op) (ops : 
     turn = h.lay.turn;
     has = has_vtable L vtables op _ _ _ _ _ h.lay.lays;
     lays = h.lay.lays;
-    enough = omega (arith, h.lay.room_is, h.enough);
+    enough = (let more = ops_grow vtables (known_after (length a.places.items) op) ops (drop (op_fields op) notes)
+        (op_end vtables (length a.places.items) op (take (op_fields op) notes) (length a.tail.bytes)) in
+        rw (← fields_taken) (omega (arith, more, h.enough)));
   }
 
   pub may_lay_op : IsWellMade L → AreDifferent vtables → MayLayOp L vtables op (take (op_fields op) notes)
@@ -141,21 +159,25 @@ module _ (L : LaidSchema) (vtables : List Bytes) (spare : ℕ) (op : Op) (ops : 
     may = may_step made different;
   })
 
-  pub op_laid : IsWellMade L → AreDifferent vtables → (b : Laying) → Steps op (op_vtable vtables op)
+  pub op_laid : IsWellMade L → AreDifferent vtables → (b : Laying) → length b.tail.bytes
+      ≡ op_end vtables (length a.places.items) op (take (op_fields op) notes) (length a.tail.bytes) → Steps op (op_vtable vtables op)
       (take (op_fields op) notes) (take (op_bytes op (take (op_fields op) notes)) bytes) a b
-      → IsLaidUpTo L vtables spare ops (drop (op_fields op) notes)
+      → IsLaidUpTo L vtables ops (drop (op_fields op) notes)
       (drop (op_bytes op (take (op_fields op) notes)) bytes) qs b
-  op_laid made different b steps =
+  op_laid made different b long steps =
       let may = may_step made different in
       let given : Steps op (op_vtable vtables op) h.lay.own_notes h.lay.own_bytes a b =
       rw (← bytes_taken, ← fields_taken) steps in
-      let spent = given.spent L vtables h.lay.own_room h.parts h.lay.waiting may in
+      let grown = grown_long a.tail b.tail given.grows in
+      let same : ops_end vtables (length b.places.items) ops h.lay.notes_behind (length b.tail.bytes)
+      ≡ ops_end vtables (length a.places.items) (op ∷ ops) notes (length a.tail.bytes) =
+      rw (given.come, long, fields_left) refl in
       rw (bytes_left, fields_left) (record {
         parts = h.lay.waiting;
         room_left = h.lay.room_behind;
         lay = rw given.come h.lay.rest;
         waiting = given.waits L vtables h.lay.own_room h.parts h.lay.waiting may;
-        enough = omega (arith, spent, h.lay.room_is, h.enough);
+        enough = omega (arith, same, grown, h.enough);
       })
 
 -- ---- before the first

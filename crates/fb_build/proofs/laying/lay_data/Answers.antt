@@ -25,7 +25,6 @@ returns-clause-laid c =
           rw (d.leaves, c.wait.ensures.items, c.count-end.ensures.exact)
           (stepped L vtables ps ps [] d.part 0 ends places places (length b.bytes) a b m.waiting (sym (append-nil ps))
           refl laid));
-      spent = λ L vtables room ps qs m. omega (arith, now.spent, m.lays.1.enough, m.lays.1.size_is);
       come = refl;
       most_waiting = omega (
         arith,

@@ -51,7 +51,6 @@ returns-clause-laid c =
           rw (c.wait.ensures.items, c.count-end.ensures.exact)
           (references_now L vtables count room ps qs ends places a m.waiting r b now.grows now.most
           (now.lies L r.kind r.elements given) (now.adds L r.kind r.elements places given) leads));
-      spent = λ L vtables room ps qs m. omega (arith, now.spent, m.lays.2.enough, many, within);
       come = refl;
       most_waiting = omega (
         arith,

@@ -42,25 +42,25 @@ root_in L M vtables ends places o xs place same h is =
 
 pub close_tail-requires-clause-inside : goal.close_tail-requires-clause-inside
 close_tail-requires-clause-inside c =
-    let w = c.lay_tape.ensures.waits _ (c.requires.means.means (omega (arith, c.requires.room, c.requires.short))) in
+    let w = c.lay_tape.ensures.waits _ (c.requires.means.means c.requires.small) in
     let at = place_is _ _ _ _ _ _ _ w c.index-place.ensures in
     rw at (ends_inside _ _ _ _ _ _ w 0)
 
 pub returns-clause-holds : goal.returns-clause-holds
 returns-clause-holds c xs most raw means deep small =
-    let w = c.lay_tape.ensures.waits _ (means (omega (arith, c.requires.room, c.requires.short))) in
+    let w = c.lay_tape.ensures.waits _ (means c.requires.small) in
     let root = root_in _ _ _ _ _ _ xs _ c.requires.layout w c.index-place.ensures in
     rw c.into_bytes.ensures (c.close_tail.ensures.holds _ _ most raw root deep small)
 
 pub returns-clause-old_slots : goal.returns-clause-old_slots
 returns-clause-old_slots c =
-    let w = c.lay_tape.ensures.waits _ (c.requires.means.means (omega (arith, c.requires.room, c.requires.short))) in
+    let w = c.lay_tape.ensures.waits _ (c.requires.means.means c.requires.small) in
     let root = root_in _ _ _ _ _ _ c.requires.means.entries _ c.requires.layout w c.index-place.ensures in
     rw c.into_bytes.ensures (c.close_tail.ensures.old_slots _ _ root)
 
 pub returns-clause-covered : goal.returns-clause-covered
 returns-clause-covered c =
-    let w = c.lay_tape.ensures.waits _ (c.requires.means.means (omega (arith, c.requires.room, c.requires.short))) in
+    let w = c.lay_tape.ensures.waits _ (c.requires.means.means c.requires.small) in
     let root = root_in _ _ _ _ _ _ c.requires.means.entries _ c.requires.layout w c.index-place.ensures in
     let both = c.close_tail.ensures.covered _ _ _ w.shared
     (come_different c.args.tape.now.vtables (length c.lay_tape.new.laying.places.items) c.requires.different) root in
@@ -68,7 +68,7 @@ returns-clause-covered c =
 
 pub returns-clause-aligned : goal.returns-clause-aligned
 returns-clause-aligned c =
-    let w = c.lay_tape.ensures.waits _ (c.requires.means.means (omega (arith, c.requires.room, c.requires.short))) in
+    let w = c.lay_tape.ensures.waits _ (c.requires.means.means c.requires.small) in
     let root = root_in _ _ _ _ _ _ c.requires.means.entries _ c.requires.layout w c.index-place.ensures in
     let both = c.close_tail.ensures.covered _ _ _ w.shared
     (come_different c.args.tape.now.vtables (length c.lay_tape.new.laying.places.items) c.requires.different) root in

@@ -29,7 +29,7 @@ bytes_at-own_bytes-requires c =
     let bytes = c.bytes-bytes.result.now in
     let op = slice_index_or c.ops-ops.result.now c.loop-i.i (Data 0 0) in
     let h = rw (op_behind c.ops-ops.result.now c.loop-i.i c.loop-i-test.true) at (inv.laid w.parts w.lay) in
-    let within = bytes_within _ _ _ _ _ _ _ _ _ h in
+    let within = bytes_within _ _ _ _ _ _ _ _ h in
     let same = own_size_is op c.fields_at-own_fields.result.now c.fields-fields.result.now c.fields_of-count.result
     c.loop-i.at_field c.bytes_of-size.result c.bytes_of-size.ensures c.fields_at-own_fields.ensures.exact
     c.fields_of-count.ensures.exact in
@@ -42,7 +42,7 @@ overflow_add-at_byte c =
     let bytes = c.bytes-bytes.result.now in
     let op = slice_index_or c.ops-ops.result.now c.loop-i.i (Data 0 0) in
     let h = rw (op_behind c.ops-ops.result.now c.loop-i.i c.loop-i-test.true) at (inv.laid w.parts w.lay) in
-    let within = bytes_within _ _ _ _ _ _ _ _ _ h in
+    let within = bytes_within _ _ _ _ _ _ _ _ h in
     let same = own_size_is op c.fields_at-own_fields.result.now c.fields-fields.result.now c.fields_of-count.result
     c.loop-i.at_field c.bytes_of-size.result c.bytes_of-size.ensures c.fields_at-own_fields.ensures.exact
     c.fields_of-count.ensures.exact in
@@ -58,7 +58,7 @@ lay_op-requires-clause-ready c =
     c.loop-i.at_field c.bytes_of-size.result c.bytes_of-size.ensures c.fields_at-own_fields.ensures.exact
     c.fields_of-count.ensures.exact in
     rw (c.bytes_at-own_bytes.ensures.exact, same, c.fields_at-own_fields.ensures.exact, c.fields_of-count.ensures.exact)
-    (may_lay_op _ _ _ _ _ _ _ _ _ h (rw c.requires.layout c.schema-schema.ensures.made) c.requires.different)
+    (may_lay_op _ _ _ _ _ _ _ _ h (rw c.requires.layout c.schema-schema.ensures.made) c.requires.different)
 
 pub loop-i-preserved : goal.loop-i-preserved
 loop-i-preserved c =
@@ -82,8 +82,8 @@ loop-i-preserved c =
     let steps : Steps op (op_vtable vtables op) (take (op_fields op) (drop f fields))
     (take (op_bytes op (take (op_fields op) (drop f fields))) (drop b bytes)) c.loop-i.laying c.lay_op.new.laying =
     rw (← own_bytes, ← own) c.lay_op.ensures.laid in
-    let byte_count = bytes_within _ _ _ _ _ _ _ _ _ h in
-    let field_count = fields_within _ _ _ _ _ _ _ _ _ h in
+    let byte_count = bytes_within _ _ _ _ _ _ _ _ h in
+    let field_count = fields_within _ _ _ _ _ _ _ _ h in
     record {
       fields_within = omega (arith, field_count, count, length-drop f fields, inv.fields_within);
       bytes_within = omega (arith, byte_count, same, length-drop b bytes, inv.bytes_within);
@@ -96,8 +96,8 @@ loop-i-preserved c =
         ← drop-drop (op_fields op) f fields,
         ← drop-drop (op_bytes op (take (op_fields op) (drop f fields))) b bytes,
       )
-          (op_laid _ _ _ _ _ _ _ _ _ (rw cons at (inv.laid qs lay)) (rw c.requires.layout c.schema-schema.ensures.made)
-          c.requires.different _ steps));
+          (op_laid _ _ _ _ _ _ _ _ (rw cons at (inv.laid qs lay)) (rw c.requires.layout c.schema-schema.ensures.made)
+          c.requires.different _ (rw own at c.lay_op.ensures.long) steps));
       long = (let before = rw cons at inv.long in
           let now = rw own at c.lay_op.ensures.long in
           rw (count, ← drop-drop (op_fields op) f fields, steps.come, now) before);

@@ -15,7 +15,7 @@ invariant-loop-i l = record {
   places : vec_capacity l.laying.places ≡ vec_capacity l.fn.laying.places;
   laid : (qs : List NamedPart)
       → Lay l.tape.layout l.tape.vtables 0 l.tape.room [] l.tape.ops l.tape.notes l.tape.bytes qs
-      → IsLaidUpTo l.tape.layout l.tape.vtables (l.fn.laying.tail.free - l.tape.room) (drop l.i l.ops)
+      → IsLaidUpTo l.tape.layout l.tape.vtables (drop l.i l.ops)
       (drop l.at_field l.fields) (drop l.at_byte l.bytes) qs l.laying;
   long : ops_end l.tape.vtables (length l.laying.places.items) (drop l.i l.ops) (drop l.at_field l.fields)
       (length l.laying.tail.bytes) ≡ tape_end l.tape;
