@@ -1,5 +1,6 @@
 -- How many bytes are laid once an operation of a tape is, told by how many were before.
-use Rattle.std.specs.Prelude.{ℕ, ◌+◌, ◌-◌, ◌*◌, ◌%◌, nat_lt, if◌then◌else◌, Bool}
+use Rattle.std.specs.Prelude.{ℕ, ◌+◌, ◌-◌, ◌*◌, ◌%◌, nat_lt, if◌then◌else◌, Bool, List}
+use Rattle.std.specs.Prelude.{Option, None, Some}
 
 -- the zeros that make a count of bytes a multiple
 abbrev pub zeros_to : ℕ → ℕ → ℕ
@@ -29,3 +30,8 @@ closed_end size is_known laid = first_end size is_known (laid + zeros_to 4 laid)
 
 abbrev pub table_end : ℕ → ℕ → ℕ → ℕ → ℕ
 table_end size number known laid = closed_end size (nat_lt number known) laid
+
+-- The root's reference and the identifier, if there is one, with which a buffer's length is a multiple.
+abbrev pub header_end : Option (List ℕ) → ℕ → ℕ → ℕ
+header_end None most laid = laid + (zeros_to most (laid + 4) + 4)
+header_end (Some id) most laid = laid + (zeros_to most (laid + 8) + 8)

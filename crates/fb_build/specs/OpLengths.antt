@@ -1,5 +1,5 @@
 -- How many bytes are laid once the operations of a tape are.
-use Rattle.std.specs.Prelude.{ℕ, List, [], ◌∷◌, length, take, drop, slice_get, unwrap_or}
+use Rattle.std.specs.Prelude.{ℕ, max, List, [], ◌∷◌, length, take, drop, slice_get, unwrap_or}
 use Rattle.fb_value.specs.Num.{Bytes}
 use Rattle.fb_tape.specs.Tapes.{known_after}
 use Rattle.fb_tape.specs.declared.ops.NotedField.{NotedField}
@@ -24,3 +24,14 @@ ops_end vtables known [] notes laid = laid
 ops_end vtables known (op ∷ ops) notes laid = ops_end vtables (known_after known op) ops (drop (op_fields op) notes)
     (op_end vtables known op (take (op_fields op) notes) laid)
 
+
+-- ---- what the tail is padded to at most
+
+abbrev pub op_most : Op → ℕ → ℕ
+op_most (Data align size) most = max most align
+op_most (References count) most = max most 4
+op_most (Table fields align number) most = max (max most align) 4
+
+abbrev pub ops_most : List Op → ℕ → ℕ
+ops_most [] most = most
+ops_most (op ∷ ops) most = ops_most ops (op_most op most)

@@ -10,7 +10,8 @@ use Rattle.fb_tape.specs.Tapes.{Taped, Lay, MeansRoot, known_after}
 use Rattle.fb_tape.specs.declared.ops.NotedField.{NotedField}
 use Rattle.fb_tape.specs.declared.ops.Op.{Op}
 use Rattle.fb_tape.specs.declared.ops.Op.TheVariants.{Data, References, Table}
-pub use Rattle.fb_build.specs.OpLengths.{op_fields, op_end, ops_end}
+pub use Rattle.fb_build.specs.OpLengths.{op_fields, op_end, ops_end, op_most, ops_most}
+use Rattle.fb_build.specs.Lengths.{header_end}
 use Rattle.fb_build.specs.NotesLaid.{notes_size}
 use Rattle.fb_build.specs.Waiting.{MayStep, AreWaiting}
 use Rattle.fb_build.specs.declared.laying.Laying.{Laying}
@@ -42,6 +43,13 @@ pub record MayLayOp (L : LaidSchema) (vtables : List Bytes) (op : Op) (notes : L
 -- of a whole tape, in front of nothing
 abbrev pub tape_end : Taped → ℕ
 tape_end t = ops_end t.vtables 0 t.ops t.notes 0
+
+abbrev pub tape_most : Taped → ℕ
+tape_most t = ops_most t.ops 4
+
+-- a buffer of a tape alone
+abbrev pub buffer_end : LaidSchema → Taped → ℕ
+buffer_end L t = header_end L.schema.identifier (tape_most t) (tape_end t)
 
 -- ---- the operations that are left
 

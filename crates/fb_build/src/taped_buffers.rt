@@ -1,7 +1,6 @@
 //! Lays the buffer of a tape.
-ghost use Rattle.std.specs.Prelude.{Bool, List, [], Option, ◌≡◌, ◌≤◌, ◌+◌, ◌-◌, length, replicate};
+ghost use Rattle.std.specs.Prelude.{Bool, List, [], Option, ◌≡◌, ◌≤◌, length, replicate};
 ghost use Rattle.std.specs.Vec.{vec_capacity};
-ghost use Rattle.fb_layout.specs.Widths.{greatest};
 ghost use Rattle.fb_value.specs.Bounds.{Bounds};
 ghost use Rattle.fb_value.specs.Counts.{cells, depth};
 ghost use Rattle.fb_value.specs.Datum.{Datum, a_table};
@@ -11,7 +10,7 @@ ghost use Rattle.fb_value.specs.View.{entries_in};
 ghost use Rattle.fb_tape.specs.Tapes.{MeansRoot};
 ghost use Rattle.fb_vtables.specs.Vtables.{AreDifferent};
 ghost use Rattle.fb_build.specs.Covered.{Covered, EndsAligned};
-ghost use Rattle.fb_build.specs.TapeLaid.{tape_end, SomeRoot};
+ghost use Rattle.fb_build.specs.TapeLaid.{buffer_end, SomeRoot};
 
 use crate::laying::Laying;
 use crate::roots::close_tail;
@@ -35,7 +34,7 @@ pub(crate) fn fill_from_tape(
     requires zeros { block.items ≡ replicate (length block.items) 0 }
     requires short { length block.items ≤ 2147483647 }
     requires small { tape.now.room ≤ 2147483647 }
-    requires room { tape_end tape.now + (8 + (greatest layout.now - 1)) ≤ length block.items }
+    requires room { buffer_end layout.now tape.now ≤ length block.items }
     requires none_wait { waiting.items ≡ [] }
     requires none_come { places.items ≡ [] }
     requires reserved { length tape.now.ops ≤ vec_capacity waiting }
@@ -47,7 +46,7 @@ pub(crate) fn fill_from_tape(
     ensures old_slots { OnlyOld layout.now result.items }
     ensures covered { Covered layout.now result.items }
     ensures aligned { EndsAligned layout.now result.items }
-    ensures short { length result.items ≤ tape_end tape.now + (8 + (greatest layout.now - 1)) }
+    ensures long { length result.items ≡ buffer_end layout.now tape.now }
 {
     let mut laying = Laying {
         tail: Tail::new(block),

@@ -6,7 +6,8 @@ ghost use Rattle.fb_tape.specs.NamedParts.{NamedPart};
 ghost use Rattle.fb_tape.specs.Tapes.{Lay, Waits};
 ghost use Rattle.fb_vtables.specs.Vtables.{AreDifferent};
 ghost use Rattle.fb_build.specs.Steps.{Steps};
-ghost use Rattle.fb_build.specs.TapeLaid.{op_fields, op_bytes, op_vtable, notes_bytes, MayLayOp, op_end};
+ghost use Rattle.fb_build.specs.TapeLaid.{op_fields, op_bytes, op_vtable, notes_bytes, MayLayOp, op_end, op_most};
+ghost use Rattle.fb_build.specs.TapeLaid.{tape_most};
 ghost use Rattle.fb_build.specs.TapeLaid.{SomeLay, IsFresh, tape_end};
 ghost use Rattle.fb_build.specs.Tails.{Grows};
 ghost use Rattle.fb_build.specs.Waiting.{AreWaiting};
@@ -63,6 +64,7 @@ fn lay_op(laying: &mut Laying, tape: &Tape, op: Op, notes: &[NotedField], bytes:
     ensures laid { Steps op (op_vtable tape.now.vtables op) notes.now bytes.now laying.old laying.new }
     ensures long { length laying.new.tail.bytes ≡ op_end tape.now.vtables (length laying.old.places.items) op notes.now
         (length laying.old.tail.bytes) }
+    ensures most { laying.new.tail.most ≡ op_most op laying.old.tail.most }
 {
     match op {
         Op::Data { align, .. } => lay_data(laying, align as usize, bytes),
@@ -95,6 +97,7 @@ pub(crate) fn lay_tape(laying: &mut Laying, layout: &Layout, tape: &Tape)
         → AreWaiting tape.now.layout tape.now.vtables ps laying.new.waiting.items laying.new.places.items
         laying.new.tail }
     ensures long { length laying.new.tail.bytes ≡ tape_end tape.now }
+    ensures most { laying.new.tail.most ≡ tape_most tape.now }
     ensures grows { Grows laying.old.tail laying.new.tail }
 {
     let _schema = layout.schema(); // its contract: the layout is well made

@@ -101,5 +101,6 @@ loop-i-preserved c =
       long = (let before = rw cons at inv.long in
           let now = rw own at c.lay_op.ensures.long in
           rw (count, ← drop-drop (op_fields op) f fields, steps.come, now) before);
+      most = (let before = rw cons at inv.most in rw c.lay_op.ensures.most before);
       grows = then_grows _ _ _ inv.grows steps.grows;
     }
