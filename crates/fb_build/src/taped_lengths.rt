@@ -4,7 +4,7 @@ ghost use Rattle.fb_tape.specs.Tapes.{known_after};
 ghost use Rattle.std.specs.Prelude.{Bool, if◌then◌else◌};
 ghost use Rattle.fb_build.specs.Lengths.{zeros_to, data_end, fields_end, closed_end};
 ghost use Rattle.fb_build.specs.NotesLaid.{notes_size};
-ghost use Rattle.fb_build.specs.TapeLaid.{MayCount, SomeLay, op_end, tape_end};
+ghost use Rattle.fb_build.specs.TapeLaid.{MayCount, SomeLay, op_end, op_most, tape_end, tape_most, buffer_end};
 
 use crate::taped_fields::size_in;
 use crate::taped_ops::{fields_at, fields_of};
@@ -97,4 +97,49 @@ pub(crate) fn tape_end(layout: &Layout, tape: &Tape) -> usize
         at_field += count;
     }
     laid
+}
+
+/// What is padded to at most once an operation is laid.
+fn op_most(op: Op, most: usize) -> usize
+    requires low { most ≤ 65535 }
+    ensures exact { result ≡ op_most op most }
+    ensures low { result ≤ 65535 }
+    ensures least { most ≤ result }
+{
+    match op {
+        Op::Data { align, .. } => most.max(align as usize),
+        Op::References { .. } => most.max(4),
+        Op::Table { align, .. } => most.max(align as usize).max(4),
+    }
+}
+
+/// What is padded to at most in the buffer of a tape.
+fn tape_most(tape: &Tape) -> usize
+    ensures exact { result ≡ tape_most tape.now }
+    ensures low { result ≤ 65535 }
+    ensures least { 4 ≤ result }
+{
+    let ops = tape.ops();
+    let mut most = 4;
+    for i in 0..ops.len() {
+        most = op_most(ops[i], most);
+    }
+    most
+}
+
+/// How long the buffer of a tape is.
+pub(crate) fn buffer_end(layout: &Layout, tape: &Tape) -> usize
+    requires layout { tape.now.layout ≡ layout.now }
+    requires means { SomeLay tape.now }
+    requires short { tape.now.room ≤ 2147483647 }
+    ensures exact { result ≡ buffer_end layout.now tape.now }
+    ensures bound { result ≤ tape.now.room + (8 + 65534) }
+{
+    let most = tape_most(tape);
+    let laid = tape_end(layout, tape);
+    let header = match layout.schema().identifier() {
+        Some(_) => 8,
+        None => 4,
+    };
+    laid + (zeros_to(most, laid + header) + header)
 }
