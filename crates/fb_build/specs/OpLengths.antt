@@ -24,7 +24,6 @@ ops_end vtables known [] notes laid = laid
 ops_end vtables known (op ∷ ops) notes laid = ops_end vtables (known_after known op) ops (drop (op_fields op) notes)
     (op_end vtables known op (take (op_fields op) notes) laid)
 
-
 -- ---- what the tail is padded to at most
 
 abbrev pub op_most : Op → ℕ → ℕ

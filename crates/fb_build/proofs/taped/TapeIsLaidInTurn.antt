@@ -2,7 +2,8 @@
 use Rattle.std.proofs.Common.{◌≡◌, ℕ, zero, suc, ◌+◌, ◌-◌, ◌≤◌, ◌<◌, ◌++◌, max, List, [], ◌∷◌, length, take, drop, slice_get, Option}
 use Rattle.std.proofs.Common.{Some, unwrap_or, refl, ap, sym, ◌∙◌, subst, arith, length-append, true}
 use Rattle.std.proofs.lemmas.List.Sums.{sum_by-cons}
-use Rattle.std.proofs.Math.Seq.{drop-append_seam, take-append_seam}
+use Rattle.std.proofs.Common.{slice_index_or}
+use Rattle.std.proofs.Math.Seq.{drop-append_seam, take-append_seam, drop-cons}
 use Rattle.fb_layout.specs.Laid.{LaidSchema, Slot}
 use Rattle.fb_layout.specs.WellMade.{IsWellMade}
 use Rattle.fb_layout.specs.Widths.{greatest}
@@ -24,6 +25,13 @@ use Rattle.fb_build.specs.TapeLaid.{op_fields, op_bytes, op_vtable, notes_bytes,
 use Rattle.fb_build.specs.Waiting.{AreWaiting, MayStep, HasVtable}
 use Rattle.fb_build.proofs.tail.WhatIsLaidStaysLaid.{grown_long}
 use Rattle.fb_build.specs.declared.laying.Laying.{Laying}
+
+-- the next operation and those behind it
+pub op_behind : (ops : List Op) (i : ℕ) → i < length ops
+    → drop i ops ≡ slice_index_or ops i (Data 0 0) ∷ drop (i + 1) ops
+op_behind ops i low =
+    let one : suc i ≡ i + 1 = omega arith in
+    subst (λ (j : ℕ). drop i ops ≡ slice_index_or ops i (Data 0 0) ∷ drop j ops) one (drop-cons ops i (Data 0 0) low)
 
 -- ---- what an operation has of the fields and bytes
 

@@ -1,19 +1,13 @@
 use Rattle.std.proofs.Common.{◌≡◌, ◌<◌, ◌≤◌, ◌+◌, ◌-◌, ◌∙◌, ℕ, suc, List, [], ◌∷◌, length, take, drop, slice_index_or, refl, sym, ap}
 use Rattle.std.proofs.Common.{subst, arith, length-drop}
 use Rattle.std.proofs.lemmas.List.{drop-drop}
-use Rattle.std.proofs.Math.Seq.{drop-cons}
 use Rattle.fb_tape.specs.Tapes.{known_after}
 use Rattle.fb_tape.specs.declared.ops.Op.{Op}
 use Rattle.fb_tape.specs.declared.ops.Op.TheVariants.{Data}
 use Rattle.fb_build.specs.TapeLaid.{op_fields, op_end, ops_end, MayCount, IsCountedUpTo}
 use Rattle.fb_build.proofs.taped.TapeFitsItsRoom.{counted, may_count, count_within}
+use Rattle.fb_build.proofs.taped.TapeIsLaidInTurn.{op_behind}
 use Rattle.fb_build.proofs.taped_lengths.tape_end.Goals as goal
-
-op_behind : (ops : List Op) (i : ℕ) → i < length ops
-    → drop i ops ≡ slice_index_or ops i (Data 0 0) ∷ drop (i + 1) ops
-op_behind ops i low =
-    let one : suc i ≡ i + 1 = omega arith in
-    subst (λ (j : ℕ). drop i ops ≡ slice_index_or ops i (Data 0 0) ∷ drop j ops) one (drop-cons ops i (Data 0 0) low)
 
 pub op_end-laid-requires-clause-may : goal.op_end-laid-requires-clause-may
 op_end-laid-requires-clause-may c =

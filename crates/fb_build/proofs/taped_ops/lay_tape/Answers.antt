@@ -1,20 +1,14 @@
 use Rattle.std.proofs.Common.{◌≡◌, ◌<◌, ◌≤◌, ◌+◌, ◌-◌, ◌∙◌, ℕ, suc, List, [], ◌∷◌, length, take, drop, slice_index_or, refl, sym, ap}
 use Rattle.std.proofs.Common.{subst, arith, length-drop}
 use Rattle.std.proofs.lemmas.List.{drop-drop, length-take-le}
-use Rattle.std.proofs.Math.Seq.{drop-cons}
 use Rattle.fb_tape.specs.declared.ops.Op.{Op}
 use Rattle.fb_tape.specs.declared.ops.Op.TheVariants.{Data}
 use Rattle.fb_build.specs.TapeLaid.{op_fields, op_bytes, op_vtable, MayLayOp, IsLaidUpTo, op_end, ops_end}
 use Rattle.fb_build.specs.Steps.{Steps}
 use Rattle.fb_build.proofs.tail.WhatIsLaidStaysLaid.{then_grows}
 use Rattle.fb_build.proofs.taped.TapeIsLaidInTurn.{op_laid, may_lay_op, fields_within, bytes_within}
+use Rattle.fb_build.proofs.taped.TapeIsLaidInTurn.{op_behind}
 use Rattle.fb_build.proofs.taped_ops.lay_tape.Goals as goal
-
-op_behind : (ops : List Op) (i : ℕ) → i < length ops
-    → drop i ops ≡ slice_index_or ops i (Data 0 0) ∷ drop (i + 1) ops
-op_behind ops i low =
-    let one : suc i ≡ i + 1 = omega arith in
-    subst (λ (j : ℕ). drop i ops ≡ slice_index_or ops i (Data 0 0) ∷ drop j ops) one (drop-cons ops i (Data 0 0) low)
 
 own_size_is : (op : Op) (own all : List Rattle.fb_tape.specs.declared.ops.NotedField.NotedField) (count f size : ℕ)
     → size ≡ op_bytes op own → own ≡ take count (drop f all) → count ≡ op_fields op
