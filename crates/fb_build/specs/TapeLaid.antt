@@ -1,18 +1,17 @@
 -- A tape, operation by operation.
-use Rattle.std.specs.Prelude.{ℕ, ◌+◌, ◌≡◌, ◌≤◌, ◌<◌, List, [], ◌∷◌, length, take, drop, slice_get, Option, unwrap_or}
+use Rattle.std.specs.Prelude.{ℕ, ◌+◌, ◌≡◌, ◌≤◌, ◌<◌, List, [], length, slice_get, Option, unwrap_or}
 use Rattle.std.specs.List.{sum_by}
 use Rattle.fb_layout.specs.Laid.{LaidSchema}
 use Rattle.fb_value.specs.Num.{Bytes}
 use Rattle.fb_tape.specs.NamedParts.{NamedPart}
 use Rattle.fb_tape.specs.OpenList.{own_size}
 use Rattle.fb_value.specs.Datum.{Datum}
-use Rattle.fb_tape.specs.Tapes.{Taped, Lay, MeansRoot, known_after}
+use Rattle.fb_tape.specs.Tapes.{Taped, Lay, MeansRoot}
 use Rattle.fb_tape.specs.declared.ops.NotedField.{NotedField}
 use Rattle.fb_tape.specs.declared.ops.Op.{Op}
 use Rattle.fb_tape.specs.declared.ops.Op.TheVariants.{Data, References, Table}
 pub use Rattle.fb_build.specs.OpLengths.{op_fields, op_end, ops_end, op_most, ops_most}
 use Rattle.fb_build.specs.Lengths.{header_end}
-use Rattle.fb_build.specs.NotesLaid.{notes_size}
 use Rattle.fb_build.specs.Waiting.{MayStep, AreWaiting}
 use Rattle.fb_build.specs.declared.laying.Laying.{Laying}
 

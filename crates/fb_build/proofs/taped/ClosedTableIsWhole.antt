@@ -1,20 +1,19 @@
 -- A table is whole once its first number is laid, and its vtable where that is new.
-use Rattle.std.proofs.Common.{◌≡◌, ℕ, ◌+◌, ◌-◌, ◌*◌, ◌%◌, ◌^◌, ◌<◌, ◌≤◌, ◌++◌, ◌⊎◌, inl, inr, true, max, List, [], ◌∷◌, length}
-use Rattle.std.proofs.Common.{replicate, take, slice_get, slice_index, Option, Some, refl, ap, sym, ◌∙◌, subst, arith}
+use Rattle.std.proofs.Common.{◌≡◌, ℕ, ◌+◌, ◌-◌, ◌*◌, ◌%◌, ◌^◌, ◌<◌, ◌≤◌, ◌++◌, inl, inr, true, max, List, [], ◌∷◌, length}
+use Rattle.std.proofs.Common.{replicate, slice_get, slice_index, Option, Some, refl, ap, sym, ◌∙◌, arith}
 use Rattle.std.proofs.lemmas.Bool.{eq-eqb}
 use Rattle.fb_layout.specs.Laid.{LaidSchema, Slot, slots_of}
-use Rattle.fb_layout.specs.Sizes.{ceil4}
 use Rattle.fb_value.specs.Datum.{Datum, a_table}
-use Rattle.fb_value.specs.Num.{Bytes, num, divides}
+use Rattle.fb_value.specs.Num.{Bytes, divides}
 use Rattle.fb_value.specs.Places.{part_place, table_part, vtable}
 use Rattle.fb_value.specs.Tails.{from_end}
 use Rattle.fb_value.specs.View.{entries_in}
 use Rattle.fb_value.proofs.tails.TailsAreKeptInFront.{through}
 use Rattle.fb_tape.specs.Vtables.{table_size}
 use Rattle.fb_build.specs.CoveredTails.{parts_in_tail}
-use Rattle.fb_build.specs.Fields.{stored_in, stored_align, fields_size}
-use Rattle.fb_build.specs.Made.{Adds, FieldsFront, OldVtable, NewVtable, named_fields, ends_parts}
-use Rattle.fb_build.specs.NumberedVtables.{come, AreLaidInTurn, IsVtableInTurn, IsVtableLaid, IsTableOpen, IsTableClosed}
+use Rattle.fb_build.specs.Fields.{stored_in, stored_align}
+use Rattle.fb_build.specs.Made.{Adds, FieldsFront, named_fields, ends_parts}
+use Rattle.fb_build.specs.NumberedVtables.{come, IsVtableInTurn, IsVtableLaid, IsTableOpen, IsTableClosed}
 use Rattle.fb_build.specs.TableBytes.{VtableEnd, vtable_bytes, offset_from}
 use Rattle.fb_build.specs.Tails.{TailSeen, Grows, LaidInTail}
 use Rattle.fb_build.proofs.covered.PartsStayAsLaid.{table_stays}

@@ -1,5 +1,5 @@
 -- The fields that a tape notes of a table, one laid after the other.
-use Rattle.std.proofs.Common.{◌≡◌, ℕ, suc, ◌+◌, ◌-◌, ◌<◌, ◌≤◌, ◌++◌, Bool, true, false, ◌&&◌, max, List, [], ◌∷◌, length, take, drop}
+use Rattle.std.proofs.Common.{◌≡◌, ℕ, suc, ◌+◌, ◌-◌, ◌<◌, ◌≤◌, ◌++◌, Bool, true, false, ◌&&◌, List, [], ◌∷◌, length, take, drop}
 use Rattle.std.proofs.Common.{slice_get, slice_index, slice_set, Option, None, Some, refl, ap, sym, ◌∙◌, subst, arith, length-append}
 use Rattle.std.proofs.lemmas.Option.{slice_get_within}
 use Rattle.std.proofs.Common.{inl, inr, zero, length-drop}
@@ -16,23 +16,21 @@ use Rattle.fb_value.specs.Datum.{Datum}
 use Rattle.fb_value.specs.Num.{Bytes, divides}
 use Rattle.fb_value.specs.Places.{part_place}
 use Rattle.fb_value.proofs.tails.TailsAreKeptInFront.{through}
-use Rattle.fb_tape.specs.InlineBytes.{AreInlineBytes}
 use Rattle.fb_tape.specs.NotedFields.{AreNoted, IsNoted}
 use Rattle.fb_tape.specs.OpenList.{own_size}
 use Rattle.fb_tape.specs.declared.ops.NotedField.{NotedField}
 use Rattle.fb_tape.specs.declared.ops.NotedField.TheVariants.{Reference, Inline}
 use Rattle.fb_build.specs.FieldOrder.{before, LinksNext, SameOfStored}
-use Rattle.fb_build.specs.Fields.{AreKnown, StoredEnd, TargetEnd, is_stored, is_reference, inline_kind, stored_align}
+use Rattle.fb_build.specs.Fields.{AreKnown, TargetEnd, is_stored, is_reference, inline_kind}
 use Rattle.fb_build.specs.Fields.{target_for, sort_for, fields_size}
 use Rattle.fb_build.specs.Lengths.{zeros_to}
 use Rattle.fb_build.specs.Made.{FieldLeads}
-use Rattle.fb_build.specs.NotesLaid.{noted_size, noted_references, MayLay, LaysField, AreReferences, Refers}
+use Rattle.fb_build.specs.NotesLaid.{noted_size, noted_references, MayLay, LaysField, AreReferences}
 use Rattle.fb_build.specs.Tails.{TailSeen, Grows, LaidInTail}
 use Rattle.fb_build.proofs.fields.AlignmentDividesTheSize.{simple_aligned, simple_some, simple_multiple}
 use Rattle.fb_build.proofs.fields.EntriesStandIn.{leads_any, reference_there, target_inside}
 use Rattle.fb_build.proofs.fields.FieldsAreLaidInOrder.{AreLaidUpTo, next_target, next_whole, next_laid_before}
 use Rattle.fb_build.proofs.fields.SlotStoresItsEntry.{same_some}
-use Rattle.fb_build.proofs.order.LaidFieldsTakeTheirSizes.{size_from}
 use Rattle.fb_build.proofs.order.NextFieldIsNamed.{IsNamed, named, still_waits, room_of_next, align_least}
 use Rattle.fb_build.proofs.tail.MultiplesAdd.{sum_divides}
 use Rattle.fb_build.proofs.tail.WhatIsLaidStaysLaid.{power_divides, grown_long}

@@ -1,6 +1,6 @@
 -- A part that is laid waits in the place of those that it refers to.
-use Rattle.std.proofs.Common.{◌≡◌, ℕ, zero, suc, ◌+◌, ◌-◌, ◌≤◌, ◌<◌, ◌⊎◌, inl, inr, ◌++◌, true, List, [], ◌∷◌, length, map, drop}
-use Rattle.std.proofs.Common.{slice_get, slice_index, Option, None, Some, refl, ap, sym, ◌∙◌, subst, arith, append_assoc, append-nil}
+use Rattle.std.proofs.Common.{◌≡◌, ℕ, zero, suc, ◌-◌, ◌≤◌, ◌++◌, true, List, [], ◌∷◌, length, map}
+use Rattle.std.proofs.Common.{slice_get, slice_index, Some, refl, ap, sym, ◌∙◌, subst, arith, append_assoc, append-nil}
 use Rattle.std.proofs.Common.{length-append}
 use Rattle.fb_layout.specs.Laid.{LaidSchema}
 use Rattle.fb_layout.specs.Widths.{greatest}

@@ -1,9 +1,8 @@
 -- The parts that wait for a table, and its slots.
-use Rattle.std.proofs.Common.{◌≡◌, ℕ, zero, suc, ◌+◌, ◌-◌, ◌≤◌, ◌<◌, ◌⊎◌, inl, inr, ◌++◌, Bool, true, false, ◌&&◌, ◌==◌, if◌then◌else◌}
+use Rattle.std.proofs.Common.{◌≡◌, ℕ, zero, suc, ◌+◌, ◌⊎◌, inl, inr, ◌++◌, Bool, true, false, if◌then◌else◌}
 use Rattle.std.proofs.Common.{List, [], ◌∷◌, length, drop, slice_get, slice_index, Option, None, Some, refl, ap, sym, ◌∙◌, subst, arith}
 use Rattle.std.proofs.Common.{append-nil}
 use Rattle.std.proofs.lemmas.Bool.{and_parts, eqb-true}
-use Rattle.std.proofs.lemmas.Bool.Decides.{nat_tests}
 use Rattle.fb_layout.specs.Laid.{LaidSchema, Slot, StoredShape, scalar_kind, struct_kind, table_kind, union_kind}
 use Rattle.fb_layout.specs.Laid.{code_kind, text_kind, one_of, vector_of}
 use Rattle.fb_layout.specs.Widths.{inline_align}
@@ -11,16 +10,15 @@ use Rattle.fb_value.specs.Datum.{Datum, a_number, a_text, a_vector, a_struct, a_
 use Rattle.fb_value.specs.Num.{Bytes}
 use Rattle.fb_value.specs.Places.{Target, part_place, table_part, member_part, text_part, vector_part}
 use Rattle.fb_tape.specs.LayingOrder.{slots_at, laying_order}
-use Rattle.fb_tape.specs.NamedParts.{NamedPart, apart_of, entry_apart, entries_apart, as_list}
+use Rattle.fb_tape.specs.NamedParts.{NamedPart, apart_of, entry_apart, entries_apart}
 use Rattle.fb_tape.specs.NotedFields.{AreNoted, IsNoted}
 use Rattle.fb_tape.specs.declared.ops.NotedField.{NotedField}
 use Rattle.fb_tape.specs.declared.ops.NotedField.TheVariants.{Reference, Inline}
 use Rattle.fb_build.specs.CoveredTails.{parts_in_tail}
-use Rattle.fb_build.specs.Fields.{EntryEnd, EntriesEnd, StoredEnd, StoredFits, SlotFits, TargetEnd, is_stored, is_reference}
+use Rattle.fb_build.specs.Fields.{EntryEnd, EntriesEnd, StoredEnd, StoredFits, SlotFits, is_stored, is_reference}
 use Rattle.fb_build.specs.Fields.{is_at, stored_here, stored_in, next_code, target_for}
-use Rattle.fb_build.specs.Made.{ends_parts, named_of, named_stored, named_fields, parts_at}
+use Rattle.fb_build.specs.Made.{ends_parts, named_of, named_stored, named_fields}
 use Rattle.fb_build.specs.NotesLaid.{AreReferences}
-use Rattle.fb_build.specs.Pieces.{PartAt}
 use Rattle.fb_build.specs.Tails.{LaidInTail}
 use Rattle.fb_build.specs.Waiting.{all_of}
 use Rattle.fb_build.proofs.tables.EndsNameTheParts.{first_dropped}

@@ -1,17 +1,16 @@
 -- The order of laying visits each stored slot behind those that are laid before it.
-use Rattle.std.proofs.Common.{◌≡◌, ℕ, zero, suc, ◌+◌, ◌-◌, ◌^◌, ◌<◌, ◌≤◌, ◌⊎◌, ◌++◌, inl, inr, Bool, true, false, cond}
-use Rattle.std.proofs.Common.{◌==◌, ◌&&◌, nat_lt, nat_le, List, [], ◌∷◌, slice_get, Option, None, Some, refl, ap, sym, ◌∙◌}
+use Rattle.std.proofs.Common.{◌≡◌, ℕ, suc, ◌+◌, ◌-◌, ◌^◌, ◌<◌, ◌⊎◌, ◌++◌, inl, inr, Bool, true, false, cond}
+use Rattle.std.proofs.Common.{◌==◌, nat_lt, nat_le, List, [], ◌∷◌, slice_get, Option, None, Some, refl, sym, ◌∙◌}
 use Rattle.std.proofs.Common.{subst, arith, if◌then◌else◌}
 use Rattle.std.proofs.lemmas.Bool.{lt-ltb, le-leb, and_parts, eqb-true}
 use Rattle.std.proofs.lemmas.Bool.Decides.{nat_tests}
 use Rattle.std.proofs.lemmas.Nat.{pow_pos}
 use Rattle.fb_layout.specs.Laid.{LaidSchema, Slot}
-use Rattle.fb_layout.specs.Sizes.{IsAlignment}
 use Rattle.fb_layout.specs.Widths.{inline_align}
 use Rattle.fb_value.specs.Datum.{Datum}
 use Rattle.fb_tape.specs.LayingOrder.{slots_at, laying_order}
 use Rattle.fb_build.specs.FieldOrder.{IsStoredAt, SameOfStored, LinksNext, before}
-use Rattle.fb_build.specs.Fields.{AreKnown, is_stored, is_at, from, above}
+use Rattle.fb_build.specs.Fields.{AreKnown, is_at, from, above}
 use Rattle.fb_build.proofs.fields.AlignmentDividesTheSize.{simple_aligned}
 use Rattle.fb_build.proofs.fields.FieldsFillTheTable.{other_slot}
 use Rattle.fb_build.proofs.fields.SlotStoresItsEntry.{by_index, same_some}

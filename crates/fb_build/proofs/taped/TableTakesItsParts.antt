@@ -1,45 +1,42 @@
 -- A table that is laid takes the parts that its references lead to.
-use Rattle.std.proofs.Common.{◌≡◌, ℕ, zero, suc, ◌+◌, ◌-◌, ◌*◌, ◌%◌, ◌≤◌, ◌<◌, ◌⊎◌, inl, inr, ◌++◌, Bool, true, false, max, List, []}
-use Rattle.std.proofs.Common.{◌∷◌, length, take, drop, replicate, slice_get, slice_index, Option, None, Some, refl, ap, sym, ◌∙◌}
-use Rattle.std.proofs.Common.{subst, arith, length-append, length-drop}
+use Rattle.std.proofs.Common.{◌≡◌, ℕ, suc, ◌+◌, ◌-◌, ◌*◌, ◌≤◌, ◌<◌, ◌⊎◌, inl, inr, ◌++◌, true, false, max, List, []}
+use Rattle.std.proofs.Common.{◌∷◌, length, take, drop, replicate, slice_get, slice_index, Option, Some, refl, ap, ◌∙◌}
+use Rattle.std.proofs.Common.{subst, arith, length-drop}
 use Rattle.std.proofs.lemmas.List.{length-replicate}
 use Rattle.std.proofs.lemmas.List.Sums.{sum_by-cons}
 use Rattle.fb_layout.specs.Laid.{LaidSchema, Slot, slots_of}
-use Rattle.fb_layout.specs.Sizes.{ceil4}
-use Rattle.fb_layout.specs.Widths.{greatest}
 use Rattle.fb_value.specs.Datum.{Datum, a_table}
-use Rattle.fb_value.specs.Num.{Bytes, divides}
+use Rattle.fb_value.specs.Num.{Bytes}
 use Rattle.fb_value.specs.Places.{part_place, table_part}
 use Rattle.fb_value.specs.View.{entries_in}
 use Rattle.fb_value.proofs.tails.TailsAreKeptInFront.{through}
 use Rattle.fb_tape.specs.LayingOrder.{laying_order}
 use Rattle.fb_tape.specs.NamedParts.{NamedPart, entries_apart}
 use Rattle.fb_tape.specs.NotedFields.{AreNoted, IsNoted}
-use Rattle.fb_tape.specs.Tapes.{LaysTable}
 use Rattle.fb_tape.specs.Vtables.{table_size}
 use Rattle.fb_tape.specs.declared.ops.NotedField.{NotedField}
 use Rattle.fb_tape.specs.declared.ops.NotedField.TheVariants.{Reference, Inline}
 use Rattle.fb_tape.specs.declared.ops.Op.TheVariants.{Table}
-use Rattle.fb_build.specs.Fields.{fields_size, stored_in, stored_align}
-use Rattle.fb_build.specs.Lengths.{zeros_to, fields_end, table_end}
+use Rattle.fb_build.specs.Fields.{stored_in, stored_align}
+use Rattle.fb_build.specs.Lengths.{fields_end, table_end}
 use Rattle.fb_build.specs.NotesLaid.{notes_size}
 use Rattle.fb_build.proofs.taped.TapeFitsItsRoom.{sizes_noted}
-use Rattle.fb_build.specs.Made.{FieldsFront, ends_parts, named_fields}
+use Rattle.fb_build.specs.Made.{FieldsFront}
 use Rattle.fb_build.specs.NotesLaid.{AreToBeLaid, AreLaidNow, AreReferences, noted_references, notes_references}
-use Rattle.fb_build.specs.NumberedVtables.{come, AreLaidInTurn, IsTableOpen, IsTableClosed}
+use Rattle.fb_build.specs.NumberedVtables.{IsTableOpen, IsTableClosed}
 use Rattle.fb_build.specs.Parts.{TableKnown}
 use Rattle.fb_build.specs.Tails.{TailSeen, Grows, LaidInTail}
-use Rattle.fb_build.specs.Waiting.{AreWaiting, MayStep, all_of}
+use Rattle.fb_build.specs.Waiting.{AreWaiting, MayStep}
 use Rattle.fb_build.proofs.apart.EntriesAreKnown.{known_in}
 use Rattle.fb_build.proofs.fields.AlignmentDividesTheSize.{inline_low}
 use Rattle.fb_build.proofs.fields.SlotStoresItsEntry.{same_some}
-use Rattle.fb_build.proofs.tables.TableFitsItsRoom.{table_fits_room, fields_narrow, stored_low}
+use Rattle.fb_build.proofs.tables.TableFitsItsRoom.{fields_narrow, stored_low}
 use Rattle.fb_build.proofs.tail.WhatIsLaidStaysLaid.{then_grows, grown_long, lower}
 use Rattle.fb_build.proofs.taped.OnePartMoreWaits.{IsLaidNow}
 use Rattle.fb_build.proofs.taped.PartsOfATable.{AllFit, spread, spread_long, spread_state, spread_parts, spread_references}
 use Rattle.fb_build.proofs.taped.PartsOfATable.{refer_count, refer_ends, refers_at, apart_many, noted_references as in_order}
 use Rattle.fb_build.proofs.taped.StepsOfALaying.{taken_lie, taken_within, stepped, least_most}
-use Rattle.fb_build.proofs.taped.VtableOfTheEnds.{IsVtableOf, slots_used, vtable_told_by}
+use Rattle.fb_build.proofs.taped.VtableOfTheEnds.{slots_used, vtable_told_by}
 use Rattle.fb_build.proofs.vtables.ClosedTableHasItsValue.{vtable_long}
 use Rattle.fb_build.proofs.vtables.EndsAreWithinTheTable.{ends_under, index_past, got}
 use Rattle.fb_build.proofs.vtables.VtableIsLaidOnce.{shared_grown}

@@ -1,7 +1,7 @@
 -- What a tape takes once it is laid is at most the sum of its rooms.
-use Rattle.std.proofs.Common.{◌≡◌, ℕ, zero, suc, ◌+◌, ◌-◌, ◌*◌, ◌%◌, ◌≤◌, ◌<◌, ◌++◌, Bool, true, false, max, nat_lt, if◌then◌else◌}
-use Rattle.std.proofs.Common.{List, [], ◌∷◌, length, take, drop, flat_map, slice_get, Option, Some, unwrap_or, refl, ap, sym, ◌∙◌}
-use Rattle.std.proofs.Common.{subst, arith, length-append, inl, inr}
+use Rattle.std.proofs.Common.{◌≡◌, ℕ, zero, suc, ◌+◌, ◌-◌, ◌*◌, ◌%◌, ◌≤◌, ◌<◌, ◌++◌, Bool, true, false, nat_lt, if◌then◌else◌}
+use Rattle.std.proofs.Common.{List, [], ◌∷◌, length, take, drop, flat_map, slice_get, Option, Some, refl, ap, sym, ◌∙◌}
+use Rattle.std.proofs.Common.{arith, length-append}
 use Rattle.std.proofs.lemmas.List.Sums.{sum_by-cons}
 use Rattle.std.proofs.lemmas.Option.{slice_get_within}
 use Rattle.byteorder.specs.Endian.{little_bytes}
@@ -9,22 +9,22 @@ use Rattle.byteorder.specs.Numbers.{length-bytes_low_first}
 use Rattle.fb_layout.specs.Laid.{LaidSchema, Slot, slots_of}
 use Rattle.fb_layout.specs.Sizes.{ceil4}
 use Rattle.fb_layout.specs.WellMade.{IsWellMade}
-use Rattle.fb_layout.specs.Widths.{greatest, inline_size, inline_align}
+use Rattle.fb_layout.specs.Widths.{inline_align}
 use Rattle.fb_value.specs.Datum.{Datum}
 use Rattle.fb_value.specs.Num.{Bytes}
 use Rattle.fb_tape.specs.LayingOrder.{laying_order}
 use Rattle.fb_tape.specs.NamedParts.{NamedPart}
 use Rattle.fb_tape.specs.NotedFields.{AreNoted, IsNoted}
-use Rattle.fb_tape.specs.Tapes.{Lay, Lays, LaysTable, IsData, known_after}
+use Rattle.fb_tape.specs.Tapes.{Lays, LaysTable, known_after}
 use Rattle.fb_tape.specs.Vtables.{offsets_from, trimmed, vtable_of, table_size}
 use Rattle.fb_tape.specs.declared.ops.NotedField.{NotedField}
 use Rattle.fb_tape.specs.declared.ops.Op.{Op}
 use Rattle.fb_tape.specs.declared.ops.Op.TheVariants.{Data, References, Table}
 use Rattle.fb_build.specs.FieldOrder.{before}
-use Rattle.fb_build.specs.Fields.{AreKnown, fields_size, stored_in, stored_align}
+use Rattle.fb_build.specs.Fields.{AreKnown, fields_size, stored_in}
 use Rattle.fb_build.specs.Lengths.{zeros_to}
 use Rattle.fb_build.specs.NotesLaid.{noted_size, notes_size}
-use Rattle.fb_build.specs.TapeLaid.{op_fields, op_end, ops_end, MayCount, IsCountedUpTo}
+use Rattle.fb_build.specs.TapeLaid.{op_fields, op_end, MayCount, IsCountedUpTo}
 use Rattle.fb_build.proofs.apart.EntriesAreKnown.{known_in}
 use Rattle.fb_build.proofs.fields.SlotStoresItsEntry.{same_some}
 use Rattle.fb_build.proofs.order.LaidFieldsTakeTheirSizes.{size_from, size_retested, size_all, size_none}

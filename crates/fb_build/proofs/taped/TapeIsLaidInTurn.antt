@@ -1,6 +1,6 @@
 -- The operations of a tape, one laid after the other.
-use Rattle.std.proofs.Common.{◌≡◌, ℕ, zero, suc, ◌+◌, ◌-◌, ◌≤◌, ◌<◌, ◌++◌, max, List, [], ◌∷◌, length, take, drop, slice_get, Option}
-use Rattle.std.proofs.Common.{Some, unwrap_or, refl, ap, sym, ◌∙◌, subst, arith, length-append, true}
+use Rattle.std.proofs.Common.{◌≡◌, ℕ, suc, ◌+◌, ◌≤◌, ◌<◌, ◌++◌, List, [], ◌∷◌, length, take, drop, Option}
+use Rattle.std.proofs.Common.{refl, ap, sym, ◌∙◌, subst, arith, length-append}
 use Rattle.std.proofs.lemmas.List.Sums.{sum_by-cons}
 use Rattle.std.proofs.Common.{slice_index_or}
 use Rattle.std.proofs.Math.Seq.{drop-append_seam, take-append_seam, drop-cons}
@@ -12,7 +12,7 @@ use Rattle.fb_value.specs.Num.{Bytes}
 use Rattle.fb_tape.specs.NamedParts.{NamedPart}
 use Rattle.fb_tape.specs.NotedFields.{AreNoted, IsNoted}
 use Rattle.fb_tape.specs.OpenList.{own_size}
-use Rattle.fb_tape.specs.Tapes.{Lay, Lays, IsLaidFirst, known_after}
+use Rattle.fb_tape.specs.Tapes.{Lays, known_after}
 use Rattle.fb_tape.specs.declared.ops.NotedField.{NotedField}
 use Rattle.fb_tape.specs.declared.ops.NotedField.TheVariants.{Reference, Inline}
 use Rattle.fb_tape.specs.declared.ops.Op.{Op}

@@ -1,4 +1,4 @@
-use Rattle.std.proofs.Common.{◌≡◌, ◌+◌, ◌-◌, ◌≤◌, ◌∙◌, [], ◌∷◌, ◌++◌, refl, sym, ap, length, take, drop, arith, append-nil}
+use Rattle.std.proofs.Common.{◌-◌, [], ◌∷◌, refl, sym, ap, length, take, drop, arith, append-nil}
 use Rattle.std.proofs.Common.{length-append}
 use Rattle.std.proofs.lemmas.List.{length-take-le}
 use Rattle.fb_build.proofs.taped.StepsOfALaying.{data_aligned, data_now, least_most, stepped}

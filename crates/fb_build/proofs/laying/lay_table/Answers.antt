@@ -1,10 +1,10 @@
-use Rattle.std.proofs.Common.{ℕ, List, ◌≡◌, ◌+◌, ◌-◌, ◌≤◌, ◌∙◌, [], ◌∷◌, ◌++◌, refl, sym, ap, length, take, drop, max, suc, arith}
+use Rattle.std.proofs.Common.{ℕ, List, ◌≡◌, ◌-◌, [], ◌∷◌, ap, length, take, drop, arith}
 use Rattle.std.proofs.Common.{length-append}
 use Rattle.std.proofs.lemmas.List.{length-take-le}
 use Rattle.fb_layout.specs.Laid.{slots_of}
 use Rattle.fb_build.specs.Fields.{stored_in}
 use Rattle.fb_build.specs.NotesLaid.{AreToBeLaid, notes_references}
-use Rattle.fb_build.proofs.tail.WhatIsLaidStaysLaid.{then_grows, grown_long}
+use Rattle.fb_build.proofs.tail.WhatIsLaidStaysLaid.{then_grows}
 use Rattle.fb_build.proofs.taped.NotedFieldsAreLaidInTurn.{all_left}
 use Rattle.fb_build.proofs.taped.PartsOfATable.{spread}
 use Rattle.fb_build.proofs.taped.TableTakesItsParts.{to_be_laid, table_open, table_waits, vtable_room}

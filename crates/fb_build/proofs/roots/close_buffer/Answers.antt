@@ -1,7 +1,7 @@
-use Rattle.std.proofs.Common.{◌≤◌, ◌<◌, ◌+◌, ◌-◌, ◌%◌, ℕ, List, Option, None, Some, length, arith}
+use Rattle.std.proofs.Common.{◌≤◌, ◌<◌, ◌+◌, ◌-◌, ◌%◌, ℕ, List, Option, None, Some, arith}
 use Rattle.std.proofs.Math.Nat.{mod-lt}
 use Rattle.fb_build.proofs.tail.WhatIsLaidStaysLaid.{power_some}
-use Rattle.fb_build.specs.Lengths.{header_end, zeros_to}
+use Rattle.fb_build.specs.Lengths.{header_end}
 use Rattle.fb_build.proofs.roots.close_buffer.Goals as goal
 
 pub returns-clause-holds : goal.returns-clause-holds

@@ -1,4 +1,4 @@
-use Rattle.std.proofs.Common.{◌≡◌, ◌≤◌, ◌<◌, ◌+◌, ◌-◌, ◌∙◌, ℕ, List, [], ◌∷◌, Option, length, slice_index, slice_index_or, refl, sym, ap, subst, arith}
+use Rattle.std.proofs.Common.{◌≡◌, ◌∙◌, ℕ, List, [], ◌∷◌, Option, length, slice_index, slice_index_or, refl, subst, arith}
 use Rattle.std.proofs.Common.{append-nil}
 use Rattle.std.proofs.lemmas.Grind.{get_or_default_zero}
 use Rattle.fb_layout.specs.Laid.{LaidSchema}
@@ -6,7 +6,6 @@ use Rattle.fb_value.specs.Datum.{Datum, a_table}
 use Rattle.fb_value.specs.Num.{Bytes}
 use Rattle.fb_value.specs.Places.{table_part}
 use Rattle.fb_value.specs.View.{entries_in}
-use Rattle.fb_tape.specs.Tapes.{MeansRoot}
 use Rattle.fb_build.specs.CoveredTails.{parts_in_tail}
 use Rattle.fb_build.specs.Roots.{IsRoot}
 use Rattle.fb_build.specs.Tails.{TailSeen}

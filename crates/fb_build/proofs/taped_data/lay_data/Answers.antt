@@ -1,4 +1,4 @@
-use Rattle.std.proofs.Common.{◌≡◌, ◌+◌, ◌-◌, ap, length, arith, length-append}
+use Rattle.std.proofs.Common.{arith}
 use Rattle.fb_build.proofs.tail.WhatIsLaidStaysLaid.{then_grows, grown_long}
 use Rattle.fb_build.proofs.taped.DataIsItsPart.{IsDataLaid, data_lies, data_adds}
 use Rattle.fb_build.proofs.taped_data.lay_data.Goals as goal

@@ -1,10 +1,8 @@
-use Rattle.std.proofs.Common.{◌≡◌, ◌<◌, ◌≤◌, ◌+◌, ◌-◌, ◌∙◌, ℕ, suc, List, [], ◌∷◌, length, take, drop, slice_index_or, refl, sym, ap}
-use Rattle.std.proofs.Common.{subst, arith, length-drop}
+use Rattle.std.proofs.Common.{◌∙◌, take, drop, slice_index_or, ap}
+use Rattle.std.proofs.Common.{arith, length-drop}
 use Rattle.std.proofs.lemmas.List.{drop-drop}
-use Rattle.fb_tape.specs.Tapes.{known_after}
-use Rattle.fb_tape.specs.declared.ops.Op.{Op}
 use Rattle.fb_tape.specs.declared.ops.Op.TheVariants.{Data}
-use Rattle.fb_build.specs.TapeLaid.{op_fields, op_end, ops_end, MayCount, IsCountedUpTo}
+use Rattle.fb_build.specs.TapeLaid.{op_fields}
 use Rattle.fb_build.proofs.taped.TapeFitsItsRoom.{counted, may_count, count_within}
 use Rattle.fb_build.proofs.taped.TapeIsLaidInTurn.{op_behind}
 use Rattle.fb_build.proofs.taped_lengths.tape_end.Goals as goal

@@ -1,6 +1,4 @@
-use Rattle.std.proofs.Common.{◌≡◌, ◌<◌, ◌≤◌, ◌+◌, ℕ, suc, List, ◌∷◌, length, drop, slice_index_or, subst, arith}
-use Rattle.fb_tape.specs.declared.ops.Op.{Op}
-use Rattle.fb_tape.specs.declared.ops.Op.TheVariants.{Data}
+use Rattle.std.proofs.Common.{arith}
 use Rattle.fb_build.proofs.taped.TapeIsLaidInTurn.{op_behind}
 use Rattle.fb_build.proofs.taped_lengths.tape_most.Goals as goal
 

@@ -1,9 +1,9 @@
-use Rattle.std.proofs.Common.{◌≡◌, ◌<◌, ◌≤◌, ◌+◌, ◌-◌, ◌∙◌, ℕ, suc, List, [], ◌∷◌, length, take, drop, slice_index_or, refl, sym, ap}
-use Rattle.std.proofs.Common.{subst, arith, length-drop}
-use Rattle.std.proofs.lemmas.List.{drop-drop, length-take-le}
+use Rattle.std.proofs.Common.{◌≡◌, ◌∙◌, ℕ, List, take, drop, slice_index_or, ap}
+use Rattle.std.proofs.Common.{arith, length-drop}
+use Rattle.std.proofs.lemmas.List.{drop-drop}
 use Rattle.fb_tape.specs.declared.ops.Op.{Op}
 use Rattle.fb_tape.specs.declared.ops.Op.TheVariants.{Data}
-use Rattle.fb_build.specs.TapeLaid.{op_fields, op_bytes, op_vtable, MayLayOp, IsLaidUpTo, op_end, ops_end}
+use Rattle.fb_build.specs.TapeLaid.{op_fields, op_bytes, op_vtable}
 use Rattle.fb_build.specs.Steps.{Steps}
 use Rattle.fb_build.proofs.tail.WhatIsLaidStaysLaid.{then_grows}
 use Rattle.fb_build.proofs.taped.TapeIsLaidInTurn.{op_laid, may_lay_op, fields_within, bytes_within}

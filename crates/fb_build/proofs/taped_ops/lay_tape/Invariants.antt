@@ -1,4 +1,4 @@
-use Rattle.std.proofs.Common.{◌≡◌, ◌≤◌, ◌-◌, [], List, length, drop}
+use Rattle.std.proofs.Common.{◌≡◌, ◌≤◌, [], List, length, drop}
 use Rattle.std.specs.Vec.{vec_capacity}
 use Rattle.fb_tape.specs.NamedParts.{NamedPart}
 use Rattle.fb_tape.specs.Tapes.{Lay}

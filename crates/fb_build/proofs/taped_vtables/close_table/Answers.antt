@@ -1,4 +1,4 @@
-use Rattle.std.proofs.Common.{◌≡◌, ◌+◌, ◌-◌, ◌<◌, ◌≤◌, ◌∙◌, sym, ap, length, arith}
+use Rattle.std.proofs.Common.{arith}
 use Rattle.fb_build.proofs.tail.WhatIsLaidStaysLaid.{four_power, then_grows, grown_long}
 use Rattle.fb_build.proofs.taped.ClosedTableIsWhole.{IsClosing, table_closed}
 use Rattle.fb_build.proofs.taped_vtables.close_table.Goals as goal

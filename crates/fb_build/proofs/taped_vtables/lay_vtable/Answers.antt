@@ -1,12 +1,11 @@
-use Rattle.std.proofs.Common.{ℕ, ◌≡◌, ◌<◌, ◌≤◌, ◌+◌, ◌-◌, ◌++◌, ◌∙◌, inl, inr, refl, sym, ap, subst, List, [], ◌∷◌, length}
+use Rattle.std.proofs.Common.{ℕ, ◌≡◌, ◌<◌, ◌≤◌, ◌+◌, ◌-◌, ◌++◌, ◌∙◌, inl, inr, refl, ap, subst, [], ◌∷◌, length}
 use Rattle.std.proofs.Common.{slice_get, slice_index, Some, arith}
 use Rattle.std.proofs.lemmas.Grind.{get_or_default_zero}
 use Rattle.std.proofs.Common.{nat_lt, true, false}
 use Rattle.std.proofs.lemmas.Bool.{lt-ltb}
 use Rattle.std.proofs.lemmas.Bool.Decides.{nat_tests}
 use Rattle.byteorder.specs.Endian.{little_bytes}
-use Rattle.fb_value.specs.Num.{Bytes}
-use Rattle.fb_build.specs.NumberedVtables.{come, AreLaidInTurn, IsVtableLaid}
+use Rattle.fb_build.specs.NumberedVtables.{come, IsVtableLaid}
 use Rattle.fb_build.proofs.tail.WhatIsLaidStaysLaid.{grown_long}
 use Rattle.fb_build.proofs.taped.VtablesComeInTurn.{key_come, come_more}
 use Rattle.fb_build.proofs.vtables.VtableIsLaidOnce.{last_key, last_place, new_stands, new_way, old_way, shared_grown}
