@@ -44,3 +44,4 @@ pub use laws::{
     zero_is_computed, zero_outside,
 };
 pub use plans::Plan;
+pub use taped_buffers::tape_buffer;
