@@ -33,8 +33,8 @@ use Rattle.fb_build.proofs.fields.SlotStoresItsEntry.{same_some}
 use Rattle.fb_build.proofs.tables.TableFitsItsRoom.{fields_narrow, stored_low}
 use Rattle.fb_build.proofs.tail.WhatIsLaidStaysLaid.{then_grows, grown_long, lower}
 use Rattle.fb_build.proofs.taped.OnePartMoreWaits.{IsLaidNow}
-use Rattle.fb_build.proofs.taped.PartsOfATable.{AllFit, spread, spread_long, spread_state, spread_parts, spread_references}
-use Rattle.fb_build.proofs.taped.PartsOfATable.{refer_count, refer_ends, refers_at, apart_many, noted_references as in_order}
+use Rattle.fb_build.proofs.taped.PartsOfATable.{AllFit, spread, spread_long, spread_state, spread_parts, refer_count, apart_many}
+use Rattle.fb_build.proofs.taped.ReferencesComeInOrder.{spread_references, refer_ends, refers_at, noted_references as in_order}
 use Rattle.fb_build.proofs.taped.StepsOfALaying.{taken_lie, taken_within, stepped, least_most}
 use Rattle.fb_build.proofs.taped.VtableOfTheEnds.{slots_used, vtable_told_by}
 use Rattle.fb_build.proofs.vtables.ClosedTableHasItsValue.{vtable_long}
