@@ -1,5 +1,6 @@
 -- The fields of a table, as a tape notes them, before and once they are laid.
-use Rattle.std.specs.Prelude.{ℕ, ◌+◌, ◌≡◌, ◌≤◌, ◌<◌, ◌++◌, max, false, true, List, ◌∷◌, length, take, slice_index, Option}
+use Rattle.std.specs.Prelude.{ℕ, ◌+◌, ◌≡◌, ◌≤◌, ◌<◌, ◌++◌, max, false, true, List, ◌∷◌, length, take, slice_index}
+use Rattle.std.specs.Prelude.{Option}
 use Rattle.std.specs.List.{sum_by}
 use Rattle.fb_layout.specs.Laid.{LaidSchema, Slot}
 use Rattle.fb_value.specs.Datum.{Datum}

@@ -36,7 +36,8 @@ pub record MayLayOp (L : LaidSchema) (vtables : List Bytes) (op : Op) (notes : L
   pub own_room : ℕ
   pub before : List NamedPart
   pub behind : List NamedPart
-  pub may : MayStep L vtables op own_room before (op_vtable vtables op) notes bytes behind a.waiting.items a.places.items
+  pub may : MayStep L vtables op own_room before (op_vtable vtables op) notes bytes behind a.waiting.items
+      a.places.items
       a.tail
 
 -- of a whole tape, in front of nothing
@@ -52,7 +53,8 @@ buffer_end L t = header_end L.schema.identifier (tape_most t) (tape_end t)
 
 -- ---- the operations that are left
 
--- The parts that wait are those that the operations so far leave, and the parts qs will wait behind the others, for which
+-- The parts that wait are those that the operations so far leave, and the parts qs will wait behind the others, for
+-- which
 -- the tail has room.
 pub record IsLaidUpTo (L : LaidSchema) (vtables : List Bytes) (ops : List Op) (notes : List NotedField) (bytes : Bytes)
     (qs : List NamedPart) (a : Laying) : Type 0 where

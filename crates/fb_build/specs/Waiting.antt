@@ -19,7 +19,8 @@ use Rattle.fb_build.specs.Tails.{TailSeen, LaidInTail}
 abbrev pub all_of : List NamedPart → List (Option NamedPart)
 all_of ps = map (λ x. Some x) ps
 
--- Each part lies at its end-count, the tail is made of all of them and of the vtables that have come, and is padded to no
+-- Each part lies at its end-count, the tail is made of all of them and of the vtables that have come, and is padded
+-- to no
 -- more than the layout's greatest alignment.
 pub record AreWaiting (L : LaidSchema) (vtables : List Bytes) (ps : List NamedPart) (ends places : List ℕ)
     (o : TailSeen) : Type 0 where
@@ -49,7 +50,8 @@ pub record MayStep (L : LaidSchema) (vtables : List Bytes) (op : Op) (room : ℕ
   pub enough : op_end vtables (length places) op notes (length o.bytes) ≤ length o.bytes + o.free
 
 -- some operation
-pub record SomeStep (op : Op) (vtable : Bytes) (notes : List NotedField) (bytes : Bytes) (ends places : List ℕ) (o : TailSeen)
+pub record SomeStep (op : Op) (vtable : Bytes) (notes : List NotedField) (bytes : Bytes) (ends places : List ℕ) (o
+    : TailSeen)
     : Type 0 where
   pub layout : LaidSchema
   pub vtables : List Bytes

@@ -1,9 +1,11 @@
 -- The parts that wait for a table, and its slots.
 use Rattle.std.proofs.Common.{◌≡◌, ℕ, zero, suc, ◌⊎◌, inl, inr, ◌++◌, Bool, true, false, if◌then◌else◌}
-use Rattle.std.proofs.Common.{List, [], ◌∷◌, length, drop, slice_get, slice_index, Option, None, Some, refl, ap, sym, ◌∙◌, subst, arith}
+use Rattle.std.proofs.Common.{List, [], ◌∷◌, length, drop, slice_get, slice_index, Option, None, Some, refl, ap}
+use Rattle.std.proofs.Common.{sym, ◌∙◌, subst, arith}
 use Rattle.fb_layout.specs.Laid.{LaidSchema, Slot, StoredShape, scalar_kind, struct_kind, table_kind, union_kind}
 use Rattle.fb_layout.specs.Laid.{code_kind, text_kind, one_of, vector_of}
-use Rattle.fb_value.specs.Datum.{Datum, a_number, a_text, a_vector, a_struct, a_table, a_member, an_unknown, SlotEntries}
+use Rattle.fb_value.specs.Datum.{Datum, a_number, a_text, a_vector, a_struct, a_table, a_member, an_unknown}
+use Rattle.fb_value.specs.Datum.{SlotEntries}
 use Rattle.fb_value.specs.Num.{Bytes}
 use Rattle.fb_value.specs.Places.{Target, part_place, table_part, member_part, text_part, vector_part}
 use Rattle.fb_tape.specs.NamedParts.{NamedPart, apart_of, entry_apart, entries_apart}
@@ -223,12 +225,14 @@ spread_state L m s (g ∷ fs) (x ∷ xs) es fit lie k f z fk zk =
           let rest = spread_state L m s fs xs es (λ j h w hj wj. fit (suc j) h w hj wj)
           (λ j p at. lie j p (rw none at)) in
           rw out (by_slot k f z (0 ∷ spread fs (stored_in fs xs) es) fk zk
-          (entry_there L m s g x y 0 (no_part none out named leads) (λ _. refl) (λ p is. let bad : None ≡ Some p = sym none ∙ is in cc)) rest))
+          (entry_there L m s g x y 0 (no_part none out named leads) (λ _. refl) (λ p is. let bad : None ≡ Some p =
+          sym none ∙ is in cc)) rest))
       | one_part part d X is refer has leads stored lies same ↦ (
           let rest = spread_state L m s fs xs (drop 1 es) (λ j h w hj wj. fit (suc j) h w hj wj)
           (λ j p at. rw (first_dropped es j) (lie (suc j) p (rw is at))) in
           rw refer (by_slot k f z (slice_index es 0 ∷ spread fs (stored_in fs xs) (drop 1 es)) fk zk
-          (entry_there L m s g x y (slice_index es 0) (one_part part d X is refer has leads stored lies same) (λ out. absurd (no_both (refers g y) refer out))
+          (entry_there L m s g x y (slice_index es 0) (one_part part d X is refer has leads stored lies same) (λ
+          out. absurd (no_both (refers g y) refer out))
           (λ p at. lie 0 p (rw at refl))) rest))
     ]
   where

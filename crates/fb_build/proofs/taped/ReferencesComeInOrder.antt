@@ -1,6 +1,7 @@
 -- The references of a table come in the order of its slots while its fields are laid.
 use Rattle.std.proofs.Common.{◌≡◌, ℕ, suc, ◌+◌, ◌++◌, Bool, true, false, if◌then◌else◌}
-use Rattle.std.proofs.Common.{List, [], ◌∷◌, length, drop, slice_get, slice_index, Option, None, Some, refl, ap, sym, ◌∙◌, subst, arith}
+use Rattle.std.proofs.Common.{List, [], ◌∷◌, length, drop, slice_get, slice_index, Option, None, Some, refl, ap}
+use Rattle.std.proofs.Common.{sym, ◌∙◌, subst, arith}
 use Rattle.std.proofs.Common.{append-nil}
 use Rattle.std.proofs.lemmas.Bool.{and_parts, eqb-true}
 use Rattle.fb_layout.specs.Laid.{LaidSchema, Slot}
@@ -64,7 +65,8 @@ ends_join fs zs targets (k ∷ ks) js =
   where
     by_test : (t : Bool)
         → refer_ends fs zs targets (ks ++ js) ≡ refer_ends fs zs targets ks ++ refer_ends fs zs targets js
-        → (if t then slice_index targets k ∷ refer_ends fs zs targets (ks ++ js) else refer_ends fs zs targets (ks ++ js))
+        → (if t then slice_index targets k ∷ refer_ends fs zs targets (ks ++ js) else refer_ends fs zs targets (ks
+        ++ js))
         ≡ (if t then slice_index targets k ∷ refer_ends fs zs targets ks else refer_ends fs zs targets ks)
         ++ refer_ends fs zs targets js
     by_test true rest = ap (λ es. slice_index targets k ∷ es) rest
@@ -161,7 +163,8 @@ module _ (L : LaidSchema) (fs : List Slot) (zs : List (Option Datum)) (targets :
           let align = refers_aligned L g y is in
           let stored = refers_stored L g y fits is in
           let four : is_at L 4 g y ≡ true = rw (stored, align) refl in
-          let next = rest first.1 first.3 (λ i. moved (first.0 ∷ spread gs ys first.1) i (rw first.2 at (at (suc i)))) in
+          let next = rest first.1 first.3 (λ i. moved (first.0 ∷ spread gs ys first.1) i (rw first.2 at (at (suc
+          i)))) in
           let here : k + 0 ≡ k = omega arith in
           let own : slice_index targets k ≡ first.0 =
           sym (subst (λ (i : ℕ). first.0 ≡ slice_index targets i) here (rw first.2 at (at 0))) in

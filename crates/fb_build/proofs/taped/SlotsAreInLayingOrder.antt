@@ -137,7 +137,8 @@ module _ (L : LaidSchema) (a : ℕ) (fs : List Slot) (xs : List (Option Datum)) 
           (passed_by j g y fj xj out) next
 
   from_slot : (j : ℕ) (gs : List Slot) (ys : List (Option Datum)) → ((i : ℕ) → slice_get gs i ≡ slice_get fs (j + i))
-      → ((i : ℕ) → slice_get ys i ≡ slice_get xs (j + i)) → AreNext L fs xs (before L a j) (slots_at L a j gs ys ++ rest)
+      → ((i : ℕ) → slice_get ys i ≡ slice_get xs (j + i)) → AreNext L fs xs (before L a j) (slots_at L a j gs ys ++
+      rest)
   unfolding slots_at
   from_slot j [] ys fields entries = none_left j (λ k f x fk xk. elim (lower j k) [
     | inr less ↦ less

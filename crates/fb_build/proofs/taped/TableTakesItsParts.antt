@@ -33,8 +33,10 @@ use Rattle.fb_build.proofs.fields.SlotStoresItsEntry.{same_some}
 use Rattle.fb_build.proofs.tables.TableFitsItsRoom.{fields_narrow, stored_low}
 use Rattle.fb_build.proofs.tail.WhatIsLaidStaysLaid.{then_grows, grown_long, lower}
 use Rattle.fb_build.proofs.taped.OnePartMoreWaits.{IsLaidNow}
-use Rattle.fb_build.proofs.taped.PartsOfATable.{AllFit, spread, spread_long, spread_state, spread_parts, refer_count, apart_many}
-use Rattle.fb_build.proofs.taped.ReferencesComeInOrder.{spread_references, refer_ends, refers_at, noted_references as in_order}
+use Rattle.fb_build.proofs.taped.PartsOfATable.{AllFit, spread, spread_long, spread_state, spread_parts}
+use Rattle.fb_build.proofs.taped.PartsOfATable.{refer_count, apart_many}
+use Rattle.fb_build.proofs.taped.ReferencesComeInOrder.{spread_references, refer_ends, refers_at}
+use Rattle.fb_build.proofs.taped.ReferencesComeInOrder.{noted_references as in_order}
 use Rattle.fb_build.proofs.taped.StepsOfALaying.{taken_lie, taken_within, stepped, least_most}
 use Rattle.fb_build.proofs.taped.VtableOfTheEnds.{slots_used, vtable_told_by}
 use Rattle.fb_build.proofs.vtables.ClosedTableHasItsValue.{vtable_long}
@@ -68,7 +70,8 @@ notes_many L fs zs targets (k ∷ ks) (Inline n ∷ notes) bytes noted =
 
 -- ---- the places of vtables
 
-pub places_some : (known : List Bytes) (places : List ℕ) (s : Bytes) → Rattle.fb_vtables.specs.Vtables.AreLaid known places s
+pub places_some : (known : List Bytes) (places : List ℕ) (s : Bytes) → Rattle.fb_vtables.specs.Vtables.AreLaid
+    known places s
     → (i : ℕ) → i < length places → 0 < slice_index places i
 places_some known places s h i low =
     let vt = got known i (omega (arith, low, h.each)) in (h.stand i vt.0 vt.1).0
@@ -97,7 +100,8 @@ vtable_short L vtables t entries start targets places number vt o w =
     let told = vtable_told_by L fs xs start place o.most o.bytes w.laid.ends refl laid.slots.state laid.slots.counted
     w.known.known.long laid.slots.each (λ k. omega (arith, under k, laid.size)) in
     let long : length vt ≡ 4 + 2 * slots_used L fs xs =
-    ap length (w.vtable_is ∙ told.is) ∙ vtable_long place (table_size L fs xs) (slots_used L fs xs) w.laid.ends told.within in
+    ap length (w.vtable_is ∙ told.is) ∙ vtable_long place (table_size L fs xs) (slots_used L fs xs) w.laid.ends
+    told.within in
     omega (arith, long, told.within, laid.slots.each)
 
 -- ---- a table is laid: from a its fields, to o, and what is before them, to b
@@ -133,11 +137,13 @@ module _ (L : LaidSchema) (vtables : List Bytes) (fields align number room : ℕ
       let n = refer_count fs xs in
       let some : length (replicate {A = ℕ} n 0) ≡ n = length-replicate n 0 in
       let order = spread_references L fs xs (replicate n 0) fit known.known.long some in
-      let notes_long = notes_many L fs xs (spread fs xs (replicate n 0)) (laying_order L fs xs) notes bytes m.lays.noted in
+      let notes_long = notes_many L fs xs (spread fs xs (replicate n 0)) (laying_order L fs xs) notes bytes
+      m.lays.noted in
       omega (arith, many, some, ap length order, notes_long)
 
   within : length (entries_apart fs m.lays.entries) ≤ length ends
-  within = taken_within L vtables ps m.lays.others (entries_apart fs m.lays.entries) ends places a m.waiting m.lays.takes
+  within = taken_within L vtables ps m.lays.others (entries_apart fs m.lays.entries) ends places a m.waiting
+      m.lays.takes
 
   pub references_within : notes_references notes ≤ length ends
   references_within = omega (arith, within, taken_many)
@@ -209,7 +215,8 @@ module _ (L : LaidSchema) (vtables : List Bytes) (fields align number room : ℕ
         let low = stored_low L fs xs (λ k f at. inline_low L f.shape (known.known.low k f at)) in
         let front2 : FieldsFront a o start (max 4 (stored_align L fs xs)) = rw m.lays.align_is at front in
         let now : IsLaidNow L vtables (entries_apart fs m.lays.entries)
-        (record { target = table_part t; value = a_table t (entries_in m.lays.entries) }) es places after e a b = record {
+        (record { target = table_part t; value = a_table t (entries_in m.lays.entries) }) es places after e a b =
+        record {
           grows = grows;
           shared = c.shared;
           four = through 4 a.most b.most m.waiting.four grows.multiple;
@@ -220,5 +227,6 @@ module _ (L : LaidSchema) (vtables : List Bytes) (fields align number room : ℕ
           whole = c.leads ∙ ap (λ zs. record { target = table_part t; at = length b.bytes - e } ∷ zs)
               (spread_parts L b.bytes fs m.lays.entries es fit);
         } in
-        rw m.lays.leaves (stepped L vtables ps m.lays.others (entries_apart fs m.lays.entries) _ (notes_references notes)
+        rw m.lays.leaves (stepped L vtables ps m.lays.others (entries_apart fs m.lays.entries) _ (notes_references
+        notes)
         ends places after e a b m.waiting m.lays.takes taken_many now)

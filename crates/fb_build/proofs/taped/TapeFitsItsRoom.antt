@@ -1,5 +1,6 @@
 -- What a tape takes once it is laid is at most the sum of its rooms.
-use Rattle.std.proofs.Common.{◌≡◌, ℕ, zero, suc, ◌+◌, ◌-◌, ◌*◌, ◌%◌, ◌≤◌, ◌<◌, ◌++◌, Bool, true, false, nat_lt, if◌then◌else◌}
+use Rattle.std.proofs.Common.{◌≡◌, ℕ, zero, suc, ◌+◌, ◌-◌, ◌*◌, ◌%◌, ◌≤◌, ◌<◌, ◌++◌, Bool, true, false, nat_lt}
+use Rattle.std.proofs.Common.{if◌then◌else◌}
 use Rattle.std.proofs.Common.{List, [], ◌∷◌, length, take, drop, flat_map, slice_get, Option, Some, refl, ap, sym, ◌∙◌}
 use Rattle.std.proofs.Common.{arith, length-append}
 use Rattle.std.proofs.lemmas.List.Sums.{sum_by-cons}
@@ -60,7 +61,8 @@ sizes_left L fs zs laid (k ∷ ks) (note ∷ notes) bytes next noted =
     let notes_is : noted.notes_behind ≡ notes = (let both = noted.notes_are in cc) in
     let is : IsNoted L f d note noted.own = rw note_is at noted.noted in
     let field : next.there.field ≡ f = same_some (slice_get fs k) next.there.field f next.there.is noted.is in
-    let entry : next.there.entry ≡ Some d = same_some (slice_get zs k) next.there.entry (Some d) next.there.has noted.has in
+    let entry : next.there.entry ≡ Some d = same_some (slice_get zs k) next.there.entry (Some d) next.there.has
+    noted.has in
     let align : next.align ≡ inline_align L f.shape =
     sym next.there.at ∙ ap (λ (h : Slot). inline_align L h.shape) field in
     let named : IsNamed L laid fs zs k f (Some d) =
@@ -76,7 +78,8 @@ sizes_left L fs zs laid (k ∷ ks) (note ∷ notes) bytes next noted =
 pub sizes_noted : (L : LaidSchema) (fs : List Slot) (zs : List (Option Datum)) (notes : List NotedField) (bytes : Bytes)
     → AreKnown L fs zs → AreNoted L fs zs (laying_order L fs zs) notes bytes → notes_size notes ≡ fields_size L fs zs
 sizes_noted L fs zs notes bytes known noted =
-    let all = sizes_left L fs zs (λ k f. false) (laying_order L fs zs) notes bytes (slots_ordered L fs zs known) noted in
+    let all = sizes_left L fs zs (λ k f. false) (laying_order L fs zs) notes bytes (slots_ordered L fs zs known)
+    noted in
     omega (arith, all, size_none L 0 fs zs)
 
 -- ---- its vtable
@@ -85,7 +88,8 @@ trimmed_long : (os : List ℕ) → length (trimmed os) ≤ length os
 trimmed_long [] = omega arith
 trimmed_long (zero ∷ os) = by_rest (trimmed os) refl (trimmed_long os)
   where
-    by_rest : (ts : List ℕ) → trimmed os ≡ ts → length (trimmed os) ≤ length os → length (trimmed (0 ∷ os)) ≤ suc (length os)
+    by_rest : (ts : List ℕ) → trimmed os ≡ ts → length (trimmed os) ≤ length os
+        → length (trimmed (0 ∷ os)) ≤ suc (length os)
     by_rest [] is low = rw is (omega arith)
     by_rest (q ∷ qs) is low = let small = rw is at low in rw is (omega (arith, small))
 trimmed_long (suc n ∷ os) = omega (arith, trimmed_long os)
@@ -104,7 +108,8 @@ numbers_long (n ∷ ns) =
     let two = length-bytes_low_first 0 2 n in
     omega (arith, parts, two, numbers_long ns)
 
-vtable_few : (L : LaidSchema) (fs : List Slot) (zs : List (Option Datum)) → length (vtable_of L fs zs) ≤ 4 + 2 * length fs
+vtable_few : (L : LaidSchema) (fs : List Slot) (zs : List (Option Datum)) → length (vtable_of L fs zs) ≤ 4 + 2 *
+    length fs
 vtable_few L fs zs =
     let os = offsets_from L fs zs 0 fs zs in
     let numbers = flat_map (little_bytes 2) (trimmed os) in

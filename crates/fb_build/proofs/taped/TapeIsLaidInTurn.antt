@@ -168,7 +168,8 @@ module _ (L : LaidSchema) (vtables : List Bytes) (op : Op) (ops : List Op) (note
   })
 
   pub op_laid : IsWellMade L → AreDifferent vtables → (b : Laying) → length b.tail.bytes
-      ≡ op_end vtables (length a.places.items) op (take (op_fields op) notes) (length a.tail.bytes) → Steps op (op_vtable vtables op)
+      ≡ op_end vtables (length a.places.items) op (take (op_fields op) notes) (length a.tail.bytes) → Steps op
+      (op_vtable vtables op)
       (take (op_fields op) notes) (take (op_bytes op (take (op_fields op) notes)) bytes) a b
       → IsLaidUpTo L vtables ops (drop (op_fields op) notes)
       (drop (op_bytes op (take (op_fields op) notes)) bytes) qs b

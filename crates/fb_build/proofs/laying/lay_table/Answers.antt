@@ -63,7 +63,8 @@ close_table-end-requires-clause-room c =
 pub close_table-end-requires-clause-short : goal.close_table-end-requires-clause-short
 close_table-end-requires-clause-short c =
     short_vtable _ _ _ _ _ _ _ _ _ _ _ _ _ _ c.requires.ready.may _ _
-    (c.lay_fields-start.ensures.laid _ _ _ _ (given c)) c.lay_fields-start.ensures.front c.lay_fields-start.ensures.grows
+    (c.lay_fields-start.ensures.laid _ _ _ _ (given c)) c.lay_fields-start.ensures.front
+    c.lay_fields-start.ensures.grows
 
 pub close_table-end-requires-clause-there : goal.close_table-end-requires-clause-there
 close_table-end-requires-clause-there c i low =

@@ -1,4 +1,5 @@
-use Rattle.std.proofs.Common.{◌≡◌, ◌∙◌, ℕ, List, [], ◌∷◌, Option, length, slice_index, slice_index_or, refl, subst, arith}
+use Rattle.std.proofs.Common.{◌≡◌, ◌∙◌, ℕ, List, [], ◌∷◌, Option, length, slice_index, slice_index_or, refl, subst}
+use Rattle.std.proofs.Common.{arith}
 use Rattle.std.proofs.Common.{append-nil}
 use Rattle.std.proofs.lemmas.Grind.{get_or_default_zero}
 use Rattle.fb_layout.specs.Laid.{LaidSchema}

@@ -72,7 +72,8 @@ lay_note-requires c =
     record {
       ready = rw (all_left c.args.bytes.now c.loop-i.at, all_left c.args.ends.now c.loop-i.next)
           (note_may w.layout w.slots w.stored w.targets c.args.align c.fit.result c.count-start.result _ _ _
-          c.args.out.now c.fit.new.self c.loop-i.out w.are c.fit.ensures.free (zeros_are _ _ _ c.fit.ensures.exact) c.fit.ensures.wide
+          c.args.out.now c.fit.new.self c.loop-i.out w.are c.fit.ensures.free (zeros_are _ _ _ c.fit.ensures.exact)
+          c.fit.ensures.wide
           c.count-start.ensures.exact inv.grows inv.most _ _ _ _ so_far);
     }
 
@@ -109,7 +110,8 @@ loop-i-preserved c =
           (note_laid L fs xs is.known targets c.count-start.result a b note (drop (i + 1) notes)
           (drop c.loop-i.at bytes) (drop c.loop-i.next ends) c.lay_note.ensures.grows c.lay_note.ensures.free
           (fields_wide L fs xs targets c.args.align c.fit.result c.count-start.result _ _ _ c.args.out.now
-          c.fit.new.self b is c.fit.ensures.free (zeros_are _ _ _ c.fit.ensures.exact) c.fit.ensures.wide c.count-start.ensures.exact
+          c.fit.new.self b is c.fit.ensures.free (zeros_are _ _ _ c.fit.ensures.exact) c.fit.ensures.wide
+          c.count-start.ensures.exact
           grows most) lays (rw cons at (inv.laid L fs xs targets is))));
       long = (let grown = grown_long a b c.lay_note.ensures.grows in
           let step : notes_size (drop i notes) ≡ noted_size note + notes_size (drop (i + 1) notes) =
@@ -154,7 +156,8 @@ returns-clause-size c L fs xs targets is =
     let none = none_left c.args.notes.now c.loop-i.i c.loop-i-test.false in
     let h = rw none at (inv.laid L fs xs targets is) in
     let last = none_noted L fs xs h.left _ h.noted in
-    let size = size_laid L c.loop-i.out c.count-start.result (first_link h.left) fs xs targets h.slot_ends h.upto last in
+    let size = size_laid L c.loop-i.out c.count-start.result (first_link h.left) fs xs targets h.slot_ends h.upto
+    last in
     let long = rw none at inv.long in
     omega (arith, size, long)
 
