@@ -8,4 +8,7 @@ pub mod ClosedTableIsWhole
 pub mod OnePartMoreWaits
 pub mod StepsOfALaying
 pub mod PartsOfATable
+pub mod ReferencesComeInOrder
 pub mod TableTakesItsParts
+pub mod TapeIsLaidInTurn
+pub mod TapeFitsItsRoom

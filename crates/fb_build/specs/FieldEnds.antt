@@ -1,10 +1,9 @@
 -- Where each stored field of a table stands.
 -- From the FlatBuffers documentation, "FlatBuffer Internals": Tables. In which order fields stand is this project's
 -- own: from the table's end on by descending alignment, those of one alignment in the order of their slots.
-use Rattle.std.specs.Prelude.{ℕ, suc, ◌+◌, ◌≡◌, ◌&&◌, Bool, true, List, take, Option}
+use Rattle.std.specs.Prelude.{ℕ, ◌+◌, ◌≡◌, ◌&&◌, Bool, true, List, Option}
 use Rattle.std.specs.Prelude.{Some, slice_get, slice_index}
 use Rattle.fb_layout.specs.Laid.{LaidSchema, Slot}
-use Rattle.fb_layout.specs.Widths.{inline_align}
 use Rattle.fb_value.specs.Datum.{Datum}
 pub use Rattle.fb_tape.specs.Vtables.{stored_end}
 use Rattle.fb_build.specs.Fields.{is_stored}

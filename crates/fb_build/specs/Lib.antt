@@ -34,6 +34,7 @@ pub mod Noted
 pub mod Referred
 pub mod NotesLaid
 pub mod NumberedVtables
+pub mod OpLengths
 pub mod Waiting
 pub mod Steps
 pub mod TapeLaid

@@ -1,5 +1,6 @@
 -- The fields of a table, as a tape notes them, before and once they are laid.
-use Rattle.std.specs.Prelude.{ℕ, ◌+◌, ◌≡◌, ◌≤◌, ◌<◌, ◌++◌, max, false, true, List, [], ◌∷◌, length, take, slice_index, Option}
+use Rattle.std.specs.Prelude.{ℕ, ◌+◌, ◌≡◌, ◌≤◌, ◌<◌, ◌++◌, max, false, true, List, ◌∷◌, length, take, slice_index}
+use Rattle.std.specs.Prelude.{Option}
 use Rattle.std.specs.List.{sum_by}
 use Rattle.fb_layout.specs.Laid.{LaidSchema, Slot}
 use Rattle.fb_value.specs.Datum.{Datum}
@@ -9,8 +10,9 @@ use Rattle.fb_tape.specs.LayingOrder.{laying_order}
 use Rattle.fb_tape.specs.NotedFields.{AreNoted}
 use Rattle.fb_tape.specs.declared.ops.NotedField.{NotedField}
 use Rattle.fb_tape.specs.declared.ops.NotedField.TheVariants.{Reference, Inline}
-use Rattle.fb_build.specs.Fields.{AreKnown, EntriesEnd, stored_align, stored_room}
+use Rattle.fb_build.specs.Fields.{AreKnown, EntriesEnd, stored_align, fields_size}
 use Rattle.fb_build.specs.FieldsLaid.{AreFieldsLaid}
+use Rattle.fb_build.specs.Lengths.{zeros_to}
 use Rattle.fb_build.specs.Made.{LeadsEnd, FieldsLead}
 use Rattle.fb_build.specs.Tails.{TailSeen, LaidInTail}
 
@@ -79,7 +81,7 @@ pub record AreToBeLaid (L : LaidSchema) (fs : List Slot) (xs : List (Option Datu
   pub align_is : align ≡ max 4 (stored_align L fs xs)
   pub each : length targets ≡ length fs
   pub state : EntriesEnd L 0 o.most o.bytes (λ k f. false) fs xs targets
-  pub room : stored_room L fs xs ≤ o.free
+  pub room : zeros_to align (length o.bytes) + fields_size L fs xs ≤ o.free
 
 -- fields of some table
 pub record SomeToBeLaid (align : ℕ) (notes : List NotedField) (bytes : Bytes) (ends : List ℕ) (o : TailSeen)

@@ -1,5 +1,6 @@
 -- Vtables that are laid by their numbers: those that have come are the first ones, each at its place.
-use Rattle.std.specs.Prelude.{ℕ, ◌+◌, ◌-◌, ◌%◌, ◌≡◌, ◌≤◌, ◌⊎◌, max, List, [], ◌∷◌, length, take, Option, Some, slice_get}
+use Rattle.std.specs.Prelude.{ℕ, ◌+◌, ◌-◌, ◌%◌, ◌≡◌, ◌≤◌, ◌⊎◌, max, List, [], ◌∷◌, length, take, Option, Some}
+use Rattle.std.specs.Prelude.{slice_get}
 use Rattle.std.specs.Prelude.{slice_index}
 use Rattle.fb_layout.specs.Laid.{LaidSchema, slots_of}
 use Rattle.fb_value.specs.Datum.{Datum, a_table}

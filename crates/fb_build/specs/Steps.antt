@@ -15,14 +15,11 @@ use Rattle.fb_build.specs.declared.laying.Laying.{Laying}
 abbrev pub MayLayNext : Op → Bytes → List NotedField → Bytes → Laying → Type 0
 MayLayNext op vtable notes bytes a = SomeStep op vtable notes bytes a.waiting.items a.places.items a.tail
 
--- What waited before tells what waits now; it takes its room at most, and no memory.
+-- What waited before tells what waits now; it takes no memory.
 pub record Steps (op : Op) (vtable : Bytes) (notes : List NotedField) (bytes : Bytes) (a b : Laying) : Type 0 where
   pub waits : (L : LaidSchema) (vtables : List Bytes) (room : ℕ) (ps qs : List NamedPart)
       → MayStep L vtables op room ps vtable notes bytes qs a.waiting.items a.places.items a.tail
       → AreWaiting L vtables qs b.waiting.items b.places.items b.tail
-  pub spent : (L : LaidSchema) (vtables : List Bytes) (room : ℕ) (ps qs : List NamedPart)
-      → MayStep L vtables op room ps vtable notes bytes qs a.waiting.items a.places.items a.tail
-      → a.tail.free ≤ b.tail.free + room
   pub come : length b.places.items ≡ known_after (length a.places.items) op
   pub most_waiting : length b.waiting.items ≤ length a.waiting.items + 1
   pub reserved_waiting : vec_capacity b.waiting ≡ vec_capacity a.waiting

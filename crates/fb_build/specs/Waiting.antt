@@ -1,5 +1,5 @@
 -- While a tape is laid: the parts that wait, and what is laid of them.
-use Rattle.std.specs.Prelude.{ℕ, ◌≡◌, ◌≤◌, true, List, length, map, slice_get, slice_index, Option, Some}
+use Rattle.std.specs.Prelude.{ℕ, ◌+◌, ◌≡◌, ◌≤◌, true, List, length, map, slice_get, slice_index, Option, Some}
 use Rattle.fb_layout.specs.Laid.{LaidSchema}
 use Rattle.fb_layout.specs.WellMade.{IsWellMade}
 use Rattle.fb_layout.specs.Widths.{greatest}
@@ -13,12 +13,14 @@ use Rattle.fb_tape.specs.declared.ops.Op.TheVariants.{Table}
 use Rattle.fb_vtables.specs.Vtables.{AreDifferent}
 use Rattle.fb_build.specs.Made.{IsMade, ends_parts}
 use Rattle.fb_build.specs.NumberedVtables.{AreLaidInTurn}
+use Rattle.fb_build.specs.OpLengths.{op_end}
 use Rattle.fb_build.specs.Tails.{TailSeen, LaidInTail}
 
 abbrev pub all_of : List NamedPart → List (Option NamedPart)
 all_of ps = map (λ x. Some x) ps
 
--- Each part lies at its end-count, the tail is made of all of them and of the vtables that have come, and is padded to no
+-- Each part lies at its end-count, the tail is made of all of them and of the vtables that have come, and is padded
+-- to no
 -- more than the layout's greatest alignment.
 pub record AreWaiting (L : LaidSchema) (vtables : List Bytes) (ps : List NamedPart) (ends places : List ℕ)
     (o : TailSeen) : Type 0 where
@@ -45,10 +47,11 @@ pub record MayStep (L : LaidSchema) (vtables : List Bytes) (op : Op) (room : ℕ
   pub turn : IsInTurn (length places) op
   pub has : HasVtable vtables op vtable
   pub lays : Lays L vtables op room ps notes bytes qs
-  pub enough : room ≤ o.free
+  pub enough : op_end vtables (length places) op notes (length o.bytes) ≤ length o.bytes + o.free
 
 -- some operation
-pub record SomeStep (op : Op) (vtable : Bytes) (notes : List NotedField) (bytes : Bytes) (ends places : List ℕ) (o : TailSeen)
+pub record SomeStep (op : Op) (vtable : Bytes) (notes : List NotedField) (bytes : Bytes) (ends places : List ℕ) (o
+    : TailSeen)
     : Type 0 where
   pub layout : LaidSchema
   pub vtables : List Bytes

@@ -1,5 +1,5 @@
 //! Lays the operations of a tape, one after the other.
-ghost use Rattle.std.specs.Prelude.{ℕ, List, [], ◌∷◌, ◌≡◌, ◌≤◌, ◌<◌, ◌+◌, ◌-◌, ◌++◌, ◌^◌, length, take};
+ghost use Rattle.std.specs.Prelude.{ℕ, List, [], ◌∷◌, ◌≡◌, ◌≤◌, ◌<◌, ◌+◌, ◌-◌, ◌++◌, ◌^◌, length, take, max};
 ghost use Rattle.std.specs.Vec.{vec_capacity};
 ghost use Rattle.fb_tape.specs.declared.ops.Op.TheVariants.{Data, References, Table};
 ghost use Rattle.fb_build.specs.Lengths.{data_end, references_end, fields_end, table_end};
@@ -7,10 +7,9 @@ ghost use Rattle.fb_build.specs.NotesLaid.{notes_size};
 ghost use Rattle.fb_build.specs.Steps.{MayLayNext, Steps};
 
 use crate::tail::Tail;
-use crate::taped_data;
 use crate::taped_fields::{lay_fields, references_in};
-use crate::taped_references;
 use crate::taped_vtables::close_table;
+use crate::{taped_data, taped_references};
 use fb_tape::NotedField;
 
 /// What is laid of a tape: the tail, the end-counts of the parts that wait, and those of the vtables that have come.
@@ -42,6 +41,7 @@ pub(crate) fn lay_data(laying: &mut Laying, align: usize, bytes: &[u8])
     ensures laid { Steps (Data align (length bytes.now)) [] [] bytes.now laying.old laying.new }
     ensures long { length laying.new.tail.bytes
         ≡ data_end align (length bytes.now) (length laying.old.tail.bytes) }
+    ensures most { laying.new.tail.most ≡ max laying.old.tail.most align }
 {
     taped_data::lay_data(&mut laying.tail, align, bytes);
     let end = laying.tail.count();
@@ -54,6 +54,7 @@ pub(crate) fn lay_references(laying: &mut Laying, count: usize)
     requires reserved { length laying.old.waiting.items < vec_capacity laying.old.waiting }
     ensures laid { Steps (References count) [] [] [] laying.old laying.new }
     ensures long { length laying.new.tail.bytes ≡ references_end count (length laying.old.tail.bytes) }
+    ensures most { laying.new.tail.most ≡ max laying.old.tail.most 4 }
 {
     let first = laying.waiting.len() - count;
     taped_references::lay_references(&mut laying.tail, &laying.waiting[first..]);
@@ -78,6 +79,7 @@ pub(crate) fn lay_table(
     ensures long { length laying.new.tail.bytes
         ≡ table_end (length vtable.now) number (length laying.old.places.items)
         (fields_end align (notes_size notes.now) (length laying.old.tail.bytes)) }
+    ensures most { laying.new.tail.most ≡ max (max laying.old.tail.most align) 4 }
 {
     let taken = references_in(notes);
     let first = laying.waiting.len() - taken;

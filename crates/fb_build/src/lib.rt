@@ -23,8 +23,10 @@ mod roots;
 mod structs;
 mod tables;
 mod tail;
+mod taped_buffers;
 mod taped_data;
 mod taped_fields;
+mod taped_lengths;
 mod taped_ops;
 mod taped_references;
 mod taped_vtables;
@@ -43,3 +45,4 @@ pub use laws::{
     zero_is_computed, zero_outside,
 };
 pub use plans::Plan;
+pub use taped_buffers::tape_buffer;

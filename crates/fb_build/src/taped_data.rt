@@ -16,7 +16,8 @@ use crate::tail::Tail;
 pub(crate) fn lay_data(out: &mut Tail, align: usize, bytes: &[u8])
     requires power { IsAlignment align }
     requires counted { 4 ≤ length bytes.now }
-    requires room { length bytes.now + (align - 1) ≤ out.old.free }
+    requires room { data_end align (length bytes.now) (length out.old.bytes)
+        ≤ length out.old.bytes + out.old.free }
     ensures lies { (L : LaidSchema) (part : NamedPart) → IsData L part align bytes.now
         → LaidInTail L out.new.most out.new.bytes (part_place part.target) (length out.new.bytes) part.value }
     ensures adds { (L : LaidSchema) (part : NamedPart) (places : List ℕ) → IsData L part align bytes.now
@@ -24,10 +25,9 @@ pub(crate) fn lay_data(out: &mut Tail, align: usize, bytes: &[u8])
         (parts_in_tail L out.new.bytes part.target (length out.new.bytes) part.value) }
     ensures long { length out.new.bytes ≡ data_end align (length bytes.now) (length out.old.bytes) }
     ensures most { out.new.most ≡ max out.old.most align }
-    ensures spent { out.old.free ≤ out.new.free + (length bytes.now + (align - 1)) }
     ensures grows { Grows out.old out.new }
 {
     let _laid = out.count(); // its contract: what is laid and what is free are short
-    out.pad(align, bytes.len() - 4);
+    out.fit(align, bytes.len() - 4);
     out.lay(bytes);
 }

@@ -38,7 +38,8 @@ fn lay_elements(out: &mut Tail, ends: &[u32])
 /// Lays a vector of references to what was laid at some end-counts.
 pub(crate) fn lay_references(out: &mut Tail, ends: &[u32])
     requires inside { (i : ℕ) → slice_index ends.now i ≤ length out.old.bytes }
-    requires room { (4 + length ends.now * 4) + 3 ≤ out.old.free }
+    requires room { references_end (length ends.now) (length out.old.bytes)
+        ≤ length out.old.bytes + out.old.free }
     ensures lies { (L : LaidSchema) (kind : StoredKind) (ds : List Datum) → AreReferred L kind ds out.old ends.now
         → LaidInTail L out.new.most out.new.bytes (part_place (vector_part kind)) (length out.new.bytes)
         (a_vector (parts_in ds)) }
@@ -51,11 +52,10 @@ pub(crate) fn lay_references(out: &mut Tail, ends: &[u32])
         ∷ ends_parts L out.new.bytes (named_items kind ds) ends.now }
     ensures long { length out.new.bytes ≡ references_end (length ends.now) (length out.old.bytes) }
     ensures most { out.new.most ≡ max out.old.most 4 }
-    ensures spent { out.old.free ≤ out.new.free + ((4 + length ends.now * 4) + 3) }
     ensures grows { Grows out.old out.new }
 {
     let _laid = out.count(); // its contract: what is laid and what is free are short
-    out.pad(4, ends.len() * 4);
+    out.fit(4, ends.len() * 4);
     lay_elements(out, ends);
     out.lay_u32(ends.len() as u32);
 }

@@ -4,7 +4,7 @@ ghost use Rattle.std.specs.Vec.{vec_capacity};
 ghost use Rattle.fb_layout.specs.Laid.{LaidSchema};
 ghost use Rattle.fb_value.specs.Datum.{Datum};
 ghost use Rattle.fb_value.specs.Num.{Bytes};
-ghost use Rattle.fb_build.specs.Lengths.{zeros_to, vtable_end, table_end};
+ghost use Rattle.fb_build.specs.Lengths.{vtable_end, table_end};
 ghost use Rattle.fb_build.specs.NumberedVtables.{IsVtableInTurn, IsVtableLaid, IsTableOpen, IsTableClosed};
 ghost use Rattle.fb_build.specs.Tails.{Grows};
 
@@ -14,7 +14,8 @@ use crate::vtables::{lay_new, way_back};
 /// Lays the first number of a table, and its vtable where that is the next to come, and returns how many bytes are laid
 /// up to the table.
 fn lay_vtable(out: &mut Tail, places: &mut Vec<u32>, number: usize, vtable: &[u8]) -> usize
-    requires room { 4 + length vtable.now ≤ out.old.free }
+    requires room { vtable_end (length vtable.now) number (length places.old.items) (length out.old.bytes)
+        ≤ length out.old.bytes + out.old.free }
     requires short { length vtable.now ≤ 65534 }
     requires turn { number ≤ length places.old.items }
     requires reserved { number ≡ length places.old.items → length places.old.items < vec_capacity places.old }
@@ -30,7 +31,6 @@ fn lay_vtable(out: &mut Tail, places: &mut Vec<u32>, number: usize, vtable: &[u8
     ensures capacity { vec_capacity places.new ≡ vec_capacity places.old }
     ensures long { length out.new.bytes
         ≡ vtable_end (length vtable.now) number (length places.old.items) (length out.old.bytes) }
-    ensures spent { out.old.free ≤ out.new.free + (4 + length vtable.now) }
     ensures most { out.new.most ≡ out.old.most }
     ensures grows { Grows out.old out.new }
 {
@@ -52,8 +52,8 @@ pub(crate) fn close_table(
     number: usize,
     vtable: &[u8],
 ) -> usize
-    requires least { 3 ≤ out.old.free }
-    requires room { zeros_to 4 (length out.old.bytes) + (4 + length vtable.now) ≤ out.old.free }
+    requires room { table_end (length vtable.now) number (length places.old.items) (length out.old.bytes)
+        ≤ length out.old.bytes + out.old.free }
     requires short { length vtable.now ≤ 65534 }
     requires turn { number ≤ length places.old.items }
     requires reserved { number ≡ length places.old.items → length places.old.items < vec_capacity places.old }
@@ -67,12 +67,10 @@ pub(crate) fn close_table(
     ensures capacity { vec_capacity places.new ≡ vec_capacity places.old }
     ensures long { length out.new.bytes
         ≡ table_end (length vtable.now) number (length places.old.items) (length out.old.bytes) }
-    ensures spent { out.old.free
-        ≤ out.new.free + (zeros_to 4 (length out.old.bytes) + (4 + length vtable.now)) }
     ensures most { out.new.most ≡ max out.old.most 4 }
     ensures grows { Grows out.old out.new }
 {
     let _laid = out.count(); // its contract: what is laid and what is free are short
-    out.pad(4, 0);
+    out.fit(4, 0);
     lay_vtable(out, places, number, vtable)
 }

@@ -1,20 +1,20 @@
 -- A table is whole once its first number is laid, and its vtable where that is new.
-use Rattle.std.proofs.Common.{◌≡◌, ℕ, ◌+◌, ◌-◌, ◌*◌, ◌%◌, ◌^◌, ◌<◌, ◌≤◌, ◌++◌, ◌⊎◌, inl, inr, true, max, List, [], ◌∷◌, length}
-use Rattle.std.proofs.Common.{replicate, take, slice_get, slice_index, Option, Some, refl, ap, sym, ◌∙◌, subst, arith}
+use Rattle.std.proofs.Common.{◌≡◌, ℕ, ◌+◌, ◌-◌, ◌*◌, ◌%◌, ◌^◌, ◌<◌, ◌≤◌, ◌++◌, inl, inr, true, max, List, [], ◌∷◌}
+use Rattle.std.proofs.Common.{length}
+use Rattle.std.proofs.Common.{replicate, slice_get, slice_index, Option, Some, refl, ap, sym, ◌∙◌, arith}
 use Rattle.std.proofs.lemmas.Bool.{eq-eqb}
 use Rattle.fb_layout.specs.Laid.{LaidSchema, Slot, slots_of}
-use Rattle.fb_layout.specs.Sizes.{ceil4}
 use Rattle.fb_value.specs.Datum.{Datum, a_table}
-use Rattle.fb_value.specs.Num.{Bytes, num, divides}
+use Rattle.fb_value.specs.Num.{Bytes, divides}
 use Rattle.fb_value.specs.Places.{part_place, table_part, vtable}
 use Rattle.fb_value.specs.Tails.{from_end}
 use Rattle.fb_value.specs.View.{entries_in}
 use Rattle.fb_value.proofs.tails.TailsAreKeptInFront.{through}
 use Rattle.fb_tape.specs.Vtables.{table_size}
 use Rattle.fb_build.specs.CoveredTails.{parts_in_tail}
-use Rattle.fb_build.specs.Fields.{stored_in, stored_align, fields_size}
-use Rattle.fb_build.specs.Made.{Adds, FieldsFront, OldVtable, NewVtable, named_fields, ends_parts}
-use Rattle.fb_build.specs.NumberedVtables.{come, AreLaidInTurn, IsVtableInTurn, IsVtableLaid, IsTableOpen, IsTableClosed}
+use Rattle.fb_build.specs.Fields.{stored_in, stored_align}
+use Rattle.fb_build.specs.Made.{Adds, FieldsFront, named_fields, ends_parts}
+use Rattle.fb_build.specs.NumberedVtables.{come, IsVtableInTurn, IsVtableLaid, IsTableOpen, IsTableClosed}
 use Rattle.fb_build.specs.TableBytes.{VtableEnd, vtable_bytes, offset_from}
 use Rattle.fb_build.specs.Tails.{TailSeen, Grows, LaidInTail}
 use Rattle.fb_build.proofs.covered.PartsStayAsLaid.{table_stays}
@@ -149,7 +149,8 @@ module _ (L : LaidSchema) (vtables : List Bytes) (t : ℕ) (entries : List (Opti
       (λ e over low. zeros_stay p n o.bytes zeros e c.padded c.grows over (omega (arith, low, c.place_is)))
 
   whole_leads : parts_in_tail L n.bytes (table_part t) place (a_table t (entries_in entries))
-      ≡ record { target = table_part t; at = length n.bytes - place } ∷ ends_parts L n.bytes (named_fields fs xs) targets
+      ≡ record { target = table_part t; at = length n.bytes - place } ∷ ends_parts L n.bytes (named_fields fs xs)
+      targets
   whole_leads = table_leads L start place size used o n ends grown behind c.within read t entries targets w.known.long
       w.known.paired w.known.fits w.known.known w.laid.laid.slots.state w.laid.leads
 
@@ -158,7 +159,8 @@ module _ (L : LaidSchema) (vtables : List Bytes) (t : ℕ) (entries : List (Opti
   unfolding stands_told stands
   vtable_place key is =
       rw (leads_at key is)
-      (vtable_at L start place size used o n ends grown behind c.within four most two c.short stands_told told.within few
+      (vtable_at L start place size used o n ends grown behind c.within four most two c.short stands_told
+      told.within few
       told.rest fits)
 
   closed : (a : TailSeen) → FieldsFront a o start (max 4 (stored_align L fs xs))
@@ -170,7 +172,8 @@ module _ (L : LaidSchema) (vtables : List Bytes) (t : ℕ) (entries : List (Opti
     least = omega arith;
     here = c.place_is;
     size = laid_size L n.bytes t (length n.bytes - place) place size used ends read ∙ omega (arith, sized);
-    own = ap (λ i. max 4 i) (laid_align L start o.most place o.bytes n.bytes t (length n.bytes - place) size used xs ends
+    own = ap (λ i. max 4 i) (laid_align L start o.most place o.bytes n.bytes t (length n.bytes - place) size used
+        xs ends
         w.known.known.long w.laid.laid.slots.state below read);
     stay = table_stays (from_end n.bytes n.most) L n.bytes t (length n.bytes - place) lies.lies.lies.0;
   }

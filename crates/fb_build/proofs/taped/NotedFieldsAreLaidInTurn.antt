@@ -1,6 +1,8 @@
 -- The fields that a tape notes of a table, one laid after the other.
-use Rattle.std.proofs.Common.{◌≡◌, ℕ, suc, ◌+◌, ◌-◌, ◌<◌, ◌≤◌, ◌++◌, Bool, true, false, ◌&&◌, max, List, [], ◌∷◌, length, take, drop}
-use Rattle.std.proofs.Common.{slice_get, slice_index, slice_set, Option, None, Some, refl, ap, sym, ◌∙◌, subst, arith, length-append}
+use Rattle.std.proofs.Common.{◌≡◌, ℕ, suc, ◌+◌, ◌-◌, ◌<◌, ◌≤◌, ◌++◌, Bool, true, false, ◌&&◌, List, [], ◌∷◌, length}
+use Rattle.std.proofs.Common.{take, drop}
+use Rattle.std.proofs.Common.{slice_get, slice_index, slice_set, Option, None, Some, refl, ap, sym, ◌∙◌, subst}
+use Rattle.std.proofs.Common.{arith, length-append}
 use Rattle.std.proofs.lemmas.Option.{slice_get_within}
 use Rattle.std.proofs.Common.{inl, inr, zero, length-drop}
 use Rattle.fb_build.proofs.tables.EndsNameTheParts.{take_whole}
@@ -16,22 +18,21 @@ use Rattle.fb_value.specs.Datum.{Datum}
 use Rattle.fb_value.specs.Num.{Bytes, divides}
 use Rattle.fb_value.specs.Places.{part_place}
 use Rattle.fb_value.proofs.tails.TailsAreKeptInFront.{through}
-use Rattle.fb_tape.specs.InlineBytes.{AreInlineBytes}
 use Rattle.fb_tape.specs.NotedFields.{AreNoted, IsNoted}
 use Rattle.fb_tape.specs.OpenList.{own_size}
 use Rattle.fb_tape.specs.declared.ops.NotedField.{NotedField}
 use Rattle.fb_tape.specs.declared.ops.NotedField.TheVariants.{Reference, Inline}
 use Rattle.fb_build.specs.FieldOrder.{before, LinksNext, SameOfStored}
-use Rattle.fb_build.specs.Fields.{AreKnown, StoredEnd, TargetEnd, is_stored, is_reference, inline_kind, stored_align}
+use Rattle.fb_build.specs.Fields.{AreKnown, TargetEnd, is_stored, is_reference, inline_kind}
 use Rattle.fb_build.specs.Fields.{target_for, sort_for, fields_size}
+use Rattle.fb_build.specs.Lengths.{zeros_to}
 use Rattle.fb_build.specs.Made.{FieldLeads}
-use Rattle.fb_build.specs.NotesLaid.{noted_size, noted_references, MayLay, LaysField, AreReferences, Refers}
+use Rattle.fb_build.specs.NotesLaid.{noted_size, noted_references, MayLay, LaysField, AreReferences}
 use Rattle.fb_build.specs.Tails.{TailSeen, Grows, LaidInTail}
 use Rattle.fb_build.proofs.fields.AlignmentDividesTheSize.{simple_aligned, simple_some, simple_multiple}
 use Rattle.fb_build.proofs.fields.EntriesStandIn.{leads_any, reference_there, target_inside}
 use Rattle.fb_build.proofs.fields.FieldsAreLaidInOrder.{AreLaidUpTo, next_target, next_whole, next_laid_before}
 use Rattle.fb_build.proofs.fields.SlotStoresItsEntry.{same_some}
-use Rattle.fb_build.proofs.order.LaidFieldsTakeTheirSizes.{size_from}
 use Rattle.fb_build.proofs.order.NextFieldIsNamed.{IsNamed, named, still_waits, room_of_next, align_least}
 use Rattle.fb_build.proofs.tail.MultiplesAdd.{sum_divides}
 use Rattle.fb_build.proofs.tail.WhatIsLaidStaysLaid.{power_divides, grown_long}
@@ -80,7 +81,8 @@ inline_leads (one_of text_kind) d is = cc
 inline_leads (vector_of kind) d is = cc
 
 -- a field's size is what is noted
-pub size_noted : (L : LaidSchema) (f : Slot) (d : Datum) (note : NotedField) (own : Bytes) → (is_reference f.shape ≡ true
+pub size_noted : (L : LaidSchema) (f : Slot) (d : Datum) (note : NotedField) (own : Bytes) → (is_reference f.shape
+    ≡ true
     → inline_size L f.shape ≡ 4) → IsNoted L f d note own → noted_size note ≡ inline_size L f.shape
 size_noted L f d Reference own four is = sym (four is.0)
 size_noted L f d (Inline n) own four is = is.1 ∙ is.2.long ∙ sym (inline_sized L f.shape is.0)
@@ -314,7 +316,8 @@ module _ (L : LaidSchema) (fs : List Slot) (xs : List (Option Datum)) (known : A
       } in
       let lies = stores_now L fs xs known start a b note bytes ends i whole
       (wide k f (Some d) noted.is noted.has n.stored) lays in
-      let lead = leads_now L fs xs start a b note bytes ends i lays (slice_index slot_ends k) (λ yes. same ∙ by.2 yes) in
+      let lead = leads_now L fs xs start a b note bytes ends i lays (slice_index slot_ends k) (λ yes. same ∙ by.2
+      yes) in
       let align : next.align ≡ inline_align L f.shape =
       (let field = same_some (slice_get fs k) next.there.field f next.there.is noted.is in
       sym next.there.at ∙ ap (λ (h : Slot). inline_align L h.shape) field) in
@@ -361,8 +364,9 @@ to_be_aligned L fs xs targets align notes bytes ends o is =
 module _ (L : LaidSchema) (fs : List Slot) (xs : List (Option Datum)) (targets : List ℕ) (align zeros start : ℕ)
     (notes : List NotedField) (bytes : Bytes) (ends : List ℕ) (o p out : TailSeen)
     (is : AreToBeLaid L fs xs targets align notes bytes ends o) (padded : p.free + zeros ≡ o.free)
-    (under : zeros < align) (wide : divides align p.most ≡ true) (begin : start ≡ length p.bytes) (g : Grows p out)
-    (most : out.most ≡ p.most) where
+    (exact : zeros ≡ zeros_to align (length o.bytes)) (wide : divides align p.most ≡ true) (begin : start ≡ length
+    p.bytes)
+    (g : Grows p out) (most : out.most ≡ p.most) where
   pub fields_wide : (k : ℕ) (f : Slot) (x : Option Datum) → slice_get fs k ≡ Some f → slice_get xs k ≡ Some x
       → is_stored f x ≡ true → divides (inline_align L f.shape) out.most ≡ true
   fields_wide k f x fk xk stored =
@@ -377,7 +381,7 @@ module _ (L : LaidSchema) (fs : List Slot) (xs : List (Option Datum)) (targets :
   note_may note notes_left bytes_left ends_left h =
       let grown = grown_long p out g in
       may_lay L fs xs is.known start out bytes_left ends_left fields_wide
-      (omega (arith, grown, begin, padded, under, is.room, is.align_is)) note
+      (omega (arith, grown, begin, padded, exact, is.room)) note
       (note_next L fs xs targets start out note notes_left bytes_left ends_left h)
 
 pub taken_within : (note : NotedField) (bytes : Bytes) (ends : List ℕ) (o : TailSeen) → MayLay note bytes ends o

@@ -1,6 +1,6 @@
 -- A part that is laid waits in the place of those that it refers to.
-use Rattle.std.proofs.Common.{◌≡◌, ℕ, zero, suc, ◌+◌, ◌-◌, ◌≤◌, ◌<◌, ◌⊎◌, inl, inr, ◌++◌, true, List, [], ◌∷◌, length, map, drop}
-use Rattle.std.proofs.Common.{slice_get, slice_index, Option, None, Some, refl, ap, sym, ◌∙◌, subst, arith, append_assoc, append-nil}
+use Rattle.std.proofs.Common.{◌≡◌, ℕ, zero, suc, ◌-◌, ◌≤◌, ◌++◌, true, List, [], ◌∷◌, length, map}
+use Rattle.std.proofs.Common.{slice_get, slice_index, Some, refl, ap, sym, ◌∙◌, subst, arith, append_assoc, append-nil}
 use Rattle.std.proofs.Common.{length-append}
 use Rattle.fb_layout.specs.Laid.{LaidSchema}
 use Rattle.fb_layout.specs.Widths.{greatest}
@@ -93,7 +93,8 @@ module _ (L : LaidSchema) (vtables : List Bytes) (others taken : List NamedPart)
   pub one_more_waits : AreWaiting L vtables (others ++ (part ∷ [])) (ends_o ++ (e ∷ [])) after b
   one_more_waits = record {
     each = omega (arith, long, length-append others (part ∷ []), length-append ends_o (e ∷ []));
-    lie = each_waits (λ x i. LaidInTail L b.most b.bytes (part_place x.target) i x.value) others taken part ends_o ends_t
+    lie = each_waits (λ x i. LaidInTail L b.most b.bytes (part_place x.target) i x.value) others taken part ends_o
+        ends_t
         e long (λ k x is. laid_grown L a b (part_place x.target) (slice_index (ends_o ++ ends_t) k) x.value now.grows
         (h.lie k x is)) now.lies;
     made = subst (λ (ps : List PartAt). IsMade L b after ps) joined turned;

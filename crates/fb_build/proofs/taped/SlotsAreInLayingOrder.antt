@@ -1,17 +1,16 @@
 -- The order of laying visits each stored slot behind those that are laid before it.
-use Rattle.std.proofs.Common.{◌≡◌, ℕ, zero, suc, ◌+◌, ◌-◌, ◌^◌, ◌<◌, ◌≤◌, ◌⊎◌, ◌++◌, inl, inr, Bool, true, false, cond}
-use Rattle.std.proofs.Common.{◌==◌, ◌&&◌, nat_lt, nat_le, List, [], ◌∷◌, slice_get, Option, None, Some, refl, ap, sym, ◌∙◌}
+use Rattle.std.proofs.Common.{◌≡◌, ℕ, suc, ◌+◌, ◌-◌, ◌^◌, ◌<◌, ◌⊎◌, ◌++◌, inl, inr, Bool, true, false, cond}
+use Rattle.std.proofs.Common.{◌==◌, nat_lt, nat_le, List, [], ◌∷◌, slice_get, Option, None, Some, refl, sym, ◌∙◌}
 use Rattle.std.proofs.Common.{subst, arith, if◌then◌else◌}
 use Rattle.std.proofs.lemmas.Bool.{lt-ltb, le-leb, and_parts, eqb-true}
 use Rattle.std.proofs.lemmas.Bool.Decides.{nat_tests}
 use Rattle.std.proofs.lemmas.Nat.{pow_pos}
 use Rattle.fb_layout.specs.Laid.{LaidSchema, Slot}
-use Rattle.fb_layout.specs.Sizes.{IsAlignment}
 use Rattle.fb_layout.specs.Widths.{inline_align}
 use Rattle.fb_value.specs.Datum.{Datum}
 use Rattle.fb_tape.specs.LayingOrder.{slots_at, laying_order}
 use Rattle.fb_build.specs.FieldOrder.{IsStoredAt, SameOfStored, LinksNext, before}
-use Rattle.fb_build.specs.Fields.{AreKnown, is_stored, is_at, from, above}
+use Rattle.fb_build.specs.Fields.{AreKnown, is_at, from, above}
 use Rattle.fb_build.proofs.fields.AlignmentDividesTheSize.{simple_aligned}
 use Rattle.fb_build.proofs.fields.FieldsFillTheTable.{other_slot}
 use Rattle.fb_build.proofs.fields.SlotStoresItsEntry.{by_index, same_some}
@@ -138,19 +137,20 @@ module _ (L : LaidSchema) (a : ℕ) (fs : List Slot) (xs : List (Option Datum)) 
           (passed_by j g y fj xj out) next
 
   from_slot : (j : ℕ) (gs : List Slot) (ys : List (Option Datum)) → ((i : ℕ) → slice_get gs i ≡ slice_get fs (j + i))
-      → ((i : ℕ) → slice_get ys i ≡ slice_get xs (j + i)) → AreNext L fs xs (before L a j) (slots_at L a j gs ys ++ rest)
+      → ((i : ℕ) → slice_get ys i ≡ slice_get xs (j + i)) → AreNext L fs xs (before L a j) (slots_at L a j gs ys ++
+      rest)
   unfolding slots_at
   from_slot j [] ys fields entries = none_left j (λ k f x fk xk. elim (lower j k) [
     | inr less ↦ less
     | inl over ↦ (
-      let at : j + (k - j) ≡ k = omega (arith, over) in
-      let none : None ≡ Some f = subst (λ (i : ℕ). None ≡ slice_get fs i) at (fields (k - j)) ∙ fk in cc)
+        let at : j + (k - j) ≡ k = omega (arith, over) in
+        let none : None ≡ Some f = subst (λ (i : ℕ). None ≡ slice_get fs i) at (fields (k - j)) ∙ fk in cc)
   ])
   from_slot j (g ∷ gs) [] fields entries = none_left j (λ k f x fk xk. elim (lower j k) [
     | inr less ↦ less
     | inl over ↦ (
-      let at : j + (k - j) ≡ k = omega (arith, over) in
-      let none : None ≡ Some x = subst (λ (i : ℕ). None ≡ slice_get xs i) at (entries (k - j)) ∙ xk in cc)
+        let at : j + (k - j) ≡ k = omega (arith, over) in
+        let none : None ≡ Some x = subst (λ (i : ℕ). None ≡ slice_get xs i) at (entries (k - j)) ∙ xk in cc)
   ])
   from_slot j (g ∷ gs) (y ∷ ys) fields entries =
       let here : j + 0 ≡ j = omega arith in

@@ -1,28 +1,26 @@
 -- What waits once an operation is laid.
-use Rattle.std.proofs.Common.{◌≡◌, ℕ, zero, suc, ◌+◌, ◌-◌, ◌*◌, ◌≤◌, ◌<◌, ◌⊎◌, inl, inr, ◌++◌, true, false, max, List, [], ◌∷◌, length}
-use Rattle.std.proofs.Common.{take, drop, slice_get, slice_index, Option, None, Some, refl, ap, sym, ◌∙◌, subst, arith, append-nil}
+use Rattle.std.proofs.Common.{◌≡◌, ℕ, zero, suc, ◌+◌, ◌-◌, ◌≤◌, ◌<◌, ◌⊎◌, inl, inr, ◌++◌, true, max, List, [], ◌∷◌}
+use Rattle.std.proofs.Common.{length}
+use Rattle.std.proofs.Common.{take, drop, slice_get, slice_index, Some, refl, ap, sym, ◌∙◌, arith, append-nil}
 use Rattle.std.proofs.Common.{length-append, length-drop}
 use Rattle.std.proofs.lemmas.List.{take-append-drop, get_or-drop, length-take-le}
-use Rattle.std.proofs.lemmas.Option.{slice_get_within, slice_get_cases}
 use Rattle.fb_layout.specs.Laid.{LaidSchema, StoredKind, scalar_kind, struct_kind, table_kind, union_kind, code_kind}
-use Rattle.fb_layout.specs.Laid.{text_kind, one_of, align_of}
+use Rattle.fb_layout.specs.Laid.{text_kind, one_of}
 use Rattle.fb_layout.specs.Sizes.{IsAlignment}
 use Rattle.fb_layout.specs.Widths.{greatest}
 use Rattle.fb_value.specs.Datum.{Datum, a_vector}
-use Rattle.fb_value.specs.Num.{Bytes, divides}
+use Rattle.fb_value.specs.Num.{Bytes}
 use Rattle.fb_value.specs.Places.{Target, part_place, table_part, text_part, vector_part}
 use Rattle.fb_value.specs.View.{parts_in}
 use Rattle.fb_value.proofs.tails.TailsAreKeptInFront.{through}
 use Rattle.fb_tape.specs.NamedParts.{NamedPart, elements_apart}
-use Rattle.fb_tape.specs.Tapes.{IsData, LaysData, LaysReferences}
+use Rattle.fb_tape.specs.Tapes.{IsData, LaysReferences}
 use Rattle.fb_build.specs.CoveredTails.{parts_in_tail}
-use Rattle.fb_build.specs.Fields.{IsElement, TargetEnd, is_reference, target_for}
+use Rattle.fb_build.specs.Fields.{IsElement, is_reference, target_for}
 use Rattle.fb_build.specs.Made.{Adds, ends_parts, named_items}
-use Rattle.fb_build.specs.Pieces.{PartAt}
 use Rattle.fb_build.specs.Referred.{AreReferred}
 use Rattle.fb_build.specs.Tails.{TailSeen, Grows, LaidInTail}
 use Rattle.fb_build.specs.Waiting.{AreWaiting, all_of}
-use Rattle.fb_build.proofs.references.ReferencesOfElements.{reference_align}
 use Rattle.fb_build.proofs.tail.WhatIsLaidStaysLaid.{four_power}
 use Rattle.fb_build.proofs.taped.OnePartMoreWaits.{IsLaidNow, one_more_waits}
 use Rattle.fb_build.proofs.vectors.VectorHasItsElements.{element_padded}
@@ -104,19 +102,18 @@ pub data_aligned : (L : LaidSchema) (part : NamedPart) (align : ℕ) (bytes : By
     → 4 ≤ greatest L → IsAlignment align × (4 ≤ length bytes) × (align ≤ greatest L)
 data_aligned L part align bytes is least = elim is [
   | inl d ↦ (
-    let whole = ap length d.bytes_are in
-    let parts = length-append (Rattle.byteorder.specs.Endian.little_bytes 4 (length d.text)) (d.text ++ (0 ∷ [])) in
-    let four = Rattle.byteorder.specs.Numbers.length-bytes_low_first 0 4 (length d.text) in
-    (rw d.align_is four_power, omega (arith, whole, parts, four), omega (arith, d.align_is, least)))
+      let whole = ap length d.bytes_are in
+      let parts = length-append (Rattle.byteorder.specs.Endian.little_bytes 4 (length d.text)) (d.text ++ (0 ∷ [])) in
+      let four = Rattle.byteorder.specs.Numbers.length-bytes_low_first 0 4 (length d.text) in
+      (rw d.align_is four_power, omega (arith, whole, parts, four), omega (arith, d.align_is, least)))
   | inr d ↦ (
-    let whole = ap length d.bytes_are in
-    let parts = length-append (Rattle.byteorder.specs.Endian.little_bytes 4 (length d.elements)) d.element_bytes in
-    let four = Rattle.byteorder.specs.Numbers.length-bytes_low_first 0 4 (length d.elements) in
-    (
-      rw d.align_is (element_padded L d.kind d.known.element).power,
-      omega (arith, whole, parts, four),
-      omega (arith, d.align_is, d.low, least),
-    ))
+      let whole = ap length d.bytes_are in
+      let parts = length-append (Rattle.byteorder.specs.Endian.little_bytes 4 (length d.elements)) d.element_bytes in
+      let four = Rattle.byteorder.specs.Numbers.length-bytes_low_first 0 4 (length d.elements) in (
+        rw d.align_is (element_padded L d.kind d.known.element).power,
+        omega (arith, whole, parts, four),
+        omega (arith, d.align_is, d.low, least),
+      ))
 ]
 
 pub data_now : (L : LaidSchema) (vtables : List Bytes) (ps : List NamedPart) (part : NamedPart) (align : ℕ)

@@ -1,43 +1,44 @@
 -- A table that is laid takes the parts that its references lead to.
-use Rattle.std.proofs.Common.{◌≡◌, ℕ, zero, suc, ◌+◌, ◌-◌, ◌*◌, ◌%◌, ◌≤◌, ◌<◌, ◌⊎◌, inl, inr, ◌++◌, Bool, true, false, max, List, []}
-use Rattle.std.proofs.Common.{◌∷◌, length, take, drop, replicate, slice_get, slice_index, Option, None, Some, refl, ap, sym, ◌∙◌}
-use Rattle.std.proofs.Common.{subst, arith, length-append, length-drop}
+use Rattle.std.proofs.Common.{◌≡◌, ℕ, suc, ◌+◌, ◌-◌, ◌*◌, ◌≤◌, ◌<◌, ◌⊎◌, inl, inr, ◌++◌, true, false, max, List, []}
+use Rattle.std.proofs.Common.{◌∷◌, length, take, drop, replicate, slice_get, slice_index, Option, Some, refl, ap, ◌∙◌}
+use Rattle.std.proofs.Common.{subst, arith, length-drop}
 use Rattle.std.proofs.lemmas.List.{length-replicate}
 use Rattle.std.proofs.lemmas.List.Sums.{sum_by-cons}
 use Rattle.fb_layout.specs.Laid.{LaidSchema, Slot, slots_of}
-use Rattle.fb_layout.specs.Sizes.{ceil4}
-use Rattle.fb_layout.specs.Widths.{greatest}
 use Rattle.fb_value.specs.Datum.{Datum, a_table}
-use Rattle.fb_value.specs.Num.{Bytes, divides}
+use Rattle.fb_value.specs.Num.{Bytes}
 use Rattle.fb_value.specs.Places.{part_place, table_part}
 use Rattle.fb_value.specs.View.{entries_in}
 use Rattle.fb_value.proofs.tails.TailsAreKeptInFront.{through}
 use Rattle.fb_tape.specs.LayingOrder.{laying_order}
 use Rattle.fb_tape.specs.NamedParts.{NamedPart, entries_apart}
 use Rattle.fb_tape.specs.NotedFields.{AreNoted, IsNoted}
-use Rattle.fb_tape.specs.Tapes.{LaysTable}
 use Rattle.fb_tape.specs.Vtables.{table_size}
 use Rattle.fb_tape.specs.declared.ops.NotedField.{NotedField}
 use Rattle.fb_tape.specs.declared.ops.NotedField.TheVariants.{Reference, Inline}
 use Rattle.fb_tape.specs.declared.ops.Op.TheVariants.{Table}
-use Rattle.fb_build.specs.Fields.{fields_size, stored_in, stored_align}
-use Rattle.fb_build.specs.Lengths.{zeros_to}
-use Rattle.fb_build.specs.Made.{FieldsFront, ends_parts, named_fields}
+use Rattle.fb_build.specs.Fields.{stored_in, stored_align}
+use Rattle.fb_build.specs.Lengths.{fields_end, table_end}
+use Rattle.fb_build.specs.NotesLaid.{notes_size}
+use Rattle.fb_build.proofs.taped.TapeFitsItsRoom.{sizes_noted}
+use Rattle.fb_build.specs.Made.{FieldsFront}
 use Rattle.fb_build.specs.NotesLaid.{AreToBeLaid, AreLaidNow, AreReferences, noted_references, notes_references}
-use Rattle.fb_build.specs.NumberedVtables.{come, AreLaidInTurn, IsTableOpen, IsTableClosed}
+use Rattle.fb_build.specs.NumberedVtables.{IsTableOpen, IsTableClosed}
 use Rattle.fb_build.specs.Parts.{TableKnown}
 use Rattle.fb_build.specs.Tails.{TailSeen, Grows, LaidInTail}
-use Rattle.fb_build.specs.Waiting.{AreWaiting, MayStep, all_of}
+use Rattle.fb_build.specs.Waiting.{AreWaiting, MayStep}
 use Rattle.fb_build.proofs.apart.EntriesAreKnown.{known_in}
 use Rattle.fb_build.proofs.fields.AlignmentDividesTheSize.{inline_low}
 use Rattle.fb_build.proofs.fields.SlotStoresItsEntry.{same_some}
-use Rattle.fb_build.proofs.tables.TableFitsItsRoom.{table_fits_room, fields_narrow, stored_low}
+use Rattle.fb_build.proofs.tables.TableFitsItsRoom.{fields_narrow, stored_low}
 use Rattle.fb_build.proofs.tail.WhatIsLaidStaysLaid.{then_grows, grown_long, lower}
 use Rattle.fb_build.proofs.taped.OnePartMoreWaits.{IsLaidNow}
-use Rattle.fb_build.proofs.taped.PartsOfATable.{AllFit, spread, spread_long, spread_state, spread_parts, spread_references}
-use Rattle.fb_build.proofs.taped.PartsOfATable.{refer_count, refer_ends, refers_at, apart_many, noted_references as in_order}
+use Rattle.fb_build.proofs.taped.PartsOfATable.{AllFit, spread, spread_long, spread_state, spread_parts}
+use Rattle.fb_build.proofs.taped.PartsOfATable.{refer_count, apart_many}
+use Rattle.fb_build.proofs.taped.ReferencesComeInOrder.{spread_references, refer_ends, refers_at}
+use Rattle.fb_build.proofs.taped.ReferencesComeInOrder.{noted_references as in_order}
 use Rattle.fb_build.proofs.taped.StepsOfALaying.{taken_lie, taken_within, stepped, least_most}
-use Rattle.fb_build.proofs.taped.VtableOfTheEnds.{IsVtableOf, slots_used, vtable_told_by}
+use Rattle.fb_build.proofs.taped.VtableOfTheEnds.{slots_used, vtable_told_by}
 use Rattle.fb_build.proofs.vtables.ClosedTableHasItsValue.{vtable_long}
 use Rattle.fb_build.proofs.vtables.EndsAreWithinTheTable.{ends_under, index_past, got}
 use Rattle.fb_build.proofs.vtables.VtableIsLaidOnce.{shared_grown}
@@ -69,7 +70,8 @@ notes_many L fs zs targets (k ∷ ks) (Inline n ∷ notes) bytes noted =
 
 -- ---- the places of vtables
 
-pub places_some : (known : List Bytes) (places : List ℕ) (s : Bytes) → Rattle.fb_vtables.specs.Vtables.AreLaid known places s
+pub places_some : (known : List Bytes) (places : List ℕ) (s : Bytes) → Rattle.fb_vtables.specs.Vtables.AreLaid
+    known places s
     → (i : ℕ) → i < length places → 0 < slice_index places i
 places_some known places s h i low =
     let vt = got known i (omega (arith, low, h.each)) in (h.stand i vt.0 vt.1).0
@@ -98,7 +100,8 @@ vtable_short L vtables t entries start targets places number vt o w =
     let told = vtable_told_by L fs xs start place o.most o.bytes w.laid.ends refl laid.slots.state laid.slots.counted
     w.known.known.long laid.slots.each (λ k. omega (arith, under k, laid.size)) in
     let long : length vt ≡ 4 + 2 * slots_used L fs xs =
-    ap length (w.vtable_is ∙ told.is) ∙ vtable_long place (table_size L fs xs) (slots_used L fs xs) w.laid.ends told.within in
+    ap length (w.vtable_is ∙ told.is) ∙ vtable_long place (table_size L fs xs) (slots_used L fs xs) w.laid.ends
+    told.within in
     omega (arith, long, told.within, laid.slots.each)
 
 -- ---- a table is laid: from a its fields, to o, and what is before them, to b
@@ -134,11 +137,13 @@ module _ (L : LaidSchema) (vtables : List Bytes) (fields align number room : ℕ
       let n = refer_count fs xs in
       let some : length (replicate {A = ℕ} n 0) ≡ n = length-replicate n 0 in
       let order = spread_references L fs xs (replicate n 0) fit known.known.long some in
-      let notes_long = notes_many L fs xs (spread fs xs (replicate n 0)) (laying_order L fs xs) notes bytes m.lays.noted in
+      let notes_long = notes_many L fs xs (spread fs xs (replicate n 0)) (laying_order L fs xs) notes bytes
+      m.lays.noted in
       omega (arith, many, some, ap length order, notes_long)
 
   within : length (entries_apart fs m.lays.entries) ≤ length ends
-  within = taken_within L vtables ps m.lays.others (entries_apart fs m.lays.entries) ends places a m.waiting m.lays.takes
+  within = taken_within L vtables ps m.lays.others (entries_apart fs m.lays.entries) ends places a m.waiting
+      m.lays.takes
 
   pub references_within : notes_references notes ≤ length ends
   references_within = omega (arith, within, taken_many)
@@ -159,9 +164,12 @@ module _ (L : LaidSchema) (vtables : List Bytes) (fields align number room : ℕ
       m.lays.takes k p is in
       rw taken_many at lies
 
-  fits_room : Rattle.fb_build.specs.Fields.stored_room L fs xs + (ceil4 (fields_size L fs xs) + (8 + 2 * length fs))
-      ≤ Rattle.fb_value.specs.Room.table_room L t + fields_size L fs xs
-  fits_room = table_fits_room L t xs known.known
+  pub vtable_room : (o : TailSeen) → Grows a o → length o.bytes ≡ fields_end align (notes_size notes) (length a.bytes)
+      → table_end (length vt) number (length places) (length o.bytes) ≤ length o.bytes + o.free
+  vtable_room o g long =
+      let enough = rw m.has at m.enough in
+      let grown = grown_long a o g in
+      rw long (omega (arith, enough, grown))
 
   pub to_be_laid : AreToBeLaid L fs xs targets align notes bytes es a
   to_be_laid = record {
@@ -173,7 +181,7 @@ module _ (L : LaidSchema) (vtables : List Bytes) (fields align number room : ℕ
     align_is = m.lays.align_is;
     each = spread_long fs xs es known.known.long;
     state = spread_state L a.most a.bytes fs m.lays.entries es fit there;
-    room = omega (arith, fits_room, m.lays.enough, m.enough);
+    room = omega (arith, m.enough, sizes_noted L fs xs notes bytes known.known m.lays.noted);
   }
 
   module _ (start : ℕ) (o : TailSeen) (laid : AreLaidNow L fs xs targets start o) (front : FieldsFront a o start align)
@@ -191,43 +199,11 @@ module _ (L : LaidSchema) (vtables : List Bytes) (fields align number room : ℕ
       different = m.different;
     }
 
-    open_short : length vt ≤ 4 + 2 * length fs
-    open_short = vtable_short L vtables t m.lays.entries start targets places number vt o table_open
-
     pub short_vtable : length vt ≤ 65534
-    short_vtable = omega (arith, open_short, (m.made.tables t).few)
-
-    rounded : zeros_to 4 (length o.bytes) + fields_size L fs xs ≡ ceil4 (fields_size L fs xs)
-    rounded = omega (arith, laid.laid.size, laid.laid.whole)
-
-    fields_spent : a.free ≤ o.free + ((align - 1) + fields_size L fs xs)
-    fields_spent = omega (arith, grown_long a o g, front.begin, front.under, laid.laid.size)
-
-    room_left : ceil4 (fields_size L fs xs) + (8 + 2 * length fs) ≤ o.free + fields_size L fs xs
-    room_left = omega (arith, fields_spent, fits_room, m.lays.align_is, m.lays.enough, m.enough)
-
-    pub some_room : 3 ≤ o.free
-    some_room = omega (arith, room_left, rounded)
-
-    pub vtable_room : zeros_to 4 (length o.bytes) + (4 + length vt) ≤ o.free
-    vtable_room = omega (
+    short_vtable = omega (
       arith,
-      room_left,
-      rounded,
-      open_short,
-    )
-
-    pub table_spent : (free : ℕ) → o.free ≤ free + (zeros_to 4 (length o.bytes) + (4 + length vt))
-        → a.free ≤ free + room
-    table_spent free spent = omega (
-      arith,
-      spent,
-      fields_spent,
-      rounded,
-      open_short,
-      fits_room,
-      m.lays.align_is,
-      m.lays.enough,
+      vtable_short L vtables t m.lays.entries start targets places number vt o table_open,
+      (m.made.tables t).few,
     )
 
     pub table_waits : (after : List ℕ) (e : ℕ) (b : TailSeen) → Grows o b → o.most ≡ max a.most align
@@ -239,7 +215,8 @@ module _ (L : LaidSchema) (vtables : List Bytes) (fields align number room : ℕ
         let low = stored_low L fs xs (λ k f at. inline_low L f.shape (known.known.low k f at)) in
         let front2 : FieldsFront a o start (max 4 (stored_align L fs xs)) = rw m.lays.align_is at front in
         let now : IsLaidNow L vtables (entries_apart fs m.lays.entries)
-        (record { target = table_part t; value = a_table t (entries_in m.lays.entries) }) es places after e a b = record {
+        (record { target = table_part t; value = a_table t (entries_in m.lays.entries) }) es places after e a b =
+        record {
           grows = grows;
           shared = c.shared;
           four = through 4 a.most b.most m.waiting.four grows.multiple;
@@ -250,5 +227,6 @@ module _ (L : LaidSchema) (vtables : List Bytes) (fields align number room : ℕ
           whole = c.leads ∙ ap (λ zs. record { target = table_part t; at = length b.bytes - e } ∷ zs)
               (spread_parts L b.bytes fs m.lays.entries es fit);
         } in
-        rw m.lays.leaves (stepped L vtables ps m.lays.others (entries_apart fs m.lays.entries) _ (notes_references notes)
+        rw m.lays.leaves (stepped L vtables ps m.lays.others (entries_apart fs m.lays.entries) _ (notes_references
+        notes)
         ends places after e a b m.waiting m.lays.takes taken_many now)

@@ -1,6 +1,8 @@
 -- The vtable that is told by what a table stores is that of its slots' end-counts.
-use Rattle.std.proofs.Common.{◌≡◌, ℕ, zero, suc, ◌+◌, ◌-◌, ◌*◌, ◌<◌, ◌≤◌, ◌++◌, Bool, true, false, ◌&&◌, if◌then◌else◌, List, [], ◌∷◌}
-use Rattle.std.proofs.Common.{length, map, flat_map, slice_get, slice_index, Option, Some, refl, ap, sym, ◌∙◌, subst, arith}
+use Rattle.std.proofs.Common.{◌≡◌, ℕ, zero, suc, ◌+◌, ◌-◌, ◌*◌, ◌<◌, ◌≤◌, ◌++◌, Bool, true, false, ◌&&◌}
+use Rattle.std.proofs.Common.{if◌then◌else◌, List, [], ◌∷◌}
+use Rattle.std.proofs.Common.{length, map, flat_map, slice_get, slice_index, Option, Some, refl, ap, sym, ◌∙◌}
+use Rattle.std.proofs.Common.{subst, arith}
 use Rattle.byteorder.specs.Endian.{little_bytes}
 use Rattle.fb_layout.specs.Laid.{LaidSchema, Slot}
 use Rattle.fb_value.specs.Datum.{Datum}
@@ -26,7 +28,8 @@ high_end L low m s f x e h is = by_entry x (h.stored is)
 
 module _ (L : LaidSchema) (fs : List Slot) (xs : List (Option Datum)) (start place m : ℕ) (s : Bytes)
     (ends : List ℕ) (place_is : place ≡ start + table_size L fs xs)
-    (state : EntriesEnd L start m s (λ k f. true) fs xs ends) (counted : AreCounted L start (λ k f. true) fs xs ends) where
+    (state : EntriesEnd L start m s (λ k f. true) fs xs ends) (counted : AreCounted L start (λ k f. true) fs xs
+    ends) where
   one_offset : (k : ℕ) (g : Slot) (y : Option Datum) (e : ℕ) → slice_get fs k ≡ Some g → slice_get xs k ≡ Some y
       → slice_index ends k ≡ e → field_offset L fs xs k g y ≡ offset_from place e
   one_offset k g y e fk xk at = by_test (is_stored g y) refl

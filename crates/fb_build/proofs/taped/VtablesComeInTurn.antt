@@ -1,5 +1,6 @@
 -- The vtables of a tape, of which the first ones have come.
-use Rattle.std.proofs.Common.{◌≡◌, ℕ, zero, suc, ◌+◌, ◌<◌, ◌++◌, List, [], ◌∷◌, length, take, slice_get, Some, refl, ap, ◌∙◌, arith}
+use Rattle.std.proofs.Common.{◌≡◌, ℕ, zero, suc, ◌<◌, ◌++◌, List, [], ◌∷◌, length, take, slice_get, Some, refl, ap}
+use Rattle.std.proofs.Common.{◌∙◌, arith}
 use Rattle.std.proofs.Common.{length-append}
 use Rattle.fb_value.specs.Num.{Bytes}
 use Rattle.fb_vtables.specs.Vtables.{AreDifferent}

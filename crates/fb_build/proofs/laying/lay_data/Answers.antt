@@ -1,4 +1,4 @@
-use Rattle.std.proofs.Common.{◌≡◌, ◌+◌, ◌-◌, ◌≤◌, ◌∙◌, [], ◌∷◌, ◌++◌, refl, sym, ap, length, take, drop, arith, append-nil}
+use Rattle.std.proofs.Common.{◌-◌, [], ◌∷◌, refl, sym, ap, length, take, drop, arith, append-nil}
 use Rattle.std.proofs.Common.{length-append}
 use Rattle.std.proofs.lemmas.List.{length-take-le}
 use Rattle.fb_build.proofs.taped.StepsOfALaying.{data_aligned, data_now, least_most, stepped}
@@ -25,7 +25,6 @@ returns-clause-laid c =
           rw (d.leaves, c.wait.ensures.items, c.count-end.ensures.exact)
           (stepped L vtables ps ps [] d.part 0 ends places places (length b.bytes) a b m.waiting (sym (append-nil ps))
           refl laid));
-      spent = λ L vtables room ps qs m. omega (arith, now.spent, m.lays.1.enough, m.lays.1.size_is);
       come = refl;
       most_waiting = omega (
         arith,

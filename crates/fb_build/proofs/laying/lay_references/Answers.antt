@@ -1,4 +1,4 @@
-use Rattle.std.proofs.Common.{ℕ, List, ◌≡◌, ◌+◌, ◌-◌, ◌≤◌, ◌∙◌, [], ◌∷◌, ◌++◌, refl, sym, ap, length, take, drop, arith}
+use Rattle.std.proofs.Common.{ℕ, List, ◌≡◌, ◌-◌, ◌≤◌, ◌∙◌, [], ◌∷◌, refl, ap, length, take, drop, arith}
 use Rattle.std.proofs.Common.{length-append, length-drop}
 use Rattle.std.proofs.lemmas.List.{length-take-le}
 use Rattle.fb_build.specs.Referred.{AreReferred}
@@ -22,7 +22,10 @@ pub lay_references-requires-clause-inside : goal.lay_references-requires-clause-
 lay_references-requires-clause-inside c =
     let w = c.requires.ready in
     let ends = c.args.laying.now.waiting.items in
-    rw (slice_is ends c.deref.result.now 0 c.len.result c.args.count c.deref.ensures.value (omega (arith, c.len.ensures)))
+    rw (slice_is ends c.deref.result.now 0 c.len.result c.args.count c.deref.ensures.value (omega (
+      arith,
+      c.len.ensures,
+    )))
     (drop_inside (length ends - c.args.count) ends _ (ends_inside w.layout w.vtables w.before _ _ _ w.may.waiting))
 
 pub wait-requires-clause-within : goal.wait-requires-clause-within
@@ -39,7 +42,10 @@ returns-clause-laid c =
     let b = c.lay_references.new.out in
     let now = c.lay_references.ensures in
     let w = c.requires.ready in
-    let slice = slice_is ends c.deref.result.now 0 c.len.result count c.deref.ensures.value (omega (arith, c.len.ensures)) in
+    let slice = slice_is ends c.deref.result.now 0 c.len.result count c.deref.ensures.value (omega (
+      arith,
+      c.len.ensures,
+    )) in
     let within = count_within w.layout w.vtables count w.own_room w.before w.behind _ _ _ w.may.waiting w.may.lays.2 in
     let many = ap length slice ∙ length-drop (length ends - count) ends in
     record {
@@ -51,7 +57,6 @@ returns-clause-laid c =
           rw (c.wait.ensures.items, c.count-end.ensures.exact)
           (references_now L vtables count room ps qs ends places a m.waiting r b now.grows now.most
           (now.lies L r.kind r.elements given) (now.adds L r.kind r.elements places given) leads));
-      spent = λ L vtables room ps qs m. omega (arith, now.spent, m.lays.2.enough, many, within);
       come = refl;
       most_waiting = omega (
         arith,
@@ -69,7 +74,10 @@ returns-clause-long c =
     let ends = c.args.laying.now.waiting.items in
     let count = c.args.count in
     let w = c.requires.ready in
-    let slice = slice_is ends c.deref.result.now 0 c.len.result count c.deref.ensures.value (omega (arith, c.len.ensures)) in
+    let slice = slice_is ends c.deref.result.now 0 c.len.result count c.deref.ensures.value (omega (
+      arith,
+      c.len.ensures,
+    )) in
     let within = count_within w.layout w.vtables count w.own_room w.before w.behind _ _ _ w.may.waiting w.may.lays.2 in
     let many : length (take (length c.deref.result.now - (c.len.result - count))
     (drop (c.len.result - count) c.deref.result.now)) ≡ count =

@@ -1,14 +1,19 @@
-use Rattle.std.proofs.Common.{ℕ, ◌≡◌, ◌<◌, ◌≤◌, ◌+◌, ◌-◌, ◌++◌, ◌∙◌, inl, inr, refl, sym, ap, subst, List, [], ◌∷◌, length}
+use Rattle.std.proofs.Common.{ℕ, ◌≡◌, ◌<◌, ◌≤◌, ◌+◌, ◌-◌, ◌++◌, ◌∙◌, inl, inr, refl, ap, subst, [], ◌∷◌, length}
 use Rattle.std.proofs.Common.{slice_get, slice_index, Some, arith}
 use Rattle.std.proofs.lemmas.Grind.{get_or_default_zero}
+use Rattle.std.proofs.Common.{nat_lt, true, false}
+use Rattle.std.proofs.lemmas.Bool.{lt-ltb}
+use Rattle.std.proofs.lemmas.Bool.Decides.{nat_tests}
 use Rattle.byteorder.specs.Endian.{little_bytes}
-use Rattle.fb_value.specs.Num.{Bytes}
-use Rattle.fb_build.specs.NumberedVtables.{come, AreLaidInTurn, IsVtableLaid}
+use Rattle.fb_build.specs.NumberedVtables.{come, IsVtableLaid}
 use Rattle.fb_build.proofs.tail.WhatIsLaidStaysLaid.{grown_long}
 use Rattle.fb_build.proofs.taped.VtablesComeInTurn.{key_come, come_more}
 use Rattle.fb_build.proofs.vtables.VtableIsLaidOnce.{last_key, last_place, new_stands, new_way, old_way, shared_grown}
 use Rattle.fb_build.proofs.vtables.VtableIsLaidOnce.{shared_more}
 use Rattle.fb_build.proofs.taped_vtables.lay_vtable.Goals as goal
+
+not_low : (a b : ℕ) → b ≤ a → nat_lt a b ≡ false
+not_low a b low = grind (arith, nat_tests)
 
 pub returns-then-number-len-clause-laid : goal.returns-then-number-len-clause-laid
 returns-then-number-len-clause-laid c vtables is =
@@ -72,3 +77,17 @@ returns-clause-laid c vtables is =
           (ap (λ n. n + 4) c.count-place.ensures.exact) c.requires.short);
     } in
     rw c.push_reserved.ensures.items laid
+
+pub lay_u32-requires : goal.lay_u32-requires
+lay_u32-requires c =
+    let low : nat_lt c.args.number (length c.args.places.now.items) ≡ true =
+    lt-ltb _ _ (omega (arith, c.if-number-len.true, c.len.ensures)) in
+    let room = rw low at c.requires.room in
+    record { room = omega (arith, room) }
+
+pub lay_new-requires-clause-room : goal.lay_new-requires-clause-room
+lay_new-requires-clause-room c =
+    let past : nat_lt c.args.number (length c.args.places.now.items) ≡ false =
+    not_low _ _ (omega (arith, c.if-number-len.false, c.len.ensures)) in
+    let room = rw past at c.requires.room in
+    omega (arith, room)
