@@ -227,6 +227,7 @@ impl Tail {
         requires room { align ≤ self.old.free + 1 }
         ensures bytes { self.new.bytes ≡ replicate result 0 ++ self.old.bytes }
         ensures free { self.new.free + result ≡ self.old.free }
+        ensures exact { result ≡ (align - (length self.old.bytes + more) % align) % align }
         ensures under { result < align }
         ensures multiple { (length self.new.bytes + more) % align ≡ 0 }
         ensures most { self.new.most ≡ max self.old.most align }
