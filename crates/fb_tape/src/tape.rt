@@ -13,6 +13,7 @@ ghost use Rattle.fb_value.specs.Room.{table_room, vector_room};
 ghost use Rattle.fb_value.specs.UpTo.{at_most_usize};
 ghost use Rattle.fb_value.specs.View.{view, parts_in, entries_in};
 ghost use Rattle.fb_tape.specs.InlineBytes.{IsInline};
+ghost use Rattle.fb_tape.specs.KnownVtables.{EachHasOneNumber};
 ghost use Rattle.fb_tape.specs.NamedParts.{NamedPart, elements_apart, entries_apart};
 ghost use Rattle.fb_tape.specs.OpenFields.{IsOpenTable};
 ghost use Rattle.fb_tape.specs.StoredFields.{is_reference, ItemsKnown};
@@ -122,6 +123,7 @@ impl<'l> Tape<'l> {
     /// How many vtables there are: of each that the tables have, one.
     pub fn vtable_count(&self) -> usize
         ensures exact { result ≡ length self.now.vtables }
+        ensures one { EachHasOneNumber self.now.vtables }
     {
         self.vtables.len()
     }
