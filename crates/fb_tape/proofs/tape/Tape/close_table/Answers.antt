@@ -19,10 +19,13 @@ pub note_table-requires-clause-some : goal.note_table-requires-clause-some
 note_table-requires-clause-some c =
     let L = c.args.self.now.layout in
     let t = c.args.table.0 in
-    let xs = c.requires.stored.0 in
-    (L, slots_of L t, stored_in (slots_of L t) xs,
-    open_stored L t (drop c.args.from c.args.opened.now) xs
-    (subst IsWellMade (ap (λ (t : Taped). t.layout) c.self.view_is) c.schema-schema.ensures.made) c.requires.stored.1)
+    let xs = c.requires.stored.0 in (
+      L,
+      slots_of L t,
+      stored_in (slots_of L t) xs,
+      open_stored L t (drop c.args.from c.args.opened.now) xs
+          (subst IsWellMade (ap (λ (t : Taped). t.layout) c.self.view_is) c.schema-schema.ensures.made) c.requires.stored.1,
+    )
 
 pub invariant_of-self : goal.invariant_of-self
 invariant_of-self c = record { within = omega (arith, c.self-2.invariant.within, c.note_table.ensures.grown) }
