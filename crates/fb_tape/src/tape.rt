@@ -1,5 +1,6 @@
 //! A tape: what is to be laid of a value.
-ghost use Rattle.std.specs.Prelude.{ℕ, ◌≡◌, ◌≤◌, ◌<◌, ◌+◌, ◌%◌, ◌^◌, ◌++◌, ◌↔◌, List, [], ◌∷◌, Option, Some, true, false, length, drop};
+ghost use Rattle.std.specs.Prelude.{ℕ, ◌≡◌, ◌≤◌, ◌<◌, ◌+◌, ◌%◌, ◌^◌, ◌++◌, ◌↔◌, List, [], ◌∷◌, Option, Some, true};
+ghost use Rattle.std.specs.Prelude.{false, length, drop};
 ghost use Rattle.std.specs.Prelude.{slice_get, IsTrue, OnOk};
 ghost use Rattle.byteorder.specs.Endian.{little_bytes};
 ghost use Rattle.fb_layout.specs.Laid.{one_of, slots_of, align_of};

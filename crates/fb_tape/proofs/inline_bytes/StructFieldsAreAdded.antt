@@ -112,6 +112,7 @@ all_added L s n items known m before now after h zeros many =
     let same = length-map items view in omega (arith, same, known.long) in
     let values : take n (map view items) ≡ map view items = take_all n (map view items) long in (
       h.own ++ replicate ((struct_at L s).size - length h.own) 0,
-      zeros ∙ rw (many, gap, h.after_is) (append_assoc before h.own (replicate ((struct_at L s).size - length h.own) 0)),
+      zeros
+          ∙ rw (many, gap, h.after_is) (append_assoc before h.own (replicate ((struct_at L s).size - length h.own) 0)),
       struct_stands L s (map view items) h.own ends (rw (kinds, offsets, values) at h.stand),
     )
