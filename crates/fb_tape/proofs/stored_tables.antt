@@ -1,3 +1,4 @@
+mod AlignmentsFall
 mod FieldsInTurn
 pub mod OpenFieldsAreStored
 mod NotesFollowTheOrder

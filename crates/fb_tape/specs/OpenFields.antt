@@ -1,5 +1,5 @@
 -- The stored fields of a table that isn't whole yet.
-use Rattle.std.specs.Prelude.{ℕ, suc, ◌≡◌, ◌++◌, List, [], ◌∷◌, length, Bool, true, false, Option, None, Some}
+use Rattle.std.specs.Prelude.{ℕ, suc, ◌≡◌, ◌++◌, List, [], ◌∷◌, length, Bool, true, false, Option, Some}
 use Rattle.fb_layout.specs.Laid.{LaidSchema, Slot, StoredKind, align_of, slots_of}
 use Rattle.fb_layout.specs.Widths.{inline_align}
 use Rattle.fb_value.specs.Counts.{entries_whole}

@@ -1,5 +1,6 @@
 -- The stored fields of a table in the order of laying, and where each will stand in it.
-use Rattle.std.specs.Prelude.{ℕ, ◌+◌, ◌-◌, ◌≡◌, ◌≤◌, ◌++◌, ◌==◌, true, List, [], ◌∷◌, length, map, filter, flat_map, sum_by}
+use Rattle.std.specs.Prelude.{ℕ, ◌+◌, ◌-◌, ◌≡◌, ◌≤◌, ◌++◌, ◌==◌, true, List, [], ◌∷◌, length, map, filter, flat_map}
+use Rattle.std.specs.Prelude.{sum_by}
 use Rattle.std.specs.Prelude.{slice_get, slice_set, Option, Some}
 use Rattle.fb_layout.specs.Laid.{LaidSchema, Slot}
 use Rattle.fb_layout.specs.Sizes.{IsAlignment}

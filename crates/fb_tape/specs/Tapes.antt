@@ -1,7 +1,8 @@
 -- What a tape means: which parts wait for who refers to them once its operations are laid one after the other.
 -- From the FlatBuffers documentation, "FlatBuffer Internals": Strings and vectors (a count in front of what is counted,
 -- a zero behind a string), Tables.
-use Rattle.std.specs.Prelude.{ℕ, suc, ◌+◌, ◌-◌, ◌*◌, ◌≡◌, ◌≤◌, ◌⊎◌, ◌++◌, max, true, false, List, [], ◌∷◌, length, Option}
+use Rattle.std.specs.Prelude.{ℕ, suc, ◌+◌, ◌-◌, ◌*◌, ◌≡◌, ◌≤◌, ◌⊎◌, ◌++◌, max, true, false, List, [], ◌∷◌, length}
+use Rattle.std.specs.Prelude.{Option}
 use Rattle.std.specs.Prelude.{Some, slice_get}
 use Rattle.std.specs.Str.{IsUtf8}
 use Rattle.byteorder.specs.Endian.{little_bytes}

@@ -1,7 +1,7 @@
 //! The vtables of a tape, each once.
 ghost use Rattle.std.specs.Prelude.{ℕ, ◌≡◌, ◌<◌, ◌++◌, ◌⊎◌, [], ◌∷◌, None, Some, length, slice_get, IfOk, OnErr};
 ghost use Rattle.std.specs.Prelude.{◌↔◌, IsTrue, IfSome};
-ghost use Rattle.fb_tape.specs.KnownVtables.{IsNumbered};
+ghost use Rattle.fb_tape.specs.KnownVtables.{EachHasOneNumber, IsNumbered};
 
 use fb_index::{DigestIndex, HashKey};
 use std::alloc::{AllocError, Global};
@@ -53,6 +53,7 @@ impl KnownVtables {
     /// How many there are.
     pub(crate) fn len(&self) -> usize
         ensures exact { result ≡ length self.now }
+        ensures one { EachHasOneNumber self.now }
     {
         self.ranges.len()
     }

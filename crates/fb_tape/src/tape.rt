@@ -1,5 +1,6 @@
 //! A tape: what is to be laid of a value.
-ghost use Rattle.std.specs.Prelude.{ℕ, ◌≡◌, ◌≤◌, ◌<◌, ◌+◌, ◌%◌, ◌^◌, ◌++◌, ◌↔◌, List, [], ◌∷◌, Option, Some, true, false, length, drop};
+ghost use Rattle.std.specs.Prelude.{ℕ, ◌≡◌, ◌≤◌, ◌<◌, ◌+◌, ◌%◌, ◌^◌, ◌++◌, ◌↔◌, List, [], ◌∷◌, Option, Some, true};
+ghost use Rattle.std.specs.Prelude.{false, length, drop};
 ghost use Rattle.std.specs.Prelude.{slice_get, IsTrue, OnOk};
 ghost use Rattle.byteorder.specs.Endian.{little_bytes};
 ghost use Rattle.fb_layout.specs.Laid.{one_of, slots_of, align_of};
@@ -13,6 +14,7 @@ ghost use Rattle.fb_value.specs.Room.{table_room, vector_room};
 ghost use Rattle.fb_value.specs.UpTo.{at_most_usize};
 ghost use Rattle.fb_value.specs.View.{view, parts_in, entries_in};
 ghost use Rattle.fb_tape.specs.InlineBytes.{IsInline};
+ghost use Rattle.fb_tape.specs.KnownVtables.{EachHasOneNumber};
 ghost use Rattle.fb_tape.specs.NamedParts.{NamedPart, elements_apart, entries_apart};
 ghost use Rattle.fb_tape.specs.OpenFields.{IsOpenTable};
 ghost use Rattle.fb_tape.specs.StoredFields.{is_reference, ItemsKnown};
@@ -122,6 +124,7 @@ impl<'l> Tape<'l> {
     /// How many vtables there are: of each that the tables have, one.
     pub fn vtable_count(&self) -> usize
         ensures exact { result ≡ length self.now.vtables }
+        ensures one { EachHasOneNumber self.now.vtables }
     {
         self.vtables.len()
     }

@@ -71,8 +71,9 @@ free_before L kind o i [] [] e h = (refl, (neither _ _ h).0)
 free_before L kind o i [] (p ∷ os) e h = absurd (omega (arith, e))
 free_before L kind o i (k ∷ kinds) [] e h = absurd (omega (arith, e))
 free_before L kind o i (k ∷ kinds) (p ∷ os) e h =
+    let less : length os ≡ length kinds = omega (arith, e) in
     let parts = neither _ _ h in
-    let rest = free_before L kind o i kinds os (omega (arith, e)) parts.1 in
+    let rest = free_before L kind o i kinds os less parts.1 in
     (either _ _ parts.0 rest.0, rest.1)
 
 -- some zeros, whatever is before them

@@ -58,11 +58,11 @@ module _ (L : LaidSchema) (s n k : ℕ) (items : List Value) (known : StructKnow
   pub offset_is : slice_index (struct_at L s).offsets k ≡ begin_at L s k
   offset_is = sym (index_or (struct_at L s).offsets k (struct_at L s).size (omega (arith, known.offsets, low)))
 
-  pub one_added : (v : Value) (before now padded after : Bytes) → v ≡ get_or items k v
-      → AddsFields L s k items before now
-      → padded ≡ now ++ replicate (slice_index (struct_at L s).offsets k - (length now - length before)) 0
+  pub one_added : (v : Value) (m : ℕ) (before now padded after : Bytes) → v ≡ get_or items k v
+      → AddsFields L s k items before now → padded ≡ now ++ replicate m 0
+      → m ≡ slice_index (struct_at L s).offsets k - (length now - length before)
       → AddsInline L kind (view v) padded after → AddsFields L s (k + 1) items before after
-  one_added v before now padded after is h zeros added =
+  one_added v m before now padded after is h zeros many added =
       let o : ℕ = slice_index (struct_at L s).offsets k in
       let under : length h.own ≤ o = rw offset_is h.ends in
       let gap : length now - length before ≡ length h.own =
@@ -85,8 +85,8 @@ module _ (L : LaidSchema) (s n k : ℕ) (items : List Value) (known : StructKnow
       omega (arith, all, all2, all3, under, added.2.long) in
       record {
         own = front ++ added.0;
-        after_is = added.1 ∙ ap (λ (b : Bytes). b ++ added.0) (zeros ∙ rw (gap, h.after_is) (append_assoc before h.own
-            (replicate (o - length h.own) 0))) ∙ append_assoc before front added.0;
+        after_is = added.1 ∙ ap (λ (b : Bytes). b ++ added.0) (zeros ∙ rw (many, gap, h.after_is)
+            (append_assoc before h.own (replicate (o - length h.own) 0))) ∙ append_assoc before front added.0;
         ends = rw ended (rw add-one (known.apart k kind at));
         stand = rw (
           take_one_more (parts_of L s) k kind at,
@@ -97,10 +97,10 @@ module _ (L : LaidSchema) (s n k : ℕ) (items : List Value) (known : StructKnow
       }
 
 pub all_added : (L : LaidSchema) (s n : ℕ) (items : List Value) → StructKnown L s n items
-    → (before now after : Bytes) (size : ℕ) → size ≡ (struct_at L s).size → AddsFields L s n items before now
-    → after ≡ now ++ replicate (size - (length now - length before)) 0
+    → (m : ℕ) (before now after : Bytes) → AddsFields L s n items before now → after ≡ now ++ replicate m 0
+    → m ≡ (struct_at L s).size - (length now - length before)
     → AddsInline L (struct_kind s) (a_struct (parts_view items)) before after
-all_added L s n items known before now after size is h zeros =
+all_added L s n items known m before now after h zeros many =
     let gap : length now - length before ≡ length h.own =
     let long = ap length h.after_is ∙ length-append before h.own in omega (arith, long) in
     let ends : length h.own ≤ (struct_at L s).size =
@@ -112,6 +112,7 @@ all_added L s n items known before now after size is h zeros =
     let same = length-map items view in omega (arith, same, known.long) in
     let values : take n (map view items) ≡ map view items = take_all n (map view items) long in (
       h.own ++ replicate ((struct_at L s).size - length h.own) 0,
-      zeros ∙ rw (gap, is, h.after_is) (append_assoc before h.own (replicate ((struct_at L s).size - length h.own) 0)),
+      zeros
+          ∙ rw (many, gap, h.after_is) (append_assoc before h.own (replicate ((struct_at L s).size - length h.own) 0)),
       struct_stands L s (map view items) h.own ends (rw (kinds, offsets, values) at h.stand),
     )

@@ -1,9 +1,8 @@
 -- Vtables once one more is noted behind them.
-use Rattle.std.proofs.Common.{◌≡◌, ◌≤◌, ◌<◌, ◌+◌, ◌-◌, ◌++◌, ◌∙◌, ◌⊎◌, inl, inr, ℕ, zero, suc, List, [], ◌∷◌, Some}
-use Rattle.std.proofs.Common.{slice_get, length, take, drop, refl, sym, ap, subst, arith, length-append}
+use Rattle.std.proofs.Common.{◌≡◌, ◌≤◌, ◌+◌, ◌++◌, ◌∙◌, ◌⊎◌, inl, inr, ℕ, zero, suc, List, [], ◌∷◌, Some}
+use Rattle.std.proofs.Common.{slice_get, length, take, drop, refl, sym, ap, arith, length-append}
 use Rattle.std.proofs.lemmas.List.{take-append-le, drop-append-le, length-drop}
 use Rattle.std.proofs.Math.Seq.{drop-append_seam}
-use Rattle.std.proofs.lemmas.Option.{slice_get_within}
 use Rattle.fb_value.specs.Num.{Bytes, part_of}
 use Rattle.fb_tape.specs.KnownVtables.{EachHasOneNumber}
 use Rattle.fb_tape.specs.declared.known_vtables.VtableRange.{VtableRange}
@@ -103,4 +102,5 @@ held_more ranges known bytes vtable h absent = record {
         kept known (vtable ∷ []) i _ (h.stand i range is)
         ∙ ap (λ (z : Bytes). Some z) (sym (part_kept bytes vtable range.first range.size (h.within i range is)))
     stand i range (inr is) =
-        rw (← is.1) (rw (is.0 ∙ h.each) (at_end known vtable ∙ ap (λ (z : Bytes). Some z) (sym (part_last bytes vtable))))
+        let own = ap (λ (z : Bytes). Some z) (sym (part_last bytes vtable)) in
+        rw (← is.1) (rw (is.0 ∙ h.each) (at_end known vtable ∙ own))

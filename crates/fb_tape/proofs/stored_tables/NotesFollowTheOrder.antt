@@ -1,6 +1,6 @@
 -- The notes of open fields are those of stored slots, in the order of laying.
-use Rattle.std.proofs.Common.{◌≡◌, ◌+◌, ◌++◌, ◌==◌, ◌&&◌, ◌∙◌, ℕ, zero, suc, true, false, Bool, if◌then◌else◌}
-use Rattle.std.proofs.Common.{List, [], ◌∷◌, Option, None, Some, slice_get, flat_map, refl, sym, ap, arith}
+use Rattle.std.proofs.Common.{◌≡◌, ◌+◌, ◌++◌, ◌==◌, ◌&&◌, ◌∙◌, ℕ, suc, true, false, Bool, if◌then◌else◌}
+use Rattle.std.proofs.Common.{List, [], ◌∷◌, Option, Some, slice_get, flat_map, refl, sym, ap, arith}
 use Rattle.std.proofs.lemmas.List.{append_assoc}
 use Rattle.fb_layout.specs.Laid.{LaidSchema, Slot}
 use Rattle.fb_layout.specs.Widths.{inline_align}
@@ -8,8 +8,8 @@ use Rattle.fb_value.specs.Datum.{Datum}
 use Rattle.fb_value.specs.Num.{Bytes}
 use Rattle.fb_tape.specs.LayingOrder.{slots_at, laying_order, falling_alignments}
 use Rattle.fb_tape.specs.NotedFields.{AreNoted}
-use Rattle.fb_tape.specs.OpenFields.{OpenField, IsOpenFirst, IsOpenIf, AreOpen}
-use Rattle.fb_tape.specs.StoredFields.{is_stored, is_at}
+use Rattle.fb_tape.specs.OpenFields.{OpenField, IsOpenIf, AreOpen}
+use Rattle.fb_tape.specs.StoredFields.{is_stored}
 use Rattle.fb_tape.specs.StoredTables.{at_align, in_order, notes_of, bytes_of}
 use Rattle.fb_tape.specs.declared.ops.NotedField.{NotedField}
 use Rattle.fb_tape.proofs.stored_tables.FieldsInTurn.{at_align_more, at_align_other, notes_both, bytes_both}
@@ -51,7 +51,8 @@ noted_both L fs xs (k ∷ ks) ls ns ms bs cs h more = record {
 
 module _ (L : LaidSchema) (a : ℕ) (FS : List Slot) (XS : List (Option Datum)) where
   abbrev Noted : ℕ → List Slot → List (Option Datum) → List OpenField → Type 0
-  Noted k fs xs opens = AreNoted L FS XS (slots_at L a k fs xs) (notes_of (at_align a opens)) (bytes_of (at_align a opens))
+  Noted k fs xs opens =
+      AreNoted L FS XS (slots_at L a k fs xs) (notes_of (at_align a opens)) (bytes_of (at_align a opens))
 
   one_noted : (k : ℕ) (f : Slot) (x : Option Datum) (fs : List Slot) (xs : List (Option Datum))
       (opens : List OpenField) → slice_get FS k ≡ Some f → slice_get XS k ≡ Some x
@@ -94,8 +95,8 @@ module _ (L : LaidSchema) (a : ℕ) (FS : List Slot) (XS : List (Option Datum)) 
 -- by falling alignment
 each_noted : (L : LaidSchema) (fs : List Slot) (xs : List (Option Datum)) (opens : List OpenField)
     → AreOpen L 0 fs xs opens → (aligns : List ℕ)
-    → AreNoted L fs xs (flat_map (λ a. slots_at L a 0 fs xs) aligns) (notes_of (flat_map (λ a. at_align a opens) aligns))
-    (bytes_of (flat_map (λ a. at_align a opens) aligns))
+    → AreNoted L fs xs (flat_map (λ a. slots_at L a 0 fs xs) aligns)
+    (notes_of (flat_map (λ a. at_align a opens) aligns)) (bytes_of (flat_map (λ a. at_align a opens) aligns))
 each_noted L fs xs opens h [] = (refl, refl)
 each_noted L fs xs opens h (a ∷ aligns) =
     rw (

@@ -1,13 +1,14 @@
 -- Where the fields of one alignment stand is told slot by slot.
-use Rattle.std.proofs.Common.{◌≡◌, ◌≤◌, ◌<◌, ◌+◌, ◌-◌, ◌++◌, ◌==◌, ◌&&◌, ◌∙◌, ℕ, zero, suc, true, false, Bool, if◌then◌else◌}
-use Rattle.std.proofs.Common.{List, [], ◌∷◌, Option, None, Some, slice_get, slice_index, slice_set, length, take, refl, sym, ap, arith}
+use Rattle.std.proofs.Common.{◌≡◌, ◌<◌, ◌+◌, ◌-◌, ◌==◌, ◌∙◌, ℕ, zero, suc, true, false, Bool, if◌then◌else◌}
+use Rattle.std.proofs.Common.{List, [], ◌∷◌, Option, Some, slice_get, slice_index, slice_set, length, take, refl, sym}
+use Rattle.std.proofs.Common.{arith}
 use Rattle.std.proofs.lemmas.List.{get_or-set_same, get_or-set_other, length-set}
 use Rattle.std.proofs.lemmas.List.Elements.{All-tail}
 use Rattle.std.specs.List.{All}
 use Rattle.fb_layout.specs.Laid.{LaidSchema, Slot}
 use Rattle.fb_layout.specs.Widths.{inline_align, inline_size}
 use Rattle.fb_value.specs.Datum.{Datum}
-use Rattle.fb_tape.specs.OpenFields.{OpenField, IsOpenFirst, IsOpenIf, AreOpen}
+use Rattle.fb_tape.specs.OpenFields.{OpenField, IsOpenIf, AreOpen}
 use Rattle.fb_tape.specs.StoredFields.{is_stored, is_at, size_at, size_if_at}
 use Rattle.fb_tape.specs.StoredTables.{taken_by, at_align, placed}
 use Rattle.fb_tape.proofs.stored_tables.FieldsInTurn.{at_align_more, at_align_other}
@@ -17,8 +18,8 @@ use Rattle.fb_tape.proofs.stored_tables.OpenFieldsAreStored.{same_align, noted_s
 pub record AreTold (L : LaidSchema) (a size laid k : ℕ) (fs : List Slot) (xs : List (Option Datum))
     (slots told : List ℕ) : Type 0 where
   pub here : (i : ℕ) (f : Slot) (x : Option Datum) → slice_get fs i ≡ Some f → slice_get xs i ≡ Some x
-      → slice_index told (k + i) ≡ (if is_at L a f x then size - (laid + size_at L a (take (suc i) fs) (take (suc i) xs))
-      else slice_index slots (k + i))
+      → slice_index told (k + i) ≡ (if is_at L a f x
+      then size - (laid + size_at L a (take (suc i) fs) (take (suc i) xs)) else slice_index slots (k + i))
   pub before : (j : ℕ) → j < k → slice_index told j ≡ slice_index slots j
 
 module _ (L : LaidSchema) (a size : ℕ) where
@@ -30,7 +31,8 @@ module _ (L : LaidSchema) (a size : ℕ) where
       (rest : AreTold L a size (laid + n) (suc k) fs xs now told)
     where
       here : (i : ℕ) (g : Slot) (y : Option Datum) → slice_get (f ∷ fs) i ≡ Some g → slice_get (x ∷ xs) i ≡ Some y
-          → slice_index told (k + i) ≡ (if is_at L a g y then size - (laid + size_at L a (take (suc i) (f ∷ fs)) (take (suc i) (x ∷ xs)))
+          → slice_index told (k + i) ≡ (if is_at L a g y
+          then size - (laid + size_at L a (take (suc i) (f ∷ fs)) (take (suc i) (x ∷ xs)))
           else slice_index slots (k + i))
       here zero g y gi yi =
           let g_is : f ≡ g = cc in

@@ -1,15 +1,13 @@
 -- The offsets up to the last slot that is stored.
-use Rattle.std.proofs.Common.{◌≡◌, ◌≤◌, ◌<◌, ◌+◌, ◌-◌, ◌++◌, ◌==◌, ◌&&◌, ◌∙◌, ℕ, zero, suc, true, false, Bool, if◌then◌else◌}
-use Rattle.std.proofs.Common.{nat_lt, List, [], ◌∷◌, Option, None, Some, slice_get, slice_index, length, take, refl, sym, ap, arith}
+use Rattle.std.proofs.Common.{◌≡◌, ◌≤◌, ◌<◌, ◌+◌, ◌-◌, ◌==◌, ◌&&◌, ℕ, zero, suc, true, false, Bool, if◌then◌else◌}
+use Rattle.std.proofs.Common.{nat_lt, List, [], ◌∷◌, Option, Some, slice_get, slice_index, length, take, refl, arith}
 use Rattle.std.proofs.lemmas.Bool.{eqb-true, ltb-true}
-use Rattle.std.specs.List.{All}
 use Rattle.fb_layout.specs.Laid.{LaidSchema, Slot}
 use Rattle.fb_layout.specs.Widths.{inline_align, inline_size}
 use Rattle.fb_value.specs.Datum.{Datum}
-use Rattle.fb_tape.specs.OpenFields.{OpenField, IsOpenFirst, IsOpenIf, AreOpen}
-use Rattle.fb_tape.specs.StoredFields.{is_stored, is_at, size_at, size_above, fields_size}
+use Rattle.fb_tape.specs.OpenFields.{OpenField, IsOpenIf, AreOpen}
+use Rattle.fb_tape.specs.StoredFields.{is_stored, size_at, size_above, fields_size}
 use Rattle.fb_tape.specs.Vtables.{stored_end, table_size, field_offset, offsets_from, trimmed}
-use Rattle.fb_tape.proofs.stored_tables.NotesFollowTheOrder.{StandsFrom, stands_behind, stands_here}
 
 pub none_trimmed : (os : List ℕ) → trimmed os ≡ [] → trimmed (0 ∷ os) ≡ []
 none_trimmed os is = rw is refl

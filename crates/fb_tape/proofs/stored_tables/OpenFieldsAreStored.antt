@@ -1,20 +1,18 @@
 -- The open fields of a table are what it stores.
-use Rattle.std.proofs.Common.{◌≡◌, ◌≤◌, ◌<◌, ◌+◌, ◌++◌, ◌==◌, ◌&&◌, ◌∙◌, ℕ, zero, suc, Bool, true, false, if◌then◌else◌}
-use Rattle.std.proofs.Common.{List, [], ◌∷◌, Option, None, Some, cond, max, map, slice_get, length, refl, sym, ap, arith}
+use Rattle.std.proofs.Common.{◌≡◌, ◌+◌, ◌==◌, ◌&&◌, ◌∙◌, ℕ, suc, Bool, true, false, if◌then◌else◌}
+use Rattle.std.proofs.Common.{List, [], ◌∷◌, Option, max, map, refl, sym, arith}
 use Rattle.std.proofs.lemmas.List.Elements.{All-cons}
 use Rattle.std.specs.List.{All}
 use Rattle.fb_schema.specs.Alignments.{greatest_in}
-use Rattle.fb_layout.specs.Laid.{LaidSchema, Slot, StoredKind, StoredShape, one_of, vector_of, scalar_kind, struct_kind}
+use Rattle.fb_layout.specs.Laid.{LaidSchema, Slot, StoredShape, one_of, vector_of, scalar_kind, struct_kind}
 use Rattle.fb_layout.specs.Laid.{table_kind, union_kind, code_kind, text_kind, size_of}
 use Rattle.fb_layout.specs.Sizes.{IsAlignment}
 use Rattle.fb_layout.specs.Widths.{inline_size, inline_align}
 use Rattle.fb_value.specs.Datum.{Datum}
 use Rattle.fb_value.specs.Num.{Bytes}
-use Rattle.fb_tape.specs.InlineBytes.{AreInlineBytes}
 use Rattle.fb_tape.specs.NotedFields.{IsNoted}
-use Rattle.fb_tape.specs.OpenFields.{OpenField, IsOpenFirst, IsOpenIf, AreOpen}
-use Rattle.fb_tape.specs.StoredFields.{is_stored, is_at, is_reference, inline_kind, fields_size, size_at, stored_align}
-use Rattle.fb_tape.specs.StoredFields.{align_if_stored, size_if_at}
+use Rattle.fb_tape.specs.OpenFields.{OpenField, IsOpenIf, AreOpen}
+use Rattle.fb_tape.specs.StoredFields.{is_stored, is_reference, inline_kind, fields_size, size_at, stored_align}
 use Rattle.fb_tape.specs.StoredTables.{taken_by, taken, at_align, StoredAligned}
 use Rattle.fb_tape.specs.declared.ops.NotedField.{NotedField}
 use Rattle.fb_tape.specs.declared.ops.NotedField.TheVariants.{Reference, Inline}

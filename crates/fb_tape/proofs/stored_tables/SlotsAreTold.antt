@@ -1,8 +1,10 @@
 -- Where each field stands is told by its slot, once the fields of all alignments are noted.
-use Rattle.std.proofs.Common.{◌≡◌, ◌≤◌, ◌<◌, ◌+◌, ◌-◌, ◌^◌, ◌++◌, ◌==◌, ◌&&◌, ◌||◌, ◌∙◌, ℕ, zero, suc, true, false, Bool}
-use Rattle.std.proofs.Common.{if◌then◌else◌, nat_lt, List, [], ◌∷◌, Option, None, Some, slice_get, slice_index, length, take}
-use Rattle.std.proofs.Common.{flat_map, refl, sym, ap, arith}
-use Rattle.std.proofs.lemmas.Bool.{eqb-true}
+use Rattle.std.proofs.Common.{◌≡◌, ◌≤◌, ◌<◌, ◌+◌, ◌-◌, ◌^◌, ◌==◌, ◌&&◌, ◌∙◌, ◌⊎◌, inl, inr, ℕ, zero, suc, true, false}
+use Rattle.std.proofs.Common.{Bool}
+use Rattle.std.proofs.Common.{if◌then◌else◌, nat_lt, List, [], ◌∷◌, Option, Some, slice_get, slice_index, length, take}
+use Rattle.std.proofs.Common.{flat_map, refl, ap, arith}
+use Rattle.std.proofs.Math.Pow.{pow_mono}
+use Rattle.std.proofs.lemmas.Bool.{eqb-true, le-ltb}
 use Rattle.std.specs.List.{All}
 use Rattle.fb_layout.specs.Laid.{LaidSchema, Slot}
 use Rattle.fb_layout.specs.Sizes.{IsAlignment}
@@ -10,19 +12,13 @@ use Rattle.fb_layout.specs.Widths.{inline_align, inline_size}
 use Rattle.fb_value.specs.Datum.{Datum}
 use Rattle.fb_tape.specs.LayingOrder.{falling_alignments}
 use Rattle.fb_tape.specs.OpenFields.{OpenField, AreOpen}
-use Rattle.fb_tape.specs.StoredFields.{is_stored, is_at, size_at, size_above}
-use Rattle.fb_tape.specs.StoredTables.{taken, at_align, in_order, placed, StoredAligned}
+use Rattle.fb_tape.specs.StoredFields.{is_stored, is_at, size_if_at, size_at, size_above}
+use Rattle.fb_tape.specs.StoredTables.{taken, at_align, placed, StoredAligned}
+use Rattle.fb_tape.proofs.stored_tables.AlignmentsFall.{among, EachOnce, falling_from, first_or_below, is_among}
+use Rattle.fb_tape.proofs.stored_tables.AlignmentsFall.{same_power, other_power, next_or_above}
 use Rattle.fb_tape.proofs.stored_tables.FieldsInTurn.{placed_both, placed_long}
 use Rattle.fb_tape.proofs.stored_tables.OpenFieldsAreStored.{taken_at_is}
-use Rattle.fb_tape.proofs.stored_tables.OffsetsAreTold.{AreTold, all_told}
-
-abbrev pub among : ℕ → List ℕ → Bool
-among n [] = false
-among n (m ∷ ms) = (n == m) || among n ms
-
-abbrev pub EachOnce : List ℕ → Type 0
-EachOnce [] = Unit {0}
-EachOnce (m ∷ ms) = (among m ms ≡ false) × EachOnce ms
+use Rattle.fb_tape.proofs.stored_tables.OffsetsAreTold.{all_told}
 
 -- what comes before the fields of an alignment
 abbrev pub laid_before : LaidSchema → List Slot → List (Option Datum) → List ℕ → ℕ → ℕ
@@ -80,139 +76,67 @@ module _ (L : LaidSchema) (size : ℕ) (fs : List Slot) (xs : List (Option Datum
         let here = rw same at ((all_told L b size 0 fs xs opens are laid slots low).here i f x fi xi) in
         let long : length told ≡ length slots = placed_long size laid own slots in
         let behind = each_told bs once.1 (laid + taken own) told (rw long low) i f x fi xi in
-        let sum : laid + taken own ≡ laid + size_at L b fs xs = ap (λ (n : ℕ). laid + n) (taken_at_is L b 0 fs xs opens are) in
+        let sum : laid + taken own ≡ laid + size_at L b fs xs =
+        ap (λ (n : ℕ). laid + n) (taken_at_is L b 0 fs xs opens are) in
         rw (placed_both size laid own rest slots)
         (one_more b bs laid i (slice_index slots i) (slice_index told i) (laid + taken own) _ f x (is_stored f x)
         (inline_align L f.shape == b) refl refl once.0 here sum behind)
 
 -- ---- what is aligned above an alignment
 
+-- What is above an alignment is what is at the next one and above that, and nothing is above the greatest.
 pub record AreAbove (L : LaidSchema) (fs : List Slot) (xs : List (Option Datum)) : Type 0 where
-  pub at_256 : size_above L 256 fs xs ≡ 0
-  pub at_128 : size_above L 128 fs xs ≡ size_at L 256 fs xs
-  pub at_64 : size_above L 64 fs xs ≡ size_at L 256 fs xs + size_at L 128 fs xs
-  pub at_32 : size_above L 32 fs xs ≡ (size_at L 256 fs xs + size_at L 128 fs xs) + size_at L 64 fs xs
-  pub at_16 : size_above L 16 fs xs ≡ ((size_at L 256 fs xs + size_at L 128 fs xs) + size_at L 64 fs xs)
-      + size_at L 32 fs xs
-  pub at_8 : size_above L 8 fs xs ≡ (((size_at L 256 fs xs + size_at L 128 fs xs) + size_at L 64 fs xs)
-      + size_at L 32 fs xs) + size_at L 16 fs xs
-  pub at_4 : size_above L 4 fs xs ≡ ((((size_at L 256 fs xs + size_at L 128 fs xs) + size_at L 64 fs xs)
-      + size_at L 32 fs xs) + size_at L 16 fs xs) + size_at L 8 fs xs
-  pub at_2 : size_above L 2 fs xs ≡ (((((size_at L 256 fs xs + size_at L 128 fs xs) + size_at L 64 fs xs)
-      + size_at L 32 fs xs) + size_at L 16 fs xs) + size_at L 8 fs xs) + size_at L 4 fs xs
-  pub at_1 : size_above L 1 fs xs ≡ ((((((size_at L 256 fs xs + size_at L 128 fs xs) + size_at L 64 fs xs)
-      + size_at L 32 fs xs) + size_at L 16 fs xs) + size_at L 8 fs xs) + size_at L 4 fs xs) + size_at L 2 fs xs
+  pub next : (e : ℕ) → size_above L (2 ^ e) fs xs
+      ≡ size_at L (2 ^ suc e) fs xs + size_above L (2 ^ suc e) fs xs
+  pub none : size_above L (2 ^ 8) fs xs ≡ 0
 
-above_one : (L : LaidSchema) (f : Slot) (x : Option Datum) (fs : List Slot) (xs : List (Option Datum)) (b : ℕ) (t : Bool)
-    → is_stored f x ≡ t → inline_align L f.shape ≡ b → (a : ℕ)
-    → size_above L a (f ∷ fs) (x ∷ xs) ≡ (if t && nat_lt a b then inline_size L f.shape else 0) + size_above L a fs xs
-above_one L f x fs xs b t stored is a = rw (stored, is) refl
+-- what a slot takes that is stored above an alignment
+abbrev size_if_above : LaidSchema → ℕ → Slot → Option Datum → ℕ
+size_if_above L a f x = if is_stored f x && nat_lt a (inline_align L f.shape) then inline_size L f.shape else 0
 
-at_one : (L : LaidSchema) (f : Slot) (x : Option Datum) (fs : List Slot) (xs : List (Option Datum)) (b : ℕ) (t : Bool)
-    → is_stored f x ≡ t → inline_align L f.shape ≡ b → (a : ℕ)
-    → size_at L a (f ∷ fs) (x ∷ xs) ≡ (if t && (b == a) then inline_size L f.shape else 0) + size_at L a fs xs
-at_one L f x fs xs b t stored is a = rw (stored, is) refl
+-- what a slot adds to each of these sums
+abbrev AddsAbove : LaidSchema → Slot → Option Datum → Type 0
+AddsAbove L f x = ((e : ℕ) → size_if_above L (2 ^ e) f x
+    ≡ size_if_at L (2 ^ suc e) f x + size_if_above L (2 ^ suc e) f x) × (size_if_above L (2 ^ 8) f x ≡ 0)
 
--- what a field of alignment b adds to the sizes at and above alignment a
-abbrev adds_at : ℕ → ℕ → ℕ → ℕ
-adds_at a b n = if b == a then n else 0
-
-abbrev adds_above : ℕ → ℕ → ℕ → ℕ
-adds_above a b n = if nat_lt a b then n else 0
-
--- It adds the same to what is above an alignment as to all that are.
-abbrev Agrees : ℕ → ℕ → Type 0
-Agrees b n = (adds_above 256 b n ≡ 0) × (adds_above 128 b n ≡ adds_at 256 b n)
-    × (adds_above 64 b n ≡ adds_at 128 b n + adds_above 128 b n)
-    × (adds_above 32 b n ≡ adds_at 64 b n + adds_above 64 b n)
-    × (adds_above 16 b n ≡ adds_at 32 b n + adds_above 32 b n)
-    × (adds_above 8 b n ≡ adds_at 16 b n + adds_above 16 b n)
-    × (adds_above 4 b n ≡ adds_at 8 b n + adds_above 8 b n)
-    × (adds_above 2 b n ≡ adds_at 4 b n + adds_above 4 b n)
-    × (adds_above 1 b n ≡ adds_at 2 b n + adds_above 2 b n)
-
-agrees : (e n : ℕ) → e ≤ 8 → Agrees (2 ^ e) n
-agrees zero n few =
-    (omega arith, omega arith, omega arith, omega arith, omega arith, omega arith, omega arith, omega arith, omega arith)
-agrees (suc zero) n few =
-    (omega arith, omega arith, omega arith, omega arith, omega arith, omega arith, omega arith, omega arith, omega arith)
-agrees (suc (suc zero)) n few =
-    (omega arith, omega arith, omega arith, omega arith, omega arith, omega arith, omega arith, omega arith, omega arith)
-agrees (suc (suc (suc zero))) n few =
-    (omega arith, omega arith, omega arith, omega arith, omega arith, omega arith, omega arith, omega arith, omega arith)
-agrees (suc (suc (suc (suc zero)))) n few =
-    (omega arith, omega arith, omega arith, omega arith, omega arith, omega arith, omega arith, omega arith, omega arith)
-agrees (suc (suc (suc (suc (suc zero))))) n few =
-    (omega arith, omega arith, omega arith, omega arith, omega arith, omega arith, omega arith, omega arith, omega arith)
-agrees (suc (suc (suc (suc (suc (suc zero)))))) n few =
-    (omega arith, omega arith, omega arith, omega arith, omega arith, omega arith, omega arith, omega arith, omega arith)
-agrees (suc (suc (suc (suc (suc (suc (suc zero))))))) n few =
-    (omega arith, omega arith, omega arith, omega arith, omega arith, omega arith, omega arith, omega arith, omega arith)
-agrees (suc (suc (suc (suc (suc (suc (suc (suc zero)))))))) n few =
-    (omega arith, omega arith, omega arith, omega arith, omega arith, omega arith, omega arith, omega arith, omega arith)
-agrees (suc (suc (suc (suc (suc (suc (suc (suc (suc e))))))))) n few = absurd (omega (arith, few))
-
-above_more : (L : LaidSchema) (f : Slot) (x : Option Datum) (fs : List Slot) (xs : List (Option Datum)) (b : ℕ)
-    → is_stored f x ≡ true → inline_align L f.shape ≡ b → Agrees b (inline_size L f.shape) → AreAbove L fs xs
-    → AreAbove L (f ∷ fs) (x ∷ xs)
-above_more L f x fs xs b stored is same h =
-    let up = above_one L f x fs xs b true stored is in
-    let at = at_one L f x fs xs b true stored is in record {
-      at_256 = omega (arith, up 256, same.0, h.at_256);
-      at_128 = omega (arith, up 128, at 256, same.1, h.at_128);
-      at_64 = omega (arith, up 64, at 256, at 128, same.1, same.2, h.at_64);
-      at_32 = omega (arith, up 32, at 256, at 128, at 64, same.1, same.2, same.3, h.at_32);
-      at_16 = omega (arith, up 16, at 256, at 128, at 64, at 32, same.1, same.2, same.3, same.4, h.at_16);
-      at_8 = omega (arith, up 8, at 256, at 128, at 64, at 32, at 16, same, h.at_8);
-      at_4 = omega (arith, up 4, at 256, at 128, at 64, at 32, at 16, at 8, same, h.at_4);
-      at_2 = omega (arith, up 2, at 256, at 128, at 64, at 32, at 16, at 8, at 4, same, h.at_2);
-      at_1 = omega (arith, up 1, at 256, at 128, at 64, at 32, at 16, at 8, at 4, at 2, same, h.at_1);
-    }
-
-above_other : (L : LaidSchema) (f : Slot) (x : Option Datum) (fs : List Slot) (xs : List (Option Datum))
-    → is_stored f x ≡ false → AreAbove L fs xs → AreAbove L (f ∷ fs) (x ∷ xs)
-above_other L f x fs xs out h =
-    let up = above_one L f x fs xs (inline_align L f.shape) false out refl in
-    let at = at_one L f x fs xs (inline_align L f.shape) false out refl in record {
-      at_256 = omega (arith, up 256, h.at_256);
-      at_128 = omega (arith, up 128, at 256, h.at_128);
-      at_64 = omega (arith, up 64, at 256, at 128, h.at_64);
-      at_32 = omega (arith, up 32, at 256, at 128, at 64, h.at_32);
-      at_16 = omega (arith, up 16, at 256, at 128, at 64, at 32, h.at_16);
-      at_8 = omega (arith, up 8, at 256, at 128, at 64, at 32, at 16, h.at_8);
-      at_4 = omega (arith, up 4, at 256, at 128, at 64, at 32, at 16, at 8, h.at_4);
-      at_2 = omega (arith, up 2, at 256, at 128, at 64, at 32, at 16, at 8, at 4, h.at_2);
-      at_1 = omega (arith, up 1, at 256, at 128, at 64, at 32, at 16, at 8, at 4, at 2, h.at_1);
-    }
+adds_above : (L : LaidSchema) (f : Slot) (x : Option Datum) → (t : Bool) → is_stored f x ≡ t
+    → (t ≡ true → IsAlignment (inline_align L f.shape)) → AddsAbove L f x
+adds_above L f x false stored aligned = rw stored ((λ e. refl), refl)
+adds_above L f x true stored aligned =
+    let own = aligned refl in
+    let low : 2 ^ own.exponent ≤ 2 ^ 8 = pow_mono own.few in
+    rw (stored, own.is)
+    ((λ e. next_or_above e own.exponent (inline_size L f.shape)), rw (le-ltb (2 ^ 8) (2 ^ own.exponent) low) refl)
 
 pub all_above : (L : LaidSchema) (fs : List Slot) (xs : List (Option Datum)) → StoredAligned L fs xs → AreAbove L fs xs
-all_above L [] xs aligned = record {
-  at_256 = refl;
-  at_128 = refl;
-  at_64 = refl;
-  at_32 = refl;
-  at_16 = refl;
-  at_8 = refl;
-  at_4 = refl;
-  at_2 = refl;
-  at_1 = refl;
-}
-all_above L (f ∷ fs) [] aligned = record {
-  at_256 = refl;
-  at_128 = refl;
-  at_64 = refl;
-  at_32 = refl;
-  at_16 = refl;
-  at_8 = refl;
-  at_4 = refl;
-  at_2 = refl;
-  at_1 = refl;
-}
+all_above L [] xs aligned = record { next = λ e. refl; none = refl }
+all_above L (f ∷ fs) [] aligned = record { next = λ e. refl; none = refl }
 all_above L (f ∷ fs) (x ∷ xs) aligned =
-    by_test (is_stored f x) refl (all_above L fs xs (λ k g y fk xk. aligned (suc k) g y fk xk))
+    let rest = all_above L fs xs (λ k g y fk xk. aligned (suc k) g y fk xk) in
+    let own = adds_above L f x (is_stored f x) refl (aligned 0 f x refl refl) in
+    record { next = λ e. omega (arith, own.0 e, rest.next e); none = omega (arith, own.1, rest.none) }
+
+-- What comes before an alignment, of those that fall from one on, is what is above it, but for what is above all.
+before_is_above : (L : LaidSchema) (fs : List Slot) (xs : List (Option Datum)) → AreAbove L fs xs → (e d : ℕ) → e ≤ d
+    → laid_before L fs xs (falling_from d) (2 ^ e) + size_above L (2 ^ d) fs xs ≡ size_above L (2 ^ e) fs xs
+before_is_above L fs xs h zero zero low = omega arith
+before_is_above L fs xs h (suc e) zero low = absurd (omega (arith, low))
+before_is_above L fs xs h e (suc d) low = by_place (first_or_below e d low) (before_is_above L fs xs h e d)
   where
-    by_test : (t : Bool) → is_stored f x ≡ t → AreAbove L fs xs → AreAbove L (f ∷ fs) (x ∷ xs)
-    by_test true is h =
-        let own = aligned 0 f x refl refl is in
-        above_more L f x fs xs (2 ^ own.exponent) is own.is (agrees own.exponent (inline_size L f.shape) own.few) h
-    by_test false out h = above_other L f x fs xs out h
+    by_place : (e ≡ suc d) ⊎ (e ≤ d) → (e ≤ d
+        → laid_before L fs xs (falling_from d) (2 ^ e) + size_above L (2 ^ d) fs xs ≡ size_above L (2 ^ e) fs xs)
+        → laid_before L fs xs (falling_from (suc d)) (2 ^ e) + size_above L (2 ^ suc d) fs xs
+        ≡ size_above L (2 ^ e) fs xs
+    by_place (inl is) behind = rw (is, same_power (suc d)) (omega arith)
+    by_place (inr less) behind =
+        rw ((other_power e (suc d) (omega (arith, less))).0) (omega (arith, behind less, h.next d))
+
+-- Of the falling alignments those before one are all that are above it.
+pub at_falling : (L : LaidSchema) (fs : List Slot) (xs : List (Option Datum)) (e a : ℕ) → e ≤ 8 → a ≡ 2 ^ e
+    → AreAbove L fs xs → (among a falling_alignments ≡ true)
+    × (laid_before L fs xs falling_alignments a ≡ size_above L a fs xs)
+at_falling L fs xs e a few is h =
+    let before : laid_before L fs xs falling_alignments (2 ^ e) ≡ size_above L (2 ^ e) fs xs =
+    omega (arith, before_is_above L fs xs h e 8 few, h.none) in
+    let known : among (2 ^ e) falling_alignments ≡ true = is_among e 8 few in
+    rw is (known, before)

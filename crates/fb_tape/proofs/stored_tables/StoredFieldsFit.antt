@@ -1,19 +1,20 @@
 -- What a table stores takes no more than its slots that are in use.
-use Rattle.std.proofs.Common.{◌≡◌, ℕ, suc, ◌+◌, ◌≤◌, Bool, true, false, if◌then◌else◌, List, [], ◌∷◌, map, sum_by, slice_get}
+use Rattle.std.proofs.Common.{◌≡◌, ℕ, suc, ◌≤◌, Bool, true, false, if◌then◌else◌, List, [], ◌∷◌, sum_by, slice_get}
 use Rattle.std.proofs.Common.{Option, None, Some, refl, arith}
 use Rattle.std.proofs.lemmas.List.Sums.{sum_by-cons}
 use Rattle.fb_layout.specs.Laid.{LaidSchema, Slot, StoredShape, one_of, vector_of, slots_of}
 use Rattle.fb_layout.specs.Sizes.{IsAlignment}
 use Rattle.fb_layout.specs.WellMade.{IsWellMade}
-use Rattle.fb_layout.specs.Widths.{inline_size, inline_align, widest}
+use Rattle.fb_layout.specs.Widths.{inline_size, inline_align}
 use Rattle.fb_layout.proofs.sizes.AlignmentsArePowersOfTwo.{kind_aligned}
 use Rattle.fb_value.specs.Datum.{Datum}
 use Rattle.fb_tape.specs.OpenFields.{OpenField, IsOpenTable}
-use Rattle.fb_tape.specs.StoredFields.{IsSimple, StoredFits, AreKnown, is_stored, stored_in, fields_size}
+use Rattle.fb_tape.specs.StoredFields.{IsSimple, StoredFits, is_stored, stored_in, fields_size}
 use Rattle.fb_tape.specs.StoredTables.{AreStored}
 
 -- what is stored isn't deprecated
-pub in_use : (L : LaidSchema) (f : Slot) (x : Option Datum) → StoredFits L f x → is_stored f x ≡ true → f.deprecated ≡ false
+pub in_use : (L : LaidSchema) (f : Slot) (x : Option Datum) → StoredFits L f x → is_stored f x ≡ true
+    → f.deprecated ≡ false
 in_use L f None fits is = cc
 in_use L f (Some d) fits is = fits.0
 

@@ -1,7 +1,8 @@
 -- A table that is whole is noted: its fields, and where each stands.
-use Rattle.std.proofs.Common.{◌≡◌, ◌≤◌, ◌<◌, ◌+◌, ◌-◌, ◌^◌, ◌++◌, ◌==◌, ◌&&◌, ◌∙◌, ◌⊎◌, inl, inr, ℕ, zero, suc, true, false, Bool}
-use Rattle.std.proofs.Common.{if◌then◌else◌, List, [], ◌∷◌, Option, None, Some, slice_get, slice_index, get_or, length, take, replicate}
-use Rattle.std.proofs.Common.{refl, sym, ap, arith}
+use Rattle.std.proofs.Common.{◌≡◌, ◌≤◌, ◌<◌, ◌+◌, ◌-◌, ◌&&◌, ◌∙◌, ℕ, zero, suc, true, false, Bool}
+use Rattle.std.proofs.Common.{if◌then◌else◌, List, [], ◌∷◌, Option, Some, slice_get, slice_index, get_or, length}
+use Rattle.std.proofs.Common.{take, replicate}
+use Rattle.std.proofs.Common.{refl, sym, arith}
 use Rattle.std.proofs.lemmas.List.{ext_get_or, length-replicate}
 use Rattle.std.proofs.lemmas.Option.{slice_get-get_or}
 use Rattle.std.specs.List.{All}
@@ -11,27 +12,14 @@ use Rattle.fb_layout.specs.Widths.{inline_align}
 use Rattle.fb_value.specs.Datum.{Datum}
 use Rattle.fb_tape.specs.LayingOrder.{falling_alignments}
 use Rattle.fb_tape.specs.OpenFields.{OpenField, AreOpen}
-use Rattle.fb_tape.specs.StoredFields.{is_stored, size_at, size_above}
+use Rattle.fb_tape.specs.StoredFields.{is_stored, size_at}
 use Rattle.fb_tape.specs.StoredTables.{in_order, placed, StoredAligned}
-use Rattle.fb_tape.specs.Vtables.{stored_end, table_size, field_offset, offsets_from, trimmed}
+use Rattle.fb_tape.specs.Vtables.{stored_end, table_size, offsets_from, trimmed}
+use Rattle.fb_tape.proofs.stored_tables.AlignmentsFall.{among, each_once}
 use Rattle.fb_tape.proofs.stored_tables.FieldsInTurn.{placed_long}
-use Rattle.fb_tape.proofs.stored_tables.SlotsAreTold.{AreAbove, among, laid_before, all_above, each_told}
-use Rattle.fb_tape.proofs.stored_tables.OffsetsAreTrimmed.{trimmed_index, all_used, offset_at, none_trimmed, zero_trimmed}
-
--- Of the falling alignments those before one are all that are above it.
-at_falling : (L : LaidSchema) (fs : List Slot) (xs : List (Option Datum)) (e a : ℕ) → e ≤ 8
-    → a ≡ 2 ^ e → AreAbove L fs xs → (among a falling_alignments ≡ true)
-    × (laid_before L fs xs falling_alignments a ≡ size_above L a fs xs)
-at_falling L fs xs zero a few is h = rw is (refl, omega (arith, h.at_1))
-at_falling L fs xs (suc zero) a few is h = rw is (refl, omega (arith, h.at_2))
-at_falling L fs xs (suc (suc zero)) a few is h = rw is (refl, omega (arith, h.at_4))
-at_falling L fs xs (suc (suc (suc zero))) a few is h = rw is (refl, omega (arith, h.at_8))
-at_falling L fs xs (suc (suc (suc (suc zero)))) a few is h = rw is (refl, omega (arith, h.at_16))
-at_falling L fs xs (suc (suc (suc (suc (suc zero))))) a few is h = rw is (refl, omega (arith, h.at_32))
-at_falling L fs xs (suc (suc (suc (suc (suc (suc zero)))))) a few is h = rw is (refl, omega (arith, h.at_64))
-at_falling L fs xs (suc (suc (suc (suc (suc (suc (suc zero))))))) a few is h = rw is (refl, omega (arith, h.at_128))
-at_falling L fs xs (suc (suc (suc (suc (suc (suc (suc (suc zero)))))))) a few is h = rw is (refl, omega (arith, h.at_256))
-at_falling L fs xs (suc (suc (suc (suc (suc (suc (suc (suc (suc e))))))))) a few is h = absurd (omega (arith, few))
+use Rattle.fb_tape.proofs.stored_tables.SlotsAreTold.{laid_before, all_above, at_falling, each_told}
+use Rattle.fb_tape.proofs.stored_tables.OffsetsAreTrimmed.{trimmed_index, all_used, offset_at, none_trimmed}
+use Rattle.fb_tape.proofs.stored_tables.OffsetsAreTrimmed.{zero_trimmed}
 
 got : {A : Type 0} (xs : List A) (i : ℕ) → i < length xs → (x : A) × (slice_get xs i ≡ Some x)
 got [] i low = absurd (omega (arith, low))
@@ -86,7 +74,8 @@ module _ (L : LaidSchema) (fs : List Slot) (xs : List (Option Datum)) (opens : L
 
     by_stored : (i told : ℕ) (f : Slot) (t u : Bool) → (t ≡ true → IsAlignment (inline_align L f.shape))
         → u ≡ among (inline_align L f.shape) falling_alignments
-        → told ≡ (if t && u then table_size L fs xs - ((0 + laid_before L fs xs falling_alignments (inline_align L f.shape))
+        → told ≡ (if t && u then table_size L fs xs
+        - ((0 + laid_before L fs xs falling_alignments (inline_align L f.shape))
         + size_at L (inline_align L f.shape) (take (suc i) fs) (take (suc i) xs)) else 0)
         → told ≡ (if t then table_size L fs xs - stored_end L fs xs i f else 0)
     by_stored i told f false u power is h = h
@@ -103,7 +92,7 @@ module _ (L : LaidSchema) (fs : List Slot) (xs : List (Option Datum)) (opens : L
         ≡ slice_index told_offsets i
     one_placed i f x fi xi =
         let told = each_told L (table_size L fs xs) fs xs opens are falling_alignments
-        (refl, (refl, (refl, (refl, (refl, (refl, (refl, (refl, (refl, tt))))))))) 0 (replicate (length told_offsets) 0) zeros_low i f x fi xi in
+        (each_once 8) 0 (replicate (length told_offsets) 0) zeros_low i f x fi xi in
         let none = zeros_at (length told_offsets) i in
         let own = by_stored i _ f (is_stored f x) _ (aligned i f x fi xi) refl (rw none at told) in
         let same : 0 + i ≡ i = omega arith in

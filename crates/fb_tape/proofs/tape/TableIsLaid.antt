@@ -1,5 +1,6 @@
 -- A table is laid.
-use Rattle.std.proofs.Common.{ℕ, suc, ◌+◌, ◌-◌, ◌*◌, ◌%◌, ◌^◌, ◌≡◌, ◌≤◌, ◌<◌, ◌++◌, ◌∙◌, ◌⊎◌, inl, inr, List, [], ◌∷◌, Option, Some, length, max, map}
+use Rattle.std.proofs.Common.{ℕ, suc, ◌+◌, ◌-◌, ◌*◌, ◌%◌, ◌^◌, ◌≡◌, ◌≤◌, ◌<◌, ◌++◌, ◌∙◌, ◌⊎◌, inl, inr, List, [], ◌∷◌}
+use Rattle.std.proofs.Common.{Option, Some, length, max, map}
 use Rattle.std.proofs.Common.{slice_get, refl, sym, ap, arith, cond}
 use Rattle.std.proofs.lemmas.List.{length-map}
 use Rattle.std.proofs.lemmas.Option.{slice_get_within}
@@ -15,10 +16,10 @@ use Rattle.fb_tape.specs.KnownVtables.{IsNumbered}
 use Rattle.fb_tape.specs.LayingOrder.{laying_order}
 use Rattle.fb_tape.specs.NamedParts.{NamedPart, entries_apart}
 use Rattle.fb_tape.specs.NotedFields.{AreNoted}
-use Rattle.fb_tape.specs.OpenFields.{OpenField, IsOpenTable, IsOpenFirst, IsOpenIf, AreOpen}
+use Rattle.fb_tape.specs.OpenFields.{OpenField, IsOpenTable, IsOpenIf, AreOpen}
 use Rattle.fb_tape.specs.StoredFields.{is_stored, stored_in}
-use Rattle.fb_tape.specs.StoredTables.{AddsNotes, notes_of, bytes_of, in_order, StoredAligned}
-use Rattle.fb_tape.specs.Tapes.{Taped, Waits, Lay, IsLaidFirst, known_after, IsInTurn}
+use Rattle.fb_tape.specs.StoredTables.{notes_of, bytes_of, in_order, StoredAligned}
+use Rattle.fb_tape.specs.Tapes.{Taped, Waits, Lay}
 use Rattle.fb_tape.specs.Vtables.{vtable_of}
 use Rattle.fb_tape.specs.declared.ops.NotedField.{NotedField}
 use Rattle.fb_tape.specs.declared.ops.Op.{Op}
@@ -37,7 +38,8 @@ fields_few L k (f ∷ fs) (x ∷ xs) opens h = by_test (λ os o. fields_few L (s
     by_test : ((os : List OpenField) → AreOpen L (suc k) fs xs os → length os ≤ length fs)
         → (t : Rattle.std.proofs.Common.Bool) → IsOpenIf t L k f x opens (λ behind. AreOpen L (suc k) fs xs behind)
         → length opens ≤ suc (length fs)
-    by_test again Rattle.std.proofs.Common.true h = let rest = again h.behind h.rest in rw h.opens_are (omega (arith, rest))
+    by_test again Rattle.std.proofs.Common.true h =
+        let rest = again h.behind h.rest in rw h.opens_are (omega (arith, rest))
     by_test again Rattle.std.proofs.Common.false h = let rest = again opens h in omega (arith, rest)
 
 pub open_few : (L : LaidSchema) (t : ℕ) (opens : List OpenField) (xs : List (Option Datum)) → IsWellMade L

@@ -1,4 +1,4 @@
-use Rattle.std.proofs.Common.{◌≡◌, ◌++◌, ◌-◌, length, replicate, slice_index, ap, ◌∙◌, arith, rules}
+use Rattle.std.proofs.Common.{◌≡◌, ◌-◌, length, slice_index, arith, rules}
 use Rattle.std.proofs.lemmas.Result.{on_ok_weaker}
 use Rattle.fb_layout.specs.Laid.{stored_kind, parts_of, struct_at, scalar_kind}
 use Rattle.fb_layout.specs.Seen.{kind_seen}
@@ -100,10 +100,9 @@ push_struct-loop-k-preserved t c =
     omega (arith, inv.first, c.offset_of-offset.ensures, c.len.ensures) in
     record {
       first = inv.first;
-      added = one_added L s (length fields) k items known c.loop-k-test.true kind at c.index-parts-k.result
+      added = one_added L s (length fields) k items known c.loop-k-test.true kind at c.index-parts-k.result _
           c.args.bytes.now.items now c.push_zeros.new.bytes.items c.push_inline.new.bytes.items c.index-parts-k.is
-          inv.added (c.in_ok-push_zeros.ensures.adds ∙ ap (λ n. now ++ replicate n 0) gap)
-          c.in_ok-push_inline.ensures.adds;
+          inv.added c.in_ok-push_zeros.ensures.adds gap c.in_ok-push_inline.ensures.adds;
     }
 
 pub push_struct-overflow_sub-size : goal.push_struct-overflow_sub-size
@@ -131,12 +130,11 @@ push_struct-returns-clause-adds t c =
     let now = c.loop-k.bytes.items in
     let all : c.loop-k.k ≡ length fields = omega (arith, c.loop-k-test.false, c.loop-k.auto.k-end) in
     let gap : c.size_of-size.result - (c.len-2.result - c.len-first.result)
-    ≡ c.size_of-size.result - (length now - length c.args.bytes.now.items) =
-    omega (arith, c.loop-k.invariant.first, c.len-2.ensures) in
+    ≡ (struct_at L s).size - (length now - length c.args.bytes.now.items) =
+    omega (arith, c.loop-k.invariant.first, c.size_of-size.ensures, c.len-2.ensures) in
     on_ok_weaker c.push_zeros-2.result (λ added.
-    all_added L s (length fields) items known c.args.bytes.now.items now c.push_zeros-2.new.bytes.items
-    c.size_of-size.result c.size_of-size.ensures (rw all at c.loop-k.invariant.added)
-    (added ∙ ap (λ n. now ++ replicate n 0) gap)) c.push_zeros-2.ensures.adds
+    all_added L s (length fields) items known _ c.args.bytes.now.items now c.push_zeros-2.new.bytes.items
+    (rw all at c.loop-k.invariant.added) added gap) c.push_zeros-2.ensures.adds
 
 pub push_struct-returns-clause-kept : goal.push_struct-returns-clause-kept
 push_struct-returns-clause-kept t c =

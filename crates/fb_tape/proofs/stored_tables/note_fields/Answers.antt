@@ -1,4 +1,4 @@
-use Rattle.std.proofs.Common.{◌≡◌, ◌∙◌, ◌≤◌, ◌<◌, ◌+◌, List, ◌∷◌, ℕ, length, get_or, drop, refl, arith, flat_map}
+use Rattle.std.proofs.Common.{◌≡◌, ◌∙◌, ◌<◌, ◌+◌, ◌∷◌, ℕ, get_or, drop, refl, arith, flat_map}
 use Rattle.std.proofs.lemmas.List.{drop_all}
 use Rattle.std.proofs.lemmas.Option.{slice_get-get_or}
 use Rattle.fb_tape.specs.LayingOrder.{falling_alignments}
@@ -6,7 +6,8 @@ use Rattle.fb_tape.specs.StoredTables.{at_align, in_order}
 use Rattle.fb_tape.proofs.stored_tables.FieldsInTurn.{drop_next, begun, several_noted, all_noted, taken_both}
 use Rattle.fb_tape.proofs.stored_tables.note_fields.Goals as goal
 
-next_align : (i : ℕ) → i < 9 → drop i falling_alignments ≡ get_or falling_alignments i 0 ∷ drop (i + 1) falling_alignments
+next_align : (i : ℕ) → i < 9
+    → drop i falling_alignments ≡ get_or falling_alignments i 0 ∷ drop (i + 1) falling_alignments
 next_align i low =
     drop_next falling_alignments i (get_or falling_alignments i 0) (slice_get-get_or falling_alignments i 0 low)
 

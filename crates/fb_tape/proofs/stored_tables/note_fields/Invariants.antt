@@ -1,5 +1,4 @@
 use Rattle.std.proofs.Common.{◌≡◌, ◌≤◌, length, drop, flat_map}
-use Rattle.fb_tape.specs.LayingOrder.{falling_alignments}
 use Rattle.fb_tape.specs.StoredTables.{at_align, in_order}
 use Rattle.fb_tape.proofs.stored_tables.FieldsInTurn.{Noting}
 use Rattle.fb_tape.proofs.stored_tables.note_fields.Given as goal

@@ -1,4 +1,4 @@
-use Rattle.std.proofs.Common.{◌≡◌, ◌∙◌, ◌≤◌, ◌<◌, ◌+◌, length, drop, refl, ap, length-append, arith}
+use Rattle.std.proofs.Common.{◌<◌, ◌+◌, length, drop, refl, ap, length-append, arith}
 use Rattle.std.proofs.lemmas.List.{drop_all}
 use Rattle.std.proofs.lemmas.List.Elements.{All-tail}
 use Rattle.std.proofs.lemmas.Bool.{eq-eqb, ne_eqb}
@@ -56,7 +56,8 @@ loop-i-preserved-then-field-align c =
     (ne_eqb _ _ c.if-field-align.true) in (
       c.loop-i.invariant.0,
       c.loop-i.invariant.1,
-      All-tail (λ (y : OpenField). y.slot < length c.args.offsets.now.slots.items) x _ (rw next at c.loop-i.invariant.2),
+      All-tail (λ (y : OpenField). y.slot < length c.args.offsets.now.slots.items) x _
+          (rw next at c.loop-i.invariant.2),
       rw (next, other) at c.loop-i.invariant.3,
     )
 
@@ -74,7 +75,8 @@ loop-i-preserved c =
         length-append c.loop-i.bytes.items c.field-field.result.bytes.now,
       ),
       c.loop-i.invariant.1,
-      All-tail (λ (y : OpenField). y.slot < length c.args.offsets.now.slots.items) x _ (rw next at c.loop-i.invariant.2),
+      All-tail (λ (y : OpenField). y.slot < length c.args.offsets.now.slots.items) x _
+          (rw next at c.loop-i.invariant.2),
       rw (c.in_ok-push.ensures.items, c.in_ok-extend_from_slice.ensures.items, c.size_of.ensures, c.from.ensures) now,
     )
 

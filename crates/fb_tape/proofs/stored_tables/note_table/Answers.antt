@@ -1,13 +1,8 @@
-use Rattle.std.proofs.Common.{◌≡◌, ◌∙◌, ◌+◌, ◌≤◌, ◌<◌, ℕ, List, Option, drop, length, replicate, ap, sym, arith}
+use Rattle.std.proofs.Common.{◌≡◌, ◌∙◌, ℕ, drop, length, replicate, ap, arith}
 use Rattle.std.proofs.lemmas.List.{length-replicate}
-use Rattle.std.specs.List.{All}
-use Rattle.fb_layout.specs.Laid.{LaidSchema, Slot}
-use Rattle.fb_layout.specs.Sizes.{IsAlignment}
-use Rattle.fb_value.specs.Datum.{Datum}
-use Rattle.fb_tape.specs.OpenFields.{OpenField, AreOpen}
-use Rattle.fb_tape.specs.StoredTables.{StoredAligned, in_order}
+use Rattle.fb_tape.specs.StoredTables.{in_order}
 use Rattle.fb_tape.proofs.stored_tables.FieldsInTurn.{placed_long}
-use Rattle.fb_tape.specs.Vtables.{offsets_from, trimmed, table_size, vtable_with}
+use Rattle.fb_tape.specs.Vtables.{offsets_from, trimmed}
 use Rattle.fb_tape.proofs.stored_tables.AllIsInOrder.{all_taken}
 use Rattle.fb_tape.proofs.stored_tables.NotesFollowTheOrder.{all_in_order}
 use Rattle.fb_tape.proofs.stored_tables.OpenFieldsAreStored.{taken_is, all_aligned}

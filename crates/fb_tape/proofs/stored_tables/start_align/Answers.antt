@@ -1,4 +1,4 @@
-use Rattle.std.proofs.Common.{◌≡◌, ◌+◌, drop, map, max, refl, arith}
+use Rattle.std.proofs.Common.{◌+◌, drop, map, refl, arith}
 use Rattle.std.proofs.lemmas.List.{drop_all}
 use Rattle.fb_schema.specs.Alignments.{greatest_in}
 use Rattle.fb_tape.specs.OpenFields.{OpenField}

@@ -1,4 +1,4 @@
-use Rattle.std.proofs.Common.{◌≡◌, ◌≤◌, length, drop, map, max}
+use Rattle.std.proofs.Common.{◌≡◌, drop, map, max}
 use Rattle.fb_schema.specs.Alignments.{greatest_in}
 use Rattle.fb_tape.proofs.stored_tables.start_align.Given as goal
 

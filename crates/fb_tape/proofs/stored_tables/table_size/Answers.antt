@@ -1,4 +1,4 @@
-use Rattle.std.proofs.Common.{◌≡◌, ◌+◌, ◌*◌, ◌/◌, drop, refl, arith}
+use Rattle.std.proofs.Common.{◌≡◌, ◌+◌, drop, arith}
 use Rattle.std.proofs.lemmas.List.{drop_all}
 use Rattle.fb_tape.specs.OpenList.{field_in}
 use Rattle.fb_tape.specs.StoredTables.{taken}

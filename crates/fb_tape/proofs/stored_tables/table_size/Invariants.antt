@@ -1,4 +1,4 @@
-use Rattle.std.proofs.Common.{◌≡◌, ◌+◌, length, drop}
+use Rattle.std.proofs.Common.{◌≡◌, ◌+◌, drop}
 use Rattle.fb_tape.specs.StoredTables.{taken}
 use Rattle.fb_tape.proofs.stored_tables.table_size.Given as goal
 

@@ -1,8 +1,5 @@
-use Rattle.std.proofs.Common.{◌≡◌, ◌∙◌, ◌+◌, ◌-◌, ◌++◌, ◌⊎◌, inl, inr, ℕ, List, [], ◌∷◌, Some, length, slice_get, arith, sym, ap, refl}
+use Rattle.std.proofs.Common.{◌≡◌, ◌∙◌, ◌-◌, ◌++◌, inr, [], ◌∷◌, length, arith, ap}
 use Rattle.std.proofs.Common.{length-append}
-use Rattle.fb_value.specs.Num.{Bytes, part_of}
-use Rattle.fb_tape.specs.KnownVtables.{IsNumbered}
-use Rattle.fb_tape.specs.declared.known_vtables.VtableRange.{VtableRange}
 use Rattle.fb_tape.proofs.known_vtables.OneMoreIsKnown.{HeldLists, held_more, at_end}
 use Rattle.fb_tape.proofs.known_vtables.KnownVtables.number_of.Goals as goal
 
@@ -15,9 +12,10 @@ invariant_of-self-2 c =
     let ranges = c.push_reserved-2.ensures.items in
     let known = c.push_reserved.ensures.strings in
     let bytes = c.in_ok-extend_from_slice.ensures.items in
+    let whole = c.self.inside.bytes.ok.0 in
     let new : HeldLists c.push_reserved-2.new.self.items c.push_reserved.new.self.strings
     c.extend_from_slice.new.self.items =
-    rw (ranges, c.reserve-2.ensures.items, known, c.reserve.ensures.strings, bytes, c.len.ensures, c.self.inside.bytes.ok.0) more in
+    rw (ranges, c.reserve-2.ensures.items, known, c.reserve.ensures.strings, bytes, c.len.ensures, whole) more in
     record { each = new.each; within = new.within; stand = new.stand; one = new.one }
 
 pub returns-clause-numbered : goal.returns-clause-numbered

@@ -1,4 +1,4 @@
-use Rattle.std.proofs.Common.{◌≡◌, ◌∙◌, ◌+◌, ◌≤◌, drop, ap, arith}
+use Rattle.std.proofs.Common.{◌∙◌, ◌+◌, drop, ap, arith}
 use Rattle.fb_layout.specs.Sizes.{ceil4}
 use Rattle.fb_tape.proofs.stored_tables.OpenFieldsAreStored.{taken_is}
 use Rattle.fb_tape.proofs.stored_tables.Offsets.begin.Goals as goal
@@ -11,4 +11,5 @@ table_size-self-requires-clause-small c =
 
 pub returns-clause-size : goal.returns-clause-size
 returns-clause-size c L fs xs h =
-    c.table_size-self.ensures ∙ ap (λ (n : _). 4 + ceil4 n) (taken_is L 0 fs xs (drop c.args.first c.args.opened.now) h.are)
+    c.table_size-self.ensures
+    ∙ ap (λ (n : _). 4 + ceil4 n) (taken_is L 0 fs xs (drop c.args.first c.args.opened.now) h.are)

@@ -1,4 +1,4 @@
-use Rattle.std.proofs.Common.{◌≡◌, ◌∙◌, ◌+◌, ◌-◌, ◌≤◌, ◌<◌, ◌++◌, ℕ, List, [], length, drop, take, refl, ap, sym, arith}
+use Rattle.std.proofs.Common.{◌≡◌, ◌∙◌, ◌+◌, ◌-◌, ◌++◌, ℕ, List, [], length, drop, take, ap, sym, arith}
 use Rattle.std.proofs.Common.{subst}
 use Rattle.std.proofs.lemmas.List.{length-drop, append-nil, take-append-drop, drop_all}
 use Rattle.fb_layout.specs.WellMade.{IsWellMade}
@@ -19,10 +19,14 @@ pub note_table-requires-clause-some : goal.note_table-requires-clause-some
 note_table-requires-clause-some c =
     let L = c.args.self.now.layout in
     let t = c.args.table.0 in
-    let xs = c.requires.stored.0 in
-    (L, slots_of L t, stored_in (slots_of L t) xs,
-    open_stored L t (drop c.args.from c.args.opened.now) xs
-    (subst IsWellMade (ap (λ (t : Taped). t.layout) c.self.view_is) c.schema-schema.ensures.made) c.requires.stored.1)
+    let xs = c.requires.stored.0 in (
+      L,
+      slots_of L t,
+      stored_in (slots_of L t) xs,
+      open_stored L t (drop c.args.from c.args.opened.now) xs
+          (subst IsWellMade (ap (λ (t : Taped). t.layout) c.self.view_is) c.schema-schema.ensures.made)
+          c.requires.stored.1,
+    )
 
 pub invariant_of-self : goal.invariant_of-self
 invariant_of-self c = record { within = omega (arith, c.self-2.invariant.within, c.note_table.ensures.grown) }
@@ -63,19 +67,23 @@ returns-clause-waits c others xs h waits =
       bytes = take c.len-self-inside.result c.note_table.new.bytes.items;
       vtables = c.number_of.new.self;
     } in
+    let numbered =
+    rw (c.as_slice.ensures.value, ap (λ (t : Taped). t.vtables) seen) at c.in_ok-vtable.ensures.numbered in
     let count : c.len.result - c.args.from ≡ length opens =
     omega (arith, length-drop c.args.from c.args.opened.now, c.len.ensures) in
-    let whole = whole_taken inside.finished inside.bytes.items (ap (λ (t : Taped). t.unfinished) seen ∙ c.requires.whole) in
+    let whole = whole_taken inside.finished inside.bytes.items
+    (ap (λ (t : Taped). t.unfinished) seen ∙ c.requires.whole) in
     let layout = ap (λ (t : Taped). t.layout) c.self.view_is in
     let own : c.table_room.result ≡ at_most_usize (table_room before.layout t) =
     omega (arith, rw layout at c.table_room.ensures, c.table_room.type_inv) in
     table_laid before after t c.in_ok-vtable.vtable others xs opens (record {
       layout = ap (λ (t : Taped). t.layout) seen;
       ops = rw (← count, ← c.start_align.ensures, ← ap (λ (t : Taped). t.ops) seen) c.in_ok-push.ensures.items;
-      notes = adds.notes_are ∙ ap (λ (ns : List NotedField). ns ++ notes_of (in_order opens)) (ap (λ (t : Taped). t.notes) seen);
+      notes = adds.notes_are
+          ∙ ap (λ (ns : List NotedField). ns ++ notes_of (in_order opens)) (ap (λ (t : Taped). t.notes) seen);
       bytes = all_taken c.len-self-inside.result c.note_table.new.bytes.items
           (c.len-self-inside.ensures ∙ c.note_table.new.bytes.ok.0) ∙ adds.bytes_are
           ∙ ap (λ (bs : List ℕ). bs ++ bytes_of (in_order opens)) (sym whole ∙ ap (λ (t : Taped). t.bytes) seen);
       room = ap (λ (t : Taped). t.room) seen ∙ room_known before c.add_room.new.self c.table_room.result
           (table_room before.layout t) c.add_room.ensures.adds own c.if-is_over.ensures.exact;
-    }) (rw (← vtable) (rw (c.as_slice.ensures.value, ap (λ (t : Taped). t.vtables) seen) at c.in_ok-vtable.ensures.numbered)) h stored.aligned adds.noted waits
+    }) (rw (← vtable) numbered) h stored.aligned adds.noted waits

@@ -13,5 +13,6 @@ returns-clause-waits c others ds many known waits =
     ≡ at_most_usize (vector_room t.layout (kind_seen t.layout c.args.kind) c.args.count)) c.self.view_is
     c.vector_room-room.ensures in
     references_noted c.args.self.now c.add_room.new.self (tape_seen c.self-2.inside) c.push.new.self.items
-    (kind_seen c.args.self.now.layout c.args.kind) c.args.count _ others ds c.requires.references c.add_room.ensures.adds
+    (kind_seen c.args.self.now.layout c.args.kind) c.args.count _ others ds c.requires.references
+    c.add_room.ensures.adds
     own c.if-is_over.ensures.exact c.self-2.view_is c.in_ok-push.ensures.items many known waits
