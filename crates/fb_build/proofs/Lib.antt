@@ -1,2 +1,3 @@
 pub mod covered
 pub mod apart
+pub mod taped

@@ -11,7 +11,7 @@ use Rattle.fb_value.specs.EachTable.{EachTableAt}
 use Rattle.fb_value.specs.Holds.{root_place}
 use Rattle.fb_build.specs.Pieces.{PieceKind, Piece, reached_parts, greatest_align, is_among, tables_vtables, pieces_of}
 use Rattle.fb_build.specs.Stored.{IsTightTable}
-use Rattle.fb_build.specs.InlineBytes.{IsTightInline, EachInlineAt}
+use Rattle.fb_tape.specs.InlineBytes.{IsTightInline, EachInlineAt}
 
 -- the bytes of a piece, or a run of zeros
 pub data Chunk : Type 0 where

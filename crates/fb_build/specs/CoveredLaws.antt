@@ -8,7 +8,7 @@ use Rattle.fb_value.specs.Places.{Target, table_part, member_part, part_place}
 use Rattle.fb_value.specs.Lies.{LiesAt}
 use Rattle.fb_value.specs.Reached.{Path, Leads}
 use Rattle.fb_value.specs.Holds.{root_place}
-use Rattle.fb_build.specs.Taken.{is_within}
+use Rattle.fb_tape.specs.Taken.{is_within}
 use Rattle.fb_build.specs.Pieces.{Piece, reached_parts, greatest_align, pieces_of}
 use Rattle.fb_build.specs.Covered.{IsCoveredBy, Covered}
 

@@ -7,7 +7,7 @@ use Rattle.fb_value.specs.Places.{Target, Sort, part_place}
 use Rattle.fb_value.specs.EachTable.{EachTableAt}
 use Rattle.fb_value.specs.Tails.{LiesInTail}
 use Rattle.fb_build.specs.Stored.{IsTightTable}
-use Rattle.fb_build.specs.InlineBytes.{IsTightInline, EachInlineAt}
+use Rattle.fb_tape.specs.InlineBytes.{IsTightInline, EachInlineAt}
 use Rattle.fb_build.specs.Pieces.{PartAt, reached, tables_vtables, Piece, part_piece}
 
 -- A table has nothing to spare, and its vtable is in the tail too.

@@ -6,9 +6,10 @@ use Rattle.fb_value.specs.Num.{Bytes}
 use Rattle.fb_value.specs.EachTable.{EachItem, IsOldTable}
 use Rattle.fb_value.specs.Lies.{LiesItemsBy}
 use Rattle.fb_value.specs.Tails.{from_end}
-use Rattle.fb_build.specs.Fields.{IsElement, SlotFits, TargetEnd, target_for}
+pub use Rattle.fb_tape.specs.StoredFields.{ItemsKnown}
+use Rattle.fb_build.specs.Fields.{TargetEnd, target_for}
 use Rattle.fb_build.specs.CoveredTails.{IsTightInTail}
-use Rattle.fb_build.specs.InlineBytes.{IsTightInline, EachInlineItem}
+use Rattle.fb_tape.specs.InlineBytes.{IsTightInline, EachInlineItem}
 
 -- Elements lie one behind the other, from the first byte of a tail on, their tables have nothing in slots that aren't
 -- in use, and they, their structs and their numbers have nothing to spare.
@@ -22,7 +23,3 @@ pub record ItemsEnd (L : LaidSchema) (m : ℕ) (s : Bytes) (kind : StoredKind) (
 abbrev pub TargetsEnd : LaidSchema → ℕ → Bytes → StoredKind → List Datum → List ℕ → Type 0
 TargetsEnd L m s kind ds ends = (k : ℕ) (d : Datum) → slice_get ds k ≡ Some d
     → TargetEnd L m s (target_for (one_of kind) d) (slice_index ends k) d
-
-pub record ItemsKnown (L : LaidSchema) (kind : StoredKind) (ds : List Datum) : Type 0 where
-  pub element : IsElement L kind
-  pub each : (k : ℕ) (d : Datum) → slice_get ds k ≡ Some d → SlotFits L (one_of kind) d

@@ -14,10 +14,8 @@ pub mod Ready
 pub mod Drafted
 pub mod Drafts
 pub mod Structs
-pub mod Taken
 pub mod Stored
 pub mod Filled
-pub mod InlineBytes
 pub mod Pieces
 pub mod Covered
 pub mod CoveredLaws
@@ -31,6 +29,15 @@ pub mod BuiltSoFar
 pub mod LaidApart
 pub mod OpenBuffer
 pub mod Roots
+pub mod Lengths
+pub mod Noted
+pub mod Referred
+pub mod NotesLaid
+pub mod NumberedVtables
+pub mod OpLengths
+pub mod Waiting
+pub mod Steps
+pub mod TapeLaid
 pub mod FieldsLaid
 pub mod StandIns
 pub mod ExampleBuffersAreCovered

@@ -8,6 +8,7 @@ use Rattle.fb_layout.specs.Laid.{LaidSchema, Slot, StoredKind, StoredShape, one_
 use Rattle.fb_value.specs.Datum.{Datum, a_text, a_vector, a_table, a_member}
 use Rattle.fb_value.specs.Num.{Bytes, num}
 use Rattle.fb_value.specs.Places.{Target, table_part, member_part, text_part, vector_part}
+pub use Rattle.fb_tape.specs.NamedParts.{NamedPart}
 use Rattle.fb_build.specs.Pieces.{PartAt, part_size, part_align, greatest_align, vtable_of, is_among, tables_vtables}
 use Rattle.fb_build.specs.CoveredTails.{part_further, parts_in_tail}
 use Rattle.fb_build.specs.CoveredSteps.{MadeInTail}
@@ -62,11 +63,6 @@ abbrev pub ItemsLead : LaidSchema → Bytes → ℕ → StoredKind → List Datu
 ItemsLead L s behind kind ds targets =
     (k : ℕ) (d : Datum) → slice_get ds k ≡ Some d
     → LeadsTo s (target_for (one_of kind) d) (behind + (length ds - k) * size_of L kind) (slice_index targets k)
-
--- what is laid outside of a table for a slot, or of a vector for an element: a value, and what it is
-pub record NamedPart : Type 0 where
-  pub target : Target
-  pub value : Datum
 
 abbrev pub named_of : StoredShape → Datum → Option NamedPart
 named_of shape d = option_map (λ X. record { target = X; value = d }) (target_for shape d)

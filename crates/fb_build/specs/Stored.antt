@@ -3,15 +3,14 @@
 -- table's, and a field that isn't stored has 0), Unions (a code, 0 for no member, and the member behind it).
 use Rattle.std.specs.Prelude.{ℕ, suc, ◌+◌, ◌-◌, ◌≡◌, ◌≢◌, ◌<◌, ◌≤◌, ◌⊎◌, Bool, true, false, ◌||◌, nat_lt, List, [], ◌∷◌}
 use Rattle.std.specs.Prelude.{slice_get, sum_by, if◌then◌else◌, Option, None, Some, ℤ, pos}
-use Rattle.fb_schema.specs.declared.kinds.Base.{Base}
-use Rattle.fb_schema.specs.declared.kinds.Base.TheVariants.{Bool as Boolean}
 use Rattle.fb_schema.specs.Alignments.{base_size}
 use Rattle.fb_layout.specs.Laid.{LaidSchema, Slot, scalar_kind, union_kind, code_kind, StoredShape, one_of, slots_of}
 use Rattle.fb_layout.specs.Sizes.{ceil4}
 use Rattle.fb_layout.specs.Widths.{inline_size}
 use Rattle.fb_value.specs.Num.{Bytes, num, scalar_of}
 use Rattle.fb_value.specs.Places.{vtable, slot_number, is_present, code_at}
-use Rattle.fb_build.specs.Taken.{is_within, ZeroUnless}
+pub use Rattle.fb_tape.specs.InlineBytes.{IsBit}
+use Rattle.fb_tape.specs.Taken.{is_within, ZeroUnless}
 
 -- a slot whose number isn't 0, deprecated ones too, and that number: where the field stands in its table
 pub record StoredSlot : Type 0 where
@@ -85,11 +84,6 @@ AllStandApart L size (x ∷ xs) = (4 ≤ x.at) × (x.at + inline_size L x.slot.s
 -- Each stored field has bytes of its own in the table.
 abbrev pub HasItsOwnBytes : LaidSchema → Bytes → ℕ → ℕ → Type 0
 HasItsOwnBytes L b t p = AllStandApart L (num b (vtable b p + 2) 2) (stored_of L b t p)
-
--- A `bool` is 0 or 1.
-abbrev pub IsBit : Base → ℕ → Type 0
-IsBit Boolean x = x < 2
-IsBit _ x = Unit {0}
 
 abbrev pub HoldsBit : Bytes → ℕ → StoredShape → Type 0
 HoldsBit b q (one_of (scalar_kind base)) = IsBit base (num b q 1)

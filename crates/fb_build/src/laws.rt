@@ -5,7 +5,7 @@ ghost use Rattle.fb_build.specs.CoveredSteps.{RunsKeptByMore, ChunksJoin, MadeIn
 ghost use Rattle.fb_build.specs.CoveredSteps.{MadeWhole, CoveredWhole};
 ghost use Rattle.fb_build.specs.ExampleBuffersAreCovered.{ExamplesAreCovered};
 ghost use Rattle.fb_build.specs.ExampleBuffersHaveSlack.{ExamplesHaveSlack};
-ghost use Rattle.fb_build.specs.Taken.{ZeroIsComputed};
+ghost use Rattle.fb_tape.specs.Taken.{ZeroIsComputed};
 
 /// A buffer is covered by the value that it encodes.
 pub fn covered_by_its_value()

@@ -11,7 +11,9 @@ mod drops;
 mod faults;
 mod fields;
 mod laws;
+mod laying;
 mod needs;
+mod noting;
 mod numbers;
 mod order;
 mod places;
@@ -21,6 +23,13 @@ mod roots;
 mod structs;
 mod tables;
 mod tail;
+mod taped_buffers;
+mod taped_data;
+mod taped_fields;
+mod taped_lengths;
+mod taped_ops;
+mod taped_references;
+mod taped_vtables;
 mod texts;
 mod vectors;
 mod vtables;
@@ -36,3 +45,4 @@ pub use laws::{
     zero_is_computed, zero_outside,
 };
 pub use plans::Plan;
+pub use taped_buffers::tape_buffer;

@@ -8,7 +8,7 @@ ghost use Rattle.fb_value.specs.Lies.{LiesInline, LiesParts};
 ghost use Rattle.fb_value.specs.View.{view, parts_view};
 ghost use Rattle.fb_build.specs.Tails.{Grows};
 ghost use Rattle.fb_build.specs.Structs.{IsInline};
-ghost use Rattle.fb_build.specs.InlineBytes.{EachInlineIn, IsTightInline};
+ghost use Rattle.fb_tape.specs.InlineBytes.{EachInlineIn, IsTightInline};
 ghost use Rattle.fb_build.specs.Fields.{kind_seen};
 
 use crate::fields::{number_in, scalar_base};

@@ -220,13 +220,15 @@ impl Tail {
         self.most = self.most.max(align);
     }
 
-    /// Takes zeros that are already there, so that so many more bytes end at a multiple.
-    pub(crate) fn pad(&mut self, align: usize, more: usize) -> usize
+    /// Takes zeros that are already there, so that so many more bytes end at a multiple: these zeros are
+    /// free.
+    pub(crate) fn fit(&mut self, align: usize, more: usize) -> usize
         requires power { IsAlignment align }
         requires short { more ≤ 2147483648 }
-        requires room { align ≤ self.old.free + 1 }
+        requires room { (align - (length self.old.bytes + more) % align) % align ≤ self.old.free }
         ensures bytes { self.new.bytes ≡ replicate result 0 ++ self.old.bytes }
         ensures free { self.new.free + result ≡ self.old.free }
+        ensures exact { result ≡ (align - (length self.old.bytes + more) % align) % align }
         ensures under { result < align }
         ensures multiple { (length self.new.bytes + more) % align ≡ 0 }
         ensures most { self.new.most ≡ max self.old.most align }
@@ -239,6 +241,24 @@ impl Tail {
         self.skip(zeros);
         self.widen(align);
         zeros
+    }
+
+    /// Takes zeros that are already there, so that so many more bytes end at a multiple.
+    pub(crate) fn pad(&mut self, align: usize, more: usize) -> usize
+        requires power { IsAlignment align }
+        requires short { more ≤ 2147483648 }
+        requires room { align ≤ self.old.free + 1 }
+        ensures bytes { self.new.bytes ≡ replicate result 0 ++ self.old.bytes }
+        ensures free { self.new.free + result ≡ self.old.free }
+        ensures exact { result ≡ (align - (length self.old.bytes + more) % align) % align }
+        ensures under { result < align }
+        ensures multiple { (length self.new.bytes + more) % align ≡ 0 }
+        ensures most { self.new.most ≡ max self.old.most align }
+        ensures wide { divides align self.new.most ≡ true }
+        ensures segments { self.new.in_segments ≡ self.old.in_segments }
+        ensures grows { Grows self.old self.new }
+    {
+        self.fit(align, more)
     }
 
     /// The bytes that are laid, where all of them are in the block.

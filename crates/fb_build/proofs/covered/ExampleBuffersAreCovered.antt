@@ -12,7 +12,7 @@ use Rattle.fb_value.specs.ExampleIdentifier.{test_bytes, identified_held}
 use Rattle.fb_value.specs.ExampleVectors.{pair_bytes, pair, pair_held}
 use Rattle.fb_value.specs.ExampleUnions.{member_bytes, second_member, member_held}
 use Rattle.fb_build.specs.Stored.{stored_from}
-use Rattle.fb_build.specs.Taken.{are_zero_unless}
+use Rattle.fb_tape.specs.Taken.{are_zero_unless}
 use Rattle.fb_build.specs.Pieces.{whole_header, whole_part, whole_vtable, each_once}
 use Rattle.fb_build.specs.Covered.{piece_chunk, zeros_chunk, Covered, EndsAligned}
 use Rattle.fb_build.specs.ExampleBuffersAreCovered.{empty_bytes}

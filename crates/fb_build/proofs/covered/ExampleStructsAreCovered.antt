@@ -7,7 +7,7 @@ use Rattle.fb_value.specs.ExampleLayouts.{one_struct, wide_structs, bools_everyw
 use Rattle.fb_value.specs.ExampleStructs.{struct_bytes, struct_inline, struct_held, wide_bytes, wide, wide_held}
 use Rattle.fb_value.specs.ExampleBools.{bools_bytes, bools, bools_held}
 use Rattle.fb_build.specs.Stored.{stored_from}
-use Rattle.fb_build.specs.Taken.{are_zero_unless}
+use Rattle.fb_tape.specs.Taken.{are_zero_unless}
 use Rattle.fb_build.specs.Pieces.{whole_header, whole_part, whole_vtable, each_once}
 use Rattle.fb_build.specs.Covered.{piece_chunk, zeros_chunk, Covered, EndsAligned}
 use Rattle.fb_build.proofs.covered.TestsTellWhatIsCovered.{one_vtable, table_padded, table_coded, struct_padded}

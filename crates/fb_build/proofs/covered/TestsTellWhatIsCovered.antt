@@ -8,8 +8,8 @@ use Rattle.fb_value.specs.Num.{Bytes, num}
 use Rattle.fb_value.specs.Places.{vtable, is_present, code_at}
 use Rattle.fb_value.specs.Rules.{is_union}
 use Rattle.fb_build.specs.Stored.{stored_of, is_in_field, PadsTableWithZeros, CodesItsMembers}
-use Rattle.fb_build.specs.InlineBytes.{is_in_part, PadsStructWithZeros}
-use Rattle.fb_build.specs.Taken.{are_zero_unless}
+use Rattle.fb_tape.specs.InlineBytes.{is_in_part, PadsStructWithZeros}
+use Rattle.fb_tape.specs.Taken.{are_zero_unless}
 use Rattle.fb_build.specs.Pieces.{is_among}
 use Rattle.fb_build.specs.Covered.{vtable_at, EqualVtablesAreOne}
 use Rattle.fb_build.proofs.covered.ZeroOutsideIsComputed.{zero_by_test}

@@ -14,8 +14,8 @@ use Rattle.fb_value.specs.Lies.{BehindBy, EntryBy, PresentEntryBy, ElementBy, Li
 use Rattle.fb_value.specs.Tails.{from_end}
 use Rattle.fb_value.proofs.tails.SameBytesReadTheSameFurtherOn.{moved}
 use Rattle.fb_build.specs.Stored.{IsBit}
-use Rattle.fb_build.specs.InlineBytes.{PadsStructWithZeros, IsTightInline, EachInlineIn, EachFieldIn, EachInlineNamed}
-use Rattle.fb_build.specs.InlineBytes.{EachInlineElement, EachInline, EachInlineItem, EachInlineEntry, EachInlineAt}
+use Rattle.fb_tape.specs.InlineBytes.{PadsStructWithZeros, IsTightInline, EachInlineIn, EachFieldIn, EachInlineNamed}
+use Rattle.fb_tape.specs.InlineBytes.{EachInlineElement, EachInline, EachInlineItem, EachInlineEntry, EachInlineAt}
 use Rattle.fb_build.specs.CoveredTails.{InlineKeptInFront}
 use Rattle.fb_value.proofs.tails.SameBytesReadTheSameFurtherOn.{number_moved, vtable_moved, slot_moved, all_named}
 use Rattle.fb_build.proofs.covered.PartsAreReachedFurtherOn.{table_inside}

@@ -10,7 +10,7 @@ use Rattle.fb_value.specs.EachTable.{EachTable}
 use Rattle.fb_value.specs.Tails.{from_end}
 use Rattle.fb_value.proofs.tails.SameBytesHoldTheSameFurtherOn.{each_at_moved}
 use Rattle.fb_build.specs.Stored.{IsTightTable}
-use Rattle.fb_build.specs.InlineBytes.{IsTightInline, EachInline}
+use Rattle.fb_tape.specs.InlineBytes.{IsTightInline, EachInline}
 use Rattle.fb_build.specs.Pieces.{is_among, reached, reached_parts, tables_vtables}
 use Rattle.fb_build.specs.Covered.{vtable_at, EqualVtablesAreOne}
 use Rattle.fb_build.specs.CoveredTails.{parts_in_tail, IsTightInTail}

@@ -11,7 +11,7 @@ use Rattle.fb_value.specs.Datum.{Datum}
 use Rattle.fb_value.specs.Num.{Bytes}
 use Rattle.fb_value.specs.Holds.{root_place}
 use Rattle.fb_value.proofs.held.LyingValueIsComputed.{one_value}
-use Rattle.fb_build.specs.Taken.{is_within}
+use Rattle.fb_tape.specs.Taken.{is_within}
 use Rattle.fb_build.specs.Pieces.{Piece, PieceKind, reached_parts, greatest_align}
 use Rattle.fb_build.specs.Covered.{Chunk, piece_chunk, zeros_chunk, chunk_bytes, pieces_among, begins_with_zeros}
 use Rattle.fb_build.specs.Covered.{RunsAreShort, IsCoveredBy}

@@ -4,7 +4,7 @@ use Rattle.std.proofs.Common.{refl, sym, ◌∙◌, subst, arith}
 use Rattle.std.proofs.lemmas.Bool.{false≢true, and_from, and_parts, or_left, or_right, or_cases, eqb-true, eq-eqb}
 use Rattle.std.proofs.lemmas.Bool.{cases_eq, cases_Bool}
 use Rattle.fb_value.specs.Num.{Bytes}
-use Rattle.fb_build.specs.Taken.{ZeroUnless, are_zero_unless, ZeroIsComputed}
+use Rattle.fb_tape.specs.Taken.{ZeroUnless, are_zero_unless, ZeroIsComputed}
 
 module _ (taken : ℕ → Bool) (b : Bytes) (p : ℕ) where
   one_zero : (i : ℕ) → (taken i || (slice_index b (p + i) == 0)) ≡ true → taken i ≡ false → slice_index b (p + i) ≡ 0

@@ -29,7 +29,7 @@ use Rattle.fb_build.proofs.numbers.NumberReadsBack.{num_first}
 use Rattle.fb_value.proofs.tails.TailsAreKeptInFront.{front_shown, old_shown}
 use Rattle.fb_build.specs.CoveredTails.{IsTightInTail, TightInTail, InlineInTail}
 use Rattle.fb_build.specs.Stored.{IsBit}
-use Rattle.fb_build.specs.InlineBytes.{IsTightInline, EachInline, EachInlineAt}
+use Rattle.fb_tape.specs.InlineBytes.{IsTightInline, EachInline, EachInlineAt}
 use Rattle.fb_build.proofs.covered.TightStructStaysTightFurtherOn.{inline_front_shown}
 use Rattle.fb_build.proofs.covered.TightTableStaysTightFurtherOn.{tight_front_shown}
 use Rattle.fb_build.proofs.tail.WhatIsLaidStaysLaid.{laid_grown}

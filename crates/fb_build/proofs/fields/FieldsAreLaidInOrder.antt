@@ -54,14 +54,14 @@ no_both true p q = cc
 no_both false p q = cc
 
 -- before the first field
-pub none_laid : (L : LaidSchema) (o n : TailSeen) (start align : ℕ) (fs : List Slot) (xs : List (Option Datum))
-    (ends : List ℕ) (links : Bytes) (first : ℕ) → AreKnown L fs xs → AreLinked L fs xs links first → Grows o n
+pub none_laid_before : (L : LaidSchema) (o n : TailSeen) (start align : ℕ) (fs : List Slot) (xs : List (Option Datum))
+    (ends : List ℕ) (first : ℕ) → AreKnown L fs xs → LinksNext L (λ k f. false) fs xs first → Grows o n
     → length ends ≡ length fs → start ≡ length n.bytes → IsAlignment align → stored_align L fs xs ≤ align
     → divides align (length n.bytes) ≡ true
     → EntriesEnd L 0 o.most o.bytes (λ k f. false) fs xs ends → AreLaidUpTo L n fs xs start ends ends first
-none_laid L o n start align fs xs ends links first known linked g each begin power low whole h = record {
+none_laid_before L o n start align fs xs ends first known next g each begin power low whole h = record {
   laid = λ k f. false;
-  next = linked.begin;
+  next = next;
   slots = record {
     each = each;
     state = entries_grown L start o n (λ k f. false) fs xs ends g
@@ -79,6 +79,14 @@ none_laid L o n start align fs xs ends links first known linked g each begin pow
       (power_divides (inline_align L f.shape) align (simple_aligned L f.shape (known.each k f x fk xk).0) power
       (omega (arith, own, low))) whole;
 }
+
+pub none_laid : (L : LaidSchema) (o n : TailSeen) (start align : ℕ) (fs : List Slot) (xs : List (Option Datum))
+    (ends : List ℕ) (links : Bytes) (first : ℕ) → AreKnown L fs xs → AreLinked L fs xs links first → Grows o n
+    → length ends ≡ length fs → start ≡ length n.bytes → IsAlignment align → stored_align L fs xs ≤ align
+    → divides align (length n.bytes) ≡ true
+    → EntriesEnd L 0 o.most o.bytes (λ k f. false) fs xs ends → AreLaidUpTo L n fs xs start ends ends first
+none_laid L o n start align fs xs ends links first known linked g each begin power low whole h =
+    none_laid_before L o n start align fs xs ends first known linked.begin g each begin power low whole h
 
 -- ---- the next one
 
@@ -141,18 +149,19 @@ leads_on L o n k e fs xs targets ends laid f x g under fk xk named now h =
     here = subst (λ (i : ℕ). FieldLeads n.bytes true f x i e) target now
 
 -- the state, once it is laid
-pub next_laid : (L : LaidSchema) (o n : TailSeen) (start k e link : ℕ) (fs : List Slot) (xs : List (Option Datum))
-    (targets ends : List ℕ) (links : Bytes) (first : ℕ) (f : Slot) (x : Option Datum) → AreKnown L fs xs
-    → AreLinked L fs xs links first → (h : AreLaidUpTo L o fs xs start targets ends link)
+pub next_laid_before : (L : LaidSchema) (o n : TailSeen) (start k e link : ℕ) (fs : List Slot)
+    (xs : List (Option Datum)) (targets ends : List ℕ) (behind : ℕ) (f : Slot) (x : Option Datum) → AreKnown L fs xs
+    → LinksNext L (before L (inline_align L f.shape) (k + 1)) fs xs behind
+    → (h : AreLaidUpTo L o fs xs start targets ends link)
     → slice_get fs k ≡ Some f → slice_get xs k ≡ Some x → IsNamed L h.laid fs xs k f x → Grows o n
     → n.free + inline_size L f.shape ≡ o.free → e ≡ length n.bytes → StoredEnd L start n.most n.bytes true f x e
     → FieldLeads n.bytes true f x (slice_index ends k) e → k < length ends
-    → AreLaidUpTo L n fs xs start targets (slice_set ends k e) (link_in links k)
-next_laid L o n start k e link fs xs targets ends links first f x known linked h fk xk named g free end lies lead
+    → AreLaidUpTo L n fs xs start targets (slice_set ends k e) behind
+next_laid_before L o n start k e link fs xs targets ends behind f x known next h fk xk named g free end lies lead
     under =
     record {
       laid = before L a (k + 1);
-      next = linked.each k a (record { field = f; entry = x; is = fk; has = xk; stored = named.stored; at = refl });
+      next = next;
       slots = record {
         each = search (rules, h.slots.each);
         state = passed_laid L start o n a k e fs xs ends f x g under fk xk
@@ -183,6 +192,19 @@ next_laid L o n start k e link fs xs targets ends links first f x known linked h
     whole = whole_step L (inline_align L f.shape) (length o.bytes) (length n.bytes) o.free n.free f
         (known.each k f x fk xk).0 refl (omega (arith, grown_long o n g)) free
         (next_whole L o start k link fs xs targets ends f x h fk xk named)
+
+pub next_laid : (L : LaidSchema) (o n : TailSeen) (start k e link : ℕ) (fs : List Slot) (xs : List (Option Datum))
+    (targets ends : List ℕ) (links : Bytes) (first : ℕ) (f : Slot) (x : Option Datum) → AreKnown L fs xs
+    → AreLinked L fs xs links first → (h : AreLaidUpTo L o fs xs start targets ends link)
+    → slice_get fs k ≡ Some f → slice_get xs k ≡ Some x → IsNamed L h.laid fs xs k f x → Grows o n
+    → n.free + inline_size L f.shape ≡ o.free → e ≡ length n.bytes → StoredEnd L start n.most n.bytes true f x e
+    → FieldLeads n.bytes true f x (slice_index ends k) e → k < length ends
+    → AreLaidUpTo L n fs xs start targets (slice_set ends k e) (link_in links k)
+next_laid L o n start k e link fs xs targets ends links first f x known linked h fk xk named g free end lies lead under =
+    next_laid_before L o n start k e link fs xs targets ends (link_in links k) f x known
+    (linked.each k (inline_align L f.shape)
+    (record { field = f; entry = x; is = fk; has = xk; stored = named.stored; at = refl })) h fk xk named g free end
+    lies lead under
 
 -- ---- behind the last field
 

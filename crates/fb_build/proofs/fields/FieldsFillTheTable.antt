@@ -80,7 +80,7 @@ other_test j k ne = by_test (nat_lt j k) refl (nat_lt j (k + 1)) refl
     by_test true p false q = absurd (omega (arith, ltb-true j k p, ltb-false j (k + 1) q))
     by_test false p true q = absurd (ne (omega (arith, ltb-false j k p, ltb-true j (k + 1) q)))
 
-other_slot : (L : LaidSchema) (a j k : ℕ) (f : Slot) → (j ≡ k → ⊥) → before L a k j f ≡ before L a (k + 1) j f
+pub other_slot : (L : LaidSchema) (a j k : ℕ) (f : Slot) → (j ≡ k → ⊥) → before L a k j f ≡ before L a (k + 1) j f
 other_slot L a j k f ne = rw (other_test j k ne) refl
 
 not_itself : (k : ℕ) → nat_lt k k ≡ false

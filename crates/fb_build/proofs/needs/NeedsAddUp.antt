@@ -115,7 +115,7 @@ table_entries L (one_of text_kind) t es fits = absurd fits
 
 -- ---- a vector whose elements aren't references has no room but its own
 
-number_inline : (L : LaidSchema) (k : Base) (d : Datum) → Fits L (one_of (scalar_kind k)) d
+pub number_inline : (L : LaidSchema) (k : Base) (d : Datum) → Fits L (one_of (scalar_kind k)) d
     → room L (one_of (scalar_kind k)) d ≡ 0
 number_inline L k (a_number n) h = refl
 number_inline L k (a_text b) h = absurd h
@@ -125,7 +125,7 @@ number_inline L k (a_table t es) h = absurd h
 number_inline L k (a_member c d) h = absurd h
 number_inline L k (an_unknown c) h = absurd h
 
-struct_inline : (L : LaidSchema) (k : ℕ) (d : Datum) → Fits L (one_of (struct_kind k)) d
+pub struct_inline : (L : LaidSchema) (k : ℕ) (d : Datum) → Fits L (one_of (struct_kind k)) d
     → room L (one_of (struct_kind k)) d ≡ 0
 struct_inline L k (a_number n) h = absurd h
 struct_inline L k (a_text b) h = absurd h
@@ -135,7 +135,7 @@ struct_inline L k (a_table t es) h = absurd h
 struct_inline L k (a_member c d) h = absurd h
 struct_inline L k (an_unknown c) h = absurd h
 
-all_inline : (L : LaidSchema) (kind : StoredKind) (ds : Parts)
+pub all_inline : (L : LaidSchema) (kind : StoredKind) (ds : Parts)
     → ((d : Datum) → Fits L (one_of kind) d → room L (one_of kind) d ≡ 0) → EachFits L kind ds
     → parts_room L kind ds ≡ 0
 all_inline L kind no_parts inline h = refl

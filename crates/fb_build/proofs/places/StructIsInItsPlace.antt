@@ -11,7 +11,7 @@ use Rattle.fb_value.specs.Rules.{fault_by, KeepsBy}
 use Rattle.fb_value.specs.Tails.{from_end}
 use Rattle.fb_value.specs.Wanted.{struct_wanted}
 use Rattle.fb_value.proofs.rules.RulesHoldOneByOne.{hold, no_rules}
-use Rattle.fb_build.specs.InlineBytes.{IsTightInline, EachInlineIn}
+use Rattle.fb_tape.specs.InlineBytes.{IsTightInline, EachInlineIn}
 use Rattle.fb_build.specs.Tails.{LaidInTail}
 
 -- a struct that was laid last

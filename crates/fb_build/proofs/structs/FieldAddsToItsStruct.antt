@@ -20,7 +20,7 @@ use Rattle.fb_value.specs.Num.{Bytes}
 use Rattle.fb_value.specs.View.{view, parts_view}
 use Rattle.fb_value.specs.declared.values.Value.{Value}
 use Rattle.fb_value.proofs.tails.SameBytesHoldTheSameFurtherOn.{inline_lies}
-use Rattle.fb_build.specs.InlineBytes.{IsTightInline, EachInlineIn, EachFieldIn}
+use Rattle.fb_tape.specs.InlineBytes.{IsTightInline, EachInlineIn, EachFieldIn}
 use Rattle.fb_build.specs.Tails.{TailSeen, Grows}
 use Rattle.fb_build.proofs.covered.TightStructStaysTightFurtherOn.{inline_moved}
 use Rattle.fb_build.proofs.vectors.VectorHasItsElements.{parts_next}

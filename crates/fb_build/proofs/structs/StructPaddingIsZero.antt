@@ -5,7 +5,7 @@ use Rattle.std.proofs.lemmas.Bool.{false≢true, and_from, or_left, or_right, le
 use Rattle.std.proofs.lemmas.List.{get_or-append_right, get_or_append_left, get_or-replicate}
 use Rattle.fb_layout.specs.Laid.{LaidSchema, StoredKind, parts_of, struct_at, size_of}
 use Rattle.fb_value.specs.Num.{Bytes}
-use Rattle.fb_build.specs.InlineBytes.{PadsStructWithZeros, is_in_part}
+use Rattle.fb_tape.specs.InlineBytes.{PadsStructWithZeros, is_in_part}
 use Rattle.fb_build.specs.Tails.{TailSeen, Grows}
 use Rattle.fb_build.proofs.tail.WhatIsLaidStaysLaid.{lower}
 use Rattle.fb_build.proofs.tail.PaddingIsZero.{zeros_long}

@@ -15,7 +15,7 @@ use Rattle.fb_value.specs.EachTable.{EachTable, EachNamed, IsOldTable}
 use Rattle.fb_value.specs.Tails.{from_end}
 use Rattle.fb_build.specs.Fields.{stored_here, stored_in, code_in, next_code, is_stored}
 use Rattle.fb_build.specs.CoveredTails.{IsTightInTail}
-use Rattle.fb_build.specs.InlineBytes.{IsTightInline, EachInline, EachInlineNamed}
+use Rattle.fb_tape.specs.InlineBytes.{IsTightInline, EachInline, EachInlineNamed}
 use Rattle.fb_value.proofs.rules.RulesHoldOneByOne.{hold, no_rules}
 
 pub entry_from : (al : Aligned) (L : LaidSchema) (b : Bytes) (sort : Sort) (p : ℕ) (d : Datum)

@@ -8,21 +8,13 @@ use Rattle.fb_layout.specs.Sizes.{ceil4, IsAlignment}
 use Rattle.fb_layout.specs.Widths.{inline_size, inline_align, widest, greatest}
 use Rattle.fb_value.specs.Datum.{Datum}
 use Rattle.fb_value.specs.Room.{table_room}
+pub use Rattle.fb_tape.proofs.stored_tables.StoredFieldsFit.{fields_fit}
+use Rattle.fb_tape.proofs.stored_tables.StoredFieldsFit.{in_use}
 use Rattle.fb_build.specs.Fields.{IsSimple, StoredFits, is_stored, AreKnown, fields_size, stored_align, stored_room}
 use Rattle.fb_build.proofs.tail.WhatIsLaidStaysLaid.{power_max}
 use Rattle.fb_build.proofs.fields.AlignmentDividesTheSize.{simple_aligned}
 
--- what is stored isn't deprecated
-in_use : (L : LaidSchema) (f : Slot) (x : Option Datum) → StoredFits L f x → is_stored f x ≡ true → f.deprecated ≡ false
-in_use L f None fits is = cc
-in_use L f (Some d) fits is = fits.0
-
 -- ---- one slot
-
-one_fits : (L : LaidSchema) (f : Slot) (x : Option Datum) → StoredFits L f x → (t : Bool) → is_stored f x ≡ t
-    → (if t then inline_size L f.shape else 0) ≤ (if f.deprecated then 0 else inline_size L f.shape)
-one_fits L f x fits true is = rw (in_use L f x fits is) (omega arith)
-one_fits L f x fits false out = omega arith
 
 one_aligned : (L : LaidSchema) (f : Slot) (x : Option Datum) → StoredFits L f x → (t : Bool) → is_stored f x ≡ t
     → (if t then inline_align L f.shape else 0) ≤ (if f.deprecated then 4 else inline_align L f.shape)
@@ -30,18 +22,6 @@ one_aligned L f x fits true is = rw (in_use L f x fits is) (omega arith)
 one_aligned L f x fits false out = omega arith
 
 -- ---- all slots
-
-pub fields_fit : (L : LaidSchema) (fs : List Slot) (xs : List (Option Datum))
-    → ((k : ℕ) (f : Slot) (x : Option Datum) → slice_get fs k ≡ Some f → slice_get xs k ≡ Some x
-    → IsSimple L f.shape × StoredFits L f x)
-    → fields_size L fs xs ≤ sum_by (λ f. if f.deprecated then 0 else inline_size L f.shape) fs
-fields_fit L [] xs each = omega arith
-fields_fit L (f ∷ fs) [] each = omega arith
-fields_fit L (f ∷ fs) (x ∷ xs) each =
-    let one = one_fits L f x (each 0 f x refl refl).1 (is_stored f x) refl in
-    let rest = fields_fit L fs xs (λ k g y a b. each (suc k) g y a b) in
-    let sum = sum_by-cons (λ g. if g.deprecated then 0 else inline_size L g.shape) f fs in
-    omega (arith, one, rest, sum)
 
 aligns_fit : (L : LaidSchema) (fs : List Slot) (xs : List (Option Datum))
     → ((k : ℕ) (f : Slot) (x : Option Datum) → slice_get fs k ≡ Some f → slice_get xs k ≡ Some x

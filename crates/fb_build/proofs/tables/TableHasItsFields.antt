@@ -19,7 +19,7 @@ use Rattle.fb_value.specs.Tails.{from_end}
 use Rattle.fb_build.specs.Fields.{IsSimple, StoredFits, stored_here, stored_in, coded, code_in, next_code, sort_for}
 use Rattle.fb_build.specs.Fields.{is_stored, EntryEnd}
 use Rattle.fb_build.specs.CoveredTails.{IsTightInTail}
-use Rattle.fb_build.specs.InlineBytes.{IsTightInline, EachInlineAt, EachInlineEntry}
+use Rattle.fb_tape.specs.InlineBytes.{IsTightInline, EachInlineAt, EachInlineEntry}
 use Rattle.fb_build.specs.TableBytes.{offset_from}
 use Rattle.fb_build.proofs.fields.FieldHasItsValue.{default_known}
 use Rattle.fb_build.proofs.fields.SlotStoresItsEntry.{in_mapped}

@@ -24,12 +24,12 @@ use Rattle.fb_build.specs.Fields.{is_stored, fields_size, stored_align, sort_for
 use Rattle.fb_build.specs.Fields.{EntriesEnd, AreKnown, HasDefault}
 use Rattle.fb_build.specs.Pieces.{part_size, part_align}
 use Rattle.fb_build.specs.Filled.{IsLaidSlot, AreFilled}
-use Rattle.fb_build.specs.InlineBytes.{IsTightInline, EachInlineAt}
+use Rattle.fb_tape.specs.InlineBytes.{IsTightInline, EachInlineAt}
 use Rattle.fb_build.specs.Stored.{IsBit, HoldsBit, CodesItsMembers, stored_of, is_in_field, absent_number}
 use Rattle.fb_build.specs.Stored.{stored_number, EndsWithAField, PadsTableWithZeros}
 use Rattle.fb_build.specs.TableBytes.{offset_from}
 use Rattle.fb_build.specs.Tails.{TailSeen, Grows}
-use Rattle.fb_build.specs.Taken.{is_within}
+use Rattle.fb_tape.specs.Taken.{is_within}
 use Rattle.fb_build.proofs.tail.WhatIsLaidStaysLaid.{lower}
 use Rattle.fb_build.proofs.fields.SlotStoresItsEntry.{in_mapped}
 use Rattle.fb_build.proofs.vtables.VtableHasTheStoredFields.{TellsStored, stored_size, stored_greatest, in_stored}

@@ -21,8 +21,8 @@ use Rattle.fb_layout.specs.Sizes.{IsAlignment}
 use Rattle.fb_build.specs.Tails.{TailSeen, Grows, LaidInTail}
 use Rattle.fb_build.specs.Fields.{IsElement, sort_for}
 use Rattle.fb_build.specs.Items.{ItemsEnd}
-use Rattle.fb_build.specs.InlineBytes.{IsTightInline, EachInlineIn, EachInlineElement, EachInline, EachInlineItem}
-use Rattle.fb_build.specs.InlineBytes.{EachInlineAt}
+use Rattle.fb_tape.specs.InlineBytes.{IsTightInline, EachInlineIn, EachInlineElement, EachInline, EachInlineItem}
+use Rattle.fb_tape.specs.InlineBytes.{EachInlineAt}
 use Rattle.fb_build.specs.CoveredTails.{IsTightInTail}
 use Rattle.fb_build.proofs.covered.TightStructStaysTightFurtherOn.{items_moved as inline_moved}
 use Rattle.fb_build.proofs.covered.TightTableStaysTightFurtherOn.{tight_further_on}

@@ -9,12 +9,12 @@ use Rattle.fb_build.specs.Fields.{EntryEnd, EntriesEnd, AreKnown, StoredFits}
 use Rattle.fb_build.specs.TableBytes.{offset_from}
 use Rattle.fb_build.proofs.fields.FieldHasItsValue.{entry_under, entry_high}
 
-index_past : (xs : List ℕ) (k : ℕ) → length xs ≤ k → slice_index xs k ≡ 0
+pub index_past : (xs : List ℕ) (k : ℕ) → length xs ≤ k → slice_index xs k ≡ 0
 index_past [] k h = refl
 index_past (x ∷ xs) zero h = absurd (omega (arith, h))
 index_past (x ∷ xs) (suc k) h = index_past xs k (omega (arith, h))
 
-got : {A : Type 0} (xs : List A) (k : ℕ) → k < length xs → (x : A) × (slice_get xs k ≡ Some x)
+pub got : {A : Type 0} (xs : List A) (k : ℕ) → k < length xs → (x : A) × (slice_get xs k ≡ Some x)
 got [] k h = absurd (omega (arith, h))
 got (x ∷ xs) zero h = (x, refl)
 got (x ∷ xs) (suc k) h = got xs k (omega (arith, h))

@@ -15,7 +15,7 @@ use Rattle.fb_build.specs.Fields.{is_stored, fields_size, stored_align, EntriesE
 use Rattle.fb_build.specs.Stored.{StoredSlot, stored_from, is_in_field, absent_number, stored_number, NoneIsDefault}
 use Rattle.fb_build.specs.Stored.{HoldsBit, AllHoldBits, StandApart, StandsApartFrom, AllStandApart}
 use Rattle.fb_build.specs.TableBytes.{offset_from}
-use Rattle.fb_build.specs.Taken.{is_within}
+use Rattle.fb_tape.specs.Taken.{is_within}
 
 -- From slot j on, the table at p has a number for the slots whose entries are stored.
 abbrev pub TellsStored : Bytes → ℕ → ℕ → List Slot → List (Option Datum) → Type 0

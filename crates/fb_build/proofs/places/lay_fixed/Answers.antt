@@ -5,7 +5,7 @@ use Rattle.fb_value.specs.Num.{divides}
 use Rattle.fb_value.specs.View.{parts_view}
 use Rattle.fb_value.specs.declared.values.Value.{Value}
 use Rattle.fb_value.proofs.types.EachVariantHasItsView.{view-Fixed}
-use Rattle.fb_build.specs.InlineBytes.{IsTightInline, EachInlineIn}
+use Rattle.fb_tape.specs.InlineBytes.{IsTightInline, EachInlineIn}
 use Rattle.fb_build.proofs.places.StructIsInItsPlace.{struct_end}
 use Rattle.fb_build.proofs.tail.MultiplesAdd.{sum_divides}
 use Rattle.fb_build.proofs.tail.WhatIsLaidStaysLaid.{grown_long}

@@ -91,3 +91,12 @@ pub returns-clause-leads : goal.returns-clause-leads
 returns-clause-leads c =
     let views : length (map view c.args.items.now) ≡ length c.args.items.now = length-map c.args.items.now view in
     rw c.count.ensures.exact (closed_alone _ _ _ _ _ _ _ _ (closed c) (λ is. views ∙ c.requires.inline is))
+
+pub overflow_cast-items : goal.overflow_cast-items
+overflow_cast-items c =
+    let L = c.args.layout.now in
+    let kind = stored_kind L.schema c.args.kind in
+    let n = length c.args.items.now in
+    let least = times_least 1 (size_of L kind) n (element_padded L kind c.requires.known.element).some in
+    let swap : size_of L kind * n ≡ n * size_of L kind = omega arith in
+    omega (arith, least, swap, c.requires.room, c.count-laid.ensures)

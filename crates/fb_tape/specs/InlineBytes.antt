@@ -1,16 +1,25 @@
 -- The numbers and structs of a value: where each stands, and that nothing is spare in it.
 -- From the FlatBuffers documentation, "FlatBuffer Internals": Structs (fields stand at fixed offsets, with padding
 -- between them), Strings and vectors (numbers and structs stand in the vector).
-use Rattle.std.specs.Prelude.{ℕ, ◌+◌, Bool, false, ◌||◌, List, ◌∷◌, Option, None, Some}
+use Rattle.std.specs.Prelude.{ℕ, ◌+◌, ◌<◌, ◌++◌, ◌≡◌, Bool, false, ◌||◌, List, ◌∷◌, length, Option, None, Some}
+use Rattle.std.specs.Prelude.{IsTrue}
+use Rattle.fb_schema.specs.declared.kinds.Base.{Base}
+use Rattle.fb_schema.specs.declared.kinds.Base.TheVariants.{Bool as Boolean}
+use Rattle.fb_schema.specs.Schema.{body_at, is_struct}
 use Rattle.fb_layout.specs.Laid.{LaidSchema, StoredKind, scalar_kind, struct_kind, slots_of, parts_of, struct_at}
 use Rattle.fb_layout.specs.Laid.{size_of}
 use Rattle.fb_value.specs.Datum.{Datum, a_vector, a_struct, a_table, a_member, Parts, no_parts, more_parts, SlotEntries}
 use Rattle.fb_value.specs.Datum.{absent_entry, present_entry}
+use Rattle.fb_value.specs.Lies.{LiesInline}
 use Rattle.fb_value.specs.Num.{Bytes, num}
 use Rattle.fb_value.specs.Places.{Target, table_part, member_part, vector_part, Sort, ref_place, part_place}
 use Rattle.fb_value.specs.Places.{inline_place, Place, named_slots, target_of}
-use Rattle.fb_build.specs.Stored.{IsBit}
-use Rattle.fb_build.specs.Taken.{is_within, ZeroUnless}
+use Rattle.fb_tape.specs.Taken.{is_within, ZeroUnless}
+
+-- A `bool` is 0 or 1.
+abbrev pub IsBit : Base → ℕ → Type 0
+IsBit Boolean x = x < 2
+IsBit _ x = Unit {0}
 
 -- whether a struct's byte i is one of a field
 abbrev pub is_in_part : LaidSchema → List StoredKind → List ℕ → ℕ → Bool
@@ -81,3 +90,23 @@ abbrev mutual
 -- the same of what lies at a place
 abbrev pub EachInlineAt : LaidSchema → Bytes → (StoredKind → ℕ → Type 0) → Sort → ℕ → Datum → Type 0
 EachInlineAt L b P sort p d = EachInlineBehind L b P sort p d (λ X q. EachInline L b P X q d)
+
+-- The bytes of a number or a struct: whatever is behind them, the value lies in them, and nothing in them is spare.
+pub record AreInlineBytes (L : LaidSchema) (kind : StoredKind) (d : Datum) (bytes : Bytes) : Type 0 where
+  pub long : length bytes ≡ size_of L kind
+  pub lies : (behind : Bytes) → LiesInline L (bytes ++ behind) kind 0 d
+  pub tight : (behind : Bytes) → EachInlineIn L (IsTightInline L (bytes ++ behind)) kind 0 d
+
+-- Such bytes were added behind others.
+abbrev pub AddsInline : LaidSchema → StoredKind → Datum → Bytes → Bytes → Type 0
+AddsInline L kind d before after = (own : Bytes) × (after ≡ before ++ own) × AreInlineBytes L kind d own
+
+-- Nothing but more bytes behind came to those before.
+abbrev pub OnlyAdds : Bytes → Bytes → Type 0
+OnlyAdds before after = (own : Bytes) × (after ≡ before ++ own)
+
+-- what stands in its place: a number, or a struct that is declared
+abbrev pub IsInline : LaidSchema → StoredKind → Type 0
+IsInline L (scalar_kind base) = Unit {0}
+IsInline L (struct_kind s) = IsTrue (is_struct (body_at L.schema s))
+IsInline L _ = ⊥

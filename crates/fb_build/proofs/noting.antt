@@ -1,0 +1,4 @@
+mod PartsAreAdded
+mod ElementsAreNoted
+mod SlotsAreNoted
+mod PartsFollow

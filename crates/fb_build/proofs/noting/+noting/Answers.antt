@@ -1,0 +1,56 @@
+mod TableIsNoted
+mod VectorIsNoted
+use Rattle.fb_build.proofs.noting.+noting.Answers.TableIsNoted.{no_slot_yet, next_entry_fits, next_entry_noted}
+use Rattle.fb_build.proofs.noting.+noting.Answers.TableIsNoted.{all_slots_noted, code_opens, entries_known}
+use Rattle.fb_build.proofs.noting.+noting.Answers.TableIsNoted.{fields_are_stored, table_adds_itself}
+use Rattle.fb_build.proofs.noting.+noting.Answers.VectorIsNoted.{elements_add, references_add, member_fits}
+use Rattle.fb_build.proofs.noting.+noting.Answers.VectorIsNoted.{member_adds, table_fits, fields_add, item_fits, item_adds}
+use Rattle.fb_build.proofs.noting.+noting.Goals as goal
+
+pub note_entries-loop-k-init : goal.note_entries-loop-k-init
+note_entries-loop-k-init = no_slot_yet
+
+pub note_entries-note_entry-requires : goal.note_entries-note_entry-requires
+note_entries-note_entry-requires = next_entry_fits
+
+pub note_entries-loop-k-preserved : goal.note_entries-loop-k-preserved
+note_entries-loop-k-preserved = next_entry_noted
+
+pub note_entries-returns-clause-slots : goal.note_entries-returns-clause-slots
+note_entries-returns-clause-slots = all_slots_noted
+
+pub note_entry-returns-in-One-Code-clause-slot : goal.note_entry-returns-in-One-Code-clause-slot
+note_entry-returns-in-One-Code-clause-slot = code_opens
+
+pub note_items-returns-then-not-is_reference-clause-adds : goal.note_items-returns-then-not-is_reference-clause-adds
+note_items-returns-then-not-is_reference-clause-adds = elements_add
+
+pub note_items-returns-clause-adds : goal.note_items-returns-clause-adds
+note_items-returns-clause-adds = references_add
+
+pub note_member-note_table-requires : goal.note_member-note_table-requires
+note_member-note_table-requires = member_fits
+
+pub note_member-returns-clause-adds : goal.note_member-returns-clause-adds
+note_member-returns-clause-adds = member_adds
+
+pub note_part-note_table-requires : goal.note_part-note_table-requires
+note_part-note_table-requires = table_fits
+
+pub note_part-returns-in-Fields-default-clause-adds : goal.note_part-returns-in-Fields-default-clause-adds
+note_part-returns-in-Fields-default-clause-adds = fields_add
+
+pub note_table-note_entries-requires : goal.note_table-note_entries-requires
+note_table-note_entries-requires = entries_known
+
+pub note_table-close_table-requires-clause-stored : goal.note_table-close_table-requires-clause-stored
+note_table-close_table-requires-clause-stored = fields_are_stored
+
+pub note_table-returns-clause-adds : goal.note_table-returns-clause-adds
+note_table-returns-clause-adds = table_adds_itself
+
+pub note_targets-note_part-requires : goal.note_targets-note_part-requires
+note_targets-note_part-requires = item_fits
+
+pub note_targets-loop-item-preserved : goal.note_targets-loop-item-preserved
+note_targets-loop-item-preserved = item_adds

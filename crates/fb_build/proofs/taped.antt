@@ -1,0 +1,14 @@
+pub mod BytesOfAValueLieInATail
+pub mod DataIsItsPart
+pub mod SlotsAreInLayingOrder
+pub mod NotedFieldsAreLaidInTurn
+pub mod VtablesComeInTurn
+pub mod VtableOfTheEnds
+pub mod ClosedTableIsWhole
+pub mod OnePartMoreWaits
+pub mod StepsOfALaying
+pub mod PartsOfATable
+pub mod ReferencesComeInOrder
+pub mod TableTakesItsParts
+pub mod TapeIsLaidInTurn
+pub mod TapeFitsItsRoom

@@ -1,0 +1,91 @@
+//! Lays the operations of a tape, one after the other.
+ghost use Rattle.std.specs.Prelude.{ℕ, List, [], ◌∷◌, ◌≡◌, ◌≤◌, ◌<◌, ◌+◌, ◌-◌, ◌++◌, ◌^◌, length, take, max};
+ghost use Rattle.std.specs.Vec.{vec_capacity};
+ghost use Rattle.fb_tape.specs.declared.ops.Op.TheVariants.{Data, References, Table};
+ghost use Rattle.fb_build.specs.Lengths.{data_end, references_end, fields_end, table_end};
+ghost use Rattle.fb_build.specs.NotesLaid.{notes_size};
+ghost use Rattle.fb_build.specs.Steps.{MayLayNext, Steps};
+
+use crate::tail::Tail;
+use crate::taped_fields::{lay_fields, references_in};
+use crate::taped_vtables::close_table;
+use crate::{taped_data, taped_references};
+use fb_tape::NotedField;
+
+/// What is laid of a tape: the tail, the end-counts of the parts that wait, and those of the vtables that have come.
+#[derive(Drop)]
+pub(crate) struct Laying {
+    pub(crate) tail: Tail,
+    pub(crate) waiting: Vec<u32>,
+    pub(crate) places: Vec<u32>,
+}
+
+/// A part waits in the place of those that were laid last, to which it refers.
+fn wait(waiting: &mut Vec<u32>, taken: usize, end: usize)
+    requires within { taken ≤ length waiting.old.items }
+    requires reserved { length waiting.old.items < vec_capacity waiting.old + taken }
+    requires short { end < 2 ^ 32 }
+    ensures items { waiting.new.items
+        ≡ take (length waiting.old.items - taken) waiting.old.items ++ (end ∷ []) }
+    ensures reserved { vec_capacity waiting.new ≡ vec_capacity waiting.old }
+{
+    let others = waiting.len() - taken;
+    waiting.truncate(others);
+    waiting.push_reserved(end as u32);
+}
+
+/// Lays a text, or a vector of numbers or structs.
+pub(crate) fn lay_data(laying: &mut Laying, align: usize, bytes: &[u8])
+    requires ready { MayLayNext (Data align (length bytes.now)) [] [] bytes.now laying.old }
+    requires reserved { length laying.old.waiting.items < vec_capacity laying.old.waiting }
+    ensures laid { Steps (Data align (length bytes.now)) [] [] bytes.now laying.old laying.new }
+    ensures long { length laying.new.tail.bytes
+        ≡ data_end align (length bytes.now) (length laying.old.tail.bytes) }
+    ensures most { laying.new.tail.most ≡ max laying.old.tail.most align }
+{
+    taped_data::lay_data(&mut laying.tail, align, bytes);
+    let end = laying.tail.count();
+    wait(&mut laying.waiting, 0, end);
+}
+
+/// Lays a vector of references to the parts that were laid last.
+pub(crate) fn lay_references(laying: &mut Laying, count: usize)
+    requires ready { MayLayNext (References count) [] [] [] laying.old }
+    requires reserved { length laying.old.waiting.items < vec_capacity laying.old.waiting }
+    ensures laid { Steps (References count) [] [] [] laying.old laying.new }
+    ensures long { length laying.new.tail.bytes ≡ references_end count (length laying.old.tail.bytes) }
+    ensures most { laying.new.tail.most ≡ max laying.old.tail.most 4 }
+{
+    let first = laying.waiting.len() - count;
+    taped_references::lay_references(&mut laying.tail, &laying.waiting[first..]);
+    let end = laying.tail.count();
+    wait(&mut laying.waiting, count, end);
+}
+
+/// Lays a table, whose references are to the parts that were laid last, and its vtable where that is the next to come.
+pub(crate) fn lay_table(
+    laying: &mut Laying,
+    align: usize,
+    number: usize,
+    vtable: &[u8],
+    notes: &[NotedField],
+    bytes: &[u8],
+)
+    requires ready { MayLayNext (Table (length notes.now) align number) vtable.now notes.now bytes.now laying.old }
+    requires reserved { length laying.old.waiting.items < vec_capacity laying.old.waiting }
+    requires places { number ≡ length laying.old.places.items
+        → length laying.old.places.items < vec_capacity laying.old.places }
+    ensures laid { Steps (Table (length notes.now) align number) vtable.now notes.now bytes.now laying.old laying.new }
+    ensures long { length laying.new.tail.bytes
+        ≡ table_end (length vtable.now) number (length laying.old.places.items)
+        (fields_end align (notes_size notes.now) (length laying.old.tail.bytes)) }
+    ensures most { laying.new.tail.most ≡ max (max laying.old.tail.most align) 4 }
+{
+    let taken = references_in(notes);
+    let first = laying.waiting.len() - taken;
+    let waiting = &laying.waiting[first..];
+    let _start = lay_fields(&mut laying.tail, align, notes, bytes, waiting);
+    let end = close_table(&mut laying.tail, &mut laying.places, number, vtable);
+    let _end = laying.tail.count(); // its contract: what is laid is short
+    wait(&mut laying.waiting, taken, end);
+}

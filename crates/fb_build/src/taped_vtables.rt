@@ -1,0 +1,76 @@
+//! Lays the vtables of a tape, each once, and what is before the fields of its tables.
+ghost use Rattle.std.specs.Prelude.{ℕ, List, Option, ◌≡◌, ◌≤◌, ◌<◌, ◌+◌, ◌⊎◌, length, max, slice_index};
+ghost use Rattle.std.specs.Vec.{vec_capacity};
+ghost use Rattle.fb_layout.specs.Laid.{LaidSchema};
+ghost use Rattle.fb_value.specs.Datum.{Datum};
+ghost use Rattle.fb_value.specs.Num.{Bytes};
+ghost use Rattle.fb_build.specs.Lengths.{vtable_end, table_end};
+ghost use Rattle.fb_build.specs.NumberedVtables.{IsVtableInTurn, IsVtableLaid, IsTableOpen, IsTableClosed};
+ghost use Rattle.fb_build.specs.Tails.{Grows};
+
+use crate::tail::Tail;
+use crate::vtables::{lay_new, way_back};
+
+/// Lays the first number of a table, and its vtable where that is the next to come, and returns how many bytes are laid
+/// up to the table.
+fn lay_vtable(out: &mut Tail, places: &mut Vec<u32>, number: usize, vtable: &[u8]) -> usize
+    requires room { vtable_end (length vtable.now) number (length places.old.items) (length out.old.bytes)
+        ≤ length out.old.bytes + out.old.free }
+    requires short { length vtable.now ≤ 65534 }
+    requires turn { number ≤ length places.old.items }
+    requires reserved { number ≡ length places.old.items → length places.old.items < vec_capacity places.old }
+    requires there { (i : ℕ) → i < length places.old.items → 0 < slice_index places.old.items i }
+    requires inside { (i : ℕ) → slice_index places.old.items i ≤ length out.old.bytes }
+    ensures laid { (vtables : List Bytes)
+        → IsVtableInTurn vtables places.old.items number vtable.now out.old.bytes
+        → IsVtableLaid vtables number vtable.now places.old.items places.new.items out.old.bytes out.new.bytes
+        result }
+    ensures place { result ≡ length out.old.bytes + 4 }
+    ensures inside { result ≤ length out.new.bytes }
+    ensures come { length places.new.items ≡ max (length places.old.items) (number + 1) }
+    ensures capacity { vec_capacity places.new ≡ vec_capacity places.old }
+    ensures long { length out.new.bytes
+        ≡ vtable_end (length vtable.now) number (length places.old.items) (length out.old.bytes) }
+    ensures most { out.new.most ≡ out.old.most }
+    ensures grows { Grows out.old out.new }
+{
+    let place = out.count() + 4;
+    if number < places.len() {
+        out.lay_u32(way_back(place as u32, places[number]));
+        return place;
+    }
+    lay_new(out, vtable);
+    places.push_reserved(out.count() as u32);
+    place
+}
+
+/// Lays what is before the fields of a table, and its vtable where that is the next to come, and returns how many bytes
+/// are laid up to the table.
+pub(crate) fn close_table(
+    out: &mut Tail,
+    places: &mut Vec<u32>,
+    number: usize,
+    vtable: &[u8],
+) -> usize
+    requires room { table_end (length vtable.now) number (length places.old.items) (length out.old.bytes)
+        ≤ length out.old.bytes + out.old.free }
+    requires short { length vtable.now ≤ 65534 }
+    requires turn { number ≤ length places.old.items }
+    requires reserved { number ≡ length places.old.items → length places.old.items < vec_capacity places.old }
+    requires there { (i : ℕ) → i < length places.old.items → 0 < slice_index places.old.items i }
+    requires inside { (i : ℕ) → slice_index places.old.items i ≤ length out.old.bytes }
+    ensures closed { (L : LaidSchema) (vtables : List Bytes) (t : ℕ) (entries : List (Option Datum)) (start : ℕ)
+        (targets : List ℕ) → IsTableOpen L vtables t entries start targets places.old.items number vtable.now out.old
+        → IsTableClosed L vtables t entries start targets places.old.items places.new.items result out.old out.new }
+    ensures inside { result ≤ length out.new.bytes }
+    ensures come { length places.new.items ≡ max (length places.old.items) (number + 1) }
+    ensures capacity { vec_capacity places.new ≡ vec_capacity places.old }
+    ensures long { length out.new.bytes
+        ≡ table_end (length vtable.now) number (length places.old.items) (length out.old.bytes) }
+    ensures most { out.new.most ≡ max out.old.most 4 }
+    ensures grows { Grows out.old out.new }
+{
+    let _laid = out.count(); // its contract: what is laid and what is free are short
+    out.fit(4, 0);
+    lay_vtable(out, places, number, vtable)
+}

@@ -1,0 +1,8 @@
+pub mod BytesAreOnlyAdded
+pub mod BytesSumToTheirNumber
+pub mod FieldsStandInTheirStruct
+pub mod InlineKindsAreNumbersOrStructs
+pub mod NumberStandsInItsBytes
+pub mod SameBytesAreTightFurtherOn
+pub mod StructFieldsAreAdded
+pub mod StructsAreKnown

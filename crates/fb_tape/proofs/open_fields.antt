@@ -1,0 +1,2 @@
+pub mod FieldsStandInTurn
+pub mod SizesFit

@@ -1,0 +1,24 @@
+-- The rooms of all parts are summed up, also where they are too big for a buffer together.
+use Rattle.std.proofs.Common.{ℕ, ◌+◌, ◌-◌, ◌^◌, ◌≡◌, ◌≤◌, ◌<◌, min, ◌↔◌, IsTrue, false, ap, sym, ◌∙◌, arith}
+use Rattle.fb_value.specs.UpTo.{at_most_usize}
+use Rattle.fb_tape.specs.Tapes.{Taped}
+
+-- A tape that isn't over a buffer's most bytes has room for each of them.
+pub not_over : (room : ℕ) → (IsTrue false ↔ (2147483647 < room)) → room ≤ 2147483647
+not_over room over = grind (arith, over.1)
+
+pub room_added : (before own room after : ℕ) → after ≡ min (before + own) (2 ^ 64 - 1) → own ≡ at_most_usize room
+    → (IsTrue false ↔ (2147483647 < after)) → after ≡ before + room
+room_added before own room after sum is over = let small = not_over after over in omega (arith, sum, is, small)
+
+-- the tape t with this room
+abbrev pub with_room : Taped → ℕ → Taped
+with_room t room = record t { room = room }
+
+-- what it is where that isn't over
+pub room_known : (before sized : Taped) (own room : ℕ) → sized ≡ with_room before (at_most_usize (before.room + own))
+    → own ≡ at_most_usize room → (IsTrue false ↔ (2147483647 < sized.room))
+    → at_most_usize (before.room + own) ≡ before.room + room
+room_known before sized own room e is over =
+    let sum : sized.room ≡ at_most_usize (before.room + own) = ap (λ (t : Taped). t.room) e in
+    sym sum ∙ room_added before.room own room sized.room sum is over

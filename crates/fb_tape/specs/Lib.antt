@@ -1,0 +1,14 @@
+pub mod StoredFields
+pub mod Taken
+pub mod InlineBytes
+pub mod LayingOrder
+pub mod Vtables
+pub mod NamedParts
+pub mod NotedFields
+pub mod Tapes
+pub mod OpenFields
+pub mod StoredTables
+pub mod OpenList
+pub mod TapeHeld
+pub mod KnownVtables
+pub mod VtablesHeld

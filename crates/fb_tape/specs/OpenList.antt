@@ -1,0 +1,37 @@
+-- Open fields as they are held: each one's bytes are among those of all.
+use Rattle.std.specs.Prelude.{ℕ, ◌+◌, ◌≤◌, List, [], ◌∷◌, map, length}
+use Rattle.fb_value.specs.Num.{Bytes, part_of}
+use Rattle.fb_tape.specs.OpenFields.{OpenField}
+use Rattle.fb_tape.specs.declared.open_fields.OpenField.{OpenField as Held}
+use Rattle.fb_tape.specs.declared.open_fields.FieldInTable.{FieldInTable}
+use Rattle.fb_tape.specs.declared.open_fields.OpenFields.TheInside.{Inside}
+use Rattle.fb_tape.specs.declared.ops.NotedField.{NotedField}
+use Rattle.fb_tape.specs.declared.ops.NotedField.TheVariants.{Reference, Inline}
+
+-- how many bytes a field has in its table's place, beside references
+abbrev pub own_size : NotedField → ℕ
+own_size Reference = 0
+own_size (Inline n) = n
+
+abbrev pub field_seen : Bytes → Held → OpenField
+field_seen bytes x = record {
+  slot = x.slot;
+  align = x.align;
+  note = x.note;
+  bytes = part_of bytes x.first (own_size x.note);
+}
+
+abbrev pub open_seen : Inside → List OpenField
+open_seen o = map (field_seen o.bytes.items) o.fields.items
+
+-- Fields have their bytes one behind the other, from a position on and up to an end.
+abbrev pub StandInTurn : ℕ → List Held → ℕ → Type 0
+StandInTurn p [] end = p ≤ end
+StandInTurn p (x ∷ xs) end = (p ≤ x.first) × StandInTurn (x.first + own_size x.note) xs end
+
+abbrev pub IsOpenList : Inside → Type 0
+IsOpenList o = StandInTurn 0 o.fields.items (length o.bytes.items)
+
+-- a field with its bytes
+abbrev pub field_in : FieldInTable → OpenField
+field_in x = record { slot = x.slot; align = x.align; note = x.note; bytes = x.bytes.now }

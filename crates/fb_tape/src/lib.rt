@@ -1,0 +1,13 @@
+//! What is to be laid of a value, operation by operation, in the order of laying.
+#![tactic(auto)]
+
+mod inline_bytes;
+mod known_vtables;
+mod open_fields;
+mod ops;
+mod stored_tables;
+mod tape;
+
+pub use open_fields::OpenFields;
+pub use ops::{NotedField, Op};
+pub use tape::Tape;

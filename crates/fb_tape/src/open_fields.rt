@@ -1,0 +1,170 @@
+//! The stored fields of tables that aren't whole yet.
+ghost use Rattle.std.specs.Prelude.{ℕ, ◌≡◌, ◌≤◌, ◌<◌, ◌++◌, [], ◌∷◌, Some, length, slice_get, take, pos, OnOk, OnErr};
+ghost use Rattle.fb_schema.specs.declared.kinds.Base.TheVariants.{U8};
+ghost use Rattle.fb_layout.specs.Laid.{LaidSchema, one_of, scalar_kind};
+ghost use Rattle.fb_layout.specs.Seen.{kind_seen};
+ghost use Rattle.fb_value.specs.Datum.{a_number};
+ghost use Rattle.fb_value.specs.Fits.{Fits};
+ghost use Rattle.fb_value.specs.View.{view};
+ghost use Rattle.fb_tape.specs.InlineBytes.{IsInline};
+ghost use Rattle.fb_tape.specs.OpenFields.{AddsInlineField, reference_field};
+ghost use Rattle.fb_tape.specs.OpenList.{field_in, own_size};
+
+use crate::inline_bytes::{push_inline, push_number};
+use crate::ops::NotedField;
+use fb_layout::Layout;
+use fb_schema::{Base, Kind};
+use fb_value::Value;
+use std::alloc::{AllocError, Global};
+use std::marker::Model;
+
+/// A field, whose bytes are among those of all open fields.
+#[derive(Clone, Copy)]
+pub(crate) struct OpenField {
+    slot: u16,
+    align: u16,
+    note: NotedField,
+    first: usize,
+}
+
+/// A field as it is to be noted.
+#[derive(Clone, Copy)]
+pub(crate) struct FieldInTable<'b> {
+    pub(crate) slot: u16,
+    pub(crate) align: u16,
+    pub(crate) note: NotedField,
+    pub(crate) bytes: &'b [u8],
+}
+
+/// How many bytes of a field are noted.
+fn own_size(note: NotedField) -> usize
+    ensures { result ≡ own_size note }
+{
+    match note {
+        NotedField::Reference => 0,
+        NotedField::Inline(size) => usize::from(size),
+    }
+}
+
+/// The stored fields of tables that stand in one another and aren't whole yet, the innermost table's last.
+#[derive(Drop)]
+pub struct OpenFields {
+    fields: Vec<OpenField>,
+    bytes: Vec<u8>,
+}
+
+impl Model for OpenFields {
+    ghost use Rattle.std.specs.Prelude.{List};
+    ghost use Rattle.fb_tape.specs.OpenFields.{OpenField};
+
+    ghost Value = { List OpenField };
+
+    ghost use Rattle.fb_tape.specs.OpenList.{open_seen, IsOpenList};
+
+    ghost view = { open_seen };
+
+    ghost invariant = { IsOpenList };
+}
+
+impl OpenFields {
+    /// No field yet.
+    pub fn new(alloc: Global) -> OpenFields
+        ensures none { result ≡ [] }
+    {
+        OpenFields {
+            fields: Vec::new(alloc),
+            bytes: Vec::new(alloc),
+        }
+    }
+
+    /// How many fields there are.
+    pub fn len(&self) -> usize
+        ensures exact { result ≡ length self.now }
+    {
+        self.fields.len()
+    }
+
+    /// Keeps only the first fields.
+    pub fn truncate(&mut self, count: usize)
+        requires within { count ≤ length self.old }
+        ensures first { self.new ≡ take count self.old }
+    {
+        if let Some(field) = self.fields.get(count) {
+            self.bytes.truncate(field.first);
+        }
+        self.fields.truncate(count);
+    }
+
+    /// Adds a union's code in a slot.
+    pub fn push_code(&mut self, slot: u16, code: u8) -> Result<(), AllocError>
+        ensures adds { (L : LaidSchema) → OnOk result (AddsInlineField L slot (scalar_kind U8) (a_number (pos code))
+            self.old self.new) }
+        ensures kept { OnErr result (self.new ≡ self.old) }
+    {
+        let first = self.bytes.len();
+        push_number(&mut self.bytes, Base::U8, i128::from(code))?;
+        self.fields.push(OpenField {
+            slot,
+            align: 1,
+            note: NotedField::Inline(1),
+            first,
+        })?;
+        Ok(())
+    }
+
+    /// Adds a number or a struct in a slot.
+    pub fn push_inline(
+        &mut self,
+        layout: &Layout,
+        slot: u16,
+        kind: Kind,
+        value: &Value,
+    ) -> Result<(), AllocError>
+        requires inline { IsInline layout.now (kind_seen layout.now kind) }
+        requires fits { Fits layout.now (one_of (kind_seen layout.now kind)) (view value.now) }
+        ensures adds { OnOk result (AddsInlineField layout.now slot (kind_seen layout.now kind) (view value.now)
+            self.old self.new) }
+        ensures kept { OnErr result (self.new ≡ self.old) }
+    {
+        let _schema = layout.schema(); // its contract: the layout is well made
+        let first = self.bytes.len();
+        push_inline(&mut self.bytes, layout, kind, value)?;
+        self.fields.push(OpenField {
+            slot,
+            align: layout.align_of(kind) as u16,
+            note: NotedField::Inline(layout.size_of(kind) as u16),
+            first,
+        })?;
+        Ok(())
+    }
+
+    /// Adds a reference in a slot.
+    pub fn push_reference(&mut self, slot: u16) -> Result<(), AllocError>
+        ensures adds { OnOk result (self.new ≡ self.old ++ (reference_field slot ∷ [])) }
+        ensures kept { OnErr result (self.new ≡ self.old) }
+    {
+        let first = self.bytes.len();
+        self.fields.push(OpenField {
+            slot,
+            align: 4,
+            note: NotedField::Reference,
+            first,
+        })?;
+        Ok(())
+    }
+
+    /// The field of an index.
+    pub(crate) fn field(&self, index: usize) -> FieldInTable<'_>
+        requires within { index < length self.now }
+        ensures is { slice_get self.now index ≡ Some (field_in result) }
+    {
+        let field = self.fields[index];
+        let end = field.first + own_size(field.note);
+        FieldInTable {
+            slot: field.slot,
+            align: field.align,
+            note: field.note,
+            bytes: &self.bytes[field.first..end],
+        }
+    }
+}

@@ -1,0 +1,225 @@
+//! What is noted of a table that is whole: its fields in the order of laying, and its vtable.
+ghost use Rattle.std.specs.Prelude.{ℕ, ◌≡◌, ◌≤◌, ◌<◌, ◌+◌, ◌*◌, ◌++◌, List, length, drop, map, max, flat_map};
+ghost use Rattle.std.specs.Prelude.{replicate, Option, OnOk};
+ghost use Rattle.std.specs.List.{All};
+ghost use Rattle.byteorder.specs.Endian.{little_bytes};
+ghost use Rattle.fb_schema.specs.Alignments.{greatest_in};
+ghost use Rattle.fb_layout.specs.Sizes.{ceil4};
+ghost use Rattle.fb_layout.specs.Laid.{LaidSchema, Slot};
+ghost use Rattle.fb_value.specs.Datum.{Datum};
+ghost use Rattle.fb_tape.specs.LayingOrder.{laying_order};
+ghost use Rattle.fb_tape.specs.StoredTables.{taken_by, taken, at_align, in_order, notes_of, bytes_of, placed};
+ghost use Rattle.fb_tape.specs.StoredTables.{AreStored, AddsNotes};
+ghost use Rattle.fb_tape.specs.Vtables.{vtable_with, vtable_of, table_size, trimmed, offsets_from};
+
+use crate::open_fields::OpenFields;
+use crate::ops::NotedField;
+use byteorder::{ByteOrder, LittleEndian};
+use std::alloc::{AllocError, Global};
+
+/// The bytes that a field takes in its table.
+fn size_of(note: NotedField) -> u16
+    ensures { result ≡ taken_by note }
+{
+    match note {
+        NotedField::Reference => 4,
+        NotedField::Inline(size) => size,
+    }
+}
+
+/// The greater alignment.
+fn greater(a: u16, b: u16) -> u16
+    ensures { result ≡ max a b }
+{
+    if a < b { b } else { a }
+}
+
+/// What the end of a table's fields is aligned to.
+pub(crate) fn start_align(opened: &OpenFields, first: usize) -> u16
+    requires within { first ≤ length opened.now }
+    ensures { result ≡ max 4 (greatest_in (map (λ x. x.align) (drop first opened.now))) }
+{
+    let mut align = 4;
+    for i in first..opened.len() {
+        align = greater(align, opened.field(i).align);
+    }
+    align
+}
+
+/// The bytes of a table with these fields.
+pub(crate) fn table_size(opened: &OpenFields, first: usize) -> u16
+    requires within { first ≤ length opened.now }
+    requires small { taken (drop first opened.now) ≤ 65528 }
+    ensures { result ≡ 4 + ceil4 (taken (drop first opened.now)) }
+{
+    let mut size = 0;
+    for i in first..opened.len() {
+        size += size_of(opened.field(i).note);
+    }
+    4 + (size + 3) / 4 * 4
+}
+
+/// How many slots there are up to the last that is stored.
+fn slots_used(opened: &OpenFields, first: usize) -> usize
+    requires within { first ≤ length opened.now }
+    requires some { (L : LaidSchema) × (fs : List Slot) × (xs : List (Option Datum))
+        × AreStored L fs xs (drop first opened.now) }
+    ensures { (L : LaidSchema) (fs : List Slot) (xs : List (Option Datum)) → AreStored L fs xs (drop first opened.now)
+        → result ≡ length (trimmed (offsets_from L fs xs 0 fs xs)) }
+{
+    if opened.len() == first {
+        return 0;
+    }
+    usize::from(opened.field(opened.len() - 1).slot) + 1
+}
+
+/// A table's size, how many bytes its fields take that are noted so far, and where the field of each slot stands.
+#[derive(Drop)]
+pub(crate) struct Offsets {
+    pub(crate) size: u16,
+    pub(crate) laid: u16,
+    pub(crate) slots: Vec<u16>,
+}
+
+impl Offsets {
+    /// Those of no table.
+    pub(crate) fn new(alloc: Global) -> Offsets {
+        Offsets {
+            size: 0,
+            laid: 0,
+            slots: Vec::new(alloc),
+        }
+    }
+
+    /// Begins those of a table with these fields, none of which is laid.
+    fn begin(&mut self, opened: &OpenFields, first: usize) -> Result<(), AllocError>
+        requires within { first ≤ length opened.now }
+        requires some { (L : LaidSchema) × (fs : List Slot) × (xs : List (Option Datum))
+            × AreStored L fs xs (drop first opened.now) }
+        ensures laid { self.new.laid ≡ 0 }
+        ensures size { (L : LaidSchema) (fs : List Slot) (xs : List (Option Datum))
+            → AreStored L fs xs (drop first opened.now) → self.new.size ≡ table_size L fs xs }
+        ensures slots { OnOk result ((L : LaidSchema) (fs : List Slot) (xs : List (Option Datum))
+            → AreStored L fs xs (drop first opened.now) → self.new.slots.items
+            ≡ replicate (length (trimmed (offsets_from L fs xs 0 fs xs))) 0) }
+    {
+        self.size = table_size(opened, first);
+        self.laid = 0;
+        self.slots.truncate(0);
+        self.slots.resize(slots_used(opened, first), 0)
+    }
+}
+
+/// Notes the fields of one alignment.
+fn note_fields_at(
+    notes: &mut Vec<NotedField>,
+    bytes: &mut Vec<u8>,
+    offsets: &mut Offsets,
+    opened: &OpenFields,
+    first: usize,
+    align: u16,
+) -> Result<(), AllocError>
+    requires within { first ≤ length opened.now }
+    requires room { offsets.old.laid + taken (at_align align (drop first opened.now)) ≤ offsets.old.size }
+    requires slots { All (λ x. x.slot < length offsets.old.slots.items) (drop first opened.now) }
+    ensures size { offsets.new.size ≡ offsets.old.size }
+    ensures slots { length offsets.new.slots.items ≡ length offsets.old.slots.items }
+    ensures grown { length bytes.old.items ≤ length bytes.new.items }
+    ensures notes { OnOk result (notes.new.items
+        ≡ notes.old.items ++ notes_of (at_align align (drop first opened.now))) }
+    ensures bytes { OnOk result (bytes.new.items
+        ≡ bytes.old.items ++ bytes_of (at_align align (drop first opened.now))) }
+    ensures laid { OnOk result (offsets.new.laid
+        ≡ offsets.old.laid + taken (at_align align (drop first opened.now))) }
+    ensures placed { OnOk result (offsets.new.slots.items ≡ placed offsets.old.size offsets.old.laid
+        (at_align align (drop first opened.now)) offsets.old.slots.items) }
+{
+    for i in first..opened.len() {
+        let field = opened.field(i);
+        if field.align != align {
+            continue;
+        }
+        offsets.laid += size_of(field.note);
+        offsets.slots[usize::from(field.slot)] = offsets.size - offsets.laid;
+        notes.push(field.note)?;
+        bytes.extend_from_slice(field.bytes)?;
+    }
+    Ok(())
+}
+
+// The alignments that a field may have, falling.
+const ALIGNMENTS: [u16; 9] = [256, 128, 64, 32, 16, 8, 4, 2, 1];
+
+/// Notes the fields of a table in the order of laying.
+pub(crate) fn note_fields(
+    notes: &mut Vec<NotedField>,
+    bytes: &mut Vec<u8>,
+    offsets: &mut Offsets,
+    opened: &OpenFields,
+    first: usize,
+) -> Result<(), AllocError>
+    requires within { first ≤ length opened.now }
+    requires room { offsets.old.laid + taken (in_order (drop first opened.now)) ≤ offsets.old.size }
+    requires slots { All (λ x. x.slot < length offsets.old.slots.items) (drop first opened.now) }
+    ensures size { offsets.new.size ≡ offsets.old.size }
+    ensures grown { length bytes.old.items ≤ length bytes.new.items }
+    ensures notes { OnOk result (notes.new.items
+        ≡ notes.old.items ++ notes_of (in_order (drop first opened.now))) }
+    ensures bytes { OnOk result (bytes.new.items
+        ≡ bytes.old.items ++ bytes_of (in_order (drop first opened.now))) }
+    ensures placed { OnOk result (offsets.new.slots.items ≡ placed offsets.old.size offsets.old.laid
+        (in_order (drop first opened.now)) offsets.old.slots.items) }
+{
+    for align in ALIGNMENTS {
+        note_fields_at(notes, bytes, offsets, opened, first, align)?;
+    }
+    Ok(())
+}
+
+fn push_u16(bytes: &mut Vec<u8>, number: u16) -> Result<(), AllocError>
+    ensures adds { OnOk result (bytes.new.items ≡ bytes.old.items ++ little_bytes 2 number) }
+{
+    let mut all = [0u8; 2];
+    LittleEndian::write_u16(&mut all, number);
+    bytes.extend_from_slice(&all)
+}
+
+/// Writes a table's vtable.
+pub(crate) fn vtable_into(vtable: &mut Vec<u8>, offsets: &Offsets) -> Result<(), AllocError>
+    requires few { length offsets.now.slots.items ≤ 32765 }
+    ensures written { OnOk result (vtable.new.items ≡ vtable_with offsets.now.size offsets.now.slots.items) }
+{
+    vtable.truncate(0);
+    push_u16(vtable, (4 + 2 * offsets.slots.len()) as u16)?;
+    push_u16(vtable, offsets.size)?;
+    for offset in offsets.slots.iter() {
+        push_u16(vtable, *offset)?;
+    }
+    Ok(())
+}
+
+/// Notes the fields of a table in the order of laying, and writes its vtable.
+pub(crate) fn note_table(
+    notes: &mut Vec<NotedField>,
+    bytes: &mut Vec<u8>,
+    offsets: &mut Offsets,
+    vtable: &mut Vec<u8>,
+    opened: &OpenFields,
+    first: usize,
+) -> Result<(), AllocError>
+    requires within { first ≤ length opened.now }
+    requires some { (L : LaidSchema) × (fs : List Slot) × (xs : List (Option Datum))
+        × AreStored L fs xs (drop first opened.now) }
+    ensures grown { length bytes.old.items ≤ length bytes.new.items }
+    ensures notes { OnOk result ((L : LaidSchema) (fs : List Slot) (xs : List (Option Datum))
+        → AreStored L fs xs (drop first opened.now) → AddsNotes L fs xs (laying_order L fs xs) notes.old.items
+        notes.new.items bytes.old.items bytes.new.items (notes_of (in_order (drop first opened.now)))
+        (bytes_of (in_order (drop first opened.now)))) }
+    ensures vtable { OnOk result ((L : LaidSchema) (fs : List Slot) (xs : List (Option Datum))
+        → AreStored L fs xs (drop first opened.now) → vtable.new.items ≡ vtable_of L fs xs) }
+{
+    offsets.begin(opened, first)?;
+    note_fields(notes, bytes, offsets, opened, first)?;
+    vtable_into(vtable, offsets)?;
+    Ok(())
+}
