@@ -8,8 +8,8 @@ use Rattle.fb_layout.specs.Sizes.{ceil4, IsAlignment}
 use Rattle.fb_layout.specs.Widths.{inline_size, inline_align, widest, greatest}
 use Rattle.fb_value.specs.Datum.{Datum}
 use Rattle.fb_value.specs.Room.{table_room}
-pub use Rattle.fb_tape.proofs.stored_tables.StoredFieldsFit.{fields_fit}
-use Rattle.fb_tape.proofs.stored_tables.StoredFieldsFit.{in_use}
+pub use Rattle.fb_tape.proofs.stored.StoredFieldsFit.{fields_fit}
+use Rattle.fb_tape.proofs.stored.StoredFieldsFit.{in_use}
 use Rattle.fb_build.specs.Fields.{IsSimple, StoredFits, is_stored, AreKnown, fields_size, stored_align, stored_room}
 use Rattle.fb_build.proofs.tail.WhatIsLaidStaysLaid.{power_max}
 use Rattle.fb_build.proofs.fields.AlignmentDividesTheSize.{simple_aligned}

@@ -1,0 +1,1 @@
+use Rattle.fb_build.proofs.noting.note_root.Goals as goal
