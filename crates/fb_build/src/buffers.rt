@@ -34,10 +34,11 @@ pub fn plan<'v>(alloc: Global, layout: &'v Layout, value: &'v Value) -> Result<P
     let Value::Fields(table, entries) = value else {
         unreachable!();
     };
+    let needs = table_needs(layout, *table, entries);
     // What is too big is so whatever memory there is.
-    if buffer_room(layout, table_needs(layout, *table, entries).room).is_none() {
+    let Some(_) = buffer_room(layout, needs.room) else {
         return Err(BuildFault::TooBig);
-    }
+    };
     let tape = note_root(alloc, layout, *table, entries)?;
     let block = vec![in alloc; 0u8; buffer_end(layout, &tape)]?;
     let mut waiting: Vec<u32> = Vec::new(alloc);

@@ -286,7 +286,7 @@ pub(crate) fn note_root<'l>(
       target = table_part table.0;
       value = a_table table.0 (entries_view entries.now);
     } ∷ [])) }
-    ensures room { IfOk result (λ t. t.room ≡ at_most_usize (table_room layout.now table.0
+    ensures room { IfOk result (λ t. at_most_usize t.room ≡ at_most_usize (table_room layout.now table.0
         + entries_room layout.now (slots_of layout.now table.0) (entries_view entries.now))) }
 {
     let mut noting = Noting {

@@ -1,11 +1,10 @@
 -- The room of a table is enough for what is laid.
 use Rattle.std.proofs.Common.{◌≡◌, ℕ, suc, ◌+◌, ◌*◌, ◌≤◌, Bool, true, false, if◌then◌else◌, max, List, [], ◌∷◌, length}
-use Rattle.std.proofs.Common.{map, sum_by, slice_get, Option, None, Some, refl, arith}
-use Rattle.std.proofs.lemmas.List.Sums.{sum_by-cons}
+use Rattle.std.proofs.Common.{map, slice_get, Option, Some, refl, arith}
 use Rattle.fb_schema.specs.Alignments.{greatest_in}
 use Rattle.fb_layout.specs.Laid.{LaidSchema, Slot, slots_of}
 use Rattle.fb_layout.specs.Sizes.{ceil4, IsAlignment}
-use Rattle.fb_layout.specs.Widths.{inline_size, inline_align, widest, greatest}
+use Rattle.fb_layout.specs.Widths.{inline_align, widest, greatest}
 use Rattle.fb_value.specs.Datum.{Datum}
 use Rattle.fb_value.specs.Room.{table_room}
 pub use Rattle.fb_tape.proofs.stored.StoredFieldsFit.{fields_fit}
