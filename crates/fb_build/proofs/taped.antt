@@ -12,3 +12,4 @@ pub mod ReferencesComeInOrder
 pub mod TableTakesItsParts
 pub mod TapeIsLaidInTurn
 pub mod TapeFitsItsRoom
+pub mod PaddedToTheGreatest

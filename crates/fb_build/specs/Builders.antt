@@ -1,5 +1,5 @@
 -- What a builder keeps, and what is made of one.
-use Rattle.std.specs.Prelude.{ℕ, ◌+◌, ◌*◌, ◌≡◌, ◌≤◌, max, List, [], length}
+use Rattle.std.specs.Prelude.{ℕ, ◌+◌, ◌*◌, ◌≤◌, max, List, length}
 use Rattle.fb_layout.specs.Laid.{LaidSchema}
 use Rattle.fb_layout.specs.Widths.{greatest, most_slots}
 use Rattle.fb_vtables.specs.Vtables.{AreDifferent, AreLaid}
@@ -17,13 +17,6 @@ pub record IsBuilder (L : LaidSchema) (b : Builder) : Type 0 where
   pub laid : AreLaid b.vtables.vtables b.vtables.places b.tail.bytes
   pub different : AreDifferent b.vtables.vtables
   pub long : longest_vtable L ≤ length b.scratch.items
-
--- No byte is laid, and the first ones are laid in the block.
-pub record IsFresh (b : Builder) : Type 0 where
-  pub bytes : length b.tail.bytes ≡ 0
-  pub one_block : b.tail.in_segments ≡ 0
-  pub most : b.tail.most ≡ 4
-  pub none_laid : b.vtables.places ≡ []
 
 -- From one builder to a later one: its tail grew, padded to no more than the layout's greatest alignment.
 pub record Builds (L : LaidSchema) (a b : Builder) : Type 0 where

@@ -1,26 +1,30 @@
--- A plan as it is held: its memory is enough for its value.
-use Rattle.std.specs.Prelude.{◌≡◌, ◌≤◌, true, [], length, replicate}
-use Rattle.fb_layout.specs.Laid.{one_of, table_kind}
-use Rattle.fb_value.specs.Counts.{is_whole}
-use Rattle.fb_value.specs.Fits.{Fits}
+-- A plan as it is held: its tape means its value, and its memory is enough to lay it.
+use Rattle.std.specs.Prelude.{◌≡◌, ◌≤◌, List, [], Option, length, replicate}
+use Rattle.std.specs.Vec.{vec_capacity}
+use Rattle.fb_value.specs.Datum.{Datum, a_table}
 use Rattle.fb_value.specs.Room.{room_of}
-use Rattle.fb_value.specs.View.{view}
+use Rattle.fb_value.specs.View.{view, entries_in}
+use Rattle.fb_tape.specs.Tapes.{MeansRoot}
+use Rattle.fb_vtables.specs.Vtables.{AreDifferent}
 use Rattle.fb_build.specs.declared.plans.Plan.TheInside.{Inside}
-use Rattle.fb_build.specs.Builders.{longest_vtable}
-use Rattle.fb_build.specs.Needs.{need, tables}
 use Rattle.fb_build.specs.Planned.{Planned}
+use Rattle.fb_build.specs.TapeLaid.{buffer_end}
 
 abbrev pub planned_seen : Inside → Planned
 planned_seen p = record { layout = p.layout.now; value = p.value.now }
 
 pub record IsReady (p : Inside) : Type 0 where
-  pub fits : Fits p.layout.now (one_of (table_kind p.layout.now.schema.root)) (view p.value.now)
-  pub whole : is_whole (view p.value.now) ≡ true
+  pub layout : p.tape.layout ≡ p.layout.now
+  pub entries : List (Option Datum)
+  pub value : view p.value.now ≡ a_table p.layout.now.schema.root (entries_in entries)
+  pub means : MeansRoot p.tape entries
+  pub different : AreDifferent p.tape.vtables
+  pub small : p.tape.room ≤ 2147483647
   pub zeros : p.block.items ≡ replicate (length p.block.items) 0
+  pub exact : length p.block.items ≡ buffer_end p.layout.now p.tape
+  pub within : length p.block.items ≤ room_of p.layout.now (view p.value.now)
   pub short : length p.block.items ≤ 2147483647
-  pub room : length p.block.items ≡ room_of p.layout.now (view p.value.now)
-  pub pending : need (view p.value.now) ≤ length p.pending.items
-  pub scratch : longest_vtable p.layout.now ≤ length p.scratch.items
-  pub none : p.vtables.vtables ≡ []
-  pub none_laid : p.vtables.places ≡ []
-  pub spare : tables (view p.value.now) ≤ p.vtables.spare
+  pub none_wait : p.waiting.items ≡ []
+  pub none_come : p.places.items ≡ []
+  pub reserved : length p.tape.ops ≤ vec_capacity p.waiting
+  pub places : length p.tape.vtables ≤ vec_capacity p.places

@@ -12,10 +12,11 @@ ghost use Rattle.fb_build.specs.declared.faults.BuildFault.TheVariants.{TooBig, 
 
 use crate::faults::BuildFault;
 use crate::needs::table_needs;
+use crate::noting::note_root;
 use crate::plans::Plan;
+use crate::taped_lengths::buffer_end;
 use fb_layout::Layout;
 use fb_value::{Value, buffer_room};
-use fb_vtables::VtableIndex;
 use std::alloc::Global;
 
 /// Takes all the memory that building a value takes, and lays no byte.
@@ -34,22 +35,23 @@ pub fn plan<'v>(alloc: Global, layout: &'v Layout, value: &'v Value) -> Result<P
         unreachable!();
     };
     let needs = table_needs(layout, *table, entries);
-    let Some(room) = buffer_room(layout, needs.room) else {
+    // What is too big is so whatever memory there is.
+    let Some(_) = buffer_room(layout, needs.room) else {
         return Err(BuildFault::TooBig);
     };
-    let block = vec![in alloc; 0u8; room as usize]?;
-    let pending = vec![in alloc; 0u32; needs.waiting]?;
-    // Two bytes for each slot of a vtable, behind its first four.
-    let scratch = vec![in alloc; 0u8; 4 + 2 * layout.most_slots()]?;
-    let mut vtables = VtableIndex::new(alloc, layout.schema().key());
-    vtables.reserve(needs.tables)?;
+    let tape = note_root(alloc, layout, *table, entries)?;
+    let block = vec![in alloc; 0u8; buffer_end(layout, &tape)]?;
+    let mut waiting: Vec<u32> = Vec::new(alloc);
+    waiting.reserve(tape.ops().len())?;
+    let mut places: Vec<u32> = Vec::new(alloc);
+    places.reserve(tape.vtable_count())?;
     Ok(Plan {
         layout,
         value,
+        tape,
         block,
-        vtables,
-        pending,
-        scratch,
+        waiting,
+        places,
     })
 }
 

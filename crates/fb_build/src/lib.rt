@@ -45,4 +45,3 @@ pub use laws::{
     zero_is_computed, zero_outside,
 };
 pub use plans::Plan;
-pub use taped_buffers::tape_buffer;

@@ -1,5 +1,5 @@
 //! Notes values on a tape.
-ghost use Rattle.std.specs.Prelude.{ℕ, ◌≡◌, ◌≤◌, ◌+◌, ◌++◌, List, [], ◌∷◌, Option, true, false, length, map, option_map, OnOk};
+ghost use Rattle.std.specs.Prelude.{ℕ, ◌≡◌, ◌≤◌, ◌+◌, ◌++◌, List, [], ◌∷◌, Option, true, false, length, map, option_map, OnOk, IfOk};
 ghost use Rattle.fb_layout.specs.Laid.{LaidSchema, slots_of, one_of, kind_in, align_of, table_kind};
 ghost use Rattle.fb_layout.specs.Widths.{greatest};
 ghost use Rattle.fb_value.specs.Counts.{is_whole, entries_whole, parts_whole};
@@ -23,7 +23,7 @@ use fb_layout::Layout;
 use fb_schema::{FieldInfo, Kind, Shape, TypeId};
 use fb_tape::{OpenFields, Tape};
 use fb_value::Value;
-use std::alloc::AllocError;
+use std::alloc::{AllocError, Global};
 
 /// A tape, and the stored fields of the tables that aren't whole yet.
 #[derive(Drop)]
@@ -270,4 +270,30 @@ fn note_elements(tape: &mut Tape<'_>, kind: Kind, items: &[Value]) -> Result<(),
     }
     tape.close_vector(kind, items.len())?;
     Ok(())
+}
+
+/// The tape of a value of the root table.
+pub(crate) fn note_root<'l>(
+    alloc: Global,
+    layout: &'l Layout,
+    table: TypeId,
+    entries: &[Option<Value>],
+) -> Result<Tape<'l>, AllocError>
+    requires fits { EntriesFit layout.now (slots_of layout.now table.0) (entries_view entries.now) }
+    requires known { entries_whole (entries_view entries.now) ≡ true }
+    ensures layout { IfOk result (λ t. t.layout ≡ layout.now) }
+    ensures waits { IfOk result (λ t. Waits t (record {
+      target = table_part table.0;
+      value = a_table table.0 (entries_view entries.now);
+    } ∷ [])) }
+    ensures room { IfOk result (λ t. at_most_usize t.room ≡ at_most_usize (table_room layout.now table.0
+        + entries_room layout.now (slots_of layout.now table.0) (entries_view entries.now))) }
+{
+    let mut noting = Noting {
+        tape: Tape::new(alloc, layout),
+        opened: OpenFields::new(alloc),
+    };
+    note_table(&mut noting, layout, table, entries)?;
+    let Noting { tape, .. } = noting;
+    Ok(tape)
 }

@@ -8,24 +8,22 @@ ghost use Rattle.fb_value.specs.Room.{room_of};
 ghost use Rattle.fb_value.specs.View.{view};
 ghost use Rattle.fb_build.specs.Covered.{Covered, EndsAligned};
 
-use crate::builder::Builder;
-use crate::roots::fill;
-use crate::tail::Tail;
+use crate::taped_buffers::fill_from_tape;
 use fb_layout::Layout;
+use fb_tape::Tape;
 use fb_value::Value;
-use fb_vtables::VtableIndex;
 use std::marker::Model;
 
-/// A value with all the memory that laying its bytes takes: a block of its room, a count for each reference that
-/// waits, and an index with room for a vtable of each table.
+/// A value on a tape, with all the memory that laying its bytes takes: a block as long as they are, a count for each part
+/// that waits, and a place for each vtable.
 #[derive(Drop)]
 pub struct Plan<'v> {
     pub(crate) layout: &'v Layout,
     pub(crate) value: &'v Value,
+    pub(crate) tape: Tape<'v>,
     pub(crate) block: Vec<u8>,
-    pub(crate) vtables: VtableIndex,
-    pub(crate) pending: Vec<u32>,
-    pub(crate) scratch: Vec<u8>,
+    pub(crate) waiting: Vec<u32>,
+    pub(crate) places: Vec<u32>,
 }
 
 impl<'v> Model for Plan<'v> {
@@ -58,20 +56,12 @@ impl Plan<'_> {
     {
         let Plan {
             layout,
-            value,
+            tape,
             block,
-            vtables,
-            mut pending,
-            scratch,
+            waiting,
+            places,
+            ..
         } = self;
-        let Value::Fields(table, entries) = value else {
-            unreachable!();
-        };
-        let builder = Builder {
-            tail: Tail::new(block),
-            vtables,
-            scratch,
-        };
-        fill(layout, *table, entries, builder, pending.as_mut_slice())
+        fill_from_tape(layout, &tape, block, waiting, places)
     }
 }

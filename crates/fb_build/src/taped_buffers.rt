@@ -1,8 +1,6 @@
 //! Lays the buffer of a tape.
 ghost use Rattle.std.specs.Prelude.{Bool, List, [], Option, ◌≡◌, ◌≤◌, length, replicate};
-ghost use Rattle.std.specs.Prelude.{◌<◌, IfOk, IfErr};
 ghost use Rattle.std.specs.Vec.{vec_capacity};
-ghost use Rattle.fb_build.specs.declared.faults.BuildFault.TheVariants.{TooBig};
 ghost use Rattle.fb_value.specs.Bounds.{Bounds};
 ghost use Rattle.fb_value.specs.Counts.{cells, depth};
 ghost use Rattle.fb_value.specs.Datum.{Datum, a_table};
@@ -14,15 +12,12 @@ ghost use Rattle.fb_vtables.specs.Vtables.{AreDifferent};
 ghost use Rattle.fb_build.specs.Covered.{Covered, EndsAligned};
 ghost use Rattle.fb_build.specs.TapeLaid.{buffer_end, SomeRoot};
 
-use crate::faults::BuildFault;
 use crate::laying::Laying;
 use crate::roots::close_tail;
-use crate::tail::{MOST_BYTES, Tail};
-use crate::taped_lengths::buffer_end;
+use crate::tail::Tail;
 use crate::taped_ops::lay_tape;
 use fb_layout::Layout;
 use fb_tape::Tape;
-use std::alloc::Global;
 
 /// Lays the buffer of a tape that means a value of the root table, with no memory but what it is given: a block of
 /// zeros, a count for each part that waits, and a place for each vtable.
@@ -61,36 +56,4 @@ pub(crate) fn fill_from_tape(
     lay_tape(&mut laying, layout, tape);
     let place = laying.waiting[0];
     close_tail(layout, laying.tail, place).into_bytes()
-}
-
-/// The bytes that encode the value of the root table that a tape means.
-pub fn tape_buffer(alloc: Global, layout: &Layout, tape: &Tape) -> Result<Vec<u8>, BuildFault>
-    requires layout { tape.now.layout ≡ layout.now }
-    requires means { SomeRoot tape.now }
-    requires different { AreDifferent tape.now.vtables }
-    ensures holds { IfOk result (λ b. (xs : List (Option Datum)) (most : Bounds) (raw : Bool) → MeansRoot tape.now xs
-        → depth (a_table layout.now.schema.root (entries_in xs)) ≤ most.depth
-        → cells (a_table layout.now.schema.root (entries_in xs)) ≤ most.cells
-        → Holds layout.now most raw b.items (a_table layout.now.schema.root (entries_in xs))) }
-    ensures old_slots { IfOk result (λ b. OnlyOld layout.now b.items) }
-    ensures covered { IfOk result (λ b. Covered layout.now b.items) }
-    ensures aligned { IfOk result (λ b. EndsAligned layout.now b.items) }
-    ensures long { IfOk result (λ b. length b.items ≡ buffer_end layout.now tape.now) }
-    ensures small { IfOk result (λ b. tape.now.room ≤ 2147483647) }
-    ensures too_big { IfErr result (λ e. e ≡ TooBig
-        → (tape.now.room ≤ 2147483647 → 2147483647 < buffer_end layout.now tape.now)) }
-{
-    if tape.room() > MOST_BYTES {
-        return Err(BuildFault::TooBig);
-    }
-    let count = buffer_end(layout, tape);
-    if count > MOST_BYTES {
-        return Err(BuildFault::TooBig);
-    }
-    let block = vec![in alloc; 0u8; count]?;
-    let mut waiting: Vec<u32> = Vec::new(alloc);
-    waiting.reserve(tape.ops().len())?;
-    let mut places: Vec<u32> = Vec::new(alloc);
-    places.reserve(tape.vtable_count())?;
-    Ok(fill_from_tape(layout, tape, block, waiting, places))
 }

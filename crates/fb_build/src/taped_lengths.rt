@@ -1,5 +1,6 @@
 //! How many bytes a tape takes, counted before it is laid.
-ghost use Rattle.std.specs.Prelude.{◌≡◌, ◌≤◌, ◌<◌, ◌+◌, length};
+ghost use Rattle.std.specs.Prelude.{◌≡◌, ◌≤◌, ◌<◌, ◌+◌, ◌-◌, length};
+ghost use Rattle.fb_layout.specs.Widths.{greatest};
 ghost use Rattle.fb_tape.specs.Tapes.{known_after};
 ghost use Rattle.std.specs.Prelude.{Bool, if◌then◌else◌};
 ghost use Rattle.fb_build.specs.Lengths.{zeros_to, data_end, fields_end, closed_end};
@@ -133,8 +134,9 @@ pub(crate) fn buffer_end(layout: &Layout, tape: &Tape) -> usize
     requires means { SomeLay tape.now }
     requires short { tape.now.room ≤ 2147483647 }
     ensures exact { result ≡ buffer_end layout.now tape.now }
-    ensures bound { result ≤ tape.now.room + (8 + 65534) }
+    ensures bound { result ≤ tape.now.room + (8 + (greatest layout.now - 1)) }
 {
+    let _schema = layout.schema(); // its contract: the layout is well made
     let most = tape_most(tape);
     let laid = tape_end(layout, tape);
     let header = match layout.schema().identifier() {

@@ -7,4 +7,3 @@ mod OffsetsAreTold
 mod SlotsAreTold
 mod OffsetsAreTrimmed
 mod TableIsNoted
-pub mod StoredFieldsFit

@@ -1,11 +1,10 @@
 -- The elements of a vector of numbers or structs are noted one after the other.
-use Rattle.std.proofs.Common.{◌≡◌, ◌+◌, ◌≤◌, ◌<◌, ◌++◌, ◌∙◌, ℕ, zero, suc, true, false, List, [], ◌∷◌, length, map, take, drop, get_or}
-use Rattle.std.proofs.Common.{slice_get, Some, refl, sym, ap, subst, arith}
+use Rattle.std.proofs.Common.{◌≡◌, ◌+◌, ◌≤◌, ◌<◌, ◌++◌, ℕ, zero, suc, false, List, [], ◌∷◌, length, map, take, get_or}
+use Rattle.std.proofs.Common.{refl, sym, ap, subst, arith}
 use Rattle.fb_layout.specs.Laid.{LaidSchema, StoredKind, scalar_kind, struct_kind, table_kind, union_kind, code_kind}
 use Rattle.fb_layout.specs.Laid.{text_kind, one_of}
-use Rattle.fb_value.specs.Datum.{Datum, Parts, no_parts, more_parts, count}
 use Rattle.fb_value.specs.Fits.{Fits, EachFits}
-use Rattle.fb_value.specs.View.{view, parts_in, parts_view}
+use Rattle.fb_value.specs.View.{view, parts_view}
 use Rattle.fb_value.specs.declared.values.Value.{Value}
 use Rattle.fb_tape.specs.InlineBytes.{IsInline}
 use Rattle.fb_build.specs.Fields.{IsElement, is_reference}

@@ -1,11 +1,13 @@
 -- Parts are noted one after the other.
-use Rattle.std.proofs.Common.{◌≡◌, ◌+◌, ◌-◌, ◌^◌, ◌++◌, ◌∙◌, ℕ, zero, suc, List, [], ◌∷◌, Option, None, Some, length, map, take, drop}
-use Rattle.std.proofs.Common.{slice_get, refl, sym, ap, subst, arith}
+use Rattle.std.proofs.Common.{◌≡◌, ◌+◌, ◌++◌, ◌∙◌, ℕ, List, []}
+use Rattle.std.proofs.Common.{refl, arith}
 use Rattle.std.proofs.lemmas.List.{append_assoc, append-nil}
-use Rattle.fb_value.specs.UpTo.{at_most_usize}
 use Rattle.fb_tape.specs.NamedParts.{NamedPart}
 use Rattle.fb_tape.specs.Tapes.{Taped, Waits}
 use Rattle.fb_build.specs.Noted.{AddsParts}
+
+pub empty_waits : (t : Taped) → t.ops ≡ [] → t.notes ≡ [] → t.bytes ≡ [] → t.vtables ≡ [] → Waits t []
+empty_waits t ops notes bytes vtables = λ small. rw ops (rw vtables refl, notes, bytes, refl)
 
 pub adds_none : (t : Taped) → t.unfinished ≡ [] → AddsParts t t [] 0
 adds_none t whole = record {

@@ -1,15 +1,14 @@
 -- The room of a table is enough for what is laid.
 use Rattle.std.proofs.Common.{◌≡◌, ℕ, suc, ◌+◌, ◌*◌, ◌≤◌, Bool, true, false, if◌then◌else◌, max, List, [], ◌∷◌, length}
-use Rattle.std.proofs.Common.{map, sum_by, slice_get, Option, None, Some, refl, arith}
-use Rattle.std.proofs.lemmas.List.Sums.{sum_by-cons}
+use Rattle.std.proofs.Common.{map, slice_get, Option, Some, refl, arith}
 use Rattle.fb_schema.specs.Alignments.{greatest_in}
 use Rattle.fb_layout.specs.Laid.{LaidSchema, Slot, slots_of}
 use Rattle.fb_layout.specs.Sizes.{ceil4, IsAlignment}
-use Rattle.fb_layout.specs.Widths.{inline_size, inline_align, widest, greatest}
+use Rattle.fb_layout.specs.Widths.{inline_align, widest, greatest}
 use Rattle.fb_value.specs.Datum.{Datum}
 use Rattle.fb_value.specs.Room.{table_room}
-pub use Rattle.fb_tape.proofs.stored_tables.StoredFieldsFit.{fields_fit}
-use Rattle.fb_tape.proofs.stored_tables.StoredFieldsFit.{in_use}
+pub use Rattle.fb_tape.proofs.stored.StoredFieldsFit.{fields_fit}
+use Rattle.fb_tape.proofs.stored.StoredFieldsFit.{in_use}
 use Rattle.fb_build.specs.Fields.{IsSimple, StoredFits, is_stored, AreKnown, fields_size, stored_align, stored_room}
 use Rattle.fb_build.proofs.tail.WhatIsLaidStaysLaid.{power_max}
 use Rattle.fb_build.proofs.fields.AlignmentDividesTheSize.{simple_aligned}

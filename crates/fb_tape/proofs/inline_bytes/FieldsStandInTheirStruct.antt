@@ -22,13 +22,6 @@ pub record FirstFieldsStand (L : LaidSchema) (kinds : List StoredKind) (os : Lis
   pub tight : (behind : Bytes) → EachFieldIn L (IsTightInline L (own ++ behind)) kinds os 0 (parts_in ds)
   pub padded : (i : ℕ) → i < length own → is_in_part L kinds os i ≡ false → slice_index own i ≡ 0
 
-pub no_field_stands : (L : LaidSchema) → FirstFieldsStand L [] [] [] []
-no_field_stands L = record {
-  lies = λ behind. tt;
-  tight = λ behind. tt;
-  padded = λ i low free. absurd (omega (arith, low));
-}
-
 -- ---- one field more
 
 lies_more : (L : LaidSchema) (b : Bytes) (kind : StoredKind) (o : ℕ) (d : Datum) → LiesInline L b kind (0 + o) d

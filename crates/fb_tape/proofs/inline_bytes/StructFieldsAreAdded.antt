@@ -1,7 +1,7 @@
 -- The fields of a struct are added one by one.
 use Rattle.std.proofs.Common.{◌≡◌, ℕ, zero, suc, ◌+◌, ◌-◌, ◌<◌, ◌≤◌, ◌++◌, List, [], ◌∷◌, length, map, take}
 use Rattle.std.proofs.Common.{replicate, get_or, slice_get, slice_index, Some, ap, sym, ◌∙◌, arith, append_assoc}
-use Rattle.std.proofs.Common.{length-append, append-nil, add-one}
+use Rattle.std.proofs.Common.{length-append, add-one}
 use Rattle.std.proofs.lemmas.List.{length-map, length-take-le, length-replicate, take_all}
 use Rattle.fb_layout.specs.Laid.{LaidSchema, StoredKind, struct_kind, parts_of, struct_at, size_of}
 use Rattle.fb_value.specs.Datum.{a_struct}
@@ -9,7 +9,7 @@ use Rattle.fb_value.specs.Num.{Bytes}
 use Rattle.fb_value.specs.View.{view, parts_view}
 use Rattle.fb_value.specs.declared.values.Value.{Value}
 use Rattle.fb_tape.specs.InlineBytes.{AddsInline, OnlyAdds}
-use Rattle.fb_tape.proofs.inline_bytes.FieldsStandInTheirStruct.{FirstFieldsStand, no_field_stands, one_field_more}
+use Rattle.fb_tape.proofs.inline_bytes.FieldsStandInTheirStruct.{FirstFieldsStand, one_field_more}
 use Rattle.fb_tape.proofs.inline_bytes.FieldsStandInTheirStruct.{struct_stands}
 use Rattle.fb_tape.proofs.inline_bytes.StructsAreKnown.{StructKnown, begin_at, index_at, index_or, index_past}
 
@@ -19,14 +19,6 @@ pub record AddsFields (L : LaidSchema) (s k : ℕ) (items : List Value) (before 
   pub after_is : after ≡ before ++ own
   pub ends : length own ≤ begin_at L s k
   pub stand : FirstFieldsStand L (take k (parts_of L s)) (take k (struct_at L s).offsets) (take k (map view items)) own
-
-pub none_added : (L : LaidSchema) (s : ℕ) (items : List Value) (before : Bytes) → AddsFields L s 0 items before before
-none_added L s items before = record {
-  own = [];
-  after_is = sym (append-nil before);
-  ends = omega arith;
-  stand = no_field_stands L;
-}
 
 -- how far they reach
 pub added_within : (L : LaidSchema) (s k : ℕ) (items : List Value) (before now : Bytes)

@@ -4,7 +4,6 @@ use Rattle.std.proofs.Common.{if◌then◌else◌, nat_lt, List, [], ◌∷◌, 
 use Rattle.std.proofs.Math.Pow.{pow-lt, pow_mono}
 use Rattle.std.proofs.lemmas.Bool.{le-ltb, lt-ltb, ne_eqb}
 use Rattle.std.proofs.lemmas.Bool.Decides.{nat_tests}
-use Rattle.fb_tape.specs.LayingOrder.{falling_alignments}
 
 abbrev pub among : ℕ → List ℕ → Bool
 among n [] = false
@@ -14,13 +13,10 @@ abbrev pub EachOnce : List ℕ → Type 0
 EachOnce [] = Unit {0}
 EachOnce (m ∷ ms) = (among m ms ≡ false) × EachOnce ms
 
--- from 2^e down to 1
+-- from 2^e down to 1; those of `falling_alignments` are from 2^8
 abbrev pub falling_from : ℕ → List ℕ
 falling_from zero = 1 ∷ []
 falling_from (suc e) = 2 ^ suc e ∷ falling_from e
-
-pub all_falling : falling_from 8 ≡ falling_alignments
-all_falling = refl
 
 pub same_power : (e : ℕ) → (2 ^ e == 2 ^ e) ≡ true
 same_power e = same (2 ^ e)

@@ -15,9 +15,6 @@ none_trimmed os is = rw is refl
 pub zero_trimmed : (os : List ℕ) (q : ℕ) (qs : List ℕ) → trimmed os ≡ q ∷ qs → trimmed (0 ∷ os) ≡ 0 ∷ (q ∷ qs)
 zero_trimmed os q qs is = rw is refl
 
-pub more_trimmed : (n : ℕ) (os : List ℕ) → trimmed (suc n ∷ os) ≡ suc n ∷ trimmed os
-more_trimmed n os = refl
-
 -- an offset is the same without the zeros behind it
 pub trimmed_index : (os : List ℕ) (i : ℕ) → slice_index (trimmed os) i ≡ slice_index os i
 trimmed_index [] i = refl

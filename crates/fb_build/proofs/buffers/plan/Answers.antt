@@ -1,4 +1,4 @@
-use Rattle.std.proofs.Common.{◌≡◌, ◌≤◌, ◌+◌, ◌∙◌, ap, refl, length, Option, Vec, Global, arith}
+use Rattle.std.proofs.Common.{◌≡◌, ℕ, ◌≤◌, ◌+◌, ◌∙◌, ◌∷◌, [], ap, sym, subst, refl, length, map, option_map, Option, Vec, Global, arith}
 use Rattle.std.proofs.Common.{Result, Ok, Err, IfErr}
 use Rattle.fb_build.specs.declared.faults.BuildFault.{BuildFault}
 use Rattle.fb_build.specs.declared.faults.BuildFault.TheVariants.{Memory}
@@ -10,10 +10,10 @@ use Rattle.fb_value.specs.UpTo.{at_most_usize}
 use Rattle.fb_value.specs.View.{entries_view, view}
 use Rattle.fb_value.proofs.types.EachVariantHasItsView.{view-Fields}
 use Rattle.fb_value.proofs.types.NestingIsBoundedByDepth.{root_fits}
-use Rattle.fb_build.specs.Builders.{longest_vtable}
-use Rattle.fb_build.specs.Needs.{need, tables}
-use Rattle.fb_build.proofs.fields.AlignmentDividesTheSize.{all_known}
-use Rattle.fb_build.proofs.buffers.ReservedMemoryIsZero.{long_in, zeros_in, need_within, tables_within}
+use Rattle.fb_build.proofs.buffers.ReservedMemoryIsZero.{long_in, zeros_in}
+use Rattle.fb_value.specs.Datum.{a_table}
+use Rattle.fb_value.specs.Places.{table_part}
+use Rattle.fb_tape.specs.Tapes.{Taped, Waits, MeansRoot}
 use Rattle.fb_build.proofs.buffers.plan.Goals as goal
 
 -- the room of a root's value
@@ -39,47 +39,22 @@ table_needs-needs-requires-clause-whole c =
     let whole = rw (c.in-Fields.is, view-Fields c.in-Fields.table c.in-Fields.entries) at c.requires.whole in
     rw c.deref.ensures.value whole
 
-pub invariant_of-result : goal.invariant_of-result
-invariant_of-result c =
-    let L = c.args.layout.now in
-    let d = view c.args.value.now in
-    let root = (root_fits L _ c.schema-schema.ensures.made).0 c.requires.fits in
-    let sized = rw c.deref.ensures.value at c.table_needs-needs.ensures.room in
-    let own = root_room L c.args.value.now c.in-Fields.table c.in-Fields.entries c.in-Fields.is in
-    let within = c.in-Some.ensures (room L (one_of (table_kind L.schema.root)) d) (sized ∙ ap at_most_usize own) in
-    let block = c.in_ok-block.ensures.items_if_clones_equal (λ y h. h) in
-    let needed = rw c.deref.ensures.value at c.table_needs-needs.ensures.waiting in
-    let counts : c.table_needs-needs.result.waiting ≡ at_most_usize (need d) =
-    rw (c.in-Fields.is, view-Fields c.in-Fields.table c.in-Fields.entries) needed in
-    let small = need_within L d (all_known L c.schema-schema.ensures.made) root within.0 in
-    let enough : need d ≤ length c.in_ok-pending.pending.items =
-    omega (arith, c.in_ok-pending.ensures.len, counts, small) in
-    let wide : longest_vtable L ≤ length c.in_ok-scratch.scratch.items =
-    omega (arith, c.in_ok-scratch.ensures.len, c.most_slots.ensures.most) in
-    let counted = rw c.deref.ensures.value at c.table_needs-needs.ensures.tables in
-    let many : c.table_needs-needs.result.tables ≡ at_most_usize (tables d) =
-    rw (c.in-Fields.is, view-Fields c.in-Fields.table c.in-Fields.entries) counted in
-    let few = tables_within L d (all_known L c.schema-schema.ensures.made) root within.0 in
-    let long : length c.in_ok-block.block.items ≡ room_of L d = long_in _ _ block ∙ within.1 in
-    let short : length c.in_ok-block.block.items ≤ 2147483647 = omega (arith, long, within.0) in
-    record {
-      fits = root;
-      whole = c.requires.whole;
-      zeros = zeros_in _ _ block;
-      short = short;
-      room = long;
-      pending = enough;
-      scratch = wide;
-      none = c.reserve.ensures.vtables ∙ c.new-vtables.ensures.vtables;
-      none_laid = c.reserve.ensures.places ∙ c.new-vtables.ensures.places;
-      spare = omega (arith, c.in_ok-reserve.ensures.spare, many, few);
-    }
+-- the tape of a root's value, which is of the room that was found
+module _ (L : LaidSchema) (value : Value) (table : TypeId) (v : Vec (Option Value) Global) (tape : Taped)
+    (is : value ≡ Fields table v) (root : table.0 ≡ L.schema.root) (same : tape.layout ≡ L)
+    (low : room_of L (view value) ≤ 2147483647)
+    (waits : Waits tape (record { target = table_part table.0; value = a_table table.0 (entries_view v.items) } ∷ []))
+    (sum : at_most_usize tape.room
+    ≡ at_most_usize (table_room L table.0 + entries_room L (slots_of L table.0) (entries_view v.items))) where
+  room_is : tape.room ≡ room L (one_of (table_kind L.schema.root)) (view value)
+  room_is = let own = root_room L value table v is in omega (arith, sum, own, low)
 
-pub returns-clause-small : goal.returns-clause-small
-returns-clause-small c =
-    let sized = rw c.deref.ensures.value at c.table_needs-needs.ensures.room in
-    let own = root_room c.args.layout.now c.args.value.now c.in-Fields.table c.in-Fields.entries c.in-Fields.is in
-    (c.in-Some.ensures _ (sized ∙ ap at_most_usize own)).0
+  value_is : view value ≡ a_table L.schema.root (entries_view v.items)
+  value_is = rw (is, view-Fields table v, root) refl
+
+  means : MeansRoot tape (map (option_map view) v.items)
+  means = subst (λ (r : ℕ). Waits tape (record { target = table_part r; value = a_table r (entries_view v.items) } ∷ []))
+      (root ∙ sym (ap (λ M. M.schema.root) same)) waits
 
 pub returns-in_default-buffer_room-clause-too_big : goal.returns-in_default-buffer_room-clause-too_big
 returns-in_default-buffer_room-clause-too_big c same =
@@ -87,20 +62,14 @@ returns-in_default-buffer_room-clause-too_big c same =
     let own = root_room c.args.layout.now c.args.value.now c.in-Fields.table c.in-Fields.entries c.in-Fields.is in
     let over = c.in_default-buffer_room.ensures _ (sized ∙ ap at_most_usize own) in omega (arith, over)
 
+pub returns-in_err-tape-clause-memory : goal.returns-in_err-tape-clause-memory
+returns-in_err-tape-clause-memory c =
+    let sized = rw c.deref.ensures.value at c.table_needs-needs.ensures.room in
+    let own = root_room c.args.layout.now c.args.value.now c.in-Fields.table c.in-Fields.entries c.in-Fields.is in
+    told _ _ (c.in-Some.ensures _ (sized ∙ ap at_most_usize own)).0
+
 pub returns-in_err-block-clause-memory : goal.returns-in_err-block-clause-memory
 returns-in_err-block-clause-memory c =
-    let sized = rw c.deref.ensures.value at c.table_needs-needs.ensures.room in
-    let own = root_room c.args.layout.now c.args.value.now c.in-Fields.table c.in-Fields.entries c.in-Fields.is in
-    told _ _ (c.in-Some.ensures _ (sized ∙ ap at_most_usize own)).0
-
-pub returns-in_err-pending-clause-memory : goal.returns-in_err-pending-clause-memory
-returns-in_err-pending-clause-memory c =
-    let sized = rw c.deref.ensures.value at c.table_needs-needs.ensures.room in
-    let own = root_room c.args.layout.now c.args.value.now c.in-Fields.table c.in-Fields.entries c.in-Fields.is in
-    told _ _ (c.in-Some.ensures _ (sized ∙ ap at_most_usize own)).0
-
-pub returns-in_err-scratch-clause-memory : goal.returns-in_err-scratch-clause-memory
-returns-in_err-scratch-clause-memory c =
     let sized = rw c.deref.ensures.value at c.table_needs-needs.ensures.room in
     let own = root_room c.args.layout.now c.args.value.now c.in-Fields.table c.in-Fields.entries c.in-Fields.is in
     told _ _ (c.in-Some.ensures _ (sized ∙ ap at_most_usize own)).0
@@ -110,3 +79,82 @@ returns-in_err-reserve-clause-memory c =
     let sized = rw c.deref.ensures.value at c.table_needs-needs.ensures.room in
     let own = root_room c.args.layout.now c.args.value.now c.in-Fields.table c.in-Fields.entries c.in-Fields.is in
     told _ _ (c.in-Some.ensures _ (sized ∙ ap at_most_usize own)).0
+
+pub returns-in_err-reserve-2-clause-memory : goal.returns-in_err-reserve-2-clause-memory
+returns-in_err-reserve-2-clause-memory c =
+    let sized = rw c.deref.ensures.value at c.table_needs-needs.ensures.room in
+    let own = root_room c.args.layout.now c.args.value.now c.in-Fields.table c.in-Fields.entries c.in-Fields.is in
+    told _ _ (c.in-Some.ensures _ (sized ∙ ap at_most_usize own)).0
+
+pub returns-clause-small : goal.returns-clause-small
+returns-clause-small c =
+    let sized = rw c.deref.ensures.value at c.table_needs-needs.ensures.room in
+    let own = root_room c.args.layout.now c.args.value.now c.in-Fields.table c.in-Fields.entries c.in-Fields.is in
+    (c.in-Some.ensures _ (sized ∙ ap at_most_usize own)).0
+
+pub buffer_end-requires-clause-short : goal.buffer_end-requires-clause-short
+buffer_end-requires-clause-short c =
+    let L = c.args.layout.now in
+    let value = c.args.value.now in
+    let table = c.in-Fields.table in
+    let es = c.in-Fields.entries in
+    let fits = (root_fits L (view value) c.schema-schema.ensures.made).0 c.requires.fits in
+    let root = (rw (c.in-Fields.is, view-Fields table es) at fits).0 in
+    let low = (c.in-Some.ensures _ (rw c.deref.ensures.value at c.table_needs-needs.ensures.room
+    ∙ ap at_most_usize (root_room L value table es c.in-Fields.is))).0 in
+    let waits = rw c.deref-2.ensures.value at c.in_ok-tape.ensures.waits in
+    let sum = rw c.deref-2.ensures.value at c.in_ok-tape.ensures.room in
+    let room = room_is L value table es c.in_ok-tape.tape c.in-Fields.is root c.in_ok-tape.ensures.layout low waits sum in
+    omega (arith, room, low)
+
+pub buffer_end-requires-clause-means : goal.buffer_end-requires-clause-means
+buffer_end-requires-clause-means c =
+    let L = c.args.layout.now in
+    let value = c.args.value.now in
+    let table = c.in-Fields.table in
+    let es = c.in-Fields.entries in
+    let fits = (root_fits L (view value) c.schema-schema.ensures.made).0 c.requires.fits in
+    let root = (rw (c.in-Fields.is, view-Fields table es) at fits).0 in
+    let low = (c.in-Some.ensures _ (rw c.deref.ensures.value at c.table_needs-needs.ensures.room
+    ∙ ap at_most_usize (root_room L value table es c.in-Fields.is))).0 in
+    let waits = rw c.deref-2.ensures.value at c.in_ok-tape.ensures.waits in
+    let sum = rw c.deref-2.ensures.value at c.in_ok-tape.ensures.room in
+    let room = room_is L value table es c.in_ok-tape.tape c.in-Fields.is root c.in_ok-tape.ensures.layout low waits sum in
+    record {
+      parts = record { target = table_part table.0; value = a_table table.0 (entries_view es.items) } ∷ [];
+      lay = waits (omega (arith, room, low));
+    }
+
+pub invariant_of-result : goal.invariant_of-result
+invariant_of-result c =
+    let L = c.args.layout.now in
+    let value = c.args.value.now in
+    let table = c.in-Fields.table in
+    let es = c.in-Fields.entries in
+    let fits = (root_fits L (view value) c.schema-schema.ensures.made).0 c.requires.fits in
+    let root = (rw (c.in-Fields.is, view-Fields table es) at fits).0 in
+    let low = (c.in-Some.ensures _ (rw c.deref.ensures.value at c.table_needs-needs.ensures.room
+    ∙ ap at_most_usize (root_room L value table es c.in-Fields.is))).0 in
+    let waits = rw c.deref-2.ensures.value at c.in_ok-tape.ensures.waits in
+    let sum = rw c.deref-2.ensures.value at c.in_ok-tape.ensures.room in
+    let room = room_is L value table es c.in_ok-tape.tape c.in-Fields.is root c.in_ok-tape.ensures.layout low waits sum in
+    let block = c.in_ok-block.ensures.items_if_clones_equal (λ y h. h) in
+    let long = long_in _ _ block in
+    let within : length c.in_ok-block.block.items ≤ room_of L (view value) =
+    omega (arith, long, c.buffer_end.ensures.bound, room) in
+    record {
+      layout = c.in_ok-tape.ensures.layout;
+      entries = map (option_map view) es.items;
+      value = value_is L value table es c.in_ok-tape.tape c.in-Fields.is root c.in_ok-tape.ensures.layout low waits sum;
+      means = means L value table es c.in_ok-tape.tape c.in-Fields.is root c.in_ok-tape.ensures.layout low waits sum;
+      different = c.vtable_count.ensures.one;
+      small = omega (arith, room, low);
+      zeros = zeros_in _ _ block;
+      exact = long ∙ c.buffer_end.ensures.exact;
+      within = within;
+      short = omega (arith, within, low);
+      none_wait = c.in_ok-reserve.ensures.items ∙ c.new-waiting.ensures.items;
+      none_come = c.in_ok-reserve-2.ensures.items ∙ c.new-places.ensures.items;
+      reserved = omega (arith, c.in_ok-reserve.ensures.ok, c.new-waiting.ensures.len, ap length c.ops.ensures.exact);
+      places = omega (arith, c.in_ok-reserve-2.ensures.ok, c.new-places.ensures.len, c.vtable_count.ensures.exact);
+    }

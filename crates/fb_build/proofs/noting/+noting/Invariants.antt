@@ -1,4 +1,4 @@
-use Rattle.std.proofs.Common.{ℕ, ◌≡◌, ◌≤◌, ◌+◌, ◌*◌, ◌++◌, List, [], length, map, take, drop}
+use Rattle.std.proofs.Common.{◌≡◌, ◌+◌, ◌*◌, map, take}
 use Rattle.fb_value.specs.Room.{parts_room}
 use Rattle.fb_value.specs.View.{view, parts_in}
 use Rattle.fb_tape.specs.NamedParts.{elements_apart}

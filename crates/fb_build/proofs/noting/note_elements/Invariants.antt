@@ -1,4 +1,4 @@
-use Rattle.std.proofs.Common.{ℕ, ◌≡◌, ◌≤◌, ◌+◌, List, [], length, map, take}
+use Rattle.std.proofs.Common.{◌≡◌, ◌≤◌, ◌+◌, List, length, map, take}
 use Rattle.fb_value.specs.Room.{vector_room}
 use Rattle.fb_value.specs.View.{view}
 use Rattle.fb_tape.specs.NamedParts.{NamedPart}

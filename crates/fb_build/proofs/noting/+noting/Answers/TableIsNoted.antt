@@ -1,18 +1,17 @@
 -- A table is noted slot by slot.
-use Rattle.std.proofs.Common.{◌≡◌, ◌∙◌, ◌+◌, ◌-◌, ◌<◌, ◌≤◌, ◌++◌, ℕ, suc, List, [], ◌∷◌, Option, Some, true, length, get_or, take, drop, refl, sym}
-use Rattle.std.proofs.Common.{ap, subst, option_map, arith, rules}
+use Rattle.std.proofs.Common.{◌≡◌, ◌∙◌, ◌+◌, ◌-◌, ◌<◌, ℕ, List, [], ◌∷◌, Option, Some, true, length, get_or, take, drop, sym}
+use Rattle.std.proofs.Common.{ap, arith, rules}
 use Rattle.std.proofs.Math.Seq.{drop-append_seam}
 use Rattle.std.proofs.lemmas.List.{take_all, length-drop}
-use Rattle.fb_schema.specs.Seen.{field_seen}
 use Rattle.fb_schema.specs.declared.kinds.Shape.TheVariants.{One}
-use Rattle.fb_layout.specs.Laid.{LaidSchema, slot_of, slots_of, stored_shape}
+use Rattle.fb_layout.specs.Laid.{LaidSchema, slots_of, stored_shape}
 use Rattle.fb_layout.specs.WellMade.{IsWellMade}
 use Rattle.fb_value.specs.Counts.{entries_whole}
 use Rattle.fb_value.specs.Fits.{EntriesFit}
-use Rattle.fb_value.specs.View.{view, entries_view}
+use Rattle.fb_value.specs.View.{entries_view}
 use Rattle.fb_value.specs.declared.values.Value.{Value, the_lemmas}
 use Rattle.fb_tape.specs.OpenFields.{OpenField, IsOpenTable}
-use Rattle.fb_build.specs.Fields.{slot_seen, entry_stored, is_stored, coded, stored_here, slots_seen, stored_in, stored_seen, next_code, entries_seen}
+use Rattle.fb_build.specs.Fields.{slot_seen, entry_stored, is_stored, coded, slots_seen, stored_in, stored_seen, next_code, entries_seen}
 use Rattle.fb_build.specs.Noted.{AddsSlots}
 use Rattle.fb_build.proofs.fields.SlotStoresItsEntry.{slots_at, entries_at, stored_at, slots_long, entries_long}
 use Rattle.fb_build.proofs.noting.SlotsAreNoted.{none_noted, next_noted, all_noted, code_open}
@@ -140,7 +139,7 @@ fields_are_stored t c =
     let same = c.in_ok-note_entries.ensures.adds.layout ∙ c.requires.layout in (
       entries_seen es,
       rw (same, c.len-first.ensures.exact) (open_table L c.args.table.0 es _ _ c.schema-schema.ensures.made
-      c.requires.fits c.requires.known (rw seen at c.in_ok-note_entries.ensures.slots)),
+          c.requires.fits c.requires.known (rw seen at c.in_ok-note_entries.ensures.slots)),
     )
 
 pub table_adds_itself : goal.note_table-returns-clause-adds

@@ -1,23 +1,20 @@
 -- A vector is noted, and what its elements name.
-use Rattle.std.proofs.Common.{◌≡◌, ◌∙◌, ◌+◌, ◌-◌, ◌<◌, ◌≤◌, ◌++◌, ℕ, suc, List, [], ◌∷◌, Option, length, map, take, drop, refl, sym}
-use Rattle.std.proofs.Common.{ap, subst, arith, rules}
+use Rattle.std.proofs.Common.{◌∙◌, [], ◌∷◌, map, take, sym}
+use Rattle.std.proofs.Common.{ap, arith, rules}
 use Rattle.std.proofs.lemmas.List.{length-map}
-use Rattle.std.specs.Result.{OnOk}
-use Rattle.fb_layout.specs.Laid.{one_of, table_kind, slots_of}
 use Rattle.fb_value.specs.Datum.{a_vector, count}
-use Rattle.fb_value.specs.Fits.{Fits}
 use Rattle.fb_value.specs.Places.{vector_part}
-use Rattle.fb_value.specs.Room.{vector_room, parts_room, room}
+use Rattle.fb_value.specs.Room.{vector_room, parts_room}
 use Rattle.fb_value.specs.View.{view, parts_in, parts_view, entries_view}
 use Rattle.fb_tape.specs.NamedParts.{elements_apart}
-use Rattle.fb_value.specs.declared.values.Value.{Value, the_lemmas}
+use Rattle.fb_value.specs.declared.values.Value.{the_lemmas}
 use Rattle.fb_value.proofs.types.EachVariantHasItsView.{view-Fields, count-parts_view}
 use Rattle.fb_build.specs.Fields.{kind_seen, shape_seen}
 use Rattle.fb_build.proofs.apart.EntriesComeInOrder.{parts_room_more}
 use Rattle.fb_build.proofs.needs.NeedsAddUp.{table_entries}
 use Rattle.fb_build.proofs.noting.ElementsAreNoted.{each_fits, seen_more}
 use Rattle.fb_build.proofs.noting.PartsFollow.{nothing_apart, table_named, element_simple, each_whole, named_more}
-use Rattle.fb_build.proofs.noting.PartsAreAdded.{adds_none, adds_then, adds_same}
+use Rattle.fb_build.proofs.noting.PartsAreAdded.{adds_then, adds_same}
 use Rattle.fb_build.proofs.tables.PartsFitTheirSlots.{items_known}
 use Rattle.fb_build.proofs.noting.+noting.Goals as goal
 
@@ -77,8 +74,13 @@ table_fits t c =
     let whole = rw (c.in-Fields-default.is-0, view-Fields table es) at c.requires.known in
     let is = c.deref.ensures.value in (
       search (rules, the_lemmas),
-      (c.requires.layout, (c.requires.whole,
-        (rw is (table_entries L (shape_seen L c.args.shape) table.0 (entries_view es.items) fits), rw is whole))),
+      (
+        c.requires.layout,
+        (
+          c.requires.whole,
+          (rw is (table_entries L (shape_seen L c.args.shape) table.0 (entries_view es.items) fits), rw is whole),
+        ),
+      ),
     )
 
 pub fields_add : goal.note_part-returns-in-Fields-default-clause-adds
@@ -100,10 +102,25 @@ item_fits t c =
     let low = c.loop-item-test.true in
     let inv = c.loop-item.invariant in (
       search (rules, the_lemmas),
-      (inv.adds.layout ∙ c.requires.layout, (inv.adds.whole, (c.requires.reference,
-        (element_simple L kind c.requires.element, (c.requires.low,
-          (each_fits L kind items c.requires.fits i low v c.item-item.is,
-            each_whole items c.requires.known i low v c.item-item.is)))))),
+      (
+        inv.adds.layout ∙ c.requires.layout,
+        (
+          inv.adds.whole,
+          (
+            c.requires.reference,
+            (
+              element_simple L kind c.requires.element,
+              (
+                c.requires.low,
+                (
+                  each_fits L kind items c.requires.fits i low v c.item-item.is,
+                  each_whole items c.requires.known i low v c.item-item.is,
+                ),
+              ),
+            ),
+          ),
+        ),
+      ),
     )
 
 pub item_adds : goal.note_targets-loop-item-preserved

@@ -11,7 +11,7 @@ use Rattle.fb_tape.specs.declared.ops.NotedField.{NotedField}
 use Rattle.fb_tape.proofs.tape.RoomsAreSummedUp.{room_known}
 use Rattle.fb_layout.specs.Laid.{slots_of}
 use Rattle.fb_tape.specs.StoredFields.{stored_in}
-use Rattle.fb_tape.proofs.stored_tables.StoredFieldsFit.{open_stored}
+use Rattle.fb_tape.proofs.stored.StoredFieldsFit.{open_stored}
 use Rattle.fb_tape.proofs.tape.TableIsLaid.{open_few, table_laid}
 use Rattle.fb_tape.proofs.tape.Tape.close_table.Goals as goal
 
