@@ -1,1 +1,2 @@
 pub mod ReservedMemoryIsZero
+pub mod RootIsNoted

@@ -14,8 +14,8 @@ use fb_tape::Tape;
 use fb_value::Value;
 use std::marker::Model;
 
-/// A value on a tape, with all the memory that laying its bytes takes: a block as long as they are, a count for each part
-/// that waits, and a place for each vtable.
+/// A value on a tape, with all the memory that laying its bytes takes: a block as long as they are, a count for each
+/// part that waits, and a place for each vtable.
 #[derive(Drop)]
 pub struct Plan<'v> {
     pub(crate) layout: &'v Layout,

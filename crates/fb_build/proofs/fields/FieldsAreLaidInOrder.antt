@@ -200,7 +200,8 @@ pub next_laid : (L : LaidSchema) (o n : TailSeen) (start k e link : ℕ) (fs : L
     → n.free + inline_size L f.shape ≡ o.free → e ≡ length n.bytes → StoredEnd L start n.most n.bytes true f x e
     → FieldLeads n.bytes true f x (slice_index ends k) e → k < length ends
     → AreLaidUpTo L n fs xs start targets (slice_set ends k e) (link_in links k)
-next_laid L o n start k e link fs xs targets ends links first f x known linked h fk xk named g free end lies lead under =
+next_laid L o n start k e link fs xs targets ends links first f x known linked h fk xk named g free end lies lead
+    under =
     next_laid_before L o n start k e link fs xs targets ends (link_in links k) f x known
     (linked.each k (inline_align L f.shape)
     (record { field = f; entry = x; is = fk; has = xk; stored = named.stored; at = refl })) h fk xk named g free end

@@ -27,7 +27,8 @@ adds_then a b c xs ys m n h k = record {
 }
 
 -- the same parts and room, said otherwise
-pub adds_same : (a b : Taped) (xs ys : List NamedPart) (m n : ℕ) → xs ≡ ys → m ≡ n → AddsParts a b xs m → AddsParts a b ys n
+pub adds_same : (a b : Taped) (xs ys : List NamedPart) (m n : ℕ) → xs ≡ ys → m ≡ n → AddsParts a b xs m
+    → AddsParts a b ys n
 adds_same a b xs ys m n parts room h = record {
   waits = λ others w. rw (← parts) (h.waits others w);
   sum = rw (← room) h.sum;

@@ -47,7 +47,8 @@ next (y ∷ xs) zero x h = let same : y ≡ x = cc in rw same refl
 next (y ∷ xs) (suc i) x h = let more : suc i + 1 ≡ suc (i + 1) = omega arith in rw more (next xs i x h)
 
 -- the field of one slot in front of those behind
-one_open : (L : LaidSchema) (k : ℕ) (f : Slot) (y : Option Datum) (own rest : List OpenField) (P : List OpenField → Type 0)
+one_open : (L : LaidSchema) (k : ℕ) (f : Slot) (y : Option Datum) (own rest : List OpenField)
+    (P : List OpenField → Type 0)
     → (t : Bool) → IsOpenIf t L k f y own (λ behind. behind ≡ []) → P rest → IsOpenIf t L k f y (own ++ rest) P
 one_open L k f y own rest P true h p = record {
   field = h.field;
@@ -90,7 +91,8 @@ next_noted L fs xs ys k a b c before now after f x y fk xk yk h adds slot =
         entry_room_is L f x (drop (k + 1) fs) (drop (k + 1) xs),
       );
       stored = λ rest r. (let one : k + 1 ≡ suc k = omega arith in
-          let here = one_open L k f y slot.0 rest (λ behind. AreOpen L (suc k) (drop (k + 1) fs) (drop (k + 1) ys) behind)
+          let here = one_open L k f y slot.0 rest
+          (λ behind. AreOpen L (suc k) (drop (k + 1) fs) (drop (k + 1) ys) behind)
           (is_stored f y) slot.2
           (subst (λ (i : ℕ). AreOpen L i (drop (k + 1) fs) (drop (k + 1) ys) rest) one r) in
           rw (append_assoc h.own slot.0 rest) (h.stored (slot.0 ++ rest) (rw (fs_are, ys_are) here)));

@@ -1,26 +1,16 @@
-use Rattle.std.proofs.Common.{◌≡◌, ℕ, ◌≤◌, ◌+◌, ◌∙◌, ◌∷◌, [], ap, sym, subst, refl, length, map, option_map, Option, Vec, Global, arith}
+use Rattle.std.proofs.Common.{◌≡◌, ◌≤◌, ◌∙◌, ap, length, arith}
 use Rattle.std.proofs.Common.{Result, Ok, Err, IfErr}
-use Rattle.fb_build.specs.declared.faults.BuildFault.{BuildFault}
-use Rattle.fb_build.specs.declared.faults.BuildFault.TheVariants.{Memory}
-use Rattle.fb_schema.specs.declared.kinds.TypeId.{TypeId}
-use Rattle.fb_layout.specs.Laid.{LaidSchema, one_of, slots_of, table_kind}
-use Rattle.fb_value.specs.declared.values.Value.{Value, Fields}
-use Rattle.fb_value.specs.Room.{entries_room, room, room_of, table_room}
+use Rattle.fb_value.specs.Room.{room_of}
 use Rattle.fb_value.specs.UpTo.{at_most_usize}
-use Rattle.fb_value.specs.View.{entries_view, view}
+use Rattle.fb_value.specs.View.{view}
 use Rattle.fb_value.proofs.types.EachVariantHasItsView.{view-Fields}
 use Rattle.fb_value.proofs.types.NestingIsBoundedByDepth.{root_fits}
+use Rattle.fb_build.specs.Fields.{entries_seen}
+use Rattle.fb_build.specs.declared.faults.BuildFault.{BuildFault}
+use Rattle.fb_build.specs.declared.faults.BuildFault.TheVariants.{Memory}
 use Rattle.fb_build.proofs.buffers.ReservedMemoryIsZero.{long_in, zeros_in}
-use Rattle.fb_value.specs.Datum.{a_table}
-use Rattle.fb_value.specs.Places.{table_part}
-use Rattle.fb_tape.specs.Tapes.{Taped, Waits, MeansRoot}
+use Rattle.fb_build.proofs.buffers.RootIsNoted.{root_room, root_noted}
 use Rattle.fb_build.proofs.buffers.plan.Goals as goal
-
--- the room of a root's value
-root_room : (L : LaidSchema) (value : Value) (table : TypeId) (v : Vec (Option Value) Global) → value ≡ Fields table v
-    → table_room L table.0 + entries_room L (slots_of L table.0) (entries_view v.items)
-    ≡ room L (one_of (table_kind L.schema.root)) (view value)
-root_room L value table v is = rw (is, view-Fields table v) refl
 
 -- which fault a result has or hasn't
 told : {A : Type 0} (r : Result A BuildFault) (P : Type 0) → P → IfErr r (λ e. e ≡ Memory → P)
@@ -38,23 +28,6 @@ pub table_needs-needs-requires-clause-whole : goal.table_needs-needs-requires-cl
 table_needs-needs-requires-clause-whole c =
     let whole = rw (c.in-Fields.is, view-Fields c.in-Fields.table c.in-Fields.entries) at c.requires.whole in
     rw c.deref.ensures.value whole
-
--- the tape of a root's value, which is of the room that was found
-module _ (L : LaidSchema) (value : Value) (table : TypeId) (v : Vec (Option Value) Global) (tape : Taped)
-    (is : value ≡ Fields table v) (root : table.0 ≡ L.schema.root) (same : tape.layout ≡ L)
-    (low : room_of L (view value) ≤ 2147483647)
-    (waits : Waits tape (record { target = table_part table.0; value = a_table table.0 (entries_view v.items) } ∷ []))
-    (sum : at_most_usize tape.room
-    ≡ at_most_usize (table_room L table.0 + entries_room L (slots_of L table.0) (entries_view v.items))) where
-  room_is : tape.room ≡ room L (one_of (table_kind L.schema.root)) (view value)
-  room_is = let own = root_room L value table v is in omega (arith, sum, own, low)
-
-  value_is : view value ≡ a_table L.schema.root (entries_view v.items)
-  value_is = rw (is, view-Fields table v, root) refl
-
-  means : MeansRoot tape (map (option_map view) v.items)
-  means = subst (λ (r : ℕ). Waits tape (record { target = table_part r; value = a_table r (entries_view v.items) } ∷ []))
-      (root ∙ sym (ap (λ M. M.schema.root) same)) waits
 
 pub returns-in_default-buffer_room-clause-too_big : goal.returns-in_default-buffer_room-clause-too_big
 returns-in_default-buffer_room-clause-too_big c same =
@@ -96,59 +69,50 @@ pub buffer_end-requires-clause-short : goal.buffer_end-requires-clause-short
 buffer_end-requires-clause-short c =
     let L = c.args.layout.now in
     let value = c.args.value.now in
-    let table = c.in-Fields.table in
     let es = c.in-Fields.entries in
     let fits = (root_fits L (view value) c.schema-schema.ensures.made).0 c.requires.fits in
-    let root = (rw (c.in-Fields.is, view-Fields table es) at fits).0 in
     let low = (c.in-Some.ensures _ (rw c.deref.ensures.value at c.table_needs-needs.ensures.room
-    ∙ ap at_most_usize (root_room L value table es c.in-Fields.is))).0 in
-    let waits = rw c.deref-2.ensures.value at c.in_ok-tape.ensures.waits in
-    let sum = rw c.deref-2.ensures.value at c.in_ok-tape.ensures.room in
-    let room = room_is L value table es c.in_ok-tape.tape c.in-Fields.is root c.in_ok-tape.ensures.layout low waits sum in
-    omega (arith, room, low)
+    ∙ ap at_most_usize (root_room L value c.in-Fields.table es c.in-Fields.is))).0 in
+    let noted = root_noted L value c.in-Fields.table es c.in_ok-tape.tape c.in-Fields.is fits
+    c.in_ok-tape.ensures.layout low
+    (rw c.deref-2.ensures.value at c.in_ok-tape.ensures.waits) (rw c.deref-2.ensures.value at c.in_ok-tape.ensures.room) in
+    noted.small
 
 pub buffer_end-requires-clause-means : goal.buffer_end-requires-clause-means
 buffer_end-requires-clause-means c =
     let L = c.args.layout.now in
     let value = c.args.value.now in
-    let table = c.in-Fields.table in
     let es = c.in-Fields.entries in
     let fits = (root_fits L (view value) c.schema-schema.ensures.made).0 c.requires.fits in
-    let root = (rw (c.in-Fields.is, view-Fields table es) at fits).0 in
     let low = (c.in-Some.ensures _ (rw c.deref.ensures.value at c.table_needs-needs.ensures.room
-    ∙ ap at_most_usize (root_room L value table es c.in-Fields.is))).0 in
-    let waits = rw c.deref-2.ensures.value at c.in_ok-tape.ensures.waits in
-    let sum = rw c.deref-2.ensures.value at c.in_ok-tape.ensures.room in
-    let room = room_is L value table es c.in_ok-tape.tape c.in-Fields.is root c.in_ok-tape.ensures.layout low waits sum in
-    record {
-      parts = record { target = table_part table.0; value = a_table table.0 (entries_view es.items) } ∷ [];
-      lay = waits (omega (arith, room, low));
-    }
+    ∙ ap at_most_usize (root_room L value c.in-Fields.table es c.in-Fields.is))).0 in
+    let noted = root_noted L value c.in-Fields.table es c.in_ok-tape.tape c.in-Fields.is fits
+    c.in_ok-tape.ensures.layout low
+    (rw c.deref-2.ensures.value at c.in_ok-tape.ensures.waits) (rw c.deref-2.ensures.value at c.in_ok-tape.ensures.room) in
+    noted.lays
 
 pub invariant_of-result : goal.invariant_of-result
 invariant_of-result c =
     let L = c.args.layout.now in
     let value = c.args.value.now in
-    let table = c.in-Fields.table in
     let es = c.in-Fields.entries in
     let fits = (root_fits L (view value) c.schema-schema.ensures.made).0 c.requires.fits in
-    let root = (rw (c.in-Fields.is, view-Fields table es) at fits).0 in
     let low = (c.in-Some.ensures _ (rw c.deref.ensures.value at c.table_needs-needs.ensures.room
-    ∙ ap at_most_usize (root_room L value table es c.in-Fields.is))).0 in
-    let waits = rw c.deref-2.ensures.value at c.in_ok-tape.ensures.waits in
-    let sum = rw c.deref-2.ensures.value at c.in_ok-tape.ensures.room in
-    let room = room_is L value table es c.in_ok-tape.tape c.in-Fields.is root c.in_ok-tape.ensures.layout low waits sum in
+    ∙ ap at_most_usize (root_room L value c.in-Fields.table es c.in-Fields.is))).0 in
+    let noted = root_noted L value c.in-Fields.table es c.in_ok-tape.tape c.in-Fields.is fits
+    c.in_ok-tape.ensures.layout low
+    (rw c.deref-2.ensures.value at c.in_ok-tape.ensures.waits) (rw c.deref-2.ensures.value at c.in_ok-tape.ensures.room) in
     let block = c.in_ok-block.ensures.items_if_clones_equal (λ y h. h) in
     let long = long_in _ _ block in
     let within : length c.in_ok-block.block.items ≤ room_of L (view value) =
-    omega (arith, long, c.buffer_end.ensures.bound, room) in
+    omega (arith, long, c.buffer_end.ensures.bound, noted.room) in
     record {
       layout = c.in_ok-tape.ensures.layout;
-      entries = map (option_map view) es.items;
-      value = value_is L value table es c.in_ok-tape.tape c.in-Fields.is root c.in_ok-tape.ensures.layout low waits sum;
-      means = means L value table es c.in_ok-tape.tape c.in-Fields.is root c.in_ok-tape.ensures.layout low waits sum;
+      entries = entries_seen es.items;
+      value = noted.value_is;
+      means = noted.means;
       different = c.vtable_count.ensures.one;
-      small = omega (arith, room, low);
+      small = noted.small;
       zeros = zeros_in _ _ block;
       exact = long ∙ c.buffer_end.ensures.exact;
       within = within;

@@ -4,7 +4,8 @@ use Rattle.fb_build.proofs.noting.+noting.Answers.TableIsNoted.{no_slot_yet, nex
 use Rattle.fb_build.proofs.noting.+noting.Answers.TableIsNoted.{all_slots_noted, code_opens, entries_known}
 use Rattle.fb_build.proofs.noting.+noting.Answers.TableIsNoted.{fields_are_stored, table_adds_itself}
 use Rattle.fb_build.proofs.noting.+noting.Answers.VectorIsNoted.{elements_add, references_add, member_fits}
-use Rattle.fb_build.proofs.noting.+noting.Answers.VectorIsNoted.{member_adds, table_fits, fields_add, item_fits, item_adds}
+use Rattle.fb_build.proofs.noting.+noting.Answers.VectorIsNoted.{member_adds, table_fits, fields_add, item_fits}
+use Rattle.fb_build.proofs.noting.+noting.Answers.VectorIsNoted.{item_adds}
 use Rattle.fb_build.proofs.noting.+noting.Goals as goal
 
 pub note_entries-loop-k-init : goal.note_entries-loop-k-init

@@ -31,7 +31,8 @@ push_element-requires-clause-fits c =
 pub loop-item-preserved : goal.loop-item-preserved
 loop-item-preserved c =
     let inv = c.loop-item.invariant in
-    let more = seen_more c.args.items.now c.loop-item.item-index c.item-item.result c.loop-item-test.true c.item-item.is in
+    let more = seen_more c.args.items.now c.loop-item.item-index c.item-item.result c.loop-item-test.true
+    c.item-item.is in
     record {
       waits = λ others w. c.in_ok-push_element.ensures.waits others (inv.waits others w);
       elements = λ small. rw more ((rw inv.layout at c.in_ok-push_element.ensures.adds) _ _ (inv.elements small));

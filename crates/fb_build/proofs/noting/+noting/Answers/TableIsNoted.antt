@@ -1,5 +1,6 @@
 -- A table is noted slot by slot.
-use Rattle.std.proofs.Common.{◌≡◌, ◌∙◌, ◌+◌, ◌-◌, ◌<◌, ℕ, List, [], ◌∷◌, Option, Some, true, length, get_or, take, drop, sym}
+use Rattle.std.proofs.Common.{◌≡◌, ◌∙◌, ◌+◌, ◌-◌, ◌<◌, ℕ, List, [], ◌∷◌, Option, Some, true, length}
+use Rattle.std.proofs.Common.{take, drop, sym}
 use Rattle.std.proofs.Common.{ap, arith, rules}
 use Rattle.std.proofs.Math.Seq.{drop-append_seam}
 use Rattle.std.proofs.lemmas.List.{take_all, length-drop}
@@ -11,16 +12,13 @@ use Rattle.fb_value.specs.Fits.{EntriesFit}
 use Rattle.fb_value.specs.View.{entries_view}
 use Rattle.fb_value.specs.declared.values.Value.{Value, the_lemmas}
 use Rattle.fb_tape.specs.OpenFields.{OpenField, IsOpenTable}
-use Rattle.fb_build.specs.Fields.{slot_seen, entry_stored, is_stored, coded, slots_seen, stored_in, stored_seen, next_code, entries_seen}
+use Rattle.fb_build.specs.Fields.{slot_seen, entry_stored, is_stored, coded, slots_seen, stored_in, stored_seen}
+use Rattle.fb_build.specs.Fields.{next_code, entries_seen}
 use Rattle.fb_build.specs.Noted.{AddsSlots}
 use Rattle.fb_build.proofs.fields.SlotStoresItsEntry.{slots_at, entries_at, stored_at, slots_long, entries_long}
 use Rattle.fb_build.proofs.noting.SlotsAreNoted.{none_noted, next_noted, all_noted, code_open}
 use Rattle.fb_build.proofs.tables.PartsFitTheirSlots.{known_of, slots_are}
 use Rattle.fb_build.proofs.noting.+noting.Goals as goal
-
--- what stands at a place, read as another default would
-is_default : (es : List (Option Value)) (k : ℕ) (v : Option Value) → k < length es → v ≡ get_or es k v → v ≡ get_or es k v
-is_default es k v low is = is
 
 -- the code of the entry behind slot k, among the entries that are behind it
 abbrev code_behind : List (Option Value) → ℕ → Option ℕ
@@ -86,8 +84,8 @@ next_entry_noted t c =
     let xk = entries_at es k v low c.index-entries-k.is in
     let yk = stored_at L c.args.slots.now es k r v (code_behind es k) c.loop-k-test.true low c.index-slots-k.is
     c.index-entries-k.is (is_behind es k) in
-    next_noted L (slots_seen L c.args.slots.now) (entries_seen es) (stored_seen L c.args.slots.now es) k _ _ _ _ _ _ _ _ _
-    fk xk yk c.loop-k.invariant c.in_ok-note_entry.ensures.adds c.in_ok-note_entry.ensures.slot
+    next_noted L (slots_seen L c.args.slots.now) (entries_seen es) (stored_seen L c.args.slots.now es) k _ _ _ _ _ _ _ _
+    _ fk xk yk c.loop-k.invariant c.in_ok-note_entry.ensures.adds c.in_ok-note_entry.ensures.slot
 
 pub all_slots_noted : goal.note_entries-returns-clause-slots
 all_slots_noted t c =
@@ -115,7 +113,8 @@ code_opens t c =
 pub entries_known : goal.note_table-note_entries-requires
 entries_known t c =
     let L = c.args.layout.now in
-    let known = known_of L c.args.table.0 c.args.entries.now c.schema-schema.ensures.made c.requires.fits c.requires.known in
+    let known = known_of L c.args.table.0 c.args.entries.now c.schema-schema.ensures.made c.requires.fits
+    c.requires.known in
     let seen = slots_are L c.args.table.0 c.slots_of.result.now c.slots_of.ensures.slots in (
       search (rules, the_lemmas),
       (c.requires.layout, (c.requires.whole, (c.slots_of.ensures.few, rw seen known))),

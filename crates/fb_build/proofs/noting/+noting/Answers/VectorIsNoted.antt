@@ -25,8 +25,10 @@ elements_add t c =
     let items = c.args.items.now in
     let inline = sym (c.is_reference.ensures L) ∙ c.if-not-is_reference.true in
     let nothing = nothing_apart L kind (parts_view items) c.requires.element inline c.requires.fits in
-    let named = ap (λ M. record { target = vector_part (kind_seen M c.args.kind); value = a_vector (parts_view items) } ∷ [])
-    c.requires.layout in
+    let named = ap (λ M. record {
+      target = vector_part (kind_seen M c.args.kind);
+      value = a_vector (parts_view items);
+    } ∷ []) c.requires.layout in
     let room = ap (λ M. vector_room M (kind_seen M c.args.kind) (count (parts_view items))) c.requires.layout in
     adds_same _ _ _ _ _ _ named (omega (arith, nothing, room)) c.in_ok-note_elements.ensures.adds
 
@@ -89,7 +91,8 @@ fields_add t c =
     let es = c.in-Fields-default.entries in
     let table = c.in-Fields-default.table in
     let fits = rw (c.in-Fields-default.is-0, view-Fields table es) at c.requires.fits in
-    rw (c.in-Fields-default.is-0, view-Fields table es, table_named L (shape_seen L c.args.shape) table.0 (entries_view es.items) fits)
+    let named = table_named L (shape_seen L c.args.shape) table.0 (entries_view es.items) fits in
+    rw (c.in-Fields-default.is-0, view-Fields table es, named)
     (rw c.deref.ensures.value at c.note_table.ensures.adds)
 
 pub item_fits : goal.note_targets-note_part-requires
