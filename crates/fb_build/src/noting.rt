@@ -1,6 +1,6 @@
 //! Notes values on a tape.
-ghost use Rattle.std.specs.Prelude.{ℕ, ◌≡◌, ◌≤◌, ◌+◌, ◌++◌, List, [], ◌∷◌, Option, true, false, length, map, option_map};
-ghost use Rattle.std.specs.Prelude.{OnOk, IfOk};
+ghost use Rattle.std.specs.Prelude.{ℕ, ◌≡◌, ◌≤◌, ◌+◌, ◌++◌, List, [], ◌∷◌, Option, true, false, length, map};
+ghost use Rattle.std.specs.Prelude.{option_map, OnOk, IfOk};
 ghost use Rattle.fb_layout.specs.Laid.{LaidSchema, slots_of, one_of, kind_in, align_of, table_kind};
 ghost use Rattle.fb_layout.specs.Widths.{greatest};
 ghost use Rattle.fb_value.specs.Counts.{is_whole, entries_whole, parts_whole};
